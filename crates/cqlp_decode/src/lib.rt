@@ -1,0 +1,2 @@
+//! A stream of frames, read as events.
+#![tactic(auto)]

@@ -1,0 +1,5 @@
+pub mod Readers
+pub mod Headings
+pub mod Fields
+pub mod Fronts
+pub mod Pieces

@@ -1,0 +1,11 @@
+pub mod Reader
+pub mod Field
+pub mod Spelling
+pub mod Step
+pub mod Limits
+pub mod Heading
+pub mod Head
+pub mod Partial
+pub mod Lending
+pub mod Streams
+pub mod Laws

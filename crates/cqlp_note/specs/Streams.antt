@@ -1,0 +1,11 @@
+-- Readers and writers of bytes, and how often they failed.
+use Rattle.std.specs.Prelude.{◌≡◌, ℕ, ◌+◌, ◌-◌, ◌^◌, Bool, true, ◌&&◌, ◌==◌, nat_lt, List, length, Result, Ok, Err, min, if◌then◌else◌}
+
+-- how many calls failed, of which one more may be: the count stops at 2^64 - 1
+abbrev pub counted : (failed : Bool) → ℕ → ℕ
+counted failed n = if failed then min (n + 1) (2 ^ 64 - 1) else n
+
+-- a write that failed: it has a fault, or took nothing of some bytes
+abbrev pub took_none : {E : Type 0} → Result ℕ E → List ℕ → Bool
+took_none (Ok n) bytes = (n == 0) && nat_lt 0 (length bytes)
+took_none (Err e) bytes = true

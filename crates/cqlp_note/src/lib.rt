@@ -1,0 +1,26 @@
+//! Fields and headers of the CQL native protocol v4, read from pieces of any size.
+#![tactic(auto)]
+
+mod field;
+mod front;
+mod head;
+mod header;
+pub mod laws;
+mod limits;
+mod opcode;
+mod partial;
+mod prim;
+mod refusal;
+mod streams;
+mod taken;
+
+pub use field::{Field, Notation};
+pub use head::Form;
+pub use header::Header;
+pub use limits::{BadLimits, Limits};
+pub use opcode::Opcode;
+pub use partial::Partial;
+pub use prim::{Address, BoundValue, Prim};
+pub use refusal::{NoMemory, Reason, Refusal};
+pub use streams::{IoFault, OfStd, Source, Target};
+pub use taken::{Item, Lies, Push, Taken};

@@ -1,0 +1,101 @@
+//! The kinds of messages.
+
+ghost use Rattle.std.specs.Prelude.{◌≡◌};
+
+/// What a message is. Section 2.4 of `native_protocol_v4.spec`.
+#[derive(Clone, Copy, Debug, PartialEq, Eq)]
+pub enum Opcode {
+    Error,
+    Startup,
+    Ready,
+    Authenticate,
+    Options,
+    Supported,
+    Query,
+    Result,
+    Prepare,
+    Execute,
+    Register,
+    Event,
+    Batch,
+    AuthChallenge,
+    AuthResponse,
+    AuthSuccess,
+}
+
+impl Opcode {
+    ghost use Rattle.cqlp_note.specs.Heading.{answers, beside_number, code_of, opcodes};
+
+    /// The opcode that has this number, if one has.
+    pub fn from_number(number: u8) -> Option<Opcode>
+        ensures { result ≡ beside_number number opcodes }
+    {
+        match number {
+            0x00 => Some(Opcode::Error),
+            0x01 => Some(Opcode::Startup),
+            0x02 => Some(Opcode::Ready),
+            0x03 => Some(Opcode::Authenticate),
+            0x05 => Some(Opcode::Options),
+            0x06 => Some(Opcode::Supported),
+            0x07 => Some(Opcode::Query),
+            0x08 => Some(Opcode::Result),
+            0x09 => Some(Opcode::Prepare),
+            0x0A => Some(Opcode::Execute),
+            0x0B => Some(Opcode::Register),
+            0x0C => Some(Opcode::Event),
+            0x0D => Some(Opcode::Batch),
+            0x0E => Some(Opcode::AuthChallenge),
+            0x0F => Some(Opcode::AuthResponse),
+            0x10 => Some(Opcode::AuthSuccess),
+            _ => None,
+        }
+    }
+
+    /// The opcode's number.
+    pub fn number(self) -> u8
+        ensures { result ≡ code_of self }
+    {
+        match self {
+            Opcode::Error => 0x00,
+            Opcode::Startup => 0x01,
+            Opcode::Ready => 0x02,
+            Opcode::Authenticate => 0x03,
+            Opcode::Options => 0x05,
+            Opcode::Supported => 0x06,
+            Opcode::Query => 0x07,
+            Opcode::Result => 0x08,
+            Opcode::Prepare => 0x09,
+            Opcode::Execute => 0x0A,
+            Opcode::Register => 0x0B,
+            Opcode::Event => 0x0C,
+            Opcode::Batch => 0x0D,
+            Opcode::AuthChallenge => 0x0E,
+            Opcode::AuthResponse => 0x0F,
+            Opcode::AuthSuccess => 0x10,
+        }
+    }
+
+    /// Whether messages of this kind are responses.
+    pub fn is_response(self) -> bool
+        ensures { result ≡ answers self }
+    {
+        match self {
+            Opcode::Error
+            | Opcode::Ready
+            | Opcode::Authenticate
+            | Opcode::Supported
+            | Opcode::Result
+            | Opcode::Event
+            | Opcode::AuthChallenge
+            | Opcode::AuthSuccess => true,
+            Opcode::Startup
+            | Opcode::Options
+            | Opcode::Query
+            | Opcode::Prepare
+            | Opcode::Execute
+            | Opcode::Register
+            | Opcode::Batch
+            | Opcode::AuthResponse => false,
+        }
+    }
+}

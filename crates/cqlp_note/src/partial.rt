@@ -1,0 +1,381 @@
+//! A field out of pieces of any size.
+
+ghost use Rattle.std.specs.Prelude.{◌≡◌, ◌+◌, ◌-◌, ◌<◌, ◌≤◌, ◌++◌, List, [], ℕ, true, false, length, drop, IfOk, IsTrue, ◌↔◌};
+ghost use Rattle.std.specs.Borrow.{sem};
+ghost use Rattle.cqlp_note.specs.Reader.{says, Takes};
+ghost use Rattle.cqlp_note.specs.Head.{Tells, reader_of, value_of, made};
+
+use crate::front::Front;
+use crate::head::{Form, Head, Stop, Wanted, head_of};
+use crate::prim::{BoundValue, Prim};
+use crate::taken::{Item, Lies, Push, Stage, Taken};
+use crate::field::Notation;
+use crate::refusal::{NoMemory, Reason, Refusal};
+use std::alloc::{Allocator, Global};
+use std::marker::Model;
+
+/// Reads fields, one at a time. A content that lies whole in one piece is lent from there; one that does not is
+/// gathered in a buffer, which is reserved once.
+#[derive(Drop)]
+pub struct Partial<A: Allocator = Global> {
+    stage: Stage,
+    wanted: Wanted,
+    front: Front,
+    content: Vec<u8, A>,
+    room: u32,
+}
+
+impl<A: Allocator> Model for Partial<A> {
+    ghost use Rattle.std.specs.Prelude.{◌≤◌, length, vec_capacity};
+    ghost use Rattle.cqlp_note.specs.Partial.{Progress, progress, IsUnderWay};
+
+    ghost Value = { Progress };
+
+    ghost view = { λ p. progress p.stage p.wanted p.front p.content.items p.room };
+
+    ghost invariant = { λ p. (p.room ≤ vec_capacity p.content) × (length p.content.items ≤ p.room) × IsUnderWay p.stage p.wanted p.front p.content.items p.room };
+}
+
+impl<A: Allocator> Partial<A> {
+    ghost use Rattle.cqlp_note.specs.Lending.{Next};
+    ghost use Rattle.cqlp_note.specs.Partial.{Advances, CanLend, Pushes, begun, ended, item_value};
+
+    /// With room for contents of up to `room` bytes.
+    pub fn new(alloc: A, room: u32) -> Result<Self, NoMemory>
+        ensures room { IfOk result (λ partial. partial.room ≡ room) }
+        ensures idle { IfOk result (λ partial. partial.under_way ≡ false) }
+        ensures empty { IfOk result (λ partial. partial.content ≡ []) }
+    {
+        Ok(Partial {
+            stage: Stage::Idle,
+            wanted: Wanted {
+                notation: Notation::Byte,
+                limit: 0,
+                at: 0,
+                room: 0,
+            },
+            front: Front::new(),
+            content: Vec::with_capacity(alloc, room as usize)?,
+            room,
+        })
+    }
+
+    /// Begins a field at an offset, in a container that ends at another.
+    pub fn begin(&mut self, notation: Notation, limit: u32, at: u64, end: u64)
+        requires idle { self.old.under_way ≡ false }
+        requires limit { limit ≤ self.old.room }
+        requires place { at ≤ end }
+        ensures { self.new ≡ begun self.old (record { notation = notation; limit = limit; at = at; room = end - at }) }
+    {
+        self.wanted = Wanted {
+            notation,
+            limit,
+            at,
+            room: end - at,
+        };
+        self.front = Front::new();
+        self.content.clear();
+        self.stage = Stage::Front;
+    }
+
+    /// Takes the next bytes of the field that is under way. A content that lies whole in them is lent from them.
+    pub fn push<'a>(&'a mut self, input: &'a [u8]) -> Push<'a>
+        requires { self.old.under_way ≡ true }
+        ensures* next { sem 𝓛 (Next A.row A.Allocator self.entry (λ after. Pushes self.old input.now result after)) }
+    {
+        match self.advance(input) {
+            Taken::More { used } => Push::More { used },
+            Taken::Got { used, item } => Push::Got {
+                used,
+                prim: self.lend(input, item),
+            },
+            Taken::Refused(refusal) => Push::Refused(refusal),
+        }
+    }
+
+    /// What `advance` made of this input.
+    pub fn lend<'a>(&'a self, input: &'a [u8], item: Item) -> Prim<'a>
+        requires { CanLend item input.now self.now.content }
+        ensures { value_of result ≡ item_value item input.now self.now.content }
+    {
+        match item {
+            Item::Plain(prim) => prim,
+            Item::Content { form, lies } => {
+                let bytes = match lies {
+                    Lies::InInput { start, len } => &input[start..start + len],
+                    Lies::InBuffer => self.content.as_slice(),
+                };
+                form.prim(bytes)
+            }
+        }
+    }
+
+    #[tactic(auto, using(crate::proofs::Pieces::content_front, crate::proofs::Pieces::gathered_bad, crate::proofs::Fronts::fixed_short))]
+    /// Takes the next bytes of the field that is under way.
+    pub fn advance(&mut self, input: &[u8]) -> Taken
+        requires { self.old.under_way ≡ true }
+        ensures { Advances self.old input.now result self.new }
+    {
+        match self.stage {
+            Stage::Content { len, form } if self.content.is_empty() => {
+                self.take_content(0, len, form, input)
+            }
+            Stage::Content { len, form } => {
+                let missing = len as usize - self.content.len();
+                if input.len() < missing {
+                    self.content.extend_from_slice(input).unwrap();
+                    return Taken::More { used: input.len() };
+                }
+                self.content.extend_from_slice(&input[..missing]).unwrap();
+                self.stage = Stage::Idle;
+                if form.accepts(&self.content) {
+                    Taken::Got {
+                        used: missing,
+                        item: Item::Content {
+                            form,
+                            lies: Lies::InBuffer,
+                        },
+                    }
+                } else {
+                    self.refuse(Reason::BadUtf8)
+                }
+            }
+            Stage::Idle => unreachable!(),
+            Stage::Front => match told(self.wanted, &self.front, input) {
+                Ok(Head::Whole { used, prim }) => {
+                    self.stage = Stage::Idle;
+                    Taken::Got {
+                        used: used - self.front.len(),
+                        item: Item::Plain(prim),
+                    }
+                }
+                Ok(Head::Content { behind, len, form }) => {
+                    let start = behind - self.front.len();
+                    self.take_content(start, len, form, input)
+                }
+                Err(Stop::Wanting) => {
+                    self.front = self.front.with(input);
+                    Taken::More { used: input.len() }
+                }
+                Err(Stop::Refused(why)) => self.refuse(why),
+            },
+        }
+    }
+
+    #[tactic(auto, using(crate::proofs::Pieces::whole_got, crate::proofs::Pieces::whole_bad, crate::proofs::Pieces::seen_is_front, crate::proofs::Pieces::split_goes_on, crate::proofs::Pieces::rest_is, crate::proofs::Pieces::front_fits))]
+    /// Takes a content, of which nothing came before `start` in the input.
+    fn take_content(&mut self, start: usize, len: u32, form: Form, input: &[u8]) -> Taken
+        requires under_way { self.old.under_way ≡ true }
+        requires empty { self.old.content ≡ [] }
+        requires fits { len ≤ self.old.room }
+        requires within { start ≤ length input.now }
+        requires short { length self.old.seen + start ≤ 24 }
+        requires told { (t : List ℕ) → says (reader_of self.old.field) 0 ((self.old.seen ++ input.now) ++ t) ≡ says (Takes len (made form)) (length self.old.seen + start) (drop start input.now ++ t) }
+        ensures { Advances self.old input.now result self.new }
+    {
+        let rest = &input[start..];
+        let size = len as usize;
+        if rest.len() < size {
+            self.front = self.front.with(&input[..start]);
+            self.content.extend_from_slice(rest).unwrap();
+            self.stage = Stage::Content { len, form };
+            return Taken::More { used: input.len() };
+        }
+        if !form.accepts(&rest[..size]) {
+            return self.refuse(Reason::BadUtf8);
+        }
+        self.stage = Stage::Idle;
+        Taken::Got {
+            used: start + size,
+            item: Item::Content {
+                form,
+                lies: Lies::InInput { start, len: size },
+            },
+        }
+    }
+
+    /// Ends the field by a refusal.
+    fn refuse(&mut self, why: Reason) -> Taken
+        ensures answer { result ≡ Taken.Refused (record { at = self.old.field.at; why = why }) }
+        ensures idle { self.new ≡ ended self.old [] }
+    {
+        self.stage = Stage::Idle;
+        self.content.clear();
+        Taken::Refused(Refusal {
+            at: self.wanted.at,
+            why,
+        })
+    }
+
+    /// How many bytes the buffer holds.
+    pub fn held(&self) -> u32
+        ensures is { result ≡ length self.now.content }
+        ensures bound { result ≤ self.now.room }
+    {
+        let _room = self.room;
+        self.content.len() as u32
+    }
+}
+
+impl Form {
+    ghost use Rattle.cqlp_note.specs.Partial.{accepts, content_value};
+
+    /// What such a content is.
+    #[tactic(auto, using(crate::proofs::Pieces::utf8_known))]
+    fn prim<'a>(self, bytes: &'a [u8]) -> Prim<'a>
+        requires { accepts self bytes.now ≡ true }
+        ensures { value_of result ≡ content_value self bytes.now }
+    {
+        match self {
+            // The bytes are text, which `accepts` found out.
+            Form::Text => Prim::Text(unsafe { str::from_utf8_unchecked(bytes) }),
+            Form::Bytes => Prim::Bytes(Some(bytes)),
+            Form::Bound => Prim::Bound(BoundValue::Bytes(bytes)),
+        }
+    }
+
+    #[tactic(auto, using(crate::proofs::Pieces::utf8_true, crate::proofs::Pieces::utf8_false))]
+    /// Whether these bytes may stand in such a content.
+    fn accepts(self, bytes: &[u8]) -> bool
+        ensures { result ≡ accepts self bytes.now }
+    {
+        match self {
+            Form::Text => match str::from_utf8(bytes) {
+                Ok(_) => true,
+                Err(_) => false,
+            },
+            Form::Bytes | Form::Bound => true,
+        }
+    }
+}
+
+/// What the front of a field tells, of which the first bytes came before.
+#[tactic(auto, using(crate::proofs::Pieces::tells_pieces))]
+fn told(wanted: Wanted, front: &Front, input: &[u8]) -> Result<Head, Stop>
+    ensures { Tells wanted (reader_of wanted) 0 (front.now ++ input.now) result }
+{
+    if front.as_slice().is_empty() {
+        head_of(wanted, input)
+    } else {
+        head_of(wanted, front.with(input).as_slice())
+    }
+}
+
+/// Whether this input ended the field.
+pub fn ends(partial: &mut Partial, input: &[u8]) -> bool
+    requires { partial.old.under_way ≡ true }
+    ensures { IsTrue result ↔ (partial.new.under_way ≡ false) }
+{
+    match partial.push(input) {
+        Push::More { .. } => false,
+        Push::Got { .. } | Push::Refused(_) => true,
+    }
+}
+
+#[cfg(test)]
+mod tests {
+    use super::*;
+    use crate::prim::Address;
+    use std::test::Fail;
+
+    fn begun(alloc: Global, notation: Notation) -> Result<Partial, Fail>
+        ensures { IfOk result (λ partial. partial.under_way ≡ true) }
+    {
+        let mut partial = Partial::new(alloc, 100)?;
+        partial.begin(notation, 100, 7, 100);
+        Ok(partial)
+    }
+
+    #[test]
+    fn text_in_one_piece_is_lent(rt: HostRuntime) -> Result<(), Fail> {
+        let mut partial = begun(rt.alloc(), Notation::Text16)?;
+        let push = partial.push(&[0, 2, b'h', b'i', 9]);
+        assert_eq!(rt;
+            push,
+            Push::Got {
+                used: 4,
+                prim: Prim::Text("hi")
+            }
+        );
+        assert_eq!(rt; partial.held(), 0);
+        Ok(())
+    }
+
+    #[test]
+    fn text_cut_inside_its_content_is_gathered(rt: HostRuntime) -> Result<(), Fail> {
+        let mut partial = begun(rt.alloc(), Notation::Text32)?;
+        match partial.push(&[0, 0]) {
+            Push::More { used } => assert_eq!(rt; used, 2),
+            _ => return Err("more")?,
+        }
+        match partial.push(&[0, 3, b'a']) {
+            Push::More { used } => assert_eq!(rt; used, 3),
+            _ => return Err("more")?,
+        }
+        assert_eq!(rt;
+            partial.push(b"bcd"),
+            Push::Got {
+                used: 2,
+                prim: Prim::Text("abc")
+            }
+        );
+        assert_eq!(rt; partial.held(), 3);
+        Ok(())
+    }
+
+    #[test]
+    fn text_cut_before_its_content_is_lent(rt: HostRuntime) -> Result<(), Fail> {
+        let mut partial = begun(rt.alloc(), Notation::Bytes32)?;
+        match partial.push(&[0, 0, 0, 2]) {
+            Push::More { used } => assert_eq!(rt; used, 4),
+            _ => return Err("more")?,
+        }
+        let push = partial.push(&[1, 2, 3]);
+        assert_eq!(rt;
+            push,
+            Push::Got {
+                used: 2,
+                prim: Prim::Bytes(Some(&[1, 2]))
+            }
+        );
+        assert_eq!(rt; partial.held(), 0);
+        Ok(())
+    }
+
+    #[test]
+    fn address_of_a_bad_size(rt: HostRuntime) -> Result<(), Fail> {
+        let mut partial = begun(rt.alloc(), Notation::Inet)?;
+        let refusal = Refusal {
+            at: 7,
+            why: Reason::BadInet,
+        };
+        assert_eq!(rt; partial.push(&[5]), Push::Refused(refusal));
+        Ok(())
+    }
+
+    #[test]
+    fn address_cut_in_its_port(rt: HostRuntime) -> Result<(), Fail> {
+        let mut partial = begun(rt.alloc(), Notation::Inet)?;
+        match partial.push(&[4, 127, 0, 0, 1, 0, 0]) {
+            Push::More { used } => assert_eq!(rt; used, 7),
+            _ => return Err("more")?,
+        }
+        let prim = Prim::Inet(Address::V4([127, 0, 0, 1]), 9042);
+        assert_eq!(rt; partial.push(&[0x23, 0x52, 1]), Push::Got { used: 2, prim });
+        Ok(())
+    }
+
+    #[test]
+    fn value_not_set(rt: HostRuntime) -> Result<(), Fail> {
+        let mut partial = begun(rt.alloc(), Notation::Bound)?;
+        let push = partial.push(&[255, 255, 255, 254]);
+        assert_eq!(rt;
+            push,
+            Push::Got {
+                used: 4,
+                prim: Prim::Bound(BoundValue::Unset)
+            }
+        );
+        Ok(())
+    }
+}

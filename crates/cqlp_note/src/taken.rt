@@ -1,0 +1,50 @@
+//! What a piece of input makes of a field.
+
+use crate::head::Form;
+use crate::prim::Prim;
+use crate::refusal::Refusal;
+
+/// How far a field is.
+#[derive(Clone, Copy)]
+pub enum Stage {
+    /// None is under way.
+    Idle,
+    /// What goes before its content is under way.
+    Front,
+    /// Its content of this length is under way.
+    Content { len: u32, form: Form },
+}
+
+/// Where a content lies.
+#[derive(Clone, Copy)]
+pub enum Lies {
+    InInput { start: usize, len: usize },
+    InBuffer,
+}
+
+/// What a field holds, or where.
+#[derive(Clone, Copy)]
+pub enum Item {
+    Plain(Prim<'static>),
+    Content { form: Form, lies: Lies },
+}
+
+/// What a piece of input made of a field, with nothing borrowed.
+#[derive(Clone, Copy)]
+pub enum Taken {
+    /// All of it was used, and the field goes on.
+    More { used: usize },
+    /// So many of its bytes end the field.
+    Got { used: usize, item: Item },
+    Refused(Refusal),
+}
+
+/// What a piece of input made of a field.
+#[derive(Clone, Copy, Debug, PartialEq, Eq)]
+pub enum Push<'a> {
+    /// All of it was used, and the field goes on.
+    More { used: usize },
+    /// So many of its bytes end the field.
+    Got { used: usize, prim: Prim<'a> },
+    Refused(Refusal),
+}

@@ -1,0 +1,2 @@
+//! Client and server cores of the CQL native protocol v4.
+#![tactic(auto)]

@@ -1,0 +1,2 @@
+//! What the program cqlp does.
+#![tactic(auto)]

@@ -1,0 +1,57 @@
+-- Types as trees, and their nodes in preorder.
+use Rattle.std.specs.Prelude.{ℕ, zero, suc, ◌++◌, Bool, true, false, List, [], ◌∷◌, length}
+use Rattle.cqlp_type.specs.declared.kind.Kind.{Kind}
+use Rattle.cqlp_type.specs.declared.kind.Kind.TheVariants as kind
+use Rattle.cqlp_type.specs.declared.node.Node.{Node}
+
+-- a value of this kind has no items
+abbrev pub has_no_items : Kind → Bool
+has_no_items kind.List = false
+has_no_items kind.Map = false
+has_no_items kind.Set = false
+has_no_items kind.Udt = false
+has_no_items kind.Tuple = false
+has_no_items _ = true
+
+-- Section 4.2.5.2: the type options by their ids.
+abbrev pub kinds : List (ℕ × Kind)
+kinds =
+    (0x00, kind.Custom) ∷ (0x01, kind.Ascii) ∷ (0x02, kind.Bigint) ∷ (0x03, kind.Blob) ∷ (0x04, kind.Boolean)
+    ∷ (0x05, kind.Counter) ∷ (0x06, kind.Decimal) ∷ (0x07, kind.Double) ∷ (0x08, kind.Float) ∷ (0x09, kind.Int)
+    ∷ (0x0B, kind.Timestamp) ∷ (0x0C, kind.Uuid) ∷ (0x0D, kind.Varchar) ∷ (0x0E, kind.Varint) ∷ (0x0F, kind.Timeuuid)
+    ∷ (0x10, kind.Inet) ∷ (0x11, kind.Date) ∷ (0x12, kind.Time) ∷ (0x13, kind.Smallint) ∷ (0x14, kind.Tinyint)
+    ∷ (0x20, kind.List) ∷ (0x21, kind.Map) ∷ (0x22, kind.Set) ∷ (0x30, kind.Udt) ∷ (0x31, kind.Tuple) ∷ []
+
+-- The types of columns, or the inner types of one type: a type has a kind and inner types, and types after it.
+pub data Types : Type 0 where
+  NoMore : Types
+  Type_and : Kind → Types → Types → Types
+
+abbrev pub how_many : Types → ℕ
+how_many NoMore = 0
+how_many (Type_and k inner others) = suc (how_many others)
+
+abbrev pub first_types : ℕ → Types → Types
+first_types zero ts = NoMore
+first_types (suc n) NoMore = NoMore
+first_types (suc n) (Type_and k inner others) = Type_and k inner (first_types n others)
+
+abbrev pub other_types : ℕ → Types → Types
+other_types zero ts = ts
+other_types (suc n) NoMore = NoMore
+other_types (suc n) (Type_and k inner others) = other_types n others
+
+-- The types that nodes in preorder are: each node has its inner types right after it.
+abbrev pub types_of : List Node → Types
+types_of [] = NoMore
+types_of (n ∷ ns) = Type_and n.kind (first_types n.arity (types_of ns)) (other_types n.arity (types_of ns))
+
+-- the nodes of types in preorder
+abbrev pub preorder : Types → List Node
+preorder NoMore = []
+preorder (Type_and k inner others) = record { kind = k; arity = how_many inner; span = suc (length (preorder inner)) } ∷ preorder inner ++ preorder others
+
+abbrev pub followed_by : Types → Types → Types
+followed_by NoMore us = us
+followed_by (Type_and k inner others) us = Type_and k inner (followed_by others us)
+

@@ -1,0 +1,2 @@
+//! Cells of the CQL native protocol v4.
+#![tactic(auto)]
