@@ -1,2 +1,8 @@
-//! A stream of frames, read as events.
+//! A stream of frames of the CQL native protocol v4, read as events.
 #![tactic(auto)]
+
+mod event;
+mod sink;
+
+pub use event::{Event, Finish, Held, Step};
+pub use sink::{Sink, SinkFault};
