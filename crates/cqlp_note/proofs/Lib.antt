@@ -3,3 +3,5 @@ pub mod Headings
 pub mod Fields
 pub mod Fronts
 pub mod Pieces
+pub mod Runs
+pub mod Yields
