@@ -5,3 +5,5 @@ pub mod Fronts
 pub mod Pieces
 pub mod Runs
 pub mod Yields
+pub mod Written
+pub mod Spelled

@@ -14,6 +14,7 @@ use Rattle.cqlp_note.specs.Field.{FieldValue, FieldReader, content_of, field_of,
 use Rattle.cqlp_note.specs.Step.{Emitted, Step, map_step, after_field}
 use Rattle.cqlp_note.proofs.Readers.{Always, says_always}
 use Rattle.cqlp_note.proofs.Fields.{either_always}
+
 -- A reader takes all of these bytes and gives this value.
 abbrev pub Yields : {A F : Type 0} → Reader A F → A → List ℕ → Type 0
 Yields (Gives w) v b = (w ≡ v) × (b ≡ [])
