@@ -5,12 +5,12 @@ ghost use Rattle.std.specs.Borrow.{sem};
 ghost use Rattle.cqlp_note.specs.Reader.{says, Takes};
 ghost use Rattle.cqlp_note.specs.Head.{Tells, reader_of, value_of, made};
 
+use crate::field::Notation;
 use crate::front::Front;
 use crate::head::{Form, Head, Stop, Wanted, head_of};
 use crate::prim::{BoundValue, Prim};
-use crate::taken::{Item, Lies, Push, Stage, Taken};
-use crate::field::Notation;
 use crate::refusal::{NoMemory, Reason, Refusal};
+use crate::taken::{Item, Lies, Push, Stage, Taken};
 use std::alloc::{Allocator, Global};
 use std::marker::Model;
 
