@@ -2,7 +2,10 @@
 #![tactic(auto)]
 
 mod event;
+mod following;
 mod sink;
+mod table;
+mod upcoming;
 
 pub use event::{Event, Finish, Held, Step};
 pub use sink::{Sink, SinkFault};

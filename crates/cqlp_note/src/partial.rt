@@ -1,6 +1,6 @@
 //! A field out of pieces of any size.
 
-ghost use Rattle.std.specs.Prelude.{◌≡◌, ◌+◌, ◌-◌, ◌<◌, ◌≤◌, ◌++◌, List, [], ℕ, true, false, length, drop, IfOk, IsTrue, ◌↔◌};
+ghost use Rattle.std.specs.Prelude.{◌≡◌, ◌+◌, ◌-◌, ◌<◌, ◌≤◌, ◌^◌, ◌++◌, List, [], ℕ, true, false, length, drop, IfOk, IsTrue, ◌↔◌};
 ghost use Rattle.std.specs.Borrow.{sem};
 ghost use Rattle.cqlp_note.specs.Reader.{says, Takes};
 ghost use Rattle.cqlp_note.specs.Head.{Tells, reader_of, value_of, made};
@@ -205,6 +205,27 @@ impl<A: Allocator> Partial<A> {
             at: self.wanted.at,
             why,
         })
+    }
+
+    /// Whether a field is under way.
+    pub fn is_under_way(&self) -> bool
+        ensures { result ≡ self.now.under_way }
+    {
+        !matches!(self.stage, Stage::Idle)
+    }
+
+    /// How many bytes of the field that is under way have come.
+    pub fn came(&self) -> u64
+        ensures is { result ≡ length self.now.seen }
+        ensures bound { result ≤ self.now.room + 24 }
+        ensures small { result < 2 ^ 33 }
+    {
+        let _room = self.room;
+        match self.stage {
+            Stage::Idle => 0,
+            Stage::Front => self.front.len() as u64,
+            Stage::Content { .. } => self.front.len() as u64 + self.content.len() as u64,
+        }
     }
 
     /// How many bytes the buffer holds.
