@@ -9,7 +9,7 @@ use Rattle.std.specs.Prelude.{Some}
 use Rattle.cqlp_decode.specs.declared.table.Want.{Want}
 use Rattle.cqlp_decode.specs.declared.upcoming.Slot.{Slot}
 use Rattle.cqlp_decode.specs.declared.upcoming.Slot.TheVariants.{One, Many}
-use Rattle.cqlp_decode.specs.Upcoming.{symbols_of, symbols_in, need, behind, room_for, wanted, wants, IsLawful, IsFollowed, AreFollowed, Fits, Popped, Next}
+use Rattle.cqlp_decode.specs.Upcoming.{symbols_of, symbols_in, need, behind, room_for, wanted, wants, IsLawful, IsRead, AreRead, Fits, Popped, Next}
 
 pub symbols_pushed : (ss : List Slot) (s : Slot) → symbols_in (ss ++ s ∷ []) ≡ symbols_of s ++ symbols_in ss
 symbols_pushed [] s = sym (append-nil (symbols_of s))
@@ -47,10 +47,10 @@ module _ (slots : List Slot) (n : ℕ) (d : Slot) (some : 0 < n) (within : n ≤
 
 -- ---- several fields
 
-pub followed_at : (ws : List Want) (k : ℕ) (d : Want) → AreFollowed ws → k < length ws → IsFollowed (get_or ws k d).role
-followed_at [] k d f lt = absurd (omega arith)
-followed_at (w ∷ ws) zero d f lt = f.0
-followed_at (w ∷ ws) (suc k) d f lt = followed_at ws k d f.1 (omega arith)
+pub read_at : (ws : List Want) (k : ℕ) (d : Want) → AreRead ws → k < length ws → IsRead (get_or ws k d)
+read_at [] k d f lt = absurd (omega arith)
+read_at (w ∷ ws) zero d f lt = f.0
+read_at (w ∷ ws) (suc k) d f lt = read_at ws k d f.1 (omega arith)
 
 pub room_at : (ws : List Want) (k : ℕ) (d : Want) → k < length ws → (length ws - (k + 1)) + max 1 (behind (get_or ws k d).role) ≤ room_for ws
 room_at [] k d lt = absurd (omega arith)
@@ -72,7 +72,7 @@ pub next_one : (old new : List Slot) (w : Want) → Popped old (Some (One w)) ne
 next_one old new w p = (ap symbols_in p.0 ∙ symbols_pushed new (One w), omega (arith, p.1), p.2)
 
 pub next_many : (old mid rest new : List Slot) (g : Group) (n : ℕ) (w : Want) → Popped old (Some (Many g n)) mid → symbols_in rest ≡ copies (n - 1) (group g) ++ symbols_in mid
-    → wanted w ∷ symbols_in new ≡ group g ++ symbols_in rest → length new + behind w.role ≤ 16 → IsFollowed w.role → Next old (Some w) new
+    → wanted w ∷ symbols_in new ≡ group g ++ symbols_in rest → length new + behind w.role ≤ 16 → IsRead w → Next old (Some w) new
 next_many old mid rest new g n w p others first room followed =
     let more : n ≡ suc (n - 1) = omega (arith, p.2.0) in
     (ap symbols_in p.0 ∙ symbols_pushed mid (Many g n) ∙ ap (λ (k : ℕ). copies k (group g) ++ symbols_in mid) more

@@ -1,3 +1,4 @@
 pub mod Reading
 pub mod Events
 pub mod Upcoming
+pub mod Standing

@@ -5,6 +5,7 @@ use Rattle.cqlp_message.specs.declared.grammar.Group.TheVariants as group_of
 use Rattle.cqlp_message.specs.declared.grammar.Role.{Role}
 use Rattle.cqlp_message.specs.declared.grammar.Role.TheVariants as role
 use Rattle.cqlp_message.specs.Productions.{Symbol, In, copies, group}
+use Rattle.cqlp_note.specs.Head.{fixed_of}
 use Rattle.cqlp_decode.specs.declared.table.Want.{Want}
 use Rattle.cqlp_decode.specs.declared.upcoming.Slot.{Slot}
 use Rattle.cqlp_decode.specs.declared.upcoming.Slot.TheVariants.{One, Many}
@@ -44,9 +45,13 @@ IsFollowed (role.PreparedKeys flags columns) = ⊥
 IsFollowed (role.PageRows flags columns) = ⊥
 IsFollowed r = ⊤
 
-abbrev pub AreFollowed : List Want → Type 0
-AreFollowed [] = ⊤
-AreFollowed (w ∷ ws) = IsFollowed w.role × AreFollowed ws
+-- a field that has some bytes of its own, and what follows it is read
+abbrev pub IsRead : Want → Type 0
+IsRead w = IsFollowed w.role × (0 < fixed_of w.notation)
+
+abbrev pub AreRead : List Want → Type 0
+AreRead [] = ⊤
+AreRead (w ∷ ws) = IsRead w × AreRead ws
 
 -- ---- room
 
@@ -95,7 +100,7 @@ room_for (w ∷ ws) = max (room_for ws) (length ws + max 1 (behind w.role))
 
 -- no slot stands for nothing, nor for what is not read
 abbrev pub IsLawful : Slot → Type 0
-IsLawful (One w) = IsFollowed w.role
+IsLawful (One w) = IsRead w
 IsLawful (Many g n) = (0 < n) × IsOpenable g
 
 -- the slots from number k on never come to take more than there are
@@ -112,4 +117,4 @@ Popped old (Some s) new = (old ≡ new ++ s ∷ []) × (length new + need s ≤ 
 -- the next field, and room for what follows it
 abbrev pub Next : List Slot → Option Want → List Slot → Type 0
 Next old None new = (symbols_in old ≡ []) × (new ≡ [])
-Next old (Some w) new = (symbols_in old ≡ wanted w ∷ symbols_in new) × (length new + behind w.role ≤ 16) × IsFollowed w.role
+Next old (Some w) new = (symbols_in old ≡ wanted w ∷ symbols_in new) × (length new + behind w.role ≤ 16) × IsRead w

@@ -4,6 +4,7 @@
 mod event;
 mod following;
 mod sink;
+mod standing;
 mod table;
 mod upcoming;
 

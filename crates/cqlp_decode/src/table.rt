@@ -4,7 +4,7 @@ ghost use Rattle.std.specs.Prelude.{◌≡◌, ◌+◌, ◌<◌, ◌≤◌, leng
 ghost use Rattle.std.specs.Prelude.{◌++◌};
 ghost use Rattle.cqlp_note.specs.Heading.{beside_number, has as has_bit};
 ghost use Rattle.cqlp_message.specs.Productions.{body, by_text, errors, events, group as symbols_of_group, or_nothing, result_fields as symbols_of_result, targets};
-ghost use Rattle.cqlp_decode.specs.Upcoming.{AreFollowed, IsOpenable, behind, opened, room_for, wants};
+ghost use Rattle.cqlp_decode.specs.Upcoming.{AreRead, IsOpenable, behind, opened, room_for, wants};
 
 use cqlp_message::{Group, Role};
 use cqlp_note::{Field, Notation, Opcode};
@@ -53,7 +53,7 @@ macro_rules! counted {
 /// The fields of a message.
 pub fn body_fields(opcode: Opcode) -> &'static [Want]
     ensures fields { wants result.now ≡ body opcode }
-    ensures followed { AreFollowed result.now }
+    ensures read { AreRead result.now }
     ensures room { room_for result.now ≤ 7 }
     ensures few { length result.now ≤ 4 }
 {
@@ -94,7 +94,7 @@ pub fn group_fields(group: Group) -> &'static [Want]
     requires { IsOpenable group }
     ensures fields { wants result.now ≡ symbols_of_group group }
     ensures some { 0 < length result.now }
-    ensures followed { AreFollowed result.now }
+    ensures read { AreRead result.now }
     ensures room { room_for result.now ≤ opened group + 1 }
 {
     match group {
@@ -119,7 +119,7 @@ pub fn group_fields(group: Group) -> &'static [Want]
 /// The fields behind an error's message.
 pub fn error_fields(code: u32) -> &'static [Want]
     ensures fields { wants result.now ≡ or_nothing (beside_number code errors) }
-    ensures followed { AreFollowed result.now }
+    ensures read { AreRead result.now }
     ensures room { room_for result.now ≤ 5 }
     ensures few { length result.now ≤ 5 }
 {
@@ -169,7 +169,7 @@ pub fn error_fields(code: u32) -> &'static [Want]
 /// The fields of a result of this kind.
 pub fn result_fields(kind: u32) -> &'static [Want]
     ensures fields { wants result.now ≡ symbols_of_result kind }
-    ensures followed { AreFollowed result.now }
+    ensures read { AreRead result.now }
     ensures room { room_for result.now ≤ 3 }
 {
     match kind {
@@ -185,7 +185,7 @@ pub fn result_fields(kind: u32) -> &'static [Want]
 /// The names of a changed target.
 pub fn target_fields(target: &str) -> &'static [Want]
     ensures fields { wants result.now ≡ by_text target.now targets }
-    ensures followed { AreFollowed result.now }
+    ensures read { AreRead result.now }
     ensures room { room_for result.now ≤ 3 }
 {
     if target == "KEYSPACE" {
@@ -206,7 +206,7 @@ pub fn target_fields(target: &str) -> &'static [Want]
 /// The fields of an event of this type.
 pub fn event_fields(event_type: &str) -> &'static [Want]
     ensures fields { wants result.now ≡ by_text event_type.now events }
-    ensures followed { AreFollowed result.now }
+    ensures read { AreRead result.now }
     ensures room { room_for result.now ≤ 3 }
 {
     if event_type == "TOPOLOGY_CHANGE" || event_type == "STATUS_CHANGE" {

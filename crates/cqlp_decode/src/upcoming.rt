@@ -35,7 +35,7 @@ impl Model for Upcoming {
 }
 
 impl Upcoming {
-    ghost use Rattle.cqlp_decode.specs.Upcoming.{Popped, Next, IsLawful, IsOpenable, IsFollowed, AreFollowed, need, opened, behind, room_for, symbols_in, wanted, wants};
+    ghost use Rattle.cqlp_decode.specs.Upcoming.{Popped, Next, IsLawful, IsOpenable, IsRead, AreRead, need, opened, behind, room_for, symbols_in, wanted, wants};
     ghost use Rattle.cqlp_message.specs.Productions.{copies, group as symbols_of_group};
 
     pub fn new() -> Self
@@ -83,7 +83,7 @@ impl Upcoming {
     /// Puts a field before all else, where it stands.
     #[tactic(auto, using(crate::proofs::Stack::symbols_pushed))]
     pub fn push_if(&mut self, stands: bool, want: Want)
-        requires followed { IsFollowed want.role }
+        requires read { IsRead want }
         requires room { length self.old + max 1 (behind want.role) ≤ 16 }
         ensures symbols { symbols_in self.new ≡ (if stands then wanted want ∷ [] else []) ++ symbols_in self.old }
         ensures height { length self.new ≤ length self.old + 1 }
@@ -94,9 +94,9 @@ impl Upcoming {
     }
 
     /// Puts these fields before all else.
-    #[tactic(auto, using(crate::proofs::Stack::followed_at, crate::proofs::Stack::room_at, crate::proofs::Stack::fields_pushed, crate::proofs::Stack::fields_none))]
+    #[tactic(auto, using(crate::proofs::Stack::read_at, crate::proofs::Stack::room_at, crate::proofs::Stack::fields_pushed, crate::proofs::Stack::fields_none))]
     pub fn push_fields(&mut self, fields: &[Want])
-        requires followed { AreFollowed fields.now }
+        requires read { AreRead fields.now }
         requires room { length self.old + room_for fields.now ≤ 16 }
         ensures symbols { symbols_in self.new ≡ wants fields.now ++ symbols_in self.old }
         ensures height { length self.new ≡ length self.old + length fields.now }
@@ -114,7 +114,7 @@ impl Upcoming {
         requires room { length self.old + opened group ≤ 16 }
         ensures symbols { wanted result ∷ symbols_in self.new ≡ symbols_of_group group ++ symbols_in self.old }
         ensures room { length self.new + behind result.role ≤ 16 }
-        ensures followed { IsFollowed result.role }
+        ensures read { IsRead result }
     {
         let fields = group_fields(group);
         self.push_fields(&fields[1..]);
