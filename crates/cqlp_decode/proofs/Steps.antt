@@ -62,6 +62,7 @@ extra_hands s p input used here inside le is all = record {
     let x : Emitted reading.Event Place = record { at = s.stop; event = reading.End (s.stop - s.offset); after = λ k. place_at s.stop s.stop (Stream ∷ []) } in
     (x, rw (here, le-ltb _ _ long) (ap (λ (k : ℕ). Got x k) same), refl, refl, refl);
   offset = λ b came. let size : length b ≡ s.came = rw here at came in omega arith;
+  due = refl;
   pays = rw here (omega arith);
 }
 
@@ -148,6 +149,7 @@ module _ (s : Standing) (p : Progress) (input : List ℕ) (here : s.stage ≡ st
         let came : b ≡ take s.came s.header = rw here at pending in
         let at : new.offset ≡ s.offset + 9 = ap (λ (z : Place). z.offset) place in
         rw (at, came) (omega (arith, kept_long));
+      due = one_due new.stage new.upcoming room;
       pays = rw (here, one_due new.stage new.upcoming room) (omega arith);
     }
 
@@ -269,6 +271,7 @@ module _ (s : Standing) (old p : Progress) (w : Want) (input : List ℕ) (here :
         let g = field_gives s old w here (p.seen ++ input) v (length p.seen + used) (rw a.field at m.is) fine in
         rw (pending_is b pending, ← is) (g.0, g.1, g.2, g.3, g.4 ∙ (λ j. place_at (sym at j) (sym stop j) (sym symbols j)));
       offset = λ b pending. rw (pending_is b pending) at;
+      due = one_due e.stage e.upcoming room;
       pays = rw (here, one_due e.stage e.upcoming room) (omega (arith, some));
     }
       where

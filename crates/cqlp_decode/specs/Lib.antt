@@ -2,3 +2,5 @@ pub mod Reading
 pub mod Events
 pub mod Upcoming
 pub mod Standing
+pub mod Streams
+pub mod Lending

@@ -65,10 +65,15 @@ abbrev pub frame_after : (frame at : ℕ) → Event → ℕ
 frame_after frame at (reading.End n) = at
 frame_after frame at e = frame
 
--- the events that are still to come of a frame without further bytes
+-- the ends that are still to come of a frame, before which no further byte may come
 abbrev pub ends_due : List Symbol → ℕ
 ends_due (Stream ∷ rest) = 0
 ends_due symbols = 1
+
+-- the same by the event before
+abbrev pub due_after : Event → ℕ
+due_after (reading.End n) = 0
+due_after e = 1
 
 -- what the step at this place says of these bytes
 abbrev pub told : State → List ℕ → Said (Emitted Event Place) (ℕ × Reason)
@@ -94,6 +99,7 @@ pub record Hands (old : State) (input : List ℕ) (at used : ℕ) (w : What) (ne
   pub lent : IsLent (event_at new.held input w) used new.held
   pub gives : (b : List ℕ) → IsPending old.pending b → Gives old (b ++ input) at (event_at new.held input w) (length b + used) new.place
   pub offset : (b : List ℕ) → IsPending old.pending b → new.place.offset ≡ old.place.offset + (length b + used)
+  pub due : ends_due new.place.symbols ≡ due_after (event_at new.held input w)
   pub pays : ends_due new.place.symbols < ends_due old.place.symbols + 2 * used
 
 -- What one call does, from a state without a refusal.
@@ -158,7 +164,7 @@ pub record IsWanted (s : Standing) (p : Progress) (w : Want) : Type 0 where
   pub came : s.came ≡ 0
 
 abbrev pub StageHolds : Standing → Progress → Stage → Type 0
-StageHolds s p stage.Header = (s.came < 9) × IsIdle p
+StageHolds s p stage.Header = (s.came < 9) × IsIdle p × (s.frame ≡ s.offset)
 StageHolds s p (stage.Field w) = IsWanted s p w
 StageHolds s p stage.Extra = (s.came ≤ s.stop - s.offset) × IsIdle p
 

@@ -1,6 +1,7 @@
 //! A stream of frames of the CQL native protocol v4, read as events.
 #![tactic(auto)]
 
+mod decoder;
 mod event;
 mod following;
 mod sink;
@@ -8,5 +9,6 @@ mod standing;
 mod table;
 mod upcoming;
 
+pub use decoder::{Decoder, NewError};
 pub use event::{Event, Finish, Held, Step};
 pub use sink::{Sink, SinkFault};

@@ -1,10 +1,11 @@
 //! Where the reading of a stream stands, and one step of it.
 
-ghost use Rattle.std.specs.Prelude.{◌≡◌, ◌+◌, ◌-◌, ◌<◌, ◌≤◌, ◌^◌, ◌++◌, ◌∷◌, List, [], ℕ, length, take, None};
+ghost use Rattle.std.specs.Prelude.{◌≡◌, ◌+◌, ◌-◌, ◌<◌, ◌≤◌, ◌^◌, ◌++◌, ◌∷◌, List, [], ℕ, length, take, None, IsTrue, ◌↔◌};
 ghost use Rattle.cqlp_note.specs.Limits.{limit_of, rules_of};
 ghost use Rattle.cqlp_note.specs.Partial.{Progress};
 ghost use Rattle.cqlp_decode.specs.Standing.{stage_with};
 
+use crate::event::Finish;
 use crate::following::fault_in;
 use crate::table::Want;
 use crate::upcoming::Upcoming;
@@ -61,10 +62,12 @@ impl Standing {
     ghost use Rattle.cqlp_note.specs.Head.{value_of};
     ghost use Rattle.cqlp_type.specs.Types.{Types};
     ghost use Rattle.cqlp_message.specs.Productions.{Extra, following, message};
+    ghost use Rattle.cqlp_decode.specs.Reading as reading;
     ghost use Rattle.cqlp_decode.specs.Reading.{start};
+    ghost use Rattle.cqlp_decode.specs.Streams.{After, Finishes};
     ghost use Rattle.cqlp_decode.specs.Upcoming.{IsFollowed, behind, symbols_in};
     ghost use Rattle.cqlp_decode.specs.declared.standing.Stage.TheVariants as stage;
-    ghost use Rattle.cqlp_decode.specs.Standing.{Advances, HasRoom, IsAsked, IsBounded, IsIdle, IsLawful, Kept, Moves, StageHolds, place_at, state_of, symbols_at};
+    ghost use Rattle.cqlp_decode.specs.Standing.{Advances, HasRoom, IsAsked, IsBounded, IsIdle, IsLawful, IsPending, Kept, Moves, StageHolds, place_at, state_of, symbols_at};
 
     /// At the start of a stream.
     pub fn new(limits: Limits) -> Self
@@ -99,6 +102,42 @@ impl Standing {
             self.refusal = Some(refusal);
         }
         advance
+    }
+
+    /// How the stream ends, if it ends here.
+    pub fn finish<A: Allocator>(&self, partial: &Partial<A>) -> Finish
+        requires { IsLawful self.now partial.now }
+        ensures { (s : List ℕ) (es : List (ℕ × reading.Event)) → After (state_of self.now partial.now) s es → Finishes (state_of self.now partial.now) s es result }
+    {
+        if let Some(refusal) = self.refusal {
+            return Finish::Refused(refusal);
+        }
+        if self.is_between() {
+            return Finish::Whole { bytes: self.offset };
+        }
+        Finish::Cut {
+            frame_at: self.frame,
+            bytes: self.offset + self.came_of(partial),
+        }
+    }
+
+    /// Whether the last frame has ended, and nothing of the next has come.
+    fn is_between(&self) -> bool
+        ensures { IsTrue result ↔ ((self.now.stage ≡ stage.Header) × (self.now.came ≡ 0)) }
+    {
+        matches!(self.stage, Stage::Header) && self.came == 0
+    }
+
+    /// How many bytes of what is read now have come.
+    fn came_of<A: Allocator>(&self, partial: &Partial<A>) -> u64
+        requires { IsLawful self.now partial.now }
+        ensures is { (b : List ℕ) → IsPending (state_of self.now partial.now).pending b → result ≡ length b }
+        ensures small { result < 2 ^ 33 }
+    {
+        match self.stage {
+            Stage::Header | Stage::Extra => self.came,
+            Stage::Field(_) => partial.came(),
+        }
     }
 
     /// The next step, where there was no refusal.

@@ -20,7 +20,7 @@ pub use header::Header;
 pub use limits::{BadLimits, Limits};
 pub use opcode::Opcode;
 pub use partial::Partial;
-pub use prim::{Address, BoundValue, Prim};
+pub use prim::{Address, BoundValue, Primitive as Prim};
 pub use refusal::{NoMemory, Reason, Refusal};
 pub use streams::{IoFault, OfStd, Source, Target};
 pub use taken::{Item, Lies, Push, Taken};

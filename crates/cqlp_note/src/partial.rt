@@ -8,7 +8,7 @@ ghost use Rattle.cqlp_note.specs.Head.{Tells, reader_of, value_of, made};
 use crate::field::Notation;
 use crate::front::Front;
 use crate::head::{Form, Head, Stop, Wanted, head_of};
-use crate::prim::{BoundValue, Prim};
+use crate::prim::{BoundValue, Primitive};
 use crate::refusal::{NoMemory, Reason, Refusal};
 use crate::taken::{Item, Lies, Push, Stage, Taken};
 use std::alloc::{Allocator, Global};
@@ -44,6 +44,7 @@ impl<A: Allocator> Partial<A> {
     pub fn new(alloc: A, room: u32) -> Result<Self, NoMemory>
         ensures room { IfOk result (λ partial. partial.room ≡ room) }
         ensures idle { IfOk result (λ partial. partial.under_way ≡ false) }
+        ensures none { IfOk result (λ partial. partial.seen ≡ []) }
         ensures empty { IfOk result (λ partial. partial.content ≡ []) }
     {
         Ok(Partial {
@@ -94,7 +95,7 @@ impl<A: Allocator> Partial<A> {
     }
 
     /// What `advance` made of this input.
-    pub fn lend<'a>(&'a self, input: &'a [u8], item: Item) -> Prim<'a>
+    pub fn lend<'a>(&'a self, input: &'a [u8], item: Item) -> Primitive<'a>
         requires { CanLend item input.now self.now.content }
         ensures { value_of result ≡ item_value item input.now self.now.content }
     {
@@ -243,15 +244,15 @@ impl Form {
 
     /// What such a content is.
     #[tactic(auto, using(crate::proofs::Pieces::utf8_known))]
-    fn prim<'a>(self, bytes: &'a [u8]) -> Prim<'a>
+    fn prim<'a>(self, bytes: &'a [u8]) -> Primitive<'a>
         requires { accepts self bytes.now ≡ true }
         ensures { value_of result ≡ content_value self bytes.now }
     {
         match self {
             // The bytes are text, which `accepts` found out.
-            Form::Text => Prim::Text(unsafe { str::from_utf8_unchecked(bytes) }),
-            Form::Bytes => Prim::Bytes(Some(bytes)),
-            Form::Bound => Prim::Bound(BoundValue::Bytes(bytes)),
+            Form::Text => Primitive::Text(unsafe { str::from_utf8_unchecked(bytes) }),
+            Form::Bytes => Primitive::Bytes(Some(bytes)),
+            Form::Bound => Primitive::Bound(BoundValue::Bytes(bytes)),
         }
     }
 
@@ -315,7 +316,7 @@ mod tests {
             push,
             Push::Got {
                 used: 4,
-                prim: Prim::Text("hi")
+                prim: Primitive::Text("hi")
             }
         );
         assert_eq!(rt; partial.held(), 0);
@@ -337,7 +338,7 @@ mod tests {
             partial.push(b"bcd"),
             Push::Got {
                 used: 2,
-                prim: Prim::Text("abc")
+                prim: Primitive::Text("abc")
             }
         );
         assert_eq!(rt; partial.held(), 3);
@@ -356,7 +357,7 @@ mod tests {
             push,
             Push::Got {
                 used: 2,
-                prim: Prim::Bytes(Some(&[1, 2]))
+                prim: Primitive::Bytes(Some(&[1, 2]))
             }
         );
         assert_eq!(rt; partial.held(), 0);
@@ -381,7 +382,7 @@ mod tests {
             Push::More { used } => assert_eq!(rt; used, 7),
             _ => return Err("more")?,
         }
-        let prim = Prim::Inet(Address::V4([127, 0, 0, 1]), 9042);
+        let prim = Primitive::Inet(Address::V4([127, 0, 0, 1]), 9042);
         assert_eq!(rt; partial.push(&[0x23, 0x52, 1]), Push::Got { used: 2, prim });
         Ok(())
     }
@@ -394,7 +395,7 @@ mod tests {
             push,
             Push::Got {
                 used: 4,
-                prim: Prim::Bound(BoundValue::Unset)
+                prim: Primitive::Bound(BoundValue::Unset)
             }
         );
         Ok(())

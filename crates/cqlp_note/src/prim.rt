@@ -18,7 +18,7 @@ pub enum BoundValue<'a> {
 
 /// What a field holds.
 #[derive(Clone, Copy, Debug, PartialEq, Eq)]
-pub enum Prim<'a> {
+pub enum Primitive<'a> {
     Byte(u8),
     Short(u16),
     Int(i32),

@@ -1,7 +1,7 @@
 //! What a piece of input makes of a field.
 
 use crate::head::Form;
-use crate::prim::Prim;
+use crate::prim::Primitive;
 use crate::refusal::Refusal;
 
 /// How far a field is.
@@ -25,7 +25,7 @@ pub enum Lies {
 /// What a field holds, or where.
 #[derive(Clone, Copy)]
 pub enum Item {
-    Plain(Prim<'static>),
+    Plain(Primitive<'static>),
     Content { form: Form, lies: Lies },
 }
 
@@ -45,6 +45,6 @@ pub enum Push<'a> {
     /// All of it was used, and the field goes on.
     More { used: usize },
     /// So many of its bytes end the field.
-    Got { used: usize, prim: Prim<'a> },
+    Got { used: usize, prim: Primitive<'a> },
     Refused(Refusal),
 }
