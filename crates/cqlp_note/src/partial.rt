@@ -1,6 +1,6 @@
 //! A field out of pieces of any size.
 
-ghost use Rattle.std.specs.Prelude.{◌≡◌, ◌+◌, ◌-◌, ◌<◌, ◌≤◌, ◌++◌, List, [], ℕ, true, false, length, drop, IfOk, IsTrue, ◌↔◌};
+ghost use Rattle.std.specs.Prelude.{◌≡◌, ◌+◌, ◌-◌, ◌≤◌, ◌++◌, List, [], ℕ, true, false, length, drop, IfOk};
 ghost use Rattle.std.specs.Borrow.{sem};
 ghost use Rattle.cqlp_note.specs.Reader.{says, Takes};
 ghost use Rattle.cqlp_note.specs.Head.{Tells, reader_of, value_of, made};
@@ -8,7 +8,7 @@ ghost use Rattle.cqlp_note.specs.Head.{Tells, reader_of, value_of, made};
 use crate::field::Notation;
 use crate::front::Front;
 use crate::head::{Form, Head, Stop, Wanted, head_of};
-use crate::prim::{BoundValue, Prim};
+use crate::prim::{BoundValue, Primitive as Prim};
 use crate::refusal::{NoMemory, Reason, Refusal};
 use crate::taken::{Item, Lies, Push, Stage, Taken};
 use std::alloc::{Allocator, Global};
@@ -38,7 +38,7 @@ impl<A: Allocator> Model for Partial<A> {
 
 impl<A: Allocator> Partial<A> {
     ghost use Rattle.cqlp_note.specs.Lending.{Next};
-    ghost use Rattle.cqlp_note.specs.Partial.{Advances, CanLend, Pushes, begun, ended, item_value};
+    ghost use Rattle.cqlp_note.specs.Partial.{Advances, CanLend, Pushes, Uses, begun, ended, item_value};
 
     /// With room for contents of up to `room` bytes.
     pub fn new(alloc: A, room: u32) -> Result<Self, NoMemory>
@@ -81,6 +81,7 @@ impl<A: Allocator> Partial<A> {
     /// Takes the next bytes of the field that is under way. A content that lies whole in them is lent from them.
     pub fn push<'a>(&'a mut self, input: &'a [u8]) -> Push<'a>
         requires { self.old.under_way ≡ true }
+        ensures uses { Uses input.now result }
         ensures* next { sem 𝓛 (Next A.row A.Allocator self.entry (λ after. Pushes self.old input.now result after)) }
     {
         match self.advance(input) {
@@ -258,17 +259,6 @@ fn told(wanted: Wanted, front: &Front, input: &[u8]) -> Result<Head, Stop>
         head_of(wanted, input)
     } else {
         head_of(wanted, front.with(input).as_slice())
-    }
-}
-
-/// Whether this input ended the field.
-pub fn ends(partial: &mut Partial, input: &[u8]) -> bool
-    requires { partial.old.under_way ≡ true }
-    ensures { IsTrue result ↔ (partial.new.under_way ≡ false) }
-{
-    match partial.push(input) {
-        Push::More { .. } => false,
-        Push::Got { .. } | Push::Refused(_) => true,
     }
 }
 

@@ -16,9 +16,9 @@ pub enum BoundValue<'a> {
     Bytes(&'a [u8]),
 }
 
-/// What a field holds.
+/// What a field holds; the crate calls it `Prim` to those who use it.
 #[derive(Clone, Copy, Debug, PartialEq, Eq)]
-pub enum Prim<'a> {
+pub enum Primitive<'a> {
     Byte(u8),
     Short(u16),
     Int(i32),

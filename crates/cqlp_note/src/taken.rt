@@ -1,12 +1,12 @@
 //! What a piece of input makes of a field.
 
 use crate::head::Form;
-use crate::prim::Prim;
+use crate::prim::Primitive as Prim;
 use crate::refusal::Refusal;
 
 /// How far a field is.
 #[derive(Clone, Copy)]
-pub enum Stage {
+pub(crate) enum Stage {
     /// None is under way.
     Idle,
     /// What goes before its content is under way.
