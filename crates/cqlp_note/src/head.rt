@@ -20,11 +20,14 @@ pub(crate) struct Wanted {
     pub room: u64,
 }
 
-/// What is made of a content.
+/// What is made of a content: a text, bytes, or a value of a request.
 #[derive(Clone, Copy)]
 pub enum Form {
+    /// UTF-8.
     Text,
+    /// Any bytes.
     Bytes,
+    /// The bytes of a \[value\].
     Bound,
 }
 
@@ -40,7 +43,9 @@ pub(crate) enum Head {
 /// Why the front of a field tells nothing.
 #[derive(Clone, Copy)]
 pub(crate) enum Stop {
+    /// More bytes are wanted.
     Wanting,
+    /// It is refused.
     Refused(Reason),
 }
 
@@ -162,8 +167,8 @@ fn content(wanted: Wanted, behind: usize, len: u32, form: Form) -> Result<Head, 
     }
 }
 
-#[tactic(auto, using(crate::proofs::Fronts::inet_taken))]
 /// An address of N bytes and the bytes of a port, in those behind the first of a container with this much room.
+#[tactic(auto, using(crate::proofs::Fronts::inet_taken))]
 fn inet<const N: usize>(room: u64, rest: &[u8]) -> Result<([u8; N], [u8; 4]), Stop>
     requires { N ≤ 16 }
     ensures { TellsInet N room rest.now result }

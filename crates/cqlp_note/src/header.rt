@@ -12,13 +12,15 @@ const LONGEST_BODY: u32 = 268_435_456;
 /// The header of a frame. Section 2 of `native_protocol_v4.spec`.
 #[derive(Clone, Copy, Debug, PartialEq, Eq)]
 pub struct Header {
+    /// Whether the frame is a response, by its first byte: 84, or 04 in a request.
     pub response: bool,
     /// 01 compression, 02 tracing, 04 custom payload, 08 warning; other bits are kept.
     pub flags: u8,
     /// The stream id, which is a request's and its response's; -1 in an EVENT.
     pub stream: i16,
+    /// The kind of the message.
     pub opcode: Opcode,
-    /// The bytes of the body.
+    /// The bytes of the body, at most 268,435,456.
     pub length: u32,
 }
 

@@ -111,8 +111,8 @@ impl<A: Allocator> Partial<A> {
         }
     }
 
-    #[tactic(auto, using(crate::proofs::Pieces::content_front, crate::proofs::Pieces::gathered_bad, crate::proofs::Fronts::fixed_short))]
     /// Takes the next bytes of the field that is under way.
+    #[tactic(auto, using(crate::proofs::Pieces::content_front, crate::proofs::Pieces::gathered_bad, crate::proofs::Fronts::fixed_short))]
     pub fn advance(&mut self, input: &[u8]) -> Taken
         requires { self.old.under_way ≡ true }
         ensures { Advances self.old input.now result self.new }
@@ -163,8 +163,8 @@ impl<A: Allocator> Partial<A> {
         }
     }
 
-    #[tactic(auto, using(crate::proofs::Pieces::whole_got, crate::proofs::Pieces::whole_bad, crate::proofs::Pieces::seen_is_front, crate::proofs::Pieces::split_goes_on, crate::proofs::Pieces::rest_is, crate::proofs::Pieces::front_fits))]
     /// Takes a content, of which nothing came before `start` in the input.
+    #[tactic(auto, using(crate::proofs::Pieces::whole_got, crate::proofs::Pieces::whole_bad, crate::proofs::Pieces::seen_is_front, crate::proofs::Pieces::split_goes_on, crate::proofs::Pieces::rest_is, crate::proofs::Pieces::front_fits))]
     fn take_content(&mut self, start: usize, len: u32, form: Form, input: &[u8]) -> Taken
         requires under_way { self.old.under_way ≡ true }
         requires empty { self.old.content ≡ [] }
@@ -235,8 +235,8 @@ impl Form {
         }
     }
 
-    #[tactic(auto, using(crate::proofs::Pieces::utf8_true, crate::proofs::Pieces::utf8_false))]
     /// Whether these bytes may stand in such a content.
+    #[tactic(auto, using(crate::proofs::Pieces::utf8_true, crate::proofs::Pieces::utf8_false))]
     fn accepts(self, bytes: &[u8]) -> bool
         ensures { result ≡ accepts self bytes.now }
     {
