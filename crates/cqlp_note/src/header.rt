@@ -128,3 +128,136 @@ fn has(flags: u8, bits: u8) -> bool
 {
     flags & bits > 0
 }
+
+#[cfg(test)]
+mod tests {
+    use super::*;
+    use std::test::Fail;
+
+    #[test]
+    fn faults_come_in_their_order(rt: HostRuntime) {
+        let rows: [([u8; 9], u64, Reason); 9] = [
+            (
+                [0x83, 0x01, 0, 0, 4, 255, 255, 255, 255],
+                0,
+                Reason::BadVersion,
+            ),
+            (
+                [0x84, 0x01, 0, 0, 4, 255, 255, 255, 255],
+                1,
+                Reason::Compressed,
+            ),
+            (
+                [0x84, 0x00, 0, 0, 4, 255, 255, 255, 255],
+                4,
+                Reason::BadOpcode,
+            ),
+            ([0x84, 0x00, 0, 0, 17, 0, 0, 0, 0], 4, Reason::BadOpcode),
+            (
+                [0x84, 0x00, 0, 0, 7, 255, 255, 255, 255],
+                4,
+                Reason::BadDirection,
+            ),
+            (
+                [0x04, 0x00, 0, 0, 2, 255, 255, 255, 255],
+                4,
+                Reason::BadDirection,
+            ),
+            (
+                [0x84, 0x00, 0, 0, 2, 255, 255, 255, 255],
+                5,
+                Reason::BadLength,
+            ),
+            ([0x84, 0x00, 0, 0, 8, 0x10, 0, 0, 1], 5, Reason::BadLength),
+            ([0x00, 0x00, 0, 0, 5, 0, 0, 0, 0], 0, Reason::BadVersion),
+        ];
+        for (bytes, offset, why) in rows {
+            for start in [0u64, 1 << 63] {
+                let at = start + offset;
+                assert_eq!(rt;
+                    Header::read(&bytes, start),
+                    Err(Refusal { at, why }),
+                    "{bytes:?}"
+                );
+            }
+        }
+    }
+
+    #[test]
+    fn headers_are_read_and_written(rt: HostRuntime) -> Result<(), Fail> {
+        let rows: [([u8; 9], bool, u8, i16, Opcode, u32); 5] = [
+            ([4, 0, 0, 0, 5, 0, 0, 0, 0], false, 0, 0, Opcode::Options, 0),
+            (
+                [0x84, 0, 0, 7, 6, 0, 0, 0, 24],
+                true,
+                0,
+                7,
+                Opcode::Supported,
+                24,
+            ),
+            (
+                [0x84, 0, 255, 255, 12, 0, 0, 0, 28],
+                true,
+                0,
+                -1,
+                Opcode::Event,
+                28,
+            ),
+            (
+                [0x84, 0x0E, 0, 1, 8, 0, 0, 0, 35],
+                true,
+                14,
+                1,
+                Opcode::Result,
+                35,
+            ),
+            (
+                [0x84, 0xF0, 128, 0, 8, 16, 0, 0, 0],
+                true,
+                240,
+                i16::MIN,
+                Opcode::Result,
+                268_435_456,
+            ),
+        ];
+        for (bytes, response, flags, stream, opcode, length) in rows {
+            let header = Header {
+                response,
+                flags,
+                stream,
+                opcode,
+                length,
+            };
+            assert_eq!(rt; Header::read(&bytes, 0), Ok(header));
+            if !header.lawful() {
+                return Err("a header that is read is lawful")?;
+            }
+            assert_eq!(rt; header.write(), bytes);
+        }
+        Ok(())
+    }
+
+    #[test]
+    fn some_headers_are_not_lawful(rt: HostRuntime) {
+        let lawful = Header {
+            response: false,
+            flags: 0,
+            stream: 0,
+            opcode: Opcode::Query,
+            length: 268_435_456,
+        };
+        assert!(rt; lawful.lawful());
+        let compressed = Header { flags: 3, ..lawful };
+        assert!(rt; !compressed.lawful());
+        let turned = Header {
+            response: true,
+            ..lawful
+        };
+        assert!(rt; !turned.lawful());
+        let long = Header {
+            length: 268_435_457,
+            ..lawful
+        };
+        assert!(rt; !long.lawful());
+    }
+}
