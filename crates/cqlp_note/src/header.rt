@@ -1,6 +1,6 @@
 //! Frame headers.
 
-ghost use Rattle.std.specs.Prelude.{◌≡◌, ◌≤◌, ◌^◌, ◌==◌, ◌||◌, ◌↔◌, if◌then◌else◌, IsTrue, Ok};
+ghost use Rattle.std.specs.Prelude.{◌≡◌, ◌≤◌, ◌^◌, ◌==◌, ◌||◌, ◌↔◌, if◌then◌else◌, IsTrue, Ok, Err};
 ghost use Rattle.cqlp_note.specs.Heading.{has as has_bit};
 
 use crate::opcode::Opcode;
@@ -46,36 +46,21 @@ impl Header {
     {
         let [version, flags, _, _, number, _, _, _, _] = *bytes;
         if !is_version(version) {
-            return Err(Refusal {
-                at,
-                why: Reason::BadVersion,
-            });
+            return fault(at, Reason::BadVersion);
         }
         if has(flags, 0x01) {
-            return Err(Refusal {
-                at: at + 1,
-                why: Reason::Compressed,
-            });
+            return fault(at + 1, Reason::Compressed);
         }
         let response = version == 0x84;
         let Some(opcode) = Opcode::from_number(number) else {
-            return Err(Refusal {
-                at: at + 4,
-                why: Reason::BadOpcode,
-            });
+            return fault(at + 4, Reason::BadOpcode);
         };
         if opcode.is_response() != response {
-            return Err(Refusal {
-                at: at + 4,
-                why: Reason::BadDirection,
-            });
+            return fault(at + 4, Reason::BadDirection);
         }
         let length = u32::from_be_bytes([bytes[5], bytes[6], bytes[7], bytes[8]]);
         if length > LONGEST_BODY {
-            return Err(Refusal {
-                at: at + 5,
-                why: Reason::BadLength,
-            });
+            return fault(at + 5, Reason::BadLength);
         }
         Ok(Header {
             response,
@@ -109,6 +94,14 @@ impl Header {
     }
 }
 
+/// The refusal at this offset.
+fn fault(at: u64, why: Reason) -> Result<Header, Refusal>
+    ensures { result ≡ Err (record { at = at; why = why }) }
+{
+    Err(Refusal { at, why })
+}
+
+/// Whether a header begins so.
 fn is_version(version: u8) -> bool
     ensures { result ≡ ((version == 0x04) || (version == 0x84)) }
 {

@@ -129,26 +129,23 @@ impl<A: Allocator> Partial<A> {
                 }
                 self.content.extend_from_slice(&input[..missing]).unwrap();
                 self.stage = Stage::Idle;
-                if form.accepts(&self.content) {
-                    Taken::Got {
-                        used: missing,
-                        item: Item::Content {
-                            form,
-                            lies: Lies::InBuffer,
-                        },
-                    }
-                } else {
-                    self.refuse(Reason::BadUtf8)
+                if !form.accepts(&self.content) {
+                    return self.refuse(Reason::BadUtf8);
+                }
+                let lies = Lies::InBuffer;
+                let item = Item::Content { form, lies };
+                Taken::Got {
+                    used: missing,
+                    item,
                 }
             }
             Stage::Idle => unreachable!(),
             Stage::Front => match told(self.wanted, &self.front, input) {
                 Ok(Head::Whole { used, prim }) => {
                     self.stage = Stage::Idle;
-                    Taken::Got {
-                        used: used - self.front.len(),
-                        item: Item::Plain(prim),
-                    }
+                    let used = used - self.front.len();
+                    let item = Item::Plain(prim);
+                    Taken::Got { used, item }
                 }
                 Ok(Head::Content { behind, len, form }) => {
                     let start = behind - self.front.len();
@@ -186,13 +183,10 @@ impl<A: Allocator> Partial<A> {
             return self.refuse(Reason::BadUtf8);
         }
         self.stage = Stage::Idle;
-        Taken::Got {
-            used: start + size,
-            item: Item::Content {
-                form,
-                lies: Lies::InInput { start, len: size },
-            },
-        }
+        let used = start + size;
+        let lies = Lies::InInput { start, len: size };
+        let item = Item::Content { form, lies };
+        Taken::Got { used, item }
     }
 
     /// Ends the field by a refusal.
