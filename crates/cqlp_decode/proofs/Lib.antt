@@ -2,3 +2,4 @@ pub mod Stack
 pub mod Steps
 pub mod Leads
 pub mod Ends
+pub mod Gets

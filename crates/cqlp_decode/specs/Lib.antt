@@ -4,3 +4,4 @@ pub mod Upcoming
 pub mod Standing
 pub mod Streams
 pub mod Lending
+pub mod Draining

@@ -4,6 +4,7 @@
 mod decoder;
 mod event;
 mod following;
+mod running;
 mod sink;
 mod standing;
 mod table;
@@ -11,4 +12,5 @@ mod upcoming;
 
 pub use decoder::{Decoder, NewError};
 pub use event::{Event, Finish, Held, Step};
+pub use running::{Outcome, run};
 pub use sink::{Sink, SinkFault};
