@@ -5,3 +5,4 @@ pub mod Standing
 pub mod Streams
 pub mod Lending
 pub mod Draining
+pub mod Laws

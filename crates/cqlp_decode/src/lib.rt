@@ -4,6 +4,7 @@
 mod decoder;
 mod event;
 mod following;
+pub mod laws;
 mod running;
 mod sink;
 mod standing;
