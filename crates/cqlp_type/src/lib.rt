@@ -3,6 +3,8 @@
 
 mod kind;
 mod node;
+mod table;
 
 pub use kind::Kind;
 pub use node::Node;
+pub use table::TypeTable;
