@@ -1,3 +1,4 @@
 pub mod Types
 pub mod TypeStep
 pub mod Table
+pub mod Levels

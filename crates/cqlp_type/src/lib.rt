@@ -2,6 +2,7 @@
 #![tactic(auto)]
 
 mod kind;
+mod levels;
 mod node;
 mod table;
 

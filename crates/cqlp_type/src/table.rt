@@ -112,7 +112,7 @@ impl<A: Allocator> TypeTable<A> {
         requires { length self.old.nodes < self.old.room }
         ensures { self.new ≡ record { nodes = self.old.nodes ++ node ∷ []; room = self.old.room } }
     {
-        self.nodes.extend_from_slice(&[node]).unwrap();
+        self.nodes.push_reserved(node);
     }
 
     /// Sets how many inner types the last type has.
