@@ -20,3 +20,13 @@ arity_set (y ∷ []) n x here lt = rw here refl
 arity_set (y ∷ z ∷ xs) n x here lt =
     let e : suc (suc (length xs)) - 1 ≡ suc (suc (length xs) - 1) = omega arith in
     rw e (ap (λ (m : List Node). y ∷ m) (arity_set (z ∷ xs) n x (rw e at here) (omega arith)))
+
+pub length_with_span : (i : ℕ) (xs : List Node) → length (with_span i xs) ≡ length xs
+length_with_span i [] = refl
+length_with_span zero (x ∷ xs) = refl
+length_with_span (suc i) (x ∷ xs) = ap suc (length_with_span i xs)
+
+pub length_with_arity : (n : ℕ) (xs : List Node) → length (with_arity n xs) ≡ length xs
+length_with_arity n [] = refl
+length_with_arity n (x ∷ []) = refl
+length_with_arity n (x ∷ y ∷ xs) = ap suc (length_with_arity n (y ∷ xs))
