@@ -1,3 +1,5 @@
 pub mod Beginnings
 pub mod Nodes
 pub mod Nesting
+pub mod Items
+pub mod Calls

@@ -3,3 +3,4 @@ pub mod TypeStep
 pub mod Table
 pub mod Levels
 pub mod Remaining
+pub mod Standing

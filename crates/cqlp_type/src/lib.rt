@@ -5,10 +5,12 @@ mod item;
 mod kind;
 mod levels;
 mod node;
+mod reader;
 mod remaining;
 mod table;
 
 pub use item::{TypeAdvance, TypeItem, TypePart, TypePush};
 pub use kind::Kind;
 pub use node::Node;
+pub use reader::TypeReader;
 pub use table::TypeTable;
