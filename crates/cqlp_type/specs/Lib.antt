@@ -4,3 +4,5 @@ pub mod Table
 pub mod Levels
 pub mod Remaining
 pub mod Standing
+pub mod Trees
+pub mod Pushing

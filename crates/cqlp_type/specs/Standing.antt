@@ -120,6 +120,6 @@ pub record Ends (old : Standing) (p : Progress) (t : Table) (input : List ℕ) (
 abbrev pub Advances : Standing → Progress → Table → List ℕ → TypeAdvance → Standing → Progress → Table → Type 0
 Advances old p t input (advance.More used) new p' t' = Waits old p t input used new p' t'
 Advances old p t input (advance.Item at used q) new p' t' = Ends old p t input at used q new p' t'
-Advances old p t input advance.Done new p' t' = (old.symbols ≡ []) × (new ≡ stopped old) × (p' ≡ p) × (t' ≡ t)
+Advances old p t input advance.Done new p' t' = (old.symbols ≡ []) × (new ≡ stopped old) × (p' ≡ p) × (p.under_way ≡ false) × (t' ≡ t)
 Advances old p t input (advance.Refused r) new p' t' =
     (told old t.nodes (pending old p ++ input) ≡ Bad (r.at, r.why)) × (new ≡ stopped old) × (p'.under_way ≡ false) × (p'.content ≡ []) × (p'.room ≡ p.room) × (t' ≡ t)

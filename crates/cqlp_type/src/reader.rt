@@ -1,9 +1,10 @@
 //! A type option out of pieces of any size.
 
 ghost use Rattle.std.specs.Prelude.{◌≡◌, ◌+◌, ◌<◌, ◌≤◌, ◌++◌, ◌∷◌, [], true, false, length, IfOk, IsTrue, ◌↔◌};
+ghost use Rattle.std.specs.Borrow.{sem};
 ghost use Rattle.cqlp_note.specs.Limits.{rules_of};
 
-use crate::item::{TypeAdvance, TypePart};
+use crate::item::{TypeAdvance, TypePush};
 use crate::levels::Levels;
 use crate::remaining::{Remaining, Stage};
 use crate::table::TypeTable;
@@ -41,6 +42,8 @@ impl<A: Allocator> Model for TypeReader<A> {
 
 impl<A: Allocator> TypeReader<A> {
     ghost use Rattle.cqlp_type.specs.Standing.{IsShared, Advances, IsFor, pending, started, stopped};
+    ghost use Rattle.cqlp_note.specs.Lending.{Next};
+    ghost use Rattle.cqlp_type.specs.Pushing.{Uses, Continues, Fills, Pushes};
 
     /// With room for the nesting that the limits allow.
     pub fn new(alloc: A, limits: &Limits) -> Result<Self, NoMemory>
@@ -131,6 +134,36 @@ impl<A: Allocator> TypeReader<A> {
                     }
                 }
             }
+        }
+    }
+
+    /// Takes the next bytes of the option that is under way. A text that lies whole in them is lent from them.
+    ///
+    /// The `Partial` comes first: what is lent may be its own, and a clause says what the first parameter is once that
+    /// loan has ended.
+    pub fn push<'a, B: Allocator, C: Allocator>(
+        partial: &'a mut Partial<B>,
+        reader: &mut Self,
+        table: &mut TypeTable<C>,
+        input: &'a [u8],
+    ) -> TypePush<'a>
+        requires under_way { reader.old.under_way ≡ true }
+        requires shared { IsShared reader.old partial.old }
+        requires room { reader.old.rules.entries ≤ table.old.room }
+        ensures uses { Uses input.now result }
+        ensures reader { Continues reader.old result reader.new }
+        ensures table { Fills reader.old table.old result table.new }
+        ensures* next { sem 𝓛 (Next B.row B.Allocator partial.entry (λ after. Pushes reader.old partial.old table.old input.now result reader.new after table.new)) }
+    {
+        match reader.advance(partial, table, input) {
+            TypeAdvance::More { used } => TypePush::More { used },
+            TypeAdvance::Item { at, used, item } => TypePush::Item {
+                at,
+                used,
+                item: item.lend(partial, input),
+            },
+            TypeAdvance::Done => TypePush::Done,
+            TypeAdvance::Refused(refusal) => TypePush::Refused(refusal),
         }
     }
 
