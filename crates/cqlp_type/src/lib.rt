@@ -1,8 +1,16 @@
 //! Type options of the CQL native protocol v4.
 #![tactic(auto)]
 
+mod item;
 mod kind;
+mod levels;
 mod node;
+mod reader;
+mod remaining;
+mod table;
 
+pub use item::{TypeAdvance, TypeItem, TypePart, TypePush};
 pub use kind::Kind;
 pub use node::Node;
+pub use reader::TypeReader;
+pub use table::TypeTable;
