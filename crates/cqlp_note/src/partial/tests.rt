@@ -34,7 +34,12 @@ fn each_notation_is_read_to_its_end(rt: HostRuntime) -> Result<(), Fail> {
     let rows: [(Notation, &[u8], usize, Primitive<'static>); 20] = [
         (Notation::Byte, &[255, 9], 1, Primitive::Byte(255)),
         (Notation::Short, &[1, 2, 9], 2, Primitive::Short(258)),
-        (Notation::Int, &[255, 255, 255, 254, 9], 4, Primitive::Int(-2)),
+        (
+            Notation::Int,
+            &[255, 255, 255, 254, 9],
+            4,
+            Primitive::Int(-2),
+        ),
         (
             Notation::Long,
             &[128, 0, 0, 0, 0, 0, 0, 1, 9],
@@ -47,14 +52,24 @@ fn each_notation_is_read_to_its_end(rt: HostRuntime) -> Result<(), Fail> {
             16,
             Primitive::Uuid(uuid),
         ),
-        (Notation::Count16, &[255, 255, 9], 2, Primitive::Count(65_535)),
+        (
+            Notation::Count16,
+            &[255, 255, 9],
+            2,
+            Primitive::Count(65_535),
+        ),
         (
             Notation::Count32,
             &[127, 255, 255, 255, 9],
             4,
             Primitive::Count(2_147_483_647),
         ),
-        (Notation::Text16, &[0, 2, 195, 169, 9], 4, Primitive::Text("é")),
+        (
+            Notation::Text16,
+            &[0, 2, 195, 169, 9],
+            4,
+            Primitive::Text("é"),
+        ),
         (
             Notation::Text32,
             &[0, 0, 0, 2, b'h', b'i', 9],
@@ -79,7 +94,12 @@ fn each_notation_is_read_to_its_end(rt: HostRuntime) -> Result<(), Fail> {
             4,
             Primitive::Bytes(None),
         ),
-        (Notation::Bytes32, &[128, 0, 0, 0, 9], 4, Primitive::Bytes(None)),
+        (
+            Notation::Bytes32,
+            &[128, 0, 0, 0, 9],
+            4,
+            Primitive::Bytes(None),
+        ),
         (
             Notation::Bound,
             &[0, 0, 0, 0, 9],
@@ -185,8 +205,12 @@ fn text_is_the_same_wherever_it_is_cut(rt: HostRuntime) -> Result<(), Fail> {
             Push::More { used } => assert_eq!(rt; used, cut),
             _ => return Err("it ended before its last byte")?,
         }
+        assert!(rt; partial.is_under_way(), "at {cut}");
+        assert_eq!(rt; partial.came(), cut as u64);
         let (used, prim) = (10 - cut, Primitive::Text("aébcd"));
         assert_eq!(rt; partial.push(second), Push::Got { used, prim }, "at {cut}");
+        assert!(rt; !partial.is_under_way(), "at {cut}");
+        assert_eq!(rt; partial.came(), 0);
         assert_eq!(rt; partial.held(), if cut > 4 { 6 } else { 0 }, "at {cut}");
     }
     Ok(())
