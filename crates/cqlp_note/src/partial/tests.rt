@@ -3,7 +3,7 @@
 ghost use Rattle.std.specs.Prelude.{◌≡◌, ◌≤◌, ◌+◌, ◌^◌, ◌<◌, IfOk, true};
 
 use super::*;
-use crate::heaps::{Counted, Nothing};
+use crate::heaps::Limited;
 use crate::prim::Address;
 use std::test::Fail;
 
@@ -243,25 +243,24 @@ fn address_cut_in_its_port(rt: HostRuntime) -> Result<(), Fail> {
 
 #[test]
 fn memory_that_is_refused_is_told(rt: HostRuntime) {
-    assert!(rt; matches!(Partial::new(Nothing, LIMIT), Err(NoMemory)));
+    let none = Limited::new(rt.alloc(), 0);
+    assert!(rt; matches!(Partial::new(&none, LIMIT), Err(NoMemory)));
 }
 
 #[test]
 fn memory_is_taken_by_new_alone(rt: HostRuntime) -> Result<(), Fail> {
-    let counted = Counted::new(rt.alloc());
-    let mut partial = Partial::new(&counted, LIMIT)?;
-    assert_eq!(rt; counted.calls(), 1);
+    let one = Limited::new(rt.alloc(), 1);
+    let mut partial = Partial::new(&one, LIMIT)?;
+    assert!(rt; matches!(Partial::new(&one, LIMIT), Err(NoMemory)));
     partial.begin(Notation::Text32, LIMIT, AT, AT + 44);
-    let (head, tail) = ([0, 0, 0, 40, b'a'], [b'a'; 39]);
-    match partial.push(&head) {
+    match partial.push(&[0, 0, 0, 40, b'a']) {
         Push::More { used } => assert_eq!(rt; used, 5),
         _ => return Err("it ended before its last byte")?,
     }
-    match partial.push(&tail) {
+    match partial.push(&[b'a'; 39]) {
         Push::Got { used, .. } => assert_eq!(rt; used, 39),
         _ => return Err("it did not end at its last byte")?,
     }
     assert_eq!(rt; partial.held(), LIMIT);
-    assert_eq!(rt; counted.calls(), 1);
     Ok(())
 }
