@@ -6,3 +6,5 @@ pub mod Calls
 pub mod Forests
 pub mod ReadBack
 pub mod Pushes
+pub mod SpelledRead
+pub mod TableLaws

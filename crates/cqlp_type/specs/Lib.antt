@@ -6,3 +6,4 @@ pub mod Remaining
 pub mod Standing
 pub mod Trees
 pub mod Pushing
+pub mod Laws

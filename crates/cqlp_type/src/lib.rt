@@ -3,6 +3,7 @@
 
 mod item;
 mod kind;
+pub mod laws;
 mod levels;
 mod node;
 mod reader;
