@@ -8,3 +8,4 @@ pub mod ReadBack
 pub mod Pushes
 pub mod SpelledRead
 pub mod TableLaws
+pub mod TreeLengths

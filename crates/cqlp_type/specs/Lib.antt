@@ -7,3 +7,5 @@ pub mod Standing
 pub mod Trees
 pub mod Pushing
 pub mod Laws
+pub mod TypeTrees
+pub mod TypeLists
