@@ -9,3 +9,4 @@ pub mod Pushes
 pub mod SpelledRead
 pub mod TableLaws
 pub mod TreeLengths
+pub mod Lengths

@@ -8,6 +8,7 @@ use Rattle.cqlp_type.specs.Types.{Types, NoMore, Type_and, how_many, types_of, p
 use Rattle.cqlp_type.specs.TypeStep.{TypeEvent, Option_at, TypePlace, type_step}
 use Rattle.cqlp_type.specs.Table.{beginnings, root, child}
 use Rattle.cqlp_type.specs.Trees.{Trees, trees_in, options_in, types_in, AreTrees, Shallow, AreShort, trees_items, placed, TreeSpells}
+use Rattle.cqlp_type.specs.TypeTrees.{trees_size}
 use Rattle.cqlp_type.specs.Pushing.{IsWhole}
 
 -- The types of nodes in preorder are those that the nodes were made of, and those of the nodes behind them.
@@ -29,6 +30,10 @@ SpelledIsRead = (l : Rules) (t : Trees) (depth at stop : ℕ) (ns : List Node) (
 abbrev pub ReadIsSpelled : Type 0
 ReadIsSpelled = (l : Rules) (depth : ℕ) (before after : TypePlace) (b : List ℕ) (es : List (ℕ × TypeEvent))
     → before.symbols ≡ Option_at depth ∷ [] → after.symbols ≡ [] → Runs (type_step l) before b es after [] → IsWhole before.offset before.nodes b es after.nodes
+
+-- The bytes that spell a type are as many as its size says.
+abbrev pub SpelledIsLong : Type 0
+SpelledIsLong = (t : Trees) (b : List ℕ) → TreeSpells t b → length b ≡ trees_size false t
 
 -- ---- tables
 

@@ -1,6 +1,6 @@
 //! Laws of the definitions.
 
-ghost use Rattle.cqlp_type.specs.Laws.{TypesOfPreorder, TypesOfOwnPreorder, SpelledIsRead, ReadIsSpelled, RootsAreTypes, ChildrenOfWhole, ChildrenOfOpen, OpenIsLast};
+ghost use Rattle.cqlp_type.specs.Laws.{TypesOfPreorder, TypesOfOwnPreorder, SpelledIsRead, ReadIsSpelled, SpelledIsLong, RootsAreTypes, ChildrenOfWhole, ChildrenOfOpen, OpenIsLast};
 
 /// The types of nodes in preorder are those that the nodes were made of.
 #[tactic(auto, using(crate::proofs::Forests::types_of_preorder, crate::proofs::Forests::types_of_own_preorder))]
@@ -17,6 +17,11 @@ pub fn spelled_is_read()
 /// What is read of an option is a type that its bytes spell.
 pub fn read_is_spelled()
     ensures { ReadIsSpelled }
+{}
+
+/// The bytes that spell a type are as many as `type_len` counts.
+pub fn spelled_is_long()
+    ensures { SpelledIsLong }
 {}
 
 /// Where types that stand side by side begin, also where the last one is under way.
