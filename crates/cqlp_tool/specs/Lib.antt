@@ -1,0 +1,5 @@
+pub mod CellText
+pub mod Lines
+pub mod Names
+pub mod Text
+pub mod Written

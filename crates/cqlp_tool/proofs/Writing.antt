@@ -1,0 +1,142 @@
+-- Writing one text after another.
+use Rattle.std.proofs.Common.{◌≡◌, ◌≢◌, ◌==◌, ◌&&◌, nat_lt, ℕ, ◌-◌, Bool, ◌<◌, drop, true, false, List, [], ◌∷◌, ◌++◌, length, take, Option, Some, None, Result, Ok, Err, IsErr, refl, sym, ◌∙◌, ap, subst, append_assoc, append-nil, arith}
+use Rattle.std.proofs.lemmas.Grind.{common_steps}
+use Rattle.std.proofs.lemmas.List.{take-append-drop}
+use Rattle.std.proofs.lemmas.Bool.Decides.{nat_tests}
+use Rattle.std.specs.Io.KnownBytes.{Keeps, Appends}
+use Rattle.cqlp_note.specs.Streams.{counted}
+use Rattle.cqlp_decode.specs.declared.sink.SinkFault.{SinkFault}
+use Rattle.cqlp_tool.specs.Written.{Written, PassesOn, Takes, BreaksOff, Writes, bare}
+
+passed_then : (a b c : Written) (x y left : List ℕ) → PassesOn a x b.waiting b.given → PassesOn b y left c.given → PassesOn a (x ++ y) left c.given
+passed_then a b c x y left first second text given =
+    let p = first text given in
+    let q = second (text ++ p.0) p.1 in
+    (p.0 ++ q.0, q.1 ∙ ap (λ t. Some t) (append_assoc text p.0 q.0), append_assoc p.0 q.0 left ∙ ap (λ t. p.0 ++ t) q.2 ∙ sym (append_assoc p.0 b.waiting y) ∙ ap (λ t. t ++ y) p.2 ∙ append_assoc a.waiting x y)
+
+-- nothing more
+pub takes_nothing : (w : Written) → Takes w [] w
+takes_nothing w = record {
+  passed = λ text given. ([], given ∙ ap (λ t. Some t) (sym (append-nil text)), sym (append-nil w.waiting));
+  failures = refl;
+}
+
+pub takes_then_takes : (a b c : Written) (x y : List ℕ) → Takes a x b → Takes b y c → Takes a (x ++ y) c
+takes_then_takes a b c x y first second = record {
+  passed = passed_then a b c x y c.waiting first.passed second.passed;
+  failures = second.failures ∙ first.failures;
+}
+
+pub takes_then_breaks : (a b c : Written) (x y : List ℕ) → Takes a x b → BreaksOff b y c → BreaksOff a (x ++ y) c
+takes_then_breaks a b c x y first second = record {
+  lost = second.lost;
+  behind = second.behind;
+  passed = passed_then a b c x y (second.lost ∷ second.behind) first.passed second.passed;
+  failures = second.failures ∙ ap (counted true) first.failures;
+  waiting = second.waiting;
+}
+
+-- a fault within a text is one within a longer text
+pub breaks_in_more : (a b : Written) (x y : List ℕ) → BreaksOff a x b → BreaksOff a (x ++ y) b
+breaks_in_more a b x y broken = record {
+  lost = broken.lost;
+  behind = broken.behind ++ y;
+  passed = λ text given. let p = broken.passed text given in (p.0, p.1, sym (append_assoc p.0 (broken.lost ∷ broken.behind) y) ∙ ap (λ t. t ++ y) p.2 ∙ append_assoc a.waiting x y);
+  failures = broken.failures;
+  waiting = broken.waiting;
+}
+
+-- ---- one call of a target
+
+known_kept : (old new : Option (List ℕ)) (text : List ℕ) → Keeps old new → old ≡ Some text → new ≡ Some text
+known_kept None new text keeps known = cc
+known_kept (Some xs) None text keeps known = absurd keeps
+known_kept (Some xs) (Some ys) text keeps known = ap (λ t. Some t) keeps ∙ known
+
+known_grown : (old new : Option (List ℕ)) (text more : List ℕ) → Appends old new more → old ≡ Some text → new ≡ Some (text ++ more)
+known_grown None new text more grows known = cc
+known_grown (Some xs) None text more grows known = absurd grows
+known_grown (Some xs) (Some ys) text more grows known = let e : xs ≡ text = cc in ap (λ t. Some t) (grows ∙ ap (λ t. t ++ more) e)
+
+-- a call that failed
+pub fails_at : (old new : Option (List ℕ)) (f f' : ℕ) (bytes : List ℕ) → 0 < length bytes → Keeps old new → f' ≡ counted true f → BreaksOff (bare old f) bytes (bare new f')
+fails_at old new f f' [] some keeps failed = absurd (omega arith)
+fails_at old new f f' (b ∷ bs) some keeps failed = record {
+  lost = b;
+  behind = bs;
+  passed = λ text known. ([], known_kept old new text keeps known ∙ ap (λ t. Some t) (sym (append-nil text)), refl);
+  failures = failed;
+  waiting = refl;
+}
+
+-- a call that took these bytes
+pub takes_at : (old new : Option (List ℕ)) (f f' : ℕ) (bytes : List ℕ) → Appends old new bytes → f' ≡ f → Takes (bare old f) bytes (bare new f')
+takes_at old new f f' bytes grows same = record {
+  passed = λ text known. (bytes, known_grown old new text bytes grows known, append-nil bytes);
+  failures = same;
+}
+
+keeps_nothing_more : (old new : Option (List ℕ)) → Appends old new [] → Keeps old new
+keeps_nothing_more None new grows = tt
+keeps_nothing_more (Some xs) None grows = absurd grows
+keeps_nothing_more (Some xs) (Some ys) grows = grows ∙ append-nil xs
+
+took_none_at : (n len : ℕ) → n ≡ 0 → 0 < len → ((n == 0) && nat_lt 0 len) ≡ true
+took_none_at n len none some = grind (arith, nat_tests)
+
+took_some_at : (n len : ℕ) → n ≢ 0 → ((n == 0) && nat_lt 0 len) ≡ false
+took_some_at n len some = grind (arith, nat_tests)
+
+-- a call that took nothing
+pub fails_at_none : (old new : Option (List ℕ)) (f f' n : ℕ) (bytes : List ℕ) → n ≡ 0 → 0 < length bytes → Appends old new (take n bytes) → f' ≡ counted ((n == 0) && nat_lt 0 (length bytes)) f → BreaksOff (bare old f) bytes (bare new f')
+fails_at_none old new f f' n [] none some grows failed = absurd (omega arith)
+fails_at_none old new f f' n (b ∷ bs) none some grows failed =
+    let grows' : Appends old new (take 0 (b ∷ bs)) = subst (λ (k : ℕ). Appends old new (take k (b ∷ bs))) none grows in
+    let failed' : f' ≡ counted true f = failed ∙ ap (λ (t : Bool). counted t f) (took_none_at n (length (b ∷ bs)) none some) in
+    fails_at old new f f' (b ∷ bs) some (keeps_nothing_more old new grows') failed'
+
+-- a call that took some bytes
+pub takes_at_some : (old new : Option (List ℕ)) (f f' n : ℕ) (bytes : List ℕ) → n ≢ 0 → Appends old new (take n bytes) → f' ≡ counted ((n == 0) && nat_lt 0 (length bytes)) f → Takes (bare old f) (take n bytes) (bare new f')
+takes_at_some old new f f' n bytes some grows same = takes_at old new f f' (take n bytes) grows (same ∙ ap (λ (t : Bool). counted t f) (took_some_at n (length bytes) some))
+
+-- what is left of a text behind its first bytes
+pub split_later : (whole front rest : List ℕ) (n : ℕ) → front ++ rest ≡ whole → (front ++ take n rest) ++ take (length rest - n) (drop n rest) ≡ whole
+split_later whole front rest n split =
+    let behind : take (length rest - n) (drop n rest) ≡ drop n rest = grind (arith, common_steps) in
+    append_assoc front (take n rest) _ ∙ ap (λ t. front ++ (take n rest ++ t)) behind ∙ ap (λ t. front ++ t) (take-append-drop n rest) ∙ split
+
+-- ---- results
+
+-- a call of `?` that stops within the text
+pub stops_in : (a b : Written) (x y : List ℕ) (r : Result (Unit {0}) SinkFault) → IsErr r → BreaksOff a x b → Writes a (x ++ y) r b
+stops_in a b x y (Ok u) stops broken = cc
+stops_in a b x y (Err e) stops broken = breaks_in_more a b x y broken
+
+-- a call of `?` that stops before the text
+pub stops_before : (a b : Written) (y : List ℕ) (r : Result (Unit {0}) SinkFault) → IsErr r → BreaksOff a [] b → Writes a y r b
+stops_before a b y r stops broken = stops_in a b [] y r stops broken
+
+-- one text and then another
+pub then_writes : (a b c : Written) (x y : List ℕ) (r : Result (Unit {0}) SinkFault) → Takes a x b → Writes b y r c → Writes a (x ++ y) r c
+then_writes a b c x y (Ok u) first second = takes_then_takes a b c x y first second
+then_writes a b c x y (Err e) first second = takes_then_breaks a b c x y first second
+
+-- what waited is passed on, and nothing waits
+pub passes_waiting : (given given' : Option (List ℕ)) (f f' : ℕ) (waiting none : List ℕ) (r : Result (Unit {0}) SinkFault) → none ≡ [] → Writes (bare given f) waiting r (bare given' f') → Writes (record { given = given; failures = f; waiting = waiting }) [] r (record { given = given'; failures = f'; waiting = none })
+passes_waiting given given' f f' waiting none (Ok u) empty takes = record {
+  passed = λ text known. let p = takes.passed text known in (p.0, p.1, ap (λ t. p.0 ++ t) empty ∙ p.2 ∙ sym (append-nil waiting));
+  failures = takes.failures;
+}
+passes_waiting given given' f f' waiting none (Err e) empty breaks = record {
+  lost = breaks.lost;
+  behind = breaks.behind;
+  passed = λ text known. let p = breaks.passed text known in (p.0, p.1, p.2 ∙ sym (append-nil waiting));
+  failures = breaks.failures;
+  waiting = empty;
+}
+
+-- a text is passed on where nothing waits
+pub passes_direct : (given given' : Option (List ℕ)) (f f' : ℕ) (none bytes : List ℕ) (r : Result (Unit {0}) SinkFault) → none ≡ [] → Writes (bare given f) bytes r (bare given' f') → Writes (record { given = given; failures = f; waiting = none }) bytes r (record { given = given'; failures = f'; waiting = none })
+passes_direct given given' f f' none bytes r empty writes =
+    let same : (g : Option (List ℕ)) (n : ℕ) → bare g n ≡ (record { given = g; failures = n; waiting = none }) = λ g n. ap (λ w. record { given = g; failures = n; waiting = w }) (sym empty) in
+    subst (λ (w : Written). Writes w bytes r (record { given = given'; failures = f'; waiting = none })) (same given f) (subst (λ (w : Written). Writes (bare given f) bytes r w) (same given' f') writes)
