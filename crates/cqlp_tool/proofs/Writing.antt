@@ -99,27 +99,48 @@ fails_at_none old new f f' n (b ∷ bs) none some grows failed =
 pub takes_at_some : (old new : Option (List ℕ)) (f f' n : ℕ) (bytes : List ℕ) → n ≢ 0 → Appends old new (take n bytes) → f' ≡ counted ((n == 0) && nat_lt 0 (length bytes)) f → Takes (bare old f) (take n bytes) (bare new f')
 takes_at_some old new f f' n bytes some grows same = takes_at old new f f' (take n bytes) grows (same ∙ ap (λ (t : Bool). counted t f) (took_some_at n (length bytes) some))
 
--- what is left of a text behind its first bytes
-pub split_later : (whole front rest : List ℕ) (n : ℕ) → front ++ rest ≡ whole → (front ++ take n rest) ++ take (length rest - n) (drop n rest) ≡ whole
-split_later whole front rest n split =
+-- ---- a text in parts
+
+-- A writer that was at `start` has taken a text but for what is left of it.
+pub record Progress (start : Written) (text left : List ℕ) (now : Written) : Type 0 where
+  pub front : List ℕ
+  pub split : front ++ left ≡ text
+  pub takes : Takes start front now
+
+pub progress_starts : (w : Written) (text : List ℕ) → Progress w text text w
+progress_starts w text = record { front = []; split = refl; takes = takes_nothing w }
+
+pub progress_goes_on : {a b c : Written} {text left x : List ℕ} (later : List ℕ) → Progress a text left b → left ≡ x ++ later → Takes b x c → Progress a text later c
+progress_goes_on {a} {b} {c} {text} {left} {x} later here parts takes = record {
+  front = here.front ++ x;
+  split = append_assoc here.front x later ∙ ap (λ t. here.front ++ t) (sym parts) ∙ here.split;
+  takes = takes_then_takes a b c here.front x here.takes takes;
+}
+
+pub progress_ends : {a b : Written} {text left : List ℕ} → Progress a text left b → left ≡ [] → Takes a text b
+progress_ends {a} {b} {text} {left} here none =
+    subst (λ (t : List ℕ). Takes a t b) (sym (append-nil here.front) ∙ ap (λ t. here.front ++ t) (sym none) ∙ here.split) here.takes
+
+pub progress_breaks : {a b c : Written} {text left x : List ℕ} (later : List ℕ) → Progress a text left b → left ≡ x ++ later → BreaksOff b x c → BreaksOff a text c
+progress_breaks {a} {b} {c} {text} {left} {x} later here parts breaks =
+    subst (λ (t : List ℕ). BreaksOff a t c) (append_assoc here.front x later ∙ ap (λ t. here.front ++ t) (sym parts) ∙ here.split)
+      (breaks_in_more a c (here.front ++ x) later (takes_then_breaks a b c here.front x here.takes breaks))
+
+-- a `?` that ends the function
+pub progress_stops : {a b c : Written} {text left x : List ℕ} (later : List ℕ) (r : Result (Unit {0}) SinkFault) → IsErr r → Progress a text left b → left ≡ x ++ later → BreaksOff b x c → Writes a text r c
+progress_stops later (Ok u) stops here parts breaks = cc
+progress_stops later (Err e) stops here parts breaks = progress_breaks later here parts breaks
+
+-- the last part
+pub progress_writes : {a b : Written} (c : Written) {text left : List ℕ} (r : Result (Unit {0}) SinkFault) → Progress a text left b → Writes b left r c → Writes a text r c
+progress_writes {a} {b} c {text} {left} (Ok u) here writes = progress_ends (progress_goes_on [] here (sym (append-nil left)) writes) refl
+progress_writes {a} {b} c {text} {left} (Err e) here writes = progress_breaks [] here (sym (append-nil left)) writes
+
+-- what is left behind the first n
+pub rest_behind : (rest : List ℕ) (n : ℕ) → rest ≡ take n rest ++ take (length rest - n) (drop n rest)
+rest_behind rest n =
     let behind : take (length rest - n) (drop n rest) ≡ drop n rest = grind (arith, common_steps) in
-    append_assoc front (take n rest) _ ∙ ap (λ t. front ++ (take n rest ++ t)) behind ∙ ap (λ t. front ++ t) (take-append-drop n rest) ∙ split
-
--- ---- results
-
--- a call of `?` that stops within the text
-pub stops_in : (a b : Written) (x y : List ℕ) (r : Result (Unit {0}) SinkFault) → IsErr r → BreaksOff a x b → Writes a (x ++ y) r b
-stops_in a b x y (Ok u) stops broken = cc
-stops_in a b x y (Err e) stops broken = breaks_in_more a b x y broken
-
--- a call of `?` that stops before the text
-pub stops_before : (a b : Written) (y : List ℕ) (r : Result (Unit {0}) SinkFault) → IsErr r → BreaksOff a [] b → Writes a y r b
-stops_before a b y r stops broken = stops_in a b [] y r stops broken
-
--- one text and then another
-pub then_writes : (a b c : Written) (x y : List ℕ) (r : Result (Unit {0}) SinkFault) → Takes a x b → Writes b y r c → Writes a (x ++ y) r c
-then_writes a b c x y (Ok u) first second = takes_then_takes a b c x y first second
-then_writes a b c x y (Err e) first second = takes_then_breaks a b c x y first second
+    sym (ap (λ t. take n rest ++ t) behind ∙ take-append-drop n rest)
 
 -- what waited is passed on, and nothing waits
 pub passes_waiting : (given given' : Option (List ℕ)) (f f' : ℕ) (waiting none : List ℕ) (r : Result (Unit {0}) SinkFault) → none ≡ [] → Writes (bare given f) waiting r (bare given' f') → Writes (record { given = given; failures = f; waiting = waiting }) [] r (record { given = given'; failures = f'; waiting = none })

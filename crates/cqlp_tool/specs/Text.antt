@@ -1,5 +1,5 @@
 -- The text of single values.
-use Rattle.std.specs.Prelude.{ℕ, Bool, ◌||◌, ◌==◌, nat_lt, if◌then◌else◌, List, [], ◌∷◌, ◌++◌, map, codes, decimal}
+use Rattle.std.specs.Prelude.{ℕ, Bool, ◌&&◌, ◌==◌, nat_le, not, if◌then◌else◌, List, [], ◌∷◌, ◌++◌, map, codes, decimal}
 use Rattle.std.specs.List.{flat_map, join_with_byte}
 use Rattle.cqlp_note.specs.declared.prim.Address.{Address}
 use Rattle.cqlp_note.specs.declared.prim.Address.TheVariants as address
@@ -8,16 +8,17 @@ use Rattle.hex.specs.Hex.{encode_lower}
 abbrev pub hex_text : List ℕ → List ℕ
 hex_text bytes = codes "0x" ++ encode_lower bytes
 
-abbrev pub is_control : ℕ → Bool
-is_control b = nat_lt b 32 || (b == 127)
+-- a byte that stands as itself between quotes
+abbrev pub is_plain : ℕ → Bool
+is_plain b = nat_le 32 b && not (b == 34) && not (b == 92) && not (b == 127)
 
 -- a byte as it stands between quotes
 abbrev pub escaped : ℕ → List ℕ
 escaped b =
-    if b == 34 then codes "\\\""
+    if is_plain b then b ∷ []
+    else if b == 34 then codes "\\\""
     else if b == 92 then codes "\\\\"
-    else if is_control b then codes "\\x" ++ encode_lower (b ∷ [])
-    else b ∷ []
+    else codes "\\x" ++ encode_lower (b ∷ [])
 
 abbrev pub quoted : List ℕ → List ℕ
 quoted text = codes "\"" ++ flat_map escaped text ++ codes "\""
