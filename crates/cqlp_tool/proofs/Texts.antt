@@ -1,6 +1,11 @@
 -- Texts in parts.
 use Rattle.std.proofs.Common.{◌≡◌, ℕ, List, [], ◌∷◌, ◌++◌, map, codes, decimal, zero, suc, ◌+◌, Bool, true, false, not, cond, if◌then◌else◌, nat_lt, Option, Some, None, unwrap_or, inl, inr, ◌<◌, ◌≤◌, ◌-◌, ◌*◌, length, take, drop, slice_index, refl, sym, ap, ◌∙◌, append-nil, arith, length-append, length-drop}
 use Rattle.hex.proofs.HexLemmas.{length-encode_with}
+use Rattle.cqlp_tool.specs.declared.word.Word.{Word}
+use Rattle.cqlp_tool.specs.Lines.{spaced}
+use Rattle.cqlp_tool.specs.Words.{word_text}
+use Rattle.std.proofs.Math.Seq.{drop-cons}
+use Rattle.std.proofs.Common.{get_or, add-one}
 use Rattle.cqlp_tool.proofs.Writing.{rest_behind}
 use Rattle.std.proofs.lemmas.Grind.{common_steps}
 use Rattle.std.proofs.lemmas.Bool.{cases_lt, lt-ltb, le-ltb}
@@ -113,3 +118,8 @@ plain_front xs found n is_first is_n =
     let count : n ≡ plain_count xs = is_n ∙ ap (λ o. unwrap_or o (length xs)) is_first ∙ first_or_all p (length xs) (prefix_len-le-length _ xs) ∙ prefix_is_count xs in
     let behind : take (length xs - n) (drop n xs) ≡ drop n xs = grind (arith, common_steps) in
     plain_prefix xs ∙ ap (λ k. take k xs ++ flat_map escaped (drop k xs)) (sym count) ∙ ap (λ t. take n xs ++ flat_map escaped t) (sym behind)
+
+-- ---- words
+
+pub words_at : (words : List Word) (i : ℕ) (none : Word) → i < length words → spaced (map word_text (drop i words)) ≡ codes " " ++ (word_text (get_or words i none) ++ spaced (map word_text (drop (i + 1) words)))
+words_at words i none within = rw (drop-cons words i none within, add-one)

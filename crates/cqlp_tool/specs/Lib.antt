@@ -3,3 +3,4 @@ pub mod Lines
 pub mod Names
 pub mod Text
 pub mod Written
+pub mod Words

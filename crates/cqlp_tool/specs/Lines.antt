@@ -67,7 +67,7 @@ spaced = flat_map (λ word. codes " " ++ word)
 
 -- the line of an event at an offset
 abbrev pub line : (at : ℕ) → Event → List ℕ
-line at e = decimal at ++ spaced (words e) ++ codes "\n"
+line at e = decimal at ++ (spaced (words e) ++ codes "\n")
 
 -- the lines of events with their offsets
 abbrev pub lines : List (ℕ × Event) → List ℕ

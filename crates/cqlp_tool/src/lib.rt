@@ -1,9 +1,12 @@
 //! What the program cqlp does.
 #![tactic(auto)]
 
+mod events;
 mod line_writer;
 mod names;
 mod text;
+mod word;
 
 pub use line_writer::LineWriter;
 pub use names::{field_name, kind_name, opcode_name, reason_name};
+pub use word::Word;
