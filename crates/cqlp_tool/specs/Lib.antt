@@ -1,6 +1,7 @@
 pub mod CellText
 pub mod Lines
 pub mod Names
+pub mod Rendering
 pub mod Text
-pub mod Written
 pub mod Words
+pub mod Written

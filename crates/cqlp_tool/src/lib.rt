@@ -4,9 +4,11 @@
 mod events;
 mod line_writer;
 mod names;
+mod render;
 mod text;
 mod word;
 
 pub use line_writer::LineWriter;
 pub use names::{field_name, kind_name, opcode_name, reason_name};
+pub use render::EventSink;
 pub use word::Word;
