@@ -1,2 +1,6 @@
 pub mod Reading
 pub mod Events
+pub mod Upcoming
+pub mod Standing
+pub mod Streams
+pub mod Lending

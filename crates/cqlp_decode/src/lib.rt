@@ -1,8 +1,14 @@
 //! A stream of frames of the CQL native protocol v4, read as events.
 #![tactic(auto)]
 
+mod decoder;
 mod event;
+mod following;
 mod sink;
+mod standing;
+mod table;
+mod upcoming;
 
+pub use decoder::{Decoder, NewError};
 pub use event::{Event, Finish, Held, Step};
 pub use sink::{Sink, SinkFault};

@@ -184,6 +184,13 @@ abbrev pub raw_types : ℕ → Types
 raw_types zero = NoMore
 raw_types (suc n) = Type_and kind.Raw NoMore (raw_types n)
 
+abbrev pub or_nothing : Option (List Symbol) → List Symbol
+or_nothing o = unwrap_or o []
+
+-- The results whose fields are read so far; behind the kind of another all is extra.
+abbrev pub result_fields : ℕ → List Symbol
+result_fields n = if (n == 2) || (n == 4) then [] else or_nothing (beside_number n results)
+
 -- A value's number: unsigned, or the bits of an [int].
 abbrev pub number_in : FieldValue → ℕ
 number_in (note.Byte n) = n
@@ -196,9 +203,6 @@ abbrev pub text_in : FieldValue → List ℕ
 text_in (note.Text s) = s
 text_in _ = []
 
-abbrev pub or_nothing : Option (List Symbol) → List Symbol
-or_nothing o = unwrap_or o []
-
 -- What follows a field of this role that has this value. A page's cells have these types.
 abbrev pub following : Types → Role → FieldValue → List Symbol
 following types role.Alone v = []
@@ -207,7 +211,7 @@ following types role.QueryFlags v = query_parts (number_in v)
 following types role.EntryKind v = entry_parts (number_in v)
 following types role.BatchFlags v = batch_parts (number_in v)
 following types role.ErrorCode v = plain field.Message Text16 ∷ or_nothing (beside_number (number_in v) errors)
-following types role.ResultKind v = or_nothing (beside_number (number_in v) results)
+following types role.ResultKind v = result_fields (number_in v)
 following types role.ChangeTarget v = by_text (text_in v) targets
 following types role.EventType v = by_text (text_in v) events
 following types (role.MetaFlags rows) v = In field.Columns Count32 (role.MetaColumns rows (number_in v)) ∷ []

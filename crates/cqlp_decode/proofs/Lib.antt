@@ -1,0 +1,4 @@
+pub mod Stack
+pub mod Steps
+pub mod Leads
+pub mod Ends
