@@ -1,9 +1,11 @@
 -- Writing one text after another.
-use Rattle.std.proofs.Common.{◌≡◌, ◌≢◌, ◌==◌, ◌&&◌, nat_lt, ℕ, ◌-◌, Bool, ◌<◌, drop, true, false, List, [], ◌∷◌, ◌++◌, length, take, Option, Some, None, Result, Ok, Err, IsErr, refl, sym, ◌∙◌, ap, subst, append_assoc, append-nil, arith}
+use Rattle.std.proofs.Common.{◌≡◌, ◌≢◌, ◌==◌, ◌&&◌, nat_lt, ℕ, ◌-◌, Bool, ◌<◌, drop, true, false, List, [], ◌∷◌, ◌++◌, length, take, Option, Some, None, Result, Ok, Err, IsErr, refl, sym, ◌∙◌, ap, subst, append_assoc, append-nil, arith, drop-drop, length-drop, ◌+◌, ◌≤◌}
 use Rattle.std.proofs.lemmas.Grind.{common_steps}
 use Rattle.std.proofs.lemmas.List.{take-append-drop}
+use Rattle.std.proofs.Math.Seq.{take-add}
 use Rattle.std.proofs.lemmas.Bool.Decides.{nat_tests}
-use Rattle.std.specs.Io.KnownBytes.{Keeps, Appends}
+use Rattle.std.proofs.lemmas.Bool.{lt-ltb, le-ltb}
+use Rattle.std.specs.Io.KnownBytes.{Keeps, Appends, append_known}
 use Rattle.cqlp_note.specs.Streams.{counted}
 use Rattle.cqlp_decode.specs.declared.sink.SinkFault.{SinkFault}
 use Rattle.cqlp_tool.specs.Written.{Written, PassesOn, Takes, BreaksOff, Writes, bare}
@@ -46,58 +48,56 @@ breaks_in_more a b x y broken = record {
   waiting = broken.waiting;
 }
 
--- ---- one call of a target
+-- ---- a target takes the first bytes
 
-known_kept : (old new : Option (List ℕ)) (text : List ℕ) → Keeps old new → old ≡ Some text → new ≡ Some text
-known_kept None new text keeps known = cc
-known_kept (Some xs) None text keeps known = absurd keeps
-known_kept (Some xs) (Some ys) text keeps known = ap (λ t. Some t) keeps ∙ known
+pub appends_then : (a b c : Option (List ℕ)) (x y : List ℕ) → Appends a b x → Appends b c y → Appends a c (x ++ y)
+appends_then None b c x y first second = tt
+appends_then (Some t) None c x y first second = absurd first
+appends_then (Some t) (Some u) None x y first second = absurd second
+appends_then (Some t) (Some u) (Some v) x y first second = second ∙ ap (λ k. k ++ y) first ∙ append_assoc t x y
 
-known_grown : (old new : Option (List ℕ)) (text more : List ℕ) → Appends old new more → old ≡ Some text → new ≡ Some (text ++ more)
+pub known_grown : (old new : Option (List ℕ)) (text more : List ℕ) → Appends old new more → old ≡ Some text → new ≡ Some (text ++ more)
 known_grown None new text more grows known = cc
 known_grown (Some xs) None text more grows known = absurd grows
 known_grown (Some xs) (Some ys) text more grows known = let e : xs ≡ text = cc in ap (λ t. Some t) (grows ∙ ap (λ t. t ++ more) e)
 
--- a call that failed
-pub fails_at : (old new : Option (List ℕ)) (f f' : ℕ) (bytes : List ℕ) → 0 < length bytes → Keeps old new → f' ≡ counted true f → BreaksOff (bare old f) bytes (bare new f')
-fails_at old new f f' [] some keeps failed = absurd (omega arith)
-fails_at old new f f' (b ∷ bs) some keeps failed = record {
-  lost = b;
-  behind = bs;
-  passed = λ text known. ([], known_kept old new text keeps known ∙ ap (λ t. Some t) (sym (append-nil text)), refl);
-  failures = failed;
-  waiting = refl;
-}
-
--- a call that took these bytes
-pub takes_at : (old new : Option (List ℕ)) (f f' : ℕ) (bytes : List ℕ) → Appends old new bytes → f' ≡ f → Takes (bare old f) bytes (bare new f')
-takes_at old new f f' bytes grows same = record {
-  passed = λ text known. (bytes, known_grown old new text bytes grows known, append-nil bytes);
-  failures = same;
-}
-
-keeps_nothing_more : (old new : Option (List ℕ)) → Appends old new [] → Keeps old new
-keeps_nothing_more None new grows = tt
-keeps_nothing_more (Some xs) None grows = absurd grows
-keeps_nothing_more (Some xs) (Some ys) grows = grows ∙ append-nil xs
-
-took_none_at : (n len : ℕ) → n ≡ 0 → 0 < len → ((n == 0) && nat_lt 0 len) ≡ true
-took_none_at n len none some = grind (arith, nat_tests)
+-- the first i and n more
+pub take_more : (i n : ℕ) (bytes : List ℕ) → i ≤ length bytes → take (i + n) bytes ≡ take i bytes ++ take n (take (length bytes - i) (drop i bytes))
+take_more i n bytes within =
+    let behind : take (length bytes - i) (drop i bytes) ≡ drop i bytes = grind (arith, common_steps) in
+    take-add i n bytes ∙ ap (λ t. take i bytes ++ take n t) (sym behind)
 
 took_some_at : (n len : ℕ) → n ≢ 0 → ((n == 0) && nat_lt 0 len) ≡ false
 took_some_at n len some = grind (arith, nat_tests)
 
--- a call that took nothing
-pub fails_at_none : (old new : Option (List ℕ)) (f f' n : ℕ) (bytes : List ℕ) → n ≡ 0 → 0 < length bytes → Appends old new (take n bytes) → f' ≡ counted ((n == 0) && nat_lt 0 (length bytes)) f → BreaksOff (bare old f) bytes (bare new f')
-fails_at_none old new f f' n [] none some grows failed = absurd (omega arith)
-fails_at_none old new f f' n (b ∷ bs) none some grows failed =
-    let grows' : Appends old new (take 0 (b ∷ bs)) = subst (λ (k : ℕ). Appends old new (take k (b ∷ bs))) none grows in
-    let failed' : f' ≡ counted true f = failed ∙ ap (λ (t : Bool). counted t f) (took_none_at n (length (b ∷ bs)) none some) in
-    fails_at old new f f' (b ∷ bs) some (keeps_nothing_more old new grows') failed'
+-- a call that took some bytes is no failure
+pub took_some : (n len f f' : ℕ) → n ≢ 0 → f' ≡ counted ((n == 0) && nat_lt 0 len) f → f' ≡ f
+took_some n len f f' some told = told ∙ ap (λ (t : Bool). counted t f) (took_some_at n len some)
 
--- a call that took some bytes
-pub takes_at_some : (old new : Option (List ℕ)) (f f' n : ℕ) (bytes : List ℕ) → n ≢ 0 → Appends old new (take n bytes) → f' ≡ counted ((n == 0) && nat_lt 0 (length bytes)) f → Takes (bare old f) (take n bytes) (bare new f')
-takes_at_some old new f f' n bytes some grows same = takes_at old new f f' (take n bytes) grows (same ∙ ap (λ (t : Bool). counted t f) (took_some_at n (length bytes) some))
+first_and_rest : (xs : List ℕ) → 0 < length xs → (x : ℕ) × (rest : List ℕ) × (xs ≡ x ∷ rest)
+first_and_rest [] some = absurd (omega arith)
+first_and_rest (x ∷ xs) some = (x, xs, refl)
+
+-- a target that failed before the end
+pub breaks_at : (old new : Option (List ℕ)) (f f' n : ℕ) (bytes : List ℕ) → n < length bytes → Appends old new (take n bytes) → f' ≡ counted (nat_lt n (length bytes)) f → BreaksOff (bare old f) bytes (bare new f')
+breaks_at old new f f' n bytes short grows failed =
+    let left = first_and_rest (drop n bytes) (simp length-drop (omega arith)) in
+    record {
+      lost = left.0;
+      behind = left.1;
+      passed = λ text known. (take n bytes, known_grown old new text (take n bytes) grows known, ap (λ t. take n bytes ++ t) (sym left.2) ∙ take-append-drop n bytes);
+      failures = failed ∙ ap (λ (t : Bool). counted t f) (lt-ltb n (length bytes) short);
+      waiting = refl;
+    }
+
+-- a target that took all
+pub takes_at : (old new : Option (List ℕ)) (f f' n : ℕ) (bytes : List ℕ) → n ≤ length bytes → length bytes ≤ n → Appends old new (take n bytes) → f' ≡ counted (nat_lt n (length bytes)) f → Takes (bare old f) bytes (bare new f')
+takes_at old new f f' n bytes within all grows same =
+    let whole : take n bytes ≡ bytes = grind (arith, common_steps) in
+    record {
+      passed = λ text known. (bytes, known_grown old new text bytes (subst (λ (t : List ℕ). Appends old new t) whole grows) known, append-nil bytes);
+      failures = same ∙ ap (λ (t : Bool). counted t f) (le-ltb n (length bytes) all);
+    }
 
 -- ---- a text in parts
 
@@ -161,3 +161,14 @@ pub passes_direct : (given given' : Option (List ℕ)) (f f' : ℕ) (none bytes 
 passes_direct given given' f f' none bytes r empty writes =
     let same : (g : Option (List ℕ)) (n : ℕ) → bare g n ≡ (record { given = g; failures = n; waiting = none }) = λ g n. ap (λ w. record { given = g; failures = n; waiting = w }) (sym empty) in
     subst (λ (w : Written). Writes w bytes r (record { given = given'; failures = f'; waiting = none })) (same given f) (subst (λ (w : Written). Writes (bare given f) bytes r w) (same given' f') writes)
+
+-- ---- what waits in a buffer
+
+-- passing the next bytes of a buffer on keeps what was taken
+pub passing_keeps : (given given' : Option (List ℕ)) (buffer : List ℕ) (p n : ℕ) → Appends given given' (take n (take (length buffer - p) (drop p buffer))) → Keeps (append_known given (drop p buffer)) (append_known given' (drop (p + n) buffer))
+passing_keeps None given' buffer p n grows = tt
+passing_keeps (Some t) None buffer p n grows = absurd grows
+passing_keeps (Some t) (Some u) buffer p n grows =
+    let behind : take (length buffer - p) (drop p buffer) ≡ drop p buffer = grind (arith, common_steps) in
+    ap (λ k. k ++ drop (p + n) buffer) (grows ∙ ap (λ k. t ++ take n k) behind) ∙ append_assoc t (take n (drop p buffer)) (drop (p + n) buffer)
+    ∙ ap (λ k. t ++ k) (ap (λ k. take n (drop p buffer) ++ k) (sym (drop-drop n p buffer)) ∙ take-append-drop n (drop p buffer))

@@ -1,5 +1,6 @@
 -- What a writer of lines has taken, and what it passed on.
 use Rattle.std.specs.Prelude.{◌≡◌, ℕ, Bool, true, List, [], ◌∷◌, ◌++◌, Option, Some, Result, Ok, Err}
+use Rattle.std.specs.Io.KnownBytes.{append_known}
 use Rattle.cqlp_note.specs.Streams.{counted}
 use Rattle.cqlp_decode.specs.declared.sink.SinkFault.{SinkFault}
 
@@ -35,3 +36,7 @@ Writes old bytes (Err e) new = BreaksOff old bytes new
 -- a target with nothing that waits
 abbrev pub bare : (given : Option (List ℕ)) → (failures : ℕ) → Written
 bare given failures = record { given = given; failures = failures; waiting = [] }
+
+-- what was given and what waits
+abbrev pub taken : Written → Option (List ℕ)
+taken w = append_known w.given w.waiting

@@ -3,6 +3,7 @@
 ghost use Rattle.std.specs.Prelude.{◌≡◌, ◌+◌, ◌≤◌, ◌++◌, [], length, OnOk};
 ghost use Rattle.cqlp_tool.specs.Written.{Writes, bare};
 
+use crate::offer::offer;
 use cqlp_decode::SinkFault;
 use cqlp_note::Target;
 use std::marker::Model;
@@ -102,15 +103,9 @@ impl<W: Target> LineWriter<W> {
 fn send<W: Target>(target: &mut W, bytes: &[u8]) -> Result<(), SinkFault>
     ensures { Writes (bare (W.contents target.old) (W.failures target.old)) bytes.now result (bare (W.contents target.new) (W.failures target.new)) }
 {
-    let mut rest = bytes;
-    while !rest.is_empty() {
-        let Ok(count) = target.write(rest) else {
-            return Err(SinkFault);
-        };
-        if count == 0 {
-            return Err(SinkFault);
-        }
-        rest = &rest[count..];
+    if offer(target, bytes) < bytes.len() {
+        Err(SinkFault)
+    } else {
+        Ok(())
     }
-    Ok(())
 }
