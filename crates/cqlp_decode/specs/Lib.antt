@@ -4,3 +4,5 @@ pub mod Upcoming
 pub mod Standing
 pub mod Streams
 pub mod Lending
+pub mod Draining
+pub mod Laws

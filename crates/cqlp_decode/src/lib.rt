@@ -4,6 +4,8 @@
 mod decoder;
 mod event;
 mod following;
+pub mod laws;
+mod running;
 mod sink;
 mod standing;
 mod table;
@@ -11,4 +13,5 @@ mod upcoming;
 
 pub use decoder::{Decoder, NewError};
 pub use event::{Event, Finish, Held, Step};
+pub use running::{Outcome, run};
 pub use sink::{Sink, SinkFault};
