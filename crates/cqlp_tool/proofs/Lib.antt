@@ -1,2 +1,3 @@
+pub mod Renders
 pub mod Texts
 pub mod Writing

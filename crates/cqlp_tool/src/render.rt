@@ -1,8 +1,13 @@
 //! Streams as lines.
 
+ghost use Rattle.std.specs.Prelude.{◌≡◌, List, ℕ, Some, IsSome};
+ghost use Rattle.cqlp_decode.specs.Draining.{Counts};
+ghost use Rattle.cqlp_decode.specs.Streams.{state};
+
 use crate::line_writer::LineWriter;
-use cqlp_decode::{Event, Sink, SinkFault};
-use cqlp_note::Target;
+use cqlp_decode::{Decoder, Event, Outcome, Sink, SinkFault, run};
+use cqlp_note::{Source, Target};
+use std::alloc::Allocator;
 use std::marker::Model;
 
 /// Writes the line of each event to a target. No part of a line waits between two events.
@@ -12,21 +17,21 @@ pub struct EventSink<W: Target> {
 
 impl<W: Target> Model for EventSink<W> {
     ghost use Rattle.std.specs.Prelude.{◌≡◌, []};
-    ghost use Rattle.cqlp_tool.specs.Rendering.{Output};
+    ghost use Rattle.cqlp_tool.specs.Rendering.{Output, output};
 
     ghost Value = { Output };
 
-    ghost view = { λ s. record { given = s.writer.given; failures = s.writer.failures } };
+    ghost view = { λ s. output s.writer.given s.writer.failures };
 
     ghost invariant = { λ s. s.writer.waiting ≡ [] };
 }
 
 impl<W: Target> EventSink<W> {
-    ghost use Rattle.std.specs.Prelude.{◌≡◌};
+    ghost use Rattle.cqlp_tool.specs.Rendering.{output};
 
     /// Over a target.
     pub fn new(target: W) -> Self
-        ensures { result ≡ record { given = W.contents target; failures = W.failures target } }
+        ensures { result ≡ output (W.contents target) (W.failures target) }
     {
         EventSink {
             writer: LineWriter::new(target),
@@ -35,8 +40,7 @@ impl<W: Target> EventSink<W> {
 
     /// The target.
     pub fn into_inner(self) -> W
-        ensures given { W.contents result ≡ self.given }
-        ensures failures { W.failures result ≡ self.failures }
+        ensures { output (W.contents result) (W.failures result) ≡ self }
     {
         let EventSink { writer } = self;
         writer.into_inner()
@@ -44,20 +48,37 @@ impl<W: Target> EventSink<W> {
 }
 
 impl<W: Target> Sink for EventSink<W> {
-    ghost use Rattle.std.specs.Prelude.{IsSome};
-    ghost use Rattle.cqlp_tool.specs.Rendering.{Rendered, rendered, after_line, StopsWithinLine};
+    ghost use Rattle.cqlp_tool.specs.Rendering.{Output, with_line, StopsWithinLine};
 
-    ghost View = { Rendered };
+    ghost View = { Output };
 
-    ghost view = { rendered };
+    ghost view = { λ s. s };
 
     ghost tells = { λ s. IsSome s.given };
 
-    ghost after = { after_line };
+    ghost after = { with_line };
 
     ghost faulted = { StopsWithinLine };
 
     fn take(&mut self, at: u64, event: &Event<'_>) -> Result<(), SinkFault> {
         self.writer.put_event(at, event)
     }
+}
+
+ghost use Rattle.cqlp_tool.specs.Rendering.{RendersTo, output};
+
+/// Writes the lines of all events of a reader's bytes, from at most `turns` reads. The events of bytes that the decoder
+/// was given before come first. A fault of the writer is `Outcome::SinkFault`.
+pub fn render_events<R: Source, W: Target, A: Allocator>(
+    decoder: &mut Decoder<A>,
+    reader: &mut R,
+    w: W,
+    turns: u64,
+) -> (Outcome, W)
+    ensures lines { (xs : List ℕ) → R.left reader.old ≡ Some xs → IsSome (W.contents w) → RendersTo turns result.0 (state decoder.old) (state decoder.new) xs (R.left reader.new) (output (W.contents w) (W.failures w)) (output (W.contents result.1) (W.failures result.1)) }
+    ensures failures { Counts result.0 (R.failures reader.old) (R.failures reader.new) }
+{
+    let mut sink = EventSink::new(w);
+    let outcome = run(decoder, reader, &mut sink, turns);
+    (outcome, sink.into_inner())
 }
