@@ -10,7 +10,7 @@ use Rattle.cqlp_decode.specs.Draining.{fold_events, Drains, Fails, Feeds, FeedsI
 use Rattle.cqlp_tool.specs.Lines.{line, lines}
 use Rattle.cqlp_tool.specs.Rendering.{Output, output, with_text, with_line, StopsWithin, StopsWithinLine, WritesLines, StopsInLines, Renders, RendersPart, RendersTo}
 
-known_nothing : (given : Option (List ℕ)) → append_known given [] ≡ given
+pub known_nothing : (given : Option (List ℕ)) → append_known given [] ≡ given
 known_nothing None = refl
 known_nothing (Some t) = ap (λ k. Some k) (append-nil t)
 

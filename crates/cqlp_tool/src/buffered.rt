@@ -3,6 +3,7 @@
 ghost use Rattle.std.specs.Prelude.{◌≡◌, ◌≤◌, [], length, IfOk, OnOk, OnErr, true};
 ghost use Rattle.std.specs.Io.KnownBytes.{Keeps, WriteAppends};
 ghost use Rattle.cqlp_note.specs.Streams.{counted, took_none};
+ghost use Rattle.cqlp_tool.specs.Rendering.{output};
 ghost use Rattle.cqlp_tool.specs.Written.{bare, taken};
 
 use crate::offer::offer;
@@ -75,8 +76,7 @@ impl<W: Target, A: Allocator> Buffered<W, A> {
 
     /// The target, which did not get what waits.
     pub fn into_inner(self) -> W
-        ensures given { W.contents result ≡ self.given }
-        ensures failures { W.failures result ≡ self.failures }
+        ensures { output (W.contents result) (W.failures result) ≡ output self.given self.failures }
     {
         let Buffered {
             target,
