@@ -4,3 +4,5 @@ pub mod Owned
 pub mod Events
 pub mod Parts
 pub mod Bodies
+pub mod Agreement
+pub mod Frames
