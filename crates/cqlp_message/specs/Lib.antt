@@ -6,3 +6,4 @@ pub mod Parts
 pub mod Bodies
 pub mod Agreement
 pub mod Frames
+pub mod Laws

@@ -3,6 +3,7 @@
 
 mod frame;
 mod grammar;
+pub mod laws;
 mod message;
 mod request;
 mod response;
