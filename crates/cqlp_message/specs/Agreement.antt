@@ -1,5 +1,5 @@
 -- Where flags, codes and names agree with the parts that they announce (sections 2.2, 4 and 9 of native_protocol_v4.spec).
-use Rattle.std.specs.Prelude.{◌≡◌, ℕ, ◌<◌, ℤ, pos, Bool, true, false, ◌&&◌, List, [], Option, None, is_some, IfSome, All, codes, ◌⊎◌}
+use Rattle.std.specs.Prelude.{◌≡◌, ℕ, ◌<◌, ℤ, pos, Bool, false, ◌&&◌, [], Option, None, is_some, IfSome, All, codes, ◌⊎◌}
 use Rattle.std.specs.Int.{w32, cast_unsigned}
 use Rattle.cqlp_note.specs.declared.opcode.Opcode.{Opcode}
 use Rattle.cqlp_note.specs.declared.opcode.Opcode.TheVariants as opcode
