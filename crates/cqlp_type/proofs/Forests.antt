@@ -1,5 +1,5 @@
 -- Types in preorder, as trees and as nodes.
-use Rattle.std.proofs.Common.{◌≡◌, ℕ, zero, suc, ◌+◌, ◌-◌, List, [], ◌∷◌, ◌++◌, length, refl, ap, ◌∙◌, append_assoc}
+use Rattle.std.proofs.Common.{◌≡◌, ℕ, zero, suc, ◌+◌, ◌-◌, List, [], ◌∷◌, ◌++◌, length, refl, sym, ap, ◌∙◌, append_assoc, arith}
 use Rattle.std.proofs.lemmas.List.{append-nil, length-append}
 use Rattle.cqlp_type.specs.declared.kind.Kind.{Kind}
 use Rattle.cqlp_type.specs.declared.node.Node.{Node}
@@ -45,3 +45,11 @@ many_types (Tree_and name h inner others) = ap suc (many_types others)
 pub many_nodes : (ts : Trees) → length (preorder (types_in ts)) ≡ options_in ts
 many_nodes NoTree = refl
 many_nodes (Tree_and name h inner others) = ap suc (length-append (preorder (types_in inner)) (preorder (types_in others)) ∙ rw (many_nodes inner, many_nodes others))
+
+pub one_size : (k : Kind) (ts : Trees) (ns : List Node) → length (ns ++ preorder (Type_and k (types_in ts) NoMore)) ≡ length ns + suc (options_in ts)
+one_size k ts ns =
+    let inner : length (preorder (types_in ts) ++ []) ≡ options_in ts = ap (length {A = Node}) (append-nil (preorder (types_in ts))) ∙ many_nodes ts in
+    omega (arith, length-append ns (preorder (Type_and k (types_in ts) NoMore)), inner)
+
+pub types_of_own_preorder : (ts : Types) → types_of (preorder ts) ≡ ts
+types_of_own_preorder ts = ap types_of (sym (append-nil (preorder ts))) ∙ types_of_preorder ts [] ∙ followed_by_none ts

@@ -6,3 +6,7 @@ pub mod Calls
 pub mod Forests
 pub mod ReadBack
 pub mod Pushes
+pub mod SpelledRead
+pub mod TableLaws
+pub mod TreeLengths
+pub mod Lengths

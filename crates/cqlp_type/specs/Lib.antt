@@ -6,3 +6,6 @@ pub mod Remaining
 pub mod Standing
 pub mod Trees
 pub mod Pushing
+pub mod Laws
+pub mod TypeTrees
+pub mod TypeLists

@@ -38,6 +38,7 @@ impl Kind {
     ghost use Rattle.cqlp_note.specs.Heading.{beside_number};
     ghost use Rattle.cqlp_type.specs.Types.{has_no_items, kinds};
     ghost use Rattle.cqlp_type.specs.TypeStep.{arity_of};
+    ghost use Rattle.cqlp_type.specs.Trees.{is_plain};
 
     /// Whether a value of this kind has no items: all but lists, maps, sets, user-defined types and tuples.
     pub fn is_scalar(self) -> bool
@@ -92,5 +93,21 @@ impl Kind {
             Kind::Map => 2,
             _ => 0,
         }
+    }
+
+    /// Whether it is one of the 19 kinds whose options have no parameters.
+    pub fn is_plain(self) -> bool
+        ensures { result ≡ is_plain self }
+    {
+        !matches!(
+            self,
+            Kind::Custom
+                | Kind::List
+                | Kind::Map
+                | Kind::Set
+                | Kind::Udt
+                | Kind::Tuple
+                | Kind::Raw
+        )
     }
 }
