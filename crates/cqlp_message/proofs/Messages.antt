@@ -1,6 +1,6 @@
 -- The parts of every message whose flags agree with them come of the symbols of its opcode, and those of a frame of the
 -- symbols of its header.
-use Rattle.std.proofs.Common.{◌≡◌, ℕ, zero, suc, ℤ, ◌<◌, Bool, true, false, eqb, cond, List, [], ◌∷◌, ◌++◌, length, Option, Some, None, refl, sym, append_assoc, arith, subst, inl, inr, ◌⊎◌}
+use Rattle.std.proofs.Common.{◌≡◌, ℕ, zero, suc, ℤ, ◌<◌, Bool, true, false, ◌&&◌, eqb, cond, List, [], ◌∷◌, ◌++◌, length, Option, Some, None, refl, sym, append_assoc, arith, subst, inl, inr, ◌⊎◌}
 use Rattle.std.proofs.lemmas.Bool.{ne_eqb}
 use Rattle.std.proofs.lemmas.List.{append-nil}
 use Rattle.std.specs.Prelude.{All, ⊤}
@@ -29,6 +29,15 @@ five a b c d e t = simp append_assoc
 
 four : {X : Type 0} (a b c d t : List X) → (((a ++ b) ++ c) ++ d) ++ t ≡ a ++ (b ++ (c ++ (d ++ t)))
 four a b c d t = simp append_assoc
+
+abbrev tracing_parts : Option Octets → List Part
+tracing_parts o = where_some (λ id. Field_is field.TraceId notation.Uuid (note.Uuid id) ∷ []) o
+
+abbrev warnings_parts : Option (List Octets) → List Part
+warnings_parts o = where_some (texts field.Warnings field.Warning) o
+
+abbrev payload_parts : Option (List (Octets × Option Octets)) → List Part
+payload_parts o = where_some (bodies.counted field.PayloadItems (λ i. text field.PayloadKey i.0 ∷ bytes field.PayloadValue i.1 ∷ [])) o
 
 no_result : (n : ℕ) → IsNoResult n → result_fields n ≡ []
 no_result n (inl e) = rw e refl
@@ -158,3 +167,39 @@ module _ (S : Type 0) (types : S → Role → Types) (after : S → Role → S) 
   message_derives (Event e t) ps rest a d = event_derives e t ps rest a d
   message_derives (AuthChallenge t) ps rest a d = λ s. (same, refl, d (alone 1 s))
   message_derives (AuthSuccess t) ps rest a d = λ s. (same, refl, d (alone 1 s))
+
+  -- ---- frames
+
+  payload_derives : (flags : ℕ) (o : Option (List (Octets × Option Octets))) (ps : List Part) (rest : List Symbol) → IsThereIf (has flags 0x04) o → D S types after ps rest → D S types after (payload_parts o ++ ps) (where_set flags 0x04 payload ++ rest)
+  payload_derives flags o ps rest is d = where_derives S types after (λ is. ⊤) _ flags 0x04 payload o ps rest is (some_of S types after o)
+      (λ is p d s. (same, refl, each_derives S types after (λ i. ⊤) (λ i. text field.PayloadKey i.0 ∷ bytes field.PayloadValue i.1 ∷ []) (group group_of.PayloadItems) is ps rest (trivial is)
+          (λ i ps rest p d s. (same, refl, (same, refl, d (alone 2 s)))) d (after s (role.Counts group_of.PayloadItems)))) d
+
+  no_parts : {A : Type 0} (h : A → List Part) (o : Option A) → IsThereIf false o → where_some h o ≡ []
+  no_parts h None is = refl
+  no_parts h (Some a) is = absurd cc
+
+  -- what stands before the message of a request, or of a response, but for the payload
+  before_derives : (response : Bool) (flags : ℕ) (t : Option Octets) (ws : Option (List Octets)) (ps : List Part) (rest : List Symbol) → IsThereIf (response && has flags 0x02) t → IsThereIf (response && has flags 0x08) ws → D S types after ps rest
+      → D S types after (tracing_parts t ++ (warnings_parts ws ++ ps)) (cond response (where_set flags 0x02 (plain field.TraceId notation.Uuid ∷ []) ++ where_set flags 0x08 (counted field.Warnings group_of.Warnings ∷ [])) [] ++ rest)
+  before_derives false flags t ws ps rest tracing warnings d = rw (no_parts _ t tracing, no_parts _ ws warnings) d
+  before_derives true flags t ws ps rest tracing warnings d =
+      let all : D S types after (tracing_parts t ++ (warnings_parts ws ++ ps)) (where_set flags 0x02 (plain field.TraceId notation.Uuid ∷ []) ++ (where_set flags 0x08 (counted field.Warnings group_of.Warnings ∷ []) ++ rest)) =
+          option_derives S types after field.TraceId notation.Uuid note.Uuid flags 0x02 t _ _ tracing
+          (where_derives S types after (λ ws. ⊤) (texts field.Warnings field.Warning) flags 0x08 (counted field.Warnings group_of.Warnings ∷ []) ws ps rest warnings (some_of S types after ws)
+              (λ ws p d. texts_derive S types after field.Warnings field.Warning group_of.Warnings ws ps rest refl d) d) in
+      rw (append_assoc (where_set flags 0x02 (plain field.TraceId notation.Uuid ∷ [])) (where_set flags 0x08 (counted field.Warnings group_of.Warnings ∷ [])) rest) all
+
+  -- The parts of a frame come of the symbols of its header, in every state.
+  pub frame_derives : (f : FrameValue) (n : ℕ) → FrameAgrees f → D S types after (frame_parts f) (message (header_of f n))
+  frame_derives f n a =
+      let end : List Symbol = Extra ∷ [] in
+      let ends : D S types after [] end = λ s. refl in
+      let told : D S types after (message_parts f.message) (body (opcode_of f.message) ++ end) = rw (append-nil (message_parts f.message)) at (message_derives f.message [] end a.message ends) in
+      let front : List Symbol = cond (is_response f.message) (where_set f.flags 0x02 (plain field.TraceId notation.Uuid ∷ []) ++ where_set f.flags 0x08 (counted field.Warnings group_of.Warnings ∷ [])) [] in
+      let pay : List Symbol = where_set f.flags 0x04 payload in
+      let all : D S types after (tracing_parts f.tracing ++ (warnings_parts f.warnings ++ (payload_parts f.payload ++ message_parts f.message))) (front ++ (pay ++ (body (opcode_of f.message) ++ end))) =
+          before_derives (is_response f.message) f.flags f.tracing f.warnings _ _ a.tracing a.warnings (payload_derives f.flags f.payload _ _ a.payload told) in
+      let parts : frame_parts f ≡ tracing_parts f.tracing ++ (warnings_parts f.warnings ++ (payload_parts f.payload ++ message_parts f.message)) = simp append_assoc in
+      let symbols : message (header_of f n) ≡ front ++ (pay ++ (body (opcode_of f.message) ++ end)) = simp append_assoc in
+      rw (parts, symbols) all
