@@ -5,7 +5,8 @@ use crate::message::Message;
 /// A frame: its header but for the length, the parts that its flags announce, and its message. Section 2 of
 /// `native_protocol_v4.spec`.
 ///
-/// It is a request or a response as its message is. A part is there exactly where its flag is set.
+/// It is a request or a response as its message is. A part is to be there exactly where its flag is set, and in a request
+/// there is neither a tracing id nor are there warnings; where they disagree, no bytes spell the frame.
 #[derive(Debug, PartialEq, Eq, Drop)]
 pub struct Frame {
     /// 02 tracing and 08 warnings in a response, 04 custom payload; other bits but 01, compression, are kept.

@@ -5,7 +5,8 @@ use crate::response::{ErrorExtra, SchemaChange, ServerEvent};
 
 /// A message: what a frame has in its body. Section 4 of `native_protocol_v4.spec`.
 ///
-/// Flags, codes and names of kinds are kept whole, and say which parts are there.
+/// Flags, codes and the names of targets and events are kept whole. They say which parts are to be there; where they
+/// disagree, no bytes spell the message.
 #[derive(Debug, PartialEq, Eq, Drop)]
 pub enum Message {
     /// The options of a connection, each a key and a value. Section 4.1.1.

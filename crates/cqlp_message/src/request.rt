@@ -13,7 +13,8 @@ pub enum OwnedBound {
 
 /// The parameters of a query or of a prepared statement. Section 4.1.4 of `native_protocol_v4.spec`.
 ///
-/// A part is there exactly where its flag is set; the flags 02 and 80 have no part, and 40 without 01 has none.
+/// A part is to be there exactly where its flag is set; where they disagree, no bytes spell the parameters. The flags 02
+/// and 80 announce nothing, nor does 40 without 01.
 #[derive(Debug, PartialEq, Eq, Drop)]
 pub struct QueryParams {
     pub consistency: u16,
