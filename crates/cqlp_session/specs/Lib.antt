@@ -1,0 +1,4 @@
+pub mod Kind
+pub mod Phase
+pub mod Slots
+pub mod Ids

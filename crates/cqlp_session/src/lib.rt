@@ -1,2 +1,16 @@
-//! Client and server cores of the CQL native protocol v4.
+//! Client and server cores of the CQL native protocol v4: which requests may be sent, under which stream id, and which
+//! request a reply answers. The cores do no input or output, and take memory only where they are made.
 #![tactic(auto)]
+
+
+
+mod ids;
+mod kind;
+mod phase;
+mod refusal;
+
+mod slots;
+
+pub use kind::RequestKind;
+pub use phase::Phase;
+pub use refusal::SlotsOrMemory;

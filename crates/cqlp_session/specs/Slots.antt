@@ -1,0 +1,21 @@
+-- What stands under each stream id (section 2.3 of native_protocol_v4.spec): a list with a slot for each id.
+use Rattle.std.specs.Prelude.{ℕ, ℤ, pos, negsuc, List, Option, Some, None, slice_index_or, slice_set, is_none, position}
+
+-- an id's place
+abbrev pub index_of : ℤ → Option ℕ
+index_of (pos i) = Some i
+index_of (negsuc i) = None
+
+-- what stands under an id: nothing under a negative one, and past the last
+abbrev pub under : {A : Type 0} → List (Option A) → ℤ → Option A
+under slots (pos i) = slice_index_or slots i None
+under slots (negsuc i) = None
+
+-- the slots with this under an id
+abbrev pub put : {A : Type 0} → List (Option A) → ℤ → Option A → List (Option A)
+put slots (pos i) what = slice_set slots i what
+put slots (negsuc i) what = slots
+
+-- the least id that is free
+abbrev pub least_free : {A : Type 0} → List (Option A) → Option ℕ
+least_free slots = position is_none slots

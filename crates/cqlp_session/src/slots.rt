@@ -1,0 +1,33 @@
+//! What stands under each stream id.
+
+ghost use Rattle.std.specs.Prelude.{◌≡◌, IfOk, None, replicate};
+ghost use Rattle.cqlp_session.specs.Slots.{index_of, put, under};
+
+use std::alloc::{AllocError, Allocator};
+
+/// The place of a stream id, which is negative for none.
+fn index_of(id: i16) -> Option<usize>
+    ensures { result ≡ index_of id }
+{
+    if id < 0 { None } else { Some(id as usize) }
+}
+
+/// What stands under this id.
+pub(crate) fn under<T: Copy>(slots: &[Option<T>], id: i16) -> Option<T>
+    ensures { result ≡ under slots.now id }
+{
+    match index_of(id) {
+        Some(i) if i < slots.len() => slots[i],
+        _ => None,
+    }
+}
+
+/// Puts this under an id.
+pub(crate) fn put<T: Copy>(slots: &mut [Option<T>], id: i16, what: Option<T>)
+    ensures { slots.new ≡ put slots.old id what }
+{
+    match index_of(id) {
+        Some(i) if i < slots.len() => slots[i] = what,
+        _ => {}
+    }
+}
