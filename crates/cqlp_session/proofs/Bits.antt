@@ -11,7 +11,7 @@ use Rattle.cqlp_session.specs.Ids.{IsFirstBit, NoBit, bit_under, WithBit}
 -- a word in place of another that differs from it in one bit
 pub word_with_bit : (words : List ℕ) (place bit word : ℕ) → place < 64 * length words → bit_at word (place % 64) ≡ bit → ((i : ℕ) → i < 64 → i ≢ place % 64 → bit_at word i ≡ bit_at (get_or words (place / 64) 0) i) → WithBit words place bit (set words (place / 64) word)
 word_with_bit words place bit word within is others = record {
-  length = length-set words (place / 64) word;
+  size = length-set words (place / 64) word;
   is = ap (λ w. bit_at w (place % 64)) (get_or-set_same words (place / 64) word 0 (omega arith)) ∙ is;
   others = λ i ne. elim (cases_eq (i / 64) (place / 64)) [
     inl same ↦ ap (λ k. bit_at (get_or (set words (place / 64) word) k 0) (i % 64)) same

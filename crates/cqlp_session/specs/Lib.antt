@@ -2,3 +2,5 @@ pub mod Kind
 pub mod Phase
 pub mod Slots
 pub mod Ids
+pub mod Signal
+pub mod Client

@@ -1,5 +1,5 @@
 -- What stands under each stream id (section 2.3 of native_protocol_v4.spec): a list with a slot for each id.
-use Rattle.std.specs.Prelude.{ℕ, ℤ, pos, negsuc, List, Option, Some, None, slice_index_or, slice_set, is_none, position}
+use Rattle.std.specs.Prelude.{ℕ, ◌≤◌, ℤ, pos, negsuc, List, Option, Some, None, slice_index_or, slice_set, is_none, position}
 
 -- an id's place
 abbrev pub index_of : ℤ → Option ℕ
@@ -19,3 +19,7 @@ put slots (negsuc i) what = slots
 -- the least id that is free
 abbrev pub least_free : {A : Type 0} → List (Option A) → Option ℕ
 least_free slots = position is_none slots
+
+-- so many ids are allowed
+abbrev pub CountsSlots : ℕ → Type 0
+CountsSlots n = (1 ≤ n) × (n ≤ 32768)

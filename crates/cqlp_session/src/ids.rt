@@ -12,8 +12,9 @@ pub(crate) fn all<A: Allocator>(alloc: A, len: usize) -> Result<Vec<u64, A>, All
     requires { len ≤ 2 ^ 15 }
     ensures { IfOk result (λ words. words.items ≡ all_ones len) }
 {
-    let mut words = Vec::new(alloc);
-    words.resize(len.div_ceil(BITS), u64::MAX)?;
+    let len = len.div_ceil(BITS);
+    let mut words = Vec::with_capacity(alloc, len)?;
+    words.resize(len, u64::MAX).unwrap();
     Ok(words)
 }
 

@@ -2,15 +2,17 @@
 //! request a reply answers. The cores do no input or output, and take memory only where they are made.
 #![tactic(auto)]
 
-
-
+mod client;
 mod ids;
 mod kind;
 mod phase;
 mod refusal;
-
 mod slots;
+mod streams;
+mod ticket;
 
+pub use client::Client;
 pub use kind::RequestKind;
 pub use phase::Phase;
 pub use refusal::SlotsOrMemory;
+pub use ticket::{BeginError, Reply, Stray, Ticket};

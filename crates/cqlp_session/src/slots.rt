@@ -6,7 +6,7 @@ ghost use Rattle.cqlp_session.specs.Slots.{index_of, put, under};
 use std::alloc::{AllocError, Allocator};
 
 /// The place of a stream id, which is negative for none.
-fn index_of(id: i16) -> Option<usize>
+pub(crate) fn index_of(id: i16) -> Option<usize>
     ensures { result ≡ index_of id }
 {
     if id < 0 { None } else { Some(id as usize) }
@@ -30,4 +30,13 @@ pub(crate) fn put<T: Copy>(slots: &mut [Option<T>], id: i16, what: Option<T>)
         Some(i) if i < slots.len() => slots[i] = what,
         _ => {}
     }
+}
+
+/// So many slots, all empty.
+pub(crate) fn empty<T: Copy, A: Allocator>(alloc: A, len: usize) -> Result<Vec<Option<T>, A>, AllocError>
+    ensures { IfOk result (λ slots. slots.items ≡ replicate len None) }
+{
+    let mut slots = Vec::with_capacity(alloc, len)?;
+    slots.resize(len, None).unwrap();
+    Ok(slots)
 }

@@ -1,0 +1,146 @@
+//! The client's core.
+
+ghost use Rattle.std.specs.Prelude.{◌≡◌, ◌≤◌, ◌^◌, ◌<◌, ◌↔◌, ◌⊎◌, ℕ, IfOk, IfSome, OnErr, IsErrOf, pos, length};
+
+use crate::kind::RequestKind;
+use crate::phase::Phase;
+use crate::refusal::SlotsOrMemory;
+use crate::streams::{Open, Streams};
+use crate::ticket::{BeginError, Reply, Stray, Ticket};
+use cqlp_note::{Header, Opcode};
+use std::alloc::{Allocator, Global};
+use std::marker::Model;
+
+/// Which requests are open on one connection, seen from its client. An id is given out again only once the reply to
+/// the request before was handed in.
+#[derive(Drop)]
+pub struct Client<A: Allocator = Global> {
+    phase: Phase,
+    /// How many requests have begun.
+    begun: u64,
+    streams: Streams<A>,
+}
+
+impl<A: Allocator> Model for Client<A> {
+    ghost use Rattle.cqlp_session.specs.Client.{ClientCore};
+
+    ghost Value = { ClientCore };
+
+    ghost view = { λ c. record { phase = c.phase; begun = c.begun; slots = c.streams } };
+}
+
+impl<A: Allocator> Client<A> {
+    ghost use Rattle.cqlp_session.specs.Client.{begun, cancelled, cancels, new_client, replied, reply_to, ticket_for};
+    ghost use Rattle.cqlp_session.specs.Signal.{signal_of};
+    ghost use Rattle.cqlp_session.specs.Slots.{CountsSlots};
+
+    /// The core of a connection on which nothing was sent yet, with this many stream ids: 1 to 32,768.
+    pub fn new(alloc: A, slots: u16) -> Result<Client<A>, SlotsOrMemory>
+        where A: Clone
+        ensures slots { IsErrOf result SlotsOrMemory.BadSlots ↔ (CountsSlots slots → ⊥) }
+        ensures new { IfOk result (λ client. client ≡ new_client slots) }
+    {
+        if slots < 1 || slots > 32_768 {
+            return Err(SlotsOrMemory::BadSlots);
+        }
+        Ok(Client {
+            phase: Phase::Fresh,
+            begun: 0,
+            streams: Streams::new(alloc, slots)?,
+        })
+    }
+
+    /// How far the setting up of the connection has come.
+    pub fn phase(&self) -> Phase
+        ensures { result ≡ self.now.phase }
+    {
+        self.phase
+    }
+
+    /// Begins a request: its header is to have the ticket's id.
+    pub fn begin(&mut self, kind: RequestKind) -> Result<Ticket, BeginError>
+        ensures answer { result ≡ ticket_for self.old kind }
+        ensures after { self.new ≡ begun self.old kind result }
+    {
+        if !self.phase.may_begin(kind) {
+            return Err(BeginError::Phase(self.phase));
+        }
+        if self.begun == u64::MAX {
+            return Err(BeginError::Spent);
+        }
+        let Some(id) = self.streams.least_free() else {
+            return Err(BeginError::Full);
+        };
+        let number = self.begun + 1;
+        self.phase = self.phase.begun(kind);
+        self.begun = number;
+        let open = Open {
+            number,
+            kind,
+            cancelled: false,
+        };
+        self.streams.put(id, Some(open));
+        Ok(Ticket { id, number })
+    }
+
+    /// Takes the header of a message that came. A reply frees its request's id.
+    pub fn reply(&mut self, header: &Header) -> Result<Reply, Stray>
+        ensures answer { result ≡ reply_to self.old (signal_of header.now) }
+        ensures after { self.new ≡ replied self.old (signal_of header.now) result }
+    {
+        let Header {
+            response,
+            flags: _,
+            stream: id,
+            opcode,
+            length: _,
+        } = *header;
+        if response && opcode == Opcode::Event && id < 0 {
+            return Ok(Reply::ServerEvent);
+        }
+        if !response {
+            return Err(Stray::NotResponse);
+        }
+        let Some(open) = self.streams.under(id) else {
+            return Err(Stray::NoSuchStream);
+        };
+        if !open.kind.is_answered_by(opcode) {
+            return Err(Stray::WrongOpcode);
+        }
+        self.phase = self.phase.answered(open.kind, opcode);
+        self.streams.put(id, None);
+        let ticket = Ticket {
+            id,
+            number: open.number,
+        };
+        Ok(if open.cancelled {
+            Reply::Dropped { ticket }
+        } else {
+            Reply::Answer {
+                ticket,
+                kind: open.kind,
+            }
+        })
+    }
+
+    /// Gives up a request that waits for its reply, unless it is a STARTUP or an AUTH_RESPONSE. Its id stays taken
+    /// until its reply comes.
+    pub fn cancel(&mut self, ticket: Ticket) -> bool
+        ensures answer { result ≡ cancels self.old ticket }
+        ensures after { self.new ≡ cancelled self.old ticket result }
+    {
+        let Some(open) = self.streams.under(ticket.id) else {
+            return false;
+        };
+        if open.number != ticket.number || open.cancelled || open.kind.is_handshake() {
+            return false;
+        }
+        let open = Open {
+            number: open.number,
+            kind: open.kind,
+            cancelled: true,
+        };
+        self.streams.put(ticket.id, Some(open));
+        true
+    }
+}
