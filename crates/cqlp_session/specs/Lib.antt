@@ -4,3 +4,4 @@ pub mod Slots
 pub mod Ids
 pub mod Signal
 pub mod Client
+pub mod Server

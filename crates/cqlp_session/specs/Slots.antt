@@ -1,10 +1,15 @@
 -- What stands under each stream id (section 2.3 of native_protocol_v4.spec): a list with a slot for each id.
-use Rattle.std.specs.Prelude.{ℕ, ◌≤◌, ℤ, pos, negsuc, List, Option, Some, None, slice_index_or, slice_set, is_none, position}
+use Rattle.std.specs.Prelude.{ℕ, ◌≤◌, ℤ, pos, negsuc, Bool, false, nat_lt, List, length, Option, Some, None, slice_index_or, slice_set, is_none, position}
 
 -- an id's place
 abbrev pub index_of : ℤ → Option ℕ
 index_of (pos i) = Some i
 index_of (negsuc i) = None
+
+-- it is one of these slots' ids
+abbrev pub has_slot : {A : Type 0} → List (Option A) → ℤ → Bool
+has_slot slots (pos i) = nat_lt i (length slots)
+has_slot slots (negsuc i) = false
 
 -- what stands under an id: nothing under a negative one, and past the last
 abbrev pub under : {A : Type 0} → List (Option A) → ℤ → Option A

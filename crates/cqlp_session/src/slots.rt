@@ -1,7 +1,7 @@
 //! What stands under each stream id.
 
 ghost use Rattle.std.specs.Prelude.{◌≡◌, IfOk, None, replicate};
-ghost use Rattle.cqlp_session.specs.Slots.{index_of, put, under};
+ghost use Rattle.cqlp_session.specs.Slots.{has_slot, index_of, put, under};
 
 use std::alloc::{AllocError, Allocator};
 
@@ -10,6 +10,16 @@ pub(crate) fn index_of(id: i16) -> Option<usize>
     ensures { result ≡ index_of id }
 {
     if id < 0 { None } else { Some(id as usize) }
+}
+
+/// Whether this is the id of one of these slots.
+pub(crate) fn has<T>(slots: &[Option<T>], id: i16) -> bool
+    ensures { result ≡ has_slot slots.now id }
+{
+    match index_of(id) {
+        Some(i) => i < slots.len(),
+        None => false,
+    }
 }
 
 /// What stands under this id.
