@@ -5,3 +5,5 @@ pub mod Ids
 pub mod Signal
 pub mod Client
 pub mod Server
+pub mod World
+pub mod Pairing

@@ -5,6 +5,7 @@
 mod client;
 mod ids;
 mod kind;
+pub mod laws;
 mod phase;
 mod refusal;
 mod server;
