@@ -1,2 +1,4 @@
 pub mod Bits
 pub mod Marked
+pub mod Under
+pub mod Paired
