@@ -2,3 +2,5 @@ pub mod Bits
 pub mod Marked
 pub mod Under
 pub mod Paired
+pub mod Sentences
+pub mod InStep

@@ -146,6 +146,12 @@ ticket_free c k t is = elim (cases_Bool (may_begin c.phase k)) [
   | inr not ↦ absurd (cc (rw not at is))
   ]
 
+pub ticket_may : (c : ClientCore) (k : RequestKind) (t : Ticket) → ticket_for c k ≡ Ok t → may_begin c.phase k ≡ true
+ticket_may c k t is = elim (cases_Bool (may_begin c.phase k)) [
+    inl may ↦ may
+  | inr not ↦ absurd (cc (rw not at is))
+  ]
+
 -- none of the known requests has an id that is free
 none_sent : (slots : List (Option Open)) (id : ℤ) (up : List (Message Request)) → under slots id ≡ None → AllByRecursion (IsSent slots) up → count (is_sent_under id) up ≡ 0
 none_sent slots id up free h = count_none (is_sent_under id) up (each_weaker (IsSent slots) (λ m. is_sent_under id m ≡ false) up (λ m k. int_eq_other m.tag.ticket.id id (known_apart slots id m.tag free k.known)) h)
@@ -430,7 +436,7 @@ paired_pushed w p = record {
 
 -- ---- a response comes to the client
 
-no_event : (k : RequestKind) (o : Opcode) → answers k o ≡ true → is_event o ≡ false
+pub no_event : (k : RequestKind) (o : Opcode) → answers k o ≡ true → is_event o ≡ false
 no_event kind.Startup opcode.Event e = cc e
 no_event kind.Options opcode.Event e = cc e
 no_event kind.Query opcode.Event e = cc e
@@ -474,7 +480,7 @@ pub record IsAlone (w : World) (rest : List (Message (Option Request))) (id : �
   pub served : under w.server.slots id ≡ None
   pub down : AllByRecursion (λ m. is_coming_under id m ≡ false) rest
 
-absent : {A : Type 0} (o : Option A) → present o ≡ 0 → o ≡ None
+pub absent : {A : Type 0} (o : Option A) → present o ≡ 0 → o ≡ None
 absent None e = refl
 absent (Some a) e = cc
 

@@ -1,5 +1,5 @@
 -- What stands under each stream id (section 2.3 of native_protocol_v4.spec): a list with a slot for each id.
-use Rattle.std.specs.Prelude.{ℕ, ◌≤◌, ℤ, pos, negsuc, Bool, false, nat_lt, List, length, Option, Some, None, slice_index_or, slice_set, is_none, position}
+use Rattle.std.specs.Prelude.{◌≡◌, ◌<ℤ◌, ℕ, ◌≤◌, IsTrue, IsSome, ℤ, pos, negsuc, Bool, false, nat_lt, List, length, Option, Some, None, slice_index_or, slice_set, is_none, position}
 
 -- an id's place
 abbrev pub index_of : ℤ → Option ℕ
@@ -24,6 +24,12 @@ put slots (negsuc i) what = slots
 -- the least id that is free
 abbrev pub least_free : {A : Type 0} → List (Option A) → Option ℕ
 least_free slots = position is_none slots
+
+-- an id is free, and each one below it is taken
+pub record IsLeastFree {A : Type 0} (slots : List (Option A)) (id : ℤ) : Type 0 where
+  pub has : IsTrue (has_slot slots id)
+  pub free : under slots id ≡ None
+  pub least : (i : ℕ) → pos i <ℤ id → IsSome (under slots (pos i))
 
 -- so many ids are allowed
 abbrev pub CountsSlots : ℕ → Type 0

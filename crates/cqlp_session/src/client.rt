@@ -1,6 +1,7 @@
 //! The client's core.
 
-ghost use Rattle.std.specs.Prelude.{◌≡◌, ◌≤◌, ◌^◌, ◌<◌, ◌↔◌, ◌⊎◌, ℕ, IfOk, IfSome, OnErr, IsErrOf, pos, length};
+ghost use Rattle.std.specs.Prelude.{◌≡◌, ◌+◌, ◌-◌, ◌^◌, ◌<◌, ◌↔◌, ◌⊎◌, All, IfOk, IsErrOf, IsSome, OnErr};
+ghost use Rattle.std.specs.Bool.{OnFalse};
 
 use crate::kind::RequestKind;
 use crate::phase::Phase;
@@ -32,12 +33,12 @@ impl<A: Allocator> Model for Client<A> {
 impl<A: Allocator> Client<A> {
     ghost use Rattle.cqlp_session.specs.Client.{begun, cancelled, cancels, new_client, replied, reply_to, ticket_for};
     ghost use Rattle.cqlp_session.specs.Signal.{signal_of};
-    ghost use Rattle.cqlp_session.specs.Slots.{CountsSlots};
+    ghost use Rattle.cqlp_session.specs.Slots.{IsLeastFree};
 
     /// The core of a connection on which nothing was sent yet, with this many stream ids: 1 to 32,768.
     pub fn new(alloc: A, slots: u16) -> Result<Client<A>, SlotsOrMemory>
         where A: Clone
-        ensures slots { IsErrOf result SlotsOrMemory.BadSlots ↔ (CountsSlots slots → ⊥) }
+        ensures bad_slots { IsErrOf result SlotsOrMemory.BadSlots ↔ ((slots ≡ 0) ⊎ (32768 < slots)) }
         ensures new { IfOk result (λ client. client ≡ new_client slots) }
     {
         if slots < 1 || slots > 32_768 {
@@ -61,6 +62,13 @@ impl<A: Allocator> Client<A> {
     pub fn begin(&mut self, kind: RequestKind) -> Result<Ticket, BeginError>
         ensures answer { result ≡ ticket_for self.old kind }
         ensures after { self.new ≡ begun self.old kind result }
+        ensures refused { OnErr result (self.new ≡ self.old) }
+
+        // What the answer says of the ids and the numbers.
+        ensures least { IfOk result (λ ticket. IsLeastFree self.old.slots ticket.id) }
+        ensures next { IfOk result (λ ticket. ticket.number ≡ self.old.begun + 1) }
+        ensures full { IsErrOf result BeginError.Full → All (λ slot. IsSome slot) self.old.slots }
+        ensures spent { IsErrOf result BeginError.Spent → self.old.begun ≡ 2 ^ 64 - 1 }
     {
         if !self.phase.may_begin(kind) {
             return Err(BeginError::Phase(self.phase));
@@ -87,6 +95,7 @@ impl<A: Allocator> Client<A> {
     pub fn reply(&mut self, header: &Header) -> Result<Reply, Stray>
         ensures answer { result ≡ reply_to self.old (signal_of header.now) }
         ensures after { self.new ≡ replied self.old (signal_of header.now) result }
+        ensures refused { OnErr result (self.new ≡ self.old) }
     {
         let Header {
             response,
@@ -128,6 +137,7 @@ impl<A: Allocator> Client<A> {
     pub fn cancel(&mut self, ticket: Ticket) -> bool
         ensures answer { result ≡ cancels self.old ticket }
         ensures after { self.new ≡ cancelled self.old ticket result }
+        ensures refused { OnFalse result (self.new ≡ self.old) }
     {
         let Some(open) = self.streams.under(ticket.id) else {
             return false;

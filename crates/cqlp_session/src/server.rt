@@ -1,6 +1,6 @@
 //! The server's core.
 
-ghost use Rattle.std.specs.Prelude.{◌≡◌, ◌↔◌, IfOk, IsErrOf};
+ghost use Rattle.std.specs.Prelude.{◌≡◌, ◌<◌, ◌↔◌, ◌⊎◌, IfOk, IsErrOf, OnErr};
 
 use crate::kind::RequestKind;
 use crate::phase::Phase;
@@ -52,11 +52,10 @@ impl<A: Allocator> Model for Server<A> {
 impl<A: Allocator> Server<A> {
     ghost use Rattle.cqlp_session.specs.Server.{accept_of, accepted, answer_of, answered, new_server};
     ghost use Rattle.cqlp_session.specs.Signal.{signal_of};
-    ghost use Rattle.cqlp_session.specs.Slots.{CountsSlots};
 
     /// The core of a connection on which nothing came yet, with this many stream ids: 1 to 32,768.
     pub fn new(alloc: A, slots: u16) -> Result<Server<A>, SlotsOrMemory>
-        ensures slots { IsErrOf result SlotsOrMemory.BadSlots ↔ (CountsSlots slots → ⊥) }
+        ensures bad_slots { IsErrOf result SlotsOrMemory.BadSlots ↔ ((slots ≡ 0) ⊎ (32768 < slots)) }
         ensures new { IfOk result (λ server. server ≡ new_server slots) }
     {
         if slots < 1 || slots > 32_768 {
@@ -79,6 +78,7 @@ impl<A: Allocator> Server<A> {
     pub fn accept(&mut self, header: &Header) -> Result<RequestKind, ServerRefusal>
         ensures answer { result ≡ accept_of self.old (signal_of header.now) }
         ensures after { self.new ≡ accepted self.old (signal_of header.now) result }
+        ensures refused { OnErr result (self.new ≡ self.old) }
     {
         let Header {
             response,
@@ -111,6 +111,7 @@ impl<A: Allocator> Server<A> {
     pub fn answer(&mut self, id: i16, opcode: Opcode) -> Result<RequestKind, AnswerError>
         ensures answer { result ≡ answer_of self.old id opcode }
         ensures after { self.new ≡ answered self.old id opcode result }
+        ensures refused { OnErr result (self.new ≡ self.old) }
     {
         let Some(kind) = slots::under(&self.slots, id) else {
             return Err(AnswerError::NotTaken);
