@@ -4,3 +4,4 @@ pub mod Under
 pub mod Paired
 pub mod Sentences
 pub mod InStep
+pub mod Least

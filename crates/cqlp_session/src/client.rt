@@ -58,6 +58,7 @@ impl<A: Allocator> Client<A> {
         self.phase
     }
 
+    #[tactic(auto, using(crate::proofs::Least::least_found, crate::proofs::Least::none_found))]
     /// Begins a request: its header is to have the ticket's id.
     pub fn begin(&mut self, kind: RequestKind) -> Result<Ticket, BeginError>
         ensures answer { result ≡ ticket_for self.old kind }
