@@ -14,11 +14,11 @@ word_with_bit words place bit word within is others = record {
   size = length-set words (place / 64) word;
   is = ap (λ w. bit_at w (place % 64)) (get_or-set_same words (place / 64) word 0 (omega arith)) ∙ is;
   others = λ i ne. elim (cases_eq (i / 64) (place / 64)) [
-    inl same ↦ ap (λ k. bit_at (get_or (set words (place / 64) word) k 0) (i % 64)) same
-      ∙ ap (λ w. bit_at w (i % 64)) (get_or-set_same words (place / 64) word 0 (omega arith))
-      ∙ others (i % 64) (omega arith) (λ e. ne (omega arith))
-      ∙ ap (λ k. bit_at (get_or words k 0) (i % 64)) (sym same)
-  | inr other ↦ ap (λ w. bit_at w (i % 64)) (get_or-set_other words (place / 64) (i / 64) word 0 other)
+    | inl same ↦ ap (λ k. bit_at (get_or (set words (place / 64) word) k 0) (i % 64)) same
+        ∙ ap (λ w. bit_at w (i % 64)) (get_or-set_same words (place / 64) word 0 (omega arith))
+        ∙ others (i % 64) (omega arith) (λ e. ne (omega arith))
+        ∙ ap (λ k. bit_at (get_or words k 0) (i % 64)) (sym same)
+    | inr other ↦ ap (λ w. bit_at w (i % 64)) (get_or-set_other words (place / 64) (i / 64) word 0 other)
   ];
 }
 
@@ -52,10 +52,10 @@ first_bit words at within zeros some fits =
       within = omega arith;
       is = ap (λ k. bit_at (get_or words k 0) ((at * 64 + tz) % 64)) word ∙ ap (bit_at (get_or words at 0)) bit ∙ low.1;
       below = λ i lt. elim (cases_lt (i / 64) at) [
-        inl before ↦ bit_under_zero words i (zeros (i / 64) before)
-      | inr from ↦
-        let same : i / 64 ≡ at = omega arith in
-        ap (λ k. bit_at (get_or words k 0) (i % 64)) same ∙ low.2 (i % 64) (omega arith)
+        | inl before ↦ bit_under_zero words i (zeros (i / 64) before)
+        | inr from ↦
+            let same : i / 64 ≡ at = omega arith in
+            ap (λ k. bit_at (get_or words k 0) (i % 64)) same ∙ low.2 (i % 64) (omega arith)
       ];
     }
 

@@ -87,13 +87,13 @@ opening_more p k before after may e more = let at = opening_begun p k may in ome
 
 opening_less : (p : Phase) (k : RequestKind) (o : Opcode) (before after : ℕ) → answers k o ≡ true → before ≡ opening p → after + weight k ≡ before → after ≡ opening (phase_answered p k o)
 opening_less p k o before after fits e less = elim (cases_Bool (is_handshake k)) [
-    inl is ↦
-    let one = rw is at less in
-    omega (arith, one, opening_le p, opening_answered p k o is fits)
+  | inl is ↦
+      let one = rw is at less in
+      omega (arith, one, opening_le p, opening_answered p k o is fits)
   | inr isnt ↦
-    let none = rw isnt at less in
-    omega (arith, none, ap opening (phase_kept p k o isnt))
-  ]
+      let none = rw isnt at less in
+      omega (arith, none, ap opening (phase_kept p k o isnt))
+]
 
 -- ---- slots
 
@@ -172,13 +172,13 @@ start_in_step c s le = record {
 -- no handshake is answered while none is awaited
 not_handshake : (slots : List (Option Open)) (r : Request) → count is_busy slots ≡ 0 → IsKnown slots r → is_handshake r.kind ≡ false
 not_handshake slots r quiet k = elim (cases_Bool (is_handshake r.kind)) [
-    inl is ↦
-    let put = count_put is_busy slots r.ticket.id None (has_taken slots r.ticket.id k.entry k.there) in
-    let busy : is_busy (under slots r.ticket.id) ≡ true = ap is_busy k.there ∙ ap is_handshake k.kind ∙ is in
-    let counted = rw busy at put in
-    absurd (omega (arith, counted))
+  | inl is ↦
+      let put = count_put is_busy slots r.ticket.id None (has_taken slots r.ticket.id k.entry k.there) in
+      let busy : is_busy (under slots r.ticket.id) ≡ true = ap is_busy k.there ∙ ap is_handshake k.kind ∙ is in
+      let counted = rw busy at put in
+      absurd (omega (arith, counted))
   | inr isnt ↦ isnt
-  ]
+]
 
 quiet_told : (slots : List (Option Open)) (p : Phase) (s : Signal) (tag : Option Request) → count is_busy slots ≡ 0 → IsComingAs slots s tag → told_phase p s.opcode tag ≡ p
 quiet_told slots p s None quiet h = refl
@@ -276,22 +276,22 @@ in_step_answered w id o k t s found =
     let put = rw there at (count_put is_busy_kind served id None (has_taken served id k found.there)) in
     let m = answer_message id o (last_under id w.taken) in
     let told : told_phase (replies_all w.client.phase w.down) o (last_under id w.taken) ≡ phase_answered (accepts_all q w.up) k o =
-      ap (told_phase (replies_all w.client.phase w.down) o) t.last
-      ∙ ap (λ k. phase_answered (replies_all w.client.phase w.down) k o) t.kind
-      ∙ ap (λ r. phase_answered r k o) (sym s.same) in
+    ap (told_phase (replies_all w.client.phase w.down) o) t.last
+    ∙ ap (λ k. phase_answered (replies_all w.client.phase w.down) k o) t.kind
+    ∙ ap (λ r. phase_answered r k o) (sym s.same) in
     let ends = replies_push w.client.phase w.down m ∙ told in
     record {
       room = rw (length_put served id None) s.room;
       may = elim (cases_Bool (is_handshake k)) [
-        inl is ↦ subst (MayAll (phase_answered q k o)) (sym (behind_handshake w id o k s found is).1) tt
-      | inr isnt ↦ subst (λ (r : Phase). MayAll r w.up) (sym (phase_kept q k o isnt)) s.may
+        | inl is ↦ subst (MayAll (phase_answered q k o)) (sym (behind_handshake w id o k s found is).1) tt
+        | inr isnt ↦ subst (λ (r : Phase). MayAll r w.up) (sym (phase_kept q k o isnt)) s.may
       ];
       same = elim (cases_Bool (is_handshake k)) [
-        inl is ↦
-        let none = (behind_handshake w id o k s found is).1 in
-        ap (accepts_all (phase_answered q k o)) none ∙ ap (λ u. phase_answered (accepts_all q u) k o) (sym none) ∙ sym ends
-      | inr isnt ↦
-        ap (λ r. accepts_all r w.up) (phase_kept q k o isnt) ∙ sym (phase_kept (accepts_all q w.up) k o isnt) ∙ sym ends
+        | inl is ↦
+            let none = (behind_handshake w id o k s found is).1 in
+            ap (accepts_all (phase_answered q k o)) none ∙ ap (λ u. phase_answered (accepts_all q u) k o) (sym none) ∙ sym ends
+        | inr isnt ↦
+            ap (λ r. accepts_all r w.up) (phase_kept q k o isnt) ∙ sym (phase_kept (accepts_all q w.up) k o isnt) ∙ sym ends
       ];
       client_opening = s.client_opening;
       server_opening = opening_less q k o _ _ found.fits s.server_opening (omega (arith, put));
@@ -307,9 +307,11 @@ in_step_responded w id o (Ok k) p s is =
 
 in_step_pushed : (w : World) → IsInStep w → IsInStep (happens w Push)
 in_step_pushed w s = record {
-  room = s.room; may = s.may;
+  room = s.room;
+  may = s.may;
   same = s.same ∙ sym (replies_push w.client.phase w.down event_message);
-  client_opening = s.client_opening; server_opening = s.server_opening;
+  client_opening = s.client_opening;
+  server_opening = s.server_opening;
 }
 
 -- ---- a response comes to the client
@@ -319,9 +321,11 @@ in_step_came : (w : World) (m : Message (Option Request)) (rest : List (Message 
 in_step_came w m rest None s e tagged came =
     let same : replied w.client m.seen (reply_to w.client m.seen) ≡ w.client = ap (λ s. replied w.client s (reply_to w.client s)) came in
     subst (λ (c : ClientCore). IsInStep (record w { client = c; down = rest; waiting = w.waiting })) (sym same) (record {
-      room = s.room; may = s.may;
+      room = s.room;
+      may = s.may;
       same = s.same ∙ ap (replies_all w.client.phase) e ∙ ap (λ t. replies_all (told_phase w.client.phase m.seen.opcode t) rest) tagged;
-      client_opening = s.client_opening; server_opening = s.server_opening;
+      client_opening = s.client_opening;
+      server_opening = s.server_opening;
     })
 in_step_came w m rest (Some r) s e tagged came =
     let slots = w.client.slots in
@@ -334,7 +338,7 @@ in_step_came w m rest (Some r) s e tagged came =
       room = rw (length_put slots id None) s.room;
       may = s.may;
       same = s.same ∙ ap (replies_all w.client.phase) e ∙ ap (λ t. replies_all (told_phase w.client.phase m.seen.opcode t) rest) tagged
-        ∙ ap (λ k. replies_all (phase_answered w.client.phase k m.seen.opcode) rest) (sym came.known.kind);
+          ∙ ap (λ k. replies_all (phase_answered w.client.phase k m.seen.opcode) rest) (sym came.known.kind);
       client_opening = opening_less w.client.phase entry.kind m.seen.opcode _ _ fits s.client_opening (omega (arith, put));
       server_opening = s.server_opening;
     })
@@ -361,7 +365,8 @@ in_step_cancelled w t true s e =
     let put = rw (busy_marked (under slots t.id)) at (count_put is_busy slots t.id what (cancels_taken slots t.number t.id (under slots t.id) refl e)) in
     record {
       room = rw (length_put slots t.id what) s.room;
-      may = s.may; same = s.same;
+      may = s.may;
+      same = s.same;
       client_opening = let kept : count is_busy (put_at slots t.id what) ≡ count is_busy slots = omega (arith, put) in kept ∙ s.client_opening;
       server_opening = s.server_opening;
     }

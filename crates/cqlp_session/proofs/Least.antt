@@ -20,7 +20,8 @@ least_at slots id (Some i) e found =
     let first = position-Some is_none slots i None e in
     let same : pos i ≡ id = cc found in
     subst (IsLeastFree slots) same (record {
-      has = at.0; free = at.1;
+      has = at.0;
+      free = at.1;
       least = λ k lt. some_is (get_or slots k None) (first.2 k (omega (arith, ints)));
     })
 
@@ -29,8 +30,8 @@ least_found slots id found = least_at slots id (least_free slots) refl found
 
 pub none_found : {A : Type 0} (slots : List (Option A)) → option_map pos (least_free slots) ≡ None → All (λ slot. IsSome slot) slots
 none_found {A} slots none = elim (cases_Bool (nat_lt (position_or_len is_none slots) (length slots))) [
-    inl within ↦ absurd (cc (rw within at none))
+  | inl within ↦ absurd (cc (rw within at none))
   | inr past ↦
-    let end = ltb-false (position_or_len is_none slots) (length slots) past in
-    λ k d lt. some_is (get_or slots k d) (fails_before_first is_none slots k d (omega arith))
-  ]
+      let end = ltb-false (position_or_len is_none slots) (length slots) past in
+      λ k d lt. some_is (get_or slots k d) (fails_before_first is_none slots k d (omega arith))
+]

@@ -20,9 +20,9 @@ bit_zero false e = refl
 -- nothing stands anywhere in new slots
 pub empty_under : {A : Type 0} (n i : ℕ) → get_or {A = Option A} (replicate n None) i None ≡ None
 empty_under {A} n i = elim (cases_lt i n) [
-    inl lt ↦ get_or-replicate n i None None lt
+  | inl lt ↦ get_or-replicate n i None None lt
   | inr le ↦ get_or_past (replicate n None) i None (omega (arith, length-replicate {A = Option A} n None))
-  ]
+]
 
 pub marks_empty : {A : Type 0} (n : ℕ) → Marks {A = A} (all_ones n) (replicate n None)
 marks_empty {A} n =
@@ -31,9 +31,9 @@ marks_empty {A} n =
     record {
       size = words ∙ ap (λ k. (k + 63) / 64) (sym slots);
       bits = λ i lt.
-        ap (λ w. bit_at w (i % 64)) (get_or-replicate ((n + 63) / 64) (i / 64) (2 ^ 64 - 1) 0 (omega arith))
-        ∙ bit_at_ones 64 (i % 64) (omega arith)
-        ∙ ap (λ (o : Option A). cond (is_none o) 1 0) (sym (empty_under n i));
+          ap (λ w. bit_at w (i % 64)) (get_or-replicate ((n + 63) / 64) (i / 64) (2 ^ 64 - 1) 0 (omega arith))
+          ∙ bit_at_ones 64 (i % 64) (omega arith)
+          ∙ ap (λ (o : Option A). cond (is_none o) 1 0) (sym (empty_under n i));
     }
 
 -- a slot and its bit are written
@@ -41,8 +41,8 @@ pub marks_put : {A : Type 0} (words : List ℕ) (slots : List (Option A)) (place
 marks_put words slots place bit new what m w within e = record {
   size = w.size ∙ m.size ∙ ap (λ k. (k + 63) / 64) (sym (length-set slots place what));
   bits = λ i lt. elim (cases_eq i place) [
-    inl same ↦ ap (bit_under new) same ∙ w.is ∙ e ∙ ap (λ o. cond (is_none o) 1 0) (sym (get_or-set_same slots place what None within) ∙ ap (λ k. get_or (set slots place what) k None) (sym same))
-  | inr other ↦ w.others i other ∙ m.bits i (omega (arith, w.size)) ∙ ap (λ o. cond (is_none o) 1 0) (sym (get_or-set_other slots place i what None other))
+    | inl same ↦ ap (bit_under new) same ∙ w.is ∙ e ∙ ap (λ o. cond (is_none o) 1 0) (sym (get_or-set_same slots place what None within) ∙ ap (λ k. get_or (set slots place what) k None) (sym same))
+    | inr other ↦ w.others i other ∙ m.bits i (omega (arith, w.size)) ∙ ap (λ o. cond (is_none o) 1 0) (sym (get_or-set_other slots place i what None other))
   ];
 }
 

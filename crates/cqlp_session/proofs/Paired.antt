@@ -112,10 +112,14 @@ pub record IsPaired (w : World) : Type 0 where
 
 pub start_paired : (c s : ℕ) → IsPaired (start c s)
 start_paired c s = record {
-  up = tt; down = tt;
+  up = tt;
+  down = tt;
   taken = λ id k e. absurd (cc (under_new {A = RequestKind} s id, e));
   once = λ id. rw (ap present (under_new {A = RequestKind} s id)) (omega arith);
-  waiting = tt; waiting_apart = tt; serving = tt; serving_apart = tt;
+  waiting = tt;
+  waiting_apart = tt;
+  serving = tt;
+  serving_apart = tt;
 }
 
 -- ---- a request begins
@@ -137,20 +141,20 @@ ticket_under_free c number (Some i) t e is =
 
 pub ticket_free : (c : ClientCore) (k : RequestKind) (t : Ticket) → ticket_for c k ≡ Ok t → IsFreeId c.slots t.id
 ticket_free c k t is = elim (cases_Bool (may_begin c.phase k)) [
-    inl may ↦
-    let then = rw may at is in
-    elim (cases_Bool (nat_lt c.begun (2 ^ 64 - 1))) [
-      inl left ↦ ticket_under_free c (c.begun + 1) (least_free c.slots) t refl (rw left at then)
-    | inr spent ↦ absurd (cc (rw spent at then))
-    ]
+  | inl may ↦
+      let then = rw may at is in
+      elim (cases_Bool (nat_lt c.begun (2 ^ 64 - 1))) [
+        | inl left ↦ ticket_under_free c (c.begun + 1) (least_free c.slots) t refl (rw left at then)
+        | inr spent ↦ absurd (cc (rw spent at then))
+      ]
   | inr not ↦ absurd (cc (rw not at is))
-  ]
+]
 
 pub ticket_may : (c : ClientCore) (k : RequestKind) (t : Ticket) → ticket_for c k ≡ Ok t → may_begin c.phase k ≡ true
 ticket_may c k t is = elim (cases_Bool (may_begin c.phase k)) [
-    inl may ↦ may
+  | inl may ↦ may
   | inr not ↦ absurd (cc (rw not at is))
-  ]
+]
 
 -- none of the known requests has an id that is free
 none_sent : (slots : List (Option Open)) (id : ℤ) (up : List (Message Request)) → under slots id ≡ None → AllByRecursion (IsSent slots) up → count (is_sent_under id) up ≡ 0
@@ -184,13 +188,18 @@ kept_sent slots id what free m h = record { seen = h.seen; known = known_kept sl
 coming_kept : (slots : List (Option Open)) (id : ℤ) (what : Option Open) (s : Signal) (tag : Option Request) → is_tagged_under id tag ≡ false → IsComingAs slots s tag → IsComingAs (put slots id what) s tag
 coming_kept slots id what s None other h = h
 coming_kept slots id what s (Some r) other h = record {
-  response = h.response; stream = h.stream; fits = h.fits;
+  response = h.response;
+  stream = h.stream;
+  fits = h.fits;
   known = known_kept slots id what r (λ e. absurd (cc (ap (λ i. int_eq i id) e ∙ int_eq_same id, other))) h.known;
 }
 
 taken_kept : (slots : List (Option Open)) (id : ℤ) (what : Option Open) (taken : List (Message Request)) (at : ℤ) (k : RequestKind) → at ≢ id → IsTaken slots taken at k → IsTaken (put slots id what) taken at k
 taken_kept slots id what taken at k ne t = record {
-  request = t.request; last = t.last; stream = t.stream; kind = t.kind;
+  request = t.request;
+  last = t.last;
+  stream = t.stream;
+  kind = t.kind;
   known = known_kept slots id what t.request (λ e. ne (sym t.stream ∙ e)) t.known;
 }
 
@@ -204,13 +213,13 @@ once_sent : (w : World) (r : Request) → IsPaired w → under w.client.slots r.
 once_sent w r p free id =
     let more = flights_sent w.up w.server.slots w.down r id in
     elim (cases_int r.ticket.id id) [
-      inl same ↦
-      let none = subst (λ (i : ℤ). flights w.up w.server.slots w.down i ≡ 0) same (none_flies w r.ticket.id p free) in
-      let one = rw (ap (λ (i : ℤ). int_eq i id) same, int_eq_same id) at more in
-      omega (arith, none, one)
-    | inr other ↦
-      let none = rw (int_eq_other r.ticket.id id other) at more in
-      omega (arith, none, p.once id)
+      | inl same ↦
+          let none = subst (λ (i : ℤ). flights w.up w.server.slots w.down i ≡ 0) same (none_flies w r.ticket.id p free) in
+          let one = rw (ap (λ (i : ℤ). int_eq i id) same, int_eq_same id) at more in
+          omega (arith, none, one)
+      | inr other ↦
+          let none = rw (int_eq_other r.ticket.id id other) at more in
+          omega (arith, none, p.once id)
     ]
 
 paired_sent : (w : World) (k : RequestKind) (o : Result Ticket BeginError) → IsPaired w → ticket_for w.client k ≡ o → IsPaired (sent w k o)
@@ -258,19 +267,19 @@ free_is (Some a) e = cc
 
 accept_kind_found : (c : ServerCore) (s : Signal) (r : Request) (k : RequestKind) → accept_kind c s.stream (Some r.kind) ≡ Ok k → IsAccepted c s r k
 accept_kind_found c s r k is = elim (cases_Bool (has_slot c.slots s.stream)) [
-    inl has ↦
-    let then = rw has at is in
-    elim (cases_Bool (is_none (under c.slots s.stream))) [
-      inl free ↦
-      let next = rw free at then in
-      elim (cases_Bool (may_begin c.phase r.kind)) [
-        inl may ↦ let same = rw may at next in record { kind = cc same; has = has; free = free_is _ free; may = may }
-      | inr not ↦ absurd (cc (rw not at next))
+  | inl has ↦
+      let then = rw has at is in
+      elim (cases_Bool (is_none (under c.slots s.stream))) [
+        | inl free ↦
+            let next = rw free at then in
+            elim (cases_Bool (may_begin c.phase r.kind)) [
+              | inl may ↦ let same = rw may at next in record { kind = cc same; has = has; free = free_is _ free; may = may }
+              | inr not ↦ absurd (cc (rw not at next))
+            ]
+        | inr held ↦ absurd (cc (rw held at then))
       ]
-    | inr held ↦ absurd (cc (rw held at then))
-    ]
   | inr past ↦ absurd (cc (rw past at is))
-  ]
+]
 
 pub accept_found : (c : ServerCore) (s : Signal) (r : Request) (k : RequestKind) → s ≡ (request_message r).seen → accept_of c s ≡ Ok k → IsAccepted c s r k
 accept_found c s r k seen is =
@@ -293,38 +302,39 @@ paired_accepted w m rest k p e sent found =
       up = (subst (AllByRecursion (IsSent w.client.slots)) e p.up).1;
       down = p.down;
       taken = λ id j there. elim (cases_int at id) [
-        inl same ↦ record {
+        | inl same ↦ record {
           request = m.tag;
           last = subst (λ (i : ℤ). last_under i (m ∷ w.taken) ≡ Some m.tag) same (taken_is w.taken m);
           stream = sym stream ∙ same;
           kind =
-            let here = subst (λ (i : ℤ). under (put served at (Some k)) i ≡ Some k) same (under_put_same served at (Some k) found.has) in
-            let kinds : k ≡ j = cc (here, there) in
-            sym found.kind ∙ kinds;
+              let here = subst (λ (i : ℤ). under (put served at (Some k)) i ≡ Some k) same (under_put_same served at (Some k) found.has) in
+              let kinds : k ≡ j = cc (here, there) in
+              sym found.kind ∙ kinds;
           known = sent.known;
         }
-      | inr other ↦
-        let before = p.taken id j (sym (under_put_other served at id (Some k) (λ e. other (sym e))) ∙ there) in
-        record { request = before.request; last = taken_other w.taken m id other ∙ before.last; stream = before.stream; kind = before.kind; known = before.known }
+        | inr other ↦
+            let before = p.taken id j (sym (under_put_other served at id (Some k) (λ e. other (sym e))) ∙ there) in
+            record { request = before.request; last = taken_other w.taken m id other ∙ before.last; stream = before.stream; kind = before.kind; known = before.known }
       ];
       once = λ id.
-        let before = subst (λ (u : List (Message Request)). flights u served w.down id ≤ 1) e (p.once id) in
-        elim (cases_int at id) [
-          inl same ↦
-          let free = subst (λ (i : ℤ). present (under served i) ≡ 0) same (ap present found.free) in
-          let held = subst (λ (i : ℤ). present (under (put served at (Some k)) i) ≡ 1) same (ap present (under_put_same served at (Some k) found.has)) in
-          let came : is_sent_under id m ≡ true = ap (λ (i : ℤ). int_eq i id) (sym stream ∙ same) ∙ int_eq_same id in
-          let counted = rw came at before in
-          omega (arith, free, held, counted)
-        | inr other ↦
-          let held = ap present (under_put_other served at id (Some k) (λ e. other (sym e))) in
-          omega (arith, before, held)
-        ];
+          let before = subst (λ (u : List (Message Request)). flights u served w.down id ≤ 1) e (p.once id) in
+          elim (cases_int at id) [
+            | inl same ↦
+                let free = subst (λ (i : ℤ). present (under served i) ≡ 0) same (ap present found.free) in
+                let held = subst (λ (i : ℤ). present (under (put served at (Some k)) i) ≡ 1) same (ap present (under_put_same served at (Some k) found.has)) in
+                let came : is_sent_under id m ≡ true = ap (λ (i : ℤ). int_eq i id) (sym stream ∙ same) ∙ int_eq_same id in
+                let counted = rw came at before in
+                omega (arith, free, held, counted)
+            | inr other ↦
+                let held = ap present (under_put_other served at id (Some k) (λ e. other (sym e))) in
+                omega (arith, before, held)
+          ];
       waiting = p.waiting;
       waiting_apart = p.waiting_apart;
-      serving =
-        (record { known = sent.known; kind = k; there = subst (λ (i : ℤ). under (put served at (Some k)) i ≡ Some k) stream (under_put_same served at (Some k) found.has) }
-        , each_weaker _ _ w.serving (λ q h. record { known = h.known; kind = h.kind; there = under_put_other served at q.ticket.id (Some k) (λ e. let same = ap (under served) e in absurd (cc (same, h.there, found.free))) ∙ h.there }) p.serving);
+      serving = (
+        record { known = sent.known; kind = k; there = subst (λ (i : ℤ). under (put served at (Some k)) i ≡ Some k) stream (under_put_same served at (Some k) found.has) },
+        each_weaker _ _ w.serving (λ q h. record { known = h.known; kind = h.kind; there = under_put_other served at q.ticket.id (Some k) (λ e. let same = ap (under served) e in absurd (cc (same, h.there, found.free))) ∙ h.there }) p.serving,
+      );
       serving_apart = (each_weaker _ _ w.serving (λ q h e. let same = ap (under served) (stream ∙ e) in absurd (cc (same, h.there, found.free))) p.serving, p.serving_apart);
     }
 
@@ -334,9 +344,13 @@ paired_taken w m rest (Ok k) p e is =
     paired_accepted w m rest k p e sent (accept_found w.server m.seen m.tag k sent.seen is)
 paired_taken w m rest (Err x) p e is = record {
   up = (subst (AllByRecursion (IsSent w.client.slots)) e p.up).1;
-  down = p.down; taken = p.taken;
+  down = p.down;
+  taken = p.taken;
   once = λ id. let before = subst (λ (u : List (Message Request)). flights u w.server.slots w.down id ≤ 1) e (p.once id) in omega (arith, before);
-  waiting = p.waiting; waiting_apart = p.waiting_apart; serving = p.serving; serving_apart = p.serving_apart;
+  waiting = p.waiting;
+  waiting_apart = p.waiting_apart;
+  serving = p.serving;
+  serving_apart = p.serving_apart;
 }
 
 paired_delivered_up : (w : World) (ms : List (Message Request)) → IsPaired w → w.up ≡ ms → IsPaired (delivered_up w ms)
@@ -352,12 +366,12 @@ pub record IsAnswered (c : ServerCore) (id : ℤ) (o : Opcode) (k : RequestKind)
 answer_for_found : (c : ServerCore) (id : ℤ) (o : Opcode) (k : RequestKind) (there : Option RequestKind) → under c.slots id ≡ there → answer_for o there ≡ Ok k → IsAnswered c id o k
 answer_for_found c id o k None e is = absurd (cc is)
 answer_for_found c id o k (Some j) e is = elim (cases_Bool (answers j o)) [
-    inl fits ↦
-    let same = rw fits at is in
-    let kinds : j ≡ k = cc same in
-    record { there = e ∙ ap Some kinds; fits = ap (λ k. answers k o) (sym kinds) ∙ fits }
+  | inl fits ↦
+      let same = rw fits at is in
+      let kinds : j ≡ k = cc same in
+      record { there = e ∙ ap Some kinds; fits = ap (λ k. answers k o) (sym kinds) ∙ fits }
   | inr not ↦ absurd (cc (rw not at is))
-  ]
+]
 
 pub answer_found : (c : ServerCore) (id : ℤ) (o : Opcode) (k : RequestKind) → answer_of c id o ≡ Ok k → IsAnswered c id o k
 answer_found c id o k is = answer_for_found c id o k (under c.slots id) refl is
@@ -387,28 +401,28 @@ paired_answered w id o k (Some r) t p e found =
       up = p.up;
       down = each_push _ w.down m p.down (record { response = refl; stream = sym stream; fits = ap (λ k. answers k o) kinds ∙ found.fits; known = known });
       taken = λ at j there. elim (cases_int at id) [
-        inl same ↦ let here = ap (under (put served id None)) same in absurd (cc (here, freed, there))
-      | inr other ↦ p.taken at j (sym (under_put_other served id at None other) ∙ there)
+        | inl same ↦ let here = ap (under (put served id None)) same in absurd (cc (here, freed, there))
+        | inr other ↦ p.taken at j (sym (under_put_other served id at None other) ∙ there)
       ];
       once = λ at.
-        let more = count-push (is_coming_under at) w.down m in
-        let before = p.once at in
-        elim (cases_int at id) [
-          inl same ↦
-          let gone = ap present (ap (under (put served id None)) same ∙ freed) in
-          let stood = ap present (ap (under served) same ∙ found.there) in
-          omega (arith, more, before, gone, stood, one_at_most (int_eq r.ticket.id at))
-        | inr other ↦
-          let stays = ap present (under_put_other served id at None other) in
-          let passed = rw (int_eq_other r.ticket.id at (λ e. other (sym e ∙ stream))) at more in
-          omega (arith, passed, before, stays)
-        ];
+          let more = count-push (is_coming_under at) w.down m in
+          let before = p.once at in
+          elim (cases_int at id) [
+            | inl same ↦
+                let gone = ap present (ap (under (put served id None)) same ∙ freed) in
+                let stood = ap present (ap (under served) same ∙ found.there) in
+                omega (arith, more, before, gone, stood, one_at_most (int_eq r.ticket.id at))
+            | inr other ↦
+                let stays = ap present (under_put_other served id at None other) in
+                let passed = rw (int_eq_other r.ticket.id at (λ e. other (sym e ∙ stream))) at more in
+                omega (arith, passed, before, stays)
+          ];
       waiting = p.waiting;
       waiting_apart = p.waiting_apart;
       serving =
-        each_weaker _ _ (without (Some r) w.serving)
-        (λ q h. record { known = h.0.known; kind = h.0.kind; there = under_put_other served id q.ticket.id None (λ e. h.1 (e ∙ sym stream)) ∙ h.0.there })
-        (without_known w.client.slots (IsServed w.client.slots served) (λ q h. h.known) r w.serving known p.serving);
+          each_weaker _ _ (without (Some r) w.serving)
+          (λ q h. record { known = h.0.known; kind = h.0.kind; there = under_put_other served id q.ticket.id None (λ e. h.1 (e ∙ sym stream)) ∙ h.0.there })
+          (without_known w.client.slots (IsServed w.client.slots served) (λ q h. h.known) r w.serving known p.serving);
       serving_apart = pairs_filtered HaveOtherIds (λ q. not (eqb q.ticket.number r.ticket.number)) w.serving p.serving_apart;
     }
   where
@@ -431,7 +445,10 @@ paired_pushed w p = record {
   down = each_push _ w.down event_message p.down refl;
   taken = p.taken;
   once = λ id. omega (arith, count-push (is_coming_under id) w.down event_message, p.once id);
-  waiting = p.waiting; waiting_apart = p.waiting_apart; serving = p.serving; serving_apart = p.serving_apart;
+  waiting = p.waiting;
+  waiting_apart = p.waiting_apart;
+  serving = p.serving;
+  serving_apart = p.serving_apart;
 }
 
 -- ---- a response comes to the client
@@ -505,8 +522,8 @@ paired_freed w m rest r p e coming a alone =
       taken = λ at k there. taken_kept slots id None w.taken at k (λ same. let here = ap (under w.server.slots) same in absurd (cc (here, alone.served, there))) (p.taken at k there);
       once = λ at. let before = subst (λ (d : List (Message (Option Request))). flights w.up w.server.slots d at ≤ 1) e (p.once at) in omega (arith, before);
       waiting =
-        each_weaker _ _ (without (Some r) w.waiting) (λ q h. known_kept slots id None q (λ same. h.1 (same ∙ a.stream)) h.0)
-        (without_known slots (IsKnown slots) (λ q h. h) r w.waiting a.known p.waiting);
+          each_weaker _ _ (without (Some r) w.waiting) (λ q h. known_kept slots id None q (λ same. h.1 (same ∙ a.stream)) h.0)
+          (without_known slots (IsKnown slots) (λ q h. h) r w.waiting a.known p.waiting);
       waiting_apart = pairs_filtered HaveOtherIds (λ q. not (eqb q.ticket.number r.ticket.number)) w.waiting p.waiting_apart;
       serving = each_weaker _ _ w.serving (λ q h. served_kept slots w.server.slots id None q (λ same. let here = ap (under w.server.slots) same in absurd (cc (here, alone.served, h.there))) h) p.serving;
       serving_apart = p.serving_apart;
@@ -517,9 +534,14 @@ paired_came : (w : World) (m : Message (Option Request)) (rest : List (Message (
 paired_came w m rest None p e tagged came coming =
     let same : replied w.client m.seen (reply_to w.client m.seen) ≡ w.client = ap (λ s. replied w.client s (reply_to w.client s)) came in
     subst (λ (c : ClientCore). IsPaired (record w { client = c; down = rest; waiting = w.waiting })) (sym same) (record {
-      up = p.up; down = coming; taken = p.taken;
+      up = p.up;
+      down = coming;
+      taken = p.taken;
       once = λ at. let before = subst (λ (d : List (Message (Option Request))). flights w.up w.server.slots d at ≤ 1) e (p.once at) in omega (arith, before);
-      waiting = p.waiting; waiting_apart = p.waiting_apart; serving = p.serving; serving_apart = p.serving_apart;
+      waiting = p.waiting;
+      waiting_apart = p.waiting_apart;
+      serving = p.serving;
+      serving_apart = p.serving_apart;
     })
 paired_came w m rest (Some r) p e tagged came coming =
     let id = m.seen.stream in
@@ -538,17 +560,17 @@ paired_delivered_down w (m ∷ rest) p e =
 -- whatever stands under an id, marked
 known_marked : (slots : List (Option Open)) (id : ℤ) (r : Request) → IsKnown slots r → IsKnown (put slots id (option_map marked (under slots id))) r
 known_marked slots id r k = elim (cases_int r.ticket.id id) [
-    inl same ↦
-    let here : under slots id ≡ Some k.entry = ap (under slots) (sym same) ∙ k.there in
-    let written = under_put_same slots id (option_map marked (under slots id)) (has_taken slots id k.entry here) in
-    record {
-      entry = marked k.entry;
-      there = ap (under (put slots id (option_map marked (under slots id)))) same ∙ written ∙ ap (option_map marked) here;
-      number = k.number;
-      kind = k.kind;
-    }
+  | inl same ↦
+      let here : under slots id ≡ Some k.entry = ap (under slots) (sym same) ∙ k.there in
+      let written = under_put_same slots id (option_map marked (under slots id)) (has_taken slots id k.entry here) in
+      record {
+        entry = marked k.entry;
+        there = ap (under (put slots id (option_map marked (under slots id)))) same ∙ written ∙ ap (option_map marked) here;
+        number = k.number;
+        kind = k.kind;
+      }
   | inr other ↦ known_kept slots id (option_map marked (under slots id)) r other k
-  ]
+]
 
 coming_marked : (slots : List (Option Open)) (id : ℤ) (s : Signal) (tag : Option Request) → IsComingAs slots s tag → IsComingAs (put slots id (option_map marked (under slots id))) s tag
 coming_marked slots id s None h = h

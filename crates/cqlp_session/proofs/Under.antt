@@ -18,15 +18,15 @@ int_eq_same a = (Decides-int_eq a a).1 refl
 
 pub int_eq_other : (a b : ℤ) → a ≢ b → int_eq a b ≡ false
 int_eq_other a b ne = elim (cases_Bool (int_eq a b)) [
-    inl is ↦ absurd (ne ((Decides-int_eq a b).0 is))
+  | inl is ↦ absurd (ne ((Decides-int_eq a b).0 is))
   | inr isnt ↦ isnt
-  ]
+]
 
 pub cases_int : (a b : ℤ) → (a ≡ b) ⊎ (a ≢ b)
 cases_int a b = elim (cases_Bool (int_eq a b)) [
-    inl is ↦ inl ((Decides-int_eq a b).0 is)
+  | inl is ↦ inl ((Decides-int_eq a b).0 is)
   | inr isnt ↦ inr (λ e. absurd (cc ((Decides-int_eq a b).1 e, isnt)))
-  ]
+]
 
 -- ---- slots
 
@@ -41,9 +41,9 @@ under_put_same slots (negsuc i) what has = absurd (cc has)
 
 pub has_taken : {A : Type 0} (slots : List (Option A)) (id : ℤ) (a : A) → under slots id ≡ Some a → has_slot slots id ≡ true
 has_taken slots (pos i) a e = elim (cases_lt i (length slots)) [
-    inl lt ↦ lt-ltb i (length slots) lt
+  | inl lt ↦ lt-ltb i (length slots) lt
   | inr le ↦ absurd (cc (e, get_or_past slots i None le))
-  ]
+]
 has_taken slots (negsuc i) a e = absurd (cc e)
 
 pub length_put : {A : Type 0} (slots : List (Option A)) (id : ℤ) (what : Option A) → length (put slots id what) ≡ length slots
@@ -84,8 +84,8 @@ each_filtered P p [] h = tt
 each_filtered {X} P p (x ∷ xs) h =
     let rest = each_filtered P p xs h.1 in
     elim (cases_Bool (p x)) [
-      inl is ↦ rw is ((h.0, is), rest)
-    | inr isnt ↦ rw isnt rest
+      | inl is ↦ rw is ((h.0, is), rest)
+      | inr isnt ↦ rw isnt rest
     ]
 
 -- R holds of each element and each later one
@@ -98,8 +98,8 @@ pairs_filtered R p [] h = tt
 pairs_filtered {X} R p (x ∷ xs) h =
     let rest = pairs_filtered R p xs h.1 in
     elim (cases_Bool (p x)) [
-      inl is ↦ rw is (each_weaker _ (R x) (filter p xs) (λ y k. k.0) (each_filtered (R x) p xs h.0), rest)
-    | inr isnt ↦ rw isnt rest
+      | inl is ↦ rw is (each_weaker _ (R x) (filter p xs) (λ y k. k.0) (each_filtered (R x) p xs h.0), rest)
+      | inr isnt ↦ rw isnt rest
     ]
 
 pub all_pairs : {X : Type 0} (R : X → X → Type 0) (xs : List X) → PairsByRecursion R xs → AllPairs R xs
@@ -126,9 +126,9 @@ count_none p (x ∷ xs) h = rw h.0 (omega (arith, count_none p xs h.1))
 pub none_counted : {X : Type 0} (p : X → Bool) (xs : List X) → count p xs ≡ 0 → AllByRecursion (λ x. p x ≡ false) xs
 none_counted p [] e = tt
 none_counted {X} p (x ∷ xs) e = elim (cases_Bool (p x)) [
-    inl is ↦ let one = rw is at e in absurd (omega arith)
+  | inl is ↦ let one = rw is at e in absurd (omega arith)
   | inr isnt ↦ (isnt, none_counted p xs (omega (arith, rw isnt at e)))
-  ]
+]
 
 pub count-set : {X : Type 0} (p : X → Bool) (xs : List X) (i : ℕ) (y d : X) → i < length xs → count p (set xs i y) + cond (p (get_or xs i d)) 1 0 ≡ count p xs + cond (p y) 1 0
 count-set p [] i y d lt = absurd (omega arith)

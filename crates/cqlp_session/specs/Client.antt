@@ -42,10 +42,10 @@ ticket_for c k =
 -- the core after this answer to `begin`
 abbrev pub begun : ClientCore → RequestKind → Result Ticket BeginError → ClientCore
 begun c k (Ok t) = record {
-    phase = phase_begun c.phase k;
-    begun = t.number;
-    slots = put c.slots t.id (Some (record { number = t.number; kind = k; cancelled = false }));
-  }
+  phase = phase_begun c.phase k;
+  begun = t.number;
+  slots = put c.slots t.id (Some (record { number = t.number; kind = k; cancelled = false }));
+}
 begun c k (Err e) = c
 
 -- ---- reply

@@ -37,7 +37,8 @@ impl<A: Allocator> Client<A> {
 
     /// The core of a connection on which nothing was sent yet, with this many stream ids: 1 to 32,768.
     pub fn new(alloc: A, slots: u16) -> Result<Client<A>, SlotsOrMemory>
-        where A: Clone
+    where
+        A: Clone,
         ensures bad_slots { IsErrOf result SlotsOrMemory.BadSlots ↔ ((slots ≡ 0) ⊎ (32768 < slots)) }
         ensures new { IfOk result (λ client. client ≡ new_client slots) }
     {
@@ -58,7 +59,7 @@ impl<A: Allocator> Client<A> {
         self.phase
     }
 
-    #[tactic(auto, using(crate::proofs::Least::least_found, crate::proofs::Least::none_found))]
+    #[tactic(auto, using(crate::proofs::Least::none_found))]
     /// Begins a request: its header is to have the ticket's id.
     pub fn begin(&mut self, kind: RequestKind) -> Result<Ticket, BeginError>
         ensures answer { result ≡ ticket_for self.old kind }

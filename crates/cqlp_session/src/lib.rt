@@ -19,3 +19,6 @@ pub use phase::Phase;
 pub use refusal::SlotsOrMemory;
 pub use server::{AnswerError, Server, ServerRefusal};
 pub use ticket::{BeginError, Reply, Stray, Ticket};
+
+#[cfg(test)]
+mod tests;

@@ -43,7 +43,10 @@ pub(crate) fn put<T: Copy>(slots: &mut [Option<T>], id: i16, what: Option<T>)
 }
 
 /// So many slots, all empty.
-pub(crate) fn empty<T: Copy, A: Allocator>(alloc: A, len: usize) -> Result<Vec<Option<T>, A>, AllocError>
+pub(crate) fn empty<T: Copy, A: Allocator>(
+    alloc: A,
+    len: usize,
+) -> Result<Vec<Option<T>, A>, AllocError>
     ensures { IfOk result (λ slots. slots.items ≡ replicate len None) }
 {
     let mut slots = Vec::with_capacity(alloc, len)?;

@@ -2,9 +2,8 @@
 
 ghost use Rattle.std.specs.Prelude.{◌≡◌, ◌≤◌, ◌<◌, ◌^◌, None, IfOk, IfSome, replicate, length, option_map, pos};
 
-use crate::ids;
 use crate::kind::RequestKind;
-use crate::slots;
+use crate::{ids, slots};
 use std::alloc::{AllocError, Allocator, Global};
 use std::marker::Model;
 
@@ -43,7 +42,8 @@ impl<A: Allocator> Streams<A> {
 
     /// Ids from 0 on, all free.
     pub(crate) fn new(alloc: A, len: u16) -> Result<Streams<A>, AllocError>
-        where A: Clone
+    where
+        A: Clone,
         requires { CountsSlots len }
         ensures { IfOk result (λ streams. streams ≡ replicate len None) }
     {
