@@ -37,25 +37,26 @@ fn ready(alloc: Global, slots: u16) -> Result<Client, Fail> {
     Ok(client)
 }
 
+/// The ticket of a client with one slot.
+fn ticket(number: u64) -> Ticket {
+    Ticket { id: 0, number }
+}
+
 #[test]
 fn client_with_one_slot(rt: HostRuntime) -> Result<(), Fail> {
     let mut client = Client::new(rt.alloc(), 1)?;
-    assert_eq!(rt; client.phase(), Phase::Fresh);
-    let first = Ticket { id: 0, number: 1 };
-    assert_eq!(rt; client.begin(RequestKind::Options), Ok(first));
-    assert!(rt; client.cancel(first));
-    assert!(rt; !client.cancel(first));
+    assert_eq!(rt; client.begin(RequestKind::Options), Ok(ticket(1)));
+    assert!(rt; client.cancel(ticket(1)));
+    assert!(rt; !client.cancel(ticket(1)));
     assert_eq!(rt;
         client.begin(RequestKind::Query),
         Err(BeginError::Phase(Phase::Fresh))
     );
     assert_eq!(rt; client.begin(RequestKind::Options), Err(BeginError::Full));
-    assert_eq!(rt;
-        client.reply(&response(0, Opcode::Supported)),
-        Ok(Reply::Dropped { ticket: first })
-    );
-    let second = Ticket { id: 0, number: 2 };
-    assert_eq!(rt; client.begin(RequestKind::Options), Ok(second));
+    let dropped = Reply::Dropped { ticket: ticket(1) };
+    assert_eq!(rt; client.reply(&response(0, Opcode::Supported)), Ok(dropped));
+
+    assert_eq!(rt; client.begin(RequestKind::Options), Ok(ticket(2)));
     assert_eq!(rt;
         client.reply(&response(0, Opcode::Ready)),
         Err(Stray::WrongOpcode)
@@ -64,37 +65,24 @@ fn client_with_one_slot(rt: HostRuntime) -> Result<(), Fail> {
         client.reply(&response(1, Opcode::Supported)),
         Err(Stray::NoSuchStream)
     );
-    assert_eq!(rt;
-        client.reply(&response(0, Opcode::Supported)),
-        Ok(Reply::Answer {
-            ticket: second,
-            kind: RequestKind::Options
-        })
-    );
-    Ok(())
-}
+    let answer = Reply::Answer {
+        ticket: ticket(2),
+        kind: RequestKind::Options,
+    };
+    assert_eq!(rt; client.reply(&response(0, Opcode::Supported)), Ok(answer));
 
-#[test]
-fn client_sets_up_by_authentication(rt: HostRuntime) -> Result<(), Fail> {
-    let mut client = Client::new(rt.alloc(), 1)?;
-    let startup = client.begin(RequestKind::Startup)?;
-    assert_eq!(rt; startup, Ticket { id: 0, number: 1 });
-    assert!(rt; !client.cancel(startup));
+    assert_eq!(rt; client.begin(RequestKind::Startup), Ok(ticket(3)));
+    assert!(rt; !client.cancel(ticket(3)));
     assert_eq!(rt;
         client.begin(RequestKind::Query),
         Err(BeginError::Phase(Phase::Opening))
     );
     client.reply(&response(0, Opcode::Authenticate))?;
     assert_eq!(rt; client.phase(), Phase::Challenged);
-    let answer = client.begin(RequestKind::AuthResponse)?;
-    assert_eq!(rt; answer, Ticket { id: 0, number: 2 });
-    assert!(rt; !client.cancel(answer));
+    assert_eq!(rt; client.begin(RequestKind::AuthResponse), Ok(ticket(4)));
     client.reply(&response(0, Opcode::AuthSuccess))?;
     assert_eq!(rt; client.phase(), Phase::Ready);
-    assert_eq!(rt;
-        client.begin(RequestKind::Query),
-        Ok(Ticket { id: 0, number: 3 })
-    );
+    assert_eq!(rt; client.begin(RequestKind::Query), Ok(ticket(5)));
     Ok(())
 }
 
@@ -230,7 +218,8 @@ fn each_refused_request_for_memory(rt: HostRuntime) -> Result<(), Fail> {
     let of_server = ample.used();
     drop(server);
 
-    // With one byte less the second request of the client is refused, and with a tenth the first.
+    // The client makes two requests: with a tenth of the bytes the first is refused, with 16 less than all the second.
+    assert!(rt; of_client > 16);
     for size in [of_client / 10, of_client - 16] {
         let heap = LocalHeap::new(rt.alloc(), size)?;
         assert_eq!(rt;
