@@ -6,6 +6,7 @@ ghost use Rattle.std.specs.Bool.{OnFalse};
 use crate::kind::RequestKind;
 use crate::phase::Phase;
 use crate::refusal::SlotsOrMemory;
+use crate::slots;
 use crate::streams::{Open, Streams};
 use crate::ticket::{BeginError, Reply, Stray, Ticket};
 use cqlp_note::{Header, Opcode};
@@ -35,14 +36,15 @@ impl<A: Allocator> Client<A> {
     ghost use Rattle.cqlp_session.specs.Signal.{signal_of};
     ghost use Rattle.cqlp_session.specs.Slots.{IsLeastFree};
 
-    /// The core of a connection on which nothing was sent yet, with this many stream ids: 1 to 32,768.
+    /// The core of a connection on which nothing was sent yet. `slots` is how many requests may be open at a time, 1 to
+    /// 32,768; their stream ids are those below it (section 2.3 of `native_protocol_v4.spec`). All memory is taken here.
     pub fn new(alloc: A, slots: u16) -> Result<Client<A>, SlotsOrMemory>
     where
         A: Clone,
         ensures bad_slots { IsErrOf result SlotsOrMemory.BadSlots ↔ ((slots ≡ 0) ⊎ (32768 < slots)) }
         ensures new { IfOk result (λ client. client ≡ new_client slots) }
     {
-        if slots < 1 || slots > 32_768 {
+        if !(1..=slots::MOST).contains(&slots) {
             return Err(SlotsOrMemory::BadSlots);
         }
         Ok(Client {
@@ -59,8 +61,11 @@ impl<A: Allocator> Client<A> {
         self.phase
     }
 
+    /// Begins a request. Its header is to have the ticket's id, the least that is free.
+    ///
+    /// The first of these refuses it, and changes nothing: `Phase`, where requests of this kind may not begin in the
+    /// phase that stands; `Spent`, where 2^64 - 1 requests have begun; `Full`, where each id is taken.
     #[tactic(auto, using(crate::proofs::Least::none_found))]
-    /// Begins a request: its header is to have the ticket's id.
     pub fn begin(&mut self, kind: RequestKind) -> Result<Ticket, BeginError>
         ensures answer { result ≡ ticket_for self.old kind }
         ensures after { self.new ≡ begun self.old kind result }
@@ -93,7 +98,12 @@ impl<A: Allocator> Client<A> {
         Ok(Ticket { id, number })
     }
 
-    /// Takes the header of a message that came. A reply frees its request's id.
+    /// Takes the header of a message that came. A reply frees its request's id. Section 4.2 of
+    /// `native_protocol_v4.spec`.
+    ///
+    /// An EVENT response with a negative id is no reply. Of any other message, the first of these refuses it, and
+    /// changes nothing: `NotResponse`, for a request; `NoSuchStream`, where no request is open under its id;
+    /// `WrongOpcode`, where it does not answer requests of that kind.
     pub fn reply(&mut self, header: &Header) -> Result<Reply, Stray>
         ensures answer { result ≡ reply_to self.old (signal_of header.now) }
         ensures after { self.new ≡ replied self.old (signal_of header.now) result }
@@ -134,8 +144,8 @@ impl<A: Allocator> Client<A> {
         })
     }
 
-    /// Gives up a request that waits for its reply, unless it is a STARTUP or an AUTH_RESPONSE. Its id stays taken
-    /// until its reply comes.
+    /// Gives up a request that waits for its reply, and was not given up before, unless it is a STARTUP or an
+    /// AUTH_RESPONSE; else changes nothing. Its id stays taken until its reply comes.
     pub fn cancel(&mut self, ticket: Ticket) -> bool
         ensures answer { result ≡ cancels self.old ticket }
         ensures after { self.new ≡ cancelled self.old ticket result }
@@ -148,9 +158,8 @@ impl<A: Allocator> Client<A> {
             return false;
         }
         let open = Open {
-            number: open.number,
-            kind: open.kind,
             cancelled: true,
+            ..open
         };
         self.streams.put(ticket.id, Some(open));
         true

@@ -53,12 +53,13 @@ impl<A: Allocator> Server<A> {
     ghost use Rattle.cqlp_session.specs.Server.{accept_of, accepted, answer_of, answered, new_server};
     ghost use Rattle.cqlp_session.specs.Signal.{signal_of};
 
-    /// The core of a connection on which nothing came yet, with this many stream ids: 1 to 32,768.
+    /// The core of a connection on which nothing came yet. `slots` is how many requests may be open at a time, 1 to
+    /// 32,768; their stream ids are those below it (section 2.3 of `native_protocol_v4.spec`). All memory is taken here.
     pub fn new(alloc: A, slots: u16) -> Result<Server<A>, SlotsOrMemory>
         ensures bad_slots { IsErrOf result SlotsOrMemory.BadSlots ↔ ((slots ≡ 0) ⊎ (32768 < slots)) }
         ensures new { IfOk result (λ server. server ≡ new_server slots) }
     {
-        if slots < 1 || slots > 32_768 {
+        if !(1..=slots::MOST).contains(&slots) {
             return Err(SlotsOrMemory::BadSlots);
         }
         Ok(Server {
@@ -74,7 +75,12 @@ impl<A: Allocator> Server<A> {
         self.phase
     }
 
-    /// Takes the header of a message that came. A request's id is taken until it is answered.
+    /// Takes the header of a request that came. Its id is taken until it is answered. Section 4.1 of
+    /// `native_protocol_v4.spec`.
+    ///
+    /// The first of these refuses it, and changes nothing: `NotRequest`, for a response, and for an opcode that is no
+    /// request's; `BadId`, for an id that is negative or not below the number of slots; `IdTaken`, where a request is
+    /// open under it; `Phase`, where requests of this kind may not begin in the phase that stands.
     pub fn accept(&mut self, header: &Header) -> Result<RequestKind, ServerRefusal>
         ensures answer { result ≡ accept_of self.old (signal_of header.now) }
         ensures after { self.new ≡ accepted self.old (signal_of header.now) result }
@@ -107,7 +113,11 @@ impl<A: Allocator> Server<A> {
         Ok(kind)
     }
 
-    /// Answers the request under this id by a message with this opcode, which frees the id.
+    /// Answers the request that is open under this id by a message with this opcode, and frees the id. Section 4.2 of
+    /// `native_protocol_v4.spec`.
+    ///
+    /// The first of these refuses it, and changes nothing: `NotTaken`, where no request is open under the id;
+    /// `WrongOpcode`, where the opcode does not answer requests of that kind.
     pub fn answer(&mut self, id: i16, opcode: Opcode) -> Result<RequestKind, AnswerError>
         ensures answer { result ≡ answer_of self.old id opcode }
         ensures after { self.new ≡ answered self.old id opcode result }

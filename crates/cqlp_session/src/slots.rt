@@ -5,6 +5,9 @@ ghost use Rattle.cqlp_session.specs.Slots.{has_slot, index_of, put, under};
 
 use std::alloc::{AllocError, Allocator};
 
+/// The most stream ids that a connection has. Section 2.3 of `native_protocol_v4.spec`.
+pub(crate) const MOST: u16 = 32_768;
+
 /// The place of a stream id, which is negative for none.
 pub(crate) fn index_of(id: i16) -> Option<usize>
     ensures { result ≡ index_of id }
