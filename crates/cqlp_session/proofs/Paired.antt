@@ -206,6 +206,10 @@ taken_kept slots id what taken at k ne t = record {
 served_kept : (slots : List (Option Open)) (served : List (Option RequestKind)) (id : ℤ) (what : Option Open) (r : Request) → r.ticket.id ≢ id → IsServed slots served r → IsServed (put slots id what) served r
 served_kept slots served id what r ne s = record { known = known_kept slots id what r ne s.known; kind = s.kind; there = s.there }
 
+-- a server's slot that is written under another id
+served_written : (slots : List (Option Open)) (served : List (Option RequestKind)) (id : ℤ) (what : Option RequestKind) (r : Request) → r.ticket.id ≢ id → IsServed slots served r → IsServed slots (put served id what) r
+served_written slots served id what r ne s = record { known = s.known; kind = s.kind; there = under_put_other served id r.ticket.id what ne ∙ s.there }
+
 flights_sent : (up : List (Message Request)) (served : List (Option RequestKind)) (down : List (Message (Option Request))) (r : Request) (id : ℤ) → flights (up ++ request_message r ∷ []) served down id ≡ flights up served down id + cond (int_eq r.ticket.id id) 1 0
 flights_sent up served down r id = omega (arith, count-push (is_sent_under id) up (request_message r))
 
@@ -333,7 +337,7 @@ paired_accepted w m rest k p e sent found =
       waiting_apart = p.waiting_apart;
       serving = (
         record { known = sent.known; kind = k; there = subst (λ (i : ℤ). under (put served at (Some k)) i ≡ Some k) stream (under_put_same served at (Some k) found.has) },
-        each_weaker _ _ w.serving (λ q h. record { known = h.known; kind = h.kind; there = under_put_other served at q.ticket.id (Some k) (λ e. let same = ap (under served) e in absurd (cc (same, h.there, found.free))) ∙ h.there }) p.serving,
+        each_weaker _ _ w.serving (λ q h. served_written w.client.slots served at (Some k) q (λ e. let same = ap (under served) e in absurd (cc (same, h.there, found.free))) h) p.serving,
       );
       serving_apart = (each_weaker _ _ w.serving (λ q h e. let same = ap (under served) (stream ∙ e) in absurd (cc (same, h.there, found.free))) p.serving, p.serving_apart);
     }
@@ -401,7 +405,7 @@ paired_answered w id o k (Some r) t p e found =
       up = p.up;
       down = each_push _ w.down m p.down (record { response = refl; stream = sym stream; fits = ap (λ k. answers k o) kinds ∙ found.fits; known = known });
       taken = λ at j there. elim (cases_int at id) [
-        | inl same ↦ let here = ap (under (put served id None)) same in absurd (cc (here, freed, there))
+        | inl same ↦ absurd (cc (freed, there))
         | inr other ↦ p.taken at j (sym (under_put_other served id at None other) ∙ there)
       ];
       once = λ at.
@@ -421,7 +425,7 @@ paired_answered w id o k (Some r) t p e found =
       waiting_apart = p.waiting_apart;
       serving =
           each_weaker _ _ (without (Some r) w.serving)
-          (λ q h. record { known = h.0.known; kind = h.0.kind; there = under_put_other served id q.ticket.id None (λ e. h.1 (e ∙ sym stream)) ∙ h.0.there })
+          (λ q h. served_written w.client.slots served id None q (λ e. h.1 (e ∙ sym stream)) h.0)
           (without_known w.client.slots (IsServed w.client.slots served) (λ q h. h.known) r w.serving known p.serving);
       serving_apart = pairs_filtered HaveOtherIds (λ q. not (eqb q.ticket.number r.ticket.number)) w.serving p.serving_apart;
     }
