@@ -1,10 +1,10 @@
 -- The phases of two cores, where the server has at least as many slots as the client: what is on its way is what its
 -- receiver waits for.
-use Rattle.std.proofs.Common.{◌≡◌, ◌≢◌, ℕ, ◌+◌, ◌<◌, ◌≤◌, Bool, true, false, not, List, [], ◌∷◌, ◌++◌, zero, suc, Option, Some, None, Ok, Err, Result, length, get_or, set, replicate, cond, arith, refl, ap, ◌∙◌, sym, subst, inl, inr, ℤ, pos, negsuc}
-use Rattle.std.specs.Prelude.{is_none, nat_lt, IsOk, option_map}
+use Rattle.std.proofs.Common.{◌≡◌, ℕ, ◌+◌, ◌<◌, ◌≤◌, Bool, true, false, List, [], ◌∷◌, ◌++◌, zero, suc, Option, Some, None, Ok, Err, Result, length, replicate, cond, arith, refl, ap, ◌∙◌, sym, subst, inl, inr, ℤ, pos, negsuc}
+use Rattle.std.specs.Prelude.{is_none, IsOk, option_map}
 use Rattle.std.specs.List.{AllByRecursion}
-use Rattle.std.proofs.lemmas.Bool.{cases_Bool, lt-ltb, ltb-true, cases_lt}
-use Rattle.std.proofs.lemmas.List.{length-replicate, get_or_past}
+use Rattle.std.proofs.lemmas.Bool.{cases_Bool, lt-ltb, ltb-true}
+use Rattle.std.proofs.lemmas.List.{length-replicate}
 use Rattle.cqlp_note.specs.declared.opcode.Opcode.{Opcode}
 use Rattle.cqlp_note.specs.declared.opcode.Opcode.TheVariants as opcode
 use Rattle.cqlp_session.specs.declared.kind.RequestKind.{RequestKind}
@@ -16,17 +16,17 @@ use Rattle.cqlp_session.specs.declared.ticket.Ticket.{Ticket}
 use Rattle.cqlp_session.specs.declared.ticket.BeginError.{BeginError}
 use Rattle.cqlp_session.specs.declared.server.ServerRefusal.{ServerRefusal}
 use Rattle.cqlp_session.specs.declared.server.AnswerError.{AnswerError}
-use Rattle.cqlp_session.specs.Kind.{answers, is_handshake, kind_of, opcode_of}
+use Rattle.cqlp_session.specs.Kind.{answers, is_handshake, kind_of}
 use Rattle.cqlp_session.specs.Phase.{may_begin, phase_begun, phase_answered}
 use Rattle.cqlp_session.specs.Signal.{Signal}
 use Rattle.cqlp_session.specs.Slots.{has_slot, put, put as put_at, under}
-use Rattle.cqlp_session.specs.Client.{ClientCore, begun, cancelled, cancels, is_cancellable, marked, replied, reply_to, ticket_for}
-use Rattle.cqlp_session.specs.Server.{ServerCore, accept_kind, accept_of, accepted, answer_of, answered}
+use Rattle.cqlp_session.specs.Client.{ClientCore, cancelled, cancels, is_cancellable, marked, replied, reply_to, ticket_for}
+use Rattle.cqlp_session.specs.Server.{ServerCore, accept_of, answer_of}
 use Rattle.cqlp_session.specs.World.{World, Step, Send, Deliver_up, Answer, Push, Deliver_down, Cancel, Request, Message, request_message, answer_message, event_message, sent, taken_in, delivered_up, last_under, without, responded, delivered_down, happens, run, start}
 use Rattle.cqlp_session.specs.Pairing.{IfNext, NoneIsRefused}
 use Rattle.cqlp_session.proofs.Sentences.{replies_taken}
-use Rattle.cqlp_session.proofs.Under.{int_eq_same, each_weaker, count, count-push, count-set, has_taken, length_put, under_put_same}
-use Rattle.cqlp_session.proofs.Paired.{IsAccepted, IsAnswered, IsAnswerTo, IsComing, IsComingAs, IsKnown, IsPaired, IsSent, IsTaken, absent, accept_found, answer_found, freed, is_sent_under, kind_of_opcode, paired_happens, present, replied_freed, ticket_free, ticket_may, flights}
+use Rattle.cqlp_session.proofs.Under.{int_eq_same, count, count-set, has_taken, length_put}
+use Rattle.cqlp_session.proofs.Paired.{IsAccepted, IsAnswered, IsComing, IsComingAs, IsKnown, IsPaired, IsSent, IsTaken, absent, answer_found, kind_of_opcode, paired_happens, replied_freed, ticket_found, ticket_may, flights}
 
 -- ---- phases
 
@@ -196,7 +196,7 @@ in_step_sent w k (Ok t) p s is =
     let slots = w.client.slots in
     let phase = w.client.phase in
     let may = ticket_may w.client k t is in
-    let at = ticket_free w.client k t is in
+    let at = ticket_found w.client k t is in
     let quiet : count is_busy slots ≡ 0 = s.client_opening ∙ (opening_begun phase k may).0 in
     let still = λ (q : Phase). quiet_replies slots q w.down quiet p.down in
     let front : accepts_all w.server.phase w.up ≡ phase = s.same ∙ still phase in

@@ -1,12 +1,12 @@
 -- The least id that is free.
-use Rattle.std.proofs.Common.{◌≡◌, ℕ, ◌<◌, ◌≤◌, Bool, true, false, List, Option, Some, None, length, get_or, cond, arith, refl, ap, ◌∙◌, sym, subst, inl, inr, ℤ, pos}
-use Rattle.std.specs.Prelude.{All, IsSome, is_none, is_some, option_map, position, nat_lt, ◌<ℤ◌}
+use Rattle.std.proofs.Common.{◌≡◌, ℕ, false, List, Option, Some, None, length, get_or, arith, refl, subst, inl, inr, ℤ, pos}
+use Rattle.std.specs.Prelude.{All, IsSome, is_none, option_map, nat_lt}
 use Rattle.std.specs.List.{position_or_len}
 use Rattle.std.proofs.lemmas.Int.{ints}
 use Rattle.std.proofs.lemmas.Bool.{cases_Bool, ltb-false}
 use Rattle.std.proofs.lemmas.List.Sums.{fails_before_first}
 use Rattle.std.proofs.lemmas.List.Quantifiers.{position-Some}
-use Rattle.cqlp_session.specs.Slots.{IsLeastFree, least_free, under}
+use Rattle.cqlp_session.specs.Slots.{IsLeastFree, least_free}
 use Rattle.cqlp_session.proofs.Under.{least_is_free}
 
 some_is : {A : Type 0} (o : Option A) → is_none o ≡ false → IsSome o

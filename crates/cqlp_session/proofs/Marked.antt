@@ -1,12 +1,12 @@
 -- Which ids the bits tell to be free.
-use Rattle.std.proofs.Common.{◌≡◌, ◌≢◌, ℕ, ◌+◌, ◌-◌, ◌*◌, ◌/◌, ◌%◌, ◌^◌, ◌<◌, ◌≤◌, Bool, true, false, List, Option, Some, None, length, get_or, set, take, drop, ◌++◌, replicate, cond, arith, refl, ap, ◌∙◌, sym, inl, inr, get_or-set_same, get_or-set_other, ltb}
-use Rattle.std.specs.Prelude.{is_none, position}
+use Rattle.std.proofs.Common.{◌≡◌, ℕ, ◌+◌, ◌-◌, ◌/◌, ◌%◌, ◌^◌, ◌<◌, Bool, true, false, List, Option, Some, None, length, get_or, set, take, drop, ◌++◌, replicate, cond, arith, refl, ap, ◌∙◌, sym, inl, inr, get_or-set_same, get_or-set_other}
+use Rattle.std.specs.Prelude.{is_none}
 use Rattle.std.proofs.lemmas.List.{length-set, length-replicate, get_or-replicate, get_or_past, take_at}
 use Rattle.std.proofs.lemmas.List.Sums.{position_or_len_is}
 use Rattle.std.proofs.lemmas.Bool.{cases_lt, cases_eq, lt-ltb, le-ltb}
 use Rattle.std.proofs.lemmas.Nat.Bits.{bit_at_ones}
 use Rattle.std.specs.Int.{bit_at}
-use Rattle.cqlp_session.specs.Ids.{IsFirstBit, NoBit, bit_under, WithBit, Marks, all_ones}
+use Rattle.cqlp_session.specs.Ids.{IsFirstBit, bit_under, WithBit, Marks, all_ones}
 use Rattle.cqlp_session.specs.Slots.{least_free}
 
 bit_one : (b : Bool) → ◌≡◌ {A = ℕ} (cond b 1 0) 1 → b ≡ true

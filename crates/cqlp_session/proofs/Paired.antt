@@ -1,10 +1,10 @@
 -- What stands of a world after each step: each request that is anywhere between the cores stands once, and stands in
 -- its slot of the client.
-use Rattle.std.proofs.Common.{◌≡◌, ◌≢◌, ℕ, ◌+◌, ◌<◌, ◌≤◌, Bool, true, false, not, List, [], ◌∷◌, ◌++◌, Option, Some, None, Ok, Err, Result, length, cond, arith, refl, ap, ◌∙◌, sym, subst, inl, inr, ◌⊎◌, ℤ, pos, negsuc, eqb}
-use Rattle.std.specs.Prelude.{◌^◌, ◌-◌, is_none, option_map, filter, find, nat_lt}
+use Rattle.std.proofs.Common.{◌≡◌, ◌≢◌, ℕ, ◌+◌, ◌≤◌, Bool, true, false, not, List, [], ◌∷◌, ◌++◌, Option, Some, None, Ok, Err, Result, cond, arith, refl, ap, ◌∙◌, sym, subst, inl, inr, ℤ, pos, eqb}
+use Rattle.std.specs.Prelude.{◌^◌, ◌-◌, is_none, option_map, nat_lt}
 use Rattle.std.specs.List.{AllByRecursion}
 use Rattle.std.specs.Ordering.{int_eq}
-use Rattle.std.proofs.lemmas.Bool.{cases_Bool, eq-eqb, cond-true, cond-false}
+use Rattle.std.proofs.lemmas.Bool.{cases_Bool, eq-eqb}
 use Rattle.cqlp_note.specs.declared.opcode.Opcode.{Opcode}
 use Rattle.cqlp_note.specs.declared.opcode.Opcode.TheVariants as opcode
 use Rattle.cqlp_session.specs.declared.kind.RequestKind.{RequestKind}
@@ -13,7 +13,6 @@ use Rattle.cqlp_session.specs.declared.streams.Open.{Open}
 use Rattle.cqlp_session.specs.declared.ticket.Ticket.{Ticket}
 use Rattle.cqlp_session.specs.declared.ticket.Reply.{Reply}
 use Rattle.cqlp_session.specs.declared.ticket.Reply.TheVariants as reply
-use Rattle.cqlp_session.specs.declared.ticket.Stray.{Stray}
 use Rattle.cqlp_session.specs.declared.ticket.BeginError.{BeginError}
 use Rattle.cqlp_session.specs.declared.server.ServerRefusal.{ServerRefusal}
 use Rattle.cqlp_session.specs.declared.server.AnswerError.{AnswerError}
@@ -21,10 +20,10 @@ use Rattle.cqlp_session.specs.Kind.{answers, kind_of, opcode_of}
 use Rattle.cqlp_session.specs.Phase.{may_begin, phase_answered}
 use Rattle.cqlp_session.specs.Signal.{Signal, is_event}
 use Rattle.cqlp_session.specs.Slots.{has_slot, least_free, put, under}
-use Rattle.cqlp_session.specs.Client.{ClientCore, begun, cancelled, cancels, closed, is_cancellable, marked, replied, reply_for, reply_to, ticket_for, ticket_under}
-use Rattle.cqlp_session.specs.Server.{ServerCore, accept_kind, accept_of, accepted, answer_for, answer_of, answered}
+use Rattle.cqlp_session.specs.Client.{ClientCore, cancelled, cancels, closed, marked, replied, reply_to, ticket_for, ticket_under}
+use Rattle.cqlp_session.specs.Server.{ServerCore, accept_kind, accept_of, answer_for, answer_of, answered}
 use Rattle.cqlp_session.specs.World.{World, Step, Send, Deliver_up, Answer, Push, Deliver_down, Cancel, Request, Message, request_message, answer_message, event_message, sent, taken_in, delivered_up, last_under, without, responded, delivered_down, happens, run, start}
-use Rattle.cqlp_session.specs.Pairing.{HaveOtherIds}
+use Rattle.cqlp_session.specs.Pairing.{HaveOtherIds, HaveOtherNumbers}
 use Rattle.cqlp_session.proofs.Under.{int_eq_same, int_eq_other, cases_int, under_put_other, under_put_same, has_taken, least_is_free, under_new, each_weaker, each_both, each_push, each_filtered, PairsByRecursion, pairs_filtered, count, count-push, count_none, none_counted}
 
 -- ---- a request and its slot
@@ -107,6 +106,8 @@ pub record IsPaired (w : World) : Type 0 where
   pub once : (id : ℤ) → flights w.up w.server.slots w.down id ≤ 1
   pub waiting : AllByRecursion (IsKnown w.client.slots) w.waiting
   pub waiting_apart : PairsByRecursion HaveOtherIds w.waiting
+  pub numbers : AllByRecursion (λ r. r.ticket.number ≤ w.client.begun) w.waiting
+  pub numbers_apart : PairsByRecursion HaveOtherNumbers w.waiting
   pub serving : AllByRecursion (IsServed w.client.slots w.server.slots) w.serving
   pub serving_apart : PairsByRecursion HaveOtherIds w.serving
 
@@ -118,33 +119,33 @@ start_paired c s = record {
   once = λ id. rw (ap present (under_new {A = RequestKind} s id)) (omega arith);
   waiting = tt;
   waiting_apart = tt;
+  numbers = tt;
+  numbers_apart = tt;
   serving = tt;
   serving_apart = tt;
 }
 
 -- ---- a request begins
 
--- what a ticket says: its id was free
-pub record IsFreeId (slots : List (Option Open)) (id : ℤ) : Type 0 where
-  pub has : has_slot slots id ≡ true
-  pub free : under slots id ≡ None
+-- what a ticket says: its id was free, and its number is the next
+pub record IsTicket (c : ClientCore) (t : Ticket) : Type 0 where
+  pub has : has_slot c.slots t.id ≡ true
+  pub free : under c.slots t.id ≡ None
+  pub number : t.number ≡ c.begun + 1
 
-ticket_under_free : (c : ClientCore) (number : ℕ) (place : Option ℕ) (t : Ticket) → least_free c.slots ≡ place → ticket_under number place ≡ Ok t → IsFreeId c.slots t.id
-ticket_under_free c number None t e is = cc is
-ticket_under_free c number (Some i) t e is =
+ticket_under_found : (c : ClientCore) (place : Option ℕ) (t : Ticket) → least_free c.slots ≡ place → ticket_under (c.begun + 1) place ≡ Ok t → IsTicket c t
+ticket_under_found c None t e is = absurd (cc is)
+ticket_under_found c (Some i) t e is =
     let at = least_is_free c.slots i e in
-    let id : pos i ≡ t.id = ap (λ (t : Ticket). t.id) (ok_same is) in
-    subst (IsFreeId c.slots) id (record { has = at.0; free = at.1 })
-  where
-    ok_same : {a b : Ticket} → ◌≡◌ {A = Result Ticket BeginError} (Ok a) (Ok b) → a ≡ b
-    ok_same e = cc
+    let same : ◌≡◌ {A = Ticket} (record { id = pos i; number = c.begun + 1 }) t = cc is in
+    subst (IsTicket c) same (record { has = at.0; free = at.1; number = refl })
 
-pub ticket_free : (c : ClientCore) (k : RequestKind) (t : Ticket) → ticket_for c k ≡ Ok t → IsFreeId c.slots t.id
-ticket_free c k t is = elim (cases_Bool (may_begin c.phase k)) [
+pub ticket_found : (c : ClientCore) (k : RequestKind) (t : Ticket) → ticket_for c k ≡ Ok t → IsTicket c t
+ticket_found c k t is = elim (cases_Bool (may_begin c.phase k)) [
   | inl may ↦
       let then = rw may at is in
       elim (cases_Bool (nat_lt c.begun (2 ^ 64 - 1))) [
-        | inl left ↦ ticket_under_free c (c.begun + 1) (least_free c.slots) t refl (rw left at then)
+        | inl left ↦ ticket_under_found c (least_free c.slots) t refl (rw left at then)
         | inr spent ↦ absurd (cc (rw spent at then))
       ]
   | inr not ↦ absurd (cc (rw not at is))
@@ -230,7 +231,7 @@ paired_sent : (w : World) (k : RequestKind) (o : Result Ticket BeginError) → I
 paired_sent w k (Err e) p is = p
 paired_sent w k (Ok t) p is =
     let slots = w.client.slots in
-    let at = ticket_free w.client k t is in
+    let at = ticket_found w.client k t is in
     let entry : Open = record { number = t.number; kind = k; cancelled = false } in
     let r : Request = record { ticket = t; kind = k } in
     let known : IsKnown (put slots t.id (Some entry)) r = record { entry = entry; there = under_put_same slots t.id (Some entry) at.has; number = refl; kind = refl } in
@@ -242,6 +243,8 @@ paired_sent w k (Ok t) p is =
       once = once_sent w r p at.free;
       waiting = (known, each_weaker _ _ w.waiting (λ q h. known_kept slots t.id (Some entry) q (apart q h) h) p.waiting);
       waiting_apart = (each_weaker _ _ w.waiting (λ q h e. apart q h (sym e)) p.waiting, p.waiting_apart);
+      numbers = (omega arith, each_weaker _ _ w.waiting (λ q h. omega (arith, h, at.number)) p.numbers);
+      numbers_apart = (each_weaker _ _ w.waiting (λ q h e. absurd (omega (arith, h, at.number, e))) p.numbers, p.numbers_apart);
       serving = each_weaker _ _ w.serving (λ q h. served_kept slots w.server.slots t.id (Some entry) q (apart q h.known) h) p.serving;
       serving_apart = p.serving_apart;
     }
@@ -335,6 +338,8 @@ paired_accepted w m rest k p e sent found =
           ];
       waiting = p.waiting;
       waiting_apart = p.waiting_apart;
+      numbers = p.numbers;
+      numbers_apart = p.numbers_apart;
       serving = (
         record { known = sent.known; kind = k; there = subst (λ (i : ℤ). under (put served at (Some k)) i ≡ Some k) stream (under_put_same served at (Some k) found.has) },
         each_weaker _ _ w.serving (λ q h. served_written w.client.slots served at (Some k) q (λ e. let same = ap (under served) e in absurd (cc (same, h.there, found.free))) h) p.serving,
@@ -353,6 +358,8 @@ paired_taken w m rest (Err x) p e is = record {
   once = λ id. let before = subst (λ (u : List (Message Request)). flights u w.server.slots w.down id ≤ 1) e (p.once id) in omega (arith, before);
   waiting = p.waiting;
   waiting_apart = p.waiting_apart;
+  numbers = p.numbers;
+  numbers_apart = p.numbers_apart;
   serving = p.serving;
   serving_apart = p.serving_apart;
 }
@@ -423,6 +430,8 @@ paired_answered w id o k (Some r) t p e found =
           ];
       waiting = p.waiting;
       waiting_apart = p.waiting_apart;
+      numbers = p.numbers;
+      numbers_apart = p.numbers_apart;
       serving =
           each_weaker _ _ (without (Some r) w.serving)
           (λ q h. served_written w.client.slots served id None q (λ e. h.1 (e ∙ sym stream)) h.0)
@@ -451,6 +460,8 @@ paired_pushed w p = record {
   once = λ id. omega (arith, count-push (is_coming_under id) w.down event_message, p.once id);
   waiting = p.waiting;
   waiting_apart = p.waiting_apart;
+  numbers = p.numbers;
+  numbers_apart = p.numbers_apart;
   serving = p.serving;
   serving_apart = p.serving_apart;
 }
@@ -529,6 +540,8 @@ paired_freed w m rest r p e coming a alone =
           each_weaker _ _ (without (Some r) w.waiting) (λ q h. known_kept slots id None q (λ same. h.1 (same ∙ a.stream)) h.0)
           (without_known slots (IsKnown slots) (λ q h. h) r w.waiting a.known p.waiting);
       waiting_apart = pairs_filtered HaveOtherIds (λ q. not (eqb q.ticket.number r.ticket.number)) w.waiting p.waiting_apart;
+      numbers = each_weaker _ _ (without (Some r) w.waiting) (λ q h. h.0) (each_filtered _ (λ q. not (eqb q.ticket.number r.ticket.number)) w.waiting p.numbers);
+      numbers_apart = pairs_filtered HaveOtherNumbers (λ q. not (eqb q.ticket.number r.ticket.number)) w.waiting p.numbers_apart;
       serving = each_weaker _ _ w.serving (λ q h. served_kept slots w.server.slots id None q (λ same. let here = ap (under w.server.slots) same in absurd (cc (here, alone.served, h.there))) h) p.serving;
       serving_apart = p.serving_apart;
     }
@@ -544,6 +557,8 @@ paired_came w m rest None p e tagged came coming =
       once = λ at. let before = subst (λ (d : List (Message (Option Request))). flights w.up w.server.slots d at ≤ 1) e (p.once at) in omega (arith, before);
       waiting = p.waiting;
       waiting_apart = p.waiting_apart;
+      numbers = p.numbers;
+      numbers_apart = p.numbers_apart;
       serving = p.serving;
       serving_apart = p.serving_apart;
     })
@@ -591,6 +606,8 @@ paired_cancelled w t true p =
       once = p.once;
       waiting = each_weaker _ _ w.waiting (λ q h. known_marked slots t.id q h) p.waiting;
       waiting_apart = p.waiting_apart;
+      numbers = p.numbers;
+      numbers_apart = p.numbers_apart;
       serving = each_weaker _ _ w.serving (λ q h. record { known = known_marked slots t.id q h.known; kind = h.kind; there = h.there }) p.serving;
       serving_apart = p.serving_apart;
     }

@@ -1,9 +1,8 @@
 -- What a world says of its next steps.
-use Rattle.std.proofs.Common.{◌≡◌, ◌≢◌, ℕ, Bool, true, false, List, [], ◌∷◌, Option, Some, None, Ok, Err, Result, cond, refl, ap, ◌∙◌, sym, subst, ℤ}
+use Rattle.std.proofs.Common.{◌≡◌, ◌≢◌, Bool, true, false, List, [], ◌∷◌, Option, Some, None, Ok, Err, Result, cond, refl, ap, ◌∙◌, sym, subst}
 use Rattle.std.specs.Prelude.{All, IfOk, IsOk}
 use Rattle.std.proofs.lemmas.List.Elements.{All-from_recursion}
 use Rattle.std.specs.List.{AllByRecursion}
-use Rattle.cqlp_note.specs.declared.opcode.Opcode.{Opcode}
 use Rattle.cqlp_note.specs.declared.opcode.Opcode.TheVariants as opcode
 use Rattle.cqlp_session.specs.declared.kind.RequestKind.{RequestKind}
 use Rattle.cqlp_session.specs.declared.streams.Open.{Open}
@@ -12,13 +11,12 @@ use Rattle.cqlp_session.specs.declared.ticket.Reply.{Reply}
 use Rattle.cqlp_session.specs.declared.ticket.Reply.TheVariants as reply
 use Rattle.cqlp_session.specs.declared.ticket.Stray.{Stray}
 use Rattle.cqlp_session.specs.declared.ticket.BeginError.{BeginError}
-use Rattle.cqlp_session.specs.Kind.{answers}
 use Rattle.cqlp_session.specs.Signal.{Signal, is_event}
 use Rattle.cqlp_session.specs.Client.{ClientCore, reply_to, replied, ticket_for}
-use Rattle.cqlp_session.specs.World.{World, Deliver_down, Request, Message, delivered_down, event_message, happens}
-use Rattle.cqlp_session.specs.Pairing.{EventsChangeNothing, HaveOtherIds, IdsAreApart, IfNext, IsEventAlone, IsReplyAbout, RepliesArePaired}
+use Rattle.cqlp_session.specs.World.{World, Request, Message, delivered_down, event_message}
+use Rattle.cqlp_session.specs.Pairing.{EventsChangeNothing, HaveOtherIds, HaveOtherNumbers, IdsAreApart, IfNext, IsEventAlone, IsReplyAbout, RepliesArePaired}
 use Rattle.cqlp_session.proofs.Under.{all_pairs, each_weaker}
-use Rattle.cqlp_session.proofs.Paired.{IsAnswerTo, IsComing, IsComingAs, IsKnown, IsPaired, known_apart, no_event, reply_told, ticket_free, told}
+use Rattle.cqlp_session.proofs.Paired.{IsComing, IsComingAs, IsPaired, known_apart, no_event, reply_told, ticket_found}
 
 -- ---- the next reply
 
@@ -63,13 +61,14 @@ events_alone w p = next_event w w.down refl p.down
 
 next_ticket : (w : World) (k : RequestKind) (o : Result Ticket BeginError) → IsPaired w → ticket_for w.client k ≡ o → IfOk o (λ t. All (λ r. r.ticket.id ≢ t.id) w.waiting)
 next_ticket w k (Ok t) p e =
-    let free = ticket_free w.client k t e in
+    let free = ticket_found w.client k t e in
     All-from_recursion (λ r. r.ticket.id ≢ t.id) w.waiting (each_weaker _ _ w.waiting (λ r h. known_apart w.client.slots t.id r free.free h) p.waiting)
 next_ticket w k (Err x) p e = tt
 
 pub ids_apart : (w : World) → IsPaired w → IdsAreApart w
 ids_apart w p = record {
   waiting = all_pairs HaveOtherIds w.waiting p.waiting_apart;
+  numbers = all_pairs HaveOtherNumbers w.waiting p.numbers_apart;
   serving = all_pairs HaveOtherIds w.serving p.serving_apart;
   next = λ k. next_ticket w k (ticket_for w.client k) p refl;
 }

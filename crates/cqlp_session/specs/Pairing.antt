@@ -1,5 +1,5 @@
 -- What holds of two cores that talk over one connection, whatever the steps.
-use Rattle.std.specs.Prelude.{◌≡◌, ◌≢◌, ℕ, ◌≤◌, true, false, List, [], ◌∷◌, All, AllPairs, Option, Some, None, IsSomeAnd, Result, Ok, Err, IsOk, IfOk, ⊤}
+use Rattle.std.specs.Prelude.{◌≡◌, ◌≢◌, ℕ, List, [], ◌∷◌, All, AllPairs, Option, Some, None, IsSomeAnd, Result, Ok, Err, IsOk, IfOk, ⊤}
 use Rattle.cqlp_note.specs.declared.opcode.Opcode.TheVariants.{Event}
 use Rattle.cqlp_session.specs.declared.kind.RequestKind.{RequestKind}
 use Rattle.cqlp_session.specs.declared.kind.RequestKind.TheVariants as kind
@@ -38,10 +38,14 @@ EventsChangeNothing w = IfNext w.down (λ m. m.seen.opcode ≡ Event → IsEvent
 abbrev pub HaveOtherIds : Request → Request → Type 0
 HaveOtherIds r q = r.ticket.id ≢ q.ticket.id
 
--- No two requests that wait for their reply have the same id, and no two that the server is to answer. An id isn't
--- given out while a request waits under it, be it cancelled or not.
+abbrev pub HaveOtherNumbers : Request → Request → Type 0
+HaveOtherNumbers r q = r.ticket.number ≢ q.ticket.number
+
+-- No two requests that wait for their reply have the same id, or the same number, and no two that the server is to
+-- answer have the same id. An id isn't given out while a request waits under it, be it cancelled or not.
 pub record IdsAreApart (w : World) : Type 0 where
   pub waiting : AllPairs HaveOtherIds w.waiting
+  pub numbers : AllPairs HaveOtherNumbers w.waiting
   pub serving : AllPairs HaveOtherIds w.serving
   pub next : (k : RequestKind) → IfOk (ticket_for w.client k) (λ t. All (λ r. r.ticket.id ≢ t.id) w.waiting)
 

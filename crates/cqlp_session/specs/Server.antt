@@ -1,5 +1,5 @@
 -- A server's core: what each call answers, and what it leaves.
-use Rattle.std.specs.Prelude.{ℕ, ℤ, Bool, if◌then◌else◌, is_none, List, Option, Some, None, Result, Ok, Err, length, replicate}
+use Rattle.std.specs.Prelude.{ℕ, ℤ, if◌then◌else◌, is_none, List, Option, Some, None, Result, Ok, Err, replicate}
 use Rattle.cqlp_note.specs.declared.opcode.Opcode.{Opcode}
 use Rattle.cqlp_session.specs.declared.kind.RequestKind.{RequestKind}
 use Rattle.cqlp_session.specs.declared.phase.Phase.{Phase as PhaseOf}

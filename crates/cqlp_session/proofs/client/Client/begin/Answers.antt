@@ -1,4 +1,4 @@
-use Rattle.std.proofs.Common.{rules, ap, sym, subst, ◌∙◌, to_z, of_z, w16, SFits}
+use Rattle.std.proofs.Common.{rules, sym, subst, ◌∙◌, w16, SFits}
 use Rattle.std.proofs.lemmas.Int.{to_z-of_z}
 use Rattle.cqlp_session.specs.Client.{ClientCore}
 use Rattle.cqlp_session.specs.Slots.{IsLeastFree}

@@ -1,5 +1,5 @@
-use Rattle.std.proofs.Common.{arith, ap, sym, ◌∙◌, ℕ, ℤ, Option, pos, option_map, Some, ◌≡◌, to_z, w16, ◌<◌, ◌≤◌, length}
-use Rattle.std.proofs.lemmas.Int.{ints, to_z_pos}
+use Rattle.std.proofs.Common.{arith, ap, sym, ◌∙◌, pos, option_map, Some, w16, ◌<◌, length}
+use Rattle.std.proofs.lemmas.Int.{to_z_pos}
 use Rattle.cqlp_session.specs.Slots.{least_free}
 use Rattle.cqlp_session.proofs.Marked.{least_is, none_least}
 use Rattle.cqlp_session.proofs.streams.Streams.least_free.Goals as goal

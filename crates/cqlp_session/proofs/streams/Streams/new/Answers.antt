@@ -1,4 +1,4 @@
-use Rattle.std.proofs.Common.{arith, length, replicate, None, Option}
+use Rattle.std.proofs.Common.{None, Option}
 use Rattle.std.proofs.lemmas.List.{length-replicate}
 use Rattle.cqlp_session.specs.declared.streams.Open.{Open}
 use Rattle.cqlp_session.proofs.Marked.{marks_empty}

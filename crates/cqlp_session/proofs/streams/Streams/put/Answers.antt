@@ -1,4 +1,4 @@
-use Rattle.std.proofs.Common.{arith, ap, sym, ◌∙◌, cond, length, Option}
+use Rattle.std.proofs.Common.{arith, ap, sym, cond, Option}
 use Rattle.std.specs.Prelude.{is_none}
 use Rattle.std.proofs.lemmas.List.{length-set}
 use Rattle.cqlp_session.specs.declared.streams.Open.{Open}
