@@ -22,16 +22,18 @@ pub record ClientCore : Type 0 where
   pub begun : ℕ
   pub slots : List (Option Open)
 
+-- a core that is made: nothing has begun
 abbrev pub new_client : (slots : ℕ) → ClientCore
 new_client n = record { phase = Fresh; begun = 0; slots = replicate n None }
 
 -- ---- begin
 
+-- a ticket with this number and the least free id, if one is free
 abbrev pub ticket_under : (number : ℕ) → Option ℕ → Result Ticket BeginError
 ticket_under number None = Err Full
 ticket_under number (Some i) = Ok (record { id = pos i; number = number })
 
--- The phase has to allow it, a number has to be left, and an id: the ticket has the least free one.
+-- What `begin` answers: the phase has to allow the request, a number has to be left, and an id.
 abbrev pub ticket_for : ClientCore → RequestKind → Result Ticket BeginError
 ticket_for c k =
     if may_begin c.phase k
@@ -49,13 +51,15 @@ begun c k (Err e) = c
 
 -- ---- reply
 
+-- what is answered, where this is open under the message's id
 abbrev pub reply_for : Signal → Option Open → Result Reply Stray
 reply_for s None = Err NoSuchStream
 reply_for s (Some o) =
     let ticket : Ticket = record { id = s.stream; number = o.number } in
     if answers o.kind s.opcode then Ok (if o.cancelled then Dropped ticket else Answer ticket o.kind) else Err WrongOpcode
 
--- An event is no reply; else it has to be a response, to a request that is open, which its opcode answers.
+-- What `reply` answers: an event is told as one; any other message has to be a response, to a request that is open,
+-- which its opcode answers.
 abbrev pub reply_to : ClientCore → Signal → Result Reply Stray
 reply_to c s =
     if is_pushed s then Ok ServerEvent
@@ -75,14 +79,17 @@ replied c s (Err e) = c
 
 -- ---- cancel
 
+-- what is open under an id is a request of this number, and may be cancelled
 abbrev pub is_cancellable : (number : ℕ) → Option Open → Bool
 is_cancellable number None = false
 is_cancellable number (Some o) = (o.number == number) && (not o.cancelled && not (is_handshake o.kind))
 
--- the ticket's request waits for its reply, and is not cancelled yet, and no STARTUP or AUTH_RESPONSE
+-- What `cancel` answers: the ticket's request waits for its reply, is not cancelled yet, and is no STARTUP or
+-- AUTH_RESPONSE.
 abbrev pub cancels : ClientCore → Ticket → Bool
 cancels c t = is_cancellable t.number (under c.slots t.id)
 
+-- the same request, cancelled
 abbrev pub marked : Open → Open
 marked o = record { number = o.number; kind = o.kind; cancelled = true }
 

@@ -1,4 +1,4 @@
--- The phases of a connection (section 3 of native_protocol_v4.spec).
+-- The phases of a connection (sections 4.1.1 and 4.1.2 of native_protocol_v4.spec).
 use Rattle.std.specs.Prelude.{Bool, true, false, not}
 use Rattle.cqlp_note.specs.declared.opcode.Opcode.{Opcode}
 use Rattle.cqlp_note.specs.declared.opcode.Opcode.TheVariants as opcode

@@ -18,11 +18,13 @@ pub record ServerCore : Type 0 where
   pub phase : PhaseOf
   pub slots : List (Option RequestKind)
 
+-- a core that is made: nothing is open
 abbrev pub new_server : (slots : ℕ) → ServerCore
 new_server n = record { phase = Fresh; slots = replicate n None }
 
 -- ---- accept
 
+-- what is answered to a request of this kind under an id
 abbrev pub accept_kind : ServerCore → ℤ → Option RequestKind → Result RequestKind ServerRefusal
 accept_kind c id None = Err NotRequest
 accept_kind c id (Some k) =
@@ -30,7 +32,8 @@ accept_kind c id (Some k) =
     then (if is_none (under c.slots id) then (if may_begin c.phase k then Ok k else Err (Phase c.phase)) else Err IdTaken)
     else Err BadId
 
--- It has to be a request, its id one of the core's, which is free, and the phase has to allow its kind.
+-- What `accept` answers: the message has to be a request, its id one of the core's, and free, and the phase has to
+-- allow its kind.
 abbrev pub accept_of : ServerCore → Signal → Result RequestKind ServerRefusal
 accept_of c s = if s.response then Err NotRequest else accept_kind c s.stream (kind_of s.opcode)
 
@@ -41,11 +44,12 @@ accepted c s (Err e) = c
 
 -- ---- answer
 
+-- what is answered, where this is open under the id
 abbrev pub answer_for : Opcode → Option RequestKind → Result RequestKind AnswerError
 answer_for o None = Err NotTaken
 answer_for o (Some k) = if answers k o then Ok k else Err WrongOpcode
 
--- A request has to be open under the id, which the opcode answers.
+-- What `answer` answers: a request has to be open under the id, and the opcode has to answer its kind.
 abbrev pub answer_of : ServerCore → ℤ → Opcode → Result RequestKind AnswerError
 answer_of c id o = answer_for o (under c.slots id)
 

@@ -31,6 +31,6 @@ pub record IsLeastFree {A : Type 0} (slots : List (Option A)) (id : ℤ) : Type 
   pub free : under slots id ≡ None
   pub least : (i : ℕ) → pos i <ℤ id → IsSome (under slots (pos i))
 
--- so many ids are allowed
-abbrev pub CountsSlots : ℕ → Type 0
-CountsSlots n = (1 ≤ n) × (n ≤ 32768)
+-- a core may have so many slots
+abbrev pub IsSlotCount : ℕ → Type 0
+IsSlotCount n = (1 ≤ n) × (n ≤ 32768)

@@ -51,6 +51,7 @@ pub data Step : Type 0 where
 
 -- ---- Send: the client begins a request, which goes up.
 
+-- a request on the wire
 abbrev pub request_message : Request → Message Request
 request_message r = record { seen = record { response = false; stream = r.ticket.id; opcode = opcode_of r.kind }; tag = r }
 
@@ -76,6 +77,7 @@ delivered_up w (m ∷ rest) = taken_in w m rest (accept_of w.server m.seen)
 abbrev pub last_under : ℤ → List (Message Request) → Option Request
 last_under id taken = option_map (λ m. m.tag) (find (λ m. int_eq m.seen.stream id) taken)
 
+-- an answer on the wire
 abbrev pub answer_message : ℤ → Opcode → Option Request → Message (Option Request)
 answer_message id o r = record { seen = record { response = true; stream = id; opcode = o }; tag = r }
 

@@ -1,7 +1,7 @@
 //! The free stream ids, one bit to an id, so that the least is found a word at a time.
 
-ghost use Rattle.std.specs.Prelude.{◌≡◌, ℕ, ◌+◌, ◌*◌, ◌^◌, ◌<◌, ◌≤◌, length, IfNone, IfSome, IfOk};
-ghost use Rattle.cqlp_session.specs.Ids.{IsFirstBit, NoBit, bit_under, WithBit, all_ones};
+ghost use Rattle.std.specs.Prelude.{◌≡◌, ◌*◌, ◌^◌, ◌<◌, ◌≤◌, IfNone, IfOk, IfSome, length};
+ghost use Rattle.cqlp_session.specs.Ids.{IsFirstBit, NoBit, WithBit, all_ones};
 
 use std::alloc::{AllocError, Allocator};
 
@@ -18,8 +18,8 @@ pub(crate) fn all<A: Allocator>(alloc: A, len: usize) -> Result<Vec<u64, A>, All
     Ok(words)
 }
 
-#[tactic(auto, using(crate::proofs::Bits::first_bit, crate::proofs::Bits::no_bit))]
 /// The place of the first bit that is set.
+#[tactic(auto, using(crate::proofs::Bits::first_bit, crate::proofs::Bits::no_bit))]
 pub(crate) fn first(words: &[u64]) -> Option<usize>
     requires { length words.now ≤ 2 ^ 15 }
     ensures some { IfSome result (IsFirstBit words.now) }

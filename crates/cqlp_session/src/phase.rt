@@ -6,7 +6,7 @@ ghost use Rattle.cqlp_session.specs.Phase.{may_begin, phase_begun, phase_answere
 use crate::kind::RequestKind;
 use cqlp_note::Opcode;
 
-/// How far the setting up of a connection has come. Section 3 of `native_protocol_v4.spec`.
+/// How far the setting up of a connection has come. Sections 4.1.1 and 4.1.2 of `native_protocol_v4.spec`.
 #[derive(Clone, Copy, Debug, PartialEq, Eq)]
 pub enum Phase {
     /// No STARTUP yet: OPTIONS and STARTUP may begin.

@@ -1,6 +1,6 @@
 //! The stream ids of a client.
 
-ghost use Rattle.std.specs.Prelude.{◌≡◌, ◌≤◌, ◌<◌, ◌^◌, None, IfOk, IfSome, replicate, length, option_map, pos};
+ghost use Rattle.std.specs.Prelude.{◌≡◌, IfOk, None, option_map, pos, replicate};
 
 use crate::kind::RequestKind;
 use crate::{ids, slots};
@@ -27,24 +27,24 @@ pub(crate) struct Streams<A: Allocator = Global> {
 impl<A: Allocator> Model for Streams<A> {
     ghost use Rattle.std.specs.Prelude.{List, Option, length};
     ghost use Rattle.cqlp_session.specs.declared.streams.Open.{Open};
-    ghost use Rattle.cqlp_session.specs.Slots.{CountsSlots};
+    ghost use Rattle.cqlp_session.specs.Slots.{IsSlotCount};
     ghost use Rattle.cqlp_session.specs.Ids.{Marks};
 
     ghost Value = { List (Option Open) };
 
     ghost view = { λ s. s.slots.items };
 
-    ghost invariant = { λ s. CountsSlots (length s.slots.items) × Marks s.free.items s.slots.items };
+    ghost invariant = { λ s. IsSlotCount (length s.slots.items) × Marks s.free.items s.slots.items };
 }
 
 impl<A: Allocator> Streams<A> {
-    ghost use Rattle.cqlp_session.specs.Slots.{CountsSlots, least_free, put, under};
+    ghost use Rattle.cqlp_session.specs.Slots.{IsSlotCount, least_free, put, under};
 
     /// Ids from 0 on, all free.
     pub(crate) fn new(alloc: A, len: u16) -> Result<Streams<A>, AllocError>
     where
         A: Clone,
-        requires { CountsSlots len }
+        requires { IsSlotCount len }
         ensures { IfOk result (λ streams. streams ≡ replicate len None) }
     {
         let len = len as usize;

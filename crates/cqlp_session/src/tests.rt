@@ -161,16 +161,21 @@ fn each_id_is_taken_and_no_more(rt: HostRuntime) -> Result<(), Fail> {
     Ok(())
 }
 
+/// The next number of a linear congruential generator.
+fn next_random(number: u64) -> u64 {
+    number
+        .wrapping_mul(6_364_136_223_846_793_005)
+        .wrapping_add(1_442_695_040_888_963_407)
+}
+
 #[test]
 fn a_million_requests_in_random_order(rt: HostRuntime) -> Result<(), Fail> {
     let mut client = ready(rt.alloc(), 32_768)?;
     let mut open = Vec::new(rt.alloc());
-    let mut random: u64 = 1;
+    let mut random = 1;
     let mut begun = 0;
     for _ in 0..2_000_000 {
-        random = random
-            .wrapping_mul(6_364_136_223_846_793_005)
-            .wrapping_add(1_442_695_040_888_963_407);
+        random = next_random(random);
         let draw = (random >> 33) as usize;
         if open.is_empty() || (begun < 1_000_000 && open.len() < 32_768 && draw % 16 < 9) {
             if begun < 1_000_000 {
