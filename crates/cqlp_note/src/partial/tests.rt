@@ -230,6 +230,15 @@ fn bad_text_is_refused_at_its_last_byte(rt: HostRuntime) -> Result<(), Fail> {
 }
 
 #[test]
+fn address_of_five_bytes_is_refused_at_once(rt: HostRuntime) -> Result<(), Fail> {
+    let mut partial = Partial::new(rt.alloc(), LIMIT)?;
+    partial.begin(Notation::Inet, LIMIT, 0, 9);
+    let why = Reason::BadInet;
+    assert_eq!(rt; partial.push(&[5]), Push::Refused(Refusal { at: 0, why }));
+    Ok(())
+}
+
+#[test]
 fn address_cut_in_its_port(rt: HostRuntime) -> Result<(), Fail> {
     let mut partial = begun(rt.alloc(), Notation::Inet, 93)?;
     match partial.push(&[4, 127, 0, 0, 1, 0, 0]) {
