@@ -7,3 +7,4 @@ pub mod Ends
 pub mod Gets
 pub mod Whole
 pub mod Rows
+pub mod MetadataRows
