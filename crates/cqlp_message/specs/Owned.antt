@@ -50,7 +50,7 @@ params_of q = record {
   page_size = q.page_size;
   paging = option_map bytes_of q.paging;
   serial = q.serial;
-  timestamp = q.timestamp
+  timestamp = q.timestamp;
 }
 
 abbrev pub entry_of : BatchEntry → value.BatchEntry
@@ -112,5 +112,5 @@ frame_of f = record {
   tracing = f.tracing;
   warnings = option_map texts_of f.warnings;
   payload = option_map (λ is. map (λ i. (string_bytes i.0, bytes_of i.1)) is.items) f.payload;
-  message = message_of f.message
+  message = message_of f.message;
 }
