@@ -15,7 +15,7 @@ use Rattle.cqlp_type.specs.Types.{Types}
 use Rattle.cqlp_message.specs.declared.grammar.Group.TheVariants as group_of
 use Rattle.cqlp_message.specs.declared.grammar.Role.{Role}
 use Rattle.cqlp_message.specs.declared.grammar.Role.TheVariants as role
-use Rattle.cqlp_message.specs.FrameValues.{Octets, QueryParams, BatchEntry, Statement, Known_statement, ErrorExtra, Plain, Unavailable, WriteTimeout, ReadTimeout, ReadFailure, FunctionFailure, WriteFailure, AlreadyExists, Unprepared, SchemaOptions, Keyspace, Named, Callable, UnknownTarget, SchemaChange, ServerEvent, Node, Schema, UnknownEvent, Message, Startup, Options, Query, Prepare, Execute, Batch, Register, AuthResponse, Error, Ready, Authenticate, Supported, Void, SetKeyspace, Change, UnknownResult, Event, AuthChallenge, AuthSuccess, FrameValue}
+use Rattle.cqlp_message.specs.FrameValues.{Octets, QueryParams, BatchEntry, Text, Id, ErrorExtra, Plain, Unavailable, WriteTimeout, ReadTimeout, ReadFailure, FunctionFailure, WriteFailure, AlreadyExists, Unprepared, SchemaOptions, Keyspace, Named, Callable, UnknownTarget, SchemaChange, ServerEvent, Node, Schema, UnknownEvent, Message, Startup, Options, Query, Prepare, Execute, Batch, Register, AuthResponse, Error, Ready, Authenticate, Supported, Void, SetKeyspace, Change, UnknownResult, Event, AuthChallenge, AuthSuccess, FrameValue}
 use Rattle.cqlp_message.specs.Productions.{Symbol, In, Extra, plain, counted, copies, group, where_set, parameters, body, message, payload, schema_change, result_fields}
 use Rattle.cqlp_message.specs.Parts.{Part, Field_is}
 use Rattle.cqlp_message.specs.Bodies.{where_some, texts, text, bytes, bound, value_parts, serial_parts, timestamp_parts, paging_parts, params_parts, entry_parts, extra_parts, options_parts, change_parts, event_parts, message_parts}
@@ -88,8 +88,8 @@ module _ (S : Type 0) (types : S → Role → Types) (after : S → Role → S) 
       (same, refl, each_derives S types after (λ v. ⊤) (λ v. bound v ∷ []) (group group_of.BatchValues) vs ps rest (trivial vs) (λ v ps rest p d. alone_derives S types after field.Value notation.Bound (note.Bound v) ps rest d) d (after s (role.Counts group_of.BatchValues)))
 
   entry_derives : (e : BatchEntry) (ps : List Part) (rest : List Symbol) → D S types after ps rest → D S types after (entry_parts e ++ ps) (group group_of.BatchEntries ++ rest)
-  entry_derives (Statement t vs) ps rest d s = (same, refl, (same, refl, bounds_derive vs ps rest d (after (after s role.EntryKind) role.Alone)))
-  entry_derives (Known_statement i vs) ps rest d s = (same, refl, (same, refl, bounds_derive vs ps rest d (after (after s role.EntryKind) role.Alone)))
+  entry_derives (Text t vs) ps rest d s = (same, refl, (same, refl, bounds_derive vs ps rest d (after (after s role.EntryKind) role.Alone)))
+  entry_derives (Id i vs) ps rest d s = (same, refl, (same, refl, bounds_derive vs ps rest d (after (after s role.EntryKind) role.Alone)))
 
   batch_derives : (kind : ℕ) (es : List BatchEntry) (c flags : ℕ) (serial : Option ℕ) (timestamp : Option ℤ) (ps : List Part) (rest : List Symbol) → BatchAgrees flags serial timestamp → D S types after ps rest
       → D S types after (message_parts (Batch kind es c flags serial timestamp) ++ ps) (body (opcode_of (Batch kind es c flags serial timestamp)) ++ rest)

@@ -41,10 +41,12 @@ pub enum Message {
     Register(Vec<String>),
     /// An answer to a challenge, which may be null. Section 4.1.2.
     AuthResponse(Option<Vec<u8>>),
-    /// An error: its code, a text for the user, and what the code adds. Section 4.2.1.
+    /// An error. Section 4.2.1.
     Error {
         code: i32,
+        /// A text for the user.
         message: String,
+        /// What the code adds.
         extra: ErrorExtra,
     },
     /// The server is ready for queries. Section 4.2.2.
@@ -61,9 +63,11 @@ pub enum Message {
     Change(SchemaChange),
     /// A result of this kind, which is none of 1 to 5.
     UnknownResult(i32),
-    /// An event of the type that it names. Section 4.2.6.
+    /// An event. Section 4.2.6.
     Event {
+        /// The type of the event.
         event: String,
+        /// What an event of this type tells.
         detail: ServerEvent,
     },
     /// A challenge of the server, which may be null. Section 4.2.7.
