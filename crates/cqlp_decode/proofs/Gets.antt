@@ -11,7 +11,7 @@ use Rattle.cqlp_decode.specs.Reading.{Says, Waits}
 use Rattle.cqlp_decode.specs.Events.{event_of}
 use Rattle.cqlp_decode.specs.Standing.{State}
 use Rattle.cqlp_decode.specs.Streams.{After, Leads}
-use Rattle.cqlp_decode.specs.Draining.{Drains, Fails, HasRefused, Feeds, FeedsInto, fold_events}
+use Rattle.cqlp_decode.specs.Draining.{Drains, Fails, Feeds, FeedsInto, HasAll, fold_events}
 
 take_two : (k n : ℕ) (bytes : List ℕ) → take (k + n) bytes ≡ take k bytes ++ take n (drop k bytes)
 take_two k n bytes = sym (rw (take-take k (k + n) bytes (omega arith), drop-take k n bytes) at (take-append-drop k (take (k + n) bytes)))
@@ -25,7 +25,7 @@ module _ {V : Type 0} (f : V → ℕ → reading.Event → V) where
   fold_more v [] at e = refl
   fold_more v (x ∷ es) at e = fold_more (f v x.0 x.1) es at e
 
-  fold_append : (v : V) (es fs : List (ℕ × reading.Event)) → fold_events f v (es ++ fs) ≡ fold_events f (fold_events f v es) fs
+  pub fold_append : (v : V) (es fs : List (ℕ × reading.Event)) → fold_events f v (es ++ fs) ≡ fold_events f (fold_events f v es) fs
   fold_append v [] fs = refl
   fold_append v (x ∷ es) fs = fold_append (f v x.0 x.1) es fs
 
@@ -63,7 +63,7 @@ module _ {V : Type 0} (f : V → ℕ → reading.Event → V) where
     drains_refused r leads = record { more = d.more; stands = leads.1; got = d.got }
 
   -- one piece after another
-  pub drains_then : (mid new : State) (s a b : List ℕ) (es : List (ℕ × reading.Event)) (v w x : V) (d : Drains f mid s es a v w) → Drains f new (s ++ a) (es ++ d.more) b w x → Drains f new s es (a ++ b) v x
+  abbrev pub drains_then : (mid new : State) (s a b : List ℕ) (es : List (ℕ × reading.Event)) (v w x : V) (d : Drains f mid s es a v w) → Drains f new (s ++ a) (es ++ d.more) b w x → Drains f new s es (a ++ b) v x
   drains_then mid new s a b es v w x d e = record {
     more = d.more ++ e.more;
     stands = rw (← (append_assoc s a b), ← (append_assoc es d.more e.more)) e.stands;
@@ -93,6 +93,11 @@ module _ {V : Type 0} (f : V → ℕ → reading.Event → V) where
       parts = parts_then;
       drained = λ s es a. let e = d.drained s es a in drains_then mid new s d.bytes part es v w x e (next (s ++ d.bytes) (es ++ e.more) e.stands)
     }
+
+    pub has_all : (next : (s : List ℕ) (es : List (ℕ × reading.Event)) → After mid s es → (e : Drains f new s es part w x) × Says new.rules reading.start (s ++ part) (es ++ e.more) Waits) → HasAll f old new xs v x (feeds_then (λ s es a. (next s es a).0))
+    has_all next none s es a =
+        let e = d.drained s es a in
+        let n = next (s ++ d.bytes) (es ++ e.more) e.stands in rw (← (append_assoc s d.bytes part), ← (append_assoc es e.more n.0.more)) n.1
 
     abbrev pub feeds_into : (faulted : V → ℕ → reading.Event → V → Type 0) → ((s : List ℕ) (es : List (ℕ × reading.Event)) → After mid s es → Fails f faulted new s es part w x) → FeedsInto f faulted old new xs v x
     feeds_into faulted next = record {

@@ -1,5 +1,7 @@
 pub mod Stack
 pub mod Steps
+pub mod FieldSteps
+pub mod OptionSteps
 pub mod Leads
 pub mod Ends
 pub mod Gets

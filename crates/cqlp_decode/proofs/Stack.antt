@@ -6,10 +6,10 @@ use Rattle.std.specs.Prelude.{max}
 use Rattle.cqlp_message.specs.Productions.{Symbol, copies, group}
 use Rattle.cqlp_message.specs.declared.grammar.Group.{Group}
 use Rattle.std.specs.Prelude.{Some}
-use Rattle.cqlp_decode.specs.declared.table.Want.{Want}
+use Rattle.cqlp_decode.specs.declared.table.Due.{Due}
 use Rattle.cqlp_decode.specs.declared.upcoming.Slot.{Slot}
 use Rattle.cqlp_decode.specs.declared.upcoming.Slot.TheVariants.{One, Many}
-use Rattle.cqlp_decode.specs.Upcoming.{symbols_of, symbols_in, need, behind, room_for, wanted, wants, IsLawful, IsRead, AreRead, Fits, Popped, Next}
+use Rattle.cqlp_decode.specs.Upcoming.{symbols_of, symbols_in, need, behind_due, room_for, wanted, wants, IsLawful, IsRead, AreRead, Fits, Popped, Next}
 
 pub symbols_pushed : (ss : List Slot) (s : Slot) → symbols_in (ss ++ s ∷ []) ≡ symbols_of s ++ symbols_in ss
 symbols_pushed [] s = sym (append-nil (symbols_of s))
@@ -47,33 +47,33 @@ module _ (slots : List Slot) (n : ℕ) (d : Slot) (some : 0 < n) (within : n ≤
 
 -- ---- several fields
 
-pub read_at : (ws : List Want) (k : ℕ) (d : Want) → AreRead ws → k < length ws → IsRead (get_or ws k d)
+pub read_at : (ws : List Due) (k : ℕ) (d : Due) → AreRead ws → k < length ws → IsRead (get_or ws k d)
 read_at [] k d f lt = absurd (omega arith)
 read_at (w ∷ ws) zero d f lt = f.0
 read_at (w ∷ ws) (suc k) d f lt = read_at ws k d f.1 (omega arith)
 
-pub room_at : (ws : List Want) (k : ℕ) (d : Want) → k < length ws → (length ws - (k + 1)) + max 1 (behind (get_or ws k d).role) ≤ room_for ws
+pub room_at : (ws : List Due) (k : ℕ) (d : Due) → k < length ws → (length ws - (k + 1)) + max 1 (behind_due (get_or ws k d)) ≤ room_for ws
 room_at [] k d lt = absurd (omega arith)
 room_at (w ∷ ws) zero d lt = omega arith
 room_at (w ∷ ws) (suc k) d lt = omega (arith, room_at ws k d (omega arith))
 
-pub fields_pushed : (ws : List Want) (k n : ℕ) (d : Want) (ss old : List Slot) → k < length ws → n ≡ k + 1 → symbols_in ss ≡ wants (drop n ws) ++ symbols_in old
+pub fields_pushed : (ws : List Due) (k n : ℕ) (d : Due) (ss old : List Slot) → k < length ws → n ≡ k + 1 → symbols_in ss ≡ wants (drop n ws) ++ symbols_in old
     → symbols_in (ss ++ One (get_or ws k d) ∷ []) ≡ wants (drop k ws) ++ symbols_in old
 fields_pushed ws k n d ss old lt is e =
     let next : symbols_in ss ≡ wants (drop (suc k) ws) ++ symbols_in old = rw (is, add-one k) at e in
     rw (symbols_pushed ss (One (get_or ws k d)), drop-cons ws k d) (ap (λ (x : List Symbol). wanted (get_or ws k d) ∷ x) next)
 
-pub fields_none : (ws : List Want) (old : List Slot) → wants (drop (length ws) ws) ++ symbols_in old ≡ symbols_in old
+pub fields_none : (ws : List Due) (old : List Slot) → wants (drop (length ws) ws) ++ symbols_in old ≡ symbols_in old
 fields_none ws old = rw (drop_all (length ws) ws (omega arith)) refl
 
 -- ---- the next field
 
-pub next_one : (old new : List Slot) (w : Want) → Popped old (Some (One w)) new → Next old (Some w) new
+pub next_one : (old new : List Slot) (w : Due) → Popped old (Some (One w)) new → Next old (Some w) new
 next_one old new w p = (ap symbols_in p.0 ∙ symbols_pushed new (One w), omega (arith, p.1), p.2)
 
-pub next_many : (old mid rest new : List Slot) (g : Group) (n : ℕ) (w : Want) → Popped old (Some (Many g n)) mid → symbols_in rest ≡ copies (n - 1) (group g) ++ symbols_in mid
-    → wanted w ∷ symbols_in new ≡ group g ++ symbols_in rest → length new + behind w.role ≤ 16 → IsRead w → Next old (Some w) new
+pub next_many : (old mid rest new : List Slot) (g : Group) (n : ℕ) (w : Due) → Popped old (Some (Many g n)) mid → symbols_in rest ≡ copies (n - 1) (group g) ++ symbols_in mid
+    → wanted w ∷ symbols_in new ≡ group g ++ symbols_in rest → length new + behind_due w ≤ 16 → IsRead w → Next old (Some w) new
 next_many old mid rest new g n w p others first room followed =
-    let more : n ≡ suc (n - 1) = omega (arith, p.2.0) in
+    let more : n ≡ suc (n - 1) = omega (arith, p.2) in
     (ap symbols_in p.0 ∙ symbols_pushed mid (Many g n) ∙ ap (λ (k : ℕ). copies k (group g) ++ symbols_in mid) more
      ∙ append_assoc (group g) (copies (n - 1) (group g)) (symbols_in mid) ∙ ap (λ (x : List Symbol). group g ++ x) (sym others) ∙ sym first, room, followed)

@@ -1,5 +1,5 @@
 -- What a sink gets of a stream.
-use Rattle.std.specs.Prelude.{◌≡◌, ℕ, ◌≤◌, ◌++◌, true, List, [], ◌∷◌, length, take, Option, Some, ◌⊎◌}
+use Rattle.std.specs.Prelude.{◌≡◌, ℕ, ◌≤◌, ◌++◌, true, List, [], ◌∷◌, length, take, Option, Some, None, ◌⊎◌}
 use Rattle.cqlp_note.specs.declared.refusal.Refusal.{Refusal}
 use Rattle.cqlp_note.specs.Streams.{counted}
 use Rattle.cqlp_decode.specs.declared.event.Finish.{Finish}
@@ -51,7 +51,12 @@ pub record Feeds {V : Type 0} (f : V → ℕ → Event → V) (old new : State) 
   pub parts : xs ≡ bytes ++ rest
   pub drained : (s : List ℕ) (es : List (ℕ × Event)) → After old s es → Drains f new s es bytes before after
 
--- The same, but at the last of the events the sink failed.
+-- Where there was no refusal, no event of the bytes used so far is still to come; a refusal comes behind them all.
+abbrev pub HasAll : {V : Type 0} (f : V → ℕ → Event → V) (old new : State) (xs : List ℕ) (before after : V) → Feeds f old new xs before after → Type 0
+HasAll f old new xs before after d =
+    new.refusal ≡ None → (s : List ℕ) (es : List (ℕ × Event)) (a : After old s es) → Says new.rules start (s ++ d.bytes) (es ++ (d.drained s es a).more) Waits
+
+-- The same as `Feeds`, but at the last of the events the sink failed.
 pub record FeedsInto {V : Type 0} (f : V → ℕ → Event → V) (faulted : V → ℕ → Event → V → Type 0) (old new : State) (xs : List ℕ) (before after : V) : Type 0 where
   pub bytes : List ℕ
   pub rest : List ℕ
@@ -59,13 +64,13 @@ pub record FeedsInto {V : Type 0} (f : V → ℕ → Event → V) (faulted : V �
   pub failed : (s : List ℕ) (es : List (ℕ × Event)) → After old s es → Fails f faulted new s es bytes before after
 
 -- What a run leaves, by how it ends; the reader had the bytes xs. It finishes at the end of the input or at a
--- refusal, with what the end of the stream says there; a reader's fault counts one more failed call; and each turn
--- has read some byte.
+-- refusal, with what the end of the stream says there; and each turn has read some byte. But at a sink's fault, all
+-- events were handed out.
 abbrev pub RunsTo : {V : Type 0} → (V → ℕ → Event → V) → (V → ℕ → Event → V → Type 0) → (turns : ℕ) → Outcome → (old new : State) → (xs : List ℕ) → Option (List ℕ) → (before after : V) → Type 0
 RunsTo f faulted turns (outcome.Finished end) old new xs left before after =
-    (d : Feeds f old new xs before after) × ((d.rest ≡ []) ⊎ HasRefused new) × ((s : List ℕ) (es : List (ℕ × Event)) → After new s es → Finishes new s es end)
-RunsTo f faulted turns outcome.ReadFault old new xs left before after = (d : Feeds f old new xs before after) × (left ≡ Some d.rest)
-RunsTo f faulted turns outcome.Turns old new xs left before after = (d : Feeds f old new xs before after) × (left ≡ Some d.rest) × (turns ≤ length d.bytes)
+    (d : Feeds f old new xs before after) × ((d.rest ≡ []) ⊎ HasRefused new) × ((s : List ℕ) (es : List (ℕ × Event)) → After new s es → Finishes new s es end) × HasAll f old new xs before after d
+RunsTo f faulted turns outcome.ReadFault old new xs left before after = (d : Feeds f old new xs before after) × (left ≡ Some d.rest) × HasAll f old new xs before after d
+RunsTo f faulted turns outcome.Turns old new xs left before after = (d : Feeds f old new xs before after) × (left ≡ Some d.rest) × (turns ≤ length d.bytes) × HasAll f old new xs before after d
 RunsTo f faulted turns outcome.SinkFault old new xs left before after = FeedsInto f faulted old new xs before after
 
 -- a run that says that its reader failed counts a failed call

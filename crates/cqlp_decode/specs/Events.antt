@@ -27,4 +27,5 @@ event_of (event.Bytes f None) = reading.Holds f (field.Bytes None)
 event_of (event.Bytes f (Some c)) = reading.Holds f (field.Bytes (Some c.now))
 event_of (event.Bound f v) = reading.Holds f (field.Bound (bound_of v))
 event_of (event.Inet f a z) = reading.Holds f (field.Inet a z)
+event_of (event.TypeNode k) = reading.Node_of k
 event_of (event.End n) = reading.End n

@@ -1,7 +1,6 @@
 -- What calls hand out of a stream.
 use Rattle.std.specs.Prelude.{◌≡◌, ℕ, ◌+◌, ◌*◌, ◌<◌, ◌≤◌, ◌++◌, Bool, true, false, List, [], ◌∷◌, length, take, Option, Some, None, if◌then◌else◌, ⊤}
 use Rattle.cqlp_note.specs.declared.refusal.Refusal.{Refusal}
-use Rattle.cqlp_note.specs.Partial.{Progress}
 use Rattle.cqlp_decode.specs.declared.event.Step.{Step}
 use Rattle.cqlp_decode.specs.declared.event.Step.TheVariants as step
 use Rattle.cqlp_decode.specs.declared.event.Finish.{Finish}
@@ -10,16 +9,16 @@ use Rattle.cqlp_decode.specs.declared.standing.Standing.{Standing}
 use Rattle.cqlp_decode.specs.Reading as reading
 use Rattle.cqlp_decode.specs.Reading.{Event, start, Reads, Says, Waits, Refused}
 use Rattle.cqlp_decode.specs.Events.{event_of}
-use Rattle.cqlp_decode.specs.Standing.{State, IsPending, IsLent, state_of, frame_after, ends_due}
+use Rattle.cqlp_decode.specs.Standing.{State, Parts, IsPending, IsLent, state_of, frame_after, ends_due}
 
--- What contracts see of a decoder: where it stands, and how far the field under way is.
+-- What contracts see of a decoder: where it stands, and its parts that own memory.
 pub record Decoding : Type 0 where
   pub standing : Standing
-  pub partial : Progress
+  pub parts : Parts
 
 -- what it knows of its stream
 abbrev pub state : Decoding → State
-state d = state_of d.standing d.partial
+state d = state_of d.standing d.parts
 
 -- ---- events so far
 

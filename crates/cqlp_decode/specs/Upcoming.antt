@@ -4,16 +4,19 @@ use Rattle.cqlp_message.specs.declared.grammar.Group.{Group}
 use Rattle.cqlp_message.specs.declared.grammar.Group.TheVariants as group_of
 use Rattle.cqlp_message.specs.declared.grammar.Role.{Role}
 use Rattle.cqlp_message.specs.declared.grammar.Role.TheVariants as role
-use Rattle.cqlp_message.specs.Productions.{Symbol, In, copies, group}
+use Rattle.cqlp_message.specs.Productions.{Symbol, In, In_type, copies, group}
+use Rattle.cqlp_type.specs.TypeStep.{Option_at}
 use Rattle.cqlp_note.specs.Head.{fixed_of}
-use Rattle.cqlp_decode.specs.declared.table.Want.{Want}
+use Rattle.cqlp_decode.specs.declared.table.Due.{Due}
+use Rattle.cqlp_decode.specs.declared.table.Due.TheVariants as due
 use Rattle.cqlp_decode.specs.declared.upcoming.Slot.{Slot}
 use Rattle.cqlp_decode.specs.declared.upcoming.Slot.TheVariants.{One, Many}
 
-abbrev pub wanted : Want → Symbol
-wanted w = In w.field w.notation w.role
+abbrev pub wanted : Due → Symbol
+wanted (due.Field w) = In w.field w.notation w.role
+wanted due.Option = In_type (Option_at 1 ∷ [])
 
-abbrev pub wants : List Want → List Symbol
+abbrev pub wants : List Due → List Symbol
 wants [] = []
 wants (w ∷ ws) = wanted w ∷ wants ws
 
@@ -26,30 +29,12 @@ abbrev pub symbols_in : List Slot → List Symbol
 symbols_in [] = []
 symbols_in (s ∷ ss) = symbols_in ss ++ symbols_of s
 
--- ---- what is read so far
+-- a field that has some bytes of its own
+abbrev pub IsRead : Due → Type 0
+IsRead (due.Field w) = 0 < fixed_of w.notation
+IsRead due.Option = ⊤
 
--- the fields of these groups are
-abbrev pub IsOpenable : Group → Type 0
-IsOpenable (group_of.Columns one_table) = ⊥
-IsOpenable group_of.KeyIndexes = ⊥
-IsOpenable g = ⊤
-
--- what follows these fields is
-abbrev pub IsFollowed : Role → Type 0
-IsFollowed (role.Counts g) = IsOpenable g
-IsFollowed (role.MetaFlags rows) = ⊥
-IsFollowed (role.MetaColumns rows flags) = ⊥
-IsFollowed role.PreparedFlags = ⊥
-IsFollowed (role.PreparedColumns flags) = ⊥
-IsFollowed (role.PreparedKeys flags columns) = ⊥
-IsFollowed (role.PageRows flags columns) = ⊥
-IsFollowed r = ⊤
-
--- a field that has some bytes of its own, and what follows it is read
-abbrev pub IsRead : Want → Type 0
-IsRead w = IsFollowed w.role × (0 < fixed_of w.notation)
-
-abbrev pub AreRead : List Want → Type 0
+abbrev pub AreRead : List Due → Type 0
 AreRead [] = ⊤
 AreRead (w ∷ ws) = IsRead w × AreRead ws
 
@@ -68,7 +53,7 @@ opened group_of.BatchValues = 0
 opened group_of.BatchEntries = 2
 opened group_of.Arguments = 0
 opened group_of.KeyIndexes = 0
-opened (group_of.Columns one_table) = 0
+opened (group_of.Columns one_table) = 3
 
 -- the slots that what follows a field of this role can come to take
 abbrev pub behind : Role → ℕ
@@ -78,30 +63,34 @@ behind role.QueryFlags = 6
 behind role.EntryKind = 2
 behind role.BatchFlags = 2
 behind role.ErrorCode = 6
-behind role.ResultKind = 3
+behind role.ResultKind = 5
 behind role.ChangeTarget = 3
 behind role.EventType = 3
-behind (role.MetaFlags rows) = 0
-behind (role.MetaColumns rows flags) = 0
-behind role.PreparedFlags = 0
-behind (role.PreparedColumns flags) = 0
-behind (role.PreparedKeys flags columns) = 0
+behind (role.MetaFlags rows) = 5
+behind (role.MetaColumns rows flags) = 5
+behind role.PreparedFlags = 5
+behind (role.PreparedColumns flags) = 5
+behind (role.PreparedKeys flags columns) = 5
 behind (role.PageRows flags columns) = 0
+
+abbrev pub behind_due : Due → ℕ
+behind_due (due.Field w) = behind w.role
+behind_due due.Option = 0
 
 -- the slots that a slot can come to take
 abbrev pub need : Slot → ℕ
-need (One w) = max 1 (behind w.role)
+need (One w) = max 1 (behind_due w)
 need (Many g n) = opened g + 1
 
 -- the slots that these fields, the first of them on top, can come to take
-abbrev pub room_for : List Want → ℕ
+abbrev pub room_for : List Due → ℕ
 room_for [] = 0
-room_for (w ∷ ws) = max (room_for ws) (length ws + max 1 (behind w.role))
+room_for (w ∷ ws) = max (room_for ws) (length ws + max 1 (behind_due w))
 
--- no slot stands for nothing, nor for what is not read
+-- no slot stands for nothing
 abbrev pub IsLawful : Slot → Type 0
 IsLawful (One w) = IsRead w
-IsLawful (Many g n) = (0 < n) × IsOpenable g
+IsLawful (Many g n) = 0 < n
 
 -- the slots from number k on never come to take more than there are
 abbrev pub Fits : ℕ → List Slot → Type 0
@@ -115,6 +104,6 @@ Popped old None new = (old ≡ []) × (new ≡ [])
 Popped old (Some s) new = (old ≡ new ++ s ∷ []) × (length new + need s ≤ 16) × IsLawful s
 
 -- the next field, and room for what follows it
-abbrev pub Next : List Slot → Option Want → List Slot → Type 0
+abbrev pub Next : List Slot → Option Due → List Slot → Type 0
 Next old None new = (symbols_in old ≡ []) × (new ≡ [])
-Next old (Some w) new = (symbols_in old ≡ wanted w ∷ symbols_in new) × (length new + behind w.role ≤ 16) × IsRead w
+Next old (Some w) new = (symbols_in old ≡ wanted w ∷ symbols_in new) × (length new + behind_due w ≤ 16) × IsRead w

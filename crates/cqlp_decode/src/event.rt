@@ -1,5 +1,6 @@
 //! What a stream says, event by event.
 
+use cqlp_type::Kind;
 use cqlp_note::{Address, BoundValue, Field, Header, Refusal};
 
 /// One thing that a stream says. Contents are lent from the input or from the decoder.
@@ -18,6 +19,8 @@ pub enum Event<'a> {
     Bytes { field: Field, bytes: Option<&'a [u8]> },
     Bound { field: Field, value: BoundValue<'a> },
     Inet { field: Field, address: Address, port: i32 },
+    /// A type option, or one in another, of this kind.
+    TypeNode(Kind),
     /// The frame ends, with so many bytes behind its last field.
     End { extra: u32 },
 }

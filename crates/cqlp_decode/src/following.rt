@@ -2,19 +2,23 @@
 
 ghost use Rattle.std.specs.Prelude.{◌≡◌, ◌+◌, ◌≤◌, ◌++◌, ◌∷◌, [], length, if◌then◌else◌};
 ghost use Rattle.cqlp_note.specs.Heading.{has as has_bit};
+ghost use Rattle.cqlp_note.specs.Field.{FieldValue};
 ghost use Rattle.cqlp_note.specs.Head.{value_of};
 ghost use Rattle.cqlp_type.specs.Types.{Types};
-ghost use Rattle.cqlp_message.specs.Productions.{Extra, batch_parts, entry_parts, fault_in as fault_of, following, message, number_in, query_parts, text_in};
+ghost use Rattle.cqlp_decode.specs.Reading.{nodes_after};
+ghost use Rattle.cqlp_message.specs.Productions.{Extra, In, batch_parts, entry_parts, fault_in as fault_of, following, message, number_in, query_parts, specs, text_in};
 
 use crate::table::{
-    Want, body_fields, error_fields, counted, event_fields, plain, result_fields, target_fields
+    Due, Want, body_fields, error_fields, counted, event_fields, plain, result_fields, target_fields
 };
 use crate::upcoming::Upcoming;
 use cqlp_message::{Group, Role};
+use cqlp_type::TypeTable;
+use std::alloc::Allocator;
 use cqlp_note::{Field, Header, Notation, Prim, Reason};
 
 impl Upcoming {
-    ghost use Rattle.cqlp_decode.specs.Upcoming.{IsFollowed, behind, symbols_in};
+    ghost use Rattle.cqlp_decode.specs.Upcoming.{behind, symbols_in};
 
     /// Begins a message: the parts that its header announces, and its fields.
     pub fn begin(&mut self, header: &Header)
@@ -38,8 +42,7 @@ impl Upcoming {
 
     /// Puts what follows a field of this role, that has this value, before all else.
     pub fn follow(&mut self, role: Role, value: Prim<'_>)
-        requires followed { IsFollowed role }
-        requires room { length self.old + behind role ≤ 16 }
+        requires { length self.old + behind role ≤ 16 }
         ensures { (types : Types) → symbols_in self.new ≡ following types role (value_of value.entry) ++ symbols_in self.old }
     {
         let number = number(value);
@@ -56,13 +59,77 @@ impl Upcoming {
             Role::ResultKind => self.push_fields(result_fields(number)),
             Role::ChangeTarget => self.push_fields(target_fields(text(value))),
             Role::EventType => self.push_fields(event_fields(text(value))),
-            Role::MetaFlags { .. }
-            | Role::MetaColumns { .. }
-            | Role::PreparedFlags
-            | Role::PreparedColumns { .. }
-            | Role::PreparedKeys { .. }
-            | Role::PageRows { .. } => unreachable!(),
+            Role::MetaFlags { rows } => {
+                let flags = number;
+                self.push_count(Field::Columns, Role::MetaColumns { rows, flags });
+            }
+            Role::MetaColumns { rows, flags } => self.push_metadata(rows, flags, number),
+            Role::PreparedFlags => {
+                self.push_count(Field::Columns, Role::PreparedColumns { flags: number });
+            }
+            Role::PreparedColumns { flags } => {
+                let columns = number;
+                self.push_count(Field::Keys, Role::PreparedKeys { flags, columns });
+            }
+            Role::PreparedKeys { flags, columns } => {
+                self.push_prepared(flags, columns, number);
+            }
+            Role::PageRows { .. } => {}
         }
+    }
+
+    /// A count that is an \[int\].
+    fn push_count(&mut self, field: Field, role: Role)
+        requires { length self.old + 5 ≤ 16 × behind role ≤ 5 }
+        ensures symbols { symbols_in self.new ≡ In field Notation.Count32 role ∷ symbols_in self.old }
+    {
+        let notation = Notation::Count32;
+        self.push_if(true, Due::Field(Want { field, notation, role }));
+    }
+
+    /// The rest of metadata behind the number of its columns, and the number of rows where they follow.
+    fn push_metadata(&mut self, rows: bool, flags: u32, columns: u32)
+        requires { length self.old + 5 ≤ 16 }
+        ensures { (types : Types) (v : FieldValue) → number_in v ≡ columns → symbols_in self.new ≡ following types (Role.MetaColumns rows flags) v ++ symbols_in self.old }
+    {
+        let rows_due = Due::Field(Want {
+            field: Field::Rows,
+            notation: Notation::Count32,
+            role: Role::PageRows { flags, columns },
+        });
+        self.push_if(rows, rows_due);
+        self.push_specs_unless(has(flags, 0x04), flags, columns);
+        self.push_if(has(flags, 0x02), plain!(PagingState, Bytes32));
+    }
+
+    /// The rest of the metadata of a prepared statement's values, and the metadata of its result.
+    fn push_prepared(&mut self, flags: u32, columns: u32, keys: u32)
+        requires { length self.old + 5 ≤ 16 }
+        ensures { (types : Types) (v : FieldValue) → number_in v ≡ keys → symbols_in self.new ≡ following types (Role.PreparedKeys flags columns) v ++ symbols_in self.old }
+    {
+        let result_flags = Due::Field(Want {
+            field: Field::MetaFlags,
+            notation: Notation::Int,
+            role: Role::MetaFlags { rows: false },
+        });
+        self.push_if(true, result_flags);
+        self.push_specs_unless(false, flags, columns);
+        self.push_many(Group::KeyIndexes, keys);
+    }
+
+    /// The columns of a table, or of several.
+    fn push_specs_unless(&mut self, left_out: bool, flags: u32, columns: u32)
+        requires { length self.old + 4 ≤ 16 }
+        ensures symbols { symbols_in self.new ≡ (if left_out then [] else specs flags columns) ++ symbols_in self.old }
+        ensures height { length self.new ≤ length self.old + 3 }
+    {
+        if left_out {
+            return;
+        }
+        let one_table = has(flags, 0x01);
+        self.push_many(Group::Columns { one_table }, columns);
+        self.push_if(one_table, plain!(Table, Text16));
+        self.push_if(one_table, plain!(Keyspace, Text16));
     }
 
     /// The parameters of a query that these flags announce.
@@ -101,6 +168,15 @@ impl Upcoming {
         } else {
             self.push_if(true, plain!(StatementId, Bytes16));
         }
+    }
+}
+
+/// Metadata begins without types.
+pub fn begin_metadata<A: Allocator>(role: Role, table: &mut TypeTable<A>)
+    ensures { table.new ≡ record { nodes = nodes_after role table.old.nodes; room = table.old.room } }
+{
+    if matches!(role, Role::MetaFlags { .. } | Role::PreparedFlags) {
+        table.clear();
     }
 }
 

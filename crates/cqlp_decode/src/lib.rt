@@ -4,11 +4,15 @@
 mod decoder;
 mod event;
 mod following;
+#[cfg(test)]
+mod heaps;
 pub mod laws;
 mod running;
 mod sink;
 mod standing;
 mod table;
+#[cfg(test)]
+mod tests;
 mod upcoming;
 
 pub use decoder::{Decoder, NewError};

@@ -1,16 +1,16 @@
 //! Where the reading of a stream stands, and one step of it.
 
-ghost use Rattle.std.specs.Prelude.{◌≡◌, ◌+◌, ◌-◌, ◌<◌, ◌≤◌, ◌^◌, ◌++◌, ◌∷◌, List, [], ℕ, length, take, None, IsTrue, ◌↔◌};
+ghost use Rattle.std.specs.Prelude.{◌≡◌, ◌+◌, ◌-◌, ◌<◌, ◌≤◌, ◌^◌, ◌++◌, ◌∷◌, List, [], ℕ, length, take, None, IsTrue, ◌↔◌, true, false};
 ghost use Rattle.cqlp_note.specs.Limits.{limit_of, rules_of};
-ghost use Rattle.cqlp_note.specs.Partial.{Progress};
-ghost use Rattle.cqlp_decode.specs.Standing.{stage_with};
+ghost use Rattle.cqlp_decode.specs.Standing.{came_of, stage_with};
 
 use crate::event::Finish;
-use crate::following::fault_in;
-use crate::table::Want;
+use crate::following::{begin_metadata, fault_in};
+use crate::table::{Due, Want};
 use crate::upcoming::Upcoming;
 use cqlp_message::Role;
 use cqlp_note::{Field, Header, Item, Limits, Notation, Partial, Prim, Reason, Refusal, Taken};
+use cqlp_type::{TypeAdvance, TypePart, TypeReader, TypeTable};
 use std::alloc::Allocator;
 
 /// What is read now.
@@ -18,6 +18,11 @@ use std::alloc::Allocator;
 pub enum Stage {
     Header,
     Field(Want),
+    /// A type option that is not begun.
+    Option,
+    /// A type option that is under way.
+    Type,
+    /// What is behind the last field.
     Extra,
 }
 
@@ -26,6 +31,7 @@ pub enum Stage {
 pub enum What {
     Frame(Header),
     Holds(Field, Item),
+    Option(TypePart),
     End(u32),
 }
 
@@ -39,7 +45,7 @@ pub enum Advance {
     Refused(Refusal),
 }
 
-/// Where the reading of a stream stands, but for the field that is under way.
+/// Where the reading of a stream stands, but for the field or type option that is under way.
 #[derive(Drop)]
 pub struct Standing {
     pub limits: Limits,
@@ -60,20 +66,24 @@ pub struct Standing {
 impl Standing {
     ghost use Rattle.std.specs.Prelude.{max};
     ghost use Rattle.cqlp_note.specs.Head.{value_of};
+    ghost use Rattle.cqlp_note.specs.Partial.{Progress};
     ghost use Rattle.cqlp_type.specs.Types.{Types};
+    ghost use Rattle.cqlp_type.specs.Table.{Table};
+    ghost use Rattle.cqlp_type.specs.Standing as type;
+    ghost use Rattle.cqlp_type.specs.Standing.{started};
     ghost use Rattle.cqlp_message.specs.Productions.{Extra, following, message};
     ghost use Rattle.cqlp_decode.specs.Reading as reading;
     ghost use Rattle.cqlp_decode.specs.Reading.{start};
     ghost use Rattle.cqlp_decode.specs.Streams.{After, Finishes};
-    ghost use Rattle.cqlp_decode.specs.Upcoming.{IsFollowed, behind, symbols_in};
+    ghost use Rattle.cqlp_decode.specs.Upcoming.{behind, symbols_in};
     ghost use Rattle.cqlp_decode.specs.declared.standing.Stage.TheVariants as stage;
-    ghost use Rattle.cqlp_decode.specs.Standing.{Advances, HasRoom, IsAsked, IsBounded, IsIdle, IsLawful, IsPending, Kept, Moves, StageHolds, place_at, state_of, symbols_at};
+    ghost use Rattle.cqlp_decode.specs.Standing.{Advances, HasParts, HasRoom, IsAsked, IsBounded, IsIdle, IsLawful, IsPending, IsPlaced, IsWanted, Kept, Moves, Parts, asked, parts, rest_of, state_of, symbols_at};
 
     /// At the start of a stream.
     pub fn new(limits: Limits) -> Self
         ensures limits { result.limits ≡ limits }
-        ensures lawful { (p : Progress) → IsIdle p → p.room ≡ max limits.text limits.cell → IsLawful result p }
-        ensures start { (p : Progress) → state_of result p ≡ record { rules = rules_of limits; place = start; pending = Kept []; frame = 0; refusal = None; held = p.content } }
+        ensures lawful { (q : Parts) → IsIdle q → HasParts result q → IsLawful result q }
+        ensures start { (q : Parts) → q.table.nodes ≡ [] → state_of result q ≡ record { rules = rules_of limits; place = start; pending = Kept []; frame = 0; refusal = None; held = q.partial.content } }
     {
         Standing {
             limits,
@@ -89,15 +99,21 @@ impl Standing {
     }
 
     /// Takes the next step, as far as the input goes.
-    pub fn advance<A: Allocator>(&mut self, partial: &mut Partial<A>, input: &[u8]) -> Advance
-        requires { IsLawful self.old partial.old }
-        ensures lawful { IsLawful self.new partial.new }
-        ensures advances { Advances (state_of self.old partial.old) input.now result (state_of self.new partial.new) }
+    pub fn advance<A: Allocator>(
+        &mut self,
+        partial: &mut Partial<A>,
+        types: &mut TypeReader<A>,
+        table: &mut TypeTable<A>,
+        input: &[u8],
+    ) -> Advance
+        requires { IsLawful self.old (parts partial.old types.old table.old) }
+        ensures lawful { IsLawful self.new (parts partial.new types.new table.new) }
+        ensures advances { Advances (state_of self.old (parts partial.old types.old table.old)) input.now result (state_of self.new (parts partial.new types.new table.new)) }
     {
         if let Some(refusal) = self.refusal {
             return Advance::Refused(refusal);
         }
-        let advance = self.step(partial, input);
+        let advance = self.step(partial, types, table, input);
         if let Advance::Refused(refusal) = advance {
             self.refusal = Some(refusal);
         }
@@ -105,9 +121,10 @@ impl Standing {
     }
 
     /// How the stream ends, if it ends here.
-    pub fn finish<A: Allocator>(&self, partial: &Partial<A>) -> Finish
-        requires { IsLawful self.now partial.now }
-        ensures { (s : List ℕ) (es : List (ℕ × reading.Event)) → After (state_of self.now partial.now) s es → Finishes (state_of self.now partial.now) s es result }
+    pub fn finish<A: Allocator>(&self, partial: &Partial<A>, types: &TypeReader<A>) -> Finish
+        requires bounded { IsBounded self.now }
+        requires placed { IsPlaced self.now partial.now types.now self.now.stage }
+        ensures { (t : Table) (s : List ℕ) (es : List (ℕ × reading.Event)) → After (state_of self.now (parts partial.now types.now t)) s es → Finishes (state_of self.now (parts partial.now types.now t)) s es result }
     {
         if let Some(refusal) = self.refusal {
             return Finish::Refused(refusal);
@@ -117,7 +134,21 @@ impl Standing {
         }
         Finish::Cut {
             frame_at: self.frame,
-            bytes: self.offset + self.came_of(partial),
+            bytes: self.bytes_used(partial, types),
+        }
+    }
+
+    /// How many bytes of the stream have come.
+    fn bytes_used<A: Allocator>(&self, partial: &Partial<A>, types: &TypeReader<A>) -> u64
+        requires bounded { IsBounded self.now }
+        requires placed { IsPlaced self.now partial.now types.now self.now.stage }
+        ensures { (t : Table) (b : List ℕ) → IsPending (state_of self.now (parts partial.now types.now t)).pending b → result ≡ (state_of self.now (parts partial.now types.now t)).place.offset + length b }
+    {
+        match self.stage {
+            Stage::Header | Stage::Extra => self.offset + self.came,
+            Stage::Option => self.offset,
+            Stage::Field(_) => self.offset + came_of_field(partial),
+            Stage::Type => types.offset() + came_of_field(partial),
         }
     }
 
@@ -128,29 +159,28 @@ impl Standing {
         matches!(self.stage, Stage::Header) && self.came == 0
     }
 
-    /// How many bytes of what is read now have come.
-    fn came_of<A: Allocator>(&self, partial: &Partial<A>) -> u64
-        requires { IsLawful self.now partial.now }
-        ensures is { (b : List ℕ) → IsPending (state_of self.now partial.now).pending b → result ≡ length b }
-        ensures small { result < 2 ^ 33 }
-    {
-        match self.stage {
-            Stage::Header | Stage::Extra => self.came,
-            Stage::Field(_) => partial.came(),
-        }
-    }
-
     /// The next step, where there was no refusal.
-    fn step<A: Allocator>(&mut self, partial: &mut Partial<A>, input: &[u8]) -> Advance
-        requires lawful { IsLawful self.old partial.old }
+    fn step<A: Allocator>(
+        &mut self,
+        partial: &mut Partial<A>,
+        types: &mut TypeReader<A>,
+        table: &mut TypeTable<A>,
+        input: &[u8],
+    ) -> Advance
+        requires lawful { IsLawful self.old (parts partial.old types.old table.old) }
         requires unrefused { self.old.refusal ≡ None }
-        ensures lawful { IsLawful self.new partial.new }
-        ensures moves { Moves (state_of self.old partial.old) input.now result (state_of self.new partial.new) }
+        ensures lawful { IsLawful self.new (parts partial.new types.new table.new) }
+        ensures moves { Moves (state_of self.old (parts partial.old types.old table.old)) input.now result (state_of self.new (parts partial.new types.new table.new)) }
         ensures rest { (self.new.refusal ≡ None) × (self.new.limits ≡ self.old.limits) }
     {
         match self.stage {
             Stage::Header => self.advance_header(input),
-            Stage::Field(want) => self.advance_field(partial, want, input),
+            Stage::Field(want) => self.advance_field(partial, table, want, input),
+            Stage::Option => {
+                self.begin_option(types);
+                self.advance_option(partial, types, table, input)
+            }
+            Stage::Type => self.advance_option(partial, types, table, input),
             Stage::Extra => self.advance_extra(input),
         }
     }
@@ -160,8 +190,8 @@ impl Standing {
         requires here { self.old.stage ≡ stage.Header }
         requires came { self.old.came < 9 }
         requires unrefused { self.old.refusal ≡ None }
-        ensures lawful { (p : Progress) → IsLawful self.old p → IsLawful self.new p }
-        ensures moves { (p : Progress) → IsIdle p → Moves (state_of self.old p) input.now result (state_of self.new p) }
+        ensures lawful { (q : Parts) → IsLawful self.old q → IsLawful self.new q }
+        ensures moves { (q : Parts) → IsIdle q → Moves (state_of self.old q) input.now result (state_of self.new q) }
         ensures rest { (self.new.refusal ≡ None) × (self.new.limits ≡ self.old.limits) }
     {
         if self.offset > 1 << 63 {
@@ -224,8 +254,8 @@ impl Standing {
         requires length { header.now.length ≤ 268435456 }
         requires unrefused { self.old.refusal ≡ None }
         ensures bounded { IsBounded self.new }
-        ensures stage { (p : Progress) → IsIdle p → StageHolds self.new p self.new.stage }
-        ensures place { place_at self.new.offset self.new.stop (symbols_at self.new.stage self.new.upcoming) ≡ place_at (self.old.offset + 9) (self.old.offset + 9 + header.now.length) (message header.now) }
+        ensures offsets { (self.new.offset ≡ self.old.offset + 9) × (self.new.stop ≡ self.old.offset + 9 + header.now.length) }
+        ensures symbols { (r : type.Standing) → symbols_at self.new.stage r self.new.upcoming ≡ message header.now }
         ensures room { HasRoom self.new.stage self.new.upcoming }
         ensures rest { (self.new.refusal ≡ None) × (self.new.limits ≡ self.old.limits) × (self.new.frame ≡ self.old.frame) × (self.new.came ≡ 0) }
     {
@@ -233,20 +263,33 @@ impl Standing {
         self.stop = self.offset + u64::from(header.length);
         self.came = 0;
         self.upcoming.begin(header);
+        self.go_on();
+    }
+
+    /// Goes on to what is due next in the message.
+    #[tactic(auto, using(crate::proofs::Steps::next_symbols, crate::proofs::Steps::next_room))]
+    fn go_on(&mut self)
+        ensures symbols { (r : type.Standing) → symbols_at self.new.stage r self.new.upcoming ≡ rest_of self.old.upcoming }
+        ensures room { HasRoom self.new.stage self.new.upcoming }
+        ensures rest { self.new ≡ record self.old { stage = self.new.stage; upcoming = self.new.upcoming } }
+    {
         self.stage = stage_of(self.upcoming.pop());
     }
 
     fn advance_field<A: Allocator>(
         &mut self,
         partial: &mut Partial<A>,
+        table: &mut TypeTable<A>,
         want: Want,
         input: &[u8],
     ) -> Advance
-        requires lawful { IsLawful self.old partial.old }
+        requires bounded { IsBounded self.old }
         requires here { self.old.stage ≡ stage.Field want }
+        requires wanted { IsWanted self.old partial.old want }
+        requires room { partial.old.room ≡ max self.old.limits.text self.old.limits.cell }
         requires unrefused { self.old.refusal ≡ None }
-        ensures lawful { IsLawful self.new partial.new }
-        ensures moves { Moves (state_of self.old partial.old) input.now result (state_of self.new partial.new) }
+        ensures lawful { (r : type.Standing) → IsLawful self.old (parts partial.old r table.old) → IsLawful self.new (parts partial.new r table.new) }
+        ensures moves { (r : type.Standing) → Moves (state_of self.old (parts partial.old r table.old)) input.now result (state_of self.new (parts partial.new r table.new)) }
         ensures rest { (self.new.refusal ≡ None) × (self.new.limits ≡ self.old.limits) }
     {
         self.ask(partial, want);
@@ -264,6 +307,7 @@ impl Standing {
                 }
                 let at = self.offset;
                 self.offset += came + used as u64;
+                begin_metadata(want.role, table);
                 self.follow(want.role, value);
                 Advance::Event {
                     at,
@@ -276,8 +320,9 @@ impl Standing {
 
     /// Sees that the field has begun.
     fn ask<A: Allocator>(&self, partial: &mut Partial<A>, want: Want)
-        requires lawful { IsLawful self.now partial.old }
-        requires here { self.now.stage ≡ stage.Field want }
+        requires inside { self.now.offset ≤ self.now.stop }
+        requires room { partial.old.room ≡ max self.now.limits.text self.now.limits.cell }
+        requires field { partial.old.under_way ≡ true → partial.old.field ≡ asked self.now want }
         ensures { IsAsked self.now partial.old partial.new want }
     {
         if !partial.is_under_way() {
@@ -288,14 +333,73 @@ impl Standing {
 
     /// Goes on behind a field.
     fn follow(&mut self, role: Role, value: Prim<'_>)
-        requires room { length self.old.upcoming + behind role ≤ 16 }
-        requires followed { IsFollowed role }
-        ensures symbols { (types : Types) → symbols_at self.new.stage self.new.upcoming ≡ following types role (value_of value.entry) ++ (symbols_in self.old.upcoming ++ Extra ∷ []) }
+        requires { length self.old.upcoming + behind role ≤ 16 }
+        ensures symbols { (types : Types) (r : type.Standing) → symbols_at self.new.stage r self.new.upcoming ≡ following types role (value_of value.entry) ++ rest_of self.old.upcoming }
         ensures rest { self.new ≡ record self.old { stage = self.new.stage; upcoming = self.new.upcoming } }
         ensures room { HasRoom self.new.stage self.new.upcoming }
     {
         self.upcoming.follow(role, value);
-        self.stage = stage_of(self.upcoming.pop());
+        self.go_on();
+    }
+
+    /// Begins the type option that is due.
+    fn begin_option<A: Allocator>(&mut self, types: &mut TypeReader<A>)
+        requires here { self.old.stage ≡ stage.Option }
+        requires idle { types.old.under_way ≡ false }
+        requires inside { self.old.offset ≤ self.old.stop }
+        ensures self_is { self.new ≡ record self.old { stage = stage.Type } }
+        ensures types_are { types.new ≡ started types.old self.old.offset self.old.stop }
+    {
+        types.begin(self.offset, self.stop);
+        self.stage = Stage::Type;
+    }
+
+    fn advance_option<A: Allocator>(
+        &mut self,
+        partial: &mut Partial<A>,
+        types: &mut TypeReader<A>,
+        table: &mut TypeTable<A>,
+        input: &[u8],
+    ) -> Advance
+        requires lawful { IsLawful self.old (parts partial.old types.old table.old) }
+        requires here { self.old.stage ≡ stage.Type }
+        requires unrefused { self.old.refusal ≡ None }
+        ensures lawful { IsLawful self.new (parts partial.new types.new table.new) }
+        ensures moves { Moves (state_of self.old (parts partial.old types.old table.old)) input.now result (state_of self.new (parts partial.new types.new table.new)) }
+        ensures rest { (self.new.refusal ≡ None) × (self.new.limits ≡ self.old.limits) }
+    {
+        match types.advance(partial, table, input) {
+            TypeAdvance::More { used } => Advance::More { used },
+            TypeAdvance::Refused(refusal) => {
+                self.stage = Stage::Extra;
+                Advance::Refused(refusal)
+            }
+            TypeAdvance::Done => unreachable!(),
+            TypeAdvance::Item { at, used, item } => {
+                let event = Advance::Event {
+                    at,
+                    used,
+                    what: What::Option(item),
+                };
+                let offset = types.offset();
+                if !types.done() {
+                    return event;
+                }
+                types.stop();
+                self.go_behind(offset);
+                event
+            }
+        }
+    }
+
+    /// Goes on behind a type option that ends at an offset.
+    fn go_behind(&mut self, offset: u64)
+        ensures symbols { (r : type.Standing) → symbols_at self.new.stage r self.new.upcoming ≡ rest_of self.old.upcoming }
+        ensures room { HasRoom self.new.stage self.new.upcoming }
+        ensures rest { self.new ≡ record self.old { offset = offset; stage = self.new.stage; upcoming = self.new.upcoming } }
+    {
+        self.offset = offset;
+        self.go_on();
     }
 
     fn advance_extra(&mut self, input: &[u8]) -> Advance
@@ -303,8 +407,8 @@ impl Standing {
         requires here { self.old.stage ≡ stage.Extra }
         requires came { self.old.came ≤ self.old.stop - self.old.offset }
         requires unrefused { self.old.refusal ≡ None }
-        ensures lawful { (p : Progress) → IsLawful self.old p → IsLawful self.new p }
-        ensures moves { (p : Progress) → IsIdle p → Moves (state_of self.old p) input.now result (state_of self.new p) }
+        ensures lawful { (q : Parts) → IsLawful self.old q → IsLawful self.new q }
+        ensures moves { (q : Parts) → IsIdle q → Moves (state_of self.old q) input.now result (state_of self.new q) }
         ensures rest { (self.new.refusal ≡ None) × (self.new.limits ≡ self.old.limits) }
     {
         let extra = self.stop - self.offset;
@@ -327,12 +431,25 @@ impl Standing {
     }
 }
 
-/// What is read next, where this is the next field of a message.
-fn stage_of(next: Option<Want>) -> Stage
+/// How many bytes of the field under way have come.
+fn came_of_field<A: Allocator>(partial: &Partial<A>) -> u64
+    ensures is { result ≡ length (came_of partial.now) }
+    ensures small { result < 2 ^ 33 }
+{
+    if partial.is_under_way() {
+        partial.came()
+    } else {
+        0
+    }
+}
+
+/// What is read next, where this is due next in a message.
+fn stage_of(next: Option<Due>) -> Stage
     ensures { result ≡ stage_with next }
 {
     match next {
-        Some(want) => Stage::Field(want),
+        Some(Due::Field(want)) => Stage::Field(want),
+        Some(Due::Option) => Stage::Option,
         None => Stage::Extra,
     }
 }

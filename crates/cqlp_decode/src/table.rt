@@ -3,11 +3,21 @@
 ghost use Rattle.std.specs.Prelude.{◌≡◌, ◌+◌, ◌<◌, ◌≤◌, length, max, ◌==◌, if◌then◌else◌};
 ghost use Rattle.std.specs.Prelude.{◌++◌};
 ghost use Rattle.cqlp_note.specs.Heading.{beside_number, has as has_bit};
-ghost use Rattle.cqlp_message.specs.Productions.{body, by_text, errors, events, group as symbols_of_group, or_nothing, result_fields as symbols_of_result, targets};
-ghost use Rattle.cqlp_decode.specs.Upcoming.{AreRead, IsOpenable, behind, opened, room_for, wants};
+ghost use Rattle.cqlp_message.specs.Productions.{body, by_text, errors, events, group as symbols_of_group, or_nothing, results, targets};
+ghost use Rattle.cqlp_decode.specs.Upcoming.{AreRead, behind_due, opened, room_for, wants};
+ghost use Rattle.std.specs.Prelude.{◌-◌, drop, slice_index_or};
+ghost use Rattle.cqlp_decode.specs.declared.table.Due.{Due as Declared};
 
 use cqlp_message::{Group, Role};
 use cqlp_note::{Field, Notation, Opcode};
+
+/// What is to be read next.
+#[derive(Clone, Copy, Debug, PartialEq, Eq)]
+pub enum Due {
+    Field(Want),
+    /// The type option of a column.
+    Option,
+}
 
 /// A field that is to be read.
 #[derive(Clone, Copy, Debug, PartialEq, Eq)]
@@ -20,38 +30,38 @@ pub struct Want {
 /// A field from whose value nothing follows.
 macro_rules! plain {
     ($field:ident, $notation:ident) => {
-        Want {
+        Due::Field(Want {
             field: Field::$field,
             notation: Notation::$notation,
             role: Role::Alone,
-        }
+        })
     };
 }
 
 /// A field of this role.
 macro_rules! with_role {
     ($field:ident, $notation:ident, $role:ident) => {
-        Want {
+        Due::Field(Want {
             field: Field::$field,
             notation: Notation::$notation,
             role: Role::$role,
-        }
+        })
     };
 }
 
 /// A count of so many groups, a \[short\].
 macro_rules! counted {
     ($field:ident, $group:expr) => {
-        Want {
+        Due::Field(Want {
             field: Field::$field,
             notation: Notation::Count16,
             role: Role::Counts($group),
-        }
+        })
     };
 }
 
 /// The fields of a message.
-pub fn body_fields(opcode: Opcode) -> &'static [Want]
+pub fn body_fields(opcode: Opcode) -> &'static [Due]
     ensures fields { wants result.now ≡ body opcode }
     ensures read { AreRead result.now }
     ensures room { room_for result.now ≤ 7 }
@@ -90,12 +100,12 @@ pub fn body_fields(opcode: Opcode) -> &'static [Want]
 }
 
 /// The fields of one group.
-pub fn group_fields(group: Group) -> &'static [Want]
-    requires { IsOpenable group }
+pub fn group_fields(group: Group) -> &'static [Due]
     ensures fields { wants result.now ≡ symbols_of_group group }
     ensures some { 0 < length result.now }
     ensures read { AreRead result.now }
-    ensures room { room_for result.now ≤ opened group + 1 }
+    ensures first { (d : Declared) → (length result.now - 1) + behind_due (slice_index_or result.now 0 d) ≤ opened group }
+    ensures others { room_for (drop 1 result.now) ≤ opened group }
 {
     match group {
         Group::Warnings => &[plain!(Warning, Text16)],
@@ -112,12 +122,19 @@ pub fn group_fields(group: Group) -> &'static [Want]
         Group::BatchValues => &[plain!(Value, Bound)],
         Group::BatchEntries => &[with_role!(EntryKind, Byte, EntryKind)],
         Group::Arguments => &[plain!(Argument, Text16)],
-        Group::KeyIndexes | Group::Columns { .. } => unreachable!(),
+        Group::KeyIndexes => &[plain!(KeyIndex, Short)],
+        Group::Columns { one_table: true } => &[plain!(ColumnName, Text16), Due::Option],
+        Group::Columns { one_table: false } => &[
+            plain!(Keyspace, Text16),
+            plain!(Table, Text16),
+            plain!(ColumnName, Text16),
+            Due::Option,
+        ],
     }
 }
 
 /// The fields behind an error's message.
-pub fn error_fields(code: u32) -> &'static [Want]
+pub fn error_fields(code: u32) -> &'static [Due]
     ensures fields { wants result.now ≡ or_nothing (beside_number code errors) }
     ensures read { AreRead result.now }
     ensures room { room_for result.now ≤ 5 }
@@ -167,13 +184,22 @@ pub fn error_fields(code: u32) -> &'static [Want]
 }
 
 /// The fields of a result of this kind.
-pub fn result_fields(kind: u32) -> &'static [Want]
-    ensures fields { wants result.now ≡ symbols_of_result kind }
+pub fn result_fields(kind: u32) -> &'static [Due]
+    ensures fields { wants result.now ≡ or_nothing (beside_number kind results) }
     ensures read { AreRead result.now }
-    ensures room { room_for result.now ≤ 3 }
+    ensures room { room_for result.now ≤ 5 }
 {
     match kind {
+        2 => &[Due::Field(Want {
+            field: Field::MetaFlags,
+            notation: Notation::Int,
+            role: Role::MetaFlags { rows: true },
+        })],
         3 => &[plain!(Keyspace, Text16)],
+        4 => &[
+            plain!(StatementId, Bytes16),
+            with_role!(MetaFlags, Int, PreparedFlags),
+        ],
         5 => &[
             plain!(Change, Text16),
             with_role!(Target, Text16, ChangeTarget),
@@ -183,7 +209,7 @@ pub fn result_fields(kind: u32) -> &'static [Want]
 }
 
 /// The names of a changed target.
-pub fn target_fields(target: &str) -> &'static [Want]
+pub fn target_fields(target: &str) -> &'static [Due]
     ensures fields { wants result.now ≡ by_text target.now targets }
     ensures read { AreRead result.now }
     ensures room { room_for result.now ≤ 3 }
@@ -204,7 +230,7 @@ pub fn target_fields(target: &str) -> &'static [Want]
 }
 
 /// The fields of an event of this type.
-pub fn event_fields(event_type: &str) -> &'static [Want]
+pub fn event_fields(event_type: &str) -> &'static [Due]
     ensures fields { wants result.now ≡ by_text event_type.now events }
     ensures read { AreRead result.now }
     ensures room { room_for result.now ≤ 3 }

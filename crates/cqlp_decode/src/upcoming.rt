@@ -3,14 +3,14 @@
 ghost use Rattle.std.specs.Prelude.{◌≡◌, ◌+◌, ◌<◌, ◌≤◌, ◌++◌, ◌∷◌, [], length, drop, max, if◌then◌else◌};
 ghost use Rattle.cqlp_decode.specs.declared.upcoming.Slot.TheVariants as slot;
 
-use crate::table::{Want, group_fields};
+use crate::table::{Due, group_fields};
 use cqlp_message::Group;
 use std::marker::Model;
 
 /// Fields that are still to be read.
 #[derive(Clone, Copy, Debug, PartialEq, Eq)]
 pub enum Slot {
-    One(Want),
+    One(Due),
     /// So many of this group.
     Many(Group, u32),
 }
@@ -35,7 +35,7 @@ impl Model for Upcoming {
 }
 
 impl Upcoming {
-    ghost use Rattle.cqlp_decode.specs.Upcoming.{Popped, Next, IsLawful, IsOpenable, IsRead, AreRead, need, opened, behind, room_for, symbols_in, wanted, wants};
+    ghost use Rattle.cqlp_decode.specs.Upcoming.{Popped, Next, IsLawful, IsRead, AreRead, need, opened, behind_due, room_for, symbols_in, wanted, wants};
     ghost use Rattle.cqlp_message.specs.Productions.{copies, group as symbols_of_group};
 
     pub fn new() -> Self
@@ -55,11 +55,11 @@ impl Upcoming {
 
     /// The next field.
     #[tactic(auto, using(crate::proofs::Stack::next_one, crate::proofs::Stack::next_many))]
-    pub fn pop(&mut self) -> Option<Want>
+    pub fn pop(&mut self) -> Option<Due>
         ensures { Next self.old result self.new }
     {
         match self.pop_slot()? {
-            Slot::One(want) => Some(want),
+            Slot::One(due) => Some(due),
             Slot::Many(group, left) => {
                 self.push_many(group, left - 1);
                 Some(self.open(group))
@@ -70,8 +70,7 @@ impl Upcoming {
     /// Puts so many groups before all else.
     #[tactic(auto, using(crate::proofs::Stack::symbols_pushed))]
     pub fn push_many(&mut self, group: Group, count: u32)
-        requires openable { IsOpenable group }
-        requires room { length self.old + (opened group + 1) ≤ 16 }
+        requires { length self.old + (opened group + 1) ≤ 16 }
         ensures symbols { symbols_in self.new ≡ copies count (symbols_of_group group) ++ symbols_in self.old }
         ensures height { length self.new ≤ length self.old + 1 }
     {
@@ -82,20 +81,20 @@ impl Upcoming {
 
     /// Puts a field before all else, where it stands.
     #[tactic(auto, using(crate::proofs::Stack::symbols_pushed))]
-    pub fn push_if(&mut self, stands: bool, want: Want)
-        requires read { IsRead want }
-        requires room { length self.old + max 1 (behind want.role) ≤ 16 }
-        ensures symbols { symbols_in self.new ≡ (if stands then wanted want ∷ [] else []) ++ symbols_in self.old }
+    pub fn push_if(&mut self, stands: bool, due: Due)
+        requires read { IsRead due }
+        requires room { length self.old + max 1 (behind_due due) ≤ 16 }
+        ensures symbols { symbols_in self.new ≡ (if stands then wanted due ∷ [] else []) ++ symbols_in self.old }
         ensures height { length self.new ≤ length self.old + 1 }
     {
         if stands {
-            self.push(Slot::One(want));
+            self.push(Slot::One(due));
         }
     }
 
     /// Puts these fields before all else.
     #[tactic(auto, using(crate::proofs::Stack::read_at, crate::proofs::Stack::room_at, crate::proofs::Stack::fields_pushed, crate::proofs::Stack::fields_none))]
-    pub fn push_fields(&mut self, fields: &[Want])
+    pub fn push_fields(&mut self, fields: &[Due])
         requires read { AreRead fields.now }
         requires room { length self.old + room_for fields.now ≤ 16 }
         ensures symbols { symbols_in self.new ≡ wants fields.now ++ symbols_in self.old }
@@ -109,11 +108,10 @@ impl Upcoming {
     }
 
     /// The first field of a group; the others come next.
-    fn open(&mut self, group: Group) -> Want
-        requires openable { IsOpenable group }
-        requires room { length self.old + opened group ≤ 16 }
+    fn open(&mut self, group: Group) -> Due
+        requires { length self.old + opened group ≤ 16 }
         ensures symbols { wanted result ∷ symbols_in self.new ≡ symbols_of_group group ++ symbols_in self.old }
-        ensures room { length self.new + behind result.role ≤ 16 }
+        ensures room { length self.new + behind_due result ≤ 16 }
         ensures read { IsRead result }
     {
         let fields = group_fields(group);

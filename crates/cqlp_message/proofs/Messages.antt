@@ -10,13 +10,13 @@ use Rattle.cqlp_note.specs.declared.field.Field.TheVariants as field
 use Rattle.cqlp_note.specs.declared.field.Notation.TheVariants as notation
 use Rattle.cqlp_note.specs.Field.{FieldValue, BoundValue}
 use Rattle.cqlp_note.specs.Field as note
-use Rattle.cqlp_note.specs.Heading.{has}
+use Rattle.cqlp_note.specs.Heading.{has, beside_number}
 use Rattle.cqlp_type.specs.Types.{Types}
 use Rattle.cqlp_message.specs.declared.grammar.Group.TheVariants as group_of
 use Rattle.cqlp_message.specs.declared.grammar.Role.{Role}
 use Rattle.cqlp_message.specs.declared.grammar.Role.TheVariants as role
 use Rattle.cqlp_message.specs.FrameValues.{Octets, QueryParams, BatchEntry, Text, Id, ErrorExtra, Plain, Unavailable, WriteTimeout, ReadTimeout, ReadFailure, FunctionFailure, WriteFailure, AlreadyExists, Unprepared, SchemaOptions, Keyspace, Named, Callable, UnknownTarget, SchemaChange, ServerEvent, Node, Schema, UnknownEvent, Message, Startup, Options, Query, Prepare, Execute, Batch, Register, AuthResponse, Error, Ready, Authenticate, Supported, Void, SetKeyspace, Change, UnknownResult, Event, AuthChallenge, AuthSuccess, FrameValue}
-use Rattle.cqlp_message.specs.Productions.{Symbol, In, Extra, plain, counted, copies, group, where_set, parameters, body, message, payload, schema_change, result_fields}
+use Rattle.cqlp_message.specs.Productions.{Symbol, In, Extra, plain, counted, copies, group, where_set, parameters, body, message, payload, schema_change, results, or_nothing}
 use Rattle.cqlp_message.specs.Parts.{Part, Field_is}
 use Rattle.cqlp_message.specs.Bodies.{where_some, texts, text, bytes, bound, value_parts, serial_parts, timestamp_parts, paging_parts, params_parts, entry_parts, extra_parts, options_parts, change_parts, event_parts, message_parts}
 use Rattle.cqlp_message.specs.Bodies as bodies
@@ -39,7 +39,7 @@ warnings_parts o = where_some (texts field.Warnings field.Warning) o
 abbrev payload_parts : Option (List (Octets × Option Octets)) → List Part
 payload_parts o = where_some (bodies.counted field.PayloadItems (λ i. text field.PayloadKey i.0 ∷ bytes field.PayloadValue i.1 ∷ [])) o
 
-no_result : (n : ℕ) → IsNoResult n → result_fields n ≡ []
+no_result : (n : ℕ) → IsNoResult n → or_nothing (beside_number n results) ≡ []
 no_result n (inl e) = rw e refl
 no_result n (inr h) = rw (ne_eqb n 2 (λ e. omega arith), ne_eqb n 3 (λ e. omega arith), ne_eqb n 4 (λ e. omega arith), ne_eqb n 5 (λ e. omega arith)) refl
 

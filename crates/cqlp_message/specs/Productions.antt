@@ -187,9 +187,9 @@ raw_types (suc n) = Type_and kind.Raw NoMore (raw_types n)
 abbrev pub or_nothing : Option (List Symbol) → List Symbol
 or_nothing o = unwrap_or o []
 
--- The results whose fields are read so far; behind the kind of another all is extra.
-abbrev pub result_fields : ℕ → List Symbol
-result_fields n = if (n == 2) || (n == 4) then [] else or_nothing (beside_number n results)
+-- The cells of a page are not read so far: behind the number of its rows all is extra.
+abbrev pub page_cells : Types → (rows : ℕ) → List Symbol
+page_cells types rows = []
 
 -- A value's number: unsigned, or the bits of an [int].
 abbrev pub number_in : FieldValue → ℕ
@@ -211,7 +211,7 @@ following types role.QueryFlags v = query_parts (number_in v)
 following types role.EntryKind v = entry_parts (number_in v)
 following types role.BatchFlags v = batch_parts (number_in v)
 following types role.ErrorCode v = plain field.Message Text16 ∷ or_nothing (beside_number (number_in v) errors)
-following types role.ResultKind v = result_fields (number_in v)
+following types role.ResultKind v = or_nothing (beside_number (number_in v) results)
 following types role.ChangeTarget v = by_text (text_in v) targets
 following types role.EventType v = by_text (text_in v) events
 following types (role.MetaFlags rows) v = In field.Columns Count32 (role.MetaColumns rows (number_in v)) ∷ []
@@ -222,7 +222,7 @@ following types (role.MetaColumns rows flags) v =
 following types role.PreparedFlags v = In field.Columns Count32 (role.PreparedColumns (number_in v)) ∷ []
 following types (role.PreparedColumns flags) v = In field.Keys Count32 (role.PreparedKeys flags (number_in v)) ∷ []
 following types (role.PreparedKeys flags columns) v = copies (number_in v) (group group_of.KeyIndexes) ++ specs flags columns ++ In field.MetaFlags Int (role.MetaFlags false) ∷ []
-following types (role.PageRows flags columns) v = rows_from 0 types (number_in v)
+following types (role.PageRows flags columns) v = page_cells types (number_in v)
 
 -- a kind or flags that no batch has
 abbrev pub fault_in : Role → FieldValue → Option Reason

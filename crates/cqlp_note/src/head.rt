@@ -35,9 +35,16 @@ pub enum Form {
 #[derive(Clone, Copy)]
 pub(crate) enum Head {
     /// The whole field, of so many bytes.
-    Whole { used: usize, prim: Primitive<'static> },
+    Whole {
+        used: usize,
+        prim: Primitive<'static>,
+    },
     /// Behind so many bytes comes a content of this length.
-    Content { behind: usize, len: u32, form: Form },
+    Content {
+        behind: usize,
+        len: u32,
+        form: Form,
+    },
 }
 
 /// Why the front of a field tells nothing.

@@ -1,64 +1,47 @@
-//! Allocators for tests.
-
-ghost use Rattle.std.specs.Borrow.{ffalse};
+//! An allocator for tests.
 
 use std::alloc::{AllocError, Allocator};
 use std::cell::Cell;
 
-/// Has no memory.
-#[derive(Clone, Copy)]
-pub(crate) struct Nothing;
-
-unsafe impl Allocator for Nothing {
-    ghost dealloc_token = { λ _ _ _. ffalse };
-
-    fn allocate(&self, _size: usize, _align: usize) -> Result<*mut u8, AllocError> {
-        Err(AllocError)
-    }
-
-    unsafe fn deallocate(&self, _ptr: *mut u8, _size: usize, _align: usize) {}
-}
-
-/// Passes each call on, and counts them.
-pub(crate) struct Counted<B: Allocator> {
+/// Gives out so many blocks, and then no more.
+pub(crate) struct Limited<B: Allocator> {
     inner: B,
-    calls: Cell<u64>,
+    left: Cell<u64>,
 }
 
-impl<B: Allocator> Counted<B> {
-    pub(crate) fn new(inner: B) -> Counted<B> {
-        Counted {
+impl<B: Allocator> Limited<B> {
+    pub(crate) fn new(inner: B, blocks: u64) -> Limited<B> {
+        Limited {
             inner,
-            calls: Cell::new(0),
+            left: Cell::new(blocks),
         }
     }
-
-    /// How often memory was asked for or given back.
-    pub(crate) fn calls(&self) -> u64 {
-        self.calls.get()
-    }
 }
 
-impl<B: Allocator> Drop for Counted<B> {
+impl<B: Allocator> Drop for Limited<B> {
     fn drop(self) {
-        let Self { inner: _, calls: _ } = self;
+        let Self { inner: _, left: _ } = self;
     }
 }
 
-fn tick(calls: &Cell<u64>) {
-    calls.set(calls.get().wrapping_add(1));
+/// Takes one of those that are left; whether there was none.
+fn is_spent(left: &Cell<u64>) -> bool {
+    let blocks = left.get();
+    left.set(blocks.saturating_sub(1));
+    blocks == 0
 }
 
-unsafe impl<B: Allocator> Allocator for Counted<B> {
+unsafe impl<B: Allocator> Allocator for Limited<B> {
     ghost dealloc_token = { λ heap ty ptr. B.dealloc_token heap.inner ty ptr };
 
     fn allocate(&self, size: usize, align: usize) -> Result<*mut u8, AllocError> {
-        tick(&self.calls);
+        if is_spent(&self.left) {
+            return Err(AllocError);
+        }
         self.inner.allocate(size, align)
     }
 
     unsafe fn deallocate(&self, ptr: *mut u8, size: usize, align: usize) {
-        tick(&self.calls);
         self.inner.deallocate(ptr, size, align);
     }
 }

@@ -40,7 +40,8 @@ impl<A: Allocator> Partial<A> {
     ghost use Rattle.cqlp_note.specs.Lending.{Next};
     ghost use Rattle.cqlp_note.specs.Partial.{Advances, CanLend, Pushes, Uses, begun, ended, item_value};
 
-    /// With room for contents of up to `room` bytes.
+    /// With room for contents of up to `room` bytes, and no field under way. This is the one call that takes memory;
+    /// the error is that it was refused.
     pub fn new(alloc: A, room: u32) -> Result<Self, NoMemory>
         ensures room { IfOk result (λ partial. partial.room ≡ room) }
         ensures idle { IfOk result (λ partial. partial.under_way ≡ false) }
@@ -61,7 +62,8 @@ impl<A: Allocator> Partial<A> {
         })
     }
 
-    /// Begins a field at an offset, in a container that ends at another.
+    /// Begins a field whose first byte is at the offset `at` of the stream, in a container that ends at `end`. Its
+    /// content may have up to `limit` bytes.
     pub fn begin(&mut self, notation: Notation, limit: u32, at: u64, end: u64)
         requires idle { self.old.under_way ≡ false }
         requires limit { limit ≤ self.old.room }
@@ -79,7 +81,8 @@ impl<A: Allocator> Partial<A> {
         self.stage = Stage::Front;
     }
 
-    /// Takes the next bytes of the field that is under way. A content that lies whole in them is lent from them.
+    /// Takes the next bytes of the field that is under way. A content that lies whole in them is lent from them. No
+    /// byte behind the field is used; a field that is made or refused has ended.
     pub fn push<'a>(&'a mut self, input: &'a [u8]) -> Push<'a>
         requires { self.old.under_way ≡ true }
         ensures uses { Uses input.now result }
@@ -95,7 +98,7 @@ impl<A: Allocator> Partial<A> {
         }
     }
 
-    /// What `advance` made of this input.
+    /// The value of an item that `advance` made of this input.
     pub fn lend<'a>(&'a self, input: &'a [u8], item: Item) -> Primitive<'a>
         requires { CanLend item input.now self.now.content }
         ensures { value_of result ≡ item_value item input.now self.now.content }
@@ -112,7 +115,8 @@ impl<A: Allocator> Partial<A> {
         }
     }
 
-    /// Takes the next bytes of the field that is under way.
+    /// Does what `push` does, but tells where a content lies in place of lending it, so that a reader around this one
+    /// can go on before it lends.
     #[tactic(auto, using(crate::proofs::Pieces::content_front, crate::proofs::Pieces::gathered_bad, crate::proofs::Fronts::fixed_short))]
     pub fn advance(&mut self, input: &[u8]) -> Taken
         requires { self.old.under_way ≡ true }

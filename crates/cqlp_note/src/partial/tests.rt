@@ -3,7 +3,7 @@
 ghost use Rattle.std.specs.Prelude.{◌≡◌, ◌≤◌, ◌+◌, ◌^◌, ◌<◌, IfOk, true};
 
 use super::*;
-use crate::heaps::{Counted, Nothing};
+use crate::heaps::Limited;
 use crate::prim::Address;
 use std::test::Fail;
 
@@ -34,7 +34,12 @@ fn each_notation_is_read_to_its_end(rt: HostRuntime) -> Result<(), Fail> {
     let rows: [(Notation, &[u8], usize, Primitive<'static>); 20] = [
         (Notation::Byte, &[255, 9], 1, Primitive::Byte(255)),
         (Notation::Short, &[1, 2, 9], 2, Primitive::Short(258)),
-        (Notation::Int, &[255, 255, 255, 254, 9], 4, Primitive::Int(-2)),
+        (
+            Notation::Int,
+            &[255, 255, 255, 254, 9],
+            4,
+            Primitive::Int(-2),
+        ),
         (
             Notation::Long,
             &[128, 0, 0, 0, 0, 0, 0, 1, 9],
@@ -47,14 +52,24 @@ fn each_notation_is_read_to_its_end(rt: HostRuntime) -> Result<(), Fail> {
             16,
             Primitive::Uuid(uuid),
         ),
-        (Notation::Count16, &[255, 255, 9], 2, Primitive::Count(65_535)),
+        (
+            Notation::Count16,
+            &[255, 255, 9],
+            2,
+            Primitive::Count(65_535),
+        ),
         (
             Notation::Count32,
             &[127, 255, 255, 255, 9],
             4,
             Primitive::Count(2_147_483_647),
         ),
-        (Notation::Text16, &[0, 2, 195, 169, 9], 4, Primitive::Text("é")),
+        (
+            Notation::Text16,
+            &[0, 2, 195, 169, 9],
+            4,
+            Primitive::Text("é"),
+        ),
         (
             Notation::Text32,
             &[0, 0, 0, 2, b'h', b'i', 9],
@@ -79,7 +94,12 @@ fn each_notation_is_read_to_its_end(rt: HostRuntime) -> Result<(), Fail> {
             4,
             Primitive::Bytes(None),
         ),
-        (Notation::Bytes32, &[128, 0, 0, 0, 9], 4, Primitive::Bytes(None)),
+        (
+            Notation::Bytes32,
+            &[128, 0, 0, 0, 9],
+            4,
+            Primitive::Bytes(None),
+        ),
         (
             Notation::Bound,
             &[0, 0, 0, 0, 9],
@@ -185,8 +205,12 @@ fn text_is_the_same_wherever_it_is_cut(rt: HostRuntime) -> Result<(), Fail> {
             Push::More { used } => assert_eq!(rt; used, cut),
             _ => return Err("it ended before its last byte")?,
         }
+        assert!(rt; partial.is_under_way(), "at {cut}");
+        assert_eq!(rt; partial.came(), cut as u64);
         let (used, prim) = (10 - cut, Primitive::Text("aébcd"));
         assert_eq!(rt; partial.push(second), Push::Got { used, prim }, "at {cut}");
+        assert!(rt; !partial.is_under_way(), "at {cut}");
+        assert_eq!(rt; partial.came(), 0);
         assert_eq!(rt; partial.held(), if cut > 4 { 6 } else { 0 }, "at {cut}");
     }
     Ok(())
@@ -206,6 +230,15 @@ fn bad_text_is_refused_at_its_last_byte(rt: HostRuntime) -> Result<(), Fail> {
 }
 
 #[test]
+fn address_of_five_bytes_is_refused_at_once(rt: HostRuntime) -> Result<(), Fail> {
+    let mut partial = Partial::new(rt.alloc(), LIMIT)?;
+    partial.begin(Notation::Inet, LIMIT, 0, 9);
+    let why = Reason::BadInet;
+    assert_eq!(rt; partial.push(&[5]), Push::Refused(Refusal { at: 0, why }));
+    Ok(())
+}
+
+#[test]
 fn address_cut_in_its_port(rt: HostRuntime) -> Result<(), Fail> {
     let mut partial = begun(rt.alloc(), Notation::Inet, 93)?;
     match partial.push(&[4, 127, 0, 0, 1, 0, 0]) {
@@ -219,25 +252,24 @@ fn address_cut_in_its_port(rt: HostRuntime) -> Result<(), Fail> {
 
 #[test]
 fn memory_that_is_refused_is_told(rt: HostRuntime) {
-    assert!(rt; matches!(Partial::new(Nothing, LIMIT), Err(NoMemory)));
+    let none = Limited::new(rt.alloc(), 0);
+    assert!(rt; matches!(Partial::new(&none, LIMIT), Err(NoMemory)));
 }
 
 #[test]
 fn memory_is_taken_by_new_alone(rt: HostRuntime) -> Result<(), Fail> {
-    let counted = Counted::new(rt.alloc());
-    let mut partial = Partial::new(&counted, LIMIT)?;
-    assert_eq!(rt; counted.calls(), 1);
+    let one = Limited::new(rt.alloc(), 1);
+    let mut partial = Partial::new(&one, LIMIT)?;
+    assert!(rt; matches!(Partial::new(&one, LIMIT), Err(NoMemory)));
     partial.begin(Notation::Text32, LIMIT, AT, AT + 44);
-    let (head, tail) = ([0, 0, 0, 40, b'a'], [b'a'; 39]);
-    match partial.push(&head) {
+    match partial.push(&[0, 0, 0, 40, b'a']) {
         Push::More { used } => assert_eq!(rt; used, 5),
         _ => return Err("it ended before its last byte")?,
     }
-    match partial.push(&tail) {
+    match partial.push(&[b'a'; 39]) {
         Push::Got { used, .. } => assert_eq!(rt; used, 39),
         _ => return Err("it did not end at its last byte")?,
     }
     assert_eq!(rt; partial.held(), LIMIT);
-    assert_eq!(rt; counted.calls(), 1);
     Ok(())
 }

@@ -1,7 +1,7 @@
 use Rattle.std.proofs.Common.{◌≡◌, ◌+◌, ◌-◌, ◌<◌, ◌≤◌, ◌++◌, [], List, ℕ, length, take, drop, refl, sym, inl, inr, arith}
 use Rattle.std.proofs.lemmas.List.{append-nil, take-append-drop, length-append, length-take-le}
 use Rattle.cqlp_decode.specs.Streams.{state}
-use Rattle.cqlp_decode.proofs.Gets.{feeds_none, feeds_then, feeds_into, read_some, keeps_some, at_end}
+use Rattle.cqlp_decode.proofs.Gets.{feeds_none, feeds_then, feeds_into, has_all, read_some, keeps_some, at_end}
 use Rattle.cqlp_decode.proofs.running.run.Goals as goal
 
 -- before the first read
@@ -11,7 +11,7 @@ returns-in-Refused-clause-runs g c = λ xs is tells.
     let e = c.in-Refused.ensures.drains tells in
     let d = state c.args.decoder.now in
     let v = g.S.Sink.view c.args.sink.now in
-    (feeds_then g.S.Sink.after d d (state c.drain.new.decoder) xs [] xs v v _ (feeds_none g.S.Sink.after d xs v) refl (take e.1.0 []) (drop e.1.0 []) (sym (take-append-drop e.1.0 [])) e.1.1, inr e.0, c.finish.ensures)
+    (feeds_then g.S.Sink.after d d (state c.drain.new.decoder) xs [] xs v v _ (feeds_none g.S.Sink.after d xs v) refl (take e.1.0 []) (drop e.1.0 []) (sym (take-append-drop e.1.0 [])) e.1.1, inr e.0, c.finish.ensures, λ none. let refused = e.0.1 in absurd cc)
 
 pub returns-in-Fault-clause-runs : goal.returns-in-Fault-clause-runs
 returns-in-Fault-clause-runs g c = λ xs is tells.
@@ -29,7 +29,7 @@ loop-turn-init g c = record {
     let e = c.in-More.ensures.drains tells in
     let d = state c.args.decoder.now in
     let v = g.S.Sink.view c.args.sink.now in
-    (feeds_then g.S.Sink.after d d (state c.drain.new.decoder) xs [] xs v v _ (feeds_none g.S.Sink.after d xs v) refl [] [] refl (λ s es a. (e s es a).0), is, omega arith)
+    (feeds_then g.S.Sink.after d d (state c.drain.new.decoder) xs [] xs v v _ (feeds_none g.S.Sink.after d xs v) refl [] [] refl (λ s es a. (e s es a).0), is, omega arith, has_all g.S.Sink.after d d (state c.drain.new.decoder) xs [] xs v v _ (feeds_none g.S.Sink.after d xs v) refl [] [] refl e)
 }
 
 -- after a read
@@ -37,14 +37,14 @@ loop-turn-init g c = record {
 pub returns-in-Err-clause-runs : goal.returns-in-Err-clause-runs
 returns-in-Err-clause-runs g c = λ xs is tells.
     let d = c.loop-turn.invariant.fed xs is tells in
-    (d.0, keeps_some _ _ d.0.rest d.1 c.in-Err.ensures.bytes)
+    (d.0, keeps_some _ _ d.0.rest d.1 c.in-Err.ensures.bytes, d.3)
 
 pub returns-then-count-eq0-clause-runs : goal.returns-then-count-eq0-clause-runs
 returns-then-count-eq0-clause-runs g c = λ xs is tells.
     let d = c.loop-turn.invariant.fed xs is tells in
     let r = read_some _ _ d.0.rest c.read.new.buffer c.in-Ok.count d.1 c.in-Ok.ensures.bytes.0 c.in-Ok.ensures.bytes.1 in
     let long : 0 < length c.read.new.buffer = let a = c.read.auto.buffer in let b = c.loop-turn.invariant.long in omega arith in
-    (d.0, inl (at_end d.0.rest r.0 c.read.new.buffer c.in-Ok.count r.2 c.if-count-eq0.true (r.3 c.if-count-eq0.true long)), c.finish-then-count-eq0.ensures)
+    (d.0, inl (at_end d.0.rest r.0 c.read.new.buffer c.in-Ok.count r.2 c.if-count-eq0.true (r.3 c.if-count-eq0.true long)), c.finish-then-count-eq0.ensures, d.3)
 
 pub returns-in-Refused-drain-clause-runs : goal.returns-in-Refused-drain-clause-runs
 returns-in-Refused-drain-clause-runs g c = λ xs is tells.
@@ -53,7 +53,7 @@ returns-in-Refused-drain-clause-runs g c = λ xs is tells.
     let e = c.in-Refused-drain.ensures.drains (c.loop-turn.invariant.tells tells) in
     let piece = take c.in-Ok.count c.read.new.buffer in
     (feeds_then g.S.Sink.after (state c.args.decoder.now) (state c.loop-turn.decoder) (state c.drain-in-loop-turn.new.decoder) xs piece r.0 _ _ _ d.0 r.2 (take e.1.0 piece) (drop e.1.0 piece) (sym (take-append-drop e.1.0 piece)) e.1.1,
-     inr e.0, c.finish-in-Refused-drain.ensures)
+     inr e.0, c.finish-in-Refused-drain.ensures, λ none. let refused = e.0.1 in absurd cc)
 
 pub returns-in-Fault-drain-clause-runs : goal.returns-in-Fault-drain-clause-runs
 returns-in-Fault-drain-clause-runs g c = λ xs is tells.
@@ -78,10 +78,11 @@ loop-turn-preserved g c =
         let size : length piece ≡ c.in-Ok.count = length-take-le c.in-Ok.count c.read.new.buffer c.in-Ok.ensures.bound in
         let some = c.if-count-eq0.false in
         (feeds_then g.S.Sink.after (state c.args.decoder.now) (state c.loop-turn.decoder) (state c.drain-in-loop-turn.new.decoder) xs piece r.0 _ _ _ d.0 r.2 piece [] (sym (append-nil piece)) (λ s es a. (e s es a).0),
-         r.1, omega (arith, d.2, length-append d.0.bytes piece));
+         r.1, omega (arith, d.2, length-append d.0.bytes piece),
+         has_all g.S.Sink.after (state c.args.decoder.now) (state c.loop-turn.decoder) (state c.drain-in-loop-turn.new.decoder) xs piece r.0 _ _ _ d.0 r.2 piece [] (sym (append-nil piece)) e);
     }
 
 pub returns-clause-runs : goal.returns-clause-runs
 returns-clause-runs g c = λ xs is tells.
     let d = c.loop-turn.invariant.fed xs is tells in
-    (d.0, d.1, omega (arith, d.2))
+    (d.0, d.1, omega (arith, d.2), d.3)

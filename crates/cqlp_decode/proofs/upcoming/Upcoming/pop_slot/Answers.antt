@@ -2,13 +2,14 @@ use Rattle.std.proofs.Common.{◌≡◌, ◌-◌, ◌<◌, ◌≤◌, length, ar
 use Rattle.cqlp_note.specs.declared.field.Field.TheVariants.{TraceId}
 use Rattle.cqlp_note.specs.declared.field.Notation.TheVariants.{Byte}
 use Rattle.cqlp_message.specs.declared.grammar.Role.TheVariants.{Alone}
+use Rattle.cqlp_decode.specs.declared.table.Due.TheVariants.{Field}
 use Rattle.cqlp_decode.specs.declared.upcoming.Slot.{Slot}
 use Rattle.cqlp_decode.specs.declared.upcoming.Slot.TheVariants.{One}
 use Rattle.cqlp_decode.proofs.Stack.{popped-is, popped-fits}
 use Rattle.cqlp_decode.proofs.upcoming.Upcoming.pop_slot.Goals as goal
 
 abbrev none : Slot
-none = One (record { field = TraceId; notation = Byte; role = Alone })
+none = One (Field (record { field = TraceId; notation = Byte; role = Alone }))
 
 pub invariant_of-self : goal.invariant_of-self
 invariant_of-self c =

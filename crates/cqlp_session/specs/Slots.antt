@@ -1,0 +1,36 @@
+-- What stands under each stream id (section 2.3 of native_protocol_v4.spec): a list with a slot for each id.
+use Rattle.std.specs.Prelude.{◌≡◌, ◌<ℤ◌, ℕ, ◌≤◌, IsTrue, IsSome, ℤ, pos, negsuc, Bool, false, nat_lt, List, length, Option, Some, None, slice_index_or, slice_set, is_none, position}
+
+-- an id's place
+abbrev pub index_of : ℤ → Option ℕ
+index_of (pos i) = Some i
+index_of (negsuc i) = None
+
+-- it is one of these slots' ids
+abbrev pub has_slot : {A : Type 0} → List (Option A) → ℤ → Bool
+has_slot slots (pos i) = nat_lt i (length slots)
+has_slot slots (negsuc i) = false
+
+-- what stands under an id: nothing under a negative one, and past the last
+abbrev pub under : {A : Type 0} → List (Option A) → ℤ → Option A
+under slots (pos i) = slice_index_or slots i None
+under slots (negsuc i) = None
+
+-- the slots with this under an id
+abbrev pub put : {A : Type 0} → List (Option A) → ℤ → Option A → List (Option A)
+put slots (pos i) what = slice_set slots i what
+put slots (negsuc i) what = slots
+
+-- the least id that is free
+abbrev pub least_free : {A : Type 0} → List (Option A) → Option ℕ
+least_free slots = position is_none slots
+
+-- an id is free, and each one below it is taken
+pub record IsLeastFree {A : Type 0} (slots : List (Option A)) (id : ℤ) : Type 0 where
+  pub has : IsTrue (has_slot slots id)
+  pub free : under slots id ≡ None
+  pub least : (i : ℕ) → pos i <ℤ id → IsSome (under slots (pos i))
+
+-- a core may have so many slots
+abbrev pub IsSlotCount : ℕ → Type 0
+IsSlotCount n = (1 ≤ n) × (n ≤ 32768)

@@ -1,0 +1,23 @@
+//! Laws of a client and a server that talk over one connection, in whatever order their messages are sent, delivered
+//! and answered. A step of the connection is a call of a core: what `Client` and `Server` ensure is what a step does.
+
+ghost use Rattle.std.specs.Prelude.{ℕ, ◌≤◌};
+ghost use Rattle.cqlp_session.specs.Pairing.{AfterAnySteps, BeginsOnceReady, EventsChangeNothing, IdsAreApart, NoneIsRefused, RepliesArePaired};
+
+/// What holds after every list of steps from two new cores.
+pub fn pairing()
+    // A reply has the ticket and the kind of the request that its response answers.
+    ensures replies { (client server : ℕ) → AfterAnySteps client server RepliesArePaired }
+
+    // An event is told as one, and changes no core.
+    ensures events { (client server : ℕ) → AfterAnySteps client server EventsChangeNothing }
+
+    // Open requests of one core have different ids, and no id is given out while a request is open under it.
+    ensures ids { (client server : ℕ) → AfterAnySteps client server IdsAreApart }
+
+    // Query, Prepare, Execute, Batch and Register begin only in the phase Ready.
+    ensures phases { (client server : ℕ) → AfterAnySteps client server BeginsOnceReady }
+
+    // A server with at least as many slots as its client refuses none of its requests, nor the client an answer.
+    ensures accepted { (client server : ℕ) → client ≤ server → AfterAnySteps client server NoneIsRefused }
+{}

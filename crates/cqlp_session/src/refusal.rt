@@ -1,0 +1,24 @@
+//! Why a core is not made.
+
+use std::alloc::AllocError;
+use thiserror::Error;
+
+/// Why a core is not made.
+#[derive(Clone, Copy, Debug, PartialEq, Eq, Error)]
+pub enum SlotsOrMemory {
+    #[error("the number of slots is not from 1 to 32768")]
+    BadSlots,
+    #[error("no memory")]
+    NoMemory,
+}
+
+impl From<AllocError> for SlotsOrMemory {
+    ghost use Rattle.cqlp_session.specs.declared.refusal.SlotsOrMemory.TheVariants.{NoMemory};
+    ghost use Rattle.std.specs.Prelude.{◌≡◌};
+
+    ghost from_gives = { λ _ e. e ≡ NoMemory };
+
+    fn from(_: AllocError) -> Self {
+        SlotsOrMemory::NoMemory
+    }
+}
