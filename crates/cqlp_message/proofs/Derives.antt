@@ -1,7 +1,7 @@
 -- How symbols become parts, one after the other.
-use Rattle.std.proofs.Common.{◌≡◌, ℕ, Bool, true, false, cond, List, [], ◌∷◌, ◌++◌, length, Option, Some, None, refl, sym, append_assoc}
+use Rattle.std.proofs.Common.{◌≡◌, ℕ, List, [], ◌∷◌, ◌++◌, length, Option, Some, None, refl, sym, append_assoc}
 use Rattle.std.proofs.lemmas.List.Elements.{All-nil, All-cons, All-head, All-tail}
-use Rattle.std.specs.Prelude.{is_some, IfSome, All, ⊤}
+use Rattle.std.specs.Prelude.{IfSome, All, ⊤}
 use Rattle.std.specs.List.{flat_map}
 use Rattle.cqlp_note.specs.declared.field.Field.{Field}
 use Rattle.cqlp_note.specs.declared.field.Notation.{Notation}
@@ -73,5 +73,5 @@ module _ (S : Type 0) (types : S → Role → Types) (after : S → Role → S) 
   pub texts_derive : (f i : Field) (g : Group) (ts : List Octets) (ps : List Part) (rest : List Symbol) → group g ≡ plain i notation.Text16 ∷ [] → D ps rest → D (texts f i ts ++ ps) (productions.counted f g ∷ rest)
   texts_derive f i g ts ps rest is d s =
       let items : D (flat_map (λ t. text i t ∷ []) ts ++ ps) (copies (length ts) (plain i notation.Text16 ∷ []) ++ rest) =
-          each_derives (λ t. ⊤) (λ t. text i t ∷ []) (plain i notation.Text16 ∷ []) ts ps rest (trivial ts) (λ t ps rest p d. alone_derives i notation.Text16 (Text t) ps rest d) d in
+      each_derives (λ t. ⊤) (λ t. text i t ∷ []) (plain i notation.Text16 ∷ []) ts ps rest (trivial ts) (λ t ps rest p d. alone_derives i notation.Text16 (Text t) ps rest d) d in
       (same, refl, rw is (items (after s (role.Counts g))))

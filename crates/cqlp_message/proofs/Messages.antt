@@ -1,6 +1,6 @@
 -- The parts of every message whose flags agree with them come of the symbols of its opcode, and those of a frame of the
 -- symbols of its header.
-use Rattle.std.proofs.Common.{◌≡◌, ℕ, zero, suc, ℤ, ◌<◌, Bool, true, false, ◌&&◌, eqb, cond, List, [], ◌∷◌, ◌++◌, length, Option, Some, None, refl, sym, append_assoc, arith, subst, inl, inr, ◌⊎◌}
+use Rattle.std.proofs.Common.{◌≡◌, ℕ, zero, suc, ℤ, Bool, true, false, ◌&&◌, cond, List, [], ◌∷◌, ◌++◌, length, Option, Some, None, refl, append_assoc, arith, inl, inr}
 use Rattle.std.proofs.lemmas.Bool.{ne_eqb}
 use Rattle.std.proofs.lemmas.List.{append-nil}
 use Rattle.std.specs.Prelude.{All, ⊤}
@@ -15,13 +15,13 @@ use Rattle.cqlp_type.specs.Types.{Types}
 use Rattle.cqlp_message.specs.declared.grammar.Group.TheVariants as group_of
 use Rattle.cqlp_message.specs.declared.grammar.Role.{Role}
 use Rattle.cqlp_message.specs.declared.grammar.Role.TheVariants as role
-use Rattle.cqlp_message.specs.FrameValues.{Octets, QueryParams, BatchEntry, Statement, Known_statement, ErrorExtra, Plain, Unavailable, WriteTimeout, ReadTimeout, ReadFailure, FunctionFailure, WriteFailure, AlreadyExists, Unprepared, SchemaOptions, Keyspace, Named, Callable, UnknownTarget, SchemaChange, ServerEvent, Node, Schema, UnknownEvent, Message, Startup, Options, Query, Prepare, Execute, Batch, Register, AuthResponse, Error, Ready, Authenticate, Supported, Void, SetKeyspace, Change, UnknownResult, Event, AuthChallenge, AuthSuccess, FrameValue}
-use Rattle.cqlp_message.specs.Productions.{Symbol, In, Extra, plain, counted, copies, group, where_set, parameters, body, message, payload, batch_parts, schema_change, results, or_nothing, query_parts}
+use Rattle.cqlp_message.specs.FrameValues.{Octets, QueryParams, BatchEntry, Text, Id, ErrorExtra, Plain, Unavailable, WriteTimeout, ReadTimeout, ReadFailure, FunctionFailure, WriteFailure, AlreadyExists, Unprepared, SchemaOptions, Keyspace, Named, Callable, UnknownTarget, SchemaChange, ServerEvent, Node, Schema, UnknownEvent, Message, Startup, Options, Query, Prepare, Execute, Batch, Register, AuthResponse, Error, Ready, Authenticate, Supported, Void, SetKeyspace, Change, UnknownResult, Event, AuthChallenge, AuthSuccess, FrameValue}
+use Rattle.cqlp_message.specs.Productions.{Symbol, In, Extra, plain, counted, copies, group, where_set, parameters, body, message, payload, schema_change, results, or_nothing}
 use Rattle.cqlp_message.specs.Parts.{Part, Field_is}
 use Rattle.cqlp_message.specs.Bodies.{where_some, texts, text, bytes, bound, value_parts, serial_parts, timestamp_parts, paging_parts, params_parts, entry_parts, extra_parts, options_parts, change_parts, event_parts, message_parts}
 use Rattle.cqlp_message.specs.Bodies as bodies
 use Rattle.cqlp_message.specs.Agreement.{IsThereIf, ParamsAgree, BatchAgrees, ExtraAgrees, OptionsAgree, ChangeAgrees, EventAgrees, IsNoResult, MessageAgrees, opcode_of, is_response, FrameAgrees}
-use Rattle.cqlp_message.specs.Frames.{announced_parts, frame_parts, header_of}
+use Rattle.cqlp_message.specs.Frames.{frame_parts, header_of}
 use Rattle.cqlp_message.proofs.Derives.{D, same, trivial, some_of, alone_derives, each_derives, where_derives, option_derives, texts_derive}
 
 five : {X : Type 0} (a b c d e t : List X) → ((((a ++ b) ++ c) ++ d) ++ e) ++ t ≡ a ++ (b ++ (c ++ (d ++ (e ++ t))))
@@ -66,24 +66,30 @@ module _ (S : Type 0) (types : S → Role → Types) (after : S → Role → S) 
       let timestamp : List Symbol = where_set q.flags 0x20 (plain field.Timestamp notation.Long ∷ []) in
       let named : Option Octets × BoundValue → Type 0 = λ v. IsThereIf (has q.flags 0x40) v.0 in
       let behind : D S types after (serial_parts q.serial ++ (timestamp_parts q.timestamp ++ ps)) (serial ++ (timestamp ++ rest)) =
-          option_derives S types after field.SerialConsistency notation.Short note.Short q.flags 0x10 q.serial _ _ a.serial
-          (option_derives S types after field.Timestamp notation.Long note.Long q.flags 0x20 q.timestamp _ _ a.timestamp d) in
+      option_derives S types after field.SerialConsistency notation.Short note.Short q.flags 0x10 q.serial _ _ a.serial
+      (option_derives S types after field.Timestamp notation.Long note.Long q.flags 0x20 q.timestamp _ _ a.timestamp d) in
       let pages : D S types after (where_some (λ z. bodies.int field.PageSize z ∷ []) q.page_size ++ (paging_parts q.paging ++ (serial_parts q.serial ++ (timestamp_parts q.timestamp ++ ps)))) (size ++ (state ++ (serial ++ (timestamp ++ rest)))) =
-          option_derives S types after field.PageSize notation.Int note.Int q.flags 0x04 q.page_size _ _ a.page_size
-          (option_derives S types after field.PagingState notation.Bytes32 note.Bytes q.flags 0x08 q.paging _ _ a.paging behind) in
+      option_derives S types after field.PageSize notation.Int note.Int q.flags 0x04 q.page_size _ _ a.page_size
+      (option_derives S types after field.PagingState notation.Bytes32 note.Bytes q.flags 0x08 q.paging _ _ a.paging behind) in
       let all = where_derives S types after (All named) (bodies.counted field.Values value_parts) q.flags 0x01 (counted field.Values (group_of.QueryValues (has q.flags 0x40)) ∷ []) q.values _ _ a.values a.names
-          (λ vs names d s. (same, refl, each_derives S types after named value_parts (group (group_of.QueryValues (has q.flags 0x40))) vs _ _ names (λ v ps rest n d. value_derives (has q.flags 0x40) v.0 v.1 ps rest n d) d (after s (role.Counts (group_of.QueryValues (has q.flags 0x40)))))) pages in
-      (same, refl, (same, refl,
+      (λ vs names d s. (same, refl, each_derives S types after named value_parts (group (group_of.QueryValues (has q.flags 0x40))) vs _ _ names (λ v ps rest n d. value_derives (has q.flags 0x40) v.0 v.1 ps rest n d) d (after s (role.Counts (group_of.QueryValues (has q.flags 0x40)))))) pages in (
+        same,
+        refl,
+        (
+          same,
+          refl,
           rw (five (where_some (bodies.counted field.Values value_parts) q.values) (where_some (λ z. bodies.int field.PageSize z ∷ []) q.page_size) (paging_parts q.paging) (serial_parts q.serial) (timestamp_parts q.timestamp) ps, five values size state serial timestamp rest)
-          (all (after (after s role.Alone) role.QueryFlags))))
+              (all (after (after s role.Alone) role.QueryFlags)),
+        ),
+      )
 
   bounds_derive : (vs : List BoundValue) (ps : List Part) (rest : List Symbol) → D S types after ps rest → D S types after (bodies.counted field.Values (λ v. bound v ∷ []) vs ++ ps) (counted field.Values group_of.BatchValues ∷ rest)
   bounds_derive vs ps rest d s =
       (same, refl, each_derives S types after (λ v. ⊤) (λ v. bound v ∷ []) (group group_of.BatchValues) vs ps rest (trivial vs) (λ v ps rest p d. alone_derives S types after field.Value notation.Bound (note.Bound v) ps rest d) d (after s (role.Counts group_of.BatchValues)))
 
   entry_derives : (e : BatchEntry) (ps : List Part) (rest : List Symbol) → D S types after ps rest → D S types after (entry_parts e ++ ps) (group group_of.BatchEntries ++ rest)
-  entry_derives (Statement t vs) ps rest d s = (same, refl, (same, refl, bounds_derive vs ps rest d (after (after s role.EntryKind) role.Alone)))
-  entry_derives (Known_statement i vs) ps rest d s = (same, refl, (same, refl, bounds_derive vs ps rest d (after (after s role.EntryKind) role.Alone)))
+  entry_derives (Text t vs) ps rest d s = (same, refl, (same, refl, bounds_derive vs ps rest d (after (after s role.EntryKind) role.Alone)))
+  entry_derives (Id i vs) ps rest d s = (same, refl, (same, refl, bounds_derive vs ps rest d (after (after s role.EntryKind) role.Alone)))
 
   batch_derives : (kind : ℕ) (es : List BatchEntry) (c flags : ℕ) (serial : Option ℕ) (timestamp : Option ℤ) (ps : List Part) (rest : List Symbol) → BatchAgrees flags serial timestamp → D S types after ps rest
       → D S types after (message_parts (Batch kind es c flags serial timestamp) ++ ps) (body (opcode_of (Batch kind es c flags serial timestamp)) ++ rest)
@@ -91,28 +97,40 @@ module _ (S : Type 0) (types : S → Role → Types) (after : S → Role → S) 
       let ends : List Part = serial_parts serial ++ (timestamp_parts timestamp ++ ps) in
       let due : List Symbol = where_set flags 0x10 (plain field.SerialConsistency notation.Short ∷ []) ++ (where_set flags 0x20 (plain field.Timestamp notation.Long ∷ []) ++ rest) in
       let options : D S types after ends due =
-          option_derives S types after field.SerialConsistency notation.Short note.Short flags 0x10 serial _ _ a.serial_there
-          (option_derives S types after field.Timestamp notation.Long note.Long flags 0x20 timestamp _ _ a.timestamp_there d) in
+      option_derives S types after field.SerialConsistency notation.Short note.Short flags 0x10 serial _ _ a.serial_there
+      (option_derives S types after field.Timestamp notation.Long note.Long flags 0x20 timestamp _ _ a.timestamp_there d) in
       let left : List Symbol = plain field.Consistency notation.Short ∷ In field.BatchFlags notation.Byte role.BatchFlags ∷ rest in
       let behind : D S types after (bodies.short field.Consistency c ∷ bodies.byte field.BatchFlags flags ∷ ends) left = λ s.
-          (same, refl, (same, rw a.known refl, rw (append_assoc (where_set flags 0x10 (plain field.SerialConsistency notation.Short ∷ [])) (where_set flags 0x20 (plain field.Timestamp notation.Long ∷ [])) rest) (options (after (after s role.Alone) role.BatchFlags)))) in
+      (same, refl, (same, rw a.known refl, rw (append_assoc (where_set flags 0x10 (plain field.SerialConsistency notation.Short ∷ [])) (where_set flags 0x20 (plain field.Timestamp notation.Long ∷ [])) rest) (options (after (after s role.Alone) role.BatchFlags)))) in
       let entries : D S types after (flat_map entry_parts es ++ (bodies.short field.Consistency c ∷ bodies.byte field.BatchFlags flags ∷ ends)) (copies (length es) (group group_of.BatchEntries) ++ left) =
-          each_derives S types after (λ e. ⊤) entry_parts (group group_of.BatchEntries) es _ _ (trivial es) (λ e ps rest p d. entry_derives e ps rest d) behind in
-      (same, refl, (same, refl,
+      each_derives S types after (λ e. ⊤) entry_parts (group group_of.BatchEntries) es _ _ (trivial es) (λ e ps rest p d. entry_derives e ps rest d) behind in (
+        same,
+        refl,
+        (
+          same,
+          refl,
           rw (four (flat_map entry_parts es) (bodies.short field.Consistency c ∷ bodies.byte field.BatchFlags flags ∷ []) (serial_parts serial) (timestamp_parts timestamp) ps)
-          (entries (after (after s role.Alone) (role.Counts group_of.BatchEntries)))))
+              (entries (after (after s role.Alone) (role.Counts group_of.BatchEntries))),
+        ),
+      )
 
   startup_derives : (os : List (Octets × Octets)) (ps : List Part) (rest : List Symbol) → D S types after ps rest → D S types after (message_parts (Startup os) ++ ps) (body (opcode_of (Startup os)) ++ rest)
-  startup_derives os ps rest d s =
-      (same, refl, each_derives S types after (λ o. ⊤) (λ o. text field.OptionKey o.0 ∷ text field.OptionValue o.1 ∷ []) (group group_of.StringPairs) os ps rest (trivial os)
-          (λ o ps rest p d s. (same, refl, (same, refl, d (alone 2 s)))) d (after s (role.Counts group_of.StringPairs)))
+  startup_derives os ps rest d s = (
+    same,
+    refl,
+    each_derives S types after (λ o. ⊤) (λ o. text field.OptionKey o.0 ∷ text field.OptionValue o.1 ∷ []) (group group_of.StringPairs) os ps rest (trivial os)
+        (λ o ps rest p d s. (same, refl, (same, refl, d (alone 2 s)))) d (after s (role.Counts group_of.StringPairs)),
+  )
 
   -- ---- responses
 
   supported_derives : (os : List (Octets × List Octets)) (ps : List Part) (rest : List Symbol) → D S types after ps rest → D S types after (message_parts (Supported os) ++ ps) (body (opcode_of (Supported os)) ++ rest)
-  supported_derives os ps rest d s =
-      (same, refl, each_derives S types after (λ o. ⊤) (λ o. text field.OptionKey o.0 ∷ texts field.OptionValues field.OptionValue o.1) (group group_of.OptionLists) os ps rest (trivial os)
-          (λ o ps rest p d s. (same, refl, texts_derive S types after field.OptionValues field.OptionValue group_of.OptionValues o.1 ps rest refl d (alone 1 s))) d (after s (role.Counts group_of.OptionLists)))
+  supported_derives os ps rest d s = (
+    same,
+    refl,
+    each_derives S types after (λ o. ⊤) (λ o. text field.OptionKey o.0 ∷ texts field.OptionValues field.OptionValue o.1) (group group_of.OptionLists) os ps rest (trivial os)
+        (λ o ps rest p d s. (same, refl, texts_derive S types after field.OptionValues field.OptionValue group_of.OptionValues o.1 ps rest refl d (alone 1 s))) d (after s (role.Counts group_of.OptionLists)),
+  )
 
   arguments_derive : (ts : List Octets) (ps : List Part) (rest : List Symbol) → D S types after ps rest → D S types after (texts field.Arguments field.Argument ts ++ ps) (counted field.Arguments group_of.Arguments ∷ rest)
   arguments_derive ts ps rest d = texts_derive S types after field.Arguments field.Argument group_of.Arguments ts ps rest refl d
@@ -172,8 +190,12 @@ module _ (S : Type 0) (types : S → Role → Types) (after : S → Role → S) 
 
   payload_derives : (flags : ℕ) (o : Option (List (Octets × Option Octets))) (ps : List Part) (rest : List Symbol) → IsThereIf (has flags 0x04) o → D S types after ps rest → D S types after (payload_parts o ++ ps) (where_set flags 0x04 payload ++ rest)
   payload_derives flags o ps rest is d = where_derives S types after (λ is. ⊤) _ flags 0x04 payload o ps rest is (some_of S types after o)
-      (λ is p d s. (same, refl, each_derives S types after (λ i. ⊤) (λ i. text field.PayloadKey i.0 ∷ bytes field.PayloadValue i.1 ∷ []) (group group_of.PayloadItems) is ps rest (trivial is)
-          (λ i ps rest p d s. (same, refl, (same, refl, d (alone 2 s)))) d (after s (role.Counts group_of.PayloadItems)))) d
+      (λ is p d s. (
+        same,
+        refl,
+        each_derives S types after (λ i. ⊤) (λ i. text field.PayloadKey i.0 ∷ bytes field.PayloadValue i.1 ∷ []) (group group_of.PayloadItems) is ps rest (trivial is)
+            (λ i ps rest p d s. (same, refl, (same, refl, d (alone 2 s)))) d (after s (role.Counts group_of.PayloadItems)),
+      )) d
 
   no_parts : {A : Type 0} (h : A → List Part) (o : Option A) → IsThereIf false o → where_some h o ≡ []
   no_parts h None is = refl
@@ -185,9 +207,9 @@ module _ (S : Type 0) (types : S → Role → Types) (after : S → Role → S) 
   before_derives false flags t ws ps rest tracing warnings d = rw (no_parts _ t tracing, no_parts _ ws warnings) d
   before_derives true flags t ws ps rest tracing warnings d =
       let all : D S types after (tracing_parts t ++ (warnings_parts ws ++ ps)) (where_set flags 0x02 (plain field.TraceId notation.Uuid ∷ []) ++ (where_set flags 0x08 (counted field.Warnings group_of.Warnings ∷ []) ++ rest)) =
-          option_derives S types after field.TraceId notation.Uuid note.Uuid flags 0x02 t _ _ tracing
-          (where_derives S types after (λ ws. ⊤) (texts field.Warnings field.Warning) flags 0x08 (counted field.Warnings group_of.Warnings ∷ []) ws ps rest warnings (some_of S types after ws)
-              (λ ws p d. texts_derive S types after field.Warnings field.Warning group_of.Warnings ws ps rest refl d) d) in
+      option_derives S types after field.TraceId notation.Uuid note.Uuid flags 0x02 t _ _ tracing
+      (where_derives S types after (λ ws. ⊤) (texts field.Warnings field.Warning) flags 0x08 (counted field.Warnings group_of.Warnings ∷ []) ws ps rest warnings (some_of S types after ws)
+      (λ ws p d. texts_derive S types after field.Warnings field.Warning group_of.Warnings ws ps rest refl d) d) in
       rw (append_assoc (where_set flags 0x02 (plain field.TraceId notation.Uuid ∷ [])) (where_set flags 0x08 (counted field.Warnings group_of.Warnings ∷ [])) rest) all
 
   -- The parts of a frame come of the symbols of its header, in every state.
@@ -199,7 +221,7 @@ module _ (S : Type 0) (types : S → Role → Types) (after : S → Role → S) 
       let front : List Symbol = cond (is_response f.message) (where_set f.flags 0x02 (plain field.TraceId notation.Uuid ∷ []) ++ where_set f.flags 0x08 (counted field.Warnings group_of.Warnings ∷ [])) [] in
       let pay : List Symbol = where_set f.flags 0x04 payload in
       let all : D S types after (tracing_parts f.tracing ++ (warnings_parts f.warnings ++ (payload_parts f.payload ++ message_parts f.message))) (front ++ (pay ++ (body (opcode_of f.message) ++ end))) =
-          before_derives (is_response f.message) f.flags f.tracing f.warnings _ _ a.tracing a.warnings (payload_derives f.flags f.payload _ _ a.payload told) in
+      before_derives (is_response f.message) f.flags f.tracing f.warnings _ _ a.tracing a.warnings (payload_derives f.flags f.payload _ _ a.payload told) in
       let parts : frame_parts f ≡ tracing_parts f.tracing ++ (warnings_parts f.warnings ++ (payload_parts f.payload ++ message_parts f.message)) = simp append_assoc in
       let symbols : message (header_of f n) ≡ front ++ (pay ++ (body (opcode_of f.message) ++ end)) = simp append_assoc in
       rw (parts, symbols) all

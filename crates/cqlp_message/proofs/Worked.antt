@@ -22,11 +22,15 @@ options_request = record { flags = 0; stream = pos 0; tracing = None; warnings =
 
 options_request_spelled : FrameSpells options_request 0 (4 ∷ 0 ∷ 0 ∷ 0 ∷ 5 ∷ 0 ∷ 0 ∷ 0 ∷ 0 ∷ [])
 options_request_spelled = record {
-  announced = []; body = []; extra = [];
+  announced = [];
+  body = [];
+  extra = [];
   agrees = record { tracing = refl; warnings = refl; payload = refl; message = tt };
-  parts = refl; message = refl; more = refl;
+  parts = refl;
+  message = refl;
+  more = refl;
   lawful = record { plain = refl; direction = refl; bounded = lit≤ tt };
-  whole = refl
+  whole = refl;
 }
 
 options_request_flat : Flat 0 options_request 0 ≡ (0, told.Frame (record { response = false; flags = 0; stream = pos 0; opcode = opcode.Options; length = 0 })) ∷ (9, told.End 0) ∷ []
@@ -36,8 +40,12 @@ options_request_flat = refl
 
 abbrev query_request : FrameValue
 query_request = record {
-  flags = 0; stream = pos 0; tracing = None; warnings = None; payload = None;
-  message = Query (codes "q") (record { consistency = 1; flags = 1; values = Some ((None, note.Unset) ∷ []); page_size = None; paging = None; serial = None; timestamp = None })
+  flags = 0;
+  stream = pos 0;
+  tracing = None;
+  warnings = None;
+  payload = None;
+  message = Query (codes "q") (record { consistency = 1; flags = 1; values = Some ((None, note.Unset) ∷ []); page_size = None; paging = None; serial = None; timestamp = None });
 }
 
 nameless : All (λ (v : Option value.Octets × note.BoundValue). IsThereIf false v.0) ((None, note.Unset) ∷ [])
@@ -48,22 +56,45 @@ nameless =
 query_request_spelled : FrameSpells query_request 0 (4 ∷ 0 ∷ 0 ∷ 0 ∷ 7 ∷ 0 ∷ 0 ∷ 0 ∷ 14 ∷ 0 ∷ 0 ∷ 0 ∷ 1 ∷ 0x71 ∷ 0 ∷ 1 ∷ 1 ∷ 0 ∷ 1 ∷ 255 ∷ 255 ∷ 255 ∷ 254 ∷ [])
 unfolding Spells is_utf8 chars encode
 query_request_spelled = record {
-  announced = []; body = 0 ∷ 0 ∷ 0 ∷ 1 ∷ 0x71 ∷ 0 ∷ 1 ∷ 1 ∷ 0 ∷ 1 ∷ 255 ∷ 255 ∷ 255 ∷ 254 ∷ []; extra = [];
+  announced = [];
+  body = 0 ∷ 0 ∷ 0 ∷ 1 ∷ 0x71 ∷ 0 ∷ 1 ∷ 1 ∷ 0 ∷ 1 ∷ 255 ∷ 255 ∷ 255 ∷ 254 ∷ [];
+  extra = [];
   agrees = record {
-    tracing = refl; warnings = refl; payload = refl;
-    message = record { values = refl; names = nameless; page_size = refl; paging = refl; serial = refl; timestamp = refl }
+    tracing = refl;
+    warnings = refl;
+    payload = refl;
+    message = record { values = refl; names = nameless; page_size = refl; paging = refl; serial = refl; timestamp = refl };
   };
   parts = refl;
   message =
-      record { front = 0 ∷ 0 ∷ 0 ∷ 1 ∷ 0x71 ∷ []; back = 0 ∷ 1 ∷ 1 ∷ 0 ∷ 1 ∷ 255 ∷ 255 ∷ 255 ∷ 254 ∷ []; whole = refl;
+      record {
+        front = 0 ∷ 0 ∷ 0 ∷ 1 ∷ 0x71 ∷ [];
+        back = 0 ∷ 1 ∷ 1 ∷ 0 ∷ 1 ∷ 255 ∷ 255 ∷ 255 ∷ 254 ∷ [];
+        whole = refl;
         this = (record { head = 0 ∷ 0 ∷ 0 ∷ 1 ∷ []; counts = record { long = refl; is = refl }; parts = refl }, lit< tt, refl);
-        that = record { front = 0 ∷ 1 ∷ []; back = 1 ∷ 0 ∷ 1 ∷ 255 ∷ 255 ∷ 255 ∷ 254 ∷ []; whole = refl; this = record { long = refl; is = refl };
-          that = record { front = 1 ∷ []; back = 0 ∷ 1 ∷ 255 ∷ 255 ∷ 255 ∷ 254 ∷ []; whole = refl; this = record { long = refl; is = refl };
-            that = record { front = 0 ∷ 1 ∷ []; back = 255 ∷ 255 ∷ 255 ∷ 254 ∷ []; whole = refl; this = record { long = refl; is = refl };
-              that = record { front = 255 ∷ 255 ∷ 255 ∷ 254 ∷ []; back = []; whole = refl; this = record { long = refl; is = refl }; that = refl } } } } };
+        that = record {
+          front = 0 ∷ 1 ∷ [];
+          back = 1 ∷ 0 ∷ 1 ∷ 255 ∷ 255 ∷ 255 ∷ 254 ∷ [];
+          whole = refl;
+          this = record { long = refl; is = refl };
+          that = record {
+            front = 1 ∷ [];
+            back = 0 ∷ 1 ∷ 255 ∷ 255 ∷ 255 ∷ 254 ∷ [];
+            whole = refl;
+            this = record { long = refl; is = refl };
+            that = record {
+              front = 0 ∷ 1 ∷ [];
+              back = 255 ∷ 255 ∷ 255 ∷ 254 ∷ [];
+              whole = refl;
+              this = record { long = refl; is = refl };
+              that = record { front = 255 ∷ 255 ∷ 255 ∷ 254 ∷ []; back = []; whole = refl; this = record { long = refl; is = refl }; that = refl };
+            };
+          };
+        };
+      };
   more = refl;
   lawful = record { plain = refl; direction = refl; bounded = lit≤ tt };
-  whole = refl
+  whole = refl;
 }
 
 query_request_flat : Flat 0 query_request 0 ≡
@@ -76,8 +107,12 @@ query_request_flat = refl
 
 abbrev announced_response : FrameValue
 announced_response = record {
-  flags = 14; stream = pos 1; tracing = Some (0 ∷ 1 ∷ 2 ∷ 3 ∷ 4 ∷ 5 ∷ 6 ∷ 7 ∷ 8 ∷ 9 ∷ 10 ∷ 11 ∷ 12 ∷ 13 ∷ 14 ∷ 15 ∷ []);
-  warnings = Some (codes "w" ∷ []); payload = Some ((codes "k", Some (255 ∷ [])) ∷ []); message = Void
+  flags = 14;
+  stream = pos 1;
+  tracing = Some (0 ∷ 1 ∷ 2 ∷ 3 ∷ 4 ∷ 5 ∷ 6 ∷ 7 ∷ 8 ∷ 9 ∷ 10 ∷ 11 ∷ 12 ∷ 13 ∷ 14 ∷ 15 ∷ []);
+  warnings = Some (codes "w" ∷ []);
+  payload = Some ((codes "k", Some (255 ∷ [])) ∷ []);
+  message = Void;
 }
 
 announced_response_flat : Flat 0 announced_response 0 ≡
@@ -96,23 +131,34 @@ unknown_error = record { flags = 0; stream = pos 0; tracing = None; warnings = N
 unknown_error_spelled : FrameSpells unknown_error 3 (0x84 ∷ 0 ∷ 0 ∷ 0 ∷ 0 ∷ 0 ∷ 0 ∷ 0 ∷ 10 ∷ 0 ∷ 0 ∷ 0x43 ∷ 0x21 ∷ 0 ∷ 1 ∷ 0x78 ∷ 0xAA ∷ 0xBB ∷ 0xCC ∷ [])
 unfolding Spells is_utf8 chars encode
 unknown_error_spelled = record {
-  announced = []; body = 0 ∷ 0 ∷ 0x43 ∷ 0x21 ∷ 0 ∷ 1 ∷ 0x78 ∷ []; extra = 0xAA ∷ 0xBB ∷ 0xCC ∷ [];
+  announced = [];
+  body = 0 ∷ 0 ∷ 0x43 ∷ 0x21 ∷ 0 ∷ 1 ∷ 0x78 ∷ [];
+  extra = 0xAA ∷ 0xBB ∷ 0xCC ∷ [];
   agrees = record { tracing = refl; warnings = refl; payload = refl; message = refl };
   parts = refl;
   message =
-      record { front = 0 ∷ 0 ∷ 0x43 ∷ 0x21 ∷ []; back = 0 ∷ 1 ∷ 0x78 ∷ []; whole = refl; this = (0x4321, record { long = refl; is = refl }, refl);
-        that = record { front = 0 ∷ 1 ∷ 0x78 ∷ []; back = []; whole = refl; this = (record { head = 0 ∷ 1 ∷ []; counts = record { long = refl; is = refl }; parts = refl }, refl); that = refl } };
+      record {
+        front = 0 ∷ 0 ∷ 0x43 ∷ 0x21 ∷ [];
+        back = 0 ∷ 1 ∷ 0x78 ∷ [];
+        whole = refl;
+        this = (0x4321, record { long = refl; is = refl }, refl);
+        that = record { front = 0 ∷ 1 ∷ 0x78 ∷ []; back = []; whole = refl; this = (record { head = 0 ∷ 1 ∷ []; counts = record { long = refl; is = refl }; parts = refl }, refl); that = refl };
+      };
   more = refl;
   lawful = record { plain = refl; direction = refl; bounded = lit≤ tt };
-  whole = refl
+  whole = refl;
 }
 
 -- ---- a node that came up
 
 abbrev node_event : FrameValue
 node_event = record {
-  flags = 0; stream = negsuc 0; tracing = None; warnings = None; payload = None;
-  message = Event (codes "STATUS_CHANGE") (value.Node (codes "UP") (address.V4 (127 ∷ 0 ∷ 0 ∷ 1 ∷ [])) (pos 9042))
+  flags = 0;
+  stream = negsuc 0;
+  tracing = None;
+  warnings = None;
+  payload = None;
+  message = Event (codes "STATUS_CHANGE") (value.Node (codes "UP") (address.V4 (127 ∷ 0 ∷ 0 ∷ 1 ∷ [])) (pos 9042));
 }
 
 node_event_flat : Flat 0 node_event 0 ≡

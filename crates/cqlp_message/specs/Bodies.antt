@@ -6,7 +6,7 @@ use Rattle.cqlp_note.specs.declared.field.Field.TheVariants as field
 use Rattle.cqlp_note.specs.declared.field.Notation.TheVariants as notation
 use Rattle.cqlp_note.specs.Field.{BoundValue}
 use Rattle.cqlp_note.specs.Field as note
-use Rattle.cqlp_message.specs.FrameValues.{Octets, QueryParams, BatchEntry, Statement, Known_statement, ErrorExtra, Plain, Unavailable, WriteTimeout, ReadTimeout, ReadFailure, FunctionFailure, WriteFailure, AlreadyExists, Unprepared, SchemaOptions, Keyspace, Named, Callable, UnknownTarget, SchemaChange, ServerEvent, Node, Schema, UnknownEvent, Message, Startup, Options, Query, Prepare, Execute, Batch, Register, AuthResponse, Error, Ready, Authenticate, Supported, Void, SetKeyspace, Change, UnknownResult, Event, AuthChallenge, AuthSuccess}
+use Rattle.cqlp_message.specs.FrameValues.{Octets, QueryParams, BatchEntry, Text, Id, ErrorExtra, Plain, Unavailable, WriteTimeout, ReadTimeout, ReadFailure, FunctionFailure, WriteFailure, AlreadyExists, Unprepared, SchemaOptions, Keyspace, Named, Callable, UnknownTarget, SchemaChange, ServerEvent, Node, Schema, UnknownEvent, Message, Startup, Options, Query, Prepare, Execute, Batch, Register, AuthResponse, Error, Ready, Authenticate, Supported, Void, SetKeyspace, Change, UnknownResult, Event, AuthChallenge, AuthSuccess}
 use Rattle.cqlp_message.specs.Parts.{Part, Field_is, PartsSpell}
 
 -- ---- fields
@@ -85,8 +85,8 @@ params_parts q =
 
 -- Section 4.1.7: a statement of a batch, of kind 0 or 1, and its values.
 abbrev pub entry_parts : BatchEntry → List Part
-entry_parts (Statement text vs) = byte field.EntryKind 0 ∷ query text ∷ counted field.Values (λ v. bound v ∷ []) vs
-entry_parts (Known_statement id vs) = byte field.EntryKind 1 ∷ statement id ∷ counted field.Values (λ v. bound v ∷ []) vs
+entry_parts (Text text vs) = byte field.EntryKind 0 ∷ query text ∷ counted field.Values (λ v. bound v ∷ []) vs
+entry_parts (Id id vs) = byte field.EntryKind 1 ∷ statement id ∷ counted field.Values (λ v. bound v ∷ []) vs
 
 -- ---- parts of responses
 

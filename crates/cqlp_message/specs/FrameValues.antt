@@ -21,8 +21,8 @@ pub record QueryParams : Type 0 where
 
 -- Section 4.1.7: a statement of a batch, by its text or by the id of what was prepared, and its values.
 pub data BatchEntry : Type 0 where
-  Statement : (text : Octets) → List BoundValue → BatchEntry
-  Known_statement : (id : Octets) → List BoundValue → BatchEntry
+  Text : (text : Octets) → List BoundValue → BatchEntry
+  Id : (id : Octets) → List BoundValue → BatchEntry
 
 -- ---- responses
 

@@ -23,8 +23,8 @@ use Rattle.cqlp_message.specs.declared.frame.Frame.{Frame}
 use Rattle.cqlp_message.specs.FrameValues as value
 use Rattle.cqlp_message.specs.FrameValues.{Octets, FrameValue}
 
-abbrev pub Text : Type 0
-Text = String Global
+abbrev pub OwnedText : Type 0
+OwnedText = String Global
 
 abbrev pub OwnedBytes : Type 0
 OwnedBytes = Vec ℕ Global
@@ -33,7 +33,7 @@ OwnedBytes = Vec ℕ Global
 abbrev pub bytes_of : Option OwnedBytes → Option Octets
 bytes_of o = option_map (λ b. b.items) o
 
-abbrev pub texts_of : Vec Text Global → List Octets
+abbrev pub texts_of : Vec OwnedText Global → List Octets
 texts_of ts = map string_bytes ts.items
 
 -- a [value]
@@ -50,12 +50,12 @@ params_of q = record {
   page_size = q.page_size;
   paging = option_map bytes_of q.paging;
   serial = q.serial;
-  timestamp = q.timestamp
+  timestamp = q.timestamp;
 }
 
 abbrev pub entry_of : BatchEntry → value.BatchEntry
-entry_of (entry.Text t vs) = value.Statement (string_bytes t) (map bound_of vs.items)
-entry_of (entry.Id i vs) = value.Known_statement i.items (map bound_of vs.items)
+entry_of (entry.Text t vs) = value.Text (string_bytes t) (map bound_of vs.items)
+entry_of (entry.Id i vs) = value.Id i.items (map bound_of vs.items)
 
 abbrev pub extra_of : ErrorExtra → value.ErrorExtra
 extra_of extra.Plain = value.Plain
@@ -112,5 +112,5 @@ frame_of f = record {
   tracing = f.tracing;
   warnings = option_map texts_of f.warnings;
   payload = option_map (λ is. map (λ i. (string_bytes i.0, bytes_of i.1)) is.items) f.payload;
-  message = message_of f.message
+  message = message_of f.message;
 }

@@ -14,11 +14,17 @@ pub enum Message {
     /// A question for the options that are supported. Section 4.1.3.
     Options,
     /// A query by its text. Section 4.1.4.
-    Query { text: String, params: QueryParams },
+    Query {
+        text: String,
+        params: QueryParams,
+    },
     /// The text of a query to be prepared. Section 4.1.5.
     Prepare(String),
     /// A query by the id of its prepared statement. Section 4.1.6.
-    Execute { id: Vec<u8>, params: QueryParams },
+    Execute {
+        id: Vec<u8>,
+        params: QueryParams,
+    },
     /// Statements that are done together. Section 4.1.7.
     Batch {
         /// 0 logged, 1 unlogged, 2 counters; other numbers are kept.
@@ -35,10 +41,12 @@ pub enum Message {
     Register(Vec<String>),
     /// An answer to a challenge, which may be null. Section 4.1.2.
     AuthResponse(Option<Vec<u8>>),
-    /// An error: its code, a text for the user, and what the code adds. Section 4.2.1.
+    /// An error. Section 4.2.1.
     Error {
         code: i32,
+        /// A text for the user.
         message: String,
+        /// What the code adds.
         extra: ErrorExtra,
     },
     /// The server is ready for queries. Section 4.2.2.
@@ -55,8 +63,13 @@ pub enum Message {
     Change(SchemaChange),
     /// A result of this kind, which is none of 1 to 5.
     UnknownResult(i32),
-    /// An event of the type that it names. Section 4.2.6.
-    Event { event: String, detail: ServerEvent },
+    /// An event. Section 4.2.6.
+    Event {
+        /// The type of the event.
+        event: String,
+        /// What an event of this type tells.
+        detail: ServerEvent,
+    },
     /// A challenge of the server, which may be null. Section 4.2.7.
     AuthChallenge(Option<Vec<u8>>),
     /// The end of the authentication, with a token that may be null. Section 4.2.8.

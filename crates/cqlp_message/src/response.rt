@@ -53,9 +53,14 @@ pub enum ErrorExtra {
         write_type: String,
     },
     /// 2400: the keyspace or the table exists already; the table is empty where it is the keyspace.
-    AlreadyExists { keyspace: String, table: String },
+    AlreadyExists {
+        keyspace: String,
+        table: String,
+    },
     /// 2500: no statement with this id is prepared.
-    Unprepared { id: Vec<u8> },
+    Unprepared {
+        id: Vec<u8>,
+    },
 }
 
 /// A change of the schema. Section 4.2.5.5 of `native_protocol_v4.spec`.
