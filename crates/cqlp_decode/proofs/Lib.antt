@@ -8,3 +8,6 @@ pub mod Gets
 pub mod Whole
 pub mod Rows
 pub mod MetadataRows
+pub mod StepRuns
+pub mod PartsRead
+pub mod FramesRead

@@ -1,7 +1,6 @@
 -- What a stream of frames says, from left to right.
 use Rattle.std.specs.Prelude.{◌≡◌, ℕ, zero, suc, ◌+◌, ◌-◌, ◌++◌, ◌^◌, Bool, false, ◌&&◌, List, [], ◌∷◌, drop, Option, Some, None, nat_lt, ◌==◌, if◌then◌else◌, Ok, Err}
 use Rattle.cqlp_note.specs.declared.field.Field.{Field}
-use Rattle.cqlp_note.specs.declared.header.Header.{Header}
 use Rattle.cqlp_note.specs.declared.refusal.Reason.{Reason}
 use Rattle.cqlp_note.specs.declared.refusal.Reason.TheVariants.{StreamTooLong}
 use Rattle.cqlp_note.specs.Reader.{Said, More, Bad, Got, Refuses, Takes, says}
@@ -10,23 +9,15 @@ use Rattle.cqlp_note.specs.Field.{FieldValue, field_of}
 use Rattle.cqlp_note.specs.Step.{Emitted, Step, Emit, after_field, map_step, Runs}
 use Rattle.cqlp_note.specs.Limits.{Rules, limit_of}
 use Rattle.cqlp_note.specs.Heading.{Heading, heading, has}
-use Rattle.cqlp_type.specs.declared.kind.Kind.{Kind}
 use Rattle.cqlp_type.specs.declared.node.Node.{Node}
 use Rattle.cqlp_type.specs.Types.{Types, types_of, how_many}
 use Rattle.cqlp_type.specs.TypeStep.{TypeSymbol, TypeEvent, IsNode, IsField, TypePlace, type_step}
 use Rattle.cqlp_value.specs.CellStep.{CellSymbol, Value_of, CellEvent, CellPlace, cell_step}
 use Rattle.cqlp_value.specs.CellStep as cell
+pub use Rattle.cqlp_message.specs.Events.{Event, Frame, Holds, Node_of, Cell_at, Leave, End}
 use Rattle.cqlp_message.specs.declared.grammar.Role.{Role}
 use Rattle.cqlp_message.specs.declared.grammar.Role.TheVariants as role
 use Rattle.cqlp_message.specs.Productions.{Symbol, Stream, In, In_type, Cell_due, In_cell, Extra, message, following, fault_in, raw_types}
-
-pub data Event : Type 0 where
-  Frame : Header → Event
-  Holds : Field → FieldValue → Event
-  Node_of : Kind → Event
-  Cell_at : (row column : ℕ) → CellEvent → Event
-  Leave : (level items : ℕ) → Event
-  End : (extra : ℕ) → Event
 
 -- an event in a type option
 abbrev pub type_event : TypeEvent → Event

@@ -1,6 +1,6 @@
 //! Laws of the reading of a stream.
 
-ghost use Rattle.cqlp_decode.specs.Laws.{GoesOn, IsSaidOnce};
+ghost use Rattle.cqlp_decode.specs.Laws.{GoesOn, IsSaidOnce, SpelledIsRead};
 
 /// Of any bytes there is one list of events, and one verdict.
 pub fn said_once()
@@ -11,4 +11,9 @@ pub fn said_once()
 /// cut into pieces.
 pub fn goes_on()
     ensures { GoesOn }
+{}
+
+/// What is spelled is read: frames within the limits, one after the other, say their own events, and nothing is refused.
+pub fn spelled_is_read()
+    ensures { SpelledIsRead }
 {}

@@ -1,0 +1,6 @@
+use Rattle.std.proofs.Common.{[], arith}
+use Rattle.cqlp_decode.proofs.FramesRead.{frames_read}
+use Rattle.cqlp_decode.proofs.laws.spelled_is_read.Goals as goal
+
+pub returns : goal.returns
+returns c = λ l fs bytes s w le. frames_read l fs 0 0 [] bytes s w (omega arith)
