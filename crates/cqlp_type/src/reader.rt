@@ -202,3 +202,6 @@ impl<A: Allocator> TypeReader<A> {
         self.remaining.stage = Stage::Idle;
     }
 }
+
+#[cfg(test)]
+mod tests;
