@@ -11,7 +11,7 @@ use crate::kind::Kind;
 const LONGEST: u32 = 268_435_456;
 
 /// A type, with the texts of its option. Section 4.2.5.2 of `native_protocol_v4.spec`.
-#[derive(Drop)]
+#[derive(Debug, PartialEq, Eq, Drop)]
 pub enum TypeTree {
     /// A type without parameters.
     Plain(Kind),
