@@ -27,6 +27,7 @@ use Rattle.cqlp_type.specs.Table.{Table}
 use Rattle.cqlp_type.specs.Levels.{Nest}
 use Rattle.cqlp_type.specs.Remaining.{stage_symbols, event_at, item_step, IsPart, Follows}
 use Rattle.cqlp_type.specs.Standing.{Standing, standing, stopped, place_of, notation_of, IsFor, IsShared, pending, told, CanLendPart, text_length, Waits, Ends}
+use Rattle.cqlp_type.proofs.ReadBack.{text_is}
 use Rattle.cqlp_type.proofs.Items.{short_got, IsRead, field_says, item_waits, item_fails, item_gives, waiting_inside, item_size}
 
 -- the item is the field that was asked for
@@ -73,11 +74,6 @@ module _ (r : Standing) (nodes : List Node) (w : Wanted) (bytes : List ℕ) wher
     told_size v k m le = given r.symbols v k f (sym (for_says r.symbols f) ∙ m) le
 
 -- ---- what the value of an item is
-
-text_is : (v : FieldValue) (b : List ℕ) → Spells notation.Text16 v b → (s : List ℕ) × (v ≡ Text s)
-unfolding Spells
-text_is (Text s) b h = (s, refl)
-text_is v b h = absurd h
 
 text_got : (limit room : ℕ) (bytes : List ℕ) (v : FieldValue) (k : ℕ) → says (field_of notation.Text16 limit room) 0 bytes ≡ Got v k → (s : List ℕ) × (v ≡ Text s)
 text_got limit room bytes v k g = text_is v _ (says_always (Spells notation.Text16) (field_of notation.Text16 limit room) [] bytes v k (field_spells notation.Text16 limit room) g).1

@@ -21,7 +21,7 @@ use Rattle.cqlp_note.proofs.Spelled.{counted_size}
 use Rattle.cqlp_type.specs.declared.kind.Kind.{Kind}
 use Rattle.cqlp_type.specs.declared.kind.Kind.TheVariants as kind
 use Rattle.cqlp_type.specs.declared.node.Node.{Node}
-use Rattle.cqlp_type.specs.Types.{NoMore, Type_and, preorder, kinds}
+use Rattle.cqlp_type.specs.Types.{NoMore, Type_and, has_id, preorder, kinds}
 use Rattle.cqlp_type.specs.TypeStep.{TypeSymbol, Option_at, Text_of, Fields_of, Whole, TypeEvent, IsNode, IsField, TypePlace, parameters_of, arity_of, inner_symbols, symbol_copies, with_arity, with_span, settled, option_step, count_in, type_step_at, type_step}
 use Rattle.cqlp_type.specs.Trees.{Head, Plain, Custom, ListOf, SetOf, MapOf, TupleOf, UdtOf, Trees, NoTree, Tree_and, kind_in, trees_in, types_in, has_names, IsHead, AreTrees, head_items, trees_items, notation_for, ItemSpells, ItemsSpell, Joined, item_size, placed}
 use Rattle.cqlp_type.specs.Pushing.{IsWhole}
@@ -92,11 +92,6 @@ whole : (h : Head) (inner : Trees) (rest : List TypeSymbol) (ns nodes : List Nod
 whole h inner rest ns nodes es more final head are is items c =
     (h, inner, more, head, are, items, rw (append-nil (preorder (types_in inner)), many_types inner) (rw (is, span_at ns record { kind = kind_in h; arity = trees_in inner; span = 0 } (preorder (types_in inner))) at c))
 
--- every kind but the one without an id
-abbrev pub is_known : Kind → Bool
-is_known kind.Raw = false
-is_known k = true
-
 abbrev node : Kind → (arity : ℕ) → Node
 node k arity = record { kind = k; arity = arity; span = 0 }
 
@@ -106,7 +101,7 @@ one_item h inner more = simp append-nil
 two_items : (h g : Head) (inner inner' : Trees) (more : List TypeEvent) → option_items h inner ++ (option_items g inner' ++ more) ≡ trees_items false (Tree_and [] h inner (Tree_and [] g inner' NoTree)) ++ more
 two_items h g inner inner' more = simp (append_assoc, append-nil)
 
-option_comes : (k : Kind) (depth : ℕ) (rest : List TypeSymbol) (ns : List Node) (es : List TypeEvent) (final : List Node) → is_known k ≡ true
+option_comes : (k : Kind) (depth : ℕ) (rest : List TypeSymbol) (ns : List Node) (es : List TypeEvent) (final : List Node) → has_id k ≡ true
     → Comes (parameters_of k depth ++ Whole (length ns) ∷ rest) (ns ++ node k (arity_of k) ∷ []) es final → Comes (Option_at depth ∷ rest) ns (IsNode k ∷ es) final
 option_comes kind.List depth rest ns es final known h =
     whole ListOf (Tree_and [] h.0 h.1 NoTree) rest ns _ (IsNode kind.List ∷ es) h.2 final refl (h.3, h.4, tt) (simp append_assoc) (ap (λ (x : List TypeEvent). IsNode kind.List ∷ x) (h.5 ∙ one_item h.0 h.1 h.2)) h.6
@@ -140,11 +135,11 @@ all_beside test n (x ∷ xs) k all e = elim (eqb n x.0) as (λ t. eqb n x.0 ≡ 
   | false ↦ λ is. let f : beside_number n xs ≡ Some k = rw is at e in all_beside test n xs k all.1 f
 ] refl
 
-all_known : AllTrue is_known kinds
+all_known : AllTrue has_id kinds
 all_known = search
 
-known : (n : ℕ) (k : Kind) → beside_number n kinds ≡ Some k → is_known k ≡ true
-known n k e = all_beside is_known n kinds k all_known e
+known : (n : ℕ) (k : Kind) → beside_number n kinds ≡ Some k → has_id k ≡ true
+known n k e = all_beside has_id n kinds k all_known e
 
 -- What holds of a field and its bytes, what follows it may use.
 after_field_always : {E Q : Type 0} (F : FieldValue → List ℕ → Type 0) (P : Emitted E Q → List ℕ → Type 0) (at : ℕ) (r : FieldReader) (f : FieldValue → Step E Q) (b : List ℕ) → Always F r b → ((v : FieldValue) (b : List ℕ) → F v b → Always P (f v) b) → Always P (after_field at r f) b
@@ -160,7 +155,7 @@ pub record Came (p : TypePlace) (ss : List TypeSymbol) (x : Emitted TypeEvent Ty
   pub onward : (used : ℕ) → (x.after used).offset ≡ p.offset + used
   pub comes : (used : ℕ) (es : List TypeEvent) (final : List Node) → Comes (x.after used).symbols (x.after used).nodes es final → Comes ss p.nodes (x.event ∷ es) final
 
-text_is : (v : FieldValue) (b : List ℕ) → Spells notation.Text16 v b → (s : List ℕ) × (v ≡ Text s)
+pub text_is : (v : FieldValue) (b : List ℕ) → Spells notation.Text16 v b → (s : List ℕ) × (v ≡ Text s)
 unfolding Spells
 text_is (Text s) b h = (s, refl)
 text_is v b h = absurd h

@@ -9,14 +9,14 @@ use Rattle.std.specs.declared.alloc.Global.{Global}
 use mathlib.Core.Former.{Count}
 use Rattle.cqlp_type.specs.declared.tree.TypeTree.{TypeTree, Custom, List as ListTree, Set, Map, Udt, Tuple, Row_of-TypeTree, end_of-TypeTree, more_of-TypeTree, Row_of-TypeTree-Udt-2-2, end_of-TypeTree-Udt-2-2, more_of-TypeTree-Udt-2-2, items-the_row-TypeTree, items-the_row-TypeTree-Udt-2-2, items_hidden-the_row-TypeTree-1, items_hidden-the_row-TypeTree-Udt-2-2-0, Tuple', Udt'}
 use Rattle.cqlp_type.specs.Trees.{Trees, NoTree, Tree_and, trees_in, has_names}
-use Rattle.cqlp_type.specs.TypeTrees.{head_of, inner_of, types_of, fields_of, tree_of, trees_size, trees_fit, name_size, name_fits, head_size, head_fits, is_counted, len_if, spelled_len}
+use Rattle.cqlp_type.specs.TypeTrees.{head_of, inner_of, types_in_row, fields_in_row, tree_of, trees_size, trees_fit, name_size, name_fits, head_size, head_fits, is_counted, len_if, spelled_len}
 use Rattle.cqlp_type.specs.TypeLists.{listed_types, listed_fields}
 
-types_listed : (m : _) (row : Row_of-TypeTree m) → types_of row ≡ listed_types (items-the_row-TypeTree m row)
+types_listed : (m : _) (row : Row_of-TypeTree m) → types_in_row row ≡ listed_types (items-the_row-TypeTree m row)
 types_listed _ end_of-TypeTree = refl
 types_listed _ (more_of-TypeTree t rest) = ap (Tree_and [] (head_of t) (inner_of t)) (types_listed _ rest)
 
-fields_listed : (m : _) (row : Row_of-TypeTree-Udt-2-2 m) → fields_of row ≡ listed_fields (items-the_row-TypeTree-Udt-2-2 m row)
+fields_listed : (m : _) (row : Row_of-TypeTree-Udt-2-2 m) → fields_in_row row ≡ listed_fields (items-the_row-TypeTree-Udt-2-2 m row)
 fields_listed _ end_of-TypeTree-Udt-2-2 = refl
 fields_listed _ (more_of-TypeTree-Udt-2-2 name t rest) = ap (Tree_and (string_bytes name) (head_of t) (inner_of t)) (fields_listed _ rest)
 

@@ -26,16 +26,20 @@ pub data TypeSymbol : Type 0 where
   -- the node with this number is whole
   Whole : ℕ → TypeSymbol
 
+-- What is handed out of an option: its kind, or another item and the field that it is.
 pub data TypeEvent : Type 0 where
   IsNode : Kind → TypeEvent
   IsField : Field → FieldValue → TypeEvent
 
+-- Where the reading of an option stands: at this offset, in a frame that ends at `stop`, with these symbols still to
+-- be read, and these nodes read since the metadata began.
 pub record TypePlace : Type 0 where
   pub offset : ℕ
   pub stop : ℕ
   pub symbols : List TypeSymbol
   pub nodes : List Node
 
+-- n times these symbols
 abbrev pub symbol_copies : ℕ → List TypeSymbol → List TypeSymbol
 symbol_copies zero symbols = []
 symbol_copies (suc n) symbols = symbols ++ symbol_copies n symbols
@@ -50,12 +54,14 @@ parameters_of kind.Udt depth = Text_of field.Keyspace ∷ Text_of field.TypeName
 parameters_of kind.Tuple depth = Fields_of false (depth + 1) ∷ []
 parameters_of _ depth = []
 
+-- how many inner types the kind of an option tells; those of a udt and of a tuple are counted later
 abbrev pub arity_of : Kind → ℕ
 arity_of kind.List = 1
 arity_of kind.Set = 1
 arity_of kind.Map = 2
 arity_of _ = 0
 
+-- one inner option, with its name before it or with none
 abbrev pub inner_symbols : Bool → ℕ → List TypeSymbol
 inner_symbols true depth = Text_of field.FieldName ∷ Option_at depth ∷ []
 inner_symbols false depth = Option_at depth ∷ []
@@ -80,9 +86,12 @@ settled (Option_at d ∷ rest) nodes = (Option_at d ∷ rest, nodes)
 settled (Text_of f ∷ rest) nodes = (Text_of f ∷ rest, nodes)
 settled (Fields_of named d ∷ rest) nodes = (Fields_of named d ∷ rest, nodes)
 
+-- the place after an item of so many bytes
 abbrev pub type_place : TypePlace → List TypeSymbol × List Node → (used : ℕ) → TypePlace
 type_place p s used = record { offset = p.offset + used; stop = p.stop; symbols = s.0; nodes = s.1 }
 
+-- what an id makes of an option at this depth: no kind has it, or the option is too deep or one too many, or its
+-- node is added
 abbrev pub option_step : Rules → (depth : ℕ) → List TypeSymbol → TypePlace → Option Kind → Step TypeEvent TypePlace
 option_step l depth rest p None = Refuses (p.offset, BadType)
 option_step l depth rest p (Some k) =

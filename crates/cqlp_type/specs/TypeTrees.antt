@@ -20,16 +20,16 @@ abbrev mutual
   inner_of (List' p t) = Tree_and [] (head_of t) (inner_of t) NoTree
   inner_of (Set' p t) = Tree_and [] (head_of t) (inner_of t) NoTree
   inner_of (Map' p t q u) = Tree_and [] (head_of t) (inner_of t) (Tree_and [] (head_of u) (inner_of u) NoTree)
-  inner_of (Udt' keyspace name shape fields) = fields_of fields
-  inner_of (Tuple' shape types) = types_of types
+  inner_of (Udt' keyspace name shape fields) = fields_in_row fields
+  inner_of (Tuple' shape types) = types_in_row types
 
-  pub types_of : {m : _} → Row_of-TypeTree m → Trees
-  types_of end_of-TypeTree = NoTree
-  types_of (more_of-TypeTree t rest) = Tree_and [] (head_of t) (inner_of t) (types_of rest)
+  pub types_in_row : {m : _} → Row_of-TypeTree m → Trees
+  types_in_row end_of-TypeTree = NoTree
+  types_in_row (more_of-TypeTree t rest) = Tree_and [] (head_of t) (inner_of t) (types_in_row rest)
 
-  pub fields_of : {m : _} → Row_of-TypeTree-Udt-2-2 m → Trees
-  fields_of end_of-TypeTree-Udt-2-2 = NoTree
-  fields_of (more_of-TypeTree-Udt-2-2 name t rest) = Tree_and (string_bytes name) (head_of t) (inner_of t) (fields_of rest)
+  pub fields_in_row : {m : _} → Row_of-TypeTree-Udt-2-2 m → Trees
+  fields_in_row end_of-TypeTree-Udt-2-2 = NoTree
+  fields_in_row (more_of-TypeTree-Udt-2-2 name t rest) = Tree_and (string_bytes name) (head_of t) (inner_of t) (fields_in_row rest)
 
 -- a caller's type as a tree
 abbrev pub tree_of : TypeTree → Trees

@@ -38,6 +38,7 @@ pub enum TypeAdvance {
     },
     /// The option is whole. No byte was used.
     Done,
+    /// The option ends, since it is refused.
     Refused(Refusal),
 }
 
@@ -54,6 +55,7 @@ pub enum TypePush<'a> {
     },
     /// The option is whole. No byte was used.
     Done,
+    /// The option ends, since it is refused.
     Refused(Refusal),
 }
 

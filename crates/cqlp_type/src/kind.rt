@@ -1,6 +1,6 @@
 //! The kinds of types.
 
-ghost use Rattle.std.specs.Prelude.{◌≡◌};
+ghost use Rattle.std.specs.Prelude.{◌≡◌, true};
 
 /// What a type is. Section 4.2.5.2 of `native_protocol_v4.spec`.
 #[derive(Clone, Copy, Debug, PartialEq, Eq)]
@@ -36,7 +36,7 @@ pub enum Kind {
 
 impl Kind {
     ghost use Rattle.cqlp_note.specs.Heading.{beside_number};
-    ghost use Rattle.cqlp_type.specs.Types.{has_no_items, kinds};
+    ghost use Rattle.cqlp_type.specs.Types.{has_id, has_no_items, kinds};
     ghost use Rattle.cqlp_type.specs.TypeStep.{arity_of};
     ghost use Rattle.cqlp_type.specs.Trees.{is_plain};
 
@@ -81,6 +81,41 @@ impl Kind {
             0x30 => Some(Kind::Udt),
             0x31 => Some(Kind::Tuple),
             _ => None,
+        }
+    }
+
+    /// The id of its type option, which the kind of an unknown type has not.
+    pub fn id(self) -> u16
+        requires { has_id self ≡ true }
+        ensures { beside_number result kinds ≡ Some self }
+    {
+        match self {
+            Kind::Custom => 0x00,
+            Kind::Ascii => 0x01,
+            Kind::Bigint => 0x02,
+            Kind::Blob => 0x03,
+            Kind::Boolean => 0x04,
+            Kind::Counter => 0x05,
+            Kind::Decimal => 0x06,
+            Kind::Double => 0x07,
+            Kind::Float => 0x08,
+            Kind::Int => 0x09,
+            Kind::Timestamp => 0x0B,
+            Kind::Uuid => 0x0C,
+            Kind::Varchar => 0x0D,
+            Kind::Varint => 0x0E,
+            Kind::Timeuuid => 0x0F,
+            Kind::Inet => 0x10,
+            Kind::Date => 0x11,
+            Kind::Time => 0x12,
+            Kind::Smallint => 0x13,
+            Kind::Tinyint => 0x14,
+            Kind::List => 0x20,
+            Kind::Map => 0x21,
+            Kind::Set => 0x22,
+            Kind::Udt => 0x30,
+            Kind::Tuple => 0x31,
+            Kind::Raw => unreachable!(),
         }
     }
 

@@ -1,6 +1,8 @@
 //! Type options of the CQL native protocol v4.
 #![tactic(auto)]
 
+#[cfg(test)]
+mod heaps;
 mod item;
 mod kind;
 pub mod laws;

@@ -187,13 +187,9 @@ impl<A: Allocator> TypeReader<A> {
         if self.begun {
             return;
         }
-        let notation = match self.remaining.stage {
-            Stage::Id | Stage::Fields { .. } => Notation::Short,
-            _ => Notation::Text16,
-        };
-        let limit = match notation {
-            Notation::Text16 => self.limits.text,
-            _ => 0,
+        let (notation, limit) = match self.remaining.stage {
+            Stage::Id | Stage::Fields { .. } => (Notation::Short, 0),
+            _ => (Notation::Text16, self.limits.text),
         };
         partial.begin(notation, limit, self.at, self.end);
         self.begun = true;
@@ -210,3 +206,6 @@ impl<A: Allocator> TypeReader<A> {
         self.remaining.stage = Stage::Idle;
     }
 }
+
+#[cfg(test)]
+mod tests;

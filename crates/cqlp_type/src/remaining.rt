@@ -46,8 +46,8 @@ pub(crate) struct Remaining<A: Allocator> {
 }
 
 impl<A: Allocator> Remaining<A> {
+    /// Goes on behind an item: what part of the option it is, or why its type is refused.
     #[tactic(auto, using(crate::proofs::Nodes::length_with_arity))]
-    /// Goes on behind an item.
     pub(crate) fn follow<C: Allocator>(
         &mut self,
         limits: &Limits,
@@ -94,7 +94,7 @@ impl<A: Allocator> Remaining<A> {
         }
     }
 
-    /// Goes on behind the id of an option.
+    /// Goes on behind the id of an option, whose node is added to the table.
     fn option<C: Allocator>(
         &mut self,
         limits: &Limits,
@@ -139,7 +139,7 @@ impl<A: Allocator> Remaining<A> {
     }
 }
 
-/// The number that an item is.
+/// The number that an item is; 0 where it is no \[short\].
 fn number_in(item: Item) -> u16
     ensures { (input buffer : List ℕ) → short_in (item_value item input buffer) ≡ result }
 {
