@@ -4,6 +4,8 @@
 mod buffered;
 mod ending;
 mod events;
+#[cfg(test)]
+mod heaps;
 mod line_writer;
 mod names;
 mod offer;
@@ -19,3 +21,6 @@ pub use names::{field_name, kind_name, opcode_name, reason_name};
 pub use render::{EventSink, render_events};
 pub use showing::{DEFAULT_LIMITS, show};
 pub use word::Word;
+
+#[cfg(test)]
+mod tests;
