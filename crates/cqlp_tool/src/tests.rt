@@ -14,7 +14,8 @@ use std::alloc::Global;
 use std::process::Abort;
 use std::test::Fail;
 use vectors::{
-    AUTHENTICATION, ERRORS, EVENTS, FIRST_MESSAGES, HEADERS, PARTS, REFUSALS, REQUESTS, RESULTS, Vector,
+    AUTHENTICATION, ERRORS, EVENTS, FIRST_MESSAGES, HEADERS, PARTS, REFUSALS, REQUESTS, RESULTS,
+    Vector,
 };
 
 const LIMITS: Limits = Limits {

@@ -3,8 +3,8 @@
 ghost use Rattle.std.specs.Prelude.{◌≤◌};
 
 use super::fakes::{Counting, Failing, Narrow, Pieces};
-use crate::heaps::Limited;
 use super::{LIMITS, bytes_of};
+use crate::heaps::Limited;
 use crate::showing::show;
 use cqlp_decode::{Decoder, Finish, Outcome, run};
 use cqlp_note::Source;
@@ -47,7 +47,12 @@ fn whole_cut_and_refused_streams(rt: HostRuntime) {
         (b"", b"", b"whole 0\n", 0),
         (OPTIONS, OPTIONS_LINES, b"whole 9\n", 0),
         (&OPTIONS[..8], b"", b"cut 0 8\n", 1),
-        (&[0x83, 1, 0, 0, 4, 255, 255, 255, 255], b"", b"refused 0 BadVersion\n", 1),
+        (
+            &[0x83, 1, 0, 0, 4, 255, 255, 255, 255],
+            b"",
+            b"refused 0 BadVersion\n",
+            1,
+        ),
     ];
     for (bytes, out, err, status) in rows {
         let mut input = Pieces::new(bytes, 1, 1);
@@ -79,7 +84,14 @@ fn outputs_that_fail(rt: HostRuntime) {
             err: b"cqlp: write fault\n",
             status: 3,
         };
-        expect_shown(&rt, rt.alloc(), &rt.alloc(), &mut input, (room, 99), expected);
+        expect_shown(
+            &rt,
+            rt.alloc(),
+            &rt.alloc(),
+            &mut input,
+            (room, 99),
+            expected,
+        );
     }
     let expected = Shown {
         out: OPTIONS_LINES,
@@ -145,13 +157,23 @@ fn long_frames_take_no_memory(rt: HostRuntime) -> Result<(), Fail> {
     let mut sink = Counting { events: 0, last: 0 };
 
     let short = supported(rt.alloc(), "84 00 0000 06 00000046 0001", 1)?;
-    let outcome = run(&mut decoder, &mut Pieces::new(&short, 5, 68), &mut sink, u64::MAX);
+    let outcome = run(
+        &mut decoder,
+        &mut Pieces::new(&short, 5, 68),
+        &mut sink,
+        u64::MAX,
+    );
     let whole = Outcome::Finished(Finish::Whole { bytes: 79 });
     assert_eq!(rt; outcome, whole);
     assert_eq!(rt; sink.events, 5);
 
     let long = supported(rt.alloc(), "84 00 0000 06 000109a2 03e8", 1000)?;
-    let outcome = run(&mut decoder, &mut Pieces::new(&long, 11, 68), &mut sink, u64::MAX);
+    let outcome = run(
+        &mut decoder,
+        &mut Pieces::new(&long, 11, 68),
+        &mut sink,
+        u64::MAX,
+    );
     let whole = Outcome::Finished(Finish::Whole { bytes: 68_090 });
     assert_eq!(rt; outcome, whole);
     assert_eq!(rt; (sink.events, sink.last), (5 + 2_003, 68_090));
