@@ -32,10 +32,10 @@ flushed b c known keeps none =
     let all : taken c ≡ c.given = ap (append_known c.given) none ∙ known_nothing c.given in
     kept (taken b) (taken c) known keeps ∙ all
   where
-  kept : (x y : Option (List ℕ)) → IsSome x → Keeps x y → x ≡ y
-  kept None y known keeps = cc
-  kept (Some t) None known keeps = absurd keeps
-  kept (Some t) (Some u) known keeps = ap (λ k. Some k) (sym keeps)
+    kept : (x y : Option (List ℕ)) → IsSome x → Keeps x y → x ≡ y
+    kept None y known keeps = cc
+    kept (Some t) None known keeps = absurd keeps
+    kept (Some t) (Some u) known keeps = ap (λ k. Some k) (sym keeps)
 
 or_fails : (turns : ℕ) (o : Outcome) (old new : State) (xs : List ℕ) (left : Option (List ℕ)) (before after : Output) → o ≢ outcome.SinkFault → RendersTo turns o old new xs left before after → RendersOrFails turns o old new xs left before after
 or_fails turns (outcome.Finished f) old new xs left before after sound ran = ran

@@ -109,7 +109,7 @@ plain_prefix [] = refl
 plain_prefix (b ∷ xs) = plain_step b xs (plain_count xs) (is_plain b) refl (plain_prefix xs)
 
 first_or_all : (p len : ℕ) → p ≤ len → unwrap_or (cond (nat_lt p len) (Some p) None) len ≡ p
-first_or_all p len within = elim (cases_lt p len) [ | inl lt ↦ rw (lt-ltb _ _ lt) refl | inr le ↦ rw (le-ltb _ _ le) (omega arith) ]
+first_or_all p len within = elim (cases_lt p len) [ inl lt ↦ rw (lt-ltb _ _ lt) refl | inr le ↦ rw (le-ltb _ _ le) (omega arith) ]
 
 -- the bytes before the first that needs an escape stand as themselves
 pub plain_front : (xs : List ℕ) (found : Option ℕ) (n : ℕ) → found ≡ position (λ b. not (is_plain b)) xs → n ≡ unwrap_or found (length xs) → flat_map escaped xs ≡ take n xs ++ flat_map escaped (take (length xs - n) (drop n xs))

@@ -124,7 +124,7 @@ progress_ends {a} {b} {text} {left} here none =
 pub progress_breaks : {a b c : Written} {text left x : List ℕ} (later : List ℕ) → Progress a text left b → left ≡ x ++ later → BreaksOff b x c → BreaksOff a text c
 progress_breaks {a} {b} {c} {text} {left} {x} later here parts breaks =
     subst (λ (t : List ℕ). BreaksOff a t c) (append_assoc here.front x later ∙ ap (λ t. here.front ++ t) (sym parts) ∙ here.split)
-      (breaks_in_more a c (here.front ++ x) later (takes_then_breaks a b c here.front x here.takes breaks))
+    (breaks_in_more a c (here.front ++ x) later (takes_then_breaks a b c here.front x here.takes breaks))
 
 -- a `?` that ends the function
 pub progress_stops : {a b c : Written} {text left x : List ℕ} (later : List ℕ) (r : Result (Unit {0}) SinkFault) → IsErr r → Progress a text left b → left ≡ x ++ later → BreaksOff b x c → Writes a text r c

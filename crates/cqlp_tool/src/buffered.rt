@@ -12,6 +12,7 @@ use std::alloc::{Allocator, Global};
 use std::marker::Model;
 
 /// A target that passes bytes on to another in large pieces. After a fault it keeps what the other did not take.
+#[derive(Drop)]
 pub struct Buffered<W: Target, A: Allocator = Global> {
     target: W,
     buffer: Vec<u8, A>,

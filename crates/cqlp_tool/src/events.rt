@@ -3,7 +3,7 @@
 ghost use Rattle.std.specs.Prelude.{◌≡◌, []};
 
 use crate::line_writer::LineWriter;
-use crate::names::{field_name, opcode_name};
+use crate::names::{field_name, kind_name, opcode_name};
 use crate::word::Word;
 use cqlp_decode::{Event, SinkFault};
 use cqlp_note::{BoundValue, Header, Target};
@@ -85,6 +85,9 @@ impl<W: Target> LineWriter<W> {
                 Word::Address(address),
                 Word::Signed(i64::from(port)),
             ]),
+            Event::TypeNode(kind) => {
+                self.put_words(&[Word::Name("TypeNode"), Word::Name(kind_name(kind))])
+            }
             Event::End { extra } => self.put_words(&[
                 Word::Name("End"),
                 Word::Number(u64::from(extra)),

@@ -12,6 +12,7 @@ use std::marker::Model;
 const ROOM: usize = 512;
 
 /// Gathers short texts, so that a target gets them in few calls. Nothing waits after a `flush`.
+#[derive(Drop)]
 pub struct LineWriter<W: Target> {
     target: W,
     buffer: [u8; ROOM],

@@ -11,6 +11,7 @@ use std::alloc::Allocator;
 use std::marker::Model;
 
 /// Writes the line of each event to a target. No part of a line waits between two events.
+#[derive(Drop)]
 pub struct EventSink<W: Target> {
     writer: LineWriter<W>,
 }

@@ -4,6 +4,8 @@ ghost use Rattle.std.specs.Prelude.{◌≡◌, List, ℕ, Some, IsSome, []};
 ghost use Rattle.cqlp_decode.specs.Streams.{After, state};
 ghost use Rattle.cqlp_note.specs.Limits.{first_bad};
 ghost use Rattle.cqlp_tool.specs.Rendering.{output};
+ghost use Rattle.cqlp_tool.specs.Showing.{ending_of, ShowsTo, RendersOrFails, Concludes};
+ghost use Rattle.cqlp_tool.specs.declared.ending.Ending.{Ending};
 
 use crate::buffered::Buffered;
 use crate::ending::Ending;
@@ -12,9 +14,6 @@ use crate::render::render_events;
 use cqlp_decode::{Decoder, NewError, Outcome};
 use cqlp_note::{IoFault, Limits, Source, Target};
 use std::alloc::Allocator;
-
-ghost use Rattle.cqlp_tool.specs.Showing.{ending_of, ShowsTo, RendersOrFails, Concludes};
-ghost use Rattle.cqlp_tool.specs.declared.ending.Ending.{Ending};
 
 /// The limits of the program where none are given.
 pub const DEFAULT_LIMITS: Limits = Limits {

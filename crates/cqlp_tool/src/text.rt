@@ -30,8 +30,8 @@ impl<W: Target> LineWriter<W> {
     pub fn put_signed(&mut self, number: i64) -> Result<(), SinkFault>
         ensures { Writes self.old (signed_decimal number) result self.new }
     {
-        let mut buffer = itoa::Buffer::new();
-        self.put(buffer.format(number).as_bytes())
+        let mut digits = itoa::Buffer::new();
+        self.put(digits.format(number).as_bytes())
     }
 
     /// Takes bytes as two lower case hexadecimal digits each.
@@ -62,7 +62,9 @@ impl<W: Target> LineWriter<W> {
         ensures { Writes self.old (hyphenated_text lower bytes) result self.new }
     {
         let mut buffer = Uuid::encode_buffer();
-        let text = Uuid::from_bytes(bytes).hyphenated().encode_lower(&mut buffer);
+        let text = Uuid::from_bytes(bytes)
+            .hyphenated()
+            .encode_lower(&mut buffer);
         self.put(text.as_bytes())
     }
 

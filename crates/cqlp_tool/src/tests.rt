@@ -1,0 +1,123 @@
+//! Streams, rendered and shown.
+
+mod fakes;
+mod shows;
+mod vectors;
+
+use crate::ending::Ending;
+use crate::line_writer::LineWriter;
+use crate::render::render_events;
+use cqlp_decode::{Decoder, Outcome};
+use cqlp_note::{Limits, OfStd};
+use fakes::Pieces;
+use std::alloc::Global;
+use std::process::Abort;
+use std::test::Fail;
+use vectors::{
+    AUTHENTICATION, ERRORS, EVENTS, FIRST_MESSAGES, HEADERS, PARTS, REFUSALS, REQUESTS, RESULTS,
+    Vector,
+};
+
+const LIMITS: Limits = Limits {
+    text: 64,
+    cell: 64,
+    entries: 8,
+    depth: 3,
+    types: true,
+    parts: false,
+};
+
+/// The bytes that hexadecimal digits spell, with spaces between some.
+fn bytes_of(alloc: Global, digits: &str) -> Result<Vec<u8>, Fail> {
+    let mut packed = Vec::new(alloc);
+    for digit in digits.as_bytes() {
+        if *digit != b' ' {
+            packed.push(*digit)?;
+        }
+    }
+    Ok(hex::decode(alloc, packed.as_slice())?)
+}
+
+/// The lines and the verdict of a stream in pieces.
+fn rendered(alloc: Global, mut pieces: Pieces<'_>) -> Result<Vec<u8>, Fail> {
+    let mut decoder = Decoder::new(alloc, LIMITS)?;
+    let text = OfStd::new(Vec::new(alloc));
+    let (outcome, text) = render_events(&mut decoder, &mut pieces, text, u64::MAX);
+    let Outcome::Finished(finish) = outcome else {
+        return Err("it finishes")?;
+    };
+    let mut writer = LineWriter::new(text);
+    writer.put_ending(Ending::Finished(finish))?;
+    Ok(writer.into_inner().into_inner())
+}
+
+/// Each stream gives its lines: in one piece, byte by byte, and in two pieces cut at each place.
+fn expect_lines(rt: &impl Abort, alloc: Global, vectors: &[Vector]) -> Result<(), Fail> {
+    for vector in vectors {
+        let bytes = bytes_of(alloc, vector.stream)?;
+        expect_in_pieces(rt, alloc, vector, Pieces::new(&bytes, 1, 1))?;
+        for first in 0..bytes.len() {
+            let pieces = Pieces::new(&bytes, bytes.len() - first, usize::MAX);
+            expect_in_pieces(rt, alloc, vector, pieces)?;
+        }
+    }
+    Ok(())
+}
+
+fn expect_in_pieces(
+    rt: &impl Abort,
+    alloc: Global,
+    vector: &Vector,
+    pieces: Pieces<'_>,
+) -> Result<(), Fail> {
+    let first = pieces.first;
+    let text = rendered(alloc, pieces)?;
+    let same = text.as_slice() == vector.lines.as_bytes();
+    assert!(rt; same, "{} in pieces from {first}", vector.name);
+    Ok(())
+}
+
+#[test]
+fn headers(rt: HostRuntime) -> Result<(), Fail> {
+    expect_lines(&rt, rt.alloc(), &HEADERS)
+}
+
+#[test]
+fn first_messages(rt: HostRuntime) -> Result<(), Fail> {
+    expect_lines(&rt, rt.alloc(), &FIRST_MESSAGES)
+}
+
+#[test]
+fn requests(rt: HostRuntime) -> Result<(), Fail> {
+    expect_lines(&rt, rt.alloc(), &REQUESTS)
+}
+
+#[test]
+fn parts_before_a_message(rt: HostRuntime) -> Result<(), Fail> {
+    expect_lines(&rt, rt.alloc(), &PARTS)
+}
+
+#[test]
+fn authentication(rt: HostRuntime) -> Result<(), Fail> {
+    expect_lines(&rt, rt.alloc(), &AUTHENTICATION)
+}
+
+#[test]
+fn errors(rt: HostRuntime) -> Result<(), Fail> {
+    expect_lines(&rt, rt.alloc(), &ERRORS)
+}
+
+#[test]
+fn results(rt: HostRuntime) -> Result<(), Fail> {
+    expect_lines(&rt, rt.alloc(), &RESULTS)
+}
+
+#[test]
+fn events(rt: HostRuntime) -> Result<(), Fail> {
+    expect_lines(&rt, rt.alloc(), &EVENTS)
+}
+
+#[test]
+fn order_of_refusals(rt: HostRuntime) -> Result<(), Fail> {
+    expect_lines(&rt, rt.alloc(), &REFUSALS)
+}
