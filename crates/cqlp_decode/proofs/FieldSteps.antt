@@ -1,6 +1,6 @@
 -- One step of a field.
-use Rattle.std.proofs.Common.{◌≡◌, ℕ, ◌+◌, ◌-◌, ◌*◌, ◌<◌, ◌≤◌, List, [], ◌∷◌, ◌++◌, length, take, drop, refl, sym, ap, ◌∙◌, inl, inr, arith, length-append}
-use Rattle.std.specs.Prelude.{Some, None, max}
+use Rattle.std.proofs.Common.{◌≡◌, ℕ, ◌+◌, ◌-◌, ◌<◌, ◌≤◌, List, [], ◌∷◌, ◌++◌, length, take, drop, refl, sym, ap, ◌∙◌, inl, inr, arith, length-append}
+use Rattle.std.specs.Prelude.{Some, None}
 use Rattle.std.proofs.lemmas.Bool.{cases_lt, lt-ltb, le-ltb}
 use Rattle.std.proofs.lemmas.List.{append-nil}
 use Rattle.cqlp_note.specs.declared.refusal.Reason.{Reason}
@@ -15,7 +15,6 @@ use Rattle.cqlp_note.specs.Partial.{Progress, item_value, CanLend, Ends}
 use Rattle.cqlp_note.specs.Partial as partial
 use Rattle.cqlp_note.proofs.Yields.{after_more, after_bad, after_got, got_inside, says_exact}
 use Rattle.cqlp_note.proofs.Fronts.{fixed_overruns, fixed_wanting, fixed_taken}
-use Rattle.cqlp_type.specs.declared.node.Node.{Node}
 use Rattle.cqlp_type.specs.Types.{Types}
 use Rattle.cqlp_type.specs.Table.{Table}
 use Rattle.cqlp_type.specs.Standing as type
@@ -30,8 +29,8 @@ use Rattle.cqlp_decode.specs.declared.standing.What.TheVariants as what
 use Rattle.cqlp_decode.specs.Upcoming.{wanted}
 use Rattle.cqlp_decode.specs.Reading as reading
 use Rattle.cqlp_decode.specs.Reading.{Place, value_step, types_for, nodes_after, given_after, Nothing}
-use Rattle.cqlp_decode.specs.Standing.{IsPending, Parts, parts, state_of, place_at, offset_at, symbols_at, rest_of, came_of, told, Gives, Waits, Hands, IsAsked, IsWanted, asked, ends_due, HasRoom, StageHolds, HasParts, IsBounded, IsLawful}
-use Rattle.cqlp_decode.proofs.Steps.{begun, one_due, offset_is, fresh_stage}
+use Rattle.cqlp_decode.specs.Standing.{IsPending, Parts, parts, state_of, place_at, offset_at, symbols_at, rest_of, came_of, told, Gives, Waits, Hands, IsAsked, IsWanted, asked, HasRoom}
+use Rattle.cqlp_decode.proofs.Steps.{begun, one_due, offset_is}
 
 -- ---- fields
 
@@ -122,8 +121,8 @@ module _ (s : Standing) (old p : Progress) (r : type.Standing) (t : Table) (w : 
     place = refl;
     frame = refl;
     waits = λ b is.
-      let seen : came_of new ≡ p.seen ++ input = rw m.under_way refl in
-      (rw (pending_is b is) (field_waits s before w here (p.seen ++ input) (rw a.field at m.is)), rw (here, seen) (ap (λ (x : List ℕ). x ++ input) (pending_is b is)));
+        let seen : came_of new ≡ p.seen ++ input = rw m.under_way refl in
+        (rw (pending_is b is) (field_waits s before w here (p.seen ++ input) (rw a.field at m.is)), rw (here, seen) (ap (λ (x : List ℕ). x ++ input) (pending_is b is)));
   }
 
   pub piece_fails : (why : Reason) → says (reader_of p.field) 0 (p.seen ++ input) ≡ Bad why → (b : List ℕ) → IsPending (state_of s before).pending b → told (state_of s before) (b ++ input) ≡ Bad (s.offset, why)
@@ -146,8 +145,8 @@ module _ (s : Standing) (old p : Progress) (r : type.Standing) (t : Table) (w : 
           frame = frame;
           lent = rw (← is) m.lent;
           gives = λ b pending.
-            let g = field_gives s before w here (p.seen ++ input) v (length p.seen + used) (rw a.field at m.is) fine in
-            rw (pending_is b pending, ← is) (g.0, g.1, g.2, g.3, g.4 ∙ (λ j. place_at (sym offset j) (sym stop j) (sym symbols j) (sym nodes j)));
+              let g = field_gives s before w here (p.seen ++ input) v (length p.seen + used) (rw a.field at m.is) fine in
+              rw (pending_is b pending, ← is) (g.0, g.1, g.2, g.3, g.4 ∙ (λ j. place_at (sym offset j) (sym stop j) (sym symbols j) (sym nodes j)));
           offset = λ b pending. rw (pending_is b pending, offset, here) refl;
           due = one_due e.stage r e.upcoming room;
           pays = rw (here, one_due e.stage r e.upcoming room) (omega (arith, some));

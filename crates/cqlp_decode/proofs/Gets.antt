@@ -1,8 +1,8 @@
 -- One more event for a sink, and the end of the input.
-use Rattle.std.proofs.Common.{◌≡◌, ℕ, ◌+◌, ◌-◌, ◌<◌, ◌≤◌, List, [], ◌∷◌, ◌++◌, length, take, drop, refl, sym, ap, ◌∙◌, append_assoc, arith}
+use Rattle.std.proofs.Common.{◌≡◌, ℕ, ◌+◌, ◌-◌, ◌<◌, List, [], ◌∷◌, ◌++◌, length, take, drop, refl, sym, ap, ◌∙◌, append_assoc, arith}
 use Rattle.std.specs.Prelude.{Option, Some, None}
 use Rattle.std.specs.Io.KnownBytes.{Consumes, Keeps, IsAtEnd}
-use Rattle.std.proofs.lemmas.List.{append-nil, take-append-drop, take_all, take-take, drop-take, length-drop, length-append}
+use Rattle.std.proofs.lemmas.List.{append-nil, take-append-drop, take_all, take-take, drop-take, length-drop}
 use Rattle.cqlp_note.specs.declared.refusal.Refusal.{Refusal}
 use Rattle.cqlp_decode.specs.declared.event.Event.{Event}
 use Rattle.cqlp_decode.specs.declared.event.Step.TheVariants as steps
@@ -40,7 +40,7 @@ module _ {V : Type 0} (f : V → ℕ → reading.Event → V) where
     drains_event at taken e w' leads is = record {
       more = d.more ++ (at, event_of e) ∷ [];
       stands = stands_more at taken e leads;
-      got = is ∙ ap (λ (z : V). f z at (event_of e)) d.got ∙ sym (fold_more v d.more at (event_of e))
+      got = is ∙ ap (λ (z : V). f z at (event_of e)) d.got ∙ sym (fold_more v d.more at (event_of e));
     }
 
     pub fails_event : (faulted : V → ℕ → reading.Event → V → Type 0) (at taken : ℕ) (e : Event) (w' : V) → Leads old (s ++ take used input) (es ++ d.more) (drop used input) (steps.Event at taken e) new → faulted w at (event_of e) w'
@@ -50,7 +50,7 @@ module _ {V : Type 0} (f : V → ℕ → reading.Event → V) where
       at = at;
       event = event_of e;
       stands = rw (append_assoc es d.more ((at, event_of e) ∷ [])) (stands_more at taken e leads);
-      fault = rw (← d.got) fault
+      fault = rw (← d.got) fault;
     }
 
     all : (s ++ take used input) ++ drop used input ≡ s ++ input
@@ -67,7 +67,7 @@ module _ {V : Type 0} (f : V → ℕ → reading.Event → V) where
   drains_then mid new s a b es v w x d e = record {
     more = d.more ++ e.more;
     stands = rw (← (append_assoc s a b), ← (append_assoc es d.more e.more)) e.stands;
-    got = e.got ∙ ap (λ (z : V). fold_events f z e.more) d.got ∙ sym (fold_append v d.more e.more)
+    got = e.got ∙ ap (λ (z : V). fold_events f z e.more) d.got ∙ sym (fold_append v d.more e.more);
   }
 
   pub fails_then : (faulted : V → ℕ → reading.Event → V → Type 0) (mid new : State) (s a b : List ℕ) (es : List (ℕ × reading.Event)) (v w x : V) (d : Drains f mid s es a v w) → Fails f faulted new (s ++ a) (es ++ d.more) b w x → Fails f faulted new s es (a ++ b) v x
@@ -76,7 +76,7 @@ module _ {V : Type 0} (f : V → ℕ → reading.Event → V) where
     at = e.at;
     event = e.event;
     stands = rw (← (append_assoc s a b), ← (append_assoc es d.more e.more)) e.stands;
-    fault = rw (fold_append v d.more e.more, ← d.got) e.fault
+    fault = rw (fold_append v d.more e.more, ← d.got) e.fault;
   }
 
   abbrev pub feeds_none : (d : State) (xs : List ℕ) (v : V) → Feeds f d d xs v v
@@ -91,7 +91,7 @@ module _ {V : Type 0} (f : V → ℕ → reading.Event → V) where
       bytes = d.bytes ++ part;
       rest = end ++ left;
       parts = parts_then;
-      drained = λ s es a. let e = d.drained s es a in drains_then mid new s d.bytes part es v w x e (next (s ++ d.bytes) (es ++ e.more) e.stands)
+      drained = λ s es a. let e = d.drained s es a in drains_then mid new s d.bytes part es v w x e (next (s ++ d.bytes) (es ++ e.more) e.stands);
     }
 
     pub has_all : (next : (s : List ℕ) (es : List (ℕ × reading.Event)) → After mid s es → (e : Drains f new s es part w x) × Says new.rules reading.start (s ++ part) (es ++ e.more) Waits) → HasAll f old new xs v x (feeds_then (λ s es a. (next s es a).0))
@@ -104,7 +104,7 @@ module _ {V : Type 0} (f : V → ℕ → reading.Event → V) where
       bytes = d.bytes ++ part;
       rest = end ++ left;
       parts = parts_then;
-      failed = λ s es a. let e = d.drained s es a in fails_then faulted mid new s d.bytes part es v w x e (next (s ++ d.bytes) (es ++ e.more) e.stands)
+      failed = λ s es a. let e = d.drained s es a in fails_then faulted mid new s d.bytes part es v w x e (next (s ++ d.bytes) (es ++ e.more) e.stands);
     }
 
 -- what is left of a reader's bytes after a read

@@ -1,10 +1,10 @@
 -- What one call does, over the whole stream.
-use Rattle.std.proofs.Common.{◌≡◌, ℕ, ◌+◌, ◌*◌, ◌<◌, ◌≤◌, Bool, true, false, cond, List, [], ◌∷◌, ◌++◌, length, take, drop, refl, sym, ap, ◌∙◌, arith}
+use Rattle.std.proofs.Common.{◌≡◌, ℕ, ◌+◌, ◌≤◌, Bool, false, List, [], ◌∷◌, ◌++◌, length, take, drop, refl, sym, ap, ◌∙◌, arith}
 use Rattle.std.specs.Prelude.{Option, Some, None, if◌then◌else◌}
-use Rattle.std.proofs.lemmas.List.{append-nil, length-append, length-take-le, drop_all}
+use Rattle.std.proofs.lemmas.List.{length-append, length-take-le, drop_all}
 use Rattle.cqlp_note.specs.declared.refusal.Refusal.{Refusal}
 use Rattle.cqlp_note.specs.Limits.{Rules}
-use Rattle.cqlp_note.specs.Reader.{Said, Got, says}
+use Rattle.cqlp_note.specs.Reader.{Got, says}
 use Rattle.cqlp_note.specs.Step.{Emitted}
 use Rattle.cqlp_note.proofs.Yields.{says_exact, emitted_is}
 use Rattle.cqlp_note.proofs.Runs.{runs_then, runs_stay}
@@ -15,8 +15,8 @@ use Rattle.cqlp_decode.specs.declared.event.Step.TheVariants as steps
 use Rattle.cqlp_decode.specs.Reading as reading
 use Rattle.cqlp_decode.specs.Reading.{Place, step, start, Reads}
 use Rattle.cqlp_decode.specs.Events.{event_of}
-use Rattle.cqlp_decode.specs.Standing.{State, AdvancesFrom, event_at, frame_after, due_after, ends_due}
-use Rattle.cqlp_decode.specs.Streams.{AfterBy, After, Stands, Leads, Goes, Uses, frame_from, frame_of, open_after, open_from, is_open}
+use Rattle.cqlp_decode.specs.Standing.{State, AdvancesFrom, event_at, frame_after, due_after}
+use Rattle.cqlp_decode.specs.Streams.{AfterBy, Leads, Goes, frame_from, frame_of, open_after, open_from}
 
 -- ---- one more event
 
@@ -47,7 +47,9 @@ module _ (old new : State) (input s : List ℕ) (es : List (ℕ × reading.Event
   more_leads None used a after =
       let m = a.0.waits after.bytes after.pending in
       let run = runs_stay (step old.rules) start s input es old.place after.bytes after.read in
-      rw (a.1, a.2) (a.0.all, refl,
+      rw (a.1, a.2) (
+        a.0.all,
+        refl,
         record {
           bytes = after.bytes ++ input;
           pending = m.1;
@@ -56,7 +58,8 @@ module _ (old new : State) (input s : List ℕ) (es : List (ℕ × reading.Event
           frame = a.0.frame ∙ after.frame;
           due = rw a.0.place after.due;
         },
-        (old.place, after.bytes ++ input, run, rw m.0 tt))
+        (old.place, after.bytes ++ input, run, rw m.0 tt),
+      )
 
   pub event_leads : (o : Option Refusal) (at used : ℕ) (w : What) (e : Event) → event_of e ≡ event_at new.held input w → AdvancesFrom o old input (advance.Event at used w) new → AfterBy o old s es → Leads old s es input (steps.Event at used e) new
   event_leads (Some r) at used w e is a after = absurd (let e = a.0 in cc)
@@ -67,14 +70,19 @@ module _ (old new : State) (input s : List ℕ) (es : List (ℕ × reading.Event
       let long : length t ≡ used = length-take-le used input h.within in
       let one = says_exact (step old.rules old.place) after.bytes input g.0 used g.1 in
       let run = run_more old.rules old.place new.place s after.bytes t es at (event_of e) g.0 after.read (rw long one) g.2 (g.3 ∙ sym is) (rw long g.4) in
-      rw (a.1, a.2) (h.within, refl, h.begun, record {
-        bytes = [];
-        pending = h.begun;
-        read = run;
-        count = omega (arith, h.offset after.bytes after.pending, after.count, length-append s t, long);
-        frame = h.frame ∙ ap (λ (f : ℕ). frame_after f at (event_at new.held input w)) after.frame ∙ ap (λ (x : reading.Event). frame_after (frame_of es) at x) (sym is) ∙ sym (frame_more 0 es at (event_of e));
-        due = h.due ∙ ap due_after (sym is) ∙ due_is (event_of e) ∙ ap (λ (b : Bool). if b then 1 else 0) (sym (open_more false es at (event_of e)));
-      })
+      rw (a.1, a.2) (
+        h.within,
+        refl,
+        h.begun,
+        record {
+          bytes = [];
+          pending = h.begun;
+          read = run;
+          count = omega (arith, h.offset after.bytes after.pending, after.count, length-append s t, long);
+          frame = h.frame ∙ ap (λ (f : ℕ). frame_after f at (event_at new.held input w)) after.frame ∙ ap (λ (x : reading.Event). frame_after (frame_of es) at x) (sym is) ∙ sym (frame_more 0 es at (event_of e));
+          due = h.due ∙ ap due_after (sym is) ∙ due_is (event_of e) ∙ ap (λ (b : Bool). if b then 1 else 0) (sym (open_more false es at (event_of e)));
+        },
+      )
 
   pub refused_leads : (o : Option Refusal) → old.refusal ≡ o → (r : Refusal) → AdvancesFrom o old input (advance.Refused r) new → AfterBy o old s es → Leads old s es input (steps.Refused r) new
   refused_leads (Some before) eq r a after =

@@ -1,11 +1,11 @@
 -- One step of a type option.
-use Rattle.std.proofs.Common.{◌≡◌, ℕ, ◌+◌, ◌-◌, ◌*◌, ◌<◌, ◌≤◌, true, false, cond, ltb, leb, List, [], ◌∷◌, ◌++◌, length, take, drop, refl, sym, ap, ◌∙◌, inl, inr, arith, length-append}
+use Rattle.std.proofs.Common.{◌≡◌, ℕ, ◌+◌, ◌-◌, ◌<◌, ◌≤◌, false, ltb, leb, List, [], ◌∷◌, ◌++◌, length, refl, sym, ap, ◌∙◌, inl, inr, arith}
 use Rattle.std.specs.Prelude.{Option, Some, None}
 use Rattle.std.specs.Int.{w16, from_be_bytes}
 use Rattle.std.proofs.lemmas.Bool.{cases_lt}
 use Rattle.cqlp_note.specs.declared.refusal.Reason.{Reason}
 use Rattle.cqlp_note.specs.declared.refusal.Reason.TheVariants.{Overrun}
-use Rattle.cqlp_note.specs.Reader.{Said, Reader, More, Bad, Got, Gives as GivesNow, Refuses, Takes, Idles, says, number_of}
+use Rattle.cqlp_note.specs.Reader.{Bad, Got, Gives as GivesNow, Refuses, Takes, Idles, says, number_of}
 use Rattle.cqlp_note.specs.Field.{FieldValue, FieldReader, field_of}
 use Rattle.cqlp_note.specs.declared.field.Notation.TheVariants as notation
 use Rattle.cqlp_note.specs.declared.field.Field.TheVariants as field
@@ -28,7 +28,6 @@ use Rattle.cqlp_message.specs.Productions.{Symbol, In_type}
 use Rattle.cqlp_decode.specs.declared.standing.Stage.TheVariants as stage
 use Rattle.cqlp_decode.specs.declared.standing.Standing.{Standing}
 use Rattle.cqlp_decode.specs.declared.standing.What.TheVariants as what
-use Rattle.cqlp_decode.specs.Reading as reading
 use Rattle.cqlp_decode.specs.Reading.{Place, type_event, types_left, place_of_types}
 use Rattle.cqlp_decode.specs.Standing.{IsPending, Parts, parts, state_of, place_at, offset_at, symbols_at, rest_of, told, Gives, Waits, Hands, IsLent, due_after, frame_after, ends_due, HasRoom, IsOption, OptionWaits}
 use Rattle.cqlp_decode.proofs.Steps.{begun, one_due, offset_is}
@@ -134,9 +133,13 @@ module _ (s : Standing) (q : Parts) (here : s.stage ≡ stage.Type) (o : IsOptio
     option_on = sym (ap (λ (z : TypePlace). z.offset) m.after) ∙ goes_forward q.types.rules (place_of q.types q.table.nodes) bytes m.step taken m.is
 
     option_gives : Gives (state_of s q) bytes at (type_event (part.event_at x input p'.content)) taken (place_of_types stands rest (place_of r' t'.nodes))
-    option_gives =
-        (record { at = m.step.at; event = type_event m.step.event; after = λ u. place_of_types stands rest (m.step.after u) },
-         told_is bytes ∙ ap (λ z. map_said type_event (place_of_types stands rest) z) m.is, m.place, ap type_event m.event, ap (λ (z : TypePlace). place_of_types stands rest z) m.after)
+    option_gives = (
+      record { at = m.step.at; event = type_event m.step.event; after = λ u. place_of_types stands rest (m.step.after u) },
+      told_is bytes ∙ ap (λ z. map_said type_event (place_of_types stands rest) z) m.is,
+      m.place,
+      ap type_event m.event,
+      ap (λ (z : TypePlace). place_of_types stands rest z) m.after,
+    )
 
     -- the place that the decoder stands at then
     module _ (e : Standing) (q' : Parts) (content : q'.partial.content ≡ p'.content) (nodes : q'.table.nodes ≡ t'.nodes) (offset : offset_at e.stage e.offset q'.types ≡ r'.offset) (stop : e.stop ≡ s.stop) (frame : e.frame ≡ s.frame)
@@ -149,9 +152,9 @@ module _ (s : Standing) (q : Parts) (here : s.stage ≡ stage.Type) (o : IsOptio
         frame = frame ∙ sym (same_frame s.frame at (part.event_at x input q'.partial.content));
         lent = is_lent (part.event_at x input q'.partial.content) used q'.partial.content (rw content m.lent);
         gives = λ b is.
-          let g = option_gives in
-          let stopped : r'.stop ≡ s.stop = ap (λ (z : type.Standing). z.stop) m.reader ∙ o.stop in
-          rw (pending_is b is, content) (g.0, g.1, g.2, g.3, g.4 ∙ (λ j. place_at (sym offset j) ((stopped ∙ sym stop) j) (sym symbols j) (sym nodes j)));
+            let g = option_gives in
+            let stopped : r'.stop ≡ s.stop = ap (λ (z : type.Standing). z.stop) m.reader ∙ o.stop in
+            rw (pending_is b is, content) (g.0, g.1, g.2, g.3, g.4 ∙ (λ j. place_at (sym offset j) ((stopped ∙ sym stop) j) (sym symbols j) (sym nodes j)));
         offset = λ b is. rw (pending_is b is, offset, here) option_on;
         due = one ∙ sym (no_end (part.event_at x input q'.partial.content));
         pays = rw (here, one) (omega (arith, some));

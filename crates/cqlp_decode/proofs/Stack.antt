@@ -74,6 +74,9 @@ next_one old new w p = (ap symbols_in p.0 ∙ symbols_pushed new (One w), omega 
 pub next_many : (old mid rest new : List Slot) (g : Group) (n : ℕ) (w : Due) → Popped old (Some (Many g n)) mid → symbols_in rest ≡ copies (n - 1) (group g) ++ symbols_in mid
     → wanted w ∷ symbols_in new ≡ group g ++ symbols_in rest → length new + behind_due w ≤ 16 → IsRead w → Next old (Some w) new
 next_many old mid rest new g n w p others first room followed =
-    let more : n ≡ suc (n - 1) = omega (arith, p.2) in
-    (ap symbols_in p.0 ∙ symbols_pushed mid (Many g n) ∙ ap (λ (k : ℕ). copies k (group g) ++ symbols_in mid) more
-     ∙ append_assoc (group g) (copies (n - 1) (group g)) (symbols_in mid) ∙ ap (λ (x : List Symbol). group g ++ x) (sym others) ∙ sym first, room, followed)
+    let more : n ≡ suc (n - 1) = omega (arith, p.2) in (
+      ap symbols_in p.0 ∙ symbols_pushed mid (Many g n) ∙ ap (λ (k : ℕ). copies k (group g) ++ symbols_in mid) more
+          ∙ append_assoc (group g) (copies (n - 1) (group g)) (symbols_in mid) ∙ ap (λ (x : List Symbol). group g ++ x) (sym others) ∙ sym first,
+      room,
+      followed,
+    )

@@ -1,19 +1,17 @@
 -- One step: what is skipped, headers, and what follows them.
-use Rattle.std.proofs.Common.{◌≡◌, ℕ, Bool, true, false, ◌+◌, ◌-◌, ◌*◌, ◌<◌, ◌≤◌, ◌^◌, List, [], ◌∷◌, ◌++◌, length, take, drop, refl, sym, ap, ◌∙◌, inl, inr, arith, length-append}
-use Rattle.std.specs.Prelude.{Option, Some, None, Ok, Err, min, max}
+use Rattle.std.proofs.Common.{◌≡◌, ℕ, Bool, true, false, ◌+◌, ◌-◌, ◌<◌, ◌≤◌, ◌^◌, List, [], ◌∷◌, ◌++◌, length, take, refl, sym, ap, ◌∙◌, arith, length-append}
+use Rattle.std.specs.Prelude.{Option, Some, None, Ok, Err, min}
 use Rattle.std.proofs.Math.Seq.{take-append-add}
-use Rattle.std.proofs.lemmas.Bool.{cases_lt, lt-ltb, le-ltb}
-use Rattle.std.proofs.lemmas.List.{take_all, length-take-le, append-nil}
+use Rattle.std.proofs.lemmas.Bool.{lt-ltb, le-ltb}
+use Rattle.std.proofs.lemmas.List.{length-take-le}
 use Rattle.cqlp_note.specs.declared.refusal.Reason.{Reason}
 use Rattle.cqlp_note.specs.declared.refusal.Refusal.{Refusal}
 use Rattle.cqlp_note.specs.declared.header.Header.{Header}
-use Rattle.cqlp_note.specs.Reader.{Said, More, Bad, Got, says}
+use Rattle.cqlp_note.specs.Reader.{Bad, Got}
 use Rattle.cqlp_note.specs.Step.{Emitted}
 use Rattle.cqlp_note.specs.Heading.{heading}
-use Rattle.cqlp_note.specs.Partial.{Progress}
-use Rattle.cqlp_type.specs.declared.node.Node.{Node}
 use Rattle.cqlp_type.specs.Standing as type
-use Rattle.cqlp_message.specs.Productions.{Symbol, Stream, Extra, message}
+use Rattle.cqlp_message.specs.Productions.{Stream, message}
 use Rattle.cqlp_decode.specs.declared.table.Due.{Due}
 use Rattle.cqlp_decode.specs.declared.table.Due.TheVariants as due
 use Rattle.cqlp_decode.specs.declared.upcoming.Slot.{Slot}
@@ -21,10 +19,10 @@ use Rattle.cqlp_decode.specs.declared.standing.Stage.{Stage}
 use Rattle.cqlp_decode.specs.declared.standing.Stage.TheVariants as stage
 use Rattle.cqlp_decode.specs.declared.standing.Standing.{Standing}
 use Rattle.cqlp_decode.specs.declared.standing.What.TheVariants as what
-use Rattle.cqlp_decode.specs.Upcoming.{symbols_in, wanted, Next}
+use Rattle.cqlp_decode.specs.Upcoming.{Next}
 use Rattle.cqlp_decode.specs.Reading as reading
 use Rattle.cqlp_decode.specs.Reading.{Place}
-use Rattle.cqlp_decode.specs.Standing.{State, Pending, IsPending, state_of, place_at, offset_at, pending_at, symbols_at, rest_of, stage_with, came_of, told, Gives, Waits, Hands, Parts, IsIdle, ends_due, HasRoom, StageHolds, HasParts, IsPlaced, IsLawful}
+use Rattle.cqlp_decode.specs.Standing.{IsPending, state_of, place_at, offset_at, pending_at, symbols_at, rest_of, stage_with, came_of, told, Gives, Waits, Hands, Parts, IsIdle, ends_due, HasRoom, StageHolds, IsPlaced, IsLawful}
 
 -- ---- what is skipped
 
@@ -35,9 +33,9 @@ extra_waits s new q input used here le is less same = rw same (record {
   place = refl;
   frame = refl;
   waits = λ b came.
-    let long : length b ≡ s.came = rw here at came in
-    let short : length (b ++ input) < s.stop - s.offset = omega (arith, length-append b input) in
-    (rw (here, lt-ltb _ _ short) refl, rw here (omega (arith, length-append b input)));
+      let long : length b ≡ s.came = rw here at came in
+      let short : length (b ++ input) < s.stop - s.offset = omega (arith, length-append b input) in
+      (rw (here, lt-ltb _ _ short) refl, rw here (omega (arith, length-append b input)));
 })
 
 pub extra_hands : (s : Standing) (q : Parts) (input : List ℕ) (used : ℕ) → s.stage ≡ stage.Extra → s.offset ≤ s.stop → s.came ≤ s.stop - s.offset → used ≡ min (s.stop - s.offset - s.came) (length input) → s.stop - s.offset ≤ s.came + used
@@ -49,11 +47,11 @@ extra_hands s q input used here inside le is all = record {
   frame = refl;
   lent = tt;
   gives = λ b came.
-    let size : length b ≡ s.came = rw here at came in
-    let long : s.stop - s.offset ≤ length (b ++ input) = omega (arith, length-append b input) in
-    let same : 0 + (s.stop - s.offset) ≡ length b + used = omega arith in
-    let x : Emitted reading.Event Place = record { at = s.stop; event = reading.End (s.stop - s.offset); after = λ k. place_at s.stop s.stop (Stream ∷ []) q.table.nodes } in
-    (x, rw (here, le-ltb _ _ long) (ap (λ (k : ℕ). Got x k) same), refl, refl, refl);
+      let size : length b ≡ s.came = rw here at came in
+      let long : s.stop - s.offset ≤ length (b ++ input) = omega (arith, length-append b input) in
+      let same : 0 + (s.stop - s.offset) ≡ length b + used = omega arith in
+      let x : Emitted reading.Event Place = record { at = s.stop; event = reading.End (s.stop - s.offset); after = λ k. place_at s.stop s.stop (Stream ∷ []) q.table.nodes } in
+      (x, rw (here, le-ltb _ _ long) (ap (λ (k : ℕ). Got x k) same), refl, refl, refl);
   offset = λ b came. let size : length b ≡ s.came = rw here at came in rw here (omega arith);
   due = refl;
   pays = rw here (omega arith);
@@ -88,13 +86,16 @@ offset_is stage.Extra offset r upcoming room = refl
 -- what holds of the next stage, of which nothing has come
 pub fresh_stage : (e : Standing) (q : Parts) (t : Stage) → HasRoom t e.upcoming → IsIdle q → e.came ≡ 0 → StageHolds e q t
 fresh_stage e q stage.Header room idle none = absurd room
-fresh_stage e q (stage.Field w) room idle none = (record {
-  room = room.0;
-  read = room.1;
-  field = λ busy. let shut : ◌≡◌ {A = Bool} true false = sym busy ∙ idle.field in absurd cc;
-  waits = λ some. let long : length (came_of q.partial) ≡ 0 = rw idle.field refl in absurd (omega arith);
-  came = none;
-}, idle.types)
+fresh_stage e q (stage.Field w) room idle none = (
+  record {
+    room = room.0;
+    read = room.1;
+    field = λ busy. let shut : ◌≡◌ {A = Bool} true false = sym busy ∙ idle.field in absurd cc;
+    waits = λ some. let long : length (came_of q.partial) ≡ 0 = rw idle.field refl in absurd (omega arith);
+    came = none;
+  },
+  idle.types,
+)
 fresh_stage e q stage.Option room idle none = (idle, none)
 fresh_stage e q stage.Type room idle none = absurd room
 fresh_stage e q stage.Extra room idle none = (omega arith, idle)
@@ -143,10 +144,10 @@ module _ (s : Standing) (q : Parts) (input : List ℕ) (here : s.stage ≡ stage
     place = ap (λ (z : Standing). place_at (offset_at z.stage z.offset q.types) z.stop (symbols_at z.stage q.types z.upcoming) q.table.nodes) rest;
     frame = ap (λ (z : Standing). z.frame) rest;
     waits = λ b is.
-      let came : b ≡ take s.came s.header = rw here at is in
-      let short : length (b ++ input) < 9 = rw came (omega (arith, length-append (take s.came s.header) input, kept_long)) in
-      let there : new.stage ≡ stage.Header = ap (λ (z : Standing). z.stage) rest ∙ here in
-      (rw (here, le-ltb _ _ early, lt-ltb _ _ short) refl, rw there (ap (λ (x : List ℕ). x ++ input) came ∙ sym kept));
+        let came : b ≡ take s.came s.header = rw here at is in
+        let short : length (b ++ input) < 9 = rw came (omega (arith, length-append (take s.came s.header) input, kept_long)) in
+        let there : new.stage ≡ stage.Header = ap (λ (z : Standing). z.stage) rest ∙ here in
+        (rw (here, le-ltb _ _ early, lt-ltb _ _ short) refl, rw there (ap (λ (x : List ℕ). x ++ input) came ∙ sym kept));
   }
 
   module _ (enough : 9 ≤ s.came + length input) where
@@ -186,8 +187,8 @@ module _ (s : Standing) (q : Parts) (input : List ℕ) (here : s.stage ≡ stage
           lent = tt;
           gives = λ b pending. let g = header_gives h is b pending in (g.0, g.1, g.2, g.3, g.4 ∙ (λ j. place_at (sym offset j) (sym stop j) (sym symbols j) q.table.nodes));
           offset = λ b pending.
-            let came : b ≡ take s.came s.header = rw here at pending in
-            rw (offset, here, came) (omega (arith, kept_long));
+              let came : b ≡ take s.came s.header = rw here at pending in
+              rw (offset, here, came) (omega (arith, kept_long));
           due = one_due new.stage q.types new.upcoming room;
           pays = rw (here, one_due new.stage q.types new.upcoming room) (omega arith);
         }

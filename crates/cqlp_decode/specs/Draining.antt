@@ -2,7 +2,6 @@
 use Rattle.std.specs.Prelude.{◌≡◌, ℕ, ◌≤◌, ◌++◌, true, List, [], ◌∷◌, length, take, Option, Some, None, ◌⊎◌}
 use Rattle.cqlp_note.specs.declared.refusal.Refusal.{Refusal}
 use Rattle.cqlp_note.specs.Streams.{counted}
-use Rattle.cqlp_decode.specs.declared.event.Finish.{Finish}
 use Rattle.cqlp_decode.specs.declared.running.Drained.{Drained}
 use Rattle.cqlp_decode.specs.declared.running.Drained.TheVariants as drained
 use Rattle.cqlp_decode.specs.declared.running.Outcome.{Outcome}

@@ -1,5 +1,5 @@
 -- Events as calls hand them out.
-use Rattle.std.specs.Prelude.{ℕ, Some, None}
+use Rattle.std.specs.Prelude.{Some, None}
 use Rattle.cqlp_note.specs.declared.prim.BoundValue.{BoundValue}
 use Rattle.cqlp_note.specs.declared.prim.BoundValue.TheVariants as bound
 use Rattle.cqlp_note.specs.Field as field

@@ -26,7 +26,7 @@ use Rattle.cqlp_decode.specs.declared.standing.What.TheVariants as what
 use Rattle.cqlp_decode.specs.declared.standing.Advance.{Advance}
 use Rattle.cqlp_decode.specs.declared.standing.Advance.TheVariants as advance
 use Rattle.cqlp_decode.specs.declared.standing.Standing.{Standing}
-use Rattle.cqlp_decode.specs.Upcoming.{symbols_in, wanted, behind, behind_due, IsRead}
+use Rattle.cqlp_decode.specs.Upcoming.{symbols_in, wanted, behind, IsRead}
 use Rattle.cqlp_decode.specs.Reading as reading
 use Rattle.cqlp_decode.specs.Reading.{Place, Event, step}
 
@@ -181,7 +181,7 @@ state_of s q = record {
   pending = pending_at s.stage s.header s.came q;
   frame = s.frame;
   refusal = s.refusal;
-  held = q.partial.content
+  held = q.partial.content;
 }
 
 -- no field and no type option is under way

@@ -140,12 +140,8 @@ impl<A: Allocator> Decoder<A> {
     fn advance(&mut self, input: &[u8]) -> Advance
         ensures { Advances (state self.old) input.now result (state self.new) }
     {
-        self.standing.advance(
-            &mut self.partial,
-            &mut self.types,
-            &mut self.table,
-            input,
-        )
+        self.standing
+            .advance(&mut self.partial, &mut self.types, &mut self.table, input)
     }
 
     /// The event that `advance` made of this input.

@@ -1,28 +1,61 @@
 //! What a stream says, event by event.
 
-use cqlp_type::Kind;
 use cqlp_note::{Address, BoundValue, Field, Header, Refusal};
+use cqlp_type::Kind;
 
 /// One thing that a stream says. Contents are lent from the input or from the decoder.
 #[derive(Clone, Copy, Debug, PartialEq, Eq)]
 pub enum Event<'a> {
     /// A frame begins, with this header.
     Frame(Header),
-    Byte { field: Field, value: u8 },
-    Short { field: Field, value: u16 },
-    Int { field: Field, value: i32 },
-    Long { field: Field, value: i64 },
-    Uuid { field: Field, value: [u8; 16] },
-    Count { field: Field, count: u32 },
-    Text { field: Field, text: &'a str },
+    Byte {
+        field: Field,
+        value: u8,
+    },
+    Short {
+        field: Field,
+        value: u16,
+    },
+    Int {
+        field: Field,
+        value: i32,
+    },
+    Long {
+        field: Field,
+        value: i64,
+    },
+    Uuid {
+        field: Field,
+        value: [u8; 16],
+    },
+    Count {
+        field: Field,
+        count: u32,
+    },
+    Text {
+        field: Field,
+        text: &'a str,
+    },
     /// None is null.
-    Bytes { field: Field, bytes: Option<&'a [u8]> },
-    Bound { field: Field, value: BoundValue<'a> },
-    Inet { field: Field, address: Address, port: i32 },
+    Bytes {
+        field: Field,
+        bytes: Option<&'a [u8]>,
+    },
+    Bound {
+        field: Field,
+        value: BoundValue<'a>,
+    },
+    Inet {
+        field: Field,
+        address: Address,
+        port: i32,
+    },
     /// A type option, or one in another, of this kind.
     TypeNode(Kind),
     /// The frame ends, with so many bytes behind its last field.
-    End { extra: u32 },
+    End {
+        extra: u32,
+    },
 }
 
 /// What one call makes of the input.
@@ -36,7 +69,9 @@ pub enum Step<'a> {
         event: Event<'a>,
     },
     /// All of the input was used, and more is wanted.
-    More { used: usize },
+    More {
+        used: usize,
+    },
     /// The stream is refused, here and at every later call; nothing was used.
     Refused(Refusal),
 }

@@ -9,13 +9,14 @@ ghost use Rattle.cqlp_decode.specs.Reading.{nodes_after};
 ghost use Rattle.cqlp_message.specs.Productions.{Extra, In, batch_parts, entry_parts, fault_in as fault_of, following, message, number_in, query_parts, specs, text_in};
 
 use crate::table::{
-    Due, Want, body_fields, error_fields, counted, event_fields, plain, result_fields, target_fields
+    Due, Want, body_fields, counted, error_fields, event_fields, plain, result_fields,
+    target_fields,
 };
 use crate::upcoming::Upcoming;
 use cqlp_message::{Group, Role};
+use cqlp_note::{Field, Header, Notation, Prim, Reason};
 use cqlp_type::TypeTable;
 use std::alloc::Allocator;
-use cqlp_note::{Field, Header, Notation, Prim, Reason};
 
 impl Upcoming {
     ghost use Rattle.cqlp_decode.specs.Upcoming.{behind, symbols_in};
@@ -84,7 +85,14 @@ impl Upcoming {
         ensures symbols { symbols_in self.new ≡ In field Notation.Count32 role ∷ symbols_in self.old }
     {
         let notation = Notation::Count32;
-        self.push_if(true, Due::Field(Want { field, notation, role }));
+        self.push_if(
+            true,
+            Due::Field(Want {
+                field,
+                notation,
+                role,
+            }),
+        );
     }
 
     /// The rest of metadata behind the number of its columns, and the number of rows where they follow.

@@ -10,7 +10,7 @@ abbrev pub invariant-events : goal.invariant-events
 invariant-events g l = record {
   within : l.used ≤ length l.input;
   tells : g.S.Sink.tells l.fn.sink → g.S.Sink.tells l.sink;
-  drained : g.S.Sink.tells l.fn.sink → (s : List ℕ) (es : List (ℕ × Event)) → After (state l.fn.decoder) s es → Drains g.S.Sink.after (state l.decoder) s es (take l.used l.input) (g.S.Sink.view l.fn.sink) (g.S.Sink.view l.sink)
+  drained : g.S.Sink.tells l.fn.sink → (s : List ℕ) (es : List (ℕ × Event)) → After (state l.fn.decoder) s es → Drains g.S.Sink.after (state l.decoder) s es (take l.used l.input) (g.S.Sink.view l.fn.sink) (g.S.Sink.view l.sink);
 }
 
 -- an event takes some byte, or is the end that is due

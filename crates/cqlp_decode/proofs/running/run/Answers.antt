@@ -1,4 +1,4 @@
-use Rattle.std.proofs.Common.{◌≡◌, ◌+◌, ◌-◌, ◌<◌, ◌≤◌, ◌++◌, [], List, ℕ, length, take, drop, refl, sym, inl, inr, arith}
+use Rattle.std.proofs.Common.{◌≡◌, ◌<◌, [], length, take, drop, refl, sym, inl, inr, arith}
 use Rattle.std.proofs.lemmas.List.{append-nil, take-append-drop, length-append, length-take-le}
 use Rattle.cqlp_decode.specs.Streams.{state}
 use Rattle.cqlp_decode.proofs.Gets.{feeds_none, feeds_then, feeds_into, has_all, read_some, keeps_some, at_end}
@@ -26,10 +26,10 @@ loop-turn-init g c = record {
   failures = refl;
   tells = λ tells. c.in-More.ensures.tells tells refl;
   fed = λ xs is tells.
-    let e = c.in-More.ensures.drains tells in
-    let d = state c.args.decoder.now in
-    let v = g.S.Sink.view c.args.sink.now in
-    (feeds_then g.S.Sink.after d d (state c.drain.new.decoder) xs [] xs v v _ (feeds_none g.S.Sink.after d xs v) refl [] [] refl (λ s es a. (e s es a).0), is, omega arith, has_all g.S.Sink.after d d (state c.drain.new.decoder) xs [] xs v v _ (feeds_none g.S.Sink.after d xs v) refl [] [] refl e)
+      let e = c.in-More.ensures.drains tells in
+      let d = state c.args.decoder.now in
+      let v = g.S.Sink.view c.args.sink.now in
+      (feeds_then g.S.Sink.after d d (state c.drain.new.decoder) xs [] xs v v _ (feeds_none g.S.Sink.after d xs v) refl [] [] refl (λ s es a. (e s es a).0), is, omega arith, has_all g.S.Sink.after d d (state c.drain.new.decoder) xs [] xs v v _ (feeds_none g.S.Sink.after d xs v) refl [] [] refl e);
 }
 
 -- after a read
@@ -51,9 +51,12 @@ returns-in-Refused-drain-clause-runs g c = λ xs is tells.
     let d = c.loop-turn.invariant.fed xs is tells in
     let r = read_some _ _ d.0.rest c.read.new.buffer c.in-Ok.count d.1 c.in-Ok.ensures.bytes.0 c.in-Ok.ensures.bytes.1 in
     let e = c.in-Refused-drain.ensures.drains (c.loop-turn.invariant.tells tells) in
-    let piece = take c.in-Ok.count c.read.new.buffer in
-    (feeds_then g.S.Sink.after (state c.args.decoder.now) (state c.loop-turn.decoder) (state c.drain-in-loop-turn.new.decoder) xs piece r.0 _ _ _ d.0 r.2 (take e.1.0 piece) (drop e.1.0 piece) (sym (take-append-drop e.1.0 piece)) e.1.1,
-     inr e.0, c.finish-in-Refused-drain.ensures, λ none. let refused = e.0.1 in absurd cc)
+    let piece = take c.in-Ok.count c.read.new.buffer in (
+      feeds_then g.S.Sink.after (state c.args.decoder.now) (state c.loop-turn.decoder) (state c.drain-in-loop-turn.new.decoder) xs piece r.0 _ _ _ d.0 r.2 (take e.1.0 piece) (drop e.1.0 piece) (sym (take-append-drop e.1.0 piece)) e.1.1,
+      inr e.0,
+      c.finish-in-Refused-drain.ensures,
+      λ none. let refused = e.0.1 in absurd cc,
+    )
 
 pub returns-in-Fault-drain-clause-runs : goal.returns-in-Fault-drain-clause-runs
 returns-in-Fault-drain-clause-runs g c = λ xs is tells.
@@ -71,15 +74,17 @@ loop-turn-preserved g c =
       failures = let a = c.in-Ok.ensures.failures in let b = c.loop-turn.invariant.failures in cc;
       tells = λ tells. c.in-More-drain.ensures.tells (c.loop-turn.invariant.tells tells) refl;
       fed = λ xs is tells.
-        let d = c.loop-turn.invariant.fed xs is tells in
-        let r = read_some _ _ d.0.rest c.read.new.buffer c.in-Ok.count d.1 c.in-Ok.ensures.bytes.0 c.in-Ok.ensures.bytes.1 in
-        let e = c.in-More-drain.ensures.drains (c.loop-turn.invariant.tells tells) in
-        let piece = take c.in-Ok.count c.read.new.buffer in
-        let size : length piece ≡ c.in-Ok.count = length-take-le c.in-Ok.count c.read.new.buffer c.in-Ok.ensures.bound in
-        let some = c.if-count-eq0.false in
-        (feeds_then g.S.Sink.after (state c.args.decoder.now) (state c.loop-turn.decoder) (state c.drain-in-loop-turn.new.decoder) xs piece r.0 _ _ _ d.0 r.2 piece [] (sym (append-nil piece)) (λ s es a. (e s es a).0),
-         r.1, omega (arith, d.2, length-append d.0.bytes piece),
-         has_all g.S.Sink.after (state c.args.decoder.now) (state c.loop-turn.decoder) (state c.drain-in-loop-turn.new.decoder) xs piece r.0 _ _ _ d.0 r.2 piece [] (sym (append-nil piece)) e);
+          let d = c.loop-turn.invariant.fed xs is tells in
+          let r = read_some _ _ d.0.rest c.read.new.buffer c.in-Ok.count d.1 c.in-Ok.ensures.bytes.0 c.in-Ok.ensures.bytes.1 in
+          let e = c.in-More-drain.ensures.drains (c.loop-turn.invariant.tells tells) in
+          let piece = take c.in-Ok.count c.read.new.buffer in
+          let size : length piece ≡ c.in-Ok.count = length-take-le c.in-Ok.count c.read.new.buffer c.in-Ok.ensures.bound in
+          let some = c.if-count-eq0.false in (
+            feeds_then g.S.Sink.after (state c.args.decoder.now) (state c.loop-turn.decoder) (state c.drain-in-loop-turn.new.decoder) xs piece r.0 _ _ _ d.0 r.2 piece [] (sym (append-nil piece)) (λ s es a. (e s es a).0),
+            r.1,
+            omega (arith, d.2, length-append d.0.bytes piece),
+            has_all g.S.Sink.after (state c.args.decoder.now) (state c.loop-turn.decoder) (state c.drain-in-loop-turn.new.decoder) xs piece r.0 _ _ _ d.0 r.2 piece [] (sym (append-nil piece)) e,
+          );
     }
 
 pub returns-clause-runs : goal.returns-clause-runs

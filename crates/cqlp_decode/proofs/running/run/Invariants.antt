@@ -10,5 +10,5 @@ invariant-loop-turn g l = record {
   failures : g.R.Source.failures l.reader ≡ g.R.Source.failures l.fn.reader;
   tells : g.S.Sink.tells l.fn.sink → g.S.Sink.tells l.sink;
   fed : (xs : List ℕ) → g.R.Source.left l.fn.reader ≡ Some xs → g.S.Sink.tells l.fn.sink
-    → (d : Feeds g.S.Sink.after (state l.fn.decoder) (state l.decoder) xs (g.S.Sink.view l.fn.sink) (g.S.Sink.view l.sink)) × (g.R.Source.left l.reader ≡ Some d.rest) × (l.turn ≤ length d.bytes) × HasAll g.S.Sink.after (state l.fn.decoder) (state l.decoder) xs (g.S.Sink.view l.fn.sink) (g.S.Sink.view l.sink) d
+      → (d : Feeds g.S.Sink.after (state l.fn.decoder) (state l.decoder) xs (g.S.Sink.view l.fn.sink) (g.S.Sink.view l.sink)) × (g.R.Source.left l.reader ≡ Some d.rest) × (l.turn ≤ length d.bytes) × HasAll g.S.Sink.after (state l.fn.decoder) (state l.decoder) xs (g.S.Sink.view l.fn.sink) (g.S.Sink.view l.sink) d;
 }

@@ -1,5 +1,4 @@
-use Rattle.std.proofs.Common.{◌∙◌, ap, sym}
-use Rattle.cqlp_note.specs.Limits.{rules_of}
+use Rattle.std.proofs.Common.{◌∙◌, ap}
 use Rattle.cqlp_type.specs.Table.{Table}
 use Rattle.cqlp_decode.specs.Standing.{parts}
 use Rattle.cqlp_decode.proofs.decoder.Decoder.with_room.Goals as goal

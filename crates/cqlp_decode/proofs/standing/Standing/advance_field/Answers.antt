@@ -1,4 +1,4 @@
-use Rattle.std.proofs.Common.{◌≡◌, ◌+◌, ◌≤◌, ◌++◌, length, ℕ, List, refl, sym, ap, ◌∙◌, arith}
+use Rattle.std.proofs.Common.{◌≡◌, ◌+◌, ◌++◌, length, ℕ, refl, sym, ap, ◌∙◌, arith}
 use Rattle.std.specs.Prelude.{max}
 use Rattle.cqlp_note.specs.declared.head.Wanted.{Wanted}
 use Rattle.cqlp_note.specs.Reader.{Bad}
@@ -65,8 +65,8 @@ returns-in_default-clause-moves g c = λ r.
     let role = c.args.want.role in
     let types = types_for c.args.self.now.limits.types role c.args.table.now.nodes Nothing in
     piece_hands c.args.self.now c.args.partial.now c.ask.new.partial r c.args.table.now c.args.want c.args.input.now c.requires.here c.ask.ensures c.advance.new.self c.in-Got.used _ c.in-Got.ensures.0
-      c.follow.new.self c.begin_metadata.new.table c.in-Got.item refl c.in-Got.ensures.1 fine c.requires.wanted
-      (ap (λ (z : Standing). z.offset) rest ∙ ap (λ (k : ℕ). c.args.self.now.offset + (k + c.in-Got.used)) came)
-      (ap (λ (z : Standing). z.stop) rest) (ap (λ (z : Standing). z.frame) rest) (ap (λ (z : Standing). z.came) rest ∙ c.requires.wanted.came) c.follow.ensures.room
-      (ap (λ (z : Table). z.nodes) c.begin_metadata.ensures)
-      (c.follow.ensures.symbols types r ∙ ap (λ (v : FieldValue). following types role v ++ rest_of c.args.self.now.upcoming) value)
+    c.follow.new.self c.begin_metadata.new.table c.in-Got.item refl c.in-Got.ensures.1 fine c.requires.wanted
+    (ap (λ (z : Standing). z.offset) rest ∙ ap (λ (k : ℕ). c.args.self.now.offset + (k + c.in-Got.used)) came)
+    (ap (λ (z : Standing). z.stop) rest) (ap (λ (z : Standing). z.frame) rest) (ap (λ (z : Standing). z.came) rest ∙ c.requires.wanted.came) c.follow.ensures.room
+    (ap (λ (z : Table). z.nodes) c.begin_metadata.ensures)
+    (c.follow.ensures.symbols types r ∙ ap (λ (v : FieldValue). following types role v ++ rest_of c.args.self.now.upcoming) value)

@@ -1,6 +1,5 @@
-use Rattle.std.proofs.Common.{◌≡◌, ◌-◌, ◌++◌, take, sym, ap, ◌∙◌, arith}
+use Rattle.std.proofs.Common.{sym, ◌∙◌, arith}
 use Rattle.cqlp_note.specs.Reader.{Bad}
-use Rattle.cqlp_note.specs.Heading.{heading}
 use Rattle.cqlp_decode.proofs.Steps.{header_fails, header_hands}
 use Rattle.cqlp_decode.proofs.standing.Standing.advance_header.Goals as goal
 

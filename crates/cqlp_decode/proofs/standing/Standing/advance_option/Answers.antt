@@ -21,7 +21,7 @@ returns-then-not-done-clause-moves g c =
     let ends = c.in-Item.ensures in
     let under_way = ap (λ (z : type.Standing). z.under_way) ends.reader in
     still_hands c.args.self.now (parts c.args.partial.now c.args.types.now c.args.table.now) c.requires.here stage.0 c.requires.lawful.parts.rules c.args.input.now c.in-Item.at c.in-Item.used c.in-Item.item c.advance.new.self c.advance.new.partial c.advance.new.table ends stage.1
-      (λ none. let shut : ◌≡◌ {A = Bool} false true = c.if-not-done.ensures.1 (under_way, none) in cc)
+    (λ none. let shut : ◌≡◌ {A = Bool} false true = c.if-not-done.ensures.1 (under_way, none) in cc)
 
 pub returns-else-not-done-clause-moves : goal.returns-else-not-done-clause-moves
 returns-else-not-done-clause-moves g c =
@@ -30,5 +30,5 @@ returns-else-not-done-clause-moves g c =
     let rest = c.go_behind.ensures.rest in
     let stopped = c.stop.ensures in
     ended_hands c.args.self.now (parts c.args.partial.now c.args.types.now c.args.table.now) c.requires.here stage.0 c.requires.lawful.parts.rules c.args.input.now c.in-Item.at c.in-Item.used c.in-Item.item c.advance.new.self c.advance.new.partial c.advance.new.table ends stage.1
-      (c.if-not-done.ensures.0 refl).1 c.go_behind.new.self c.stop.new.self (ap (λ (z : Standing). z.offset) rest ∙ c.offset-offset.ensures.is) (ap (λ (z : Standing). z.stop) rest) (ap (λ (z : Standing). z.frame) rest)
-      (ap (λ (z : Standing). z.came) rest ∙ stage.0.came) (c.go_behind.ensures.symbols c.stop.new.self) c.go_behind.ensures.room
+    (c.if-not-done.ensures.0 refl).1 c.go_behind.new.self c.stop.new.self (ap (λ (z : Standing). z.offset) rest ∙ c.offset-offset.ensures.is) (ap (λ (z : Standing). z.stop) rest) (ap (λ (z : Standing). z.frame) rest)
+    (ap (λ (z : Standing). z.came) rest ∙ stage.0.came) (c.go_behind.ensures.symbols c.stop.new.self) c.go_behind.ensures.room

@@ -1,4 +1,4 @@
-use Rattle.std.proofs.Common.{◌≡◌, ◌-◌, ◌<◌, ◌≤◌, length, arith, rules}
+use Rattle.std.proofs.Common.{◌≡◌, length, arith, rules}
 use Rattle.cqlp_note.specs.declared.field.Field.TheVariants.{TraceId}
 use Rattle.cqlp_note.specs.declared.field.Notation.TheVariants.{Byte}
 use Rattle.cqlp_message.specs.declared.grammar.Role.TheVariants.{Alone}

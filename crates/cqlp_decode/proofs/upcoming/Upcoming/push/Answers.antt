@@ -1,4 +1,4 @@
-use Rattle.std.proofs.Common.{◌≡◌, ◌+◌, ◌≤◌, ◌++◌, ◌∷◌, [], length, arith, rules}
+use Rattle.std.proofs.Common.{◌≡◌, ◌+◌, ◌≤◌, length, arith, rules}
 use Rattle.std.proofs.lemmas.List.{length-take-le}
 use Rattle.cqlp_decode.specs.Upcoming.{need}
 use Rattle.cqlp_decode.proofs.Stack.{one_needed, pushed-is, pushed-fits}

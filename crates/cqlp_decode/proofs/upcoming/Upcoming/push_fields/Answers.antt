@@ -1,6 +1,5 @@
-use Rattle.std.proofs.Common.{◌≡◌, ◌+◌, ◌-◌, ◌≤◌, ◌++◌, ◌∷◌, [], length, drop, arith}
+use Rattle.std.proofs.Common.{◌-◌, arith}
 use Rattle.std.proofs.lemmas.List.{length-append}
-use Rattle.cqlp_decode.specs.Upcoming.{symbols_in, wants}
 use Rattle.cqlp_decode.proofs.Stack.{fields_pushed}
 use Rattle.cqlp_decode.proofs.upcoming.Upcoming.push_fields.Goals as goal
 

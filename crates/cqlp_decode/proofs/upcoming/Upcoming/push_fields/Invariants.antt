@@ -7,7 +7,7 @@ abbrev pub invariant-loop-left : goal.invariant-loop-left
 invariant-loop-left l = record {
   within : l.left ≤ length l.fields;
   symbols : symbols_in l.self ≡ wants (drop l.left l.fields) ++ symbols_in l.fn.self;
-  height : length l.self ≡ length l.fn.self + (length l.fields - l.left)
+  height : length l.self ≡ length l.fn.self + (length l.fields - l.left);
 }
 
 abbrev pub decreases-loop-left : goal.decreases-loop-left
