@@ -3,54 +3,65 @@
 use cqlp_note::{Address, BoundValue, Field, Header, Refusal};
 use cqlp_type::Kind;
 
-/// One thing that a stream says. Contents are lent from the input or from the decoder.
+/// One thing that a stream says: a header (section 2 of `native_protocol_v4.spec`), a field of a message in one of the
+/// notations of section 3, a type option (section 4.2.5.2), or a frame's end. Contents are lent from the input or from
+/// the decoder. Each text and content is within the limits, and each length and count within its frame.
 #[derive(Clone, Copy, Debug, PartialEq, Eq)]
 pub enum Event<'a> {
-    /// A frame begins, with this header.
+    /// A frame begins, with this header of 9 bytes.
     Frame(Header),
+    /// A \[byte\].
     Byte {
         field: Field,
         value: u8,
     },
+    /// A \[short\] that is no count.
     Short {
         field: Field,
         value: u16,
     },
+    /// An \[int\] that is no count.
     Int {
         field: Field,
         value: i32,
     },
+    /// A \[long\].
     Long {
         field: Field,
         value: i64,
     },
+    /// A \[uuid\], its 16 bytes in their order.
     Uuid {
         field: Field,
         value: [u8; 16],
     },
+    /// A number of items that follow: a \[short\], or an \[int\] that is not negative.
     Count {
         field: Field,
         count: u32,
     },
+    /// A \[string\] or a \[long string\], in UTF-8.
     Text {
         field: Field,
         text: &'a str,
     },
-    /// None is null.
+    /// \[bytes\] or \[short bytes\]; None is null, a negative length.
     Bytes {
         field: Field,
         bytes: Option<&'a [u8]>,
     },
+    /// A \[value\]: null, not set, or bytes.
     Bound {
         field: Field,
         value: BoundValue<'a>,
     },
+    /// An \[inet\]: an address of 4 or 16 bytes, and its port.
     Inet {
         field: Field,
         address: Address,
         port: i32,
     },
-    /// A type option, or one in another, of this kind.
+    /// A type option, or one in another, of this kind. Its parameters, if any, follow as Text, Count and TypeNode.
     TypeNode(Kind),
     /// The frame ends, with so many bytes behind its last field.
     End {
