@@ -1,8 +1,7 @@
 -- What a call makes of an option, by what the `Partial` makes of its item.
-use Rattle.std.proofs.Common.{◌≡◌, ℕ, zero, suc, ◌+◌, ◌-◌, ◌<◌, ◌≤◌, Bool, true, false, cond, List, [], ◌∷◌, ◌++◌, length, take, drop, Result, Ok, Err, refl, sym, ap, ◌∙◌, subst, arith}
+use Rattle.std.proofs.Common.{◌≡◌, ℕ, ◌+◌, ◌-◌, ◌≤◌, true, false, List, [], ◌∷◌, ◌++◌, length, drop, refl, sym, ap, ◌∙◌, arith}
 use Rattle.std.proofs.lemmas.List.{length-append}
 use Rattle.cqlp_note.specs.declared.head.Wanted.{Wanted}
-use Rattle.cqlp_note.specs.declared.limits.Limits.{Limits}
 use Rattle.cqlp_note.specs.declared.refusal.Reason.{Reason}
 use Rattle.cqlp_note.specs.declared.taken.Item.{Item}
 use Rattle.cqlp_note.specs.declared.field.Notation.TheVariants as notation
@@ -19,14 +18,11 @@ use Rattle.cqlp_note.proofs.Readers.{says_always}
 use Rattle.cqlp_note.proofs.Fields.{field_spells}
 use Rattle.cqlp_note.proofs.Yields.{got_inside}
 use Rattle.cqlp_type.specs.declared.node.Node.{Node}
-use Rattle.cqlp_type.specs.declared.remaining.Stage.{Stage}
 use Rattle.cqlp_type.specs.declared.item.TypePart.{TypePart}
-use Rattle.cqlp_type.specs.declared.item.TypePart.TheVariants as part
 use Rattle.cqlp_type.specs.TypeStep.{TypeSymbol, Option_at, Text_of, Fields_of, Whole, TypeEvent, TypePlace, type_place}
 use Rattle.cqlp_type.specs.Table.{Table}
-use Rattle.cqlp_type.specs.Levels.{Nest}
-use Rattle.cqlp_type.specs.Remaining.{stage_symbols, event_at, item_step, IsPart, Follows}
-use Rattle.cqlp_type.specs.Standing.{Standing, standing, stopped, place_of, notation_of, IsFor, IsShared, pending, told, CanLendPart, text_length, Waits, Ends}
+use Rattle.cqlp_type.specs.Remaining.{event_at, item_step, IsPart}
+use Rattle.cqlp_type.specs.Standing.{Standing, stopped, place_of, notation_of, IsFor, IsShared, pending, told, CanLendPart, text_length, Waits, Ends}
 use Rattle.cqlp_type.proofs.ReadBack.{text_is}
 use Rattle.cqlp_type.proofs.Items.{short_got, IsRead, field_says, item_waits, item_fails, item_gives, waiting_inside, item_size}
 
@@ -140,7 +136,7 @@ module _ (old r : Standing) (p q : Progress) (t : Table) (input : List ℕ) (rea
       room = let e : q'.room ≡ q.room = ap (λ (z : Progress). z.room) progress in rw e shared.room;
       same = ap (λ (z : Progress). z.under_way) progress ∙ sym begun;
       item = λ _. let e : q'.field ≡ q.field = ap (λ (z : Progress). z.field) progress in rw e asked;
-      taken = λ _. let e : q'.seen ≡ q.seen ++ input = ap (λ (z : Progress). z.seen) progress in rw e (omega (arith, length-append q.seen input, taken_is, w.all))
+      taken = λ _. let e : q'.seen ≡ q.seen ++ input = ap (λ (z : Progress). z.seen) progress in rw e (omega (arith, length-append q.seen input, taken_is, w.all));
     }
 
     pub waits_on : Waits old p t input used (record r { taken = r.taken + used }) q' t
@@ -151,7 +147,7 @@ module _ (old r : Standing) (p q : Progress) (t : Table) (input : List ℕ) (rea
       reader = ap (λ (z : Standing). record z { taken = r.taken + used }) reader;
       shared = waits_shared;
       room = ap (λ (z : Progress). z.room) progress ∙ room;
-      table = refl
+      table = refl;
     }
 
   asked_at : (ss : List TypeSymbol) → IsFor r.rules r.offset r.stop ss q.field → q.field.at ≡ r.offset
@@ -200,9 +196,10 @@ module _ (old r : Standing) (p q : Progress) (t : Table) (input : List ℕ) (rea
 
     -- an item that is no text has no content
     pub failed : (why : Reason) → item_step r.rules (place_of r t.nodes) r.symbols value ≡ Refuses (r.offset, why) → (told old t.nodes (pending old p ++ input) ≡ Bad (r.offset, why)) × (q'.content ≡ [])
-    failed why f =
-        (goes ∙ ap (λ (s : Step TypeEvent TypePlace). says s (length (pending old p) + used) (drop (length (pending old p) + used) (pending old p ++ input))) f,
-         e.lent (rw (failed_plain r.rules (place_of r t.nodes) q.field (q.seen ++ input) value (length q.seen + used) (r.offset, why) r.symbols asked got f) (omega arith)))
+    failed why f = (
+      goes ∙ ap (λ (s : Step TypeEvent TypePlace). says s (length (pending old p) + used) (drop (length (pending old p) + used) (pending old p ++ input))) f,
+      e.lent (rw (failed_plain r.rules (place_of r t.nodes) q.field (q.seen ++ input) value (length q.seen + used) (r.offset, why) r.symbols asked got f) (omega arith)),
+    )
 
     module _ (x : TypePart) (symbols : List TypeSymbol) (height : ℕ) (t' : Table)
         (is : item_step r.rules (place_of r t.nodes) r.symbols value ≡ Emit r.offset (event_at x input q'.content) (type_place (place_of r t.nodes) (symbols, t'.nodes)))
@@ -215,7 +212,7 @@ module _ (old r : Standing) (p q : Progress) (t : Table) (input : List ℕ) (rea
         room = let same_room : q'.room ≡ q.room = ap (λ (z : Progress). z.room) idle in rw same_room shared.room;
         same = ap (λ (z : Progress). z.under_way) idle;
         item = λ no. absurd cc;
-        taken = λ no. absurd cc
+        taken = λ no. absurd cc;
       }
 
       pub ends_on : Ends old p t input r.offset used x new q' t'
@@ -235,5 +232,5 @@ module _ (old r : Standing) (p q : Progress) (t : Table) (input : List ℕ) (rea
         can_lend = part_lends q.field (q.seen ++ input) (length q.seen + used) i input q'.content x can r.rules r.offset r.stop r.symbols asked part_is got;
         lent = λ short. e.lent (part_plain q.field (q.seen ++ input) (length q.seen + used) i input q'.content x used r.rules r.offset r.stop r.symbols asked part_is got short);
         table = table;
-        entries = let same_rules : old.rules ≡ r.rules = ap (λ (z : Standing). z.rules) (sym reader) in rw same_rules entries
+        entries = let same_rules : old.rules ≡ r.rules = ap (λ (z : Standing). z.rules) (sym reader) in rw same_rules entries;
       }

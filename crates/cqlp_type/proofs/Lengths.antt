@@ -2,7 +2,7 @@
 use Rattle.std.proofs.Common.{◌≡◌, ℕ, ◌+◌, Bool, true, false, List, [], ◌∷◌, ◌++◌, length, refl, ap, ◌∙◌, arith}
 use Rattle.std.proofs.lemmas.List.{length-append}
 use Rattle.cqlp_type.specs.TypeStep.{TypeEvent, IsNode}
-use Rattle.cqlp_type.specs.Trees.{Head, Plain, Custom, ListOf, SetOf, MapOf, TupleOf, UdtOf, Trees, NoTree, Tree_and, kind_in, trees_in, has_names, head_items, name_items, trees_items, ItemsSpell, item_size, items_size}
+use Rattle.cqlp_type.specs.Trees.{Head, Plain, Custom, ListOf, SetOf, MapOf, TupleOf, UdtOf, Trees, NoTree, Tree_and, kind_in, trees_in, has_names, head_items, name_items, trees_items, ItemsSpell, items_size}
 use Rattle.cqlp_type.specs.TypeTrees.{name_size, head_size, trees_size}
 use Rattle.cqlp_type.proofs.ReadBack.{item_sized}
 
@@ -30,8 +30,16 @@ head_sized (UdtOf keyspace name) n = omega arith
 trees_sized : (named : Bool) (ts : Trees) → items_size (trees_items named ts) ≡ trees_size named ts
 trees_sized named NoTree = refl
 trees_sized named (Tree_and name h inner others) =
-    omega (arith, items_append (name_items named name) (IsNode (kind_in h) ∷ (head_items h (trees_in inner) ++ (trees_items (has_names h) inner ++ trees_items named others))), items_append (head_items h (trees_in inner)) (trees_items (has_names h) inner ++ trees_items named others),
-      items_append (trees_items (has_names h) inner) (trees_items named others), name_sized named name, head_sized h (trees_in inner), trees_sized (has_names h) inner, trees_sized named others)
+    omega (
+      arith,
+      items_append (name_items named name) (IsNode (kind_in h) ∷ (head_items h (trees_in inner) ++ (trees_items (has_names h) inner ++ trees_items named others))),
+      items_append (head_items h (trees_in inner)) (trees_items (has_names h) inner ++ trees_items named others),
+      items_append (trees_items (has_names h) inner) (trees_items named others),
+      name_sized named name,
+      head_sized h (trees_in inner),
+      trees_sized (has_names h) inner,
+      trees_sized named others,
+    )
 
 pub spelled_long : (named : Bool) (ts : Trees) (b : List ℕ) → ItemsSpell (trees_items named ts) b → length b ≡ trees_size named ts
 spelled_long named ts b s = items_long (trees_items named ts) b s ∙ trees_sized named ts

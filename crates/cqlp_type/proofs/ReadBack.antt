@@ -1,16 +1,12 @@
 -- The items that were read of an option are those of a type, whose bytes they took and whose nodes they left.
-use Rattle.std.proofs.Common.{◌≡◌, ℕ, zero, suc, ◌+◌, ◌-◌, Bool, true, false, cond, eqb, ltb, leb, List, [], ◌∷◌, ◌++◌, length, take, drop, Option, Some, None, refl, sym, ap, ◌∙◌, append_assoc, subst, arith}
+use Rattle.std.proofs.Common.{◌≡◌, ℕ, zero, suc, ◌+◌, ◌-◌, Bool, true, false, eqb, ltb, leb, List, [], ◌∷◌, ◌++◌, length, take, drop, Option, Some, None, refl, sym, ap, ◌∙◌, append_assoc, subst, arith}
 use Rattle.std.specs.Int.{w16, from_be_bytes}
-use Rattle.std.specs.Prelude.{map}
 use Rattle.std.proofs.lemmas.List.{append-nil, take_at, drop_at}
-use Rattle.cqlp_note.specs.declared.field.Field.{Field}
 use Rattle.cqlp_note.specs.declared.field.Field.TheVariants as field
 use Rattle.cqlp_note.specs.declared.field.Notation.TheVariants as notation
-use Rattle.cqlp_note.specs.declared.refusal.Reason.TheVariants.{Overrun}
 use Rattle.cqlp_note.specs.Reader.{Got, says, Gives, Refuses, Takes, Idles, number_of}
 use Rattle.cqlp_note.specs.Field.{FieldValue, Text, Count, FieldReader, field_of}
-use Rattle.cqlp_note.specs.Spelling.{IsNumber, Counted, Spells}
-use Rattle.cqlp_note.specs.Partial.{content_length}
+use Rattle.cqlp_note.specs.Spelling.{IsNumber, Spells}
 use Rattle.cqlp_note.specs.Step.{Emitted, Step, Runs, after_field}
 use Rattle.cqlp_note.specs.Limits.{Rules}
 use Rattle.cqlp_note.specs.Heading.{beside_number}
@@ -23,7 +19,7 @@ use Rattle.cqlp_type.specs.declared.kind.Kind.TheVariants as kind
 use Rattle.cqlp_type.specs.declared.node.Node.{Node}
 use Rattle.cqlp_type.specs.Types.{NoMore, Type_and, has_id, preorder, kinds}
 use Rattle.cqlp_type.specs.TypeStep.{TypeSymbol, Option_at, Text_of, Fields_of, Whole, TypeEvent, IsNode, IsField, TypePlace, parameters_of, arity_of, inner_symbols, symbol_copies, with_arity, with_span, settled, option_step, count_in, type_step_at, type_step}
-use Rattle.cqlp_type.specs.Trees.{Head, Plain, Custom, ListOf, SetOf, MapOf, TupleOf, UdtOf, Trees, NoTree, Tree_and, kind_in, trees_in, types_in, has_names, IsHead, AreTrees, head_items, trees_items, notation_for, ItemSpells, ItemsSpell, Joined, item_size, placed}
+use Rattle.cqlp_type.specs.Trees.{Head, Plain, Custom, ListOf, SetOf, MapOf, TupleOf, UdtOf, Trees, NoTree, Tree_and, kind_in, trees_in, types_in, has_names, IsHead, AreTrees, head_items, trees_items, notation_for, ItemSpells, ItemsSpell, item_size, placed}
 use Rattle.cqlp_type.specs.Pushing.{IsWhole}
 use Rattle.cqlp_type.proofs.Forests.{last_arity, span_at, and_more, many_types}
 
@@ -72,7 +68,7 @@ inner_comes (suc n) true depth rest ns es final h =
       many = ap suc r.many;
       are = (o.3, o.4, r.are);
       items = h.2 ∙ ap (λ (x : List TypeEvent). IsField field.FieldName (Text h.0) ∷ x) (o.5 ∙ ap (λ (x : List TypeEvent). option_items o.0 o.1 ++ x) r.items ∙ regroup (IsNode (kind_in o.0)) (head_items o.0 (trees_in o.1)) (trees_items (has_names o.0) o.1) (trees_items true r.trees) r.more);
-      later = rw (and_more (kind_in o.0) (types_in o.1) (types_in r.trees) ns) at r.later
+      later = rw (and_more (kind_in o.0) (types_in o.1) (types_in r.trees) ns) at r.later;
     }
 inner_comes (suc n) false depth rest ns es final o =
     let r = inner_comes n false depth rest (ns ++ nodes_of o.0 o.1) o.2 final o.6 in
@@ -82,7 +78,7 @@ inner_comes (suc n) false depth rest ns es final o =
       many = ap suc r.many;
       are = (o.3, o.4, r.are);
       items = o.5 ∙ ap (λ (x : List TypeEvent). option_items o.0 o.1 ++ x) r.items ∙ regroup (IsNode (kind_in o.0)) (head_items o.0 (trees_in o.1)) (trees_items (has_names o.0) o.1) (trees_items false r.trees) r.more;
-      later = rw (and_more (kind_in o.0) (types_in o.1) (types_in r.trees) ns) at r.later
+      later = rw (and_more (kind_in o.0) (types_in o.1) (types_in r.trees) ns) at r.later;
     }
 
 -- an option, once its inner types are read
@@ -110,7 +106,7 @@ option_comes kind.Set depth rest ns es final known h =
 option_comes kind.Map depth rest ns es final known h =
     let g = h.6 in
     whole MapOf (Tree_and [] h.0 h.1 (Tree_and [] g.0 g.1 NoTree)) rest ns _ (IsNode kind.Map ∷ es) g.2 final refl (h.3, h.4, (g.3, g.4, tt)) (simp (append_assoc, append-nil))
-        (ap (λ (x : List TypeEvent). IsNode kind.Map ∷ x) (h.5 ∙ ap (λ (x : List TypeEvent). option_items h.0 h.1 ++ x) g.5 ∙ two_items h.0 g.0 h.1 g.1 g.2)) g.6
+    (ap (λ (x : List TypeEvent). IsNode kind.Map ∷ x) (h.5 ∙ ap (λ (x : List TypeEvent). option_items h.0 h.1 ++ x) g.5 ∙ two_items h.0 g.0 h.1 g.1 g.2)) g.6
 option_comes kind.Custom depth rest ns es final known h =
     whole (Custom h.0) NoTree rest ns _ (IsNode kind.Custom ∷ es) h.1 final refl tt refl (ap (λ (x : List TypeEvent). IsNode kind.Custom ∷ x) h.2) h.3
 option_comes kind.Tuple depth rest ns es final known h =
@@ -119,7 +115,7 @@ option_comes kind.Udt depth rest ns es final known h =
     let n = h.3 in
     let f = n.3 in
     whole (UdtOf h.0 n.0) f.0 rest ns _ (IsNode kind.Udt ∷ es) f.1 final tt f.2 (simp (last_arity, append_assoc))
-        (ap (λ (x : List TypeEvent). IsNode kind.Udt ∷ x) (h.2 ∙ ap (λ (x : List TypeEvent). IsField field.Keyspace (Text h.0) ∷ x) (n.2 ∙ ap (λ (x : List TypeEvent). IsField field.TypeName (Text n.0) ∷ x) f.3))) f.4
+    (ap (λ (x : List TypeEvent). IsNode kind.Udt ∷ x) (h.2 ∙ ap (λ (x : List TypeEvent). IsField field.Keyspace (Text h.0) ∷ x) (n.2 ∙ ap (λ (x : List TypeEvent). IsField field.TypeName (Text n.0) ∷ x) f.3))) f.4
 option_comes k depth rest ns es final known h = whole (Plain k) NoTree rest ns _ (IsNode k ∷ es) es final (known, refl) tt refl refl h
 
 -- ---- one step
@@ -170,11 +166,11 @@ module _ (l : Rules) (p : TypePlace) where
   unfolding Spells
   option_came None id depth rest b e n = tt
   option_came (Some k) id depth rest b e n = either_always _ b (ltb l.depth depth) _ _ (λ _. tt) (λ _. either_always _ b (leb l.entries (length p.nodes)) _ _ (λ _. tt) (λ _. record {
-      at = refl;
-      spelled = (id, e, n);
-      onward = λ used. refl;
-      comes = λ used es final h. option_comes k depth rest p.nodes es final (known id k e) (settled_comes (parameters_of k depth ++ Whole (length p.nodes) ∷ rest) (p.nodes ++ node k (arity_of k) ∷ []) es final h)
-    }))
+    at = refl;
+    spelled = (id, e, n);
+    onward = λ used. refl;
+    comes = λ used es final h. option_comes k depth rest p.nodes es final (known id k e) (settled_comes (parameters_of k depth ++ Whole (length p.nodes) ∷ rest) (p.nodes ++ node k (arity_of k) ∷ []) es final h);
+  }))
 
   pub step_came : (ss : List TypeSymbol) → Always (Came p ss) (type_step_at l p ss) []
   unfolding number_of
@@ -190,7 +186,7 @@ module _ (l : Rules) (p : TypePlace) where
         onward = λ used. refl;
         comes = λ used es final h.
             let r = inner_comes (count_in v) named depth rest (with_arity (count_in v) p.nodes) es final (settled_comes (symbol_copies (count_in v) (inner_symbols named depth) ++ rest) (with_arity (count_in v) p.nodes) es final h) in
-            (r.trees, r.more, r.are, (λ i. IsField field.Fields ((count_is v b s ∙ ap Count (sym r.many)) i) ∷ r.items i), rw r.many r.later)
+            (r.trees, r.more, r.are, (λ i. IsField field.Fields ((count_is v b s ∙ ap Count (sym r.many)) i) ∷ r.items i), rw r.many r.later);
       })
   step_came (Whole i ∷ rest) = tt
 
@@ -242,7 +238,7 @@ runs_read l (e ∷ es) p q bytes rest more final r h =
       body = c.0 ++ later.body;
       all = c.2 ∙ ap (λ (t : List ℕ). c.0 ++ t) (sym c.3 ∙ later.all) ∙ sym (append_assoc c.0 later.body rest);
       spelled = record { front = c.0; back = later.body; whole = refl; this = came.spelled; that = later.spelled };
-      stand = placed_on p.offset (r.1 r.0).offset e es (events_in es) came.at next later.stand
+      stand = placed_on p.offset (r.1 r.0).offset e es (events_in es) came.at next later.stand;
     }
 
 spelled_as : (es fs : List TypeEvent) (s body : List ℕ) → s ≡ body ++ [] → es ≡ fs → ItemsSpell es body → ItemsSpell fs s
@@ -262,5 +258,5 @@ option_read l depth start q s es first done r =
       are = (c.3, c.4, tt);
       spelled = spelled_as (events_in es) (trees_items false tree) s g.body g.all items g.spelled;
       items = g.stand ∙ ap (placed start.offset) items;
-      table = c.6.1
+      table = c.6.1;
     }

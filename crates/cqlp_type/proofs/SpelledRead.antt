@@ -1,13 +1,12 @@
 -- What spells a type is read as its items, and leaves its nodes.
-use Rattle.std.proofs.Common.{◌≡◌, ℕ, zero, suc, ◌+◌, ◌-◌, ◌<◌, ◌≤◌, Bool, true, false, List, [], ◌∷◌, ◌++◌, length, drop, refl, sym, ap, ◌∙◌, append_assoc, subst, arith}
+use Rattle.std.proofs.Common.{◌≡◌, ℕ, suc, ◌+◌, ◌-◌, ◌<◌, ◌≤◌, Bool, true, false, List, [], ◌∷◌, ◌++◌, length, drop, refl, sym, ap, ◌∙◌, append_assoc, subst, arith}
 use Rattle.std.specs.Int.{w16}
 use Rattle.std.proofs.lemmas.Bool.{le-ltb, lt-leb}
 use Rattle.std.proofs.lemmas.List.{append-nil, length-append, drop_at}
-use Rattle.cqlp_note.specs.declared.field.Field.{Field}
 use Rattle.cqlp_note.specs.declared.field.Field.TheVariants as field
 use Rattle.cqlp_note.specs.declared.field.Notation.TheVariants as notation
 use Rattle.cqlp_note.specs.declared.refusal.Reason.TheVariants.{Overrun}
-use Rattle.cqlp_note.specs.Reader.{Reader, Gives, Refuses, Takes, Idles, Got, says}
+use Rattle.cqlp_note.specs.Reader.{Gives, Refuses, Takes, Idles}
 use Rattle.cqlp_note.specs.Field.{FieldValue, Text, Count, FieldReader, field_of}
 use Rattle.cqlp_note.specs.Spelling.{Spells}
 use Rattle.cqlp_note.specs.Step.{Emitted, Step, Emit, Runs, after_field}
@@ -61,18 +60,22 @@ Steps l N at stop e ss ns b = (s : List TypeSymbol × List Node) × At_next N s 
 
 item_steps : (l : Rules) (N : Next) (at stop : ℕ) (e : TypeEvent) (ss : List TypeSymbol) (ns : List Node) (b : List ℕ) → Derives_item l N e ss ns → ItemSpells e b → AreShort l (e ∷ []) → at + length b ≤ stop → Steps l N at stop e ss ns b
 unfolding Spells
-item_steps l N at stop (IsNode k) (Option_at d ∷ rest) ns b i s short le =
-    (settled (parameters_of k d ++ Whole (length ns) ∷ rest) (ns ++ record { kind = k; arity = arity_of k; span = 0 } ∷ []), i.2,
-     alone_yields (at, Overrun) 2 w16 (stop - at) s.0 _ _ b s.2 (omega (arith, s.2.long)) (rw (s.1, le-ltb _ _ i.0, lt-leb _ _ i.1) (refl, refl)))
+item_steps l N at stop (IsNode k) (Option_at d ∷ rest) ns b i s short le = (
+  settled (parameters_of k d ++ Whole (length ns) ∷ rest) (ns ++ record { kind = k; arity = arity_of k; span = 0 } ∷ []),
+  i.2,
+  alone_yields (at, Overrun) 2 w16 (stop - at) s.0 _ _ b s.2 (omega (arith, s.2.long)) (rw (s.1, le-ltb _ _ i.0, lt-leb _ _ i.1) (refl, refl)),
+)
 item_steps l N at stop (IsField g (Text t)) (Text_of f ∷ rest) ns b i s short le =
     let p = place at stop (Text_of f ∷ rest) ns in
     let y = field_yields notation.Text16 (Text t) l.text (stop - at) b s short.0 (omega arith) in
     (settled rest ns, i.1, rw i.0 (after_yields at (field_of notation.Text16 l.text (stop - at)) (λ v. Emit at (IsField f v) (type_place p (settled rest ns))) (Text t) _ b y (refl, refl)))
 item_steps l N at stop (IsField g (Count n)) (Fields_of named d ∷ rest) ns b i s short le =
     let p = place at stop (Fields_of named d ∷ rest) ns in
-    let y = field_yields notation.Count16 (Count n) 0 (stop - at) b s (omega arith) (omega arith) in
-    (settled (symbol_copies n (inner_symbols named d) ++ rest) (with_arity n ns), i.1,
-     rw i.0 (after_yields at (field_of notation.Count16 0 (stop - at)) (λ v. Emit at (IsField field.Fields v) (type_place p (settled (symbol_copies (count_in v) (inner_symbols named d) ++ rest) (with_arity (count_in v) ns)))) (Count n) _ b y (refl, refl)))
+    let y = field_yields notation.Count16 (Count n) 0 (stop - at) b s (omega arith) (omega arith) in (
+      settled (symbol_copies n (inner_symbols named d) ++ rest) (with_arity n ns),
+      i.1,
+      rw i.0 (after_yields at (field_of notation.Count16 0 (stop - at)) (λ v. Emit at (IsField field.Fields v) (type_place p (settled (symbol_copies (count_in v) (inner_symbols named d) ++ rest) (with_arity (count_in v) ns)))) (Count n) _ b y (refl, refl)),
+    )
 item_steps l N at stop e ss ns b i s short le = absurd i
 
 short_head : (l : Rules) (e : TypeEvent) (es : List TypeEvent) → AreShort l (e ∷ es) → AreShort l (e ∷ []) × AreShort l es

@@ -1,5 +1,5 @@
 -- How long the option of a type is, from the lengths of its parts.
-use Rattle.std.proofs.Common.{◌≡◌, ℕ, zero, suc, ◌+◌, ◌-◌, ◌<◌, ◌≤◌, get_or, Bool, true, false, ◌&&◌, cond, List, [], ◌∷◌, ◌++◌, length, take, refl, sym, ap, ◌∙◌, arith}
+use Rattle.std.proofs.Common.{◌≡◌, ℕ, suc, ◌+◌, ◌<◌, get_or, Bool, true, false, ◌&&◌, List, [], ◌∷◌, ◌++◌, length, take, refl, sym, ap, ◌∙◌, arith}
 use Rattle.std.specs.Prelude.{string_bytes}
 use Rattle.std.proofs.lemmas.List.{take_more}
 use Rattle.std.specs.declared.vec.Vec.{Vec}
@@ -8,8 +8,8 @@ use Rattle.std.specs.declared.string.String.{String}
 use Rattle.std.specs.declared.alloc.Global.{Global}
 use mathlib.Core.Former.{Count}
 use Rattle.cqlp_type.specs.declared.tree.TypeTree.{TypeTree, Custom, List as ListTree, Set, Map, Udt, Tuple, Row_of-TypeTree, end_of-TypeTree, more_of-TypeTree, Row_of-TypeTree-Udt-2-2, end_of-TypeTree-Udt-2-2, more_of-TypeTree-Udt-2-2, items-the_row-TypeTree, items-the_row-TypeTree-Udt-2-2, items_hidden-the_row-TypeTree-1, items_hidden-the_row-TypeTree-Udt-2-2-0, Tuple', Udt'}
-use Rattle.cqlp_type.specs.Trees.{Trees, NoTree, Tree_and, trees_in, has_names}
-use Rattle.cqlp_type.specs.TypeTrees.{head_of, inner_of, types_in_row, fields_in_row, tree_of, trees_size, trees_fit, name_size, name_fits, head_size, head_fits, is_counted, len_if, spelled_len}
+use Rattle.cqlp_type.specs.Trees.{Trees, Tree_and, trees_in, has_names}
+use Rattle.cqlp_type.specs.TypeTrees.{head_of, inner_of, types_in_row, fields_in_row, tree_of, trees_size, trees_fit, head_size, head_fits, is_counted, len_if, spelled_len}
 use Rattle.cqlp_type.specs.TypeLists.{listed_types, listed_fields}
 
 types_listed : (m : _) (row : Row_of-TypeTree m) → types_in_row row ≡ listed_types (items-the_row-TypeTree m row)
@@ -106,7 +106,7 @@ tuple_len v = spelled_own (Tuple v) ∙ same_len _ _ _ _ (ap (λ (x : Trees). is
 
 pub udt_len : (keyspace name : String Global) (v : Vec (String Global × TypeTree) Global)
     → spelled_len (Udt keyspace name v) ≡ len_if (((true && (is_counted (length (string_bytes keyspace)) && is_counted (length (string_bytes name)))) && is_counted (length v.items)) && trees_fit true (listed_fields v.items))
-        (((2 + ((2 + length (string_bytes keyspace)) + (2 + length (string_bytes name)))) + 2) + trees_size true (listed_fields v.items))
+    (((2 + ((2 + length (string_bytes keyspace)) + (2 + length (string_bytes name)))) + 2) + trees_size true (listed_fields v.items))
 udt_len keyspace name v =
     let texts = is_counted (length (string_bytes keyspace)) && is_counted (length (string_bytes name)) in
     let head = ((2 + length (string_bytes keyspace)) + (2 + length (string_bytes name))) + 2 in

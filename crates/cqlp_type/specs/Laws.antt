@@ -6,7 +6,7 @@ use Rattle.cqlp_type.specs.declared.kind.Kind.{Kind}
 use Rattle.cqlp_type.specs.declared.node.Node.{Node}
 use Rattle.cqlp_type.specs.Types.{Types, NoMore, Type_and, how_many, types_of, preorder, followed_by}
 use Rattle.cqlp_type.specs.TypeStep.{TypeEvent, Option_at, TypePlace, type_step}
-use Rattle.cqlp_type.specs.Table.{beginnings, root, child}
+use Rattle.cqlp_type.specs.Table.{beginnings, child}
 use Rattle.cqlp_type.specs.Trees.{Trees, trees_in, options_in, types_in, AreTrees, Shallow, AreShort, trees_items, placed, TreeSpells}
 use Rattle.cqlp_type.specs.TypeTrees.{trees_size}
 use Rattle.cqlp_type.specs.Pushing.{IsWhole}
@@ -23,8 +23,8 @@ abbrev pub SpelledIsRead : Type 0
 SpelledIsRead = (l : Rules) (t : Trees) (depth at stop : ℕ) (ns : List Node) (b : List ℕ)
     → trees_in t ≡ 1 → AreTrees t → Shallow l depth t → AreShort l (trees_items false t) → length ns + options_in t ≤ l.entries → TreeSpells t b → at + length b ≤ stop
     → let before : TypePlace = record { offset = at; stop = stop; symbols = Option_at depth ∷ []; nodes = ns } in
-      let after : TypePlace = record { offset = at + length b; stop = stop; symbols = []; nodes = ns ++ preorder (types_in t) } in
-      Runs (type_step l) before b (placed at (trees_items false t)) after []
+    let after : TypePlace = record { offset = at + length b; stop = stop; symbols = []; nodes = ns ++ preorder (types_in t) } in
+    Runs (type_step l) before b (placed at (trees_items false t)) after []
 
 -- What is read of an option, up to its end, is a type that its bytes spell, with its items and its nodes.
 abbrev pub ReadIsSpelled : Type 0

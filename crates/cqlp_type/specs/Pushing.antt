@@ -1,5 +1,5 @@
 -- What the reader of a type option has read since it began.
-use Rattle.std.specs.Prelude.{◌≡◌, ℕ, ◌+◌, ◌≤◌, ◌++◌, true, false, List, [], ◌∷◌, length, take, map}
+use Rattle.std.specs.Prelude.{◌≡◌, ℕ, ◌≤◌, ◌++◌, true, false, List, [], ◌∷◌, length, take}
 use Rattle.cqlp_note.specs.Reader.{More, Bad}
 use Rattle.cqlp_note.specs.Field.{Text, Count}
 use Rattle.cqlp_note.specs.declared.field.Field.TheVariants as field

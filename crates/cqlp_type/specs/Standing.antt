@@ -6,7 +6,7 @@ use Rattle.cqlp_note.specs.declared.head.Wanted.{Wanted}
 use Rattle.cqlp_note.specs.declared.refusal.Reason.{Reason}
 use Rattle.cqlp_note.specs.declared.limits.Limits.{Limits}
 use Rattle.cqlp_note.specs.Reader.{Said, More, Bad, Got, says}
-use Rattle.cqlp_note.specs.Field.{FieldValue, Text}
+use Rattle.cqlp_note.specs.Field.{Text}
 use Rattle.cqlp_note.specs.Step.{Emitted}
 use Rattle.cqlp_note.specs.Limits.{Rules, rules_of, limit_of}
 use Rattle.cqlp_note.specs.Partial.{Progress, item_value, content_length, CanLend}
@@ -16,7 +16,7 @@ use Rattle.cqlp_type.specs.declared.item.TypePart.{TypePart}
 use Rattle.cqlp_type.specs.declared.item.TypePart.TheVariants as part
 use Rattle.cqlp_type.specs.declared.item.TypeAdvance.{TypeAdvance}
 use Rattle.cqlp_type.specs.declared.item.TypeAdvance.TheVariants as advance
-use Rattle.cqlp_type.specs.TypeStep.{TypeSymbol, Option_at, Text_of, Fields_of, Whole, TypeEvent, IsNode, IsField, TypePlace, type_step}
+use Rattle.cqlp_type.specs.TypeStep.{TypeSymbol, Option_at, Text_of, Whole, TypeEvent, IsNode, IsField, TypePlace, type_step}
 use Rattle.cqlp_type.specs.Table.{Table}
 use Rattle.cqlp_type.specs.Levels.{Nest}
 use Rattle.cqlp_type.specs.Remaining.{is_under_way, stage_symbols, event_at}

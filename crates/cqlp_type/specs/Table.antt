@@ -1,5 +1,5 @@
 -- Tables of types: nodes in preorder, of which the last type may be under way.
-use Rattle.std.specs.Prelude.{ℕ, zero, suc, ◌+◌, ◌-◌, List, [], ◌∷◌, length, take, drop, Option, Some, None, option_and_then, slice_get, ◌==◌, if◌then◌else◌}
+use Rattle.std.specs.Prelude.{ℕ, zero, suc, ◌+◌, ◌-◌, List, [], ◌∷◌, take, drop, Option, option_and_then, slice_get, ◌==◌, if◌then◌else◌}
 use Rattle.cqlp_type.specs.declared.node.Node.{Node}
 
 -- What a caller knows of a `TypeTable`: its nodes, and how many there can be.

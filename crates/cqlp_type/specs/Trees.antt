@@ -1,6 +1,5 @@
 -- Types with the texts of their options, and what spells them (section 4.2.5.2 of native_protocol_v4.spec).
-use Rattle.std.specs.Prelude.{◌≡◌, ℕ, suc, ◌+◌, ◌++◌, ◌≤◌, Bool, true, false, List, [], ◌∷◌, length, Some, map}
-use Rattle.cqlp_note.specs.declared.field.Field.{Field}
+use Rattle.std.specs.Prelude.{◌≡◌, ℕ, suc, ◌+◌, ◌++◌, ◌≤◌, Bool, true, false, List, [], ◌∷◌, Some}
 use Rattle.cqlp_note.specs.declared.field.Field.TheVariants as field
 use Rattle.cqlp_note.specs.declared.field.Notation.{Notation}
 use Rattle.cqlp_note.specs.declared.field.Notation.TheVariants as notation

@@ -59,4 +59,3 @@ preorder (Type_and k inner others) = record { kind = k; arity = how_many inner; 
 abbrev pub followed_by : Types → Types → Types
 followed_by NoMore us = us
 followed_by (Type_and k inner others) us = Type_and k inner (followed_by others us)
-

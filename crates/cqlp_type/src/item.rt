@@ -29,7 +29,9 @@ pub enum TypePart {
 #[derive(Clone, Copy)]
 pub enum TypeAdvance {
     /// All of it was used, and the option goes on.
-    More { used: usize },
+    More {
+        used: usize,
+    },
     /// So many of its bytes end a part, which began at this offset.
     Item {
         at: u64,
@@ -46,7 +48,9 @@ pub enum TypeAdvance {
 #[derive(Clone, Copy, Debug, PartialEq, Eq)]
 pub enum TypePush<'a> {
     /// All of it was used, and the option goes on.
-    More { used: usize },
+    More {
+        used: usize,
+    },
     /// So many of its bytes end a part, which began at this offset.
     Item {
         at: u64,

@@ -136,13 +136,7 @@ impl Kind {
     {
         !matches!(
             self,
-            Kind::Custom
-                | Kind::List
-                | Kind::Map
-                | Kind::Set
-                | Kind::Udt
-                | Kind::Tuple
-                | Kind::Raw
+            Kind::Custom | Kind::List | Kind::Map | Kind::Set | Kind::Udt | Kind::Tuple | Kind::Raw
         )
     }
 }

@@ -38,13 +38,7 @@ pub fn type_len(tree: &TypeTree) -> Option<u32>
     ensures { result ≡ spelled_len tree.now }
 {
     match tree {
-        TypeTree::Plain(kind) => {
-            if kind.is_plain() {
-                Some(2)
-            } else {
-                None
-            }
-        }
+        TypeTree::Plain(kind) => { if kind.is_plain() { Some(2) } else { None } }
         TypeTree::Custom(class) => sum(Some(2), text_len(class)),
         TypeTree::List(inner) => sum(Some(2), type_len(inner)),
         TypeTree::Set(inner) => sum(Some(2), type_len(inner)),

@@ -114,14 +114,13 @@ fn each_option_is_read_in_pieces_of_every_size(rt: HostRuntime) -> Result<(), Fa
             "30 Node(Udt), 32 Text(Keyspace, \"k\"), 35 Text(TypeName, \"u\"), 38 Count(2), 40 Text(FieldName, \"a\"), 43 Node(Int), 45 Text(FieldName, \"é\"), 49 Node(Varchar), Done",
         ),
         (
-            &[0, 0x31, 0, 8, 0, 9, 0, 9, 0, 9, 0, 9, 0, 9, 0, 9, 0, 9, 0, 9],
+            &[
+                0, 0x31, 0, 8, 0, 9, 0, 9, 0, 9, 0, 9, 0, 9, 0, 9, 0, 9, 0, 9,
+            ],
             "30 Node(Tuple), 32 Count(8), 34 Node(Int), 36 Node(Int), 38 Node(Int), 40 Node(Int), 42 Node(Int), 44 Node(Int), 46 Node(Int), 48 TooMany",
         ),
         (&[0, 0x31, 0, 0], "30 Node(Tuple), 32 Count(0), Done"),
-        (
-            &[0, 0, 0, 2, 0xFF, 0x28],
-            "30 Node(Custom), 32 BadUtf8",
-        ),
+        (&[0, 0, 0, 2, 0xFF, 0x28], "30 Node(Custom), 32 BadUtf8"),
     ];
     let mut table = TypeTable::new(rt.alloc(), LIMITS.entries)?;
     for (bytes, lines) in rows {
@@ -221,7 +220,13 @@ fn whole_is_told_once(rt: HostRuntime) -> Result<(), Fail> {
     assert!(rt; !reader.done());
     reader.begin(AT, AT + 2);
     assert!(rt; !reader.done());
-    let used = pushed(&mut partial, &mut reader, &mut table, &[0, 9, 0], &mut lines)?;
+    let used = pushed(
+        &mut partial,
+        &mut reader,
+        &mut table,
+        &[0, 9, 0],
+        &mut lines,
+    )?;
     assert_eq!(rt; used, Some(2));
     assert!(rt; reader.done());
     if used.is_some() {
@@ -245,7 +250,13 @@ fn table_is_walked_and_cloned(rt: HostRuntime) -> Result<(), Fail> {
     let heap = Limited::new(rt.alloc(), 2);
     let mut table = TypeTable::new(&heap, 8)?;
     read(rt.alloc(), &LIMITS, &mut table, &[0, 0x20, 0, 9], 9)?;
-    read(rt.alloc(), &LIMITS, &mut table, &[0, 0x21, 0, 0x0D, 0, 0x20], 9)?;
+    read(
+        rt.alloc(),
+        &LIMITS,
+        &mut table,
+        &[0, 0x21, 0, 0x0D, 0, 0x20],
+        9,
+    )?;
     let node = |kind, arity, span| Some(Node { kind, arity, span });
     assert_eq!(rt; table.node(0), node(Kind::List, 1, 2));
     assert_eq!(rt; table.node(1), node(Kind::Int, 0, 1));
@@ -253,9 +264,15 @@ fn table_is_walked_and_cloned(rt: HostRuntime) -> Result<(), Fail> {
     assert_eq!(rt; table.node(4), node(Kind::List, 1, 0));
     assert_eq!(rt; table.node(5), None);
     assert_eq!(rt; table.roots(), 2);
-    assert_eq!(rt; [table.root(0), table.root(1), table.root(2)], [Some(0), Some(2), None]);
+    assert_eq!(rt;
+        [table.root(0), table.root(1), table.root(2)],
+        [Some(0), Some(2), None]
+    );
     assert_eq!(rt; [table.child(0, 0), table.child(0, 1)], [Some(1), None]);
-    assert_eq!(rt; [table.child(2, 0), table.child(2, 1), table.child(2, 2)], [Some(3), Some(4), None]);
+    assert_eq!(rt;
+        [table.child(2, 0), table.child(2, 1), table.child(2, 2)],
+        [Some(3), Some(4), None]
+    );
     assert_eq!(rt; [table.child(4, 0), table.child(9, 0)], [None, None]);
     let clone = table.clone_table()?;
     assert_eq!(rt; (clone.len(), clone.room(), clone.roots()), (5, 8, 2));

@@ -1,5 +1,4 @@
-use Rattle.std.proofs.Common.{◌≡◌, ◌∙◌, List, length, ap, sym, arith}
-use Rattle.cqlp_type.specs.declared.node.Node.{Node}
+use Rattle.std.proofs.Common.{◌≡◌, ◌∙◌, List, ap, sym, arith}
 use Rattle.cqlp_type.specs.TypeStep.{TypeSymbol, settled, with_span}
 use Rattle.cqlp_type.specs.Table.{Table}
 use Rattle.cqlp_type.proofs.Nodes.{length_with_span}
@@ -17,5 +16,5 @@ loop-node-preserved g c =
       height = omega (arith, n.1, i.height);
       levels = n.2 ∙ i.levels;
       table = room ∙ i.table;
-      same = rw nodes (length_with_span c.in-Whole.node before ∙ i.same)
+      same = rw nodes (length_with_span c.in-Whole.node before ∙ i.same);
     }

@@ -9,7 +9,7 @@ invariant-loop-node g l = record {
   height : l.levels.height ≤ l.initial.levels.height;
   levels : l.levels.room ≡ l.initial.levels.room;
   table : l.table.room ≡ l.initial.table.room;
-  same : length l.table.nodes ≡ length l.initial.table.nodes
+  same : length l.table.nodes ≡ length l.initial.table.nodes;
 }
 
 abbrev pub decreases-loop-node : goal.decreases-loop-node

@@ -1,6 +1,4 @@
-use Rattle.std.proofs.Common.{◌≡◌, ℕ, suc, ◌+◌, ◌-◌, ◌<◌, drop, refl, sym, ap, ◌∙◌, arith}
-use Rattle.std.specs.Prelude.{slice_get}
-use Rattle.cqlp_type.specs.Table.{beginnings}
+use Rattle.std.proofs.Common.{◌≡◌, suc, ◌+◌, ◌-◌, ◌<◌, sym, ◌∙◌, arith}
 use Rattle.cqlp_type.proofs.Beginnings.{none_there, first_there, open_there, next_there}
 use Rattle.cqlp_type.proofs.table.beginning.Goals as goal
 

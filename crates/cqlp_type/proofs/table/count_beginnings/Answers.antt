@@ -10,5 +10,5 @@ none = record { kind = Custom; arity = 0; span = 0 }
 pub loop-at-preserved : goal.loop-at-preserved
 loop-at-preserved c = record {
   counted = more_counted c.loop-at.count c.loop-at.at c.args.nodes.now none c.loop-at-test.true c.if-span-eq0.false ∙ c.loop-at.invariant.counted;
-  few = omega arith
+  few = omega arith;
 }

@@ -1,4 +1,4 @@
-use Rattle.std.proofs.Common.{◌≡◌, ℕ, ◌+◌, Bool, true, false, ◌&&◌, length, take, refl, sym, ap, ◌∙◌, arith}
+use Rattle.std.proofs.Common.{◌≡◌, ◌+◌, true, false, ◌&&◌, length, take, refl, sym, ap, ◌∙◌, arith}
 use Rattle.std.specs.Prelude.{string_bytes}
 use Rattle.cqlp_type.specs.TypeTrees.{spelled_len, is_counted, trees_fit, trees_size}
 use Rattle.cqlp_type.specs.TypeLists.{listed_types, listed_fields}
@@ -6,7 +6,7 @@ use Rattle.cqlp_type.proofs.TreeLengths.{own_fit, own_size, field_fit, field_siz
 use Rattle.cqlp_type.proofs.tree.+type_len.Goals as goal
 
 pub type_len-returns-in-Custom : goal.type_len-returns-in-Custom
-type_len-returns-in-Custom t c = 
+type_len-returns-in-Custom t c =
     let class = c.in-Custom.class in
     c.sum.ensures true (is_counted (length (string_bytes class))) 2 (2 + length (string_bytes class)) refl c.text_len.ensures ∙ sym (custom_len c.in-Custom.class) ∙ ap spelled_len (sym c.in-Custom.is)
 

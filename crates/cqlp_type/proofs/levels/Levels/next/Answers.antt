@@ -1,4 +1,4 @@
-use Rattle.std.proofs.Common.{◌≡◌, ◌+◌, ◌-◌, ◌++◌, ◌∷◌, [], List, length, refl, arith}
+use Rattle.std.proofs.Common.{◌≡◌, ◌+◌, ◌-◌, ◌++◌, ◌∷◌, [], length, refl, arith}
 use Rattle.std.proofs.lemmas.List.{length-append}
 use Rattle.cqlp_type.specs.declared.levels.Level.{Level}
 use Rattle.cqlp_type.proofs.Nesting.{last_whole, last_inner}

@@ -1,8 +1,7 @@
-use Rattle.std.proofs.Common.{◌≡◌, ℕ, ◌+◌, ◌++◌, ◌∷◌, [], List, length, ap, arith}
+use Rattle.std.proofs.Common.{◌≡◌, ◌+◌, ◌++◌, ◌∷◌, [], List, length, ap}
 use Rattle.std.proofs.lemmas.List.{length-append}
 use Rattle.cqlp_type.specs.declared.levels.Level.{Level}
 use Rattle.cqlp_type.specs.TypeStep.{TypeSymbol}
-use Rattle.cqlp_type.specs.Levels.{Nest}
 use Rattle.cqlp_type.proofs.Nesting.{pushed}
 use Rattle.cqlp_type.proofs.levels.Levels.push.Goals as goal
 

@@ -8,5 +8,5 @@ invariant-loop g l = record {
   under_way : l.reader.under_way ≡ true;
   shared : IsShared l.reader l.partial;
   room : l.reader.rules.entries ≤ l.table.room;
-  kept : l.table.room ≡ l.initial.table.room
+  kept : l.table.room ≡ l.initial.table.room;
 }
