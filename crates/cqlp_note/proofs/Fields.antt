@@ -38,7 +38,7 @@ below n t = omega (arith, ltb-false _ _ t)
 above : (n : ℕ) → is_negative n ≡ true → 2 ^ 31 ≤ n
 above n t = omega (arith, ltb-true _ _ t)
 
-abbrev inet_of : (n room : ℕ) → FieldReader
+abbrev pub inet_of : (n room : ℕ) → FieldReader
 inet_of n room = cond (eqb n 4 || eqb n 16) (fits Overrun room (n + 5) (Takes n (λ a. Takes 4 (λ b. Gives (Inet (address_of n a) (signed (from_be_bytes w32 b))))))) (Refuses BadInet)
 
 inet_spells : (n room : ℕ) (head : List ℕ) → IsNumber 1 w8 n head → Always (Spells notation.Inet) (inet_of n room) head

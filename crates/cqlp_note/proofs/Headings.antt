@@ -1,11 +1,11 @@
 -- What nine bytes are as a header.
 use Rattle.std.proofs.Common.{◌≡◌, ℕ, ◌+◌, ◌*◌, ◌<◌, ◌≤◌, Bool, true, false, not, eqb, ◌||◌, List, [], ◌∷◌, length, take, drop, refl, arith}
-use Rattle.std.specs.Prelude.{Option, Some, None, Ok, Err, slice_index}
+use Rattle.std.specs.Prelude.{Some, Ok, Err, slice_index}
 use Rattle.std.specs.Int.{w16, w32, from_be_bytes, cast_signed}
 use Rattle.std.proofs.lemmas.Bool.{lt-ltb, le-ltb}
 use mathlib.Core.Bool.{beq}
 use Rattle.cqlp_note.specs.declared.opcode.Opcode.{Opcode}
-use Rattle.cqlp_note.specs.declared.refusal.Reason.TheVariants.{BadVersion, Compressed, BadOpcode, BadDirection, BadLength}
+use Rattle.cqlp_note.specs.declared.refusal.Reason.TheVariants.{BadVersion, Compressed, BadDirection, BadLength}
 use Rattle.cqlp_note.specs.Heading.{has, heading, heading_of, beside_number, opcodes, answers, same}
 
 pub length_is : (b : List ℕ) → length b ≡ 9 → from_be_bytes w32 (take 4 (drop 5 b)) ≡ slice_index b 5 * 16777216 + slice_index b 6 * 65536 + slice_index b 7 * 256 + slice_index b 8

@@ -3,3 +3,7 @@ pub mod Headings
 pub mod Fields
 pub mod Fronts
 pub mod Pieces
+pub mod Runs
+pub mod Yields
+pub mod Written
+pub mod Spelled

@@ -1,6 +1,6 @@
 -- Fields: their values, and how much the bytes so far say of one.
-use Rattle.std.specs.Prelude.{ℕ, ◌+◌, ◌-◌, ◌^◌, ℤ, Bool, List, length, take, drop, Option, Some, None, nat_lt, ◌==◌, ◌||◌, if◌then◌else◌}
-use Rattle.std.specs.Int.{Width, w8, w16, w32, w64, from_be_bytes, cast_signed}
+use Rattle.std.specs.Prelude.{ℕ, ◌+◌, ◌-◌, ◌^◌, ℤ, Bool, List, Option, Some, None, nat_lt, ◌==◌, ◌||◌, if◌then◌else◌}
+use Rattle.std.specs.Int.{w8, w16, w32, w64, from_be_bytes, cast_signed}
 use Rattle.std.specs.Str.{is_utf8}
 use Rattle.cqlp_note.specs.declared.field.Notation.{Notation}
 use Rattle.cqlp_note.specs.declared.field.Notation.TheVariants as notation

@@ -5,8 +5,8 @@ use Rattle.cqlp_note.specs.declared.field.Notation.{Notation}
 use Rattle.cqlp_note.specs.declared.field.Notation.TheVariants as notation
 use Rattle.cqlp_note.specs.declared.refusal.Reason.TheVariants.{Overrun, BadCount, BadInet, BadValueLength}
 use Rattle.cqlp_note.specs.declared.prim.BoundValue.TheVariants as bound
-use Rattle.cqlp_note.specs.declared.prim.Prim.{Prim}
-use Rattle.cqlp_note.specs.declared.prim.Prim.TheVariants as prim
+use Rattle.cqlp_note.specs.declared.prim.Primitive.{Primitive}
+use Rattle.cqlp_note.specs.declared.prim.Primitive.TheVariants as prim
 use Rattle.cqlp_note.specs.declared.head.Wanted.{Wanted}
 use Rattle.cqlp_note.specs.declared.head.Form.{Form}
 use Rattle.cqlp_note.specs.declared.head.Form.TheVariants as form
@@ -17,7 +17,7 @@ use Rattle.cqlp_note.specs.declared.head.Stop.TheVariants as stop
 use Rattle.cqlp_note.specs.Reader.{More, Bad, Got, Gives, Refuses, Takes, says, fits}
 use Rattle.cqlp_note.specs.Field.{FieldValue, Byte, Short, Int, Long, Uuid, Count, Text, Bytes, Bound, Inet, Null, Unset, Known, FieldReader, text_of, field_of, content_of, is_negative, signed, address_of}
 
-abbrev pub value_of : Prim → FieldValue
+abbrev pub value_of : Primitive → FieldValue
 value_of (prim.Byte n) = Byte n
 value_of (prim.Short n) = Short n
 value_of (prim.Int z) = Int z

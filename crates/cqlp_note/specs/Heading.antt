@@ -69,7 +69,8 @@ pub record IsLawful (h : Header) : Type 0 where
   pub direction : answers h.opcode ≡ h.response
   pub bounded : h.length ≤ 268435456
 
--- the nine bytes of a header
+-- Section 2: the nine bytes of a header are the version with the direction, the flags, the stream id, the opcode and
+-- the length of the body.
 abbrev pub header_bytes : Header → List ℕ
 header_bytes h = (if h.response then 0x84 else 0x04) ∷ h.flags ∷ to_be_bytes w16 (cast_unsigned w16 h.stream) ++ code_of h.opcode ∷ to_be_bytes w32 h.length
 
@@ -98,5 +99,5 @@ heading b =
 
 -- a header is the one that the bytes are, or the refusal is theirs in a frame that begins at an offset
 abbrev pub Headed : (at : ℕ) → List ℕ → Result Header Refusal → Type 0
-Headed at bytes (Ok h) = (heading bytes ≡ Ok h) × (h.length ≤ 268435456)
+Headed at bytes (Ok h) = (heading bytes ≡ Ok h) × (h.length ≤ 268435456) × IsLawful h × (header_bytes h ≡ bytes)
 Headed at bytes (Err r) = (e : ℕ × Reason) × (heading bytes ≡ Err e) × (r.at ≡ at + e.0) × (r.why ≡ e.1)

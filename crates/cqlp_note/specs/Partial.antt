@@ -120,3 +120,9 @@ abbrev pub Pushes : Progress → List ℕ → Push → Progress → Type 0
 Pushes old input (push.More used) new = Waits old input used new
 Pushes old input (push.Got used v) new = Ends old input used (value_of v) new
 Pushes old input (push.Refused r) new = (r.at ≡ old.field.at) × (says (reader_of old.field) 0 (old.seen ++ input) ≡ Bad r.why) × (new ≡ ended old [])
+
+-- How much of the input is used: all of it while the field goes on, and no more than it where the field ends.
+abbrev pub Uses : List ℕ → Push → Type 0
+Uses input (push.More used) = used ≡ length input
+Uses input (push.Got used v) = used ≤ length input
+Uses input (push.Refused r) = ⊤

@@ -7,30 +7,33 @@ ghost use Rattle.cqlp_note.specs.Field.{is_negative};
 ghost use Rattle.cqlp_note.specs.Head.{Tells, TellsContent, TellsInet, behind_fixed, fixed_of, reader_of};
 
 use crate::field::Notation;
-use crate::prim::{Address, BoundValue, Prim};
+use crate::prim::{Address, BoundValue, Primitive as Prim};
 use crate::refusal::Reason;
 
 /// A field as it was asked for: its notation, the limit on its content, the offset of its first byte, and the room
 /// that its container has from there on.
 #[derive(Clone, Copy)]
-pub struct Wanted {
+pub(crate) struct Wanted {
     pub notation: Notation,
     pub limit: u32,
     pub at: u64,
     pub room: u64,
 }
 
-/// What is made of a content.
+/// What is made of a content: a text, bytes, or a value of a request.
 #[derive(Clone, Copy)]
 pub enum Form {
+    /// UTF-8.
     Text,
+    /// Any bytes.
     Bytes,
+    /// The bytes of a \[value\].
     Bound,
 }
 
 /// What the front of a field tells.
 #[derive(Clone, Copy)]
-pub enum Head {
+pub(crate) enum Head {
     /// The whole field, of so many bytes.
     Whole { used: usize, prim: Prim<'static> },
     /// Behind so many bytes comes a content of this length.
@@ -39,8 +42,10 @@ pub enum Head {
 
 /// Why the front of a field tells nothing.
 #[derive(Clone, Copy)]
-pub enum Stop {
+pub(crate) enum Stop {
+    /// More bytes are wanted.
     Wanting,
+    /// It is refused.
     Refused(Reason),
 }
 
@@ -66,7 +71,7 @@ impl Notation {
 
 /// Reads the front of a field in its first bytes, which may be too few or go on behind it.
 #[tactic(auto, using(crate::proofs::Fronts::fixed_overruns, crate::proofs::Fronts::fixed_wanting, crate::proofs::Fronts::fixed_short, crate::proofs::Fronts::fixed_tells))]
-pub fn head_of(wanted: Wanted, bytes: &[u8]) -> Result<Head, Stop>
+pub(crate) fn head_of(wanted: Wanted, bytes: &[u8]) -> Result<Head, Stop>
     ensures { Tells wanted (reader_of wanted) 0 bytes.now result }
 {
     let fixed = wanted.notation.fixed();
@@ -162,8 +167,8 @@ fn content(wanted: Wanted, behind: usize, len: u32, form: Form) -> Result<Head, 
     }
 }
 
-#[tactic(auto, using(crate::proofs::Fronts::inet_taken))]
 /// An address of N bytes and the bytes of a port, in those behind the first of a container with this much room.
+#[tactic(auto, using(crate::proofs::Fronts::inet_taken))]
 fn inet<const N: usize>(room: u64, rest: &[u8]) -> Result<([u8; N], [u8; 4]), Stop>
     requires { N ≤ 16 }
     ensures { TellsInet N room rest.now result }

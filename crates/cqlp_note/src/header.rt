@@ -1,6 +1,6 @@
 //! Frame headers.
 
-ghost use Rattle.std.specs.Prelude.{◌≡◌, ◌≤◌, ◌^◌, ◌==◌, ◌||◌};
+ghost use Rattle.std.specs.Prelude.{◌≡◌, ◌≤◌, ◌^◌, ◌==◌, ◌||◌, ◌↔◌, if◌then◌else◌, IsTrue, Ok};
 ghost use Rattle.cqlp_note.specs.Heading.{has as has_bit};
 
 use crate::opcode::Opcode;
@@ -12,18 +12,31 @@ const LONGEST_BODY: u32 = 268_435_456;
 /// The header of a frame. Section 2 of `native_protocol_v4.spec`.
 #[derive(Clone, Copy, Debug, PartialEq, Eq)]
 pub struct Header {
+    /// Whether the frame is a response, by its first byte: 84, or 04 in a request.
     pub response: bool,
     /// 01 compression, 02 tracing, 04 custom payload, 08 warning; other bits are kept.
     pub flags: u8,
     /// The stream id, which is a request's and its response's; -1 in an EVENT.
     pub stream: i16,
+    /// The kind of the message.
     pub opcode: Opcode,
-    /// The bytes of the body.
+    /// The bytes of the body, at most 268,435,456.
     pub length: u32,
 }
 
 impl Header {
-    ghost use Rattle.cqlp_note.specs.Heading.{Headed};
+    ghost use Rattle.cqlp_note.specs.Heading.{Headed, IsLawful, header_bytes, heading};
+
+    /// Whether the header may stand before a frame: the flag 01 is off, the opcode goes in this direction, and the
+    /// body is no longer than 268,435,456 bytes.
+    #[must_use]
+    pub fn lawful(&self) -> bool
+        ensures { IsTrue result ↔ IsLawful self.now }
+    {
+        !has(self.flags, 0x01)
+            && self.opcode.is_response() == self.response
+            && self.length <= LONGEST_BODY
+    }
 
     /// The header that nine bytes are, in a frame that begins at `at`, or the first fault of them in this order: the
     /// version (at +0), the flag 01 (+1), the opcode (+4), its direction (+4), the length (+5).
@@ -72,12 +85,41 @@ impl Header {
             length,
         })
     }
+
+    /// The nine bytes of the header, which `read` takes for this header again.
+    #[must_use]
+    pub fn write(&self) -> [u8; 9]
+        requires { IsLawful self.now }
+        ensures bytes { result ≡ header_bytes self.now }
+        ensures reads { heading result ≡ Ok self.now }
+    {
+        let [high, low] = self.stream.to_be_bytes();
+        let [first, second, third, last] = self.length.to_be_bytes();
+        [
+            version(self.response),
+            self.flags,
+            high,
+            low,
+            self.opcode.number(),
+            first,
+            second,
+            third,
+            last,
+        ]
+    }
 }
 
 fn is_version(version: u8) -> bool
     ensures { result ≡ ((version == 0x04) || (version == 0x84)) }
 {
     version == 0x04 || version == 0x84
+}
+
+/// The first byte of a header in this direction.
+fn version(response: bool) -> u8
+    ensures { result ≡ (if response then 0x84 else 0x04) }
+{
+    if response { 0x84 } else { 0x04 }
 }
 
 /// Whether some bit of these is set.

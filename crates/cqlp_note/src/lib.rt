@@ -20,7 +20,8 @@ pub use header::Header;
 pub use limits::{BadLimits, Limits};
 pub use opcode::Opcode;
 pub use partial::Partial;
-pub use prim::{Address, BoundValue, Prim};
+// antt has a module `Prim`, so that a crate above could not be checked over an enum whose own name this is.
+pub use prim::{Address, BoundValue, Primitive as Prim};
 pub use refusal::{NoMemory, Reason, Refusal};
 pub use streams::{IoFault, OfStd, Source, Target};
 pub use taken::{Item, Lies, Push, Taken};

@@ -5,28 +5,44 @@ ghost use Rattle.std.specs.Prelude.{◌≡◌};
 /// What a message is. Section 2.4 of `native_protocol_v4.spec`.
 #[derive(Clone, Copy, Debug, PartialEq, Eq)]
 pub enum Opcode {
+    /// A request failed. Section 4.2.1.
     Error,
+    /// The first request that opens a connection. Section 4.1.1.
     Startup,
+    /// The connection is open. Section 4.2.2.
     Ready,
+    /// The client is to authenticate. Section 4.2.3.
     Authenticate,
+    /// Which options are there? Section 4.1.3.
     Options,
+    /// The options that are there. Section 4.2.4.
     Supported,
+    /// A statement, to be run. Section 4.1.4.
     Query,
+    /// What came of a statement. Section 4.2.5.
     Result,
+    /// A statement, to be prepared. Section 4.1.5.
     Prepare,
+    /// A prepared statement, to be run. Section 4.1.6.
     Execute,
+    /// Events are asked for. Section 4.1.8.
     Register,
+    /// Something happened. Section 4.2.6.
     Event,
+    /// Several statements, to be run. Section 4.1.7.
     Batch,
+    /// The client is to say more. Section 4.2.7.
     AuthChallenge,
+    /// What the client says to authenticate. Section 4.1.2.
     AuthResponse,
+    /// The client is known. Section 4.2.8.
     AuthSuccess,
 }
 
 impl Opcode {
     ghost use Rattle.cqlp_note.specs.Heading.{answers, beside_number, code_of, opcodes};
 
-    /// The opcode that has this number, if one has.
+    /// The opcode that has this number, if one has: 00 to 10 but for 04.
     pub fn from_number(number: u8) -> Option<Opcode>
         ensures { result ≡ beside_number number opcodes }
     {

@@ -1,16 +1,16 @@
 //! A field out of pieces of any size.
 
-ghost use Rattle.std.specs.Prelude.{◌≡◌, ◌+◌, ◌-◌, ◌<◌, ◌≤◌, ◌++◌, List, [], ℕ, true, false, length, drop, IfOk, IsTrue, ◌↔◌};
+ghost use Rattle.std.specs.Prelude.{◌≡◌, ◌+◌, ◌-◌, ◌≤◌, ◌++◌, List, [], ℕ, true, false, length, drop, IfOk};
 ghost use Rattle.std.specs.Borrow.{sem};
 ghost use Rattle.cqlp_note.specs.Reader.{says, Takes};
 ghost use Rattle.cqlp_note.specs.Head.{Tells, reader_of, value_of, made};
 
+use crate::field::Notation;
 use crate::front::Front;
 use crate::head::{Form, Head, Stop, Wanted, head_of};
-use crate::prim::{BoundValue, Prim};
-use crate::taken::{Item, Lies, Push, Stage, Taken};
-use crate::field::Notation;
+use crate::prim::{BoundValue, Primitive as Prim};
 use crate::refusal::{NoMemory, Reason, Refusal};
+use crate::taken::{Item, Lies, Push, Stage, Taken};
 use std::alloc::{Allocator, Global};
 use std::marker::Model;
 
@@ -38,7 +38,7 @@ impl<A: Allocator> Model for Partial<A> {
 
 impl<A: Allocator> Partial<A> {
     ghost use Rattle.cqlp_note.specs.Lending.{Next};
-    ghost use Rattle.cqlp_note.specs.Partial.{Advances, CanLend, Pushes, begun, ended, item_value};
+    ghost use Rattle.cqlp_note.specs.Partial.{Advances, CanLend, Pushes, Uses, begun, ended, item_value};
 
     /// With room for contents of up to `room` bytes.
     pub fn new(alloc: A, room: u32) -> Result<Self, NoMemory>
@@ -81,6 +81,7 @@ impl<A: Allocator> Partial<A> {
     /// Takes the next bytes of the field that is under way. A content that lies whole in them is lent from them.
     pub fn push<'a>(&'a mut self, input: &'a [u8]) -> Push<'a>
         requires { self.old.under_way ≡ true }
+        ensures uses { Uses input.now result }
         ensures* next { sem 𝓛 (Next A.row A.Allocator self.entry (λ after. Pushes self.old input.now result after)) }
     {
         match self.advance(input) {
@@ -110,8 +111,8 @@ impl<A: Allocator> Partial<A> {
         }
     }
 
-    #[tactic(auto, using(crate::proofs::Pieces::content_front, crate::proofs::Pieces::gathered_bad, crate::proofs::Fronts::fixed_short))]
     /// Takes the next bytes of the field that is under way.
+    #[tactic(auto, using(crate::proofs::Pieces::content_front, crate::proofs::Pieces::gathered_bad, crate::proofs::Fronts::fixed_short))]
     pub fn advance(&mut self, input: &[u8]) -> Taken
         requires { self.old.under_way ≡ true }
         ensures { Advances self.old input.now result self.new }
@@ -162,8 +163,8 @@ impl<A: Allocator> Partial<A> {
         }
     }
 
-    #[tactic(auto, using(crate::proofs::Pieces::whole_got, crate::proofs::Pieces::whole_bad, crate::proofs::Pieces::seen_is_front, crate::proofs::Pieces::split_goes_on, crate::proofs::Pieces::rest_is, crate::proofs::Pieces::front_fits))]
     /// Takes a content, of which nothing came before `start` in the input.
+    #[tactic(auto, using(crate::proofs::Pieces::whole_got, crate::proofs::Pieces::whole_bad, crate::proofs::Pieces::seen_is_front, crate::proofs::Pieces::split_goes_on, crate::proofs::Pieces::rest_is, crate::proofs::Pieces::front_fits))]
     fn take_content(&mut self, start: usize, len: u32, form: Form, input: &[u8]) -> Taken
         requires under_way { self.old.under_way ≡ true }
         requires empty { self.old.content ≡ [] }
@@ -234,8 +235,8 @@ impl Form {
         }
     }
 
-    #[tactic(auto, using(crate::proofs::Pieces::utf8_true, crate::proofs::Pieces::utf8_false))]
     /// Whether these bytes may stand in such a content.
+    #[tactic(auto, using(crate::proofs::Pieces::utf8_true, crate::proofs::Pieces::utf8_false))]
     fn accepts(self, bytes: &[u8]) -> bool
         ensures { result ≡ accepts self bytes.now }
     {
@@ -258,17 +259,6 @@ fn told(wanted: Wanted, front: &Front, input: &[u8]) -> Result<Head, Stop>
         head_of(wanted, input)
     } else {
         head_of(wanted, front.with(input).as_slice())
-    }
-}
-
-/// Whether this input ended the field.
-pub fn ends(partial: &mut Partial, input: &[u8]) -> bool
-    requires { partial.old.under_way ≡ true }
-    ensures { IsTrue result ↔ (partial.new.under_way ≡ false) }
-{
-    match partial.push(input) {
-        Push::More { .. } => false,
-        Push::Got { .. } | Push::Refused(_) => true,
     }
 }
 

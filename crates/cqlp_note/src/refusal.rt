@@ -53,10 +53,11 @@ pub enum Reason {
 pub struct Refusal {
     /// The offset in the stream of the first byte of the field that could not be made; in a header, of the faulty byte.
     pub at: u64,
+    /// The first fault in the order in which a field or a header is read.
     pub why: Reason,
 }
 
-/// Memory was refused.
+/// Memory was refused; nothing was made.
 #[derive(Clone, Copy, Debug, PartialEq, Eq, Error)]
 #[error("no memory")]
 pub struct NoMemory;

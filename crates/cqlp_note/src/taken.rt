@@ -1,12 +1,12 @@
 //! What a piece of input makes of a field.
 
 use crate::head::Form;
-use crate::prim::Prim;
+use crate::prim::Primitive as Prim;
 use crate::refusal::Refusal;
 
 /// How far a field is.
 #[derive(Clone, Copy)]
-pub enum Stage {
+pub(crate) enum Stage {
     /// None is under way.
     Idle,
     /// What goes before its content is under way.
@@ -18,14 +18,18 @@ pub enum Stage {
 /// Where a content lies.
 #[derive(Clone, Copy)]
 pub enum Lies {
+    /// So many bytes of the input, from an index on.
     InInput { start: usize, len: usize },
+    /// All that the buffer holds.
     InBuffer,
 }
 
 /// What a field holds, or where.
 #[derive(Clone, Copy)]
 pub enum Item {
+    /// A value without content.
     Plain(Prim<'static>),
+    /// What is made of the content that lies there.
     Content { form: Form, lies: Lies },
 }
 
@@ -36,6 +40,7 @@ pub enum Taken {
     More { used: usize },
     /// So many of its bytes end the field.
     Got { used: usize, item: Item },
+    /// The field ends, since it is refused.
     Refused(Refusal),
 }
 
@@ -46,5 +51,6 @@ pub enum Push<'a> {
     More { used: usize },
     /// So many of its bytes end the field.
     Got { used: usize, prim: Prim<'a> },
+    /// The field ends, since it is refused.
     Refused(Refusal),
 }

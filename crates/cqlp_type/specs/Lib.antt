@@ -1,2 +1,5 @@
 pub mod Types
 pub mod TypeStep
+pub mod Table
+pub mod Levels
+pub mod Remaining

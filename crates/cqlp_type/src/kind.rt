@@ -35,7 +35,9 @@ pub enum Kind {
 }
 
 impl Kind {
-    ghost use Rattle.cqlp_type.specs.Types.{has_no_items};
+    ghost use Rattle.cqlp_note.specs.Heading.{beside_number};
+    ghost use Rattle.cqlp_type.specs.Types.{has_no_items, kinds};
+    ghost use Rattle.cqlp_type.specs.TypeStep.{arity_of};
 
     /// Whether a value of this kind has no items: all but lists, maps, sets, user-defined types and tuples.
     pub fn is_scalar(self) -> bool
@@ -45,5 +47,50 @@ impl Kind {
             self,
             Kind::List | Kind::Map | Kind::Set | Kind::Udt | Kind::Tuple
         )
+    }
+
+    /// The kind whose type option has this id, if one has.
+    pub fn from_id(id: u16) -> Option<Kind>
+        ensures { result ≡ beside_number id kinds }
+    {
+        match id {
+            0x00 => Some(Kind::Custom),
+            0x01 => Some(Kind::Ascii),
+            0x02 => Some(Kind::Bigint),
+            0x03 => Some(Kind::Blob),
+            0x04 => Some(Kind::Boolean),
+            0x05 => Some(Kind::Counter),
+            0x06 => Some(Kind::Decimal),
+            0x07 => Some(Kind::Double),
+            0x08 => Some(Kind::Float),
+            0x09 => Some(Kind::Int),
+            0x0B => Some(Kind::Timestamp),
+            0x0C => Some(Kind::Uuid),
+            0x0D => Some(Kind::Varchar),
+            0x0E => Some(Kind::Varint),
+            0x0F => Some(Kind::Timeuuid),
+            0x10 => Some(Kind::Inet),
+            0x11 => Some(Kind::Date),
+            0x12 => Some(Kind::Time),
+            0x13 => Some(Kind::Smallint),
+            0x14 => Some(Kind::Tinyint),
+            0x20 => Some(Kind::List),
+            0x21 => Some(Kind::Map),
+            0x22 => Some(Kind::Set),
+            0x30 => Some(Kind::Udt),
+            0x31 => Some(Kind::Tuple),
+            _ => None,
+        }
+    }
+
+    /// How many inner types each type of this kind has; 0 where they are counted.
+    pub(crate) fn arity(self) -> u16
+        ensures { result ≡ arity_of self }
+    {
+        match self {
+            Kind::List | Kind::Set => 1,
+            Kind::Map => 2,
+            _ => 0,
+        }
     }
 }

@@ -1,0 +1,88 @@
+-- What is still to be read of a type option, as it is kept.
+use Rattle.std.specs.Prelude.{◌≡◌, ℕ, ◌+◌, ◌≤◌, Bool, true, false, List, [], ◌∷◌, ◌++◌, length, Result, Ok, Err}
+use Rattle.cqlp_note.specs.declared.field.Field.TheVariants as field
+use Rattle.cqlp_note.specs.declared.refusal.Reason.{Reason}
+use Rattle.cqlp_note.specs.Reader.{Refuses, Idles}
+use Rattle.cqlp_note.specs.Field.{FieldValue, Short, Count}
+use Rattle.cqlp_note.specs.Step.{Step, Emit}
+use Rattle.cqlp_note.specs.Limits.{Rules}
+use Rattle.cqlp_note.specs.Heading.{beside_number}
+use Rattle.cqlp_note.specs.Partial.{item_value}
+use Rattle.cqlp_type.specs.declared.node.Node.{Node}
+use Rattle.cqlp_type.specs.declared.remaining.Stage.{Stage}
+use Rattle.cqlp_type.specs.declared.remaining.Stage.TheVariants as stage
+use Rattle.cqlp_type.specs.declared.item.TypePart.{TypePart}
+use Rattle.cqlp_type.specs.declared.item.TypePart.TheVariants as part
+use Rattle.cqlp_type.specs.Types.{kinds}
+use Rattle.cqlp_type.specs.TypeStep.{TypeSymbol, Option_at, Text_of, Fields_of, Whole, TypeEvent, IsNode, IsField, TypePlace, symbol_copies, inner_symbols, with_arity, settled, type_place, option_step}
+use Rattle.cqlp_type.specs.Table.{Table}
+use Rattle.cqlp_type.specs.Levels.{Nest}
+
+-- something is still to be read
+abbrev pub is_wanted : Stage → Bool
+is_wanted stage.Idle = false
+is_wanted stage.Done = false
+is_wanted _ = true
+
+-- what is read now, and what is left of the options around it
+abbrev pub stage_symbols : Stage → Nest → List TypeSymbol
+stage_symbols stage.Idle n = []
+stage_symbols stage.Done n = []
+stage_symbols stage.Id n = Option_at (n.height + 1) ∷ n.symbols
+stage_symbols stage.Name n = Text_of field.FieldName ∷ Option_at (n.height + 1) ∷ n.symbols
+stage_symbols (stage.Class node) n = Text_of field.Class ∷ Whole node ∷ n.symbols
+stage_symbols (stage.Keyspace node) n = Text_of field.Keyspace ∷ Text_of field.TypeName ∷ Fields_of true (n.height + 1 + 1) ∷ Whole node ∷ n.symbols
+stage_symbols (stage.TypeName node) n = Text_of field.TypeName ∷ Fields_of true (n.height + 1 + 1) ∷ Whole node ∷ n.symbols
+stage_symbols (stage.Fields node named) n = Fields_of named (n.height + 1 + 1) ∷ Whole node ∷ n.symbols
+
+-- the levels that come to be needed before the next id
+abbrev pub opened : Stage → ℕ
+opened stage.Idle = 0
+opened stage.Done = 0
+opened stage.Id = 0
+opened stage.Name = 0
+opened _ = 1
+
+abbrev pub HasRoom : Stage → Nest → Type 0
+HasRoom s n = n.height + opened s ≤ n.room
+
+-- ---- one item
+
+-- the number that a [short] is
+abbrev pub short_in : FieldValue → ℕ
+short_in (Short n) = n
+short_in _ = 0
+
+-- what an item of this value makes of what is still to be read
+abbrev pub item_step : Rules → TypePlace → List TypeSymbol → FieldValue → Step TypeEvent TypePlace
+item_step l p [] v = Idles
+item_step l p (Option_at depth ∷ rest) v = option_step l depth rest p (beside_number (short_in v) kinds)
+item_step l p (Text_of f ∷ rest) v = Emit p.offset (IsField f v) (type_place p (settled rest p.nodes))
+item_step l p (Fields_of named depth ∷ rest) v =
+    Emit p.offset (IsField field.Fields (Count (short_in v))) (type_place p (settled (symbol_copies (short_in v) (inner_symbols named depth) ++ rest) (with_arity (short_in v) p.nodes)))
+item_step l p (Whole i ∷ rest) v = Idles
+
+-- the event that a part is, whose text lies in this input or this buffer
+abbrev pub event_at : TypePart → (input buffer : List ℕ) → TypeEvent
+event_at (part.Node k) input buffer = IsNode k
+event_at (part.Text f i) input buffer = IsField f (item_value i input buffer)
+event_at (part.Count n) input buffer = IsField field.Fields (Count n)
+
+-- A step gives this part, and leaves these symbols and these nodes; or it refuses, and the nodes stay.
+abbrev pub Goes : Step TypeEvent TypePlace → TypePlace → (input buffer : List ℕ) → Result TypePart Reason → List TypeSymbol → List Node → Type 0
+Goes s p input buffer (Ok q) symbols nodes = s ≡ Emit p.offset (event_at q input buffer) (type_place p (symbols, nodes))
+Goes s p input buffer (Err why) symbols nodes = (s ≡ Refuses (p.offset, why)) × (nodes ≡ p.nodes)
+
+abbrev pub Follows : Rules → (at stop : ℕ) → List TypeSymbol → List Node → FieldValue → (input buffer : List ℕ) → Result TypePart Reason → List TypeSymbol → List Node → Type 0
+Follows l at stop symbols nodes v input buffer result symbols' nodes' =
+    let p : TypePlace = record { offset = at; stop = stop; symbols = symbols; nodes = nodes } in Goes (item_step l p symbols v) p input buffer result symbols' nodes'
+
+-- ---- what is whole before the next item
+
+pub record Settles (symbols : List TypeSymbol) (old : Table) (room : ℕ) (s : Stage) (n : Nest) (new : Table) : Type 0 where
+  pub is : ◌≡◌ {A = List TypeSymbol × List Node} (stage_symbols s n, new.nodes) (settled symbols old.nodes)
+  pub closed : opened s ≡ 0
+  pub within : n.height ≤ room
+  pub levels : n.room ≡ room
+  pub table : new.room ≡ old.room
+  pub same : length new.nodes ≡ length old.nodes

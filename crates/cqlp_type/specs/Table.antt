@@ -1,0 +1,27 @@
+-- Tables of types: nodes in preorder, of which the last type may be under way.
+use Rattle.std.specs.Prelude.{ℕ, zero, suc, ◌+◌, ◌-◌, List, [], ◌∷◌, length, take, drop, Option, Some, None, option_and_then, slice_get, ◌==◌, if◌then◌else◌}
+use Rattle.cqlp_type.specs.declared.node.Node.{Node}
+
+-- What a caller knows of a `TypeTable`: its nodes, and how many there can be.
+pub record Table : Type 0 where
+  pub nodes : List Node
+  pub room : ℕ
+
+-- The numbers of the nodes at which types begin that stand side by side, from a node with this number on, behind some
+-- that are skipped. The span of a type that is under way is 0: all further nodes are its own.
+abbrev pub beginnings : (number skipped : ℕ) → List Node → List ℕ
+beginnings number skipped [] = []
+beginnings number zero (x ∷ xs) = number ∷ (if x.span == 0 then [] else beginnings (suc number) (x.span - 1) xs)
+beginnings number (suc skipped) (x ∷ xs) = beginnings (suc number) skipped xs
+
+-- where type i of those that stand side by side begins
+abbrev pub root : List Node → (i : ℕ) → Option ℕ
+root xs i = slice_get (beginnings 0 0 xs) i
+
+-- the nodes behind a node that belong to its type
+abbrev pub behind : Node → List Node → List Node
+behind x xs = if x.span == 0 then xs else take (x.span - 1) xs
+
+-- where inner type i of the type of a node begins
+abbrev pub child : List Node → (node i : ℕ) → Option ℕ
+child xs node i = option_and_then (λ x. slice_get (beginnings (node + 1) 0 (behind x (drop (node + 1) xs))) i) (slice_get xs node)

@@ -1,0 +1,190 @@
+//! Tables of types.
+
+ghost use Rattle.std.specs.Prelude.{◌≡◌, ◌+◌, ◌^◌, ◌<◌, ◌≤◌, ◌++◌, ◌∷◌, [], length, slice_get, IfOk, IsTrue, ◌↔◌};
+ghost use Rattle.cqlp_type.specs.Table.{beginnings};
+
+use crate::node::Node;
+use cqlp_note::NoMemory;
+use std::alloc::{Allocator, Global};
+use std::marker::Model;
+
+/// Types in preorder: each stands before its inner ones. The last of those that stand side by side may be under way,
+/// and then its nodes so far are there.
+#[derive(Drop)]
+pub struct TypeTable<A: Allocator = Global> {
+    nodes: Vec<Node, A>,
+    room: u32,
+}
+
+impl<A: Allocator> Model for TypeTable<A> {
+    ghost use Rattle.std.specs.Prelude.{◌≤◌, length, vec_capacity};
+    ghost use Rattle.cqlp_type.specs.Table.{Table};
+
+    ghost Value = { Table };
+
+    ghost view = { λ t. record { nodes = t.nodes.items; room = t.room } };
+
+    ghost invariant = { λ t. (t.room ≤ vec_capacity t.nodes) × (length t.nodes.items ≤ t.room) };
+}
+
+impl<A: Allocator> TypeTable<A> {
+    ghost use Rattle.cqlp_type.specs.Table.{root, child};
+    ghost use Rattle.cqlp_type.specs.TypeStep.{with_arity, with_span};
+
+    /// With room for `room` nodes, which is all that it will ever have.
+    pub fn new(alloc: A, room: u32) -> Result<Self, NoMemory>
+        ensures { IfOk result (λ table. table ≡ record { nodes = []; room = room }) }
+    {
+        Ok(TypeTable {
+            nodes: Vec::with_capacity(alloc, room as usize)?,
+            room,
+        })
+    }
+
+    /// How many nodes there are.
+    pub fn len(&self) -> u32
+        ensures is { result ≡ length self.now.nodes }
+        ensures bound { result ≤ self.now.room }
+    {
+        let _room = self.room;
+        self.nodes.len() as u32
+    }
+
+    /// Whether there are none.
+    pub fn is_empty(&self) -> bool
+        ensures { IsTrue result ↔ (self.now.nodes ≡ []) }
+    {
+        self.nodes.is_empty()
+    }
+
+    /// The node with this number; the first has the number 0.
+    pub fn node(&self, i: u32) -> Option<Node>
+        ensures { result ≡ slice_get self.now.nodes i }
+    {
+        self.nodes.get(i as usize).copied()
+    }
+
+    /// How many types stand side by side, one that is under way counted.
+    pub fn roots(&self) -> u32
+        ensures { result ≡ length (beginnings 0 0 self.now.nodes) }
+    {
+        let _room = self.room;
+        count_beginnings(&self.nodes)
+    }
+
+    /// The number of the node at which the type with number `i` begins, of those that stand side by side.
+    pub fn root(&self, i: u32) -> Option<u32>
+        ensures { result ≡ root self.now.nodes i }
+    {
+        let _room = self.room;
+        beginning(&self.nodes, 0, i)
+    }
+
+    /// The number of the node at which inner type `i` of a node's type begins, where it stands in the table.
+    pub fn child(&self, node: u32, i: u32) -> Option<u32>
+        ensures { result ≡ child self.now.nodes node i }
+    {
+        let _room = self.room;
+        let span = self.node(node)?.span as usize;
+        let inner = &self.nodes[node as usize + 1..];
+        if span == 0 || span > inner.len() {
+            beginning(inner, node + 1, i)
+        } else {
+            beginning(&inner[..span - 1], node + 1, i)
+        }
+    }
+
+    /// Removes all nodes, and keeps the room.
+    pub fn clear(&mut self)
+        ensures { self.new ≡ record { nodes = []; room = self.old.room } }
+    {
+        self.nodes.clear();
+    }
+
+    /// How many nodes there can be.
+    pub fn room(&self) -> u32
+        ensures { result ≡ self.now.room }
+    {
+        self.room
+    }
+
+    pub(crate) fn push(&mut self, node: Node)
+        requires { length self.old.nodes < self.old.room }
+        ensures { self.new ≡ record { nodes = self.old.nodes ++ node ∷ []; room = self.old.room } }
+    {
+        self.nodes.push_reserved(node);
+    }
+
+    /// Sets how many inner types the last type has.
+    pub(crate) fn set_arity(&mut self, arity: u16)
+        ensures { self.new ≡ record { nodes = with_arity arity self.old.nodes; room = self.old.room } }
+    {
+        if !self.nodes.is_empty() {
+            let last = self.nodes.len() - 1;
+            self.nodes[last].arity = arity;
+        }
+    }
+
+    /// The type that begins at this node ends with the last one.
+    pub(crate) fn close(&mut self, i: u32)
+        ensures { self.new ≡ record { nodes = with_span i self.old.nodes; room = self.old.room } }
+    {
+        let _room = self.room;
+        let first = i as usize;
+        if first < self.nodes.len() {
+            self.nodes[first].span = (self.nodes.len() - first) as u32;
+        }
+    }
+}
+
+impl<A: Allocator + Clone> TypeTable<A> {
+    /// An equal table with the same room.
+    pub fn clone_table(&self) -> Result<Self, NoMemory>
+        ensures { IfOk result (λ table. table ≡ self.now) }
+    {
+        let mut nodes = Vec::with_capacity(self.nodes.allocator().clone()?, self.room as usize)?;
+        nodes.extend_from_slice(&self.nodes).unwrap();
+        Ok(TypeTable {
+            nodes,
+            room: self.room,
+        })
+    }
+}
+
+/// How many types stand side by side.
+fn count_beginnings(nodes: &[Node]) -> u32
+    requires { length nodes.now < 2 ^ 32 }
+    ensures { result ≡ length (beginnings 0 0 nodes.now) }
+{
+    let mut count = 0;
+    let mut at = 0;
+    while at < nodes.len() {
+        count += 1;
+        let span = nodes[at].span as usize;
+        if span == 0 {
+            return count;
+        }
+        at += span;
+    }
+    count
+}
+
+/// Where type `i` of those that stand side by side begins, if the first node has the number `first`.
+fn beginning(nodes: &[Node], first: u32, i: u32) -> Option<u32>
+    requires { first + length nodes.now < 2 ^ 32 }
+    ensures { result ≡ slice_get (beginnings first 0 nodes.now) i }
+{
+    let mut at = 0;
+    for _ in 0..i {
+        let span = nodes.get(at)?.span as usize;
+        if span == 0 {
+            return None;
+        }
+        at += span;
+    }
+    if at < nodes.len() {
+        Some(first + at as u32)
+    } else {
+        None
+    }
+}
