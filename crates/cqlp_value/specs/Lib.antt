@@ -1,3 +1,5 @@
 pub mod Scalars
 pub mod Contents
 pub mod CellStep
+pub mod Items
+pub mod Gathering

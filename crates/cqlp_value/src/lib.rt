@@ -2,7 +2,10 @@
 #![tactic(auto)]
 
 mod content;
+mod gather;
+mod item;
 mod scalars;
 
 pub use content::scalar;
+pub use item::{CellAdvance, CellItem, CellOutline, CellPush};
 pub use scalars::Scalar;
