@@ -3,3 +3,4 @@ pub mod Contents
 pub mod CellStep
 pub mod Items
 pub mod Gathering
+pub mod Sizes

@@ -5,6 +5,7 @@ mod content;
 mod gather;
 mod item;
 mod scalars;
+mod size;
 
 pub use content::scalar;
 pub use item::{CellAdvance, CellItem, CellOutline, CellPush};
