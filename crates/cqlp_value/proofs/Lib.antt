@@ -1,3 +1,4 @@
 pub mod Texts
 pub mod Gathered
 pub mod Sizing
+pub mod Nesting

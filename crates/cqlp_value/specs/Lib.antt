@@ -4,3 +4,4 @@ pub mod CellStep
 pub mod Items
 pub mod Gathering
 pub mod Sizes
+pub mod Levels

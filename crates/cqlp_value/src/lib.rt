@@ -4,6 +4,7 @@
 mod content;
 mod gather;
 mod item;
+mod levels;
 mod scalars;
 mod size;
 
