@@ -1,4 +1,5 @@
 pub mod Texts
 pub mod Gathered
 pub mod Sizing
+pub mod Inside
 pub mod Nesting

@@ -4,4 +4,5 @@ pub mod CellStep
 pub mod Items
 pub mod Gathering
 pub mod Sizes
+pub mod Inner
 pub mod Levels
