@@ -1,5 +1,6 @@
 pub mod Texts
 pub mod Gathered
+pub mod Numbered
 pub mod Sizing
 pub mod Inside
 pub mod Nesting

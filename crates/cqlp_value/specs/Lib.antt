@@ -3,6 +3,7 @@ pub mod Contents
 pub mod CellStep
 pub mod Items
 pub mod Gathering
+pub mod Numbers
 pub mod Sizes
 pub mod Inner
 pub mod Levels

@@ -5,6 +5,7 @@ mod content;
 mod gather;
 mod item;
 mod levels;
+mod number;
 mod scalars;
 mod size;
 
