@@ -4,3 +4,4 @@ pub mod Numbered
 pub mod Sizing
 pub mod Inside
 pub mod Nesting
+pub mod Opened

@@ -5,5 +5,6 @@ pub mod Items
 pub mod Gathering
 pub mod Numbers
 pub mod Sizes
+pub mod Standing
 pub mod Inner
 pub mod Levels

@@ -8,6 +8,7 @@ mod levels;
 mod number;
 mod scalars;
 mod size;
+mod standing;
 
 pub use content::scalar;
 pub use item::{CellAdvance, CellItem, CellOutline, CellPush};
