@@ -5,3 +5,4 @@ pub mod Sizing
 pub mod Inside
 pub mod Nesting
 pub mod Opened
+pub mod Coming

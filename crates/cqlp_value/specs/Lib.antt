@@ -5,6 +5,7 @@ pub mod Items
 pub mod Gathering
 pub mod Numbers
 pub mod Sizes
+pub mod Coming
 pub mod Standing
 pub mod Inner
 pub mod Levels
