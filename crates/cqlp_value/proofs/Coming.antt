@@ -1,5 +1,6 @@
 -- What the next step reads.
 use Rattle.std.proofs.Common.{◌≡◌, ℕ, zero, suc, ◌+◌, ◌-◌, ◌^◌, ◌<◌, ◌≤◌, Bool, true, false, ◌||◌, eqb, leb, cond, List, [], ◌∷◌, ◌++◌, length, Option, Some, None, refl, sym, ap, subst, ◌∙◌, append_assoc, inl, inr, arith}
+use Rattle.std.proofs.lemmas.Bool.{eqb-true, or_cases}
 use Rattle.std.proofs.lemmas.List.{append-nil, length-append}
 use Rattle.cqlp_note.specs.Limits.{Rules}
 use Rattle.cqlp_type.specs.declared.kind.Kind.{Kind}
@@ -12,10 +13,10 @@ use Rattle.cqlp_value.specs.declared.standing.Next.{Next}
 use Rattle.cqlp_value.specs.declared.standing.Next.TheVariants as next
 use Rattle.cqlp_value.specs.declared.standing.Due.{Due}
 use Rattle.cqlp_value.specs.declared.standing.Due.TheVariants as due
-use Rattle.cqlp_value.specs.CellStep.{CellSymbol, Value_of, Items_of, Close_of, CellPlace, cell_copies, cell_step, cell_step_at, value_step, close_step}
+use Rattle.cqlp_value.specs.CellStep.{CellSymbol, Value_of, Items_of, Close_of, CellPlace, cell_copies, cell_step, cell_step_at, value_step, close_step, part_step}
 use Rattle.cqlp_value.specs.Levels.{last_open, but_last, with_last}
 use Rattle.cqlp_value.specs.Inner.{types_at, node_at, HasInner, Stand}
-use Rattle.cqlp_value.specs.Standing.{State, value_symbols, left_of, open_symbols, levels_symbols, place, value_at, due_value, open_after, rest_of, passed_by, passed, is_over, over_by, due_of, TypesStand, AreOpen, last_stop, Stands, HasNext}
+use Rattle.cqlp_value.specs.Standing.{State, value_symbols, left_of, open_symbols, levels_symbols, symbols_for, place, value_at, due_value, open_after, rest_of, passed_by, passed, is_over, over_by, due_of, TypesStand, AreOpen, last_stop, Stands, HasNext}
 use Rattle.cqlp_value.specs.Coming.{inner_of, ValueDue}
 use Rattle.cqlp_value.proofs.Nesting.{last_is, but_last_is, with_last_is}
 use Rattle.cqlp_value.proofs.Inside.{First, first_stands}
@@ -250,3 +251,24 @@ module _ (nodes : List Node) (d : State) (stands : Stands nodes d) where
 
   pub value_due : due_of d ≡ due.Value → ValueDue nodes d
   value_due v = due_by d.next refl v
+
+-- ---- the end of the innermost value
+
+module _ (nodes : List Node) (d : State) (items : d.next ≡ next.Items) (o : Open) (m : Inmost nodes d o) (over : is_over o d.offset ≡ true) where
+  close_by : (k : Order) → o.order ≡ k → over_by o d.offset k ≡ true → (place nodes d).symbols ≡ left_of nodes (length m.front) o k ++ levels_symbols nodes 0 m.front
+      → cell_step d.rules (place nodes d) ≡ close_step (place nodes d) (levels_symbols nodes 0 m.front) (length m.front) o.stop o.items
+  close_by order.Elements e t now = close_first d.rules (place nodes d) _ _ o.stop o.items (now ∙ rw (eqb-true o.left 0 t) refl)
+  close_by order.Keys e t now = close_first d.rules (place nodes d) _ _ o.stop o.items (now ∙ rw (eqb-true o.left 0 t) refl)
+  close_by order.Values e t now = absurd cc
+  close_by order.Fields e t now = elim (or_cases (eqb o.left 0) (leb o.stop d.offset) t) [
+    | inl none ↦ none_first d.rules (place nodes d) _ _ o.stop o.items (now ∙ rw (eqb-true o.left 0 none, no_types nodes o.node) refl)
+    | inr past ↦ over_first d.rules (place nodes d) _ (types_at nodes o.node o.left) _ o.stop o.items past now
+  ]
+
+  pub close_is : cell_step d.rules (place nodes d) ≡ close_step (place nodes d) (levels_symbols nodes 0 m.front) (length m.front) o.stop o.items
+  close_is =
+      let e : 0 + length m.front ≡ length m.front = omega arith in
+      close_by o.order refl over (rw (items, m.is, levels_symbols_is nodes 0 m.front o, e) refl)
+
+pub part_is : (nodes : List Node) (d : State) (offset total : ℕ) → d.next ≡ next.Part offset total → cell_step d.rules (place nodes d) ≡ part_step d.rules (place nodes d) (levels_symbols nodes 0 d.open_values) (length d.open_values) 0 offset total
+part_is nodes d offset total e = ap (λ (n : Next). cell_step_at d.rules (place nodes d) (symbols_for nodes d.stop d.open_values n)) e

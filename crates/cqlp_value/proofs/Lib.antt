@@ -6,3 +6,4 @@ pub mod Inside
 pub mod Nesting
 pub mod Opened
 pub mod Coming
+pub mod Handing

@@ -78,7 +78,7 @@ module _ (l : Rules) (k : Kind) (room n : ℕ) where
     fits = tt;
   }
 
-  has_room : (s : Sized) → 4 + n ≤ room → HasRoom room n s
+  has_room : (s : Sized) → (4 + n ≤ room) × (n < 2 ^ 31) → HasRoom room n s
   has_room size.Null le = tt
   has_room size.Empty le = tt
   has_room (size.Refused why) le = tt
@@ -91,5 +91,5 @@ module _ (l : Rules) (k : Kind) (room n : ℕ) where
   fitting_sized s lt some enough h = record {
     is = λ p rest inner level. rw (le-ltb (2 ^ 31 - 1) n (omega arith), ne_eqb n 0 some, le-ltb room (4 + n) enough) (h.is p rest inner level);
     can = h.can;
-    fits = has_room s enough;
+    fits = has_room s (enough, lt);
   }

@@ -6,6 +6,7 @@ pub mod Gathering
 pub mod Numbers
 pub mod Sizes
 pub mod Coming
+pub mod Reading
 pub mod Standing
 pub mod Inner
 pub mod Levels

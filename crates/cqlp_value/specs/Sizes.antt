@@ -1,5 +1,5 @@
 -- What a value is by its length.
-use Rattle.std.specs.Prelude.{◌≡◌, ℕ, ◌+◌, ◌<◌, ◌≤◌, Bool, true, false, List, []}
+use Rattle.std.specs.Prelude.{◌≡◌, ℕ, ◌+◌, ◌^◌, ◌<◌, ◌≤◌, Bool, true, false, List, []}
 use Rattle.cqlp_note.specs.Reader.{Refuses, Takes}
 use Rattle.cqlp_note.specs.Step.{Step, Emit}
 use Rattle.cqlp_note.specs.Limits.{Rules}
@@ -40,12 +40,12 @@ pub record IsContent (l : Rules) (k : Kind) (n : ℕ) (s : Sized) : Type 0 where
   pub is : (p : CellPlace) (rest : List CellSymbol) (inner : Types) (level : ℕ) → content_step l p rest level k inner n ≡ sized_as l p rest k inner level s
   pub can : CanBe l k n s
 
--- a value that has bytes has room for them
+-- a value that has bytes has room for them, and a length that is not negative
 abbrev pub HasRoom : (room n : ℕ) → Sized → Type 0
 HasRoom room n size.Null = Unit {0}
 HasRoom room n size.Empty = Unit {0}
 HasRoom room n (size.Refused why) = Unit {0}
-HasRoom room n s = 4 + n ≤ room
+HasRoom room n s = (4 + n ≤ room) × (n < 2 ^ 31)
 
 -- what a value is by its length, the number n, in a container with so much room
 pub record IsSized (l : Rules) (k : Kind) (room n : ℕ) (s : Sized) : Type 0 where

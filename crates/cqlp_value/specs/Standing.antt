@@ -117,6 +117,10 @@ module _ (nodes : List Node) where
   abbrev pub open_after : State → List Open
   open_after d = after_for d.open_values d.next
 
+  -- so many bytes further, behind that value
+  abbrev pub moved : State → (size : ℕ) → State
+  moved d size = record d { offset = d.offset + size; next = next.Items; under = under.Nothing; open_values = open_after d }
+
   abbrev pub rest_of : State → List CellSymbol
   rest_of d = levels_symbols 0 (open_after d)
 

@@ -6,6 +6,7 @@ mod gather;
 mod item;
 mod levels;
 mod number;
+mod reading;
 mod scalars;
 mod size;
 mod standing;

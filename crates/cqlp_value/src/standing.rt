@@ -74,7 +74,7 @@ pub(crate) struct Standing<A: Allocator> {
 
 impl<A: Allocator> Standing<A> {
     ghost use Rattle.cqlp_note.specs.Limits.{rules_of};
-    ghost use Rattle.cqlp_value.specs.Standing.{state_of, due_of, due_value, open_after, ended, Stands};
+    ghost use Rattle.cqlp_value.specs.Standing.{state_of, due_of, due_value, moved, ended, Stands};
 
     /// What comes next, where nothing of it has come.
     pub(crate) fn due(&self) -> Due
@@ -119,7 +119,7 @@ impl<A: Allocator> Standing<A> {
         requires stands { Stands table.now.nodes (state_of self.old) }
         requires due { due_of (state_of self.old) ≡ due.Value }
         requires place { self.old.offset + size < 2 ^ 64 }
-        ensures state { state_of self.new ≡ record (state_of self.old) { offset = self.old.offset + size; next = next.Items; under = under.Nothing; open_values = open_after table.now.nodes (state_of self.old) } }
+        ensures state { state_of self.new ≡ moved table.now.nodes (state_of self.old) size }
         ensures room { self.new.levels.room ≡ self.old.levels.room }
     {
         if let Next::Items = self.next {

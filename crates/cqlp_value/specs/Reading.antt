@@ -1,0 +1,145 @@
+-- What one call makes of a cell.
+use Rattle.std.specs.Prelude.{◌≡◌, ℕ, ◌+◌, ◌-◌, ◌^◌, ◌<◌, ◌≤◌, ◌++◌, false, List, [], ◌∷◌, length, take, drop, min, true, Option, Some, None, ⊤}
+use Rattle.std.specs.Int.{w32, from_be_bytes}
+use Rattle.cqlp_note.specs.declared.refusal.Reason.{Reason}
+use Rattle.cqlp_note.specs.declared.refusal.Refusal.{Refusal}
+use Rattle.cqlp_note.specs.Reader.{Said, More, Bad, Got, says}
+use Rattle.cqlp_note.specs.Step.{Step, Emitted}
+use Rattle.cqlp_note.specs.Partial.{Progress}
+use Rattle.cqlp_type.specs.declared.node.Node.{Node}
+use Rattle.cqlp_value.specs.declared.item.CellOutline.{CellOutline}
+use Rattle.cqlp_value.specs.declared.item.CellOutline.TheVariants as outline
+use Rattle.cqlp_value.specs.declared.item.CellAdvance.{CellAdvance}
+use Rattle.cqlp_value.specs.declared.item.CellAdvance.TheVariants as advance
+use Rattle.cqlp_value.specs.declared.size.Sized.{Sized}
+use Rattle.cqlp_value.specs.declared.size.Sized.TheVariants as size
+use Rattle.cqlp_value.specs.declared.standing.Next.{Next}
+use Rattle.cqlp_value.specs.declared.standing.Next.TheVariants as next
+use Rattle.cqlp_value.specs.declared.standing.Under.{Under}
+use Rattle.cqlp_value.specs.declared.standing.Under.TheVariants as under
+use Rattle.cqlp_value.specs.declared.standing.Due.TheVariants as due
+use Rattle.cqlp_value.specs.CellStep.{CellEvent, CellPlace, cell_step, sized_step}
+use Rattle.cqlp_value.specs.Items.{content_at, event_at, CanLend}
+use Rattle.cqlp_value.specs.Gathering.{IsGathering}
+use Rattle.cqlp_value.specs.Numbers.{IsCounting}
+use Rattle.cqlp_value.specs.Sizes.{sized_as, CanBe, HasRoom}
+use Rattle.cqlp_value.specs.Standing.{State, ended, place, due_value, rest_of, due_of, Stands}
+use Rattle.cqlp_value.specs.Coming.{inner_of, room_of}
+
+-- what a step says
+abbrev pub Saying : Type 0
+Saying = Said (Emitted CellEvent CellPlace) (ℕ × Reason)
+
+module _ (nodes : List Node) where
+  -- what the next step says of these bytes
+  unfoldable pub told : State → List ℕ → Saying
+  told d bytes = says (cell_step d.rules (place nodes d)) 0 bytes
+
+  -- how it goes on behind the length of the value that comes next, the number n
+  unfoldable pub sized_of : State → (n : ℕ) → Step CellEvent CellPlace
+  sized_of d n = sized_step d.rules (place nodes d) (rest_of nodes d) (due_value nodes d).kind (inner_of nodes (due_value nodes d)) (length d.open_values) (room_of nodes d) n
+
+  -- The value that comes next is this by its length.
+  pub record Decided (d : State) (n : ℕ) (s : Sized) : Type 0 where
+    pub is : sized_of d n ≡ sized_as d.rules (place nodes d) (rest_of nodes d) (due_value nodes d).kind (inner_of nodes (due_value nodes d)) (length d.open_values) s
+    pub can : CanBe d.rules (due_value nodes d).kind n s
+    pub fits : HasRoom (room_of nodes d) n s
+
+  -- ---- what has come of it
+
+  -- the bytes of the next part
+  abbrev pub part_size : State → (offset total : ℕ) → ℕ
+  part_size d offset total = min d.rules.cell (total - offset)
+
+  abbrev pub PartUnder : State → Progress → Next → Type 0
+  PartUnder d p (next.Part offset total) = IsGathering true (part_size d offset total) d.offset 0 p
+  PartUnder d p n = ⊥
+
+  abbrev pub UnderBy : State → Progress → Under → Type 0
+  UnderBy d p under.Nothing = p.under_way ≡ false
+  UnderBy d p under.Length = (due_of d ≡ due.Value) × IsCounting true d.offset (room_of nodes d) 0 p
+  UnderBy d p (under.Scalar n) = (due_of d ≡ due.Value) × IsGathering true n (d.offset + 4) 0 p × Decided d n (size.Scalar n)
+  UnderBy d p (under.Counted n) = (due_of d ≡ due.Value) × IsCounting true (d.offset + 4) n 0 p × Decided d n (size.Counted n)
+  UnderBy d p (under.First n) = (due_of d ≡ due.Value) × IsGathering true d.rules.cell (d.offset + 4) 0 p × Decided d n (size.Parts n)
+  UnderBy d p under.Later = PartUnder d p d.next
+
+  -- A `Partial` is what it is where the reader stands: it reads what the reader wants, or nothing.
+  pub record Joined (d : State) (p : Progress) : Type 0 where
+    pub longest : d.rules.cell ≤ p.room
+    pub under_way : UnderBy d p d.under
+
+  -- ---- what a call does
+
+  -- A step says this event at this offset, of k bytes, and leads to where the reader stands.
+  pub record Emits (said : Saying) (at k : ℕ) (e : CellEvent) (new : State) : Type 0 where
+    pub x : Emitted CellEvent CellPlace
+    pub is : said ≡ Got x k
+    pub offset : x.at ≡ at
+    pub event : x.event ≡ e
+    pub after : x.after k ≡ place nodes new
+
+  -- where a content lies whole in the bytes used, the buffer is empty
+  abbrev pub IsLent : CellOutline → (input buffer : List ℕ) → (used : ℕ) → Type 0
+  IsLent (outline.Leaf level k i) input buffer used = length (content_at i input buffer) ≤ used → buffer ≡ []
+  IsLent (outline.Part level offset i last) input buffer used = length (content_at i input buffer) ≤ used → buffer ≡ []
+  IsLent i input buffer used = ⊤
+
+  -- The first `used` bytes of the input, with `base` bytes before it, end this item.
+  pub record Hands (old : State) (p : Progress) (input : List ℕ) (said : Saying) (base at used : ℕ) (i : CellOutline) (new : State) (q : Progress) : Type 0 where
+    pub within : used ≤ length input
+    pub emits : Emits said at (base + used) (event_at i input q.content) new
+    pub can_lend : CanLend i input q.content
+    pub lent : IsLent i input q.content used
+    pub rules : new.rules ≡ old.rules
+    pub stop : new.stop ≡ old.stop
+    pub stands : Stands nodes new
+    pub fresh : new.under ≡ under.Nothing
+    pub idle : q.under_way ≡ false
+    pub longest : q.room ≡ p.room
+
+  -- All of the input belongs to an item that goes on.
+  pub record Waits (old : State) (p : Progress) (input : List ℕ) (said : Saying) (used : ℕ) (new : State) (q : Progress) : Type 0 where
+    pub all : used ≡ length input
+    pub is : said ≡ More
+    pub same : new ≡ record old { under = new.under }
+    pub joined : Joined new q
+    pub longest : q.room ≡ p.room
+
+  -- The cell ends by this refusal.
+  pub record Fails (old : State) (p : Progress) (said : Saying) (r : Refusal) (new : State) (q : Progress) : Type 0 where
+    pub is : said ≡ Bad (r.at, r.why)
+    pub ends : new ≡ ended old
+    pub idle : q.under_way ≡ false
+    pub longest : q.room ≡ p.room
+
+  -- What a call does where a step says this, with W of what waits.
+  abbrev pub Settles : State → Progress → List ℕ → Saying → (base : ℕ) → (W : Under → List ℕ → Type 0) → CellAdvance → State → Progress → Type 0
+  Settles old p input said base W (advance.More used) new q = Waits old p input said used new q × W new.under q.seen
+  Settles old p input said base W (advance.Item at used i) new q = Hands old p input said base at used i new q
+  Settles old p input said base W advance.Done new q = ⊥
+  Settles old p input said base W (advance.Refused r) new q = Fails old p said r new q
+
+-- the length that has come of the item under way
+abbrev pub length_under : Under → Option ℕ
+length_under (under.Scalar n) = Some n
+length_under (under.Counted n) = Some n
+length_under (under.First n) = Some n
+length_under _ = None
+
+-- The length n has come, and these bytes behind it.
+abbrev pub Behind : (n : ℕ) → (bytes : List ℕ) → Under → (seen : List ℕ) → Type 0
+Behind n bytes u seen = (length_under u ≡ Some n) × (seen ≡ bytes) × (n < 2 ^ 31)
+
+-- these may be the bytes of the item under way: those of its length, if that has come, and those behind it
+abbrev pub AreBytes : Option ℕ → (seen bytes : List ℕ) → Type 0
+AreBytes None seen bytes = bytes ≡ seen
+AreBytes (Some n) seen bytes = (head : List ℕ) × (length head ≡ 4) × (from_be_bytes w32 head ≡ n) × (bytes ≡ head ++ seen)
+
+-- what a `Partial` has seen of it
+abbrev pub seen_under : Under → (seen : List ℕ) → List ℕ
+seen_under under.Nothing seen = []
+seen_under _ seen = seen
+
+-- these bytes have come
+abbrev pub HaveCome : (bytes : List ℕ) → Under → (seen : List ℕ) → Type 0
+HaveCome bytes u seen = AreBytes (length_under u) (seen_under u seen) bytes
