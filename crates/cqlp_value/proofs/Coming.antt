@@ -17,10 +17,10 @@ use Rattle.cqlp_value.specs.CellStep.{CellSymbol, Value_of, Items_of, Close_of, 
 use Rattle.cqlp_value.specs.Levels.{last_open, but_last, with_last}
 use Rattle.cqlp_value.specs.Inner.{types_at, node_at, HasInner, Stand}
 use Rattle.cqlp_value.specs.Standing.{State, value_symbols, left_of, open_symbols, levels_symbols, symbols_for, place, value_at, due_value, open_after, rest_of, passed_by, passed, is_over, over_by, due_of, TypesStand, AreOpen, last_stop, Stands, HasNext}
-use Rattle.cqlp_value.specs.Coming.{inner_of, ValueDue}
+use Rattle.cqlp_value.specs.Coming.{inner_of, InnerDue, ValueDue}
 use Rattle.cqlp_value.proofs.Nesting.{last_is, but_last_is, with_last_is}
 use Rattle.cqlp_value.proofs.Inside.{First, first_stands}
-use Rattle.cqlp_value.proofs.Opened.{last_stop_is, levels_symbols_is, Innermost, open_join, Inmost, value_next, close_next, has_next, first_there}
+use Rattle.cqlp_value.proofs.Opened.{last_stop_is, last_stop_le, levels_symbols_is, Innermost, open_join, Inmost, value_next, close_next, has_next, first_there}
 
 no_types : (nodes : List Node) (i : ℕ) → types_at nodes i 0 ≡ NoMore
 unfolding types_at
@@ -37,12 +37,13 @@ pub record FirstType (nodes : List Node) (i n depth : ℕ) : Type 0 where
   pub after : Stand nodes (i + (node_at nodes i).span) n depth
   pub within : i + (node_at nodes i).span ≤ length nodes
   pub some : 0 < (node_at nodes i).span
+  pub alone : Stand nodes i 1 depth
 
 pub first_type : (nodes : List Node) (i n depth : ℕ) → Stand nodes i (suc n) depth → FirstType nodes i n depth
 first_type nodes i n depth s =
     let f = first_stands nodes i n depth s in
     let here = f.1.here in
-    record { types = rw here f.1.is; formed = rw here f.1.formed; deep = f.1.deep; inner = rw here f.1.inner; after = rw here f.1.after; within = rw here f.1.within; some = rw here f.1.some }
+    record { types = rw here f.1.is; formed = rw here f.1.formed; deep = f.1.deep; inner = rw here f.1.inner; after = rw here f.1.after; within = rw here f.1.within; some = rw here f.1.some; alone = f.1.alone }
 
 pub one_value : (nodes : List Node) (node depth level stop : ℕ) → Stand nodes node 1 depth
     → value_symbols nodes node level stop ≡ Value_of (node_at nodes node).kind (types_at nodes (node + 1) (node_at nodes node).arity) level stop ∷ []
@@ -109,7 +110,7 @@ or_right true b e = absurd cc
 or_right false b e = e
 
 -- an item of the innermost open value comes next
-module _ (nodes : List Node) (d : State) (items : d.next ≡ next.Items) (o : Open) (m : Inmost nodes d o) (more : is_over o d.offset ≡ false) where
+module _ (nodes : List Node) (d : State) (items : d.next ≡ next.Items) (o : Open) (m : Inmost nodes d o) (more : is_over o d.offset ≡ false) (bounded : d.stop < 2 ^ 64) where
   abbrev level : ℕ
   level = length m.front
 
@@ -203,7 +204,8 @@ module _ (nodes : List Node) (d : State) (items : d.next ≡ next.Items) (o : Op
       record {
         step = rw (value_is, level_is) (step_by o.order refl);
         inside = rw value_is (omega (arith, m.inside));
-        inner = λ _. rw (value_is, level_is) (f.formed, rw depth at f.inner, omega (arith, f.deep));
+        inner = λ _. record { formed = rw value_is f.formed; stands = rw (value_is, level_is) (rw depth at f.inner); deep = rw level_is (omega (arith, f.deep)); there = rw value_is (omega (arith, f.within, f.some)) };
+        bounded = rw value_is (omega (arith, m.innermost.within, last_stop_le nodes d.rules 0 d.stop m.front m.innermost.around, bounded));
         after = rw after_is (open_join nodes d.rules 0 d.stop m.front (passed nodes o) (record { around = m.innermost.around; within = rw stop m.innermost.within; deep = m.innermost.deep; types = rw start after }));
         ends = rw (after_is, value_is) (last_stop_is d.stop m.front (passed nodes o) ∙ stop);
         level = rw (after_is, m.is) (length-append m.front (passed nodes o ∷ []) ∙ sym (length-append m.front (o ∷ [])));
@@ -219,6 +221,7 @@ module _ (nodes : List Node) (d : State) (stands : Stands nodes d) where
         step = rw (e, n.0, no_types nodes 1) refl;
         inside = rw e (omega (arith, w));
         inner = λ t. let no : true ≡ false = rw e at t in absurd cc;
+        bounded = rw e stands.bounded;
         after = rw (e, n.0) tt;
         ends = rw (e, n.0) refl;
         level = rw (e, n.0) refl;
@@ -233,7 +236,8 @@ module _ (nodes : List Node) (d : State) (stands : Stands nodes d) where
       record {
         step = rw (e, n.0, one) refl;
         inside = rw e (omega (arith, w));
-        inner = λ t. rw (e, n.0) (f.formed, f.inner, f.deep);
+        inner = λ t. record { formed = rw e f.formed; stands = rw (e, n.0) f.inner; deep = rw n.0 f.deep; there = rw e (omega (arith, f.within, f.some)) };
+        bounded = rw e stands.bounded;
         after = rw (e, n.0) tt;
         ends = rw (e, n.0) refl;
         level = rw (e, n.0) refl;
@@ -246,7 +250,7 @@ module _ (nodes : List Node) (d : State) (stands : Stands nodes d) where
   due_by : (n : Next) → d.next ≡ n → due_of d ≡ due.Value → ValueDue nodes d
   due_by next.Nothing e v = let no : ◌≡◌ {A = Due} due.Nothing due.Value = rw e at v in absurd cc
   due_by (next.Cell node) e v = any_cell_due node e
-  due_by next.Items e v = let r = value_next nodes d stands e v in item_due nodes d e r.0 r.1 r.2
+  due_by next.Items e v = let r = value_next nodes d stands e v in item_due nodes d e r.0 r.1 r.2 stands.bounded
   due_by (next.Part offset total) e v = let no : ◌≡◌ {A = Due} (due.Part offset total) due.Value = rw e at v in absurd cc
 
   pub value_due : due_of d ≡ due.Value → ValueDue nodes d

@@ -27,8 +27,8 @@ use Rattle.cqlp_value.specs.Reading.{Saying, sized_of, Decided, Joined, Emits, H
 use Rattle.cqlp_value.proofs.Coming.{value_due}
 
 -- behind the value that comes next, as far as the one around it goes
-pub moved_stands : (nodes : List Node) (d : State) (size : ℕ) → ValueDue nodes d → d.offset + size ≤ (due_value nodes d).stop → Stands nodes (moved nodes d size)
-moved_stands nodes d size v le = record { open_stand = v.after; within = rw v.ends (omega arith); next_stands = tt }
+pub moved_stands : (nodes : List Node) (d : State) (size : ℕ) → Stands nodes d → ValueDue nodes d → d.offset + size ≤ (due_value nodes d).stop → Stands nodes (moved nodes d size)
+moved_stands nodes d size s v le = record { open_stand = v.after; within = rw v.ends (omega arith); next_stands = tt; bounded = s.bounded }
 
 -- ---- scalars
 
@@ -90,7 +90,7 @@ module _ (nodes : List Node) (old new : State) (n start : ℕ) (p q : Progress) 
         lent = λ le. found.lent (rw (content_is, size) at le);
         rules = refl;
         stop = refl;
-        stands = moved_stands nodes old (4 + n) due (omega (arith, decided.fits.0, due.inside));
+        stands = moved_stands nodes old (4 + n) stands due (omega (arith, decided.fits.0, due.inside));
         fresh = refl;
         idle = found.idle;
         longest = found.room;

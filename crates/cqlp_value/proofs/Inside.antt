@@ -1,7 +1,7 @@
 -- The types in a table are those of the nodes.
 use Rattle.std.proofs.Common.{◌≡◌, ℕ, zero, suc, ◌+◌, ◌-◌, ◌<◌, ◌≤◌, List, [], ◌∷◌, ◌++◌, length, drop, max, Option, Some, None, refl, sym, ap, ◌∙◌, append_assoc, arith}
 use Rattle.std.specs.Prelude.{slice_get, unwrap_or}
-use Rattle.std.proofs.lemmas.List.{drop-drop, length-append, length-drop, drop_at}
+use Rattle.std.proofs.lemmas.List.{append-nil, drop-drop, length-append, length-drop, drop_at}
 use Rattle.cqlp_type.specs.declared.kind.Kind.{Kind}
 use Rattle.cqlp_type.specs.declared.kind.Kind.TheVariants as kind
 use Rattle.cqlp_type.specs.declared.node.Node.{Node}
@@ -50,6 +50,7 @@ pub record First (nodes : List Node) (i n depth : ℕ) (x : Node) : Type 0 where
   pub after : Stand nodes (i + x.span) n depth
   pub within : i + x.span ≤ length nodes
   pub some : 0 < x.span
+  pub alone : Stand nodes i 1 depth
 
 module _ (nodes : List Node) (i n depth : ℕ) where
   first_types_are : (k : Kind) (inner others : Types) (more : List Node) → drop i nodes ≡ preorder (Type_and k inner others) ++ more → suc (how_many others) ≡ suc n
@@ -75,6 +76,10 @@ module _ (nodes : List Node) (i n depth : ℕ) where
         after = stand_there nodes (i + x.span) others more past n depth (omega (arith, many)) formed.2 (omega arith);
         within = omega (arith, size);
         some = omega arith;
+        alone =
+            let one : Types = Type_and k inner NoMore in
+            let first : drop i nodes ≡ preorder one ++ (preorder others ++ more) = are ∙ ap (λ (m : List Node). x ∷ m) (all ∙ sym (ap (λ (m : List Node). m ++ (preorder others ++ more)) (append-nil (preorder inner)))) in
+            stand_there nodes i one (preorder others ++ more) first 1 depth refl (formed.0, formed.1, tt) (omega arith);
       })
 
   first_of : (ts : Types) (more : List Node) → drop i nodes ≡ preorder ts ++ more → how_many ts ≡ suc n → AreTypes ts → depth_of ts ≤ depth → (x : Node) × First nodes i n depth x

@@ -7,3 +7,5 @@ pub mod Nesting
 pub mod Opened
 pub mod Coming
 pub mod Handing
+pub mod Entering
+pub mod Counting

@@ -51,6 +51,10 @@ module _ (nodes : List Node) (l : Rules) where
       let a = h.around in
       (a.0, a.1, a.2, open_join (level + 1) x.stop os o (record { around = a.3; within = h.within; deep = omega (arith, h.deep); types = rw e h.types }))
 
+pub last_stop_le : (nodes : List Node) (l : Rules) (level stop : ℕ) (os : List Open) → AreOpen nodes l level stop os → last_stop stop os ≤ stop
+last_stop_le nodes l level stop [] h = omega arith
+last_stop_le nodes l level stop (o ∷ os) h = omega (arith, h.0, last_stop_le nodes l (level + 1) o.stop os h.3)
+
 -- ---- what comes next
 
 is_value : (b : Bool) (o : Open) → close_if b o ≡ due.Value → b ≡ false

@@ -7,10 +7,15 @@ use Rattle.cqlp_note.specs.Reader.{Said, More, Bad, Got, says}
 use Rattle.cqlp_note.specs.Step.{Step, Emitted}
 use Rattle.cqlp_note.specs.Partial.{Progress}
 use Rattle.cqlp_type.specs.declared.node.Node.{Node}
+use Rattle.cqlp_type.specs.declared.kind.Kind.{Kind}
+use Rattle.cqlp_type.specs.declared.kind.Kind.TheVariants as kind
 use Rattle.cqlp_value.specs.declared.item.CellOutline.{CellOutline}
 use Rattle.cqlp_value.specs.declared.item.CellOutline.TheVariants as outline
 use Rattle.cqlp_value.specs.declared.item.CellAdvance.{CellAdvance}
 use Rattle.cqlp_value.specs.declared.item.CellAdvance.TheVariants as advance
+use Rattle.cqlp_value.specs.declared.levels.Open.{Open}
+use Rattle.cqlp_value.specs.declared.levels.Order.{Order}
+use Rattle.cqlp_value.specs.declared.levels.Order.TheVariants as order
 use Rattle.cqlp_value.specs.declared.size.Sized.{Sized}
 use Rattle.cqlp_value.specs.declared.size.Sized.TheVariants as size
 use Rattle.cqlp_value.specs.declared.standing.Next.{Next}
@@ -18,17 +23,23 @@ use Rattle.cqlp_value.specs.declared.standing.Next.TheVariants as next
 use Rattle.cqlp_value.specs.declared.standing.Under.{Under}
 use Rattle.cqlp_value.specs.declared.standing.Under.TheVariants as under
 use Rattle.cqlp_value.specs.declared.standing.Due.TheVariants as due
+use Rattle.cqlp_value.specs.declared.standing.Value.{Value}
+use Rattle.cqlp_value.specs.Inner.{node_at, Stand}
 use Rattle.cqlp_value.specs.CellStep.{CellEvent, CellPlace, cell_step, sized_step}
 use Rattle.cqlp_value.specs.Items.{content_at, event_at, CanLend}
 use Rattle.cqlp_value.specs.Gathering.{IsGathering}
 use Rattle.cqlp_value.specs.Numbers.{IsCounting}
 use Rattle.cqlp_value.specs.Sizes.{sized_as, CanBe, HasRoom}
-use Rattle.cqlp_value.specs.Standing.{State, ended, place, due_value, rest_of, due_of, Stands}
+use Rattle.cqlp_value.specs.Standing.{State, ended, place, due_value, moved, rest_of, due_of, Stands}
 use Rattle.cqlp_value.specs.Coming.{inner_of, room_of}
 
 -- what a step says
 abbrev pub Saying : Type 0
 Saying = Said (Emitted CellEvent CellPlace) (ℕ × Reason)
+
+-- the bytes of the next part
+abbrev pub part_size : State → (offset total : ℕ) → ℕ
+part_size d offset total = min d.rules.cell (total - offset)
 
 module _ (nodes : List Node) where
   -- what the next step says of these bytes
@@ -46,10 +57,6 @@ module _ (nodes : List Node) where
     pub fits : HasRoom (room_of nodes d) n s
 
   -- ---- what has come of it
-
-  -- the bytes of the next part
-  abbrev pub part_size : State → (offset total : ℕ) → ℕ
-  part_size d offset total = min d.rules.cell (total - offset)
 
   abbrev pub PartUnder : State → Progress → Next → Type 0
   PartUnder d p (next.Part offset total) = IsGathering true (part_size d offset total) d.offset 0 p
@@ -118,6 +125,38 @@ module _ (nodes : List Node) where
   Settles old p input said base W (advance.Item at used i) new q = Hands old p input said base at used i new q
   Settles old p input said base W advance.Done new q = ⊥
   Settles old p input said base W (advance.Refused r) new q = Fails old p said r new q
+
+-- ---- inside a value
+
+abbrev pub order_by : Kind → (other : ℕ) → Order × ℕ
+order_by kind.Map other = (order.Keys, other)
+order_by k other = (order.Elements, 0)
+
+-- how the items of a list, a set or a map follow one another, and the node of a map's second type
+abbrev pub inner_order : List Node → Value → Order × ℕ
+inner_order nodes v = order_by v.kind (v.node + 1 + (node_at nodes (v.node + 1)).span)
+
+abbrev pub counted_open : List Node → Value → (stop count : ℕ) → Open
+counted_open nodes v stop count = record { order = (inner_order nodes v).0; node = v.node + 1; other = (inner_order nodes v).1; left = count; items = count; stop = stop }
+
+abbrev pub fields_open : Value → (stop : ℕ) → Open
+fields_open v stop = record { order = order.Fields; node = v.node + 1; other = 0; left = v.arity; items = 0; stop = stop }
+
+-- the same with one more value open
+abbrev pub entered : State → Open → State
+entered d o = record d { open_values = d.open_values ++ o ∷ [] }
+
+-- A list, a set or a map of so many bytes is open, with so many elements or pairs.
+abbrev pub EntersCounted : List Node → State → (len count : ℕ) → State → Type 0
+EntersCounted nodes old len count new = (new ≡ entered (moved nodes old 8) (counted_open nodes (due_value nodes old) (old.offset + 4 + len) count)) × Stands nodes new
+
+-- A tuple or a user-defined type of so many bytes is open.
+abbrev pub EntersFields : List Node → State → (len : ℕ) → State → Type 0
+EntersFields nodes old len new = (new ≡ entered (moved nodes old 4) (fields_open (due_value nodes old) (old.offset + 4 + len))) × Stands nodes new
+
+-- the first inner type of a map stands in the table
+abbrev pub InnerStands : List Node → Value → Type 0
+InnerStands nodes v = (v.kind ≡ kind.Map) → (depth : ℕ) × Stand nodes (v.node + 1) 2 depth
 
 -- the length that has come of the item under way
 abbrev pub length_under : Under → Option ℕ

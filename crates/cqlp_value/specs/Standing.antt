@@ -194,6 +194,7 @@ pub record Stands (nodes : List Node) (d : State) : Type 0 where
   pub open_stand : AreOpen nodes d.rules 0 d.stop d.open_values
   pub within : d.offset + still_due d.next ≤ last_stop d.stop d.open_values
   pub next_stands : NextStands nodes d.rules d.open_values d.next
+  pub bounded : d.stop < 2 ^ 64
 
 -- an open value has a next item, whose type stands in the table
 abbrev pub HasNext : List Node → Open → Order → Type 0

@@ -12,7 +12,7 @@ ghost use Rattle.cqlp_value.specs.Numbers.{IsCounting};
 ghost use Rattle.cqlp_value.specs.Sizes.{is_counted};
 ghost use Rattle.cqlp_value.specs.Standing.{Stands, due_of, due_value, ended, state_of};
 ghost use Rattle.cqlp_value.specs.Coming.{room_of};
-ghost use Rattle.cqlp_value.specs.Reading.{Behind, Decided, Hands, HaveCome, Joined, Settles, part_size, sized_of, told};
+ghost use Rattle.cqlp_value.specs.Reading.{Behind, Decided, EntersCounted, EntersFields, HaveCome, InnerStands, Settles, inner_order as order_inside, part_size, sized_of, told};
 
 use crate::content::{accepts, fault};
 use crate::gather::{gather, lent};
@@ -60,6 +60,270 @@ impl<A: Allocator> Standing<A> {
         }
     }
 
+    /// Takes the next bytes of a list, a set or a map of so many bytes, whose length is read.
+    fn advance_count(&mut self, begun: bool, value: Value, len: u32, start: usize, partial: &mut Partial<A>, table: &TypeTable<A>, input: &[u8]) -> CellAdvance
+        requires stands { Stands table.now.nodes (state_of self.old) }
+        requires due { due_of (state_of self.old) ≡ due.Value }
+        requires value { value ≡ due_value table.now.nodes (state_of self.old) }
+        requires decided { Decided table.now.nodes (state_of self.old) len (size.Counted len) }
+        requires under_way { IsCounting begun (self.old.offset + 4) len start partial.old }
+        requires longest { self.old.limits.cell ≤ partial.old.room }
+        requires levels { self.old.levels.room ≡ self.old.limits.depth }
+        requires within { start ≤ length input.now }
+        requires front { start ≤ 4 }
+        ensures settles { let seen = seen_before begun partial.old in let bytes = seen ++ drop start input.now in Settles table.now.nodes (state_of self.old) partial.old input.now (says (sized_of table.now.nodes (state_of self.old) len) 4 bytes) ((4 - start) + length seen) (Behind len bytes) result (state_of self.new) partial.new }
+        ensures room { self.new.levels.room ≡ self.old.levels.room }
+    {
+        let at = self.offset + 4;
+        match take_number(partial, begun, at, at + u64::from(len), start, input) {
+            Number::More => {
+                self.under = Under::Counted(len);
+                CellAdvance::More { used: input.len() }
+            }
+            Number::Overrun => self.refuse(at, Reason::Overrun),
+            Number::Got { used, number } => {
+                if number > i32::MAX as u32 {
+                    return self.refuse(at, Reason::BadCount);
+                }
+                let at = self.offset;
+                let item = self.enter_counted(value, len, number, table);
+                CellAdvance::Item { at, used, item }
+            }
+        }
+    }
+
+    /// Goes on inside a list, a set or a map of so many bytes, which has so many elements or pairs.
+    fn enter_counted(&mut self, value: Value, len: u32, count: u32, table: &TypeTable<A>) -> CellOutline
+        requires stands { Stands table.now.nodes (state_of self.old) }
+        requires due { due_of (state_of self.old) ≡ due.Value }
+        requires value { value ≡ due_value table.now.nodes (state_of self.old) }
+        requires decided { Decided table.now.nodes (state_of self.old) len (size.Counted len) }
+        requires levels { self.old.levels.room ≡ self.old.limits.depth }
+        requires count { 4 ≤ len }
+        ensures item { result ≡ CellOutline.Enter (length self.old.levels.open_values) value.kind count }
+        ensures enters { EntersCounted table.now.nodes (state_of self.old) len count (state_of self.new) }
+        ensures room { self.new.levels.room ≡ self.old.levels.room }
+    {
+        let _nodes = table.len();
+        let level = self.levels.len();
+        let stop = self.offset + 4 + u64::from(len);
+        let (order, other) = inner_order(value, table);
+        self.pass(8, table);
+        self.levels.push(Open {
+            order,
+            node: value.node + 1,
+            other,
+            left: count,
+            items: count,
+            stop,
+        });
+        CellOutline::Enter {
+            level,
+            kind: value.kind,
+            items: count,
+        }
+    }
+
+    /// Goes on inside a tuple or a user-defined type of so many bytes.
+    fn enter_fields(&mut self, value: Value, len: u32, table: &TypeTable<A>) -> CellOutline
+        requires stands { Stands table.now.nodes (state_of self.old) }
+        requires due { due_of (state_of self.old) ≡ due.Value }
+        requires value { value ≡ due_value table.now.nodes (state_of self.old) }
+        requires decided { Decided table.now.nodes (state_of self.old) len (size.Fields len) }
+        requires levels { self.old.levels.room ≡ self.old.limits.depth }
+        ensures item { result ≡ CellOutline.Enter (length self.old.levels.open_values) value.kind value.arity }
+        ensures enters { EntersFields table.now.nodes (state_of self.old) len (state_of self.new) }
+        ensures room { self.new.levels.room ≡ self.old.levels.room }
+    {
+        let _nodes = table.len();
+        let level = self.levels.len();
+        let stop = self.offset + 4 + u64::from(len);
+        let arity = u32::from(value.arity);
+        self.pass(4, table);
+        self.levels.push(Open {
+            order: Order::Fields,
+            node: value.node + 1,
+            other: 0,
+            left: arity,
+            items: 0,
+            stop,
+        });
+        CellOutline::Enter {
+            level,
+            kind: value.kind,
+            items: arity,
+        }
+    }
+
+    /// Takes the next bytes of the first part of a scalar of so many bytes, whose length is read.
+    fn advance_first(&mut self, begun: bool, total: u32, start: usize, partial: &mut Partial<A>, table: &TypeTable<A>, input: &[u8]) -> CellAdvance
+        requires stands { Stands table.now.nodes (state_of self.old) }
+        requires due { due_of (state_of self.old) ≡ due.Value }
+        requires decided { Decided table.now.nodes (state_of self.old) total (size.Parts total) }
+        requires under_way { IsGathering begun self.old.limits.cell (self.old.offset + 4) start partial.old }
+        requires longest { self.old.limits.cell ≤ partial.old.room }
+        requires parts { 0 < self.old.limits.cell }
+        requires within { start ≤ length input.now }
+        requires front { start ≤ 4 }
+        ensures settles { let seen = seen_before begun partial.old in let bytes = seen ++ drop start input.now in Settles table.now.nodes (state_of self.old) partial.old input.now (says (sized_of table.now.nodes (state_of self.old) total) 4 bytes) ((4 - start) + length seen) (Behind total bytes) result (state_of self.new) partial.new }
+        ensures room { self.new.levels.room ≡ self.old.levels.room }
+    {
+        let at = self.offset + 4;
+        let size = self.limits.cell;
+        let Some(found) = gather(partial, begun, size, at, start, input) else {
+            self.under = Under::First(total);
+            return CellAdvance::More { used: input.len() };
+        };
+        let level = self.levels.len();
+        self.pass(4 + u64::from(size), table);
+        self.next = Next::Part {
+            offset: size,
+            total,
+        };
+        CellAdvance::Item {
+            at,
+            used: found.used,
+            item: CellOutline::Part {
+                level,
+                offset: 0,
+                content: found.content,
+                last: false,
+            },
+        }
+    }
+
+    /// Takes the next bytes of a later part of a scalar of `total` bytes, from this offset in it.
+    fn advance_part(&mut self, begun: bool, offset: u32, total: u32, partial: &mut Partial<A>, table: &TypeTable<A>, input: &[u8]) -> CellAdvance
+        requires stands { Stands table.now.nodes (state_of self.old) }
+        requires next { self.old.next ≡ next.Part offset total }
+        requires under_way { IsGathering begun (part_size (state_of self.old) offset total) self.old.offset 0 partial.old }
+        requires longest { self.old.limits.cell ≤ partial.old.room }
+        ensures settles { let bytes = seen_before begun partial.old ++ input.now in Settles table.now.nodes (state_of self.old) partial.old input.now (told table.now.nodes (state_of self.old) bytes) (length (seen_before begun partial.old)) (HaveCome bytes) result (state_of self.new) partial.new }
+        ensures room { self.new.levels.room ≡ self.old.levels.room }
+    {
+        let left = total - offset;
+        let size = self.limits.cell.min(left);
+        let Some(found) = gather(partial, begun, size, self.offset, 0, input) else {
+            self.under = Under::Later;
+            return CellAdvance::More { used: input.len() };
+        };
+        let at = self.offset;
+        let last = left <= self.limits.cell;
+        self.offset += u64::from(size);
+        self.under = Under::Nothing;
+        self.next = if last {
+            Next::Items
+        } else {
+            Next::Part {
+                offset: offset + size,
+                total,
+            }
+        };
+        CellAdvance::Item {
+            at,
+            used: found.used,
+            item: CellOutline::Part {
+                level: self.levels.len(),
+                offset,
+                content: found.content,
+                last,
+            },
+        }
+    }
+
+    /// Goes on behind the length of a value, which ends behind so many bytes of the input.
+    fn settle(&mut self, value: Value, number: u32, start: usize, partial: &mut Partial<A>, table: &TypeTable<A>, input: &[u8]) -> CellAdvance
+        requires stands { Stands table.now.nodes (state_of self.old) }
+        requires due { due_of (state_of self.old) ≡ due.Value }
+        requires value { value ≡ due_value table.now.nodes (state_of self.old) }
+        requires room { 4 ≤ room_of table.now.nodes (state_of self.old) }
+        requires idle { partial.old.under_way ≡ false }
+        requires longest { self.old.limits.cell ≤ partial.old.room }
+        requires levels { self.old.levels.room ≡ self.old.limits.depth }
+        requires parts { self.old.limits.parts ≡ true → 0 < self.old.limits.cell }
+        requires within { start ≤ length input.now }
+        requires front { start ≤ 4 }
+        ensures settles { let bytes = seen_before false partial.old ++ drop start input.now in Settles table.now.nodes (state_of self.old) partial.old input.now (says (sized_of table.now.nodes (state_of self.old) number) 4 bytes) ((4 - start) + length (seen_before false partial.old)) (Behind number bytes) result (state_of self.new) partial.new }
+        ensures room { self.new.levels.room ≡ self.old.levels.room }
+    {
+        let at = self.offset;
+        let level = self.levels.len();
+        let item = match size_up(&self.limits, value.kind, value.stop - at, number) {
+            Sized::Scalar(len) => {
+                return self.advance_scalar(false, value, len, start, partial, table, input);
+            }
+            Sized::Parts(len) => {
+                return self.advance_first(false, len, start, partial, table, input);
+            }
+            Sized::Counted(len) => {
+                return self.advance_count(false, value, len, start, partial, table, input);
+            }
+            Sized::Refused(why) => return self.refuse(at, why),
+            Sized::Fields(len) => self.enter_fields(value, len, table),
+            Sized::Null => {
+                self.pass(4, table);
+                CellOutline::Null { level }
+            }
+            Sized::Empty => {
+                self.pass(4, table);
+                CellOutline::Empty { level }
+            }
+        };
+        CellAdvance::Item {
+            at,
+            used: start,
+            item,
+        }
+    }
+
+    /// Takes the next bytes of a value whose length is not read.
+    fn advance_length(&mut self, begun: bool, partial: &mut Partial<A>, table: &TypeTable<A>, input: &[u8]) -> CellAdvance
+        requires stands { Stands table.now.nodes (state_of self.old) }
+        requires due { due_of (state_of self.old) ≡ due.Value }
+        requires under_way { IsCounting begun self.old.offset (room_of table.now.nodes (state_of self.old)) 0 partial.old }
+        requires longest { self.old.limits.cell ≤ partial.old.room }
+        requires levels { self.old.levels.room ≡ self.old.limits.depth }
+        requires parts { self.old.limits.parts ≡ true → 0 < self.old.limits.cell }
+        ensures settles { let bytes = seen_before begun partial.old ++ input.now in Settles table.now.nodes (state_of self.old) partial.old input.now (told table.now.nodes (state_of self.old) bytes) (length (seen_before begun partial.old)) (HaveCome bytes) result (state_of self.new) partial.new }
+        ensures room { self.new.levels.room ≡ self.old.levels.room }
+    {
+        let value = self.value(table);
+        match take_number(partial, begun, self.offset, value.stop, 0, input) {
+            Number::More => {
+                self.under = Under::Length;
+                CellAdvance::More { used: input.len() }
+            }
+            Number::Overrun => self.refuse(self.offset, Reason::Overrun),
+            Number::Got { used, number } => {
+                self.settle(value, number, used, partial, table, input)
+            }
+        }
+    }
+
+    /// Ends the innermost value.
+    fn close(&mut self, value: Open, partial: &mut Partial<A>, table: &TypeTable<A>, input: &[u8]) -> CellAdvance
+        requires stands { Stands table.now.nodes (state_of self.old) }
+        requires due { due_of (state_of self.old) ≡ due.Close value }
+        requires fresh { self.old.under ≡ under.Nothing }
+        requires idle { partial.old.under_way ≡ false }
+        ensures settles { Settles table.now.nodes (state_of self.old) partial.old input.now (told table.now.nodes (state_of self.old) input.now) 0 (HaveCome input.now) result (state_of self.new) partial.new }
+        ensures room { self.new.levels.room ≡ self.old.levels.room }
+    {
+        let at = self.offset;
+        if at < value.stop {
+            return self.refuse(at, Reason::ExtraInValue);
+        }
+        self.levels.pop();
+        CellAdvance::Item {
+            at,
+            used: 0,
+            item: CellOutline::Leave {
+                level: self.levels.len(),
+                items: value.items,
+            },
+        }
+    }
+
     /// Ends the cell by a refusal of what begins at this offset.
     fn refuse(&mut self, at: u64, why: Reason) -> CellAdvance
         ensures answer { result ≡ CellAdvance.Refused (record { at = at; why = why }) }
@@ -68,5 +332,20 @@ impl<A: Allocator> Standing<A> {
     {
         self.end();
         CellAdvance::Refused(Refusal { at, why })
+    }
+}
+
+/// How the items of a list, a set or a map follow one another, and the node of a map's second type.
+fn inner_order<A: Allocator>(value: Value, table: &TypeTable<A>) -> (Order, u32)
+    requires { InnerStands table.now.nodes value }
+    ensures { result ≡ order_inside table.now.nodes value }
+{
+    match value.kind {
+        Kind::Map => {
+            let _nodes = table.len();
+            let key = value.node + 1;
+            (Order::Keys, key + table.node(key).unwrap().span)
+        }
+        _ => (Order::Elements, 0),
     }
 }
