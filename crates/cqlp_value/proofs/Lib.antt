@@ -9,3 +9,4 @@ pub mod Coming
 pub mod Handing
 pub mod Entering
 pub mod Counting
+pub mod Parting

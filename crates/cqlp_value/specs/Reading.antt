@@ -1,5 +1,5 @@
 -- What one call makes of a cell.
-use Rattle.std.specs.Prelude.{◌≡◌, ℕ, ◌+◌, ◌-◌, ◌^◌, ◌<◌, ◌≤◌, ◌++◌, false, List, [], ◌∷◌, length, take, drop, min, true, Option, Some, None, ⊤}
+use Rattle.std.specs.Prelude.{◌≡◌, ℕ, ◌+◌, ◌-◌, ◌^◌, ◌<◌, ◌≤◌, ◌++◌, Bool, false, List, [], ◌∷◌, length, take, drop, min, true, Option, Some, None, ⊤}
 use Rattle.std.specs.Int.{w32, from_be_bytes}
 use Rattle.cqlp_note.specs.declared.refusal.Reason.{Reason}
 use Rattle.cqlp_note.specs.declared.refusal.Refusal.{Refusal}
@@ -40,6 +40,11 @@ Saying = Said (Emitted CellEvent CellPlace) (ℕ × Reason)
 -- the bytes of the next part
 abbrev pub part_size : State → (offset total : ℕ) → ℕ
 part_size d offset total = min d.rules.cell (total - offset)
+
+-- what is read behind a part
+abbrev pub next_behind : (last : Bool) → (offset total : ℕ) → Next
+next_behind true offset total = next.Items
+next_behind false offset total = next.Part offset total
 
 module _ (nodes : List Node) where
   -- what the next step says of these bytes

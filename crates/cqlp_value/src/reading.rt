@@ -12,7 +12,7 @@ ghost use Rattle.cqlp_value.specs.Numbers.{IsCounting};
 ghost use Rattle.cqlp_value.specs.Sizes.{is_counted};
 ghost use Rattle.cqlp_value.specs.Standing.{Stands, due_of, due_value, ended, state_of};
 ghost use Rattle.cqlp_value.specs.Coming.{room_of};
-ghost use Rattle.cqlp_value.specs.Reading.{Behind, Decided, EntersCounted, EntersFields, HaveCome, InnerStands, Settles, inner_order as order_inside, part_size, sized_of, told};
+ghost use Rattle.cqlp_value.specs.Reading.{Behind, Decided, EntersCounted, EntersFields, HaveCome, InnerStands, Settles, inner_order as order_inside, next_behind, part_size, sized_of, told};
 
 use crate::content::{accepts, fault};
 use crate::gather::{gather, lent};
@@ -211,14 +211,7 @@ impl<A: Allocator> Standing<A> {
         let last = left <= self.limits.cell;
         self.offset += u64::from(size);
         self.under = Under::Nothing;
-        self.next = if last {
-            Next::Items
-        } else {
-            Next::Part {
-                offset: offset + size,
-                total,
-            }
-        };
+        self.next = next_part(last, offset + size, total);
         CellAdvance::Item {
             at,
             used: found.used,
@@ -332,6 +325,17 @@ impl<A: Allocator> Standing<A> {
     {
         self.end();
         CellAdvance::Refused(Refusal { at, why })
+    }
+}
+
+/// What is read behind a part.
+fn next_part(last: bool, offset: u32, total: u32) -> Next
+    ensures { result ≡ next_behind last offset total }
+{
+    if last {
+        Next::Items
+    } else {
+        Next::Part { offset, total }
     }
 }
 
