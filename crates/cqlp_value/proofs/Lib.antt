@@ -9,4 +9,5 @@ pub mod Coming
 pub mod Handing
 pub mod Entering
 pub mod Counting
+pub mod Settling
 pub mod Parting

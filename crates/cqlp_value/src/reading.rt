@@ -10,7 +10,7 @@ ghost use Rattle.cqlp_value.specs.declared.standing.Under.TheVariants as under;
 ghost use Rattle.cqlp_value.specs.Gathering.{IsGathering, seen_before};
 ghost use Rattle.cqlp_value.specs.Numbers.{IsCounting};
 ghost use Rattle.cqlp_value.specs.Sizes.{is_counted};
-ghost use Rattle.cqlp_value.specs.Standing.{Stands, due_of, due_value, ended, state_of};
+ghost use Rattle.cqlp_value.specs.Standing.{Stands, due_of, due_value, ended, moved, state_of};
 ghost use Rattle.cqlp_value.specs.Coming.{room_of};
 ghost use Rattle.cqlp_value.specs.Reading.{Behind, Decided, EntersCounted, EntersFields, HaveCome, InnerStands, Settles, inner_order as order_inside, next_behind, part_size, sized_of, told};
 
@@ -241,32 +241,40 @@ impl<A: Allocator> Standing<A> {
     {
         let at = self.offset;
         let level = self.levels.len();
-        let item = match size_up(&self.limits, value.kind, value.stop - at, number) {
+        match size_up(&self.limits, value.kind, value.stop - at, number) {
+            Sized::Null => self.pass_length(CellOutline::Null { level }, start, table),
+            Sized::Empty => self.pass_length(CellOutline::Empty { level }, start, table),
             Sized::Scalar(len) => {
-                return self.advance_scalar(false, value, len, start, partial, table, input);
+                self.advance_scalar(false, value, len, start, partial, table, input)
             }
-            Sized::Parts(len) => {
-                return self.advance_first(false, len, start, partial, table, input);
-            }
+            Sized::Parts(len) => self.advance_first(false, len, start, partial, table, input),
             Sized::Counted(len) => {
-                return self.advance_count(false, value, len, start, partial, table, input);
+                self.advance_count(false, value, len, start, partial, table, input)
             }
-            Sized::Refused(why) => return self.refuse(at, why),
-            Sized::Fields(len) => self.enter_fields(value, len, table),
-            Sized::Null => {
-                self.pass(4, table);
-                CellOutline::Null { level }
+            Sized::Fields(len) => {
+                let item = self.enter_fields(value, len, table);
+                CellAdvance::Item {
+                    at,
+                    used: start,
+                    item,
+                }
             }
-            Sized::Empty => {
-                self.pass(4, table);
-                CellOutline::Empty { level }
-            }
-        };
-        CellAdvance::Item {
-            at,
-            used: start,
-            item,
+            Sized::Refused(why) => self.refuse(at, why),
         }
+    }
+
+    /// Goes on behind a value that has a length alone.
+    fn pass_length(&mut self, item: CellOutline, used: usize, table: &TypeTable<A>) -> CellAdvance
+        requires stands { Stands table.now.nodes (state_of self.old) }
+        requires due { due_of (state_of self.old) ≡ due.Value }
+        requires place { self.old.offset + 4 < 2 ^ 64 }
+        ensures answer { result ≡ CellAdvance.Item self.old.offset used item }
+        ensures state { state_of self.new ≡ moved table.now.nodes (state_of self.old) 4 }
+        ensures room { self.new.levels.room ≡ self.old.levels.room }
+    {
+        let at = self.offset;
+        self.pass(4, table);
+        CellAdvance::Item { at, used, item }
     }
 
     /// Takes the next bytes of a value whose length is not read.
