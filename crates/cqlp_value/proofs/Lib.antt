@@ -9,5 +9,6 @@ pub mod Coming
 pub mod Handing
 pub mod Entering
 pub mod Counting
+pub mod Lengths
 pub mod Settling
 pub mod Parting
