@@ -53,7 +53,7 @@ same_number nodes d m n h = elim (cases_lt m (2 ^ 31)) [
 ]
 
 -- the bytes of a length, and those behind it
-come_behind : (n : ℕ) (bytes rest : List ℕ) (u : Under) (seen : List ℕ) → AreBytes (Some n) rest bytes → Behind n rest u seen → HaveCome bytes u seen
+pub come_behind : (n : ℕ) (bytes rest : List ℕ) (u : Under) (seen : List ℕ) → AreBytes (Some n) rest bytes → Behind n rest u seen → HaveCome bytes u seen
 come_behind n bytes rest under.Nothing seen h b = absurd cc
 come_behind n bytes rest under.Length seen h b = absurd cc
 come_behind n bytes rest (under.Scalar m) seen h b = let e : m ≡ n = cc in rw (e, b.1) h

@@ -187,3 +187,12 @@ seen_under _ seen = seen
 -- these bytes have come
 abbrev pub HaveCome : (bytes : List ℕ) → Under → (seen : List ℕ) → Type 0
 HaveCome bytes u seen = AreBytes (length_under u) (seen_under u seen) bytes
+
+-- What the end of the innermost value does, whatever table and `Partial` there are.
+abbrev pub Closes : State → CellAdvance → State → Type 0
+Closes old a new = (nodes : List Node) (p : Progress) (input : List ℕ) → Stands nodes old → p.under_way ≡ false → Settles nodes old p input (told nodes old input) 0 (HaveCome input) a new p
+
+-- A call ends a cell that is whole, or it does what the step says of the bytes that have come and the input.
+abbrev pub Moves : List Node → State → Progress → List ℕ → CellAdvance → State → Progress → Type 0
+Moves nodes old p input advance.Done new q = (due_of old ≡ due.Nothing) × (old.under ≡ under.Nothing) × (new ≡ ended old) × (q ≡ p)
+Moves nodes old p input a new q = (b : List ℕ) → HaveCome b old.under p.seen → Settles nodes old p input (told nodes old (b ++ input)) (length b) (HaveCome (b ++ input)) a new q

@@ -12,7 +12,7 @@ ghost use Rattle.cqlp_value.specs.Numbers.{IsCounting};
 ghost use Rattle.cqlp_value.specs.Sizes.{is_counted};
 ghost use Rattle.cqlp_value.specs.Standing.{Stands, due_of, due_value, ended, moved, state_of};
 ghost use Rattle.cqlp_value.specs.Coming.{room_of};
-ghost use Rattle.cqlp_value.specs.Reading.{Behind, Decided, EntersCounted, EntersFields, HaveCome, InnerStands, Settles, inner_order as order_inside, next_behind, part_size, sized_of, told};
+ghost use Rattle.cqlp_value.specs.Reading.{Behind, Closes, Decided, EntersCounted, EntersFields, HaveCome, InnerStands, Joined, Moves, Settles, inner_order as order_inside, next_behind, part_size, sized_of, told};
 
 use crate::content::{accepts, fault};
 use crate::gather::{gather, lent};
@@ -26,6 +26,48 @@ use cqlp_type::{Kind, TypeTable};
 use std::alloc::Allocator;
 
 impl<A: Allocator> Standing<A> {
+    /// Takes the next bytes of the cell.
+    pub(crate) fn advance(&mut self, partial: &mut Partial<A>, table: &TypeTable<A>, input: &[u8]) -> CellAdvance
+        requires stands { Stands table.now.nodes (state_of self.old) }
+        requires joined { Joined table.now.nodes (state_of self.old) partial.old }
+        requires levels { self.old.levels.room ≡ self.old.limits.depth }
+        requires parts { self.old.limits.parts ≡ true → 0 < self.old.limits.cell }
+        ensures moves { Moves table.now.nodes (state_of self.old) partial.old input.now result (state_of self.new) partial.new }
+        ensures room { self.new.levels.room ≡ self.old.levels.room }
+    {
+        match self.under {
+            Under::Nothing => match self.due() {
+                Due::Nothing => {
+                    self.end();
+                    CellAdvance::Done
+                }
+                Due::Close(value) => self.close(value),
+                Due::Value => self.advance_length(false, partial, table, input),
+                Due::Part { offset, total } => {
+                    self.advance_part(false, offset, total, partial, table, input)
+                }
+            },
+            Under::Length => self.advance_length(true, partial, table, input),
+            Under::Scalar(len) => {
+                let value = self.value(table);
+                self.advance_scalar(true, value, len, 0, partial, table, input)
+            }
+            Under::Counted(len) => {
+                let value = self.value(table);
+                self.advance_count(true, value, len, 0, partial, table, input)
+            }
+            Under::First(total) => self.advance_first(true, total, 0, partial, table, input),
+            Under::Later => match self.next {
+                Next::Part { offset, total } => {
+                    self.advance_part(true, offset, total, partial, table, input)
+                }
+                Next::Nothing => unreachable!(),
+                Next::Cell(_) => unreachable!(),
+                Next::Items => unreachable!(),
+            },
+        }
+    }
+
     /// Takes the next bytes of a scalar of so many bytes, whose length is read.
     fn advance_scalar(&mut self, begun: bool, value: Value, len: u32, start: usize, partial: &mut Partial<A>, table: &TypeTable<A>, input: &[u8]) -> CellAdvance
         requires stands { Stands table.now.nodes (state_of self.old) }
@@ -302,12 +344,10 @@ impl<A: Allocator> Standing<A> {
     }
 
     /// Ends the innermost value.
-    fn close(&mut self, value: Open, partial: &mut Partial<A>, table: &TypeTable<A>, input: &[u8]) -> CellAdvance
-        requires stands { Stands table.now.nodes (state_of self.old) }
+    fn close(&mut self, value: Open) -> CellAdvance
         requires due { due_of (state_of self.old) ≡ due.Close value }
         requires fresh { self.old.under ≡ under.Nothing }
-        requires idle { partial.old.under_way ≡ false }
-        ensures settles { Settles table.now.nodes (state_of self.old) partial.old input.now (told table.now.nodes (state_of self.old) input.now) 0 (HaveCome input.now) result (state_of self.new) partial.new }
+        ensures closes { Closes (state_of self.old) result (state_of self.new) }
         ensures room { self.new.levels.room ≡ self.old.levels.room }
     {
         let at = self.offset;
