@@ -7,6 +7,7 @@ use Rattle.cqlp_note.specs.Reader.{More, Bad, Got, says}
 use Rattle.cqlp_note.specs.Partial.{Progress}
 use Rattle.cqlp_type.specs.declared.node.Node.{Node}
 use Rattle.cqlp_value.specs.declared.item.CellAdvance.{CellAdvance}
+use Rattle.cqlp_value.specs.declared.item.CellAdvance.TheVariants as advance
 use Rattle.cqlp_value.specs.declared.item.CellOutline.TheVariants as outline
 use Rattle.cqlp_value.specs.declared.levels.Open.{Open}
 use Rattle.cqlp_value.specs.declared.standing.Next.{Next}
@@ -19,7 +20,7 @@ use Rattle.cqlp_value.specs.CellStep.{Leave, CellPlace, place_after}
 use Rattle.cqlp_value.specs.Levels.{last_open, but_last}
 use Rattle.cqlp_value.specs.Standing.{State, ended, levels_symbols, place, close_if, is_over, due_in, due_of, AreOpen, last_stop, Stands}
 use Rattle.cqlp_value.specs.Coming.{room_of, ValueDue}
-use Rattle.cqlp_value.specs.Reading.{told, sized_of, Hands, Fails, Settles, Behind, AreBytes, HaveCome}
+use Rattle.cqlp_value.specs.Reading.{Saying, told, sized_of, Hands, Fails, Settles, Moves, Behind, AreBytes, HaveCome}
 use Rattle.cqlp_value.proofs.Nesting.{but_last_is}
 use Rattle.cqlp_value.proofs.Opened.{Inmost, close_next}
 use Rattle.cqlp_value.proofs.Coming.{value_due, close_is}
@@ -99,3 +100,15 @@ module _ (nodes : List Node) (old : State) (p : Progress) (input : List ℕ) (n 
       let said : says (sized_of nodes old n) 4 (p.seen ++ input) ≡ told nodes old (b ++ input) = sym (length_whole nodes old due (b ++ input) room long ∙ rw (number, behind) refl) in
       let base : 4 + length p.seen ≡ length b = rw h.3 (omega (arith, length-append h.0 p.seen, h.1)) in
       settles_as nodes old p input _ _ _ _ _ _ a new q said base (λ u seen w. come_behind n (b ++ input) (p.seen ++ input) u seen (h.0, h.1, h.2, all) w) s
+
+-- a call that settles does not end the cell
+pub moves_by : (nodes : List Node) (old : State) (p : Progress) (input : List ℕ) (said : Saying) (base : ℕ) (W : Under → List ℕ → Type 0) (a : CellAdvance) (new : State) (q : Progress) → Settles nodes old p input said base W a new q
+    → ((b : List ℕ) → HaveCome b old.under p.seen → Settles nodes old p input (told nodes old (b ++ input)) (length b) (HaveCome (b ++ input)) a new q) → Moves nodes old p input a new q
+moves_by nodes old p input said base W (advance.More used) new q h f = f
+moves_by nodes old p input said base W (advance.Item at used i) new q h f = f
+moves_by nodes old p input said base W advance.Done new q h f = absurd h
+moves_by nodes old p input said base W (advance.Refused r) new q h f = f
+
+-- where nothing had come
+pub moves_afresh : (nodes : List Node) (old : State) (p : Progress) (input : List ℕ) (a : CellAdvance) (new : State) (q : Progress) → old.under ≡ under.Nothing → Settles nodes old p input (told nodes old input) 0 (HaveCome input) a new q → Moves nodes old p input a new q
+moves_afresh nodes old p input a new q fresh h = moves_by nodes old p input _ _ _ a new q h (λ b come. let none : b ≡ [] = rw fresh at come in rw none h)
