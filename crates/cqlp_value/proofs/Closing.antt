@@ -1,5 +1,5 @@
 -- The end of a value, and what goes on.
-use Rattle.std.proofs.Common.{◌≡◌, ℕ, ◌+◌, ◌-◌, ◌^◌, ◌<◌, ◌≤◌, Bool, true, false, ltb, List, [], ◌∷◌, ◌++◌, length, take, drop, Option, Some, None, refl, sym, ap, subst, ◌∙◌, append_assoc, arith, inl, inr, lt-ltb, le-ltb}
+use Rattle.std.proofs.Common.{◌≡◌, ◌≢◌, ℕ, ◌+◌, ◌-◌, ◌^◌, ◌<◌, ◌≤◌, Bool, true, false, ltb, List, [], ◌∷◌, ◌++◌, length, take, drop, Option, Some, None, refl, sym, ap, subst, ◌∙◌, append_assoc, arith, inl, inr, lt-ltb, le-ltb}
 use Rattle.std.specs.Int.{w32, from_be_bytes}
 use Rattle.std.proofs.lemmas.List.{length-append, take_at, drop_at}
 use Rattle.cqlp_note.specs.declared.refusal.Reason.TheVariants.{ExtraInValue}
@@ -20,7 +20,7 @@ use Rattle.cqlp_value.specs.CellStep.{Leave, CellPlace, place_after}
 use Rattle.cqlp_value.specs.Levels.{last_open, but_last}
 use Rattle.cqlp_value.specs.Standing.{State, ended, levels_symbols, place, close_if, is_over, due_in, due_of, AreOpen, last_stop, Stands}
 use Rattle.cqlp_value.specs.Coming.{room_of, ValueDue}
-use Rattle.cqlp_value.specs.Reading.{Saying, told, sized_of, Hands, Fails, Settles, Moves, Behind, AreBytes, HaveCome}
+use Rattle.cqlp_value.specs.Reading.{Saying, told, sized_of, Hands, Fails, Settles, Moves, Answers, Behind, AreBytes, HaveCome}
 use Rattle.cqlp_value.proofs.Nesting.{but_last_is}
 use Rattle.cqlp_value.proofs.Opened.{Inmost, close_next}
 use Rattle.cqlp_value.proofs.Coming.{value_due, close_is}
@@ -112,3 +112,22 @@ moves_by nodes old p input said base W (advance.Refused r) new q h f = f
 -- where nothing had come
 pub moves_afresh : (nodes : List Node) (old : State) (p : Progress) (input : List ℕ) (a : CellAdvance) (new : State) (q : Progress) → old.under ≡ under.Nothing → Settles nodes old p input (told nodes old input) 0 (HaveCome input) a new q → Moves nodes old p input a new q
 moves_afresh nodes old p input a new q fresh h = moves_by nodes old p input _ _ _ a new q h (λ b come. let none : b ≡ [] = rw fresh at come in rw none h)
+
+-- such a call has not been asked to end it
+pub settles_answers : (nodes : List Node) (old : State) (p : Progress) (input : List ℕ) (said : Saying) (base : ℕ) (W : Under → List ℕ → Type 0) (a : CellAdvance) (new : State) (q : Progress) → Settles nodes old p input said base W a new q → due_of old ≢ due.Nothing → Answers old input a
+settles_answers nodes old p input said base W (advance.More used) new q h some = (h.0.all, some)
+settles_answers nodes old p input said base W (advance.Item at used i) new q h some = (h.within, some)
+settles_answers nodes old p input said base W advance.Done new q h some = absurd h
+settles_answers nodes old p input said base W (advance.Refused r) new q h some = some
+
+pub value_some : (d : State) → due_of d ≡ due.Value → due_of d ≢ due.Nothing
+value_some d v n = let no : ◌≡◌ {A = Due} due.Value due.Nothing = sym v ∙ n in absurd cc
+
+pub close_some : (d : State) (o : Open) → due_of d ≡ due.Close o → due_of d ≢ due.Nothing
+close_some d o v n = let no : ◌≡◌ {A = Due} (due.Close o) due.Nothing = sym v ∙ n in absurd cc
+
+pub part_some : (d : State) (offset total : ℕ) → due_of d ≡ due.Part offset total → due_of d ≢ due.Nothing
+part_some d offset total v n = let no : ◌≡◌ {A = Due} (due.Part offset total) due.Nothing = sym v ∙ n in absurd cc
+
+pub later_some : (d : State) (offset total : ℕ) → d.next ≡ next.Part offset total → due_of d ≢ due.Nothing
+later_some d offset total e = part_some d offset total (rw e refl)

@@ -7,6 +7,7 @@ pub mod Numbers
 pub mod Sizes
 pub mod Coming
 pub mod Reading
+pub mod Pushing
 pub mod Standing
 pub mod Inner
 pub mod Levels

@@ -1,5 +1,5 @@
 -- What one call makes of a cell.
-use Rattle.std.specs.Prelude.{◌≡◌, ℕ, ◌+◌, ◌-◌, ◌^◌, ◌<◌, ◌≤◌, ◌++◌, Bool, false, List, [], ◌∷◌, length, take, drop, min, true, Option, Some, None, ⊤}
+use Rattle.std.specs.Prelude.{◌≡◌, ◌≢◌, ℕ, ◌+◌, ◌-◌, ◌^◌, ◌<◌, ◌≤◌, ◌++◌, Bool, false, List, [], ◌∷◌, length, take, drop, min, true, Option, Some, None, ⊤}
 use Rattle.std.specs.Int.{w32, from_be_bytes}
 use Rattle.cqlp_note.specs.declared.refusal.Reason.{Reason}
 use Rattle.cqlp_note.specs.declared.refusal.Refusal.{Refusal}
@@ -196,3 +196,11 @@ Closes old a new = (nodes : List Node) (p : Progress) (input : List ℕ) → Sta
 abbrev pub Moves : List Node → State → Progress → List ℕ → CellAdvance → State → Progress → Type 0
 Moves nodes old p input advance.Done new q = (due_of old ≡ due.Nothing) × (old.under ≡ under.Nothing) × (new ≡ ended old) × (q ≡ p)
 Moves nodes old p input a new q = (b : List ℕ) → HaveCome b old.under p.seen → Settles nodes old p input (told nodes old (b ++ input)) (length b) (HaveCome (b ++ input)) a new q
+
+-- A call ends the cell where nothing is left of it, and only there; else it uses no more than the input, and all of it
+-- while an item goes on.
+abbrev pub Answers : State → List ℕ → CellAdvance → Type 0
+Answers old input (advance.More used) = (used ≡ length input) × (due_of old ≢ due.Nothing)
+Answers old input (advance.Item at used i) = (used ≤ length input) × (due_of old ≢ due.Nothing)
+Answers old input advance.Done = due_of old ≡ due.Nothing
+Answers old input (advance.Refused r) = due_of old ≢ due.Nothing

@@ -6,6 +6,7 @@ mod gather;
 mod item;
 mod levels;
 mod number;
+mod reader;
 mod reading;
 mod scalars;
 mod size;
@@ -13,4 +14,5 @@ mod standing;
 
 pub use content::scalar;
 pub use item::{CellAdvance, CellItem, CellOutline, CellPush};
+pub use reader::CellReader;
 pub use scalars::Scalar;

@@ -12,7 +12,7 @@ ghost use Rattle.cqlp_value.specs.Numbers.{IsCounting};
 ghost use Rattle.cqlp_value.specs.Sizes.{is_counted};
 ghost use Rattle.cqlp_value.specs.Standing.{Stands, due_of, due_value, ended, moved, state_of};
 ghost use Rattle.cqlp_value.specs.Coming.{room_of};
-ghost use Rattle.cqlp_value.specs.Reading.{Behind, Closes, Decided, EntersCounted, EntersFields, HaveCome, InnerStands, Joined, Moves, Settles, inner_order as order_inside, next_behind, part_size, sized_of, told};
+ghost use Rattle.cqlp_value.specs.Reading.{Answers, Behind, Closes, Decided, EntersCounted, EntersFields, HaveCome, InnerStands, Joined, Moves, Settles, inner_order as order_inside, next_behind, part_size, sized_of, told};
 
 use crate::content::{accepts, fault};
 use crate::gather::{gather, lent};
@@ -33,6 +33,7 @@ impl<A: Allocator> Standing<A> {
         requires levels { self.old.levels.room ≡ self.old.limits.depth }
         requires parts { self.old.limits.parts ≡ true → 0 < self.old.limits.cell }
         ensures moves { Moves table.now.nodes (state_of self.old) partial.old input.now result (state_of self.new) partial.new }
+        ensures answers { Answers (state_of self.old) input.now result }
         ensures room { self.new.levels.room ≡ self.old.levels.room }
     {
         match self.under {

@@ -1,6 +1,6 @@
 use Rattle.std.proofs.Common.{◌≡◌, ◌+◌, ◌++◌, length, List, refl, ap, sym, ◌∙◌, arith}
 use Rattle.cqlp_value.specs.Standing.{state_of}
-use Rattle.cqlp_value.proofs.Closing.{resumed, moves_by, moves_afresh}
+use Rattle.cqlp_value.proofs.Closing.{resumed, moves_by, moves_afresh, settles_answers, close_some}
 use Rattle.cqlp_value.proofs.standing.Standing.advance.Goals as goal
 
 pub returns-in-Close-clause-moves : goal.returns-in-Close-clause-moves
@@ -39,3 +39,11 @@ returns-in-First-clause-moves g c =
     let s = c.advance_first.ensures.settles in
     moves_by nodes old c.args.partial.now c.args.input.now _ _ _ c.advance_first.result (state_of c.advance_first.new.self) c.advance_first.new.partial s
       (λ b come. resumed nodes old c.args.partial.now c.args.input.now c.in-First.total r.stands under.0 (omega (arith, under.2.fits.0)) b _ _ _ (rw c.in-First.is at come) s)
+
+pub returns-in-Close-clause-answers : goal.returns-in-Close-clause-answers
+returns-in-Close-clause-answers g c =
+    let r = c.requires in
+    let nodes = c.args.table.now.nodes in
+    let idle = rw c.in-Nothing.is at r.joined.under_way in
+    settles_answers nodes (state_of c.args.self.now) c.args.partial.now c.args.input.now _ _ _ c.close.result (state_of c.close.new.self) c.args.partial.now (c.close.ensures.closes nodes c.args.partial.now c.args.input.now r.stands idle)
+      (close_some (state_of c.args.self.now) _ (sym c.due.ensures ∙ c.in-Close.is))
