@@ -18,7 +18,7 @@ use Rattle.cqlp_value.specs.declared.standing.Due.{Due}
 use Rattle.cqlp_value.specs.declared.standing.Due.TheVariants as due
 use Rattle.cqlp_value.specs.CellStep.{Leave, CellPlace, place_after}
 use Rattle.cqlp_value.specs.Levels.{last_open, but_last}
-use Rattle.cqlp_value.specs.Standing.{State, ended, levels_symbols, place, close_if, is_over, due_in, due_of, AreOpen, last_stop, Stands}
+use Rattle.cqlp_value.specs.Standing.{State, ended, is_some_next, levels_symbols, place, close_if, is_over, due_in, due_of, AreOpen, last_stop, Stands}
 use Rattle.cqlp_value.specs.Coming.{room_of, ValueDue}
 use Rattle.cqlp_value.specs.Reading.{Saying, told, sized_of, Hands, Fails, Settles, Moves, Answers, Behind, AreBytes, HaveCome}
 use Rattle.cqlp_value.proofs.Nesting.{but_last_is}
@@ -78,6 +78,7 @@ module _ (nodes : List Node) (d : State) (o : Open) (p : Progress) (input : List
         rules = refl;
         stop = refl;
         stands = fewer_stand nodes d m.front close_items m.innermost.around (omega (arith, m.inside, m.innermost.within)) stands.bounded;
+        goes_on = ap is_some_next close_items;
         fresh = fresh;
         idle = idle;
         longest = refl;

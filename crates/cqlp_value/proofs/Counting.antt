@@ -98,6 +98,7 @@ module _ (nodes : List Node) (old new : State) (n start used count : ℕ) (p q :
         rules = rw enters.0 refl;
         stop = rw enters.0 refl;
         stands = enters.1;
+        goes_on = rw enters.0 refl;
         fresh = rw enters.0 refl;
         idle = found.idle;
         longest = found.longest;

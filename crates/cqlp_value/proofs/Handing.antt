@@ -91,6 +91,7 @@ module _ (nodes : List Node) (old new : State) (n start : ℕ) (p q : Progress) 
         rules = refl;
         stop = refl;
         stands = moved_stands nodes old (4 + n) stands due (omega (arith, decided.fits.0, due.inside));
+        goes_on = refl;
         fresh = refl;
         idle = found.idle;
         longest = found.room;

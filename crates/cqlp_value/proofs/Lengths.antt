@@ -118,6 +118,7 @@ settles_from nodes old p mid input said base W (advance.Item at used i) new q e 
   rules = h.rules;
   stop = h.stop;
   stands = h.stands;
+  goes_on = h.goes_on;
   fresh = h.fresh;
   idle = h.idle;
   longest = h.longest ∙ e;

@@ -9,6 +9,7 @@ pub mod Coming
 pub mod Handing
 pub mod Entering
 pub mod Counting
+pub mod Leading
 pub mod Closing
 pub mod Lengths
 pub mod Settling

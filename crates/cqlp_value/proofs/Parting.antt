@@ -16,7 +16,7 @@ use Rattle.cqlp_value.specs.declared.standing.Due.TheVariants as due
 use Rattle.cqlp_value.specs.CellStep.{CellSymbol, Content_from, Part, CellPlace, place_after}
 use Rattle.cqlp_value.specs.Items.{content_at}
 use Rattle.cqlp_value.specs.Gathering.{Wants, Finds}
-use Rattle.cqlp_value.specs.Standing.{State, levels_symbols, place, due_value, open_after, moved, rest_of, due_of, last_stop, Stands}
+use Rattle.cqlp_value.specs.Standing.{State, is_some_next, levels_symbols, place, due_value, open_after, moved, rest_of, due_of, last_stop, Stands}
 use Rattle.cqlp_value.specs.Coming.{ValueDue}
 use Rattle.cqlp_value.specs.Reading.{Saying, told, sized_of, Decided, part_size, next_behind, Emits, Hands, Waits, Behind, HaveCome}
 use Rattle.cqlp_value.proofs.Opened.{last_stop_le}
@@ -87,6 +87,7 @@ module _ (nodes : List Node) (d : State) (same : d.rules.part ≡ d.rules.cell) 
         rules = refl;
         stop = refl;
         stands = first_stands s v some;
+        goes_on = refl;
         fresh = refl;
         idle = found.idle;
         longest = found.room;
@@ -155,6 +156,10 @@ module _ (nodes : List Node) (d : State) (same : d.rules.part ≡ d.rules.cell) 
     sym wants.seen,
   )
 
+  goes_on_behind : (last : Bool) → is_some_next (next_behind last (offset + its_size) total) ≡ true
+  goes_on_behind true = refl
+  goes_on_behind false = refl
+
   pub later_hands : (p q : Progress) (seen input : List ℕ) (f : Found) (new : State) (level : ℕ) (last : Bool) → Finds its_size 0 seen (seen ++ input) input f p q
       → last ≡ is_last → new ≡ record d { offset = d.offset + its_size; next = next_behind last (offset + its_size) total; under = under.Nothing } → level ≡ length d.open_values
       → Hands nodes d p input (told nodes d (seen ++ input)) (length seen) d.offset f.used (outline.Part level offset f.content last) new q
@@ -171,6 +176,7 @@ module _ (nodes : List Node) (d : State) (same : d.rules.part ≡ d.rules.cell) 
         rules = refl;
         stop = refl;
         stands = behind_stands is_last refl;
+        goes_on = goes_on_behind is_last;
         fresh = refl;
         idle = found.idle;
         longest = found.room;

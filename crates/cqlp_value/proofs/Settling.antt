@@ -75,6 +75,7 @@ module _ (nodes : List Node) (d new : State) (n start : ℕ) (p q : Progress) (i
     rules = refl;
     stop = refl;
     stands = stays;
+    goes_on = refl;
     fresh = refl;
     idle = idle;
     longest = longest;
@@ -89,6 +90,7 @@ module _ (nodes : List Node) (d new : State) (n start : ℕ) (p q : Progress) (i
     rules = refl;
     stop = refl;
     stands = stays;
+    goes_on = refl;
     fresh = refl;
     idle = idle;
     longest = longest;
@@ -113,7 +115,8 @@ module _ (nodes : List Node) (d new : State) (n start : ℕ) (p q : Progress) (i
         rules = refl;
         stop = refl;
         stands = rw enters.0 at enters.1;
-        fresh = refl;
+        goes_on = refl;
+    fresh = refl;
         idle = idle;
         longest = longest;
       })

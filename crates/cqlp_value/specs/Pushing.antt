@@ -13,7 +13,7 @@ use Rattle.cqlp_value.specs.declared.standing.Next.TheVariants as next
 use Rattle.cqlp_value.specs.declared.standing.Under.TheVariants as under
 use Rattle.cqlp_value.specs.CellStep.{CellEvent, CellPlace, cell_step}
 use Rattle.cqlp_value.specs.Items.{event_of}
-use Rattle.cqlp_value.specs.Standing.{State, ended, place, Stands}
+use Rattle.cqlp_value.specs.Standing.{State, ended, is_under_way, place, Stands}
 use Rattle.cqlp_value.specs.Reading.{Joined, HaveCome}
 
 abbrev pub made : Rules → State
@@ -22,14 +22,6 @@ made l = record { rules = l; offset = 0; stop = 0; next = next.Nothing; under = 
 -- a cell of the type at this node, or of none, begins here
 abbrev pub begun : State → Option ℕ → (at end : ℕ) → State
 begun d node at end = record { rules = d.rules; offset = at; stop = end; next = next.Cell node; under = under.Nothing; open_values = [] }
-
-abbrev pub is_some_next : Next → Bool
-is_some_next next.Nothing = false
-is_some_next n = true
-
--- a cell is under way
-abbrev pub is_under_way : State → Bool
-is_under_way d = is_some_next d.next
 
 abbrev pub done_by : Next → List Open → Bool
 done_by next.Items [] = true
@@ -49,7 +41,7 @@ module _ (nodes : List Node) where
   -- What a call leads to that was made after these bytes and events.
   abbrev pub Leads : (start : CellPlace) → State → List ℕ → List (ℕ × CellEvent) → List ℕ → CellPush → State → Progress → Type 0
   Leads start old s es input (push.More used) new q =
-      After start new q (s ++ input) es × ((b : List ℕ) → HaveCome b new.under q.seen → says (cell_step new.rules (place nodes new)) 0 b ≡ More)
+      (after : After start new q (s ++ input) es) × (says (cell_step new.rules (place nodes new)) 0 after.pending ≡ More)
   Leads start old s es input (push.Item at used e) new q = After start new q (s ++ take used input) (es ++ (at, event_of e) ∷ [])
   Leads start old s es input push.Done new q = Runs (cell_step old.rules) start s es (place nodes old) [] × ((place nodes old).symbols ≡ [])
   Leads start old s es input (push.Refused r) new q =

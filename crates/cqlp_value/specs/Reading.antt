@@ -30,7 +30,7 @@ use Rattle.cqlp_value.specs.Items.{content_at, event_at, CanLend}
 use Rattle.cqlp_value.specs.Gathering.{IsGathering}
 use Rattle.cqlp_value.specs.Numbers.{IsCounting}
 use Rattle.cqlp_value.specs.Sizes.{sized_as, CanBe, HasRoom}
-use Rattle.cqlp_value.specs.Standing.{State, ended, place, due_value, moved, rest_of, due_of, Stands}
+use Rattle.cqlp_value.specs.Standing.{State, ended, is_under_way, place, due_value, moved, rest_of, due_of, Stands}
 use Rattle.cqlp_value.specs.Coming.{inner_of, room_of}
 
 -- what a step says
@@ -105,6 +105,7 @@ module _ (nodes : List Node) where
     pub rules : new.rules ≡ old.rules
     pub stop : new.stop ≡ old.stop
     pub stands : Stands nodes new
+    pub goes_on : is_under_way new ≡ true
     pub fresh : new.under ≡ under.Nothing
     pub idle : q.under_way ≡ false
     pub longest : q.room ≡ p.room

@@ -32,6 +32,14 @@ pub record State : Type 0 where
 abbrev pub state_of : {A : Type 0} → Standing A → State
 state_of s = record { rules = rules_of s.limits; offset = s.offset; stop = s.stop; next = s.next; under = s.under; open_values = s.levels.open_values }
 
+abbrev pub is_some_next : Next → Bool
+is_some_next next.Nothing = false
+is_some_next n = true
+
+-- a cell is under way
+abbrev pub is_under_way : State → Bool
+is_under_way d = is_some_next d.next
+
 -- no cell is under way
 abbrev pub ended : State → State
 ended d = record d { next = next.Nothing; under = under.Nothing; open_values = [] }

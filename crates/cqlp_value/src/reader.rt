@@ -32,9 +32,9 @@ impl<A: Allocator> Model for CellReader<A> {
 
 impl<A: Allocator> CellReader<A> {
     ghost use Rattle.cqlp_note.specs.Lending.{Next as Rest};
-    ghost use Rattle.cqlp_value.specs.Standing.{Stands};
+    ghost use Rattle.cqlp_value.specs.Standing.{Stands, is_under_way};
     ghost use Rattle.cqlp_value.specs.Reading.{Answers, Joined, Moves};
-    ghost use Rattle.cqlp_value.specs.Pushing.{Continues, Pushes, Uses, begun, is_done, is_under_way, made};
+    ghost use Rattle.cqlp_value.specs.Pushing.{Continues, Pushes, Uses, begun, is_done, made};
 
     /// With room for the nesting that the limits allow. Parts have at least one byte.
     pub fn new(alloc: A, limits: &Limits) -> Result<Self, NoMemory>

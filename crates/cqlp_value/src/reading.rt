@@ -35,6 +35,7 @@ impl<A: Allocator> Standing<A> {
         ensures moves { Moves table.now.nodes (state_of self.old) partial.old input.now result (state_of self.new) partial.new }
         ensures answers { Answers (state_of self.old) input.now result }
         ensures room { self.new.levels.room ≡ self.old.levels.room }
+        ensures limits { self.new.limits ≡ self.old.limits }
     {
         match self.under {
             Under::Nothing => match self.due() {
@@ -81,6 +82,7 @@ impl<A: Allocator> Standing<A> {
         requires front { start ≤ 4 }
         ensures settles { let seen = seen_before begun partial.old in let bytes = seen ++ drop start input.now in Settles table.now.nodes (state_of self.old) partial.old input.now (says (sized_of table.now.nodes (state_of self.old) len) 4 bytes) ((4 - start) + length seen) (Behind len bytes) result (state_of self.new) partial.new }
         ensures room { self.new.levels.room ≡ self.old.levels.room }
+        ensures limits { self.new.limits ≡ self.old.limits }
     {
         let Some(found) = gather(partial, begun, len, self.offset + 4, start, input) else {
             self.under = Under::Scalar(len);
@@ -116,6 +118,7 @@ impl<A: Allocator> Standing<A> {
         requires front { start ≤ 4 }
         ensures settles { let seen = seen_before begun partial.old in let bytes = seen ++ drop start input.now in Settles table.now.nodes (state_of self.old) partial.old input.now (says (sized_of table.now.nodes (state_of self.old) len) 4 bytes) ((4 - start) + length seen) (Behind len bytes) result (state_of self.new) partial.new }
         ensures room { self.new.levels.room ≡ self.old.levels.room }
+        ensures limits { self.new.limits ≡ self.old.limits }
     {
         let at = self.offset + 4;
         match take_number(partial, begun, at, at + u64::from(len), start, input) {
@@ -146,6 +149,7 @@ impl<A: Allocator> Standing<A> {
         ensures item { result ≡ CellOutline.Enter (length self.old.levels.open_values) value.kind count }
         ensures enters { EntersCounted table.now.nodes (state_of self.old) len count (state_of self.new) }
         ensures room { self.new.levels.room ≡ self.old.levels.room }
+        ensures limits { self.new.limits ≡ self.old.limits }
     {
         let _nodes = table.len();
         let level = self.levels.len();
@@ -177,6 +181,7 @@ impl<A: Allocator> Standing<A> {
         ensures item { result ≡ CellOutline.Enter (length self.old.levels.open_values) value.kind value.arity }
         ensures enters { EntersFields table.now.nodes (state_of self.old) len (state_of self.new) }
         ensures room { self.new.levels.room ≡ self.old.levels.room }
+        ensures limits { self.new.limits ≡ self.old.limits }
     {
         let _nodes = table.len();
         let level = self.levels.len();
@@ -210,6 +215,7 @@ impl<A: Allocator> Standing<A> {
         requires front { start ≤ 4 }
         ensures settles { let seen = seen_before begun partial.old in let bytes = seen ++ drop start input.now in Settles table.now.nodes (state_of self.old) partial.old input.now (says (sized_of table.now.nodes (state_of self.old) total) 4 bytes) ((4 - start) + length seen) (Behind total bytes) result (state_of self.new) partial.new }
         ensures room { self.new.levels.room ≡ self.old.levels.room }
+        ensures limits { self.new.limits ≡ self.old.limits }
     {
         let at = self.offset + 4;
         let size = self.limits.cell;
@@ -243,6 +249,7 @@ impl<A: Allocator> Standing<A> {
         requires longest { self.old.limits.cell ≤ partial.old.room }
         ensures settles { let bytes = seen_before begun partial.old ++ input.now in Settles table.now.nodes (state_of self.old) partial.old input.now (told table.now.nodes (state_of self.old) bytes) (length (seen_before begun partial.old)) (HaveCome bytes) result (state_of self.new) partial.new }
         ensures room { self.new.levels.room ≡ self.old.levels.room }
+        ensures limits { self.new.limits ≡ self.old.limits }
     {
         let left = total - offset;
         let size = self.limits.cell.min(left);
@@ -281,6 +288,7 @@ impl<A: Allocator> Standing<A> {
         requires front { start ≤ 4 }
         ensures settles { let bytes = seen_before false partial.old ++ drop start input.now in Settles table.now.nodes (state_of self.old) partial.old input.now (says (sized_of table.now.nodes (state_of self.old) number) 4 bytes) ((4 - start) + length (seen_before false partial.old)) (Behind number bytes) result (state_of self.new) partial.new }
         ensures room { self.new.levels.room ≡ self.old.levels.room }
+        ensures limits { self.new.limits ≡ self.old.limits }
     {
         let at = self.offset;
         let level = self.levels.len();
@@ -314,6 +322,7 @@ impl<A: Allocator> Standing<A> {
         ensures answer { result ≡ CellAdvance.Item self.old.offset used item }
         ensures state { state_of self.new ≡ moved table.now.nodes (state_of self.old) 4 }
         ensures room { self.new.levels.room ≡ self.old.levels.room }
+        ensures limits { self.new.limits ≡ self.old.limits }
     {
         let at = self.offset;
         self.pass(4, table);
@@ -330,6 +339,7 @@ impl<A: Allocator> Standing<A> {
         requires parts { self.old.limits.parts ≡ true → 0 < self.old.limits.cell }
         ensures settles { let bytes = seen_before begun partial.old ++ input.now in Settles table.now.nodes (state_of self.old) partial.old input.now (told table.now.nodes (state_of self.old) bytes) (length (seen_before begun partial.old)) (HaveCome bytes) result (state_of self.new) partial.new }
         ensures room { self.new.levels.room ≡ self.old.levels.room }
+        ensures limits { self.new.limits ≡ self.old.limits }
     {
         let value = self.value(table);
         match take_number(partial, begun, self.offset, value.stop, 0, input) {
@@ -350,6 +360,7 @@ impl<A: Allocator> Standing<A> {
         requires fresh { self.old.under ≡ under.Nothing }
         ensures closes { Closes (state_of self.old) result (state_of self.new) }
         ensures room { self.new.levels.room ≡ self.old.levels.room }
+        ensures limits { self.new.limits ≡ self.old.limits }
     {
         let at = self.offset;
         if at < value.stop {
@@ -371,6 +382,7 @@ impl<A: Allocator> Standing<A> {
         ensures answer { result ≡ CellAdvance.Refused (record { at = at; why = why }) }
         ensures state { state_of self.new ≡ ended (state_of self.old) }
         ensures room { self.new.levels.room ≡ self.old.levels.room }
+        ensures limits { self.new.limits ≡ self.old.limits }
     {
         self.end();
         CellAdvance::Refused(Refusal { at, why })

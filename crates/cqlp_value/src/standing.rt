@@ -121,6 +121,7 @@ impl<A: Allocator> Standing<A> {
         requires place { self.old.offset + size < 2 ^ 64 }
         ensures state { state_of self.new ≡ moved table.now.nodes (state_of self.old) size }
         ensures room { self.new.levels.room ≡ self.old.levels.room }
+        ensures limits { self.new.limits ≡ self.old.limits }
     {
         if let Next::Items = self.next {
             let value = self.levels.last().unwrap();
@@ -135,6 +136,7 @@ impl<A: Allocator> Standing<A> {
     pub(crate) fn end(&mut self)
         ensures state { state_of self.new ≡ ended (state_of self.old) }
         ensures room { self.new.levels.room ≡ self.old.levels.room }
+        ensures limits { self.new.limits ≡ self.old.limits }
     {
         self.next = Next::Nothing;
         self.under = Under::Nothing;
