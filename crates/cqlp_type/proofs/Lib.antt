@@ -1,3 +1,12 @@
 pub mod Beginnings
 pub mod Nodes
 pub mod Nesting
+pub mod Items
+pub mod Calls
+pub mod Forests
+pub mod ReadBack
+pub mod Pushes
+pub mod SpelledRead
+pub mod TableLaws
+pub mod TreeLengths
+pub mod Lengths

@@ -3,3 +3,9 @@ pub mod TypeStep
 pub mod Table
 pub mod Levels
 pub mod Remaining
+pub mod Standing
+pub mod Trees
+pub mod Pushing
+pub mod Laws
+pub mod TypeTrees
+pub mod TypeLists

@@ -2,12 +2,14 @@
 use Rattle.std.specs.Prelude.{◌≡◌, ℕ, ◌+◌, ◌≤◌, Bool, true, false, List, [], ◌∷◌, ◌++◌, length, Result, Ok, Err}
 use Rattle.cqlp_note.specs.declared.field.Field.TheVariants as field
 use Rattle.cqlp_note.specs.declared.refusal.Reason.{Reason}
+use Rattle.cqlp_note.specs.declared.taken.Item.{Item}
 use Rattle.cqlp_note.specs.Reader.{Refuses, Idles}
 use Rattle.cqlp_note.specs.Field.{FieldValue, Short, Count}
 use Rattle.cqlp_note.specs.Step.{Step, Emit}
 use Rattle.cqlp_note.specs.Limits.{Rules}
 use Rattle.cqlp_note.specs.Heading.{beside_number}
 use Rattle.cqlp_note.specs.Partial.{item_value}
+use Rattle.cqlp_type.specs.declared.kind.Kind.{Kind}
 use Rattle.cqlp_type.specs.declared.node.Node.{Node}
 use Rattle.cqlp_type.specs.declared.remaining.Stage.{Stage}
 use Rattle.cqlp_type.specs.declared.remaining.Stage.TheVariants as stage
@@ -17,6 +19,11 @@ use Rattle.cqlp_type.specs.Types.{kinds}
 use Rattle.cqlp_type.specs.TypeStep.{TypeSymbol, Option_at, Text_of, Fields_of, Whole, TypeEvent, IsNode, IsField, TypePlace, symbol_copies, inner_symbols, with_arity, settled, type_place, option_step}
 use Rattle.cqlp_type.specs.Table.{Table}
 use Rattle.cqlp_type.specs.Levels.{Nest}
+
+-- an option is under way
+abbrev pub is_under_way : Stage → Bool
+is_under_way stage.Idle = false
+is_under_way _ = true
 
 -- something is still to be read
 abbrev pub is_wanted : Stage → Bool
@@ -68,6 +75,13 @@ event_at (part.Node k) input buffer = IsNode k
 event_at (part.Text f i) input buffer = IsField f (item_value i input buffer)
 event_at (part.Count n) input buffer = IsField field.Fields (Count n)
 
+-- the part that an item is, by what is read first
+abbrev pub IsPart : List TypeSymbol → Item → TypePart → Type 0
+IsPart (Option_at depth ∷ rest) i q = (k : Kind) × (q ≡ part.Node k)
+IsPart (Text_of f ∷ rest) i q = q ≡ part.Text f i
+IsPart (Fields_of named depth ∷ rest) i q = (n : ℕ) × (q ≡ part.Count n)
+IsPart ss i q = ⊥
+
 -- A step gives this part, and leaves these symbols and these nodes; or it refuses, and the nodes stay.
 abbrev pub Goes : Step TypeEvent TypePlace → TypePlace → (input buffer : List ℕ) → Result TypePart Reason → List TypeSymbol → List Node → Type 0
 Goes s p input buffer (Ok q) symbols nodes = s ≡ Emit p.offset (event_at q input buffer) (type_place p (symbols, nodes))
@@ -81,6 +95,7 @@ Follows l at stop symbols nodes v input buffer result symbols' nodes' =
 
 pub record Settles (symbols : List TypeSymbol) (old : Table) (room : ℕ) (s : Stage) (n : Nest) (new : Table) : Type 0 where
   pub is : ◌≡◌ {A = List TypeSymbol × List Node} (stage_symbols s n, new.nodes) (settled symbols old.nodes)
+  pub under_way : is_under_way s ≡ true
   pub closed : opened s ≡ 0
   pub within : n.height ≤ room
   pub levels : n.room ≡ room

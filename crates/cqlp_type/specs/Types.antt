@@ -13,6 +13,11 @@ has_no_items kind.Udt = false
 has_no_items kind.Tuple = false
 has_no_items _ = true
 
+-- every kind of a type: all but that of a cell whose type is not known
+abbrev pub has_id : Kind → Bool
+has_id kind.Raw = false
+has_id k = true
+
 -- Section 4.2.5.2: the type options by their ids.
 abbrev pub kinds : List (ℕ × Kind)
 kinds =

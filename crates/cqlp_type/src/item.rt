@@ -1,7 +1,10 @@
 //! What is read of a type option.
 
+ghost use Rattle.std.specs.Prelude.{◌≡◌};
+
 use crate::kind::Kind;
-use cqlp_note::{Field, Item, Refusal};
+use cqlp_note::{Field, Item, Partial, Prim, Refusal};
+use std::alloc::Allocator;
 
 /// A part of a type option. Section 4.2.5.2 of `native_protocol_v4.spec`.
 #[derive(Clone, Copy, Debug, PartialEq, Eq)]
@@ -52,4 +55,25 @@ pub enum TypePush<'a> {
     /// The option is whole. No byte was used.
     Done,
     Refused(Refusal),
+}
+
+impl TypePart {
+    ghost use Rattle.cqlp_type.specs.Standing.{CanLendPart};
+    ghost use Rattle.cqlp_type.specs.Remaining.{event_at};
+    ghost use Rattle.cqlp_type.specs.Pushing.{event_of};
+
+    /// What `advance` made of this input.
+    pub fn lend<'a, B: Allocator>(self, partial: &'a Partial<B>, input: &'a [u8]) -> TypeItem<'a>
+        requires { CanLendPart self input.now partial.now.content }
+        ensures { event_of result ≡ event_at self input.now partial.now.content }
+    {
+        match self {
+            TypePart::Node(kind) => TypeItem::Node(kind),
+            TypePart::Count(count) => TypeItem::Count(count),
+            TypePart::Text(field, item) => match partial.lend(input, item) {
+                Prim::Text(text) => TypeItem::Text(field, text),
+                _ => unreachable!(),
+            },
+        }
+    }
 }

@@ -1,6 +1,6 @@
 //! The kinds of types.
 
-ghost use Rattle.std.specs.Prelude.{◌≡◌};
+ghost use Rattle.std.specs.Prelude.{◌≡◌, true};
 
 /// What a type is. Section 4.2.5.2 of `native_protocol_v4.spec`.
 #[derive(Clone, Copy, Debug, PartialEq, Eq)]
@@ -36,8 +36,9 @@ pub enum Kind {
 
 impl Kind {
     ghost use Rattle.cqlp_note.specs.Heading.{beside_number};
-    ghost use Rattle.cqlp_type.specs.Types.{has_no_items, kinds};
+    ghost use Rattle.cqlp_type.specs.Types.{has_id, has_no_items, kinds};
     ghost use Rattle.cqlp_type.specs.TypeStep.{arity_of};
+    ghost use Rattle.cqlp_type.specs.Trees.{is_plain};
 
     /// Whether a value of this kind has no items: all but lists, maps, sets, user-defined types and tuples.
     pub fn is_scalar(self) -> bool
@@ -83,6 +84,41 @@ impl Kind {
         }
     }
 
+    /// The id of its type option, which the kind of an unknown type has not.
+    pub fn id(self) -> u16
+        requires { has_id self ≡ true }
+        ensures { beside_number result kinds ≡ Some self }
+    {
+        match self {
+            Kind::Custom => 0x00,
+            Kind::Ascii => 0x01,
+            Kind::Bigint => 0x02,
+            Kind::Blob => 0x03,
+            Kind::Boolean => 0x04,
+            Kind::Counter => 0x05,
+            Kind::Decimal => 0x06,
+            Kind::Double => 0x07,
+            Kind::Float => 0x08,
+            Kind::Int => 0x09,
+            Kind::Timestamp => 0x0B,
+            Kind::Uuid => 0x0C,
+            Kind::Varchar => 0x0D,
+            Kind::Varint => 0x0E,
+            Kind::Timeuuid => 0x0F,
+            Kind::Inet => 0x10,
+            Kind::Date => 0x11,
+            Kind::Time => 0x12,
+            Kind::Smallint => 0x13,
+            Kind::Tinyint => 0x14,
+            Kind::List => 0x20,
+            Kind::Map => 0x21,
+            Kind::Set => 0x22,
+            Kind::Udt => 0x30,
+            Kind::Tuple => 0x31,
+            Kind::Raw => unreachable!(),
+        }
+    }
+
     /// How many inner types each type of this kind has; 0 where they are counted.
     pub(crate) fn arity(self) -> u16
         ensures { result ≡ arity_of self }
@@ -92,5 +128,21 @@ impl Kind {
             Kind::Map => 2,
             _ => 0,
         }
+    }
+
+    /// Whether it is one of the 19 kinds whose options have no parameters.
+    pub fn is_plain(self) -> bool
+        ensures { result ≡ is_plain self }
+    {
+        !matches!(
+            self,
+            Kind::Custom
+                | Kind::List
+                | Kind::Map
+                | Kind::Set
+                | Kind::Udt
+                | Kind::Tuple
+                | Kind::Raw
+        )
     }
 }

@@ -1,12 +1,13 @@
 //! What is still to be read of a type option.
 
-ghost use Rattle.std.specs.Prelude.{◌≡◌, ◌+◌, ◌<◌, ◌≤◌, ◌++◌, ◌∷◌, List, ℕ, true, length};
+ghost use Rattle.std.specs.Prelude.{◌≡◌, ◌+◌, ◌<◌, ◌≤◌, ◌++◌, ◌∷◌, List, ℕ, true, length, IfOk};
 ghost use Rattle.cqlp_note.specs.Partial.{item_value};
 ghost use Rattle.cqlp_note.specs.Limits.{rules_of};
 ghost use Rattle.cqlp_note.specs.Field.{FieldValue};
 ghost use Rattle.cqlp_type.specs.TypeStep.{Whole, symbol_copies, inner_symbols};
 ghost use Rattle.cqlp_type.specs.declared.remaining.Stage.TheVariants as stage;
-ghost use Rattle.cqlp_type.specs.Remaining.{stage_symbols, is_wanted, HasRoom, Follows, Settles, short_in};
+ghost use Rattle.cqlp_type.specs.Remaining.{stage_symbols, is_under_way, is_wanted, HasRoom, Follows, IsPart, Settles, short_in};
+ghost use Rattle.cqlp_type.specs.declared.kind.Kind.{Kind};
 
 use crate::item::TypePart;
 use crate::kind::Kind;
@@ -45,8 +46,8 @@ pub(crate) struct Remaining<A: Allocator> {
 }
 
 impl<A: Allocator> Remaining<A> {
+    /// Goes on behind an item: what part of the option it is, or why its type is refused.
     #[tactic(auto, using(crate::proofs::Nodes::length_with_arity))]
-    /// Goes on behind an item.
     pub(crate) fn follow<C: Allocator>(
         &mut self,
         limits: &Limits,
@@ -59,8 +60,10 @@ impl<A: Allocator> Remaining<A> {
         requires entries { limits.now.entries ≤ table.old.room }
         ensures lawful { HasRoom self.new.stage self.new.levels }
         ensures depth { self.new.levels.room ≡ limits.now.depth }
+        ensures under_way { is_under_way self.new.stage ≡ true }
         ensures table { table.new.room ≡ table.old.room }
         ensures entries { length table.old.nodes ≤ limits.now.entries → length table.new.nodes ≤ limits.now.entries }
+        ensures part { IfOk result (λ q. IsPart (stage_symbols self.old.stage self.old.levels) item q) }
         ensures follows { (at stop : ℕ) (input buffer : List ℕ) → Follows (rules_of limits.now) at stop (stage_symbols self.old.stage self.old.levels) table.old.nodes (item_value item input buffer) input buffer result (stage_symbols self.new.stage self.new.levels) table.new.nodes }
     {
         match self.stage {
@@ -91,7 +94,7 @@ impl<A: Allocator> Remaining<A> {
         }
     }
 
-    /// Goes on behind the id of an option.
+    /// Goes on behind the id of an option, whose node is added to the table.
     fn option<C: Allocator>(
         &mut self,
         limits: &Limits,
@@ -104,8 +107,10 @@ impl<A: Allocator> Remaining<A> {
         requires entries { limits.now.entries ≤ table.old.room }
         ensures lawful { HasRoom self.new.stage self.new.levels }
         ensures depth { self.new.levels.room ≡ limits.now.depth }
+        ensures under_way { is_under_way self.new.stage ≡ true }
         ensures table { table.new.room ≡ table.old.room }
         ensures entries { length table.old.nodes ≤ limits.now.entries → length table.new.nodes ≤ limits.now.entries }
+        ensures part { IfOk result (λ q. (k : Kind) × (q ≡ TypePart.Node k)) }
         ensures follows { (at stop : ℕ) (v : FieldValue) (input buffer : List ℕ) → short_in v ≡ id → Follows (rules_of limits.now) at stop (stage_symbols self.old.stage self.old.levels) table.old.nodes v input buffer result (stage_symbols self.new.stage self.new.levels) table.new.nodes }
     {
         let Some(kind) = Kind::from_id(id) else {
@@ -134,7 +139,7 @@ impl<A: Allocator> Remaining<A> {
     }
 }
 
-/// The number that an item is.
+/// The number that an item is; 0 where it is no \[short\].
 fn number_in(item: Item) -> u16
     ensures { (input buffer : List ℕ) → short_in (item_value item input buffer) ≡ result }
 {

@@ -1,0 +1,78 @@
+use Rattle.std.proofs.Common.{◌≡◌, ℕ, ◌+◌, ◌-◌, ◌<◌, ◌≤◌, ◌^◌, [], refl, sym, ap, ◌∙◌, arith}
+use Rattle.cqlp_note.specs.Reader.{Bad}
+use Rattle.cqlp_note.specs.Partial.{Progress}
+use Rattle.cqlp_type.specs.declared.node.Node.{Node}
+use Rattle.cqlp_type.specs.Table.{Table}
+use Rattle.cqlp_type.proofs.Calls.{waits_fits, waits_on, field_at, stopped_is, refused_told, ends_fits, ends_on, failed, idle_after}
+use Rattle.cqlp_type.proofs.reader.TypeReader.advance.Goals as goal
+
+pub overflow_add-self : goal.overflow_add-self
+overflow_add-self g c =
+    let r = c.ready.ensures in
+    let view = c.self-in-More.view_is in
+    let le = waits_fits c.args.self.now _ c.args.partial.now c.ready.new.partial c.args.table.now c.args.input.now (rw (← view) at r.reader) (rw (← view) at r.shared) (rw (← view) at r.pending) r.room c.in-More.used c.advance.new.self c.in-More.ensures in
+    omega (arith, le, c.self-in-More.ranges)
+
+pub returns-in-More : goal.returns-in-More
+returns-in-More g c =
+    let r = c.ready.ensures in
+    let view = c.self-in-More.view_is in
+    waits_on c.args.self.now _ c.args.partial.now c.ready.new.partial c.args.table.now c.args.input.now (rw (← view) at r.reader) (rw (← view) at r.shared) (rw (← view) at r.pending) r.room c.in-More.used c.advance.new.self c.in-More.ensures
+
+pub returns-in-Refused : goal.returns-in-Refused
+returns-in-Refused g c =
+    let r = c.ready.ensures in
+    let e = c.in-Refused.ensures in
+    let old = c.args.self.now in
+    let told = refused_told old c.ready.new.self c.args.partial.now c.ready.new.partial c.args.table.now c.args.input.now r.reader r.shared r.pending r.room c.in-Refused.refusal.why e.1 in
+    let at : c.in-Refused.refusal.at ≡ c.ready.new.self.offset = e.0 ∙ field_at old c.ready.new.self c.args.partial.now c.ready.new.partial c.args.table.now c.args.input.now r.reader r.shared r.pending r.room in
+    (told ∙ ap (λ (k : ℕ). Bad (k, c.in-Refused.refusal.why)) (sym at),
+     c.stop-in-Refused.ensures ∙ stopped_is old c.ready.new.self c.args.partial.now c.ready.new.partial c.args.table.now c.args.input.now r.reader r.shared r.pending r.room,
+     ap (λ (z : Progress). z.under_way) e.2,
+     ap (λ (z : Progress). z.content) e.2,
+     ap (λ (z : Progress). z.room) e.2 ∙ r.room,
+     refl)
+
+pub overflow_add-self-in-Ok : goal.overflow_add-self-in-Ok
+overflow_add-self-in-Ok g c =
+    let r = c.ready.ensures in
+    let view = c.self-in-Got.view_is in
+    let le = (ends_fits c.args.self.now _ c.args.partial.now c.ready.new.partial c.args.table.now c.args.input.now (rw (← view) at r.reader) (rw (← view) at r.shared) (rw (← view) at r.pending) r.room c.in-Got.used c.in-Got.item c.advance.new.self c.in-Got.ensures.1 c.in-Got.ensures.0).1 in
+    omega (arith, le, c.self-in-Got.ranges)
+
+pub overflow_add-self-in-Ok-2 : goal.overflow_add-self-in-Ok-2
+overflow_add-self-in-Ok-2 g c =
+    let r = c.ready.ensures in
+    let view = c.self-in-Got.view_is in
+    let inside = c.self-in-Got.invariant.0 in
+    let le = (ends_fits c.args.self.now _ c.args.partial.now c.ready.new.partial c.args.table.now c.args.input.now (rw (← view) at r.reader) (rw (← view) at r.shared) (rw (← view) at r.pending) r.room c.in-Got.used c.in-Got.item c.advance.new.self c.in-Got.ensures.1 c.in-Got.ensures.0).1 in
+    omega (arith, le, inside, c.self-in-Got.ranges)
+
+pub invariant_of-self-in-Ok : goal.invariant_of-self-in-Ok
+invariant_of-self-in-Ok g c =
+    let r = c.ready.ensures in
+    let view = c.self-in-Got.view_is in
+    let inside = c.self-in-Got.invariant.0 in
+    let le = (ends_fits c.args.self.now _ c.args.partial.now c.ready.new.partial c.args.table.now c.args.input.now (rw (← view) at r.reader) (rw (← view) at r.shared) (rw (← view) at r.pending) r.room c.in-Got.used c.in-Got.item c.advance.new.self c.in-Got.ensures.1 c.in-Got.ensures.0).1 in
+    (omega (arith, le, inside), c.in-Ok.ensures.lawful, c.in-Ok.ensures.depth)
+
+pub returns-in-Ok : goal.returns-in-Ok
+returns-in-Ok g c =
+    let r = c.ready.ensures in
+    let view = c.self-in-Got.view_is in
+    let n = c.self-in-Got.inside in
+    let f = c.in-Ok.ensures in
+    rw f.under_way (ends_on c.args.self.now _ c.args.partial.now c.ready.new.partial c.args.table.now c.args.input.now (rw (← view) at r.reader) (rw (← view) at r.shared) (rw (← view) at r.pending) r.room c.in-Got.used c.in-Got.item c.advance.new.self c.in-Got.ensures.1 c.in-Got.ensures.0
+        c.in-Ok.item _ c.follow.new.self.levels.height c.follow.new.table (f.follows n.at n.end c.args.input.now c.advance.new.self.content) f.part f.table f.entries)
+
+pub returns-in-Err : goal.returns-in-Err
+returns-in-Err g c =
+    let r = c.ready.ensures in
+    let view = c.self-in-Got.view_is in
+    let n = c.self-in-Got.inside in
+    let f = c.in-Err.ensures in
+    let e = f.follows n.at n.end c.args.input.now c.advance.new.self.content in
+    let told = failed c.args.self.now _ c.args.partial.now c.ready.new.partial c.args.table.now c.args.input.now (rw (← view) at r.reader) (rw (← view) at r.shared) (rw (← view) at r.pending) r.room c.in-Got.used c.in-Got.item c.advance.new.self c.in-Got.ensures.1 c.in-Got.ensures.0 c.in-Err.why e.0 in
+    let idle = idle_after c.args.self.now _ c.args.partial.now c.ready.new.partial c.args.table.now c.args.input.now (rw (← view) at r.reader) (rw (← view) at r.shared) (rw (← view) at r.pending) r.room c.in-Got.used c.in-Got.item c.advance.new.self c.in-Got.ensures.1 c.in-Got.ensures.0 in
+    let stopped = stopped_is c.args.self.now _ c.args.partial.now c.ready.new.partial c.args.table.now c.args.input.now (rw (← view) at r.reader) (rw (← view) at r.shared) (rw (← view) at r.pending) r.room in
+    (told.0, c.stop-in-Err.ensures ∙ stopped, idle.0, told.1, idle.1, λ i. record { nodes = e.1 i; room = f.table i })

@@ -1,0 +1,79 @@
+-- What the reader of a type option has read since it began.
+use Rattle.std.specs.Prelude.{◌≡◌, ℕ, ◌+◌, ◌≤◌, ◌++◌, true, false, List, [], ◌∷◌, length, take, map}
+use Rattle.cqlp_note.specs.Reader.{More, Bad}
+use Rattle.cqlp_note.specs.Field.{Text, Count}
+use Rattle.cqlp_note.specs.declared.field.Field.TheVariants as field
+use Rattle.cqlp_note.specs.Step.{Runs}
+use Rattle.cqlp_note.specs.Partial.{Progress}
+use Rattle.cqlp_type.specs.declared.node.Node.{Node}
+use Rattle.cqlp_type.specs.declared.item.TypeItem.{TypeItem}
+use Rattle.cqlp_type.specs.declared.item.TypeItem.TheVariants as item
+use Rattle.cqlp_type.specs.declared.item.TypePush.{TypePush}
+use Rattle.cqlp_type.specs.declared.item.TypePush.TheVariants as push
+use Rattle.cqlp_type.specs.Types.{preorder}
+use Rattle.cqlp_type.specs.TypeStep.{TypeEvent, IsNode, IsField, TypePlace, type_step, Option_at}
+use Rattle.cqlp_type.specs.Table.{Table}
+use Rattle.cqlp_type.specs.Trees.{Trees, trees_in, types_in, AreTrees, trees_items, placed, TreeSpells}
+use Rattle.cqlp_type.specs.Standing.{Standing, IsShared, place_of, pending, told, stopped, text_length}
+
+abbrev pub event_of : TypeItem → TypeEvent
+event_of (item.Node k) = IsNode k
+event_of (item.Text f s) = IsField f (Text s.now)
+event_of (item.Count n) = IsField field.Fields (Count n)
+
+-- An option began at `start`, and of it these bytes were used and these items handed out.
+abbrev pub After : (start : TypePlace) → Standing → Progress → Table → List ℕ → List (ℕ × TypeEvent) → Type 0
+After start r p t s es = Runs (type_step r.rules) start s es (place_of r t.nodes) (pending r p)
+
+-- These bytes spell the option of a type, whose items these are, the first at `at`; and its nodes in preorder stand
+-- behind the ones before.
+pub record IsWhole (at : ℕ) (before : List Node) (s : List ℕ) (es : List (ℕ × TypeEvent)) (nodes : List Node) : Type 0 where
+  pub tree : Trees
+  pub one : trees_in tree ≡ 1
+  pub are : AreTrees tree
+  pub spelled : TreeSpells tree s
+  pub items : es ≡ placed at (trees_items false tree)
+  pub table : nodes ≡ before ++ preorder (types_in tree)
+
+-- What a call leads to that was made after these bytes and items.
+abbrev pub Leads : (start : TypePlace) → Standing → Progress → Table → List ℕ → List (ℕ × TypeEvent) → List ℕ → TypePush → Standing → Progress → Table → Type 0
+Leads start old p t s es input (push.More used) new p' t' =
+    After start new p' t' (s ++ input) es × (told new t'.nodes (pending new p') ≡ More)
+Leads start old p t s es input (push.Item at used e) new p' t' =
+    (pending new p' ≡ []) × After start new p' t' (s ++ take used input) (es ++ (at, event_of e) ∷ [])
+Leads start old p t s es input push.Done new p' t' =
+    IsWhole start.offset start.nodes s es t'.nodes
+Leads start old p t s es input (push.Refused r) new p' t' =
+    Runs (type_step old.rules) start (s ++ input) es (place_of old t.nodes) (pending old p ++ input) × (told old t.nodes (pending old p ++ input) ≡ Bad (r.at, r.why))
+
+-- how much of the input is used
+abbrev pub Uses : List ℕ → TypePush → Type 0
+Uses input (push.More used) = used ≡ length input
+Uses input (push.Item at used e) = used ≤ length input
+Uses input push.Done = Unit {0}
+Uses input (push.Refused r) = Unit {0}
+
+-- The option is still under way, or it has ended.
+abbrev pub Continues : Standing → TypePush → Standing → Type 0
+Continues old (push.More used) new = (new.under_way ≡ true) × (new.rules ≡ old.rules)
+Continues old (push.Item at used e) new = (new.under_way ≡ true) × (new.rules ≡ old.rules)
+Continues old push.Done new = new ≡ stopped old
+Continues old (push.Refused r) new = new ≡ stopped old
+
+-- The table stays, but for the nodes that an item adds or fills in.
+abbrev pub Fills : Standing → Table → TypePush → Table → Type 0
+Fills old t (push.Item at used e) t' = (t'.room ≡ t.room) × (length t.nodes ≤ old.rules.entries → length t'.nodes ≤ old.rules.entries)
+Fills old t x t' = t' ≡ t
+
+-- The `Partial` still serves the option, or has no field under way. Where the content of a text lies whole in the
+-- bytes that are used, its buffer is empty.
+abbrev pub Serves : TypePush → Standing → Progress → Type 0
+Serves (push.More used) new p' = IsShared new p'
+Serves (push.Item at used e) new p' = IsShared new p' × (text_length (event_of e) ≤ used → p'.content ≡ [])
+Serves push.Done new p' = p'.under_way ≡ false
+Serves (push.Refused r) new p' = (p'.under_way ≡ false) × (p'.content ≡ [])
+
+pub record Pushes (old : Standing) (p : Progress) (t : Table) (input : List ℕ) (x : TypePush) (new : Standing) (p' : Progress) (t' : Table) : Type 0 where
+  pub leads : (start : TypePlace) (depth : ℕ) → start.symbols ≡ Option_at depth ∷ [] → (s : List ℕ) (es : List (ℕ × TypeEvent)) → After start old p t s es → Leads start old p t s es input x new p' t'
+  pub serves : Serves x new p'
+  pub room : p'.room ≡ p.room

@@ -1,0 +1,151 @@
+-- Types with the texts of their options, and what spells them (section 4.2.5.2 of native_protocol_v4.spec).
+use Rattle.std.specs.Prelude.{◌≡◌, ℕ, suc, ◌+◌, ◌++◌, ◌≤◌, Bool, true, false, List, [], ◌∷◌, length, Some, map}
+use Rattle.cqlp_note.specs.declared.field.Field.{Field}
+use Rattle.cqlp_note.specs.declared.field.Field.TheVariants as field
+use Rattle.cqlp_note.specs.declared.field.Notation.{Notation}
+use Rattle.cqlp_note.specs.declared.field.Notation.TheVariants as notation
+use Rattle.cqlp_note.specs.Field.{FieldValue, Short, Text, Count}
+use Rattle.cqlp_note.specs.Limits.{Rules}
+use Rattle.cqlp_note.specs.Heading.{beside_number}
+use Rattle.cqlp_note.specs.Spelling.{Spells}
+use Rattle.cqlp_note.specs.Partial.{content_length}
+use Rattle.cqlp_type.specs.declared.kind.Kind.{Kind}
+use Rattle.cqlp_type.specs.declared.kind.Kind.TheVariants as kind
+use Rattle.cqlp_type.specs.Types.{Types, NoMore, Type_and, kinds}
+use Rattle.cqlp_type.specs.TypeStep.{TypeEvent, IsNode, IsField}
+
+-- What a type option is, apart from its inner options.
+pub data Head : Type 0 where
+  Plain : Kind → Head
+  Custom : (class : List ℕ) → Head
+  ListOf SetOf MapOf TupleOf : Head
+  UdtOf : (keyspace name : List ℕ) → Head
+
+-- Types side by side: a head, inner types, and others after it. The name counts in a user-defined type alone.
+pub data Trees : Type 0 where
+  NoTree : Trees
+  Tree_and : (name : List ℕ) → Head → (inner others : Trees) → Trees
+
+abbrev pub kind_in : Head → Kind
+kind_in (Plain k) = k
+kind_in (Custom class) = kind.Custom
+kind_in ListOf = kind.List
+kind_in SetOf = kind.Set
+kind_in MapOf = kind.Map
+kind_in TupleOf = kind.Tuple
+kind_in (UdtOf keyspace name) = kind.Udt
+
+abbrev pub trees_in : Trees → ℕ
+trees_in NoTree = 0
+trees_in (Tree_and name h inner others) = suc (trees_in others)
+
+-- all type options, the inner ones counted
+abbrev pub options_in : Trees → ℕ
+options_in NoTree = 0
+options_in (Tree_and name h inner others) = suc (options_in inner + options_in others)
+
+-- the same types without texts
+abbrev pub types_in : Trees → Types
+types_in NoTree = NoMore
+types_in (Tree_and name h inner others) = Type_and (kind_in h) (types_in inner) (types_in others)
+
+abbrev pub has_names : Head → Bool
+has_names (UdtOf keyspace name) = true
+has_names _ = false
+
+-- ---- shape
+
+-- one of the 19 kinds without parameters
+abbrev pub is_plain : Kind → Bool
+is_plain kind.Custom = false
+is_plain kind.List = false
+is_plain kind.Map = false
+is_plain kind.Set = false
+is_plain kind.Udt = false
+is_plain kind.Tuple = false
+is_plain kind.Raw = false
+is_plain _ = true
+
+-- a head with so many inner types
+abbrev pub IsHead : Head → (n : ℕ) → Type 0
+IsHead (Plain k) n = (is_plain k ≡ true) × (n ≡ 0)
+IsHead (Custom class) n = n ≡ 0
+IsHead ListOf n = n ≡ 1
+IsHead SetOf n = n ≡ 1
+IsHead MapOf n = n ≡ 2
+IsHead TupleOf n = Unit {0}
+IsHead (UdtOf keyspace name) n = Unit {0}
+
+abbrev pub AreTrees : Trees → Type 0
+AreTrees NoTree = Unit {0}
+AreTrees (Tree_and name h inner others) = IsHead h (trees_in inner) × AreTrees inner × AreTrees others
+
+-- types at this depth, no inner type too deep
+abbrev pub Shallow : Rules → (depth : ℕ) → Trees → Type 0
+Shallow l depth NoTree = Unit {0}
+Shallow l depth (Tree_and name h inner others) = (depth ≤ l.depth) × Shallow l (depth + 1) inner × Shallow l depth others
+
+-- ---- spelling
+
+-- what stands between an option's id and its n inner options
+abbrev pub head_items : Head → (n : ℕ) → List TypeEvent
+head_items (Custom class) n = IsField field.Class (Text class) ∷ []
+head_items TupleOf n = IsField field.Fields (Count n) ∷ []
+head_items (UdtOf keyspace name) n = IsField field.Keyspace (Text keyspace) ∷ IsField field.TypeName (Text name) ∷ IsField field.Fields (Count n) ∷ []
+head_items h n = []
+
+abbrev pub name_items : Bool → List ℕ → List TypeEvent
+name_items true name = IsField field.FieldName (Text name) ∷ []
+name_items false name = []
+
+-- the items of types in the order in which they are spelled
+abbrev pub trees_items : (named : Bool) → Trees → List TypeEvent
+trees_items named NoTree = []
+trees_items named (Tree_and name h inner others) =
+    name_items named name ++ (IsNode (kind_in h) ∷ (head_items h (trees_in inner) ++ (trees_items (has_names h) inner ++ trees_items named others)))
+
+-- the notation of an item that is a text or a number
+abbrev pub notation_for : FieldValue → Notation
+notation_for (Count n) = notation.Count16
+notation_for v = notation.Text16
+
+-- these bytes spell an item: an id, the number of the inner options, or a text
+abbrev pub ItemSpells : TypeEvent → List ℕ → Type 0
+ItemSpells (IsNode k) b = (id : ℕ) × (beside_number id kinds ≡ Some k) × Spells notation.Short (Short id) b
+ItemSpells (IsField f v) b = Spells (notation_for v) v b
+
+-- some bytes, and others after them
+pub record Joined (P Q : List ℕ → Type 0) (b : List ℕ) : Type 0 where
+  pub front : List ℕ
+  pub back : List ℕ
+  pub whole : b ≡ front ++ back
+  pub this : P front
+  pub that : Q back
+
+abbrev pub ItemsSpell : List TypeEvent → List ℕ → Type 0
+ItemsSpell [] b = b ≡ []
+ItemsSpell (e ∷ es) b = Joined (ItemSpells e) (ItemsSpell es) b
+
+-- These bytes spell a type's option.
+abbrev pub TreeSpells : Trees → List ℕ → Type 0
+TreeSpells t b = ItemsSpell (trees_items false t) b
+
+-- how many bytes spell an item
+abbrev pub item_size : TypeEvent → ℕ
+item_size (IsNode k) = 2
+item_size (IsField f v) = 2 + content_length v
+
+abbrev pub items_size : List TypeEvent → ℕ
+items_size [] = 0
+items_size (e ∷ es) = item_size e + items_size es
+
+-- these items, the first at this offset
+abbrev pub placed : (at : ℕ) → List TypeEvent → List (ℕ × TypeEvent)
+placed at [] = []
+placed at (e ∷ es) = (at, e) ∷ placed (at + item_size e) es
+
+-- the texts are within their limit
+abbrev pub AreShort : Rules → List TypeEvent → Type 0
+AreShort l [] = Unit {0}
+AreShort l (IsNode k ∷ es) = AreShort l es
+AreShort l (IsField f v ∷ es) = (content_length v ≤ l.text) × AreShort l es

@@ -1,0 +1,37 @@
+//! Laws of the definitions.
+
+ghost use Rattle.cqlp_type.specs.Laws.{TypesOfPreorder, TypesOfOwnPreorder, SpelledIsRead, ReadIsSpelled, SpelledIsLong, RootsAreTypes, ChildrenOfWhole, ChildrenOfOpen, OpenIsLast};
+
+/// The types of nodes in preorder are those that the nodes were made of.
+#[tactic(auto, using(crate::proofs::Forests::types_of_preorder, crate::proofs::Forests::types_of_own_preorder))]
+pub fn types_of_preorder()
+    ensures behind { TypesOfPreorder }
+    ensures own { TypesOfOwnPreorder }
+{}
+
+/// What spells a type is read as its items, and adds its nodes.
+pub fn spelled_is_read()
+    ensures { SpelledIsRead }
+{}
+
+/// What is read of an option is a type that its bytes spell.
+pub fn read_is_spelled()
+    ensures { ReadIsSpelled }
+{}
+
+/// The bytes that spell a type are as many as `type_len` counts.
+pub fn spelled_is_long()
+    ensures { SpelledIsLong }
+{}
+
+/// Where types that stand side by side begin, also where the last one is under way.
+pub fn roots_are_types()
+    ensures whole { RootsAreTypes }
+    ensures under_way { OpenIsLast }
+{}
+
+/// Where the inner types of a type begin, also where it is under way.
+pub fn children_are_inner_types()
+    ensures whole { ChildrenOfWhole }
+    ensures under_way { ChildrenOfOpen }
+{}

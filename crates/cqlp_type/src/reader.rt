@@ -1,0 +1,203 @@
+//! A type option out of pieces of any size.
+
+ghost use Rattle.std.specs.Prelude.{◌≡◌, ◌+◌, ◌<◌, ◌≤◌, ◌++◌, ◌∷◌, [], true, false, length, IfOk, IsTrue, ◌↔◌};
+ghost use Rattle.std.specs.Borrow.{sem};
+ghost use Rattle.cqlp_note.specs.Limits.{rules_of};
+
+use crate::item::{TypeAdvance, TypePush};
+use crate::levels::Levels;
+use crate::remaining::{Remaining, Stage};
+use crate::table::TypeTable;
+use cqlp_note::{Limits, NoMemory, Notation, Partial, Refusal, Taken};
+use std::alloc::{Allocator, Global};
+use std::marker::Model;
+
+/// Reads type options, one at a time. Its texts are read in the caller's `Partial`, and its types go into the caller's
+/// table.
+#[derive(Drop)]
+pub struct TypeReader<A: Allocator = Global> {
+    limits: Limits,
+    /// The offset of the item that is read now.
+    at: u64,
+    /// The end of the frame.
+    end: u64,
+    /// Whether the item has been begun.
+    begun: bool,
+    /// How many of its bytes have come.
+    taken: u64,
+    remaining: Remaining<A>,
+}
+
+impl<A: Allocator> Model for TypeReader<A> {
+    ghost use Rattle.std.specs.Prelude.{◌≡◌, ◌≤◌};
+    ghost use Rattle.cqlp_type.specs.Standing.{Standing, standing};
+    ghost use Rattle.cqlp_type.specs.Remaining.{HasRoom};
+
+    ghost Value = { Standing };
+
+    ghost view = { λ r. standing r.limits r.at r.end r.remaining.stage r.remaining.levels r.begun r.taken };
+
+    ghost invariant = { λ r. (r.at ≤ r.end) × HasRoom r.remaining.stage r.remaining.levels × (r.remaining.levels.room ≡ r.limits.depth) };
+}
+
+impl<A: Allocator> TypeReader<A> {
+    ghost use Rattle.cqlp_type.specs.Standing.{IsShared, Advances, IsFor, pending, started, stopped};
+    ghost use Rattle.cqlp_note.specs.Lending.{Next};
+    ghost use Rattle.cqlp_type.specs.Pushing.{Uses, Continues, Fills, Pushes};
+
+    /// With room for the nesting that the limits allow.
+    pub fn new(alloc: A, limits: &Limits) -> Result<Self, NoMemory>
+        ensures rules { IfOk result (λ reader. reader.rules ≡ rules_of limits.now) }
+        ensures idle { IfOk result (λ reader. reader.under_way ≡ false) }
+        ensures empty { IfOk result (λ reader. reader.height ≡ 0) }
+    {
+        Ok(TypeReader {
+            limits: *limits,
+            at: 0,
+            end: 0,
+            begun: false,
+            taken: 0,
+            remaining: Remaining {
+                stage: Stage::Idle,
+                levels: Levels::new(alloc, limits.depth)?,
+            },
+        })
+    }
+
+    /// Begins an option at an offset, in a frame that ends at another.
+    pub fn begin(&mut self, at: u64, end: u64)
+        requires idle { self.old.under_way ≡ false }
+        requires place { at ≤ end }
+        ensures { self.new ≡ started self.old at end }
+    {
+        self.at = at;
+        self.end = end;
+        self.begun = false;
+        self.taken = 0;
+        self.remaining.levels.clear();
+        self.remaining.stage = Stage::Id;
+    }
+
+    /// Whether an option is under way and whole, so that the next push says so.
+    pub fn done(&self) -> bool
+        ensures { IsTrue result ↔ ((self.now.under_way ≡ true) × (self.now.symbols ≡ [])) }
+    {
+        matches!(self.remaining.stage, Stage::Done)
+    }
+
+    /// How many levels of nesting are kept.
+    pub fn held(&self) -> u32
+        ensures is { result ≡ self.now.height }
+        ensures bound { result ≤ self.now.rules.depth }
+    {
+        self.remaining.levels.len()
+    }
+
+    /// Takes the next bytes of the option that is under way.
+    pub fn advance<B: Allocator, C: Allocator>(
+        &mut self,
+        partial: &mut Partial<B>,
+        table: &mut TypeTable<C>,
+        input: &[u8],
+    ) -> TypeAdvance
+        requires under_way { self.old.under_way ≡ true }
+        requires shared { IsShared self.old partial.old }
+        requires room { self.old.rules.entries ≤ table.old.room }
+        ensures { Advances self.old partial.old table.old input.now result self.new partial.new table.new }
+    {
+        if let Stage::Done = self.remaining.stage {
+            self.stop();
+            return TypeAdvance::Done;
+        }
+        self.ready(partial);
+        match partial.advance(input) {
+            Taken::More { used } => {
+                self.taken += used as u64;
+                TypeAdvance::More { used }
+            }
+            Taken::Refused(refusal) => {
+                self.stop();
+                TypeAdvance::Refused(refusal)
+            }
+            Taken::Got { used, item } => {
+                let at = self.at;
+                match self.remaining.follow(&self.limits, item, table) {
+                    Ok(item) => {
+                        self.at += self.taken + used as u64;
+                        self.begun = false;
+                        self.taken = 0;
+                        TypeAdvance::Item { at, used, item }
+                    }
+                    Err(why) => {
+                        self.stop();
+                        TypeAdvance::Refused(Refusal { at, why })
+                    }
+                }
+            }
+        }
+    }
+
+    /// Takes the next bytes of the option that is under way. A text that lies whole in them is lent from them.
+    ///
+    /// The `Partial` comes first: what is lent may be its own, and a clause says what the first parameter is once that
+    /// loan has ended.
+    pub fn push<'a, B: Allocator, C: Allocator>(
+        partial: &'a mut Partial<B>,
+        reader: &mut Self,
+        table: &mut TypeTable<C>,
+        input: &'a [u8],
+    ) -> TypePush<'a>
+        requires under_way { reader.old.under_way ≡ true }
+        requires shared { IsShared reader.old partial.old }
+        requires room { reader.old.rules.entries ≤ table.old.room }
+        ensures uses { Uses input.now result }
+        ensures reader { Continues reader.old result reader.new }
+        ensures table { Fills reader.old table.old result table.new }
+        ensures* next { sem 𝓛 (Next B.row B.Allocator partial.entry (λ after. Pushes reader.old partial.old table.old input.now result reader.new after table.new)) }
+    {
+        match reader.advance(partial, table, input) {
+            TypeAdvance::More { used } => TypePush::More { used },
+            TypeAdvance::Item { at, used, item } => TypePush::Item {
+                at,
+                used,
+                item: item.lend(partial, input),
+            },
+            TypeAdvance::Done => TypePush::Done,
+            TypeAdvance::Refused(refusal) => TypePush::Refused(refusal),
+        }
+    }
+
+    /// Sees that the item has begun.
+    fn ready<B: Allocator>(&mut self, partial: &mut Partial<B>)
+        requires wanted { (self.old.symbols ≡ []) → ⊥ }
+        requires shared { IsShared self.old partial.old }
+        ensures reader { self.new ≡ record self.old { begun = true; taken = self.new.taken } }
+        ensures shared { IsShared self.new partial.new }
+        ensures pending { pending self.new partial.new ≡ pending self.old partial.old }
+        ensures room { partial.new.room ≡ partial.old.room }
+    {
+        if self.begun {
+            return;
+        }
+        let (notation, limit) = match self.remaining.stage {
+            Stage::Id | Stage::Fields { .. } => (Notation::Short, 0),
+            _ => (Notation::Text16, self.limits.text),
+        };
+        partial.begin(notation, limit, self.at, self.end);
+        self.begun = true;
+        self.taken = 0;
+    }
+
+    /// Ends the option.
+    fn stop(&mut self)
+        ensures { self.new ≡ stopped self.old }
+    {
+        self.begun = false;
+        self.taken = 0;
+        self.remaining.levels.clear();
+        self.remaining.stage = Stage::Idle;
+    }
+}
+
+#[cfg(test)]
+mod tests;

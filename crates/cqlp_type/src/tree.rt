@@ -1,0 +1,183 @@
+//! Types as trees.
+
+ghost use Rattle.std.specs.Prelude.{◌≡◌, ◌+◌, ◌&&◌, ℕ, Bool, true, false, length, string_bytes};
+ghost use Rattle.cqlp_type.specs.Trees.{is_plain};
+ghost use Rattle.cqlp_type.specs.TypeTrees.{spelled_len, len_if, is_counted, trees_fit, trees_size};
+ghost use Rattle.cqlp_type.specs.TypeLists.{listed_types, listed_fields};
+
+use crate::kind::Kind;
+
+/// The longest option, which is also the longest body of a frame.
+const LONGEST: u32 = 268_435_456;
+
+/// A type, with the texts of its option. Section 4.2.5.2 of `native_protocol_v4.spec`.
+#[derive(Debug, PartialEq, Eq, Drop)]
+pub enum TypeTree {
+    /// A type without parameters.
+    Plain(Kind),
+    /// A type that is known by the name of its class.
+    Custom(String),
+    List(Box<TypeTree>),
+    Set(Box<TypeTree>),
+    /// The types of the keys and of the values.
+    Map(Box<TypeTree>, Box<TypeTree>),
+    /// A user-defined type, whose fields have names.
+    Udt {
+        keyspace: String,
+        name: String,
+        fields: Vec<(String, TypeTree)>,
+    },
+    Tuple(Vec<TypeTree>),
+}
+
+/// How many bytes a type's option has. None where a text has more than 65,535 bytes, a user-defined type or a tuple
+/// has more fields than that, a plain type is of a kind that has parameters, or the option has more than 268,435,456
+/// bytes.
+#[cycle(type_len)]
+pub fn type_len(tree: &TypeTree) -> Option<u32>
+    ensures { result ≡ spelled_len tree.now }
+{
+    match tree {
+        TypeTree::Plain(kind) => {
+            if kind.is_plain() {
+                Some(2)
+            } else {
+                None
+            }
+        }
+        TypeTree::Custom(class) => sum(Some(2), text_len(class)),
+        TypeTree::List(inner) => sum(Some(2), type_len(inner)),
+        TypeTree::Set(inner) => sum(Some(2), type_len(inner)),
+        TypeTree::Map(key, value) => sum(sum(Some(2), type_len(key)), type_len(value)),
+        TypeTree::Udt {
+            keyspace,
+            name,
+            fields,
+        } => {
+            let texts = sum(text_len(keyspace), text_len(name));
+            let head = sum(sum(Some(2), texts), count_len(fields.len()));
+            sum(head, fields_len(fields))
+        }
+        TypeTree::Tuple(types) => {
+            let head = sum(Some(2), count_len(types.len()));
+            sum(head, types_len(types))
+        }
+    }
+}
+
+/// The same of inner types without names.
+#[cycle(type_len)]
+fn types_len(types: &[TypeTree]) -> Option<u32>
+    ensures { result ≡ len_if (trees_fit false (listed_types types.now)) (trees_size false (listed_types types.now)) }
+{
+    let mut len = Some(0);
+    for tree in types {
+        len = sum(len, type_len(tree));
+    }
+    len
+}
+
+/// The same of inner types with names.
+#[cycle(type_len)]
+fn fields_len(fields: &[(String, TypeTree)]) -> Option<u32>
+    ensures { result ≡ len_if (trees_fit true (listed_fields fields.now)) (trees_size true (listed_fields fields.now)) }
+{
+    let mut len = Some(0);
+    for (name, tree) in fields {
+        len = sum(len, sum(text_len(name), type_len(tree)));
+    }
+    len
+}
+
+/// Both lengths together.
+fn sum(a: Option<u32>, b: Option<u32>) -> Option<u32>
+    ensures { (p q : Bool) (m n : ℕ) → a ≡ len_if p m → b ≡ len_if q n → result ≡ len_if (p && q) (m + n) }
+{
+    match (a, b) {
+        (Some(a), Some(b)) if a <= LONGEST && b <= LONGEST - a => Some(a + b),
+        _ => None,
+    }
+}
+
+/// How many bytes a text has, those of its length counted.
+fn text_len(text: &String) -> Option<u32>
+    ensures { result ≡ len_if (is_counted (length (string_bytes text.now))) (2 + length (string_bytes text.now)) }
+{
+    let len = text.len();
+    if len <= 65_535 {
+        Some(2 + len as u32)
+    } else {
+        None
+    }
+}
+
+/// How many bytes a count has.
+fn count_len(count: usize) -> Option<u32>
+    ensures { result ≡ len_if (is_counted count) 2 }
+{
+    if count <= 65_535 { Some(2) } else { None }
+}
+
+#[cfg(test)]
+mod tests {
+    use super::*;
+    use std::alloc::Global;
+    use std::test::Fail;
+
+    fn text(alloc: Global, text: &str) -> Result<String, Fail> {
+        Ok(String::from_str(alloc, text)?)
+    }
+
+    fn boxed(alloc: Global, tree: TypeTree) -> Result<Box<TypeTree>, Fail> {
+        Ok(Box::new(alloc, tree)?)
+    }
+
+    #[test]
+    fn lengths_of_options(rt: HostRuntime) -> Result<(), Fail> {
+        let alloc = rt.alloc();
+        assert_eq!(rt; type_len(&TypeTree::Plain(Kind::Int)), Some(2));
+        assert_eq!(rt; type_len(&TypeTree::Plain(Kind::List)), None);
+        assert_eq!(rt; type_len(&TypeTree::Plain(Kind::Raw)), None);
+        let list = TypeTree::List(boxed(alloc, TypeTree::Plain(Kind::Int))?);
+        assert_eq!(rt; type_len(&list), Some(4));
+        let custom = TypeTree::Custom(text(alloc, "abc")?);
+        let map = TypeTree::Map(boxed(alloc, list)?, boxed(alloc, custom)?);
+        assert_eq!(rt; type_len(&TypeTree::Set(boxed(alloc, map)?)), Some(15));
+        let mut fields = Vec::new(alloc);
+        fields.push((text(alloc, "a")?, TypeTree::Plain(Kind::Int)))?;
+        fields.push((text(alloc, "b")?, TypeTree::Plain(Kind::Int)))?;
+        fields.push((text(alloc, "c")?, TypeTree::Plain(Kind::Varchar)))?;
+        let udt = TypeTree::Udt {
+            keyspace: text(alloc, "k")?,
+            name: text(alloc, "u")?,
+            fields,
+        };
+        assert_eq!(rt; type_len(&udt), Some(25));
+        Ok(())
+    }
+
+    /// A tuple of so many ints.
+    fn tuple(alloc: Global, ints: u32) -> Result<TypeTree, Fail> {
+        let mut types = Vec::new(alloc);
+        for _ in 0..ints {
+            types.push(TypeTree::Plain(Kind::Int))?;
+        }
+        Ok(TypeTree::Tuple(types))
+    }
+
+    #[test]
+    fn counts_and_texts_are_limited(rt: HostRuntime) -> Result<(), Fail> {
+        let alloc = rt.alloc();
+        assert_eq!(rt; type_len(&tuple(alloc, 8)?), Some(20));
+        assert_eq!(rt; type_len(&tuple(alloc, 65_535)?), Some(131_074));
+        assert_eq!(rt; type_len(&tuple(alloc, 65_536)?), None);
+        let mut class = String::new(alloc);
+        for _ in 0..65_535 {
+            class.push('x')?;
+        }
+        assert_eq!(rt; type_len(&TypeTree::Custom(class.clone()?)), Some(65_539));
+        class.push('x')?;
+        assert_eq!(rt; type_len(&TypeTree::Custom(class)), None);
+        Ok(())
+    }
+}
