@@ -143,9 +143,9 @@ module _ (nodes : List Node) (d : State) (items : d.next ≡ next.Items) (o : Op
       let h = has_next nodes d.rules level d.offset o types more in
       let s = symbols_by nodes d.rules level o k ne e (rw e at types) (rw e at h) in
       let now : open_symbols nodes level o ≡ item nodes d.rules level o ∷ open_symbols nodes level (passed nodes o) =
-          ap (left_of nodes level o) e ∙ s ∙ ap (λ (j : Order). item nodes d.rules level o ∷ left_of nodes level (passed_by nodes o j) (passed_by nodes o j).order) (sym e) in
+      ap (left_of nodes level o) e ∙ s ∙ ap (λ (j : Order). item nodes d.rules level o ∷ left_of nodes level (passed_by nodes o j) (passed_by nodes o j).order) (sym e) in
       let all : (place nodes d).symbols ≡ item nodes d.rules level o ∷ rest_of nodes d =
-          now_symbols ∙ ap (λ (x : List CellSymbol). x ++ outer) now ∙ ap (λ (x : List CellSymbol). item nodes d.rules level o ∷ x) (sym rest_symbols) in
+      now_symbols ∙ ap (λ (x : List CellSymbol). x ++ outer) now ∙ ap (λ (x : List CellSymbol). item nodes d.rules level o ∷ x) (sym rest_symbols) in
       value_first d.rules (place nodes d) (rest_of nodes d) _ _ (level + 1) o.stop all
 
   field_step : o.order ≡ order.Fields → Steps
@@ -157,9 +157,9 @@ module _ (nodes : List Node) (d : State) (items : d.next ≡ next.Items) (o : Op
       let f = first_type nodes o.node (o.left - 1) _ (rw one at t.0) in
       let others = types_at nodes (o.node + (node_at nodes o.node).span) (o.left - 1) in
       let now : (place nodes d).symbols ≡ Items_of (Type_and (node_at nodes o.node).kind (types_at nodes (o.node + 1) (node_at nodes o.node).arity) others) level o.stop o.items ∷ outer =
-          now_symbols ∙ ap (λ (j : Order). left_of nodes level o j ++ outer) e ∙ ap (λ (x : Types). Items_of x level o.stop o.items ∷ outer) (ap (types_at nodes o.node) one ∙ f.types) in
+      now_symbols ∙ ap (λ (j : Order). left_of nodes level o j ++ outer) e ∙ ap (λ (x : Types). Items_of x level o.stop o.items ∷ outer) (ap (types_at nodes o.node) one ∙ f.types) in
       let rest : rest_of nodes d ≡ Items_of others level o.stop (o.items + 1) ∷ outer =
-          rest_symbols ∙ ap (λ (j : Order). left_of nodes level (passed_by nodes o j) (passed_by nodes o j).order ++ outer) e ∙ ap (λ (j : Order). left_of nodes level (passed_by nodes o order.Fields) j ++ outer) e in
+      rest_symbols ∙ ap (λ (j : Order). left_of nodes level (passed_by nodes o j) (passed_by nodes o j).order ++ outer) e ∙ ap (λ (j : Order). left_of nodes level (passed_by nodes o order.Fields) j ++ outer) e in
       rw rest (field_first d.rules (place nodes d) outer _ _ others level o.stop o.items (or_right _ _ over) now)
 
   step_by : (k : Order) → o.order ≡ k → Steps

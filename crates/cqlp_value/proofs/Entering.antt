@@ -66,7 +66,7 @@ counted_types nodes l level v stop count k t h s = absurd cc
 -- the symbols of its items
 pub counted_symbols : (nodes : List Node) (l : Rules) (level : ℕ) (v : Value) (stop count : ℕ) (k : Kind) → is_counted k ≡ true → HasInner k v.arity → Stand nodes (v.node + 1) v.arity (l.depth - (level + 1))
     → cell_copies count (values_of (types_at nodes (v.node + 1) v.arity) (level + 1) stop) ++ Close_of level stop count ∷ []
-      ≡ open_symbols nodes level (record { order = (order_by k (v.node + 1 + (node_at nodes (v.node + 1)).span)).0; node = v.node + 1; other = (order_by k (v.node + 1 + (node_at nodes (v.node + 1)).span)).1; left = count; items = count; stop = stop })
+    ≡ open_symbols nodes level (record { order = (order_by k (v.node + 1 + (node_at nodes (v.node + 1)).span)).0; node = v.node + 1; other = (order_by k (v.node + 1 + (node_at nodes (v.node + 1)).span)).1; left = count; items = count; stop = stop })
 counted_symbols nodes l level v stop count kind.List t h s = rw h refl
 counted_symbols nodes l level v stop count kind.Set t h s = rw h refl
 counted_symbols nodes l level v stop count kind.Map t h s =

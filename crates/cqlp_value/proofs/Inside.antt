@@ -63,24 +63,26 @@ module _ (nodes : List Node) (i n depth : ℕ) where
       let all = append_assoc (preorder inner) (preorder others) more in
       let behind : drop (i + 1) nodes ≡ preorder inner ++ (preorder others ++ more) = rw (← next) (r.1 ∙ all) in
       let past : drop (i + x.span) nodes ≡ preorder others ++ more =
-          let e : i + x.span ≡ (i + 1) + length (preorder inner) = omega arith in
-          rw (e, ← (drop-drop (length (preorder inner)) (i + 1) nodes), behind) (drop_at (preorder inner) (preorder others ++ more) _ refl) in
-      let size = rw (all, length-append (preorder inner) (preorder others ++ more)) at r.2 in
-      (x, record {
-        get = r.0;
-        here = rw r.0 refl;
-        is = types_there nodes i (Type_and k inner others) more are (suc n) many ∙ sym (rw (types_there nodes (i + 1) inner (preorder others ++ more) behind (how_many inner) refl, types_there nodes (i + x.span) others more past n (omega (arith, many))) refl);
-        formed = formed.0;
-        deep = omega arith;
-        inner = stand_there nodes (i + 1) inner (preorder others ++ more) behind (how_many inner) (depth - 1) refl formed.1 (omega arith);
-        after = stand_there nodes (i + x.span) others more past n depth (omega (arith, many)) formed.2 (omega arith);
-        within = omega (arith, size);
-        some = omega arith;
-        alone =
-            let one : Types = Type_and k inner NoMore in
-            let first : drop i nodes ≡ preorder one ++ (preorder others ++ more) = are ∙ ap (λ (m : List Node). x ∷ m) (all ∙ sym (ap (λ (m : List Node). m ++ (preorder others ++ more)) (append-nil (preorder inner)))) in
-            stand_there nodes i one (preorder others ++ more) first 1 depth refl (formed.0, formed.1, tt) (omega arith);
-      })
+      let e : i + x.span ≡ (i + 1) + length (preorder inner) = omega arith in
+      rw (e, ← (drop-drop (length (preorder inner)) (i + 1) nodes), behind) (drop_at (preorder inner) (preorder others ++ more) _ refl) in
+      let size = rw (all, length-append (preorder inner) (preorder others ++ more)) at r.2 in (
+        x,
+        record {
+          get = r.0;
+          here = rw r.0 refl;
+          is = types_there nodes i (Type_and k inner others) more are (suc n) many ∙ sym (rw (types_there nodes (i + 1) inner (preorder others ++ more) behind (how_many inner) refl, types_there nodes (i + x.span) others more past n (omega (arith, many))) refl);
+          formed = formed.0;
+          deep = omega arith;
+          inner = stand_there nodes (i + 1) inner (preorder others ++ more) behind (how_many inner) (depth - 1) refl formed.1 (omega arith);
+          after = stand_there nodes (i + x.span) others more past n depth (omega (arith, many)) formed.2 (omega arith);
+          within = omega (arith, size);
+          some = omega arith;
+          alone =
+              let one : Types = Type_and k inner NoMore in
+              let first : drop i nodes ≡ preorder one ++ (preorder others ++ more) = are ∙ ap (λ (m : List Node). x ∷ m) (all ∙ sym (ap (λ (m : List Node). m ++ (preorder others ++ more)) (append-nil (preorder inner)))) in
+              stand_there nodes i one (preorder others ++ more) first 1 depth refl (formed.0, formed.1, tt) (omega arith);
+        },
+      )
 
   first_of : (ts : Types) (more : List Node) → drop i nodes ≡ preorder ts ++ more → how_many ts ≡ suc n → AreTypes ts → depth_of ts ≤ depth → (x : Node) × First nodes i n depth x
   first_of NoMore more are many formed shallow = absurd (omega (arith, many))

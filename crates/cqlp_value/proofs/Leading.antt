@@ -113,56 +113,65 @@ module _ (nodes : List Node) (old : State) (p : Progress) (input : List ℕ) (ne
       let h = m came.0 came.1 in
       let same = h.0.same in
       let rules : new.rules ≡ old.rules = ap (λ (d : State). d.rules) same in
-      let here : place nodes new ≡ place nodes old = ap (place nodes) same in
-      (record {
-        leads = λ start s es after.
-          let w = m after.pending after.come in
-          (record { pending = after.pending ++ input; runs = rw (rules, here) (runs_stay (cell_step old.rules) start s input es (place nodes old) after.pending after.runs); come = w.1 },
-            (λ i. saying (rules i) (here i) (after.pending ++ input)) ∙ sym (told_is nodes old (after.pending ++ input)) ∙ w.0.is);
-        serves = h.0.joined;
-        longest = h.0.longest;
-      }, (ap is_under_way same ∙ under_way, rules, rw same (stands_under nodes old new.under stands)))
+      let here : place nodes new ≡ place nodes old = ap (place nodes) same in (
+        record {
+          leads = λ start s es after.
+              let w = m after.pending after.come in (
+                record { pending = after.pending ++ input; runs = rw (rules, here) (runs_stay (cell_step old.rules) start s input es (place nodes old) after.pending after.runs); come = w.1 },
+                (λ i. saying (rules i) (here i) (after.pending ++ input)) ∙ sym (told_is nodes old (after.pending ++ input)) ∙ w.0.is,
+              );
+          serves = h.0.joined;
+          longest = h.0.longest;
+        },
+        (ap is_under_way same ∙ under_way, rules, rw same (stands_under nodes old new.under stands)),
+      )
 
   pub item_lends : (at used : ℕ) (i : CellOutline) → Moves nodes old p input (advance.Item at used i) new q → CanLend i input q.content
   item_lends at used i m = (m came.0 came.1).can_lend
 
   pub item_pushes : (at used : ℕ) (i : CellOutline) (e : CellItem) → event_of e ≡ event_at i input q.content → Moves nodes old p input (advance.Item at used i) new q → Pushes nodes old p input (push.Item at used e) new q × Continues nodes old (push.Item at used e) new
   item_pushes at used i e is m =
-      let h = m came.0 came.1 in
-      (record {
-        leads = λ start s es after.
-          let w = m after.pending after.come in
-          let g = w.emits in
-          let bytes = take used input in
-          let long : length bytes ≡ used = length-take-le used input w.within in
-          let exact = says_exact (cell_step old.rules (place nodes old)) after.pending input g.x used (sym (told_is nodes old (after.pending ++ input)) ∙ g.is) in
-          record {
-            pending = [];
-            runs = rw w.rules (run_more old.rules start (place nodes old) (place nodes new) s after.pending bytes es at (event_of e) g.x after.runs (rw long exact) g.offset (g.event ∙ sym is) (rw long g.after));
-            come = rw w.fresh refl;
-          };
-        serves = record { longest = rw (h.rules, h.longest) joined.longest; under_way = rw h.fresh h.idle };
-        longest = h.longest;
-      }, (h.goes_on, h.rules, h.stands))
+      let h = m came.0 came.1 in (
+        record {
+          leads = λ start s es after.
+              let w = m after.pending after.come in
+              let g = w.emits in
+              let bytes = take used input in
+              let long : length bytes ≡ used = length-take-le used input w.within in
+              let exact = says_exact (cell_step old.rules (place nodes old)) after.pending input g.x used (sym (told_is nodes old (after.pending ++ input)) ∙ g.is) in
+              record {
+                pending = [];
+                runs = rw w.rules (run_more old.rules start (place nodes old) (place nodes new) s after.pending bytes es at (event_of e) g.x after.runs (rw long exact) g.offset (g.event ∙ sym is) (rw long g.after));
+                come = rw w.fresh refl;
+              };
+          serves = record { longest = rw (h.rules, h.longest) joined.longest; under_way = rw h.fresh h.idle };
+          longest = h.longest;
+        },
+        (h.goes_on, h.rules, h.stands),
+      )
 
   pub done_pushes : Moves nodes old p input advance.Done new q → Pushes nodes old p input push.Done new q × (new ≡ ended old)
   done_pushes m =
-      let idle : p.under_way ≡ false = rw m.1 at joined.under_way in
-      (record {
-        leads = λ start s es after.
-          let none : after.pending ≡ [] = rw m.1 at after.come in
-          (rw none at after.runs, none_left nodes old.stop old.offset old.next old.open_values m.0);
-        serves = rw m.3 idle;
-        longest = rw m.3 refl;
-      }, m.2)
+      let idle : p.under_way ≡ false = rw m.1 at joined.under_way in (
+        record {
+          leads = λ start s es after.
+              let none : after.pending ≡ [] = rw m.1 at after.come in
+              (rw none at after.runs, none_left nodes old.stop old.offset old.next old.open_values m.0);
+          serves = rw m.3 idle;
+          longest = rw m.3 refl;
+        },
+        m.2,
+      )
 
   pub refused_pushes : (r : Refusal) → Moves nodes old p input (advance.Refused r) new q → Pushes nodes old p input (push.Refused r) new q × (new ≡ ended old)
   refused_pushes r m =
-      let h = m came.0 came.1 in
-      (record {
-        leads = λ start s es after.
-          let w = m after.pending after.come in
-          (after.pending ++ input, runs_stay (cell_step old.rules) start s input es (place nodes old) after.pending after.runs, sym (told_is nodes old (after.pending ++ input)) ∙ w.is);
-        serves = h.idle;
-        longest = h.longest;
-      }, h.ends)
+      let h = m came.0 came.1 in (
+        record {
+          leads = λ start s es after.
+              let w = m after.pending after.come in
+              (after.pending ++ input, runs_stay (cell_step old.rules) start s input es (place nodes old) after.pending after.runs, sym (told_is nodes old (after.pending ++ input)) ∙ w.is);
+          serves = h.idle;
+          longest = h.longest;
+        },
+        h.ends,
+      )

@@ -116,7 +116,7 @@ module _ (nodes : List Node) (d new : State) (n start : ℕ) (p q : Progress) (i
         stop = refl;
         stands = rw enters.0 at enters.1;
         goes_on = refl;
-    fresh = refl;
+        fresh = refl;
         idle = idle;
         longest = longest;
       })

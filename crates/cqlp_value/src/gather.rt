@@ -18,7 +18,14 @@ pub(crate) struct Found {
 
 /// Takes the next bytes of a content of `len` bytes from `start` in the input on. It begins here, at offset `at` in the
 /// stream, or was begun before. A content that lies whole in the input is not copied.
-pub(crate) fn gather<A: Allocator>(partial: &mut Partial<A>, begun: bool, len: u32, at: u64, start: usize, input: &[u8]) -> Option<Found>
+pub(crate) fn gather<A: Allocator>(
+    partial: &mut Partial<A>,
+    begun: bool,
+    len: u32,
+    at: u64,
+    start: usize,
+    input: &[u8],
+) -> Option<Found>
     requires under_way { IsGathering begun len at start partial.old }
     requires fits { len ≤ partial.old.room }
     requires place { at + len < 2 ^ 64 }
@@ -97,7 +104,11 @@ fn empty<A: Allocator>(partial: &mut Partial<A>)
 }
 
 /// The bytes that lie there.
-pub(crate) fn lent<'a, A: Allocator>(partial: &'a Partial<A>, input: &'a [u8], content: Item) -> &'a [u8]
+pub(crate) fn lent<'a, A: Allocator>(
+    partial: &'a Partial<A>,
+    input: &'a [u8],
+    content: Item,
+) -> &'a [u8]
     requires { LieAt content input.now partial.now.content }
     ensures { item_value content input.now partial.now.content ≡ Bytes (Some result.now) }
 {

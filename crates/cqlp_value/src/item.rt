@@ -15,16 +15,30 @@ use std::alloc::Allocator;
 #[derive(Clone, Copy, Debug, PartialEq, Eq)]
 pub enum CellItem<'a> {
     /// A scalar.
-    Leaf { level: u32, scalar: Scalar<'a> },
+    Leaf {
+        level: u32,
+        scalar: Scalar<'a>,
+    },
     /// A value of a negative length.
-    Null { level: u32 },
+    Null {
+        level: u32,
+    },
     /// A value of no bytes.
-    Empty { level: u32 },
+    Empty {
+        level: u32,
+    },
     /// The beginning of a value with items: how many a list or a set has, the pairs of a map, or the types of the items
     /// of a tuple or a user-defined type.
-    Enter { level: u32, kind: Kind, items: u32 },
+    Enter {
+        level: u32,
+        kind: Kind,
+        items: u32,
+    },
     /// The end of such a value, and how many items it had; a map's are pairs.
-    Leave { level: u32, items: u32 },
+    Leave {
+        level: u32,
+        items: u32,
+    },
     /// Bytes of a long blob, custom or raw scalar, from this offset in it.
     Part {
         level: u32,
@@ -38,15 +52,30 @@ pub enum CellItem<'a> {
 #[derive(Clone, Copy)]
 pub enum CellOutline {
     /// A scalar, whose content lies there.
-    Leaf { level: u32, kind: Kind, content: Item },
+    Leaf {
+        level: u32,
+        kind: Kind,
+        content: Item,
+    },
     /// A value of a negative length.
-    Null { level: u32 },
+    Null {
+        level: u32,
+    },
     /// A value of no bytes.
-    Empty { level: u32 },
+    Empty {
+        level: u32,
+    },
     /// The beginning of a value with items.
-    Enter { level: u32, kind: Kind, items: u32 },
+    Enter {
+        level: u32,
+        kind: Kind,
+        items: u32,
+    },
     /// The end of such a value.
-    Leave { level: u32, items: u32 },
+    Leave {
+        level: u32,
+        items: u32,
+    },
     /// Bytes of a long scalar, which lie there.
     Part {
         level: u32,
@@ -60,7 +89,9 @@ pub enum CellOutline {
 #[derive(Clone, Copy)]
 pub enum CellAdvance {
     /// All of it was used, and the cell goes on.
-    More { used: usize },
+    More {
+        used: usize,
+    },
     /// So many of its bytes end a part, which began at this offset.
     Item {
         at: u64,
@@ -77,7 +108,9 @@ pub enum CellAdvance {
 #[derive(Clone, Copy, Debug, PartialEq, Eq)]
 pub enum CellPush<'a> {
     /// All of it was used, and the cell goes on.
-    More { used: usize },
+    More {
+        used: usize,
+    },
     /// So many of its bytes end a part, which began at this offset.
     Item {
         at: u64,

@@ -21,7 +21,14 @@ pub(crate) enum Number {
 
 /// Takes the next bytes of an \[int\] from `start` in the input on. It begins here, at offset `at` in a container that
 /// ends at `end`, or was begun before.
-pub(crate) fn take_number<A: Allocator>(partial: &mut Partial<A>, begun: bool, at: u64, end: u64, start: usize, input: &[u8]) -> Number
+pub(crate) fn take_number<A: Allocator>(
+    partial: &mut Partial<A>,
+    begun: bool,
+    at: u64,
+    end: u64,
+    start: usize,
+    input: &[u8],
+) -> Number
     requires under_way { IsCounting begun at (end - at) start partial.old }
     requires place { at ≤ end }
     requires within { start ≤ length input.now }

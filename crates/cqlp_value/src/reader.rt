@@ -82,7 +82,12 @@ impl<A: Allocator> CellReader<A> {
     }
 
     /// Takes the next bytes of the cell that is under way, and says where the content of an item lies.
-    pub fn advance(&mut self, partial: &mut Partial<A>, table: &TypeTable<A>, input: &[u8]) -> CellAdvance
+    pub fn advance(
+        &mut self,
+        partial: &mut Partial<A>,
+        table: &TypeTable<A>,
+        input: &[u8],
+    ) -> CellAdvance
         requires under_way { is_under_way self.old ≡ true }
         requires stands { Stands table.now.nodes self.old }
         requires joined { Joined table.now.nodes self.old partial.old }
@@ -96,7 +101,12 @@ impl<A: Allocator> CellReader<A> {
     ///
     /// The `Partial` comes first: what is lent may be its own, and a clause says what the first parameter is once that
     /// loan has ended.
-    pub fn push<'a>(partial: &'a mut Partial<A>, reader: &mut Self, table: &TypeTable<A>, input: &'a [u8]) -> CellPush<'a>
+    pub fn push<'a>(
+        partial: &'a mut Partial<A>,
+        reader: &mut Self,
+        table: &TypeTable<A>,
+        input: &'a [u8],
+    ) -> CellPush<'a>
         requires under_way { is_under_way reader.old ≡ true }
         requires stands { Stands table.now.nodes reader.old }
         requires joined { Joined table.now.nodes reader.old partial.old }

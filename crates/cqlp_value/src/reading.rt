@@ -27,7 +27,12 @@ use std::alloc::Allocator;
 
 impl<A: Allocator> Standing<A> {
     /// Takes the next bytes of the cell.
-    pub(crate) fn advance(&mut self, partial: &mut Partial<A>, table: &TypeTable<A>, input: &[u8]) -> CellAdvance
+    pub(crate) fn advance(
+        &mut self,
+        partial: &mut Partial<A>,
+        table: &TypeTable<A>,
+        input: &[u8],
+    ) -> CellAdvance
         requires stands { Stands table.now.nodes (state_of self.old) }
         requires joined { Joined table.now.nodes (state_of self.old) partial.old }
         requires levels { self.old.levels.room ≡ self.old.limits.depth }
@@ -71,7 +76,16 @@ impl<A: Allocator> Standing<A> {
     }
 
     /// Takes the next bytes of a scalar of so many bytes, whose length is read.
-    fn advance_scalar(&mut self, begun: bool, value: Value, len: u32, start: usize, partial: &mut Partial<A>, table: &TypeTable<A>, input: &[u8]) -> CellAdvance
+    fn advance_scalar(
+        &mut self,
+        begun: bool,
+        value: Value,
+        len: u32,
+        start: usize,
+        partial: &mut Partial<A>,
+        table: &TypeTable<A>,
+        input: &[u8],
+    ) -> CellAdvance
         requires stands { Stands table.now.nodes (state_of self.old) }
         requires due { due_of (state_of self.old) ≡ due.Value }
         requires value { value ≡ due_value table.now.nodes (state_of self.old) }
@@ -106,7 +120,16 @@ impl<A: Allocator> Standing<A> {
     }
 
     /// Takes the next bytes of a list, a set or a map of so many bytes, whose length is read.
-    fn advance_count(&mut self, begun: bool, value: Value, len: u32, start: usize, partial: &mut Partial<A>, table: &TypeTable<A>, input: &[u8]) -> CellAdvance
+    fn advance_count(
+        &mut self,
+        begun: bool,
+        value: Value,
+        len: u32,
+        start: usize,
+        partial: &mut Partial<A>,
+        table: &TypeTable<A>,
+        input: &[u8],
+    ) -> CellAdvance
         requires stands { Stands table.now.nodes (state_of self.old) }
         requires due { due_of (state_of self.old) ≡ due.Value }
         requires value { value ≡ due_value table.now.nodes (state_of self.old) }
@@ -139,7 +162,13 @@ impl<A: Allocator> Standing<A> {
     }
 
     /// Goes on inside a list, a set or a map of so many bytes, which has so many elements or pairs.
-    fn enter_counted(&mut self, value: Value, len: u32, count: u32, table: &TypeTable<A>) -> CellOutline
+    fn enter_counted(
+        &mut self,
+        value: Value,
+        len: u32,
+        count: u32,
+        table: &TypeTable<A>,
+    ) -> CellOutline
         requires stands { Stands table.now.nodes (state_of self.old) }
         requires due { due_of (state_of self.old) ≡ due.Value }
         requires value { value ≡ due_value table.now.nodes (state_of self.old) }
@@ -204,7 +233,15 @@ impl<A: Allocator> Standing<A> {
     }
 
     /// Takes the next bytes of the first part of a scalar of so many bytes, whose length is read.
-    fn advance_first(&mut self, begun: bool, total: u32, start: usize, partial: &mut Partial<A>, table: &TypeTable<A>, input: &[u8]) -> CellAdvance
+    fn advance_first(
+        &mut self,
+        begun: bool,
+        total: u32,
+        start: usize,
+        partial: &mut Partial<A>,
+        table: &TypeTable<A>,
+        input: &[u8],
+    ) -> CellAdvance
         requires stands { Stands table.now.nodes (state_of self.old) }
         requires due { due_of (state_of self.old) ≡ due.Value }
         requires decided { Decided table.now.nodes (state_of self.old) total (size.Parts total) }
@@ -242,7 +279,15 @@ impl<A: Allocator> Standing<A> {
     }
 
     /// Takes the next bytes of a later part of a scalar of `total` bytes, from this offset in it.
-    fn advance_part(&mut self, begun: bool, offset: u32, total: u32, partial: &mut Partial<A>, table: &TypeTable<A>, input: &[u8]) -> CellAdvance
+    fn advance_part(
+        &mut self,
+        begun: bool,
+        offset: u32,
+        total: u32,
+        partial: &mut Partial<A>,
+        table: &TypeTable<A>,
+        input: &[u8],
+    ) -> CellAdvance
         requires stands { Stands table.now.nodes (state_of self.old) }
         requires next { self.old.next ≡ next.Part offset total }
         requires under_way { IsGathering begun (part_size (state_of self.old) offset total) self.old.offset 0 partial.old }
@@ -275,7 +320,15 @@ impl<A: Allocator> Standing<A> {
     }
 
     /// Goes on behind the length of a value, which ends behind so many bytes of the input.
-    fn settle(&mut self, value: Value, number: u32, start: usize, partial: &mut Partial<A>, table: &TypeTable<A>, input: &[u8]) -> CellAdvance
+    fn settle(
+        &mut self,
+        value: Value,
+        number: u32,
+        start: usize,
+        partial: &mut Partial<A>,
+        table: &TypeTable<A>,
+        input: &[u8],
+    ) -> CellAdvance
         requires stands { Stands table.now.nodes (state_of self.old) }
         requires due { due_of (state_of self.old) ≡ due.Value }
         requires value { value ≡ due_value table.now.nodes (state_of self.old) }
@@ -330,7 +383,13 @@ impl<A: Allocator> Standing<A> {
     }
 
     /// Takes the next bytes of a value whose length is not read.
-    fn advance_length(&mut self, begun: bool, partial: &mut Partial<A>, table: &TypeTable<A>, input: &[u8]) -> CellAdvance
+    fn advance_length(
+        &mut self,
+        begun: bool,
+        partial: &mut Partial<A>,
+        table: &TypeTable<A>,
+        input: &[u8],
+    ) -> CellAdvance
         requires stands { Stands table.now.nodes (state_of self.old) }
         requires due { due_of (state_of self.old) ≡ due.Value }
         requires under_way { IsCounting begun self.old.offset (room_of table.now.nodes (state_of self.old)) 0 partial.old }

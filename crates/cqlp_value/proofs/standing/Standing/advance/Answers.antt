@@ -18,7 +18,7 @@ returns-in-Scalar-clause-moves g c =
     let under = rw c.in-Scalar.is at r.joined.under_way in
     let s = c.advance_scalar.ensures.settles in
     moves_by nodes old c.args.partial.now c.args.input.now _ _ _ c.advance_scalar.result (state_of c.advance_scalar.new.self) c.advance_scalar.new.partial s
-      (λ b come. resumed nodes old c.args.partial.now c.args.input.now c.in-Scalar.len r.stands under.0 (omega (arith, under.2.fits.0)) b _ _ _ (rw c.in-Scalar.is at come) s)
+    (λ b come. resumed nodes old c.args.partial.now c.args.input.now c.in-Scalar.len r.stands under.0 (omega (arith, under.2.fits.0)) b _ _ _ (rw c.in-Scalar.is at come) s)
 
 pub returns-in-Counted-clause-moves : goal.returns-in-Counted-clause-moves
 returns-in-Counted-clause-moves g c =
@@ -28,7 +28,7 @@ returns-in-Counted-clause-moves g c =
     let under = rw c.in-Counted.is at r.joined.under_way in
     let s = c.advance_count.ensures.settles in
     moves_by nodes old c.args.partial.now c.args.input.now _ _ _ c.advance_count.result (state_of c.advance_count.new.self) c.advance_count.new.partial s
-      (λ b come. resumed nodes old c.args.partial.now c.args.input.now c.in-Counted.len r.stands under.0 (omega (arith, under.2.fits.0)) b _ _ _ (rw c.in-Counted.is at come) s)
+    (λ b come. resumed nodes old c.args.partial.now c.args.input.now c.in-Counted.len r.stands under.0 (omega (arith, under.2.fits.0)) b _ _ _ (rw c.in-Counted.is at come) s)
 
 pub returns-in-First-clause-moves : goal.returns-in-First-clause-moves
 returns-in-First-clause-moves g c =
@@ -38,7 +38,7 @@ returns-in-First-clause-moves g c =
     let under = rw c.in-First.is at r.joined.under_way in
     let s = c.advance_first.ensures.settles in
     moves_by nodes old c.args.partial.now c.args.input.now _ _ _ c.advance_first.result (state_of c.advance_first.new.self) c.advance_first.new.partial s
-      (λ b come. resumed nodes old c.args.partial.now c.args.input.now c.in-First.total r.stands under.0 (omega (arith, under.2.fits.0)) b _ _ _ (rw c.in-First.is at come) s)
+    (λ b come. resumed nodes old c.args.partial.now c.args.input.now c.in-First.total r.stands under.0 (omega (arith, under.2.fits.0)) b _ _ _ (rw c.in-First.is at come) s)
 
 pub returns-in-Close-clause-answers : goal.returns-in-Close-clause-answers
 returns-in-Close-clause-answers g c =
@@ -46,4 +46,4 @@ returns-in-Close-clause-answers g c =
     let nodes = c.args.table.now.nodes in
     let idle = rw c.in-Nothing.is at r.joined.under_way in
     settles_answers nodes (state_of c.args.self.now) c.args.partial.now c.args.input.now _ _ _ c.close.result (state_of c.close.new.self) c.args.partial.now (c.close.ensures.closes nodes c.args.partial.now c.args.input.now r.stands idle)
-      (close_some (state_of c.args.self.now) _ (sym c.due.ensures ∙ c.in-Close.is))
+    (close_some (state_of c.args.self.now) _ (sym c.due.ensures ∙ c.in-Close.is))
