@@ -1,2 +1,13 @@
 pub mod Scalars
+pub mod Contents
 pub mod CellStep
+pub mod Items
+pub mod Gathering
+pub mod Numbers
+pub mod Sizes
+pub mod Coming
+pub mod Reading
+pub mod Pushing
+pub mod Standing
+pub mod Inner
+pub mod Levels

@@ -82,4 +82,3 @@ scalar_of kind.Tuple c = None
 abbrev pub fault_of : Kind → Reason
 fault_of kind.Varchar = BadUtf8
 fault_of _ = BadScalar
-

@@ -1,2 +1,18 @@
 //! Cells of the CQL native protocol v4.
 #![tactic(auto)]
+
+mod content;
+mod gather;
+mod item;
+mod levels;
+mod number;
+mod reader;
+mod reading;
+mod scalars;
+mod size;
+mod standing;
+
+pub use content::scalar;
+pub use item::{CellAdvance, CellItem, CellOutline, CellPush};
+pub use reader::CellReader;
+pub use scalars::Scalar;

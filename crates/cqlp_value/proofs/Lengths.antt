@@ -1,0 +1,127 @@
+-- The length of a value.
+use Rattle.std.proofs.Common.{◌≡◌, ℕ, ◌+◌, ◌-◌, ◌^◌, ◌<◌, ◌≤◌, Bool, true, false, ltb, List, [], ◌∷◌, ◌++◌, length, take, drop, Option, Some, None, refl, sym, ap, subst, ◌∙◌, arith, inl, inr, lt-ltb, le-ltb}
+use Rattle.std.specs.Int.{w32, from_be_bytes}
+use Rattle.std.proofs.lemmas.Bool.{cases_lt}
+use Rattle.std.proofs.lemmas.List.{length-append, length-drop, length-take-le, take-append-drop, drop_at}
+use Rattle.std.proofs.Math.Seq.{drop-append-add}
+use Rattle.cqlp_note.specs.declared.refusal.Reason.TheVariants.{Overrun}
+use Rattle.cqlp_note.specs.Reader.{More, Bad, says, number_of}
+use Rattle.cqlp_note.specs.Partial.{Progress}
+use Rattle.cqlp_type.specs.declared.node.Node.{Node}
+use Rattle.cqlp_value.specs.declared.item.CellAdvance.{CellAdvance}
+use Rattle.cqlp_value.specs.declared.item.CellAdvance.TheVariants as advance
+use Rattle.cqlp_value.specs.declared.standing.Under.{Under}
+use Rattle.cqlp_value.specs.declared.standing.Under.TheVariants as under
+use Rattle.cqlp_value.specs.declared.standing.Due.TheVariants as due
+use Rattle.cqlp_value.specs.Numbers.{IsUnsigned, WantsNumber, IsCounted}
+use Rattle.cqlp_value.specs.Standing.{State, ended, due_of, due_value, Stands}
+use Rattle.cqlp_value.specs.Coming.{room_of, ValueDue}
+use Rattle.cqlp_value.specs.Reading.{Saying, told, sized_of, Hands, Waits, Fails, Settles, Behind, AreBytes, HaveCome, length_under}
+use Rattle.cqlp_value.proofs.Coming.{value_due}
+
+-- what a call does, it does where the same is said in other words
+pub settles_as : (nodes : List Node) (old : State) (p : Progress) (input : List ℕ) (said said' : Saying) (base base' : ℕ) (W W' : Under → List ℕ → Type 0) (a : CellAdvance) (new : State) (q : Progress)
+    → said ≡ said' → base ≡ base' → ((u : Under) (seen : List ℕ) → W u seen → W' u seen) → Settles nodes old p input said base W a new q → Settles nodes old p input said' base' W' a new q
+settles_as nodes old p input said said' base base' W W' (advance.More used) new q e f g h = (rw e at h.0, g new.under q.seen h.1)
+settles_as nodes old p input said said' base base' W W' (advance.Item at used i) new q e f g h = rw (e, f) at h
+settles_as nodes old p input said said' base base' W W' advance.Done new q e f g h = h
+settles_as nodes old p input said said' base base' W W' (advance.Refused r) new q e f g h = rw e at h
+
+-- the number that the first four bytes are
+abbrev first_number : List ℕ → ℕ
+first_number x = from_be_bytes w32 (take 4 x)
+
+module _ (nodes : List Node) (d : State) (due : ValueDue nodes d) (x : List ℕ) where
+  pub length_overrun : room_of nodes d < 4 → told nodes d x ≡ Bad (d.offset, Overrun)
+  unfolding told number_of
+  length_overrun lt = rw (due.step, lt-ltb (room_of nodes d) 4 lt) refl
+
+  pub length_short : 4 ≤ room_of nodes d → length x < 4 → told nodes d x ≡ More
+  unfolding told number_of
+  length_short le lt = rw (due.step, le-ltb (room_of nodes d) 4 le, lt-ltb (length x) 4 lt) refl
+
+  pub length_whole : 4 ≤ room_of nodes d → 4 ≤ length x → told nodes d x ≡ says (sized_of nodes d (first_number x)) 4 (drop 4 x)
+  unfolding told sized_of number_of
+  length_whole le long = rw (due.step, le-ltb (room_of nodes d) 4 le, le-ltb (length x) 4 long) refl
+
+-- a length with its sign bit is null, whichever it is
+pub same_number : (nodes : List Node) (d : State) (m n : ℕ) → IsUnsigned m n → sized_of nodes d m ≡ sized_of nodes d n
+unfolding sized_of
+same_number nodes d m n h = elim (cases_lt m (2 ^ 31)) [
+  | inl lt ↦ rw (h.0 lt) refl
+  | inr le ↦ rw (lt-ltb (2 ^ 31 - 1) m (omega arith), lt-ltb (2 ^ 31 - 1) n (omega (arith, h.1 le))) refl
+]
+
+-- the bytes of a length, and those behind it
+pub come_behind : (n : ℕ) (bytes rest : List ℕ) (u : Under) (seen : List ℕ) → AreBytes (Some n) rest bytes → Behind n rest u seen → HaveCome bytes u seen
+come_behind n bytes rest under.Nothing seen h b = absurd cc
+come_behind n bytes rest under.Length seen h b = absurd cc
+come_behind n bytes rest (under.Scalar m) seen h b = let e : m ≡ n = cc in rw (e, b.1) h
+come_behind n bytes rest (under.Counted m) seen h b = let e : m ≡ n = cc in rw (e, b.1) h
+come_behind n bytes rest (under.First m) seen h b = let e : m ≡ n = cc in rw (e, b.1) h
+come_behind n bytes rest under.Later seen h b = absurd cc
+
+-- what follows a length that is whole
+module _ (nodes : List Node) (old : State) (p mid : Progress) (seen input : List ℕ) (used n : ℕ) (stands : Stands nodes old) (v : due_of old ≡ due.Value) (found : IsCounted (room_of nodes old) 0 seen (seen ++ input) input used n p mid) where
+  abbrev m : ℕ
+  m = first_number (seen ++ input)
+
+  behind_is : drop 4 (seen ++ input) ≡ drop used input
+  behind_is =
+      let e : 4 ≡ length seen + used = omega (arith, found.count) in
+      rw e (drop-append-add seen input used)
+
+  number_low : n < 2 ^ 31 → m ≡ n
+  number_low lt = elim (cases_lt m (2 ^ 31)) [
+    | inl low ↦ sym (found.is.0 low)
+    | inr le ↦ absurd (omega (arith, found.is.1 le))
+  ]
+
+  whole_bytes : n < 2 ^ 31 → AreBytes (Some n) (drop used input) (seen ++ input)
+  whole_bytes lt = (take 4 (seen ++ input), length-take-le 4 (seen ++ input) found.whole, number_low lt, rw behind_is at (sym (take-append-drop 4 (seen ++ input))))
+
+  pub length_settles : (a : CellAdvance) (new : State) (q : Progress) → Settles nodes old mid input (says (sized_of nodes old n) 4 (drop used input)) ((4 - used) + 0) (Behind n (drop used input)) a new q
+      → Settles nodes old mid input (told nodes old (seen ++ input)) (length seen) (HaveCome (seen ++ input)) a new q
+  length_settles a new q h =
+      let due = value_due nodes old stands v in
+      let said : says (sized_of nodes old n) 4 (drop used input) ≡ told nodes old (seen ++ input) = sym (length_whole nodes old due (seen ++ input) found.enough found.whole ∙ rw (same_number nodes old m n found.is, behind_is) refl) in
+      let base : (4 - used) + 0 ≡ length seen = omega (arith, found.count) in
+      settles_as nodes old mid input _ _ _ _ _ _ a new q said base (λ u s b. come_behind n (seen ++ input) (drop used input) u s (whole_bytes b.2) b) h
+
+-- a length that goes on
+pub length_waits : (nodes : List Node) (old : State) (p q : Progress) (input bytes : List ℕ) → Stands nodes old → due_of old ≡ due.Value → old.rules.cell ≤ p.room → WantsNumber old.offset (room_of nodes old) bytes p q
+    → Waits nodes old p input (told nodes old bytes) (length input) (record old { under = under.Length }) q × HaveCome bytes under.Length q.seen
+length_waits nodes old p q input bytes stands v longest wants = (
+  record {
+    all = refl;
+    is = length_short nodes old (value_due nodes old stands v) bytes wants.enough wants.short;
+    same = refl;
+    joined = record { longest = rw wants.longest longest; under_way = (v, (wants.under_way, wants.field, wants.enough, refl)) };
+    longest = wants.longest;
+  },
+  sym wants.seen,
+)
+
+pub length_fails : (nodes : List Node) (old new : State) (p q : Progress) (bytes : List ℕ) → Stands nodes old → due_of old ≡ due.Value → room_of nodes old < 4 → new ≡ ended old → q.under_way ≡ false → q.room ≡ p.room
+    → Fails nodes old p (told nodes old bytes) (record { at = old.offset; why = Overrun }) new q
+length_fails nodes old new p q bytes stands v lt goes idle room = record { is = length_overrun nodes old (value_due nodes old stands v) bytes lt; ends = goes; idle = idle; longest = room }
+
+-- where a call does not change how much a `Partial` holds, it may as well have begun with another
+pub settles_from : (nodes : List Node) (old : State) (p mid : Progress) (input : List ℕ) (said : Saying) (base : ℕ) (W : Under → List ℕ → Type 0) (a : CellAdvance) (new : State) (q : Progress)
+    → mid.room ≡ p.room → Settles nodes old mid input said base W a new q → Settles nodes old p input said base W a new q
+settles_from nodes old p mid input said base W (advance.More used) new q e h = (record { all = h.0.all; is = h.0.is; same = h.0.same; joined = h.0.joined; longest = h.0.longest ∙ e }, h.1)
+settles_from nodes old p mid input said base W (advance.Item at used i) new q e h = record {
+  within = h.within;
+  emits = h.emits;
+  can_lend = h.can_lend;
+  lent = h.lent;
+  rules = h.rules;
+  stop = h.stop;
+  stands = h.stands;
+  goes_on = h.goes_on;
+  fresh = h.fresh;
+  idle = h.idle;
+  longest = h.longest ∙ e;
+}
+settles_from nodes old p mid input said base W advance.Done new q e h = h
+settles_from nodes old p mid input said base W (advance.Refused r) new q e h = record { is = h.is; ends = h.ends; idle = h.idle; longest = h.longest ∙ e }

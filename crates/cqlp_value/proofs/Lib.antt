@@ -1,0 +1,16 @@
+pub mod Texts
+pub mod Gathered
+pub mod Numbered
+pub mod Sizing
+pub mod Inside
+pub mod Nesting
+pub mod Opened
+pub mod Coming
+pub mod Handing
+pub mod Entering
+pub mod Counting
+pub mod Leading
+pub mod Closing
+pub mod Lengths
+pub mod Settling
+pub mod Parting

@@ -1,0 +1,183 @@
+-- A long scalar in parts.
+use Rattle.std.proofs.Common.{◌≡◌, ℕ, ◌+◌, ◌-◌, ◌^◌, ◌<◌, ◌≤◌, Bool, true, false, ltb, leb, List, [], ◌∷◌, ◌++◌, length, take, drop, min, refl, sym, ap, ◌∙◌, arith, inl, inr, lt-ltb, le-ltb, cond}
+use Rattle.std.proofs.lemmas.Bool.{leb-true, leb-false, lt-leb}
+use Rattle.std.proofs.lemmas.List.{length-take-le}
+use Rattle.cqlp_note.specs.Reader.{More, Got, Takes, says}
+use Rattle.cqlp_note.specs.Field.{Bytes}
+use Rattle.cqlp_note.specs.Partial.{Progress}
+use Rattle.cqlp_type.specs.declared.node.Node.{Node}
+use Rattle.cqlp_value.specs.declared.gather.Found.{Found}
+use Rattle.cqlp_value.specs.declared.item.CellOutline.TheVariants as outline
+use Rattle.cqlp_value.specs.declared.size.Sized.TheVariants as size
+use Rattle.cqlp_value.specs.declared.standing.Next.{Next}
+use Rattle.cqlp_value.specs.declared.standing.Next.TheVariants as next
+use Rattle.cqlp_value.specs.declared.standing.Under.TheVariants as under
+use Rattle.cqlp_value.specs.declared.standing.Due.TheVariants as due
+use Rattle.cqlp_value.specs.CellStep.{CellSymbol, Content_from, Part, CellPlace, place_after}
+use Rattle.cqlp_value.specs.Items.{content_at}
+use Rattle.cqlp_value.specs.Gathering.{Wants, Finds}
+use Rattle.cqlp_value.specs.Standing.{State, is_some_next, levels_symbols, place, due_value, open_after, moved, rest_of, due_of, last_stop, Stands}
+use Rattle.cqlp_value.specs.Coming.{ValueDue}
+use Rattle.cqlp_value.specs.Reading.{Saying, told, sized_of, Decided, part_size, next_behind, Emits, Hands, Waits, Behind, HaveCome}
+use Rattle.cqlp_value.proofs.Opened.{last_stop_le}
+use Rattle.cqlp_value.proofs.Coming.{value_due, part_is}
+use Rattle.cqlp_value.proofs.Handing.{same_decided}
+
+-- ---- the first part
+
+module _ (nodes : List Node) (d : State) (same : d.rules.part ≡ d.rules.cell) (total : ℕ) (decided : Decided nodes d total (size.Parts total)) where
+  first_size : min d.rules.cell (total - 0) ≡ d.rules.cell
+  first_size = omega (arith, decided.can.1)
+
+  first_more : leb (total - 0) d.rules.cell ≡ false
+  first_more = lt-leb (total - 0) d.rules.cell (omega (arith, decided.can.1))
+
+  pub first_room : Stands nodes d → due_of d ≡ due.Value → d.offset + 4 + total < 2 ^ 64
+  first_room s v = let due = value_due nodes d s v in omega (arith, decided.fits.0, due.inside, due.bounded)
+
+  pub first_short : (x : List ℕ) → length x < d.rules.cell → says (sized_of nodes d total) 4 x ≡ More
+  first_short x lt = rw (decided.is, same, first_size, lt-ltb (length x) d.rules.cell lt) refl
+
+  abbrev first_behind : State
+  first_behind = record (moved nodes d (4 + d.rules.cell)) { next = next.Part d.rules.cell total }
+
+  first_got : (x : List ℕ) → Stands nodes d → due_of d ≡ due.Value → d.rules.cell ≤ length x → Emits nodes (says (sized_of nodes d total) 4 x) (d.offset + 4) (4 + d.rules.cell) (Part (length d.open_values) 0 (take d.rules.cell x) false) first_behind
+  first_got x s v le =
+      let due = value_due nodes d s v in
+      let start : 0 + d.rules.cell ≡ d.rules.cell = omega arith in
+      record {
+        x = record { at = d.offset + 4; event = Part (length d.open_values) 0 (take d.rules.cell x) false; after = place_after (place nodes d) (rest_of nodes d) (Content_from (length d.open_values) d.rules.cell total ∷ []) };
+        is = rw (decided.is, same, first_size, first_more, start, le-ltb (length x) d.rules.cell le) refl;
+        offset = refl;
+        event = refl;
+        after = rw due.level refl;
+      }
+
+  first_stands : Stands nodes d → due_of d ≡ due.Value → 0 < d.rules.cell → Stands nodes first_behind
+  first_stands s v some =
+      let due = value_due nodes d s v in
+      record { open_stand = due.after; within = rw due.ends (omega (arith, decided.fits.0, due.inside, decided.can.1)); next_stands = (decided.can.1, some); bounded = s.bounded }
+
+  pub first_waits : (p q : Progress) (input bytes : List ℕ) → due_of d ≡ due.Value → d.rules.cell ≤ p.room → Wants d.rules.cell (d.offset + 4) bytes p q
+      → Waits nodes d p input (says (sized_of nodes d total) 4 bytes) (length input) (record d { under = under.First total }) q × Behind total bytes (under.First total) q.seen
+  first_waits p q input bytes v longest wants = (
+    record {
+      all = refl;
+      is = first_short bytes wants.short;
+      same = refl;
+      joined = record { longest = rw wants.room longest; under_way = (v, (wants.under_way, wants.field, refl), same_decided nodes d (under.First total) total (size.Parts total) decided) };
+      longest = wants.room;
+    },
+    (refl, wants.seen, decided.fits.1),
+  )
+
+  pub first_hands : (start : ℕ) (p q : Progress) (seen input : List ℕ) (f : Found) (new : State) (level : ℕ) → Stands nodes d → due_of d ≡ due.Value → 0 < d.rules.cell → start ≤ 4 → Finds d.rules.cell start seen (seen ++ drop start input) input f p q
+      → new ≡ first_behind → level ≡ length d.open_values
+      → Hands nodes d p input (says (sized_of nodes d total) 4 (seen ++ drop start input)) ((4 - start) + length seen) (d.offset + 4) f.used (outline.Part level 0 f.content false) new q
+  first_hands start p q seen input f new level s v some front found goes at =
+      let got = first_got (seen ++ drop start input) s v found.enough in
+      let there : content_at f.content input q.content ≡ take d.rules.cell (seen ++ drop start input) = rw found.is refl in
+      let count : ((4 - start) + length seen) + f.used ≡ 4 + d.rules.cell = omega (arith, found.count, found.after) in
+      let size = length-take-le d.rules.cell (seen ++ drop start input) found.enough in
+      rw (goes, at) (record {
+        within = found.within;
+        emits = rw (count, there) got;
+        can_lend = (found.can_lend, rw found.is refl);
+        lent = λ le. found.lent (rw (there, size) at le);
+        rules = refl;
+        stop = refl;
+        stands = first_stands s v some;
+        goes_on = refl;
+        fresh = refl;
+        idle = found.idle;
+        longest = found.room;
+      })
+
+-- ---- a later part
+
+module _ (nodes : List Node) (d : State) (same : d.rules.part ≡ d.rules.cell) (offset total : ℕ) (here : d.next ≡ next.Part offset total) (stands : Stands nodes d) where
+  part_stands : (offset < total) × (0 < d.rules.cell)
+  part_stands = rw here at stands.next_stands
+
+  part_within : d.offset + (total - offset) ≤ last_stop d.stop d.open_values
+  part_within = rw here at stands.within
+
+  pub part_room : d.offset + (total - offset) < 2 ^ 64
+  part_room = omega (arith, part_within, last_stop_le nodes d.rules 0 d.stop d.open_values stands.open_stand, stands.bounded)
+
+  abbrev its_size : ℕ
+  its_size = part_size d offset total
+
+  abbrev is_last : Bool
+  is_last = leb (total - offset) d.rules.cell
+
+  abbrev behind : State
+  behind = record d { offset = d.offset + its_size; next = next_behind is_last (offset + its_size) total; under = under.Nothing }
+
+  later_short : (x : List ℕ) → length x < its_size → told nodes d x ≡ More
+  unfolding told
+  later_short x lt = rw (part_is nodes d offset total here, same, lt-ltb (length x) its_size lt) refl
+
+  place_behind : (last : Bool) → record { offset = d.offset + its_size; symbols = (cond last [] (Content_from (length d.open_values) (offset + its_size) total ∷ [])) ++ levels_symbols nodes 0 d.open_values }
+      ≡ place nodes (record d { offset = d.offset + its_size; next = next_behind last (offset + its_size) total; under = under.Nothing })
+  place_behind true = refl
+  place_behind false = refl
+
+  later_got : (x : List ℕ) → its_size ≤ length x → Emits nodes (told nodes d x) d.offset its_size (Part (length d.open_values) offset (take its_size x) is_last) behind
+  unfolding told
+  later_got x le =
+      let zero : 0 + its_size ≡ its_size = omega arith in
+      record {
+        x = record { at = d.offset + 0; event = Part (length d.open_values) offset (take its_size x) is_last; after = place_after (place nodes d) (levels_symbols nodes 0 d.open_values) (cond is_last [] (Content_from (length d.open_values) (offset + its_size) total ∷ [])) };
+        is = rw (part_is nodes d offset total here, same, le-ltb (length x) its_size le, zero) refl;
+        offset = omega arith;
+        event = refl;
+        after = place_behind is_last;
+      }
+
+  behind_stands : (last : Bool) → is_last ≡ last → Stands nodes (record d { offset = d.offset + its_size; next = next_behind last (offset + its_size) total; under = under.Nothing })
+  behind_stands true e =
+      let le : total - offset ≤ d.rules.cell = leb-true _ _ e in
+      record { open_stand = stands.open_stand; within = omega (arith, part_within); next_stands = tt; bounded = stands.bounded }
+  behind_stands false e =
+      let lt : d.rules.cell < total - offset = leb-false _ _ e in
+      record { open_stand = stands.open_stand; within = omega (arith, part_within); next_stands = (omega (arith, part_stands.0), part_stands.1); bounded = stands.bounded }
+
+  pub later_waits : (p q : Progress) (input bytes : List ℕ) → d.rules.cell ≤ p.room → Wants its_size d.offset bytes p q
+      → Waits nodes d p input (told nodes d bytes) (length input) (record d { under = under.Later }) q × HaveCome bytes under.Later q.seen
+  later_waits p q input bytes longest wants = (
+    record {
+      all = refl;
+      is = later_short bytes wants.short;
+      same = refl;
+      joined = record { longest = rw wants.room longest; under_way = rw here (wants.under_way, wants.field, refl) };
+      longest = wants.room;
+    },
+    sym wants.seen,
+  )
+
+  goes_on_behind : (last : Bool) → is_some_next (next_behind last (offset + its_size) total) ≡ true
+  goes_on_behind true = refl
+  goes_on_behind false = refl
+
+  pub later_hands : (p q : Progress) (seen input : List ℕ) (f : Found) (new : State) (level : ℕ) (last : Bool) → Finds its_size 0 seen (seen ++ input) input f p q
+      → last ≡ is_last → new ≡ record d { offset = d.offset + its_size; next = next_behind last (offset + its_size) total; under = under.Nothing } → level ≡ length d.open_values
+      → Hands nodes d p input (told nodes d (seen ++ input)) (length seen) d.offset f.used (outline.Part level offset f.content last) new q
+  later_hands p q seen input f new level last found ends goes at =
+      let got = later_got (seen ++ input) found.enough in
+      let there : content_at f.content input q.content ≡ take its_size (seen ++ input) = rw found.is refl in
+      let count : length seen + f.used ≡ its_size = omega (arith, found.count) in
+      let size = length-take-le its_size (seen ++ input) found.enough in
+      rw (goes, at, ends) (record {
+        within = found.within;
+        emits = rw (count, there) got;
+        can_lend = (found.can_lend, rw found.is refl);
+        lent = λ le. found.lent (rw (there, size) at le);
+        rules = refl;
+        stop = refl;
+        stands = behind_stands is_last refl;
+        goes_on = goes_on_behind is_last;
+        fresh = refl;
+        idle = found.idle;
+        longest = found.room;
+      })

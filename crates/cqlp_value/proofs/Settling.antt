@@ -1,0 +1,122 @@
+-- What the length of a value decides.
+use Rattle.std.proofs.Common.{◌≡◌, ℕ, ◌+◌, ◌-◌, ◌^◌, ◌<◌, ◌≤◌, Bool, true, false, ltb, List, [], ◌∷◌, ◌++◌, length, take, drop, refl, sym, ap, subst, ◌∙◌, arith, inl, inr, lt-ltb, le-ltb}
+use Rattle.cqlp_note.specs.declared.refusal.Reason.{Reason}
+use Rattle.cqlp_note.specs.Reader.{More, Bad, Got, says}
+use Rattle.cqlp_note.specs.Partial.{Progress}
+use Rattle.cqlp_type.specs.declared.node.Node.{Node}
+use Rattle.cqlp_value.specs.declared.item.CellOutline.{CellOutline}
+use Rattle.cqlp_value.specs.declared.item.CellOutline.TheVariants as outline
+use Rattle.cqlp_value.specs.declared.size.Sized.{Sized}
+use Rattle.cqlp_value.specs.declared.size.Sized.TheVariants as size
+use Rattle.cqlp_value.specs.declared.standing.Due.TheVariants as due
+use Rattle.cqlp_value.specs.declared.standing.Value.{Value}
+use Rattle.cqlp_value.specs.CellStep.{CellSymbol, CellEvent, Null, Empty, Enter, Items_of, CellPlace, place_after}
+use Rattle.cqlp_value.specs.Sizes.{IsSized, sized_as}
+use Rattle.cqlp_value.specs.Inner.{types_at}
+use Rattle.cqlp_value.specs.Standing.{State, ended, place, due_value, moved, rest_of, due_of, Stands}
+use Rattle.cqlp_value.specs.Coming.{inner_of, room_of, ValueDue}
+use Rattle.cqlp_value.specs.Reading.{fields_open, entered, sized_of, Decided, Emits, Hands, Fails, EntersFields}
+use Rattle.cqlp_value.proofs.Coming.{value_due}
+use Rattle.cqlp_value.proofs.Handing.{moved_stands}
+use Rattle.cqlp_value.proofs.Entering.{fields_due, fields_inner, entered_symbols}
+
+-- what a value is by its length, it is where the reader stands
+pub is_decided : (nodes : List Node) (d : State) (n : ℕ) (s : Sized) → IsSized d.rules (due_value nodes d).kind (room_of nodes d) n s → Decided nodes d n s
+unfolding sized_of
+is_decided nodes d n s h = record { is = h.is (place nodes d) (rest_of nodes d) (inner_of nodes (due_value nodes d)) (length d.open_values); can = h.can; fits = h.fits }
+
+pub value_decided : (nodes : List Node) (d : State) (v : Value) (n : ℕ) (s : Sized) → v ≡ due_value nodes d → IsSized d.rules v.kind (v.stop - d.offset) n s → Decided nodes d n s
+value_decided nodes d v n s e h = is_decided nodes d n s (rw e at h)
+
+-- ---- what a length alone decides
+
+module _ (nodes : List Node) (d : State) (n : ℕ) (x : List ℕ) where
+  pub refused_fails : (why : Reason) (p q : Progress) (new : State) → Decided nodes d n (size.Refused why) → new ≡ ended d → q.under_way ≡ false → q.room ≡ p.room → Fails nodes d p (says (sized_of nodes d n) 4 x) (record { at = d.offset; why = why }) new q
+  refused_fails why p q new h goes idle room = record { is = rw h.is refl; ends = goes; idle = idle; longest = room }
+
+  null_got : Decided nodes d n size.Null → Emits nodes (says (sized_of nodes d n) 4 x) d.offset 4 (Null (length d.open_values)) (moved nodes d 4)
+  null_got h = record {
+    x = record { at = d.offset; event = Null (length d.open_values); after = place_after (place nodes d) (rest_of nodes d) [] };
+    is = rw h.is refl;
+    offset = refl;
+    event = refl;
+    after = refl;
+  }
+
+  empty_got : Decided nodes d n size.Empty → Emits nodes (says (sized_of nodes d n) 4 x) d.offset 4 (Empty (length d.open_values)) (moved nodes d 4)
+  empty_got h = record {
+    x = record { at = d.offset; event = Empty (length d.open_values); after = place_after (place nodes d) (rest_of nodes d) [] };
+    is = rw h.is refl;
+    offset = refl;
+    event = refl;
+    after = refl;
+  }
+
+module _ (nodes : List Node) (d new : State) (n start : ℕ) (p q : Progress) (input : List ℕ) (s : Stands nodes d) (v : due_of d ≡ due.Value) (room : 4 ≤ room_of nodes d) (within : start ≤ length input) (front : start ≤ 4)
+    (idle : q.under_way ≡ false) (longest : q.room ≡ p.room) where
+  abbrev said_of : List ℕ
+  said_of = [] ++ drop start input
+
+  abbrev base : ℕ
+  base = (4 - start) + length {A = ℕ} []
+
+  count : base + start ≡ 4
+  count = omega arith
+
+  stays : Stands nodes (moved nodes d 4)
+  stays = let due = value_due nodes d s v in moved_stands nodes d 4 s due (omega (arith, due.inside))
+
+  pub null_hands : (level : ℕ) → Decided nodes d n size.Null → level ≡ length d.open_values → new ≡ moved nodes d 4 → Hands nodes d p input (says (sized_of nodes d n) 4 said_of) base d.offset start (outline.Null level) new q
+  null_hands level h at goes = rw (goes, at) (record {
+    within = within;
+    emits = rw count (null_got nodes d n said_of h);
+    can_lend = tt;
+    lent = tt;
+    rules = refl;
+    stop = refl;
+    stands = stays;
+    goes_on = refl;
+    fresh = refl;
+    idle = idle;
+    longest = longest;
+  })
+
+  pub empty_hands : (level : ℕ) → Decided nodes d n size.Empty → level ≡ length d.open_values → new ≡ moved nodes d 4 → Hands nodes d p input (says (sized_of nodes d n) 4 said_of) base d.offset start (outline.Empty level) new q
+  empty_hands level h at goes = rw (goes, at) (record {
+    within = within;
+    emits = rw count (empty_got nodes d n said_of h);
+    can_lend = tt;
+    lent = tt;
+    rules = refl;
+    stop = refl;
+    stands = stays;
+    goes_on = refl;
+    fresh = refl;
+    idle = idle;
+    longest = longest;
+  })
+
+  pub fields_hands : Decided nodes d n (size.Fields n) → (due_value nodes d).arity < 2 ^ 16 → EntersFields nodes d n new → Hands nodes d p input (says (sized_of nodes d n) 4 said_of) base d.offset start (outline.Enter (length d.open_values) (due_value nodes d).kind (due_value nodes d).arity) new q
+  fields_hands h low enters =
+      let inner = fields_inner nodes d n s v h low in
+      let due = fields_due nodes d n s v h low in
+      let o = fields_open (due_value nodes d) (d.offset + 4 + n) in
+      rw enters.0 (record {
+        within = within;
+        emits = rw count (record {
+          x = record { at = d.offset; event = Enter (length d.open_values) (due_value nodes d).kind (due_value nodes d).arity; after = place_after (place nodes d) (rest_of nodes d) (Items_of (inner_of nodes (due_value nodes d)) (length d.open_values) (d.offset + 4 + n) 0 ∷ []) };
+          is = rw (h.is, inner.stands.many) refl;
+          offset = refl;
+          event = refl;
+          after = ap (λ (ss : List CellSymbol). record { offset = d.offset + 4; symbols = ss }) (sym (entered_symbols nodes d 4 o due));
+        });
+        can_lend = tt;
+        lent = tt;
+        rules = refl;
+        stop = refl;
+        stands = rw enters.0 at enters.1;
+        goes_on = refl;
+        fresh = refl;
+        idle = idle;
+        longest = longest;
+      })

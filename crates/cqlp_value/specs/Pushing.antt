@@ -1,0 +1,75 @@
+-- What the reader of a cell has read since it began.
+use Rattle.std.specs.Prelude.{◌≡◌, ◌≢◌, ℕ, ◌+◌, ◌≤◌, ◌++◌, Bool, true, false, List, [], ◌∷◌, length, take, Option}
+use Rattle.cqlp_note.specs.Reader.{More, Bad, says}
+use Rattle.cqlp_note.specs.Step.{Runs}
+use Rattle.cqlp_note.specs.Limits.{Rules}
+use Rattle.cqlp_note.specs.Partial.{Progress}
+use Rattle.cqlp_type.specs.declared.node.Node.{Node}
+use Rattle.cqlp_value.specs.declared.item.CellPush.{CellPush}
+use Rattle.cqlp_value.specs.declared.item.CellPush.TheVariants as push
+use Rattle.cqlp_value.specs.declared.levels.Open.{Open}
+use Rattle.cqlp_value.specs.declared.standing.Next.{Next}
+use Rattle.cqlp_value.specs.declared.standing.Next.TheVariants as next
+use Rattle.cqlp_value.specs.declared.standing.Under.TheVariants as under
+use Rattle.cqlp_value.specs.CellStep.{CellEvent, CellPlace, cell_step}
+use Rattle.cqlp_value.specs.Items.{event_of}
+use Rattle.cqlp_value.specs.Standing.{State, ended, is_under_way, place, Stands}
+use Rattle.cqlp_value.specs.Reading.{Joined, HaveCome}
+
+abbrev pub made : Rules → State
+made l = record { rules = l; offset = 0; stop = 0; next = next.Nothing; under = under.Nothing; open_values = [] }
+
+-- a cell of the type at this node, or of none, begins here
+abbrev pub begun : State → Option ℕ → (at end : ℕ) → State
+begun d node at end = record { rules = d.rules; offset = at; stop = end; next = next.Cell node; under = under.Nothing; open_values = [] }
+
+abbrev pub done_by : Next → List Open → Bool
+done_by next.Items [] = true
+done_by n os = false
+
+-- a cell is under way, and nothing of it is left
+abbrev pub is_done : State → Bool
+is_done d = done_by d.next d.open_values
+
+module _ (nodes : List Node) where
+  -- A cell began at `start`, and of it these bytes were used and these events handed out.
+  pub record After (start : CellPlace) (d : State) (p : Progress) (s : List ℕ) (es : List (ℕ × CellEvent)) : Type 0 where
+    pub pending : List ℕ
+    pub runs : Runs (cell_step d.rules) start s es (place nodes d) pending
+    pub come : HaveCome pending d.under p.seen
+
+  -- What a call leads to that was made after these bytes and events.
+  abbrev pub Leads : (start : CellPlace) → State → List ℕ → List (ℕ × CellEvent) → List ℕ → CellPush → State → Progress → Type 0
+  Leads start old s es input (push.More used) new q =
+      (after : After start new q (s ++ input) es) × (says (cell_step new.rules (place nodes new)) 0 after.pending ≡ More)
+  Leads start old s es input (push.Item at used e) new q = After start new q (s ++ take used input) (es ++ (at, event_of e) ∷ [])
+  Leads start old s es input push.Done new q = Runs (cell_step old.rules) start s es (place nodes old) [] × ((place nodes old).symbols ≡ [])
+  Leads start old s es input (push.Refused r) new q =
+      (rest : List ℕ) × Runs (cell_step old.rules) start (s ++ input) es (place nodes old) rest × (says (cell_step old.rules (place nodes old)) 0 rest ≡ Bad (r.at, r.why))
+
+  -- The cell is still under way, as its types stand in the table; or it has ended.
+  abbrev pub Continues : State → CellPush → State → Type 0
+  Continues old (push.More used) new = (is_under_way new ≡ true) × (new.rules ≡ old.rules) × Stands nodes new
+  Continues old (push.Item at used e) new = (is_under_way new ≡ true) × (new.rules ≡ old.rules) × Stands nodes new
+  Continues old push.Done new = new ≡ ended old
+  Continues old (push.Refused r) new = new ≡ ended old
+
+  -- The `Partial` still serves the cell, or has no field under way.
+  abbrev pub Serves : CellPush → State → Progress → Type 0
+  Serves (push.More used) new q = Joined nodes new q
+  Serves (push.Item at used e) new q = Joined nodes new q
+  Serves push.Done new q = q.under_way ≡ false
+  Serves (push.Refused r) new q = q.under_way ≡ false
+
+  pub record Pushes (old : State) (p : Progress) (input : List ℕ) (x : CellPush) (new : State) (q : Progress) : Type 0 where
+    pub leads : (start : CellPlace) (s : List ℕ) (es : List (ℕ × CellEvent)) → After start old p s es → Leads start old s es input x new q
+    pub serves : Serves x new q
+    pub longest : q.room ≡ p.room
+
+-- A call ends the cell where nothing is left of it, and only there; else it uses no more than the input, and all of it
+-- while an item goes on.
+abbrev pub Uses : State → List ℕ → CellPush → Type 0
+Uses old input (push.More used) = (used ≡ length input) × (is_done old ≡ false)
+Uses old input (push.Item at used e) = (used ≤ length input) × (is_done old ≡ false)
+Uses old input push.Done = is_done old ≡ true
+Uses old input (push.Refused r) = is_done old ≡ false

@@ -1,0 +1,233 @@
+//! Scalars out of their bytes.
+
+ghost use Rattle.std.specs.Prelude.{◌≡◌, ◌≢◌, ◌≤◌, ◌<◌, Some, [], is_some, length, take, true};
+ghost use Rattle.cqlp_note.specs.Field.{address_of};
+ghost use Rattle.cqlp_type.specs.Types.{has_no_items};
+ghost use Rattle.cqlp_type.specs.declared.kind.Kind.TheVariants as kind;
+ghost use Rattle.cqlp_value.specs.Scalars.{allows_size, scalar_of, fault_of};
+ghost use Rattle.cqlp_value.specs.Contents.{scalar_in, value_in, value_of};
+
+use crate::scalars::Scalar;
+use cqlp_note::{Address, Reason};
+use cqlp_type::Kind;
+
+/// The first nanosecond that is not of the same day.
+const DAY: u64 = 86_400_000_000_000;
+
+/// The scalar of this kind that these bytes spell, all of them. Section 6 of `native_protocol_v4.spec`.
+///
+/// `BadSize` where no scalar of the kind has so many bytes; else `BadUtf8` for a varchar that is not UTF-8, and
+/// `BadScalar` for an ascii with a byte above 7F, a time past the end of a day or a timeuuid that is not of version 1.
+pub fn scalar(kind: Kind, bytes: &[u8]) -> Result<Scalar<'_>, Reason>
+    requires scalar { has_no_items kind ≡ true }
+    requires content { bytes.now ≢ [] }
+    ensures { value_in result ≡ scalar_in kind bytes.now }
+{
+    if !allows(kind, bytes.len()) {
+        Err(Reason::BadSize)
+    } else if accepts(kind, bytes) {
+        Ok(made(kind, bytes))
+    } else {
+        Err(fault(kind))
+    }
+}
+
+/// Whether a content of a scalar kind may have so many bytes, which are not none.
+pub fn allows(kind: Kind, len: usize) -> bool
+    ensures { result ≡ allows_size kind len }
+{
+    match kind {
+        Kind::Bigint | Kind::Counter | Kind::Timestamp | Kind::Time | Kind::Double => len == 8,
+        Kind::Int | Kind::Date | Kind::Float => len == 4,
+        Kind::Smallint => len == 2,
+        Kind::Tinyint | Kind::Boolean => len == 1,
+        Kind::Uuid | Kind::Timeuuid => len == 16,
+        Kind::Inet => len == 4 || len == 16,
+        Kind::Decimal => len >= 5,
+        _ => true,
+    }
+}
+
+#[tactic(auto, unfolding(crate::specs::Scalars::scalar_of))]
+/// Whether a content of an allowed length is a scalar of this kind.
+pub fn accepts(kind: Kind, bytes: &[u8]) -> bool
+    requires scalar { has_no_items kind ≡ true }
+    requires size { allows_size kind (length bytes.now) ≡ true }
+    ensures { result ≡ is_some (scalar_of kind bytes.now) }
+{
+    match kind {
+        Kind::Ascii => bytes.is_ascii(),
+        Kind::Varchar => is_text(bytes),
+        Kind::Time => u64::from_be_bytes(first(bytes)) < DAY,
+        Kind::Timeuuid => bytes[6] >> 4 == 1,
+        _ => true,
+    }
+}
+
+#[tactic(auto, using(crate::proofs::Texts::varchar_decided, crate::proofs::Texts::varchar_undecided))]
+fn is_text(bytes: &[u8]) -> bool
+    ensures { result ≡ is_some (scalar_of kind.Varchar bytes.now) }
+{
+    match str::from_utf8(bytes) {
+        Ok(_) => true,
+        Err(_) => false,
+    }
+}
+
+/// Why a content of an allowed length is no scalar of this kind.
+pub fn fault(kind: Kind) -> Reason
+    ensures { result ≡ fault_of kind }
+{
+    match kind {
+        Kind::Varchar => Reason::BadUtf8,
+        _ => Reason::BadScalar,
+    }
+}
+
+#[tactic(auto, using(crate::proofs::Texts::ascii_known, crate::proofs::Texts::varchar_known), unfolding(crate::specs::Scalars::scalar_of))]
+/// The scalar that these bytes are.
+pub fn made(kind: Kind, bytes: &[u8]) -> Scalar<'_>
+    requires size { allows_size kind (length bytes.now) ≡ true }
+    requires accepted { is_some (scalar_of kind bytes.now) ≡ true }
+    ensures { scalar_of kind bytes.now ≡ Some (value_of result) }
+{
+    match kind {
+        Kind::Custom => Scalar::Custom(bytes),
+        // The bytes are text, which `accepts` found out.
+        Kind::Ascii => Scalar::Ascii(unsafe { str::from_utf8_unchecked(bytes) }),
+        Kind::Bigint => Scalar::Bigint(i64::from_be_bytes(first(bytes))),
+        Kind::Blob => Scalar::Blob(bytes),
+        Kind::Boolean => Scalar::Boolean(bytes[0] != 0),
+        Kind::Counter => Scalar::Counter(i64::from_be_bytes(first(bytes))),
+        Kind::Decimal => Scalar::Decimal {
+            scale: i32::from_be_bytes(first(bytes)),
+            unscaled: &bytes[4..],
+        },
+        Kind::Double => Scalar::Double(first(bytes)),
+        Kind::Float => Scalar::Float(first(bytes)),
+        Kind::Int => Scalar::Int(i32::from_be_bytes(first(bytes))),
+        Kind::Timestamp => Scalar::Timestamp(i64::from_be_bytes(first(bytes))),
+        Kind::Uuid => Scalar::Uuid(first(bytes)),
+        // So are these.
+        Kind::Varchar => Scalar::Varchar(unsafe { str::from_utf8_unchecked(bytes) }),
+        Kind::Varint => Scalar::Varint(bytes),
+        Kind::Timeuuid => Scalar::Timeuuid(first(bytes)),
+        Kind::Inet => Scalar::Inet(address(bytes)),
+        Kind::Date => Scalar::Date(u32::from_be_bytes(first(bytes))),
+        Kind::Time => Scalar::Time(i64::from_be_bytes(first(bytes))),
+        Kind::Smallint => Scalar::Smallint(i16::from_be_bytes(first(bytes))),
+        Kind::Tinyint => Scalar::Tinyint(i8::from_be_bytes(first(bytes))),
+        Kind::Raw => Scalar::Raw(bytes),
+        Kind::List | Kind::Map | Kind::Set | Kind::Udt | Kind::Tuple => unreachable!(),
+    }
+}
+
+/// An address of 4 or 16 bytes.
+fn address(bytes: &[u8]) -> Address
+    requires { allows_size kind.Inet (length bytes.now) ≡ true }
+    ensures { result ≡ address_of (length bytes.now) bytes.now }
+{
+    if bytes.len() == 4 {
+        Address::V4(first(bytes))
+    } else {
+        Address::V6(first(bytes))
+    }
+}
+
+/// The first N bytes.
+fn first<const N: usize>(bytes: &[u8]) -> [u8; N]
+    requires { N ≤ length bytes.now }
+    ensures { result ≡ take N bytes.now }
+{
+    *bytes.first_chunk().unwrap()
+}
+
+#[cfg(test)]
+mod tests {
+    use super::*;
+    use std::test::Fail;
+
+    const LOOPBACK: [u8; 16] = [0, 0, 0, 0, 0, 0, 0, 0, 0, 0, 0, 0, 0, 0, 0, 1];
+
+    const FIRST: [u8; 16] = [0, 0, 0, 0, 0, 0, 0x10, 0, 0x80, 0, 0, 0, 0, 0, 0, 0];
+
+    const RANDOM: [u8; 16] = [0, 0, 0, 0, 0, 0, 0x40, 0, 0x80, 0, 0, 0, 0, 0, 0, 0];
+
+    fn is(kind: Kind, bytes: &[u8], value: Result<Scalar<'_>, Reason>) -> bool
+        requires scalar { has_no_items kind ≡ true }
+        requires content { bytes.now ≢ [] }
+    {
+        scalar(kind, bytes) == value
+    }
+
+    #[test]
+    fn numbers(rt: HostRuntime) {
+        assert!(rt;
+            is(
+                Kind::Varint,
+                &[0xff, 0x7f],
+                Ok(Scalar::Varint(&[0xff, 0x7f]))
+            )
+        );
+        assert!(rt; is(Kind::Varint, &[0, 0, 1], Ok(Scalar::Varint(&[0, 0, 1]))));
+        assert!(rt; is(Kind::Tinyint, &[0xff], Ok(Scalar::Tinyint(-1))));
+        assert!(rt; is(Kind::Tinyint, &[0, 1], Err(Reason::BadSize)));
+        assert!(rt; is(Kind::Boolean, &[5], Ok(Scalar::Boolean(true))));
+        assert!(rt;
+            is(
+                Kind::Float,
+                &[0x3f, 0x80, 0, 0],
+                Ok(Scalar::Float([0x3f, 0x80, 0, 0]))
+            )
+        );
+    }
+
+    #[test]
+    fn decimals(rt: HostRuntime) {
+        let cents = Scalar::Decimal {
+            scale: 2,
+            unscaled: &[0, 0x80],
+        };
+        assert!(rt; is(Kind::Decimal, &[0, 0, 0, 2, 0, 0x80], Ok(cents)));
+        assert!(rt; is(Kind::Decimal, &[0, 0, 0, 2], Err(Reason::BadSize)));
+        let large = Scalar::Decimal {
+            scale: i32::MIN,
+            unscaled: &[0, 0x80],
+        };
+        assert!(rt; is(Kind::Decimal, &[0x80, 0, 0, 0, 0, 0x80], Ok(large)));
+    }
+
+    #[test]
+    fn days_and_times(rt: HostRuntime) {
+        assert!(rt; is(Kind::Date, &[0x80, 0, 0, 0], Ok(Scalar::Date(1 << 31))));
+        assert!(rt;
+            is(
+                Kind::Date,
+                &[0x80, 0, 0x2a, 0xcd],
+                Ok(Scalar::Date((1 << 31) + 10_957))
+            )
+        );
+        assert!(rt; is(Kind::Date, &[0, 0, 0, 0], Ok(Scalar::Date(0))));
+        let last = [0, 0, 0x4e, 0x94, 0x91, 0x4e, 0xff, 0xff];
+        assert!(rt; is(Kind::Time, &last, Ok(Scalar::Time(86_399_999_999_999))));
+        let next = [0, 0, 0x4e, 0x94, 0x91, 0x4f, 0, 0];
+        assert!(rt; is(Kind::Time, &next, Err(Reason::BadScalar)));
+    }
+
+    #[test]
+    fn addresses_and_uuids(rt: HostRuntime) {
+        let loopback = Scalar::Inet(Address::V6(LOOPBACK));
+        assert!(rt; is(Kind::Inet, &LOOPBACK, Ok(loopback)));
+        assert!(rt; is(Kind::Timeuuid, &FIRST, Ok(Scalar::Timeuuid(FIRST))));
+        assert!(rt; is(Kind::Timeuuid, &RANDOM, Err(Reason::BadScalar)));
+        assert!(rt; is(Kind::Uuid, &RANDOM, Ok(Scalar::Uuid(RANDOM))));
+    }
+
+    #[test]
+    fn texts(rt: HostRuntime) {
+        assert!(rt; is(Kind::Ascii, &[0x80], Err(Reason::BadScalar)));
+        assert!(rt; is(Kind::Ascii, b"key", Ok(Scalar::Ascii("key"))));
+        assert!(rt; is(Kind::Varchar, &[0xc3, 0x28], Err(Reason::BadUtf8)));
+        assert!(rt; is(Kind::Varchar, b"\"\\\x7f", Ok(Scalar::Varchar("\"\\\x7f"))));
+    }
+}

@@ -1,0 +1,475 @@
+//! The steps of reading a cell.
+
+ghost use Rattle.std.specs.Prelude.{◌≡◌, ◌≢◌, ◌+◌, ◌-◌, ◌<◌, ◌≤◌, ◌^◌, ◌++◌, List, [], length, drop, true, false};
+ghost use Rattle.cqlp_note.specs.Reader.{says};
+ghost use Rattle.cqlp_note.specs.Limits.{rules_of};
+ghost use Rattle.cqlp_value.specs.declared.size.Sized.TheVariants as size;
+ghost use Rattle.cqlp_value.specs.declared.standing.Due.TheVariants as due;
+ghost use Rattle.cqlp_value.specs.declared.standing.Next.TheVariants as next;
+ghost use Rattle.cqlp_value.specs.declared.standing.Under.TheVariants as under;
+ghost use Rattle.cqlp_value.specs.Gathering.{IsGathering, seen_before};
+ghost use Rattle.cqlp_value.specs.Numbers.{IsCounting};
+ghost use Rattle.cqlp_value.specs.Sizes.{is_counted};
+ghost use Rattle.cqlp_value.specs.Standing.{Stands, due_of, due_value, ended, moved, state_of};
+ghost use Rattle.cqlp_value.specs.Coming.{room_of};
+ghost use Rattle.cqlp_value.specs.Reading.{Answers, Behind, Closes, Decided, EntersCounted, EntersFields, HaveCome, InnerStands, Joined, Moves, Settles, inner_order as order_inside, next_behind, part_size, sized_of, told};
+
+use crate::content::{accepts, fault};
+use crate::gather::{gather, lent};
+use crate::item::{CellAdvance, CellOutline};
+use crate::levels::{Open, Order};
+use crate::number::{Number, take_number};
+use crate::size::{Sized, size_up};
+use crate::standing::{Due, Next, Standing, Under, Value};
+use cqlp_note::{Partial, Reason, Refusal};
+use cqlp_type::{Kind, TypeTable};
+use std::alloc::Allocator;
+
+impl<A: Allocator> Standing<A> {
+    /// Takes the next bytes of the cell.
+    pub(crate) fn advance(
+        &mut self,
+        partial: &mut Partial<A>,
+        table: &TypeTable<A>,
+        input: &[u8],
+    ) -> CellAdvance
+        requires stands { Stands table.now.nodes (state_of self.old) }
+        requires joined { Joined table.now.nodes (state_of self.old) partial.old }
+        requires levels { self.old.levels.room ≡ self.old.limits.depth }
+        requires parts { self.old.limits.parts ≡ true → 0 < self.old.limits.cell }
+        ensures moves { Moves table.now.nodes (state_of self.old) partial.old input.now result (state_of self.new) partial.new }
+        ensures answers { Answers (state_of self.old) input.now result }
+        ensures room { self.new.levels.room ≡ self.old.levels.room }
+        ensures limits { self.new.limits ≡ self.old.limits }
+    {
+        match self.under {
+            Under::Nothing => match self.due() {
+                Due::Nothing => {
+                    self.end();
+                    CellAdvance::Done
+                }
+                Due::Close(value) => self.close(value),
+                Due::Value => self.advance_length(false, partial, table, input),
+                Due::Part { offset, total } => {
+                    self.advance_part(false, offset, total, partial, table, input)
+                }
+            },
+            Under::Length => self.advance_length(true, partial, table, input),
+            Under::Scalar(len) => {
+                let value = self.value(table);
+                self.advance_scalar(true, value, len, 0, partial, table, input)
+            }
+            Under::Counted(len) => {
+                let value = self.value(table);
+                self.advance_count(true, value, len, 0, partial, table, input)
+            }
+            Under::First(total) => self.advance_first(true, total, 0, partial, table, input),
+            Under::Later => match self.next {
+                Next::Part { offset, total } => {
+                    self.advance_part(true, offset, total, partial, table, input)
+                }
+                Next::Nothing => unreachable!(),
+                Next::Cell(_) => unreachable!(),
+                Next::Items => unreachable!(),
+            },
+        }
+    }
+
+    /// Takes the next bytes of a scalar of so many bytes, whose length is read.
+    fn advance_scalar(
+        &mut self,
+        begun: bool,
+        value: Value,
+        len: u32,
+        start: usize,
+        partial: &mut Partial<A>,
+        table: &TypeTable<A>,
+        input: &[u8],
+    ) -> CellAdvance
+        requires stands { Stands table.now.nodes (state_of self.old) }
+        requires due { due_of (state_of self.old) ≡ due.Value }
+        requires value { value ≡ due_value table.now.nodes (state_of self.old) }
+        requires decided { Decided table.now.nodes (state_of self.old) len (size.Scalar len) }
+        requires under_way { IsGathering begun len (self.old.offset + 4) start partial.old }
+        requires longest { self.old.limits.cell ≤ partial.old.room }
+        requires within { start ≤ length input.now }
+        requires front { start ≤ 4 }
+        ensures settles { let seen = seen_before begun partial.old in let bytes = seen ++ drop start input.now in Settles table.now.nodes (state_of self.old) partial.old input.now (says (sized_of table.now.nodes (state_of self.old) len) 4 bytes) ((4 - start) + length seen) (Behind len bytes) result (state_of self.new) partial.new }
+        ensures room { self.new.levels.room ≡ self.old.levels.room }
+        ensures limits { self.new.limits ≡ self.old.limits }
+    {
+        let Some(found) = gather(partial, begun, len, self.offset + 4, start, input) else {
+            self.under = Under::Scalar(len);
+            return CellAdvance::More { used: input.len() };
+        };
+        if !accepts(value.kind, lent(partial, input, found.content)) {
+            return self.refuse(self.offset, fault(value.kind));
+        }
+        let at = self.offset;
+        let level = self.levels.len();
+        self.pass(4 + u64::from(len), table);
+        CellAdvance::Item {
+            at,
+            used: found.used,
+            item: CellOutline::Leaf {
+                level,
+                kind: value.kind,
+                content: found.content,
+            },
+        }
+    }
+
+    /// Takes the next bytes of a list, a set or a map of so many bytes, whose length is read.
+    fn advance_count(
+        &mut self,
+        begun: bool,
+        value: Value,
+        len: u32,
+        start: usize,
+        partial: &mut Partial<A>,
+        table: &TypeTable<A>,
+        input: &[u8],
+    ) -> CellAdvance
+        requires stands { Stands table.now.nodes (state_of self.old) }
+        requires due { due_of (state_of self.old) ≡ due.Value }
+        requires value { value ≡ due_value table.now.nodes (state_of self.old) }
+        requires decided { Decided table.now.nodes (state_of self.old) len (size.Counted len) }
+        requires under_way { IsCounting begun (self.old.offset + 4) len start partial.old }
+        requires longest { self.old.limits.cell ≤ partial.old.room }
+        requires levels { self.old.levels.room ≡ self.old.limits.depth }
+        requires within { start ≤ length input.now }
+        requires front { start ≤ 4 }
+        ensures settles { let seen = seen_before begun partial.old in let bytes = seen ++ drop start input.now in Settles table.now.nodes (state_of self.old) partial.old input.now (says (sized_of table.now.nodes (state_of self.old) len) 4 bytes) ((4 - start) + length seen) (Behind len bytes) result (state_of self.new) partial.new }
+        ensures room { self.new.levels.room ≡ self.old.levels.room }
+        ensures limits { self.new.limits ≡ self.old.limits }
+    {
+        let at = self.offset + 4;
+        match take_number(partial, begun, at, at + u64::from(len), start, input) {
+            Number::More => {
+                self.under = Under::Counted(len);
+                CellAdvance::More { used: input.len() }
+            }
+            Number::Overrun => self.refuse(at, Reason::Overrun),
+            Number::Got { used, number } => {
+                if number > i32::MAX as u32 {
+                    return self.refuse(at, Reason::BadCount);
+                }
+                let at = self.offset;
+                let item = self.enter_counted(value, len, number, table);
+                CellAdvance::Item { at, used, item }
+            }
+        }
+    }
+
+    /// Goes on inside a list, a set or a map of so many bytes, which has so many elements or pairs.
+    fn enter_counted(
+        &mut self,
+        value: Value,
+        len: u32,
+        count: u32,
+        table: &TypeTable<A>,
+    ) -> CellOutline
+        requires stands { Stands table.now.nodes (state_of self.old) }
+        requires due { due_of (state_of self.old) ≡ due.Value }
+        requires value { value ≡ due_value table.now.nodes (state_of self.old) }
+        requires decided { Decided table.now.nodes (state_of self.old) len (size.Counted len) }
+        requires levels { self.old.levels.room ≡ self.old.limits.depth }
+        requires count { 4 ≤ len }
+        ensures item { result ≡ CellOutline.Enter (length self.old.levels.open_values) value.kind count }
+        ensures enters { EntersCounted table.now.nodes (state_of self.old) len count (state_of self.new) }
+        ensures room { self.new.levels.room ≡ self.old.levels.room }
+        ensures limits { self.new.limits ≡ self.old.limits }
+    {
+        let _nodes = table.len();
+        let level = self.levels.len();
+        let stop = self.offset + 4 + u64::from(len);
+        let (order, other) = inner_order(value, table);
+        self.pass(8, table);
+        self.levels.push(Open {
+            order,
+            node: value.node + 1,
+            other,
+            left: count,
+            items: count,
+            stop,
+        });
+        CellOutline::Enter {
+            level,
+            kind: value.kind,
+            items: count,
+        }
+    }
+
+    /// Goes on inside a tuple or a user-defined type of so many bytes.
+    fn enter_fields(&mut self, value: Value, len: u32, table: &TypeTable<A>) -> CellOutline
+        requires stands { Stands table.now.nodes (state_of self.old) }
+        requires due { due_of (state_of self.old) ≡ due.Value }
+        requires value { value ≡ due_value table.now.nodes (state_of self.old) }
+        requires decided { Decided table.now.nodes (state_of self.old) len (size.Fields len) }
+        requires levels { self.old.levels.room ≡ self.old.limits.depth }
+        ensures item { result ≡ CellOutline.Enter (length self.old.levels.open_values) value.kind value.arity }
+        ensures enters { EntersFields table.now.nodes (state_of self.old) len (state_of self.new) }
+        ensures room { self.new.levels.room ≡ self.old.levels.room }
+        ensures limits { self.new.limits ≡ self.old.limits }
+    {
+        let _nodes = table.len();
+        let level = self.levels.len();
+        let stop = self.offset + 4 + u64::from(len);
+        let arity = u32::from(value.arity);
+        self.pass(4, table);
+        self.levels.push(Open {
+            order: Order::Fields,
+            node: value.node + 1,
+            other: 0,
+            left: arity,
+            items: 0,
+            stop,
+        });
+        CellOutline::Enter {
+            level,
+            kind: value.kind,
+            items: arity,
+        }
+    }
+
+    /// Takes the next bytes of the first part of a scalar of so many bytes, whose length is read.
+    fn advance_first(
+        &mut self,
+        begun: bool,
+        total: u32,
+        start: usize,
+        partial: &mut Partial<A>,
+        table: &TypeTable<A>,
+        input: &[u8],
+    ) -> CellAdvance
+        requires stands { Stands table.now.nodes (state_of self.old) }
+        requires due { due_of (state_of self.old) ≡ due.Value }
+        requires decided { Decided table.now.nodes (state_of self.old) total (size.Parts total) }
+        requires under_way { IsGathering begun self.old.limits.cell (self.old.offset + 4) start partial.old }
+        requires longest { self.old.limits.cell ≤ partial.old.room }
+        requires parts { 0 < self.old.limits.cell }
+        requires within { start ≤ length input.now }
+        requires front { start ≤ 4 }
+        ensures settles { let seen = seen_before begun partial.old in let bytes = seen ++ drop start input.now in Settles table.now.nodes (state_of self.old) partial.old input.now (says (sized_of table.now.nodes (state_of self.old) total) 4 bytes) ((4 - start) + length seen) (Behind total bytes) result (state_of self.new) partial.new }
+        ensures room { self.new.levels.room ≡ self.old.levels.room }
+        ensures limits { self.new.limits ≡ self.old.limits }
+    {
+        let at = self.offset + 4;
+        let size = self.limits.cell;
+        let Some(found) = gather(partial, begun, size, at, start, input) else {
+            self.under = Under::First(total);
+            return CellAdvance::More { used: input.len() };
+        };
+        let level = self.levels.len();
+        self.pass(4 + u64::from(size), table);
+        self.next = Next::Part {
+            offset: size,
+            total,
+        };
+        CellAdvance::Item {
+            at,
+            used: found.used,
+            item: CellOutline::Part {
+                level,
+                offset: 0,
+                content: found.content,
+                last: false,
+            },
+        }
+    }
+
+    /// Takes the next bytes of a later part of a scalar of `total` bytes, from this offset in it.
+    fn advance_part(
+        &mut self,
+        begun: bool,
+        offset: u32,
+        total: u32,
+        partial: &mut Partial<A>,
+        table: &TypeTable<A>,
+        input: &[u8],
+    ) -> CellAdvance
+        requires stands { Stands table.now.nodes (state_of self.old) }
+        requires next { self.old.next ≡ next.Part offset total }
+        requires under_way { IsGathering begun (part_size (state_of self.old) offset total) self.old.offset 0 partial.old }
+        requires longest { self.old.limits.cell ≤ partial.old.room }
+        ensures settles { let bytes = seen_before begun partial.old ++ input.now in Settles table.now.nodes (state_of self.old) partial.old input.now (told table.now.nodes (state_of self.old) bytes) (length (seen_before begun partial.old)) (HaveCome bytes) result (state_of self.new) partial.new }
+        ensures room { self.new.levels.room ≡ self.old.levels.room }
+        ensures limits { self.new.limits ≡ self.old.limits }
+    {
+        let left = total - offset;
+        let size = self.limits.cell.min(left);
+        let Some(found) = gather(partial, begun, size, self.offset, 0, input) else {
+            self.under = Under::Later;
+            return CellAdvance::More { used: input.len() };
+        };
+        let at = self.offset;
+        let last = left <= self.limits.cell;
+        self.offset += u64::from(size);
+        self.under = Under::Nothing;
+        self.next = next_part(last, offset + size, total);
+        CellAdvance::Item {
+            at,
+            used: found.used,
+            item: CellOutline::Part {
+                level: self.levels.len(),
+                offset,
+                content: found.content,
+                last,
+            },
+        }
+    }
+
+    /// Goes on behind the length of a value, which ends behind so many bytes of the input.
+    fn settle(
+        &mut self,
+        value: Value,
+        number: u32,
+        start: usize,
+        partial: &mut Partial<A>,
+        table: &TypeTable<A>,
+        input: &[u8],
+    ) -> CellAdvance
+        requires stands { Stands table.now.nodes (state_of self.old) }
+        requires due { due_of (state_of self.old) ≡ due.Value }
+        requires value { value ≡ due_value table.now.nodes (state_of self.old) }
+        requires room { 4 ≤ room_of table.now.nodes (state_of self.old) }
+        requires idle { partial.old.under_way ≡ false }
+        requires longest { self.old.limits.cell ≤ partial.old.room }
+        requires levels { self.old.levels.room ≡ self.old.limits.depth }
+        requires parts { self.old.limits.parts ≡ true → 0 < self.old.limits.cell }
+        requires within { start ≤ length input.now }
+        requires front { start ≤ 4 }
+        ensures settles { let bytes = seen_before false partial.old ++ drop start input.now in Settles table.now.nodes (state_of self.old) partial.old input.now (says (sized_of table.now.nodes (state_of self.old) number) 4 bytes) ((4 - start) + length (seen_before false partial.old)) (Behind number bytes) result (state_of self.new) partial.new }
+        ensures room { self.new.levels.room ≡ self.old.levels.room }
+        ensures limits { self.new.limits ≡ self.old.limits }
+    {
+        let at = self.offset;
+        let level = self.levels.len();
+        match size_up(&self.limits, value.kind, value.stop - at, number) {
+            Sized::Null => self.pass_length(CellOutline::Null { level }, start, table),
+            Sized::Empty => self.pass_length(CellOutline::Empty { level }, start, table),
+            Sized::Scalar(len) => {
+                self.advance_scalar(false, value, len, start, partial, table, input)
+            }
+            Sized::Parts(len) => self.advance_first(false, len, start, partial, table, input),
+            Sized::Counted(len) => {
+                self.advance_count(false, value, len, start, partial, table, input)
+            }
+            Sized::Fields(len) => {
+                let item = self.enter_fields(value, len, table);
+                CellAdvance::Item {
+                    at,
+                    used: start,
+                    item,
+                }
+            }
+            Sized::Refused(why) => self.refuse(at, why),
+        }
+    }
+
+    /// Goes on behind a value that has a length alone.
+    fn pass_length(&mut self, item: CellOutline, used: usize, table: &TypeTable<A>) -> CellAdvance
+        requires stands { Stands table.now.nodes (state_of self.old) }
+        requires due { due_of (state_of self.old) ≡ due.Value }
+        requires place { self.old.offset + 4 < 2 ^ 64 }
+        ensures answer { result ≡ CellAdvance.Item self.old.offset used item }
+        ensures state { state_of self.new ≡ moved table.now.nodes (state_of self.old) 4 }
+        ensures room { self.new.levels.room ≡ self.old.levels.room }
+        ensures limits { self.new.limits ≡ self.old.limits }
+    {
+        let at = self.offset;
+        self.pass(4, table);
+        CellAdvance::Item { at, used, item }
+    }
+
+    /// Takes the next bytes of a value whose length is not read.
+    fn advance_length(
+        &mut self,
+        begun: bool,
+        partial: &mut Partial<A>,
+        table: &TypeTable<A>,
+        input: &[u8],
+    ) -> CellAdvance
+        requires stands { Stands table.now.nodes (state_of self.old) }
+        requires due { due_of (state_of self.old) ≡ due.Value }
+        requires under_way { IsCounting begun self.old.offset (room_of table.now.nodes (state_of self.old)) 0 partial.old }
+        requires longest { self.old.limits.cell ≤ partial.old.room }
+        requires levels { self.old.levels.room ≡ self.old.limits.depth }
+        requires parts { self.old.limits.parts ≡ true → 0 < self.old.limits.cell }
+        ensures settles { let bytes = seen_before begun partial.old ++ input.now in Settles table.now.nodes (state_of self.old) partial.old input.now (told table.now.nodes (state_of self.old) bytes) (length (seen_before begun partial.old)) (HaveCome bytes) result (state_of self.new) partial.new }
+        ensures room { self.new.levels.room ≡ self.old.levels.room }
+        ensures limits { self.new.limits ≡ self.old.limits }
+    {
+        let value = self.value(table);
+        match take_number(partial, begun, self.offset, value.stop, 0, input) {
+            Number::More => {
+                self.under = Under::Length;
+                CellAdvance::More { used: input.len() }
+            }
+            Number::Overrun => self.refuse(self.offset, Reason::Overrun),
+            Number::Got { used, number } => {
+                self.settle(value, number, used, partial, table, input)
+            }
+        }
+    }
+
+    /// Ends the innermost value.
+    fn close(&mut self, value: Open) -> CellAdvance
+        requires due { due_of (state_of self.old) ≡ due.Close value }
+        requires fresh { self.old.under ≡ under.Nothing }
+        ensures closes { Closes (state_of self.old) result (state_of self.new) }
+        ensures room { self.new.levels.room ≡ self.old.levels.room }
+        ensures limits { self.new.limits ≡ self.old.limits }
+    {
+        let at = self.offset;
+        if at < value.stop {
+            return self.refuse(at, Reason::ExtraInValue);
+        }
+        self.levels.pop();
+        CellAdvance::Item {
+            at,
+            used: 0,
+            item: CellOutline::Leave {
+                level: self.levels.len(),
+                items: value.items,
+            },
+        }
+    }
+
+    /// Ends the cell by a refusal of what begins at this offset.
+    fn refuse(&mut self, at: u64, why: Reason) -> CellAdvance
+        ensures answer { result ≡ CellAdvance.Refused (record { at = at; why = why }) }
+        ensures state { state_of self.new ≡ ended (state_of self.old) }
+        ensures room { self.new.levels.room ≡ self.old.levels.room }
+        ensures limits { self.new.limits ≡ self.old.limits }
+    {
+        self.end();
+        CellAdvance::Refused(Refusal { at, why })
+    }
+}
+
+/// What is read behind a part.
+fn next_part(last: bool, offset: u32, total: u32) -> Next
+    ensures { result ≡ next_behind last offset total }
+{
+    if last {
+        Next::Items
+    } else {
+        Next::Part { offset, total }
+    }
+}
+
+/// How the items of a list, a set or a map follow one another, and the node of a map's second type.
+fn inner_order<A: Allocator>(value: Value, table: &TypeTable<A>) -> (Order, u32)
+    requires { InnerStands table.now.nodes value }
+    ensures { result ≡ order_inside table.now.nodes value }
+{
+    match value.kind {
+        Kind::Map => {
+            let _nodes = table.len();
+            let key = value.node + 1;
+            (Order::Keys, key + table.node(key).unwrap().span)
+        }
+        _ => (Order::Elements, 0),
+    }
+}

@@ -1,0 +1,224 @@
+//! Where the reading of a cell stands.
+
+ghost use Rattle.std.specs.Prelude.{◌≡◌, ◌+◌, ◌-◌, ◌<◌, ◌≤◌, ◌^◌, ◌++◌, ◌∷◌, [], length, true, false, None, Some};
+ghost use Rattle.std.specs.Prelude.{IsSome, slice_get};
+ghost use Rattle.cqlp_value.specs.Standing.{CellThere, cell_value as cell_value_of, value_at as value_of_node};
+ghost use Rattle.cqlp_value.specs.declared.standing.Next.TheVariants as next;
+ghost use Rattle.cqlp_value.specs.declared.standing.Under.TheVariants as under;
+ghost use Rattle.cqlp_value.specs.declared.standing.Due.TheVariants as due;
+
+use crate::levels::{Levels, Open, Order};
+use cqlp_note::{Limits, Reason, Refusal};
+use cqlp_type::{Kind, TypeTable};
+use std::alloc::Allocator;
+
+/// What is read next.
+#[derive(Clone, Copy)]
+pub(crate) enum Next {
+    /// No cell is under way.
+    Nothing,
+    /// The cell, of the type at this node, or of none.
+    Cell(Option<u32>),
+    /// What the open values say.
+    Items,
+    /// The bytes of a long scalar from this offset on, of so many in all.
+    Part { offset: u32, total: u32 },
+}
+
+/// How much of it has come.
+#[derive(Clone, Copy)]
+pub(crate) enum Under {
+    /// Nothing.
+    Nothing,
+    /// Some of a value's length.
+    Length,
+    /// The length of a scalar, and some of its content.
+    Scalar(u32),
+    /// The length of a list, a set or a map, and some of its count.
+    Counted(u32),
+    /// The length of a long scalar, and some of its first part.
+    First(u32),
+    /// Some of a later part.
+    Later,
+}
+
+/// What comes next, where nothing of it has come.
+#[derive(Clone, Copy)]
+pub(crate) enum Due {
+    Nothing,
+    Value,
+    Close(Open),
+    Part { offset: u32, total: u32 },
+}
+
+/// A value that is read next: its type, and where the value around it ends.
+#[derive(Clone, Copy)]
+pub(crate) struct Value {
+    pub kind: Kind,
+    pub arity: u16,
+    pub node: u32,
+    pub stop: u64,
+}
+
+#[derive(Drop)]
+pub(crate) struct Standing<A: Allocator> {
+    pub limits: Limits,
+    /// The offset of what is read next.
+    pub offset: u64,
+    /// Where the cell's container ends.
+    pub stop: u64,
+    pub next: Next,
+    pub under: Under,
+    pub levels: Levels<A>,
+}
+
+impl<A: Allocator> Standing<A> {
+    ghost use Rattle.cqlp_note.specs.Limits.{rules_of};
+    ghost use Rattle.cqlp_value.specs.Standing.{state_of, due_of, due_value, moved, ended, Stands};
+
+    /// What comes next, where nothing of it has come.
+    pub(crate) fn due(&self) -> Due
+        ensures { result ≡ due_of (state_of self.now) }
+    {
+        match self.next {
+            Next::Nothing => Due::Nothing,
+            Next::Cell(_) => Due::Value,
+            Next::Part { offset, total } => Due::Part { offset, total },
+            Next::Items => match self.levels.last() {
+                None => Due::Nothing,
+                Some(value) => {
+                    if value.is_over(self.offset) {
+                        Due::Close(value)
+                    } else {
+                        Due::Value
+                    }
+                }
+            },
+        }
+    }
+
+    /// The value that is read next.
+    pub(crate) fn value(&self, table: &TypeTable<A>) -> Value
+        requires stands { Stands table.now.nodes (state_of self.now) }
+        requires due { due_of (state_of self.now) ≡ due.Value }
+        ensures { result ≡ due_value table.now.nodes (state_of self.now) }
+    {
+        match self.next {
+            Next::Cell(node) => cell_value(table, node, self.stop),
+            Next::Items => {
+                let value = self.levels.last().unwrap();
+                value_at(table, value.node, value.stop)
+            }
+            Next::Nothing => unreachable!(),
+            Next::Part { .. } => unreachable!(),
+        }
+    }
+
+    /// Goes on behind so many bytes of the value that was read, or of what is known of it.
+    pub(crate) fn pass(&mut self, size: u64, table: &TypeTable<A>)
+        requires stands { Stands table.now.nodes (state_of self.old) }
+        requires due { due_of (state_of self.old) ≡ due.Value }
+        requires place { self.old.offset + size < 2 ^ 64 }
+        ensures state { state_of self.new ≡ moved table.now.nodes (state_of self.old) size }
+        ensures room { self.new.levels.room ≡ self.old.levels.room }
+        ensures limits { self.new.limits ≡ self.old.limits }
+    {
+        if let Next::Items = self.next {
+            let value = self.levels.last().unwrap();
+            self.levels.set_last(value.passed(table));
+        }
+        self.offset += size;
+        self.next = Next::Items;
+        self.under = Under::Nothing;
+    }
+
+    /// Ends the cell.
+    pub(crate) fn end(&mut self)
+        ensures state { state_of self.new ≡ ended (state_of self.old) }
+        ensures room { self.new.levels.room ≡ self.old.levels.room }
+        ensures limits { self.new.limits ≡ self.old.limits }
+    {
+        self.next = Next::Nothing;
+        self.under = Under::Nothing;
+        self.levels.clear();
+    }
+}
+
+/// The value that the cell is.
+fn cell_value<A: Allocator>(table: &TypeTable<A>, node: Option<u32>, stop: u64) -> Value
+    requires { CellThere table.now.nodes node }
+    ensures { result ≡ cell_value_of table.now.nodes node stop }
+{
+    match node {
+        Some(node) => value_at(table, node, stop),
+        None => Value {
+            kind: Kind::Raw,
+            arity: 0,
+            node: 0,
+            stop,
+        },
+    }
+}
+
+/// A value of the type at this node, in a value that ends there.
+#[tactic(auto, unfolding(crate::specs::Inner::node_at))]
+fn value_at<A: Allocator>(table: &TypeTable<A>, node: u32, stop: u64) -> Value
+    requires { IsSome (slice_get table.now.nodes node) }
+    ensures { result ≡ value_of_node table.now.nodes node stop }
+{
+    let head = table.node(node).unwrap();
+    Value {
+        kind: head.kind,
+        arity: head.arity,
+        node,
+        stop,
+    }
+}
+
+impl Open {
+    ghost use Rattle.cqlp_value.specs.Standing.{HasNext, is_over, passed};
+
+    /// Whether no further item begins at this offset.
+    fn is_over(self, offset: u64) -> bool
+        ensures { result ≡ is_over self offset }
+    {
+        match self.order {
+            Order::Elements | Order::Keys => self.left == 0,
+            Order::Values => false,
+            Order::Fields => self.left == 0 || self.stop <= offset,
+        }
+    }
+
+    /// What it is behind its next item.
+    fn passed<A: Allocator>(self, table: &TypeTable<A>) -> Open
+        requires { HasNext table.now.nodes self self.order }
+        ensures { result ≡ passed table.now.nodes self }
+    {
+        let _nodes = table.len();
+        match self.order {
+            Order::Elements => Open {
+                left: self.left - 1,
+                ..self
+            },
+            Order::Keys => Open {
+                order: Order::Values,
+                node: self.other,
+                other: self.node,
+                left: self.left - 1,
+                ..self
+            },
+            Order::Values => Open {
+                order: Order::Keys,
+                node: self.other,
+                other: self.node,
+                ..self
+            },
+            Order::Fields => Open {
+                node: self.node + table.node(self.node).unwrap().span,
+                left: self.left - 1,
+                items: self.items + 1,
+                ..self
+            },
+        }
+    }
+}
