@@ -23,7 +23,7 @@ const LIMITS: Limits = Limits {
 };
 
 /// How often a new decoder asks for memory.
-const REQUESTS: u64 = 1;
+const REQUESTS: u64 = 3;
 
 const OPTIONS: [u8; 9] = [4, 0, 0, 0, 5, 0, 0, 0, 0];
 
