@@ -1,3 +1,4 @@
+mod CellRows
 pub mod Renders
 pub mod Shows
 pub mod Texts
