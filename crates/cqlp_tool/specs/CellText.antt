@@ -33,14 +33,14 @@ digits (suc k) n = digits k (n / 10) ++ (48 + n % 10) ∷ []
 
 -- ---- times and dates
 
--- a time of day in nanoseconds, which is never negative
+-- a time of day in nanoseconds; a negative number, which no cell has, as a number
 abbrev pub time_text : ℤ → List ℕ
 time_text (pos n) =
-    digits 2 (n / 3_600_000_000_000)
-    ++ codes ":" ++ digits 2 (n / 60_000_000_000 % 60)
-    ++ codes ":" ++ digits 2 (n / 1_000_000_000 % 60)
-    ++ codes "." ++ digits 9 (n % 1_000_000_000)
-time_text (negsuc n) = []
+    digits 2 (n / 3_600_000_000_000) ++ (codes ":"
+    ++ (digits 2 (n / 60_000_000_000 % 60) ++ (codes ":"
+    ++ (digits 2 (n / 1_000_000_000 % 60) ++ (codes "."
+    ++ digits 9 (n % 1_000_000_000))))))
+time_text (negsuc n) = signed_decimal (negsuc n)
 
 -- every fourth year, but of the hundreds only every fourth
 abbrev pub is_leap : ℕ → Bool
