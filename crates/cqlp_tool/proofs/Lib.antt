@@ -1,3 +1,5 @@
+mod CellRows
+pub mod CellTexts
 pub mod Renders
 pub mod Shows
 pub mod Texts

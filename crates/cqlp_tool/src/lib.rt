@@ -2,6 +2,7 @@
 #![tactic(auto)]
 
 mod buffered;
+mod cells;
 mod ending;
 mod events;
 #[cfg(test)]
