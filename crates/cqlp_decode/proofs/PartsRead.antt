@@ -15,7 +15,7 @@ use Rattle.cqlp_message.specs.declared.grammar.Role.{Role}
 use Rattle.cqlp_message.specs.declared.grammar.Role.TheVariants as role
 use Rattle.cqlp_message.specs.Productions.{Symbol, In, Extra, following, fault_in}
 use Rattle.cqlp_message.specs.Events.{Event, Holds}
-use Rattle.cqlp_message.specs.Parts.{Part, Field_is, PartsSpell, PartsWithin, part_size, parts_events}
+use Rattle.cqlp_message.specs.Parts.{Part, Field_is, Type_is, PartsSpell, PartsWithin, part_size, parts_events}
 use Rattle.cqlp_message.proofs.Derives.{Derives}
 use Rattle.cqlp_message.proofs.Sizes.{part_sized}
 use Rattle.cqlp_decode.specs.Reading.{Place, Given, Nothing, step, Reads, value_step, types_for, nodes_after, given_after}
@@ -65,6 +65,7 @@ module _ (l : Rules) (stop : ℕ) where
   parts_read [] at ss s b d spelled within le =
       let none : at + length b ≡ at = rw spelled (omega arith) in
       (s, rw (none, d) (refl, sym spelled), (λ e. e))
+  parts_read (Type_is t ∷ ps) at ss s b d spelled within le = absurd d
   parts_read (Field_is g m v ∷ ps) at [] s b d spelled within le = absurd d
   parts_read (Field_is g m v ∷ ps) at (In f n r ∷ rest) s b d spelled within le =
       let long : length b ≡ length spelled.front + length spelled.back = ap length spelled.whole ∙ length-append spelled.front spelled.back in

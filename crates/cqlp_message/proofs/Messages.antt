@@ -15,12 +15,12 @@ use Rattle.cqlp_type.specs.Types.{Types}
 use Rattle.cqlp_message.specs.declared.grammar.Group.TheVariants as group_of
 use Rattle.cqlp_message.specs.declared.grammar.Role.{Role}
 use Rattle.cqlp_message.specs.declared.grammar.Role.TheVariants as role
-use Rattle.cqlp_message.specs.FrameValues.{Octets, QueryParams, BatchEntry, Text, Id, ErrorExtra, Plain, Unavailable, WriteTimeout, ReadTimeout, ReadFailure, FunctionFailure, WriteFailure, AlreadyExists, Unprepared, SchemaOptions, Keyspace, Named, Callable, UnknownTarget, SchemaChange, ServerEvent, Node, Schema, UnknownEvent, Message, Startup, Options, Query, Prepare, Execute, Batch, Register, AuthResponse, Error, Ready, Authenticate, Supported, Void, SetKeyspace, Change, UnknownResult, Event, AuthChallenge, AuthSuccess, FrameValue}
+use Rattle.cqlp_message.specs.FrameValues.{Octets, QueryParams, BatchEntry, Text, Id, ErrorExtra, Plain, Unavailable, WriteTimeout, ReadTimeout, ReadFailure, FunctionFailure, WriteFailure, AlreadyExists, Unprepared, SchemaOptions, Keyspace, Named, Callable, UnknownTarget, SchemaChange, ServerEvent, Node, Schema, UnknownEvent, Message, Startup, Options, Query, Prepare, Execute, Batch, Register, AuthResponse, Error, Ready, Authenticate, Supported, Void, SetKeyspace, Prepared, Change, UnknownResult, Event, AuthChallenge, AuthSuccess, FrameValue}
 use Rattle.cqlp_message.specs.Productions.{Symbol, In, Extra, plain, counted, copies, group, where_set, parameters, body, message, payload, schema_change, results, or_nothing}
 use Rattle.cqlp_message.specs.Parts.{Part, Field_is}
 use Rattle.cqlp_message.specs.Bodies.{where_some, texts, text, bytes, bound, value_parts, serial_parts, timestamp_parts, paging_parts, params_parts, entry_parts, extra_parts, options_parts, change_parts, event_parts, message_parts}
 use Rattle.cqlp_message.specs.Bodies as bodies
-use Rattle.cqlp_message.specs.Agreement.{IsThereIf, ParamsAgree, BatchAgrees, ExtraAgrees, OptionsAgree, ChangeAgrees, EventAgrees, IsNoResult, MessageAgrees, opcode_of, is_response, FrameAgrees}
+use Rattle.cqlp_message.specs.Agreement.{IsThereIf, ParamsAgree, BatchAgrees, ExtraAgrees, OptionsAgree, ChangeAgrees, EventAgrees, IsNoResult, MessageAgrees, IsUnprepared, opcode_of, is_response, FrameAgrees}
 use Rattle.cqlp_message.specs.Frames.{frame_parts, header_of}
 use Rattle.cqlp_message.proofs.Derives.{D, same, trivial, some_of, alone_derives, each_derives, where_derives, option_derives, texts_derive}
 
@@ -165,26 +165,27 @@ module _ (S : Type 0) (types : S → Role → Types) (after : S → Role → S) 
 
   -- ---- messages
 
-  pub message_derives : (m : Message) (ps : List Part) (rest : List Symbol) → MessageAgrees m → D S types after ps rest → D S types after (message_parts m ++ ps) (body (opcode_of m) ++ rest)
-  message_derives (Startup os) ps rest a d = startup_derives os ps rest d
-  message_derives Options ps rest a d = d
-  message_derives (Query t q) ps rest a d = λ s. (same, refl, params_derive q ps rest a d (alone 1 s))
-  message_derives (Prepare t) ps rest a d = λ s. (same, refl, d (alone 1 s))
-  message_derives (Execute i q) ps rest a d = λ s. (same, refl, params_derive q ps rest a d (alone 1 s))
-  message_derives (Batch kind es c flags serial timestamp) ps rest a d = batch_derives kind es c flags serial timestamp ps rest a d
-  message_derives (Register ts) ps rest a d = texts_derive S types after field.EventTypes field.EventType group_of.EventTypes ts ps rest refl d
-  message_derives (AuthResponse t) ps rest a d = λ s. (same, refl, d (alone 1 s))
-  message_derives (Error code t x) ps rest a d = error_derives code t x ps rest a d
-  message_derives Ready ps rest a d = d
-  message_derives (Authenticate c) ps rest a d = λ s. (same, refl, d (alone 1 s))
-  message_derives (Supported os) ps rest a d = supported_derives os ps rest d
-  message_derives Void ps rest a d = λ s. (same, refl, d (after s role.ResultKind))
-  message_derives (SetKeyspace k) ps rest a d = λ s. (same, refl, (same, refl, d (alone 1 (after s role.ResultKind))))
-  message_derives (Change c) ps rest a d = λ s. (same, refl, change_derives c ps rest a d (after s role.ResultKind))
-  message_derives (UnknownResult kind) ps rest a d = λ s. (same, refl, rw (no_result (cast_unsigned w32 kind) a) (d (after s role.ResultKind)))
-  message_derives (Event e t) ps rest a d = event_derives e t ps rest a d
-  message_derives (AuthChallenge t) ps rest a d = λ s. (same, refl, d (alone 1 s))
-  message_derives (AuthSuccess t) ps rest a d = λ s. (same, refl, d (alone 1 s))
+  pub message_derives : (m : Message) (ps : List Part) (rest : List Symbol) → MessageAgrees m → IsUnprepared m → D S types after ps rest → D S types after (message_parts m ++ ps) (body (opcode_of m) ++ rest)
+  message_derives (Startup os) ps rest a u d = startup_derives os ps rest d
+  message_derives Options ps rest a u d = d
+  message_derives (Query t q) ps rest a u d = λ s. (same, refl, params_derive q ps rest a d (alone 1 s))
+  message_derives (Prepare t) ps rest a u d = λ s. (same, refl, d (alone 1 s))
+  message_derives (Execute i q) ps rest a u d = λ s. (same, refl, params_derive q ps rest a d (alone 1 s))
+  message_derives (Batch kind es c flags serial timestamp) ps rest a u d = batch_derives kind es c flags serial timestamp ps rest a d
+  message_derives (Register ts) ps rest a u d = texts_derive S types after field.EventTypes field.EventType group_of.EventTypes ts ps rest refl d
+  message_derives (AuthResponse t) ps rest a u d = λ s. (same, refl, d (alone 1 s))
+  message_derives (Error code t x) ps rest a u d = error_derives code t x ps rest a d
+  message_derives Ready ps rest a u d = d
+  message_derives (Authenticate c) ps rest a u d = λ s. (same, refl, d (alone 1 s))
+  message_derives (Supported os) ps rest a u d = supported_derives os ps rest d
+  message_derives Void ps rest a u d = λ s. (same, refl, d (after s role.ResultKind))
+  message_derives (SetKeyspace k) ps rest a u d = λ s. (same, refl, (same, refl, d (alone 1 (after s role.ResultKind))))
+  message_derives (Prepared id flags columns keys table specs result) ps rest a u d = absurd u
+  message_derives (Change c) ps rest a u d = λ s. (same, refl, change_derives c ps rest a d (after s role.ResultKind))
+  message_derives (UnknownResult kind) ps rest a u d = λ s. (same, refl, rw (no_result (cast_unsigned w32 kind) a) (d (after s role.ResultKind)))
+  message_derives (Event e t) ps rest a u d = event_derives e t ps rest a d
+  message_derives (AuthChallenge t) ps rest a u d = λ s. (same, refl, d (alone 1 s))
+  message_derives (AuthSuccess t) ps rest a u d = λ s. (same, refl, d (alone 1 s))
 
   -- ---- frames
 
@@ -213,11 +214,11 @@ module _ (S : Type 0) (types : S → Role → Types) (after : S → Role → S) 
       rw (append_assoc (where_set flags 0x02 (plain field.TraceId notation.Uuid ∷ [])) (where_set flags 0x08 (counted field.Warnings group_of.Warnings ∷ [])) rest) all
 
   -- The parts of a frame come of the symbols of its header, in every state.
-  pub frame_derives : (f : FrameValue) (n : ℕ) → FrameAgrees f → D S types after (frame_parts f) (message (header_of f n))
-  frame_derives f n a =
+  pub frame_derives : (f : FrameValue) (n : ℕ) → FrameAgrees f → IsUnprepared f.message → D S types after (frame_parts f) (message (header_of f n))
+  frame_derives f n a u =
       let end : List Symbol = Extra ∷ [] in
       let ends : D S types after [] end = λ s. refl in
-      let told : D S types after (message_parts f.message) (body (opcode_of f.message) ++ end) = rw (append-nil (message_parts f.message)) at (message_derives f.message [] end a.message ends) in
+      let told : D S types after (message_parts f.message) (body (opcode_of f.message) ++ end) = rw (append-nil (message_parts f.message)) at (message_derives f.message [] end a.message u ends) in
       let front : List Symbol = cond (is_response f.message) (where_set f.flags 0x02 (plain field.TraceId notation.Uuid ∷ []) ++ where_set f.flags 0x08 (counted field.Warnings group_of.Warnings ∷ [])) [] in
       let pay : List Symbol = where_set f.flags 0x04 payload in
       let all : D S types after (tracing_parts f.tracing ++ (warnings_parts f.warnings ++ (payload_parts f.payload ++ message_parts f.message))) (front ++ (pay ++ (body (opcode_of f.message) ++ end))) =

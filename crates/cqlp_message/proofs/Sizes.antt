@@ -1,5 +1,5 @@
 -- How many bytes spell the parts of a frame, and a frame.
-use Rattle.std.proofs.Common.{◌≡◌, ℕ, ◌+◌, List, [], ◌∷◌, ◌++◌, length, append_assoc, Some, None, refl, ap, ◌∙◌, arith}
+use Rattle.std.proofs.Common.{◌≡◌, ℕ, ◌+◌, List, [], ◌∷◌, ◌++◌, length, append_assoc, false, Some, None, refl, ap, ◌∙◌, arith}
 use Rattle.std.proofs.lemmas.List.{length-append}
 use Rattle.cqlp_note.specs.declared.field.Notation.{Notation}
 use Rattle.cqlp_note.specs.declared.field.Notation.TheVariants as notation
@@ -9,8 +9,9 @@ use Rattle.cqlp_note.specs.Field.{FieldValue, Byte, Short, Int, Long, Uuid, Coun
 use Rattle.cqlp_note.specs.Head.{fixed_of}
 use Rattle.cqlp_note.specs.Spelling.{Spells}
 use Rattle.cqlp_note.proofs.Spelled.{counted_size}
+use Rattle.cqlp_type.proofs.Lengths.{spelled_long}
 use Rattle.cqlp_message.specs.FrameValues.{FrameValue}
-use Rattle.cqlp_message.specs.Parts.{Part, Field_is, PartSpells, PartsSpell, size_behind, part_size, parts_size}
+use Rattle.cqlp_message.specs.Parts.{Part, Field_is, Type_is, PartSpells, PartsSpell, size_behind, part_size, parts_size}
 use Rattle.cqlp_message.specs.Bodies.{message_parts}
 use Rattle.cqlp_message.specs.Frames.{FrameSpells, announced_parts, frame_parts, header_of, frame_size}
 
@@ -38,6 +39,7 @@ field_size n v b s = absurd s
 
 pub part_sized : (part : Part) (b : List ℕ) → PartSpells part b → length b ≡ part_size part
 part_sized (Field_is f n v) b s = field_size n v b s
+part_sized (Type_is t) b s = spelled_long false t b s.spelled
 
 pub parts_long : (ps : List Part) (b : List ℕ) → PartsSpell ps b → length b ≡ parts_size ps
 parts_long [] b s = ap length s

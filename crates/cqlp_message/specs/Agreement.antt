@@ -1,10 +1,10 @@
 -- Where flags, codes and names agree with the parts that they announce (sections 2.2, 4 and 9 of native_protocol_v4.spec).
-use Rattle.std.specs.Prelude.{◌≡◌, ℕ, ◌<◌, ℤ, pos, Bool, false, ◌&&◌, [], Option, None, is_some, IfSome, All, codes, ◌⊎◌}
+use Rattle.std.specs.Prelude.{◌≡◌, ℕ, ◌<◌, ℤ, pos, Bool, true, false, ◌&&◌, not, List, [], length, Option, Some, None, is_some, IfSome, All, codes, ◌⊎◌}
 use Rattle.std.specs.Int.{w32, cast_unsigned}
 use Rattle.cqlp_note.specs.declared.opcode.Opcode.{Opcode}
 use Rattle.cqlp_note.specs.declared.opcode.Opcode.TheVariants as opcode
 use Rattle.cqlp_note.specs.Heading.{has, answers, beside_number}
-use Rattle.cqlp_message.specs.FrameValues.{Octets, QueryParams, ErrorExtra, Plain, Unavailable, WriteTimeout, ReadTimeout, ReadFailure, FunctionFailure, WriteFailure, AlreadyExists, Unprepared, SchemaOptions, Keyspace, Named, Callable, UnknownTarget, SchemaChange, ServerEvent, Node, Schema, UnknownEvent, Message, Startup, Options, Query, Prepare, Execute, Batch, Register, AuthResponse, Error, Ready, Authenticate, Supported, Void, SetKeyspace, Change, UnknownResult, Event, AuthChallenge, AuthSuccess, FrameValue}
+use Rattle.cqlp_message.specs.FrameValues.{Octets, TableName, Spec, Metadata, QueryParams, ErrorExtra, Plain, Unavailable, WriteTimeout, ReadTimeout, ReadFailure, FunctionFailure, WriteFailure, AlreadyExists, Unprepared, SchemaOptions, Keyspace, Named, Callable, UnknownTarget, SchemaChange, ServerEvent, Node, Schema, UnknownEvent, Message, Startup, Options, Query, Prepare, Execute, Batch, Register, AuthResponse, Error, Ready, Authenticate, Supported, Void, SetKeyspace, Prepared, Change, UnknownResult, Event, AuthChallenge, AuthSuccess, FrameValue}
 use Rattle.cqlp_message.specs.Productions.{errors, targets, events, by_text}
 
 -- a part is there exactly where it is announced
@@ -62,6 +62,21 @@ EventAgrees event UnknownEvent = by_text event events ≡ []
 abbrev pub IsNoResult : (kind : ℕ) → Type 0
 IsNoResult kind = (kind ≡ 0) ⊎ (5 < kind)
 
+-- Section 4.2.5.2: there are as many specs as columns. The table of all is there where 1 is set, and else each has one.
+pub record SpecsAgree (flags columns : ℕ) (table : Option TableName) (specs : List Spec) : Type 0 where
+  pub number : length specs ≡ columns
+  pub global : IsThereIf (has flags 0x01) table
+  pub own : All (λ c. IsThereIf (not (has flags 0x01)) c.table) specs
+
+-- Section 4.2.5.2: the columns are told where 4 is not set.
+abbrev pub ColumnsAgree : (flags columns : ℕ) → Option TableName → Option (List Spec) → Type 0
+ColumnsAgree flags columns table None = (has flags 0x04 ≡ true) × (table ≡ None)
+ColumnsAgree flags columns table (Some specs) = (has flags 0x04 ≡ false) × SpecsAgree flags columns table specs
+
+pub record MetadataAgrees (m : Metadata) : Type 0 where
+  pub paging : IsThereIf (has (cast_unsigned w32 m.flags) 0x02) m.paging
+  pub columns : ColumnsAgree (cast_unsigned w32 m.flags) m.columns m.table m.specs
+
 -- ---- messages and frames
 
 abbrev pub MessageAgrees : Message → Type 0
@@ -69,10 +84,16 @@ MessageAgrees (Query text q) = ParamsAgree q
 MessageAgrees (Execute id q) = ParamsAgree q
 MessageAgrees (Batch kind entries consistency flags serial timestamp) = BatchAgrees flags serial timestamp
 MessageAgrees (Error code message extra) = ExtraAgrees code extra
+MessageAgrees (Prepared id flags columns keys table specs result) = SpecsAgree (cast_unsigned w32 flags) columns table specs × MetadataAgrees result
 MessageAgrees (Change c) = ChangeAgrees c
 MessageAgrees (UnknownResult kind) = IsNoResult (cast_unsigned w32 kind)
 MessageAgrees (Event event told) = EventAgrees event told
 MessageAgrees m = Unit {0}
+
+-- no prepared result
+abbrev pub IsUnprepared : Message → Type 0
+IsUnprepared (Prepared id flags columns keys table specs result) = ⊥
+IsUnprepared m = Unit {0}
 
 -- Section 2.4: the opcode of a message.
 abbrev pub opcode_of : Message → Opcode
@@ -90,6 +111,7 @@ opcode_of (Authenticate class) = opcode.Authenticate
 opcode_of (Supported os) = opcode.Supported
 opcode_of Void = opcode.Result
 opcode_of (SetKeyspace keyspace) = opcode.Result
+opcode_of (Prepared id flags columns keys table specs result) = opcode.Result
 opcode_of (Change c) = opcode.Result
 opcode_of (UnknownResult kind) = opcode.Result
 opcode_of (Event event told) = opcode.Event

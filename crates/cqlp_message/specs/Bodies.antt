@@ -6,8 +6,8 @@ use Rattle.cqlp_note.specs.declared.field.Field.TheVariants as field
 use Rattle.cqlp_note.specs.declared.field.Notation.TheVariants as notation
 use Rattle.cqlp_note.specs.Field.{BoundValue}
 use Rattle.cqlp_note.specs.Field as note
-use Rattle.cqlp_message.specs.FrameValues.{Octets, QueryParams, BatchEntry, Text, Id, ErrorExtra, Plain, Unavailable, WriteTimeout, ReadTimeout, ReadFailure, FunctionFailure, WriteFailure, AlreadyExists, Unprepared, SchemaOptions, Keyspace, Named, Callable, UnknownTarget, SchemaChange, ServerEvent, Node, Schema, UnknownEvent, Message, Startup, Options, Query, Prepare, Execute, Batch, Register, AuthResponse, Error, Ready, Authenticate, Supported, Void, SetKeyspace, Change, UnknownResult, Event, AuthChallenge, AuthSuccess}
-use Rattle.cqlp_message.specs.Parts.{Part, Field_is, PartsSpell}
+use Rattle.cqlp_message.specs.FrameValues.{Octets, TableName, Spec, Metadata, QueryParams, BatchEntry, Text, Id, ErrorExtra, Plain, Unavailable, WriteTimeout, ReadTimeout, ReadFailure, FunctionFailure, WriteFailure, AlreadyExists, Unprepared, SchemaOptions, Keyspace, Named, Callable, UnknownTarget, SchemaChange, ServerEvent, Node, Schema, UnknownEvent, Message, Startup, Options, Query, Prepare, Execute, Batch, Register, AuthResponse, Error, Ready, Authenticate, Supported, Void, SetKeyspace, Prepared, Change, UnknownResult, Event, AuthChallenge, AuthSuccess}
+use Rattle.cqlp_message.specs.Parts.{Part, Field_is, Type_is, PartsSpell}
 
 -- ---- fields
 
@@ -22,6 +22,10 @@ int f z = Field_is f notation.Int (note.Int z)
 
 abbrev pub long : Field → ℤ → Part
 long f z = Field_is f notation.Long (note.Long z)
+
+-- a number of 32 bits that counts
+abbrev pub count : Field → ℕ → Part
+count f n = Field_is f notation.Count32 (note.Count n)
 
 -- a [string]
 abbrev pub text : Field → Octets → Part
@@ -106,6 +110,25 @@ extra_parts (WriteFailure consistency received block_for failures type) =
 extra_parts (AlreadyExists keyspace table) = text field.Keyspace keyspace ∷ text field.Table table ∷ []
 extra_parts (Unprepared id) = statement id ∷ []
 
+-- a keyspace and a table, if they are there
+abbrev pub table_parts : Option TableName → List Part
+table_parts o = where_some (λ t. text field.Keyspace t.0 ∷ text field.Table t.1 ∷ []) o
+
+-- Section 4.2.5.2: a column.
+abbrev pub spec_parts : Spec → List Part
+spec_parts c = table_parts c.table ++ text field.ColumnName c.name ∷ Type_is c.tree ∷ []
+
+abbrev pub specs_parts : Option TableName → List Spec → List Part
+specs_parts table specs = table_parts table ++ flat_map spec_parts specs
+
+-- Section 4.2.5.2: what is told of a page's columns.
+abbrev pub metadata_parts : Metadata → List Part
+metadata_parts m =
+    int field.MetaFlags m.flags ∷ count field.Columns m.columns ∷ []
+    ++ paging_parts m.paging
+    ++ table_parts m.table
+    ++ where_some (flat_map spec_parts) m.specs
+
 -- Section 4.2.5.5: what was changed.
 abbrev pub options_parts : SchemaOptions → List Part
 options_parts (Keyspace keyspace) = text field.Keyspace keyspace ∷ []
@@ -145,6 +168,11 @@ message_parts (Authenticate class) = text field.Class class ∷ []
 message_parts (Supported os) = counted field.Options (λ o. text field.OptionKey o.0 ∷ texts field.OptionValues field.OptionValue o.1) os
 message_parts Void = int field.ResultKind (pos 1) ∷ []
 message_parts (SetKeyspace keyspace) = int field.ResultKind (pos 3) ∷ text field.Keyspace keyspace ∷ []
+message_parts (Prepared id flags columns keys table specs result) =
+    int field.ResultKind (pos 4) ∷ statement id ∷ int field.MetaFlags flags ∷ count field.Columns columns ∷ count field.Keys (length keys) ∷ []
+    ++ flat_map (λ k. short field.KeyIndex k ∷ []) keys
+    ++ specs_parts table specs
+    ++ metadata_parts result
 message_parts (Change c) = int field.ResultKind (pos 5) ∷ change_parts c
 message_parts (UnknownResult kind) = int field.ResultKind kind ∷ []
 message_parts (Event event told) = text field.EventType event ∷ event_parts told

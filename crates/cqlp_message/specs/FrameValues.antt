@@ -3,6 +3,7 @@
 use Rattle.std.specs.Prelude.{ℕ, ℤ, List, Option}
 use Rattle.cqlp_note.specs.declared.prim.Address.{Address}
 use Rattle.cqlp_note.specs.Field.{BoundValue}
+use Rattle.cqlp_type.specs.Trees.{Trees}
 
 abbrev pub Octets : Type 0
 Octets = List ℕ
@@ -50,6 +51,24 @@ pub record SchemaChange : Type 0 where
   pub target : Octets
   pub options : SchemaOptions
 
+-- a keyspace and a table
+abbrev pub TableName : Type 0
+TableName = Octets × Octets
+
+-- Section 4.2.5.2: a column, of a table if there is none for all columns, and its type.
+pub record Spec : Type 0 where
+  pub table : Option TableName
+  pub name : Octets
+  pub tree : Trees
+
+-- Section 4.2.5.2: what is told of a page's columns.
+pub record Metadata : Type 0 where
+  pub flags : ℤ
+  pub columns : ℕ
+  pub paging : Option (Option Octets)
+  pub table : Option TableName
+  pub specs : Option (List Spec)
+
 -- Section 4.2.6: what an event tells.
 pub data ServerEvent : Type 0 where
   Node : (change : Octets) → Address → (port : ℤ) → ServerEvent
@@ -73,6 +92,7 @@ pub data Message : Type 0 where
   Supported : List (Octets × List Octets) → Message
   Void : Message
   SetKeyspace : (keyspace : Octets) → Message
+  Prepared : (id : Octets) → (flags : ℤ) → (columns : ℕ) → (keys : List ℕ) → (table : Option TableName) → List Spec → (result : Metadata) → Message
   Change : SchemaChange → Message
   UnknownResult : (kind : ℤ) → Message
   Event : (event : Octets) → ServerEvent → Message

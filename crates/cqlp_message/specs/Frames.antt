@@ -1,12 +1,13 @@
 -- Frames: what spells them, and their events (section 2 of native_protocol_v4.spec).
-use Rattle.std.specs.Prelude.{◌≡◌, ℕ, ◌+◌, ◌++◌, true, List, [], ◌∷◌, length}
+use Rattle.std.specs.Prelude.{◌≡◌, ℕ, ◌+◌, ◌≤◌, ◌++◌, true, List, [], ◌∷◌, length, Option, Some, None}
 use Rattle.cqlp_note.specs.declared.field.Field.TheVariants as field
 use Rattle.cqlp_note.specs.declared.field.Notation.TheVariants as notation
 use Rattle.cqlp_note.specs.declared.header.Header.{Header}
 use Rattle.cqlp_note.specs.Field as note
 use Rattle.cqlp_note.specs.Heading.{IsLawful, header_bytes}
 use Rattle.cqlp_note.specs.Limits.{Rules}
-use Rattle.cqlp_message.specs.FrameValues.{FrameValue}
+use Rattle.cqlp_type.specs.Trees.{options_in}
+use Rattle.cqlp_message.specs.FrameValues.{Spec, Message, Prepared, FrameValue}
 use Rattle.cqlp_message.specs.Events.{Event, Frame, End}
 use Rattle.cqlp_message.specs.Parts.{Part, Field_is, Joined, PartsSpell, parts_size, parts_events, PartsWithin}
 use Rattle.cqlp_message.specs.Bodies.{where_some, counted, texts, text, bytes, message_parts, BodySpells}
@@ -67,7 +68,22 @@ FlatAll at (f ∷ fs) = Flat at f.0 f.1 ++ FlatAll (at + frame_size f.0 f.1) fs
 
 -- ---- limits
 
+-- all type options of the columns, the inner ones counted
+abbrev pub options_of : List Spec → ℕ
+options_of [] = 0
+options_of (c ∷ specs) = options_in c.tree + options_of specs
+
+abbrev pub options_told : Option (List Spec) → ℕ
+options_told None = 0
+options_told (Some specs) = options_of specs
+
+-- the type options of one metadata are no more than the caller's limit
+abbrev pub TypesWithin : Rules → Message → Type 0
+TypesWithin l (Prepared id flags columns keys table specs result) = (options_of specs ≤ l.entries) × (options_told result.specs ≤ l.entries)
+TypesWithin l m = Unit {0}
+
 -- A frame is within the caller's limits.
 pub record IsWithin (l : Rules) (f : FrameValue) : Type 0 where
   pub parts : PartsWithin l (frame_parts f)
+  pub types : TypesWithin l f.message
   pub typed : l.types ≡ true

@@ -5,6 +5,7 @@ use Rattle.std.specs.declared.alloc.Global.{Global}
 use Rattle.std.specs.declared.string.String.{String}
 use Rattle.std.specs.declared.vec.Vec.{Vec}
 use Rattle.cqlp_note.specs.Field as note
+use Rattle.cqlp_type.specs.TypeTrees.{tree_of}
 use Rattle.cqlp_message.specs.declared.request.OwnedBound.{OwnedBound}
 use Rattle.cqlp_message.specs.declared.request.OwnedBound.TheVariants as bound
 use Rattle.cqlp_message.specs.declared.request.QueryParams.{QueryParams}
@@ -17,6 +18,8 @@ use Rattle.cqlp_message.specs.declared.response.SchemaOptions.{SchemaOptions}
 use Rattle.cqlp_message.specs.declared.response.SchemaOptions.TheVariants as options
 use Rattle.cqlp_message.specs.declared.response.ServerEvent.{ServerEvent}
 use Rattle.cqlp_message.specs.declared.response.ServerEvent.TheVariants as event
+use Rattle.cqlp_message.specs.declared.response.Spec.{Spec}
+use Rattle.cqlp_message.specs.declared.response.Metadata.{Metadata}
 use Rattle.cqlp_message.specs.declared.message.Message.{Message}
 use Rattle.cqlp_message.specs.declared.message.Message.TheVariants as message
 use Rattle.cqlp_message.specs.declared.frame.Frame.{Frame}
@@ -82,6 +85,21 @@ event_of (event.Node c a port) = value.Node (string_bytes c) a port
 event_of (event.Schema c) = value.Schema (change_of c)
 event_of event.Unknown = value.UnknownEvent
 
+abbrev pub table_of : Option (OwnedText × OwnedText) → Option value.TableName
+table_of o = option_map (λ t. (string_bytes t.0, string_bytes t.1)) o
+
+abbrev pub spec_of : Spec → value.Spec
+spec_of c = record { table = table_of c.table; name = string_bytes c.name; tree = tree_of c.tree }
+
+abbrev pub metadata_of : Metadata → value.Metadata
+metadata_of m = record {
+  flags = m.flags;
+  columns = m.columns;
+  paging = option_map bytes_of m.paging;
+  table = table_of m.table;
+  specs = option_map (λ cs. map spec_of cs.items) m.specs;
+}
+
 -- What a message holds.
 abbrev pub message_of : Message → value.Message
 message_of (message.Startup os) = value.Startup (map (λ o. (string_bytes o.0, string_bytes o.1)) os.items)
@@ -98,6 +116,7 @@ message_of (message.Authenticate c) = value.Authenticate (string_bytes c)
 message_of (message.Supported os) = value.Supported (map (λ o. (string_bytes o.0, texts_of o.1)) os.items)
 message_of message.Void = value.Void
 message_of (message.SetKeyspace k) = value.SetKeyspace (string_bytes k)
+message_of (message.Prepared i f c ks t cs r) = value.Prepared i.items f c ks.items (table_of t) (map spec_of cs.items) (metadata_of r)
 message_of (message.Change c) = value.Change (change_of c)
 message_of (message.UnknownResult k) = value.UnknownResult k
 message_of (message.Event e d) = value.Event (string_bytes e) (event_of d)

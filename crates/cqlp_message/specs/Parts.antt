@@ -1,5 +1,5 @@
 -- The parts of frames: what spells them, and their events.
-use Rattle.std.specs.Prelude.{◌≡◌, ℕ, ◌+◌, ◌≤◌, ◌++◌, List, [], ◌∷◌}
+use Rattle.std.specs.Prelude.{◌≡◌, ℕ, ◌+◌, ◌≤◌, ◌++◌, false, List, [], ◌∷◌, map}
 use Rattle.cqlp_note.specs.declared.field.Field.{Field}
 use Rattle.cqlp_note.specs.declared.field.Notation.{Notation}
 use Rattle.cqlp_note.specs.declared.prim.Address.TheVariants as address
@@ -8,12 +8,17 @@ use Rattle.cqlp_note.specs.Head.{fixed_of}
 use Rattle.cqlp_note.specs.Limits.{Rules, limit_of}
 use Rattle.cqlp_note.specs.Partial.{content_length}
 use Rattle.cqlp_note.specs.Spelling.{Spells}
-use Rattle.cqlp_message.specs.Events.{Event, Holds}
+use Rattle.cqlp_type.specs.TypeStep.{TypeEvent, IsNode, IsField}
+use Rattle.cqlp_type.specs.Trees.{Trees, trees_in, AreTrees, Shallow, AreShort, trees_items, placed, TreeSpells}
+use Rattle.cqlp_type.specs.TypeTrees.{trees_size}
+use Rattle.cqlp_message.specs.Events.{Event, Holds, Node_of}
 
 -- A part of a frame behind its header.
 pub data Part : Type 0 where
   -- a field in a notation
   Field_is : Field → Notation → FieldValue → Part
+  -- the option of a type
+  Type_is : Trees → Part
 
 -- ---- spelling
 
@@ -25,9 +30,16 @@ pub record Joined (This That : List ℕ → Type 0) (bytes : List ℕ) : Type 0 
   pub this : This front
   pub that : That back
 
+-- Section 4.2.5.2: all of the bytes spell the option of one type.
+pub record OptionSpells (t : Trees) (bytes : List ℕ) : Type 0 where
+  pub one : trees_in t ≡ 1
+  pub formed : AreTrees t
+  pub spelled : TreeSpells t bytes
+
 -- Section 3: all of the bytes spell a part.
 abbrev pub PartSpells : Part → List ℕ → Type 0
 PartSpells (Field_is f n v) b = Spells n v b
+PartSpells (Type_is t) b = OptionSpells t b
 
 -- The bytes are the spellings of the parts, one after the other.
 abbrev pub PartsSpell : List Part → List ℕ → Type 0
@@ -45,6 +57,7 @@ size_behind v = content_length v
 -- the bytes of a part
 abbrev pub part_size : Part → ℕ
 part_size (Field_is f n v) = fixed_of n + size_behind v
+part_size (Type_is t) = trees_size false t
 
 abbrev pub parts_size : List Part → ℕ
 parts_size [] = 0
@@ -52,8 +65,15 @@ parts_size (part ∷ parts) = part_size part + parts_size parts
 
 -- ---- events
 
+-- an event in a type option
+abbrev pub option_event : TypeEvent → Event
+option_event (IsNode k) = Node_of k
+option_event (IsField f v) = Holds f v
+
+-- The events of a part; those of a type option are its ids, counts and texts in the order of its bytes.
 abbrev pub part_events : (offset : ℕ) → Part → List (ℕ × Event)
 part_events at (Field_is f n v) = (at, Holds f v) ∷ []
+part_events at (Type_is t) = map (λ e. (e.0, option_event e.1)) (placed at (trees_items false t))
 
 -- The events of the parts, the first at this offset.
 abbrev pub parts_events : (offset : ℕ) → List Part → List (ℕ × Event)
@@ -62,9 +82,11 @@ parts_events at (part ∷ parts) = part_events at part ++ parts_events (at + par
 
 -- ---- limits
 
--- the content of a part is no longer than the caller's limit
+-- The content of a part is no longer than the caller's limit; a type option is not too deep, and its texts are not too
+-- long.
 abbrev pub PartWithin : Rules → Part → Type 0
 PartWithin l (Field_is f n v) = content_length v ≤ limit_of l n
+PartWithin l (Type_is t) = Shallow l 1 t × AreShort l (trees_items false t)
 
 abbrev pub PartsWithin : Rules → List Part → Type 0
 PartsWithin l [] = Unit {0}

@@ -12,4 +12,4 @@ pub use frame::Frame;
 pub use grammar::{Group, Role};
 pub use message::Message;
 pub use request::{BatchEntry, OwnedBound, QueryParams};
-pub use response::{ErrorExtra, SchemaChange, SchemaOptions, ServerEvent};
+pub use response::{ErrorExtra, Metadata, SchemaChange, SchemaOptions, ServerEvent, Spec};

@@ -1,6 +1,7 @@
 //! Parts of responses.
 
 use cqlp_note::Address;
+use cqlp_type::TypeTree;
 
 /// What stands behind the message of an error, by the error's code. Section 9 of `native_protocol_v4.spec`.
 #[derive(Debug, PartialEq, Eq, Drop)]
@@ -61,6 +62,30 @@ pub enum ErrorExtra {
     Unprepared {
         id: Vec<u8>,
     },
+}
+
+/// What is told of a page's columns. Section 4.2.5.2 of `native_protocol_v4.spec`.
+#[derive(Drop)]
+pub struct Metadata {
+    /// 1 one table for all columns, 2 more pages, 4 no columns are told; other bits are kept.
+    pub flags: i32,
+    /// How many columns there are, which is how many `specs` there are, if they are told.
+    pub columns: u32,
+    /// Where the next page begins, which may be null.
+    pub paging: Option<Option<Vec<u8>>>,
+    /// The keyspace and the table of all columns, if columns are told.
+    pub table: Option<(String, String)>,
+    /// The columns, in order.
+    pub specs: Option<Vec<Spec>>,
+}
+
+/// A column, or a value that is to be bound. Section 4.2.5.2 of `native_protocol_v4.spec`.
+#[derive(Drop)]
+pub struct Spec {
+    /// Its keyspace and its table, where there are none for all.
+    pub table: Option<(String, String)>,
+    pub name: String,
+    pub tree: TypeTree,
 }
 
 /// A change of the schema. Section 4.2.5.5 of `native_protocol_v4.spec`.
