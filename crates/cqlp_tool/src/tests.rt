@@ -14,8 +14,8 @@ use std::alloc::Global;
 use std::process::Abort;
 use std::test::Fail;
 use vectors::{
-    AUTHENTICATION, ERRORS, EVENTS, FIRST_MESSAGES, HEADERS, PARTS, REFUSALS, REQUESTS, RESULTS,
-    Vector,
+    AUTHENTICATION, ERRORS, EVENTS, FIRST_MESSAGES, HEADERS, METADATA, PARTS, REFUSALS, REQUESTS,
+    RESULTS, Vector,
 };
 
 const LIMITS: Limits = Limits {
@@ -120,4 +120,9 @@ fn events(rt: HostRuntime) -> Result<(), Fail> {
 #[test]
 fn order_of_refusals(rt: HostRuntime) -> Result<(), Fail> {
     expect_lines(&rt, rt.alloc(), &REFUSALS)
+}
+
+#[test]
+fn metadata(rt: HostRuntime) -> Result<(), Fail> {
+    expect_lines(&rt, rt.alloc(), &METADATA)
 }

@@ -987,3 +987,157 @@ cut 9 10
 ",
     },
 ];
+
+pub(crate) static METADATA: [Vector; 8] = [
+    Vector {
+        name: "list_and_a_row_that_is_not_read",
+        stream: "84 00 00 00 08 00000035 00000002 00000001 00000001 0001 6b 0001 74 0001 63 0020 0009 00000001 00000014 00000003 00000004 00000001 ffffffff 00000000",
+        lines: "\
+0 Frame response 00 0 RESULT 53
+9 Int ResultKind 2
+13 Int MetaFlags 1
+17 Count Columns 1
+21 Text Keyspace \"k\"
+24 Text Table \"t\"
+27 Text ColumnName \"c\"
+30 TypeNode list
+32 TypeNode int
+34 Count Rows 1
+62 End 24
+whole 62
+",
+    },
+    Vector {
+        name: "user_defined_type",
+        stream: "84 00 00 00 08 00000032 00000002 00000001 00000001 0001 6b 0001 74 0001 63 0030 0001 6b 0001 75 0003 0001 61 0009 0001 62 0009 0001 63 000d 00000000",
+        lines: "\
+0 Frame response 00 0 RESULT 50
+9 Int ResultKind 2
+13 Int MetaFlags 1
+17 Count Columns 1
+21 Text Keyspace \"k\"
+24 Text Table \"t\"
+27 Text ColumnName \"c\"
+30 TypeNode udt
+32 Text Keyspace \"k\"
+35 Text TypeName \"u\"
+38 Count Fields 3
+40 Text FieldName \"a\"
+43 TypeNode int
+45 Text FieldName \"b\"
+48 TypeNode int
+50 Text FieldName \"c\"
+53 TypeNode varchar
+55 Count Rows 0
+59 End 0
+whole 59
+",
+    },
+    Vector {
+        name: "rows_of_no_columns",
+        stream: "84 00 00 00 08 00000010 00000002 00000004 00000000 7fffffff",
+        lines: "\
+0 Frame response 00 0 RESULT 16
+9 Int ResultKind 2
+13 Int MetaFlags 4
+17 Count Columns 0
+21 Count Rows 2147483647
+25 End 0
+whole 25
+",
+    },
+    Vector {
+        name: "lists_too_deep",
+        stream: "84 00 00 00 08 00000021 00000002 00000001 00000001 0001 6b 0001 74 0001 63 0020 0020 0020 0009 00000000",
+        lines: "\
+0 Frame response 00 0 RESULT 33
+9 Int ResultKind 2
+13 Int MetaFlags 1
+17 Count Columns 1
+21 Text Keyspace \"k\"
+24 Text Table \"t\"
+27 Text ColumnName \"c\"
+30 TypeNode list
+32 TypeNode list
+34 TypeNode list
+refused 36 TooDeep
+",
+    },
+    Vector {
+        name: "lists_of_the_greatest_depth",
+        stream: "84 00 00 00 08 0000001f 00000002 00000001 00000001 0001 6b 0001 74 0001 63 0020 0020 0009 00000000",
+        lines: "\
+0 Frame response 00 0 RESULT 31
+9 Int ResultKind 2
+13 Int MetaFlags 1
+17 Count Columns 1
+21 Text Keyspace \"k\"
+24 Text Table \"t\"
+27 Text ColumnName \"c\"
+30 TypeNode list
+32 TypeNode list
+34 TypeNode int
+36 Count Rows 0
+40 End 0
+whole 40
+",
+    },
+    Vector {
+        name: "tuple_with_one_node_too_many",
+        stream: "84 00 00 00 08 0000002d 00000002 00000001 00000001 0001 6b 0001 74 0001 63 0031 0008 0009 0009 0009 0009 0009 0009 0009 0009 00000000",
+        lines: "\
+0 Frame response 00 0 RESULT 45
+9 Int ResultKind 2
+13 Int MetaFlags 1
+17 Count Columns 1
+21 Text Keyspace \"k\"
+24 Text Table \"t\"
+27 Text ColumnName \"c\"
+30 TypeNode tuple
+32 Count Fields 8
+34 TypeNode int
+36 TypeNode int
+38 TypeNode int
+40 TypeNode int
+42 TypeNode int
+44 TypeNode int
+46 TypeNode int
+refused 48 TooMany
+",
+    },
+    Vector {
+        name: "unknown_option_id",
+        stream: "84 00 00 00 08 0000001b 00000002 00000001 00000001 0001 6b 0001 74 0001 63 000a 00000000",
+        lines: "\
+0 Frame response 00 0 RESULT 27
+9 Int ResultKind 2
+13 Int MetaFlags 1
+17 Count Columns 1
+21 Text Keyspace \"k\"
+24 Text Table \"t\"
+27 Text ColumnName \"c\"
+refused 30 BadType
+",
+    },
+    Vector {
+        name: "prepared_without_result_metadata",
+        stream: "84 00 0002 08 00000028 00000004 0001 aa 00000001 00000001 00000001 0000 0001 6b 0001 74 0001 63 0009 00000004 00000000",
+        lines: "\
+0 Frame response 00 2 RESULT 40
+9 Int ResultKind 4
+13 Bytes StatementId 0xaa
+16 Int MetaFlags 1
+20 Count Columns 1
+24 Count Keys 1
+28 Short KeyIndex 0
+30 Text Keyspace \"k\"
+33 Text Table \"t\"
+36 Text ColumnName \"c\"
+39 TypeNode int
+41 Int MetaFlags 4
+45 Count Columns 0
+49 End 0
+whole 49
+",
+    },
+];
