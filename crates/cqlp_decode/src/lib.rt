@@ -1,2 +1,21 @@
-//! A stream of frames, read as events.
+//! A stream of frames of the CQL native protocol v4, read as events.
 #![tactic(auto)]
+
+mod decoder;
+mod event;
+mod following;
+#[cfg(test)]
+mod heaps;
+pub mod laws;
+mod running;
+mod sink;
+mod standing;
+mod table;
+#[cfg(test)]
+mod tests;
+mod upcoming;
+
+pub use decoder::{Decoder, NewError};
+pub use event::{Event, Finish, Held, Step};
+pub use running::{Outcome, run};
+pub use sink::{Sink, SinkFault};

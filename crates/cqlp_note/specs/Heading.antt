@@ -97,7 +97,8 @@ heading b =
     then (if has (slice_index b 1) 0x01 then Err (1, Compressed) else heading_of (slice_index b 0 == 0x84) b (beside_number (slice_index b 4) opcodes))
     else Err (0, BadVersion)
 
--- a header is the one that the bytes are, or the refusal is theirs in a frame that begins at an offset
+-- a header is the one that the bytes are, lawful, and has those bytes; or the refusal is theirs in a frame that begins
+-- at an offset
 abbrev pub Headed : (at : ℕ) → List ℕ → Result Header Refusal → Type 0
 Headed at bytes (Ok h) = (heading bytes ≡ Ok h) × (h.length ≤ 268435456) × IsLawful h × (header_bytes h ≡ bytes)
 Headed at bytes (Err r) = (e : ℕ × Reason) × (heading bytes ≡ Err e) × (r.at ≡ at + e.0) × (r.why ≡ e.1)

@@ -97,18 +97,20 @@ content_length (Bound (Known c)) = length c
 content_length v = 0
 
 -- The first `used` bytes of the input end the field, which is this value. Where its content lies whole in them,
--- the buffer is empty.
+-- the buffer is empty; else it holds no more than it has room for.
 pub record Ends (old : Progress) (input : List ℕ) (used : ℕ) (v : FieldValue) (new : Progress) : Type 0 where
   pub within : used ≤ length input
   pub is : says (reader_of old.field) 0 (old.seen ++ input) ≡ Got v (length old.seen + used)
   pub idle : new ≡ ended old new.content
   pub lent : content_length v ≤ used → new.content ≡ []
+  pub fits : length new.content ≤ old.room
 
--- All of the input belongs to the field, which goes on.
+-- All of the input belongs to the field, which goes on; the buffer holds no more than it has room for.
 pub record Waits (old : Progress) (input : List ℕ) (used : ℕ) (new : Progress) : Type 0 where
   pub all : used ≡ length input
   pub is : says (reader_of old.field) 0 (old.seen ++ input) ≡ More
   pub under_way : new ≡ going_on old (old.seen ++ input) new.content
+  pub fits : length new.content ≤ old.room
 
 -- What the input adds to the bytes before it makes of a field.
 abbrev pub Advances : Progress → List ℕ → Taken → Progress → Type 0

@@ -7,7 +7,7 @@ ghost use Rattle.cqlp_note.specs.Field.{is_negative};
 ghost use Rattle.cqlp_note.specs.Head.{Tells, TellsContent, TellsInet, behind_fixed, fixed_of, reader_of};
 
 use crate::field::Notation;
-use crate::prim::{Address, BoundValue, Primitive as Prim};
+use crate::prim::{Address, BoundValue, Primitive};
 use crate::refusal::Reason;
 
 /// A field as it was asked for: its notation, the limit on its content, the offset of its first byte, and the room
@@ -35,9 +35,16 @@ pub enum Form {
 #[derive(Clone, Copy)]
 pub(crate) enum Head {
     /// The whole field, of so many bytes.
-    Whole { used: usize, prim: Prim<'static> },
+    Whole {
+        used: usize,
+        prim: Primitive<'static>,
+    },
     /// Behind so many bytes comes a content of this length.
-    Content { behind: usize, len: u32, form: Form },
+    Content {
+        behind: usize,
+        len: u32,
+        form: Form,
+    },
 }
 
 /// Why the front of a field tells nothing.
@@ -91,14 +98,14 @@ fn behind(wanted: Wanted, bytes: &[u8]) -> Result<Head, Stop>
     ensures { let fixed = fixed_of wanted.notation in Tells wanted (behind_fixed wanted.notation wanted.limit wanted.room (take fixed bytes.now)) fixed (drop fixed bytes.now) result }
 {
     match wanted.notation {
-        Notation::Byte => whole(1, Prim::Byte(u8::from_be_bytes(first(bytes)))),
-        Notation::Short => whole(2, Prim::Short(u16::from_be_bytes(first(bytes)))),
-        Notation::Int => whole(4, Prim::Int(i32::from_be_bytes(first(bytes)))),
-        Notation::Long => whole(8, Prim::Long(i64::from_be_bytes(first(bytes)))),
-        Notation::Uuid => whole(16, Prim::Uuid(first(bytes))),
-        Notation::Count16 => whole(2, Prim::Count(u16::from_be_bytes(first(bytes)).into())),
+        Notation::Byte => whole(1, Primitive::Byte(u8::from_be_bytes(first(bytes)))),
+        Notation::Short => whole(2, Primitive::Short(u16::from_be_bytes(first(bytes)))),
+        Notation::Int => whole(4, Primitive::Int(i32::from_be_bytes(first(bytes)))),
+        Notation::Long => whole(8, Primitive::Long(i64::from_be_bytes(first(bytes)))),
+        Notation::Uuid => whole(16, Primitive::Uuid(first(bytes))),
+        Notation::Count16 => whole(2, Primitive::Count(u16::from_be_bytes(first(bytes)).into())),
         Notation::Count32 => match natural(bytes) {
-            Some(count) => whole(4, Prim::Count(count)),
+            Some(count) => whole(4, Primitive::Count(count)),
             None => Err(Stop::Refused(Reason::BadCount)),
         },
         Notation::Text16 => content(
@@ -121,13 +128,13 @@ fn behind(wanted: Wanted, bytes: &[u8]) -> Result<Head, Stop>
         }
         Notation::Bytes32 => match natural(bytes) {
             Some(len) => content(wanted, 4, len, Form::Bytes),
-            None => whole(4, Prim::Bytes(None)),
+            None => whole(4, Primitive::Bytes(None)),
         },
         Notation::Bound => match natural(bytes) {
             Some(len) => content(wanted, 4, len, Form::Bound),
             None => match i32::from_be_bytes(first(bytes)) {
-                -1 => whole(4, Prim::Bound(BoundValue::Null)),
-                -2 => whole(4, Prim::Bound(BoundValue::Unset)),
+                -1 => whole(4, Primitive::Bound(BoundValue::Null)),
+                -2 => whole(4, Primitive::Bound(BoundValue::Unset)),
                 _ => Err(Stop::Refused(Reason::BadValueLength)),
             },
         },
@@ -136,14 +143,14 @@ fn behind(wanted: Wanted, bytes: &[u8]) -> Result<Head, Stop>
                 let (address, port) = inet(wanted.room, &bytes[1..])?;
                 whole(
                     9,
-                    Prim::Inet(Address::V4(address), i32::from_be_bytes(port)),
+                    Primitive::Inet(Address::V4(address), i32::from_be_bytes(port)),
                 )
             }
             16 => {
                 let (address, port) = inet(wanted.room, &bytes[1..])?;
                 whole(
                     21,
-                    Prim::Inet(Address::V6(address), i32::from_be_bytes(port)),
+                    Primitive::Inet(Address::V6(address), i32::from_be_bytes(port)),
                 )
             }
             _ => Err(Stop::Refused(Reason::BadInet)),
@@ -196,7 +203,7 @@ fn natural(bytes: &[u8]) -> Option<u32>
 }
 
 /// The whole field, of so many bytes.
-fn whole(used: usize, prim: Prim<'static>) -> Result<Head, Stop>
+fn whole(used: usize, prim: Primitive<'static>) -> Result<Head, Stop>
     ensures { result ≡ Ok (Head.Whole used prim.entry) }
 {
     Ok(Head::Whole { used, prim })

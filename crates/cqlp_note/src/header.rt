@@ -1,6 +1,6 @@
 //! Frame headers.
 
-ghost use Rattle.std.specs.Prelude.{◌≡◌, ◌≤◌, ◌^◌, ◌==◌, ◌||◌, ◌↔◌, if◌then◌else◌, IsTrue, Ok};
+ghost use Rattle.std.specs.Prelude.{◌≡◌, ◌≤◌, ◌^◌, ◌==◌, ◌||◌, ◌↔◌, if◌then◌else◌, IsTrue, Ok, Err};
 ghost use Rattle.cqlp_note.specs.Heading.{has as has_bit};
 
 use crate::opcode::Opcode;
@@ -46,36 +46,21 @@ impl Header {
     {
         let [version, flags, _, _, number, _, _, _, _] = *bytes;
         if !is_version(version) {
-            return Err(Refusal {
-                at,
-                why: Reason::BadVersion,
-            });
+            return fault(at, Reason::BadVersion);
         }
         if has(flags, 0x01) {
-            return Err(Refusal {
-                at: at + 1,
-                why: Reason::Compressed,
-            });
+            return fault(at + 1, Reason::Compressed);
         }
         let response = version == 0x84;
         let Some(opcode) = Opcode::from_number(number) else {
-            return Err(Refusal {
-                at: at + 4,
-                why: Reason::BadOpcode,
-            });
+            return fault(at + 4, Reason::BadOpcode);
         };
         if opcode.is_response() != response {
-            return Err(Refusal {
-                at: at + 4,
-                why: Reason::BadDirection,
-            });
+            return fault(at + 4, Reason::BadDirection);
         }
         let length = u32::from_be_bytes([bytes[5], bytes[6], bytes[7], bytes[8]]);
         if length > LONGEST_BODY {
-            return Err(Refusal {
-                at: at + 5,
-                why: Reason::BadLength,
-            });
+            return fault(at + 5, Reason::BadLength);
         }
         Ok(Header {
             response,
@@ -109,6 +94,14 @@ impl Header {
     }
 }
 
+/// The refusal at this offset.
+fn fault(at: u64, why: Reason) -> Result<Header, Refusal>
+    ensures { result ≡ Err (record { at = at; why = why }) }
+{
+    Err(Refusal { at, why })
+}
+
+/// Whether a header begins so.
 fn is_version(version: u8) -> bool
     ensures { result ≡ ((version == 0x04) || (version == 0x84)) }
 {
@@ -127,4 +120,137 @@ fn has(flags: u8, bits: u8) -> bool
     ensures { result ≡ has_bit flags bits }
 {
     flags & bits > 0
+}
+
+#[cfg(test)]
+mod tests {
+    use super::*;
+    use std::test::Fail;
+
+    #[test]
+    fn faults_come_in_their_order(rt: HostRuntime) {
+        let rows: [([u8; 9], u64, Reason); 9] = [
+            (
+                [0x83, 0x01, 0, 0, 4, 255, 255, 255, 255],
+                0,
+                Reason::BadVersion,
+            ),
+            (
+                [0x84, 0x01, 0, 0, 4, 255, 255, 255, 255],
+                1,
+                Reason::Compressed,
+            ),
+            (
+                [0x84, 0x00, 0, 0, 4, 255, 255, 255, 255],
+                4,
+                Reason::BadOpcode,
+            ),
+            ([0x84, 0x00, 0, 0, 17, 0, 0, 0, 0], 4, Reason::BadOpcode),
+            (
+                [0x84, 0x00, 0, 0, 7, 255, 255, 255, 255],
+                4,
+                Reason::BadDirection,
+            ),
+            (
+                [0x04, 0x00, 0, 0, 2, 255, 255, 255, 255],
+                4,
+                Reason::BadDirection,
+            ),
+            (
+                [0x84, 0x00, 0, 0, 2, 255, 255, 255, 255],
+                5,
+                Reason::BadLength,
+            ),
+            ([0x84, 0x00, 0, 0, 8, 0x10, 0, 0, 1], 5, Reason::BadLength),
+            ([0x00, 0x00, 0, 0, 5, 0, 0, 0, 0], 0, Reason::BadVersion),
+        ];
+        for (bytes, offset, why) in rows {
+            for start in [0u64, 1 << 63] {
+                let at = start + offset;
+                assert_eq!(rt;
+                    Header::read(&bytes, start),
+                    Err(Refusal { at, why }),
+                    "{bytes:?}"
+                );
+            }
+        }
+    }
+
+    #[test]
+    fn headers_are_read_and_written(rt: HostRuntime) -> Result<(), Fail> {
+        let rows: [([u8; 9], bool, u8, i16, Opcode, u32); 5] = [
+            ([4, 0, 0, 0, 5, 0, 0, 0, 0], false, 0, 0, Opcode::Options, 0),
+            (
+                [0x84, 0, 0, 7, 6, 0, 0, 0, 24],
+                true,
+                0,
+                7,
+                Opcode::Supported,
+                24,
+            ),
+            (
+                [0x84, 0, 255, 255, 12, 0, 0, 0, 28],
+                true,
+                0,
+                -1,
+                Opcode::Event,
+                28,
+            ),
+            (
+                [0x84, 0x0E, 0, 1, 8, 0, 0, 0, 35],
+                true,
+                14,
+                1,
+                Opcode::Result,
+                35,
+            ),
+            (
+                [0x84, 0xF0, 128, 0, 8, 16, 0, 0, 0],
+                true,
+                240,
+                i16::MIN,
+                Opcode::Result,
+                268_435_456,
+            ),
+        ];
+        for (bytes, response, flags, stream, opcode, length) in rows {
+            let header = Header {
+                response,
+                flags,
+                stream,
+                opcode,
+                length,
+            };
+            assert_eq!(rt; Header::read(&bytes, 0), Ok(header));
+            if !header.lawful() {
+                return Err("a header that is read is lawful")?;
+            }
+            assert_eq!(rt; header.write(), bytes);
+        }
+        Ok(())
+    }
+
+    #[test]
+    fn some_headers_are_not_lawful(rt: HostRuntime) {
+        let lawful = Header {
+            response: false,
+            flags: 0,
+            stream: 0,
+            opcode: Opcode::Query,
+            length: 268_435_456,
+        };
+        assert!(rt; lawful.lawful());
+        let compressed = Header { flags: 3, ..lawful };
+        assert!(rt; !compressed.lawful());
+        let turned = Header {
+            response: true,
+            ..lawful
+        };
+        assert!(rt; !turned.lawful());
+        let long = Header {
+            length: 268_435_457,
+            ..lawful
+        };
+        assert!(rt; !long.lawful());
+    }
 }

@@ -5,6 +5,8 @@ mod field;
 mod front;
 mod head;
 mod header;
+#[cfg(test)]
+mod heaps;
 pub mod laws;
 mod limits;
 mod opcode;

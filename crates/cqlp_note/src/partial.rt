@@ -1,6 +1,6 @@
 //! A field out of pieces of any size.
 
-ghost use Rattle.std.specs.Prelude.{◌≡◌, ◌+◌, ◌-◌, ◌≤◌, ◌++◌, List, [], ℕ, true, false, length, drop, IfOk};
+ghost use Rattle.std.specs.Prelude.{◌≡◌, ◌+◌, ◌-◌, ◌<◌, ◌≤◌, ◌^◌, ◌++◌, List, [], ℕ, true, false, length, drop, IfOk};
 ghost use Rattle.std.specs.Borrow.{sem};
 ghost use Rattle.cqlp_note.specs.Reader.{says, Takes};
 ghost use Rattle.cqlp_note.specs.Head.{Tells, reader_of, value_of, made};
@@ -8,7 +8,7 @@ ghost use Rattle.cqlp_note.specs.Head.{Tells, reader_of, value_of, made};
 use crate::field::Notation;
 use crate::front::Front;
 use crate::head::{Form, Head, Stop, Wanted, head_of};
-use crate::prim::{BoundValue, Primitive as Prim};
+use crate::prim::{BoundValue, Primitive};
 use crate::refusal::{NoMemory, Reason, Refusal};
 use crate::taken::{Item, Lies, Push, Stage, Taken};
 use std::alloc::{Allocator, Global};
@@ -40,10 +40,12 @@ impl<A: Allocator> Partial<A> {
     ghost use Rattle.cqlp_note.specs.Lending.{Next};
     ghost use Rattle.cqlp_note.specs.Partial.{Advances, CanLend, Pushes, Uses, begun, ended, item_value};
 
-    /// With room for contents of up to `room` bytes.
+    /// With room for contents of up to `room` bytes, and no field under way. This is the one call that takes memory;
+    /// the error is that it was refused.
     pub fn new(alloc: A, room: u32) -> Result<Self, NoMemory>
         ensures room { IfOk result (λ partial. partial.room ≡ room) }
         ensures idle { IfOk result (λ partial. partial.under_way ≡ false) }
+        ensures none { IfOk result (λ partial. partial.seen ≡ []) }
         ensures empty { IfOk result (λ partial. partial.content ≡ []) }
     {
         Ok(Partial {
@@ -60,7 +62,8 @@ impl<A: Allocator> Partial<A> {
         })
     }
 
-    /// Begins a field at an offset, in a container that ends at another.
+    /// Begins a field whose first byte is at the offset `at` of the stream, in a container that ends at `end`. Its
+    /// content may have up to `limit` bytes.
     pub fn begin(&mut self, notation: Notation, limit: u32, at: u64, end: u64)
         requires idle { self.old.under_way ≡ false }
         requires limit { limit ≤ self.old.room }
@@ -78,7 +81,8 @@ impl<A: Allocator> Partial<A> {
         self.stage = Stage::Front;
     }
 
-    /// Takes the next bytes of the field that is under way. A content that lies whole in them is lent from them.
+    /// Takes the next bytes of the field that is under way. A content that lies whole in them is lent from them. No
+    /// byte behind the field is used; a field that is made or refused has ended.
     pub fn push<'a>(&'a mut self, input: &'a [u8]) -> Push<'a>
         requires { self.old.under_way ≡ true }
         ensures uses { Uses input.now result }
@@ -94,8 +98,8 @@ impl<A: Allocator> Partial<A> {
         }
     }
 
-    /// What `advance` made of this input.
-    pub fn lend<'a>(&'a self, input: &'a [u8], item: Item) -> Prim<'a>
+    /// The value of an item that `advance` made of this input.
+    pub fn lend<'a>(&'a self, input: &'a [u8], item: Item) -> Primitive<'a>
         requires { CanLend item input.now self.now.content }
         ensures { value_of result ≡ item_value item input.now self.now.content }
     {
@@ -111,7 +115,8 @@ impl<A: Allocator> Partial<A> {
         }
     }
 
-    /// Takes the next bytes of the field that is under way.
+    /// Does what `push` does, but tells where a content lies in place of lending it, so that a reader around this one
+    /// can go on before it lends.
     #[tactic(auto, using(crate::proofs::Pieces::content_front, crate::proofs::Pieces::gathered_bad, crate::proofs::Fronts::fixed_short))]
     pub fn advance(&mut self, input: &[u8]) -> Taken
         requires { self.old.under_way ≡ true }
@@ -129,26 +134,23 @@ impl<A: Allocator> Partial<A> {
                 }
                 self.content.extend_from_slice(&input[..missing]).unwrap();
                 self.stage = Stage::Idle;
-                if form.accepts(&self.content) {
-                    Taken::Got {
-                        used: missing,
-                        item: Item::Content {
-                            form,
-                            lies: Lies::InBuffer,
-                        },
-                    }
-                } else {
-                    self.refuse(Reason::BadUtf8)
+                if !form.accepts(&self.content) {
+                    return self.refuse(Reason::BadUtf8);
+                }
+                let lies = Lies::InBuffer;
+                let item = Item::Content { form, lies };
+                Taken::Got {
+                    used: missing,
+                    item,
                 }
             }
             Stage::Idle => unreachable!(),
             Stage::Front => match told(self.wanted, &self.front, input) {
                 Ok(Head::Whole { used, prim }) => {
                     self.stage = Stage::Idle;
-                    Taken::Got {
-                        used: used - self.front.len(),
-                        item: Item::Plain(prim),
-                    }
+                    let used = used - self.front.len();
+                    let item = Item::Plain(prim);
+                    Taken::Got { used, item }
                 }
                 Ok(Head::Content { behind, len, form }) => {
                     let start = behind - self.front.len();
@@ -186,13 +188,10 @@ impl<A: Allocator> Partial<A> {
             return self.refuse(Reason::BadUtf8);
         }
         self.stage = Stage::Idle;
-        Taken::Got {
-            used: start + size,
-            item: Item::Content {
-                form,
-                lies: Lies::InInput { start, len: size },
-            },
-        }
+        let used = start + size;
+        let lies = Lies::InInput { start, len: size };
+        let item = Item::Content { form, lies };
+        Taken::Got { used, item }
     }
 
     /// Ends the field by a refusal.
@@ -206,6 +205,27 @@ impl<A: Allocator> Partial<A> {
             at: self.wanted.at,
             why,
         })
+    }
+
+    /// Whether a field is under way.
+    pub fn is_under_way(&self) -> bool
+        ensures { result ≡ self.now.under_way }
+    {
+        !matches!(self.stage, Stage::Idle)
+    }
+
+    /// How many bytes of the field that is under way have come.
+    pub fn came(&self) -> u64
+        ensures is { result ≡ length self.now.seen }
+        ensures bound { result ≤ self.now.room + 24 }
+        ensures small { result < 2 ^ 33 }
+    {
+        let _room = self.room;
+        match self.stage {
+            Stage::Idle => 0,
+            Stage::Front => self.front.len() as u64,
+            Stage::Content { .. } => self.front.len() as u64 + self.content.len() as u64,
+        }
     }
 
     /// How many bytes the buffer holds.
@@ -223,15 +243,15 @@ impl Form {
 
     /// What such a content is.
     #[tactic(auto, using(crate::proofs::Pieces::utf8_known))]
-    fn prim<'a>(self, bytes: &'a [u8]) -> Prim<'a>
+    fn prim<'a>(self, bytes: &'a [u8]) -> Primitive<'a>
         requires { accepts self bytes.now ≡ true }
         ensures { value_of result ≡ content_value self bytes.now }
     {
         match self {
             // The bytes are text, which `accepts` found out.
-            Form::Text => Prim::Text(unsafe { str::from_utf8_unchecked(bytes) }),
-            Form::Bytes => Prim::Bytes(Some(bytes)),
-            Form::Bound => Prim::Bound(BoundValue::Bytes(bytes)),
+            Form::Text => Primitive::Text(unsafe { str::from_utf8_unchecked(bytes) }),
+            Form::Bytes => Primitive::Bytes(Some(bytes)),
+            Form::Bound => Primitive::Bound(BoundValue::Bytes(bytes)),
         }
     }
 
@@ -263,109 +283,4 @@ fn told(wanted: Wanted, front: &Front, input: &[u8]) -> Result<Head, Stop>
 }
 
 #[cfg(test)]
-mod tests {
-    use super::*;
-    use crate::prim::Address;
-    use std::test::Fail;
-
-    fn begun(alloc: Global, notation: Notation) -> Result<Partial, Fail>
-        ensures { IfOk result (λ partial. partial.under_way ≡ true) }
-    {
-        let mut partial = Partial::new(alloc, 100)?;
-        partial.begin(notation, 100, 7, 100);
-        Ok(partial)
-    }
-
-    #[test]
-    fn text_in_one_piece_is_lent(rt: HostRuntime) -> Result<(), Fail> {
-        let mut partial = begun(rt.alloc(), Notation::Text16)?;
-        let push = partial.push(&[0, 2, b'h', b'i', 9]);
-        assert_eq!(rt;
-            push,
-            Push::Got {
-                used: 4,
-                prim: Prim::Text("hi")
-            }
-        );
-        assert_eq!(rt; partial.held(), 0);
-        Ok(())
-    }
-
-    #[test]
-    fn text_cut_inside_its_content_is_gathered(rt: HostRuntime) -> Result<(), Fail> {
-        let mut partial = begun(rt.alloc(), Notation::Text32)?;
-        match partial.push(&[0, 0]) {
-            Push::More { used } => assert_eq!(rt; used, 2),
-            _ => return Err("more")?,
-        }
-        match partial.push(&[0, 3, b'a']) {
-            Push::More { used } => assert_eq!(rt; used, 3),
-            _ => return Err("more")?,
-        }
-        assert_eq!(rt;
-            partial.push(b"bcd"),
-            Push::Got {
-                used: 2,
-                prim: Prim::Text("abc")
-            }
-        );
-        assert_eq!(rt; partial.held(), 3);
-        Ok(())
-    }
-
-    #[test]
-    fn text_cut_before_its_content_is_lent(rt: HostRuntime) -> Result<(), Fail> {
-        let mut partial = begun(rt.alloc(), Notation::Bytes32)?;
-        match partial.push(&[0, 0, 0, 2]) {
-            Push::More { used } => assert_eq!(rt; used, 4),
-            _ => return Err("more")?,
-        }
-        let push = partial.push(&[1, 2, 3]);
-        assert_eq!(rt;
-            push,
-            Push::Got {
-                used: 2,
-                prim: Prim::Bytes(Some(&[1, 2]))
-            }
-        );
-        assert_eq!(rt; partial.held(), 0);
-        Ok(())
-    }
-
-    #[test]
-    fn address_of_a_bad_size(rt: HostRuntime) -> Result<(), Fail> {
-        let mut partial = begun(rt.alloc(), Notation::Inet)?;
-        let refusal = Refusal {
-            at: 7,
-            why: Reason::BadInet,
-        };
-        assert_eq!(rt; partial.push(&[5]), Push::Refused(refusal));
-        Ok(())
-    }
-
-    #[test]
-    fn address_cut_in_its_port(rt: HostRuntime) -> Result<(), Fail> {
-        let mut partial = begun(rt.alloc(), Notation::Inet)?;
-        match partial.push(&[4, 127, 0, 0, 1, 0, 0]) {
-            Push::More { used } => assert_eq!(rt; used, 7),
-            _ => return Err("more")?,
-        }
-        let prim = Prim::Inet(Address::V4([127, 0, 0, 1]), 9042);
-        assert_eq!(rt; partial.push(&[0x23, 0x52, 1]), Push::Got { used: 2, prim });
-        Ok(())
-    }
-
-    #[test]
-    fn value_not_set(rt: HostRuntime) -> Result<(), Fail> {
-        let mut partial = begun(rt.alloc(), Notation::Bound)?;
-        let push = partial.push(&[255, 255, 255, 254]);
-        assert_eq!(rt;
-            push,
-            Push::Got {
-                used: 4,
-                prim: Prim::Bound(BoundValue::Unset)
-            }
-        );
-        Ok(())
-    }
-}
+mod tests;

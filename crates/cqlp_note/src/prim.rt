@@ -20,7 +20,7 @@ pub enum BoundValue<'a> {
     Bytes(&'a [u8]),
 }
 
-/// What a field holds; the crate calls it `Prim` to those who use it.
+/// What a field holds; exported as `Prim`.
 #[derive(Clone, Copy, Debug, PartialEq, Eq)]
 pub enum Primitive<'a> {
     /// A \[byte\].

@@ -109,3 +109,106 @@ impl<W: Write> Target for OfStd<W> {
         }
     }
 }
+
+#[cfg(test)]
+mod tests {
+    use super::*;
+    use std::io;
+    use std::test::Fail;
+
+    /// Gives and takes three bytes at a call, but fails at its second.
+    #[derive(Drop)]
+    struct Flaky(u32);
+
+    impl Read for Flaky {
+        fn read(&mut self, buf: &mut [u8]) -> io::Result<usize> {
+            self.0 = self.0.saturating_add(1);
+            if self.0 == 2 {
+                return Err(io::Error::from(io::ErrorKind::TimedOut));
+            }
+            Ok(buf.len().min(3))
+        }
+    }
+
+    impl Write for Flaky {
+        fn write(&mut self, buf: &[u8]) -> io::Result<usize> {
+            self.0 = self.0.saturating_add(1);
+            if self.0 == 2 {
+                return Err(io::Error::from(io::ErrorKind::BrokenPipe));
+            }
+            Ok(buf.len().min(3))
+        }
+
+        fn flush(&mut self) -> io::Result<()> {
+            Ok(())
+        }
+    }
+
+    /// Takes nothing.
+    #[derive(Drop)]
+    struct Full;
+
+    impl Write for Full {
+        fn write(&mut self, _buf: &[u8]) -> io::Result<usize> {
+            Ok(0)
+        }
+
+        fn flush(&mut self) -> io::Result<()> {
+            Ok(())
+        }
+    }
+
+    #[test]
+    fn bytes_of_memory_are_read_to_their_end(rt: HostRuntime) {
+        let mut reader = OfStd::new(b"abcde".as_slice());
+        let mut buffer = [0u8; 3];
+        assert_eq!(rt; reader.read(&mut buffer), Ok(3));
+        assert_eq!(rt; buffer, *b"abc");
+        assert_eq!(rt; reader.read(&mut buffer), Ok(2));
+        assert_eq!(rt; buffer, *b"dec");
+        assert_eq!(rt; reader.read(&mut buffer), Ok(0));
+        assert_eq!(rt; reader.failures, 0);
+        assert!(rt; reader.into_inner().is_empty());
+    }
+
+    #[test]
+    fn bytes_are_written_to_memory(rt: HostRuntime) -> Result<(), Fail> {
+        let mut writer = OfStd::new(Vec::new(rt.alloc()));
+        assert_eq!(rt; writer.write(b"abc"), Ok(3));
+        assert_eq!(rt; writer.write(b""), Ok(0));
+        assert_eq!(rt; writer.write(b"de"), Ok(2));
+        assert_eq!(rt; writer.failures, 0);
+        let written = writer.into_inner();
+        assert_eq!(rt; written.as_slice(), b"abcde".as_slice());
+        Ok(())
+    }
+
+    #[test]
+    fn one_failure_in_mid_stream_is_counted_once(rt: HostRuntime) {
+        let mut reader = OfStd::new(Flaky(0));
+        let mut buffer = [0u8; 8];
+        assert_eq!(rt; reader.read(&mut buffer), Ok(3));
+        assert_eq!(rt; reader.read(&mut buffer), Err(IoFault));
+        assert_eq!(rt; reader.read(&mut buffer), Ok(3));
+        assert_eq!(rt; reader.failures, 1);
+        let mut writer = OfStd::new(Flaky(0));
+        assert_eq!(rt; writer.write(b"abcd"), Ok(3));
+        assert_eq!(rt; writer.write(b"d"), Err(IoFault));
+        assert_eq!(rt; writer.write(b"d"), Ok(1));
+        assert_eq!(rt; writer.failures, 1);
+    }
+
+    #[test]
+    fn a_write_of_nothing_is_a_failure(rt: HostRuntime) {
+        let mut writer = OfStd {
+            inner: Full,
+            failures: u64::MAX - 1,
+        };
+        assert_eq!(rt; writer.write(b""), Ok(0));
+        assert_eq!(rt; writer.failures, u64::MAX - 1);
+        assert_eq!(rt; writer.write(b"a"), Ok(0));
+        assert_eq!(rt; writer.failures, u64::MAX);
+        assert_eq!(rt; writer.write(b"a"), Ok(0));
+        assert_eq!(rt; writer.failures, u64::MAX);
+    }
+}

@@ -1,7 +1,7 @@
 //! What a piece of input makes of a field.
 
 use crate::head::Form;
-use crate::prim::Primitive as Prim;
+use crate::prim::Primitive;
 use crate::refusal::Refusal;
 
 /// How far a field is.
@@ -28,7 +28,7 @@ pub enum Lies {
 #[derive(Clone, Copy)]
 pub enum Item {
     /// A value without content.
-    Plain(Prim<'static>),
+    Plain(Primitive<'static>),
     /// What is made of the content that lies there.
     Content { form: Form, lies: Lies },
 }
@@ -50,7 +50,7 @@ pub enum Push<'a> {
     /// All of it was used, and the field goes on.
     More { used: usize },
     /// So many of its bytes end the field.
-    Got { used: usize, prim: Prim<'a> },
+    Got { used: usize, prim: Primitive<'a> },
     /// The field ends, since it is refused.
     Refused(Refusal),
 }

@@ -93,6 +93,14 @@ impl<A: Allocator> TypeReader<A> {
         self.remaining.levels.len()
     }
 
+    /// The offset of the first byte of what is read now.
+    pub fn offset(&self) -> u64
+        ensures is { result ≡ self.now.offset }
+        ensures inside { result ≤ self.now.stop }
+    {
+        self.at
+    }
+
     /// Takes the next bytes of the option that is under way.
     pub fn advance<B: Allocator, C: Allocator>(
         &mut self,
@@ -188,8 +196,8 @@ impl<A: Allocator> TypeReader<A> {
         self.taken = 0;
     }
 
-    /// Ends the option.
-    fn stop(&mut self)
+    /// Ends the option, whole or not.
+    pub fn stop(&mut self)
         ensures { self.new ≡ stopped self.old }
     {
         self.begun = false;

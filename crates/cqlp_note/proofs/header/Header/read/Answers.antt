@@ -9,19 +9,19 @@ use Rattle.cqlp_note.proofs.Written.{read_is_lawful, read_is_written}
 use Rattle.cqlp_note.proofs.header.Header.read.Goals as goal
 
 pub returns-then-not-is_version : goal.returns-then-not-is_version
-returns-then-not-is_version c = ((0, BadVersion), bad_version c.args.bytes.now (sym c.if-not-is_version.ensures), omega arith, refl)
+returns-then-not-is_version c = rw c.fault.ensures ((0, BadVersion), bad_version c.args.bytes.now (sym c.if-not-is_version.ensures), omega arith, refl)
 
 pub returns-then-has : goal.returns-then-has
-returns-then-has c = ((1, Compressed), compressed c.args.bytes.now (sym c.if-not-is_version.ensures) (sym c.if-has.ensures), refl, refl)
+returns-then-has c = rw c.fault-then-has.ensures ((1, Compressed), compressed c.args.bytes.now (sym c.if-not-is_version.ensures) (sym c.if-has.ensures), refl, refl)
 
 pub returns-in_default : goal.returns-in_default
 returns-in_default c =
     let b = c.args.bytes.now in
-    ((4, BadOpcode), by_opcode b (sym c.if-not-is_version.ensures) (sym c.if-has.ensures) ∙ ap (λ o. heading_of (eqb (slice_index b 0) 132) b o) (sym c.from_number.ensures ∙ c.in_default.is), refl, refl)
+    rw c.fault-in_default.ensures ((4, BadOpcode), by_opcode b (sym c.if-not-is_version.ensures) (sym c.if-has.ensures) ∙ ap (λ o. heading_of (eqb (slice_index b 0) 132) b o) (sym c.from_number.ensures ∙ c.in_default.is), refl, refl)
 
 pub returns-then-is_response-response : goal.returns-then-is_response-response
 returns-then-is_response-response c =
-    let b = c.args.bytes.now in (
+    let b = c.args.bytes.now in rw c.fault-then-is_response-response.ensures (
       (4, BadDirection),
       by_opcode b (sym c.if-not-is_version.ensures) (sym c.if-has.ensures) ∙ ap (λ o. heading_of (eqb (slice_index b 0) 132) b o) (sym c.from_number.ensures ∙ c.in-Some.is)
           ∙ bad_direction (eqb (slice_index b 0) 132) b c.in-Some.opcode (rw c.is_response.ensures at c.if-is_response-response.true),
@@ -31,7 +31,7 @@ returns-then-is_response-response c =
 
 pub returns-then-length-gt-LONGEST_BODY : goal.returns-then-length-gt-LONGEST_BODY
 returns-then-length-gt-LONGEST_BODY c =
-    let b = c.args.bytes.now in (
+    let b = c.args.bytes.now in rw c.fault-then-length-gt-LONGEST_BODY.ensures (
       (5, BadLength),
       by_opcode b (sym c.if-not-is_version.ensures) (sym c.if-has.ensures) ∙ ap (λ o. heading_of (eqb (slice_index b 0) 132) b o) (sym c.from_number.ensures ∙ c.in-Some.is)
           ∙ bad_length (eqb (slice_index b 0) 132) b c.in-Some.opcode (rw c.is_response.ensures at c.if-is_response-response.false) (rw (length_is b c.told-bytes, ← c.from_be_bytes-length.ensures) c.if-length-gt-LONGEST_BODY.true),

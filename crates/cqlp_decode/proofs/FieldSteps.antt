@@ -1,0 +1,170 @@
+-- One step of a field.
+use Rattle.std.proofs.Common.{◌≡◌, ℕ, ◌+◌, ◌-◌, ◌*◌, ◌<◌, ◌≤◌, List, [], ◌∷◌, ◌++◌, length, take, drop, refl, sym, ap, ◌∙◌, inl, inr, arith, length-append}
+use Rattle.std.specs.Prelude.{Some, None, max}
+use Rattle.std.proofs.lemmas.Bool.{cases_lt, lt-ltb, le-ltb}
+use Rattle.std.proofs.lemmas.List.{append-nil}
+use Rattle.cqlp_note.specs.declared.refusal.Reason.{Reason}
+use Rattle.cqlp_note.specs.declared.field.Notation.{Notation}
+use Rattle.cqlp_note.specs.declared.taken.Item.{Item}
+use Rattle.cqlp_note.specs.Reader.{Said, Reader, More, Bad, Got, Gives as GivesNow, Refuses, Takes, Idles, says}
+use Rattle.cqlp_note.specs.Field.{FieldValue, field_of}
+use Rattle.cqlp_note.specs.Step.{Emitted, after_field}
+use Rattle.cqlp_note.specs.Head.{reader_of, fixed_of, behind_fixed}
+use Rattle.cqlp_note.specs.Limits.{rules_of, limit_of}
+use Rattle.cqlp_note.specs.Partial.{Progress, item_value, CanLend, Ends}
+use Rattle.cqlp_note.specs.Partial as partial
+use Rattle.cqlp_note.proofs.Yields.{after_more, after_bad, after_got, got_inside, says_exact}
+use Rattle.cqlp_note.proofs.Fronts.{fixed_overruns, fixed_wanting, fixed_taken}
+use Rattle.cqlp_type.specs.declared.node.Node.{Node}
+use Rattle.cqlp_type.specs.Types.{Types}
+use Rattle.cqlp_type.specs.Table.{Table}
+use Rattle.cqlp_type.specs.Standing as type
+use Rattle.cqlp_message.specs.declared.grammar.Role.{Role}
+use Rattle.cqlp_message.specs.declared.grammar.Role.TheVariants as role
+use Rattle.cqlp_message.specs.Productions.{Symbol, following, fault_in}
+use Rattle.cqlp_decode.specs.declared.table.Want.{Want}
+use Rattle.cqlp_decode.specs.declared.table.Due.TheVariants as due
+use Rattle.cqlp_decode.specs.declared.standing.Stage.TheVariants as stage
+use Rattle.cqlp_decode.specs.declared.standing.Standing.{Standing}
+use Rattle.cqlp_decode.specs.declared.standing.What.TheVariants as what
+use Rattle.cqlp_decode.specs.Upcoming.{wanted}
+use Rattle.cqlp_decode.specs.Reading as reading
+use Rattle.cqlp_decode.specs.Reading.{Place, value_step, types_for, nodes_after, given_after, Nothing}
+use Rattle.cqlp_decode.specs.Standing.{IsPending, Parts, parts, state_of, place_at, offset_at, symbols_at, rest_of, came_of, told, Gives, Waits, Hands, IsAsked, IsWanted, asked, ends_due, HasRoom, StageHolds, HasParts, IsBounded, IsLawful}
+use Rattle.cqlp_decode.proofs.Steps.{begun, one_due, offset_is, fresh_stage}
+
+-- ---- fields
+
+-- a value takes the bytes before it, and more
+got_from : {A F : Type 0} (r : Reader A F) (taken : ℕ) (bytes : List ℕ) (v : A) (k : ℕ) → says r taken bytes ≡ Got v k → taken ≤ k
+got_from (GivesNow w) taken bytes v k g = let e : taken ≡ k = cc in omega arith
+got_from (Refuses why) taken bytes v k g = absurd cc
+got_from Idles taken bytes v k g = absurd cc
+got_from (Takes n next) taken bytes v k g = elim (cases_lt (length bytes) n) [
+  | inl lt ↦ let no : ◌≡◌ {A = Said _ _} More (Got v k) = rw (lt-ltb _ _ lt) at g in absurd cc
+  | inr le ↦ omega (arith, got_from (next (take n bytes)) (taken + n) (drop n bytes) v k (rw (le-ltb _ _ le) at g))
+]
+
+module _ (n : Notation) (limit room : ℕ) (bytes : List ℕ) (v : FieldValue) (k : ℕ) (got : says (field_of n limit room) 0 bytes ≡ Got v k) where
+  has_room : fixed_of n ≤ room
+  has_room = elim (cases_lt room (fixed_of n)) [
+    | inl lt ↦ let no : ◌≡◌ {A = Said FieldValue Reason} (Got v k) (Bad _) = sym got ∙ fixed_overruns n limit room bytes lt in absurd cc
+    | inr le ↦ le
+  ]
+
+  has_fixed : fixed_of n ≤ length bytes
+  has_fixed = elim (cases_lt (length bytes) (fixed_of n)) [
+    | inl lt ↦ let no : ◌≡◌ {A = Said FieldValue Reason} (Got v k) More = sym got ∙ fixed_wanting n limit room bytes has_room lt in absurd cc
+    | inr le ↦ le
+  ]
+
+  -- a field takes its fixed part
+  fixed_got : fixed_of n ≤ k
+  fixed_got = got_from (behind_fixed n limit room (take (fixed_of n) bytes)) (fixed_of n) (drop (fixed_of n) bytes ++ []) v k (sym (rw (append-nil bytes) at (fixed_taken n limit room bytes has_room has_fixed [])) ∙ got)
+
+-- bytes that were not enough are more with those that end the field
+pub used_some : {A F : Type 0} (r : Reader A F) (seen input : List ℕ) (v : A) (used : ℕ) → says r 0 seen ≡ More → says r 0 (seen ++ input) ≡ Got v (length seen + used) → 0 < used
+used_some r seen input v used more got = elim (cases_lt 0 used) [
+  | inl lt ↦ lt
+  | inr le ↦
+      let none : used ≡ 0 = omega arith in
+      let now : says r 0 seen ≡ Got v (length seen + 0) = rw (none, append-nil seen) at (says_exact r seen input v used got) in
+      let no : ◌≡◌ {A = Said _ _} More (Got v (length seen + 0)) = sym more ∙ now in
+      absurd cc
+]
+
+given_none : (r : Role) → given_after r Nothing ≡ Nothing
+given_none (role.PageRows flags columns) = refl
+given_none r = refl
+
+-- what is read of a field that is wanted
+module _ (s : Standing) (q : Parts) (w : Want) (here : s.stage ≡ stage.Field w) (bytes : List ℕ) where
+  abbrev rest : List Symbol
+  rest = rest_of s.upcoming
+
+  abbrev types : Types
+  types = types_for s.limits.types w.role q.table.nodes Nothing
+
+  abbrev next_step : FieldValue → Reader (Emitted reading.Event Place) (ℕ × Reason)
+  next_step v = value_step s.limits.types (place_at s.offset s.stop (wanted (due.Field w) ∷ rest) q.table.nodes) w.field w.role rest v (fault_in w.role v)
+
+  told_is : told (state_of s q) bytes ≡ says (after_field s.offset (reader_of (asked s w)) next_step) 0 bytes
+  told_is = rw here refl
+
+  field_waits : says (reader_of (asked s w)) 0 bytes ≡ More → told (state_of s q) bytes ≡ More
+  field_waits m = told_is ∙ after_more s.offset _ next_step 0 bytes m
+
+  field_fails : (why : Reason) → says (reader_of (asked s w)) 0 bytes ≡ Bad why → told (state_of s q) bytes ≡ Bad (s.offset, why)
+  field_fails why m = told_is ∙ after_bad s.offset _ next_step 0 bytes why m
+
+  field_faults : (v : FieldValue) (k : ℕ) (why : Reason) → says (reader_of (asked s w)) 0 bytes ≡ Got v k → fault_in w.role v ≡ Some why → told (state_of s q) bytes ≡ Bad (s.offset, why)
+  field_faults v k why m fault = told_is ∙ (after_got s.offset (reader_of (asked s w)) next_step 0 bytes v k m).1 ∙ rw fault refl
+
+  abbrev behind_field : ℕ → FieldValue → Place
+  behind_field k v = place_at (s.offset + k) s.stop (following types w.role v ++ rest) (nodes_after w.role q.table.nodes)
+
+  field_gives : (v : FieldValue) (k : ℕ) → says (reader_of (asked s w)) 0 bytes ≡ Got v k → fault_in w.role v ≡ None → Gives (state_of s q) bytes s.offset (reading.Holds w.field v) k (behind_field k v)
+  field_gives v k m fine =
+      let x : Emitted reading.Event Place = record { at = s.offset; event = reading.Holds w.field v; after = λ used. record { offset = s.offset + used; stop = s.stop; symbols = following types w.role v ++ rest; nodes = nodes_after w.role q.table.nodes; given = given_after w.role Nothing } } in
+      (x, told_is ∙ (after_got s.offset (reader_of (asked s w)) next_step 0 bytes v k m).1 ∙ rw fine refl, refl, refl, rw (given_none w.role) refl)
+
+-- what a piece of input makes of a field that is wanted, and was begun
+module _ (s : Standing) (old p : Progress) (r : type.Standing) (t : Table) (w : Want) (input : List ℕ) (here : s.stage ≡ stage.Field w) (a : IsAsked s old p w) where
+  abbrev before : Parts
+  before = parts old r t
+
+  pending_is : (b : List ℕ) → IsPending (state_of s before).pending b → b ≡ p.seen
+  pending_is b is = let e : b ≡ came_of old = rw here at is in e ∙ sym a.seen
+
+  pub piece_waits : (new : Progress) (used : ℕ) → partial.Waits p input used new → Waits (state_of s before) input used (state_of s (parts new r t))
+  piece_waits new used m = record {
+    all = m.all;
+    place = refl;
+    frame = refl;
+    waits = λ b is.
+      let seen : came_of new ≡ p.seen ++ input = rw m.under_way refl in
+      (rw (pending_is b is) (field_waits s before w here (p.seen ++ input) (rw a.field at m.is)), rw (here, seen) (ap (λ (x : List ℕ). x ++ input) (pending_is b is)));
+  }
+
+  pub piece_fails : (why : Reason) → says (reader_of p.field) 0 (p.seen ++ input) ≡ Bad why → (b : List ℕ) → IsPending (state_of s before).pending b → told (state_of s before) (b ++ input) ≡ Bad (s.offset, why)
+  piece_fails why m b is = rw (pending_is b is) (field_fails s before w here (p.seen ++ input) why (rw a.field at m))
+
+  module _ (new : Progress) (used : ℕ) (v : FieldValue) (m : Ends p input used v new) where
+    pub piece_faults : (why : Reason) → fault_in w.role v ≡ Some why → (b : List ℕ) → IsPending (state_of s before).pending b → told (state_of s before) (b ++ input) ≡ Bad (s.offset, why)
+    piece_faults why fault b is = rw (pending_is b is) (field_faults s before w here (p.seen ++ input) v (length p.seen + used) why (rw a.field at m.is) fault)
+
+    pub piece_hands : (e : Standing) (t' : Table) (i : Item) → v ≡ item_value i input new.content → CanLend i input new.content → fault_in w.role v ≡ None → IsWanted s old w
+        → e.offset ≡ s.offset + (length p.seen + used) → e.stop ≡ s.stop → e.frame ≡ s.frame → e.came ≡ 0 → HasRoom e.stage e.upcoming → t'.nodes ≡ nodes_after w.role t.nodes
+        → symbols_at e.stage r e.upcoming ≡ following (types_for s.limits.types w.role t.nodes Nothing) w.role v ++ rest_of s.upcoming
+        → Hands (state_of s before) input s.offset used (what.Holds w.field i) (state_of e (parts new r t'))
+    piece_hands e t' i is there fine law at stop frame none room nodes symbols =
+        let offset : offset_at e.stage e.offset r ≡ s.offset + (length p.seen + used) = offset_is e.stage e.offset r e.upcoming room ∙ at in
+        record {
+          within = m.within;
+          there = there;
+          begun = begun e.stage e.upcoming e.header e.came (parts new r t') room none (ap (λ (z : Progress). z.under_way) m.idle);
+          frame = frame;
+          lent = rw (← is) m.lent;
+          gives = λ b pending.
+            let g = field_gives s before w here (p.seen ++ input) v (length p.seen + used) (rw a.field at m.is) fine in
+            rw (pending_is b pending, ← is) (g.0, g.1, g.2, g.3, g.4 ∙ (λ j. place_at (sym offset j) (sym stop j) (sym symbols j) (sym nodes j)));
+          offset = λ b pending. rw (pending_is b pending, offset, here) refl;
+          due = one_due e.stage r e.upcoming room;
+          pays = rw (here, one_due e.stage r e.upcoming room) (omega (arith, some));
+        }
+      where
+        some : 0 < used
+        some = elim (cases_lt 0 (length (came_of old))) [
+          | inl lt ↦ used_some (reader_of (asked s w)) p.seen input v used (rw a.seen (law.waits lt)) (rw a.field at m.is)
+          | inr le ↦
+              let fixed = fixed_got w.notation (limit_of (rules_of s.limits) w.notation) (s.stop - s.offset) (p.seen ++ input) v (length p.seen + used) (rw a.field at m.is) in
+              let none : length p.seen ≡ 0 = rw a.seen (omega arith) in
+              omega (arith, fixed, law.read)
+        ]
+
+-- the same, where types do not matter
+module _ (s : Standing) (old p : Progress) (w : Want) (input : List ℕ) (a : IsAsked s old p w) (new : Progress) where
+  pub piece_inside : (used : ℕ) (v : FieldValue) → Ends p input used v new → s.offset ≤ s.stop → s.offset + (length p.seen + used) ≤ s.stop
+  piece_inside used v m inside =
+      let r = got_inside w.notation (limit_of (rules_of s.limits) w.notation) (s.stop - s.offset) (p.seen ++ input) v (length p.seen + used) (rw a.field at m.is) (omega (arith, m.within, length-append p.seen input)) in
+      omega (arith, r)

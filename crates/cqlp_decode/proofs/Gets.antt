@@ -1,0 +1,118 @@
+-- One more event for a sink, and the end of the input.
+use Rattle.std.proofs.Common.{◌≡◌, ℕ, ◌+◌, ◌-◌, ◌<◌, ◌≤◌, List, [], ◌∷◌, ◌++◌, length, take, drop, refl, sym, ap, ◌∙◌, append_assoc, arith}
+use Rattle.std.specs.Prelude.{Option, Some, None}
+use Rattle.std.specs.Io.KnownBytes.{Consumes, Keeps, IsAtEnd}
+use Rattle.std.proofs.lemmas.List.{append-nil, take-append-drop, take_all, take-take, drop-take, length-drop, length-append}
+use Rattle.cqlp_note.specs.declared.refusal.Refusal.{Refusal}
+use Rattle.cqlp_decode.specs.declared.event.Event.{Event}
+use Rattle.cqlp_decode.specs.declared.event.Step.TheVariants as steps
+use Rattle.cqlp_decode.specs.Reading as reading
+use Rattle.cqlp_decode.specs.Reading.{Says, Waits}
+use Rattle.cqlp_decode.specs.Events.{event_of}
+use Rattle.cqlp_decode.specs.Standing.{State}
+use Rattle.cqlp_decode.specs.Streams.{After, Leads}
+use Rattle.cqlp_decode.specs.Draining.{Drains, Fails, HasRefused, Feeds, FeedsInto, fold_events}
+
+take_two : (k n : ℕ) (bytes : List ℕ) → take (k + n) bytes ≡ take k bytes ++ take n (drop k bytes)
+take_two k n bytes = sym (rw (take-take k (k + n) bytes (omega arith), drop-take k n bytes) at (take-append-drop k (take (k + n) bytes)))
+
+-- what `&input[used..]` is
+pub rest_is : (used : ℕ) (input : List ℕ) → take (length input - used) (drop used input) ≡ drop used input
+rest_is used input = take_all _ _ (omega (arith, length-drop used input))
+
+module _ {V : Type 0} (f : V → ℕ → reading.Event → V) where
+  fold_more : (v : V) (es : List (ℕ × reading.Event)) (at : ℕ) (e : reading.Event) → fold_events f v (es ++ (at, e) ∷ []) ≡ f (fold_events f v es) at e
+  fold_more v [] at e = refl
+  fold_more v (x ∷ es) at e = fold_more (f v x.0 x.1) es at e
+
+  fold_append : (v : V) (es fs : List (ℕ × reading.Event)) → fold_events f v (es ++ fs) ≡ fold_events f (fold_events f v es) fs
+  fold_append v [] fs = refl
+  fold_append v (x ∷ es) fs = fold_append (f v x.0 x.1) es fs
+
+  pub drains_none : (d : State) (s : List ℕ) (es : List (ℕ × reading.Event)) (v : V) → After d s es → Drains f d s es [] v v
+  drains_none d s es v a = record { more = []; stands = rw (append-nil s, append-nil es) a; got = refl }
+
+  module _ (old new : State) (s input : List ℕ) (used : ℕ) (es : List (ℕ × reading.Event)) (v w : V) (d : Drains f old s es (take used input) v w) where
+    stands_more : (at taken : ℕ) (e : Event) → Leads old (s ++ take used input) (es ++ d.more) (drop used input) (steps.Event at taken e) new → After new (s ++ take (used + taken) input) (es ++ (d.more ++ (at, event_of e) ∷ []))
+    stands_more at taken e leads = rw (take_two used taken input, ← (append_assoc s (take used input) (take taken (drop used input))), ← (append_assoc es d.more ((at, event_of e) ∷ []))) leads.3
+
+    pub drains_event : (at taken : ℕ) (e : Event) (w' : V) → Leads old (s ++ take used input) (es ++ d.more) (drop used input) (steps.Event at taken e) new → w' ≡ f w at (event_of e) → Drains f new s es (take (used + taken) input) v w'
+    drains_event at taken e w' leads is = record {
+      more = d.more ++ (at, event_of e) ∷ [];
+      stands = stands_more at taken e leads;
+      got = is ∙ ap (λ (z : V). f z at (event_of e)) d.got ∙ sym (fold_more v d.more at (event_of e))
+    }
+
+    pub fails_event : (faulted : V → ℕ → reading.Event → V → Type 0) (at taken : ℕ) (e : Event) (w' : V) → Leads old (s ++ take used input) (es ++ d.more) (drop used input) (steps.Event at taken e) new → faulted w at (event_of e) w'
+        → Fails f faulted new s es (take (used + taken) input) v w'
+    fails_event faulted at taken e w' leads fault = record {
+      more = d.more;
+      at = at;
+      event = event_of e;
+      stands = rw (append_assoc es d.more ((at, event_of e) ∷ [])) (stands_more at taken e leads);
+      fault = rw (← d.got) fault
+    }
+
+    all : (s ++ take used input) ++ drop used input ≡ s ++ input
+    all = append_assoc s (take used input) (drop used input) ∙ ap (λ (z : List ℕ). s ++ z) (take-append-drop used input)
+
+    pub drains_all : (taken : ℕ) → Leads old (s ++ take used input) (es ++ d.more) (drop used input) (steps.More taken) new → (x : Drains f new s es input v w) × Says new.rules reading.start (s ++ input) (es ++ x.more) Waits
+    drains_all taken leads = let h = rw all at leads in (record { more = d.more; stands = h.2; got = d.got }, h.3)
+
+    pub drains_refused : (r : Refusal) → Leads old (s ++ take used input) (es ++ d.more) (drop used input) (steps.Refused r) new → Drains f new s es (take used input) v w
+    drains_refused r leads = record { more = d.more; stands = leads.1; got = d.got }
+
+  -- one piece after another
+  pub drains_then : (mid new : State) (s a b : List ℕ) (es : List (ℕ × reading.Event)) (v w x : V) (d : Drains f mid s es a v w) → Drains f new (s ++ a) (es ++ d.more) b w x → Drains f new s es (a ++ b) v x
+  drains_then mid new s a b es v w x d e = record {
+    more = d.more ++ e.more;
+    stands = rw (← (append_assoc s a b), ← (append_assoc es d.more e.more)) e.stands;
+    got = e.got ∙ ap (λ (z : V). fold_events f z e.more) d.got ∙ sym (fold_append v d.more e.more)
+  }
+
+  pub fails_then : (faulted : V → ℕ → reading.Event → V → Type 0) (mid new : State) (s a b : List ℕ) (es : List (ℕ × reading.Event)) (v w x : V) (d : Drains f mid s es a v w) → Fails f faulted new (s ++ a) (es ++ d.more) b w x → Fails f faulted new s es (a ++ b) v x
+  fails_then faulted mid new s a b es v w x d e = record {
+    more = d.more ++ e.more;
+    at = e.at;
+    event = e.event;
+    stands = rw (← (append_assoc s a b), ← (append_assoc es d.more e.more)) e.stands;
+    fault = rw (fold_append v d.more e.more, ← d.got) e.fault
+  }
+
+  abbrev pub feeds_none : (d : State) (xs : List ℕ) (v : V) → Feeds f d d xs v v
+  feeds_none d xs v = record { bytes = []; rest = xs; parts = refl; drained = λ s es a. drains_none d s es v a }
+
+  module _ (old mid new : State) (xs piece left : List ℕ) (v w x : V) (d : Feeds f old mid xs v w) (is : d.rest ≡ piece ++ left) (part end : List ℕ) (split : piece ≡ part ++ end) where
+    pub parts_then : xs ≡ (d.bytes ++ part) ++ (end ++ left)
+    parts_then = d.parts ∙ ap (λ (z : List ℕ). d.bytes ++ z) (is ∙ ap (λ (z : List ℕ). z ++ left) split ∙ append_assoc part end left) ∙ sym (append_assoc d.bytes part (end ++ left))
+
+    abbrev pub feeds_then : ((s : List ℕ) (es : List (ℕ × reading.Event)) → After mid s es → Drains f new s es part w x) → Feeds f old new xs v x
+    feeds_then next = record {
+      bytes = d.bytes ++ part;
+      rest = end ++ left;
+      parts = parts_then;
+      drained = λ s es a. let e = d.drained s es a in drains_then mid new s d.bytes part es v w x e (next (s ++ d.bytes) (es ++ e.more) e.stands)
+    }
+
+    abbrev pub feeds_into : (faulted : V → ℕ → reading.Event → V → Type 0) → ((s : List ℕ) (es : List (ℕ × reading.Event)) → After mid s es → Fails f faulted new s es part w x) → FeedsInto f faulted old new xs v x
+    feeds_into faulted next = record {
+      bytes = d.bytes ++ part;
+      rest = end ++ left;
+      parts = parts_then;
+      failed = λ s es a. let e = d.drained s es a in fails_then faulted mid new s d.bytes part es v w x e (next (s ++ d.bytes) (es ++ e.more) e.stands)
+    }
+
+-- what is left of a reader's bytes after a read
+pub read_some : (old new : Option (List ℕ)) (rest buffer : List ℕ) (n : ℕ) → old ≡ Some rest → Consumes old new (take n buffer) → (n ≡ 0 → 0 < length buffer → IsAtEnd new)
+    → (left : List ℕ) × (new ≡ Some left) × (rest ≡ take n buffer ++ left) × (n ≡ 0 → 0 < length buffer → left ≡ [])
+read_some None new rest buffer n is reads end = absurd cc
+read_some (Some xs) None rest buffer n is reads end = absurd reads
+read_some (Some xs) (Some ys) rest buffer n is reads end = let same : xs ≡ rest = cc in (ys, refl, sym same ∙ reads, end)
+
+pub keeps_some : (old new : Option (List ℕ)) (rest : List ℕ) → old ≡ Some rest → Keeps old new → new ≡ Some rest
+keeps_some None new rest is k = absurd cc
+keeps_some (Some xs) None rest is k = absurd k
+keeps_some (Some xs) (Some ys) rest is k = let same : xs ≡ rest = cc in ap Some (k ∙ same)
+
+pub at_end : (rest left buffer : List ℕ) (n : ℕ) → rest ≡ take n buffer ++ left → n ≡ 0 → left ≡ [] → rest ≡ []
+at_end rest left buffer n is zero none = rw (zero, none) at is

@@ -1,0 +1,108 @@
+-- What one call does, over the whole stream.
+use Rattle.std.proofs.Common.{◌≡◌, ℕ, ◌+◌, ◌*◌, ◌<◌, ◌≤◌, Bool, true, false, cond, List, [], ◌∷◌, ◌++◌, length, take, drop, refl, sym, ap, ◌∙◌, arith}
+use Rattle.std.specs.Prelude.{Option, Some, None, if◌then◌else◌}
+use Rattle.std.proofs.lemmas.List.{append-nil, length-append, length-take-le, drop_all}
+use Rattle.cqlp_note.specs.declared.refusal.Refusal.{Refusal}
+use Rattle.cqlp_note.specs.Limits.{Rules}
+use Rattle.cqlp_note.specs.Reader.{Said, Got, says}
+use Rattle.cqlp_note.specs.Step.{Emitted}
+use Rattle.cqlp_note.proofs.Yields.{says_exact, emitted_is}
+use Rattle.cqlp_note.proofs.Runs.{runs_then, runs_stay}
+use Rattle.cqlp_decode.specs.declared.standing.Advance.TheVariants as advance
+use Rattle.cqlp_decode.specs.declared.standing.What.{What}
+use Rattle.cqlp_decode.specs.declared.event.Event.{Event}
+use Rattle.cqlp_decode.specs.declared.event.Step.TheVariants as steps
+use Rattle.cqlp_decode.specs.Reading as reading
+use Rattle.cqlp_decode.specs.Reading.{Place, step, start, Reads}
+use Rattle.cqlp_decode.specs.Events.{event_of}
+use Rattle.cqlp_decode.specs.Standing.{State, AdvancesFrom, event_at, frame_after, due_after, ends_due}
+use Rattle.cqlp_decode.specs.Streams.{AfterBy, After, Stands, Leads, Goes, Uses, frame_from, frame_of, open_after, open_from, is_open}
+
+-- ---- one more event
+
+frame_more : (frame : ℕ) (es : List (ℕ × reading.Event)) (at : ℕ) (e : reading.Event) → frame_from frame (es ++ (at, e) ∷ []) ≡ frame_after (frame_from frame es) at e
+frame_more frame [] at e = refl
+frame_more frame (x ∷ es) at e = frame_more (frame_after frame x.0 x.1) es at e
+
+open_more : (b : Bool) (es : List (ℕ × reading.Event)) (at : ℕ) (e : reading.Event) → open_from b (es ++ (at, e) ∷ []) ≡ open_after e
+open_more b [] at e = refl
+open_more b (x ∷ es) at e = open_more (open_after x.1) es at e
+
+due_is : (e : reading.Event) → due_after e ≡ (if open_after e then 1 else 0)
+due_is (reading.End n) = refl
+due_is e = refl
+
+run_more : (l : Rules) (p q : Place) (s b t : List ℕ) (es : List (ℕ × reading.Event)) (at : ℕ) (e : reading.Event) (x : Emitted reading.Event Place) → Reads l start s es p b
+    → says (step l p) 0 (b ++ t) ≡ Got x (length b + length t) → x.at ≡ at → x.event ≡ e → x.after (length b + length t) ≡ q → Reads l start (s ++ t) (es ++ (at, e) ∷ []) q []
+run_more l p q s b t es at e x run said a w after =
+    let k = length b + length t in
+    let none : drop k (b ++ t) ≡ [] = drop_all k (b ++ t) (omega (arith, length-append b t)) in
+    runs_then (step l) start p q (s ++ t) (b ++ t) [] es ((at, e) ∷ []) (runs_stay (step l) start s t es p b run) (k, x.after, said ∙ ap (λ (z : Emitted reading.Event Place). Got z k) (emitted_is x at e a w), (sym after, sym none))
+
+-- ---- one call
+
+module _ (old new : State) (input s : List ℕ) (es : List (ℕ × reading.Event)) where
+  pub more_leads : (o : Option Refusal) (used : ℕ) → AdvancesFrom o old input (advance.More used) new → AfterBy o old s es → Leads old s es input (steps.More used) new
+  more_leads (Some r) used a after = absurd (let e = a.0 in cc)
+  more_leads None used a after =
+      let m = a.0.waits after.bytes after.pending in
+      let run = runs_stay (step old.rules) start s input es old.place after.bytes after.read in
+      rw (a.1, a.2) (a.0.all, refl,
+        record {
+          bytes = after.bytes ++ input;
+          pending = m.1;
+          read = rw a.0.place run;
+          count = rw a.0.place (omega (arith, after.count, length-append s input, length-append after.bytes input));
+          frame = a.0.frame ∙ after.frame;
+          due = rw a.0.place after.due;
+        },
+        (old.place, after.bytes ++ input, run, rw m.0 tt))
+
+  pub event_leads : (o : Option Refusal) (at used : ℕ) (w : What) (e : Event) → event_of e ≡ event_at new.held input w → AdvancesFrom o old input (advance.Event at used w) new → AfterBy o old s es → Leads old s es input (steps.Event at used e) new
+  event_leads (Some r) at used w e is a after = absurd (let e = a.0 in cc)
+  event_leads None at used w e is a after =
+      let h = a.0 in
+      let t = take used input in
+      let g = h.gives after.bytes after.pending in
+      let long : length t ≡ used = length-take-le used input h.within in
+      let one = says_exact (step old.rules old.place) after.bytes input g.0 used g.1 in
+      let run = run_more old.rules old.place new.place s after.bytes t es at (event_of e) g.0 after.read (rw long one) g.2 (g.3 ∙ sym is) (rw long g.4) in
+      rw (a.1, a.2) (h.within, refl, h.begun, record {
+        bytes = [];
+        pending = h.begun;
+        read = run;
+        count = omega (arith, h.offset after.bytes after.pending, after.count, length-append s t, long);
+        frame = h.frame ∙ ap (λ (f : ℕ). frame_after f at (event_at new.held input w)) after.frame ∙ ap (λ (x : reading.Event). frame_after (frame_of es) at x) (sym is) ∙ sym (frame_more 0 es at (event_of e));
+        due = h.due ∙ ap due_after (sym is) ∙ due_is (event_of e) ∙ ap (λ (b : Bool). if b then 1 else 0) (sym (open_more false es at (event_of e)));
+      })
+
+  pub refused_leads : (o : Option Refusal) → old.refusal ≡ o → (r : Refusal) → AdvancesFrom o old input (advance.Refused r) new → AfterBy o old s es → Leads old s es input (steps.Refused r) new
+  refused_leads (Some before) eq r a after =
+      let same : r ≡ before = let e = a.0 in cc in
+      rw (a.1, eq) (ap Some (sym same), after, same)
+  refused_leads None eq r a after =
+      let bad = a.0 after.bytes after.pending in
+      let run = runs_stay (step old.rules) start s input es old.place after.bytes after.read in
+      rw (a.1, a.2, eq) (refl, (input, (old.place, after.bytes ++ input, run, rw bad refl)), (old.place, after.bytes ++ input, run, rw bad refl))
+
+  pub more_uses : (o : Option Refusal) (used : ℕ) → AdvancesFrom o old input (advance.More used) new → used ≡ length input
+  more_uses (Some r) used a = absurd (let e = a.0 in cc)
+  more_uses None used a = a.0.all
+
+  pub event_uses : (o : Option Refusal) (at used : ℕ) (w : What) → AdvancesFrom o old input (advance.Event at used w) new → used ≤ length input
+  event_uses (Some r) at used w a = absurd (let e = a.0 in cc)
+  event_uses None at used w a = a.0.within
+
+  pub more_goes : (o : Option Refusal) (used : ℕ) → AdvancesFrom o old input (advance.More used) new → Goes old (steps.More used) new
+  more_goes (Some r) used a = absurd (let e = a.0 in cc)
+  more_goes None used a = a.2
+
+  pub event_goes : (o : Option Refusal) (at used : ℕ) (w : What) (e : Event) → event_of e ≡ event_at new.held input w → AdvancesFrom o old input (advance.Event at used w) new → Goes old (steps.Event at used e) new
+  event_goes (Some r) at used w e is a = absurd (let e = a.0 in cc)
+  event_goes None at used w e is a = (a.0.pays, rw is a.0.lent, a.2)
+
+  pub refused_goes : (o : Option Refusal) → old.refusal ≡ o → (r : Refusal) → AdvancesFrom o old input (advance.Refused r) new → Goes old (steps.Refused r) new
+  refused_goes (Some before) eq r a =
+      let same : r ≡ before = let e = a.0 in cc in
+      (ap (λ (z : State). z.refusal) a.1 ∙ eq ∙ ap Some (sym same), ap (λ (z : State). z.rules) a.1)
+  refused_goes None eq r a = (a.1, a.2)

@@ -1,0 +1,9 @@
+pub mod Stack
+pub mod Steps
+pub mod FieldSteps
+pub mod OptionSteps
+pub mod Leads
+pub mod Ends
+pub mod Gets
+pub mod Whole
+pub mod Rows

@@ -1,0 +1,175 @@
+-- One step of a type option.
+use Rattle.std.proofs.Common.{◌≡◌, ℕ, ◌+◌, ◌-◌, ◌*◌, ◌<◌, ◌≤◌, true, false, cond, ltb, leb, List, [], ◌∷◌, ◌++◌, length, take, drop, refl, sym, ap, ◌∙◌, inl, inr, arith, length-append}
+use Rattle.std.specs.Prelude.{Option, Some, None}
+use Rattle.std.specs.Int.{w16, from_be_bytes}
+use Rattle.std.proofs.lemmas.Bool.{cases_lt}
+use Rattle.cqlp_note.specs.declared.refusal.Reason.{Reason}
+use Rattle.cqlp_note.specs.declared.refusal.Reason.TheVariants.{Overrun}
+use Rattle.cqlp_note.specs.Reader.{Said, Reader, More, Bad, Got, Gives as GivesNow, Refuses, Takes, Idles, says, number_of}
+use Rattle.cqlp_note.specs.Field.{FieldValue, FieldReader, field_of}
+use Rattle.cqlp_note.specs.declared.field.Notation.TheVariants as notation
+use Rattle.cqlp_note.specs.declared.field.Field.TheVariants as field
+use Rattle.cqlp_note.specs.Step.{Emitted, Step, Emit, after_field}
+use Rattle.cqlp_note.specs.Limits.{Rules, rules_of}
+use Rattle.cqlp_note.specs.Heading.{beside_number}
+use Rattle.cqlp_note.specs.Partial.{Progress}
+use Rattle.cqlp_note.proofs.Readers.{Always, says_always}
+use Rattle.cqlp_note.proofs.Fields.{either_always}
+use Rattle.cqlp_note.proofs.Yields.{map_said, says_map}
+use Rattle.cqlp_type.specs.declared.kind.Kind.{Kind}
+use Rattle.cqlp_type.specs.declared.item.TypePart.{TypePart}
+use Rattle.cqlp_type.specs.Types.{kinds}
+use Rattle.cqlp_type.specs.TypeStep.{TypeSymbol, TypeEvent, IsNode, IsField, TypePlace, Option_at, Text_of, Fields_of, Whole, option_step, type_step_at, type_step, type_place, settled, symbol_copies, inner_symbols, with_arity, count_in}
+use Rattle.cqlp_type.specs.Table.{Table}
+use Rattle.cqlp_type.specs.Standing as type
+use Rattle.cqlp_type.specs.Standing.{place_of, pending}
+use Rattle.cqlp_type.specs.Remaining as part
+use Rattle.cqlp_message.specs.Productions.{Symbol, In_type}
+use Rattle.cqlp_decode.specs.declared.standing.Stage.TheVariants as stage
+use Rattle.cqlp_decode.specs.declared.standing.Standing.{Standing}
+use Rattle.cqlp_decode.specs.declared.standing.What.TheVariants as what
+use Rattle.cqlp_decode.specs.Reading as reading
+use Rattle.cqlp_decode.specs.Reading.{Place, type_event, types_left, place_of_types}
+use Rattle.cqlp_decode.specs.Standing.{IsPending, Parts, parts, state_of, place_at, offset_at, symbols_at, rest_of, told, Gives, Waits, Hands, IsLent, due_after, frame_after, ends_due, HasRoom, IsOption, OptionWaits}
+use Rattle.cqlp_decode.proofs.Steps.{begun, one_due, offset_is}
+use Rattle.cqlp_decode.proofs.FieldSteps.{used_some}
+
+-- ---- the place after a step is as far on as it takes bytes
+
+abbrev IsForward : (offset : ℕ) → Emitted TypeEvent TypePlace → List ℕ → Type 0
+IsForward offset x b = (u : ℕ) → (x.after u).offset ≡ offset + u
+
+field_forward : (offset at : ℕ) (r : FieldReader) (next : FieldValue → Step TypeEvent TypePlace) (before : List ℕ) → ((v : FieldValue) (b : List ℕ) → Always (IsForward offset) (next v) b) → Always (IsForward offset) (after_field at r next) before
+field_forward offset at (GivesNow v) next before f = f v before
+field_forward offset at (Refuses why) next before f = tt
+field_forward offset at Idles next before f = tt
+field_forward offset at (Takes n g) next before f = λ c long. field_forward offset at (g c) next (before ++ c) f
+
+option_forward : (l : Rules) (depth : ℕ) (rest : List TypeSymbol) (p : TypePlace) (o : Option Kind) (b : List ℕ) → Always (IsForward p.offset) (option_step l depth rest p o) b
+option_forward l depth rest p None b = tt
+option_forward l depth rest p (Some k) b =
+    either_always (IsForward p.offset) b (ltb l.depth depth) _ _ (λ _. tt) (λ _.
+    either_always (IsForward p.offset) b (leb l.entries (length p.nodes)) _ _ (λ _. tt) (λ _ u. refl))
+
+step_forward : (l : Rules) (p : TypePlace) (ss : List TypeSymbol) → Always (IsForward p.offset) (type_step_at l p ss) []
+unfolding number_of
+step_forward l p [] = tt
+step_forward l p (Option_at depth ∷ rest) =
+    let next : List ℕ → Step TypeEvent TypePlace = λ b. option_step l depth rest p (beside_number (from_be_bytes w16 b) kinds) in
+    either_always (IsForward p.offset) [] (ltb (p.stop - p.offset) 2) (Refuses (p.offset, Overrun)) (Takes 2 next) (λ _. tt) (λ _ c long. option_forward l depth rest p (beside_number (from_be_bytes w16 c) kinds) c)
+step_forward l p (Text_of f ∷ rest) =
+    let next : FieldValue → Step TypeEvent TypePlace = λ v. Emit p.offset (IsField f v) (type_place p (settled rest p.nodes)) in
+    field_forward p.offset p.offset (field_of notation.Text16 l.text (p.stop - p.offset)) next [] (λ v b u. refl)
+step_forward l p (Fields_of named depth ∷ rest) =
+    let next : FieldValue → Step TypeEvent TypePlace = λ v. Emit p.offset (IsField field.Fields v) (type_place p (settled (symbol_copies (count_in v) (inner_symbols named depth) ++ rest) (with_arity (count_in v) p.nodes))) in
+    field_forward p.offset p.offset (field_of notation.Count16 0 (p.stop - p.offset)) next [] (λ v b u. refl)
+step_forward l p (Whole i ∷ rest) = tt
+
+goes_forward : (l : Rules) (p : TypePlace) (bytes : List ℕ) (x : Emitted TypeEvent TypePlace) (k : ℕ) → says (type_step l p) 0 bytes ≡ Got x k → (x.after k).offset ≡ p.offset + k
+goes_forward l p bytes x k s = (says_always (IsForward p.offset) (type_step l p) [] bytes x k (step_forward l p p.symbols) s).1 k
+
+-- ---- one step
+
+-- what is left of an option is still read
+left_some : (ss : List TypeSymbol) (rest : List Symbol) → (ss ≡ [] → ⊥) → types_left ss ++ rest ≡ In_type ss ∷ rest
+left_some [] rest some = absurd (some refl)
+left_some (s ∷ ss) rest some = refl
+
+-- an event of an option is no end
+no_end : (e : TypeEvent) → due_after (type_event e) ≡ 1
+no_end (IsNode k) = refl
+no_end (IsField f v) = refl
+
+same_frame : (frame at : ℕ) (e : TypeEvent) → frame_after frame at (type_event e) ≡ frame
+same_frame frame at (IsNode k) = refl
+same_frame frame at (IsField f v) = refl
+
+is_lent : (e : TypeEvent) (used : ℕ) (content : List ℕ) → (type.text_length e ≤ used → content ≡ []) → IsLent (type_event e) used content
+is_lent (IsNode k) used content h = tt
+is_lent (IsField f v) used content h = h
+
+module _ (s : Standing) (q : Parts) (here : s.stage ≡ stage.Type) (o : IsOption s q.partial q.types) (rules : q.types.rules ≡ rules_of s.limits) where
+  abbrev rest : List Symbol
+  rest = rest_of s.upcoming
+
+  abbrev stands : Place
+  stands = place_at q.types.offset s.stop (In_type q.types.symbols ∷ rest) q.table.nodes
+
+  told_is : (bytes : List ℕ) → told (state_of s q) bytes ≡ map_said type_event (place_of_types stands rest) (type.told q.types q.table.nodes bytes)
+  told_is bytes = rw (here, ← rules, ← o.stop) (says_map type_event (place_of_types (place_at q.types.offset q.types.stop (In_type q.types.symbols ∷ rest) q.table.nodes) rest) (type_step q.types.rules (place_of q.types q.table.nodes)) 0 bytes)
+
+  pending_is : (b : List ℕ) → IsPending (state_of s q).pending b → b ≡ pending q.types q.partial
+  pending_is b is = rw here at is
+
+  pub option_waits : (input : List ℕ) (used : ℕ) (r' : type.Standing) (p' : Progress) (t' : Table) → type.Waits q.types q.partial q.table input used r' p' t' → Waits (state_of s q) input used (state_of s (parts p' r' t'))
+  option_waits input used r' p' t' m =
+      let offset : r'.offset ≡ q.types.offset = ap (λ (z : type.Standing). z.offset) m.reader in
+      let symbols : r'.symbols ≡ q.types.symbols = ap (λ (z : type.Standing). z.symbols) m.reader in
+      record {
+        all = m.all;
+        place = rw (here, m.table) (λ j. place_at (offset j) s.stop (In_type (symbols j) ∷ rest) q.table.nodes);
+        frame = refl;
+        waits = λ b is. (rw (pending_is b is) (told_is (pending q.types q.partial ++ input) ∙ ap (λ z. map_said type_event (place_of_types stands rest) z) m.is), rw (here, pending_is b is) (sym m.pending));
+      }
+
+  pub option_fails : (input : List ℕ) (at : ℕ) (why : Reason) → type.told q.types q.table.nodes (pending q.types q.partial ++ input) ≡ Bad (at, why) → (b : List ℕ) → IsPending (state_of s q).pending b → told (state_of s q) (b ++ input) ≡ Bad (at, why)
+  option_fails input at why m b is = rw (pending_is b is) (told_is (pending q.types q.partial ++ input) ∙ ap (λ z. map_said type_event (place_of_types stands rest) z) m)
+
+  module _ (input : List ℕ) (at used : ℕ) (x : TypePart) (r' : type.Standing) (p' : Progress) (t' : Table) (m : type.Ends q.types q.partial q.table input at used x r' p' t') (waits : OptionWaits q) where
+    abbrev bytes : List ℕ
+    bytes = pending q.types q.partial ++ input
+
+    abbrev taken : ℕ
+    taken = length (pending q.types q.partial) + used
+
+    some : 0 < used
+    some = elim (cases_lt 0 (length (pending q.types q.partial))) [
+      | inl lt ↦ used_some (type_step q.types.rules (place_of q.types q.table.nodes)) (pending q.types q.partial) input m.step used (waits lt) m.is
+      | inr le ↦
+          let on : r'.offset ≡ q.types.offset + taken = sym (ap (λ (z : TypePlace). z.offset) m.after) ∙ goes_forward q.types.rules (place_of q.types q.table.nodes) bytes m.step taken m.is in
+          omega (arith, on, m.forward)
+    ]
+
+    pub option_on : r'.offset ≡ q.types.offset + taken
+    option_on = sym (ap (λ (z : TypePlace). z.offset) m.after) ∙ goes_forward q.types.rules (place_of q.types q.table.nodes) bytes m.step taken m.is
+
+    option_gives : Gives (state_of s q) bytes at (type_event (part.event_at x input p'.content)) taken (place_of_types stands rest (place_of r' t'.nodes))
+    option_gives =
+        (record { at = m.step.at; event = type_event m.step.event; after = λ u. place_of_types stands rest (m.step.after u) },
+         told_is bytes ∙ ap (λ z. map_said type_event (place_of_types stands rest) z) m.is, m.place, ap type_event m.event, ap (λ (z : TypePlace). place_of_types stands rest z) m.after)
+
+    -- the place that the decoder stands at then
+    module _ (e : Standing) (q' : Parts) (content : q'.partial.content ≡ p'.content) (nodes : q'.table.nodes ≡ t'.nodes) (offset : offset_at e.stage e.offset q'.types ≡ r'.offset) (stop : e.stop ≡ s.stop) (frame : e.frame ≡ s.frame)
+        (symbols : symbols_at e.stage q'.types e.upcoming ≡ types_left r'.symbols ++ rest) (fresh : IsPending (state_of e q').pending []) (one : ends_due (symbols_at e.stage q'.types e.upcoming) ≡ 1) where
+      pub option_hands : Hands (state_of s q) input at used (what.Option x) (state_of e q')
+      option_hands = record {
+        within = m.within;
+        there = rw content m.can_lend;
+        begun = fresh;
+        frame = frame ∙ sym (same_frame s.frame at (part.event_at x input q'.partial.content));
+        lent = is_lent (part.event_at x input q'.partial.content) used q'.partial.content (rw content m.lent);
+        gives = λ b is.
+          let g = option_gives in
+          let stopped : r'.stop ≡ s.stop = ap (λ (z : type.Standing). z.stop) m.reader ∙ o.stop in
+          rw (pending_is b is, content) (g.0, g.1, g.2, g.3, g.4 ∙ (λ j. place_at (sym offset j) ((stopped ∙ sym stop) j) (sym symbols j) (sym nodes j)));
+        offset = λ b is. rw (pending_is b is, offset, here) option_on;
+        due = one ∙ sym (no_end (part.event_at x input q'.partial.content));
+        pays = rw (here, one) (omega (arith, some));
+      }
+
+    -- the reader of the option, after a part of it
+    began : r'.begun ≡ false
+    began = ap (λ (z : type.Standing). z.begun) m.reader
+
+    none_pending : pending r' p' ≡ []
+    none_pending = rw began refl
+
+    -- the option goes on
+    pub still_hands : (r'.symbols ≡ [] → ⊥) → Hands (state_of s q) input at used (what.Option x) (state_of s (parts p' r' t'))
+    still_hands more = option_hands s (parts p' r' t') refl refl (rw here refl) refl refl (rw here (sym (left_some r'.symbols rest more))) (rw (here, none_pending) refl) (rw here refl)
+
+    -- the option is whole
+    module _ (whole : r'.symbols ≡ []) (e : Standing) (r'' : type.Standing) (offset : e.offset ≡ r'.offset) (stop : e.stop ≡ s.stop) (frame : e.frame ≡ s.frame) (came : e.came ≡ 0) (symbols : symbols_at e.stage r'' e.upcoming ≡ rest)
+        (room : HasRoom e.stage e.upcoming) where
+      pub ended_hands : Hands (state_of s q) input at used (what.Option x) (state_of e (parts p' r'' t'))
+      ended_hands = option_hands e (parts p' r'' t') refl refl (offset_is e.stage e.offset r'' e.upcoming room ∙ offset) stop frame (rw whole symbols) (begun e.stage e.upcoming e.header e.came (parts p' r'' t') room came (m.shared.same ∙ began)) (one_due e.stage r'' e.upcoming room)

@@ -1,0 +1,193 @@
+-- One step: what is skipped, headers, and what follows them.
+use Rattle.std.proofs.Common.{◌≡◌, ℕ, Bool, true, false, ◌+◌, ◌-◌, ◌*◌, ◌<◌, ◌≤◌, ◌^◌, List, [], ◌∷◌, ◌++◌, length, take, drop, refl, sym, ap, ◌∙◌, inl, inr, arith, length-append}
+use Rattle.std.specs.Prelude.{Option, Some, None, Ok, Err, min, max}
+use Rattle.std.proofs.Math.Seq.{take-append-add}
+use Rattle.std.proofs.lemmas.Bool.{cases_lt, lt-ltb, le-ltb}
+use Rattle.std.proofs.lemmas.List.{take_all, length-take-le, append-nil}
+use Rattle.cqlp_note.specs.declared.refusal.Reason.{Reason}
+use Rattle.cqlp_note.specs.declared.refusal.Refusal.{Refusal}
+use Rattle.cqlp_note.specs.declared.header.Header.{Header}
+use Rattle.cqlp_note.specs.Reader.{Said, More, Bad, Got, says}
+use Rattle.cqlp_note.specs.Step.{Emitted}
+use Rattle.cqlp_note.specs.Heading.{heading}
+use Rattle.cqlp_note.specs.Partial.{Progress}
+use Rattle.cqlp_type.specs.declared.node.Node.{Node}
+use Rattle.cqlp_type.specs.Standing as type
+use Rattle.cqlp_message.specs.Productions.{Symbol, Stream, Extra, message}
+use Rattle.cqlp_decode.specs.declared.table.Due.{Due}
+use Rattle.cqlp_decode.specs.declared.table.Due.TheVariants as due
+use Rattle.cqlp_decode.specs.declared.upcoming.Slot.{Slot}
+use Rattle.cqlp_decode.specs.declared.standing.Stage.{Stage}
+use Rattle.cqlp_decode.specs.declared.standing.Stage.TheVariants as stage
+use Rattle.cqlp_decode.specs.declared.standing.Standing.{Standing}
+use Rattle.cqlp_decode.specs.declared.standing.What.TheVariants as what
+use Rattle.cqlp_decode.specs.Upcoming.{symbols_in, wanted, Next}
+use Rattle.cqlp_decode.specs.Reading as reading
+use Rattle.cqlp_decode.specs.Reading.{Place}
+use Rattle.cqlp_decode.specs.Standing.{State, Pending, IsPending, state_of, place_at, offset_at, pending_at, symbols_at, rest_of, stage_with, came_of, told, Gives, Waits, Hands, Parts, IsIdle, ends_due, HasRoom, StageHolds, HasParts, IsPlaced, IsLawful}
+
+-- ---- what is skipped
+
+pub extra_waits : (s new : Standing) (q : Parts) (input : List ℕ) (used : ℕ) → s.stage ≡ stage.Extra → s.came ≤ s.stop - s.offset → used ≡ min (s.stop - s.offset - s.came) (length input) → s.came + used < s.stop - s.offset
+    → new ≡ record s { came = s.came + used } → Waits (state_of s q) input used (state_of new q)
+extra_waits s new q input used here le is less same = rw same (record {
+  all = omega arith;
+  place = refl;
+  frame = refl;
+  waits = λ b came.
+    let long : length b ≡ s.came = rw here at came in
+    let short : length (b ++ input) < s.stop - s.offset = omega (arith, length-append b input) in
+    (rw (here, lt-ltb _ _ short) refl, rw here (omega (arith, length-append b input)));
+})
+
+pub extra_hands : (s : Standing) (q : Parts) (input : List ℕ) (used : ℕ) → s.stage ≡ stage.Extra → s.offset ≤ s.stop → s.came ≤ s.stop - s.offset → used ≡ min (s.stop - s.offset - s.came) (length input) → s.stop - s.offset ≤ s.came + used
+    → Hands (state_of s q) input s.stop used (what.End (s.stop - s.offset)) (state_of (record s { frame = s.stop; offset = s.stop; stage = stage.Header; came = 0 }) q)
+extra_hands s q input used here inside le is all = record {
+  within = omega arith;
+  there = tt;
+  begun = refl;
+  frame = refl;
+  lent = tt;
+  gives = λ b came.
+    let size : length b ≡ s.came = rw here at came in
+    let long : s.stop - s.offset ≤ length (b ++ input) = omega (arith, length-append b input) in
+    let same : 0 + (s.stop - s.offset) ≡ length b + used = omega arith in
+    let x : Emitted reading.Event Place = record { at = s.stop; event = reading.End (s.stop - s.offset); after = λ k. place_at s.stop s.stop (Stream ∷ []) q.table.nodes } in
+    (x, rw (here, le-ltb _ _ long) (ap (λ (k : ℕ). Got x k) same), refl, refl, refl);
+  offset = λ b came. let size : length b ≡ s.came = rw here at came in rw here (omega arith);
+  due = refl;
+  pays = rw here (omega arith);
+}
+
+-- ---- a message goes on
+
+-- nothing has come of what is read now
+pub begun : (t : Stage) (upcoming : List Slot) (header : List ℕ) (came : ℕ) (q : Parts) → HasRoom t upcoming → came ≡ 0 → q.partial.under_way ≡ false → IsPending (pending_at t header came q) []
+begun stage.Header upcoming header came q room none idle = absurd room
+begun (stage.Field w) upcoming header came q room none idle = rw idle refl
+begun stage.Option upcoming header came q room none idle = refl
+begun stage.Type upcoming header came q room none idle = absurd room
+begun stage.Extra upcoming header came q room none idle = sym none
+
+-- its end is still to come
+pub one_due : (t : Stage) (r : type.Standing) (upcoming : List Slot) → HasRoom t upcoming → ends_due (symbols_at t r upcoming) ≡ 1
+one_due stage.Header r upcoming room = absurd room
+one_due (stage.Field w) r upcoming room = refl
+one_due stage.Option r upcoming room = refl
+one_due stage.Type r upcoming room = absurd room
+one_due stage.Extra r upcoming room = refl
+
+-- it begins at the offset
+pub offset_is : (t : Stage) (offset : ℕ) (r : type.Standing) (upcoming : List Slot) → HasRoom t upcoming → offset_at t offset r ≡ offset
+offset_is stage.Header offset r upcoming room = absurd room
+offset_is (stage.Field w) offset r upcoming room = refl
+offset_is stage.Option offset r upcoming room = refl
+offset_is stage.Type offset r upcoming room = absurd room
+offset_is stage.Extra offset r upcoming room = refl
+
+-- what holds of the next stage, of which nothing has come
+pub fresh_stage : (e : Standing) (q : Parts) (t : Stage) → HasRoom t e.upcoming → IsIdle q → e.came ≡ 0 → StageHolds e q t
+fresh_stage e q stage.Header room idle none = absurd room
+fresh_stage e q (stage.Field w) room idle none = (record {
+  room = room.0;
+  read = room.1;
+  field = λ busy. let shut : ◌≡◌ {A = Bool} true false = sym busy ∙ idle.field in absurd cc;
+  waits = λ some. let long : length (came_of q.partial) ≡ 0 = rw idle.field refl in absurd (omega arith);
+  came = none;
+}, idle.types)
+fresh_stage e q stage.Option room idle none = (idle, none)
+fresh_stage e q stage.Type room idle none = absurd room
+fresh_stage e q stage.Extra room idle none = (omega arith, idle)
+
+pub next_symbols : (old new : List Slot) (o : Option Due) → Next old o new → (r : type.Standing) → symbols_at (stage_with o) r new ≡ rest_of old
+next_symbols old new None n r = rw n.0 refl
+next_symbols old new (Some (due.Field w)) n r = rw n.0 refl
+next_symbols old new (Some due.Option) n r = rw n.0 refl
+
+pub next_room : (old new : List Slot) (o : Option Due) → Next old o new → HasRoom (stage_with o) new
+next_room old new None n = tt
+next_room old new (Some (due.Field w)) n = (n.1, n.2)
+next_room old new (Some due.Option) n = tt
+
+pub placed : (s : Standing) (q : Parts) (t : Stage) → StageHolds s q t → IsPlaced s q.partial q.types t
+placed s q stage.Header h = (h.0, h.2)
+placed s q (stage.Field w) h = tt
+placed s q stage.Option h = tt
+placed s q stage.Type h = h.0
+placed s q stage.Extra h = h.0
+
+-- a refusal changes nothing of the rest
+stage_refused : (s : Standing) (q : Parts) (r : Option Refusal) (t : Stage) → StageHolds s q t → StageHolds (record s { refusal = r }) q t
+stage_refused s q r stage.Header h = h
+stage_refused s q r (stage.Field w) h = (record { room = h.0.room; read = h.0.read; field = h.0.field; waits = h.0.waits; came = h.0.came }, h.1)
+stage_refused s q r stage.Option h = h
+stage_refused s q r stage.Type h = (record { under_way = h.0.under_way; some = h.0.some; shared = h.0.shared; stop = h.0.stop; behind = h.0.behind; inside = h.0.inside; came = h.0.came }, h.1)
+stage_refused s q r stage.Extra h = h
+
+pub refused_lawful : (s : Standing) (q : Parts) (r : Option Refusal) → IsLawful s q → IsLawful (record s { refusal = r }) q
+refused_lawful s q r h = record {
+  bounded = record { long = h.bounded.long; inside = h.bounded.inside; size = h.bounded.size; bound = h.bounded.bound };
+  parts = record { room = h.parts.room; rules = h.parts.rules; table = h.parts.table };
+  stage = stage_refused s q r s.stage h.stage;
+}
+
+-- ---- headers
+
+module _ (s : Standing) (q : Parts) (input : List ℕ) (here : s.stage ≡ stage.Header) (early : s.offset ≤ 2 ^ 63) (long : length s.header ≡ 9) (some : s.came < 9) where
+  kept_long : length (take s.came s.header) ≡ s.came
+  kept_long = length-take-le s.came s.header (omega arith)
+
+  pub header_waits : (new : Standing) → s.came + length input < 9 → take new.came new.header ≡ take s.came s.header ++ input → new ≡ record s { header = new.header; came = new.came } → Waits (state_of s q) input (length input) (state_of new q)
+  header_waits new few kept rest = record {
+    all = refl;
+    place = ap (λ (z : Standing). place_at (offset_at z.stage z.offset q.types) z.stop (symbols_at z.stage q.types z.upcoming) q.table.nodes) rest;
+    frame = ap (λ (z : Standing). z.frame) rest;
+    waits = λ b is.
+      let came : b ≡ take s.came s.header = rw here at is in
+      let short : length (b ++ input) < 9 = rw came (omega (arith, length-append (take s.came s.header) input, kept_long)) in
+      let there : new.stage ≡ stage.Header = ap (λ (z : Standing). z.stage) rest ∙ here in
+      (rw (here, le-ltb _ _ early, lt-ltb _ _ short) refl, rw there (ap (λ (x : List ℕ). x ++ input) came ∙ sym kept));
+  }
+
+  module _ (enough : 9 ≤ s.came + length input) where
+    abbrev nine : List ℕ
+    nine = take s.came s.header ++ take (9 - s.came) input
+
+    front : (b : List ℕ) → b ≡ take s.came s.header → take 9 (b ++ input) ≡ nine
+    front b is =
+        let count : 9 ≡ length b + (9 - s.came) = rw is (omega (arith, kept_long)) in
+        ap (λ (k : ℕ). take k (b ++ input)) count ∙ take-append-add b input (9 - s.came) ∙ ap (λ (x : List ℕ). x ++ take (9 - s.came) input) is
+
+    whole : (b : List ℕ) → b ≡ take s.came s.header → 9 ≤ length (b ++ input)
+    whole b is = rw is (omega (arith, length-append (take s.came s.header) input, kept_long))
+
+    pub header_fails : (e : ℕ × Reason) → heading nine ≡ Err e → (b : List ℕ) → IsPending (state_of s q).pending b → told (state_of s q) (b ++ input) ≡ Bad (s.offset + e.0, e.1)
+    header_fails e h b is =
+        let came : b ≡ take s.came s.header = rw here at is in
+        rw (here, le-ltb _ _ early, le-ltb _ _ (whole b came), front b came, h) refl
+
+    pub header_gives : (h : Header) → heading nine ≡ Ok h → (b : List ℕ) → IsPending (state_of s q).pending b
+        → Gives (state_of s q) (b ++ input) s.offset (reading.Frame h) (length b + (9 - s.came)) (place_at (s.offset + 9) (s.offset + 9 + h.length) (message h) q.table.nodes)
+    header_gives h is b pending =
+        let came : b ≡ take s.came s.header = rw here at pending in
+        let x : Emitted reading.Event Place = record { at = s.offset; event = reading.Frame h; after = λ k. place_at (s.offset + k) (s.offset + k + h.length) (message h) q.table.nodes } in
+        let count : length b + (9 - s.came) ≡ 9 = rw came (omega (arith, kept_long)) in
+        (x, rw (here, le-ltb _ _ early, le-ltb _ _ (whole b came), front b came, is) (ap (λ (k : ℕ). Got x k) (sym count)), refl, refl, rw count refl)
+
+    pub header_hands : (new : Standing) (h : Header) → heading nine ≡ Ok h → new.offset ≡ s.offset + 9 → new.stop ≡ s.offset + 9 + h.length → symbols_at new.stage q.types new.upcoming ≡ message h
+        → HasRoom new.stage new.upcoming → new.frame ≡ s.frame → new.came ≡ 0 → IsIdle q → Hands (state_of s q) input s.offset (9 - s.came) (what.Frame h) (state_of new q)
+    header_hands new h is at stop symbols room frame none idle =
+        let offset : offset_at new.stage new.offset q.types ≡ s.offset + 9 = offset_is new.stage new.offset q.types new.upcoming room ∙ at in
+        record {
+          within = omega arith;
+          there = tt;
+          begun = begun new.stage new.upcoming new.header new.came q room none idle.field;
+          frame = frame;
+          lent = tt;
+          gives = λ b pending. let g = header_gives h is b pending in (g.0, g.1, g.2, g.3, g.4 ∙ (λ j. place_at (sym offset j) (sym stop j) (sym symbols j) q.table.nodes));
+          offset = λ b pending.
+            let came : b ≡ take s.came s.header = rw here at pending in
+            rw (offset, here, came) (omega (arith, kept_long));
+          due = one_due new.stage q.types new.upcoming room;
+          pays = rw (here, one_due new.stage q.types new.upcoming room) (omega arith);
+        }

@@ -1,0 +1,18 @@
+use Rattle.std.proofs.Common.{◌+◌, ◌-◌, ◌*◌, ◌≤◌, List, ℕ, length, take}
+use Rattle.cqlp_decode.specs.Reading.{Event}
+use Rattle.cqlp_decode.specs.Standing.{ends_due}
+use Rattle.cqlp_decode.specs.Streams.{After, state}
+use Rattle.cqlp_decode.specs.Draining.{Drains}
+use Rattle.cqlp_decode.proofs.running.drain.Given as goal
+
+-- what is used is read, and the sink has got its events
+abbrev pub invariant-events : goal.invariant-events
+invariant-events g l = record {
+  within : l.used ≤ length l.input;
+  tells : g.S.Sink.tells l.fn.sink → g.S.Sink.tells l.sink;
+  drained : g.S.Sink.tells l.fn.sink → (s : List ℕ) (es : List (ℕ × Event)) → After (state l.fn.decoder) s es → Drains g.S.Sink.after (state l.decoder) s es (take l.used l.input) (g.S.Sink.view l.fn.sink) (g.S.Sink.view l.sink)
+}
+
+-- an event takes some byte, or is the end that is due
+abbrev pub decreases-events : goal.decreases-events
+decreases-events g l = ends_due (state l.decoder).place.symbols + 2 * (length l.input - l.used)

@@ -1,0 +1,87 @@
+use Rattle.std.proofs.Common.{◌≡◌, ◌+◌, ◌-◌, ◌<◌, ◌≤◌, ◌++◌, [], List, ℕ, length, take, drop, refl, sym, inl, inr, arith}
+use Rattle.std.proofs.lemmas.List.{append-nil, take-append-drop, length-append, length-take-le}
+use Rattle.cqlp_decode.specs.Streams.{state}
+use Rattle.cqlp_decode.proofs.Gets.{feeds_none, feeds_then, feeds_into, read_some, keeps_some, at_end}
+use Rattle.cqlp_decode.proofs.running.run.Goals as goal
+
+-- before the first read
+
+pub returns-in-Refused-clause-runs : goal.returns-in-Refused-clause-runs
+returns-in-Refused-clause-runs g c = λ xs is tells.
+    let e = c.in-Refused.ensures.drains tells in
+    let d = state c.args.decoder.now in
+    let v = g.S.Sink.view c.args.sink.now in
+    (feeds_then g.S.Sink.after d d (state c.drain.new.decoder) xs [] xs v v _ (feeds_none g.S.Sink.after d xs v) refl (take e.1.0 []) (drop e.1.0 []) (sym (take-append-drop e.1.0 [])) e.1.1, inr e.0, c.finish.ensures)
+
+pub returns-in-Fault-clause-runs : goal.returns-in-Fault-clause-runs
+returns-in-Fault-clause-runs g c = λ xs is tells.
+    let e = c.in-Fault.ensures.drains tells in
+    let d = state c.args.decoder.now in
+    let v = g.S.Sink.view c.args.sink.now in
+    feeds_into g.S.Sink.after d d (state c.drain.new.decoder) xs [] xs v v _ (feeds_none g.S.Sink.after d xs v) refl (take e.0 []) (drop e.0 []) (sym (take-append-drop e.0 [])) g.S.Sink.faulted e.1
+
+pub loop-turn-init : goal.loop-turn-init
+loop-turn-init g c = record {
+  long = refl;
+  failures = refl;
+  tells = λ tells. c.in-More.ensures.tells tells refl;
+  fed = λ xs is tells.
+    let e = c.in-More.ensures.drains tells in
+    let d = state c.args.decoder.now in
+    let v = g.S.Sink.view c.args.sink.now in
+    (feeds_then g.S.Sink.after d d (state c.drain.new.decoder) xs [] xs v v _ (feeds_none g.S.Sink.after d xs v) refl [] [] refl (λ s es a. (e s es a).0), is, omega arith)
+}
+
+-- after a read
+
+pub returns-in-Err-clause-runs : goal.returns-in-Err-clause-runs
+returns-in-Err-clause-runs g c = λ xs is tells.
+    let d = c.loop-turn.invariant.fed xs is tells in
+    (d.0, keeps_some _ _ d.0.rest d.1 c.in-Err.ensures.bytes)
+
+pub returns-then-count-eq0-clause-runs : goal.returns-then-count-eq0-clause-runs
+returns-then-count-eq0-clause-runs g c = λ xs is tells.
+    let d = c.loop-turn.invariant.fed xs is tells in
+    let r = read_some _ _ d.0.rest c.read.new.buffer c.in-Ok.count d.1 c.in-Ok.ensures.bytes.0 c.in-Ok.ensures.bytes.1 in
+    let long : 0 < length c.read.new.buffer = let a = c.read.auto.buffer in let b = c.loop-turn.invariant.long in omega arith in
+    (d.0, inl (at_end d.0.rest r.0 c.read.new.buffer c.in-Ok.count r.2 c.if-count-eq0.true (r.3 c.if-count-eq0.true long)), c.finish-then-count-eq0.ensures)
+
+pub returns-in-Refused-drain-clause-runs : goal.returns-in-Refused-drain-clause-runs
+returns-in-Refused-drain-clause-runs g c = λ xs is tells.
+    let d = c.loop-turn.invariant.fed xs is tells in
+    let r = read_some _ _ d.0.rest c.read.new.buffer c.in-Ok.count d.1 c.in-Ok.ensures.bytes.0 c.in-Ok.ensures.bytes.1 in
+    let e = c.in-Refused-drain.ensures.drains (c.loop-turn.invariant.tells tells) in
+    let piece = take c.in-Ok.count c.read.new.buffer in
+    (feeds_then g.S.Sink.after (state c.args.decoder.now) (state c.loop-turn.decoder) (state c.drain-in-loop-turn.new.decoder) xs piece r.0 _ _ _ d.0 r.2 (take e.1.0 piece) (drop e.1.0 piece) (sym (take-append-drop e.1.0 piece)) e.1.1,
+     inr e.0, c.finish-in-Refused-drain.ensures)
+
+pub returns-in-Fault-drain-clause-runs : goal.returns-in-Fault-drain-clause-runs
+returns-in-Fault-drain-clause-runs g c = λ xs is tells.
+    let d = c.loop-turn.invariant.fed xs is tells in
+    let r = read_some _ _ d.0.rest c.read.new.buffer c.in-Ok.count d.1 c.in-Ok.ensures.bytes.0 c.in-Ok.ensures.bytes.1 in
+    let e = c.in-Fault-drain.ensures.drains (c.loop-turn.invariant.tells tells) in
+    let piece = take c.in-Ok.count c.read.new.buffer in
+    feeds_into g.S.Sink.after (state c.args.decoder.now) (state c.loop-turn.decoder) (state c.drain-in-loop-turn.new.decoder) xs piece r.0 _ _ _ d.0 r.2 (take e.0 piece) (drop e.0 piece) (sym (take-append-drop e.0 piece)) g.S.Sink.faulted e.1
+
+pub loop-turn-preserved : goal.loop-turn-preserved
+loop-turn-preserved g c =
+    let long : length c.read.new.buffer ≡ 4096 = let a = c.read.auto.buffer in let b = c.loop-turn.invariant.long in omega arith in
+    record {
+      long = long;
+      failures = let a = c.in-Ok.ensures.failures in let b = c.loop-turn.invariant.failures in cc;
+      tells = λ tells. c.in-More-drain.ensures.tells (c.loop-turn.invariant.tells tells) refl;
+      fed = λ xs is tells.
+        let d = c.loop-turn.invariant.fed xs is tells in
+        let r = read_some _ _ d.0.rest c.read.new.buffer c.in-Ok.count d.1 c.in-Ok.ensures.bytes.0 c.in-Ok.ensures.bytes.1 in
+        let e = c.in-More-drain.ensures.drains (c.loop-turn.invariant.tells tells) in
+        let piece = take c.in-Ok.count c.read.new.buffer in
+        let size : length piece ≡ c.in-Ok.count = length-take-le c.in-Ok.count c.read.new.buffer c.in-Ok.ensures.bound in
+        let some = c.if-count-eq0.false in
+        (feeds_then g.S.Sink.after (state c.args.decoder.now) (state c.loop-turn.decoder) (state c.drain-in-loop-turn.new.decoder) xs piece r.0 _ _ _ d.0 r.2 piece [] (sym (append-nil piece)) (λ s es a. (e s es a).0),
+         r.1, omega (arith, d.2, length-append d.0.bytes piece));
+    }
+
+pub returns-clause-runs : goal.returns-clause-runs
+returns-clause-runs g c = λ xs is tells.
+    let d = c.loop-turn.invariant.fed xs is tells in
+    (d.0, d.1, omega (arith, d.2))

@@ -1,0 +1,162 @@
+-- What a stream of frames says, from left to right.
+use Rattle.std.specs.Prelude.{◌≡◌, ℕ, zero, suc, ◌+◌, ◌-◌, ◌++◌, ◌^◌, Bool, false, ◌&&◌, List, [], ◌∷◌, drop, Option, Some, None, nat_lt, ◌==◌, if◌then◌else◌, Ok, Err}
+use Rattle.cqlp_note.specs.declared.field.Field.{Field}
+use Rattle.cqlp_note.specs.declared.header.Header.{Header}
+use Rattle.cqlp_note.specs.declared.refusal.Reason.{Reason}
+use Rattle.cqlp_note.specs.declared.refusal.Reason.TheVariants.{StreamTooLong}
+use Rattle.cqlp_note.specs.Reader.{Said, More, Bad, Got, Refuses, Takes, says}
+use Rattle.cqlp_note.specs.Reader as reader
+use Rattle.cqlp_note.specs.Field.{FieldValue, field_of}
+use Rattle.cqlp_note.specs.Step.{Emitted, Step, Emit, after_field, map_step, Runs}
+use Rattle.cqlp_note.specs.Limits.{Rules, limit_of}
+use Rattle.cqlp_note.specs.Heading.{Heading, heading, has}
+use Rattle.cqlp_type.specs.declared.kind.Kind.{Kind}
+use Rattle.cqlp_type.specs.declared.node.Node.{Node}
+use Rattle.cqlp_type.specs.Types.{Types, types_of, how_many}
+use Rattle.cqlp_type.specs.TypeStep.{TypeSymbol, TypeEvent, IsNode, IsField, TypePlace, type_step}
+use Rattle.cqlp_value.specs.CellStep.{CellSymbol, Value_of, CellEvent, CellPlace, cell_step}
+use Rattle.cqlp_value.specs.CellStep as cell
+use Rattle.cqlp_message.specs.declared.grammar.Role.{Role}
+use Rattle.cqlp_message.specs.declared.grammar.Role.TheVariants as role
+use Rattle.cqlp_message.specs.Productions.{Symbol, Stream, In, In_type, Cell_due, In_cell, Extra, message, following, fault_in, raw_types}
+
+pub data Event : Type 0 where
+  Frame : Header → Event
+  Holds : Field → FieldValue → Event
+  Node_of : Kind → Event
+  Cell_at : (row column : ℕ) → CellEvent → Event
+  Leave : (level items : ℕ) → Event
+  End : (extra : ℕ) → Event
+
+-- an event in a type option
+abbrev pub type_event : TypeEvent → Event
+type_event (IsNode k) = Node_of k
+type_event (IsField f v) = Holds f v
+
+-- an event in the cell of a row and a column, which the end of a value does not name
+abbrev pub cell_event : (row column : ℕ) → CellEvent → Event
+cell_event row column (cell.Leave level items) = Leave level items
+cell_event row column e = Cell_at row column e
+
+-- The types that the caller gave for a page without metadata: they wait, are in use, or were used.
+pub data Given : Type 0 where
+  Nothing : Given
+  Waiting InUse Used : Types → Given
+
+-- Where the reading of a stream stands: at this offset, in a frame that ends at `stop`, with these symbols still to
+-- be read. The nodes are those of the metadata read last.
+pub record Place : Type 0 where
+  pub offset : ℕ
+  pub stop : ℕ
+  pub symbols : List Symbol
+  pub nodes : List Node
+  pub given : Given
+
+abbrev pub start : Place
+start = record { offset = 0; stop = 0; symbols = Stream ∷ []; nodes = []; given = Nothing }
+
+-- ---- pages
+
+-- the given types fit a page without metadata
+abbrev pub serves : (flags columns : ℕ) → Given → Bool
+serves flags columns (Waiting ts) = has flags 0x04 && (how_many ts == columns)
+serves flags columns g = false
+
+abbrev pub given_types : Given → Types
+given_types (Waiting ts) = ts
+given_types (InUse ts) = ts
+given_types (Used ts) = ts
+given_types Nothing = raw_types 0
+
+-- the types of a page's cells
+abbrev pub page_types : (types : Bool) → (flags columns : ℕ) → List Node → Given → Types
+page_types types flags columns nodes given =
+    if types
+    then (if serves flags columns given then given_types given else if has flags 0x04 then raw_types columns else types_of nodes)
+    else raw_types columns
+
+abbrev pub types_for : (types : Bool) → Role → List Node → Given → Types
+types_for types (role.PageRows flags columns) nodes given = page_types types flags columns nodes given
+types_for types r nodes given = raw_types 0
+
+abbrev pub given_after : Role → Given → Given
+given_after (role.PageRows flags columns) given = if serves flags columns given then InUse (given_types given) else given
+given_after r given = given
+
+abbrev pub retired : Given → Given
+retired (InUse ts) = Used ts
+retired g = g
+
+-- metadata begins without nodes
+abbrev pub nodes_after : Role → List Node → List Node
+nodes_after (role.MetaFlags rows) ns = []
+nodes_after role.PreparedFlags ns = []
+nodes_after r ns = ns
+
+-- ---- steps
+
+abbrev pub header_step : Place → Heading → Step Event Place
+header_step p (Err e) = Refuses (p.offset + e.0, e.1)
+header_step p (Ok h) = Emit p.offset (Frame h) (λ used. record { offset = p.offset + used; stop = p.offset + used + h.length; symbols = message h; nodes = p.nodes; given = p.given })
+
+abbrev pub value_step : (types : Bool) → Place → Field → Role → List Symbol → FieldValue → Option Reason → Step Event Place
+value_step types p f r rest v (Some why) = Refuses (p.offset, why)
+value_step types p f r rest v None =
+    Emit p.offset (Holds f v) (λ used. record { offset = p.offset + used; stop = p.stop; symbols = following (types_for types r p.nodes p.given) r v ++ rest; nodes = nodes_after r p.nodes; given = given_after r p.given })
+
+-- what is left of a type option or of a cell, if anything is
+abbrev pub types_left : List TypeSymbol → List Symbol
+types_left [] = []
+types_left (t ∷ ts) = In_type (t ∷ ts) ∷ []
+
+abbrev pub cells_left : (row column : ℕ) → List CellSymbol → List Symbol
+cells_left row column [] = []
+cells_left row column (c ∷ cs) = In_cell row column (c ∷ cs) ∷ []
+
+abbrev pub place_of_types : Place → List Symbol → TypePlace → Place
+place_of_types p rest q = record { offset = q.offset; stop = q.stop; symbols = types_left q.symbols ++ rest; nodes = q.nodes; given = p.given }
+
+abbrev pub place_of_cells : (row column : ℕ) → Place → List Symbol → CellPlace → Place
+place_of_cells row column p rest q = record { offset = q.offset; stop = p.stop; symbols = cells_left row column q.symbols ++ rest; nodes = p.nodes; given = p.given }
+
+module _ (l : Rules) (p : Place) where
+  abbrev pub step_at : List Symbol → Step Event Place
+  step_at [] = reader.Idles
+  step_at (Stream ∷ rest) = if nat_lt (2 ^ 63) p.offset then Refuses (p.offset, StreamTooLong) else Takes 9 (λ b. header_step p (heading b))
+  step_at (In f n r ∷ rest) = after_field p.offset (field_of n (limit_of l n) (p.stop - p.offset)) (λ v. value_step l.types p f r rest v (fault_in r v))
+  step_at (In_type ts ∷ rest) = map_step type_event (place_of_types p rest) (type_step l (record { offset = p.offset; stop = p.stop; symbols = ts; nodes = p.nodes }))
+  step_at (Cell_due row column k inner ∷ rest) = map_step (cell_event row column) (place_of_cells row column p rest) (cell_step l (record { offset = p.offset; symbols = Value_of k inner 0 p.stop ∷ [] }))
+  step_at (In_cell row column cs ∷ rest) = map_step (cell_event row column) (place_of_cells row column p rest) (cell_step l (record { offset = p.offset; symbols = cs }))
+  step_at (Extra ∷ rest) =
+      Takes (p.stop - p.offset) (λ skipped. Emit p.stop (End (p.stop - p.offset)) (λ used. record { offset = p.stop; stop = p.stop; symbols = Stream ∷ []; nodes = p.nodes; given = retired p.given }))
+
+abbrev pub step : Rules → Place → Step Event Place
+step l p = step_at l p p.symbols
+
+-- Reading from p over these bytes says these events and leads to q, before the bytes that are left.
+abbrev pub Reads : Rules → Place → List ℕ → List (ℕ × Event) → Place → List ℕ → Type 0
+Reads l = Runs (step l)
+
+pub data Verdict : Type 0 where
+  Waits : Verdict
+  Refused : ℕ → Reason → Verdict
+
+-- a step that says no event ends with this verdict
+abbrev pub Ends : Said (Emitted Event Place) (ℕ × Reason) → Verdict → Type 0
+Ends More Waits = Unit {0}
+Ends (Bad fault) (Refused k why) = fault ≡ (k, why)
+Ends d v = ⊥
+
+-- Reading from p over these bytes says these events, all that there are, and this verdict.
+abbrev pub Says : Rules → Place → List ℕ → List (ℕ × Event) → Verdict → Type 0
+Says l p bytes es v = (q : Place) × (rest : List ℕ) × Reads l p bytes es q rest × Ends (says (step l q) 0 rest) v
+
+-- the first n events, and what is said where they end before
+abbrev pub then_read : (Place → List ℕ → List (ℕ × Event) × Verdict) → List ℕ → Said (Emitted Event Place) (ℕ × Reason) → List (ℕ × Event) × Verdict
+then_read next bytes More = ([], Waits)
+then_read next bytes (Bad fault) = ([], Refused fault.0 fault.1)
+then_read next bytes (Got x used) = let r = next (x.after used) (drop used bytes) in ((x.at, x.event) ∷ r.0, r.1)
+
+abbrev pub reading : Rules → (n : ℕ) → Place → List ℕ → List (ℕ × Event) × Verdict
+reading l zero p bytes = ([], Waits)
+reading l (suc n) p bytes = then_read (reading l n) bytes (says (step l p) 0 bytes)

@@ -1,0 +1,269 @@
+-- Where a decoder stands, and what a call makes of it.
+use Rattle.std.specs.Prelude.{◌≡◌, ℕ, ◌+◌, ◌-◌, ◌*◌, ◌<◌, ◌≤◌, ◌^◌, ◌++◌, true, false, List, [], ◌∷◌, length, take, Option, Some, None, max, ⊤, if◌then◌else◌}
+use Rattle.cqlp_note.specs.declared.refusal.Reason.{Reason}
+use Rattle.cqlp_note.specs.declared.refusal.Refusal.{Refusal}
+use Rattle.cqlp_note.specs.declared.head.Wanted.{Wanted}
+use Rattle.cqlp_note.specs.Head.{reader_of}
+use Rattle.cqlp_note.specs.Reader.{Said, More, Bad, Got, says}
+use Rattle.cqlp_note.specs.Step.{Emitted}
+use Rattle.cqlp_note.specs.Limits.{Rules, rules_of, limit_of}
+use Rattle.cqlp_note.specs.Partial.{Progress, item_value, CanLend, content_length}
+use Rattle.cqlp_type.specs.TypeStep.{Option_at}
+use Rattle.cqlp_type.specs.declared.node.Node.{Node}
+use Rattle.cqlp_type.specs.Table.{Table}
+use Rattle.cqlp_type.specs.Standing as type
+use Rattle.cqlp_type.specs.Standing.{IsShared, CanLendPart}
+use Rattle.cqlp_type.specs.Remaining as part
+use Rattle.cqlp_message.specs.Productions.{Symbol, Stream, Extra, In_type}
+use Rattle.cqlp_decode.specs.declared.table.Want.{Want}
+use Rattle.cqlp_decode.specs.declared.table.Due.{Due}
+use Rattle.cqlp_decode.specs.declared.table.Due.TheVariants as due
+use Rattle.cqlp_decode.specs.declared.upcoming.Slot.{Slot}
+use Rattle.cqlp_decode.specs.declared.standing.Stage.{Stage}
+use Rattle.cqlp_decode.specs.declared.standing.Stage.TheVariants as stage
+use Rattle.cqlp_decode.specs.declared.standing.What.{What}
+use Rattle.cqlp_decode.specs.declared.standing.What.TheVariants as what
+use Rattle.cqlp_decode.specs.declared.standing.Advance.{Advance}
+use Rattle.cqlp_decode.specs.declared.standing.Advance.TheVariants as advance
+use Rattle.cqlp_decode.specs.declared.standing.Standing.{Standing}
+use Rattle.cqlp_decode.specs.Upcoming.{symbols_in, wanted, behind, behind_due, IsRead}
+use Rattle.cqlp_decode.specs.Reading as reading
+use Rattle.cqlp_decode.specs.Reading.{Place, Event, step}
+
+-- The bytes of what is under way that have come: they are kept, or so many were skipped.
+pub data Pending : Type 0 where
+  Kept : List ℕ → Pending
+  Skipped : ℕ → Pending
+
+-- these may be the bytes under way
+abbrev pub IsPending : Pending → List ℕ → Type 0
+IsPending (Kept bytes) b = b ≡ bytes
+IsPending (Skipped n) b = length b ≡ n
+
+-- What a decoder knows of its stream: the caller's rules, the place before what is under way, what has come of it,
+-- the start of the frame under way, the refusal if there was one, and the content that is held.
+pub record State : Type 0 where
+  pub rules : Rules
+  pub place : Place
+  pub pending : Pending
+  pub frame : ℕ
+  pub refusal : Option Refusal
+  pub held : List ℕ
+
+-- ---- one step
+
+abbrev pub event_at : (held input : List ℕ) → What → Event
+event_at held input (what.Frame h) = reading.Frame h
+event_at held input (what.Holds f i) = reading.Holds f (item_value i input held)
+event_at held input (what.Option q) = reading.type_event (part.event_at q input held)
+event_at held input (what.End n) = reading.End n
+
+-- its content can be lent
+abbrev pub WhatThere : (held input : List ℕ) → What → Type 0
+WhatThere held input (what.Frame h) = ⊤
+WhatThere held input (what.Holds f i) = CanLend i input held
+WhatThere held input (what.Option q) = CanLendPart q input held
+WhatThere held input (what.End n) = ⊤
+
+-- a content that lies whole in the bytes that a call used is not held
+abbrev pub IsLent : Event → (used : ℕ) → (held : List ℕ) → Type 0
+IsLent (reading.Holds f v) used held = content_length v ≤ used → held ≡ []
+IsLent e used held = ⊤
+
+-- the start of the frame under way, after an event: an end's offset is the next frame's start
+abbrev pub frame_after : (frame at : ℕ) → Event → ℕ
+frame_after frame at (reading.End n) = at
+frame_after frame at e = frame
+
+-- the ends that are still to come of a frame, before which no further byte may come
+abbrev pub ends_due : List Symbol → ℕ
+ends_due (Stream ∷ rest) = 0
+ends_due symbols = 1
+
+-- the same by the event before
+abbrev pub due_after : Event → ℕ
+due_after (reading.End n) = 0
+due_after e = 1
+
+-- what the step at this place says of these bytes
+abbrev pub told : State → List ℕ → Said (Emitted Event Place) (ℕ × Reason)
+told d bytes = says (step d.rules d.place) 0 bytes
+
+-- the step gives this event, takes k bytes, and leads there
+abbrev pub Gives : State → (bytes : List ℕ) → (at : ℕ) → Event → (k : ℕ) → Place → Type 0
+Gives d bytes at e k after = (x : Emitted Event Place) × (told d bytes ≡ Got x k) × (x.at ≡ at) × (x.event ≡ e) × (x.after k ≡ after)
+
+-- All of the input belongs to what is under way.
+pub record Waits (old : State) (input : List ℕ) (used : ℕ) (new : State) : Type 0 where
+  pub all : used ≡ length input
+  pub place : new.place ≡ old.place
+  pub frame : new.frame ≡ old.frame
+  pub waits : (b : List ℕ) → IsPending old.pending b → (told old (b ++ input) ≡ More) × IsPending new.pending (b ++ input)
+
+-- The first `used` bytes of the input end what is under way, which is this event.
+pub record Hands (old : State) (input : List ℕ) (at used : ℕ) (w : What) (new : State) : Type 0 where
+  pub within : used ≤ length input
+  pub there : WhatThere new.held input w
+  pub begun : IsPending new.pending []
+  pub frame : new.frame ≡ frame_after old.frame at (event_at new.held input w)
+  pub lent : IsLent (event_at new.held input w) used new.held
+  pub gives : (b : List ℕ) → IsPending old.pending b → Gives old (b ++ input) at (event_at new.held input w) (length b + used) new.place
+  pub offset : (b : List ℕ) → IsPending old.pending b → new.place.offset ≡ old.place.offset + (length b + used)
+  pub due : ends_due new.place.symbols ≡ due_after (event_at new.held input w)
+  pub pays : ends_due new.place.symbols < ends_due old.place.symbols + 2 * used
+
+-- What one call does, from a state without a refusal.
+abbrev pub Moves : State → List ℕ → Advance → State → Type 0
+Moves old input (advance.More used) new = Waits old input used new
+Moves old input (advance.Event at used w) new = Hands old input at used w new
+Moves old input (advance.Refused r) new = (b : List ℕ) → IsPending old.pending b → told old (b ++ input) ≡ Bad (r.at, r.why)
+
+abbrev pub refusal_in : Advance → Option Refusal
+refusal_in (advance.Refused r) = Some r
+refusal_in a = None
+
+-- What a call does: a refusal is repeated.
+abbrev pub AdvancesFrom : Option Refusal → State → List ℕ → Advance → State → Type 0
+AdvancesFrom (Some r) old input a new = (a ≡ advance.Refused r) × (new ≡ old)
+AdvancesFrom None old input a new = Moves old input a new × (new.refusal ≡ refusal_in a) × (new.rules ≡ old.rules)
+
+abbrev pub Advances : State → List ℕ → Advance → State → Type 0
+Advances old input a new = AdvancesFrom old.refusal old input a new
+
+-- ---- what is inside
+
+-- The parts of a decoder that own memory: the field under way, the type option under way, and the types of the metadata
+-- begun last.
+pub record Parts : Type 0 where
+  pub partial : Progress
+  pub types : type.Standing
+  pub table : Table
+
+abbrev pub parts : Progress → type.Standing → Table → Parts
+parts p r t = record { partial = p; types = r; table = t }
+
+-- behind what is read now
+abbrev pub rest_of : List Slot → List Symbol
+rest_of upcoming = symbols_in upcoming ++ Extra ∷ []
+
+abbrev pub symbols_at : Stage → type.Standing → List Slot → List Symbol
+symbols_at stage.Header r upcoming = Stream ∷ []
+symbols_at (stage.Field w) r upcoming = wanted (due.Field w) ∷ rest_of upcoming
+symbols_at stage.Option r upcoming = In_type (Option_at 1 ∷ []) ∷ rest_of upcoming
+symbols_at stage.Type r upcoming = In_type r.symbols ∷ rest_of upcoming
+symbols_at stage.Extra r upcoming = Extra ∷ []
+
+abbrev pub offset_at : Stage → (offset : ℕ) → type.Standing → ℕ
+offset_at stage.Header offset r = offset
+offset_at (stage.Field w) offset r = offset
+offset_at stage.Option offset r = offset
+offset_at stage.Type offset r = r.offset
+offset_at stage.Extra offset r = offset
+
+abbrev pub place_at : (offset stop : ℕ) → List Symbol → List Node → Place
+place_at offset stop symbols nodes = record { offset = offset; stop = stop; symbols = symbols; nodes = nodes; given = reading.Nothing }
+
+-- the bytes of the field under way that have come
+abbrev pub came_of : Progress → List ℕ
+came_of p = if p.under_way then p.seen else []
+
+abbrev pub pending_at : Stage → (header : List ℕ) → (came : ℕ) → Parts → Pending
+pending_at stage.Header header came q = Kept (take came header)
+pending_at (stage.Field w) header came q = Kept (came_of q.partial)
+pending_at stage.Option header came q = Kept []
+pending_at stage.Type header came q = Kept (type.pending q.types q.partial)
+pending_at stage.Extra header came q = Skipped came
+
+abbrev pub state_of : Standing → Parts → State
+state_of s q = record {
+  rules = rules_of s.limits;
+  place = place_at (offset_at s.stage s.offset q.types) s.stop (symbols_at s.stage q.types s.upcoming) q.table.nodes;
+  pending = pending_at s.stage s.header s.came q;
+  frame = s.frame;
+  refusal = s.refusal;
+  held = q.partial.content
+}
+
+-- no field and no type option is under way
+pub record IsIdle (q : Parts) : Type 0 where
+  pub field : q.partial.under_way ≡ false
+  pub types : q.types.under_way ≡ false
+
+-- the field that is asked for
+abbrev pub asked : Standing → Want → Wanted
+asked s w = record { notation = w.notation; limit = limit_of (rules_of s.limits) w.notation; at = s.offset; room = s.stop - s.offset }
+
+-- The field under way is the one that is wanted, as far as it has begun; what follows it has room.
+pub record IsWanted (s : Standing) (p : Progress) (w : Want) : Type 0 where
+  pub room : length s.upcoming + behind w.role ≤ 16
+  pub read : IsRead (due.Field w)
+  pub field : p.under_way ≡ true → p.field ≡ asked s w
+  pub waits : 0 < length (came_of p) → says (reader_of (asked s w)) 0 (came_of p) ≡ More
+  pub came : s.came ≡ 0
+
+-- The type option under way is in this frame.
+pub record IsOption (s : Standing) (p : Progress) (r : type.Standing) : Type 0 where
+  pub under_way : r.under_way ≡ true
+  pub some : r.symbols ≡ [] → ⊥
+  pub shared : IsShared r p
+  pub stop : r.stop ≡ s.stop
+  pub behind : s.offset ≤ r.offset
+  pub inside : r.offset ≤ s.stop
+  pub came : s.came ≡ 0
+
+-- what has come of the type option under way, wants more
+abbrev pub OptionWaits : Parts → Type 0
+OptionWaits q = 0 < length (type.pending q.types q.partial) → type.told q.types q.table.nodes (type.pending q.types q.partial) ≡ More
+
+abbrev pub StageHolds : Standing → Parts → Stage → Type 0
+StageHolds s q stage.Header = (s.came < 9) × IsIdle q × (s.frame ≡ s.offset)
+StageHolds s q (stage.Field w) = IsWanted s q.partial w × (q.types.under_way ≡ false)
+StageHolds s q stage.Option = IsIdle q × (s.came ≡ 0)
+StageHolds s q stage.Type = IsOption s q.partial q.types × OptionWaits q
+StageHolds s q stage.Extra = (s.came ≤ s.stop - s.offset) × IsIdle q
+
+-- the same, as far as the number of bytes goes
+abbrev pub IsPlaced : Standing → Progress → type.Standing → Stage → Type 0
+IsPlaced s p r stage.Header = (s.came < 9) × (s.frame ≡ s.offset)
+IsPlaced s p r stage.Type = IsOption s p r
+IsPlaced s p r stage.Extra = s.came ≤ s.stop - s.offset
+IsPlaced s p r t = ⊤
+
+-- A frame ends no earlier than its bytes so far, and no later than its header says.
+pub record IsBounded (s : Standing) : Type 0 where
+  pub long : length s.header ≡ 9
+  pub inside : s.offset ≤ s.stop
+  pub size : s.stop ≤ s.offset + 268435456
+  pub bound : s.stop ≤ 2 ^ 63 + 268435465
+
+-- The parts have just the room that the limits ask for.
+pub record HasParts (s : Standing) (q : Parts) : Type 0 where
+  pub room : q.partial.room ≡ max s.limits.text s.limits.cell
+  pub rules : q.types.rules ≡ rules_of s.limits
+  pub table : q.table.room ≡ s.limits.entries
+
+pub record IsLawful (s : Standing) (q : Parts) : Type 0 where
+  pub bounded : IsBounded s
+  pub parts : HasParts s q
+  pub stage : StageHolds s q s.stage
+
+-- the field that is wanted has begun, and as much of it has come as before
+pub record IsAsked (s : Standing) (old p : Progress) (w : Want) : Type 0 where
+  pub under_way : p.under_way ≡ true
+  pub field : p.field ≡ asked s w
+  pub seen : p.seen ≡ came_of old
+  pub room : p.room ≡ old.room
+
+-- the stage that the next thing due in a message is
+abbrev pub stage_with : Option Due → Stage
+stage_with (Some (due.Field w)) = stage.Field w
+stage_with (Some due.Option) = stage.Option
+stage_with None = stage.Extra
+
+-- a message goes on here, with nothing under way, and what follows has room
+abbrev pub HasRoom : Stage → List Slot → Type 0
+HasRoom stage.Header upcoming = ⊥
+HasRoom (stage.Field w) upcoming = (length upcoming + behind w.role ≤ 16) × IsRead (due.Field w)
+HasRoom stage.Option upcoming = ⊤
+HasRoom stage.Type upcoming = ⊥
+HasRoom stage.Extra upcoming = ⊤

@@ -1,0 +1,104 @@
+-- What calls hand out of a stream.
+use Rattle.std.specs.Prelude.{◌≡◌, ℕ, ◌+◌, ◌*◌, ◌<◌, ◌≤◌, ◌++◌, Bool, true, false, List, [], ◌∷◌, length, take, Option, Some, None, if◌then◌else◌, ⊤}
+use Rattle.cqlp_note.specs.declared.refusal.Refusal.{Refusal}
+use Rattle.cqlp_decode.specs.declared.event.Step.{Step}
+use Rattle.cqlp_decode.specs.declared.event.Step.TheVariants as step
+use Rattle.cqlp_decode.specs.declared.event.Finish.{Finish}
+use Rattle.cqlp_decode.specs.declared.event.Finish.TheVariants as finish
+use Rattle.cqlp_decode.specs.declared.standing.Standing.{Standing}
+use Rattle.cqlp_decode.specs.Reading as reading
+use Rattle.cqlp_decode.specs.Reading.{Event, start, Reads, Says, Waits, Refused}
+use Rattle.cqlp_decode.specs.Events.{event_of}
+use Rattle.cqlp_decode.specs.Standing.{State, Parts, IsPending, IsLent, state_of, frame_after, ends_due}
+
+-- What contracts see of a decoder: where it stands, and its parts that own memory.
+pub record Decoding : Type 0 where
+  pub standing : Standing
+  pub parts : Parts
+
+-- what it knows of its stream
+abbrev pub state : Decoding → State
+state d = state_of d.standing d.parts
+
+-- ---- events so far
+
+-- the start of the frame under way: the end of the last frame, or the start of the stream
+abbrev pub frame_from : ℕ → List (ℕ × Event) → ℕ
+frame_from frame [] = frame
+frame_from frame (e ∷ es) = frame_from (frame_after frame e.0 e.1) es
+
+abbrev pub frame_of : List (ℕ × Event) → ℕ
+frame_of es = frame_from 0 es
+
+-- a frame is open: the last event, if there is one, is no end
+abbrev pub open_after : Event → Bool
+open_after (reading.End n) = false
+open_after e = true
+
+abbrev pub open_from : Bool → List (ℕ × Event) → Bool
+open_from b [] = b
+open_from b (e ∷ es) = open_from (open_after e.1) es
+
+abbrev pub is_open : List (ℕ × Event) → Bool
+is_open es = open_from false es
+
+-- ---- after some calls
+
+-- The decoder used these bytes and handed out these events: the reading of the bytes says the events, and stands
+-- where the decoder does, before the bytes that are under way.
+pub record Stands (d : State) (s : List ℕ) (es : List (ℕ × Event)) : Type 0 where
+  pub bytes : List ℕ
+  pub pending : IsPending d.pending bytes
+  pub read : Reads d.rules start s es d.place bytes
+  pub count : length s ≡ d.place.offset + length bytes
+  pub frame : d.frame ≡ frame_of es
+  pub due : ends_due d.place.symbols ≡ (if is_open es then 1 else 0)
+
+-- The same before any refusal; or with bytes that were looked at, but not used, the stream says these events and
+-- this refusal.
+abbrev pub AfterBy : Option Refusal → State → List ℕ → List (ℕ × Event) → Type 0
+AfterBy None d s es = Stands d s es
+AfterBy (Some r) d s es = (t : List ℕ) × Says d.rules start (s ++ t) es (Refused r.at r.why)
+
+-- a decoder that was made, and then used the bytes s and handed out the events es
+abbrev pub After : State → List ℕ → List (ℕ × Event) → Type 0
+After d s es = AfterBy d.refusal d s es
+
+-- what a refusal says of the input
+abbrev pub Refuses : Option Refusal → State → List ℕ → List (ℕ × Event) → List ℕ → Refusal → Type 0
+Refuses None old s es input r = Says old.rules start (s ++ input) es (Refused r.at r.why)
+Refuses (Some before) old s es input r = r ≡ before
+
+-- What a call leads to that was made after these bytes and events.
+abbrev pub Leads : State → List ℕ → List (ℕ × Event) → List ℕ → Step → State → Type 0
+Leads old s es input (step.Event at used e) new =
+    (used ≤ length input) × (new.refusal ≡ None) × IsPending new.pending [] × After new (s ++ take used input) (es ++ (at, event_of e) ∷ [])
+Leads old s es input (step.More used) new =
+    (used ≡ length input) × (new.refusal ≡ None) × After new (s ++ input) es × Says new.rules start (s ++ input) es Waits
+Leads old s es input (step.Refused r) new =
+    (new.refusal ≡ Some r) × After new s es × Refuses old.refusal old s es input r
+
+-- how many bytes of the input a call uses
+abbrev pub Uses : List ℕ → Step → Type 0
+Uses input (step.Event at used e) = used ≤ length input
+Uses input (step.More used) = used ≡ length input
+Uses input (step.Refused r) = ⊤
+
+-- A call goes on: an event takes some byte or ends its frame, and a content that lies whole in the bytes used is not
+-- held. A refusal changes nothing later.
+abbrev pub Goes : State → Step → State → Type 0
+Goes old (step.Event at used e) new = (ends_due new.place.symbols < ends_due old.place.symbols + 2 * used) × IsLent (event_of e) used new.held × (new.rules ≡ old.rules)
+Goes old (step.More used) new = new.rules ≡ old.rules
+Goes old (step.Refused r) new = (new.refusal ≡ Some r) × (new.rules ≡ old.rules)
+
+-- ---- the end of the stream
+
+-- The stream ends at a frame's end, or within a frame, after so many bytes.
+abbrev pub FinishesBy : Option Refusal → List ℕ → List (ℕ × Event) → Finish → Type 0
+FinishesBy (Some r) s es f = f ≡ finish.Refused r
+FinishesBy None s es (finish.Whole bytes) = (bytes ≡ length s) × (is_open es ≡ false) × (length s ≡ frame_of es)
+FinishesBy None s es (finish.Cut frame_at bytes) = (bytes ≡ length s) × (frame_at ≡ frame_of es) × (is_open es ≡ false → frame_of es < length s)
+FinishesBy None s es (finish.Refused r) = ⊥
+
+abbrev pub Finishes : State → List ℕ → List (ℕ × Event) → Finish → Type 0
+Finishes d s es f = FinishesBy d.refusal s es f

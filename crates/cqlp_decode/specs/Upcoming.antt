@@ -1,0 +1,109 @@
+-- What is still to be read of a message, as it is kept.
+use Rattle.std.specs.Prelude.{◌≡◌, ℕ, ◌+◌, ◌<◌, ◌≤◌, ◌++◌, List, [], ◌∷◌, length, Option, Some, None, max, ⊤}
+use Rattle.cqlp_message.specs.declared.grammar.Group.{Group}
+use Rattle.cqlp_message.specs.declared.grammar.Group.TheVariants as group_of
+use Rattle.cqlp_message.specs.declared.grammar.Role.{Role}
+use Rattle.cqlp_message.specs.declared.grammar.Role.TheVariants as role
+use Rattle.cqlp_message.specs.Productions.{Symbol, In, In_type, copies, group}
+use Rattle.cqlp_type.specs.TypeStep.{Option_at}
+use Rattle.cqlp_note.specs.Head.{fixed_of}
+use Rattle.cqlp_decode.specs.declared.table.Due.{Due}
+use Rattle.cqlp_decode.specs.declared.table.Due.TheVariants as due
+use Rattle.cqlp_decode.specs.declared.upcoming.Slot.{Slot}
+use Rattle.cqlp_decode.specs.declared.upcoming.Slot.TheVariants.{One, Many}
+
+abbrev pub wanted : Due → Symbol
+wanted (due.Field w) = In w.field w.notation w.role
+wanted due.Option = In_type (Option_at 1 ∷ [])
+
+abbrev pub wants : List Due → List Symbol
+wants [] = []
+wants (w ∷ ws) = wanted w ∷ wants ws
+
+abbrev pub symbols_of : Slot → List Symbol
+symbols_of (One w) = wanted w ∷ []
+symbols_of (Many g n) = copies n (group g)
+
+-- the last slot is read first
+abbrev pub symbols_in : List Slot → List Symbol
+symbols_in [] = []
+symbols_in (s ∷ ss) = symbols_in ss ++ symbols_of s
+
+-- a field that has some bytes of its own
+abbrev pub IsRead : Due → Type 0
+IsRead (due.Field w) = 0 < fixed_of w.notation
+IsRead due.Option = ⊤
+
+abbrev pub AreRead : List Due → Type 0
+AreRead [] = ⊤
+AreRead (w ∷ ws) = IsRead w × AreRead ws
+
+-- ---- room
+
+-- the slots that the fields of one group, once it is opened, can come to take
+abbrev pub opened : Group → ℕ
+opened group_of.Warnings = 0
+opened group_of.PayloadItems = 1
+opened group_of.StringPairs = 1
+opened group_of.OptionLists = 1
+opened group_of.OptionValues = 0
+opened group_of.EventTypes = 0
+opened (group_of.QueryValues named) = 1
+opened group_of.BatchValues = 0
+opened group_of.BatchEntries = 2
+opened group_of.Arguments = 0
+opened group_of.KeyIndexes = 0
+opened (group_of.Columns one_table) = 3
+
+-- the slots that what follows a field of this role can come to take
+abbrev pub behind : Role → ℕ
+behind role.Alone = 0
+behind (role.Counts g) = opened g + 1
+behind role.QueryFlags = 6
+behind role.EntryKind = 2
+behind role.BatchFlags = 2
+behind role.ErrorCode = 6
+behind role.ResultKind = 5
+behind role.ChangeTarget = 3
+behind role.EventType = 3
+behind (role.MetaFlags rows) = 5
+behind (role.MetaColumns rows flags) = 5
+behind role.PreparedFlags = 5
+behind (role.PreparedColumns flags) = 5
+behind (role.PreparedKeys flags columns) = 5
+behind (role.PageRows flags columns) = 0
+
+abbrev pub behind_due : Due → ℕ
+behind_due (due.Field w) = behind w.role
+behind_due due.Option = 0
+
+-- the slots that a slot can come to take
+abbrev pub need : Slot → ℕ
+need (One w) = max 1 (behind_due w)
+need (Many g n) = opened g + 1
+
+-- the slots that these fields, the first of them on top, can come to take
+abbrev pub room_for : List Due → ℕ
+room_for [] = 0
+room_for (w ∷ ws) = max (room_for ws) (length ws + max 1 (behind_due w))
+
+-- no slot stands for nothing
+abbrev pub IsLawful : Slot → Type 0
+IsLawful (One w) = IsRead w
+IsLawful (Many g n) = 0 < n
+
+-- the slots from number k on never come to take more than there are
+abbrev pub Fits : ℕ → List Slot → Type 0
+Fits k [] = ⊤
+Fits k (s ∷ ss) = IsLawful s × (k + need s ≤ 16) × Fits (k + 1) ss
+
+-- ---- steps
+
+abbrev pub Popped : List Slot → Option Slot → List Slot → Type 0
+Popped old None new = (old ≡ []) × (new ≡ [])
+Popped old (Some s) new = (old ≡ new ++ s ∷ []) × (length new + need s ≤ 16) × IsLawful s
+
+-- the next field, and room for what follows it
+abbrev pub Next : List Slot → Option Due → List Slot → Type 0
+Next old None new = (symbols_in old ≡ []) × (new ≡ [])
+Next old (Some w) new = (symbols_in old ≡ wanted w ∷ symbols_in new) × (length new + behind_due w ≤ 16) × IsRead w

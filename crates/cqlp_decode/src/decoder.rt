@@ -1,0 +1,192 @@
+//! The decoder of a stream of frames.
+
+ghost use Rattle.std.specs.Prelude.{◌≡◌, ◌≤◌, ◌↔◌, List, [], ℕ, length, IfOk, IsErrOf, Err, max};
+ghost use Rattle.std.specs.Borrow.{sem};
+ghost use Rattle.cqlp_note.specs.Limits.{first_bad, rules_of};
+ghost use Rattle.cqlp_note.specs.Head.{value_of};
+ghost use Rattle.cqlp_decode.specs.Events.{event_of};
+ghost use Rattle.cqlp_decode.specs.Reading as reading;
+ghost use Rattle.cqlp_note.specs.declared.limits.BadLimits.{BadLimits as Bad};
+
+use crate::event::{Event, Finish, Held, Step};
+use crate::standing::{Advance, Standing, What};
+use cqlp_note::{BadLimits, Field, Limits, NoMemory, Partial, Prim};
+use cqlp_type::{TypeItem, TypeReader, TypeTable};
+use std::alloc::{Allocator, Global};
+use std::marker::Model;
+use thiserror::Error;
+
+/// Why a decoder could not be made.
+#[derive(Clone, Copy, Debug, PartialEq, Eq, Error)]
+pub enum NewError {
+    /// A limit is out of its range.
+    #[error(transparent)]
+    BadLimits(BadLimits),
+    #[error("no memory")]
+    NoMemory,
+}
+
+/// Reads a stream of frames, one event per call, from pieces of any size. All its memory is taken when it is made.
+#[derive(Drop)]
+pub struct Decoder<A: Allocator = Global> {
+    standing: Standing,
+    partial: Partial<A>,
+    types: TypeReader<A>,
+    table: TypeTable<A>,
+}
+
+impl<A: Allocator> Model for Decoder<A> {
+    ghost use Rattle.cqlp_decode.specs.Standing.{IsLawful, parts};
+    ghost use Rattle.cqlp_decode.specs.Streams.{Decoding};
+
+    ghost Value = { Decoding };
+
+    ghost view = { λ d. record { standing = d.standing; parts = parts d.partial d.types d.table } };
+
+    ghost invariant = { λ d. IsLawful d.standing (parts d.partial d.types d.table) };
+}
+
+impl<A: Allocator + Clone> Decoder<A> {
+    ghost use Rattle.cqlp_decode.specs.Streams.{After, state};
+
+    /// A decoder at the start of a stream, with room for one content of the greatest length that the limits allow, for
+    /// the types of one metadata, and for their nesting: three requests for memory, and the only ones.
+    pub fn new(alloc: A, limits: Limits) -> Result<Self, NewError>
+        ensures bad { (b : Bad) → IsErrOf result (NewError.BadLimits b) ↔ (first_bad limits ≡ Err b) }
+        ensures fresh { IfOk result (λ d. After (state d) [] []) }
+        ensures rules { IfOk result (λ d. (state d).rules ≡ rules_of limits) }
+        ensures nothing_held { IfOk result (λ d. ((state d).held ≡ []) × ((state d).place.nodes ≡ []) × (d.parts.types.height ≡ 0)) }
+    {
+        if let Err(bad) = limits.check() {
+            return Err(NewError::BadLimits(bad));
+        }
+        match Self::with_room(alloc, limits) {
+            Ok(decoder) => Ok(decoder),
+            Err(NoMemory) => Err(NewError::NoMemory),
+        }
+    }
+
+    fn with_room(alloc: A, limits: Limits) -> Result<Self, NoMemory>
+        ensures fresh { IfOk result (λ d. After (state d) [] []) }
+        ensures rules { IfOk result (λ d. (state d).rules ≡ rules_of limits) }
+        ensures nothing_held { IfOk result (λ d. ((state d).held ≡ []) × ((state d).place.nodes ≡ []) × (d.parts.types.height ≡ 0)) }
+    {
+        let partial = Partial::new(alloc.clone()?, limits.text.max(limits.cell))?;
+        let table = TypeTable::new(alloc.clone()?, limits.entries)?;
+        let types = TypeReader::new(alloc, &limits)?;
+        let standing = Standing::new(limits);
+        Ok(Decoder {
+            standing,
+            partial,
+            types,
+            table,
+        })
+    }
+}
+
+impl<A: Allocator> Decoder<A> {
+    ghost use Rattle.cqlp_decode.specs.Lending.{Next};
+    ghost use Rattle.cqlp_decode.specs.Standing.{Advances, WhatThere, event_at};
+    ghost use Rattle.cqlp_decode.specs.Streams.{After, Finishes, Goes, Leads, Uses, state};
+
+    /// The next event that the input leads to. The caller hands in the bytes behind those that were used, and goes on
+    /// until more are wanted.
+    pub fn next<'a>(&'a mut self, input: &'a [u8]) -> Step<'a>
+        ensures* next { sem 𝓛 (Next A.row A.Allocator self.entry (λ after. Goes (state self.old) result (state after) × ((s : List ℕ) (es : List (ℕ × reading.Event)) → After (state self.old) s es → Leads (state self.old) s es input.now result (state after)))) }
+        ensures uses { Uses input.now result }
+    {
+        match self.advance(input) {
+            Advance::More { used } => Step::More { used },
+            Advance::Refused(refusal) => Step::Refused(refusal),
+            Advance::Event { at, used, what } => Step::Event {
+                at,
+                used,
+                event: self.lend(input, what),
+            },
+        }
+    }
+
+    /// How the stream ends, if it ends after the bytes that were used.
+    pub fn finish(&self) -> Finish
+        ensures { (s : List ℕ) (es : List (ℕ × reading.Event)) → After (state self.now) s es → Finishes (state self.now) s es result }
+    {
+        self.standing.finish(&self.partial, &self.types)
+    }
+
+    /// What is held of the stream: at most as many bytes as the greater of the limits on a text and on a cell, as many
+    /// type options as their limit, and as many levels as the limit on nesting.
+    pub fn held(&self) -> Held
+        ensures bytes { result.bytes ≡ length (state self.now).held }
+        ensures entries { result.entries ≡ length (state self.now).place.nodes }
+        ensures levels { result.levels ≡ self.now.parts.types.height }
+        ensures bounded { let rules = (state self.now).rules in (result.bytes ≤ max rules.text rules.cell) × (result.entries ≤ rules.entries) × (result.levels ≤ rules.depth) }
+    {
+        let _standing = &self.standing;
+        Held {
+            bytes: self.partial.held(),
+            entries: self.table.len(),
+            levels: self.types.held(),
+        }
+    }
+
+    /// The types of the metadata begun last: those handed out since the field MetaFlags was.
+    pub fn table(&self) -> &TypeTable<A>
+        ensures { result.now.nodes ≡ (state self.now).place.nodes }
+    {
+        &self.table
+    }
+
+    /// The work of a call, with nothing borrowed in its result.
+    fn advance(&mut self, input: &[u8]) -> Advance
+        ensures { Advances (state self.old) input.now result (state self.new) }
+    {
+        self.standing.advance(
+            &mut self.partial,
+            &mut self.types,
+            &mut self.table,
+            input,
+        )
+    }
+
+    /// The event that `advance` made of this input.
+    fn lend<'a>(&'a self, input: &'a [u8], what: What) -> Event<'a>
+        requires { WhatThere (state self.now).held input.now what }
+        ensures { event_of result ≡ event_at (state self.now).held input.now what }
+    {
+        match what {
+            What::Frame(header) => Event::Frame(header),
+            What::Holds(field, item) => event_with(field, self.partial.lend(input, item)),
+            What::Option(part) => match part.lend(&self.partial, input) {
+                TypeItem::Node(kind) => Event::TypeNode(kind),
+                TypeItem::Text(field, text) => Event::Text { field, text },
+                TypeItem::Count(count) => Event::Count {
+                    field: Field::Fields,
+                    count,
+                },
+            },
+            What::End(extra) => Event::End { extra },
+        }
+    }
+}
+
+/// The event that a field holds a value.
+fn event_with(field: Field, value: Prim<'_>) -> Event<'_>
+    ensures { event_of result ≡ reading.Holds field (value_of value.entry) }
+{
+    match value {
+        Prim::Byte(value) => Event::Byte { field, value },
+        Prim::Short(value) => Event::Short { field, value },
+        Prim::Int(value) => Event::Int { field, value },
+        Prim::Long(value) => Event::Long { field, value },
+        Prim::Uuid(value) => Event::Uuid { field, value },
+        Prim::Count(count) => Event::Count { field, count },
+        Prim::Text(text) => Event::Text { field, text },
+        Prim::Bytes(bytes) => Event::Bytes { field, bytes },
+        Prim::Bound(value) => Event::Bound { field, value },
+        Prim::Inet(address, port) => Event::Inet {
+            field,
+            address,
+            port,
+        },
+    }
+}

@@ -1,0 +1,88 @@
+//! A reader's stream, drained into a sink.
+
+ghost use Rattle.std.specs.Prelude.{◌≡◌, List, ℕ, Some};
+ghost use Rattle.cqlp_decode.specs.Draining.{Counts, DrainsAll, RunsTo};
+ghost use Rattle.cqlp_decode.specs.Streams.{state};
+
+use crate::decoder::Decoder;
+use crate::event::{Finish, Step};
+use crate::sink::{Sink, SinkFault};
+use cqlp_note::{IoFault, Source};
+use std::alloc::Allocator;
+
+/// How a run ends.
+#[derive(Clone, Copy, Debug, PartialEq, Eq)]
+pub enum Outcome {
+    /// At the end of the input, or at a refusal.
+    Finished(Finish),
+    /// The reader failed. The run may be called again.
+    ReadFault,
+    /// The sink failed. The rest of the piece is lost.
+    SinkFault,
+    /// So many reads were made. The run may be called again.
+    Turns,
+}
+
+/// How draining a piece ends.
+#[derive(Clone, Copy, Debug, PartialEq, Eq)]
+enum Drained {
+    More,
+    Refused,
+    Fault,
+}
+
+/// Hands all events of a reader's bytes to the sink, from at most `turns` reads of up to 4,096 bytes, none of which is
+/// tried again. The events of bytes that the decoder was given before come first.
+pub fn run<R: Source, S: Sink, A: Allocator>(
+    decoder: &mut Decoder<A>,
+    reader: &mut R,
+    sink: &mut S,
+    turns: u64,
+) -> Outcome
+    ensures runs { (xs : List ℕ) → R.left reader.old ≡ Some xs → S.tells sink.old → RunsTo S.after S.faulted turns result (state decoder.old) (state decoder.new) xs (R.left reader.new) (S.view sink.old) (S.view sink.new) }
+    ensures failures { Counts result (R.failures reader.old) (R.failures reader.new) }
+{
+    let mut buffer = [0; 4096];
+    match drain(decoder, &[], sink) {
+        Drained::More => {}
+        Drained::Refused => return Outcome::Finished(decoder.finish()),
+        Drained::Fault => return Outcome::SinkFault,
+    }
+    for turn in 0..turns {
+        let count = match reader.read(&mut buffer) {
+            Ok(count) => count,
+            Err(IoFault) => return Outcome::ReadFault,
+        };
+        if count == 0 {
+            return Outcome::Finished(decoder.finish());
+        }
+        match drain(decoder, &buffer[..count], sink) {
+            Drained::More => {}
+            Drained::Refused => return Outcome::Finished(decoder.finish()),
+            Drained::Fault => return Outcome::SinkFault,
+        }
+    }
+    Outcome::Turns
+}
+
+/// Hands all events of the input to the sink.
+fn drain<S: Sink, A: Allocator>(decoder: &mut Decoder<A>, input: &[u8], sink: &mut S) -> Drained
+    ensures tells { S.tells sink.old → result ≡ Drained.More → S.tells sink.new }
+    ensures drains { S.tells sink.old → DrainsAll S.after S.faulted (state decoder.old) input.now result (state decoder.new) (S.view sink.old) (S.view sink.new) }
+{
+    let mut used = 0;
+    'events: loop {
+        match decoder.next(&input[used..]) {
+            Step::More { .. } => return Drained::More,
+            Step::Refused(_) => return Drained::Refused,
+            Step::Event {
+                at,
+                used: taken,
+                event,
+            } => match sink.take(at, &event) {
+                Ok(()) => used += taken,
+                Err(SinkFault) => return Drained::Fault,
+            },
+        }
+    }
+}

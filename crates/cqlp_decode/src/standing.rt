@@ -1,0 +1,474 @@
+//! Where the reading of a stream stands, and one step of it.
+
+ghost use Rattle.std.specs.Prelude.{◌≡◌, ◌+◌, ◌-◌, ◌<◌, ◌≤◌, ◌^◌, ◌++◌, ◌∷◌, List, [], ℕ, length, take, None, IsTrue, ◌↔◌, true, false};
+ghost use Rattle.cqlp_note.specs.Limits.{limit_of, rules_of};
+ghost use Rattle.cqlp_decode.specs.Standing.{came_of, stage_with};
+
+use crate::event::Finish;
+use crate::following::{begin_metadata, fault_in};
+use crate::table::{Due, Want};
+use crate::upcoming::Upcoming;
+use cqlp_message::Role;
+use cqlp_note::{Field, Header, Item, Limits, Notation, Partial, Prim, Reason, Refusal, Taken};
+use cqlp_type::{TypeAdvance, TypePart, TypeReader, TypeTable};
+use std::alloc::Allocator;
+
+/// What is read now.
+#[derive(Clone, Copy, Debug, PartialEq, Eq)]
+pub enum Stage {
+    Header,
+    Field(Want),
+    /// A type option that is not begun.
+    Option,
+    /// A type option that is under way.
+    Type,
+    /// What is behind the last field.
+    Extra,
+}
+
+/// An event, with nothing borrowed.
+#[derive(Clone, Copy)]
+pub enum What {
+    Frame(Header),
+    Holds(Field, Item),
+    Option(TypePart),
+    End(u32),
+}
+
+/// What one call makes of the input, with nothing borrowed.
+#[derive(Clone, Copy)]
+pub enum Advance {
+    /// All of the input was used, and more is wanted.
+    More { used: usize },
+    /// An event at an offset, which so many bytes of the input end.
+    Event { at: u64, used: usize, what: What },
+    Refused(Refusal),
+}
+
+/// Where the reading of a stream stands, but for the field or type option that is under way.
+#[derive(Drop)]
+pub struct Standing {
+    pub limits: Limits,
+    /// The start of the frame under way.
+    pub frame: u64,
+    /// The first byte of what is read now.
+    pub offset: u64,
+    /// The end of the frame under way.
+    pub stop: u64,
+    pub stage: Stage,
+    pub upcoming: Upcoming,
+    pub header: [u8; 9],
+    /// How many bytes of the header, or behind the last field, have come.
+    pub came: u64,
+    pub refusal: Option<Refusal>,
+}
+
+impl Standing {
+    ghost use Rattle.std.specs.Prelude.{max};
+    ghost use Rattle.cqlp_note.specs.Head.{value_of};
+    ghost use Rattle.cqlp_note.specs.Partial.{Progress};
+    ghost use Rattle.cqlp_type.specs.Types.{Types};
+    ghost use Rattle.cqlp_type.specs.Table.{Table};
+    ghost use Rattle.cqlp_type.specs.Standing as type;
+    ghost use Rattle.cqlp_type.specs.Standing.{started};
+    ghost use Rattle.cqlp_message.specs.Productions.{Extra, following, message};
+    ghost use Rattle.cqlp_decode.specs.Reading as reading;
+    ghost use Rattle.cqlp_decode.specs.Reading.{start};
+    ghost use Rattle.cqlp_decode.specs.Streams.{After, Finishes};
+    ghost use Rattle.cqlp_decode.specs.Upcoming.{behind, symbols_in};
+    ghost use Rattle.cqlp_decode.specs.declared.standing.Stage.TheVariants as stage;
+    ghost use Rattle.cqlp_decode.specs.Standing.{Advances, HasParts, HasRoom, IsAsked, IsBounded, IsIdle, IsLawful, IsPending, IsPlaced, IsWanted, Kept, Moves, Parts, asked, parts, rest_of, state_of, symbols_at};
+
+    /// At the start of a stream.
+    pub fn new(limits: Limits) -> Self
+        ensures limits { result.limits ≡ limits }
+        ensures lawful { (q : Parts) → IsIdle q → HasParts result q → IsLawful result q }
+        ensures start { (q : Parts) → q.table.nodes ≡ [] → state_of result q ≡ record { rules = rules_of limits; place = start; pending = Kept []; frame = 0; refusal = None; held = q.partial.content } }
+    {
+        Standing {
+            limits,
+            frame: 0,
+            offset: 0,
+            stop: 0,
+            stage: Stage::Header,
+            upcoming: Upcoming::new(),
+            header: [0; 9],
+            came: 0,
+            refusal: None,
+        }
+    }
+
+    /// Takes the next step, as far as the input goes.
+    pub fn advance<A: Allocator>(
+        &mut self,
+        partial: &mut Partial<A>,
+        types: &mut TypeReader<A>,
+        table: &mut TypeTable<A>,
+        input: &[u8],
+    ) -> Advance
+        requires { IsLawful self.old (parts partial.old types.old table.old) }
+        ensures lawful { IsLawful self.new (parts partial.new types.new table.new) }
+        ensures advances { Advances (state_of self.old (parts partial.old types.old table.old)) input.now result (state_of self.new (parts partial.new types.new table.new)) }
+    {
+        if let Some(refusal) = self.refusal {
+            return Advance::Refused(refusal);
+        }
+        let advance = self.step(partial, types, table, input);
+        if let Advance::Refused(refusal) = advance {
+            self.refusal = Some(refusal);
+        }
+        advance
+    }
+
+    /// How the stream ends, if it ends here.
+    pub fn finish<A: Allocator>(&self, partial: &Partial<A>, types: &TypeReader<A>) -> Finish
+        requires bounded { IsBounded self.now }
+        requires placed { IsPlaced self.now partial.now types.now self.now.stage }
+        ensures { (t : Table) (s : List ℕ) (es : List (ℕ × reading.Event)) → After (state_of self.now (parts partial.now types.now t)) s es → Finishes (state_of self.now (parts partial.now types.now t)) s es result }
+    {
+        if let Some(refusal) = self.refusal {
+            return Finish::Refused(refusal);
+        }
+        if self.is_between() {
+            return Finish::Whole { bytes: self.offset };
+        }
+        Finish::Cut {
+            frame_at: self.frame,
+            bytes: self.bytes_used(partial, types),
+        }
+    }
+
+    /// How many bytes of the stream have come.
+    fn bytes_used<A: Allocator>(&self, partial: &Partial<A>, types: &TypeReader<A>) -> u64
+        requires bounded { IsBounded self.now }
+        requires placed { IsPlaced self.now partial.now types.now self.now.stage }
+        ensures { (t : Table) (b : List ℕ) → IsPending (state_of self.now (parts partial.now types.now t)).pending b → result ≡ (state_of self.now (parts partial.now types.now t)).place.offset + length b }
+    {
+        match self.stage {
+            Stage::Header | Stage::Extra => self.offset + self.came,
+            Stage::Option => self.offset,
+            Stage::Field(_) => self.offset + came_of_field(partial),
+            Stage::Type => types.offset() + came_of_field(partial),
+        }
+    }
+
+    /// Whether the last frame has ended, and nothing of the next has come.
+    fn is_between(&self) -> bool
+        ensures { IsTrue result ↔ ((self.now.stage ≡ stage.Header) × (self.now.came ≡ 0)) }
+    {
+        matches!(self.stage, Stage::Header) && self.came == 0
+    }
+
+    /// The next step, where there was no refusal.
+    fn step<A: Allocator>(
+        &mut self,
+        partial: &mut Partial<A>,
+        types: &mut TypeReader<A>,
+        table: &mut TypeTable<A>,
+        input: &[u8],
+    ) -> Advance
+        requires lawful { IsLawful self.old (parts partial.old types.old table.old) }
+        requires unrefused { self.old.refusal ≡ None }
+        ensures lawful { IsLawful self.new (parts partial.new types.new table.new) }
+        ensures moves { Moves (state_of self.old (parts partial.old types.old table.old)) input.now result (state_of self.new (parts partial.new types.new table.new)) }
+        ensures rest { (self.new.refusal ≡ None) × (self.new.limits ≡ self.old.limits) }
+    {
+        match self.stage {
+            Stage::Header => self.advance_header(input),
+            Stage::Field(want) => self.advance_field(partial, table, want, input),
+            Stage::Option => {
+                self.begin_option(types);
+                self.advance_option(partial, types, table, input)
+            }
+            Stage::Type => self.advance_option(partial, types, table, input),
+            Stage::Extra => self.advance_extra(input),
+        }
+    }
+
+    fn advance_header(&mut self, input: &[u8]) -> Advance
+        requires bounded { IsBounded self.old }
+        requires here { self.old.stage ≡ stage.Header }
+        requires came { self.old.came < 9 }
+        requires unrefused { self.old.refusal ≡ None }
+        ensures lawful { (q : Parts) → IsLawful self.old q → IsLawful self.new q }
+        ensures moves { (q : Parts) → IsIdle q → Moves (state_of self.old q) input.now result (state_of self.new q) }
+        ensures rest { (self.new.refusal ≡ None) × (self.new.limits ≡ self.old.limits) }
+    {
+        if self.offset > 1 << 63 {
+            return Advance::Refused(Refusal {
+                at: self.offset,
+                why: Reason::StreamTooLong,
+            });
+        }
+        let missing = 9 - self.came as usize;
+        if input.len() < missing {
+            self.keep_header(input);
+            return Advance::More { used: input.len() };
+        }
+        match Header::read(&self.whole_header(input), self.offset) {
+            Err(refusal) => Advance::Refused(refusal),
+            Ok(header) => {
+                let at = self.offset;
+                self.enter(&header);
+                Advance::Event {
+                    at,
+                    used: missing,
+                    what: What::Frame(header),
+                }
+            }
+        }
+    }
+
+    /// Keeps bytes of a header of which more is to come.
+    fn keep_header(&mut self, input: &[u8])
+        requires came { self.old.came + length input.now < 9 }
+        requires long { length self.old.header ≡ 9 }
+        ensures header { take self.new.came self.new.header ≡ take self.old.came self.old.header ++ input.now }
+        ensures came { self.new.came ≡ self.old.came + length input.now }
+        ensures rest { self.new ≡ record self.old { header = self.new.header; came = self.new.came } }
+        ensures long { length self.new.header ≡ 9 }
+    {
+        let came = self.came as usize;
+        self.header[came..came + input.len()].copy_from_slice(input);
+        self.came += input.len() as u64;
+    }
+
+    /// The nine bytes of a header, of which the input has the last.
+    fn whole_header(&self, input: &[u8]) -> [u8; 9]
+        requires came { self.now.came ≤ 9 }
+        requires rest { 9 ≤ self.now.came + length input.now }
+        requires long { length self.now.header ≡ 9 }
+        ensures { result ≡ take self.now.came self.now.header ++ take (9 - self.now.came) input.now }
+    {
+        let came = self.came as usize;
+        let mut header = self.header;
+        header[came..].copy_from_slice(&input[..9 - came]);
+        header
+    }
+
+    /// Goes on behind a header.
+    fn enter(&mut self, header: &Header)
+        requires bounded { IsBounded self.old }
+        requires here { self.old.stage ≡ stage.Header }
+        requires early { self.old.offset ≤ 2 ^ 63 }
+        requires length { header.now.length ≤ 268435456 }
+        requires unrefused { self.old.refusal ≡ None }
+        ensures bounded { IsBounded self.new }
+        ensures offsets { (self.new.offset ≡ self.old.offset + 9) × (self.new.stop ≡ self.old.offset + 9 + header.now.length) }
+        ensures symbols { (r : type.Standing) → symbols_at self.new.stage r self.new.upcoming ≡ message header.now }
+        ensures room { HasRoom self.new.stage self.new.upcoming }
+        ensures rest { (self.new.refusal ≡ None) × (self.new.limits ≡ self.old.limits) × (self.new.frame ≡ self.old.frame) × (self.new.came ≡ 0) }
+    {
+        self.offset += 9;
+        self.stop = self.offset + u64::from(header.length);
+        self.came = 0;
+        self.upcoming.begin(header);
+        self.go_on();
+    }
+
+    /// Goes on to what is due next in the message.
+    #[tactic(auto, using(crate::proofs::Steps::next_symbols, crate::proofs::Steps::next_room))]
+    fn go_on(&mut self)
+        ensures symbols { (r : type.Standing) → symbols_at self.new.stage r self.new.upcoming ≡ rest_of self.old.upcoming }
+        ensures room { HasRoom self.new.stage self.new.upcoming }
+        ensures rest { self.new ≡ record self.old { stage = self.new.stage; upcoming = self.new.upcoming } }
+    {
+        self.stage = stage_of(self.upcoming.pop());
+    }
+
+    fn advance_field<A: Allocator>(
+        &mut self,
+        partial: &mut Partial<A>,
+        table: &mut TypeTable<A>,
+        want: Want,
+        input: &[u8],
+    ) -> Advance
+        requires bounded { IsBounded self.old }
+        requires here { self.old.stage ≡ stage.Field want }
+        requires wanted { IsWanted self.old partial.old want }
+        requires room { partial.old.room ≡ max self.old.limits.text self.old.limits.cell }
+        requires unrefused { self.old.refusal ≡ None }
+        ensures lawful { (r : type.Standing) → IsLawful self.old (parts partial.old r table.old) → IsLawful self.new (parts partial.new r table.new) }
+        ensures moves { (r : type.Standing) → Moves (state_of self.old (parts partial.old r table.old)) input.now result (state_of self.new (parts partial.new r table.new)) }
+        ensures rest { (self.new.refusal ≡ None) × (self.new.limits ≡ self.old.limits) }
+    {
+        self.ask(partial, want);
+        let came = partial.came();
+        match partial.advance(input) {
+            Taken::More { used } => Advance::More { used },
+            Taken::Refused(refusal) => Advance::Refused(refusal),
+            Taken::Got { used, item } => {
+                let value = partial.lend(input, item);
+                if let Some(why) = fault_in(want.role, value) {
+                    return Advance::Refused(Refusal {
+                        at: self.offset,
+                        why,
+                    });
+                }
+                let at = self.offset;
+                self.offset += came + used as u64;
+                begin_metadata(want.role, table);
+                self.follow(want.role, value);
+                Advance::Event {
+                    at,
+                    used,
+                    what: What::Holds(want.field, item),
+                }
+            }
+        }
+    }
+
+    /// Sees that the field has begun.
+    fn ask<A: Allocator>(&self, partial: &mut Partial<A>, want: Want)
+        requires inside { self.now.offset ≤ self.now.stop }
+        requires room { partial.old.room ≡ max self.now.limits.text self.now.limits.cell }
+        requires field { partial.old.under_way ≡ true → partial.old.field ≡ asked self.now want }
+        ensures { IsAsked self.now partial.old partial.new want }
+    {
+        if !partial.is_under_way() {
+            let limit = limit_on(&self.limits, want.notation);
+            partial.begin(want.notation, limit, self.offset, self.stop);
+        }
+    }
+
+    /// Goes on behind a field.
+    fn follow(&mut self, role: Role, value: Prim<'_>)
+        requires { length self.old.upcoming + behind role ≤ 16 }
+        ensures symbols { (types : Types) (r : type.Standing) → symbols_at self.new.stage r self.new.upcoming ≡ following types role (value_of value.entry) ++ rest_of self.old.upcoming }
+        ensures rest { self.new ≡ record self.old { stage = self.new.stage; upcoming = self.new.upcoming } }
+        ensures room { HasRoom self.new.stage self.new.upcoming }
+    {
+        self.upcoming.follow(role, value);
+        self.go_on();
+    }
+
+    /// Begins the type option that is due.
+    fn begin_option<A: Allocator>(&mut self, types: &mut TypeReader<A>)
+        requires here { self.old.stage ≡ stage.Option }
+        requires idle { types.old.under_way ≡ false }
+        requires inside { self.old.offset ≤ self.old.stop }
+        ensures self_is { self.new ≡ record self.old { stage = stage.Type } }
+        ensures types_are { types.new ≡ started types.old self.old.offset self.old.stop }
+    {
+        types.begin(self.offset, self.stop);
+        self.stage = Stage::Type;
+    }
+
+    fn advance_option<A: Allocator>(
+        &mut self,
+        partial: &mut Partial<A>,
+        types: &mut TypeReader<A>,
+        table: &mut TypeTable<A>,
+        input: &[u8],
+    ) -> Advance
+        requires lawful { IsLawful self.old (parts partial.old types.old table.old) }
+        requires here { self.old.stage ≡ stage.Type }
+        requires unrefused { self.old.refusal ≡ None }
+        ensures lawful { IsLawful self.new (parts partial.new types.new table.new) }
+        ensures moves { Moves (state_of self.old (parts partial.old types.old table.old)) input.now result (state_of self.new (parts partial.new types.new table.new)) }
+        ensures rest { (self.new.refusal ≡ None) × (self.new.limits ≡ self.old.limits) }
+    {
+        match types.advance(partial, table, input) {
+            TypeAdvance::More { used } => Advance::More { used },
+            TypeAdvance::Refused(refusal) => {
+                self.stage = Stage::Extra;
+                Advance::Refused(refusal)
+            }
+            TypeAdvance::Done => unreachable!(),
+            TypeAdvance::Item { at, used, item } => {
+                let event = Advance::Event {
+                    at,
+                    used,
+                    what: What::Option(item),
+                };
+                let offset = types.offset();
+                if !types.done() {
+                    return event;
+                }
+                types.stop();
+                self.go_behind(offset);
+                event
+            }
+        }
+    }
+
+    /// Goes on behind a type option that ends at an offset.
+    fn go_behind(&mut self, offset: u64)
+        ensures symbols { (r : type.Standing) → symbols_at self.new.stage r self.new.upcoming ≡ rest_of self.old.upcoming }
+        ensures room { HasRoom self.new.stage self.new.upcoming }
+        ensures rest { self.new ≡ record self.old { offset = offset; stage = self.new.stage; upcoming = self.new.upcoming } }
+    {
+        self.offset = offset;
+        self.go_on();
+    }
+
+    fn advance_extra(&mut self, input: &[u8]) -> Advance
+        requires bounded { IsBounded self.old }
+        requires here { self.old.stage ≡ stage.Extra }
+        requires came { self.old.came ≤ self.old.stop - self.old.offset }
+        requires unrefused { self.old.refusal ≡ None }
+        ensures lawful { (q : Parts) → IsLawful self.old q → IsLawful self.new q }
+        ensures moves { (q : Parts) → IsIdle q → Moves (state_of self.old q) input.now result (state_of self.new q) }
+        ensures rest { (self.new.refusal ≡ None) × (self.new.limits ≡ self.old.limits) }
+    {
+        let extra = self.stop - self.offset;
+        let used = (extra - self.came).min(input.len() as u64);
+        if self.came + used < extra {
+            self.came += used;
+            return Advance::More {
+                used: used as usize,
+            };
+        }
+        self.frame = self.stop;
+        self.offset = self.stop;
+        self.came = 0;
+        self.stage = Stage::Header;
+        Advance::Event {
+            at: self.stop,
+            used: used as usize,
+            what: What::End(extra as u32),
+        }
+    }
+}
+
+/// How many bytes of the field under way have come.
+fn came_of_field<A: Allocator>(partial: &Partial<A>) -> u64
+    ensures is { result ≡ length (came_of partial.now) }
+    ensures small { result < 2 ^ 33 }
+{
+    if partial.is_under_way() {
+        partial.came()
+    } else {
+        0
+    }
+}
+
+/// What is read next, where this is due next in a message.
+fn stage_of(next: Option<Due>) -> Stage
+    ensures { result ≡ stage_with next }
+{
+    match next {
+        Some(Due::Field(want)) => Stage::Field(want),
+        Some(Due::Option) => Stage::Option,
+        None => Stage::Extra,
+    }
+}
+
+fn limit_on(limits: &Limits, notation: Notation) -> u32
+    ensures { result ≡ limit_of (rules_of limits.now) notation }
+{
+    match notation {
+        Notation::Text16 | Notation::Text32 => limits.text,
+        Notation::Bytes16 | Notation::Bytes32 | Notation::Bound | Notation::Content(_) => {
+            limits.cell
+        }
+        Notation::Byte
+        | Notation::Short
+        | Notation::Int
+        | Notation::Long
+        | Notation::Uuid
+        | Notation::Count16
+        | Notation::Count32
+        | Notation::Inet => 0,
+    }
+}

@@ -1,0 +1,122 @@
+-- Worked frames: bytes that spell them, and their events.
+use Rattle.std.proofs.Common.{◌≡◌, pos, negsuc, [], ◌∷◌, false, true, refl, lit≤, lit<}
+use Rattle.std.proofs.lemmas.List.Elements.{All-cons, All-nil}
+use Rattle.std.specs.Prelude.{Option, Some, None, All, codes}
+use Rattle.std.specs.Str.{is_utf8, chars}
+use lib.Utf8.{encode}
+use Rattle.cqlp_note.specs.declared.field.Field.TheVariants as field
+use Rattle.cqlp_note.specs.declared.opcode.Opcode.TheVariants as opcode
+use Rattle.cqlp_note.specs.declared.prim.Address.TheVariants as address
+use Rattle.cqlp_note.specs.Field as note
+use Rattle.cqlp_note.specs.Spelling.{Spells}
+use Rattle.cqlp_message.specs.FrameValues.{FrameValue, Options, Query, Error, Void, Event}
+use Rattle.cqlp_message.specs.FrameValues as value
+use Rattle.cqlp_message.specs.Events as told
+use Rattle.cqlp_message.specs.Agreement.{IsThereIf}
+use Rattle.cqlp_message.specs.Frames.{FrameSpells, Flat}
+
+-- ---- a request for the supported options
+
+abbrev options_request : FrameValue
+options_request = record { flags = 0; stream = pos 0; tracing = None; warnings = None; payload = None; message = Options }
+
+options_request_spelled : FrameSpells options_request 0 (4 ∷ 0 ∷ 0 ∷ 0 ∷ 5 ∷ 0 ∷ 0 ∷ 0 ∷ 0 ∷ [])
+options_request_spelled = record {
+  announced = []; body = []; extra = [];
+  agrees = record { tracing = refl; warnings = refl; payload = refl; message = tt };
+  parts = refl; message = refl; more = refl;
+  lawful = record { plain = refl; direction = refl; bounded = lit≤ tt };
+  whole = refl
+}
+
+options_request_flat : Flat 0 options_request 0 ≡ (0, told.Frame (record { response = false; flags = 0; stream = pos 0; opcode = opcode.Options; length = 0 })) ∷ (9, told.End 0) ∷ []
+options_request_flat = refl
+
+-- ---- a query with a value that is not set
+
+abbrev query_request : FrameValue
+query_request = record {
+  flags = 0; stream = pos 0; tracing = None; warnings = None; payload = None;
+  message = Query (codes "q") (record { consistency = 1; flags = 1; values = Some ((None, note.Unset) ∷ []); page_size = None; paging = None; serial = None; timestamp = None })
+}
+
+nameless : All (λ (v : Option value.Octets × note.BoundValue). IsThereIf false v.0) ((None, note.Unset) ∷ [])
+nameless =
+    let P : Option value.Octets × note.BoundValue → Type 0 = λ v. IsThereIf false v.0 in
+    All-cons P (None, note.Unset) [] refl (All-nil P)
+
+query_request_spelled : FrameSpells query_request 0 (4 ∷ 0 ∷ 0 ∷ 0 ∷ 7 ∷ 0 ∷ 0 ∷ 0 ∷ 14 ∷ 0 ∷ 0 ∷ 0 ∷ 1 ∷ 0x71 ∷ 0 ∷ 1 ∷ 1 ∷ 0 ∷ 1 ∷ 255 ∷ 255 ∷ 255 ∷ 254 ∷ [])
+unfolding Spells is_utf8 chars encode
+query_request_spelled = record {
+  announced = []; body = 0 ∷ 0 ∷ 0 ∷ 1 ∷ 0x71 ∷ 0 ∷ 1 ∷ 1 ∷ 0 ∷ 1 ∷ 255 ∷ 255 ∷ 255 ∷ 254 ∷ []; extra = [];
+  agrees = record {
+    tracing = refl; warnings = refl; payload = refl;
+    message = record { values = refl; names = nameless; page_size = refl; paging = refl; serial = refl; timestamp = refl }
+  };
+  parts = refl;
+  message =
+      record { front = 0 ∷ 0 ∷ 0 ∷ 1 ∷ 0x71 ∷ []; back = 0 ∷ 1 ∷ 1 ∷ 0 ∷ 1 ∷ 255 ∷ 255 ∷ 255 ∷ 254 ∷ []; whole = refl;
+        this = (record { head = 0 ∷ 0 ∷ 0 ∷ 1 ∷ []; counts = record { long = refl; is = refl }; parts = refl }, lit< tt, refl);
+        that = record { front = 0 ∷ 1 ∷ []; back = 1 ∷ 0 ∷ 1 ∷ 255 ∷ 255 ∷ 255 ∷ 254 ∷ []; whole = refl; this = record { long = refl; is = refl };
+          that = record { front = 1 ∷ []; back = 0 ∷ 1 ∷ 255 ∷ 255 ∷ 255 ∷ 254 ∷ []; whole = refl; this = record { long = refl; is = refl };
+            that = record { front = 0 ∷ 1 ∷ []; back = 255 ∷ 255 ∷ 255 ∷ 254 ∷ []; whole = refl; this = record { long = refl; is = refl };
+              that = record { front = 255 ∷ 255 ∷ 255 ∷ 254 ∷ []; back = []; whole = refl; this = record { long = refl; is = refl }; that = refl } } } } };
+  more = refl;
+  lawful = record { plain = refl; direction = refl; bounded = lit≤ tt };
+  whole = refl
+}
+
+query_request_flat : Flat 0 query_request 0 ≡
+    (0, told.Frame (record { response = false; flags = 0; stream = pos 0; opcode = opcode.Query; length = 14 }))
+    ∷ (9, told.Holds field.Query (note.Text (codes "q"))) ∷ (14, told.Holds field.Consistency (note.Short 1)) ∷ (16, told.Holds field.QueryFlags (note.Byte 1))
+    ∷ (17, told.Holds field.Values (note.Count 1)) ∷ (19, told.Holds field.Value (note.Bound note.Unset)) ∷ (23, told.End 0) ∷ []
+query_request_flat = refl
+
+-- ---- the parts before a message, in their order
+
+abbrev announced_response : FrameValue
+announced_response = record {
+  flags = 14; stream = pos 1; tracing = Some (0 ∷ 1 ∷ 2 ∷ 3 ∷ 4 ∷ 5 ∷ 6 ∷ 7 ∷ 8 ∷ 9 ∷ 10 ∷ 11 ∷ 12 ∷ 13 ∷ 14 ∷ 15 ∷ []);
+  warnings = Some (codes "w" ∷ []); payload = Some ((codes "k", Some (255 ∷ [])) ∷ []); message = Void
+}
+
+announced_response_flat : Flat 0 announced_response 0 ≡
+    (0, told.Frame (record { response = true; flags = 14; stream = pos 1; opcode = opcode.Result; length = 35 }))
+    ∷ (9, told.Holds field.TraceId (note.Uuid (0 ∷ 1 ∷ 2 ∷ 3 ∷ 4 ∷ 5 ∷ 6 ∷ 7 ∷ 8 ∷ 9 ∷ 10 ∷ 11 ∷ 12 ∷ 13 ∷ 14 ∷ 15 ∷ [])))
+    ∷ (25, told.Holds field.Warnings (note.Count 1)) ∷ (27, told.Holds field.Warning (note.Text (codes "w")))
+    ∷ (30, told.Holds field.PayloadItems (note.Count 1)) ∷ (32, told.Holds field.PayloadKey (note.Text (codes "k"))) ∷ (35, told.Holds field.PayloadValue (note.Bytes (Some (255 ∷ []))))
+    ∷ (40, told.Holds field.ResultKind (note.Int (pos 1))) ∷ (44, told.End 0) ∷ []
+announced_response_flat = refl
+
+-- ---- an error of an unknown code, and three bytes more
+
+abbrev unknown_error : FrameValue
+unknown_error = record { flags = 0; stream = pos 0; tracing = None; warnings = None; payload = None; message = Error (pos 0x4321) (codes "x") value.Plain }
+
+unknown_error_spelled : FrameSpells unknown_error 3 (0x84 ∷ 0 ∷ 0 ∷ 0 ∷ 0 ∷ 0 ∷ 0 ∷ 0 ∷ 10 ∷ 0 ∷ 0 ∷ 0x43 ∷ 0x21 ∷ 0 ∷ 1 ∷ 0x78 ∷ 0xAA ∷ 0xBB ∷ 0xCC ∷ [])
+unfolding Spells is_utf8 chars encode
+unknown_error_spelled = record {
+  announced = []; body = 0 ∷ 0 ∷ 0x43 ∷ 0x21 ∷ 0 ∷ 1 ∷ 0x78 ∷ []; extra = 0xAA ∷ 0xBB ∷ 0xCC ∷ [];
+  agrees = record { tracing = refl; warnings = refl; payload = refl; message = refl };
+  parts = refl;
+  message =
+      record { front = 0 ∷ 0 ∷ 0x43 ∷ 0x21 ∷ []; back = 0 ∷ 1 ∷ 0x78 ∷ []; whole = refl; this = (0x4321, record { long = refl; is = refl }, refl);
+        that = record { front = 0 ∷ 1 ∷ 0x78 ∷ []; back = []; whole = refl; this = (record { head = 0 ∷ 1 ∷ []; counts = record { long = refl; is = refl }; parts = refl }, refl); that = refl } };
+  more = refl;
+  lawful = record { plain = refl; direction = refl; bounded = lit≤ tt };
+  whole = refl
+}
+
+-- ---- a node that came up
+
+abbrev node_event : FrameValue
+node_event = record {
+  flags = 0; stream = negsuc 0; tracing = None; warnings = None; payload = None;
+  message = Event (codes "STATUS_CHANGE") (value.Node (codes "UP") (address.V4 (127 ∷ 0 ∷ 0 ∷ 1 ∷ [])) (pos 9042))
+}
+
+node_event_flat : Flat 0 node_event 0 ≡
+    (0, told.Frame (record { response = true; flags = 0; stream = negsuc 0; opcode = opcode.Event; length = 28 }))
+    ∷ (9, told.Holds field.EventType (note.Text (codes "STATUS_CHANGE"))) ∷ (24, told.Holds field.Change (note.Text (codes "UP")))
+    ∷ (28, told.Holds field.Address (note.Inet (address.V4 (127 ∷ 0 ∷ 0 ∷ 1 ∷ [])) (pos 9042))) ∷ (37, told.End 0) ∷ []
+node_event_flat = refl

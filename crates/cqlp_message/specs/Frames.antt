@@ -1,0 +1,73 @@
+-- Frames: what spells them, and their events (section 2 of native_protocol_v4.spec).
+use Rattle.std.specs.Prelude.{◌≡◌, ℕ, ◌+◌, ◌++◌, true, List, [], ◌∷◌, length}
+use Rattle.cqlp_note.specs.declared.field.Field.TheVariants as field
+use Rattle.cqlp_note.specs.declared.field.Notation.TheVariants as notation
+use Rattle.cqlp_note.specs.declared.header.Header.{Header}
+use Rattle.cqlp_note.specs.Field as note
+use Rattle.cqlp_note.specs.Heading.{IsLawful, header_bytes}
+use Rattle.cqlp_note.specs.Limits.{Rules}
+use Rattle.cqlp_message.specs.FrameValues.{FrameValue}
+use Rattle.cqlp_message.specs.Events.{Event, Frame, End}
+use Rattle.cqlp_message.specs.Parts.{Part, Field_is, Joined, PartsSpell, parts_size, parts_events, PartsWithin}
+use Rattle.cqlp_message.specs.Bodies.{where_some, counted, texts, text, bytes, message_parts, BodySpells}
+use Rattle.cqlp_message.specs.Agreement.{is_response, opcode_of, FrameAgrees}
+
+-- Section 2.2: the parts before a message, in order: the tracing id, the warnings, the custom payload.
+abbrev pub announced_parts : FrameValue → List Part
+announced_parts f =
+    where_some (λ id. Field_is field.TraceId notation.Uuid (note.Uuid id) ∷ []) f.tracing
+    ++ where_some (texts field.Warnings field.Warning) f.warnings
+    ++ where_some (counted field.PayloadItems (λ i. text field.PayloadKey i.0 ∷ bytes field.PayloadValue i.1 ∷ [])) f.payload
+
+-- The parts of a frame behind its header, in order.
+abbrev pub frame_parts : FrameValue → List Part
+frame_parts f = announced_parts f ++ message_parts f.message
+
+-- the header of a frame whose body, with all that is announced, has this length
+abbrev pub header_of : FrameValue → (length : ℕ) → Header
+header_of f n = record { response = is_response f.message; flags = f.flags; stream = f.stream; opcode = opcode_of f.message; length = n }
+
+-- ---- spelling
+
+-- The bytes are the header of a frame, the parts that its flags announce, the body of its message, and x bytes more.
+-- The header is lawful, and its length is that of all behind it.
+pub record FrameSpells (f : FrameValue) (x : ℕ) (bytes : List ℕ) : Type 0 where
+  pub announced : List ℕ
+  pub body : List ℕ
+  pub extra : List ℕ
+  pub agrees : FrameAgrees f
+  pub parts : PartsSpell (announced_parts f) announced
+  pub message : BodySpells f.message body
+  pub more : length extra ≡ x
+  pub lawful : IsLawful (header_of f (length (announced ++ body ++ extra)))
+  pub whole : bytes ≡ header_bytes (header_of f (length (announced ++ body ++ extra))) ++ announced ++ body ++ extra
+
+-- The bytes are frames one after the other, each with so many bytes more.
+abbrev pub AllSpell : List (FrameValue × ℕ) → List ℕ → Type 0
+AllSpell [] b = b ≡ []
+AllSpell (f ∷ fs) b = Joined (FrameSpells f.0 f.1) (AllSpell fs) b
+
+-- ---- events
+
+-- the bytes of a frame with x bytes more
+abbrev pub frame_size : FrameValue → (x : ℕ) → ℕ
+frame_size f x = 9 + (parts_size (frame_parts f) + x)
+
+-- The events of a frame with x bytes more, which begins at this offset: its header, its parts and its end.
+abbrev pub Flat : (offset : ℕ) → FrameValue → (x : ℕ) → List (ℕ × Event)
+Flat at f x =
+    (at, Frame (header_of f (parts_size (frame_parts f) + x))) ∷ []
+    ++ parts_events (at + 9) (frame_parts f)
+    ++ (at + frame_size f x, End x) ∷ []
+
+-- The events of frames one after the other, each with so many bytes more.
+abbrev pub FlatAll : (offset : ℕ) → List (FrameValue × ℕ) → List (ℕ × Event)
+FlatAll at [] = []
+FlatAll at (f ∷ fs) = Flat at f.0 f.1 ++ FlatAll (at + frame_size f.0 f.1) fs
+
+-- ---- limits
+
+-- A frame is within the caller's limits.
+pub record IsWithin (l : Rules) (f : FrameValue) : Type 0 where
+  pub parts : PartsWithin l (frame_parts f)
+  pub typed : l.types ≡ true

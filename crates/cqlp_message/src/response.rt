@@ -1,0 +1,98 @@
+//! Parts of responses.
+
+use cqlp_note::Address;
+
+/// What stands behind the message of an error, by the error's code. Section 9 of `native_protocol_v4.spec`.
+#[derive(Debug, PartialEq, Eq, Drop)]
+pub enum ErrorExtra {
+    /// Nothing: an error of a code without further fields, or of an unknown code.
+    Plain,
+    /// 1000: too few replicas are alive.
+    Unavailable {
+        consistency: u16,
+        required: i32,
+        alive: i32,
+    },
+    /// 1100: too few replicas have acknowledged a write in time.
+    WriteTimeout {
+        consistency: u16,
+        received: i32,
+        block_for: i32,
+        write_type: String,
+    },
+    /// 1200: too few replicas have answered a read in time.
+    ReadTimeout {
+        consistency: u16,
+        received: i32,
+        block_for: i32,
+        /// 0 where the replica that was asked for data has not answered.
+        data_present: u8,
+    },
+    /// 1300: a read failed on some replicas.
+    ReadFailure {
+        consistency: u16,
+        received: i32,
+        block_for: i32,
+        failures: i32,
+        /// 0 where the replica that was asked for data has not answered.
+        data_present: u8,
+    },
+    /// 1400: a function of this keyspace and name failed.
+    FunctionFailure {
+        keyspace: String,
+        name: String,
+        /// The types of its arguments.
+        arguments: Vec<String>,
+    },
+    /// 1500: a write failed on some replicas.
+    WriteFailure {
+        consistency: u16,
+        received: i32,
+        block_for: i32,
+        failures: i32,
+        write_type: String,
+    },
+    /// 2400: the keyspace or the table exists already; the table is empty where it is the keyspace.
+    AlreadyExists { keyspace: String, table: String },
+    /// 2500: no statement with this id is prepared.
+    Unprepared { id: Vec<u8> },
+}
+
+/// A change of the schema. Section 4.2.5.5 of `native_protocol_v4.spec`.
+#[derive(Debug, PartialEq, Eq, Drop)]
+pub struct SchemaChange {
+    /// `CREATED`, `UPDATED` or `DROPPED`; another text is kept.
+    pub change: String,
+    /// The kind of what was changed, which says what the options are.
+    pub target: String,
+    pub options: SchemaOptions,
+}
+
+/// What was changed, by the kind of the target. Section 4.2.5.5 of `native_protocol_v4.spec`.
+#[derive(Debug, PartialEq, Eq, Drop)]
+pub enum SchemaOptions {
+    /// The keyspace of this name, for `KEYSPACE`.
+    Keyspace(String),
+    /// The keyspace and the name, for `TABLE` and `TYPE`.
+    Named(String, String),
+    /// The keyspace, the name and the types of the arguments, for `FUNCTION` and `AGGREGATE`.
+    Callable(String, String, Vec<String>),
+    /// Nothing, for any other target.
+    Unknown,
+}
+
+/// What an event tells, by its type. Section 4.2.6 of `native_protocol_v4.spec`.
+#[derive(Debug, PartialEq, Eq, Drop)]
+pub enum ServerEvent {
+    /// A change of a node, for `TOPOLOGY_CHANGE` and `STATUS_CHANGE`.
+    Node {
+        /// `NEW_NODE`, `REMOVED_NODE`, `UP` or `DOWN`; another text is kept.
+        change: String,
+        address: Address,
+        port: i32,
+    },
+    /// A change of the schema, for `SCHEMA_CHANGE`.
+    Schema(SchemaChange),
+    /// Nothing, for any other type.
+    Unknown,
+}

@@ -1,0 +1,4 @@
+pub mod Renders
+pub mod Shows
+pub mod Texts
+pub mod Writing

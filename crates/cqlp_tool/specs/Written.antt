@@ -1,0 +1,42 @@
+-- What a writer of lines has taken, and what it passed on.
+use Rattle.std.specs.Prelude.{◌≡◌, ℕ, Bool, true, List, [], ◌∷◌, ◌++◌, Option, Some, Result, Ok, Err}
+use Rattle.std.specs.Io.KnownBytes.{append_known}
+use Rattle.cqlp_note.specs.Streams.{counted}
+use Rattle.cqlp_decode.specs.declared.sink.SinkFault.{SinkFault}
+
+-- What the target was given, where that is known, how often it failed, and what waits to be passed on.
+pub record Written : Type 0 where
+  pub given : Option (List ℕ)
+  pub failures : ℕ
+  pub waiting : List ℕ
+
+-- Some of the waiting bytes and of these, in order, were passed on, and the others are left.
+abbrev pub PassesOn : (old : Written) → List ℕ → (left : List ℕ) → (given : Option (List ℕ)) → Type 0
+PassesOn old bytes left given =
+    (text : List ℕ) → old.given ≡ Some text → (sent : List ℕ) × (given ≡ Some (text ++ sent)) × (sent ++ left ≡ old.waiting ++ bytes)
+
+-- All of the bytes were taken.
+pub record Takes (old : Written) (bytes : List ℕ) (new : Written) : Type 0 where
+  pub passed : PassesOn old bytes new.waiting new.given
+  pub failures : new.failures ≡ old.failures
+
+-- One call of the target failed before all of the waiting bytes and of these were passed on, and the others are lost.
+pub record BreaksOff (old : Written) (bytes : List ℕ) (new : Written) : Type 0 where
+  pub lost : ℕ
+  pub behind : List ℕ
+  pub passed : PassesOn old bytes (lost ∷ behind) new.given
+  pub failures : new.failures ≡ counted true old.failures
+  pub waiting : new.waiting ≡ []
+
+-- The bytes were taken, or the target failed.
+abbrev pub Writes : (old : Written) → List ℕ → Result (Unit {0}) SinkFault → (new : Written) → Type 0
+Writes old bytes (Ok u) new = Takes old bytes new
+Writes old bytes (Err e) new = BreaksOff old bytes new
+
+-- a target with nothing that waits
+abbrev pub bare : (given : Option (List ℕ)) → (failures : ℕ) → Written
+bare given failures = record { given = given; failures = failures; waiting = [] }
+
+-- what was given and what waits
+abbrev pub taken : Written → Option (List ℕ)
+taken w = append_known w.given w.waiting

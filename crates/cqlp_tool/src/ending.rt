@@ -1,0 +1,91 @@
+//! How a command ends.
+
+ghost use Rattle.std.specs.Prelude.{◌≡◌};
+
+use crate::line_writer::LineWriter;
+use crate::names::reason_name;
+use crate::word::Word;
+use cqlp_decode::{Finish, SinkFault};
+use cqlp_note::{Refusal, Target};
+
+/// How a command ends.
+#[derive(Clone, Copy, Debug, PartialEq, Eq)]
+pub enum Ending {
+    /// The stream was read to its end, or refused.
+    Finished(Finish),
+    /// The input failed.
+    ReadFault,
+    /// The output failed.
+    WriteFault,
+    NoMemory,
+    /// The input was not at its end after the greatest number of reads.
+    TooManyTurns,
+}
+
+impl Ending {
+    ghost use Rattle.cqlp_tool.specs.Endings.{status_of};
+
+    /// The exit status: 0 for a whole stream, 1 for one that is cut or refused, 3 for a fault.
+    pub fn status(self) -> u8
+        ensures { result ≡ status_of self }
+    {
+        match self {
+            Ending::Finished(Finish::Whole { .. }) => 0,
+            Ending::Finished(Finish::Cut { .. }) => 1,
+            Ending::Finished(Finish::Refused(_)) => 1,
+            Ending::ReadFault => 3,
+            Ending::WriteFault => 3,
+            Ending::NoMemory => 3,
+            Ending::TooManyTurns => 3,
+        }
+    }
+}
+
+impl<W: Target> LineWriter<W> {
+    ghost use Rattle.std.specs.Prelude.{◌++◌, [], map, codes};
+    ghost use Rattle.cqlp_tool.specs.Endings.{ending_line, verdict};
+    ghost use Rattle.cqlp_tool.specs.Lines.{spaced};
+    ghost use Rattle.cqlp_tool.specs.Words.{word_text};
+    ghost use Rattle.cqlp_tool.specs.Written.{Writes};
+
+    /// Takes the verdict line or the fault line, and passes all on.
+    pub fn put_ending(&mut self, ending: Ending) -> Result<(), SinkFault>
+        ensures line { Writes self.old (ending_line ending) result self.new }
+        ensures passed { self.new.waiting ≡ [] }
+    {
+        match ending {
+            Ending::Finished(finish) => self.put_verdict(finish),
+            Ending::ReadFault => self.put_line("cqlp: read fault", &[]),
+            Ending::WriteFault => self.put_line("cqlp: write fault", &[]),
+            Ending::NoMemory => self.put_line("cqlp: no memory", &[]),
+            Ending::TooManyTurns => self.put_line("cqlp: too many turns", &[]),
+        }
+    }
+
+    fn put_verdict(&mut self, finish: Finish) -> Result<(), SinkFault>
+        ensures line { Writes self.old (verdict finish ++ codes "\n") result self.new }
+        ensures passed { self.new.waiting ≡ [] }
+    {
+        match finish {
+            Finish::Whole { bytes } => self.put_line("whole", &[Word::Number(bytes)]),
+            Finish::Cut { frame_at, bytes } => {
+                self.put_line("cut", &[Word::Number(frame_at), Word::Number(bytes)])
+            }
+            Finish::Refused(Refusal { at, why }) => self.put_line(
+                "refused",
+                &[Word::Number(at), Word::Name(reason_name(why))],
+            ),
+        }
+    }
+
+    /// Takes a line of words, and passes all on.
+    fn put_line(&mut self, first: &str, words: &[Word<'_>]) -> Result<(), SinkFault>
+        ensures line { Writes self.old (first.now ++ (spaced (map word_text words.now) ++ codes "\n")) result self.new }
+        ensures passed { self.new.waiting ≡ [] }
+    {
+        self.put(first.as_bytes())?;
+        self.put_words(words)?;
+        self.put(b"\n")?;
+        self.flush()
+    }
+}

@@ -1,0 +1,127 @@
+//! Events as lines.
+
+ghost use Rattle.std.specs.Prelude.{◌≡◌, []};
+
+use crate::line_writer::LineWriter;
+use crate::names::{field_name, opcode_name};
+use crate::word::Word;
+use cqlp_decode::{Event, SinkFault};
+use cqlp_note::{BoundValue, Header, Target};
+
+impl<W: Target> LineWriter<W> {
+    ghost use Rattle.cqlp_decode.specs.Events.{event_of};
+    ghost use Rattle.cqlp_decode.specs.Reading as reading;
+    ghost use Rattle.cqlp_tool.specs.Lines.{line, spaced, words};
+    ghost use Rattle.cqlp_tool.specs.Written.{Writes};
+
+    /// Takes the line of an event at an offset, and passes all on.
+    pub fn put_event(&mut self, at: u64, event: &Event<'_>) -> Result<(), SinkFault>
+        ensures line { Writes self.old (line at (event_of event.now)) result self.new }
+        ensures passed { self.new.waiting ≡ [] }
+    {
+        self.put_number(at)?;
+        self.put_event_words(event)?;
+        self.put(b"\n")?;
+        self.flush()
+    }
+
+    fn put_event_words(&mut self, event: &Event<'_>) -> Result<(), SinkFault>
+        ensures { Writes self.old (spaced (words (event_of event.now))) result self.new }
+    {
+        match *event {
+            Event::Frame(header) => self.put_header_words(header),
+            Event::Byte { field, value } => self.put_words(&[
+                Word::Name("Byte"),
+                Word::Name(field_name(field)),
+                Word::Number(u64::from(value)),
+            ]),
+            Event::Short { field, value } => self.put_words(&[
+                Word::Name("Short"),
+                Word::Name(field_name(field)),
+                Word::Number(u64::from(value)),
+            ]),
+            Event::Int { field, value } => self.put_words(&[
+                Word::Name("Int"),
+                Word::Name(field_name(field)),
+                Word::Signed(i64::from(value)),
+            ]),
+            Event::Long { field, value } => self.put_words(&[
+                Word::Name("Long"),
+                Word::Name(field_name(field)),
+                Word::Signed(value),
+            ]),
+            Event::Uuid { field, value } => self.put_words(&[
+                Word::Name("Uuid"),
+                Word::Name(field_name(field)),
+                Word::Uuid(value),
+            ]),
+            Event::Count { field, count } => self.put_words(&[
+                Word::Name("Count"),
+                Word::Name(field_name(field)),
+                Word::Number(u64::from(count)),
+            ]),
+            Event::Text { field, text } => self.put_words(&[
+                Word::Name("Text"),
+                Word::Name(field_name(field)),
+                Word::Quoted(text),
+            ]),
+            Event::Bytes { field, bytes } => self.put_words(&[
+                Word::Name("Bytes"),
+                Word::Name(field_name(field)),
+                bytes.map_or(Word::Name("null"), Word::Hex),
+            ]),
+            Event::Bound { field, value } => self.put_words(&[
+                Word::Name("Bound"),
+                Word::Name(field_name(field)),
+                bound_word(value),
+            ]),
+            Event::Inet {
+                field,
+                address,
+                port,
+            } => self.put_words(&[
+                Word::Name("Inet"),
+                Word::Name(field_name(field)),
+                Word::Address(address),
+                Word::Signed(i64::from(port)),
+            ]),
+            Event::End { extra } => self.put_words(&[
+                Word::Name("End"),
+                Word::Number(u64::from(extra)),
+            ]),
+        }
+    }
+
+    fn put_header_words(&mut self, header: Header) -> Result<(), SinkFault>
+        ensures { Writes self.old (spaced (words (reading.Frame header))) result self.new }
+    {
+        self.put_words(&[
+            Word::Name("Frame"),
+            Word::Name(direction(header.response)),
+            Word::Digits(header.flags),
+            Word::Signed(i64::from(header.stream)),
+            Word::Name(opcode_name(header.opcode)),
+            Word::Number(u64::from(header.length)),
+        ])
+    }
+}
+
+ghost use Rattle.cqlp_decode.specs.Events.{bound_of};
+ghost use Rattle.cqlp_tool.specs.Lines.{direction as direction_text, bound_text};
+ghost use Rattle.cqlp_tool.specs.Words.{word_text};
+
+fn direction(response: bool) -> &'static str
+    ensures { result.now ≡ direction_text response }
+{
+    if response { "response" } else { "request" }
+}
+
+fn bound_word(value: BoundValue<'_>) -> Word<'_>
+    ensures { word_text result ≡ bound_text (bound_of value.entry) }
+{
+    match value {
+        BoundValue::Null => Word::Name("null"),
+        BoundValue::Unset => Word::Name("unset"),
+        BoundValue::Bytes(bytes) => Word::Hex(bytes),
+    }
+}

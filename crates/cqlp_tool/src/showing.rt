@@ -1,0 +1,114 @@
+//! A whole stream, shown.
+
+ghost use Rattle.std.specs.Prelude.{◌≡◌, List, ℕ, Some, IsSome, []};
+ghost use Rattle.cqlp_decode.specs.Streams.{After, state};
+ghost use Rattle.cqlp_note.specs.Limits.{first_bad};
+ghost use Rattle.cqlp_tool.specs.Rendering.{output};
+
+use crate::buffered::Buffered;
+use crate::ending::Ending;
+use crate::line_writer::LineWriter;
+use crate::render::render_events;
+use cqlp_decode::{Decoder, NewError, Outcome};
+use cqlp_note::{IoFault, Limits, Source, Target};
+use std::alloc::Allocator;
+
+ghost use Rattle.cqlp_tool.specs.Showing.{ending_of, ShowsTo, RendersOrFails, Concludes};
+ghost use Rattle.cqlp_tool.specs.declared.ending.Ending.{Ending};
+
+/// The limits of the program where none are given.
+pub const DEFAULT_LIMITS: Limits = Limits {
+    text: 1_048_576,
+    cell: 1_048_576,
+    entries: 4_096,
+    depth: 16,
+    types: true,
+    parts: false,
+};
+
+/// How many reads the program makes at most.
+const TURNS: u64 = 4_294_967_296;
+
+/// How many bytes of text go to the output at once.
+const ROOM: usize = 65_536;
+
+/// Writes the lines of the events of a stream to `out`, and the verdict line or fault line to `err`. Answers the exit
+/// status, and the two outputs.
+pub fn show<R: Source, O: Target, E: Target, A: Allocator>(
+    alloc: &A,
+    input: &mut R,
+    out: O,
+    err: E,
+) -> (u8, O, E)
+    ensures { (xs : List ℕ) → R.left input.old ≡ Some xs → IsSome (O.contents out) → IsSome (E.contents err) → (ending : Ending) × ShowsTo DEFAULT_LIMITS TURNS ending xs (R.left input.new) (output (O.contents out) (O.failures out)) (output (O.contents result.1) (O.failures result.1)) × Concludes ending (output (E.contents err) (E.failures err)) result.0 (output (E.contents result.2) (E.failures result.2)) }
+{
+    let (ending, out) = shown(alloc, DEFAULT_LIMITS, input, out);
+    let (status, err) = conclude(ending, err);
+    (status, out, err)
+}
+
+/// Writes the lines of the events of a stream within these limits.
+fn shown<R: Source, O: Target, A: Allocator>(
+    alloc: &A,
+    limits: Limits,
+    input: &mut R,
+    out: O,
+) -> (Ending, O)
+    requires { first_bad limits ≡ Ok tt }
+    ensures { (xs : List ℕ) → R.left input.old ≡ Some xs → IsSome (O.contents out) → ShowsTo limits TURNS result.0 xs (R.left input.new) (output (O.contents out) (O.failures out)) (output (O.contents result.1) (O.failures result.1)) }
+{
+    let mut decoder = match Decoder::new(alloc, limits) {
+        Ok(decoder) => decoder,
+        Err(NewError::NoMemory) => return (Ending::NoMemory, out),
+        Err(NewError::BadLimits(_)) => unreachable!(),
+    };
+    let Ok(buffer) = Vec::with_capacity(alloc, ROOM) else {
+        return (Ending::NoMemory, out);
+    };
+    let (outcome, out) = render_buffered(&mut decoder, input, out, buffer);
+    (ending_of(outcome), out)
+}
+
+/// How the command ends where a run does.
+fn ending_of(outcome: Outcome) -> Ending
+    ensures { result ≡ ending_of outcome }
+{
+    match outcome {
+        Outcome::Finished(finish) => Ending::Finished(finish),
+        Outcome::ReadFault => Ending::ReadFault,
+        Outcome::SinkFault => Ending::WriteFault,
+        Outcome::Turns => Ending::TooManyTurns,
+    }
+}
+
+/// Writes the lines of the events of a reader's bytes, in pieces as large as the buffer.
+fn render_buffered<R: Source, O: Target, A: Allocator, B: Allocator>(
+    decoder: &mut Decoder<A>,
+    input: &mut R,
+    out: O,
+    buffer: Vec<u8, B>,
+) -> (Outcome, O)
+    ensures { (xs : List ℕ) → R.left input.old ≡ Some xs → IsSome (O.contents out) → After (state decoder.old) [] [] → RendersOrFails TURNS result.0 (state decoder.old) (state decoder.new) xs (R.left input.new) (output (O.contents out) (O.failures out)) (output (O.contents result.1) (O.failures result.1)) }
+{
+    let buffered = Buffered::new(out, buffer);
+    let (outcome, mut buffered) = render_events(decoder, input, buffered, TURNS);
+    if let Outcome::SinkFault = outcome {
+        return (outcome, buffered.into_inner());
+    }
+    match buffered.flush() {
+        Ok(()) => (outcome, buffered.into_inner()),
+        Err(IoFault) => (Outcome::SinkFault, buffered.into_inner()),
+    }
+}
+
+/// Writes the verdict line or fault line. Answers the exit status, which is 3 where that fails.
+fn conclude<E: Target>(ending: Ending, err: E) -> (u8, E)
+    ensures { IsSome (E.contents err) → Concludes ending (output (E.contents err) (E.failures err)) result.0 (output (E.contents result.1) (E.failures result.1)) }
+{
+    let mut writer = LineWriter::new(err);
+    let status = match writer.put_ending(ending) {
+        Ok(()) => ending.status(),
+        Err(_) => 3,
+    };
+    (status, writer.into_inner())
+}
