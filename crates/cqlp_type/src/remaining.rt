@@ -68,7 +68,7 @@ impl<A: Allocator> Remaining<A> {
     {
         match self.stage {
             Stage::Idle | Stage::Done => unreachable!(),
-            Stage::Id => return self.option(limits, number_in(item), table),
+            Stage::Id => self.option(limits, number_in(item), table),
             Stage::Fields { node, named } => {
                 let count = number_in(item);
                 table.set_arity(count);
