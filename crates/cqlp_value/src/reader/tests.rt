@@ -48,7 +48,11 @@ fn end_of(table: &TypeTable, node: u32, depth: u32) -> Option<u32>
     for _ in 0..head.arity {
         behind = end_of(table, behind, depth - 1)?;
     }
-    if behind - node == head.span { Some(behind) } else { None }
+    if behind - node == head.span {
+        Some(behind)
+    } else {
+        None
+    }
 }
 
 /// Takes the next part of a type option; how many bytes it used, while the option goes on.
@@ -90,7 +94,8 @@ fn table_of(alloc: Global, option: &[u8]) -> Result<TypeTable, Fail> {
     Ok(table)
 }
 
-/// One push, whose answer is written down; how many bytes it used, while the cell goes on.
+/// One push, whose answer is written down; how many bytes it used, while the cell goes on and
+/// there are some.
 fn pushed(
     partial: &mut Partial,
     reader: &mut CellReader,
@@ -107,6 +112,10 @@ fn pushed(
     ensures used { IfOk result (λ used. IfSome used (λ n. n ≤ length input.now)) }
 {
     match CellReader::push(partial, reader, table, input) {
+        CellPush::More { used: 0 } => {
+            lines.push_str("More")?;
+            Ok(None)
+        }
         CellPush::More { used } => Ok(Some(used)),
         CellPush::Item { at, used, item } => {
             write!(lines, "{at} {item:?}, ")?;
@@ -146,15 +155,14 @@ fn read(
     let mut start = 0;
     for _ in 0..1_000_000u32 {
         let stop = bytes.len().min(start + size);
-        let piece = &bytes[start..stop];
-        match pushed(&mut partial, &mut reader, table, piece, &mut lines)? {
+        match pushed(
+            &mut partial,
+            &mut reader,
+            table,
+            &bytes[start..stop],
+            &mut lines,
+        )? {
             None => break,
-            Some(_) if piece.is_empty() && start == bytes.len() && stop == start => {
-                if !reader.done() {
-                    lines.push_str("More")?;
-                    break;
-                }
-            }
             Some(used) => start += used,
         }
     }
@@ -171,23 +179,31 @@ struct Worked<'a> {
     lines: &'a str,
 }
 
-/// Whether the cell is read so in pieces of every size.
-fn is_read(alloc: Global, cell: &Worked<'_>) -> Result<bool, Fail>
+/// What is read of the cell, in pieces of every size, or the first that is not what it must be.
+fn lines_of(alloc: Global, cell: &Worked<'_>) -> Result<String, Fail>
     requires { cell.now.limits.parts ≡ true → 1 ≤ cell.now.limits.cell }
 {
     let table = table_of(alloc, cell.option)?;
     let Some(_) = end_of(&table, 0, cell.limits.depth) else {
-        return Ok(false);
+        return Ok(String::from_str(alloc, "no type")?);
     };
     for size in 1..=cell.bytes.len() {
         if size < 1_000 {
-            let lines = read(alloc, &cell.limits, &table, Some(0), cell.bytes, cell.room, size)?;
+            let lines = read(
+                alloc,
+                &cell.limits,
+                &table,
+                Some(0),
+                cell.bytes,
+                cell.room,
+                size,
+            )?;
             if lines.as_str() != cell.lines {
-                return Ok(false);
+                return Ok(lines);
             }
         }
     }
-    Ok(true)
+    Ok(String::from_str(alloc, cell.lines)?)
 }
 
 const LIST: [u8; 4] = [0, 0x20, 0, 9];
@@ -211,7 +227,7 @@ fn list_with_null_and_empty(rt: HostRuntime) -> Result<(), Fail> {
         room: 24,
         lines: "100 Enter { level: 0, kind: List, items: 3 }, 108 Leaf { level: 1, scalar: Int(1) }, 116 Null { level: 1 }, 120 Empty { level: 1 }, 124 Leave { level: 0, items: 3 }, Done",
     };
-    assert!(rt; is_read(rt.alloc(), &cell)?);
+    assert_eq!(rt; lines_of(rt.alloc(), &cell)?.as_str(), cell.lines);
     Ok(())
 }
 
@@ -227,7 +243,7 @@ fn short_udt(rt: HostRuntime) -> Result<(), Fail> {
         room: 12,
         lines: "100 Enter { level: 0, kind: Udt, items: 3 }, 104 Leaf { level: 1, scalar: Int(7) }, 112 Leave { level: 0, items: 1 }, Done",
     };
-    assert!(rt; is_read(rt.alloc(), &cell)?);
+    assert_eq!(rt; lines_of(rt.alloc(), &cell)?.as_str(), cell.lines);
     Ok(())
 }
 
@@ -242,17 +258,20 @@ fn map_of_one_pair(rt: HostRuntime) -> Result<(), Fail> {
         room: 24,
         lines: "100 Enter { level: 0, kind: Map, items: 1 }, 108 Leaf { level: 1, scalar: Int(1) }, 116 Leaf { level: 1, scalar: Int(2) }, 124 Leave { level: 0, items: 1 }, Done",
     };
-    assert!(rt; is_read(rt.alloc(), &whole)?);
+    assert_eq!(rt; lines_of(rt.alloc(), &whole)?.as_str(), whole.lines);
     let past_value = Worked {
         bytes: &[
-            0, 0, 0, 20, 0, 0, 0, 1, 0, 0, 0, 4, 0, 0, 0, 1, 0, 0, 0, 5, 0, 0, 0, 2, 255, 255,
-            255, 255,
+            0, 0, 0, 20, 0, 0, 0, 1, 0, 0, 0, 4, 0, 0, 0, 1, 0, 0, 0, 5, 0, 0, 0, 2, 255, 255, 255,
+            255,
         ],
         room: 28,
         lines: "100 Enter { level: 0, kind: Map, items: 1 }, 108 Leaf { level: 1, scalar: Int(1) }, 116 Overrun",
         ..whole
     };
-    assert!(rt; is_read(rt.alloc(), &past_value)?);
+    assert_eq!(rt;
+        lines_of(rt.alloc(), &past_value)?.as_str(),
+        past_value.lines
+    );
     Ok(())
 }
 
@@ -267,7 +286,7 @@ fn lists_in_a_list(rt: HostRuntime) -> Result<(), Fail> {
         room: 24,
         lines: "100 Enter { level: 0, kind: List, items: 1 }, 108 Enter { level: 1, kind: List, items: 1 }, 116 Leaf { level: 2, scalar: Int(7) }, 124 Leave { level: 1, items: 1 }, 124 Leave { level: 0, items: 1 }, Done",
     };
-    assert!(rt; is_read(rt.alloc(), &cell)?);
+    assert_eq!(rt; lines_of(rt.alloc(), &cell)?.as_str(), cell.lines);
     Ok(())
 }
 
@@ -280,7 +299,7 @@ fn bytes_behind_the_last_item(rt: HostRuntime) -> Result<(), Fail> {
         room: 20,
         lines: "100 Enter { level: 0, kind: Tuple, items: 1 }, 104 Leaf { level: 1, scalar: Int(7) }, 112 ExtraInValue",
     };
-    assert!(rt; is_read(rt.alloc(), &tuple)?);
+    assert_eq!(rt; lines_of(rt.alloc(), &tuple)?.as_str(), tuple.lines);
     let list = Worked {
         option: &LIST,
         bytes: &[0, 0, 0, 8, 0, 0, 0, 0, 0, 0, 0, 0],
@@ -288,7 +307,7 @@ fn bytes_behind_the_last_item(rt: HostRuntime) -> Result<(), Fail> {
         lines: "100 Enter { level: 0, kind: List, items: 0 }, 108 ExtraInValue",
         ..tuple
     };
-    assert!(rt; is_read(rt.alloc(), &list)?);
+    assert_eq!(rt; lines_of(rt.alloc(), &list)?.as_str(), list.lines);
     Ok(())
 }
 
@@ -301,20 +320,20 @@ fn counts_that_lie(rt: HostRuntime) -> Result<(), Fail> {
         room: 8,
         lines: "100 Enter { level: 0, kind: List, items: 2147483647 }, 108 Overrun",
     };
-    assert!(rt; is_read(rt.alloc(), &greatest)?);
+    assert_eq!(rt; lines_of(rt.alloc(), &greatest)?.as_str(), greatest.lines);
     let negative = Worked {
         bytes: &[0, 0, 0, 4, 255, 255, 255, 255],
         lines: "104 BadCount",
         ..greatest
     };
-    assert!(rt; is_read(rt.alloc(), &negative)?);
+    assert_eq!(rt; lines_of(rt.alloc(), &negative)?.as_str(), negative.lines);
     let short = Worked {
         bytes: &[0, 0, 0, 3, 0, 0, 0],
         room: 7,
         lines: "104 Overrun",
         ..greatest
     };
-    assert!(rt; is_read(rt.alloc(), &short)?);
+    assert_eq!(rt; lines_of(rt.alloc(), &short)?.as_str(), short.lines);
     Ok(())
 }
 
@@ -327,7 +346,7 @@ fn scalars_and_their_faults(rt: HostRuntime) -> Result<(), Fail> {
         room: 7,
         lines: "100 BadSize",
     };
-    assert!(rt; is_read(rt.alloc(), &int)?);
+    assert_eq!(rt; lines_of(rt.alloc(), &int)?.as_str(), int.lines);
     let text = Worked {
         option: &[0, 0x0d],
         bytes: &[0, 0, 0, 2, 0xff, 0x28],
@@ -335,7 +354,7 @@ fn scalars_and_their_faults(rt: HostRuntime) -> Result<(), Fail> {
         lines: "100 BadUtf8",
         ..int
     };
-    assert!(rt; is_read(rt.alloc(), &text)?);
+    assert_eq!(rt; lines_of(rt.alloc(), &text)?.as_str(), text.lines);
     let past_frame = Worked {
         option: &BLOB,
         bytes: &[0, 0, 0, 5],
@@ -343,7 +362,10 @@ fn scalars_and_their_faults(rt: HostRuntime) -> Result<(), Fail> {
         lines: "100 Overrun",
         ..int
     };
-    assert!(rt; is_read(rt.alloc(), &past_frame)?);
+    assert_eq!(rt;
+        lines_of(rt.alloc(), &past_frame)?.as_str(),
+        past_frame.lines
+    );
     Ok(())
 }
 
@@ -361,21 +383,24 @@ fn long_blobs(rt: HostRuntime) -> Result<(), Fail> {
         room: 8,
         lines: "100 Leaf { level: 0, scalar: Blob([1, 2, 3, 4]) }, Done",
     };
-    assert!(rt; is_read(rt.alloc(), &short)?);
+    assert_eq!(rt; lines_of(rt.alloc(), &short)?.as_str(), short.lines);
     let long = Worked {
         bytes: &[0, 0, 0, 5, 1, 2, 3, 4, 5],
         room: 9,
         lines: "104 Part { level: 0, offset: 0, bytes: [1, 2, 3, 4], last: false }, 108 Part { level: 0, offset: 4, bytes: [5], last: true }, Done",
         ..short
     };
-    assert!(rt; is_read(rt.alloc(), &long)?);
+    assert_eq!(rt; lines_of(rt.alloc(), &long)?.as_str(), long.lines);
     let whole_parts = Worked {
         bytes: &[0, 0, 0, 8, 1, 2, 3, 4, 5, 6, 7, 8],
         room: 12,
         lines: "104 Part { level: 0, offset: 0, bytes: [1, 2, 3, 4], last: false }, 108 Part { level: 0, offset: 4, bytes: [5, 6, 7, 8], last: true }, Done",
         ..short
     };
-    assert!(rt; is_read(rt.alloc(), &whole_parts)?);
+    assert_eq!(rt;
+        lines_of(rt.alloc(), &whole_parts)?.as_str(),
+        whole_parts.lines
+    );
     let refused = Worked {
         limits,
         bytes: &[0, 0, 0, 5, 1, 2, 3, 4, 5],
@@ -383,7 +408,7 @@ fn long_blobs(rt: HostRuntime) -> Result<(), Fail> {
         lines: "100 TooLong",
         ..short
     };
-    assert!(rt; is_read(rt.alloc(), &refused)?);
+    assert_eq!(rt; lines_of(rt.alloc(), &refused)?.as_str(), refused.lines);
     Ok(())
 }
 
@@ -391,8 +416,19 @@ fn long_blobs(rt: HostRuntime) -> Result<(), Fail> {
 fn cells_without_a_type(rt: HostRuntime) -> Result<(), Fail> {
     let table = TypeTable::new(rt.alloc(), 0)?;
     for size in 1..=7usize {
-        let lines = read(rt.alloc(), &LIMITS, &table, None, &[0, 0, 0, 3, 1, 2, 3], 7, size)?;
-        assert_eq!(rt; lines.as_str(), "100 Leaf { level: 0, scalar: Raw([1, 2, 3]) }, Done");
+        let lines = read(
+            rt.alloc(),
+            &LIMITS,
+            &table,
+            None,
+            &[0, 0, 0, 3, 1, 2, 3],
+            7,
+            size,
+        )?;
+        assert_eq!(rt;
+            lines.as_str(),
+            "100 Leaf { level: 0, scalar: Raw([1, 2, 3]) }, Done"
+        );
     }
     Ok(())
 }

@@ -8,5 +8,5 @@ invariant-loop l = record {
   within : l.start ≤ length l.bytes;
   under_way : is_under_way l.reader ≡ true;
   stands : Stands l.table.nodes l.reader;
-  joined : Joined l.table.nodes l.reader l.partial
+  joined : Joined l.table.nodes l.reader l.partial;
 }

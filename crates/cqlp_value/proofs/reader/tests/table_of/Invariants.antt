@@ -7,5 +7,5 @@ invariant-loop l = record {
   within : l.start ≤ length l.option;
   under_way : l.reader.under_way ≡ true;
   shared : IsShared l.reader l.partial;
-  room : l.reader.rules.entries ≤ l.table.room
+  room : l.reader.rules.entries ≤ l.table.room;
 }
