@@ -8,7 +8,7 @@ ghost use Rattle.cqlp_value.specs.Standing.{CellStands, Stands, is_under_way};
 ghost use Rattle.cqlp_value.specs.Reading.{Joined};
 
 use super::*;
-use crate::item::CellItem;
+use crate::heaps::Limited;
 use cqlp_type::{Kind, TypePush, TypeReader};
 use std::test::Fail;
 
@@ -431,4 +431,12 @@ fn cells_without_a_type(rt: HostRuntime) -> Result<(), Fail> {
         );
     }
     Ok(())
+}
+
+#[test]
+fn its_levels_are_its_only_request(rt: HostRuntime) {
+    let none = Limited::new(rt.alloc(), 0);
+    assert!(rt; matches!(CellReader::new(&none, &LIMITS), Err(NoMemory)));
+    let one = Limited::new(rt.alloc(), 1);
+    assert!(rt; CellReader::new(&one, &LIMITS).is_ok());
 }
