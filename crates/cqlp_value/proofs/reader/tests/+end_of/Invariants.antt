@@ -1,4 +1,4 @@
-use Rattle.std.proofs.Common.{◌≡◌, ◌+◌, ◌-◌, ◌<◌, ◌≤◌, length}
+use Rattle.std.proofs.Common.{◌+◌, ◌-◌}
 use Rattle.cqlp_value.specs.Inner.{StandTo}
 use Rattle.cqlp_value.proofs.reader.tests.+end_of.Given as goal
 

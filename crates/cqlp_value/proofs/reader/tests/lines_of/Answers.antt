@@ -1,4 +1,3 @@
-use Rattle.std.proofs.Common.{◌≡◌}
 use Rattle.cqlp_value.proofs.Inside.{stands_to}
 use Rattle.cqlp_value.proofs.reader.tests.lines_of.Goals as goal
 
