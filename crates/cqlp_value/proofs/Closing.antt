@@ -1,9 +1,9 @@
 -- The end of a value, and what goes on.
-use Rattle.std.proofs.Common.{◌≡◌, ◌≢◌, ℕ, ◌+◌, ◌-◌, ◌^◌, ◌<◌, ◌≤◌, Bool, true, false, ltb, List, [], ◌∷◌, ◌++◌, length, take, drop, Option, Some, None, refl, sym, ap, subst, ◌∙◌, append_assoc, arith, inl, inr, lt-ltb, le-ltb}
+use Rattle.std.proofs.Common.{◌≡◌, ◌≢◌, ℕ, ◌+◌, ◌^◌, ◌<◌, ◌≤◌, true, false, List, [], ◌++◌, length, take, drop, Some, refl, sym, ap, ◌∙◌, append_assoc, arith, lt-ltb, le-ltb}
 use Rattle.std.specs.Int.{w32, from_be_bytes}
 use Rattle.std.proofs.lemmas.List.{length-append, take_at, drop_at}
 use Rattle.cqlp_note.specs.declared.refusal.Reason.TheVariants.{ExtraInValue}
-use Rattle.cqlp_note.specs.Reader.{More, Bad, Got, says}
+use Rattle.cqlp_note.specs.Reader.{says}
 use Rattle.cqlp_note.specs.Partial.{Progress}
 use Rattle.cqlp_type.specs.declared.node.Node.{Node}
 use Rattle.cqlp_value.specs.declared.item.CellAdvance.{CellAdvance}
@@ -16,10 +16,10 @@ use Rattle.cqlp_value.specs.declared.standing.Under.{Under}
 use Rattle.cqlp_value.specs.declared.standing.Under.TheVariants as under
 use Rattle.cqlp_value.specs.declared.standing.Due.{Due}
 use Rattle.cqlp_value.specs.declared.standing.Due.TheVariants as due
-use Rattle.cqlp_value.specs.CellStep.{Leave, CellPlace, place_after}
-use Rattle.cqlp_value.specs.Levels.{last_open, but_last}
-use Rattle.cqlp_value.specs.Standing.{State, ended, is_some_next, levels_symbols, place, close_if, is_over, due_in, due_of, AreOpen, last_stop, Stands}
-use Rattle.cqlp_value.specs.Coming.{room_of, ValueDue}
+use Rattle.cqlp_value.specs.CellStep.{Leave, place_after}
+use Rattle.cqlp_value.specs.Levels.{but_last}
+use Rattle.cqlp_value.specs.Standing.{State, ended, is_some_next, levels_symbols, place, is_over, due_of, AreOpen, last_stop, Stands}
+use Rattle.cqlp_value.specs.Coming.{room_of}
 use Rattle.cqlp_value.specs.Reading.{Saying, told, sized_of, Hands, Fails, Settles, Moves, Answers, Behind, AreBytes, HaveCome}
 use Rattle.cqlp_value.proofs.Nesting.{but_last_is}
 use Rattle.cqlp_value.proofs.Opened.{Inmost, close_next}

@@ -1,11 +1,11 @@
 -- What the next step reads.
-use Rattle.std.proofs.Common.{◌≡◌, ℕ, zero, suc, ◌+◌, ◌-◌, ◌^◌, ◌<◌, ◌≤◌, Bool, true, false, ◌||◌, eqb, leb, cond, List, [], ◌∷◌, ◌++◌, length, Option, Some, None, refl, sym, ap, subst, ◌∙◌, append_assoc, inl, inr, arith}
+use Rattle.std.proofs.Common.{◌≡◌, ℕ, zero, suc, ◌+◌, ◌-◌, ◌^◌, ◌<◌, ◌≤◌, Bool, true, false, ◌||◌, eqb, leb, List, [], ◌∷◌, ◌++◌, length, Option, Some, None, refl, sym, ap, ◌∙◌, append_assoc, inl, inr, arith}
 use Rattle.std.proofs.lemmas.Bool.{eqb-true, or_cases}
-use Rattle.std.proofs.lemmas.List.{append-nil, length-append}
+use Rattle.std.proofs.lemmas.List.{length-append}
 use Rattle.cqlp_note.specs.Limits.{Rules}
 use Rattle.cqlp_type.specs.declared.kind.Kind.{Kind}
 use Rattle.cqlp_type.specs.declared.node.Node.{Node}
-use Rattle.cqlp_type.specs.Types.{Types, NoMore, Type_and, has_no_items}
+use Rattle.cqlp_type.specs.Types.{Types, NoMore, Type_and}
 use Rattle.cqlp_value.specs.declared.levels.Open.{Open}
 use Rattle.cqlp_value.specs.declared.levels.Order.{Order}
 use Rattle.cqlp_value.specs.declared.levels.Order.TheVariants as order
@@ -14,13 +14,12 @@ use Rattle.cqlp_value.specs.declared.standing.Next.TheVariants as next
 use Rattle.cqlp_value.specs.declared.standing.Due.{Due}
 use Rattle.cqlp_value.specs.declared.standing.Due.TheVariants as due
 use Rattle.cqlp_value.specs.CellStep.{CellSymbol, Value_of, Items_of, Close_of, CellPlace, cell_copies, cell_step, cell_step_at, value_step, close_step, part_step}
-use Rattle.cqlp_value.specs.Levels.{last_open, but_last, with_last}
 use Rattle.cqlp_value.specs.Inner.{types_at, node_at, HasInner, Stand}
-use Rattle.cqlp_value.specs.Standing.{State, value_symbols, left_of, open_symbols, levels_symbols, symbols_for, place, value_at, due_value, open_after, rest_of, passed_by, passed, is_over, over_by, due_of, TypesStand, AreOpen, last_stop, Stands, HasNext}
-use Rattle.cqlp_value.specs.Coming.{inner_of, InnerDue, ValueDue}
-use Rattle.cqlp_value.proofs.Nesting.{last_is, but_last_is, with_last_is}
-use Rattle.cqlp_value.proofs.Inside.{First, first_stands}
-use Rattle.cqlp_value.proofs.Opened.{last_stop_is, last_stop_le, levels_symbols_is, Innermost, open_join, Inmost, value_next, close_next, has_next, first_there}
+use Rattle.cqlp_value.specs.Standing.{State, value_symbols, left_of, open_symbols, levels_symbols, symbols_for, place, value_at, due_value, open_after, rest_of, passed_by, passed, is_over, over_by, due_of, TypesStand, Stands, HasNext}
+use Rattle.cqlp_value.specs.Coming.{ValueDue}
+use Rattle.cqlp_value.proofs.Nesting.{last_is, with_last_is}
+use Rattle.cqlp_value.proofs.Inside.{first_stands}
+use Rattle.cqlp_value.proofs.Opened.{last_stop_is, last_stop_le, levels_symbols_is, open_join, Inmost, value_next, has_next}
 
 no_types : (nodes : List Node) (i : ℕ) → types_at nodes i 0 ≡ NoMore
 unfolding types_at

@@ -1,24 +1,22 @@
 -- A list, a set or a map, whose length has come.
-use Rattle.std.proofs.Common.{◌≡◌, ℕ, ◌+◌, ◌-◌, ◌^◌, ◌<◌, ◌≤◌, Bool, true, false, List, [], ◌∷◌, ◌++◌, length, take, drop, refl, sym, ap, ◌∙◌, arith, inl, inr, lt-ltb, le-ltb, cond}
+use Rattle.std.proofs.Common.{◌≡◌, ℕ, ◌+◌, ◌-◌, ◌^◌, ◌<◌, ◌≤◌, List, [], ◌∷◌, ◌++◌, length, take, drop, refl, sym, ap, ◌∙◌, arith, inl, inr, lt-ltb, le-ltb}
 use Rattle.std.specs.Int.{w32, from_be_bytes}
 use Rattle.std.proofs.lemmas.Bool.{cases_lt}
 use Rattle.cqlp_note.specs.declared.refusal.Reason.TheVariants.{Overrun, BadCount}
-use Rattle.cqlp_note.specs.declared.refusal.Refusal.{Refusal}
-use Rattle.cqlp_note.specs.Reader.{More, Bad, Got, says, number_of}
+use Rattle.cqlp_note.specs.Reader.{More, Bad, says, number_of}
 use Rattle.cqlp_note.specs.Partial.{Progress}
 use Rattle.cqlp_type.specs.declared.node.Node.{Node}
 use Rattle.cqlp_value.specs.declared.item.CellOutline.TheVariants as outline
 use Rattle.cqlp_value.specs.declared.size.Sized.TheVariants as size
 use Rattle.cqlp_value.specs.declared.standing.Under.TheVariants as under
 use Rattle.cqlp_value.specs.declared.standing.Due.TheVariants as due
-use Rattle.cqlp_value.specs.CellStep.{CellSymbol, Close_of, Enter, CellPlace, cell_copies, values_of, place_after}
-use Rattle.cqlp_value.specs.Numbers.{IsUnsigned, WantsNumber, IsCounted}
+use Rattle.cqlp_value.specs.CellStep.{CellSymbol, Close_of, Enter, cell_copies, values_of, place_after}
+use Rattle.cqlp_value.specs.Numbers.{WantsNumber, IsCounted}
 use Rattle.cqlp_value.specs.Standing.{State, ended, place, due_value, moved, rest_of, due_of, Stands}
-use Rattle.cqlp_value.specs.Coming.{inner_of, ValueDue}
+use Rattle.cqlp_value.specs.Coming.{inner_of}
 use Rattle.cqlp_value.specs.Reading.{counted_open, entered, sized_of, Decided, Emits, Hands, Waits, Fails, Behind, EntersCounted}
-use Rattle.cqlp_value.proofs.Coming.{value_due}
 use Rattle.cqlp_value.proofs.Handing.{same_decided}
-use Rattle.cqlp_value.proofs.Entering.{counted_due, counted_inner, counted_symbols, entered_symbols, counted_stands}
+use Rattle.cqlp_value.proofs.Entering.{counted_due, counted_inner, counted_symbols, entered_symbols}
 
 -- the number that the first four bytes are
 abbrev count_in : List ℕ → ℕ

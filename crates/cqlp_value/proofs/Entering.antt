@@ -1,32 +1,22 @@
 -- What stands inside a value.
-use Rattle.std.proofs.Common.{◌≡◌, ℕ, zero, suc, ◌+◌, ◌-◌, ◌^◌, ◌<◌, ◌≤◌, Bool, true, false, List, [], ◌∷◌, ◌++◌, length, take, drop, Option, Some, None, refl, sym, ap, subst, ◌∙◌, append_assoc, arith, lt-ltb, le-ltb, cond}
+use Rattle.std.proofs.Common.{◌≡◌, ℕ, ◌+◌, ◌-◌, ◌^◌, ◌<◌, ◌≤◌, true, false, List, [], ◌∷◌, ◌++◌, length, Some, refl, sym, ◌∙◌, arith}
 use Rattle.std.specs.Prelude.{slice_get, IsSome}
-use Rattle.std.specs.Int.{w32, from_be_bytes}
-use Rattle.std.proofs.lemmas.List.{append-nil, length-append}
-use Rattle.cqlp_note.specs.declared.refusal.Reason.TheVariants.{Overrun, BadCount}
-use Rattle.cqlp_note.specs.Reader.{Reader, More, Bad, Got, Takes, Refuses, says, number_of}
-use Rattle.cqlp_note.specs.Step.{Step, Emit}
-use Rattle.cqlp_note.specs.Field.{is_negative}
 use Rattle.cqlp_note.specs.Limits.{Rules}
 use Rattle.cqlp_type.specs.declared.kind.Kind.{Kind}
 use Rattle.cqlp_type.specs.declared.kind.Kind.TheVariants as kind
 use Rattle.cqlp_type.specs.declared.node.Node.{Node}
-use Rattle.cqlp_type.specs.Types.{Types, NoMore, Type_and, how_many, has_no_items}
+use Rattle.cqlp_type.specs.Types.{has_no_items}
 use Rattle.cqlp_value.specs.declared.levels.Open.{Open}
-use Rattle.cqlp_value.specs.declared.levels.Order.{Order}
-use Rattle.cqlp_value.specs.declared.levels.Order.TheVariants as order
 use Rattle.cqlp_value.specs.declared.size.Sized.TheVariants as size
-use Rattle.cqlp_value.specs.declared.standing.Next.TheVariants as next
-use Rattle.cqlp_value.specs.declared.standing.Under.TheVariants as under
 use Rattle.cqlp_value.specs.declared.standing.Due.TheVariants as due
 use Rattle.cqlp_value.specs.declared.standing.Value.{Value}
-use Rattle.cqlp_value.specs.CellStep.{CellSymbol, Value_of, Close_of, Items_of, Enter, CellPlace, cell_copies, values_of, place_after, counted_step}
+use Rattle.cqlp_value.specs.CellStep.{Close_of, cell_copies, values_of}
 use Rattle.cqlp_value.specs.Sizes.{is_counted}
 use Rattle.cqlp_value.specs.Inner.{types_at, node_at, HasInner, Stand}
-use Rattle.cqlp_value.specs.Standing.{State, value_symbols, open_symbols, levels_symbols, place, due_value, open_after, moved, rest_of, due_of, TypesStand, AreOpen, last_stop, Stands}
-use Rattle.cqlp_value.specs.Coming.{inner_of, room_of, InnerDue, ValueDue}
-use Rattle.cqlp_value.specs.Reading.{order_by, inner_order, counted_open, fields_open, entered, sized_of, Decided, EntersCounted, EntersFields, InnerStands}
-use Rattle.cqlp_value.proofs.Opened.{last_stop_is, levels_symbols_is, Innermost, open_join, first_there}
+use Rattle.cqlp_value.specs.Standing.{State, open_symbols, place, due_value, open_after, moved, rest_of, due_of, TypesStand, Stands}
+use Rattle.cqlp_value.specs.Coming.{InnerDue, ValueDue}
+use Rattle.cqlp_value.specs.Reading.{order_by, counted_open, fields_open, entered, Decided, InnerStands}
+use Rattle.cqlp_value.proofs.Opened.{last_stop_is, levels_symbols_is, open_join, first_there}
 use Rattle.cqlp_value.proofs.Coming.{FirstType, first_type, one_value, value_due}
 
 -- ---- the second type of a map

@@ -1,16 +1,14 @@
 -- What a `Partial` says of a content.
-use Rattle.std.proofs.Common.{◌≡◌, ℕ, ◌+◌, ◌-◌, ◌<◌, ◌≤◌, ltb, cond, List, [], ◌++◌, length, take, drop, Some, false, refl, sym, ◌∙◌, inl, inr, arith}
+use Rattle.std.proofs.Common.{◌≡◌, ℕ, ◌+◌, ◌-◌, ◌<◌, ◌≤◌, List, [], ◌++◌, length, take, Some, refl, sym, ◌∙◌, inl, inr, arith}
 use Rattle.std.proofs.lemmas.Bool.{cases_lt, lt-ltb, le-ltb}
 use Rattle.std.proofs.lemmas.List.{length-take-le}
-use Rattle.cqlp_note.specs.declared.head.Wanted.{Wanted}
 use Rattle.cqlp_note.specs.declared.field.Notation.TheVariants as notation
 use Rattle.cqlp_note.specs.declared.refusal.Reason.{Reason}
 use Rattle.cqlp_note.specs.Reader.{Said, More, Bad, Got, Gives, Takes, says}
 use Rattle.cqlp_note.specs.Field.{FieldValue, Bytes, field_of, content_of}
 use Rattle.cqlp_note.specs.Head.{reader_of}
 use Rattle.cqlp_note.specs.declared.taken.Item.{Item}
-use Rattle.cqlp_note.specs.Partial.{Progress, begun, Ends, Waits, CanLend, item_value, content_length}
-use Rattle.cqlp_value.specs.declared.gather.Found.{Found}
+use Rattle.cqlp_note.specs.Partial.{Progress, begun, Ends, Waits, CanLend, item_value}
 use Rattle.cqlp_value.specs.Gathering.{content_wanted, Wants, Finds}
 
 module _ (len at : ℕ) (x : List ℕ) where

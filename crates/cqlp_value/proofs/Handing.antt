@@ -1,29 +1,25 @@
 -- What a step says, where the length of a value has come.
-use Rattle.std.proofs.Common.{◌≡◌, ℕ, ◌+◌, ◌-◌, ◌^◌, ◌<◌, ◌≤◌, Bool, true, false, List, [], ◌∷◌, ◌++◌, length, take, drop, is_some, Option, Some, None, refl, sym, ap, subst, ◌∙◌, arith, lt-ltb, le-ltb}
+use Rattle.std.proofs.Common.{◌≡◌, ℕ, ◌+◌, ◌-◌, ◌<◌, ◌≤◌, true, List, ◌++◌, length, take, drop, is_some, Option, Some, None, refl, ◌∙◌, arith, lt-ltb, le-ltb}
 use Rattle.std.proofs.lemmas.List.{length-take-le}
-use Rattle.cqlp_note.specs.declared.refusal.Reason.{Reason}
-use Rattle.cqlp_note.specs.Reader.{More, Bad, Got, Takes, says}
+use Rattle.cqlp_note.specs.Reader.{More, Got, says}
 use Rattle.cqlp_note.specs.Step.{Emitted}
-use Rattle.cqlp_note.specs.Field.{Bytes}
-use Rattle.cqlp_note.specs.Partial.{Progress, item_value}
+use Rattle.cqlp_note.specs.Partial.{Progress}
 use Rattle.cqlp_type.specs.declared.kind.Kind.{Kind}
 use Rattle.cqlp_type.specs.declared.node.Node.{Node}
 use Rattle.cqlp_value.specs.declared.gather.Found.{Found}
-use Rattle.cqlp_value.specs.declared.item.CellOutline.{CellOutline}
 use Rattle.cqlp_value.specs.declared.item.CellOutline.TheVariants as outline
 use Rattle.cqlp_value.specs.declared.size.Sized.{Sized}
 use Rattle.cqlp_value.specs.declared.size.Sized.TheVariants as size
-use Rattle.cqlp_value.specs.declared.standing.Next.TheVariants as next
 use Rattle.cqlp_value.specs.declared.standing.Under.{Under}
 use Rattle.cqlp_value.specs.declared.standing.Under.TheVariants as under
 use Rattle.cqlp_value.specs.declared.standing.Due.TheVariants as due
-use Rattle.cqlp_value.specs.Scalars.{ScalarValue, scalar_of, fault_of}
-use Rattle.cqlp_value.specs.CellStep.{CellSymbol, CellEvent, Leaf, CellPlace, leaf_step}
-use Rattle.cqlp_value.specs.Items.{content_at, leaf_event, event_at}
+use Rattle.cqlp_value.specs.Scalars.{ScalarValue, scalar_of}
+use Rattle.cqlp_value.specs.CellStep.{CellSymbol, CellEvent, CellPlace, leaf_step}
+use Rattle.cqlp_value.specs.Items.{content_at, leaf_event}
 use Rattle.cqlp_value.specs.Gathering.{Wants, Finds}
-use Rattle.cqlp_value.specs.Standing.{State, place, due_value, open_after, moved, rest_of, due_of, Stands}
-use Rattle.cqlp_value.specs.Coming.{room_of, ValueDue}
-use Rattle.cqlp_value.specs.Reading.{Saying, sized_of, Decided, Joined, Emits, Hands, Waits, Behind}
+use Rattle.cqlp_value.specs.Standing.{State, place, due_value, moved, rest_of, due_of, Stands}
+use Rattle.cqlp_value.specs.Coming.{ValueDue}
+use Rattle.cqlp_value.specs.Reading.{sized_of, Decided, Emits, Hands, Waits, Behind}
 use Rattle.cqlp_value.proofs.Coming.{value_due}
 
 -- behind the value that comes next, as far as the one around it goes

@@ -1,12 +1,11 @@
 -- The types in a table are those of the nodes.
-use Rattle.std.proofs.Common.{◌≡◌, ℕ, zero, suc, ◌+◌, ◌-◌, ◌<◌, ◌≤◌, List, [], ◌∷◌, ◌++◌, length, drop, max, Option, Some, None, refl, sym, ap, ◌∙◌, append_assoc, arith}
-use Rattle.std.specs.Prelude.{slice_get, unwrap_or}
+use Rattle.std.proofs.Common.{◌≡◌, ℕ, zero, suc, ◌+◌, ◌-◌, ◌<◌, ◌≤◌, List, [], ◌∷◌, ◌++◌, length, drop, Some, refl, sym, ap, ◌∙◌, append_assoc, arith}
+use Rattle.std.specs.Prelude.{slice_get}
 use Rattle.std.proofs.lemmas.List.{append-nil, drop-drop, length-append, length-drop, drop_at}
 use Rattle.cqlp_type.specs.declared.kind.Kind.{Kind}
-use Rattle.cqlp_type.specs.declared.kind.Kind.TheVariants as kind
 use Rattle.cqlp_type.specs.declared.node.Node.{Node}
 use Rattle.cqlp_type.specs.Types.{Types, NoMore, Type_and, how_many, first_types, other_types, types_of, preorder, followed_by}
-use Rattle.cqlp_value.specs.Inner.{types_at, node_at, HasInner, AreTypes, depth_of, Stand}
+use Rattle.cqlp_value.specs.Inner.{types_at, node_at, HasInner, AreTypes, depth_of, Stand, StandTo}
 
 first-followed : (ts us : Types) → first_types (how_many ts) (followed_by ts us) ≡ ts
 first-followed NoMore us = refl
@@ -90,3 +89,59 @@ module _ (nodes : List Node) (i n depth : ℕ) where
 
   pub first_stands : Stand nodes i (suc n) depth → (x : Node) × First nodes i n depth x
   first_stands s = first_of (types_at nodes i (suc n)) s.others s.are s.many s.formed s.shallow
+
+-- ---- types that end before a node
+
+pub stand_none : (nodes : List Node) (i depth : ℕ) → i ≤ length nodes → StandTo nodes i i 0 depth
+stand_none nodes i depth le = record { types = NoMore; are = refl; many = refl; formed = tt; shallow = omega arith; within = (omega arith, le) }
+
+preorder-followed : (ts us : Types) → preorder (followed_by ts us) ≡ preorder ts ++ preorder us
+preorder-followed NoMore us = refl
+preorder-followed (Type_and k inner others) us = rw (preorder-followed others us) (ap (λ (m : List Node). record { kind = k; arity = how_many inner; span = suc (length (preorder inner)) } ∷ m) (sym (append_assoc (preorder inner) (preorder others) (preorder us))))
+
+many-followed : (ts us : Types) → how_many (followed_by ts us) ≡ how_many ts + how_many us
+many-followed NoMore us = omega arith
+many-followed (Type_and k inner others) us = omega (arith, many-followed others us)
+
+formed-followed : (ts us : Types) → AreTypes ts → AreTypes us → AreTypes (followed_by ts us)
+formed-followed NoMore us a b = b
+formed-followed (Type_and k inner others) us a b = (a.0, a.1, formed-followed others us a.2 b)
+
+depth-followed : (ts us : Types) (depth : ℕ) → depth_of ts ≤ depth → depth_of us ≤ depth → depth_of (followed_by ts us) ≤ depth
+depth-followed NoMore us depth a b = b
+depth-followed (Type_and k inner others) us depth a b = omega (arith, depth-followed others us depth (omega arith) b)
+
+pub stand_more : (nodes : List Node) (i m e n depth : ℕ) → StandTo nodes i m n depth → StandTo nodes m e 1 depth → StandTo nodes i e (n + 1) depth
+stand_more nodes i m e n depth a b = record {
+  types = followed_by a.types b.types;
+  are = a.are ∙ rw (b.are, preorder-followed a.types b.types) (sym (append_assoc (preorder a.types) (preorder b.types) (drop e nodes)));
+  many = omega (arith, many-followed a.types b.types, a.many, b.many);
+  formed = formed-followed a.types b.types a.formed b.formed;
+  shallow = depth-followed a.types b.types depth a.shallow b.shallow;
+  within = (omega (arith, a.within, b.within), b.within.1);
+}
+
+here_is : (nodes : List Node) (i : ℕ) (x : Node) → slice_get nodes i ≡ Some x → drop i nodes ≡ x ∷ drop (suc i) nodes
+here_is [] zero x e = absurd cc
+here_is [] (suc i) x e = absurd cc
+here_is (y ∷ ys) zero x e = let a : y ≡ x = cc in rw a refl
+here_is (y ∷ ys) (suc i) x e = here_is ys i x e
+
+pub stand_whole : (nodes : List Node) (i e depth : ℕ) (x : Node) → slice_get nodes i ≡ Some x → HasInner x.kind x.arity → 0 < depth → StandTo nodes (i + 1) e x.arity (depth - 1) → i + x.span ≡ e → StandTo nodes i e 1 depth
+stand_whole nodes i e depth x get formed deep s ends =
+    let next : suc i ≡ i + 1 = omega arith in
+    let long : length (drop (i + 1) nodes) ≡ length (preorder s.types) + length (drop e nodes) = rw s.are (length-append (preorder s.types) (drop e nodes)) in
+    let span : x.span ≡ suc (length (preorder s.types)) = omega (arith, long, length-drop (i + 1) nodes, length-drop e nodes, s.within) in
+    let first : drop i nodes ≡ x ∷ (preorder s.types ++ drop e nodes) = here_is nodes i x get ∙ rw next (ap (λ (m : List Node). x ∷ m) s.are) in
+    let same : x ≡ record { kind = x.kind; arity = how_many s.types; span = suc (length (preorder s.types)) } = rw (s.many, ← span) refl in
+    record {
+      types = Type_and x.kind s.types NoMore;
+      are = first ∙ rw (append-nil (preorder s.types)) (ap (λ (y : Node). y ∷ (preorder s.types ++ drop e nodes)) same);
+      many = refl;
+      formed = (rw s.many formed, s.formed, tt);
+      shallow = omega (arith, s.shallow);
+      within = (omega (arith, s.within), s.within.1);
+    }
+
+pub stands_to : (nodes : List Node) (i e n depth : ℕ) → StandTo nodes i e n depth → Stand nodes i n depth
+stands_to nodes i e n depth s = stand_there nodes i s.types (drop e nodes) s.are n depth s.many s.formed s.shallow

@@ -1,10 +1,10 @@
 -- What a push leads to.
-use Rattle.std.proofs.Common.{◌≡◌, ◌≢◌, ℕ, ◌+◌, ◌^◌, ◌<◌, ◌≤◌, Bool, true, false, List, [], ◌∷◌, ◌++◌, length, take, drop, Option, Some, None, refl, sym, ap, ◌∙◌, arith, inl, inr}
-use Rattle.std.specs.Int.{w32, from_be_bytes, to_be_bytes}
+use Rattle.std.proofs.Common.{◌≡◌, ◌≢◌, ℕ, ◌+◌, ◌^◌, ◌<◌, Bool, true, false, List, [], ◌∷◌, ◌++◌, length, take, drop, Some, refl, sym, ap, ◌∙◌, arith}
+use Rattle.std.specs.Int.{w32, to_be_bytes}
 use Rattle.std.proofs.lemmas.Nat.{from_be_bytes-to_be_bytes_4}
-use Rattle.std.proofs.lemmas.List.{append-nil, length-append, length-take-le, drop_all}
+use Rattle.std.proofs.lemmas.List.{length-append, length-take-le, drop_all}
 use Rattle.cqlp_note.specs.declared.refusal.Refusal.{Refusal}
-use Rattle.cqlp_note.specs.Reader.{Said, More, Bad, Got, says}
+use Rattle.cqlp_note.specs.Reader.{Got, says}
 use Rattle.cqlp_note.specs.Step.{Emitted, Runs}
 use Rattle.cqlp_note.specs.Limits.{Rules}
 use Rattle.cqlp_note.specs.Partial.{Progress}
@@ -16,19 +16,17 @@ use Rattle.cqlp_value.specs.declared.item.CellOutline.{CellOutline}
 use Rattle.cqlp_value.specs.declared.item.CellAdvance.TheVariants as advance
 use Rattle.cqlp_value.specs.declared.item.CellPush.TheVariants as push
 use Rattle.cqlp_value.specs.declared.levels.Open.{Open}
-use Rattle.cqlp_value.specs.declared.size.Sized.{Sized}
 use Rattle.cqlp_value.specs.declared.standing.Next.{Next}
 use Rattle.cqlp_value.specs.declared.standing.Next.TheVariants as next
 use Rattle.cqlp_value.specs.declared.standing.Under.{Under}
 use Rattle.cqlp_value.specs.declared.standing.Under.TheVariants as under
-use Rattle.cqlp_value.specs.declared.standing.Due.{Due}
 use Rattle.cqlp_value.specs.declared.standing.Due.TheVariants as due
 use Rattle.cqlp_value.specs.CellStep.{CellEvent, CellPlace, cell_step}
 use Rattle.cqlp_value.specs.Items.{CanLend, event_at, event_of}
 use Rattle.cqlp_value.specs.Levels.{last_open}
-use Rattle.cqlp_value.specs.Standing.{State, ended, is_some_next, is_under_way, levels_symbols, symbols_for, place, close_if, is_over, due_in, due_for, due_of, Stands}
-use Rattle.cqlp_value.specs.Reading.{Saying, told, Joined, UnderBy, Hands, Waits, Fails, Settles, AreBytes, HaveCome, Moves}
-use Rattle.cqlp_value.specs.Pushing.{is_done, done_by, After, Leads, Continues, Serves, Pushes, Uses}
+use Rattle.cqlp_value.specs.Standing.{State, ended, is_some_next, is_under_way, symbols_for, place, close_if, is_over, due_in, due_for, due_of, Stands}
+use Rattle.cqlp_value.specs.Reading.{Saying, told, Joined, UnderBy, AreBytes, HaveCome, Moves}
+use Rattle.cqlp_value.specs.Pushing.{is_done, done_by, Continues, Pushes}
 
 -- some bytes have come, whichever
 number_bytes : (n : ℕ) (seen : List ℕ) → n < 2 ^ 31 → (b : List ℕ) × AreBytes (Some n) seen b

@@ -1,8 +1,8 @@
 -- The length of a value.
-use Rattle.std.proofs.Common.{◌≡◌, ℕ, ◌+◌, ◌-◌, ◌^◌, ◌<◌, ◌≤◌, Bool, true, false, ltb, List, [], ◌∷◌, ◌++◌, length, take, drop, Option, Some, None, refl, sym, ap, subst, ◌∙◌, arith, inl, inr, lt-ltb, le-ltb}
+use Rattle.std.proofs.Common.{◌≡◌, ℕ, ◌+◌, ◌-◌, ◌^◌, ◌<◌, ◌≤◌, false, List, ◌++◌, length, take, drop, Some, refl, sym, ◌∙◌, arith, inl, inr, lt-ltb, le-ltb}
 use Rattle.std.specs.Int.{w32, from_be_bytes}
 use Rattle.std.proofs.lemmas.Bool.{cases_lt}
-use Rattle.std.proofs.lemmas.List.{length-append, length-drop, length-take-le, take-append-drop, drop_at}
+use Rattle.std.proofs.lemmas.List.{length-take-le, take-append-drop}
 use Rattle.std.proofs.Math.Seq.{drop-append-add}
 use Rattle.cqlp_note.specs.declared.refusal.Reason.TheVariants.{Overrun}
 use Rattle.cqlp_note.specs.Reader.{More, Bad, says, number_of}
@@ -14,9 +14,9 @@ use Rattle.cqlp_value.specs.declared.standing.Under.{Under}
 use Rattle.cqlp_value.specs.declared.standing.Under.TheVariants as under
 use Rattle.cqlp_value.specs.declared.standing.Due.TheVariants as due
 use Rattle.cqlp_value.specs.Numbers.{IsUnsigned, WantsNumber, IsCounted}
-use Rattle.cqlp_value.specs.Standing.{State, ended, due_of, due_value, Stands}
+use Rattle.cqlp_value.specs.Standing.{State, ended, due_of, Stands}
 use Rattle.cqlp_value.specs.Coming.{room_of, ValueDue}
-use Rattle.cqlp_value.specs.Reading.{Saying, told, sized_of, Hands, Waits, Fails, Settles, Behind, AreBytes, HaveCome, length_under}
+use Rattle.cqlp_value.specs.Reading.{Saying, told, sized_of, Waits, Fails, Settles, Behind, AreBytes, HaveCome}
 use Rattle.cqlp_value.proofs.Coming.{value_due}
 
 -- what a call does, it does where the same is said in other words

@@ -1,16 +1,13 @@
 -- What a `Partial` says of an [int].
-use Rattle.std.proofs.Common.{◌≡◌, ℕ, ◌+◌, ◌-◌, ◌<◌, ◌≤◌, ◌^◌, ltb, cond, List, [], ◌++◌, length, take, drop, refl, sym, ap, ◌∙◌, inl, inr, arith}
+use Rattle.std.proofs.Common.{◌≡◌, ℕ, ◌<◌, ◌≤◌, ◌^◌, List, ◌++◌, length, take, refl, sym, ap, ◌∙◌, inl, inr, arith}
 use Rattle.std.proofs.lemmas.Bool.{cases_lt, lt-ltb, le-ltb}
 use Rattle.std.proofs.lemmas.Int.{of_z-to_z}
 use Rattle.std.specs.Int.{w32, from_be_bytes, cast_unsigned}
-use Rattle.cqlp_note.specs.declared.head.Wanted.{Wanted}
-use Rattle.cqlp_note.specs.declared.field.Notation.TheVariants as notation
 use Rattle.cqlp_note.specs.declared.refusal.Reason.{Reason}
-use Rattle.cqlp_note.specs.declared.taken.Item.{Item}
 use Rattle.cqlp_note.specs.Reader.{Said, More, Bad, Got, Gives, Takes, says, number_of}
 use Rattle.cqlp_note.specs.Field.{FieldValue, Int, field_of, signed}
 use Rattle.cqlp_note.specs.Head.{reader_of}
-use Rattle.cqlp_note.specs.Partial.{Progress, begun, Ends, Waits, CanLend, item_value}
+use Rattle.cqlp_note.specs.Partial.{Progress, begun, Ends, Waits}
 use Rattle.cqlp_value.specs.Numbers.{int_wanted, int_in, IsUnsigned, WantsNumber, IsCounted}
 
 -- the number that the first four bytes are

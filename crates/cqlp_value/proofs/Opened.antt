@@ -1,22 +1,20 @@
 -- Open values, one in the other.
-use Rattle.std.proofs.Common.{◌≡◌, ℕ, zero, suc, ◌+◌, ◌-◌, ◌^◌, ◌<◌, ◌≤◌, Bool, true, false, ◌||◌, eqb, leb, List, [], ◌∷◌, ◌++◌, length, Option, Some, None, refl, sym, ap, subst, ◌∙◌, append_assoc, inl, inr, arith}
+use Rattle.std.proofs.Common.{◌≡◌, ℕ, zero, suc, ◌+◌, ◌-◌, ◌<◌, ◌≤◌, Bool, true, false, ◌||◌, eqb, leb, List, [], ◌∷◌, ◌++◌, length, Option, Some, None, refl, sym, ap, subst, ◌∙◌, append_assoc, inl, inr, arith}
 use Rattle.std.specs.Prelude.{slice_get, IsSome}
 use Rattle.std.proofs.lemmas.Bool.{eqb-false}
-use Rattle.std.proofs.lemmas.List.{append-nil, length-append}
+use Rattle.std.proofs.lemmas.List.{append-nil}
 use Rattle.cqlp_note.specs.Limits.{Rules}
 use Rattle.cqlp_type.specs.declared.node.Node.{Node}
 use Rattle.cqlp_value.specs.declared.levels.Open.{Open}
 use Rattle.cqlp_value.specs.declared.levels.Order.{Order}
 use Rattle.cqlp_value.specs.declared.levels.Order.TheVariants as order
-use Rattle.cqlp_value.specs.declared.standing.Next.{Next}
 use Rattle.cqlp_value.specs.declared.standing.Next.TheVariants as next
 use Rattle.cqlp_value.specs.declared.standing.Due.{Due}
 use Rattle.cqlp_value.specs.declared.standing.Due.TheVariants as due
-use Rattle.cqlp_value.specs.CellStep.{CellSymbol}
-use Rattle.cqlp_value.specs.Levels.{last_open, but_last, with_last}
+use Rattle.cqlp_value.specs.Levels.{last_open}
 use Rattle.cqlp_value.specs.Inner.{node_at, Stand}
-use Rattle.cqlp_value.specs.Standing.{State, open_symbols, levels_symbols, is_over, over_by, close_if, due_in, due_of, TypesStand, AreOpen, last_stop, CellStands, CellThere, Stands, HasNext, passed}
-use Rattle.cqlp_value.proofs.Nesting.{last_is, but_last_is, with_last_is, cases_open}
+use Rattle.cqlp_value.specs.Standing.{State, open_symbols, levels_symbols, is_over, over_by, close_if, due_of, TypesStand, AreOpen, last_stop, CellStands, CellThere, Stands, HasNext}
+use Rattle.cqlp_value.proofs.Nesting.{last_is, cases_open}
 use Rattle.cqlp_value.proofs.Inside.{First, first_stands}
 
 pub last_stop_is : (stop : ℕ) (os : List Open) (o : Open) → last_stop stop (os ++ o ∷ []) ≡ o.stop

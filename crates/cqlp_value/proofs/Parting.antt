@@ -1,24 +1,21 @@
 -- A long scalar in parts.
-use Rattle.std.proofs.Common.{◌≡◌, ℕ, ◌+◌, ◌-◌, ◌^◌, ◌<◌, ◌≤◌, Bool, true, false, ltb, leb, List, [], ◌∷◌, ◌++◌, length, take, drop, min, refl, sym, ap, ◌∙◌, arith, inl, inr, lt-ltb, le-ltb, cond}
+use Rattle.std.proofs.Common.{◌≡◌, ℕ, ◌+◌, ◌-◌, ◌^◌, ◌<◌, ◌≤◌, Bool, true, false, leb, List, [], ◌∷◌, ◌++◌, length, take, drop, min, refl, sym, arith, lt-ltb, le-ltb, cond}
 use Rattle.std.proofs.lemmas.Bool.{leb-true, leb-false, lt-leb}
 use Rattle.std.proofs.lemmas.List.{length-take-le}
-use Rattle.cqlp_note.specs.Reader.{More, Got, Takes, says}
-use Rattle.cqlp_note.specs.Field.{Bytes}
+use Rattle.cqlp_note.specs.Reader.{More, says}
 use Rattle.cqlp_note.specs.Partial.{Progress}
 use Rattle.cqlp_type.specs.declared.node.Node.{Node}
 use Rattle.cqlp_value.specs.declared.gather.Found.{Found}
 use Rattle.cqlp_value.specs.declared.item.CellOutline.TheVariants as outline
 use Rattle.cqlp_value.specs.declared.size.Sized.TheVariants as size
-use Rattle.cqlp_value.specs.declared.standing.Next.{Next}
 use Rattle.cqlp_value.specs.declared.standing.Next.TheVariants as next
 use Rattle.cqlp_value.specs.declared.standing.Under.TheVariants as under
 use Rattle.cqlp_value.specs.declared.standing.Due.TheVariants as due
-use Rattle.cqlp_value.specs.CellStep.{CellSymbol, Content_from, Part, CellPlace, place_after}
+use Rattle.cqlp_value.specs.CellStep.{Content_from, Part, place_after}
 use Rattle.cqlp_value.specs.Items.{content_at}
 use Rattle.cqlp_value.specs.Gathering.{Wants, Finds}
-use Rattle.cqlp_value.specs.Standing.{State, is_some_next, levels_symbols, place, due_value, open_after, moved, rest_of, due_of, last_stop, Stands}
-use Rattle.cqlp_value.specs.Coming.{ValueDue}
-use Rattle.cqlp_value.specs.Reading.{Saying, told, sized_of, Decided, part_size, next_behind, Emits, Hands, Waits, Behind, HaveCome}
+use Rattle.cqlp_value.specs.Standing.{State, is_some_next, levels_symbols, place, moved, rest_of, due_of, last_stop, Stands}
+use Rattle.cqlp_value.specs.Reading.{told, sized_of, Decided, part_size, next_behind, Emits, Hands, Waits, Behind, HaveCome}
 use Rattle.cqlp_value.proofs.Opened.{last_stop_le}
 use Rattle.cqlp_value.proofs.Coming.{value_due, part_is}
 use Rattle.cqlp_value.proofs.Handing.{same_decided}

@@ -1,21 +1,19 @@
 -- What the length of a value decides.
-use Rattle.std.proofs.Common.{◌≡◌, ℕ, ◌+◌, ◌-◌, ◌^◌, ◌<◌, ◌≤◌, Bool, true, false, ltb, List, [], ◌∷◌, ◌++◌, length, take, drop, refl, sym, ap, subst, ◌∙◌, arith, inl, inr, lt-ltb, le-ltb}
+use Rattle.std.proofs.Common.{◌≡◌, ℕ, ◌+◌, ◌-◌, ◌^◌, ◌<◌, ◌≤◌, false, List, [], ◌∷◌, ◌++◌, length, drop, refl, sym, ap, arith}
 use Rattle.cqlp_note.specs.declared.refusal.Reason.{Reason}
-use Rattle.cqlp_note.specs.Reader.{More, Bad, Got, says}
+use Rattle.cqlp_note.specs.Reader.{says}
 use Rattle.cqlp_note.specs.Partial.{Progress}
 use Rattle.cqlp_type.specs.declared.node.Node.{Node}
-use Rattle.cqlp_value.specs.declared.item.CellOutline.{CellOutline}
 use Rattle.cqlp_value.specs.declared.item.CellOutline.TheVariants as outline
 use Rattle.cqlp_value.specs.declared.size.Sized.{Sized}
 use Rattle.cqlp_value.specs.declared.size.Sized.TheVariants as size
 use Rattle.cqlp_value.specs.declared.standing.Due.TheVariants as due
 use Rattle.cqlp_value.specs.declared.standing.Value.{Value}
-use Rattle.cqlp_value.specs.CellStep.{CellSymbol, CellEvent, Null, Empty, Enter, Items_of, CellPlace, place_after}
-use Rattle.cqlp_value.specs.Sizes.{IsSized, sized_as}
-use Rattle.cqlp_value.specs.Inner.{types_at}
+use Rattle.cqlp_value.specs.CellStep.{CellSymbol, Null, Empty, Enter, Items_of, place_after}
+use Rattle.cqlp_value.specs.Sizes.{IsSized}
 use Rattle.cqlp_value.specs.Standing.{State, ended, place, due_value, moved, rest_of, due_of, Stands}
-use Rattle.cqlp_value.specs.Coming.{inner_of, room_of, ValueDue}
-use Rattle.cqlp_value.specs.Reading.{fields_open, entered, sized_of, Decided, Emits, Hands, Fails, EntersFields}
+use Rattle.cqlp_value.specs.Coming.{inner_of, room_of}
+use Rattle.cqlp_value.specs.Reading.{fields_open, sized_of, Decided, Emits, Hands, Fails, EntersFields}
 use Rattle.cqlp_value.proofs.Coming.{value_due}
 use Rattle.cqlp_value.proofs.Handing.{moved_stands}
 use Rattle.cqlp_value.proofs.Entering.{fields_due, fields_inner, entered_symbols}

@@ -1,5 +1,5 @@
 -- What a value is by its length.
-use Rattle.std.proofs.Common.{◌≡◌, ℕ, ◌+◌, ◌-◌, ◌^◌, ◌<◌, ◌≤◌, Bool, true, false, ltb, eqb, cond, ◌&&◌, ◌≢◌, List, refl, ap, ◌∙◌, arith, lit<, lt-ltb, le-ltb}
+use Rattle.std.proofs.Common.{◌≡◌, ℕ, ◌+◌, ◌-◌, ◌^◌, ◌<◌, ◌≤◌, Bool, true, false, ◌&&◌, ◌≢◌, List, refl, ◌∙◌, arith, lt-ltb, le-ltb}
 use Rattle.std.proofs.lemmas.Bool.{ne_eqb}
 use Rattle.cqlp_note.specs.declared.refusal.Reason.TheVariants.{Overrun, TooLong, BadSize}
 use Rattle.cqlp_note.specs.Limits.{Rules}
@@ -9,7 +9,7 @@ use Rattle.cqlp_type.specs.Types.{Types, has_no_items}
 use Rattle.cqlp_value.specs.declared.size.Sized.{Sized}
 use Rattle.cqlp_value.specs.declared.size.Sized.TheVariants as size
 use Rattle.cqlp_value.specs.Scalars.{allows_size}
-use Rattle.cqlp_value.specs.CellStep.{CellSymbol, CellPlace, is_opaque, content_step, scalar_step, sized_step}
+use Rattle.cqlp_value.specs.CellStep.{CellSymbol, CellPlace, is_opaque, content_step, scalar_step}
 use Rattle.cqlp_value.specs.Sizes.{is_counted, sized_as, IsContent, HasRoom, IsSized}
 
 -- a scalar's content is read by its kind alone

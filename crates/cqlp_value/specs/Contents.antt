@@ -1,5 +1,5 @@
 -- Scalars out of their bytes.
-use Rattle.std.specs.Prelude.{ℕ, List, length, Option, Result, Ok, Err, if◌then◌else◌}
+use Rattle.std.specs.Prelude.{ℕ, List, length, Result, Ok, Err, if◌then◌else◌}
 use Rattle.std.specs.Option.{ok_or}
 use Rattle.cqlp_note.specs.declared.refusal.Reason.{Reason}
 use Rattle.cqlp_note.specs.declared.refusal.Reason.TheVariants.{BadSize}

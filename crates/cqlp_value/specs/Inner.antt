@@ -1,5 +1,5 @@
 -- The types of the values in a cell, as they stand in a table.
-use Rattle.std.specs.Prelude.{◌≡◌, ℕ, suc, ◌+◌, ◌≤◌, ◌++◌, List, [], ◌∷◌, drop, max, slice_get, unwrap_or}
+use Rattle.std.specs.Prelude.{◌≡◌, ℕ, suc, ◌≤◌, ◌++◌, List, length, drop, max, slice_get, unwrap_or}
 use Rattle.cqlp_type.specs.declared.kind.Kind.{Kind}
 use Rattle.cqlp_type.specs.declared.kind.Kind.TheVariants as kind
 use Rattle.cqlp_type.specs.declared.node.Node.{Node}
@@ -36,3 +36,12 @@ pub record Stand (nodes : List Node) (i n depth : ℕ) : Type 0 where
   pub many : how_many (types_at nodes i n) ≡ n
   pub formed : AreTypes (types_at nodes i n)
   pub shallow : depth_of (types_at nodes i n) ≤ depth
+
+-- From node i on, before node e, n whole types stand side by side, none nested deeper than this.
+pub record StandTo (nodes : List Node) (i e n depth : ℕ) : Type 0 where
+  pub types : Types
+  pub are : drop i nodes ≡ preorder types ++ drop e nodes
+  pub many : how_many types ≡ n
+  pub formed : AreTypes types
+  pub shallow : depth_of types ≤ depth
+  pub within : (i ≤ e) × (e ≤ length nodes)

@@ -1,10 +1,9 @@
 -- What is handed out of a cell.
-use Rattle.std.specs.Prelude.{◌≡◌, ℕ, ◌≤◌, Bool, true, List, [], length, Option, Some, None, is_some, ⊤}
+use Rattle.std.specs.Prelude.{◌≡◌, ℕ, true, List, [], length, Option, Some, None, is_some, ⊤}
 use Rattle.cqlp_note.specs.declared.taken.Item.{Item}
 use Rattle.cqlp_note.specs.Field.{FieldValue, Bytes}
 use Rattle.cqlp_note.specs.Partial as partial
 use Rattle.cqlp_note.specs.Partial.{item_value}
-use Rattle.cqlp_type.specs.declared.kind.Kind.{Kind}
 use Rattle.cqlp_value.specs.declared.item.CellItem.{CellItem}
 use Rattle.cqlp_value.specs.declared.item.CellItem.TheVariants as lent
 use Rattle.cqlp_value.specs.declared.item.CellOutline.{CellOutline}

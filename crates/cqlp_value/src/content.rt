@@ -33,6 +33,7 @@ pub fn scalar(kind: Kind, bytes: &[u8]) -> Result<Scalar<'_>, Reason>
 }
 
 /// Whether a content of a scalar kind may have so many bytes, which are not none.
+#[inline]
 pub fn allows(kind: Kind, len: usize) -> bool
     ensures { result ≡ allows_size kind len }
 {
@@ -50,6 +51,7 @@ pub fn allows(kind: Kind, len: usize) -> bool
 
 #[tactic(auto, unfolding(crate::specs::Scalars::scalar_of))]
 /// Whether a content of an allowed length is a scalar of this kind.
+#[inline]
 pub fn accepts(kind: Kind, bytes: &[u8]) -> bool
     requires scalar { has_no_items kind ≡ true }
     requires size { allows_size kind (length bytes.now) ≡ true }
@@ -86,6 +88,7 @@ pub fn fault(kind: Kind) -> Reason
 
 #[tactic(auto, using(crate::proofs::Texts::ascii_known, crate::proofs::Texts::varchar_known), unfolding(crate::specs::Scalars::scalar_of))]
 /// The scalar that these bytes are.
+#[inline]
 pub fn made(kind: Kind, bytes: &[u8]) -> Scalar<'_>
     requires size { allows_size kind (length bytes.now) ≡ true }
     requires accepted { is_some (scalar_of kind bytes.now) ≡ true }
@@ -123,6 +126,7 @@ pub fn made(kind: Kind, bytes: &[u8]) -> Scalar<'_>
 }
 
 /// An address of 4 or 16 bytes.
+#[inline]
 fn address(bytes: &[u8]) -> Address
     requires { allows_size kind.Inet (length bytes.now) ≡ true }
     ensures { result ≡ address_of (length bytes.now) bytes.now }
@@ -135,6 +139,7 @@ fn address(bytes: &[u8]) -> Address
 }
 
 /// The first N bytes.
+#[inline]
 fn first<const N: usize>(bytes: &[u8]) -> [u8; N]
     requires { N ≤ length bytes.now }
     ensures { result ≡ take N bytes.now }

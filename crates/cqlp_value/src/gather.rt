@@ -18,6 +18,7 @@ pub(crate) struct Found {
 
 /// Takes the next bytes of a content of `len` bytes from `start` in the input on. It begins here, at offset `at` in the
 /// stream, or was begun before. A content that lies whole in the input is not copied.
+#[inline]
 pub(crate) fn gather<A: Allocator>(
     partial: &mut Partial<A>,
     begun: bool,
@@ -104,6 +105,7 @@ fn empty<A: Allocator>(partial: &mut Partial<A>)
 }
 
 /// The bytes that lie there.
+#[inline]
 pub(crate) fn lent<'a, A: Allocator>(
     partial: &'a Partial<A>,
     input: &'a [u8],

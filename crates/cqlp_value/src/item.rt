@@ -125,6 +125,7 @@ pub enum CellPush<'a> {
 
 impl CellOutline {
     /// The part, with its content lent from where it lies.
+    #[inline]
     pub fn lend<'a, A: Allocator>(self, partial: &'a Partial<A>, input: &'a [u8]) -> CellItem<'a>
         requires { CanLend self input.now partial.now.content }
         ensures { event_of result ≡ event_at self input.now partial.now.content }

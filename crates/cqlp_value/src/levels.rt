@@ -66,6 +66,7 @@ impl<A: Allocator> Levels<A> {
         })
     }
 
+    #[inline]
     pub(crate) fn len(&self) -> u32
         ensures is { result ≡ length self.now.open_values }
         ensures bound { result ≤ self.now.room }
@@ -82,12 +83,14 @@ impl<A: Allocator> Levels<A> {
 
     /// The innermost value.
     #[tactic(auto, using(crate::proofs::Nesting::last_read))]
+    #[inline]
     pub(crate) fn last(&self) -> Option<Open>
         ensures { result ≡ last_open self.now.open_values }
     {
         self.levels.last().copied()
     }
 
+    #[inline]
     pub(crate) fn push(&mut self, value: Open)
         requires { length self.old.open_values < self.old.room }
         ensures { self.new ≡ record { open_values = self.old.open_values ++ value ∷ []; room = self.old.room } }
@@ -96,6 +99,7 @@ impl<A: Allocator> Levels<A> {
     }
 
     /// Closes the innermost value.
+    #[inline]
     pub(crate) fn pop(&mut self)
         ensures { self.new ≡ record { open_values = but_last self.old.open_values; room = self.old.room } }
     {
@@ -103,6 +107,7 @@ impl<A: Allocator> Levels<A> {
     }
 
     /// Puts another in the place of the innermost value.
+    #[inline]
     pub(crate) fn set_last(&mut self, value: Open)
         ensures { self.new ≡ record { open_values = with_last value self.old.open_values; room = self.old.room } }
     {

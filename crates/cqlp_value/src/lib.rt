@@ -3,6 +3,8 @@
 
 mod content;
 mod gather;
+#[cfg(test)]
+mod heaps;
 mod item;
 mod levels;
 mod number;

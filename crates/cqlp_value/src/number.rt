@@ -21,6 +21,7 @@ pub(crate) enum Number {
 
 /// Takes the next bytes of an \[int\] from `start` in the input on. It begins here, at offset `at` in a container that
 /// ends at `end`, or was begun before.
+#[inline]
 pub(crate) fn take_number<A: Allocator>(
     partial: &mut Partial<A>,
     begun: bool,

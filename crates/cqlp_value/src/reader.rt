@@ -126,3 +126,6 @@ impl<A: Allocator> CellReader<A> {
         }
     }
 }
+
+#[cfg(test)]
+mod tests;

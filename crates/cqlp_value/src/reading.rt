@@ -368,6 +368,7 @@ impl<A: Allocator> Standing<A> {
     }
 
     /// Goes on behind a value that has a length alone.
+    #[inline]
     fn pass_length(&mut self, item: CellOutline, used: usize, table: &TypeTable<A>) -> CellAdvance
         requires stands { Stands table.now.nodes (state_of self.old) }
         requires due { due_of (state_of self.old) ≡ due.Value }

@@ -29,6 +29,7 @@ pub(crate) enum Sized {
 /// What a value of this kind is by the four bytes of its length, in a container with room for so many bytes from there
 /// on.
 #[tactic(auto, using(crate::proofs::Sizing::null_sized, crate::proofs::Sizing::empty_sized, crate::proofs::Sizing::overrun_sized, crate::proofs::Sizing::fitting_sized))]
+#[inline]
 pub(crate) fn size_up(limits: &Limits, kind: Kind, room: u64, len: u32) -> Sized
     ensures { IsSized (rules_of limits.now) kind room len result }
 {
@@ -45,6 +46,7 @@ pub(crate) fn size_up(limits: &Limits, kind: Kind, room: u64, len: u32) -> Sized
 
 /// The same of a value that has bytes, and room for them.
 #[tactic(auto, using(crate::proofs::Sizing::counted_content, crate::proofs::Sizing::udt_content, crate::proofs::Sizing::tuple_content))]
+#[inline]
 fn size_content(limits: &Limits, kind: Kind, len: u32) -> Sized
     ensures { IsContent (rules_of limits.now) kind len result }
 {
@@ -57,6 +59,7 @@ fn size_content(limits: &Limits, kind: Kind, len: u32) -> Sized
 
 /// The same of a scalar.
 #[tactic(auto, using(crate::proofs::Sizing::bad_size, crate::proofs::Sizing::short_scalar, crate::proofs::Sizing::long_scalar, crate::proofs::Sizing::too_long))]
+#[inline]
 fn size_scalar(limits: &Limits, kind: Kind, len: u32) -> Sized
     requires { has_no_items kind ≡ true }
     ensures { IsContent (rules_of limits.now) kind len result }
@@ -73,6 +76,7 @@ fn size_scalar(limits: &Limits, kind: Kind, len: u32) -> Sized
 }
 
 /// Whether a scalar of this kind comes in parts where it is long.
+#[inline]
 fn is_opaque(kind: Kind) -> bool
     ensures { result ≡ has_parts kind }
 {

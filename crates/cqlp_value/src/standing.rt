@@ -77,6 +77,7 @@ impl<A: Allocator> Standing<A> {
     ghost use Rattle.cqlp_value.specs.Standing.{state_of, due_of, due_value, moved, ended, Stands};
 
     /// What comes next, where nothing of it has come.
+    #[inline]
     pub(crate) fn due(&self) -> Due
         ensures { result ≡ due_of (state_of self.now) }
     {
@@ -98,6 +99,7 @@ impl<A: Allocator> Standing<A> {
     }
 
     /// The value that is read next.
+    #[inline]
     pub(crate) fn value(&self, table: &TypeTable<A>) -> Value
         requires stands { Stands table.now.nodes (state_of self.now) }
         requires due { due_of (state_of self.now) ≡ due.Value }
@@ -115,6 +117,7 @@ impl<A: Allocator> Standing<A> {
     }
 
     /// Goes on behind so many bytes of the value that was read, or of what is known of it.
+    #[inline]
     pub(crate) fn pass(&mut self, size: u64, table: &TypeTable<A>)
         requires stands { Stands table.now.nodes (state_of self.old) }
         requires due { due_of (state_of self.old) ≡ due.Value }
@@ -145,6 +148,7 @@ impl<A: Allocator> Standing<A> {
 }
 
 /// The value that the cell is.
+#[inline]
 fn cell_value<A: Allocator>(table: &TypeTable<A>, node: Option<u32>, stop: u64) -> Value
     requires { CellThere table.now.nodes node }
     ensures { result ≡ cell_value_of table.now.nodes node stop }
@@ -162,6 +166,7 @@ fn cell_value<A: Allocator>(table: &TypeTable<A>, node: Option<u32>, stop: u64) 
 
 /// A value of the type at this node, in a value that ends there.
 #[tactic(auto, unfolding(crate::specs::Inner::node_at))]
+#[inline]
 fn value_at<A: Allocator>(table: &TypeTable<A>, node: u32, stop: u64) -> Value
     requires { IsSome (slice_get table.now.nodes node) }
     ensures { result ≡ value_of_node table.now.nodes node stop }
@@ -179,6 +184,7 @@ impl Open {
     ghost use Rattle.cqlp_value.specs.Standing.{HasNext, is_over, passed};
 
     /// Whether no further item begins at this offset.
+    #[inline]
     fn is_over(self, offset: u64) -> bool
         ensures { result ≡ is_over self offset }
     {
@@ -190,6 +196,7 @@ impl Open {
     }
 
     /// What it is behind its next item.
+    #[inline]
     fn passed<A: Allocator>(self, table: &TypeTable<A>) -> Open
         requires { HasNext table.now.nodes self self.order }
         ensures { result ≡ passed table.now.nodes self }

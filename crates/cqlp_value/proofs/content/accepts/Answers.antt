@@ -1,4 +1,3 @@
-use Rattle.std.proofs.Common.{◌≡◌, is_some}
 use Rattle.cqlp_value.proofs.Texts.{ascii_decided}
 use Rattle.cqlp_value.proofs.content.accepts.Goals as goal
 

@@ -1,4 +1,4 @@
-use Rattle.std.proofs.Common.{◌≡◌, ◌+◌, ◌-◌, arith}
+use Rattle.std.proofs.Common.{◌+◌, ◌-◌, arith}
 use Rattle.cqlp_value.proofs.Gathered.{begun_wanted, begun_whole, begun_refused}
 use Rattle.cqlp_value.proofs.gather.begin.Goals as goal
 

@@ -1,4 +1,3 @@
-use Rattle.std.proofs.Common.{◌≡◌, ◌+◌, ◌-◌, arith}
 use Rattle.cqlp_value.proofs.Gathered.{emptied, emptied_waits, emptied_refused}
 use Rattle.cqlp_value.proofs.gather.empty.Goals as goal
 

@@ -1,4 +1,3 @@
-use Rattle.std.proofs.Common.{◌≡◌}
 use Rattle.cqlp_value.proofs.Gathered.{more_wanted, all_found, none_refused}
 use Rattle.cqlp_value.proofs.gather.resume.Goals as goal
 

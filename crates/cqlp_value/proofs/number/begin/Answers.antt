@@ -1,5 +1,4 @@
-use Rattle.std.proofs.Common.{◌≡◌, ◌+◌, ◌-◌, arith}
-use Rattle.cqlp_note.specs.Partial.{item_value}
+use Rattle.std.proofs.Common.{◌-◌, arith}
 use Rattle.cqlp_value.proofs.Numbered.{begun_wanted, begun_whole, begun_refused}
 use Rattle.cqlp_value.proofs.number.begin.Goals as goal
 

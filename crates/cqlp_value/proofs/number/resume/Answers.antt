@@ -1,4 +1,3 @@
-use Rattle.std.proofs.Common.{◌≡◌, ◌+◌, ◌-◌, arith}
 use Rattle.cqlp_note.specs.Partial.{item_value}
 use Rattle.cqlp_value.proofs.Numbered.{more_wanted, is_number, all_counted, none_refused}
 use Rattle.cqlp_value.proofs.number.resume.Goals as goal

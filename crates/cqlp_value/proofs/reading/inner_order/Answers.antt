@@ -1,4 +1,4 @@
-use Rattle.std.proofs.Common.{◌≡◌, ◌+◌, sym, ◌∙◌, refl, arith}
+use Rattle.std.proofs.Common.{sym, ◌∙◌, refl, arith}
 use Rattle.cqlp_value.proofs.Entering.{key_low, key_there, key_read}
 use Rattle.cqlp_value.proofs.reading.inner_order.Goals as goal
 

@@ -1,6 +1,5 @@
-use Rattle.std.proofs.Common.{◌≡◌, ◌-◌, length, vec_len, ap, ◌∙◌, List, arith}
+use Rattle.std.proofs.Common.{◌≡◌, length, vec_len, ap, List, arith}
 use Rattle.cqlp_value.specs.declared.levels.Open.{Open}
-use Rattle.cqlp_value.specs.Levels.{Nest}
 use Rattle.cqlp_value.proofs.Nesting.{front_is}
 use Rattle.cqlp_value.proofs.levels.Levels.pop.Goals as goal
 

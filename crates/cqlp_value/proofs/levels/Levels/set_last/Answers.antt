@@ -1,6 +1,5 @@
-use Rattle.std.proofs.Common.{◌≡◌, ◌++◌, ◌∷◌, [], sym, ap, List}
+use Rattle.std.proofs.Common.{sym, ap, List}
 use Rattle.cqlp_value.specs.declared.levels.Open.{Open}
-use Rattle.cqlp_value.specs.Levels.{Nest}
 use Rattle.cqlp_value.proofs.Nesting.{with_last_is}
 use Rattle.cqlp_value.proofs.levels.Levels.set_last.Goals as goal
 

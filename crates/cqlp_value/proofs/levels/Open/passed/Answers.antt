@@ -1,4 +1,4 @@
-use Rattle.std.proofs.Common.{◌≡◌, ◌+◌, ◌-◌, sym, ◌∙◌, refl, arith}
+use Rattle.std.proofs.Common.{sym, ◌∙◌, refl, arith}
 use Rattle.cqlp_value.proofs.Opened.{field_there, field_read}
 use Rattle.cqlp_value.proofs.levels.Open.passed.Goals as goal
 

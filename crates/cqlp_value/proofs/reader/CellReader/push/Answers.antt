@@ -1,4 +1,4 @@
-use Rattle.std.proofs.Common.{◌≡◌, refl}
+use Rattle.std.proofs.Common.{refl}
 use Rattle.cqlp_value.proofs.Leading.{is_over_done, is_not_done, more_pushes, item_lends, item_pushes, done_pushes, refused_pushes}
 use Rattle.cqlp_value.proofs.reader.CellReader.push.Goals as goal
 

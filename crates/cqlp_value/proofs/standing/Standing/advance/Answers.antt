@@ -1,4 +1,4 @@
-use Rattle.std.proofs.Common.{◌≡◌, ◌+◌, ◌++◌, length, List, refl, ap, sym, ◌∙◌, arith}
+use Rattle.std.proofs.Common.{sym, ◌∙◌, arith}
 use Rattle.cqlp_value.specs.Standing.{state_of}
 use Rattle.cqlp_value.proofs.Closing.{resumed, moves_by, moves_afresh, settles_answers, close_some}
 use Rattle.cqlp_value.proofs.standing.Standing.advance.Goals as goal

@@ -1,4 +1,4 @@
-use Rattle.std.proofs.Common.{◌≡◌, ◌+◌, ◌-◌, ◌++◌, drop, ap, sym, ◌∙◌, arith}
+use Rattle.std.proofs.Common.{◌≡◌, ◌+◌, ◌-◌, ◌++◌, drop, arith}
 use Rattle.cqlp_value.specs.Gathering.{seen_before}
 use Rattle.cqlp_value.specs.Standing.{state_of}
 use Rattle.cqlp_value.proofs.Counting.{counted_overrun, count_waits, count_fails, count_hands}

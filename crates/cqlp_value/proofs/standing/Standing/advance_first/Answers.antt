@@ -1,4 +1,4 @@
-use Rattle.std.proofs.Common.{◌≡◌, ◌+◌, ◌++◌, drop, refl, ap, sym, ◌∙◌, arith}
+use Rattle.std.proofs.Common.{◌++◌, drop, refl, ap, arith}
 use Rattle.cqlp_value.specs.declared.standing.Next.TheVariants as next
 use Rattle.cqlp_value.specs.Gathering.{seen_before}
 use Rattle.cqlp_value.specs.Standing.{State, state_of}

@@ -1,7 +1,6 @@
-use Rattle.std.proofs.Common.{◌≡◌, ◌+◌, ◌-◌, ◌++◌, refl, ap, sym, ◌∙◌, arith}
+use Rattle.std.proofs.Common.{◌++◌}
 use Rattle.cqlp_value.specs.Gathering.{seen_before}
 use Rattle.cqlp_value.specs.Standing.{state_of}
-use Rattle.cqlp_value.specs.Coming.{room_of}
 use Rattle.cqlp_value.proofs.Coming.{value_due}
 use Rattle.cqlp_value.proofs.Lengths.{length_settles, length_waits, length_fails, settles_from}
 use Rattle.cqlp_value.proofs.standing.Standing.advance_length.Goals as goal

@@ -1,8 +1,8 @@
-use Rattle.std.proofs.Common.{◌≡◌, ◌+◌, ◌++◌, drop, length, true, is_some, sym, ap, ◌∙◌}
+use Rattle.std.proofs.Common.{◌≡◌, ◌++◌, drop, true, is_some, ap}
 use Rattle.cqlp_value.specs.Scalars.{scalar_of}
 use Rattle.cqlp_value.specs.Items.{bytes_in, content_at}
 use Rattle.cqlp_value.specs.Gathering.{seen_before}
-use Rattle.cqlp_value.specs.Standing.{state_of, moved}
+use Rattle.cqlp_value.specs.Standing.{state_of}
 use Rattle.cqlp_value.proofs.Handing.{scalar_waits, leaf_hands}
 use Rattle.cqlp_value.proofs.standing.Standing.advance_scalar.Goals as goal
 

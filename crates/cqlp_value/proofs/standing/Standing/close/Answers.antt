@@ -1,5 +1,5 @@
-use Rattle.std.proofs.Common.{◌≡◌, refl, ap, sym, ◌∙◌, arith, length}
-use Rattle.cqlp_value.specs.Standing.{State, state_of}
+use Rattle.std.proofs.Common.{refl}
+use Rattle.cqlp_value.specs.Standing.{state_of}
 use Rattle.cqlp_value.proofs.Closing.{close_fails, close_hands}
 use Rattle.cqlp_value.proofs.standing.Standing.close.Goals as goal
 

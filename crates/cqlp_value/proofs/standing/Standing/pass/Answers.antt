@@ -1,4 +1,4 @@
-use Rattle.std.proofs.Common.{◌≡◌, sym, ◌∙◌}
+use Rattle.std.proofs.Common.{sym, ◌∙◌}
 use Rattle.cqlp_value.specs.Standing.{state_of}
 use Rattle.cqlp_value.proofs.Opened.{value_last, has_next}
 use Rattle.cqlp_value.proofs.standing.Standing.pass.Goals as goal

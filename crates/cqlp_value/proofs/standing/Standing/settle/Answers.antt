@@ -1,5 +1,4 @@
-use Rattle.std.proofs.Common.{◌≡◌, ◌+◌, ◌-◌, ◌++◌, ◌^◌, ◌<◌, drop, refl, ap, sym, subst, ◌∙◌, arith}
-use Rattle.cqlp_value.specs.declared.size.Sized.TheVariants as size
+use Rattle.std.proofs.Common.{◌^◌, ◌<◌, drop, refl, arith}
 use Rattle.cqlp_value.specs.Standing.{state_of, due_value}
 use Rattle.cqlp_value.proofs.Settling.{value_decided, refused_fails, null_hands, empty_hands, fields_hands}
 use Rattle.cqlp_value.proofs.standing.Standing.settle.Goals as goal

@@ -1,4 +1,4 @@
-use Rattle.std.proofs.Common.{◌≡◌, sym, ◌∙◌, None, Some}
+use Rattle.std.proofs.Common.{sym, ◌∙◌}
 use Rattle.cqlp_value.specs.Standing.{state_of}
 use Rattle.cqlp_value.proofs.Opened.{value_last, has_next, node_there, cell_there}
 use Rattle.cqlp_value.proofs.standing.Standing.value.Goals as goal
