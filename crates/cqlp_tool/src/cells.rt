@@ -24,7 +24,11 @@ impl<W: Target> LineWriter<W> {
             return self.put_hex_text(bytes);
         }
         let mut digits = itoa::Buffer::new();
-        self.put(digits.format(i128::from_be_bytes(extended(bytes))).as_bytes())
+        self.put(
+            digits
+                .format(i128::from_be_bytes(extended(bytes)))
+                .as_bytes(),
+        )
     }
 
     /// Takes a decimal: the unscaled number, `e`, and the negated scale.
