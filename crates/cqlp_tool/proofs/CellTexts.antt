@@ -1,7 +1,6 @@
 -- Texts of cells in parts.
 use Rattle.std.proofs.Common.{◌≡◌, ◌≢◌, ℕ, zero, suc, ◌+◌, ◌-◌, ◌/◌, ◌%◌, List, [], ◌∷◌, ◌++◌, ◌≤◌, length, take, drop, replicate, refl, ap, ◌∙◌, append-nil, drop-drop, length-drop, arith}
 use Rattle.std.proofs.lemmas.List.{take-replicate, length-replicate, nil_from_length}
-use Rattle.std.proofs.lemmas.Grind.{common_steps}
 use borrow.Rule.Slice.PartMut.{put_mid}
 use Rattle.cqlp_tool.specs.CellText.{digits}
 
