@@ -1,8 +1,8 @@
 -- Cells with their texts.
-use Rattle.std.proofs.Common.{◌≡◌, ℕ, ◌+◌, ◌-◌, ◌^◌, List, [], ◌∷◌, codes, refl}
+use Rattle.std.proofs.Common.{◌≡◌, ◌+◌, ◌-◌, ◌^◌, [], ◌∷◌, codes, refl}
 use Rattle.std.proofs.Common.{pos, negsuc}
 use Rattle.std.specs.Fmt.{digits}
-use Rattle.cqlp_tool.specs.CellText.{cell_text, days_before}
+use Rattle.cqlp_tool.specs.CellText.{cell_text}
 use Rattle.cqlp_value.specs.Scalars as scalar
 
 negative_varint : cell_text (scalar.Varint (0xFF ∷ 0x7F ∷ [])) ≡ codes "-129"

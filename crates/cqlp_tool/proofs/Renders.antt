@@ -5,7 +5,6 @@ use Rattle.cqlp_decode.specs.declared.running.Outcome.{Outcome}
 use Rattle.cqlp_decode.specs.declared.running.Outcome.TheVariants as outcome
 use Rattle.cqlp_decode.specs.Reading.{Event}
 use Rattle.cqlp_decode.specs.Standing.{State}
-use Rattle.cqlp_decode.specs.Streams.{After}
 use Rattle.cqlp_decode.specs.Draining.{fold_events, Drains, Fails, Feeds, FeedsInto, RunsTo}
 use Rattle.cqlp_tool.specs.Lines.{line, lines}
 use Rattle.cqlp_tool.specs.Rendering.{Output, output, with_text, with_line, StopsWithin, StopsWithinLine, WritesLines, StopsInLines, Renders, RendersPart, RendersTo}

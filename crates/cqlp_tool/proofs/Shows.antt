@@ -1,15 +1,14 @@
 -- Rendering through a buffer.
-use Rattle.std.proofs.Common.{◌≡◌, ◌≢◌, ℕ, true, List, [], ◌++◌, Option, Some, None, IsSome, is_some, refl, sym, ap, ◌∙◌, subst, append-nil}
+use Rattle.std.proofs.Common.{◌≡◌, ◌≢◌, ℕ, true, List, [], Option, Some, None, IsSome, refl, sym, ap, ◌∙◌, subst}
 use Rattle.std.specs.Io.KnownBytes.{Keeps, append_known}
 use Rattle.cqlp_note.specs.Streams.{counted}
 use Rattle.cqlp_decode.specs.declared.running.Outcome.{Outcome}
 use Rattle.cqlp_decode.specs.declared.running.Outcome.TheVariants as outcome
-use Rattle.cqlp_decode.specs.Reading.{Event}
 use Rattle.cqlp_decode.specs.Standing.{State}
 use Rattle.cqlp_decode.specs.Streams.{After}
 use Rattle.cqlp_tool.specs.Written.{Written, bare, taken}
 use Rattle.cqlp_tool.specs.Lines.{lines}
-use Rattle.cqlp_tool.specs.Rendering.{Output, output, with_text, WritesLines, Renders, RendersTo}
+use Rattle.cqlp_tool.specs.Rendering.{Output, output, Renders, RendersTo}
 use Rattle.cqlp_tool.specs.Showing.{RendersOrFails, HasFailed, ShowsTo, ending_of}
 use Rattle.cqlp_note.specs.declared.limits.Limits.{Limits}
 use Rattle.cqlp_note.specs.Limits.{rules_of}

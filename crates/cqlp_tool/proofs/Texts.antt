@@ -1,5 +1,5 @@
 -- Texts in parts.
-use Rattle.std.proofs.Common.{◌≡◌, ℕ, List, [], ◌∷◌, ◌++◌, map, codes, decimal, zero, suc, ◌+◌, Bool, true, false, not, cond, if◌then◌else◌, nat_lt, Option, Some, None, unwrap_or, inl, inr, ◌<◌, ◌≤◌, ◌-◌, ◌*◌, length, take, drop, slice_index, refl, sym, ap, ◌∙◌, append-nil, arith, length-append, length-drop}
+use Rattle.std.proofs.Common.{◌≡◌, ℕ, List, [], ◌∷◌, ◌++◌, map, codes, decimal, suc, ◌+◌, Bool, true, false, not, cond, if◌then◌else◌, nat_lt, Option, Some, None, unwrap_or, inl, inr, ◌<◌, ◌≤◌, ◌-◌, ◌*◌, length, take, drop, slice_index, refl, sym, ap, ◌∙◌, append-nil, arith, length-append, length-drop}
 use Rattle.hex.proofs.HexLemmas.{length-encode_with}
 use Rattle.cqlp_tool.specs.declared.word.Word.{Word}
 use Rattle.cqlp_tool.specs.Lines.{spaced}

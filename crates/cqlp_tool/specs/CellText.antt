@@ -1,6 +1,7 @@
 -- The text of a scalar cell.
-use Rattle.std.specs.Prelude.{ℕ, zero, suc, ◌+◌, ◌-◌, ◌*◌, ◌/◌, ◌%◌, ◌^◌, ◌==◌, ℤ, pos, negsuc, ◌+ℤ◌, ◌-ℤ◌, Bool, true, false, ◌&&◌, ◌||◌, not, nat_lt, nat_le, if◌then◌else◌, List, [], ◌∷◌, ◌++◌, length, take, codes, decimal, fold, sum, count_by}
+use Rattle.std.specs.Prelude.{ℕ, zero, suc, ◌+◌, ◌-◌, ◌*◌, ◌/◌, ◌%◌, ◌^◌, ◌==◌, ℤ, pos, negsuc, ◌-ℤ◌, Bool, true, false, ◌&&◌, ◌||◌, not, nat_lt, nat_le, if◌then◌else◌, List, [], ◌∷◌, ◌++◌, length, take, codes, slice_index, replicate, sum, count_by}
 use Rattle.std.specs.Fmt.{signed_decimal}
+use Rattle.std.specs.Int.{w128, from_be_bytes, cast_signed}
 use Rattle.std.specs.List.{range_with_len}
 use Rattle.cqlp_value.specs.Scalars.{ScalarValue}
 use Rattle.cqlp_value.specs.Scalars as scalar
@@ -9,22 +10,23 @@ use Rattle.uuid.specs.Text.{hyphenated_text, lower}
 
 -- ---- numbers
 
--- the number that bytes spell, the highest byte first
-abbrev pub number_of : List ℕ → ℕ
-number_of = fold (λ n b. 256 * n + b) 0
+-- the byte that goes before a two's complement and leaves its number
+abbrev pub sign_byte : List ℕ → ℕ
+sign_byte bytes = if nat_le 128 (slice_index bytes 0) then 255 else 0
 
--- the number that bytes spell as a two's complement
+-- at most 16 bytes of a two's complement, with their sign extended to 16
+abbrev pub extended : List ℕ → List ℕ
+extended bytes = replicate (16 - length bytes) (sign_byte bytes) ++ bytes
+
+-- the number that at most 16 bytes spell as a two's complement, the highest byte first
 abbrev pub complement_of : List ℕ → ℤ
-complement_of bytes =
-    let n = number_of bytes in
-    let all = 256 ^ length bytes in
-    if nat_lt (2 * n) all then pos n else pos n -ℤ pos all
+complement_of bytes = cast_signed w128 (from_be_bytes w128 (extended bytes))
 
 abbrev pub varint_text : List ℕ → List ℕ
 varint_text bytes = if nat_le (length bytes) 16 then signed_decimal (complement_of bytes) else hex_text bytes
 
 abbrev pub decimal_text : (scale : ℤ) → (unscaled : List ℕ) → List ℕ
-decimal_text scale unscaled = varint_text unscaled ++ codes "e" ++ signed_decimal (pos 0 -ℤ scale)
+decimal_text scale unscaled = varint_text unscaled ++ (codes "e" ++ signed_decimal (pos 0 -ℤ scale))
 
 -- so many digits of a number, with leading zeros
 abbrev pub digits : ℕ → ℕ → List ℕ

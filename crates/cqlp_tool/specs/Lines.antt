@@ -1,13 +1,12 @@
 -- The line of an event: its offset and its words, with a space before each word.
 use Rattle.std.specs.Prelude.{ℕ, Bool, true, false, List, [], ◌∷◌, ◌++◌, Some, None, codes, decimal}
 use Rattle.std.specs.Fmt.{signed_decimal}
-use Rattle.std.specs.List.{flat_map, join_with_byte}
+use Rattle.std.specs.List.{flat_map}
 use Rattle.cqlp_note.specs.declared.field.Field.{Field}
 use Rattle.cqlp_note.specs.Field.{BoundValue, FieldValue}
 use Rattle.cqlp_note.specs.Field as field
 use Rattle.cqlp_value.specs.CellStep.{CellEvent}
 use Rattle.cqlp_value.specs.CellStep as cell
-use Rattle.cqlp_value.specs.Scalars.{ScalarValue}
 use Rattle.cqlp_decode.specs.Reading.{Event}
 use Rattle.cqlp_decode.specs.Reading as reading
 use Rattle.cqlp_tool.specs.Names.{field_name, opcode_name, kind_name}

@@ -1,5 +1,5 @@
 -- What a command that shows a stream writes.
-use Rattle.std.specs.Prelude.{◌≡◌, ℕ, ◌^◌, true, List, [], ◌++◌, Option, ◌⊎◌, codes}
+use Rattle.std.specs.Prelude.{◌≡◌, ℕ, true, List, [], Option, ◌⊎◌}
 use Rattle.cqlp_note.specs.declared.limits.Limits.{Limits}
 use Rattle.cqlp_note.specs.Limits.{rules_of}
 use Rattle.cqlp_note.specs.Streams.{counted}

@@ -1,15 +1,50 @@
 //! Cells as text.
 
-ghost use Rattle.std.specs.Prelude.{◌≡◌};
+ghost use Rattle.std.specs.Prelude.{◌≡◌, ◌≤◌, length};
+ghost use Rattle.cqlp_tool.specs.CellText.{extended as extended_bytes, sign_byte};
 
 use crate::line_writer::LineWriter;
 use cqlp_decode::SinkFault;
 use cqlp_note::Target;
 
+/// How many bytes a number has at most that is written in decimal digits.
+const WIDE: usize = 16;
+
 impl<W: Target> LineWriter<W> {
-    ghost use Rattle.std.specs.Prelude.{pos};
-    ghost use Rattle.cqlp_tool.specs.CellText.{digits, time_text};
+    ghost use Rattle.std.specs.Prelude.{◌-ℤ◌, pos};
+    ghost use Rattle.std.specs.Fmt.{signed_decimal};
+    ghost use Rattle.cqlp_tool.specs.CellText.{decimal_text, digits, time_text, varint_text};
     ghost use Rattle.cqlp_tool.specs.Written.{Writes};
+
+    /// Takes a number of any length: in decimal digits up to 16 bytes, and else its bytes.
+    pub fn put_varint(&mut self, bytes: &[u8]) -> Result<(), SinkFault>
+        ensures { Writes self.old (varint_text bytes.now) result self.new }
+    {
+        if bytes.len() > WIDE {
+            return self.put_hex_text(bytes);
+        }
+        let mut digits = itoa::Buffer::new();
+        self.put(
+            digits
+                .format(i128::from_be_bytes(extended(bytes)))
+                .as_bytes(),
+        )
+    }
+
+    /// Takes a decimal: the unscaled number, `e`, and the negated scale.
+    pub fn put_decimal(&mut self, scale: i32, unscaled: &[u8]) -> Result<(), SinkFault>
+        ensures { Writes self.old (decimal_text scale unscaled.now) result self.new }
+    {
+        self.put_varint(unscaled)?;
+        self.put(b"e")?;
+        self.put_negated(scale)
+    }
+
+    fn put_negated(&mut self, number: i32) -> Result<(), SinkFault>
+        ensures { Writes self.old (signed_decimal (pos 0 -ℤ number)) result self.new }
+    {
+        self.put_signed(-i64::from(number))
+    }
 
     /// Takes a time of day in nanoseconds since midnight; a negative number, which no cell has, as a number.
     pub fn put_time(&mut self, nanoseconds: i64) -> Result<(), SinkFault>
@@ -42,5 +77,25 @@ impl<W: Target> LineWriter<W> {
         }
         self.put_digits(count - 1, number / 10)?;
         self.put(&[b'0' + (number % 10) as u8])
+    }
+}
+
+/// At most 16 bytes of a two's complement, with their sign extended to 16.
+fn extended(bytes: &[u8]) -> [u8; WIDE]
+    requires { length bytes.now ≤ 16 }
+    ensures { result ≡ extended_bytes bytes.now }
+{
+    let mut wide = [sign_byte(bytes); WIDE];
+    wide[WIDE - bytes.len()..].copy_from_slice(bytes);
+    wide
+}
+
+/// The byte that goes before a two's complement and leaves its number.
+fn sign_byte(bytes: &[u8]) -> u8
+    ensures { result ≡ sign_byte bytes.now }
+{
+    match bytes {
+        [first, ..] if *first >= 128 => 255,
+        _ => 0,
     }
 }

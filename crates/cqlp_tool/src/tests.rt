@@ -78,6 +78,31 @@ fn expect_in_pieces(
 }
 
 #[test]
+fn numbers_and_times_of_cells(rt: HostRuntime) -> Result<(), Fail> {
+    let mut writer = LineWriter::new(OfStd::new(Vec::new(rt.alloc())));
+    writer.put_varint(&[0xFF, 0x7F])?;
+    writer.put(b" ")?;
+    writer.put_varint(&[0, 0, 1])?;
+    writer.put(b" ")?;
+    writer.put_varint(&[0x80, 0, 0, 0, 0, 0, 0, 0, 0, 0, 0, 0, 0, 0, 0, 0])?;
+    writer.put(b" ")?;
+    writer.put_varint(&[0, 0, 0, 0, 0, 0, 0, 0, 0, 0, 0, 0, 0, 0, 0, 0, 1])?;
+    writer.put(b" ")?;
+    writer.put_decimal(2, &[0, 0x80])?;
+    writer.put(b" ")?;
+    writer.put_decimal(i32::MIN, &[0, 0x80])?;
+    writer.put(b" ")?;
+    writer.put_time(86_399_999_999_999)?;
+    writer.flush()?;
+    let text = writer.into_inner().into_inner();
+    let expected =
+        "-129 1 -170141183460469231731687303715884105728 0x0000000000000000000000000000000001 \
+                    128e-2 128e2147483648 23:59:59.999999999";
+    assert!(rt; text.as_slice() == expected.as_bytes());
+    Ok(())
+}
+
+#[test]
 fn headers(rt: HostRuntime) -> Result<(), Fail> {
     expect_lines(&rt, rt.alloc(), &HEADERS)
 }

@@ -1,5 +1,3 @@
-use Rattle.std.proofs.Common.{ap}
-use Rattle.cqlp_tool.specs.Rendering.{Output, output}
 use Rattle.cqlp_tool.proofs.Renders.{renders_to}
 use Rattle.cqlp_tool.proofs.render.render_events.Goals as goal
 

@@ -1,4 +1,4 @@
-use Rattle.std.proofs.Common.{ap, sym, ◌∙◌, ◌≡◌, Err}
+use Rattle.std.proofs.Common.{ap, ◌≡◌, Err}
 use Rattle.cqlp_note.specs.Limits.{first_bad}
 use Rattle.cqlp_tool.proofs.Shows.{shows_by}
 use Rattle.cqlp_tool.proofs.showing.shown.Goals as goal

@@ -1,7 +1,7 @@
-use Rattle.std.proofs.Common.{refl, rules, ◌≡◌, List, ℕ, ◌++◌, codes, arith, ◌∷◌, []}
+use Rattle.std.proofs.Common.{rules, ◌≡◌, ◌++◌, codes, ◌∷◌, []}
 use Rattle.hex.specs.Hex.{encode_lower}
 use Rattle.cqlp_tool.specs.Text.{escaped}
-use Rattle.cqlp_tool.proofs.Writing.{progress_starts, progress_goes_on, progress_stops, progress_writes}
+use Rattle.cqlp_tool.proofs.Writing.{progress_starts, progress_stops}
 use Rattle.cqlp_tool.proofs.line_writer.LineWriter.put_byte.Goals as goal
 
 pub returns-in_err-put-in_default : goal.returns-in_err-put-in_default

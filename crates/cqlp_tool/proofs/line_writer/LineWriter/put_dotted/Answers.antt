@@ -1,6 +1,5 @@
-use Rattle.std.proofs.Common.{◌≡◌, ◌<◌, ◌++◌, ◌∙◌, codes, decimal, length, refl, sym, ap, arith}
-use Rattle.std.proofs.lemmas.Grind.{common_steps}
-use Rattle.cqlp_tool.proofs.Texts.{dotted, dotted_text, dotted_rest}
+use Rattle.std.proofs.Common.{refl, arith}
+use Rattle.cqlp_tool.proofs.Texts.{dotted_text, dotted_rest}
 use Rattle.cqlp_tool.proofs.Writing.{progress_starts, progress_goes_on, progress_stops}
 use Rattle.cqlp_tool.proofs.line_writer.LineWriter.put_dotted.Goals as goal
 

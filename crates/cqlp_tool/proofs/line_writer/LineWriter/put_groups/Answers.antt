@@ -1,6 +1,6 @@
 use Rattle.std.proofs.Common.{refl, arith}
-use Rattle.cqlp_tool.proofs.Texts.{colons_text, colons_rest, colons_none}
-use Rattle.cqlp_tool.proofs.Writing.{progress_starts, progress_goes_on, progress_stops, progress_ends}
+use Rattle.cqlp_tool.proofs.Texts.{colons_text, colons_rest}
+use Rattle.cqlp_tool.proofs.Writing.{progress_starts, progress_goes_on, progress_stops}
 use Rattle.cqlp_tool.proofs.line_writer.LineWriter.put_groups.Goals as goal
 
 pub returns-in_err-put_hex : goal.returns-in_err-put_hex
