@@ -28,7 +28,7 @@ use Rattle.cqlp_message.specs.Parts.{Part, Field_is, Type_is}
 use Rattle.cqlp_message.specs.Bodies.{where_some, texts, text, bytes, bound, value_parts, serial_parts, timestamp_parts, paging_parts, params_parts, entry_parts, extra_parts, options_parts, change_parts, event_parts, table_parts, spec_parts, specs_parts, metadata_parts, message_parts}
 use Rattle.cqlp_message.specs.Bodies as bodies
 use Rattle.cqlp_message.specs.Agreement.{IsThereIf, ParamsAgree, BatchAgrees, ExtraAgrees, OptionsAgree, ChangeAgrees, EventAgrees, IsNoResult, SpecsAgree, ColumnsAgree, MetadataAgrees, MessageAgrees, opcode_of, is_response, FrameAgrees}
-use Rattle.cqlp_message.specs.Frames.{frame_parts, header_of, options_of, options_told, TypesWithin}
+use Rattle.cqlp_message.specs.Frames.{frame_parts, header_of, options_among, options_told, TypesWithin}
 use Rattle.cqlp_message.proofs.Derives.{Derives, Counts, D, same, trivial, some_of, alone_derives, each_derives, where_derives, option_derives, texts_derive}
 
 five : {X : Type 0} (a b c d e t : List X) → ((((a ++ b) ++ c) ++ d) ++ e) ++ t ≡ a ++ (b ++ (c ++ (d ++ (e ++ t))))
@@ -206,7 +206,7 @@ module _ (l : Rules) (S : Type 0) (types : S → Role → Types) (after : S → 
   spec_at n true (Some table) name t ps rest is room d = absurd cc
   spec_at n false None name t ps rest is room d = absurd cc
 
-  specs_at : (n : ℕ) (global : Bool) (cs : List Spec) (ps : List Part) (rest : List Symbol) → All (λ c. IsThereIf (not global) c.table) cs → n + options_of cs ≤ l.entries → D l S types after grown count ps rest
+  specs_at : (n : ℕ) (global : Bool) (cs : List Spec) (ps : List Part) (rest : List Symbol) → All (λ c. IsThereIf (not global) c.table) cs → n + options_among cs ≤ l.entries → D l S types after grown count ps rest
       → DAt n (flat_map spec_parts cs ++ ps) (copies (length cs) (group (group_of.Columns global)) ++ rest)
   specs_at n global [] ps rest all room d = λ s e. d s
   specs_at n global (x ∷ cs) ps rest all room d =
@@ -216,7 +216,7 @@ module _ (l : Rules) (S : Type 0) (types : S → Role → Types) (after : S → 
       (spec_at n global x.table x.name x.tree (flat_map spec_parts cs ++ ps) (copies (length cs) (group (group_of.Columns global)) ++ rest) (All-head P x cs all) (omega arith) later)
 
   -- the table of all columns, and the columns
-  columns_at : (flags columns : ℕ) (o : Option TableName) (cs : List Spec) (ps : List Part) (rest : List Symbol) → SpecsAgree flags columns o cs → options_of cs ≤ l.entries → D l S types after grown count ps rest
+  columns_at : (flags columns : ℕ) (o : Option TableName) (cs : List Spec) (ps : List Part) (rest : List Symbol) → SpecsAgree flags columns o cs → options_among cs ≤ l.entries → D l S types after grown count ps rest
       → DAt 0 (table_parts o ++ (flat_map spec_parts cs ++ ps)) (productions.specs flags columns ++ rest)
   columns_at flags columns o cs ps rest a room d =
       let told : DAt 0 (flat_map spec_parts cs ++ ps) (copies columns (group (group_of.Columns (has flags 0x01))) ++ rest) = rw a.number at (specs_at 0 (has flags 0x01) cs ps rest a.own (omega arith) d) in
@@ -243,7 +243,7 @@ module _ (l : Rules) (S : Type 0) (types : S → Role → Types) (after : S → 
       let all = paging_at flags m.paging _ _ a.paging (told_at flags m.columns m.table m.specs ps rest a.columns room d) second none in
       (same, refl, (same, refl, rw (three (paging_parts m.paging) (table_parts m.table) (where_some (flat_map spec_parts) m.specs) ps, three state due [] rest) all))
 
-  prepared_derives : (id : Octets) (flags : ℤ) (columns : ℕ) (ks : List ℕ) (o : Option TableName) (cs : List Spec) (m : Metadata) (ps : List Part) (rest : List Symbol) → SpecsAgree (cast_unsigned w32 flags) columns o cs → MetadataAgrees m → options_of cs ≤ l.entries → options_told m.specs ≤ l.entries
+  prepared_derives : (id : Octets) (flags : ℤ) (columns : ℕ) (ks : List ℕ) (o : Option TableName) (cs : List Spec) (m : Metadata) (ps : List Part) (rest : List Symbol) → SpecsAgree (cast_unsigned w32 flags) columns o cs → MetadataAgrees m → options_among cs ≤ l.entries → options_told m.specs ≤ l.entries
       → D l S types after grown count ps rest → D l S types after grown count (message_parts (Prepared id flags columns ks o cs m) ++ ps) (body (opcode_of (Prepared id flags columns ks o cs m)) ++ rest)
   prepared_derives id flags columns ks o cs m ps rest a b room more d s =
       let f : ℕ = cast_unsigned w32 flags in

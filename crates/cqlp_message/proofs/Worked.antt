@@ -254,19 +254,23 @@ prepared_result_spelled = record {
                           front = 0 ∷ 0x20 ∷ 0 ∷ 9 ∷ [];
                           back = 0 ∷ 0 ∷ 0 ∷ 6 ∷ 0 ∷ 0 ∷ 0 ∷ 3 ∷ 0xFF ∷ 0xFF ∷ 0xFF ∷ 0xFF ∷ [];
                           whole = refl;
-                          this = record { one = refl; formed = (refl, ((refl, refl), tt, tt), tt); spelled = record {
-                      front = 0 ∷ 0x20 ∷ [];
-                      back = 0 ∷ 9 ∷ [];
-                      whole = refl;
-                      this = (0x20, refl, record { long = refl; is = refl });
-                      that = record {
-                        front = 0 ∷ 9 ∷ [];
-                        back = [];
-                        whole = refl;
-                        this = (9, refl, record { long = refl; is = refl });
-                        that = refl;
-                      };
-                    } };
+                          this = record {
+                            one = refl;
+                            formed = (refl, ((refl, refl), tt, tt), tt);
+                            spelled = record {
+                              front = 0 ∷ 0x20 ∷ [];
+                              back = 0 ∷ 9 ∷ [];
+                              whole = refl;
+                              this = (0x20, refl, record { long = refl; is = refl });
+                              that = record {
+                                front = 0 ∷ 9 ∷ [];
+                                back = [];
+                                whole = refl;
+                                this = (9, refl, record { long = refl; is = refl });
+                                that = refl;
+                              };
+                            };
+                          };
                           that = record {
                             front = 0 ∷ 0 ∷ 0 ∷ 6 ∷ [];
                             back = 0 ∷ 0 ∷ 0 ∷ 3 ∷ 0xFF ∷ 0xFF ∷ 0xFF ∷ 0xFF ∷ [];
