@@ -16,7 +16,7 @@ use Rattle.cqlp_message.specs.FrameValues.{FrameValue, Options, Query, Error, Vo
 use Rattle.cqlp_message.specs.FrameValues as value
 use Rattle.cqlp_message.specs.Events as told
 use Rattle.cqlp_message.specs.Agreement.{IsThereIf}
-use Rattle.cqlp_message.specs.Frames.{FrameSpells, Flat}
+use Rattle.cqlp_message.specs.Frames.{FrameSpells, Flat, IsWithin}
 
 -- ---- a request for the supported options
 
@@ -313,3 +313,11 @@ prepared_result_flat : Flat 0 prepared_result 0 ≡
     ∷ (39, told.Node_of kind.List) ∷ (41, told.Node_of kind.Int)
     ∷ (43, told.Holds field.MetaFlags (note.Int (pos 6))) ∷ (47, told.Holds field.Columns (note.Count 3)) ∷ (51, told.Holds field.PagingState (note.Bytes None)) ∷ (55, told.End 0) ∷ []
 prepared_result_flat = refl
+
+-- two type options, one in the other, are within limits of two
+prepared_result_within : IsWithin (record { text = 32; cell = 32; entries = 2; depth = 2; part = 32; types = true; parts = true }) prepared_result
+prepared_result_within = record {
+  parts = (lit≤ tt, (lit≤ tt, (lit≤ tt, (lit≤ tt, (lit≤ tt, (lit≤ tt, (lit≤ tt, (lit≤ tt, (lit≤ tt, (((lit≤ tt, (lit≤ tt, tt, tt), tt), tt), (lit≤ tt, (lit≤ tt, (lit≤ tt, tt)))))))))))));
+  types = (lit≤ tt, lit≤ tt);
+  typed = refl;
+}
