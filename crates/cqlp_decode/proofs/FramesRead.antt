@@ -16,14 +16,13 @@ use Rattle.cqlp_message.specs.FrameValues.{FrameValue}
 use Rattle.cqlp_message.specs.Events.{Event, Frame, End}
 use Rattle.cqlp_message.specs.Productions.{Stream, Extra, message}
 use Rattle.cqlp_message.specs.Parts.{parts_size, parts_events}
-use Rattle.cqlp_message.specs.Agreement.{IsUnprepared}
 use Rattle.cqlp_message.specs.Frames.{FrameSpells, header_of, frame_parts, frame_size, Flat, IsWithin, AllSpell, FlatAll}
 use Rattle.cqlp_message.proofs.Sizes.{parts_long, frame_spelled, frame_long}
 use Rattle.cqlp_message.proofs.Messages.{frame_derives}
 use Rattle.cqlp_decode.specs.Reading.{Place, Nothing, step, Reads, Says, Waits}
 use Rattle.cqlp_decode.specs.Laws.{AllWithin}
 use Rattle.cqlp_decode.proofs.StepRuns.{step_runs, runs_join}
-use Rattle.cqlp_decode.proofs.PartsRead.{State, types_in, state_after, inside, parts_read}
+use Rattle.cqlp_decode.proofs.PartsRead.{State, types_in, state_after, state_grown, nodes_in, counts_nodes, inside, parts_read}
 
 -- a place between frames
 abbrev pub between : (at stop : ℕ) → List Node → Place
@@ -58,8 +57,8 @@ module _ (l : Rules) where
         rw (whole, total, last_at) all
 
   -- What spells a frame is read as its events, and the next frame is due.
-  pub frame_reads : (f : FrameValue) (x at stop : ℕ) (ns : List Node) (b : List ℕ) → FrameSpells f x b → IsWithin l f → FitsSigned w16 f.stream → IsUnprepared f.message → at ≤ 2 ^ 63 → (ns' : List Node) × Reads l (between at stop ns) b (Flat at f x) (between (at + length b) (at + length b) ns') []
-  frame_reads f x at stop ns b s w fits u le =
+  pub frame_reads : (f : FrameValue) (x at stop : ℕ) (ns : List Node) (b : List ℕ) → FrameSpells f x b → IsWithin l f → FitsSigned w16 f.stream → at ≤ 2 ^ 63 → (ns' : List Node) × Reads l (between at stop ns) b (Flat at f x) (between (at + length b) (at + length b) ns') []
+  frame_reads f x at stop ns b s w fits le =
       let ps = frame_parts f in
       let middle : List ℕ = s.announced ++ s.body in
       let size : length middle ≡ parts_size ps = parts_long ps middle (frame_spelled f x b s) in
@@ -73,7 +72,7 @@ module _ (l : Rules) where
       let end = (at + 9) + n in
       let inside_end : (at + 9) + length middle ≤ end = omega arith in
       let counts : n ≡ length middle + x = omega arith in
-      let second = parts_read l end ps (at + 9) (message h) (ns, Nothing) middle (frame_derives State (types_in l) state_after f n s.agrees u (ns, Nothing)) (frame_spelled f x b s) w.parts inside_end in
+      let second = parts_read l end ps (at + 9) (message h) (ns, Nothing) middle (frame_derives l State (types_in l) state_after state_grown nodes_in counts_nodes f n s.agrees w.types (ns, Nothing)) (frame_spelled f x b s) w.parts inside_end in
       let none : second.0.1 ≡ Nothing = second.2 refl in
       let read : Reads l (inside (at + 9) end (message h) (ns, Nothing)) middle (parts_events (at + 9) ps) (inside ((at + 9) + length middle) end (Extra ∷ []) (second.0.0, Nothing)) [] = rw none at second.1 in
       (second.0.0, frame_joined at stop x (parts_size ps) ns second.0.0 h head middle s.extra b (parts_events (at + 9) ps) size s.more counts whole refl (written_is_read h lawful fits) le read)
@@ -93,7 +92,7 @@ frames_read l [] at stop ns b s w le =
 frames_read l (f ∷ fs) at stop ns b s w le =
     let long : length b ≡ length s.front + length s.back = ap length s.whole ∙ length-append s.front s.back in
     let size : length s.front ≡ frame_size f.0 f.1 = frame_long f.0 f.1 s.front s.this in
-    let one = frame_reads l f.0 f.1 at stop ns s.front s.this w.0 w.1 w.2 (omega arith) in
+    let one = frame_reads l f.0 f.1 at stop ns s.front s.this w.0 w.1 (omega arith) in
     let here = at + length s.front in
-    let more = frames_read l fs here here one.0 s.back s.that w.3 (omega arith) in
+    let more = frames_read l fs here here one.0 s.back s.that w.2 (omega arith) in
     frames_joined l at stop ns one.0 s.front s.back b (frame_size f.0 f.1) (Flat at f.0 f.1) (λ k. FlatAll k fs) s.whole size one.1 more

@@ -4,7 +4,6 @@ use Rattle.std.specs.Int.{w16}
 use Rattle.cqlp_note.specs.declared.refusal.Reason.{Reason}
 use Rattle.cqlp_note.specs.Limits.{Rules}
 use Rattle.cqlp_message.specs.FrameValues.{FrameValue}
-use Rattle.cqlp_message.specs.Agreement.{IsUnprepared}
 use Rattle.cqlp_message.specs.Frames.{AllSpell, FlatAll, IsWithin}
 use Rattle.cqlp_decode.specs.Reading.{Place, Event, Verdict, Refused, Waits, Says, start}
 
@@ -17,10 +16,10 @@ abbrev pub GoesOn : Type 0
 GoesOn = (l : Rules) (p : Place) (bytes t : List ℕ) (es es' : List (ℕ × Event)) (v v' : Verdict) → Says l p bytes es v → Says l p (bytes ++ t) es' v'
     → ((more : List (ℕ × Event)) × (es' ≡ es ++ more)) × ((k : ℕ) (why : Reason) → v ≡ Refused k why → (es' ≡ es) × (v' ≡ v))
 
--- each frame is within the caller's limits, its stream id has 16 bits, and it is no prepared result
+-- each frame is within the caller's limits, and its stream id has 16 bits
 abbrev pub AllWithin : Rules → List (FrameValue × ℕ) → Type 0
 AllWithin l [] = Unit {0}
-AllWithin l (f ∷ fs) = IsWithin l f.0 × FitsSigned w16 f.0.stream × IsUnprepared f.0.message × AllWithin l fs
+AllWithin l (f ∷ fs) = IsWithin l f.0 × FitsSigned w16 f.0.stream × AllWithin l fs
 
 -- Frames one after the other, within the limits, each with so many bytes more, are read as their events, and then more
 -- is waited for.

@@ -1,5 +1,5 @@
 -- How symbols become parts, one after the other.
-use Rattle.std.proofs.Common.{◌≡◌, ℕ, List, [], ◌∷◌, ◌++◌, length, Option, Some, None, refl, sym, append_assoc}
+use Rattle.std.proofs.Common.{◌≡◌, ℕ, ◌+◌, ◌≤◌, List, [], ◌∷◌, ◌++◌, length, Option, Some, None, refl, sym, append_assoc}
 use Rattle.std.proofs.lemmas.List.Elements.{All-nil, All-cons, All-head, All-tail}
 use Rattle.std.specs.Prelude.{IfSome, All, ⊤}
 use Rattle.std.specs.List.{flat_map}
@@ -8,14 +8,17 @@ use Rattle.cqlp_note.specs.declared.field.Notation.{Notation}
 use Rattle.cqlp_note.specs.declared.field.Notation.TheVariants as notation
 use Rattle.cqlp_note.specs.Field.{FieldValue, Text}
 use Rattle.cqlp_note.specs.Heading.{has}
+use Rattle.cqlp_note.specs.Limits.{Rules}
 use Rattle.cqlp_type.specs.Types.{Types}
+use Rattle.cqlp_type.specs.TypeStep.{Option_at}
+use Rattle.cqlp_type.specs.Trees.{Trees, options_in}
 use Rattle.cqlp_message.specs.declared.grammar.Group.{Group}
 use Rattle.cqlp_message.specs.declared.grammar.Role.{Role}
 use Rattle.cqlp_message.specs.declared.grammar.Role.TheVariants as role
 use Rattle.cqlp_message.specs.FrameValues.{Octets}
-use Rattle.cqlp_message.specs.Productions.{Symbol, In, Extra, plain, copies, group, where_set, following, fault_in}
+use Rattle.cqlp_message.specs.Productions.{Symbol, In, In_type, Extra, plain, copies, group, where_set, following, fault_in}
 use Rattle.cqlp_message.specs.Productions as productions
-use Rattle.cqlp_message.specs.Parts.{Part, Field_is}
+use Rattle.cqlp_message.specs.Parts.{Part, Field_is, Type_is}
 use Rattle.cqlp_message.specs.Bodies.{where_some, text, texts}
 use Rattle.cqlp_message.specs.Agreement.{IsThereIf}
 
@@ -30,12 +33,25 @@ pub trivial : {A : Type 0} (xs : List A) → All (λ a. ⊤) xs
 trivial [] = All-nil (λ a. ⊤)
 trivial (a ∷ xs) = All-cons (λ a. ⊤) a xs tt (trivial xs)
 
--- A reading carries a state along, which gives the types of a page's cells and changes with each field.
-module _ (S : Type 0) (types : S → Role → Types) (after : S → Role → S) where
+-- how many type options are read for a metadata, which a field of this role may begin
+abbrev pub options_after : Role → ℕ → ℕ
+options_after (role.MetaFlags rows) n = 0
+options_after role.PreparedFlags n = 0
+options_after r n = n
+
+-- a state counts the type options that are read
+pub record Counts (S : Type 0) (after : S → Role → S) (grown : S → Trees → S) (count : S → ℕ) : Type 0 where
+  pub stays : (s : S) (r : Role) → count (after s r) ≡ options_after r (count s)
+  pub grows : (s : S) (t : Trees) → count (grown s t) ≡ count s + options_in t
+
+-- A reading carries a state along, which gives the types of a page's cells and changes with each field and each type, and
+-- which counts the type options.
+module _ (l : Rules) (S : Type 0) (types : S → Role → Types) (after : S → Role → S) (grown : S → Trees → S) (count : S → ℕ) where
   -- From these symbols, in this state, come these parts and no others, up to the end of the frame.
   abbrev pub Derives : List Part → List Symbol → S → Type 0
   Derives [] symbols s = symbols ≡ Extra ∷ []
   Derives (Field_is g m v ∷ parts) (In f n r ∷ rest) s = IsField g f m n × (fault_in r v ≡ None) × Derives parts (following (types s r) r v ++ rest) (after s r)
+  Derives (Type_is t ∷ parts) (In_type ts ∷ rest) s = (ts ≡ Option_at 1 ∷ []) × (count s + options_in t ≤ l.entries) × Derives parts rest (grown s t)
   Derives (part ∷ parts) symbols s = ⊥
 
   -- the same in every state

@@ -1,5 +1,5 @@
 -- Worked frames: bytes that spell them, and their events.
-use Rattle.std.proofs.Common.{◌≡◌, pos, negsuc, [], ◌∷◌, false, true, refl, lit≤, lit<}
+use Rattle.std.proofs.Common.{◌≡◌, ◌-◌, ◌^◌, pos, negsuc, [], ◌∷◌, false, true, refl, lit≤, lit<}
 use Rattle.std.proofs.lemmas.List.Elements.{All-cons, All-nil}
 use Rattle.std.specs.Prelude.{Option, Some, None, All, codes}
 use Rattle.std.specs.Str.{is_utf8, chars}
@@ -9,11 +9,14 @@ use Rattle.cqlp_note.specs.declared.opcode.Opcode.TheVariants as opcode
 use Rattle.cqlp_note.specs.declared.prim.Address.TheVariants as address
 use Rattle.cqlp_note.specs.Field as note
 use Rattle.cqlp_note.specs.Spelling.{Spells}
-use Rattle.cqlp_message.specs.FrameValues.{FrameValue, Options, Query, Error, Void, Event}
+use Rattle.cqlp_type.specs.declared.kind.Kind.TheVariants as kind
+use Rattle.cqlp_type.specs.Trees.{Trees, NoTree, Tree_and, ListOf}
+use Rattle.cqlp_type.specs.Trees.{Plain as PlainType}
+use Rattle.cqlp_message.specs.FrameValues.{FrameValue, Options, Query, Error, Void, Prepared, Event}
 use Rattle.cqlp_message.specs.FrameValues as value
 use Rattle.cqlp_message.specs.Events as told
 use Rattle.cqlp_message.specs.Agreement.{IsThereIf}
-use Rattle.cqlp_message.specs.Frames.{FrameSpells, Flat}
+use Rattle.cqlp_message.specs.Frames.{FrameSpells, Flat, IsWithin}
 
 -- ---- a request for the supported options
 
@@ -166,3 +169,155 @@ node_event_flat : Flat 0 node_event 0 ≡
     ∷ (9, told.Holds field.EventType (note.Text (codes "STATUS_CHANGE"))) ∷ (24, told.Holds field.Change (note.Text (codes "UP")))
     ∷ (28, told.Holds field.Address (note.Inet (address.V4 (127 ∷ 0 ∷ 0 ∷ 1 ∷ [])) (pos 9042))) ∷ (37, told.End 0) ∷ []
 node_event_flat = refl
+
+-- ---- a prepared result, whose pages will not tell of their columns
+
+abbrev list_of_int : Trees
+list_of_int = Tree_and [] ListOf (Tree_and [] (PlainType kind.Int) NoTree NoTree) NoTree
+
+abbrev prepared_result : FrameValue
+prepared_result = record {
+  flags = 0;
+  stream = pos 0;
+  tracing = None;
+  warnings = None;
+  payload = None;
+  message = Prepared (0xAB ∷ []) (pos 1) 1 (0 ∷ []) (Some (codes "k", codes "t")) (record { table = None; name = codes "c"; tree = list_of_int } ∷ [])
+      (record { flags = pos 6; columns = 3; paging = Some None; table = None; specs = None });
+}
+
+tableless : All (λ (c : value.Spec). IsThereIf false c.table) (record { table = None; name = codes "c"; tree = list_of_int } ∷ [])
+tableless =
+    let P : value.Spec → Type 0 = λ c. IsThereIf false c.table in
+    All-cons P (record { table = None; name = codes "c"; tree = list_of_int }) [] refl (All-nil P)
+
+prepared_result_spelled : FrameSpells prepared_result 0 (0x84 ∷ 0 ∷ 0 ∷ 0 ∷ 8 ∷ 0 ∷ 0 ∷ 0 ∷ 0x2E ∷ 0 ∷ 0 ∷ 0 ∷ 4 ∷ 0 ∷ 1 ∷ 0xAB ∷ 0 ∷ 0 ∷ 0 ∷ 1 ∷ 0 ∷ 0 ∷ 0 ∷ 1 ∷ 0 ∷ 0 ∷ 0 ∷ 1 ∷ 0 ∷ 0 ∷ 0 ∷ 1 ∷ 0x6B ∷ 0 ∷ 1 ∷ 0x74 ∷ 0 ∷ 1 ∷ 0x63 ∷ 0 ∷ 0x20 ∷ 0 ∷ 9 ∷ 0 ∷ 0 ∷ 0 ∷ 6 ∷ 0 ∷ 0 ∷ 0 ∷ 3 ∷ 0xFF ∷ 0xFF ∷ 0xFF ∷ 0xFF ∷ [])
+unfolding Spells is_utf8 chars encode
+prepared_result_spelled = record {
+  announced = [];
+  body = 0 ∷ 0 ∷ 0 ∷ 4 ∷ 0 ∷ 1 ∷ 0xAB ∷ 0 ∷ 0 ∷ 0 ∷ 1 ∷ 0 ∷ 0 ∷ 0 ∷ 1 ∷ 0 ∷ 0 ∷ 0 ∷ 1 ∷ 0 ∷ 0 ∷ 0 ∷ 1 ∷ 0x6B ∷ 0 ∷ 1 ∷ 0x74 ∷ 0 ∷ 1 ∷ 0x63 ∷ 0 ∷ 0x20 ∷ 0 ∷ 9 ∷ 0 ∷ 0 ∷ 0 ∷ 6 ∷ 0 ∷ 0 ∷ 0 ∷ 3 ∷ 0xFF ∷ 0xFF ∷ 0xFF ∷ 0xFF ∷ [];
+  extra = [];
+  agrees = record {
+    tracing = refl;
+    warnings = refl;
+    payload = refl;
+    message = (record { number = refl; global = refl; own = tableless }, record { paging = refl; columns = (refl, refl) });
+  };
+  parts = refl;
+  message =
+      record {
+        front = 0 ∷ 0 ∷ 0 ∷ 4 ∷ [];
+        back = 0 ∷ 1 ∷ 0xAB ∷ 0 ∷ 0 ∷ 0 ∷ 1 ∷ 0 ∷ 0 ∷ 0 ∷ 1 ∷ 0 ∷ 0 ∷ 0 ∷ 1 ∷ 0 ∷ 0 ∷ 0 ∷ 1 ∷ 0x6B ∷ 0 ∷ 1 ∷ 0x74 ∷ 0 ∷ 1 ∷ 0x63 ∷ 0 ∷ 0x20 ∷ 0 ∷ 9 ∷ 0 ∷ 0 ∷ 0 ∷ 6 ∷ 0 ∷ 0 ∷ 0 ∷ 3 ∷ 0xFF ∷ 0xFF ∷ 0xFF ∷ 0xFF ∷ [];
+        whole = refl;
+        this = (4, record { long = refl; is = refl }, refl);
+        that = record {
+          front = 0 ∷ 1 ∷ 0xAB ∷ [];
+          back = 0 ∷ 0 ∷ 0 ∷ 1 ∷ 0 ∷ 0 ∷ 0 ∷ 1 ∷ 0 ∷ 0 ∷ 0 ∷ 1 ∷ 0 ∷ 0 ∷ 0 ∷ 1 ∷ 0x6B ∷ 0 ∷ 1 ∷ 0x74 ∷ 0 ∷ 1 ∷ 0x63 ∷ 0 ∷ 0x20 ∷ 0 ∷ 9 ∷ 0 ∷ 0 ∷ 0 ∷ 6 ∷ 0 ∷ 0 ∷ 0 ∷ 3 ∷ 0xFF ∷ 0xFF ∷ 0xFF ∷ 0xFF ∷ [];
+          whole = refl;
+          this = record { head = 0 ∷ 1 ∷ []; counts = record { long = refl; is = refl }; parts = refl };
+          that = record {
+            front = 0 ∷ 0 ∷ 0 ∷ 1 ∷ [];
+            back = 0 ∷ 0 ∷ 0 ∷ 1 ∷ 0 ∷ 0 ∷ 0 ∷ 1 ∷ 0 ∷ 0 ∷ 0 ∷ 1 ∷ 0x6B ∷ 0 ∷ 1 ∷ 0x74 ∷ 0 ∷ 1 ∷ 0x63 ∷ 0 ∷ 0x20 ∷ 0 ∷ 9 ∷ 0 ∷ 0 ∷ 0 ∷ 6 ∷ 0 ∷ 0 ∷ 0 ∷ 3 ∷ 0xFF ∷ 0xFF ∷ 0xFF ∷ 0xFF ∷ [];
+            whole = refl;
+            this = (1, record { long = refl; is = refl }, refl);
+            that = record {
+              front = 0 ∷ 0 ∷ 0 ∷ 1 ∷ [];
+              back = 0 ∷ 0 ∷ 0 ∷ 1 ∷ 0 ∷ 0 ∷ 0 ∷ 1 ∷ 0x6B ∷ 0 ∷ 1 ∷ 0x74 ∷ 0 ∷ 1 ∷ 0x63 ∷ 0 ∷ 0x20 ∷ 0 ∷ 9 ∷ 0 ∷ 0 ∷ 0 ∷ 6 ∷ 0 ∷ 0 ∷ 0 ∷ 3 ∷ 0xFF ∷ 0xFF ∷ 0xFF ∷ 0xFF ∷ [];
+              whole = refl;
+              this = (record { long = refl; is = refl }, lit< tt);
+              that = record {
+                front = 0 ∷ 0 ∷ 0 ∷ 1 ∷ [];
+                back = 0 ∷ 0 ∷ 0 ∷ 1 ∷ 0x6B ∷ 0 ∷ 1 ∷ 0x74 ∷ 0 ∷ 1 ∷ 0x63 ∷ 0 ∷ 0x20 ∷ 0 ∷ 9 ∷ 0 ∷ 0 ∷ 0 ∷ 6 ∷ 0 ∷ 0 ∷ 0 ∷ 3 ∷ 0xFF ∷ 0xFF ∷ 0xFF ∷ 0xFF ∷ [];
+                whole = refl;
+                this = (record { long = refl; is = refl }, lit< tt);
+                that = record {
+                  front = 0 ∷ 0 ∷ [];
+                  back = 0 ∷ 1 ∷ 0x6B ∷ 0 ∷ 1 ∷ 0x74 ∷ 0 ∷ 1 ∷ 0x63 ∷ 0 ∷ 0x20 ∷ 0 ∷ 9 ∷ 0 ∷ 0 ∷ 0 ∷ 6 ∷ 0 ∷ 0 ∷ 0 ∷ 3 ∷ 0xFF ∷ 0xFF ∷ 0xFF ∷ 0xFF ∷ [];
+                  whole = refl;
+                  this = record { long = refl; is = refl };
+                  that = record {
+                    front = 0 ∷ 1 ∷ 0x6B ∷ [];
+                    back = 0 ∷ 1 ∷ 0x74 ∷ 0 ∷ 1 ∷ 0x63 ∷ 0 ∷ 0x20 ∷ 0 ∷ 9 ∷ 0 ∷ 0 ∷ 0 ∷ 6 ∷ 0 ∷ 0 ∷ 0 ∷ 3 ∷ 0xFF ∷ 0xFF ∷ 0xFF ∷ 0xFF ∷ [];
+                    whole = refl;
+                    this = (record { head = 0 ∷ 1 ∷ []; counts = record { long = refl; is = refl }; parts = refl }, refl);
+                    that = record {
+                      front = 0 ∷ 1 ∷ 0x74 ∷ [];
+                      back = 0 ∷ 1 ∷ 0x63 ∷ 0 ∷ 0x20 ∷ 0 ∷ 9 ∷ 0 ∷ 0 ∷ 0 ∷ 6 ∷ 0 ∷ 0 ∷ 0 ∷ 3 ∷ 0xFF ∷ 0xFF ∷ 0xFF ∷ 0xFF ∷ [];
+                      whole = refl;
+                      this = (record { head = 0 ∷ 1 ∷ []; counts = record { long = refl; is = refl }; parts = refl }, refl);
+                      that = record {
+                        front = 0 ∷ 1 ∷ 0x63 ∷ [];
+                        back = 0 ∷ 0x20 ∷ 0 ∷ 9 ∷ 0 ∷ 0 ∷ 0 ∷ 6 ∷ 0 ∷ 0 ∷ 0 ∷ 3 ∷ 0xFF ∷ 0xFF ∷ 0xFF ∷ 0xFF ∷ [];
+                        whole = refl;
+                        this = (record { head = 0 ∷ 1 ∷ []; counts = record { long = refl; is = refl }; parts = refl }, refl);
+                        that = record {
+                          front = 0 ∷ 0x20 ∷ 0 ∷ 9 ∷ [];
+                          back = 0 ∷ 0 ∷ 0 ∷ 6 ∷ 0 ∷ 0 ∷ 0 ∷ 3 ∷ 0xFF ∷ 0xFF ∷ 0xFF ∷ 0xFF ∷ [];
+                          whole = refl;
+                          this = record {
+                            one = refl;
+                            formed = (refl, ((refl, refl), tt, tt), tt);
+                            spelled = record {
+                              front = 0 ∷ 0x20 ∷ [];
+                              back = 0 ∷ 9 ∷ [];
+                              whole = refl;
+                              this = (0x20, refl, record { long = refl; is = refl });
+                              that = record {
+                                front = 0 ∷ 9 ∷ [];
+                                back = [];
+                                whole = refl;
+                                this = (9, refl, record { long = refl; is = refl });
+                                that = refl;
+                              };
+                            };
+                          };
+                          that = record {
+                            front = 0 ∷ 0 ∷ 0 ∷ 6 ∷ [];
+                            back = 0 ∷ 0 ∷ 0 ∷ 3 ∷ 0xFF ∷ 0xFF ∷ 0xFF ∷ 0xFF ∷ [];
+                            whole = refl;
+                            this = (6, record { long = refl; is = refl }, refl);
+                            that = record {
+                              front = 0 ∷ 0 ∷ 0 ∷ 3 ∷ [];
+                              back = 0xFF ∷ 0xFF ∷ 0xFF ∷ 0xFF ∷ [];
+                              whole = refl;
+                              this = (record { long = refl; is = refl }, lit< tt);
+                              that = record {
+                                front = 0xFF ∷ 0xFF ∷ 0xFF ∷ 0xFF ∷ [];
+                                back = [];
+                                whole = refl;
+                                this = (2 ^ 32 - 1, record { long = refl; is = refl }, lit≤ tt);
+                                that = refl;
+                              };
+                            };
+                          };
+                        };
+                      };
+                    };
+                  };
+                };
+              };
+            };
+          };
+        };
+      };
+  more = refl;
+  lawful = record { plain = refl; direction = refl; bounded = lit≤ tt };
+  whole = refl;
+}
+
+prepared_result_flat : Flat 0 prepared_result 0 ≡
+    (0, told.Frame (record { response = true; flags = 0; stream = pos 0; opcode = opcode.Result; length = 46 }))
+    ∷ (9, told.Holds field.ResultKind (note.Int (pos 4))) ∷ (13, told.Holds field.StatementId (note.Bytes (Some (0xAB ∷ []))))
+    ∷ (16, told.Holds field.MetaFlags (note.Int (pos 1))) ∷ (20, told.Holds field.Columns (note.Count 1)) ∷ (24, told.Holds field.Keys (note.Count 1)) ∷ (28, told.Holds field.KeyIndex (note.Short 0))
+    ∷ (30, told.Holds field.Keyspace (note.Text (codes "k"))) ∷ (33, told.Holds field.Table (note.Text (codes "t"))) ∷ (36, told.Holds field.ColumnName (note.Text (codes "c")))
+    ∷ (39, told.Node_of kind.List) ∷ (41, told.Node_of kind.Int)
+    ∷ (43, told.Holds field.MetaFlags (note.Int (pos 6))) ∷ (47, told.Holds field.Columns (note.Count 3)) ∷ (51, told.Holds field.PagingState (note.Bytes None)) ∷ (55, told.End 0) ∷ []
+prepared_result_flat = refl
+
+-- two type options, one in the other, are within limits of two
+prepared_result_within : IsWithin (record { text = 32; cell = 32; entries = 2; depth = 2; part = 32; types = true; parts = true }) prepared_result
+prepared_result_within = record {
+  parts = (lit≤ tt, (lit≤ tt, (lit≤ tt, (lit≤ tt, (lit≤ tt, (lit≤ tt, (lit≤ tt, (lit≤ tt, (lit≤ tt, (((lit≤ tt, (lit≤ tt, tt, tt), tt), tt), (lit≤ tt, (lit≤ tt, (lit≤ tt, tt)))))))))))));
+  types = (lit≤ tt, lit≤ tt);
+  typed = refl;
+}

@@ -90,11 +90,6 @@ MessageAgrees (UnknownResult kind) = IsNoResult (cast_unsigned w32 kind)
 MessageAgrees (Event event told) = EventAgrees event told
 MessageAgrees m = Unit {0}
 
--- no prepared result
-abbrev pub IsUnprepared : Message → Type 0
-IsUnprepared (Prepared id flags columns keys table specs result) = ⊥
-IsUnprepared m = Unit {0}
-
 -- Section 2.4: the opcode of a message.
 abbrev pub opcode_of : Message → Opcode
 opcode_of (Startup os) = opcode.Startup

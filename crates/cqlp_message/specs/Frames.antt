@@ -69,17 +69,17 @@ FlatAll at (f ∷ fs) = Flat at f.0 f.1 ++ FlatAll (at + frame_size f.0 f.1) fs
 -- ---- limits
 
 -- all type options of the columns, the inner ones counted
-abbrev pub options_of : List Spec → ℕ
-options_of [] = 0
-options_of (c ∷ specs) = options_in c.tree + options_of specs
+abbrev pub options_among : List Spec → ℕ
+options_among [] = 0
+options_among (c ∷ specs) = options_in c.tree + options_among specs
 
 abbrev pub options_told : Option (List Spec) → ℕ
 options_told None = 0
-options_told (Some specs) = options_of specs
+options_told (Some specs) = options_among specs
 
 -- the type options of one metadata are no more than the caller's limit
 abbrev pub TypesWithin : Rules → Message → Type 0
-TypesWithin l (Prepared id flags columns keys table specs result) = (options_of specs ≤ l.entries) × (options_told result.specs ≤ l.entries)
+TypesWithin l (Prepared id flags columns keys table specs result) = (options_among specs ≤ l.entries) × (options_told result.specs ≤ l.entries)
 TypesWithin l m = Unit {0}
 
 -- A frame is within the caller's limits.
