@@ -46,6 +46,12 @@ ShowsTo limits turns ending.TooManyTurns xs left before after = RendersNew limit
 ShowsTo limits turns ending.WriteFault xs left before after = HasFailed before after
 ShowsTo limits turns ending.NoMemory xs left before after = after ≡ before
 
+-- A read fault that is told is one more failed call of the reader; and none failed where the stream was read.
+abbrev pub CountsReads : Ending → (old new : ℕ) → Type 0
+CountsReads ending.ReadFault old new = new ≡ counted true old
+CountsReads ending.WriteFault old new = Unit {0}
+CountsReads e old new = new ≡ old
+
 -- The line of the ending was written, and the status is its own; or the target failed, and the status is 3.
 abbrev pub Concludes : Ending → (before : Output) → (status : ℕ) → (after : Output) → Type 0
 Concludes e before status after =

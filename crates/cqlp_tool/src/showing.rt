@@ -4,7 +4,7 @@ ghost use Rattle.std.specs.Prelude.{◌≡◌, List, ℕ, Some, IsSome, []};
 ghost use Rattle.cqlp_decode.specs.Streams.{After, state};
 ghost use Rattle.cqlp_note.specs.Limits.{first_bad};
 ghost use Rattle.cqlp_tool.specs.Rendering.{output};
-ghost use Rattle.cqlp_tool.specs.Showing.{ending_of, ShowsTo, RendersOrFails, Concludes};
+ghost use Rattle.cqlp_tool.specs.Showing.{ending_of, ShowsTo, RendersOrFails, CountsReads, Concludes};
 ghost use Rattle.cqlp_tool.specs.declared.ending.Ending.{Ending};
 
 use crate::buffered::Buffered;
@@ -39,7 +39,12 @@ pub fn show<R: Source, O: Target, E: Target, A: Allocator>(
     out: O,
     err: E,
 ) -> (u8, O, E)
-    ensures { (xs : List ℕ) → R.left input.old ≡ Some xs → IsSome (O.contents out) → IsSome (E.contents err) → (ending : Ending) × ShowsTo DEFAULT_LIMITS TURNS ending xs (R.left input.new) (output (O.contents out) (O.failures out)) (output (O.contents result.1) (O.failures result.1)) × Concludes ending (output (E.contents err) (E.failures err)) result.0 (output (E.contents result.2) (E.failures result.2)) }
+    ensures { (xs : List ℕ) → R.left input.old ≡ Some xs → IsSome (O.contents out) → IsSome (E.contents err) →
+        (ending : Ending)
+        × ShowsTo DEFAULT_LIMITS TURNS ending xs (R.left input.new)
+        (output (O.contents out) (O.failures out)) (output (O.contents result.1) (O.failures result.1))
+        × CountsReads ending (R.failures input.old) (R.failures input.new)
+        × Concludes ending (output (E.contents err) (E.failures err)) result.0 (output (E.contents result.2) (E.failures result.2)) }
 {
     let (ending, out) = shown(alloc, DEFAULT_LIMITS, input, out);
     let (status, err) = conclude(ending, err);
@@ -54,7 +59,10 @@ fn shown<R: Source, O: Target, A: Allocator>(
     out: O,
 ) -> (Ending, O)
     requires { first_bad limits ≡ Ok tt }
-    ensures { (xs : List ℕ) → R.left input.old ≡ Some xs → IsSome (O.contents out) → ShowsTo limits TURNS result.0 xs (R.left input.new) (output (O.contents out) (O.failures out)) (output (O.contents result.1) (O.failures result.1)) }
+    ensures shows { (xs : List ℕ) → R.left input.old ≡ Some xs → IsSome (O.contents out) →
+        ShowsTo limits TURNS result.0 xs (R.left input.new)
+        (output (O.contents out) (O.failures out)) (output (O.contents result.1) (O.failures result.1)) }
+    ensures failures { CountsReads result.0 (R.failures input.old) (R.failures input.new) }
 {
     let mut decoder = match Decoder::new(alloc, limits) {
         Ok(decoder) => decoder,
@@ -87,7 +95,10 @@ fn render_buffered<R: Source, O: Target, A: Allocator, B: Allocator>(
     out: O,
     buffer: Vec<u8, B>,
 ) -> (Outcome, O)
-    ensures { (xs : List ℕ) → R.left input.old ≡ Some xs → IsSome (O.contents out) → After (state decoder.old) [] [] → RendersOrFails TURNS result.0 (state decoder.old) (state decoder.new) xs (R.left input.new) (output (O.contents out) (O.failures out)) (output (O.contents result.1) (O.failures result.1)) }
+    ensures renders { (xs : List ℕ) → R.left input.old ≡ Some xs → IsSome (O.contents out) → After (state decoder.old) [] [] →
+        RendersOrFails TURNS result.0 (state decoder.old) (state decoder.new) xs (R.left input.new)
+        (output (O.contents out) (O.failures out)) (output (O.contents result.1) (O.failures result.1)) }
+    ensures failures { CountsReads (ending_of result.0) (R.failures input.old) (R.failures input.new) }
 {
     let buffered = Buffered::new(out, buffer);
     let (outcome, mut buffered) = render_events(decoder, input, buffered, TURNS);

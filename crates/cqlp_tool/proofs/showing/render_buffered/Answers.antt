@@ -2,17 +2,17 @@ use Rattle.std.proofs.Common.{ap, ◌∙◌}
 use Rattle.cqlp_tool.proofs.Shows.{tells_at_first, failed_in, failed_later, passed_through}
 use Rattle.cqlp_tool.proofs.showing.render_buffered.Goals as goal
 
-pub returns-in-SinkFault : goal.returns-in-SinkFault
-returns-in-SinkFault g c = λ xs left known fresh.
+pub returns-in-SinkFault-clause-renders : goal.returns-in-SinkFault-clause-renders
+returns-in-SinkFault-clause-renders g c = λ xs left known fresh.
     let ran = c.render_events-outcome.ensures.lines xs left (tells_at_first _ _ _ c.new-buffered.ensures known) in
     rw (c.into_inner.ensures, c.in-SinkFault.is) (failed_in _ _ _ _ _ _ _ _ _ _ c.new-buffered.ensures fresh ran c.in-SinkFault.is)
 
-pub returns-in-Ok : goal.returns-in-Ok
-returns-in-Ok g c = λ xs left known fresh.
+pub returns-in-Ok-clause-renders : goal.returns-in-Ok-clause-renders
+returns-in-Ok-clause-renders g c = λ xs left known fresh.
     let ran = c.render_events-outcome.ensures.lines xs left (tells_at_first _ _ _ c.new-buffered.ensures known) in
     rw c.into_inner-in-Ok.ensures (passed_through _ _ _ _ _ _ _ _ _ _ c.new-buffered.ensures fresh ran _ known c.in_default.not-SinkFault c.in-Ok.ensures.keeps c.in-Ok.ensures.ok c.in-Ok.ensures.sound)
 
-pub returns-in-Err : goal.returns-in-Err
-returns-in-Err g c = λ xs left known fresh.
+pub returns-in-Err-clause-renders : goal.returns-in-Err-clause-renders
+returns-in-Err-clause-renders g c = λ xs left known fresh.
     let ran = c.render_events-outcome.ensures.lines xs left (tells_at_first _ _ _ c.new-buffered.ensures known) in
     ap (λ x. x.failures) c.into_inner-in-Err.ensures ∙ (failed_later _ _ _ _ _ _ _ _ _ _ c.new-buffered.ensures fresh ran c.flush.new.self c.in_default.not-SinkFault c.in-Err.ensures.err)
