@@ -154,7 +154,7 @@ due_in offset (Some o) = close_if (is_over o offset) o
 
 abbrev pub due_for : (offset : ℕ) → List Open → Next → Due
 due_for offset os next.Nothing = due.Nothing
-due_for offset os (next.Cell node) = due.Value
+due_for offset os (next.Cell _) = due.Value
 due_for offset os (next.Part start total) = due.Part start total
 due_for offset os next.Items = due_in offset (last_open os)
 
