@@ -30,7 +30,7 @@ use Rattle.cqlp_decode.specs.declared.standing.Standing.{Standing}
 use Rattle.cqlp_decode.specs.declared.standing.What.TheVariants as what
 use Rattle.cqlp_decode.specs.Reading.{Place, type_event, types_left, place_of_types}
 use Rattle.cqlp_decode.specs.Standing.{IsPending, Parts, parts, state_of, place_at, offset_at, symbols_at, rest_of, told, Gives, Waits, Hands, IsLent, due_after, frame_after, ends_due, HasRoom, IsOption, OptionWaits}
-use Rattle.cqlp_decode.proofs.Steps.{begun, one_due, offset_is}
+use Rattle.cqlp_decode.proofs.Steps.{begun_bare, one_due_bare, offset_is_bare}
 use Rattle.cqlp_decode.proofs.FieldSteps.{used_some}
 
 -- ---- the place after a step is as far on as it takes bytes
@@ -100,7 +100,7 @@ module _ (s : Standing) (q : Parts) (here : s.stage ≡ stage.Type) (o : IsOptio
   pending_is : (b : List ℕ) → IsPending (state_of s q).pending b → b ≡ pending q.types q.partial
   pending_is b is = rw here at is
 
-  pub option_waits : (input : List ℕ) (used : ℕ) (r' : type.Standing) (p' : Progress) (t' : Table) → type.Waits q.types q.partial q.table input used r' p' t' → Waits (state_of s q) input used (state_of s (parts p' r' t'))
+  pub option_waits : (input : List ℕ) (used : ℕ) (r' : type.Standing) (p' : Progress) (t' : Table) → type.Waits q.types q.partial q.table input used r' p' t' → Waits (state_of s q) input used (state_of s (parts p' r' q.cells t'))
   option_waits input used r' p' t' m =
       let offset : r'.offset ≡ q.types.offset = ap (λ (z : type.Standing). z.offset) m.reader in
       let symbols : r'.symbols ≡ q.types.symbols = ap (λ (z : type.Standing). z.symbols) m.reader in
@@ -142,8 +142,8 @@ module _ (s : Standing) (q : Parts) (here : s.stage ≡ stage.Type) (o : IsOptio
     )
 
     -- the place that the decoder stands at then
-    module _ (e : Standing) (q' : Parts) (content : q'.partial.content ≡ p'.content) (nodes : q'.table.nodes ≡ t'.nodes) (offset : offset_at e.stage e.offset q'.types ≡ r'.offset) (stop : e.stop ≡ s.stop) (frame : e.frame ≡ s.frame)
-        (symbols : symbols_at e.stage q'.types e.upcoming ≡ types_left r'.symbols ++ rest) (fresh : IsPending (state_of e q').pending []) (one : ends_due (symbols_at e.stage q'.types e.upcoming) ≡ 1) where
+    module _ (e : Standing) (q' : Parts) (content : q'.partial.content ≡ p'.content) (nodes : q'.table.nodes ≡ t'.nodes) (offset : offset_at e.stage e.offset q' ≡ r'.offset) (stop : e.stop ≡ s.stop) (frame : e.frame ≡ s.frame)
+        (symbols : symbols_at e.stage q' e.upcoming ≡ types_left r'.symbols ++ rest) (fresh : IsPending (state_of e q').pending []) (one : ends_due (symbols_at e.stage q' e.upcoming) ≡ 1) (cells : q'.cells ≡ q.cells) where
       pub option_hands : Hands (state_of s q) input at used (what.Option x) (state_of e q')
       option_hands = record {
         within = m.within;
@@ -157,7 +157,7 @@ module _ (s : Standing) (q : Parts) (here : s.stage ≡ stage.Type) (o : IsOptio
             rw (pending_is b is, content) (g.0, g.1, g.2, g.3, g.4 ∙ (λ j. place_at (sym offset j) ((stopped ∙ sym stop) j) (sym symbols j) (sym nodes j)));
         offset = λ b is. rw (pending_is b is, offset, here) option_on;
         due = one ∙ sym (no_end (part.event_at x input q'.partial.content));
-        pays = rw (here, one) (omega (arith, some));
+        pays = rw (here, one, cells) (omega (arith, some));
       }
 
     -- the reader of the option, after a part of it
@@ -168,11 +168,13 @@ module _ (s : Standing) (q : Parts) (here : s.stage ≡ stage.Type) (o : IsOptio
     none_pending = rw began refl
 
     -- the option goes on
-    pub still_hands : (r'.symbols ≡ [] → ⊥) → Hands (state_of s q) input at used (what.Option x) (state_of s (parts p' r' t'))
-    still_hands more = option_hands s (parts p' r' t') refl refl (rw here refl) refl refl (rw here (sym (left_some r'.symbols rest more))) (rw (here, none_pending) refl) (rw here refl)
+    pub still_hands : (r'.symbols ≡ [] → ⊥) → Hands (state_of s q) input at used (what.Option x) (state_of s (parts p' r' q.cells t'))
+    still_hands more = option_hands s (parts p' r' q.cells t') refl refl (rw here refl) refl refl (rw here (sym (left_some r'.symbols rest more))) (rw (here, none_pending) refl) (rw here refl) refl
 
     -- the option is whole
-    module _ (whole : r'.symbols ≡ []) (e : Standing) (r'' : type.Standing) (offset : e.offset ≡ r'.offset) (stop : e.stop ≡ s.stop) (frame : e.frame ≡ s.frame) (came : e.came ≡ 0) (symbols : symbols_at e.stage r'' e.upcoming ≡ rest)
+    module _ (whole : r'.symbols ≡ []) (e : Standing) (r'' : type.Standing) (offset : e.offset ≡ r'.offset) (stop : e.stop ≡ s.stop) (frame : e.frame ≡ s.frame) (came : e.came ≡ 0) (symbols : (z : Parts) → symbols_at e.stage z e.upcoming ≡ rest)
         (room : HasRoom e.stage e.upcoming) where
-      pub ended_hands : Hands (state_of s q) input at used (what.Option x) (state_of e (parts p' r'' t'))
-      ended_hands = option_hands e (parts p' r'' t') refl refl (offset_is e.stage e.offset r'' e.upcoming room ∙ offset) stop frame (rw whole symbols) (begun e.stage e.upcoming e.header e.came (parts p' r'' t') room came (m.shared.same ∙ began)) (one_due e.stage r'' e.upcoming room)
+      pub ended_hands : Hands (state_of s q) input at used (what.Option x) (state_of e (parts p' r'' q.cells t'))
+      ended_hands =
+          let z : Parts = parts p' r'' q.cells t' in
+          option_hands e z refl refl (offset_is_bare e.stage e.offset z e.upcoming room ∙ offset) stop frame (rw whole (symbols z)) (begun_bare e.stage e.upcoming e.header e.came z room came (m.shared.same ∙ began)) (one_due_bare e.stage z e.upcoming room) refl
