@@ -14,3 +14,4 @@ pub mod Closing
 pub mod Lengths
 pub mod Settling
 pub mod Parting
+pub mod Leavings
