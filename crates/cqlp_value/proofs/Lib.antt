@@ -16,3 +16,4 @@ pub mod Lengths
 pub mod Settling
 pub mod Parting
 pub mod ScalarSizes
+pub mod Leavings
