@@ -15,3 +15,4 @@ pub mod Lengths
 pub mod Settling
 pub mod Parting
 pub mod Leavings
+pub mod ReadBack
