@@ -10,6 +10,7 @@ pub mod Gets
 pub mod Whole
 pub mod Rows
 pub mod MetadataRows
+pub mod PageRows
 pub mod StepRuns
 pub mod PartsRead
 pub mod FramesRead
