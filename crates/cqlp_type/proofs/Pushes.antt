@@ -1,6 +1,7 @@
--- What a push leads to, by what a call makes of the option.
+-- What was read of an option after each call, and what a push leads to.
 use Rattle.std.proofs.Common.{◌≡◌, ℕ, ◌+◌, ◌≤◌, Bool, true, false, List, [], ◌∷◌, ◌++◌, length, take, drop, refl, sym, ap, ◌∙◌, arith}
 use Rattle.std.proofs.lemmas.List.{length-append, length-take-le, drop_all}
+use Rattle.cqlp_note.specs.declared.head.Wanted.{Wanted}
 use Rattle.cqlp_note.specs.declared.refusal.Reason.{Reason}
 use Rattle.cqlp_note.specs.declared.refusal.Refusal.{Refusal}
 use Rattle.cqlp_note.specs.Reader.{Said, Got, says}
@@ -13,11 +14,11 @@ use Rattle.cqlp_type.specs.declared.item.TypePart.{TypePart}
 use Rattle.cqlp_type.specs.declared.item.TypeItem.{TypeItem}
 use Rattle.cqlp_type.specs.declared.item.TypeAdvance.TheVariants as advance
 use Rattle.cqlp_type.specs.declared.item.TypePush.TheVariants as push
-use Rattle.cqlp_type.specs.TypeStep.{TypeSymbol, TypeEvent, TypePlace, type_step}
+use Rattle.cqlp_type.specs.TypeStep.{TypeSymbol, Option_at, TypeEvent, TypePlace, type_step}
 use Rattle.cqlp_type.specs.Table.{Table}
 use Rattle.cqlp_type.specs.Remaining.{event_at}
-use Rattle.cqlp_type.specs.Standing.{Standing, IsShared, IsFor, place_of, pending, stopped, Waits, Ends, Advances}
-use Rattle.cqlp_type.specs.Pushing.{Pushes, event_of}
+use Rattle.cqlp_type.specs.Standing.{Standing, IsShared, IsFor, place_of, pending, started, stopped, Waits, Ends, Advances}
+use Rattle.cqlp_type.specs.Pushing.{After, IsWhole, Pushes, event_of}
 use Rattle.cqlp_type.proofs.ReadBack.{option_read}
 
 -- one more step of a run
@@ -32,13 +33,51 @@ run_more l start p q s b t es at e x run said a w after =
 abbrev told_by : Rules → TypePlace → List ℕ → Said (Emitted TypeEvent TypePlace) (ℕ × Reason)
 told_by l q b = says (type_step l q) 0 b
 
+-- ---- what was read since an option began
+
+pub option_begun : (r : Standing) (p : Progress) (t : Table) (at stop : ℕ) → After (record { offset = at; stop = stop; symbols = Option_at 1 ∷ []; nodes = t.nodes }) (started r at stop) p t [] []
+option_begun r p t at stop = (refl, refl)
+
+not_begun : (l : Rules) (offset stop : ℕ) (w : Wanted) (b : Bool) (ss : List TypeSymbol) → ss ≡ [] → (b ≡ true → IsFor l offset stop ss w) → b ≡ false
+not_begun l offset stop w true ss none f = absurd (rw none at (f refl))
+not_begun l offset stop w false ss none f = refl
+
+-- where nothing is left to be read, no item has begun
+pub nothing_begun : (r : Standing) (p : Progress) → IsShared r p → r.symbols ≡ [] → r.begun ≡ false
+nothing_begun r p shared none = not_begun r.rules r.offset r.stop p.field r.begun r.symbols none shared.item
+
+pub option_over : (start : TypePlace) (depth : ℕ) (r : Standing) (p : Progress) (t : Table) (s : List ℕ) (es : List (ℕ × TypeEvent)) → start.symbols ≡ Option_at depth ∷ [] → After start r p t s es → r.symbols ≡ [] → r.begun ≡ false
+    → IsWhole r.rules depth start.offset start.nodes s es t.nodes
+option_over start depth r p t s es first run done idle =
+    let none : pending r p ≡ [] = rw idle refl in
+    option_read r.rules depth start (place_of r t.nodes) s es first done (rw none at run)
+
 module _ (old : Standing) (p : Progress) (t : Table) (input : List ℕ) (new : Standing) (p' : Progress) (t' : Table) where
+  pub option_waited : (used : ℕ) → Waits old p t input used new p' t' → (start : TypePlace) (s : List ℕ) (es : List (ℕ × TypeEvent)) → After start old p t s es → After start new p' t' (s ++ input) es
+  option_waited used w start s es run =
+      let place : place_of new t'.nodes ≡ place_of old t.nodes = rw (w.reader, w.table) refl in
+      let rules : new.rules ≡ old.rules = ap (λ (z : Standing). z.rules) w.reader in
+      rw (rules, place, w.pending) (runs_stay (type_step old.rules) start s input es (place_of old t.nodes) (pending old p) run)
+
+  pub option_handed : (at used : ℕ) (q : TypePart) → Ends old p t input at used q new p' t' → (start : TypePlace) (s : List ℕ) (es : List (ℕ × TypeEvent)) → After start old p t s es
+      → After start new p' t' (s ++ take used input) (es ++ (at, event_at q input p'.content) ∷ [])
+  option_handed at used q w start s es run =
+      let rules : new.rules ≡ old.rules = ap (λ (z : Standing). z.rules) w.reader in
+      let begun : new.begun ≡ false = ap (λ (z : Standing). z.begun) w.reader in
+      let none : pending new p' ≡ [] = rw begun refl in
+      let bytes = take used input in
+      let long : length bytes ≡ used = length-take-le used input w.within in
+      let exact = says_exact (type_step old.rules (place_of old t.nodes)) (pending old p) input w.step used w.is in
+      rw (rules, none) (run_more old.rules start (place_of old t.nodes) (place_of new t'.nodes) s (pending old p) bytes es at (event_at q input p'.content) w.step run (rw long exact) w.place w.event (rw long w.after))
+
+  -- ---- what a push leads to
+
   pub waits_pushes : (used : ℕ) → old.under_way ≡ true → Waits old p t input used new p' t' → Pushes old p t input (push.More used) new p' t' × (used ≡ length input) × ((new.under_way ≡ true) × (new.rules ≡ old.rules)) × (t' ≡ t)
   waits_pushes used under w =
       let place : place_of new t'.nodes ≡ place_of old t.nodes = rw (w.reader, w.table) refl in
       let rules : new.rules ≡ old.rules = ap (λ (z : Standing). z.rules) w.reader in (
         record {
-          leads = λ start depth first s es run. (rw (rules, place, w.pending) (runs_stay (type_step old.rules) start s input es (place_of old t.nodes) (pending old p) run), (λ i. told_by (rules i) (place i) (w.pending i)) ∙ w.is);
+          leads = λ start depth first s es run. (option_waited used w start s es run, (λ i. told_by (rules i) (place i) (w.pending i)) ∙ w.is);
           serves = w.shared;
           room = w.room;
         },
@@ -51,13 +90,9 @@ module _ (old : Standing) (p : Progress) (t : Table) (input : List ℕ) (new : S
       → Pushes old p t input (push.Item at used e) new p' t' × (used ≤ length input) × ((new.under_way ≡ true) × (new.rules ≡ old.rules)) × ((t'.room ≡ t.room) × (length t.nodes ≤ old.rules.entries → length t'.nodes ≤ old.rules.entries))
   item_pushes at used q e is w =
       let rules : new.rules ≡ old.rules = ap (λ (z : Standing). z.rules) w.reader in
-      let begun : new.begun ≡ false = ap (λ (z : Standing). z.begun) w.reader in
-      let none : pending new p' ≡ [] = rw begun refl in
-      let bytes = take used input in
-      let long : length bytes ≡ used = length-take-le used input w.within in
-      let exact = says_exact (type_step old.rules (place_of old t.nodes)) (pending old p) input w.step used w.is in (
+      let begun : new.begun ≡ false = ap (λ (z : Standing). z.begun) w.reader in (
         record {
-          leads = λ start depth first s es run. (none, rw (rules, none) (run_more old.rules start (place_of old t.nodes) (place_of new t'.nodes) s (pending old p) bytes es at (event_of e) w.step run (rw long exact) w.place (w.event ∙ sym is) (rw long w.after)));
+          leads = λ start depth first s es run. (rw begun refl, rw is (option_handed at used q w start s es run));
           serves = (w.shared, λ short. w.lent (rw is at short));
           room = w.room;
         },
@@ -66,22 +101,16 @@ module _ (old : Standing) (p : Progress) (t : Table) (input : List ℕ) (new : S
         (w.table, w.entries),
       )
 
-  not_begun : (b : Bool) (ss : List TypeSymbol) → ss ≡ [] → (b ≡ true → IsFor old.rules old.offset old.stop ss p.field) → b ≡ false
-  not_begun true ss none f = absurd (rw none at (f refl))
-  not_begun false ss none f = refl
-
   pub done_pushes : IsShared old p → Advances old p t input advance.Done new p' t' → Pushes old p t input push.Done new p' t' × (new ≡ stopped old) × (t' ≡ t)
-  done_pushes shared d =
-      let begun = not_begun old.begun old.symbols d.0 shared.item in
-      let none : pending old p ≡ [] = rw begun refl in (
-        record {
-          leads = λ start depth first s es run. rw d.4 (option_read old.rules depth start (place_of old t.nodes) s es first d.0 (rw none at run));
-          serves = rw d.2 d.3;
-          room = rw d.2 refl;
-        },
-        d.1,
-        d.4,
-      )
+  done_pushes shared d = (
+    record {
+      leads = λ start depth first s es run. rw d.4 (option_over start depth old p t s es first run d.0 (nothing_begun old p shared d.0));
+      serves = rw d.2 d.3;
+      room = rw d.2 refl;
+    },
+    d.1,
+    d.4,
+  )
 
   pub refused_pushes : (r : Refusal) → Advances old p t input (advance.Refused r) new p' t' → Pushes old p t input (push.Refused r) new p' t' × (new ≡ stopped old) × (t' ≡ t)
   refused_pushes r d = (

@@ -1,7 +1,8 @@
 -- The items that were read of an option are those of a type, whose bytes they took and whose nodes they left.
-use Rattle.std.proofs.Common.{◌≡◌, ℕ, zero, suc, ◌+◌, ◌-◌, Bool, true, false, eqb, ltb, leb, List, [], ◌∷◌, ◌++◌, length, take, drop, Option, Some, None, refl, sym, ap, ◌∙◌, append_assoc, subst, arith}
+use Rattle.std.proofs.Common.{◌≡◌, ℕ, zero, suc, ◌+◌, ◌-◌, ◌≤◌, Bool, true, false, eqb, ltb, leb, List, [], ◌∷◌, ◌++◌, length, take, drop, Option, Some, None, refl, sym, ap, ◌∙◌, append_assoc, subst, arith}
 use Rattle.std.specs.Int.{w16, from_be_bytes}
 use Rattle.std.proofs.lemmas.List.{append-nil, take_at, drop_at}
+use Rattle.std.proofs.lemmas.Bool.{ltb-false}
 use Rattle.cqlp_note.specs.declared.field.Field.TheVariants as field
 use Rattle.cqlp_note.specs.declared.field.Notation.TheVariants as notation
 use Rattle.cqlp_note.specs.Reader.{Got, says, Gives, Refuses, Takes, Idles, number_of}
@@ -19,7 +20,7 @@ use Rattle.cqlp_type.specs.declared.kind.Kind.TheVariants as kind
 use Rattle.cqlp_type.specs.declared.node.Node.{Node}
 use Rattle.cqlp_type.specs.Types.{NoMore, Type_and, has_id, preorder, kinds}
 use Rattle.cqlp_type.specs.TypeStep.{TypeSymbol, Option_at, Text_of, Fields_of, Whole, TypeEvent, IsNode, IsField, TypePlace, parameters_of, arity_of, inner_symbols, symbol_copies, with_arity, with_span, settled, option_step, count_in, type_step_at, type_step}
-use Rattle.cqlp_type.specs.Trees.{Head, Plain, Custom, ListOf, SetOf, MapOf, TupleOf, UdtOf, Trees, NoTree, Tree_and, kind_in, trees_in, types_in, has_names, IsHead, AreTrees, head_items, trees_items, notation_for, ItemSpells, ItemsSpell, item_size, placed}
+use Rattle.cqlp_type.specs.Trees.{Head, Plain, Custom, ListOf, SetOf, MapOf, TupleOf, UdtOf, Trees, NoTree, Tree_and, kind_in, trees_in, types_in, has_names, IsHead, AreTrees, Shallow, head_items, trees_items, notation_for, ItemSpells, ItemsSpell, item_size, placed}
 use Rattle.cqlp_type.specs.Pushing.{IsWhole}
 use Rattle.cqlp_type.proofs.Forests.{last_arity, span_at, and_more, many_types}
 
@@ -29,64 +30,72 @@ option_items h inner = IsNode (kind_in h) ∷ (head_items h (trees_in inner) ++ 
 abbrev pub nodes_of : Head → Trees → List Node
 nodes_of h inner = preorder (Type_and (kind_in h) (types_in inner) NoMore)
 
--- These items are those that come of the symbols, and with them the nodes so far become the final ones.
-abbrev pub Comes : List TypeSymbol → List Node → List TypeEvent → List Node → Type 0
-Comes [] ns es final = (es ≡ []) × (final ≡ ns)
-Comes (Option_at depth ∷ rest) ns es final = (h : Head) × (inner : Trees) × (more : List TypeEvent) × IsHead h (trees_in inner) × AreTrees inner × (es ≡ option_items h inner ++ more) × Comes rest (ns ++ nodes_of h inner) more final
-Comes (Text_of f ∷ rest) ns es final = (s : List ℕ) × (more : List TypeEvent) × (es ≡ IsField f (Text s) ∷ more) × Comes rest ns more final
-Comes (Fields_of named depth ∷ rest) ns es final =
-    (ts : Trees) × (more : List TypeEvent) × AreTrees ts × (es ≡ IsField field.Fields (Count (trees_in ts)) ∷ (trees_items named ts ++ more)) × Comes rest (with_arity (trees_in ts) ns ++ preorder (types_in ts)) more final
-Comes (Whole i ∷ rest) ns es final = Comes rest (with_span i ns) es final
+-- an option at this depth, none of whose inner options is too deep
+abbrev pub IsOption : Rules → (depth : ℕ) → Head → Trees → Type 0
+IsOption l depth h inner = IsHead h (trees_in inner) × AreTrees inner × (depth ≤ l.depth) × Shallow l (depth + 1) inner
 
-settled_comes : (ss : List TypeSymbol) (ns : List Node) (es : List TypeEvent) (final : List Node) → Comes (settled ss ns).0 (settled ss ns).1 es final → Comes ss ns es final
-settled_comes [] ns es final h = h
-settled_comes (Whole i ∷ rest) ns es final h = settled_comes rest (with_span i ns) es final h
-settled_comes (Option_at d ∷ rest) ns es final h = h
-settled_comes (Text_of f ∷ rest) ns es final h = h
-settled_comes (Fields_of named d ∷ rest) ns es final h = h
+-- These items are those that come of the symbols, within the limit on nesting, and with them the nodes so far become
+-- the final ones.
+abbrev pub Comes : Rules → List TypeSymbol → List Node → List TypeEvent → List Node → Type 0
+Comes l [] ns es final = (es ≡ []) × (final ≡ ns)
+Comes l (Option_at depth ∷ rest) ns es final = (h : Head) × (inner : Trees) × (more : List TypeEvent) × IsOption l depth h inner × (es ≡ option_items h inner ++ more) × Comes l rest (ns ++ nodes_of h inner) more final
+Comes l (Text_of f ∷ rest) ns es final = (s : List ℕ) × (more : List TypeEvent) × (es ≡ IsField f (Text s) ∷ more) × Comes l rest ns more final
+Comes l (Fields_of named depth ∷ rest) ns es final =
+    (ts : Trees) × (more : List TypeEvent) × AreTrees ts × Shallow l depth ts × (es ≡ IsField field.Fields (Count (trees_in ts)) ∷ (trees_items named ts ++ more)) × Comes l rest (with_arity (trees_in ts) ns ++ preorder (types_in ts)) more final
+Comes l (Whole i ∷ rest) ns es final = Comes l rest (with_span i ns) es final
+
+settled_comes : (l : Rules) (ss : List TypeSymbol) (ns : List Node) (es : List TypeEvent) (final : List Node) → Comes l (settled ss ns).0 (settled ss ns).1 es final → Comes l ss ns es final
+settled_comes l [] ns es final h = h
+settled_comes l (Whole i ∷ rest) ns es final h = settled_comes l rest (with_span i ns) es final h
+settled_comes l (Option_at d ∷ rest) ns es final h = h
+settled_comes l (Text_of f ∷ rest) ns es final h = h
+settled_comes l (Fields_of named d ∷ rest) ns es final h = h
 
 -- inner types, and what comes behind them
-pub record Inner (n : ℕ) (named : Bool) (rest : List TypeSymbol) (ns : List Node) (es : List TypeEvent) (final : List Node) : Type 0 where
+pub record Inner (l : Rules) (depth n : ℕ) (named : Bool) (rest : List TypeSymbol) (ns : List Node) (es : List TypeEvent) (final : List Node) : Type 0 where
   pub trees : Trees
   pub more : List TypeEvent
   pub many : trees_in trees ≡ n
   pub are : AreTrees trees
+  pub shallow : Shallow l depth trees
   pub items : es ≡ trees_items named trees ++ more
-  pub later : Comes rest (ns ++ preorder (types_in trees)) more final
+  pub later : Comes l rest (ns ++ preorder (types_in trees)) more final
 
 regroup : (a : TypeEvent) (b c d e : List TypeEvent) → (a ∷ (b ++ c)) ++ (d ++ e) ≡ (a ∷ (b ++ (c ++ d))) ++ e
 regroup a b c d e = simp append_assoc
 
-inner_comes : (n : ℕ) (named : Bool) (depth : ℕ) (rest : List TypeSymbol) (ns : List Node) (es : List TypeEvent) (final : List Node) → Comes (symbol_copies n (inner_symbols named depth) ++ rest) ns es final → Inner n named rest ns es final
-inner_comes zero named depth rest ns es final h = record { trees = NoTree; more = es; many = refl; are = tt; items = refl; later = rw (append-nil ns) h }
-inner_comes (suc n) true depth rest ns es final h =
+inner_comes : (l : Rules) (n : ℕ) (named : Bool) (depth : ℕ) (rest : List TypeSymbol) (ns : List Node) (es : List TypeEvent) (final : List Node) → Comes l (symbol_copies n (inner_symbols named depth) ++ rest) ns es final → Inner l depth n named rest ns es final
+inner_comes l zero named depth rest ns es final h = record { trees = NoTree; more = es; many = refl; are = tt; shallow = tt; items = refl; later = rw (append-nil ns) h }
+inner_comes l (suc n) true depth rest ns es final h =
     let o = h.3 in
-    let r = inner_comes n true depth rest (ns ++ nodes_of o.0 o.1) o.2 final o.6 in
+    let r = inner_comes l n true depth rest (ns ++ nodes_of o.0 o.1) o.2 final o.5 in
     record {
       trees = Tree_and h.0 o.0 o.1 r.trees;
       more = r.more;
       many = ap suc r.many;
-      are = (o.3, o.4, r.are);
-      items = h.2 ∙ ap (λ (x : List TypeEvent). IsField field.FieldName (Text h.0) ∷ x) (o.5 ∙ ap (λ (x : List TypeEvent). option_items o.0 o.1 ++ x) r.items ∙ regroup (IsNode (kind_in o.0)) (head_items o.0 (trees_in o.1)) (trees_items (has_names o.0) o.1) (trees_items true r.trees) r.more);
+      are = (o.3.0, o.3.1, r.are);
+      shallow = (o.3.2, o.3.3, r.shallow);
+      items = h.2 ∙ ap (λ (x : List TypeEvent). IsField field.FieldName (Text h.0) ∷ x) (o.4 ∙ ap (λ (x : List TypeEvent). option_items o.0 o.1 ++ x) r.items ∙ regroup (IsNode (kind_in o.0)) (head_items o.0 (trees_in o.1)) (trees_items (has_names o.0) o.1) (trees_items true r.trees) r.more);
       later = rw (and_more (kind_in o.0) (types_in o.1) (types_in r.trees) ns) at r.later;
     }
-inner_comes (suc n) false depth rest ns es final o =
-    let r = inner_comes n false depth rest (ns ++ nodes_of o.0 o.1) o.2 final o.6 in
+inner_comes l (suc n) false depth rest ns es final o =
+    let r = inner_comes l n false depth rest (ns ++ nodes_of o.0 o.1) o.2 final o.5 in
     record {
       trees = Tree_and [] o.0 o.1 r.trees;
       more = r.more;
       many = ap suc r.many;
-      are = (o.3, o.4, r.are);
-      items = o.5 ∙ ap (λ (x : List TypeEvent). option_items o.0 o.1 ++ x) r.items ∙ regroup (IsNode (kind_in o.0)) (head_items o.0 (trees_in o.1)) (trees_items (has_names o.0) o.1) (trees_items false r.trees) r.more;
+      are = (o.3.0, o.3.1, r.are);
+      shallow = (o.3.2, o.3.3, r.shallow);
+      items = o.4 ∙ ap (λ (x : List TypeEvent). option_items o.0 o.1 ++ x) r.items ∙ regroup (IsNode (kind_in o.0)) (head_items o.0 (trees_in o.1)) (trees_items (has_names o.0) o.1) (trees_items false r.trees) r.more;
       later = rw (and_more (kind_in o.0) (types_in o.1) (types_in r.trees) ns) at r.later;
     }
 
 -- an option, once its inner types are read
-whole : (h : Head) (inner : Trees) (rest : List TypeSymbol) (ns nodes : List Node) (es more : List TypeEvent) (final : List Node)
-    → IsHead h (trees_in inner) → AreTrees inner → nodes ≡ ns ++ record { kind = kind_in h; arity = trees_in inner; span = 0 } ∷ preorder (types_in inner) → es ≡ option_items h inner ++ more
-    → Comes rest (with_span (length ns) nodes) more final → Comes (Option_at 0 ∷ rest) ns es final
-whole h inner rest ns nodes es more final head are is items c =
-    (h, inner, more, head, are, items, rw (append-nil (preorder (types_in inner)), many_types inner) (rw (is, span_at ns record { kind = kind_in h; arity = trees_in inner; span = 0 } (preorder (types_in inner))) at c))
+whole : (l : Rules) (depth : ℕ) (h : Head) (inner : Trees) (rest : List TypeSymbol) (ns nodes : List Node) (es more : List TypeEvent) (final : List Node)
+    → IsOption l depth h inner → nodes ≡ ns ++ record { kind = kind_in h; arity = trees_in inner; span = 0 } ∷ preorder (types_in inner) → es ≡ option_items h inner ++ more
+    → Comes l rest (with_span (length ns) nodes) more final → Comes l (Option_at depth ∷ rest) ns es final
+whole l depth h inner rest ns nodes es more final fits is items c =
+    (h, inner, more, fits, items, rw (append-nil (preorder (types_in inner)), many_types inner) (rw (is, span_at ns record { kind = kind_in h; arity = trees_in inner; span = 0 } (preorder (types_in inner))) at c))
 
 abbrev node : Kind → (arity : ℕ) → Node
 node k arity = record { kind = k; arity = arity; span = 0 }
@@ -97,26 +106,30 @@ one_item h inner more = simp append-nil
 two_items : (h g : Head) (inner inner' : Trees) (more : List TypeEvent) → option_items h inner ++ (option_items g inner' ++ more) ≡ trees_items false (Tree_and [] h inner (Tree_and [] g inner' NoTree)) ++ more
 two_items h g inner inner' more = simp (append_assoc, append-nil)
 
-option_comes : (k : Kind) (depth : ℕ) (rest : List TypeSymbol) (ns : List Node) (es : List TypeEvent) (final : List Node) → has_id k ≡ true
-    → Comes (parameters_of k depth ++ Whole (length ns) ∷ rest) (ns ++ node k (arity_of k) ∷ []) es final → Comes (Option_at depth ∷ rest) ns (IsNode k ∷ es) final
-option_comes kind.List depth rest ns es final known h =
-    whole ListOf (Tree_and [] h.0 h.1 NoTree) rest ns _ (IsNode kind.List ∷ es) h.2 final refl (h.3, h.4, tt) (simp append_assoc) (ap (λ (x : List TypeEvent). IsNode kind.List ∷ x) (h.5 ∙ one_item h.0 h.1 h.2)) h.6
-option_comes kind.Set depth rest ns es final known h =
-    whole SetOf (Tree_and [] h.0 h.1 NoTree) rest ns _ (IsNode kind.Set ∷ es) h.2 final refl (h.3, h.4, tt) (simp append_assoc) (ap (λ (x : List TypeEvent). IsNode kind.Set ∷ x) (h.5 ∙ one_item h.0 h.1 h.2)) h.6
-option_comes kind.Map depth rest ns es final known h =
-    let g = h.6 in
-    whole MapOf (Tree_and [] h.0 h.1 (Tree_and [] g.0 g.1 NoTree)) rest ns _ (IsNode kind.Map ∷ es) g.2 final refl (h.3, h.4, (g.3, g.4, tt)) (simp (append_assoc, append-nil))
-    (ap (λ (x : List TypeEvent). IsNode kind.Map ∷ x) (h.5 ∙ ap (λ (x : List TypeEvent). option_items h.0 h.1 ++ x) g.5 ∙ two_items h.0 g.0 h.1 g.1 g.2)) g.6
-option_comes kind.Custom depth rest ns es final known h =
-    whole (Custom h.0) NoTree rest ns _ (IsNode kind.Custom ∷ es) h.1 final refl tt refl (ap (λ (x : List TypeEvent). IsNode kind.Custom ∷ x) h.2) h.3
-option_comes kind.Tuple depth rest ns es final known h =
-    whole TupleOf h.0 rest ns _ (IsNode kind.Tuple ∷ es) h.1 final tt h.2 (simp (last_arity, append_assoc)) (ap (λ (x : List TypeEvent). IsNode kind.Tuple ∷ x) h.3) h.4
-option_comes kind.Udt depth rest ns es final known h =
+option_comes : (l : Rules) (k : Kind) (depth : ℕ) (rest : List TypeSymbol) (ns : List Node) (es : List TypeEvent) (final : List Node) → has_id k ≡ true → depth ≤ l.depth
+    → Comes l (parameters_of k depth ++ Whole (length ns) ∷ rest) (ns ++ node k (arity_of k) ∷ []) es final → Comes l (Option_at depth ∷ rest) ns (IsNode k ∷ es) final
+option_comes l kind.List depth rest ns es final known deep h =
+    let o = h.3 in
+    whole l depth ListOf (Tree_and [] h.0 h.1 NoTree) rest ns _ (IsNode kind.List ∷ es) h.2 final (refl, (o.0, o.1, tt), deep, (o.2, o.3, tt)) (simp append_assoc) (ap (λ (x : List TypeEvent). IsNode kind.List ∷ x) (h.4 ∙ one_item h.0 h.1 h.2)) h.5
+option_comes l kind.Set depth rest ns es final known deep h =
+    let o = h.3 in
+    whole l depth SetOf (Tree_and [] h.0 h.1 NoTree) rest ns _ (IsNode kind.Set ∷ es) h.2 final (refl, (o.0, o.1, tt), deep, (o.2, o.3, tt)) (simp append_assoc) (ap (λ (x : List TypeEvent). IsNode kind.Set ∷ x) (h.4 ∙ one_item h.0 h.1 h.2)) h.5
+option_comes l kind.Map depth rest ns es final known deep h =
+    let g = h.5 in
+    let o = h.3 in
+    let q = g.3 in
+    whole l depth MapOf (Tree_and [] h.0 h.1 (Tree_and [] g.0 g.1 NoTree)) rest ns _ (IsNode kind.Map ∷ es) g.2 final (refl, (o.0, o.1, (q.0, q.1, tt)), deep, (o.2, o.3, (q.2, q.3, tt))) (simp (append_assoc, append-nil))
+    (ap (λ (x : List TypeEvent). IsNode kind.Map ∷ x) (h.4 ∙ ap (λ (x : List TypeEvent). option_items h.0 h.1 ++ x) g.4 ∙ two_items h.0 g.0 h.1 g.1 g.2)) g.5
+option_comes l kind.Custom depth rest ns es final known deep h =
+    whole l depth (Custom h.0) NoTree rest ns _ (IsNode kind.Custom ∷ es) h.1 final (refl, tt, deep, tt) refl (ap (λ (x : List TypeEvent). IsNode kind.Custom ∷ x) h.2) h.3
+option_comes l kind.Tuple depth rest ns es final known deep h =
+    whole l depth TupleOf h.0 rest ns _ (IsNode kind.Tuple ∷ es) h.1 final (tt, h.2, deep, h.3) (simp (last_arity, append_assoc)) (ap (λ (x : List TypeEvent). IsNode kind.Tuple ∷ x) h.4) h.5
+option_comes l kind.Udt depth rest ns es final known deep h =
     let n = h.3 in
     let f = n.3 in
-    whole (UdtOf h.0 n.0) f.0 rest ns _ (IsNode kind.Udt ∷ es) f.1 final tt f.2 (simp (last_arity, append_assoc))
-    (ap (λ (x : List TypeEvent). IsNode kind.Udt ∷ x) (h.2 ∙ ap (λ (x : List TypeEvent). IsField field.Keyspace (Text h.0) ∷ x) (n.2 ∙ ap (λ (x : List TypeEvent). IsField field.TypeName (Text n.0) ∷ x) f.3))) f.4
-option_comes k depth rest ns es final known h = whole (Plain k) NoTree rest ns _ (IsNode k ∷ es) es final (known, refl) tt refl refl h
+    whole l depth (UdtOf h.0 n.0) f.0 rest ns _ (IsNode kind.Udt ∷ es) f.1 final (tt, f.2, deep, f.3) (simp (last_arity, append_assoc))
+    (ap (λ (x : List TypeEvent). IsNode kind.Udt ∷ x) (h.2 ∙ ap (λ (x : List TypeEvent). IsField field.Keyspace (Text h.0) ∷ x) (n.2 ∙ ap (λ (x : List TypeEvent). IsField field.TypeName (Text n.0) ∷ x) f.4))) f.5
+option_comes l k depth rest ns es final known deep h = whole l depth (Plain k) NoTree rest ns _ (IsNode k ∷ es) es final ((known, refl), tt, deep, tt) refl refl h
 
 -- ---- one step
 
@@ -145,11 +158,11 @@ after_field_always F P at Idles f b h g = tt
 after_field_always F P at (Takes n r) f b h g = λ c long. after_field_always F P at (r c) f (b ++ c) (h c long) g
 
 -- An item is at the place, its bytes spell it, and what comes behind it comes behind its symbols.
-pub record Came (p : TypePlace) (ss : List TypeSymbol) (x : Emitted TypeEvent TypePlace) (b : List ℕ) : Type 0 where
+pub record Came (l : Rules) (p : TypePlace) (ss : List TypeSymbol) (x : Emitted TypeEvent TypePlace) (b : List ℕ) : Type 0 where
   pub at : x.at ≡ p.offset
   pub spelled : ItemSpells x.event b
   pub onward : (used : ℕ) → (x.after used).offset ≡ p.offset + used
-  pub comes : (used : ℕ) (es : List TypeEvent) (final : List Node) → Comes (x.after used).symbols (x.after used).nodes es final → Comes ss p.nodes (x.event ∷ es) final
+  pub comes : (used : ℕ) (es : List TypeEvent) (final : List Node) → Comes l (x.after used).symbols (x.after used).nodes es final → Comes l ss p.nodes (x.event ∷ es) final
 
 pub text_is : (v : FieldValue) (b : List ℕ) → Spells notation.Text16 v b → (s : List ℕ) × (v ≡ Text s)
 unfolding Spells
@@ -162,31 +175,31 @@ count_is (Count n) b h = refl
 count_is v b h = absurd h
 
 module _ (l : Rules) (p : TypePlace) where
-  option_came : (o : Option Kind) (id depth : ℕ) (rest : List TypeSymbol) (b : List ℕ) → beside_number id kinds ≡ o → IsNumber 2 w16 id b → Always (Came p (Option_at depth ∷ rest)) (option_step l depth rest p o) b
+  option_came : (o : Option Kind) (id depth : ℕ) (rest : List TypeSymbol) (b : List ℕ) → beside_number id kinds ≡ o → IsNumber 2 w16 id b → Always (Came l p (Option_at depth ∷ rest)) (option_step l depth rest p o) b
   unfolding Spells
   option_came None id depth rest b e n = tt
-  option_came (Some k) id depth rest b e n = either_always _ b (ltb l.depth depth) _ _ (λ _. tt) (λ _. either_always _ b (leb l.entries (length p.nodes)) _ _ (λ _. tt) (λ _. record {
+  option_came (Some k) id depth rest b e n = either_always _ b (ltb l.depth depth) _ _ (λ _. tt) (λ within. either_always _ b (leb l.entries (length p.nodes)) _ _ (λ _. tt) (λ _. record {
     at = refl;
     spelled = (id, e, n);
     onward = λ used. refl;
-    comes = λ used es final h. option_comes k depth rest p.nodes es final (known id k e) (settled_comes (parameters_of k depth ++ Whole (length p.nodes) ∷ rest) (p.nodes ++ node k (arity_of k) ∷ []) es final h);
+    comes = λ used es final h. option_comes l k depth rest p.nodes es final (known id k e) (ltb-false _ _ within) (settled_comes l (parameters_of k depth ++ Whole (length p.nodes) ∷ rest) (p.nodes ++ node k (arity_of k) ∷ []) es final h);
   }))
 
-  pub step_came : (ss : List TypeSymbol) → Always (Came p ss) (type_step_at l p ss) []
+  pub step_came : (ss : List TypeSymbol) → Always (Came l p ss) (type_step_at l p ss) []
   unfolding number_of
   step_came [] = tt
   step_came (Option_at depth ∷ rest) = either_always _ [] (ltb (p.stop - p.offset) 2) _ _ (λ _. tt) (λ _ c long. option_came (beside_number (from_be_bytes w16 c) kinds) (from_be_bytes w16 c) depth rest c refl (record { long = long; is = refl }))
-  step_came (Text_of f ∷ rest) = after_field_always (Spells notation.Text16) (Came p (Text_of f ∷ rest)) p.offset (field_of notation.Text16 l.text (p.stop - p.offset)) _ [] (field_spells notation.Text16 l.text (p.stop - p.offset)) (λ v b s.
+  step_came (Text_of f ∷ rest) = after_field_always (Spells notation.Text16) (Came l p (Text_of f ∷ rest)) p.offset (field_of notation.Text16 l.text (p.stop - p.offset)) _ [] (field_spells notation.Text16 l.text (p.stop - p.offset)) (λ v b s.
       let t = text_is v b s in
-      record { at = refl; spelled = subst (λ (w : FieldValue). Spells (notation_for w) w b) (sym t.1) (rw t.1 at s); onward = λ used. refl; comes = λ used es final h. (t.0, es, ap (λ (w : FieldValue). IsField f w ∷ es) t.1, settled_comes rest p.nodes es final h) })
-  step_came (Fields_of named depth ∷ rest) = after_field_always (Spells notation.Count16) (Came p (Fields_of named depth ∷ rest)) p.offset (field_of notation.Count16 0 (p.stop - p.offset)) _ [] (field_spells notation.Count16 0 (p.stop - p.offset)) (λ v b s.
+      record { at = refl; spelled = subst (λ (w : FieldValue). Spells (notation_for w) w b) (sym t.1) (rw t.1 at s); onward = λ used. refl; comes = λ used es final h. (t.0, es, ap (λ (w : FieldValue). IsField f w ∷ es) t.1, settled_comes l rest p.nodes es final h) })
+  step_came (Fields_of named depth ∷ rest) = after_field_always (Spells notation.Count16) (Came l p (Fields_of named depth ∷ rest)) p.offset (field_of notation.Count16 0 (p.stop - p.offset)) _ [] (field_spells notation.Count16 0 (p.stop - p.offset)) (λ v b s.
       record {
         at = refl;
         spelled = subst (λ (w : FieldValue). Spells (notation_for w) w b) (sym (count_is v b s)) (subst (λ (w : FieldValue). Spells notation.Count16 w b) (count_is v b s) s);
         onward = λ used. refl;
         comes = λ used es final h.
-            let r = inner_comes (count_in v) named depth rest (with_arity (count_in v) p.nodes) es final (settled_comes (symbol_copies (count_in v) (inner_symbols named depth) ++ rest) (with_arity (count_in v) p.nodes) es final h) in
-            (r.trees, r.more, r.are, (λ i. IsField field.Fields ((count_is v b s ∙ ap Count (sym r.many)) i) ∷ r.items i), rw r.many r.later);
+            let r = inner_comes l (count_in v) named depth rest (with_arity (count_in v) p.nodes) es final (settled_comes l (symbol_copies (count_in v) (inner_symbols named depth) ++ rest) (with_arity (count_in v) p.nodes) es final h) in
+            (r.trees, r.more, r.are, r.shallow, (λ i. IsField field.Fields ((count_is v b s ∙ ap Count (sym r.many)) i) ∷ r.items i), rw r.many r.later);
       })
   step_came (Whole i ∷ rest) = tt
 
@@ -204,28 +217,28 @@ events_in [] = []
 events_in (e ∷ es) = e.1 ∷ events_in es
 
 -- The items of a run come of its symbols, stand where their bytes do, and are spelled by them.
-pub record Reads (p : TypePlace) (bytes : List ℕ) (es : List (ℕ × TypeEvent)) (more : List TypeEvent) (final : List Node) (rest : List ℕ) : Type 0 where
-  pub comes : Comes p.symbols p.nodes (events_in es ++ more) final
+pub record Reads (l : Rules) (p : TypePlace) (bytes : List ℕ) (es : List (ℕ × TypeEvent)) (more : List TypeEvent) (final : List Node) (rest : List ℕ) : Type 0 where
+  pub comes : Comes l p.symbols p.nodes (events_in es ++ more) final
   pub body : List ℕ
   pub all : bytes ≡ body ++ rest
   pub spelled : ItemsSpell (events_in es) body
   pub stand : es ≡ placed p.offset (events_in es)
 
 came_here : (l : Rules) (p : TypePlace) (bytes : List ℕ) (x : Emitted TypeEvent TypePlace) (used : ℕ) → says (type_step l p) 0 bytes ≡ Got x used
-    → (front : List ℕ) × (back : List ℕ) × (bytes ≡ front ++ back) × (drop used bytes ≡ back) × (length front ≡ used) × Came p p.symbols x front
+    → (front : List ℕ) × (back : List ℕ) × (bytes ≡ front ++ back) × (drop used bytes ≡ back) × (length front ≡ used) × Came l p p.symbols x front
 came_here l p bytes x used s =
     let y = says_yields (type_step l p) 0 x used bytes s in
     let none : used - length {A = ℕ} [] ≡ used = omega arith in
     let long : length y.0 ≡ used = omega (arith, y.3) in
     let front : take used bytes ≡ y.0 = ap (λ (t : List ℕ). take used t) y.2 ∙ take_at y.0 y.1 used long in
     let back : drop used bytes ≡ y.1 = ap (λ (t : List ℕ). drop used t) y.2 ∙ drop_at y.0 y.1 used long in
-    let c = (says_always (Came p p.symbols) (type_step l p) [] bytes x used (step_came l p p.symbols) s).1 in
+    let c = (says_always (Came l p p.symbols) (type_step l p) [] bytes x used (step_came l p p.symbols) s).1 in
     (y.0, y.1, y.2, back, long, rw front at (rw none at c))
 
 placed_on : (at at' : ℕ) (e : ℕ × TypeEvent) (es : List (ℕ × TypeEvent)) (fs : List TypeEvent) → e.0 ≡ at → at' ≡ at + item_size e.1 → es ≡ placed at' fs → e ∷ es ≡ (at, e.1) ∷ placed (at + item_size e.1) fs
 placed_on at at' e es fs here next is = λ i. (here i, e.1) ∷ (is ∙ ap (λ (k : ℕ). placed k fs) next) i
 
-pub runs_read : (l : Rules) (es : List (ℕ × TypeEvent)) (p q : TypePlace) (bytes rest : List ℕ) (more : List TypeEvent) (final : List Node) → Runs (type_step l) p bytes es q rest → Comes q.symbols q.nodes more final → Reads p bytes es more final rest
+pub runs_read : (l : Rules) (es : List (ℕ × TypeEvent)) (p q : TypePlace) (bytes rest : List ℕ) (more : List TypeEvent) (final : List Node) → Runs (type_step l) p bytes es q rest → Comes l q.symbols q.nodes more final → Reads l p bytes es more final rest
 runs_read l [] p q bytes rest more final r h = record { comes = rw r.0 at h; body = []; all = sym r.1; spelled = refl; stand = refl }
 runs_read l (e ∷ es) p q bytes rest more final r h =
     let x : Emitted TypeEvent TypePlace = record { at = e.0; event = e.1; after = r.1 } in
@@ -245,18 +258,19 @@ spelled_as : (es fs : List TypeEvent) (s body : List ℕ) → s ≡ body ++ [] �
 spelled_as es fs s body all same h = rw (all, append-nil body, ← same) h
 
 -- An option that is read is that of a type.
-pub option_read : (l : Rules) (depth : ℕ) (start q : TypePlace) (s : List ℕ) (es : List (ℕ × TypeEvent)) → start.symbols ≡ Option_at depth ∷ [] → q.symbols ≡ [] → Runs (type_step l) start s es q [] → IsWhole start.offset start.nodes s es q.nodes
+pub option_read : (l : Rules) (depth : ℕ) (start q : TypePlace) (s : List ℕ) (es : List (ℕ × TypeEvent)) → start.symbols ≡ Option_at depth ∷ [] → q.symbols ≡ [] → Runs (type_step l) start s es q [] → IsWhole l depth start.offset start.nodes s es q.nodes
 option_read l depth start q s es first done r =
-    let h : Comes q.symbols q.nodes [] q.nodes = rw done (refl, refl) in
+    let h : Comes l q.symbols q.nodes [] q.nodes = rw done (refl, refl) in
     let g = runs_read l es start q s [] [] q.nodes r h in
-    let c : Comes (Option_at depth ∷ []) start.nodes (events_in es ++ []) q.nodes = rw first at g.comes in
+    let c : Comes l (Option_at depth ∷ []) start.nodes (events_in es ++ []) q.nodes = rw first at g.comes in
     let tree : Trees = Tree_and [] c.0 c.1 NoTree in
-    let items : events_in es ≡ trees_items false tree = sym (append-nil (events_in es)) ∙ c.5 ∙ ap (λ (x : List TypeEvent). option_items c.0 c.1 ++ x) c.6.0 ∙ one_item c.0 c.1 [] ∙ append-nil (trees_items false tree) in
+    let items : events_in es ≡ trees_items false tree = sym (append-nil (events_in es)) ∙ c.4 ∙ ap (λ (x : List TypeEvent). option_items c.0 c.1 ++ x) c.5.0 ∙ one_item c.0 c.1 [] ∙ append-nil (trees_items false tree) in
     record {
       tree = tree;
       one = refl;
-      are = (c.3, c.4, tt);
+      are = (c.3.0, c.3.1, tt);
+      shallow = (c.3.2, c.3.3, tt);
       spelled = spelled_as (events_in es) (trees_items false tree) s g.body g.all items g.spelled;
       items = g.stand ∙ ap (placed start.offset) items;
-      table = c.6.1;
+      table = c.5.1;
     }

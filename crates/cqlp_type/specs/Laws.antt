@@ -26,10 +26,11 @@ SpelledIsRead = (l : Rules) (t : Trees) (depth at stop : ℕ) (ns : List Node) (
     let after : TypePlace = record { offset = at + length b; stop = stop; symbols = []; nodes = ns ++ preorder (types_in t) } in
     Runs (type_step l) before b (placed at (trees_items false t)) after []
 
--- What is read of an option, up to its end, is a type that its bytes spell, with its items and its nodes.
+-- What is read of an option, up to its end, is a type that its bytes spell, with its items and its nodes, and no inner
+-- type is deeper than the limit.
 abbrev pub ReadIsSpelled : Type 0
 ReadIsSpelled = (l : Rules) (depth : ℕ) (before after : TypePlace) (b : List ℕ) (es : List (ℕ × TypeEvent))
-    → before.symbols ≡ Option_at depth ∷ [] → after.symbols ≡ [] → Runs (type_step l) before b es after [] → IsWhole before.offset before.nodes b es after.nodes
+    → before.symbols ≡ Option_at depth ∷ [] → after.symbols ≡ [] → Runs (type_step l) before b es after [] → IsWhole l depth before.offset before.nodes b es after.nodes
 
 -- The bytes that spell a type are as many as its size says.
 abbrev pub SpelledIsLong : Type 0

@@ -4,6 +4,7 @@ use Rattle.cqlp_note.specs.Reader.{More, Bad}
 use Rattle.cqlp_note.specs.Field.{Text, Count}
 use Rattle.cqlp_note.specs.declared.field.Field.TheVariants as field
 use Rattle.cqlp_note.specs.Step.{Runs}
+use Rattle.cqlp_note.specs.Limits.{Rules}
 use Rattle.cqlp_note.specs.Partial.{Progress}
 use Rattle.cqlp_type.specs.declared.node.Node.{Node}
 use Rattle.cqlp_type.specs.declared.item.TypeItem.{TypeItem}
@@ -13,7 +14,7 @@ use Rattle.cqlp_type.specs.declared.item.TypePush.TheVariants as push
 use Rattle.cqlp_type.specs.Types.{preorder}
 use Rattle.cqlp_type.specs.TypeStep.{TypeEvent, IsNode, IsField, TypePlace, type_step, Option_at}
 use Rattle.cqlp_type.specs.Table.{Table}
-use Rattle.cqlp_type.specs.Trees.{Trees, trees_in, types_in, AreTrees, trees_items, placed, TreeSpells}
+use Rattle.cqlp_type.specs.Trees.{Trees, trees_in, types_in, AreTrees, Shallow, trees_items, placed, TreeSpells}
 use Rattle.cqlp_type.specs.Standing.{Standing, IsShared, place_of, pending, told, stopped, text_length}
 
 abbrev pub event_of : TypeItem → TypeEvent
@@ -25,25 +26,26 @@ event_of (item.Count n) = IsField field.Fields (Count n)
 abbrev pub After : (start : TypePlace) → Standing → Progress → Table → List ℕ → List (ℕ × TypeEvent) → Type 0
 After start r p t s es = Runs (type_step r.rules) start s es (place_of r t.nodes) (pending r p)
 
--- These bytes spell the option of a type, whose items these are, the first at `at`; and its nodes in preorder stand
--- behind the ones before.
-pub record IsWhole (at : ℕ) (before : List Node) (s : List ℕ) (es : List (ℕ × TypeEvent)) (nodes : List Node) : Type 0 where
+-- These bytes spell the option of a type at this depth, none of whose inner types is too deep; these are its items,
+-- the first at `at`; and its nodes in preorder stand behind the ones before.
+pub record IsWhole (l : Rules) (depth at : ℕ) (before : List Node) (s : List ℕ) (es : List (ℕ × TypeEvent)) (nodes : List Node) : Type 0 where
   pub tree : Trees
   pub one : trees_in tree ≡ 1
   pub are : AreTrees tree
+  pub shallow : Shallow l depth tree
   pub spelled : TreeSpells tree s
   pub items : es ≡ placed at (trees_items false tree)
   pub table : nodes ≡ before ++ preorder (types_in tree)
 
--- What a call leads to that was made after these bytes and items.
-abbrev pub Leads : (start : TypePlace) → Standing → Progress → Table → List ℕ → List (ℕ × TypeEvent) → List ℕ → TypePush → Standing → Progress → Table → Type 0
-Leads start old p t s es input (push.More used) new p' t' =
+-- What a call leads to that was made after these bytes and items of an option at this depth.
+abbrev pub Leads : (depth : ℕ) (start : TypePlace) → Standing → Progress → Table → List ℕ → List (ℕ × TypeEvent) → List ℕ → TypePush → Standing → Progress → Table → Type 0
+Leads depth start old p t s es input (push.More used) new p' t' =
     After start new p' t' (s ++ input) es × (told new t'.nodes (pending new p') ≡ More)
-Leads start old p t s es input (push.Item at used e) new p' t' =
+Leads depth start old p t s es input (push.Item at used e) new p' t' =
     (pending new p' ≡ []) × After start new p' t' (s ++ take used input) (es ++ (at, event_of e) ∷ [])
-Leads start old p t s es input push.Done new p' t' =
-    IsWhole start.offset start.nodes s es t'.nodes
-Leads start old p t s es input (push.Refused r) new p' t' =
+Leads depth start old p t s es input push.Done new p' t' =
+    IsWhole old.rules depth start.offset start.nodes s es t'.nodes
+Leads depth start old p t s es input (push.Refused r) new p' t' =
     Runs (type_step old.rules) start (s ++ input) es (place_of old t.nodes) (pending old p ++ input) × (told old t.nodes (pending old p ++ input) ≡ Bad (r.at, r.why))
 
 -- how much of the input is used
@@ -74,6 +76,6 @@ Serves push.Done new p' = p'.under_way ≡ false
 Serves (push.Refused r) new p' = (p'.under_way ≡ false) × (p'.content ≡ [])
 
 pub record Pushes (old : Standing) (p : Progress) (t : Table) (input : List ℕ) (x : TypePush) (new : Standing) (p' : Progress) (t' : Table) : Type 0 where
-  pub leads : (start : TypePlace) (depth : ℕ) → start.symbols ≡ Option_at depth ∷ [] → (s : List ℕ) (es : List (ℕ × TypeEvent)) → After start old p t s es → Leads start old p t s es input x new p' t'
+  pub leads : (start : TypePlace) (depth : ℕ) → start.symbols ≡ Option_at depth ∷ [] → (s : List ℕ) (es : List (ℕ × TypeEvent)) → After start old p t s es → Leads depth start old p t s es input x new p' t'
   pub serves : Serves x new p'
   pub room : p'.room ≡ p.room

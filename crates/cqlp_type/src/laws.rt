@@ -14,7 +14,7 @@ pub fn spelled_is_read()
     ensures { SpelledIsRead }
 {}
 
-/// What is read of an option is a type that its bytes spell.
+/// What is read of an option is a type that its bytes spell, no deeper than the limit.
 pub fn read_is_spelled()
     ensures { ReadIsSpelled }
 {}

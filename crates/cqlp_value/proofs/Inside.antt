@@ -32,7 +32,7 @@ module _ (nodes : List Node) (i : ℕ) (ts : Types) (others : List Node) (are : 
       record { others = others; are = rw same are; many = rw same many; formed = rw same formed; shallow = rw same shallow }
 
 -- the first of some nodes
-first_read : (nodes : List Node) (i : ℕ) (x : Node) (xs : List Node) → drop i nodes ≡ x ∷ xs → (slice_get nodes i ≡ Some x) × (drop (suc i) nodes ≡ xs) × (suc i + length xs ≡ length nodes)
+pub first_read : (nodes : List Node) (i : ℕ) (x : Node) (xs : List Node) → drop i nodes ≡ x ∷ xs → (slice_get nodes i ≡ Some x) × (drop (suc i) nodes ≡ xs) × (suc i + length xs ≡ length nodes)
 first_read [] zero x xs e = absurd cc
 first_read [] (suc i) x xs e = absurd cc
 first_read (y ∷ ys) zero x xs e = let a : y ≡ x = cc in let b : ys ≡ xs = cc in (ap Some a, b, rw b (omega arith))
@@ -95,7 +95,7 @@ module _ (nodes : List Node) (i n depth : ℕ) where
 pub stand_none : (nodes : List Node) (i depth : ℕ) → i ≤ length nodes → StandTo nodes i i 0 depth
 stand_none nodes i depth le = record { types = NoMore; are = refl; many = refl; formed = tt; shallow = omega arith; within = (omega arith, le) }
 
-preorder-followed : (ts us : Types) → preorder (followed_by ts us) ≡ preorder ts ++ preorder us
+pub preorder-followed : (ts us : Types) → preorder (followed_by ts us) ≡ preorder ts ++ preorder us
 preorder-followed NoMore us = refl
 preorder-followed (Type_and k inner others) us = rw (preorder-followed others us) (ap (λ (m : List Node). record { kind = k; arity = how_many inner; span = suc (length (preorder inner)) } ∷ m) (sym (append_assoc (preorder inner) (preorder others) (preorder us))))
 
@@ -103,11 +103,11 @@ many-followed : (ts us : Types) → how_many (followed_by ts us) ≡ how_many ts
 many-followed NoMore us = omega arith
 many-followed (Type_and k inner others) us = omega (arith, many-followed others us)
 
-formed-followed : (ts us : Types) → AreTypes ts → AreTypes us → AreTypes (followed_by ts us)
+pub formed-followed : (ts us : Types) → AreTypes ts → AreTypes us → AreTypes (followed_by ts us)
 formed-followed NoMore us a b = b
 formed-followed (Type_and k inner others) us a b = (a.0, a.1, formed-followed others us a.2 b)
 
-depth-followed : (ts us : Types) (depth : ℕ) → depth_of ts ≤ depth → depth_of us ≤ depth → depth_of (followed_by ts us) ≤ depth
+pub depth-followed : (ts us : Types) (depth : ℕ) → depth_of ts ≤ depth → depth_of us ≤ depth → depth_of (followed_by ts us) ≤ depth
 depth-followed NoMore us depth a b = b
 depth-followed (Type_and k inner others) us depth a b = omega (arith, depth-followed others us depth (omega arith) b)
 

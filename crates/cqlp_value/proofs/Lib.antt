@@ -3,6 +3,7 @@ pub mod Gathered
 pub mod Numbered
 pub mod Sizing
 pub mod Inside
+pub mod Columns
 pub mod Nesting
 pub mod Opened
 pub mod Coming

@@ -29,6 +29,13 @@ abbrev pub depth_of : Types → ℕ
 depth_of NoMore = 0
 depth_of (Type_and k inner others) = max (suc (depth_of inner)) (depth_of others)
 
+-- From node i on, all nodes are whole types side by side, none nested deeper than this.
+pub record Forest (nodes : List Node) (i depth : ℕ) : Type 0 where
+  pub types : Types
+  pub are : drop i nodes ≡ preorder types
+  pub formed : AreTypes types
+  pub shallow : depth_of types ≤ depth
+
 -- From node i on, n whole types stand side by side, none nested deeper than this.
 pub record Stand (nodes : List Node) (i n depth : ℕ) : Type 0 where
   pub others : List Node
