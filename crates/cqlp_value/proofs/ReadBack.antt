@@ -221,7 +221,7 @@ module _ (l : Rules) where
   reads_as : (ts : Types) (level stop : ℕ) (K L : Later) (at : ℕ) (es : Events) (b : List ℕ) → ((at : ℕ) (es : Events) (b : List ℕ) → K at es b → L at es b) → ReadsValues ts level stop K at es b → ReadsValues ts level stop L at es b
   reads_as ts level stop K L at es b f h = record { values = h.values; front = h.front; back = h.back; more = h.more; whole = h.whole; spelled = h.spelled; items = h.items; within = h.within; later = f _ _ _ h.later }
 
-  values_come : (ts : Types) (level stop : ℕ) (rest : List CellSymbol) (at : ℕ) (es : Events) (b : List ℕ) → Comes (values_of ts level stop ++ rest) at es b → ReadsValues ts level stop (Comes rest) at es b
+  pub values_come : (ts : Types) (level stop : ℕ) (rest : List CellSymbol) (at : ℕ) (es : Events) (b : List ℕ) → Comes (values_of ts level stop ++ rest) at es b → ReadsValues ts level stop (Comes rest) at es b
   values_come NoMore level stop rest at es b h = reads_none level stop (Comes rest) at es b h
   values_come (Type_and k inner others) level stop rest at es b h =
       reads_then (Type_and k inner NoMore) others level stop (Comes rest) at es b
@@ -555,7 +555,7 @@ module _ (l : Rules) where
       (y.0, y.1, y.2, back, long, rw front at (rw none at c))
 
   -- the items and the bytes of a run come of its symbols
-  runs_come : (es : Events) (p q : CellPlace) (bytes : List ℕ) → Runs (cell_step l) p bytes es q [] → q.symbols ≡ [] → Comes l p.symbols p.offset es bytes
+  pub runs_come : (es : Events) (p q : CellPlace) (bytes : List ℕ) → Runs (cell_step l) p bytes es q [] → q.symbols ≡ [] → Comes l p.symbols p.offset es bytes
   runs_come [] p q bytes r done = let none : p.symbols ≡ [] = rw r.0 at done in rw none (refl, sym r.1)
   runs_come (e ∷ es) p q bytes r done =
       let c = came_here p bytes (record { at = e.0; event = e.1; after = r.1 }) r.0 r.2 in

@@ -400,7 +400,7 @@ module _ (l : Rules) where
   fields_one j n items r k inner front s p rest level stop step le =
       rw s.0 (fields_read n items k inner s.3 front r s.1 s.2 s.4 s.5 (alone_is (IsBytes (Some s.3)) front s.6) p rest level stop step le)
 
-  all_read : (vs : Values) → AreWithin l vs → Read vs
+  pub all_read : (vs : Values) → AreWithin l vs → Read vs
   all_read NoValue w = none_read
   all_read (Null_and vs) w = and_read (Null_and NoValue) vs (null_splits vs) null_read (all_read vs w)
   all_read (Empty_and vs) w = and_read (Empty_and NoValue) vs (empty_splits vs) empty_read (all_read vs w)

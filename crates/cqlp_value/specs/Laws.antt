@@ -5,7 +5,7 @@ use Rattle.cqlp_note.specs.Limits.{Rules}
 use Rattle.cqlp_type.specs.declared.kind.Kind.{Kind}
 use Rattle.cqlp_type.specs.Types.{Types}
 use Rattle.cqlp_value.specs.CellStep.{Value_of, CellEvent, CellPlace, cell_step}
-use Rattle.cqlp_value.specs.Values.{Values, ValueSpells, values_items, AreWithin}
+use Rattle.cqlp_value.specs.Values.{Values, ValueSpells, values_size, values_items, AreWithin}
 
 -- What is read of a cell, up to its end, is a value of its type that its bytes spell, with just its items.
 abbrev pub ReadIsSpelled : Type 0
@@ -20,3 +20,7 @@ SpelledIsRead = (l : Rules) (k : Kind) (inner : Types) (v : Values) (at stop : �
     → let before : CellPlace = record { offset = at; symbols = Value_of k inner 0 stop ∷ [] } in
     let after : CellPlace = record { offset = at + length b; symbols = [] } in
     Runs (cell_step l) before b (values_items l 0 at v) after []
+
+-- The bytes that spell a value are as many as its size says.
+abbrev pub SpelledIsLong : Type 0
+SpelledIsLong = (k : Kind) (inner : Types) (v : Values) (b : List ℕ) → ValueSpells k inner v b → length b ≡ values_size v
