@@ -18,3 +18,4 @@ pub mod Parting
 pub mod ScalarSizes
 pub mod Leavings
 pub mod ReadBack
+pub mod SpelledRead
