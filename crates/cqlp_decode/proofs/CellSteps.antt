@@ -1,5 +1,5 @@
 -- One step of a cell.
-use Rattle.std.proofs.Common.{◌≡◌, ℕ, ◌+◌, ◌-◌, ◌*◌, ◌<◌, ◌≤◌, false, true, Bool, List, [], ◌∷◌, ◌++◌, length, refl, sym, ap, ◌∙◌, arith}
+use Rattle.std.proofs.Common.{◌≡◌, ℕ, ◌+◌, ◌-◌, ◌*◌, ◌<◌, ◌≤◌, false, true, Bool, List, [], ◌∷◌, ◌++◌, length, refl, sym, ap, subst, ◌∙◌, arith}
 use Rattle.std.specs.Prelude.{Option, Some, None}
 use Rattle.cqlp_note.specs.declared.refusal.Reason.{Reason}
 use Rattle.cqlp_note.specs.declared.refusal.Refusal.{Refusal}
@@ -20,23 +20,27 @@ use Rattle.cqlp_value.specs.CellStep as cell
 use Rattle.cqlp_value.specs.declared.item.CellOutline.TheVariants as outline
 use Rattle.cqlp_value.specs.Scalars.{ScalarValue, allows_size, scalar_of}
 use Rattle.cqlp_value.specs.Items.{event_at as cell_event_at, leaf_event, content_at, CanLend}
-use Rattle.cqlp_value.specs.Standing.{State as CellState, place, cell_symbols}
+use Rattle.cqlp_value.specs.Inner.{Forest}
+use Rattle.cqlp_value.specs.Standing as value
+use Rattle.cqlp_value.specs.Standing.{State as CellState, place, cell_symbols, is_under_way}
 use Rattle.cqlp_value.specs.Reading.{HaveCome, IsBehind}
 use Rattle.cqlp_value.specs.Reading as taking
 use Rattle.cqlp_value.specs.Pushing.{is_done}
-use Rattle.cqlp_value.proofs.Leading.{some_come, told_is as cell_told_is}
+use Rattle.cqlp_value.proofs.Leading.{some_come, stands_under, told_is as cell_told_is}
 use Rattle.cqlp_value.proofs.ScalarSizes.{scalar_sized}
-use Rattle.cqlp_value.proofs.Leavings.{left_none, left_some}
+use Rattle.cqlp_value.proofs.Leavings.{left_none, left_some, stop_is}
 use Rattle.cqlp_message.specs.Productions.{Symbol, Cell_due, In_cell}
 use Rattle.cqlp_decode.specs.declared.page.Page.{Page}
+use Rattle.cqlp_decode.specs.declared.standing.Stage.{Stage}
 use Rattle.cqlp_decode.specs.declared.standing.Stage.TheVariants as stage
 use Rattle.cqlp_decode.specs.declared.standing.Standing.{Standing}
 use Rattle.cqlp_decode.specs.declared.standing.What.TheVariants as what
 use Rattle.cqlp_decode.specs.Reading as reading
 use Rattle.cqlp_decode.specs.Reading.{Place, step, cell_event, cells_left, place_of_cells}
 use Rattle.cqlp_decode.specs.Pages.{cell_symbol, page_symbols, cells_behind, node_by}
-use Rattle.cqlp_decode.specs.Standing.{IsPending, Parts, parts, state_of, place_at, offset_at, symbols_at, rest_of, told, Gives, Waits, Hands, IsLent, due_after, frame_after, ends_due, IsCell, Starts}
+use Rattle.cqlp_decode.specs.Standing.{IsPending, Parts, parts, state_of, place_at, offset_at, symbols_at, rest_of, told, Gives, Waits, Hands, IsLent, due_after, frame_after, ends_due, IsCell, IsLawful, StageHolds, Starts}
 use Rattle.cqlp_decode.proofs.Steps.{begun, one_due, offset_is}
+use Rattle.cqlp_decode.proofs.FieldSteps.{goes_on_lawful}
 use Rattle.cqlp_decode.proofs.Columns.{FirstColumn, first_column, page_due}
 
 -- the step of a cell under way, or of one that has just begun, is that of what is left of it
@@ -105,7 +109,7 @@ module _ (s : Standing) (q : Parts) (p : Page) (here : s.stage ≡ stage.Cell p)
   stands = place_at q.cells.offset s.stop (cell_symbol q.cells.next p.row p.column column.first column.inner (place q.table.nodes q.cells).symbols ∷ rest) q.table.nodes
 
   due_now : (i : Option ℕ) → q.cells.next ≡ next.Cell i → (place q.table.nodes q.cells).symbols ≡ Value_of column.first column.inner 0 s.stop ∷ []
-  due_now i is = rw (is, c.is i is) (rw c.stop (column.symbols q.cells.stop))
+  due_now i is = rw (is, c.is i is, c.stop) (column.symbols s.stop)
 
   place_is : (state_of s q).place ≡ stands
   place_is = rw (here, column.is) refl
@@ -162,11 +166,11 @@ module _ (s : Standing) (q : Parts) (p : Page) (here : s.stage ≡ stage.Cell p)
             gives = λ b is.
                 let g = one b (come_is b is) in
                 let x = g.emits.x in
-                rw content (
+                (
                   record { at = x.at; event = cell_event p.row p.column x.event; after = λ u. place_of_cells p.row p.column stands rest (x.after u) },
                   told_is (b ++ input) ∙ ap (λ z. map_said (cell_event p.row p.column) (place_of_cells p.row p.column stands rest) z) g.emits.is,
                   g.emits.offset,
-                  ap (cell_event p.row p.column) g.emits.event,
+                  ap (cell_event p.row p.column) g.emits.event ∙ ap event (sym content),
                   ap (λ (z : CellPlace). place_of_cells p.row p.column stands rest z) g.emits.after ∙ (λ j. place_at (sym offset j) (sym stop j) (sym symbols j) (sym nodes j)),
                 );
             offset = λ b is. rw (offset, here) (one b (come_is b is)).onward;
@@ -176,19 +180,74 @@ module _ (s : Standing) (q : Parts) (p : Page) (here : s.stage ≡ stage.Cell p)
                 rw (due, before) (omega (arith, h.pays, open_values));
           }
 
-      -- the cell goes on
-      module _ (more : is_done d ≡ false) where
-        pub going_hands : Hands (state_of s q) input at used (what.Cell p.row p.column i) (state_of s (parts p' q.types d q.table))
-        going_hands =
-            let h = one came.0 came.1 in
-            let left : page_symbols q.table.nodes d p ++ rest_of s.upcoming ≡ cells_left p.row p.column (place q.table.nodes d).symbols ++ rest = under_way_still q.table.nodes s.limits.depth d p column h.behind (left_some q.table.nodes d h.stands h.behind more) (rest_of s.upcoming) in
-            cell_hands s (parts p' q.types d q.table) refl refl (rw here refl) refl refl (rw here left) (rw (here, h.fresh) refl) (rw here (page_due q.table.nodes s.limits.depth d p (rest_of s.upcoming) c.page.0)) (omega arith)
+    -- the cell goes on
+    module _ (more : is_done d ≡ false) where
+      pub going_hands : Hands (state_of s q) input at used (what.Cell p.row p.column i) (state_of s (parts p' q.types d q.table))
+      going_hands =
+          let h = one came.0 came.1 in
+          let left : page_symbols q.table.nodes d p ++ rest_of s.upcoming ≡ cells_left p.row p.column (place q.table.nodes d).symbols ++ rest = under_way_still q.table.nodes s.limits.depth d p column h.behind (left_some q.table.nodes d h.stands h.behind more) (rest_of s.upcoming) in
+          cell_hands s (parts p' q.types d q.table) refl refl (rw here refl) refl refl (rw here left) (rw (here, h.fresh) refl) (rw here (page_due q.table.nodes s.limits.depth d p (rest_of s.upcoming) c.page.0)) (omega arith)
 
-      -- the cell is whole, and this is next
-      module _ (whole : is_done d ≡ true) (e : Standing) (d' : CellState) (offset : e.offset ≡ d.offset) (stop : e.stop ≡ s.stop) (frame : e.frame ≡ s.frame) (zero : e.came ≡ 0) (symbols : symbols_at e.stage (parts p' q.types d' q.table) e.upcoming ≡ rest)
-          (starts : Starts e q.table.nodes d' e.stage) (none : d'.open_values ≡ []) where
-        pub ended_hands : Hands (state_of s q) input at used (what.Cell p.row p.column i) (state_of e (parts p' q.types d' q.table))
-        ended_hands =
-            let h = one came.0 came.1 in
-            let z : Parts = parts p' q.types d' q.table in
-            cell_hands e z refl refl (offset_is e e.stage z starts ∙ offset) stop frame (rw (left_none q.table.nodes d whole) symbols) (begun e e.stage e.header e.came z starts zero h.idle) (one_due e e.stage z starts) (rw none (omega arith))
+    -- the cell is whole, and this is next
+    module _ (whole : is_done d ≡ true) (e : Standing) (d' : CellState) (offset : e.offset ≡ d.offset) (stop : e.stop ≡ s.stop) (frame : e.frame ≡ s.frame) (zero : e.came ≡ 0) (symbols : symbols_at e.stage (parts p' q.types d' q.table) e.upcoming ≡ rest)
+        (starts : Starts e q.table.nodes d' e.stage) (none : d'.open_values ≡ []) where
+      pub ended_hands : Hands (state_of s q) input at used (what.Cell p.row p.column i) (state_of e (parts p' q.types d' q.table))
+      ended_hands =
+          let h = one came.0 came.1 in
+          let z : Parts = parts p' q.types d' q.table in
+          cell_hands e z refl refl (offset_is e e.stage z starts ∙ offset) stop frame (rw (left_none q.table.nodes d whole) symbols) (begun e e.stage e.header e.came z starts zero h.idle) (one_due e e.stage z starts) (rw none (omega arith))
+
+  -- ---- what holds of the decoder then
+
+  cell_goes : (d : CellState) (p' : Progress) → taking.Joined q.table.nodes d p' → value.Stands q.table.nodes d → is_under_way d ≡ true → is_done d ≡ false → ((n : Option ℕ) → d.next ≡ next.Cell n → n ≡ node_by p.columns p.index) → d.stop ≡ s.stop → s.offset ≤ d.offset → IsCell s (parts p' q.types d q.table) p
+  cell_goes d p' joined stands under_way some is stop behind = record { under_way = under_way; stands = stands; joined = joined; some = some; is = is; page = c.page; stop = stop; behind = behind; came = c.came }
+
+  stage_there : (z : Parts) → StageHolds s z (stage.Cell p) → StageHolds s z s.stage
+  stage_there z h = subst (λ (t : Stage). StageHolds s z t) (sym here) h
+
+  pub cell_more_lawful : (input : List ℕ) (used : ℕ) (d : CellState) (p' : Progress) → taking.Moves q.table.nodes q.cells q.partial input (cell_advance.More used) d p' → IsLawful s q → IsLawful s (parts p' q.types d q.table)
+  cell_more_lawful input used d p' m law =
+      let h = (m came.0 came.1).0 in
+      record {
+        bounded = law.bounded;
+        parts = record { room = h.longest ∙ law.parts.room; rules = law.parts.rules; cells = ap (λ (z : CellState). z.rules) h.same ∙ law.parts.cells; table = law.parts.table };
+        stage = let stage = rw here at law.stage in stage_there (parts p' q.types d q.table) (cell_goes d p' h.joined (rw h.same (stands_under q.table.nodes q.cells d.under c.stands)) (ap (λ (z : CellState). is_under_way z) h.same ∙ c.under_way) (ap (λ (z : CellState). is_done z) h.same ∙ c.some) (λ n is. c.is n (sym (ap (λ (z : CellState). z.next) h.same) ∙ is)) (ap (λ (z : CellState). z.stop) h.same ∙ c.stop) (omega (arith, c.behind, ap (λ (z : CellState). z.offset) h.same)), stage.1);
+        table = λ none. rw here (rw here at (law.table none));
+      }
+
+  pub cell_refused_lawful : (input : List ℕ) (r : Refusal) (d : CellState) (p' : Progress) → taking.Moves q.table.nodes q.cells q.partial input (cell_advance.Refused r) d p' → IsLawful s q → IsLawful (record s { stage = stage.Extra }) (parts p' q.types d q.table)
+  cell_refused_lawful input r d p' m law =
+      let h = m came.0 came.1 in
+      let stage = rw here at law.stage in
+      record {
+        bounded = record { long = law.bounded.long; inside = law.bounded.inside; size = law.bounded.size; bound = law.bounded.bound };
+        parts = record { room = h.longest ∙ law.parts.room; rules = law.parts.rules; cells = rw h.ends law.parts.cells; table = law.parts.table };
+        stage = (rw c.came (omega arith), record { field = h.idle; types = stage.1; cells = rw h.ends refl });
+        table = λ none. rw here at (law.table none);
+      }
+
+  module _ (input : List ℕ) (at used : ℕ) (i : CellOutline) (d : CellState) (p' : Progress) (m : taking.Moves q.table.nodes q.cells q.partial input (cell_advance.Item at used i) d p') (law : IsLawful s q) where
+    abbrev this : taking.Hands q.table.nodes q.cells q.partial input (taking.told q.table.nodes q.cells (came.0 ++ input)) (length came.0) at used i d p'
+    this = m came.0 came.1
+
+    not_due : (n : Option ℕ) → d.next ≡ next.Cell n → n ≡ node_by p.columns p.index
+    not_due n is = absurd (rw is at this.behind)
+
+    pub cell_inside : d.offset ≤ s.stop
+    cell_inside = omega (arith, stop_is q.table.nodes d this.stands, this.stop, c.stop)
+
+    pub cell_going_lawful : is_done d ≡ false → IsLawful s (parts p' q.types d q.table)
+    cell_going_lawful more = record {
+      bounded = law.bounded;
+      parts = record { room = this.longest ∙ law.parts.room; rules = law.parts.rules; cells = this.rules ∙ law.parts.cells; table = law.parts.table };
+      stage = let stage = rw here at law.stage in stage_there (parts p' q.types d q.table) (cell_goes d p' (record { longest = rw (this.rules, this.longest) c.joined.longest; under_way = rw this.fresh this.idle }) this.stands this.goes_on more not_due (this.stop ∙ c.stop) (omega (arith, c.behind, this.onward)), stage.1);
+      table = λ none. rw here (rw here at (law.table none));
+    }
+
+    pub cell_ended_lawful : (e : Standing) (d' : CellState) → e.offset ≡ d.offset → e.stop ≡ s.stop → e.limits ≡ s.limits → e.header ≡ s.header → e.came ≡ s.came → d'.rules ≡ d.rules → Forest q.table.nodes 0 s.limits.depth → Starts e q.table.nodes d' e.stage
+        → IsLawful e (parts p' q.types d' q.table)
+    cell_ended_lawful e d' offset stop limits header same rules_are forest starts =
+        let n : ℕ = d.offset - s.offset in
+        let behind : s.offset ≤ d.offset = omega (arith, c.behind, this.onward) in
+        let stage = rw here at law.stage in
+        goes_on_lawful s e q p' q.types d' q.table n law (omega (arith, offset, behind)) (omega (arith, behind, cell_inside)) stop limits header (same ∙ c.came) this.longest this.idle refl stage.1 (rules_are ∙ this.rules) refl forest starts

@@ -122,7 +122,7 @@ module _ (s : Standing) (old p : Progress) (r : type.Standing) (d : value.State)
   pub piece_waits : (new : Progress) (used : ℕ) → partial.Waits p input used new → Waits (state_of s before) input used (state_of s (parts new r d t))
   piece_waits new used m = record {
     all = m.all;
-    place = refl;
+    place = rw here refl;
     frame = refl;
     waits = λ b is.
         let seen : came_of new ≡ p.seen ++ input = rw m.under_way refl in
@@ -187,13 +187,13 @@ pub following_there : (r : Role) (v : FieldValue) (types : Bool) (nodes after : 
 following_there (role.PageRows flags columns) v types nodes after rest e = rw e refl
 following_there r v types nodes after rest e = refl
 
-module _ (s e : Standing) (q : Parts) (p : Progress) (d : value.State) (t : Table) (n : ℕ) (law : IsLawful s q) (offset : e.offset ≡ s.offset + n) (inside : s.offset + n ≤ s.stop) (stop : e.stop ≡ s.stop) (limits : e.limits ≡ s.limits) (header : e.header ≡ s.header) (came : e.came ≡ 0)
-    (room : p.room ≡ max s.limits.text s.limits.cell) (idle : p.under_way ≡ false) (types : q.types.under_way ≡ false) (cells : d.rules ≡ q.cells.rules) (table : t.room ≡ q.table.room) (forest : Forest t.nodes 0 s.limits.depth) (starts : Starts e t.nodes d e.stage) where
-  pub field_lawful : IsLawful e (parts p q.types d t)
-  field_lawful =
-      let z : Parts = parts p q.types d t in
+module _ (s e : Standing) (q : Parts) (p : Progress) (r : type.Standing) (d : value.State) (t : Table) (n : ℕ) (law : IsLawful s q) (offset : e.offset ≡ s.offset + n) (inside : s.offset + n ≤ s.stop) (stop : e.stop ≡ s.stop) (limits : e.limits ≡ s.limits) (header : e.header ≡ s.header) (came : e.came ≡ 0)
+    (room : p.room ≡ q.partial.room) (idle : p.under_way ≡ false) (rules : r.rules ≡ q.types.rules) (types : r.under_way ≡ false) (cells : d.rules ≡ q.cells.rules) (table : t.room ≡ q.table.room) (forest : Forest t.nodes 0 s.limits.depth) (starts : Starts e t.nodes d e.stage) where
+  pub goes_on_lawful : IsLawful e (parts p r d t)
+  goes_on_lawful =
+      let z : Parts = parts p r d t in
       let bounded : IsBounded e = record { long = ap (λ (h : List ℕ). length h) header ∙ law.bounded.long; inside = omega (arith, law.bounded.inside); size = omega (arith, law.bounded.size); bound = omega (arith, law.bounded.bound) } in
-      let parts : HasParts e z = rw limits (record { room = room; rules = law.parts.rules; cells = cells ∙ law.parts.cells; table = table ∙ law.parts.table }) in
+      let parts : HasParts e z = rw limits (record { room = room ∙ law.parts.room; rules = rules ∙ law.parts.rules; cells = cells ∙ law.parts.cells; table = table ∙ law.parts.table }) in
       record {
         bounded = bounded;
         parts = parts;

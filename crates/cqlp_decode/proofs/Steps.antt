@@ -198,9 +198,9 @@ placed s q stage.Extra h = h.0
 -- a refusal changes nothing of the rest
 stage_refused : (s : Standing) (q : Parts) (r : Option Refusal) (t : Stage) → StageHolds s q t → StageHolds (record s { refusal = r }) q t
 stage_refused s q r stage.Header h = h
-stage_refused s q r (stage.Field w) h = (record { room = h.0.room; read = h.0.read; field = h.0.field; waits = h.0.waits; came = h.0.came }, h.1)
+stage_refused s q r (stage.Field w) h = (record { room = h.0.room; read = h.0.read; field = h.0.field; waits = h.0.waits; came = h.0.came }, h.1, h.2)
 stage_refused s q r stage.Option h = h
-stage_refused s q r stage.Type h = (record { under_way = h.0.under_way; some = h.0.some; shared = h.0.shared; stop = h.0.stop; behind = h.0.behind; inside = h.0.inside; came = h.0.came }, h.1)
+stage_refused s q r stage.Type h = (record { under_way = h.0.under_way; some = h.0.some; shared = h.0.shared; stop = h.0.stop; behind = h.0.behind; inside = h.0.inside; came = h.0.came }, h.1, h.2)
 stage_refused s q r (stage.Cell p) h = (record { under_way = h.0.under_way; stands = h.0.stands; joined = h.0.joined; some = h.0.some; is = h.0.is; page = h.0.page; stop = h.0.stop; behind = h.0.behind; came = h.0.came }, h.1)
 stage_refused s q r stage.Extra h = h
 

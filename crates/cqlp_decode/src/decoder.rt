@@ -182,7 +182,7 @@ impl<A: Allocator> Decoder<A> {
 
 /// The event that a cell of this row and this column holds this.
 fn event_in(row: u32, column: u32, part: CellItem<'_>) -> Event<'_>
-    ensures { event_of result ≡ cell_event row column (cell.event_of part) }
+    ensures { event_of result ≡ cell_event row column (cell.event_of part.entry) }
 {
     match part {
         CellItem::Leaf { level, scalar } => Event::Leaf {

@@ -4,7 +4,7 @@ ghost use Rattle.std.specs.Prelude.{◌≡◌, ◌+◌, ◌≤◌, ◌++◌, ◌
 ghost use Rattle.cqlp_note.specs.Heading.{has as has_bit};
 ghost use Rattle.cqlp_note.specs.Field.{FieldValue};
 ghost use Rattle.cqlp_note.specs.Head.{value_of};
-ghost use Rattle.cqlp_type.specs.Types.{Types};
+ghost use Rattle.cqlp_type.specs.Types.{Types, NoMore};
 ghost use Rattle.cqlp_decode.specs.Reading.{nodes_after};
 ghost use Rattle.cqlp_message.specs.Productions.{Extra, In, batch_parts, entry_parts, fault_in as fault_of, following, message, number_in, query_parts, specs, text_in};
 
@@ -44,7 +44,7 @@ impl Upcoming {
     /// Puts what follows a field of this role, that has this value, before all else, but for the cells of a page.
     pub fn follow(&mut self, role: Role, value: Prim<'_>)
         requires { length self.old + behind role ≤ 16 }
-        ensures { symbols_in self.new ≡ following Types.NoMore role (value_of value.entry) ++ symbols_in self.old }
+        ensures { symbols_in self.new ≡ following NoMore role (value_of value.entry) ++ symbols_in self.old }
     {
         let number = number(value);
         match role {

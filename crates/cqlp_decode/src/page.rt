@@ -1,10 +1,14 @@
 //! The cells of a page, in their order.
 
-ghost use Rattle.std.specs.Prelude.{◌≡◌, ◌↔◌, ℕ, IsTrue, [], length};
+ghost use Rattle.std.specs.Prelude.{◌≡◌, ◌↔◌, ℕ, IsTrue, List};
 ghost use Rattle.cqlp_note.specs.Head.{value_of};
 ghost use Rattle.cqlp_message.specs.Productions.{number_in};
 ghost use Rattle.cqlp_value.specs.Inner.{Forest};
-ghost use Rattle.cqlp_decode.specs.Pages.{Begins, Follows, HasNode, IsPage, IsSomePage, Turns, column_types, node_by};
+ghost use Rattle.cqlp_type.specs.Types.{NoMore};
+ghost use Rattle.cqlp_type.specs.declared.node.Node.{Node};
+ghost use Rattle.cqlp_decode.specs.Reading as reading;
+ghost use Rattle.cqlp_decode.specs.Reading.{page_types};
+ghost use Rattle.cqlp_decode.specs.Pages.{Begins, Follows, IsPage, IsSomePage, NextColumn, Turns, column_types, node_by};
 
 use crate::following::{has, number};
 use cqlp_message::Role;
@@ -34,7 +38,7 @@ pub struct Page {
 
 impl Columns {
     fn are_none<A: Allocator>(self, table: &TypeTable<A>) -> bool
-        ensures { IsTrue result ↔ (column_types table.now.nodes self ≡ Types.NoMore) }
+        ensures { IsTrue result ↔ (column_types table.now.nodes self ≡ NoMore) }
     {
         match self {
             Columns::Typed => table.is_empty(),
@@ -101,8 +105,9 @@ impl Page {
     {
         match self.columns {
             Columns::Typed => {
+                let end = table.len();
                 let index = self.index + table.node(self.index).unwrap().span;
-                (index < table.len()).then_some(index)
+                (index < end).then_some(index)
             }
             Columns::Raw(columns) => (self.column + 1 < columns).then_some(0),
         }
@@ -121,10 +126,20 @@ pub fn page_behind<A: Allocator>(
     let Role::PageRows { flags, columns } = role else {
         return None;
     };
-    let columns = if limits.types && !has(flags, 0x04) {
-        Columns::Typed
-    } else {
-        Columns::Raw(columns)
-    };
-    Page::first(columns, number(value), table)
+    Page::first(
+        columns_of(limits, flags, columns),
+        number(value),
+        table,
+    )
+}
+
+/// The types of so many columns, whose metadata has these flags.
+fn columns_of(limits: &Limits, flags: u32, columns: u32) -> Columns
+    ensures { (nodes : List Node) → page_types limits.now.types flags columns nodes reading.Nothing ≡ column_types nodes result }
+{
+    match (limits.types, has(flags, 0x04)) {
+        (true, false) => Columns::Typed,
+        (true, true) => Columns::Raw(columns),
+        (false, _) => Columns::Raw(columns),
+    }
 }

@@ -481,14 +481,16 @@ impl Standing {
             }
             CellAdvance::Done => unreachable!(),
             CellAdvance::Item { at, used, item } => {
-                if cells.done() {
-                    self.end_cell(page, cells, table);
-                }
-                Advance::Event {
+                let event = Advance::Event {
                     at,
                     used,
                     what: What::Cell(page.row, page.column, item),
+                };
+                if !cells.done() {
+                    return event;
                 }
+                self.end_cell(page, cells, table);
+                event
             }
         }
     }

@@ -2,7 +2,7 @@
 use Rattle.std.proofs.Common.{◌≡◌, ◌+◌, ◌-◌, ◌^◌, [], ◌∷◌, codes, refl}
 use Rattle.std.proofs.Common.{pos, negsuc}
 use Rattle.std.specs.Fmt.{digits}
-use Rattle.cqlp_tool.specs.CellText.{cell_text}
+use Rattle.cqlp_tool.specs.CellText.{cell_text, year_of, month_of}
 use Rattle.cqlp_value.specs.Scalars as scalar
 
 negative_varint : cell_text (scalar.Varint (0xFF ∷ 0x7F ∷ [])) ≡ codes "-129"
@@ -25,9 +25,11 @@ last_time : cell_text (scalar.Time (pos 86399999999999)) ≡ codes "23:59:59.999
 last_time = refl
 
 epoch : cell_text (scalar.Date (2 ^ 31)) ≡ codes "1970-01-01"
+unfolding year_of month_of
 epoch = refl
 
 year_2000 : cell_text (scalar.Date 0x80002ACD) ≡ codes "2000-01-01"
+unfolding year_of month_of
 year_2000 = refl
 
 first_of_all_days : cell_text (scalar.Date 0) ≡ codes "day -2147483648"
@@ -35,7 +37,9 @@ unfolding digits
 first_of_all_days = refl
 
 first_civil_day : cell_text (scalar.Date (2 ^ 31 - 719528)) ≡ codes "0000-01-01"
+unfolding year_of month_of
 first_civil_day = refl
 
 last_civil_day : cell_text (scalar.Date (2 ^ 31 + 2932896)) ≡ codes "9999-12-31"
+unfolding year_of month_of
 last_civil_day = refl

@@ -1,4 +1,5 @@
 mod CellRows
+pub mod Calendar
 pub mod CellTexts
 pub mod Renders
 pub mod Shows

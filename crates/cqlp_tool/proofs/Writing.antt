@@ -1,5 +1,5 @@
 -- Writing one text after another.
-use Rattle.std.proofs.Common.{◌≡◌, ◌≢◌, ◌==◌, ◌&&◌, nat_lt, ℕ, ◌-◌, Bool, ◌<◌, drop, true, false, List, [], ◌∷◌, ◌++◌, length, take, Option, Some, None, Result, Ok, Err, IsErr, refl, sym, ◌∙◌, ap, subst, append_assoc, append-nil, arith, drop-drop, length-drop, ◌+◌, ◌≤◌}
+use Rattle.std.proofs.Common.{◌≡◌, ◌≢◌, ◌==◌, ◌&&◌, nat_lt, ℕ, ◌-◌, Bool, ◌<◌, drop, true, false, List, [], ◌∷◌, ◌++◌, length, take, Option, Some, None, IsSome, Result, Ok, Err, IsErr, refl, sym, ◌∙◌, ap, subst, append_assoc, append-nil, arith, drop-drop, length-drop, ◌+◌, ◌≤◌}
 use Rattle.std.proofs.lemmas.Grind.{common_steps}
 use Rattle.std.proofs.lemmas.List.{take-append-drop}
 use Rattle.std.proofs.Math.Seq.{take-add}
@@ -8,6 +8,7 @@ use Rattle.std.proofs.lemmas.Bool.{lt-ltb, le-ltb}
 use Rattle.std.specs.Io.KnownBytes.{Keeps, Appends, append_known}
 use Rattle.cqlp_note.specs.Streams.{counted}
 use Rattle.cqlp_decode.specs.declared.sink.SinkFault.{SinkFault}
+use Rattle.cqlp_tool.specs.Rendering.{WritesText, output}
 use Rattle.cqlp_tool.specs.Written.{Written, PassesOn, Takes, BreaksOff, Writes, bare}
 
 passed_then : (a b c : Written) (x y left : List ℕ) → PassesOn a x b.waiting b.given → PassesOn b y left c.given → PassesOn a (x ++ y) left c.given
@@ -21,12 +22,14 @@ pub takes_nothing : (w : Written) → Takes w [] w
 takes_nothing w = record {
   passed = λ text given. ([], given ∙ ap (λ t. Some t) (sym (append-nil text)), sym (append-nil w.waiting));
   failures = refl;
+  lender = refl;
 }
 
 pub takes_then_takes : (a b c : Written) (x y : List ℕ) → Takes a x b → Takes b y c → Takes a (x ++ y) c
 takes_then_takes a b c x y first second = record {
   passed = passed_then a b c x y c.waiting first.passed second.passed;
   failures = second.failures ∙ first.failures;
+  lender = second.lender ∙ first.lender;
 }
 
 pub takes_then_breaks : (a b c : Written) (x y : List ℕ) → Takes a x b → BreaksOff b y c → BreaksOff a (x ++ y) c
@@ -36,6 +39,7 @@ takes_then_breaks a b c x y first second = record {
   passed = passed_then a b c x y (second.lost ∷ second.behind) first.passed second.passed;
   failures = second.failures ∙ ap (counted true) first.failures;
   waiting = second.waiting;
+  lender = second.lender ∙ first.lender;
 }
 
 -- a fault within a text is one within a longer text
@@ -46,6 +50,7 @@ breaks_in_more a b x y broken = record {
   passed = λ text given. let p = broken.passed text given in (p.0, p.1, sym (append_assoc p.0 (broken.lost ∷ broken.behind) y) ∙ ap (λ t. t ++ y) p.2 ∙ append_assoc a.waiting x y);
   failures = broken.failures;
   waiting = broken.waiting;
+  lender = broken.lender;
 }
 
 -- ---- a target takes the first bytes
@@ -88,6 +93,7 @@ breaks_at old new f f' n bytes short grows failed =
       passed = λ text known. (take n bytes, known_grown old new text (take n bytes) grows known, ap (λ t. take n bytes ++ t) (sym left.2) ∙ take-append-drop n bytes);
       failures = failed ∙ ap (λ (t : Bool). counted t f) (lt-ltb n (length bytes) short);
       waiting = refl;
+      lender = refl;
     }
 
 -- a target that took all
@@ -97,6 +103,7 @@ takes_at old new f f' n bytes within all grows same =
     record {
       passed = λ text known. (bytes, known_grown old new text bytes (subst (λ (t : List ℕ). Appends old new t) whole grows) known, append-nil bytes);
       failures = same ∙ ap (λ (t : Bool). counted t f) (le-ltb n (length bytes) all);
+      lender = refl;
     }
 
 -- ---- a text in parts
@@ -143,24 +150,65 @@ rest_behind rest n =
     sym (ap (λ t. take n rest ++ t) behind ∙ take-append-drop n rest)
 
 -- what waited is passed on, and nothing waits
-pub passes_waiting : (given given' : Option (List ℕ)) (f f' : ℕ) (waiting none : List ℕ) (r : Result (Unit {0}) SinkFault) → none ≡ [] → Writes (bare given f) waiting r (bare given' f') → Writes (record { given = given; failures = f; waiting = waiting }) [] r (record { given = given'; failures = f'; waiting = none })
-passes_waiting given given' f f' waiting none (Ok u) empty takes = record {
+pub passes_waiting : (given given' : Option (List ℕ)) (f f' lender : ℕ) (waiting none : List ℕ) (r : Result (Unit {0}) SinkFault) → none ≡ [] → Writes (bare given f) waiting r (bare given' f') → Writes (record { given = given; failures = f; waiting = waiting; lender = lender }) [] r (record { given = given'; failures = f'; waiting = none; lender = lender })
+passes_waiting given given' f f' lender waiting none (Ok u) empty takes = record {
   passed = λ text known. let p = takes.passed text known in (p.0, p.1, ap (λ t. p.0 ++ t) empty ∙ p.2 ∙ sym (append-nil waiting));
   failures = takes.failures;
+  lender = refl;
 }
-passes_waiting given given' f f' waiting none (Err e) empty breaks = record {
+passes_waiting given given' f f' lender waiting none (Err e) empty breaks = record {
   lost = breaks.lost;
   behind = breaks.behind;
   passed = λ text known. let p = breaks.passed text known in (p.0, p.1, p.2 ∙ sym (append-nil waiting));
   failures = breaks.failures;
   waiting = empty;
+  lender = refl;
 }
 
 -- a text is passed on where nothing waits
-pub passes_direct : (given given' : Option (List ℕ)) (f f' : ℕ) (none bytes : List ℕ) (r : Result (Unit {0}) SinkFault) → none ≡ [] → Writes (bare given f) bytes r (bare given' f') → Writes (record { given = given; failures = f; waiting = none }) bytes r (record { given = given'; failures = f'; waiting = none })
-passes_direct given given' f f' none bytes r empty writes =
-    let same : (g : Option (List ℕ)) (n : ℕ) → bare g n ≡ (record { given = g; failures = n; waiting = none }) = λ g n. ap (λ w. record { given = g; failures = n; waiting = w }) (sym empty) in
-    subst (λ (w : Written). Writes w bytes r (record { given = given'; failures = f'; waiting = none })) (same given f) (subst (λ (w : Written). Writes (bare given f) bytes r w) (same given' f') writes)
+pub passes_direct : (given given' : Option (List ℕ)) (f f' lender : ℕ) (none bytes : List ℕ) (r : Result (Unit {0}) SinkFault) → none ≡ [] → Writes (bare given f) bytes r (bare given' f') → Writes (record { given = given; failures = f; waiting = none; lender = lender }) bytes r (record { given = given'; failures = f'; waiting = none; lender = lender })
+passes_direct given given' f f' lender none bytes (Ok u) empty takes = record {
+  passed = λ text known. let p = takes.passed text known in (p.0, p.1, ap (λ t. p.0 ++ t) empty ∙ p.2 ∙ ap (λ t. t ++ bytes) (sym empty));
+  failures = takes.failures;
+  lender = refl;
+}
+passes_direct given given' f f' lender none bytes (Err e) empty breaks = record {
+  lost = breaks.lost;
+  behind = breaks.behind;
+  passed = λ text known. let p = breaks.passed text known in (p.0, p.1, p.2 ∙ ap (λ t. t ++ bytes) (sym empty));
+  failures = breaks.failures;
+  waiting = empty;
+  lender = refl;
+}
+
+writes_lender : (a b : Written) (text : List ℕ) (r : Result (Unit {0}) SinkFault) → Writes a text r b → b.lender ≡ a.lender
+writes_lender a b text (Ok u) takes = takes.lender
+writes_lender a b text (Err e) breaks = breaks.lender
+
+known_text : (a b : Written) (given given' : Option (List ℕ)) (f f' lender : ℕ) (text : List ℕ) (r : Result (Unit {0}) SinkFault) → a ≡ record (bare given f) { lender = lender } → bare given' f' ≡ record b { waiting = []; lender = 0 } → b.waiting ≡ [] → Writes a text r b → IsSome given → WritesText (output given f) text r (output given' f')
+known_text a b None given' f f' lender text r starts ends empty writes known = cc
+known_text a b (Some t) given' f f' lender text (Ok u) starts ends empty takes known =
+    let p = takes.passed t (ap (λ w. w.given) starts) in
+    let all : p.0 ≡ text = sym (append-nil p.0) ∙ ap (λ k. p.0 ++ k) (sym empty) ∙ p.2 ∙ ap (λ w. w.waiting ++ text) starts in
+    let grown : given' ≡ Some (t ++ text) = ap (λ w. w.given) ends ∙ p.1 ∙ ap (λ k. Some (t ++ k)) all in
+    let same : f' ≡ f = ap (λ w. w.failures) ends ∙ takes.failures ∙ ap (λ w. w.failures) starts in
+    ap (λ k. output k f') grown ∙ ap (λ n. output (Some (t ++ text)) n) same
+known_text a b (Some t) given' f f' lender text (Err e) starts ends empty breaks known =
+    let p = breaks.passed t (ap (λ w. w.given) starts) in
+    record {
+      sent = p.0;
+      lost = breaks.lost;
+      behind = breaks.behind;
+      split = p.2 ∙ ap (λ w. w.waiting ++ text) starts;
+      given = ap (λ w. w.given) ends ∙ p.1;
+      failures = ap (λ w. w.failures) ends ∙ breaks.failures ∙ ap (λ w. counted true w.failures) starts;
+    }
+
+-- a text was written through a borrow of a target, nothing waits, and the target ends as the borrow does
+pub writes_text : {X : Type 0} (given : X → Option (List ℕ)) (failures : X → ℕ) (first last end : X) (a b : Written) (lender : ℕ) (text : List ℕ) (r : Result (Unit {0}) SinkFault) → a ≡ record (bare (given first) (failures first)) { lender = lender } → bare (given last) (failures last) ≡ record b { waiting = []; lender = 0 } → b.waiting ≡ [] → Writes a text r b → (b.lender ≡ lender → end ≡ last) → IsSome (given first) → WritesText (output (given first) (failures first)) text r (output (given end) (failures end))
+writes_text given failures first last end a b lender text r starts ends empty writes is_last known =
+    let e = is_last (writes_lender a b text r writes ∙ ap (λ w. w.lender) starts) in
+    rw e (known_text a b (given first) (given last) (failures first) (failures last) lender text r starts ends empty writes known)
 
 -- ---- what waits in a buffer
 

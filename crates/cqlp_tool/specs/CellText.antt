@@ -60,11 +60,11 @@ abbrev pub days_before_month : (year month : ℕ) → ℕ
 days_before_month y m = sum (take m (month_lengths y))
 
 -- how many years are over by a day from the first of January of the year 0, up to the year 9999
-abbrev pub year_of : ℕ → ℕ
+unfoldable pub year_of : ℕ → ℕ
 year_of day = count_by (λ y. nat_le (days_before (y + 1)) day) (range_with_len 0 9999)
 
 -- how many months are over by a day of a year
-abbrev pub month_of : (year day : ℕ) → ℕ
+unfoldable pub month_of : (year day : ℕ) → ℕ
 month_of y day = count_by (λ m. nat_le (days_before_month y (m + 1)) day) (range_with_len 0 11)
 
 abbrev pub civil_text : (day : ℕ) → List ℕ
@@ -72,7 +72,7 @@ civil_text day =
     let y = year_of day in
     let rest = day - days_before y in
     let m = month_of y rest in
-    digits 4 y ++ codes "-" ++ digits 2 (m + 1) ++ codes "-" ++ digits 2 (rest - days_before_month y m + 1)
+    digits 4 y ++ (codes "-" ++ (digits 2 (m + 1) ++ (codes "-" ++ digits 2 (rest - days_before_month y m + 1))))
 
 -- the days from the first of January of the year 0 to the day that is 0 in a cell, and from there to 1970
 abbrev pub first_day : ℕ

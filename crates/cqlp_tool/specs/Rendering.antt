@@ -1,9 +1,10 @@
 -- What is written of a stream.
-use Rattle.std.specs.Prelude.{◌≡◌, ℕ, ◌≤◌, true, List, [], ◌∷◌, ◌++◌, length, Option, Some, ◌⊎◌}
+use Rattle.std.specs.Prelude.{◌≡◌, ℕ, ◌≤◌, true, List, [], ◌∷◌, ◌++◌, length, Option, Some, Result, Ok, Err, ◌⊎◌}
 use Rattle.std.specs.Io.KnownBytes.{append_known}
 use Rattle.cqlp_note.specs.Streams.{counted}
 use Rattle.cqlp_decode.specs.declared.running.Outcome.{Outcome}
 use Rattle.cqlp_decode.specs.declared.running.Outcome.TheVariants as outcome
+use Rattle.cqlp_decode.specs.declared.sink.SinkFault.{SinkFault}
 use Rattle.cqlp_decode.specs.Reading.{Event}
 use Rattle.cqlp_decode.specs.Standing.{State}
 use Rattle.cqlp_decode.specs.Streams.{After, Finishes}
@@ -33,6 +34,11 @@ pub record StopsWithin (old : Output) (text : List ℕ) (new : Output) : Type 0 
   pub split : sent ++ lost ∷ behind ≡ text
   pub given : new.given ≡ append_known old.given sent
   pub failures : new.failures ≡ counted true old.failures
+
+-- The whole text was written, or the target failed within it.
+abbrev pub WritesText : (old : Output) → List ℕ → Result (Unit {0}) SinkFault → (new : Output) → Type 0
+WritesText old text (Ok u) new = new ≡ with_text old text
+WritesText old text (Err e) new = StopsWithin old text new
 
 abbrev pub StopsWithinLine : Output → (at : ℕ) → Event → Output → Type 0
 StopsWithinLine old at e new = StopsWithin old (line at e) new

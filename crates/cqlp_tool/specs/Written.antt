@@ -4,11 +4,13 @@ use Rattle.std.specs.Io.KnownBytes.{append_known}
 use Rattle.cqlp_note.specs.Streams.{counted}
 use Rattle.cqlp_decode.specs.declared.sink.SinkFault.{SinkFault}
 
--- What the target was given, where that is known, how often it failed, and what waits to be passed on.
+-- What the target was given, where that is known, how often it failed, and what waits to be passed on; and the name of
+-- the borrow through which it is given that.
 pub record Written : Type 0 where
   pub given : Option (List ℕ)
   pub failures : ℕ
   pub waiting : List ℕ
+  pub lender : ℕ
 
 -- Some of the waiting bytes and of these, in order, were passed on, and the others are left.
 abbrev pub PassesOn : (old : Written) → List ℕ → (left : List ℕ) → (given : Option (List ℕ)) → Type 0
@@ -19,6 +21,7 @@ PassesOn old bytes left given =
 pub record Takes (old : Written) (bytes : List ℕ) (new : Written) : Type 0 where
   pub passed : PassesOn old bytes new.waiting new.given
   pub failures : new.failures ≡ old.failures
+  pub lender : new.lender ≡ old.lender
 
 -- One call of the target failed before all of the waiting bytes and of these were passed on, and the others are lost.
 pub record BreaksOff (old : Written) (bytes : List ℕ) (new : Written) : Type 0 where
@@ -27,15 +30,16 @@ pub record BreaksOff (old : Written) (bytes : List ℕ) (new : Written) : Type 0
   pub passed : PassesOn old bytes (lost ∷ behind) new.given
   pub failures : new.failures ≡ counted true old.failures
   pub waiting : new.waiting ≡ []
+  pub lender : new.lender ≡ old.lender
 
 -- The bytes were taken, or the target failed.
 abbrev pub Writes : (old : Written) → List ℕ → Result (Unit {0}) SinkFault → (new : Written) → Type 0
 Writes old bytes (Ok u) new = Takes old bytes new
 Writes old bytes (Err e) new = BreaksOff old bytes new
 
--- a target with nothing that waits
+-- a target that is owned, with nothing that waits
 abbrev pub bare : (given : Option (List ℕ)) → (failures : ℕ) → Written
-bare given failures = record { given = given; failures = failures; waiting = [] }
+bare given failures = record { given = given; failures = failures; waiting = []; lender = 0 }
 
 -- what was given and what waits
 abbrev pub taken : Written → Option (List ℕ)

@@ -26,7 +26,7 @@ impl<W: Target, A: Allocator> Model for Buffered<W, A> {
 
     ghost Value = { Written };
 
-    ghost view = { λ b. record { given = W.contents b.target; failures = W.failures b.target; waiting = drop b.passed b.buffer.items } };
+    ghost view = { λ b. record { given = W.contents b.target; failures = W.failures b.target; waiting = drop b.passed b.buffer.items; lender = 0 } };
 
     ghost invariant = { λ b. b.passed ≤ vec_len b.buffer };
 }

@@ -1,20 +1,78 @@
 //! Cells as text.
 
-ghost use Rattle.std.specs.Prelude.{◌≡◌, ◌≤◌, length};
-ghost use Rattle.cqlp_tool.specs.CellText.{extended as extended_bytes, sign_byte};
+ghost use Rattle.std.specs.Prelude.{◌≡◌, ◌≤◌, IsSome, length};
+ghost use Rattle.cqlp_tool.specs.CellText.{boolean_text, cell_text as text_of, extended as extended_bytes, sign_byte};
+ghost use Rattle.cqlp_tool.specs.Rendering.{WritesText, output};
+ghost use Rattle.cqlp_value.specs.Contents.{value_of};
 
 use crate::line_writer::LineWriter;
 use cqlp_decode::SinkFault;
 use cqlp_note::Target;
+use cqlp_value::Scalar;
 
 /// How many bytes a number has at most that is written in decimal digits.
 const WIDE: usize = 16;
 
-impl<W: Target> LineWriter<W> {
-    ghost use Rattle.std.specs.Prelude.{◌-ℤ◌, pos};
+/// Appends the text of a cell: a number in decimal digits, a text in quotes, bytes as hex text, and so on. A fault is
+/// the writer's own.
+pub fn cell_text<W: Target>(scalar: &Scalar<'_>, w: &mut W) -> Result<(), SinkFault>
+    ensures { IsSome (W.contents w.old) → WritesText (output (W.contents w.old) (W.failures w.old)) (text_of (value_of scalar.now)) result (output (W.contents w.new) (W.failures w.new)) }
+{
+    let mut writer = LineWriter::new(w);
+    let written = writer.put_whole_cell(scalar);
+    let _ = writer.into_inner();
+    written
+}
+
+impl<W: Target> LineWriter<'_, W> {
+    ghost use Rattle.std.specs.Prelude.{◌-ℤ◌, [], pos};
     ghost use Rattle.std.specs.Fmt.{signed_decimal};
     ghost use Rattle.cqlp_tool.specs.CellText.{decimal_text, digits, time_text, varint_text};
+    ghost use Rattle.cqlp_tool.specs.Text.{hex_text};
     ghost use Rattle.cqlp_tool.specs.Written.{Writes};
+
+    /// Takes the text of a cell, and passes all on.
+    fn put_whole_cell(&mut self, scalar: &Scalar<'_>) -> Result<(), SinkFault>
+        ensures text { Writes self.old (text_of (value_of scalar.now)) result self.new }
+        ensures passed { self.new.waiting ≡ [] }
+    {
+        self.put_cell(scalar)?;
+        self.flush()
+    }
+
+    /// Takes the text of a cell.
+    pub fn put_cell(&mut self, scalar: &Scalar<'_>) -> Result<(), SinkFault>
+        ensures { Writes self.old (text_of (value_of scalar.now)) result self.new }
+    {
+        match *scalar {
+            Scalar::Custom(bytes) | Scalar::Blob(bytes) | Scalar::Raw(bytes) => {
+                self.put_hex_text(bytes)
+            }
+            Scalar::Double(bytes) => self.put_float(bytes),
+            Scalar::Float(bytes) => self.put_float(bytes),
+            Scalar::Varint(bytes) => self.put_varint(bytes),
+            Scalar::Decimal { scale, unscaled } => self.put_decimal(scale, unscaled),
+            Scalar::Uuid(bytes) | Scalar::Timeuuid(bytes) => self.put_uuid(bytes),
+            Scalar::Ascii(text) | Scalar::Varchar(text) => self.put_quoted(text),
+            Scalar::Bigint(number) | Scalar::Counter(number) | Scalar::Timestamp(number) => {
+                self.put_signed(number)
+            }
+            Scalar::Int(number) => self.put_signed(i64::from(number)),
+            Scalar::Smallint(number) => self.put_signed(i64::from(number)),
+            Scalar::Tinyint(number) => self.put_signed(i64::from(number)),
+            Scalar::Time(nanoseconds) => self.put_time(nanoseconds),
+            Scalar::Date(number) => self.put_date(number),
+            Scalar::Boolean(value) => self.put(boolean_name(value).as_bytes()),
+            Scalar::Inet(address) => self.put_address(address),
+        }
+    }
+
+    /// Takes the bytes of a floating-point number.
+    fn put_float<const N: usize>(&mut self, bytes: [u8; N]) -> Result<(), SinkFault>
+        ensures { Writes self.old (hex_text bytes.entry) result self.new }
+    {
+        self.put_hex_text(&bytes)
+    }
 
     /// Takes a number of any length: in decimal digits up to 16 bytes, and else its bytes.
     pub fn put_varint(&mut self, bytes: &[u8]) -> Result<(), SinkFault>
@@ -69,7 +127,7 @@ impl<W: Target> LineWriter<W> {
     }
 
     /// Takes so many digits of a number, with leading zeros.
-    fn put_digits(&mut self, count: u32, number: u64) -> Result<(), SinkFault>
+    pub fn put_digits(&mut self, count: u32, number: u64) -> Result<(), SinkFault>
         ensures { Writes self.old (digits count number) result self.new }
     {
         if count == 0 {
@@ -78,6 +136,12 @@ impl<W: Target> LineWriter<W> {
         self.put_digits(count - 1, number / 10)?;
         self.put(&[b'0' + (number % 10) as u8])
     }
+}
+
+fn boolean_name(value: bool) -> &'static str
+    ensures { result.now ≡ boolean_text value }
+{
+    if value { "true" } else { "false" }
 }
 
 /// At most 16 bytes of a two's complement, with their sign extended to 16.

@@ -41,7 +41,7 @@ impl Ending {
     }
 }
 
-impl<W: Target> LineWriter<W> {
+impl<W: Target> LineWriter<'_, W> {
     ghost use Rattle.std.specs.Prelude.{◌++◌, [], map, codes};
     ghost use Rattle.cqlp_tool.specs.Endings.{ending_line, verdict};
     ghost use Rattle.cqlp_tool.specs.Lines.{spaced};

@@ -1,6 +1,9 @@
 //! Events as lines.
 
-ghost use Rattle.std.specs.Prelude.{◌≡◌, []};
+ghost use Rattle.std.specs.Prelude.{◌≡◌, IsSome, []};
+ghost use Rattle.cqlp_decode.specs.Events.{bound_of, event_of};
+ghost use Rattle.cqlp_tool.specs.Lines.{line as line_of};
+ghost use Rattle.cqlp_tool.specs.Rendering.{WritesText, output};
 
 use crate::line_writer::LineWriter;
 use crate::names::{field_name, kind_name, opcode_name};
@@ -8,8 +11,17 @@ use crate::word::Word;
 use cqlp_decode::{Event, SinkFault};
 use cqlp_note::{BoundValue, Header, Target};
 
-impl<W: Target> LineWriter<W> {
-    ghost use Rattle.cqlp_decode.specs.Events.{event_of};
+/// Appends the line of an event at an offset. A fault is the writer's own.
+pub fn event_line<W: Target>(at: u64, event: &Event<'_>, w: &mut W) -> Result<(), SinkFault>
+    ensures { IsSome (W.contents w.old) → WritesText (output (W.contents w.old) (W.failures w.old)) (line_of at (event_of event.now)) result (output (W.contents w.new) (W.failures w.new)) }
+{
+    let mut writer = LineWriter::new(w);
+    let written = writer.put_event(at, event);
+    let _ = writer.into_inner();
+    written
+}
+
+impl<W: Target> LineWriter<'_, W> {
     ghost use Rattle.cqlp_decode.specs.Reading as reading;
     ghost use Rattle.cqlp_tool.specs.Lines.{line, spaced, words};
     ghost use Rattle.cqlp_tool.specs.Written.{Writes};
@@ -109,7 +121,6 @@ impl<W: Target> LineWriter<W> {
     }
 }
 
-ghost use Rattle.cqlp_decode.specs.Events.{bound_of};
 ghost use Rattle.cqlp_tool.specs.Lines.{direction as direction_text, bound_text};
 ghost use Rattle.cqlp_tool.specs.Words.{word_text};
 

@@ -3,6 +3,7 @@
 
 mod buffered;
 mod cells;
+mod dates;
 mod ending;
 mod events;
 #[cfg(test)]
@@ -15,6 +16,7 @@ mod showing;
 mod text;
 mod word;
 
+pub use cells::cell_text;
 pub use ending::Ending;
 pub use render::{EventSink, render_events};
 pub use showing::{DEFAULT_LIMITS, show};

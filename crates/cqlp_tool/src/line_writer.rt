@@ -13,27 +13,27 @@ const ROOM: usize = 512;
 
 /// Gathers short texts, so that a target gets them in few calls. Nothing waits after a `flush`.
 #[derive(Drop)]
-pub struct LineWriter<W: Target> {
-    target: W,
+pub struct LineWriter<'a, W: Target> {
+    target: &'a mut W,
     buffer: [u8; ROOM],
     len: usize,
 }
 
-impl<W: Target> Model for LineWriter<W> {
+impl<'a, W: Target> Model for LineWriter<'a, W> {
     ghost use Rattle.std.specs.Prelude.{◌≡◌, ◌≤◌, length, take};
     ghost use Rattle.cqlp_tool.specs.Written.{Written};
 
     ghost Value = { Written };
 
-    ghost view = { λ w. record { given = W.contents w.target; failures = W.failures w.target; waiting = take w.len w.buffer } };
+    ghost view = { λ w. record { given = W.contents w.target.now; failures = W.failures w.target.now; waiting = take w.len w.buffer; lender = w.target.ghost_name } };
 
     ghost invariant = { λ w. (w.len ≤ 512) × (length w.buffer ≡ 512) };
 }
 
-impl<W: Target> LineWriter<W> {
+impl<'a, W: Target> LineWriter<'a, W> {
     /// With nothing that waits.
-    pub fn new(target: W) -> Self
-        ensures { result ≡ bare (W.contents target) (W.failures target) }
+    pub fn new(target: &'a mut W) -> Self
+        ensures { result ≡ record (bare (W.contents target.old) (W.failures target.old)) { lender = target.entry.ghost_name } }
     {
         LineWriter {
             target,
@@ -43,8 +43,9 @@ impl<W: Target> LineWriter<W> {
     }
 
     /// The target, which did not get what waits.
-    pub fn into_inner(self) -> W
-        ensures { bare (W.contents result) (W.failures result) ≡ record self { waiting = [] } }
+    pub fn into_inner(self) -> &'a mut W
+        ensures lender { result.ghost_name ≡ self.entry.lender }
+        ensures given { bare (W.contents result.now) (W.failures result.now) ≡ record self.entry { waiting = []; lender = 0 } }
     {
         let LineWriter {
             target,
@@ -78,7 +79,7 @@ impl<W: Target> LineWriter<W> {
     {
         let len = self.len;
         self.len = 0;
-        send(&mut self.target, &self.buffer[..len])
+        send(self.target, &self.buffer[..len])
     }
 
     /// Passes a text on, where nothing waits.
@@ -86,7 +87,7 @@ impl<W: Target> LineWriter<W> {
         requires { self.old.waiting ≡ [] }
         ensures { Writes self.old bytes.now result self.new }
     {
-        send(&mut self.target, bytes)
+        send(self.target, bytes)
     }
 
     /// Takes a text that there is room for.

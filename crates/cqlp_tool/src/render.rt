@@ -4,7 +4,7 @@ ghost use Rattle.std.specs.Prelude.{◌≡◌, List, ℕ, Some, IsSome};
 ghost use Rattle.cqlp_decode.specs.Draining.{Counts};
 ghost use Rattle.cqlp_decode.specs.Streams.{state};
 
-use crate::line_writer::LineWriter;
+use crate::events::event_line;
 use cqlp_decode::{Decoder, Event, Outcome, Sink, SinkFault, run};
 use cqlp_note::{Source, Target};
 use std::alloc::Allocator;
@@ -13,7 +13,7 @@ use std::marker::Model;
 /// Writes the line of each event to a target. No part of a line waits between two events.
 #[derive(Drop)]
 pub struct EventSink<W: Target> {
-    writer: LineWriter<W>,
+    target: W,
 }
 
 impl<W: Target> Model for EventSink<W> {
@@ -22,9 +22,7 @@ impl<W: Target> Model for EventSink<W> {
 
     ghost Value = { Output };
 
-    ghost view = { λ s. output s.writer.given s.writer.failures };
-
-    ghost invariant = { λ s. s.writer.waiting ≡ [] };
+    ghost view = { λ s. output (W.contents s.target) (W.failures s.target) };
 }
 
 impl<W: Target> EventSink<W> {
@@ -34,17 +32,15 @@ impl<W: Target> EventSink<W> {
     pub fn new(target: W) -> Self
         ensures { result ≡ output (W.contents target) (W.failures target) }
     {
-        EventSink {
-            writer: LineWriter::new(target),
-        }
+        EventSink { target }
     }
 
     /// The target.
     pub fn into_inner(self) -> W
         ensures { output (W.contents result) (W.failures result) ≡ self }
     {
-        let EventSink { writer } = self;
-        writer.into_inner()
+        let EventSink { target } = self;
+        target
     }
 }
 
@@ -62,7 +58,7 @@ impl<W: Target> Sink for EventSink<W> {
     ghost faulted = { StopsWithinLine };
 
     fn take(&mut self, at: u64, event: &Event<'_>) -> Result<(), SinkFault> {
-        self.writer.put_event(at, event)
+        event_line(at, event, &mut self.target)
     }
 }
 

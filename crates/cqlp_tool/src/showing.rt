@@ -112,13 +112,14 @@ fn render_buffered<R: Source, O: Target, A: Allocator, B: Allocator>(
 }
 
 /// Writes the verdict line or fault line. Answers the exit status, which is 3 where that fails.
-fn conclude<E: Target>(ending: Ending, err: E) -> (u8, E)
+fn conclude<E: Target>(ending: Ending, mut err: E) -> (u8, E)
     ensures { IsSome (E.contents err) → Concludes ending (output (E.contents err) (E.failures err)) result.0 (output (E.contents result.1) (E.failures result.1)) }
 {
-    let mut writer = LineWriter::new(err);
+    let mut writer = LineWriter::new(&mut err);
     let status = match writer.put_ending(ending) {
         Ok(()) => ending.status(),
         Err(_) => 3,
     };
-    (status, writer.into_inner())
+    let _ = writer.into_inner();
+    (status, err)
 }

@@ -17,7 +17,7 @@ use uuid::Uuid;
 /// How many bytes become hex digits at once.
 const CHUNK: usize = 64;
 
-impl<W: Target> LineWriter<W> {
+impl<W: Target> LineWriter<'_, W> {
     /// Takes a number as decimal digits.
     pub fn put_number(&mut self, number: u64) -> Result<(), SinkFault>
         ensures { Writes self.old (decimal number) result self.new }

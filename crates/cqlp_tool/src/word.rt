@@ -21,7 +21,7 @@ pub enum Word<'a> {
     Address(Address),
 }
 
-impl<W: Target> LineWriter<W> {
+impl<W: Target> LineWriter<'_, W> {
     ghost use Rattle.cqlp_tool.specs.Lines.{spaced};
     ghost use Rattle.cqlp_tool.specs.Words.{word_text};
     ghost use Rattle.cqlp_tool.specs.Written.{Writes};

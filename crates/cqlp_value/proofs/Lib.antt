@@ -17,3 +17,4 @@ pub mod Settling
 pub mod Parting
 pub mod ScalarSizes
 pub mod Leavings
+pub mod ReadBack

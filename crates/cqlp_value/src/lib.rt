@@ -6,6 +6,7 @@ mod gather;
 #[cfg(test)]
 mod heaps;
 mod item;
+pub mod laws;
 mod levels;
 mod number;
 mod reader;

@@ -10,7 +10,7 @@ use Rattle.cqlp_message.specs.Productions.{fault_in, following}
 use Rattle.cqlp_decode.specs.declared.standing.Standing.{Standing}
 use Rattle.cqlp_decode.specs.Reading.{types_for, Nothing}
 use Rattle.cqlp_decode.specs.Standing.{parts, rest_of}
-use Rattle.cqlp_decode.proofs.FieldSteps.{piece_waits, piece_fails, piece_faults, piece_inside, piece_hands, field_lawful, metadata_forest, following_there}
+use Rattle.cqlp_decode.proofs.FieldSteps.{piece_waits, piece_fails, piece_faults, piece_inside, piece_hands, goes_on_lawful, metadata_forest, following_there}
 use Rattle.cqlp_decode.proofs.standing.Standing.advance_field.Goals as goal
 
 pub overflow_add-self-in-Got : goal.overflow_add-self-in-Got
@@ -42,9 +42,9 @@ returns-in_default-clause-lawful g c = λ r law.
     let offset : c.follow.new.self.offset ≡ c.args.self.now.offset + (c.came-came.result + c.in-Got.used) = ap (λ (z : Standing). z.offset) rest in
     let ended = c.in-Got.ensures.0.idle in
     let stage = rw c.requires.here at law.stage in
-    field_lawful c.args.self.now c.follow.new.self (parts c.args.partial.now r c.args.cells.now c.args.table.now) c.advance.new.self c.follow.new.cells c.begin_metadata.new.table (c.came-came.result + c.in-Got.used) law offset (omega (arith, inside))
+    goes_on_lawful c.args.self.now c.follow.new.self (parts c.args.partial.now r c.args.cells.now c.args.table.now) c.advance.new.self r c.follow.new.cells c.begin_metadata.new.table (c.came-came.result + c.in-Got.used) law offset (omega (arith, inside))
     (ap (λ (z : Standing). z.stop) rest) (ap (λ (z : Standing). z.limits) rest) (ap (λ (z : Standing). z.header) rest) (ap (λ (z : Standing). z.came) rest ∙ c.requires.wanted.came)
-    (ap (λ (z : Progress). z.room) ended ∙ c.ask.ensures.room ∙ law.parts.room) (ap (λ (z : Progress). z.under_way) ended) stage.1.0 c.follow.ensures.cells_are.0 (ap (λ (z : Table). z.room) c.begin_metadata.ensures)
+    (ap (λ (z : Progress). z.room) ended ∙ c.ask.ensures.room) (ap (λ (z : Progress). z.under_way) ended) refl stage.1 c.follow.ensures.cells_are.0 (ap (λ (z : Table). z.room) c.begin_metadata.ensures)
     (rw c.begin_metadata.ensures (metadata_forest c.args.want.role c.args.table.now.nodes c.args.self.now.limits.depth c.requires.forest)) c.follow.ensures.starts
 
 pub returns-in_default-clause-moves : goal.returns-in_default-clause-moves
@@ -61,5 +61,11 @@ returns-in_default-clause-moves g c = λ r.
     (ap (λ (z : Standing). z.stop) rest) (ap (λ (z : Standing). z.frame) rest) (ap (λ (z : Standing). z.came) rest ∙ c.requires.wanted.came) c.follow.ensures.starts c.follow.ensures.cells_are.1
     nodes
     (c.follow.ensures.symbols (parts c.advance.new.self r c.follow.new.cells c.begin_metadata.new.table) refl refl
-    ∙ following_there role (value_of c.lend-value.result.entry) c.args.self.now.limits.types c.args.table.now.nodes c.begin_metadata.new.table.nodes (rest_of c.args.self.now.upcoming) nodes
+    ∙ following_there role (value_of c.lend-value.result) c.args.self.now.limits.types c.args.table.now.nodes c.begin_metadata.new.table.nodes (rest_of c.args.self.now.upcoming) nodes
     ∙ ap (λ (v : FieldValue). following (types_for c.args.self.now.limits.types role c.args.table.now.nodes Nothing) role v ++ rest_of c.args.self.now.upcoming) value)
+
+pub follow-requires-clause-inside : goal.follow-requires-clause-inside
+follow-requires-clause-inside g c =
+    let inside = piece_inside c.args.self.now c.args.partial.now c.ask.new.partial c.args.want c.args.input.now c.ask.ensures c.advance.new.self c.in-Got.used _ c.in-Got.ensures.0 c.requires.bounded.inside in
+    let came = c.came-came.ensures.is in
+    omega (arith, inside)
