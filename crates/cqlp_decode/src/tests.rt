@@ -1,5 +1,7 @@
 //! What a decoder makes of worked streams, and for want of memory.
 
+mod cells;
+mod held;
 mod notations;
 mod pages;
 mod runs;

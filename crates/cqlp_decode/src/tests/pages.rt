@@ -55,7 +55,7 @@ fn spelled(alloc: Global, page: &Page) -> Result<(Vec<u8>, u64), Fail> {
 }
 
 /// Writes down what a piece gives from an offset on; whether more is wanted behind it.
-fn take<A: Allocator>(
+pub(super) fn take<A: Allocator>(
     decoder: &mut Decoder<A>,
     piece: &[u8],
     from: u64,
@@ -129,11 +129,11 @@ pub(super) fn expect_pages(
     Ok(())
 }
 
-const INT: &[u8] = &[0, 9];
+pub(super) const INT: &[u8] = &[0, 9];
 
-const INTS: &[u8] = &[0, 0x20, 0, 9];
+pub(super) const INTS: &[u8] = &[0, 0x20, 0, 9];
 
-const BLOB: &[u8] = &[0, 3];
+pub(super) const BLOB: &[u8] = &[0, 3];
 
 static NESTED: [Page; 6] = [
     Page {
