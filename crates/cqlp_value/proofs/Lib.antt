@@ -19,3 +19,4 @@ pub mod ScalarSizes
 pub mod Leavings
 pub mod ReadBack
 pub mod SpelledRead
+pub mod Fronts
