@@ -3,8 +3,10 @@ use Rattle.std.specs.Prelude.{ℕ, List, [], ◌∷◌, decimal}
 use Rattle.std.specs.Fmt.{signed_decimal}
 use Rattle.hex.specs.Hex.{encode_lower}
 use Rattle.uuid.specs.Text.{hyphenated_text, lower}
+use Rattle.cqlp_value.specs.Contents.{value_of}
 use Rattle.cqlp_tool.specs.declared.word.Word.{Word}
 use Rattle.cqlp_tool.specs.declared.word.Word.TheVariants as word
+use Rattle.cqlp_tool.specs.CellText.{cell_text}
 use Rattle.cqlp_tool.specs.Text.{hex_text, quoted, address_text}
 
 abbrev pub word_text : Word → List ℕ
@@ -16,3 +18,4 @@ word_text (word.Hex bytes) = hex_text bytes.now
 word_text (word.Quoted text) = quoted text.now
 word_text (word.Uuid bytes) = hyphenated_text lower bytes
 word_text (word.Address a) = address_text a
+word_text (word.Cell s) = cell_text (value_of s)

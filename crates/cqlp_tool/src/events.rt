@@ -100,6 +100,63 @@ impl<W: Target> LineWriter<'_, W> {
             Event::TypeNode(kind) => {
                 self.put_words(&[Word::Name("TypeNode"), Word::Name(kind_name(kind))])
             }
+            Event::Leaf {
+                row,
+                column,
+                level,
+                scalar,
+            } => self.put_words(&[
+                Word::Name("Leaf"),
+                number(row),
+                number(column),
+                number(level),
+                Word::Cell(scalar),
+            ]),
+            Event::Null { row, column, level } => self.put_words(&[
+                Word::Name("Null"),
+                number(row),
+                number(column),
+                number(level),
+            ]),
+            Event::Empty { row, column, level } => self.put_words(&[
+                Word::Name("Empty"),
+                number(row),
+                number(column),
+                number(level),
+            ]),
+            Event::Enter {
+                row,
+                column,
+                level,
+                kind,
+                items,
+            } => self.put_words(&[
+                Word::Name("Enter"),
+                number(row),
+                number(column),
+                number(level),
+                Word::Name(kind_name(kind)),
+                number(items),
+            ]),
+            Event::Leave { level, items } => {
+                self.put_words(&[Word::Name("Leave"), number(level), number(items)])
+            }
+            Event::Part {
+                row,
+                column,
+                level,
+                offset,
+                bytes,
+                last,
+            } => self.put_words(&[
+                Word::Name("Part"),
+                number(row),
+                number(column),
+                number(level),
+                number(offset),
+                Word::Name(part_place(last)),
+                Word::Hex(bytes),
+            ]),
             Event::End { extra } => self.put_words(&[
                 Word::Name("End"),
                 Word::Number(u64::from(extra)),
@@ -121,13 +178,26 @@ impl<W: Target> LineWriter<'_, W> {
     }
 }
 
-ghost use Rattle.cqlp_tool.specs.Lines.{direction as direction_text, bound_text};
+ghost use Rattle.cqlp_tool.specs.Lines.{direction as direction_text, bound_text, part_place as part_place_text};
 ghost use Rattle.cqlp_tool.specs.Words.{word_text};
+ghost use Rattle.cqlp_tool.specs.declared.word.Word.TheVariants.{Number as NumberWord};
 
 fn direction(response: bool) -> &'static str
     ensures { result.now ≡ direction_text response }
 {
     if response { "response" } else { "request" }
+}
+
+fn part_place(last: bool) -> &'static str
+    ensures { result.now ≡ part_place_text last }
+{
+    if last { "last" } else { "more" }
+}
+
+fn number(number: u32) -> Word<'static>
+    ensures { result ≡ NumberWord number }
+{
+    Word::Number(u64::from(number))
 }
 
 fn bound_word(value: BoundValue<'_>) -> Word<'_>

@@ -5,6 +5,7 @@ ghost use Rattle.std.specs.Prelude.{◌≡◌, map};
 use crate::line_writer::LineWriter;
 use cqlp_decode::SinkFault;
 use cqlp_note::{Address, Target};
+use cqlp_value::Scalar;
 
 /// A word of a line.
 #[derive(Clone, Copy, Debug, PartialEq, Eq)]
@@ -19,6 +20,8 @@ pub enum Word<'a> {
     Quoted(&'a str),
     Uuid([u8; 16]),
     Address(Address),
+    /// The text of a cell.
+    Cell(Scalar<'a>),
 }
 
 impl<W: Target> LineWriter<'_, W> {
@@ -49,6 +52,7 @@ impl<W: Target> LineWriter<'_, W> {
             Word::Quoted(text) => self.put_quoted(text),
             Word::Uuid(bytes) => self.put_uuid(bytes),
             Word::Address(address) => self.put_address(address),
+            Word::Cell(scalar) => self.put_cell(&scalar),
         }
     }
 }

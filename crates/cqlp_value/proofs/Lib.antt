@@ -18,3 +18,5 @@ pub mod Parting
 pub mod ScalarSizes
 pub mod Leavings
 pub mod ReadBack
+pub mod SpelledRead
+pub mod Fronts

@@ -15,12 +15,12 @@ use Rattle.cqlp_note.proofs.Yields.{says_yields}
 use Rattle.cqlp_note.proofs.Spelled.{counted_size}
 use Rattle.cqlp_type.specs.declared.kind.Kind.{Kind}
 use Rattle.cqlp_type.specs.declared.kind.Kind.TheVariants as kind
-use Rattle.cqlp_type.specs.Types.{Types, NoMore, Type_and, how_many, first_types, followed_by, has_no_items}
+use Rattle.cqlp_type.specs.Types.{Types, NoMore, Type_and, how_many, first_types, followed_by}
 use Rattle.cqlp_type.specs.Trees.{Joined}
 use Rattle.cqlp_value.specs.Scalars.{ScalarValue, allows_size, scalar_of}
 use Rattle.cqlp_value.specs.CellStep.{CellSymbol, Value_of, Items_of, Close_of, Content_from, CellEvent, Null, Empty, Enter, Leave, Part, CellPlace, cell_copies, values_of, is_opaque, place_after, leaf_step, fielded_step, close_step, counted_step, part_step, scalar_step, content_step, sized_step, value_step, items_step, cell_step_at, cell_step}
 use Rattle.cqlp_value.specs.Sizes.{is_counted}
-use Rattle.cqlp_value.specs.Values.{Values, NoValue, Null_and, Empty_and, Scalar_and, Counted_and, Fields_and, values_in, type_copies, IsBytes, ValuesSpell, values_size, part_items, scalar_items, values_items}
+use Rattle.cqlp_value.specs.Values.{Values, NoValue, Null_and, Empty_and, Scalar_and, Counted_and, Fields_and, values_in, type_copies, has_fields, IsBytes, ValuesSpell, ValueSpells, values_size, part_items, scalar_items, values_items}
 
 -- ---- values one after the other
 
@@ -41,7 +41,7 @@ spelled_after (Type_and k inner ts) us (Null_and vs) ws b c h g = joined_after _
 spelled_after (Type_and k inner ts) us (Empty_and vs) ws b c h g = joined_after _ _ _ b c h (spelled_after ts us vs ws h.back c h.that g)
 spelled_after (Type_and k inner ts) us (Scalar_and j d v vs) ws b c h g = (h.0, h.1, h.2, h.3, joined_after _ _ _ b c h.4 (spelled_after ts us vs ws h.4.back c h.4.that g))
 spelled_after (Type_and k inner ts) us (Counted_and j n items vs) ws b c h g = (h.0, h.1, h.2, h.3, joined_after _ _ _ b c h.4 (spelled_after ts us vs ws h.4.back c h.4.that g))
-spelled_after (Type_and k inner ts) us (Fields_and j n items vs) ws b c h g = (h.0, h.1, h.2, h.3, h.4, h.5, h.6, joined_after _ _ _ b c h.7 (spelled_after ts us vs ws h.7.back c h.7.that g))
+spelled_after (Type_and k inner ts) us (Fields_and j n items vs) ws b c h g = (h.0, h.1, h.2, h.3, h.4, h.5, joined_after _ _ _ b c h.6 (spelled_after ts us vs ws h.6.back c h.6.that g))
 spelled_after ts us vs ws b c h g = absurd h
 
 pub values_in_after : (vs ws : Values) → values_in (with_others vs ws) ≡ values_in vs + values_in ws
@@ -59,7 +59,7 @@ spelled_many (Type_and k inner ts) (Null_and vs) b h = ap suc (spelled_many ts v
 spelled_many (Type_and k inner ts) (Empty_and vs) b h = ap suc (spelled_many ts vs h.back h.that)
 spelled_many (Type_and k inner ts) (Scalar_and j d v vs) b h = ap suc (spelled_many ts vs h.4.back h.4.that)
 spelled_many (Type_and k inner ts) (Counted_and j n items vs) b h = ap suc (spelled_many ts vs h.4.back h.4.that)
-spelled_many (Type_and k inner ts) (Fields_and j n items vs) b h = ap suc (spelled_many ts vs h.7.back h.7.that)
+spelled_many (Type_and k inner ts) (Fields_and j n items vs) b h = ap suc (spelled_many ts vs h.6.back h.6.that)
 spelled_many ts vs b h = absurd h
 
 pub null_size : (b : List ℕ) → IsBytes None b → length b ≡ 4
@@ -86,7 +86,7 @@ spelled_size (Type_and k inner ts) (Scalar_and j d v vs) b h = omega (arith, joi
 spelled_size (Type_and k inner ts) (Counted_and j n items vs) b h =
     omega (arith, joined_size _ _ b h.4, bytes_size h.2 h.4.front h.4.this, joined_size _ _ h.2 h.3, count_size n h.3.front h.3.this, spelled_size (type_copies n inner) items h.3.back h.3.that, spelled_size ts vs h.4.back h.4.that)
 spelled_size (Type_and k inner ts) (Fields_and j n items vs) b h =
-    omega (arith, joined_size _ _ b h.7, bytes_size h.4 h.7.front h.7.this, spelled_size (first_types (values_in items) inner) items h.4 h.6, spelled_size ts vs h.7.back h.7.that)
+    omega (arith, joined_size _ _ b h.6, bytes_size h.3 h.6.front h.6.this, spelled_size (first_types (values_in items) inner) items h.3 h.5, spelled_size ts vs h.6.back h.6.that)
 spelled_size ts vs b h = absurd h
 
 pub items_after : (l : Rules) (level at : ℕ) (vs ws : Values) → values_items l level at (with_others vs ws) ≡ values_items l level at vs ++ values_items l level (at + values_size vs) ws
@@ -221,7 +221,7 @@ module _ (l : Rules) where
   reads_as : (ts : Types) (level stop : ℕ) (K L : Later) (at : ℕ) (es : Events) (b : List ℕ) → ((at : ℕ) (es : Events) (b : List ℕ) → K at es b → L at es b) → ReadsValues ts level stop K at es b → ReadsValues ts level stop L at es b
   reads_as ts level stop K L at es b f h = record { values = h.values; front = h.front; back = h.back; more = h.more; whole = h.whole; spelled = h.spelled; items = h.items; within = h.within; later = f _ _ _ h.later }
 
-  values_come : (ts : Types) (level stop : ℕ) (rest : List CellSymbol) (at : ℕ) (es : Events) (b : List ℕ) → Comes (values_of ts level stop ++ rest) at es b → ReadsValues ts level stop (Comes rest) at es b
+  pub values_come : (ts : Types) (level stop : ℕ) (rest : List CellSymbol) (at : ℕ) (es : Events) (b : List ℕ) → Comes (values_of ts level stop ++ rest) at es b → ReadsValues ts level stop (Comes rest) at es b
   values_come NoMore level stop rest at es b h = reads_none level stop (Comes rest) at es b h
   values_come (Type_and k inner others) level stop rest at es b h =
       reads_then (Type_and k inner NoMore) others level stop (Comes rest) at es b
@@ -269,13 +269,13 @@ always_as P Q (Refuses why) before f h = tt
 always_as P Q Idles before f h = tt
 always_as P Q (Takes n next) before f h = λ c long. always_as P Q (next c) (before ++ c) f (h c long)
 
-alone : (P : List ℕ → Type 0) (b : List ℕ) → P b → Joined P (ValuesSpell NoMore NoValue) b
+pub alone : (P : List ℕ → Type 0) (b : List ℕ) → P b → Joined P (ValuesSpell NoMore NoValue) b
 alone P b h = record { front = b; back = []; whole = sym (append-nil b); this = h; that = refl }
 
 regroup : (a b c d : List ℕ) → (a ++ b) ++ (c ++ d) ≡ (a ++ (b ++ c)) ++ d
 regroup a b c d = simp append_assoc
 
-all_true : (a b c : Bool) → (a && b && c) ≡ true → (a ≡ true) × (b ≡ true) × (c ≡ true)
+pub all_true : (a b c : Bool) → (a && b && c) ≡ true → (a ≡ true) × (b ≡ true) × (c ≡ true)
 all_true true true true e = (refl, refl, refl)
 all_true true true false e = absurd cc
 all_true true false c e = absurd cc
@@ -382,8 +382,8 @@ module _ (l : Rules) where
             either_always (Value_came k) c (l.parts && is_opaque k && ltb l.part number) _ _ (λ t. parts_came k a t) (λ f.
             either_always (Value_came k) c (ltb l.cell number) _ _ (λ _. tt) (λ _ d size. leaf_came k d (scalar_of k d) size a f refl))) (λ _. tt)
 
-        fields_came : (k : Kind) → is_counted k ≡ false → has_no_items k ≡ false → Always (Value_came k) (fielded_step p rest level k inner number) c
-        fields_came k fields holds = λ es b h.
+        fields_came : (k : Kind) → has_fields k ≡ true → Always (Value_came k) (fielded_step p rest level k inner number) c
+        fields_came k fields = λ es b h.
             let size : length h.front ≡ number = omega (arith, h.ends, h.within (omega arith)) in
             let sized = spelled_size (first_types (values_in h.values) inner) h.values h.front h.spelled in
             let far : p.offset + length c + length h.front ≡ p.offset + length (c ++ h.front) = omega (arith, length-append c h.front) in
@@ -397,7 +397,7 @@ module _ (l : Rules) where
               back = h.back;
               more = h.more;
               whole = ap (λ (y : List ℕ). c ++ y) h.whole ∙ sym (append_assoc c h.front h.back);
-              spelled = (refl, fields, holds, refl, h.front, not_none h.front size, h.spelled, alone (IsBytes (Some h.front)) (c ++ h.front) (head_counts h.front size));
+              spelled = (refl, fields, refl, h.front, not_none h.front size, h.spelled, alone (IsBytes (Some h.front)) (c ++ h.front) (head_counts h.front size));
               items = ap (λ (y : Events). (p.offset, Enter level k (how_many inner)) ∷ y) (h.items ∙ (λ i. values_items l (level + 1) (first i) h.values ++ (last i ∷ h.more))
                   ∙ sym (append_assoc (values_items l (level + 1) (p.offset + 4) h.values) ((p.offset + 4 + values_size h.values, Leave level (values_in h.values)) ∷ []) h.more));
               within = λ _. omega (arith, size, length-append c h.front);
@@ -447,8 +447,8 @@ module _ (l : Rules) where
         content_came kind.List = counted_came kind.List refl
         content_came kind.Set = counted_came kind.Set refl
         content_came kind.Map = counted_came kind.Map refl
-        content_came kind.Udt = fields_came kind.Udt refl refl
-        content_came kind.Tuple = fields_came kind.Tuple refl refl
+        content_came kind.Udt = fields_came kind.Udt refl
+        content_came kind.Tuple = fields_came kind.Tuple refl
         content_came k = scalar_came k
 
       sized_came : (k : Kind) → 4 ≤ stop - p.offset → Always (Value_came k) (sized_step l p rest k inner level (stop - p.offset) number) c
@@ -555,7 +555,7 @@ module _ (l : Rules) where
       (y.0, y.1, y.2, back, long, rw front at (rw none at c))
 
   -- the items and the bytes of a run come of its symbols
-  runs_come : (es : Events) (p q : CellPlace) (bytes : List ℕ) → Runs (cell_step l) p bytes es q [] → q.symbols ≡ [] → Comes l p.symbols p.offset es bytes
+  pub runs_come : (es : Events) (p q : CellPlace) (bytes : List ℕ) → Runs (cell_step l) p bytes es q [] → q.symbols ≡ [] → Comes l p.symbols p.offset es bytes
   runs_come [] p q bytes r done = let none : p.symbols ≡ [] = rw r.0 at done in rw none (refl, sym r.1)
   runs_come (e ∷ es) p q bytes r done =
       let c = came_here p bytes (record { at = e.0; event = e.1; after = r.1 }) r.0 r.2 in
@@ -564,7 +564,7 @@ module _ (l : Rules) where
 
 -- A cell that is read is that of a value.
 pub cell_read : (l : Rules) (k : Kind) (inner : Types) (stop : ℕ) (before after : CellPlace) (b : List ℕ) (es : Events) → before.symbols ≡ Value_of k inner 0 stop ∷ [] → after.symbols ≡ [] → Runs (cell_step l) before b es after []
-    → (v : Values) × ValuesSpell (Type_and k inner NoMore) v b × (es ≡ values_items l 0 before.offset v)
+    → (v : Values) × ValueSpells k inner v b × (es ≡ values_items l 0 before.offset v)
 cell_read l k inner stop before after b es first done r =
     let h : Comes l (Value_of k inner 0 stop ∷ []) before.offset es b = rw first at (runs_come l es before after b r done) in
     let last = h.later in

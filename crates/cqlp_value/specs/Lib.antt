@@ -13,3 +13,4 @@ pub mod Inner
 pub mod Levels
 pub mod Values
 pub mod Laws
+pub mod Fronts

@@ -1,11 +1,12 @@
 -- The values of cells, and what spells them (section 6 of native_protocol_v4.spec).
-use Rattle.std.specs.Prelude.{◌≡◌, ◌≢◌, ℕ, zero, suc, ◌+◌, ◌++◌, true, false, ◌&&◌, List, [], ◌∷◌, length, take, drop, Option, Some, None, nat_lt, nat_le, if◌then◌else◌}
+use Rattle.std.specs.Prelude.{◌≡◌, ◌≢◌, ℕ, zero, suc, ◌+◌, ◌++◌, ◌<◌, ◌≤◌, Bool, true, false, ◌&&◌, List, [], ◌∷◌, length, take, drop, Option, Some, None, nat_lt, nat_le, if◌then◌else◌}
 use Rattle.cqlp_note.specs.declared.field.Notation.TheVariants as notation
 use Rattle.cqlp_note.specs.Field.{Bytes, Count}
 use Rattle.cqlp_note.specs.Spelling.{Spells}
 use Rattle.cqlp_note.specs.Limits.{Rules}
 use Rattle.cqlp_type.specs.declared.kind.Kind.{Kind}
-use Rattle.cqlp_type.specs.Types.{Types, NoMore, Type_and, how_many, first_types, followed_by, has_no_items}
+use Rattle.cqlp_type.specs.declared.kind.Kind.TheVariants as kind
+use Rattle.cqlp_type.specs.Types.{Types, NoMore, Type_and, how_many, first_types, followed_by}
 use Rattle.cqlp_type.specs.Trees.{Joined}
 use Rattle.cqlp_value.specs.Scalars.{ScalarValue, allows_size, scalar_of}
 use Rattle.cqlp_value.specs.CellStep.{CellEvent, Leaf, Null, Empty, Enter, Leave, Part, is_opaque}
@@ -38,6 +39,11 @@ abbrev pub type_copies : ℕ → Types → Types
 type_copies zero ts = NoMore
 type_copies (suc n) ts = followed_by ts (type_copies n ts)
 
+abbrev pub has_fields : Kind → Bool
+has_fields kind.Tuple = true
+has_fields kind.Udt = true
+has_fields _ = false
+
 -- a [bytes]: one of a negative length is null
 abbrev pub IsBytes : Option (List ℕ) → List ℕ → Type 0
 IsBytes c b = Spells notation.Bytes32 (Bytes c) b
@@ -53,8 +59,12 @@ ValuesSpell (Type_and k inner ts) (Scalar_and j c v vs) b =
 ValuesSpell (Type_and k inner ts) (Counted_and j n items vs) b =
     (j ≡ k) × (is_counted k ≡ true) × (c : List ℕ) × Joined (Spells notation.Count32 (Count n)) (ValuesSpell (type_copies n inner) items) c × Joined (IsBytes (Some c)) (ValuesSpell ts vs) b
 ValuesSpell (Type_and k inner ts) (Fields_and j n items vs) b =
-    (j ≡ k) × (is_counted k ≡ false) × (has_no_items k ≡ false) × (n ≡ how_many inner) × (c : List ℕ) × (c ≢ []) × ValuesSpell (first_types (values_in items) inner) items c × Joined (IsBytes (Some c)) (ValuesSpell ts vs) b
+    (j ≡ k) × (has_fields k ≡ true) × (n ≡ how_many inner) × (c : List ℕ) × (c ≢ []) × ValuesSpell (first_types (values_in items) inner) items c × Joined (IsBytes (Some c)) (ValuesSpell ts vs) b
 ValuesSpell ts vs b = ⊥
+
+-- These bytes spell this value, of this type.
+abbrev pub ValueSpells : Kind → Types → Values → List ℕ → Type 0
+ValueSpells k inner v b = ValuesSpell (Type_and k inner NoMore) v b
 
 -- ---- items
 
@@ -75,9 +85,13 @@ module _ (l : Rules) where
       if nat_le (length c) l.part then (at, Part level offset c true) ∷ []
       else (at, Part level offset (take l.part c) false) ∷ part_items n level (at + l.part) (offset + l.part) (drop l.part c)
 
+  -- a long scalar comes in parts, if the caller asks for parts
+  abbrev pub in_parts : Kind → List ℕ → Bool
+  in_parts k c = l.parts && is_opaque k && nat_lt l.part (length c)
+
   -- a scalar comes whole, or in parts behind its length
   abbrev pub scalar_items : (level at : ℕ) → Kind → List ℕ → ScalarValue → List (ℕ × CellEvent)
-  scalar_items level at k c v = if l.parts && is_opaque k && nat_lt l.part (length c) then part_items (length c) level (at + 4) 0 c else (at, Leaf level v) ∷ []
+  scalar_items level at k c v = if in_parts k c then part_items (length c) level (at + 4) 0 c else (at, Leaf level v) ∷ []
 
   -- the items of values at this level, the first of which begins at this offset
   abbrev pub values_items : (level at : ℕ) → Values → List (ℕ × CellEvent)
@@ -91,3 +105,12 @@ module _ (l : Rules) where
   values_items level at (Fields_and k n items vs) =
       let stop = at + 4 + values_size items in
       (at, Enter level k n) ∷ (values_items (level + 1) (at + 4) items ++ ((stop, Leave level (values_in items)) ∷ values_items level stop vs))
+
+  -- each scalar fits into a cell, or into parts
+  abbrev pub AreWithin : Values → Type 0
+  AreWithin NoValue = Unit {0}
+  AreWithin (Null_and vs) = AreWithin vs
+  AreWithin (Empty_and vs) = AreWithin vs
+  AreWithin (Scalar_and k c v vs) = (in_parts k c ≡ false → length c ≤ l.cell) × (in_parts k c ≡ true → 0 < l.part) × AreWithin vs
+  AreWithin (Counted_and k n items vs) = AreWithin items × AreWithin vs
+  AreWithin (Fields_and k n items vs) = AreWithin items × AreWithin vs

@@ -140,7 +140,7 @@ fn address(bytes: &[u8]) -> Address
 
 /// The first N bytes.
 #[inline]
-fn first<const N: usize>(bytes: &[u8]) -> [u8; N]
+pub fn first<const N: usize>(bytes: &[u8]) -> [u8; N]
     requires { N ≤ length bytes.now }
     ensures { result ≡ take N bytes.now }
 {

@@ -2,6 +2,7 @@
 #![tactic(auto)]
 
 mod content;
+mod front;
 mod gather;
 #[cfg(test)]
 mod heaps;
@@ -16,6 +17,7 @@ mod size;
 mod standing;
 
 pub use content::scalar;
+pub use front::{Front, front_scalar};
 pub use item::{CellAdvance, CellItem, CellOutline, CellPush};
 pub use reader::CellReader;
 pub use scalars::Scalar;

@@ -3,7 +3,8 @@
 use super::bytes_of;
 use super::fakes::Narrow;
 use crate::cells::cell_text;
-use cqlp_decode::SinkFault;
+use crate::events::event_line;
+use cqlp_decode::{Event, SinkFault};
 use cqlp_note::{OfStd, Reason};
 use cqlp_type::Kind;
 use cqlp_value::{Scalar, scalar};
@@ -167,4 +168,61 @@ fn long_contents_through_a_writer_that_fails(rt: HostRuntime) {
     assert_eq!(rt; written, Ok(()));
     assert!(rt; target.text.starts_with(b"0xabab"));
     assert_eq!(rt; target.text.len(), 1402);
+}
+
+#[test]
+fn lines_of_leaves_and_parts(rt: HostRuntime) -> Result<(), Fail> {
+    let scalar = Scalar::Varchar("a");
+    let leaf = Event::Leaf {
+        row: 1,
+        column: 2,
+        level: 3,
+        scalar,
+    };
+    expect_line(&rt, rt.alloc(), leaf, "9 Leaf 1 2 3 \"a\"\n")?;
+    let bytes = &[0xab, 0x0c];
+    let first = Event::Part {
+        row: 1,
+        column: 2,
+        level: 3,
+        offset: 0,
+        bytes,
+        last: false,
+    };
+    expect_line(&rt, rt.alloc(), first, "9 Part 1 2 3 0 more 0xab0c\n")?;
+    let last = Event::Part {
+        row: 1,
+        column: 2,
+        level: 3,
+        offset: 4_096,
+        bytes,
+        last: true,
+    };
+    expect_line(&rt, rt.alloc(), last, "9 Part 1 2 3 4096 last 0xab0c\n")
+}
+
+#[test]
+fn lines_of_values_without_content(rt: HostRuntime) -> Result<(), Fail> {
+    let (row, column, level) = (1, 2, 3);
+    let null = Event::Null { row, column, level };
+    expect_line(&rt, rt.alloc(), null, "9 Null 1 2 3\n")?;
+    let empty = Event::Empty { row, column, level };
+    expect_line(&rt, rt.alloc(), empty, "9 Empty 1 2 3\n")?;
+    let enter = Event::Enter {
+        row,
+        column,
+        level,
+        kind: Kind::Map,
+        items: 4,
+    };
+    expect_line(&rt, rt.alloc(), enter, "9 Enter 1 2 3 map 4\n")?;
+    let leave = Event::Leave { level, items: 4 };
+    expect_line(&rt, rt.alloc(), leave, "9 Leave 3 4\n")
+}
+
+fn expect_line(rt: &impl Abort, alloc: Global, event: Event<'_>, line: &str) -> Result<(), Fail> {
+    let mut target = OfStd::new(Vec::new(alloc));
+    event_line(9, &event, &mut target)?;
+    assert!(rt; target.into_inner().as_slice() == line.as_bytes(), "{line}");
+    Ok(())
 }
