@@ -19,10 +19,11 @@ const RAW: &[u8; 32] =
 
 #[test]
 fn a_content_is_lent_or_held(rt: HostRuntime) -> Result<(), Fail> {
+    let page = RAW.as_slice();
     for (cut, held) in [(25, 0), (30, 3), (31, 3)] {
         let mut decoder = Decoder::new(rt.alloc(), LIMITS)?;
         let mut lines = String::new(rt.alloc());
-        take(&mut decoder, &RAW[..cut], 25, &mut lines)?;
+        take(&mut decoder, &page[..cut], 25, &mut lines)?;
         assert_eq!(rt; lines.as_str(), "");
         let scalar = Scalar::Raw(b"abc");
         let leaf = Step::Event {
@@ -35,7 +36,7 @@ fn a_content_is_lent_or_held(rt: HostRuntime) -> Result<(), Fail> {
                 scalar,
             },
         };
-        assert_eq!(rt; decoder.next(&RAW[cut..]), leaf);
+        assert_eq!(rt; decoder.next(&page[cut..]), leaf);
         assert_eq!(rt; decoder.held().bytes, held);
     }
     Ok(())
@@ -62,10 +63,11 @@ fn open_types_and_values_are_levels(rt: HostRuntime) -> Result<(), Fail> {
 
 #[test]
 fn a_cut_counts_the_bytes_of_a_cell(rt: HostRuntime) -> Result<(), Fail> {
+    let page = LISTS.as_slice();
     for cut in 1..64u32 {
         let mut decoder = Decoder::new(rt.alloc(), LIMITS)?;
         let mut lines = String::new(rt.alloc());
-        take(&mut decoder, &LISTS[..cut as usize], 0, &mut lines)?;
+        take(&mut decoder, &page[..cut as usize], 0, &mut lines)?;
         let bytes = cut.into();
         assert_eq!(rt; decoder.finish(), Finish::Cut { frame_at: 0, bytes });
     }

@@ -1,7 +1,7 @@
 //! The cells of pages, in every cut into two and byte by byte.
 
 use super::LIMITS;
-use crate::{Decoder, Step};
+use crate::{Decoder, Event, Finish, Step};
 use cqlp_note::Limits;
 use std::alloc::{Allocator, Global};
 use std::process::Abort;
@@ -54,33 +54,44 @@ fn spelled(alloc: Global, page: &Page) -> Result<(Vec<u8>, u64), Fail> {
     Ok((frame, 9 + u64::from(from)))
 }
 
-/// Writes down what a piece gives from an offset on; whether more is wanted behind it.
+/// Writes down an event that stands at an offset or behind it.
+fn put_event(at: u64, event: &Event<'_>, from: u64, lines: &mut String) -> Result<(), Fail> {
+    if at < from {
+        return Ok(());
+    }
+    let offset = at - from;
+    write!(lines, "{offset} {event:?}\n")?;
+    Ok(())
+}
+
+/// Writes down what a piece gives from an offset on.
 pub(super) fn take<A: Allocator>(
     decoder: &mut Decoder<A>,
     piece: &[u8],
     from: u64,
     lines: &mut String,
-) -> Result<bool, Fail> {
+) -> Result<(), Fail> {
     let mut rest = piece;
     for _ in 0..1_000u32 {
         match decoder.next(rest) {
             Step::Event { at, used, event } => {
-                if at >= from {
-                    let offset = at - from;
-                    write!(lines, "{offset} {event:?}\n")?;
-                }
+                put_event(at, &event, from, lines)?;
                 rest = &rest[used..];
             }
-            Step::More { .. } => return Ok(true),
+            Step::More { .. } => break,
             Step::Refused(refusal) => {
                 let offset = refusal.at.saturating_sub(from);
                 let why = refusal.why;
                 write!(lines, "{offset} {why:?}\n")?;
-                return Ok(false);
+                break;
             }
         }
     }
-    Ok(false)
+    Ok(())
+}
+
+fn is_refused<A: Allocator>(decoder: &Decoder<A>) -> bool {
+    matches!(decoder.finish(), Finish::Refused(_))
 }
 
 /// What is said of the cells of a stream that comes in two pieces.
@@ -92,7 +103,8 @@ fn read_cut(
 ) -> Result<String, Fail> {
     let mut decoder = Decoder::new(alloc, limits)?;
     let mut lines = String::new(alloc);
-    if take(&mut decoder, stream.0, from, &mut lines)? {
+    take(&mut decoder, stream.0, from, &mut lines)?;
+    if !is_refused(&decoder) {
         take(&mut decoder, stream.1, from, &mut lines)?;
     }
     Ok(lines)
@@ -103,7 +115,8 @@ fn read_bytewise(alloc: Global, limits: Limits, bytes: &[u8], from: u64) -> Resu
     let mut decoder = Decoder::new(alloc, limits)?;
     let mut lines = String::new(alloc);
     for byte in bytes {
-        if !take(&mut decoder, &[*byte], from, &mut lines)? {
+        take(&mut decoder, &[*byte], from, &mut lines)?;
+        if is_refused(&decoder) {
             break;
         }
     }
