@@ -17,3 +17,4 @@ pub mod Parting
 pub mod Leavings
 pub mod ReadBack
 pub mod SpelledRead
+pub mod OneValue
