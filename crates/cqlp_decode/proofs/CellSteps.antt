@@ -10,7 +10,7 @@ use Rattle.cqlp_note.specs.Partial.{Progress}
 use Rattle.cqlp_note.proofs.Yields.{map_said, says_map}
 use Rattle.cqlp_type.specs.declared.kind.Kind.{Kind}
 use Rattle.cqlp_type.specs.declared.node.Node.{Node}
-use Rattle.cqlp_type.specs.Types.{Types}
+use Rattle.cqlp_type.specs.Types.{Types, Type_and}
 use Rattle.cqlp_value.specs.declared.item.CellOutline.{CellOutline}
 use Rattle.cqlp_value.specs.declared.item.CellAdvance.TheVariants as cell_advance
 use Rattle.cqlp_value.specs.declared.standing.Next.{Next}
@@ -25,7 +25,8 @@ use Rattle.cqlp_value.specs.Standing as value
 use Rattle.cqlp_value.specs.Standing.{State as CellState, place, cell_symbols, is_under_way}
 use Rattle.cqlp_value.specs.Reading.{HaveCome, IsBehind}
 use Rattle.cqlp_value.specs.Reading as taking
-use Rattle.cqlp_value.specs.Pushing.{is_done}
+use Rattle.cqlp_value.specs.Pushing.{is_done, begun as begun_at}
+use Rattle.cqlp_value.specs.Fronts.{SaysScalar}
 use Rattle.cqlp_value.proofs.Leading.{some_come, stands_under, told_is as cell_told_is}
 use Rattle.cqlp_value.proofs.ScalarSizes.{scalar_sized}
 use Rattle.cqlp_value.proofs.Leavings.{left_none, left_some, stop_is}
@@ -34,14 +35,16 @@ use Rattle.cqlp_decode.specs.declared.page.Page.{Page}
 use Rattle.cqlp_decode.specs.declared.standing.Stage.{Stage}
 use Rattle.cqlp_decode.specs.declared.standing.Stage.TheVariants as stage
 use Rattle.cqlp_decode.specs.declared.standing.Standing.{Standing}
+use Rattle.cqlp_decode.specs.declared.standing.Advance.TheVariants as advance
 use Rattle.cqlp_decode.specs.declared.standing.What.TheVariants as what
 use Rattle.cqlp_decode.specs.Reading as reading
 use Rattle.cqlp_decode.specs.Reading.{Place, step, cell_event, cells_left, place_of_cells}
-use Rattle.cqlp_decode.specs.Pages.{cell_symbol, page_symbols, cells_behind, node_by}
-use Rattle.cqlp_decode.specs.Standing.{IsPending, Parts, parts, state_of, place_at, offset_at, symbols_at, rest_of, told, Gives, Waits, Hands, IsLent, due_after, frame_after, ends_due, IsCell, IsLawful, StageHolds, Starts}
+use Rattle.cqlp_decode.specs.Pages.{cell_symbol, page_symbols, cells_behind, types_left, node_by}
+use Rattle.cqlp_decode.specs.declared.standing.Advance.{Advance}
+use Rattle.cqlp_decode.specs.Standing.{State, IsPending, Parts, parts, state_of, place_at, offset_at, symbols_at, rest_of, told, Gives, Waits, Hands, Moves, IsLent, due_after, frame_after, ends_due, IsCell, IsLawful, StageHolds, Starts}
 use Rattle.cqlp_decode.proofs.Steps.{begun, one_due, offset_is}
 use Rattle.cqlp_decode.proofs.FieldSteps.{goes_on_lawful}
-use Rattle.cqlp_decode.proofs.Columns.{FirstColumn, first_column, page_due}
+use Rattle.cqlp_decode.proofs.Columns.{FirstColumn, first_column, page_begun, page_due}
 
 -- the step of a cell under way, or of one that has just begun, is that of what is left of it
 alike : (l : Rules) (nodes : List Node) (d : CellState) (n : Next) (row column stop : ℕ) (k : Kind) (inner : Types) (rest : List Symbol) → ((i : Option ℕ) → n ≡ next.Cell i → (place nodes d).symbols ≡ Value_of k inner 0 stop ∷ [])
@@ -154,12 +157,11 @@ module _ (s : Standing) (q : Parts) (p : Page) (here : s.stage ≡ stage.Cell p)
     module _ (e : Standing) (q' : Parts) (content : q'.partial.content ≡ p'.content) (nodes : q'.table.nodes ≡ q.table.nodes) (offset : offset_at e.stage e.offset q' ≡ d.offset) (stop : e.stop ≡ s.stop) (frame : e.frame ≡ s.frame)
         (symbols : symbols_at e.stage q' e.upcoming ≡ cells_left p.row p.column (place q.table.nodes d).symbols ++ rest) (fresh : IsPending (state_of e q').pending []) (due : ends_due (symbols_at e.stage q' e.upcoming) ≡ 1)
         (open_values : length q'.cells.open_values ≤ length d.open_values) where
-      pub cell_hands : Hands (state_of s q) input at used (what.Cell p.row p.column i) (state_of e q')
+      pub cell_hands : Moves (state_of s q) input (advance.Event at used (what.Cell p.row p.column i)) (state_of e q')
       cell_hands =
           let h = one came.0 came.1 in
-          record {
+          (rw content h.can_lend, record {
             within = h.within;
-            there = rw content h.can_lend;
             begun = fresh;
             frame = frame ∙ sym (same_frame s.frame at p.row p.column (cell_event_at i input q'.partial.content));
             lent = rw content (lent_is q.table.nodes p.row p.column used i input p'.content h.can_lend h.lent);
@@ -178,11 +180,11 @@ module _ (s : Standing) (q : Parts) (p : Page) (here : s.stage ≡ stage.Cell p)
             pays =
                 let before : ends_due (state_of s q).place.symbols ≡ 1 = rw here (page_due q.table.nodes s.limits.depth q.cells p (rest_of s.upcoming) c.page.0) in
                 rw (due, before) (omega (arith, h.pays, open_values));
-          }
+          })
 
     -- the cell goes on
     module _ (more : is_done d ≡ false) where
-      pub going_hands : Hands (state_of s q) input at used (what.Cell p.row p.column i) (state_of s (parts p' q.types d q.table))
+      pub going_hands : Moves (state_of s q) input (advance.Event at used (what.Cell p.row p.column i)) (state_of s (parts p' q.types d q.table))
       going_hands =
           let h = one came.0 came.1 in
           let left : page_symbols q.table.nodes d p ++ rest_of s.upcoming ≡ cells_left p.row p.column (place q.table.nodes d).symbols ++ rest = under_way_still q.table.nodes s.limits.depth d p column h.behind (left_some q.table.nodes d h.stands h.behind more) (rest_of s.upcoming) in
@@ -190,8 +192,8 @@ module _ (s : Standing) (q : Parts) (p : Page) (here : s.stage ≡ stage.Cell p)
 
     -- the cell is whole, and this is next
     module _ (whole : is_done d ≡ true) (e : Standing) (d' : CellState) (offset : e.offset ≡ d.offset) (stop : e.stop ≡ s.stop) (frame : e.frame ≡ s.frame) (zero : e.came ≡ 0) (symbols : symbols_at e.stage (parts p' q.types d' q.table) e.upcoming ≡ rest)
-        (starts : Starts e q.table.nodes d' e.stage) (none : d'.open_values ≡ []) where
-      pub ended_hands : Hands (state_of s q) input at used (what.Cell p.row p.column i) (state_of e (parts p' q.types d' q.table))
+        (starts : Starts e q.table.nodes e.stage) (none : d'.open_values ≡ []) where
+      pub ended_hands : Moves (state_of s q) input (advance.Event at used (what.Cell p.row p.column i)) (state_of e (parts p' q.types d' q.table))
       ended_hands =
           let h = one came.0 came.1 in
           let z : Parts = parts p' q.types d' q.table in
@@ -244,10 +246,136 @@ module _ (s : Standing) (q : Parts) (p : Page) (here : s.stage ≡ stage.Cell p)
       table = λ none. rw here (rw here at (law.table none));
     }
 
-    pub cell_ended_lawful : (e : Standing) (d' : CellState) → e.offset ≡ d.offset → e.stop ≡ s.stop → e.limits ≡ s.limits → e.header ≡ s.header → e.came ≡ s.came → d'.rules ≡ d.rules → Forest q.table.nodes 0 s.limits.depth → Starts e q.table.nodes d' e.stage
+    pub cell_ended_lawful : (e : Standing) (d' : CellState) → e.offset ≡ d.offset → e.stop ≡ s.stop → e.limits ≡ s.limits → e.header ≡ s.header → e.came ≡ s.came → d'.rules ≡ d.rules → Forest q.table.nodes 0 s.limits.depth → is_under_way d' ≡ false → Starts e q.table.nodes e.stage
         → IsLawful e (parts p' q.types d' q.table)
-    cell_ended_lawful e d' offset stop limits header same rules_are forest starts =
+    cell_ended_lawful e d' offset stop limits header same rules_are forest idle starts =
         let n : ℕ = d.offset - s.offset in
         let behind : s.offset ≤ d.offset = omega (arith, c.behind, this.onward) in
         let stage = rw here at law.stage in
-        goes_on_lawful s e q p' q.types d' q.table n law (omega (arith, offset, behind)) (omega (arith, behind, cell_inside)) stop limits header (same ∙ c.came) this.longest this.idle refl stage.1 (rules_are ∙ this.rules) refl forest starts
+        goes_on_lawful s e q p' q.types d' q.table n law (omega (arith, offset, behind)) (omega (arith, behind, cell_inside)) stop limits header (same ∙ c.came) this.longest this.idle refl stage.1 (rules_are ∙ this.rules) idle refl forest starts
+
+-- the moves from a state are those from one of the same place
+begun_moves : (d d' : State) (input : List ℕ) (new : State) → d'.rules ≡ d.rules → d.place ≡ d'.place → d'.frame ≡ d.frame → ((b : List ℕ) → IsPending d'.pending b → IsPending d.pending b) → d.open_values ≤ d'.open_values → (a : Advance) → Moves d input a new → Moves d' input a new
+begun_moves d d' input new rules place frame pending fewer (advance.More used) m = record {
+  all = m.all;
+  place = m.place ∙ place;
+  frame = m.frame ∙ sym frame;
+  waits = λ b is. let w = m.waits b (pending b is) in ((λ i. says (step (rules i) (sym place i)) 0 (b ++ input)) ∙ w.0, w.1);
+}
+begun_moves d d' input new rules place frame pending fewer (advance.Event at used w) m = (
+  m.0,
+  let h = m.1 in
+  record {
+    within = h.within;
+    begun = h.begun;
+    frame = rw frame h.frame;
+    lent = h.lent;
+    gives = λ b is. let g = h.gives b (pending b is) in (g.0, (λ i. says (step (rules i) (sym place i)) 0 (b ++ input)) ∙ g.1, g.2, g.3, g.4);
+    offset = λ b is. rw (← place) (h.offset b (pending b is));
+    due = h.due;
+    pays = rw (← place) (omega (arith, h.pays, fewer));
+  },
+)
+begun_moves d d' input new rules place frame pending fewer (advance.Refused r) m = λ b is. (λ i. says (step (rules i) (sym place i)) 0 (b ++ input)) ∙ m b (pending b is)
+
+-- ---- a cell begins
+
+module _ (s : Standing) (q : Parts) (p : Page) (here : s.stage ≡ stage.Due p) where
+  abbrev begins : Standing
+  begins = record s { stage = stage.Cell p }
+
+  abbrev beside : Parts
+  beside = parts q.partial q.types (begun_at q.cells (node_by p.columns p.index) s.offset s.stop) q.table
+
+  pub cell_begun_lawful : IsLawful s q → s.refusal ≡ None → IsLawful begins beside
+  cell_begun_lawful law unrefused =
+      let stage = rw here at law.stage in
+      let f = first_column q.table.nodes s.limits.depth p.columns p.column p.index stage.0.0 in
+      record {
+        bounded = record { long = law.bounded.long; inside = law.bounded.inside; size = law.bounded.size; bound = law.bounded.bound };
+        parts = record { room = law.parts.room; rules = law.parts.rules; cells = law.parts.cells; table = law.parts.table };
+        stage = (
+          record {
+            under_way = refl;
+            stands = record {
+              open_stand = tt;
+              within = omega (arith, law.bounded.inside);
+              next_stands = (refl, f.stands q.cells.rules (ap (λ (z : Rules). z.depth) law.parts.cells));
+              bounded = omega (arith, law.bounded.bound);
+            };
+            joined = record { longest = rw (law.parts.cells, law.parts.room) (omega arith); under_way = stage.1.field };
+            some = refl;
+            is = λ n same. let e : node_by p.columns p.index ≡ n = cc in sym e;
+            page = stage.0;
+            stop = refl;
+            behind = omega arith;
+            came = stage.2;
+          },
+          stage.1.types,
+        );
+        table = λ none. rw here at (law.table unrefused);
+      }
+
+  -- a cell that has just begun is read as one that is due
+  pub cell_begun_moves : (input : List ℕ) (a : Advance) (new : State) → IsLawful s q → Moves (state_of begins beside) input a new → Moves (state_of s q) input a new
+  cell_begun_moves input a new law m =
+      let stage = rw here at law.stage in
+      let place : (state_of begins beside).place ≡ (state_of s q).place = rw here (ap (λ (z : List Symbol). place_at s.offset s.stop (z ++ rest_of s.upcoming) q.table.nodes) (page_begun q.table.nodes s.limits.depth (begun_at q.cells (node_by p.columns p.index) s.offset s.stop) p (node_by p.columns p.index) refl stage.0.0)) in
+      let pending : (b : List ℕ) → IsPending (state_of s q).pending b → IsPending (state_of begins beside).pending b = λ b is. rw here at is in
+      begun_moves (state_of begins beside) (state_of s q) input new refl place refl pending (omega arith) a m
+
+pub nothing_held : (xs : List ℕ) → length xs ≤ 0 → xs ≡ []
+nothing_held [] le = refl
+nothing_held (x ∷ xs) le = absurd (omega (arith, le))
+
+-- ---- a scalar that is a cell, whose bytes are all there
+
+module _ (s : Standing) (q : Parts) (p : Page) (here : s.stage ≡ stage.Due p) (law : IsLawful s q) (unrefused : s.refusal ≡ None) (input : List ℕ) (used : ℕ) (k : Kind) (inner others : Types) (v : ScalarValue) (is : types_left q.table.nodes p ≡ Type_and k inner others)
+    (front : SaysScalar (rules_of s.limits) k (s.stop - s.offset) input used v) (empty : q.partial.content ≡ []) (e : Standing) (symbols : symbols_at e.stage q e.upcoming ≡ cells_behind q.table.nodes p ++ rest_of s.upcoming)
+    (starts : Starts e q.table.nodes e.stage) (offset : e.offset ≡ s.offset + used) (stop : e.stop ≡ s.stop) (frame : e.frame ≡ s.frame) (came : e.came ≡ s.came) where
+  abbrev there : List Symbol
+  there = cells_behind q.table.nodes p ++ rest_of s.upcoming
+
+  abbrev due_place : Place
+  due_place = place_at s.offset s.stop (Cell_due p.row p.column k inner ∷ there) q.table.nodes
+
+  place_due : (state_of s q).place ≡ due_place
+  place_due = rw (here, is) refl
+
+  stage_due : StageHolds s q (stage.Due p)
+  stage_due = rw here at law.stage
+
+  scalar_told : (b : List ℕ) → told (state_of s q) b ≡ map_said (cell_event p.row p.column) (place_of_cells p.row p.column due_place there) (says (cell_step (rules_of s.limits) (record { offset = s.offset; symbols = Value_of k inner 0 s.stop ∷ [] })) 0 b)
+  scalar_told b =
+      ap (λ (z : Place). says (step (rules_of s.limits) z) 0 b) place_due
+      ∙ says_map (cell_event p.row p.column) (place_of_cells p.row p.column due_place there) (cell_step (rules_of s.limits) (record { offset = s.offset; symbols = Value_of k inner 0 s.stop ∷ [] })) 0 b
+
+  pub scalar_hands : Hands (state_of s q) input s.offset used (reading.Cell_at p.row p.column (cell.Leaf 0 v)) (state_of e q)
+  scalar_hands =
+      let at : offset_at e.stage e.offset q ≡ s.offset + used = offset_is e e.stage q starts ∙ offset in
+      record {
+        within = front.within;
+        begun = begun e e.stage e.header e.came q starts (came ∙ stage_due.2) stage_due.1.field;
+        frame = frame;
+        lent = λ le. empty;
+        gives = λ b pending.
+            let none : b ≡ [] = rw here at pending in
+            let count : 0 + used ≡ used = omega arith in
+            let x : Emitted CellEvent CellPlace = record { at = s.offset; event = cell.Leaf 0 v; after = cell.place_after (record { offset = s.offset; symbols = Value_of k inner 0 s.stop ∷ [] }) [] [] } in
+            rw (none, count) (
+              record { at = s.offset; event = reading.Cell_at p.row p.column (cell.Leaf 0 v); after = λ u. place_of_cells p.row p.column due_place there (x.after u) },
+              scalar_told input ∙ ap (λ z. map_said (cell_event p.row p.column) (place_of_cells p.row p.column due_place there) z) (front.is (record { offset = s.offset; symbols = Value_of k inner 0 s.stop ∷ [] }) [] inner 0),
+              refl,
+              refl,
+              λ j. place_at (sym at j) (sym stop j) (sym symbols j) q.table.nodes,
+            );
+        offset = λ b pending. let none : b ≡ [] = rw here at pending in let count : 0 + used ≡ used = omega arith in rw (none, count, at, here) refl;
+        due = one_due e e.stage q starts;
+        pays =
+            let before : ends_due (state_of s q).place.symbols ≡ 1 = ap (λ (z : Place). ends_due z.symbols) place_due in
+            rw (one_due e e.stage q starts, before) (omega (arith, front.some));
+      }
+
+  pub scalar_lawful : e.limits ≡ s.limits → e.header ≡ s.header → IsLawful e q
+  scalar_lawful limits header =
+      goes_on_lawful s e q q.partial q.types q.cells q.table used law offset (omega (arith, front.inside, law.bounded.inside)) stop limits header (came ∙ stage_due.2) refl stage_due.1.field refl stage_due.1.types refl stage_due.1.cells refl (rw here at (law.table unrefused)) starts

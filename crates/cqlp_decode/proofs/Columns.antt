@@ -38,7 +38,7 @@ pub record FirstColumn (nodes : List Node) (depth : ℕ) (c : Columns) (column i
   pub stands : (l : Rules) → l.depth ≡ depth → CellStands nodes l (node_by c index)
   pub symbols : (stop : ℕ) → cell_symbols nodes (node_by c index) stop ≡ Value_of first inner 0 stop ∷ []
 
-raw_left : (n column : ℕ) → column < n → raw_types (n - column) ≡ Type_and kind.Raw NoMore (raw_types (n - (column + 1)))
+pub raw_left : (n column : ℕ) → column < n → raw_types (n - column) ≡ Type_and kind.Raw NoMore (raw_types (n - (column + 1)))
 raw_left n column lt =
     let e : n - column ≡ suc (n - (column + 1)) = omega arith in
     rw e refl
@@ -76,6 +76,9 @@ cell_due next.Items row column k inner ss rest = refl
 cell_due (next.Part offset total) row column k inner ss rest = refl
 
 -- the end of a page's frame is still to come
+pub cells_due : (nodes : List Node) (depth : ℕ) (p : Page) (rest : List Symbol) → IsColumn nodes depth p.columns p.column p.index → ends_due (cells_from nodes p ++ rest) ≡ 1
+cells_due nodes depth p rest h = let f = first_column nodes depth p.columns p.column p.index h in rw f.is refl
+
 pub page_due : (nodes : List Node) (depth : ℕ) (d : State) (p : Page) (rest : List Symbol) → IsColumn nodes depth p.columns p.column p.index → ends_due (page_symbols nodes d p ++ rest) ≡ 1
 page_due nodes depth d p rest h =
     let f = first_column nodes depth p.columns p.column p.index h in

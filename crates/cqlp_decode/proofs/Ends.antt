@@ -9,7 +9,7 @@ use Rattle.cqlp_decode.specs.declared.standing.Stage.TheVariants as stage
 use Rattle.cqlp_decode.specs.declared.standing.Standing.{Standing}
 use Rattle.cqlp_decode.specs.Reading.{Event}
 use Rattle.cqlp_decode.specs.Standing.{Parts, state_of, rest_of, ends_due, IsBounded, IsPlaced, IsPending}
-use Rattle.cqlp_decode.proofs.Columns.{page_due}
+use Rattle.cqlp_decode.proofs.Columns.{cells_due, page_due}
 use Rattle.cqlp_decode.specs.Streams.{AfterBy, Stands, FinishesBy, is_open, frame_of}
 
 closed : (b : Bool) → ◌≡◌ {A = ℕ} 0 (if b then 1 else 0) → b ≡ false
@@ -37,6 +37,9 @@ module _ (s : Standing) (q : Parts) (bytes : List ℕ) (es : List (ℕ × Event)
   cut_is (stage.Field w) here h bounded some shut = absurd (opened (is_open es) (rw here at st.due) shut)
   cut_is stage.Option here h bounded some shut = absurd (opened (is_open es) (rw here at st.due) shut)
   cut_is stage.Type here h bounded some shut = absurd (opened (is_open es) (rw here at st.due) shut)
+  cut_is (stage.Due p) here h bounded some shut =
+      let one : ends_due (state_of s q).place.symbols ≡ 1 = rw here (cells_due q.table.nodes s.limits.depth p (rest_of s.upcoming) h.0) in
+      absurd (opened (is_open es) (sym one ∙ st.due) shut)
   cut_is (stage.Cell p) here h bounded some shut =
       let one : ends_due (state_of s q).place.symbols ≡ 1 = rw here (page_due q.table.nodes s.limits.depth q.cells p (rest_of s.upcoming) h.page.0) in
       absurd (opened (is_open es) (sym one ∙ st.due) shut)

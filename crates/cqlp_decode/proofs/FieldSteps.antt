@@ -20,6 +20,7 @@ use Rattle.cqlp_type.specs.Table.{Table}
 use Rattle.cqlp_type.specs.Standing as type
 use Rattle.cqlp_type.specs.declared.node.Node.{Node}
 use Rattle.cqlp_value.specs.Standing as value
+use Rattle.cqlp_value.specs.Standing.{is_under_way}
 use Rattle.cqlp_value.specs.Inner.{Forest}
 use Rattle.cqlp_value.proofs.Columns.{forest_none}
 use Rattle.cqlp_message.specs.declared.grammar.Role.{Role}
@@ -29,11 +30,12 @@ use Rattle.cqlp_decode.specs.declared.table.Want.{Want}
 use Rattle.cqlp_decode.specs.declared.table.Due.TheVariants as due
 use Rattle.cqlp_decode.specs.declared.standing.Stage.TheVariants as stage
 use Rattle.cqlp_decode.specs.declared.standing.Standing.{Standing}
+use Rattle.cqlp_decode.specs.declared.standing.Advance.TheVariants as advance
 use Rattle.cqlp_decode.specs.declared.standing.What.TheVariants as what
 use Rattle.cqlp_decode.specs.Upcoming.{wanted}
 use Rattle.cqlp_decode.specs.Reading as reading
 use Rattle.cqlp_decode.specs.Reading.{Place, value_step, types_for, nodes_after, given_after, Nothing}
-use Rattle.cqlp_decode.specs.Standing.{IsPending, Parts, parts, state_of, place_at, offset_at, symbols_at, rest_of, came_of, told, Gives, Waits, Hands, IsAsked, IsWanted, IsBounded, HasParts, IsLawful, asked, Starts}
+use Rattle.cqlp_decode.specs.Standing.{IsPending, Parts, parts, state_of, place_at, offset_at, symbols_at, rest_of, came_of, told, Gives, Waits, Moves, IsAsked, IsWanted, IsBounded, HasParts, IsIdle, IsLawful, asked, Starts}
 use Rattle.cqlp_decode.proofs.Steps.{begun, one_due, offset_is, fresh_stage, fresh_table}
 
 -- ---- fields
@@ -136,16 +138,15 @@ module _ (s : Standing) (old p : Progress) (r : type.Standing) (d : value.State)
     pub piece_faults : (why : Reason) → fault_in w.role v ≡ Some why → (b : List ℕ) → IsPending (state_of s before).pending b → told (state_of s before) (b ++ input) ≡ Bad (s.offset, why)
     piece_faults why fault b is = rw (pending_is b is) (field_faults s before w here (p.seen ++ input) v (length p.seen + used) why (rw a.field at m.is) fault)
 
-    pub piece_hands : (e : Standing) (d' : value.State) (t' : Table) (i : Item) → v ≡ item_value i input new.content → CanLend i input new.content → fault_in w.role v ≡ None → IsWanted s old w
-        → e.offset ≡ s.offset + (length p.seen + used) → e.stop ≡ s.stop → e.frame ≡ s.frame → e.came ≡ 0 → Starts e t'.nodes d' e.stage → length d'.open_values ≤ length d.open_values → t'.nodes ≡ nodes_after w.role t.nodes
-        → symbols_at e.stage (parts new r d' t') e.upcoming ≡ following (types_for s.limits.types w.role t.nodes Nothing) w.role v ++ rest_of s.upcoming
-        → Hands (state_of s before) input s.offset used (what.Holds w.field i) (state_of e (parts new r d' t'))
-    piece_hands e d' t' i is there fine law at stop frame none start fewer nodes symbols =
-        let q : Parts = parts new r d' t' in
+    pub piece_hands : (e : Standing) (t' : Table) (i : Item) → v ≡ item_value i input new.content → CanLend i input new.content → fault_in w.role v ≡ None → IsWanted s old w
+        → e.offset ≡ s.offset + (length p.seen + used) → e.stop ≡ s.stop → e.frame ≡ s.frame → e.came ≡ 0 → Starts e t'.nodes e.stage → t'.nodes ≡ nodes_after w.role t.nodes
+        → symbols_at e.stage (parts new r d t') e.upcoming ≡ following (types_for s.limits.types w.role t.nodes Nothing) w.role v ++ rest_of s.upcoming
+        → Moves (state_of s before) input (advance.Event s.offset used (what.Holds w.field i)) (state_of e (parts new r d t'))
+    piece_hands e t' i is there fine law at stop frame none start nodes symbols =
+        let q : Parts = parts new r d t' in
         let offset : offset_at e.stage e.offset q ≡ s.offset + (length p.seen + used) = offset_is e e.stage q start ∙ at in
-        record {
+        (there, record {
           within = m.within;
-          there = there;
           begun = begun e e.stage e.header e.came q start none (ap (λ (z : Progress). z.under_way) m.idle);
           frame = frame;
           lent = rw (← is) m.lent;
@@ -154,8 +155,8 @@ module _ (s : Standing) (old p : Progress) (r : type.Standing) (d : value.State)
               rw (pending_is b pending, ← is) (g.0, g.1, g.2, g.3, g.4 ∙ (λ j. place_at (sym offset j) (sym stop j) (sym symbols j) (sym nodes j)));
           offset = λ b pending. rw (pending_is b pending, offset, here) refl;
           due = one_due e e.stage q start;
-          pays = rw (here, one_due e e.stage q start) (omega (arith, some, fewer));
-        }
+          pays = rw (here, one_due e e.stage q start) (omega (arith, some));
+        })
       where
         some : 0 < used
         some = elim (cases_lt 0 (length (came_of old))) [
@@ -188,7 +189,7 @@ following_there (role.PageRows flags columns) v types nodes after rest e = rw e 
 following_there r v types nodes after rest e = refl
 
 module _ (s e : Standing) (q : Parts) (p : Progress) (r : type.Standing) (d : value.State) (t : Table) (n : ℕ) (law : IsLawful s q) (offset : e.offset ≡ s.offset + n) (inside : s.offset + n ≤ s.stop) (stop : e.stop ≡ s.stop) (limits : e.limits ≡ s.limits) (header : e.header ≡ s.header) (came : e.came ≡ 0)
-    (room : p.room ≡ q.partial.room) (idle : p.under_way ≡ false) (rules : r.rules ≡ q.types.rules) (types : r.under_way ≡ false) (cells : d.rules ≡ q.cells.rules) (table : t.room ≡ q.table.room) (forest : Forest t.nodes 0 s.limits.depth) (starts : Starts e t.nodes d e.stage) where
+    (room : p.room ≡ q.partial.room) (idle : p.under_way ≡ false) (rules : r.rules ≡ q.types.rules) (types : r.under_way ≡ false) (cells : d.rules ≡ q.cells.rules) (idle_cells : is_under_way d ≡ false) (table : t.room ≡ q.table.room) (forest : Forest t.nodes 0 s.limits.depth) (starts : Starts e t.nodes e.stage) where
   pub goes_on_lawful : IsLawful e (parts p r d t)
   goes_on_lawful =
       let z : Parts = parts p r d t in
@@ -197,6 +198,6 @@ module _ (s e : Standing) (q : Parts) (p : Progress) (r : type.Standing) (d : va
       record {
         bounded = bounded;
         parts = parts;
-        stage = fresh_stage e z e.stage starts parts bounded idle types came;
+        stage = fresh_stage e z e.stage starts (record { field = idle; types = types; cells = idle_cells }) came;
         table = λ none. fresh_table e z e.stage starts (rw limits forest);
       }

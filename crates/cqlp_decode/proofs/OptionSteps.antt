@@ -27,9 +27,10 @@ use Rattle.cqlp_type.specs.Remaining as part
 use Rattle.cqlp_message.specs.Productions.{Symbol, In_type}
 use Rattle.cqlp_decode.specs.declared.standing.Stage.TheVariants as stage
 use Rattle.cqlp_decode.specs.declared.standing.Standing.{Standing}
+use Rattle.cqlp_decode.specs.declared.standing.Advance.TheVariants as advance
 use Rattle.cqlp_decode.specs.declared.standing.What.TheVariants as what
 use Rattle.cqlp_decode.specs.Reading.{Place, type_event, types_left, place_of_types}
-use Rattle.cqlp_decode.specs.Standing.{IsPending, Parts, parts, state_of, place_at, offset_at, symbols_at, rest_of, told, Gives, Waits, Hands, IsLent, due_after, frame_after, ends_due, HasRoom, IsOption, OptionWaits, OptionRuns, IsLawful, StageHolds, TableHolds}
+use Rattle.cqlp_decode.specs.Standing.{IsPending, Parts, parts, state_of, place_at, offset_at, symbols_at, rest_of, told, Gives, Waits, Moves, IsLent, due_after, frame_after, ends_due, HasRoom, IsOption, OptionWaits, OptionRuns, IsLawful, StageHolds, TableHolds}
 use Rattle.cqlp_decode.specs.declared.standing.Stage.{Stage}
 use Rattle.cqlp_decode.proofs.Steps.{starts_bare, begun_bare, one_due_bare, offset_is_bare}
 use Rattle.cqlp_decode.proofs.FieldSteps.{used_some, goes_on_lawful}
@@ -149,10 +150,9 @@ module _ (s : Standing) (q : Parts) (here : s.stage ≡ stage.Type) (o : IsOptio
     -- the place that the decoder stands at then
     module _ (e : Standing) (q' : Parts) (content : q'.partial.content ≡ p'.content) (nodes : q'.table.nodes ≡ t'.nodes) (offset : offset_at e.stage e.offset q' ≡ r'.offset) (stop : e.stop ≡ s.stop) (frame : e.frame ≡ s.frame)
         (symbols : symbols_at e.stage q' e.upcoming ≡ types_left r'.symbols ++ rest) (fresh : IsPending (state_of e q').pending []) (one : ends_due (symbols_at e.stage q' e.upcoming) ≡ 1) (cells : q'.cells ≡ q.cells) where
-      pub option_hands : Hands (state_of s q) input at used (what.Option x) (state_of e q')
-      option_hands = record {
+      pub option_hands : Moves (state_of s q) input (advance.Event at used (what.Option x)) (state_of e q')
+      option_hands = (rw content m.can_lend, record {
         within = m.within;
-        there = rw content m.can_lend;
         begun = fresh;
         frame = frame ∙ sym (same_frame s.frame at (part.event_at x input q'.partial.content));
         lent = is_lent (part.event_at x input q'.partial.content) used q'.partial.content (rw content m.lent);
@@ -163,7 +163,7 @@ module _ (s : Standing) (q : Parts) (here : s.stage ≡ stage.Type) (o : IsOptio
         offset = λ b is. rw (pending_is b is, offset, here) option_on;
         due = one ∙ sym (no_end (part.event_at x input q'.partial.content));
         pays = rw (here, one, cells) (omega (arith, some));
-      }
+      })
 
     -- the reader of the option, after a part of it
     began : r'.begun ≡ false
@@ -173,13 +173,13 @@ module _ (s : Standing) (q : Parts) (here : s.stage ≡ stage.Type) (o : IsOptio
     none_pending = rw began refl
 
     -- the option goes on
-    pub still_hands : (r'.symbols ≡ [] → ⊥) → Hands (state_of s q) input at used (what.Option x) (state_of s (parts p' r' q.cells t'))
+    pub still_hands : (r'.symbols ≡ [] → ⊥) → Moves (state_of s q) input (advance.Event at used (what.Option x)) (state_of s (parts p' r' q.cells t'))
     still_hands more = option_hands s (parts p' r' q.cells t') refl refl (rw here refl) refl refl (rw here (sym (left_some r'.symbols rest more))) (rw (here, none_pending) refl) (rw here refl) refl
 
     -- the option is whole
     module _ (whole : r'.symbols ≡ []) (e : Standing) (r'' : type.Standing) (offset : e.offset ≡ r'.offset) (stop : e.stop ≡ s.stop) (frame : e.frame ≡ s.frame) (came : e.came ≡ 0) (symbols : (z : Parts) → symbols_at e.stage z e.upcoming ≡ rest)
         (room : HasRoom e.stage e.upcoming) where
-      pub ended_hands : Hands (state_of s q) input at used (what.Option x) (state_of e (parts p' r'' q.cells t'))
+      pub ended_hands : Moves (state_of s q) input (advance.Event at used (what.Option x)) (state_of e (parts p' r'' q.cells t'))
       ended_hands =
           let z : Parts = parts p' r'' q.cells t' in
           option_hands e z refl refl (offset_is_bare e.stage e.offset z e.upcoming room ∙ offset) stop frame (rw whole (symbols z)) (begun_bare e.stage e.upcoming e.header e.came z room came (m.shared.same ∙ began)) (one_due_bare e.stage z e.upcoming room) refl
@@ -256,7 +256,7 @@ module _ (s : Standing) (q : Parts) (here : s.stage ≡ stage.Type) (o : IsOptio
           let is = option_over run.begun 1 r' p' t' (run.bytes ++ take used input) (run.items ++ (at, part.event_at x input p'.content) ∷ []) run.first (option_handed q.types q.partial q.table input r' p' t' at used x m run.begun run.bytes run.items run.runs) whole begun in
           let forest : Forest t'.nodes 0 s.limits.depth = forest_more (rules_of s.limits) run.begun.offset run.begun.nodes (run.bytes ++ take used input) (run.items ++ (at, part.event_at x input p'.content) ∷ []) t'.nodes run.before (rw rules at is) in
           goes_on_lawful s e q p' r'' q.cells t' (r'.offset - s.offset) law (omega (arith, offset, o.behind, m.forward)) (omega (arith, inside, o.behind, m.forward)) stop limits header (came ∙ o.came)
-          m.room (m.shared.same ∙ begun) (rw over (ap (λ (y : type.Standing). y.rules) same)) (rw over refl) refl m.table forest (starts_bare e t'.nodes q.cells e.stage room idle_cells)
+          m.room (m.shared.same ∙ begun) (rw over (ap (λ (y : type.Standing). y.rules) same)) (rw over refl) refl idle_cells m.table forest (starts_bare e t'.nodes e.stage room)
 
 -- ---- an option begins
 

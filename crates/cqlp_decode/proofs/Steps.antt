@@ -24,14 +24,15 @@ use Rattle.cqlp_decode.specs.declared.upcoming.Slot.{Slot}
 use Rattle.cqlp_decode.specs.declared.standing.Stage.{Stage}
 use Rattle.cqlp_decode.specs.declared.standing.Stage.TheVariants as stage
 use Rattle.cqlp_decode.specs.declared.standing.Standing.{Standing}
+use Rattle.cqlp_decode.specs.declared.standing.Advance.TheVariants as advance
 use Rattle.cqlp_decode.specs.declared.standing.What.TheVariants as what
 use Rattle.cqlp_decode.specs.declared.page.Page.{Page}
 use Rattle.cqlp_decode.specs.Upcoming.{Next}
 use Rattle.cqlp_decode.specs.Pages.{node_by}
 use Rattle.cqlp_decode.specs.Reading as reading
 use Rattle.cqlp_decode.specs.Reading.{Place}
-use Rattle.cqlp_decode.specs.Standing.{IsPending, state_of, place_at, offset_at, pending_at, symbols_at, rest_of, stage_with, came_of, told, Gives, Waits, Hands, Parts, IsIdle, ends_due, HasRoom, HasParts, IsBounded, IsCell, IsBegun, Starts, StageHolds, TableHolds, IsPlaced, IsLawful}
-use Rattle.cqlp_decode.proofs.Columns.{first_column, page_due}
+use Rattle.cqlp_decode.specs.Standing.{IsPending, state_of, place_at, offset_at, pending_at, symbols_at, rest_of, stage_with, came_of, told, Gives, Waits, Moves, Parts, IsIdle, ends_due, HasRoom, Starts, StageHolds, TableHolds, IsPlaced, IsLawful}
+use Rattle.cqlp_decode.proofs.Columns.{cells_due}
 
 -- ---- what is skipped
 
@@ -48,10 +49,9 @@ extra_waits s new q input used here le is less same = rw same (record {
 })
 
 pub extra_hands : (s : Standing) (q : Parts) (input : List ℕ) (used : ℕ) → s.stage ≡ stage.Extra → s.offset ≤ s.stop → s.came ≤ s.stop - s.offset → used ≡ min (s.stop - s.offset - s.came) (length input) → s.stop - s.offset ≤ s.came + used
-    → Hands (state_of s q) input s.stop used (what.End (s.stop - s.offset)) (state_of (record s { frame = s.stop; offset = s.stop; stage = stage.Header; came = 0 }) q)
-extra_hands s q input used here inside le is all = record {
+    → Moves (state_of s q) input (advance.Event s.stop used (what.End (s.stop - s.offset))) (state_of (record s { frame = s.stop; offset = s.stop; stage = stage.Header; came = 0 }) q)
+extra_hands s q input used here inside le is all = (tt, record {
   within = omega arith;
-  there = tt;
   begun = refl;
   frame = refl;
   lent = tt;
@@ -64,7 +64,7 @@ extra_hands s q input used here inside le is all = record {
   offset = λ b came. let size : length b ≡ s.came = rw here at came in rw here (omega arith);
   due = refl;
   pays = rw here (omega arith);
-}
+})
 
 -- ---- a message goes on
 
@@ -74,15 +74,17 @@ begun_bare stage.Header upcoming header came q room none idle = absurd room
 begun_bare (stage.Field w) upcoming header came q room none idle = rw idle refl
 begun_bare stage.Option upcoming header came q room none idle = refl
 begun_bare stage.Type upcoming header came q room none idle = absurd room
+begun_bare (stage.Due p) upcoming header came q room none idle = absurd room
 begun_bare (stage.Cell p) upcoming header came q room none idle = absurd room
 begun_bare stage.Extra upcoming header came q room none idle = sym none
 
-pub begun : (s : Standing) (t : Stage) (header : List ℕ) (came : ℕ) (q : Parts) → Starts s q.table.nodes q.cells t → came ≡ 0 → q.partial.under_way ≡ false → IsPending (pending_at t header came q) []
-begun s stage.Header header came q start none idle = absurd start.0
+pub begun : (s : Standing) (t : Stage) (header : List ℕ) (came : ℕ) (q : Parts) → Starts s q.table.nodes t → came ≡ 0 → q.partial.under_way ≡ false → IsPending (pending_at t header came q) []
+begun s stage.Header header came q start none idle = absurd start
 begun s (stage.Field w) header came q start none idle = rw idle refl
 begun s stage.Option header came q start none idle = refl
-begun s stage.Type header came q start none idle = absurd start.0
-begun s (stage.Cell p) header came q start none idle = let u : q.cells.under ≡ under.Nothing = ap (λ (z : value.State). z.under) start.is in rw u refl
+begun s stage.Type header came q start none idle = absurd start
+begun s (stage.Due p) header came q start none idle = refl
+begun s (stage.Cell p) header came q start none idle = absurd start
 begun s stage.Extra header came q start none idle = sym none
 
 -- its end is still to come
@@ -91,15 +93,17 @@ one_due_bare stage.Header q upcoming room = absurd room
 one_due_bare (stage.Field w) q upcoming room = refl
 one_due_bare stage.Option q upcoming room = refl
 one_due_bare stage.Type q upcoming room = absurd room
+one_due_bare (stage.Due p) q upcoming room = absurd room
 one_due_bare (stage.Cell p) q upcoming room = absurd room
 one_due_bare stage.Extra q upcoming room = refl
 
-pub one_due : (s : Standing) (t : Stage) (q : Parts) → Starts s q.table.nodes q.cells t → ends_due (symbols_at t q s.upcoming) ≡ 1
-one_due s stage.Header q start = absurd start.0
+pub one_due : (s : Standing) (t : Stage) (q : Parts) → Starts s q.table.nodes t → ends_due (symbols_at t q s.upcoming) ≡ 1
+one_due s stage.Header q start = absurd start
 one_due s (stage.Field w) q start = refl
 one_due s stage.Option q start = refl
-one_due s stage.Type q start = absurd start.0
-one_due s (stage.Cell p) q start = page_due q.table.nodes s.limits.depth q.cells p (rest_of s.upcoming) start.page.0
+one_due s stage.Type q start = absurd start
+one_due s (stage.Due p) q start = cells_due q.table.nodes s.limits.depth p (rest_of s.upcoming) start.0
+one_due s (stage.Cell p) q start = absurd start
 one_due s stage.Extra q start = refl
 
 -- it begins at the offset
@@ -108,74 +112,58 @@ offset_is_bare stage.Header offset q upcoming room = absurd room
 offset_is_bare (stage.Field w) offset q upcoming room = refl
 offset_is_bare stage.Option offset q upcoming room = refl
 offset_is_bare stage.Type offset q upcoming room = absurd room
+offset_is_bare (stage.Due p) offset q upcoming room = absurd room
 offset_is_bare (stage.Cell p) offset q upcoming room = absurd room
 offset_is_bare stage.Extra offset q upcoming room = refl
 
-pub offset_is : (s : Standing) (t : Stage) (q : Parts) → Starts s q.table.nodes q.cells t → offset_at t s.offset q ≡ s.offset
-offset_is s stage.Header q start = absurd start.0
+pub offset_is : (s : Standing) (t : Stage) (q : Parts) → Starts s q.table.nodes t → offset_at t s.offset q ≡ s.offset
+offset_is s stage.Header q start = absurd start
 offset_is s (stage.Field w) q start = refl
 offset_is s stage.Option q start = refl
-offset_is s stage.Type q start = absurd start.0
-offset_is s (stage.Cell p) q start = ap (λ (z : value.State). z.offset) start.is
+offset_is s stage.Type q start = absurd start
+offset_is s (stage.Due p) q start = refl
+offset_is s (stage.Cell p) q start = absurd start
 offset_is s stage.Extra q start = refl
 
--- what holds of a cell that has just begun
-cell_begun : (e : Standing) (q : Parts) (p : Page) → IsBegun e q.table.nodes q.cells p → HasParts e q → IsBounded e → q.partial.under_way ≡ false → e.came ≡ 0 → IsCell e q p
-cell_begun e q p start parts bounded idle none =
-    let f = first_column q.table.nodes e.limits.depth p.columns p.column p.index start.page.0 in
-    rw start.is (record {
-      under_way = refl;
-      stands = record {
-        open_stand = tt;
-        within = omega (arith, bounded.inside);
-        next_stands = (refl, f.stands q.cells.rules (ap (λ (z : Rules). z.depth) parts.cells));
-        bounded = omega (arith, bounded.bound);
-      };
-      joined = record { longest = rw (parts.cells, parts.room) (omega arith); under_way = idle };
-      some = refl;
-      is = λ n same. let e : node_by p.columns p.index ≡ n = cc in sym e;
-      page = start.page;
-      stop = refl;
-      behind = omega arith;
-      came = none;
-    })
-
 -- what holds of the next stage, of which nothing has come
-pub fresh_stage : (e : Standing) (q : Parts) (t : Stage) → Starts e q.table.nodes q.cells t → HasParts e q → IsBounded e → q.partial.under_way ≡ false → q.types.under_way ≡ false → e.came ≡ 0 → StageHolds e q t
-fresh_stage e q stage.Header start parts bounded field types none = absurd start.0
-fresh_stage e q (stage.Field w) start parts bounded field types none = (
+pub fresh_stage : (e : Standing) (q : Parts) (t : Stage) → Starts e q.table.nodes t → IsIdle q → e.came ≡ 0 → StageHolds e q t
+fresh_stage e q stage.Header start idle none = absurd start
+fresh_stage e q (stage.Field w) start idle none = (
   record {
-    room = start.0.0;
-    read = start.0.1;
-    field = λ busy. let shut : ◌≡◌ {A = Bool} true false = sym busy ∙ field in absurd cc;
-    waits = λ some. let long : length (came_of q.partial) ≡ 0 = rw field refl in absurd (omega arith);
+    room = start.0;
+    read = start.1;
+    field = λ busy. let shut : ◌≡◌ {A = Bool} true false = sym busy ∙ idle.field in absurd cc;
+    waits = λ some. let long : length (came_of q.partial) ≡ 0 = rw idle.field refl in absurd (omega arith);
     came = none;
   },
-  types,
-  start.1,
+  idle.types,
+  idle.cells,
 )
-fresh_stage e q stage.Option start parts bounded field types none = (record { field = field; types = types; cells = start.1 }, none)
-fresh_stage e q stage.Type start parts bounded field types none = absurd start.0
-fresh_stage e q (stage.Cell p) start parts bounded field types none = (cell_begun e q p start parts bounded field none, types)
-fresh_stage e q stage.Extra start parts bounded field types none = (omega arith, record { field = field; types = types; cells = start.1 })
+fresh_stage e q stage.Option start idle none = (idle, none)
+fresh_stage e q stage.Type start idle none = absurd start
+fresh_stage e q (stage.Due p) start idle none = (start, idle, none)
+fresh_stage e q (stage.Cell p) start idle none = absurd start
+fresh_stage e q stage.Extra start idle none = (omega arith, idle)
 
 -- the table then holds whole types alone
-pub fresh_table : (e : Standing) (q : Parts) (t : Stage) → Starts e q.table.nodes q.cells t → Forest q.table.nodes 0 e.limits.depth → TableHolds (rules_of e.limits) q t
+pub fresh_table : (e : Standing) (q : Parts) (t : Stage) → Starts e q.table.nodes t → Forest q.table.nodes 0 e.limits.depth → TableHolds (rules_of e.limits) q t
 fresh_table e q stage.Header start f = f
 fresh_table e q (stage.Field w) start f = f
 fresh_table e q stage.Option start f = f
-fresh_table e q stage.Type start f = absurd start.0
+fresh_table e q stage.Type start f = absurd start
+fresh_table e q (stage.Due p) start f = f
 fresh_table e q (stage.Cell p) start f = f
 fresh_table e q stage.Extra start f = f
 
 -- where a message goes on without a page
-pub starts_bare : (s : Standing) (nodes : List Node) (c : value.State) (t : Stage) → HasRoom t s.upcoming → is_under_way c ≡ false → Starts s nodes c t
-starts_bare s nodes c stage.Header room idle = absurd room
-starts_bare s nodes c (stage.Field w) room idle = (room, idle)
-starts_bare s nodes c stage.Option room idle = (room, idle)
-starts_bare s nodes c stage.Type room idle = absurd room
-starts_bare s nodes c (stage.Cell p) room idle = absurd room
-starts_bare s nodes c stage.Extra room idle = (room, idle)
+pub starts_bare : (s : Standing) (nodes : List Node) (t : Stage) → HasRoom t s.upcoming → Starts s nodes t
+starts_bare s nodes stage.Header room = room
+starts_bare s nodes (stage.Field w) room = room
+starts_bare s nodes stage.Option room = room
+starts_bare s nodes stage.Type room = room
+starts_bare s nodes (stage.Due p) room = absurd room
+starts_bare s nodes (stage.Cell p) room = room
+starts_bare s nodes stage.Extra room = room
 
 pub next_symbols : (old new : List Slot) (o : Option Due) → Next old o new → (q : Parts) → symbols_at (stage_with o) q new ≡ rest_of old
 next_symbols old new None n q = rw n.0 refl
@@ -192,6 +180,7 @@ placed s q stage.Header h = (h.0, h.2)
 placed s q (stage.Field w) h = tt
 placed s q stage.Option h = tt
 placed s q stage.Type h = h.0
+placed s q (stage.Due p) h = h.0
 placed s q (stage.Cell p) h = h.0
 placed s q stage.Extra h = h.0
 
@@ -201,6 +190,7 @@ stage_refused s q r stage.Header h = h
 stage_refused s q r (stage.Field w) h = (record { room = h.0.room; read = h.0.read; field = h.0.field; waits = h.0.waits; came = h.0.came }, h.1, h.2)
 stage_refused s q r stage.Option h = h
 stage_refused s q r stage.Type h = (record { under_way = h.0.under_way; some = h.0.some; shared = h.0.shared; stop = h.0.stop; behind = h.0.behind; inside = h.0.inside; came = h.0.came }, h.1, h.2)
+stage_refused s q r (stage.Due p) h = h
 stage_refused s q r (stage.Cell p) h = (record { under_way = h.0.under_way; stands = h.0.stands; joined = h.0.joined; some = h.0.some; is = h.0.is; page = h.0.page; stop = h.0.stop; behind = h.0.behind; came = h.0.came }, h.1)
 stage_refused s q r stage.Extra h = h
 
@@ -256,12 +246,11 @@ module _ (s : Standing) (q : Parts) (input : List ℕ) (here : s.stage ≡ stage
         (x, rw (here, le-ltb _ _ early, le-ltb _ _ (whole b came), front b came, is) (ap (λ (k : ℕ). Got x k) (sym count)), refl, refl, rw count refl)
 
     pub header_hands : (new : Standing) (h : Header) → heading nine ≡ Ok h → new.offset ≡ s.offset + 9 → new.stop ≡ s.offset + 9 + h.length → symbols_at new.stage q new.upcoming ≡ message h
-        → HasRoom new.stage new.upcoming → new.frame ≡ s.frame → new.came ≡ 0 → IsIdle q → Hands (state_of s q) input s.offset (9 - s.came) (what.Frame h) (state_of new q)
+        → HasRoom new.stage new.upcoming → new.frame ≡ s.frame → new.came ≡ 0 → IsIdle q → Moves (state_of s q) input (advance.Event s.offset (9 - s.came) (what.Frame h)) (state_of new q)
     header_hands new h is at stop symbols room frame none idle =
         let offset : offset_at new.stage new.offset q ≡ s.offset + 9 = offset_is_bare new.stage new.offset q new.upcoming room ∙ at in
-        record {
+        (tt, record {
           within = omega arith;
-          there = tt;
           begun = begun_bare new.stage new.upcoming new.header new.came q room none idle.field;
           frame = frame;
           lent = tt;
@@ -271,4 +260,4 @@ module _ (s : Standing) (q : Parts) (input : List ℕ) (here : s.stage ≡ stage
               rw (offset, here, came) (omega (arith, kept_long));
           due = one_due_bare new.stage q new.upcoming room;
           pays = rw (here, one_due_bare new.stage q new.upcoming room) (omega arith);
-        }
+        })

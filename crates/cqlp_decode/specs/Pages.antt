@@ -70,6 +70,10 @@ IsColumn nodes depth (columns.Raw n) column index = column < n
 abbrev pub IsPage : List Node → (depth : ℕ) → Page → Type 0
 IsPage nodes depth p = IsColumn nodes depth p.columns p.column p.index × (p.row + p.left < 2 ^ 32)
 
+-- the kind of a column's type
+abbrev pub IsKind : List Node → Page → Kind → Type 0
+IsKind nodes p k = (inner others : Types) × (types_left nodes p ≡ Type_and k inner others)
+
 abbrev pub IsSomePage : List Node → Page → Type 0
 IsSomePage nodes p = (depth : ℕ) × IsPage nodes depth p
 

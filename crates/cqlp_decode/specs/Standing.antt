@@ -25,7 +25,7 @@ use Rattle.cqlp_value.specs.Inner.{Forest}
 use Rattle.cqlp_value.specs.Standing as value
 use Rattle.cqlp_value.specs.Standing.{is_under_way}
 use Rattle.cqlp_value.specs.Reading as taking
-use Rattle.cqlp_value.specs.Pushing.{is_done, begun}
+use Rattle.cqlp_value.specs.Pushing.{is_done}
 use Rattle.cqlp_message.specs.Productions.{Symbol, Stream, Extra, In_type}
 use Rattle.cqlp_decode.specs.declared.table.Want.{Want}
 use Rattle.cqlp_decode.specs.declared.table.Due.{Due}
@@ -38,9 +38,11 @@ use Rattle.cqlp_decode.specs.declared.standing.What.TheVariants as what
 use Rattle.cqlp_decode.specs.declared.standing.Advance.{Advance}
 use Rattle.cqlp_decode.specs.declared.standing.Advance.TheVariants as advance
 use Rattle.cqlp_decode.specs.declared.standing.Standing.{Standing}
+use Rattle.cqlp_decode.specs.declared.standing.Taken.{Taken}
+use Rattle.cqlp_value.specs.Contents.{value_of as scalar_value}
 use Rattle.cqlp_decode.specs.declared.page.Page.{Page}
 use Rattle.cqlp_decode.specs.Upcoming.{symbols_in, wanted, behind, IsRead}
-use Rattle.cqlp_decode.specs.Pages.{page_symbols, node_by, IsPage}
+use Rattle.cqlp_decode.specs.Pages.{cells_from, page_symbols, node_by, IsPage}
 use Rattle.cqlp_decode.specs.Reading as reading
 use Rattle.cqlp_decode.specs.Reading.{Place, Event, step}
 
@@ -124,21 +126,20 @@ pub record Waits (old : State) (input : List ℕ) (used : ℕ) (new : State) : T
   pub waits : (b : List ℕ) → IsPending old.pending b → (told old (b ++ input) ≡ More) × IsPending new.pending (b ++ input)
 
 -- The first `used` bytes of the input end what is under way, which is this event.
-pub record Hands (old : State) (input : List ℕ) (at used : ℕ) (w : What) (new : State) : Type 0 where
+pub record Hands (old : State) (input : List ℕ) (at used : ℕ) (e : Event) (new : State) : Type 0 where
   pub within : used ≤ length input
-  pub there : WhatThere new.held input w
   pub begun : IsPending new.pending []
-  pub frame : new.frame ≡ frame_after old.frame at (event_at new.held input w)
-  pub lent : IsLent (event_at new.held input w) used new.held
-  pub gives : (b : List ℕ) → IsPending old.pending b → Gives old (b ++ input) at (event_at new.held input w) (length b + used) new.place
+  pub frame : new.frame ≡ frame_after old.frame at e
+  pub lent : IsLent e used new.held
+  pub gives : (b : List ℕ) → IsPending old.pending b → Gives old (b ++ input) at e (length b + used) new.place
   pub offset : (b : List ℕ) → IsPending old.pending b → new.place.offset ≡ old.place.offset + (length b + used)
-  pub due : ends_due new.place.symbols ≡ due_after (event_at new.held input w)
+  pub due : ends_due new.place.symbols ≡ due_after e
   pub pays : ends_due new.place.symbols + new.open_values < ends_due old.place.symbols + old.open_values + 2 * used
 
 -- What one call does, from a state without a refusal.
 abbrev pub Moves : State → List ℕ → Advance → State → Type 0
 Moves old input (advance.More used) new = Waits old input used new
-Moves old input (advance.Event at used w) new = Hands old input at used w new
+Moves old input (advance.Event at used w) new = WhatThere new.held input w × Hands old input at used (event_at new.held input w) new
 Moves old input (advance.Refused r) new = (b : List ℕ) → IsPending old.pending b → told old (b ++ input) ≡ Bad (r.at, r.why)
 
 abbrev pub refusal_in : Advance → Option Refusal
@@ -152,6 +153,12 @@ AdvancesFrom None old input a new = Moves old input a new × (new.refusal ≡ re
 
 abbrev pub Advances : State → List ℕ → Advance → State → Type 0
 Advances old input a new = AdvancesFrom old.refusal old input a new
+
+-- Where a scalar is the cell that is due, and its bytes are all there, it is taken; else nothing is done.
+abbrev pub Takes : State → List ℕ → Option Taken → State → Type 0
+Takes old input None new = new ≡ old
+Takes old input (Some t) new =
+    (old.refusal ≡ None) × (new.refusal ≡ None) × (new.rules ≡ old.rules) × Hands old input t.at t.used (reading.Cell_at t.row t.column (cell.Leaf 0 (scalar_value t.scalar))) new
 
 -- ---- what is inside
 
@@ -179,6 +186,7 @@ symbols_at stage.Header q upcoming = Stream ∷ []
 symbols_at (stage.Field w) q upcoming = wanted (due.Field w) ∷ rest_of upcoming
 symbols_at stage.Option q upcoming = In_type (Option_at 1 ∷ []) ∷ rest_of upcoming
 symbols_at stage.Type q upcoming = In_type q.types.symbols ∷ rest_of upcoming
+symbols_at (stage.Due p) q upcoming = cells_from q.table.nodes p ++ rest_of upcoming
 symbols_at (stage.Cell p) q upcoming = page_symbols q.table.nodes q.cells p ++ rest_of upcoming
 symbols_at stage.Extra q upcoming = Extra ∷ []
 
@@ -187,6 +195,7 @@ offset_at stage.Header offset q = offset
 offset_at (stage.Field w) offset q = offset
 offset_at stage.Option offset q = offset
 offset_at stage.Type offset q = q.types.offset
+offset_at (stage.Due p) offset q = offset
 offset_at (stage.Cell p) offset q = q.cells.offset
 offset_at stage.Extra offset q = offset
 
@@ -202,6 +211,7 @@ pending_at stage.Header header came q = Kept (take came header)
 pending_at (stage.Field w) header came q = Kept (came_of q.partial)
 pending_at stage.Option header came q = Kept []
 pending_at stage.Type header came q = Kept (type.pending q.types q.partial)
+pending_at (stage.Due p) header came q = Valued under.Nothing q.partial.seen
 pending_at (stage.Cell p) header came q = Valued q.cells.under q.partial.seen
 pending_at stage.Extra header came q = Skipped came
 
@@ -274,6 +284,7 @@ StageHolds s q stage.Header = (s.came < 9) × IsIdle q × (s.frame ≡ s.offset)
 StageHolds s q (stage.Field w) = IsWanted s q.partial w × (q.types.under_way ≡ false) × (is_under_way q.cells ≡ false)
 StageHolds s q stage.Option = IsIdle q × (s.came ≡ 0)
 StageHolds s q stage.Type = IsOption s q.partial q.types × OptionWaits q × (is_under_way q.cells ≡ false)
+StageHolds s q (stage.Due p) = IsPage q.table.nodes s.limits.depth p × IsIdle q × (s.came ≡ 0)
 StageHolds s q (stage.Cell p) = IsCell s q p × (q.types.under_way ≡ false)
 StageHolds s q stage.Extra = (s.came ≤ s.stop - s.offset) × IsIdle q
 
@@ -286,6 +297,7 @@ TableHolds l q t = Forest q.table.nodes 0 l.depth
 abbrev pub IsPlaced : Standing → Parts → Stage → Type 0
 IsPlaced s q stage.Header = (s.came < 9) × (s.frame ≡ s.offset)
 IsPlaced s q stage.Type = IsOption s q.partial q.types
+IsPlaced s q (stage.Due p) = IsPage q.table.nodes s.limits.depth p
 IsPlaced s q (stage.Cell p) = IsCell s q p
 IsPlaced s q stage.Extra = s.came ≤ s.stop - s.offset
 IsPlaced s q t = ⊤
@@ -329,15 +341,11 @@ HasRoom stage.Header upcoming = ⊥
 HasRoom (stage.Field w) upcoming = (length upcoming + behind w.role ≤ 16) × IsRead (due.Field w)
 HasRoom stage.Option upcoming = ⊤
 HasRoom stage.Type upcoming = ⊥
+HasRoom (stage.Due p) upcoming = ⊥
 HasRoom (stage.Cell p) upcoming = ⊥
 HasRoom stage.Extra upcoming = ⊤
 
--- The cell of this page has begun where the message goes on.
-pub record IsBegun (s : Standing) (nodes : List Node) (c : value.State) (p : Page) : Type 0 where
-  pub is : c ≡ begun c (node_by p.columns p.index) s.offset s.stop
-  pub page : IsPage nodes s.limits.depth p
-
--- a message goes on here, with nothing under way but a cell that has just begun
-abbrev pub Starts : Standing → List Node → value.State → Stage → Type 0
-Starts s nodes c (stage.Cell p) = IsBegun s nodes c p
-Starts s nodes c t = HasRoom t s.upcoming × (is_under_way c ≡ false)
+-- a message goes on here, with nothing under way, and perhaps with the cells of a page
+abbrev pub Starts : Standing → List Node → Stage → Type 0
+Starts s nodes (stage.Due p) = IsPage nodes s.limits.depth p
+Starts s nodes t = HasRoom t s.upcoming

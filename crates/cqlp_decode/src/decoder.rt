@@ -12,7 +12,7 @@ ghost use Rattle.cqlp_decode.specs.Standing.{levels_of};
 ghost use Rattle.cqlp_note.specs.declared.limits.BadLimits.{BadLimits as Bad};
 
 use crate::event::{Event, Finish, Held, Step};
-use crate::standing::{Advance, Standing, What};
+use crate::standing::{Advance, Standing, Taken, What};
 use cqlp_note::{BadLimits, Field, Limits, NoMemory, Partial, Prim};
 use cqlp_type::{TypeItem, TypeReader, TypeTable};
 use cqlp_value::{CellItem, CellReader};
@@ -95,7 +95,7 @@ impl<A: Allocator + Clone> Decoder<A> {
 
 impl<A: Allocator> Decoder<A> {
     ghost use Rattle.cqlp_decode.specs.Lending.{Next};
-    ghost use Rattle.cqlp_decode.specs.Standing.{Advances, WhatThere, event_at};
+    ghost use Rattle.cqlp_decode.specs.Standing.{Advances, Takes, WhatThere, event_at};
     ghost use Rattle.cqlp_decode.specs.Streams.{After, Finishes, Goes, Leads, Uses, state};
 
     /// The next event that the input leads to. The caller hands in the bytes behind those that were used, and goes on
@@ -104,6 +104,18 @@ impl<A: Allocator> Decoder<A> {
         ensures* next { sem 𝓛 (Next A.row A.Allocator self.entry (λ after. Goes (state self.old) result (state after) × ((s : List ℕ) (es : List (ℕ × reading.Event)) → After (state self.old) s es → Leads (state self.old) s es input.now result (state after)))) }
         ensures uses { Uses input.now result }
     {
+        if let Some(taken) = self.take_scalar(input) {
+            return Step::Event {
+                at: taken.at,
+                used: taken.used,
+                event: Event::Leaf {
+                    row: taken.row,
+                    column: taken.column,
+                    level: 0,
+                    scalar: taken.scalar,
+                },
+            };
+        }
         match self.advance(input) {
             Advance::More { used } => Step::More { used },
             Advance::Refused(refusal) => Step::Refused(refusal),
@@ -143,6 +155,15 @@ impl<A: Allocator> Decoder<A> {
         ensures { result.now.nodes ≡ (state self.now).place.nodes }
     {
         &self.table
+    }
+
+    /// Takes the cell that is due, where it is a scalar and all its bytes lie in the input.
+    #[inline]
+    fn take_scalar<'a>(&mut self, input: &'a [u8]) -> Option<Taken<'a>>
+        ensures { Takes (state self.old) input.now result (state self.new) }
+    {
+        self.standing
+            .take_scalar(&self.partial, &self.table, input)
     }
 
     /// The work of a call, with nothing borrowed in its result.

@@ -8,12 +8,12 @@ ghost use Rattle.cqlp_type.specs.Types.{NoMore};
 ghost use Rattle.cqlp_type.specs.declared.node.Node.{Node};
 ghost use Rattle.cqlp_decode.specs.Reading as reading;
 ghost use Rattle.cqlp_decode.specs.Reading.{page_types};
-ghost use Rattle.cqlp_decode.specs.Pages.{Begins, Follows, IsPage, IsSomePage, NextColumn, Turns, column_types, node_by};
+ghost use Rattle.cqlp_decode.specs.Pages.{Begins, Follows, IsKind, IsPage, IsSomePage, NextColumn, Turns, column_types, node_by};
 
 use crate::following::{has, number};
 use cqlp_message::Role;
 use cqlp_note::{Limits, Prim};
-use cqlp_type::TypeTable;
+use cqlp_type::{Kind, TypeTable};
 use std::alloc::Allocator;
 
 /// The types of a page's columns.
@@ -71,6 +71,17 @@ impl Page {
         match self.columns {
             Columns::Typed => Some(self.index),
             Columns::Raw(_) => None,
+        }
+    }
+
+    /// The kind of the column's type.
+    pub fn kind<A: Allocator>(&self, table: &TypeTable<A>) -> Kind
+        requires { IsSomePage table.now.nodes self.now }
+        ensures { (depth : ℕ) → IsPage table.now.nodes depth self.now → IsKind table.now.nodes self.now result }
+    {
+        match self.columns {
+            Columns::Typed => table.node(self.index).unwrap().kind,
+            Columns::Raw(_) => Kind::Raw,
         }
     }
 

@@ -10,9 +10,9 @@ use crate::page::{Page, page_behind};
 use crate::table::{Due, Want};
 use crate::upcoming::Upcoming;
 use cqlp_message::Role;
-use cqlp_note::{Field, Header, Item, Limits, Notation, Partial, Prim, Reason, Refusal, Taken};
+use cqlp_note::{self as note, Field, Header, Item, Limits, Notation, Partial, Prim, Reason, Refusal};
 use cqlp_type::{TypeAdvance, TypePart, TypeReader, TypeTable};
-use cqlp_value::{CellAdvance, CellOutline, CellReader};
+use cqlp_value::{CellAdvance, CellOutline, CellReader, Scalar, front_scalar};
 use std::alloc::Allocator;
 
 /// What is read now.
@@ -24,6 +24,8 @@ pub enum Stage {
     Option,
     /// A type option that is under way.
     Type,
+    /// A cell that is not begun.
+    Due(Page),
     /// A cell that is under way.
     Cell(Page),
     /// What is behind the last field.
@@ -39,6 +41,16 @@ pub enum What {
     /// A part of the cell of a row and a column.
     Cell(u32, u32, CellOutline),
     End(u32),
+}
+
+/// A scalar that is a cell, whose bytes are so many of the input.
+#[derive(Clone, Copy)]
+pub struct Taken<'a> {
+    pub at: u64,
+    pub used: usize,
+    pub row: u32,
+    pub column: u32,
+    pub scalar: Scalar<'a>,
 }
 
 /// What one call makes of the input, with nothing borrowed.
@@ -77,7 +89,7 @@ impl Standing {
     ghost use Rattle.cqlp_type.specs.Table.{Table};
     ghost use Rattle.cqlp_type.specs.Standing as type;
     ghost use Rattle.cqlp_type.specs.Standing.{started};
-    ghost use Rattle.cqlp_value.specs.Standing.{is_under_way};
+    ghost use Rattle.cqlp_value.specs.Standing.{ended, is_under_way};
     ghost use Rattle.cqlp_value.specs.Standing as value;
     ghost use Rattle.cqlp_message.specs.Productions.{Extra, following, message};
     ghost use Rattle.cqlp_decode.specs.Reading as reading;
@@ -85,7 +97,7 @@ impl Standing {
     ghost use Rattle.cqlp_decode.specs.Streams.{After, Finishes};
     ghost use Rattle.cqlp_decode.specs.Upcoming.{behind, symbols_in};
     ghost use Rattle.cqlp_decode.specs.declared.standing.Stage.TheVariants as stage;
-    ghost use Rattle.cqlp_decode.specs.Standing.{Advances, HasParts, HasRoom, IsAsked, IsBounded, IsIdle, IsLawful, IsPending, IsPlaced, IsWanted, Kept, Moves, Parts, Starts, asked, parts, refusal_in, rest_of, state_of, symbols_at};
+    ghost use Rattle.cqlp_decode.specs.Standing.{Advances, HasParts, HasRoom, IsAsked, IsBounded, IsIdle, IsLawful, IsPending, IsPlaced, IsWanted, Kept, Moves, Parts, Starts, Takes, asked, parts, refusal_in, rest_of, state_of, symbols_at};
     ghost use Rattle.cqlp_decode.specs.Pages.{IsPage, cells_behind, node_by};
     ghost use Rattle.cqlp_decode.specs.Reading.{types_for};
     ghost use Rattle.cqlp_value.specs.Inner.{Forest};
@@ -169,7 +181,7 @@ impl Standing {
     {
         match self.stage {
             Stage::Header | Stage::Extra => self.offset + self.came,
-            Stage::Option => self.offset,
+            Stage::Option | Stage::Due(_) => self.offset,
             Stage::Field(_) => self.offset + came_of_field(partial),
             Stage::Type => types.offset() + came_of_field(partial),
             Stage::Cell(_) => cells.bytes_used(partial),
@@ -201,12 +213,16 @@ impl Standing {
     {
         match self.stage {
             Stage::Header => self.advance_header(input),
-            Stage::Field(want) => self.advance_field(partial, cells, table, want, input),
+            Stage::Field(want) => self.advance_field(partial, table, want, input),
             Stage::Option => {
                 self.begin_option(types);
                 self.advance_option(partial, types, table, input)
             }
             Stage::Type => self.advance_option(partial, types, table, input),
+            Stage::Due(page) => {
+                self.begin_cell(page, cells);
+                self.advance_cell(partial, cells, table, page, input)
+            }
             Stage::Cell(page) => self.advance_cell(partial, cells, table, page, input),
             Stage::Extra => self.advance_extra(input),
         }
@@ -306,7 +322,6 @@ impl Standing {
     fn advance_field<A: Allocator>(
         &mut self,
         partial: &mut Partial<A>,
-        cells: &mut CellReader<A>,
         table: &mut TypeTable<A>,
         want: Want,
         input: &[u8],
@@ -315,19 +330,18 @@ impl Standing {
         requires here { self.old.stage ≡ stage.Field want }
         requires wanted { IsWanted self.old partial.old want }
         requires room { partial.old.room ≡ max self.old.limits.text self.old.limits.cell }
-        requires idle { is_under_way cells.old ≡ false }
         requires forest { Forest table.old.nodes 0 self.old.limits.depth }
         requires unrefused { self.old.refusal ≡ None }
-        ensures lawful { (r : type.Standing) → IsLawful self.old (parts partial.old r cells.old table.old) → IsLawful self.new (parts partial.new r cells.new table.new) }
-        ensures moves { (r : type.Standing) → Moves (state_of self.old (parts partial.old r cells.old table.old)) input.now result (state_of self.new (parts partial.new r cells.new table.new)) }
+        ensures lawful { (r : type.Standing) (c : value.State) → IsLawful self.old (parts partial.old r c table.old) → IsLawful self.new (parts partial.new r c table.new) }
+        ensures moves { (r : type.Standing) (c : value.State) → Moves (state_of self.old (parts partial.old r c table.old)) input.now result (state_of self.new (parts partial.new r c table.new)) }
         ensures rest { (self.new.refusal ≡ None) × (self.new.limits ≡ self.old.limits) }
     {
         self.ask(partial, want);
         let came = partial.came();
         match partial.advance(input) {
-            Taken::More { used } => Advance::More { used },
-            Taken::Refused(refusal) => Advance::Refused(refusal),
-            Taken::Got { used, item } => {
+            note::Taken::More { used } => Advance::More { used },
+            note::Taken::Refused(refusal) => Advance::Refused(refusal),
+            note::Taken::Got { used, item } => {
                 let value = partial.lend(input, item);
                 if let Some(why) = fault_in(want.role, value) {
                     return Advance::Refused(Refusal {
@@ -338,7 +352,7 @@ impl Standing {
                 let at = self.offset;
                 self.offset += came + used as u64;
                 begin_metadata(want.role, table);
-                self.follow(want.role, value, cells, table);
+                self.follow(want.role, value, table);
                 Advance::Event {
                     at,
                     used,
@@ -362,27 +376,70 @@ impl Standing {
     }
 
     /// Goes on behind a field: with the cells of a page, or with what is due next in the message.
-    fn follow<A: Allocator>(
-        &mut self,
-        role: Role,
-        value: Prim<'_>,
-        cells: &mut CellReader<A>,
-        table: &TypeTable<A>,
-    )
+    fn follow<A: Allocator>(&mut self, role: Role, value: Prim<'_>, table: &TypeTable<A>)
         requires room { length self.old.upcoming + behind role ≤ 16 }
-        requires idle { is_under_way cells.old ≡ false }
-        requires inside { self.old.offset ≤ self.old.stop }
         requires forest { Forest table.now.nodes 0 self.old.limits.depth }
-        ensures symbols { (q : Parts) → q.cells ≡ cells.new → q.table.nodes ≡ table.now.nodes → symbols_at self.new.stage q self.new.upcoming ≡ following (types_for self.old.limits.types role table.now.nodes reading.Nothing) role (value_of value.entry) ++ rest_of self.old.upcoming }
+        ensures symbols { (q : Parts) → q.table.nodes ≡ table.now.nodes → symbols_at self.new.stage q self.new.upcoming ≡ following (types_for self.old.limits.types role table.now.nodes reading.Nothing) role (value_of value.entry) ++ rest_of self.old.upcoming }
         ensures rest { self.new ≡ record self.old { stage = self.new.stage; upcoming = self.new.upcoming } }
-        ensures starts { Starts self.new table.now.nodes cells.new self.new.stage }
-        ensures cells_are { (cells.new.rules ≡ cells.old.rules) × (length cells.new.open_values ≤ length cells.old.open_values) }
+        ensures starts { Starts self.new table.now.nodes self.new.stage }
     {
         if let Some(page) = page_behind(&self.limits, role, value, table) {
-            return self.begin_cell(page, cells);
+            self.stage = Stage::Due(page);
+            return;
         }
         self.upcoming.follow(role, value);
         self.go_on();
+    }
+
+    /// Takes the cell that is due, where it is a scalar and all its bytes lie in the input.
+    #[inline]
+    pub fn take_scalar<'a, A: Allocator>(
+        &mut self,
+        partial: &Partial<A>,
+        table: &TypeTable<A>,
+        input: &'a [u8],
+    ) -> Option<Taken<'a>>
+        requires lawful { (r : type.Standing) × (c : value.State) × IsLawful self.old (parts partial.now r c table.now) }
+        ensures lawful { (r : type.Standing) (c : value.State) → IsLawful self.old (parts partial.now r c table.now) → IsLawful self.new (parts partial.now r c table.now) }
+        ensures takes { (r : type.Standing) (c : value.State) → IsLawful self.old (parts partial.now r c table.now) → Takes (state_of self.old (parts partial.now r c table.now)) input.now result (state_of self.new (parts partial.now r c table.now)) }
+    {
+        let Stage::Due(page) = self.stage else {
+            return None;
+        };
+        if partial.held() > 0 {
+            return None;
+        }
+        if let Some(_) = self.refusal {
+            return None;
+        }
+        let kind = page.kind(table);
+        let room = self.stop - self.offset;
+        let Some(front) = front_scalar(&self.limits, kind, room, input) else {
+            return None;
+        };
+        let taken = Taken {
+            at: self.offset,
+            used: front.used,
+            row: page.row,
+            column: page.column,
+            scalar: front.scalar,
+        };
+        self.offset += front.used as u64;
+        self.turn(page, table);
+        Some(taken)
+    }
+
+    /// Goes on behind a cell: with the next cell of its page, or with what is due next in the message.
+    fn turn<A: Allocator>(&mut self, page: Page, table: &TypeTable<A>)
+        requires page { IsPage table.now.nodes self.old.limits.depth page }
+        ensures symbols { (q : Parts) → q.table.nodes ≡ table.now.nodes → symbols_at self.new.stage q self.new.upcoming ≡ cells_behind table.now.nodes page ++ rest_of self.old.upcoming }
+        ensures rest { self.new ≡ record self.old { stage = self.new.stage; upcoming = self.new.upcoming } }
+        ensures starts { Starts self.new table.now.nodes self.new.stage }
+    {
+        match page.next(table) {
+            Some(page) => self.stage = Stage::Due(page),
+            None => self.go_on(),
+        }
     }
 
     /// Begins the cell of a page that is due.
@@ -495,7 +552,7 @@ impl Standing {
         }
     }
 
-    /// Goes on behind a cell that is whole: with the next cell of the page, or with what is due next in the message.
+    /// Goes on behind a cell that is whole.
     fn end_cell<A: Allocator>(
         &mut self,
         page: Page,
@@ -503,18 +560,14 @@ impl Standing {
         table: &TypeTable<A>,
     )
         requires page { IsPage table.now.nodes self.old.limits.depth page }
-        requires inside { cells.old.offset ≤ self.old.stop }
-        ensures symbols { (q : Parts) → q.cells ≡ cells.new → q.table.nodes ≡ table.now.nodes → symbols_at self.new.stage q self.new.upcoming ≡ cells_behind table.now.nodes page ++ rest_of self.old.upcoming }
+        ensures symbols { (q : Parts) → q.table.nodes ≡ table.now.nodes → symbols_at self.new.stage q self.new.upcoming ≡ cells_behind table.now.nodes page ++ rest_of self.old.upcoming }
         ensures rest { self.new ≡ record self.old { offset = cells.old.offset; stage = self.new.stage; upcoming = self.new.upcoming } }
-        ensures starts { Starts self.new table.now.nodes cells.new self.new.stage }
-        ensures cells_are { (cells.new.rules ≡ cells.old.rules) × (cells.new.open_values ≡ []) }
+        ensures starts { Starts self.new table.now.nodes self.new.stage }
+        ensures cells_are { cells.new ≡ ended cells.old }
     {
         self.offset = cells.offset();
         cells.stop();
-        match page.next(table) {
-            Some(page) => self.begin_cell(page, cells),
-            None => self.go_on(),
-        }
+        self.turn(page, table);
     }
 
     fn advance_extra(&mut self, input: &[u8]) -> Advance

@@ -20,3 +20,4 @@ pub mod Leavings
 pub mod ReadBack
 pub mod SpelledRead
 pub mod Fronts
+pub mod OneValue

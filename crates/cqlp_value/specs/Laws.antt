@@ -24,3 +24,7 @@ SpelledIsRead = (l : Rules) (k : Kind) (inner : Types) (v : Values) (at stop : �
 -- The bytes that spell a value are as many as its size says.
 abbrev pub SpelledIsLong : Type 0
 SpelledIsLong = (k : Kind) (inner : Types) (v : Values) (b : List ℕ) → ValueSpells k inner v b → length b ≡ values_size v
+
+-- Bytes spell at most one value of a type.
+abbrev pub OneSpelled : Type 0
+OneSpelled = (k : Kind) (inner : Types) (v w : Values) (b : List ℕ) → ValueSpells k inner v b → ValueSpells k inner w b → v ≡ w
