@@ -315,11 +315,10 @@ refused 36 Overrun
 ];
 
 /// A page whose types are not asked for.
-pub(crate) static UNTYPED: [Vector; 1] = [
-    Vector {
-        name: "types_that_are_not_asked_for",
-        stream: "84 00 00 00 08 00000022 00000002 00000001 00000001 0001 6b 0001 74 0001 63 0009 00000001 00000003 010203",
-        lines: "\
+pub(crate) static UNTYPED: [Vector; 1] = [Vector {
+    name: "types_that_are_not_asked_for",
+    stream: "84 00 00 00 08 00000022 00000002 00000001 00000001 0001 6b 0001 74 0001 63 0009 00000001 00000003 010203",
+    lines: "\
 0 Frame response 00 0 RESULT 34
 9 Int ResultKind 2
 13 Int MetaFlags 1
@@ -333,8 +332,7 @@ pub(crate) static UNTYPED: [Vector; 1] = [
 43 End 0
 whole 43
 ",
-    },
-];
+}];
 
 /// Long contents, where they are asked for in parts.
 pub(crate) static BLOBS_IN_PARTS: [Vector; 3] = [
