@@ -8,7 +8,8 @@ use Rattle.cqlp_decode.specs.declared.standing.Stage.{Stage}
 use Rattle.cqlp_decode.specs.declared.standing.Stage.TheVariants as stage
 use Rattle.cqlp_decode.specs.declared.standing.Standing.{Standing}
 use Rattle.cqlp_decode.specs.Reading.{Event}
-use Rattle.cqlp_decode.specs.Standing.{Parts, state_of, IsBounded, IsPlaced, IsPending}
+use Rattle.cqlp_decode.specs.Standing.{Parts, state_of, rest_of, ends_due, IsBounded, IsPlaced, IsPending}
+use Rattle.cqlp_decode.proofs.Columns.{cells_due, page_due}
 use Rattle.cqlp_decode.specs.Streams.{AfterBy, Stands, FinishesBy, is_open, frame_of}
 
 closed : (b : Bool) → ◌≡◌ {A = ℕ} 0 (if b then 1 else 0) → b ≡ false
@@ -28,7 +29,7 @@ module _ (s : Standing) (q : Parts) (bytes : List ℕ) (es : List (ℕ × Event)
       (omega arith, closed (is_open es) (rw here at st.due), omega (arith, st.frame))
 
   -- within a frame
-  pub cut_is : (t : Stage) → s.stage ≡ t → IsPlaced s q.partial q.types t → IsBounded s → (s.stage ≡ stage.Header → s.came ≡ 0 → ⊥) → is_open es ≡ false → frame_of es < length bytes
+  pub cut_is : (t : Stage) → s.stage ≡ t → IsPlaced s q t → IsBounded s → (s.stage ≡ stage.Header → s.came ≡ 0 → ⊥) → is_open es ≡ false → frame_of es < length bytes
   cut_is stage.Header here h bounded some shut =
       let came : length st.bytes ≡ s.came = ap length (rw here at st.pending) ∙ length-take-le s.came s.header (omega (arith, h.0, bounded.long)) in
       let count : length bytes ≡ s.offset + length st.bytes = rw here at st.count in
@@ -36,6 +37,12 @@ module _ (s : Standing) (q : Parts) (bytes : List ℕ) (es : List (ℕ × Event)
   cut_is (stage.Field w) here h bounded some shut = absurd (opened (is_open es) (rw here at st.due) shut)
   cut_is stage.Option here h bounded some shut = absurd (opened (is_open es) (rw here at st.due) shut)
   cut_is stage.Type here h bounded some shut = absurd (opened (is_open es) (rw here at st.due) shut)
+  cut_is (stage.Due p) here h bounded some shut =
+      let one : ends_due (state_of s q).place.symbols ≡ 1 = rw here (cells_due q.table.nodes s.limits.depth p (rest_of s.upcoming) h.0) in
+      absurd (opened (is_open es) (sym one ∙ st.due) shut)
+  cut_is (stage.Cell p) here h bounded some shut =
+      let one : ends_due (state_of s q).place.symbols ≡ 1 = rw here (page_due q.table.nodes s.limits.depth q.cells p (rest_of s.upcoming) h.page.0) in
+      absurd (opened (is_open es) (sym one ∙ st.due) shut)
   cut_is stage.Extra here h bounded some shut = absurd (opened (is_open es) (rw here at st.due) shut)
 
 module _ (s : Standing) (q : Parts) (bytes : List ℕ) (es : List (ℕ × Event)) where
@@ -43,7 +50,7 @@ module _ (s : Standing) (q : Parts) (bytes : List ℕ) (es : List (ℕ × Event)
   finishes_whole (Some r) none here came start after = absurd cc
   finishes_whole None none here came start after = whole_is s q bytes es after here came start
 
-  pub finishes_cut : (o : Option Refusal) → o ≡ None → (used : ℕ) → ((b : List ℕ) → IsPending (state_of s q).pending b → used ≡ (state_of s q).place.offset + length b) → IsPlaced s q.partial q.types s.stage → IsBounded s → (s.stage ≡ stage.Header → s.came ≡ 0 → ⊥)
+  pub finishes_cut : (o : Option Refusal) → o ≡ None → (used : ℕ) → ((b : List ℕ) → IsPending (state_of s q).pending b → used ≡ (state_of s q).place.offset + length b) → IsPlaced s q s.stage → IsBounded s → (s.stage ≡ stage.Header → s.came ≡ 0 → ⊥)
       → AfterBy o (state_of s q) bytes es → FinishesBy o bytes es (finish.Cut s.frame used)
   finishes_cut (Some r) none used is h bounded some after = absurd cc
   finishes_cut None none used is h bounded some after =

@@ -1,6 +1,6 @@
 -- One step of a field.
 use Rattle.std.proofs.Common.{◌≡◌, ℕ, ◌+◌, ◌-◌, ◌<◌, ◌≤◌, List, [], ◌∷◌, ◌++◌, length, take, drop, refl, sym, ap, ◌∙◌, inl, inr, arith, length-append}
-use Rattle.std.specs.Prelude.{Some, None}
+use Rattle.std.specs.Prelude.{Some, None, Bool, false, max}
 use Rattle.std.proofs.lemmas.Bool.{cases_lt, lt-ltb, le-ltb}
 use Rattle.std.proofs.lemmas.List.{append-nil}
 use Rattle.cqlp_note.specs.declared.refusal.Reason.{Reason}
@@ -18,6 +18,11 @@ use Rattle.cqlp_note.proofs.Fronts.{fixed_overruns, fixed_wanting, fixed_taken}
 use Rattle.cqlp_type.specs.Types.{Types}
 use Rattle.cqlp_type.specs.Table.{Table}
 use Rattle.cqlp_type.specs.Standing as type
+use Rattle.cqlp_type.specs.declared.node.Node.{Node}
+use Rattle.cqlp_value.specs.Standing as value
+use Rattle.cqlp_value.specs.Standing.{is_under_way}
+use Rattle.cqlp_value.specs.Inner.{Forest}
+use Rattle.cqlp_value.proofs.Columns.{forest_none}
 use Rattle.cqlp_message.specs.declared.grammar.Role.{Role}
 use Rattle.cqlp_message.specs.declared.grammar.Role.TheVariants as role
 use Rattle.cqlp_message.specs.Productions.{Symbol, following, fault_in}
@@ -25,12 +30,13 @@ use Rattle.cqlp_decode.specs.declared.table.Want.{Want}
 use Rattle.cqlp_decode.specs.declared.table.Due.TheVariants as due
 use Rattle.cqlp_decode.specs.declared.standing.Stage.TheVariants as stage
 use Rattle.cqlp_decode.specs.declared.standing.Standing.{Standing}
+use Rattle.cqlp_decode.specs.declared.standing.Advance.TheVariants as advance
 use Rattle.cqlp_decode.specs.declared.standing.What.TheVariants as what
 use Rattle.cqlp_decode.specs.Upcoming.{wanted}
 use Rattle.cqlp_decode.specs.Reading as reading
 use Rattle.cqlp_decode.specs.Reading.{Place, value_step, types_for, nodes_after, given_after, Nothing}
-use Rattle.cqlp_decode.specs.Standing.{IsPending, Parts, parts, state_of, place_at, offset_at, symbols_at, rest_of, came_of, told, Gives, Waits, Hands, IsAsked, IsWanted, asked, HasRoom}
-use Rattle.cqlp_decode.proofs.Steps.{begun, one_due, offset_is}
+use Rattle.cqlp_decode.specs.Standing.{IsPending, Parts, parts, state_of, place_at, offset_at, symbols_at, rest_of, came_of, told, Gives, Waits, Moves, IsAsked, IsWanted, IsBounded, HasParts, IsIdle, IsLawful, asked, Starts}
+use Rattle.cqlp_decode.proofs.Steps.{begun, one_due, offset_is, fresh_stage, fresh_table}
 
 -- ---- fields
 
@@ -108,17 +114,17 @@ module _ (s : Standing) (q : Parts) (w : Want) (here : s.stage ≡ stage.Field w
       (x, told_is ∙ (after_got s.offset (reader_of (asked s w)) next_step 0 bytes v k m).1 ∙ rw fine refl, refl, refl, rw (given_none w.role) refl)
 
 -- what a piece of input makes of a field that is wanted, and was begun
-module _ (s : Standing) (old p : Progress) (r : type.Standing) (t : Table) (w : Want) (input : List ℕ) (here : s.stage ≡ stage.Field w) (a : IsAsked s old p w) where
+module _ (s : Standing) (old p : Progress) (r : type.Standing) (d : value.State) (t : Table) (w : Want) (input : List ℕ) (here : s.stage ≡ stage.Field w) (a : IsAsked s old p w) where
   abbrev before : Parts
-  before = parts old r t
+  before = parts old r d t
 
   pending_is : (b : List ℕ) → IsPending (state_of s before).pending b → b ≡ p.seen
   pending_is b is = let e : b ≡ came_of old = rw here at is in e ∙ sym a.seen
 
-  pub piece_waits : (new : Progress) (used : ℕ) → partial.Waits p input used new → Waits (state_of s before) input used (state_of s (parts new r t))
+  pub piece_waits : (new : Progress) (used : ℕ) → partial.Waits p input used new → Waits (state_of s before) input used (state_of s (parts new r d t))
   piece_waits new used m = record {
     all = m.all;
-    place = refl;
+    place = rw here refl;
     frame = refl;
     waits = λ b is.
         let seen : came_of new ≡ p.seen ++ input = rw m.under_way refl in
@@ -133,24 +139,24 @@ module _ (s : Standing) (old p : Progress) (r : type.Standing) (t : Table) (w : 
     piece_faults why fault b is = rw (pending_is b is) (field_faults s before w here (p.seen ++ input) v (length p.seen + used) why (rw a.field at m.is) fault)
 
     pub piece_hands : (e : Standing) (t' : Table) (i : Item) → v ≡ item_value i input new.content → CanLend i input new.content → fault_in w.role v ≡ None → IsWanted s old w
-        → e.offset ≡ s.offset + (length p.seen + used) → e.stop ≡ s.stop → e.frame ≡ s.frame → e.came ≡ 0 → HasRoom e.stage e.upcoming → t'.nodes ≡ nodes_after w.role t.nodes
-        → symbols_at e.stage r e.upcoming ≡ following (types_for s.limits.types w.role t.nodes Nothing) w.role v ++ rest_of s.upcoming
-        → Hands (state_of s before) input s.offset used (what.Holds w.field i) (state_of e (parts new r t'))
-    piece_hands e t' i is there fine law at stop frame none room nodes symbols =
-        let offset : offset_at e.stage e.offset r ≡ s.offset + (length p.seen + used) = offset_is e.stage e.offset r e.upcoming room ∙ at in
-        record {
+        → e.offset ≡ s.offset + (length p.seen + used) → e.stop ≡ s.stop → e.frame ≡ s.frame → e.came ≡ 0 → Starts e t'.nodes e.stage → t'.nodes ≡ nodes_after w.role t.nodes
+        → symbols_at e.stage (parts new r d t') e.upcoming ≡ following (types_for s.limits.types w.role t.nodes Nothing) w.role v ++ rest_of s.upcoming
+        → Moves (state_of s before) input (advance.Event s.offset used (what.Holds w.field i)) (state_of e (parts new r d t'))
+    piece_hands e t' i is there fine law at stop frame none start nodes symbols =
+        let q : Parts = parts new r d t' in
+        let offset : offset_at e.stage e.offset q ≡ s.offset + (length p.seen + used) = offset_is e e.stage q start ∙ at in
+        (there, record {
           within = m.within;
-          there = there;
-          begun = begun e.stage e.upcoming e.header e.came (parts new r t') room none (ap (λ (z : Progress). z.under_way) m.idle);
+          begun = begun e e.stage e.header e.came q start none (ap (λ (z : Progress). z.under_way) m.idle);
           frame = frame;
           lent = rw (← is) m.lent;
           gives = λ b pending.
               let g = field_gives s before w here (p.seen ++ input) v (length p.seen + used) (rw a.field at m.is) fine in
               rw (pending_is b pending, ← is) (g.0, g.1, g.2, g.3, g.4 ∙ (λ j. place_at (sym offset j) (sym stop j) (sym symbols j) (sym nodes j)));
           offset = λ b pending. rw (pending_is b pending, offset, here) refl;
-          due = one_due e.stage r e.upcoming room;
-          pays = rw (here, one_due e.stage r e.upcoming room) (omega (arith, some));
-        }
+          due = one_due e e.stage q start;
+          pays = rw (here, one_due e e.stage q start) (omega (arith, some));
+        })
       where
         some : 0 < used
         some = elim (cases_lt 0 (length (came_of old))) [
@@ -167,3 +173,31 @@ module _ (s : Standing) (old p : Progress) (w : Want) (input : List ℕ) (a : Is
   piece_inside used v m inside =
       let r = got_inside w.notation (limit_of (rules_of s.limits) w.notation) (s.stop - s.offset) (p.seen ++ input) v (length p.seen + used) (rw a.field at m.is) (omega (arith, m.within, length-append p.seen input)) in
       omega (arith, r)
+
+-- ---- where a message goes on behind a field
+
+-- metadata begins with no types; else they stay
+pub metadata_forest : (r : Role) (nodes : List Node) (depth : ℕ) → Forest nodes 0 depth → Forest (nodes_after r nodes) 0 depth
+metadata_forest (role.MetaFlags rows) nodes depth f = forest_none depth
+metadata_forest role.PreparedFlags nodes depth f = forest_none depth
+metadata_forest r nodes depth f = f
+
+-- what follows a field goes by the types before it
+pub following_there : (r : Role) (v : FieldValue) (types : Bool) (nodes after : List Node) (rest : List Symbol) → after ≡ nodes_after r nodes
+    → following (types_for types r after Nothing) r v ++ rest ≡ following (types_for types r nodes Nothing) r v ++ rest
+following_there (role.PageRows flags columns) v types nodes after rest e = rw e refl
+following_there r v types nodes after rest e = refl
+
+module _ (s e : Standing) (q : Parts) (p : Progress) (r : type.Standing) (d : value.State) (t : Table) (n : ℕ) (law : IsLawful s q) (offset : e.offset ≡ s.offset + n) (inside : s.offset + n ≤ s.stop) (stop : e.stop ≡ s.stop) (limits : e.limits ≡ s.limits) (header : e.header ≡ s.header) (came : e.came ≡ 0)
+    (room : p.room ≡ q.partial.room) (idle : p.under_way ≡ false) (rules : r.rules ≡ q.types.rules) (types : r.under_way ≡ false) (cells : d.rules ≡ q.cells.rules) (idle_cells : is_under_way d ≡ false) (table : t.room ≡ q.table.room) (forest : Forest t.nodes 0 s.limits.depth) (starts : Starts e t.nodes e.stage) where
+  pub goes_on_lawful : IsLawful e (parts p r d t)
+  goes_on_lawful =
+      let z : Parts = parts p r d t in
+      let bounded : IsBounded e = record { long = ap (λ (h : List ℕ). length h) header ∙ law.bounded.long; inside = omega (arith, law.bounded.inside); size = omega (arith, law.bounded.size); bound = omega (arith, law.bounded.bound) } in
+      let parts : HasParts e z = rw limits (record { room = room ∙ law.parts.room; rules = rules ∙ law.parts.rules; cells = cells ∙ law.parts.cells; table = table ∙ law.parts.table }) in
+      record {
+        bounded = bounded;
+        parts = parts;
+        stage = fresh_stage e z e.stage starts (record { field = idle; types = types; cells = idle_cells }) came;
+        table = λ none. fresh_table e z e.stage starts (rw limits forest);
+      }

@@ -15,7 +15,7 @@ use Rattle.cqlp_decode.specs.declared.event.Step.TheVariants as steps
 use Rattle.cqlp_decode.specs.Reading as reading
 use Rattle.cqlp_decode.specs.Reading.{Place, step, start, Reads}
 use Rattle.cqlp_decode.specs.Events.{event_of}
-use Rattle.cqlp_decode.specs.Standing.{State, AdvancesFrom, event_at, frame_after, due_after}
+use Rattle.cqlp_decode.specs.Standing.{State, AdvancesFrom, Hands, event_at, frame_after, due_after}
 use Rattle.cqlp_decode.specs.Streams.{AfterBy, Leads, Goes, frame_from, frame_of, open_after, open_from}
 
 -- ---- one more event
@@ -61,16 +61,14 @@ module _ (old new : State) (input s : List ℕ) (es : List (ℕ × reading.Event
         (old.place, after.bytes ++ input, run, rw m.0 tt),
       )
 
-  pub event_leads : (o : Option Refusal) (at used : ℕ) (w : What) (e : Event) → event_of e ≡ event_at new.held input w → AdvancesFrom o old input (advance.Event at used w) new → AfterBy o old s es → Leads old s es input (steps.Event at used e) new
-  event_leads (Some r) at used w e is a after = absurd (let e = a.0 in cc)
-  event_leads None at used w e is a after =
-      let h = a.0 in
+  pub hands_leads : (at used : ℕ) (e : Event) → Hands old input at used (event_of e) new → new.refusal ≡ None → new.rules ≡ old.rules → AfterBy None old s es → Leads old s es input (steps.Event at used e) new
+  hands_leads at used e h none rules after =
       let t = take used input in
       let g = h.gives after.bytes after.pending in
       let long : length t ≡ used = length-take-le used input h.within in
       let one = says_exact (step old.rules old.place) after.bytes input g.0 used g.1 in
-      let run = run_more old.rules old.place new.place s after.bytes t es at (event_of e) g.0 after.read (rw long one) g.2 (g.3 ∙ sym is) (rw long g.4) in
-      rw (a.1, a.2) (
+      let run = run_more old.rules old.place new.place s after.bytes t es at (event_of e) g.0 after.read (rw long one) g.2 g.3 (rw long g.4) in
+      rw (none, rules) (
         h.within,
         refl,
         h.begun,
@@ -79,10 +77,14 @@ module _ (old new : State) (input s : List ℕ) (es : List (ℕ × reading.Event
           pending = h.begun;
           read = run;
           count = omega (arith, h.offset after.bytes after.pending, after.count, length-append s t, long);
-          frame = h.frame ∙ ap (λ (f : ℕ). frame_after f at (event_at new.held input w)) after.frame ∙ ap (λ (x : reading.Event). frame_after (frame_of es) at x) (sym is) ∙ sym (frame_more 0 es at (event_of e));
-          due = h.due ∙ ap due_after (sym is) ∙ due_is (event_of e) ∙ ap (λ (b : Bool). if b then 1 else 0) (sym (open_more false es at (event_of e)));
+          frame = h.frame ∙ ap (λ (f : ℕ). frame_after f at (event_of e)) after.frame ∙ sym (frame_more 0 es at (event_of e));
+          due = h.due ∙ due_is (event_of e) ∙ ap (λ (b : Bool). if b then 1 else 0) (sym (open_more false es at (event_of e)));
         },
       )
+
+  pub event_leads : (o : Option Refusal) (at used : ℕ) (w : What) (e : Event) → event_of e ≡ event_at new.held input w → AdvancesFrom o old input (advance.Event at used w) new → AfterBy o old s es → Leads old s es input (steps.Event at used e) new
+  event_leads (Some r) at used w e is a after = absurd (let e = a.0 in cc)
+  event_leads None at used w e is a after = hands_leads at used e (rw is a.0.1) a.1 a.2 after
 
   pub refused_leads : (o : Option Refusal) → old.refusal ≡ o → (r : Refusal) → AdvancesFrom o old input (advance.Refused r) new → AfterBy o old s es → Leads old s es input (steps.Refused r) new
   refused_leads (Some before) eq r a after =
@@ -99,7 +101,7 @@ module _ (old new : State) (input s : List ℕ) (es : List (ℕ × reading.Event
 
   pub event_uses : (o : Option Refusal) (at used : ℕ) (w : What) → AdvancesFrom o old input (advance.Event at used w) new → used ≤ length input
   event_uses (Some r) at used w a = absurd (let e = a.0 in cc)
-  event_uses None at used w a = a.0.within
+  event_uses None at used w a = a.0.1.within
 
   pub more_goes : (o : Option Refusal) (used : ℕ) → AdvancesFrom o old input (advance.More used) new → Goes old (steps.More used) new
   more_goes (Some r) used a = absurd (let e = a.0 in cc)
@@ -107,7 +109,7 @@ module _ (old new : State) (input s : List ℕ) (es : List (ℕ × reading.Event
 
   pub event_goes : (o : Option Refusal) (at used : ℕ) (w : What) (e : Event) → event_of e ≡ event_at new.held input w → AdvancesFrom o old input (advance.Event at used w) new → Goes old (steps.Event at used e) new
   event_goes (Some r) at used w e is a = absurd (let e = a.0 in cc)
-  event_goes None at used w e is a = (a.0.pays, rw is a.0.lent, a.2)
+  event_goes None at used w e is a = (a.0.1.pays, rw is a.0.1.lent, a.2)
 
   pub refused_goes : (o : Option Refusal) → old.refusal ≡ o → (r : Refusal) → AdvancesFrom o old input (advance.Refused r) new → Goes old (steps.Refused r) new
   refused_goes (Some before) eq r a =

@@ -1,13 +1,16 @@
 pub mod Stack
+pub mod Columns
 pub mod Steps
 pub mod FieldSteps
 pub mod OptionSteps
+pub mod CellSteps
 pub mod Leads
 pub mod Ends
 pub mod Gets
 pub mod Whole
 pub mod Rows
 pub mod MetadataRows
+pub mod PageRows
 pub mod StepRuns
 pub mod PartsRead
 pub mod FramesRead

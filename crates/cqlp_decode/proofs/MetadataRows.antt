@@ -45,7 +45,7 @@ user_defined_type : reading limits 80 start (132 ∷ 0 ∷ 0 ∷ 0 ∷ 8 ∷ 0 �
 unfolding heading field_of number_of content_of is_utf8 chars encode
 user_defined_type = refl
 
-rows_of_no_columns : reading limits 33 start (132 ∷ 0 ∷ 0 ∷ 0 ∷ 8 ∷ 0 ∷ 0 ∷ 0 ∷ 16 ∷ 0 ∷ 0 ∷ 0 ∷ 2 ∷ 0 ∷ 0 ∷ 0 ∷ 4 ∷ 0 ∷ 0 ∷ 0 ∷ 0 ∷ 127 ∷ 255 ∷ 255 ∷ 255 ∷ []) ≡ ((0, Frame (record { response = true; flags = 0; stream = pos 0; opcode = opcode.Result; length = 16 })) ∷ (9, Holds field.ResultKind (note.Int (pos 2))) ∷ (13, Holds field.MetaFlags (note.Int (pos 4))) ∷ (17, Holds field.Columns (note.Count 0)) ∷ (21, Holds field.Rows (note.Count 2147483647)) ∷ (25, End 0) ∷ [], Waits)
+rows_of_no_columns : reading limits 33 start (132 ∷ 0 ∷ 0 ∷ 0 ∷ 8 ∷ 0 ∷ 0 ∷ 0 ∷ 16 ∷ 0 ∷ 0 ∷ 0 ∷ 2 ∷ 0 ∷ 0 ∷ 0 ∷ 4 ∷ 0 ∷ 0 ∷ 0 ∷ 0 ∷ 0 ∷ 0 ∷ 0 ∷ 3 ∷ []) ≡ ((0, Frame (record { response = true; flags = 0; stream = pos 0; opcode = opcode.Result; length = 16 })) ∷ (9, Holds field.ResultKind (note.Int (pos 2))) ∷ (13, Holds field.MetaFlags (note.Int (pos 4))) ∷ (17, Holds field.Columns (note.Count 0)) ∷ (21, Holds field.Rows (note.Count 3)) ∷ (25, End 0) ∷ [], Waits)
 unfolding heading field_of number_of content_of is_utf8 chars encode
 rows_of_no_columns = refl
 

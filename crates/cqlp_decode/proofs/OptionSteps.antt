@@ -1,5 +1,5 @@
 -- One step of a type option.
-use Rattle.std.proofs.Common.{◌≡◌, ℕ, ◌+◌, ◌-◌, ◌<◌, ◌≤◌, false, ltb, leb, List, [], ◌∷◌, ◌++◌, length, refl, sym, ap, ◌∙◌, inl, inr, arith}
+use Rattle.std.proofs.Common.{◌≡◌, ℕ, ◌+◌, ◌-◌, ◌<◌, ◌≤◌, false, ltb, leb, List, [], ◌∷◌, ◌++◌, length, take, refl, sym, ap, subst, ◌∙◌, inl, inr, arith}
 use Rattle.std.specs.Prelude.{Option, Some, None}
 use Rattle.std.specs.Int.{w16, from_be_bytes}
 use Rattle.std.proofs.lemmas.Bool.{cases_lt}
@@ -27,11 +27,17 @@ use Rattle.cqlp_type.specs.Remaining as part
 use Rattle.cqlp_message.specs.Productions.{Symbol, In_type}
 use Rattle.cqlp_decode.specs.declared.standing.Stage.TheVariants as stage
 use Rattle.cqlp_decode.specs.declared.standing.Standing.{Standing}
+use Rattle.cqlp_decode.specs.declared.standing.Advance.TheVariants as advance
 use Rattle.cqlp_decode.specs.declared.standing.What.TheVariants as what
 use Rattle.cqlp_decode.specs.Reading.{Place, type_event, types_left, place_of_types}
-use Rattle.cqlp_decode.specs.Standing.{IsPending, Parts, parts, state_of, place_at, offset_at, symbols_at, rest_of, told, Gives, Waits, Hands, IsLent, due_after, frame_after, ends_due, HasRoom, IsOption, OptionWaits}
-use Rattle.cqlp_decode.proofs.Steps.{begun, one_due, offset_is}
-use Rattle.cqlp_decode.proofs.FieldSteps.{used_some}
+use Rattle.cqlp_decode.specs.Standing.{IsPending, Parts, parts, state_of, place_at, offset_at, symbols_at, rest_of, told, Gives, Waits, Moves, IsLent, due_after, frame_after, ends_due, HasRoom, IsOption, OptionWaits, OptionRuns, IsLawful, StageHolds, TableHolds}
+use Rattle.cqlp_decode.specs.declared.standing.Stage.{Stage}
+use Rattle.cqlp_decode.proofs.Steps.{starts_bare, begun_bare, one_due_bare, offset_is_bare}
+use Rattle.cqlp_decode.proofs.FieldSteps.{used_some, goes_on_lawful}
+use Rattle.cqlp_type.proofs.Pushes.{option_begun, option_waited, option_handed, option_over}
+use Rattle.cqlp_value.specs.Inner.{Forest}
+use Rattle.cqlp_value.specs.Standing.{is_under_way}
+use Rattle.cqlp_value.proofs.Columns.{forest_more}
 
 -- ---- the place after a step is as far on as it takes bytes
 
@@ -100,7 +106,7 @@ module _ (s : Standing) (q : Parts) (here : s.stage ≡ stage.Type) (o : IsOptio
   pending_is : (b : List ℕ) → IsPending (state_of s q).pending b → b ≡ pending q.types q.partial
   pending_is b is = rw here at is
 
-  pub option_waits : (input : List ℕ) (used : ℕ) (r' : type.Standing) (p' : Progress) (t' : Table) → type.Waits q.types q.partial q.table input used r' p' t' → Waits (state_of s q) input used (state_of s (parts p' r' t'))
+  pub option_waits : (input : List ℕ) (used : ℕ) (r' : type.Standing) (p' : Progress) (t' : Table) → type.Waits q.types q.partial q.table input used r' p' t' → Waits (state_of s q) input used (state_of s (parts p' r' q.cells t'))
   option_waits input used r' p' t' m =
       let offset : r'.offset ≡ q.types.offset = ap (λ (z : type.Standing). z.offset) m.reader in
       let symbols : r'.symbols ≡ q.types.symbols = ap (λ (z : type.Standing). z.symbols) m.reader in
@@ -142,23 +148,22 @@ module _ (s : Standing) (q : Parts) (here : s.stage ≡ stage.Type) (o : IsOptio
     )
 
     -- the place that the decoder stands at then
-    module _ (e : Standing) (q' : Parts) (content : q'.partial.content ≡ p'.content) (nodes : q'.table.nodes ≡ t'.nodes) (offset : offset_at e.stage e.offset q'.types ≡ r'.offset) (stop : e.stop ≡ s.stop) (frame : e.frame ≡ s.frame)
-        (symbols : symbols_at e.stage q'.types e.upcoming ≡ types_left r'.symbols ++ rest) (fresh : IsPending (state_of e q').pending []) (one : ends_due (symbols_at e.stage q'.types e.upcoming) ≡ 1) where
-      pub option_hands : Hands (state_of s q) input at used (what.Option x) (state_of e q')
-      option_hands = record {
+    module _ (e : Standing) (q' : Parts) (content : q'.partial.content ≡ p'.content) (nodes : q'.table.nodes ≡ t'.nodes) (offset : offset_at e.stage e.offset q' ≡ r'.offset) (stop : e.stop ≡ s.stop) (frame : e.frame ≡ s.frame)
+        (symbols : symbols_at e.stage q' e.upcoming ≡ types_left r'.symbols ++ rest) (fresh : IsPending (state_of e q').pending []) (one : ends_due (symbols_at e.stage q' e.upcoming) ≡ 1) (cells : q'.cells ≡ q.cells) where
+      pub option_hands : Moves (state_of s q) input (advance.Event at used (what.Option x)) (state_of e q')
+      option_hands = (rw content m.can_lend, record {
         within = m.within;
-        there = rw content m.can_lend;
         begun = fresh;
         frame = frame ∙ sym (same_frame s.frame at (part.event_at x input q'.partial.content));
         lent = is_lent (part.event_at x input q'.partial.content) used q'.partial.content (rw content m.lent);
         gives = λ b is.
             let g = option_gives in
             let stopped : r'.stop ≡ s.stop = ap (λ (z : type.Standing). z.stop) m.reader ∙ o.stop in
-            rw (pending_is b is, content) (g.0, g.1, g.2, g.3, g.4 ∙ (λ j. place_at (sym offset j) ((stopped ∙ sym stop) j) (sym symbols j) (sym nodes j)));
+            rw (pending_is b is) (g.0, g.1, g.2, g.3 ∙ ap (λ (z : List ℕ). type_event (part.event_at x input z)) (sym content), g.4 ∙ (λ j. place_at (sym offset j) ((stopped ∙ sym stop) j) (sym symbols j) (sym nodes j)));
         offset = λ b is. rw (pending_is b is, offset, here) option_on;
         due = one ∙ sym (no_end (part.event_at x input q'.partial.content));
-        pays = rw (here, one) (omega (arith, some));
-      }
+        pays = rw (here, one, cells) (omega (arith, some));
+      })
 
     -- the reader of the option, after a part of it
     began : r'.begun ≡ false
@@ -168,11 +173,123 @@ module _ (s : Standing) (q : Parts) (here : s.stage ≡ stage.Type) (o : IsOptio
     none_pending = rw began refl
 
     -- the option goes on
-    pub still_hands : (r'.symbols ≡ [] → ⊥) → Hands (state_of s q) input at used (what.Option x) (state_of s (parts p' r' t'))
-    still_hands more = option_hands s (parts p' r' t') refl refl (rw here refl) refl refl (rw here (sym (left_some r'.symbols rest more))) (rw (here, none_pending) refl) (rw here refl)
+    pub still_hands : (r'.symbols ≡ [] → ⊥) → Moves (state_of s q) input (advance.Event at used (what.Option x)) (state_of s (parts p' r' q.cells t'))
+    still_hands more = option_hands s (parts p' r' q.cells t') refl refl (rw here refl) refl refl (rw here (sym (left_some r'.symbols rest more))) (rw (here, none_pending) refl) (rw here refl) refl
 
     -- the option is whole
-    module _ (whole : r'.symbols ≡ []) (e : Standing) (r'' : type.Standing) (offset : e.offset ≡ r'.offset) (stop : e.stop ≡ s.stop) (frame : e.frame ≡ s.frame) (came : e.came ≡ 0) (symbols : symbols_at e.stage r'' e.upcoming ≡ rest)
+    module _ (whole : r'.symbols ≡ []) (e : Standing) (r'' : type.Standing) (offset : e.offset ≡ r'.offset) (stop : e.stop ≡ s.stop) (frame : e.frame ≡ s.frame) (came : e.came ≡ 0) (symbols : (z : Parts) → symbols_at e.stage z e.upcoming ≡ rest)
         (room : HasRoom e.stage e.upcoming) where
-      pub ended_hands : Hands (state_of s q) input at used (what.Option x) (state_of e (parts p' r'' t'))
-      ended_hands = option_hands e (parts p' r'' t') refl refl (offset_is e.stage e.offset r'' e.upcoming room ∙ offset) stop frame (rw whole symbols) (begun e.stage e.upcoming e.header e.came (parts p' r'' t') room came (m.shared.same ∙ began)) (one_due e.stage r'' e.upcoming room)
+      pub ended_hands : Moves (state_of s q) input (advance.Event at used (what.Option x)) (state_of e (parts p' r'' q.cells t'))
+      ended_hands =
+          let z : Parts = parts p' r'' q.cells t' in
+          option_hands e z refl refl (offset_is_bare e.stage e.offset z e.upcoming room ∙ offset) stop frame (rw whole (symbols z)) (begun_bare e.stage e.upcoming e.header e.came z room came (m.shared.same ∙ began)) (one_due_bare e.stage z e.upcoming room) refl
+
+  -- ---- what holds of the decoder then
+
+  stage_there : (z : Parts) → StageHolds s z stage.Type → StageHolds s z s.stage
+  stage_there z h = subst (λ (t : Stage). StageHolds s z t) (sym here) h
+
+  table_there : (z : Parts) → OptionRuns (rules_of s.limits) z → TableHolds (rules_of s.limits) z s.stage
+  table_there z h = subst (λ (t : Stage). TableHolds (rules_of s.limits) z t) (sym here) h
+
+  module _ (law : IsLawful s q) (unrefused : s.refusal ≡ None) where
+    run : OptionRuns (rules_of s.limits) q
+    run = rw here at (law.table unrefused)
+
+    idle_cells : is_under_way q.cells ≡ false
+    idle_cells = let stage = rw here at law.stage in stage.2
+
+    pub option_more_lawful : (input : List ℕ) (used : ℕ) (r' : type.Standing) (p' : Progress) (t' : Table) → type.Waits q.types q.partial q.table input used r' p' t' → IsLawful s (parts p' r' q.cells t')
+    option_more_lawful input used r' p' t' m =
+        let z : Parts = parts p' r' q.cells t' in
+        let same = m.reader in
+        let rules : r'.rules ≡ q.types.rules = ap (λ (x : type.Standing). x.rules) same in
+        let place : place_of r' t'.nodes ≡ place_of q.types q.table.nodes = rw (same, m.table) refl in
+        record {
+          bounded = law.bounded;
+          parts = record { room = m.room ∙ law.parts.room; rules = rules ∙ law.parts.rules; cells = law.parts.cells; table = rw m.table law.parts.table };
+          stage = stage_there z (
+            record {
+              under_way = ap (λ (x : type.Standing). x.under_way) same ∙ o.under_way;
+              some = λ none. o.some (sym (ap (λ (x : type.Standing). x.symbols) same) ∙ none);
+              shared = m.shared;
+              stop = ap (λ (x : type.Standing). x.stop) same ∙ o.stop;
+              behind = omega (arith, o.behind, ap (λ (x : type.Standing). x.offset) same);
+              inside = omega (arith, o.inside, ap (λ (x : type.Standing). x.offset) same);
+              came = o.came;
+            },
+            λ some. (λ i. says (type_step (rules i) (place i)) 0 (m.pending i)) ∙ m.is,
+            idle_cells,
+          );
+          table = λ none. table_there z (record { begun = run.begun; first = run.first; before = run.before; bytes = run.bytes ++ input; items = run.items; runs = option_waited q.types q.partial q.table input r' p' t' used m run.begun run.bytes run.items run.runs });
+        }
+
+    module _ (input : List ℕ) (at used : ℕ) (x : TypePart) (r' : type.Standing) (p' : Progress) (t' : Table) (m : type.Ends q.types q.partial q.table input at used x r' p' t') (inside : r'.offset ≤ s.stop) where
+      pub option_still_lawful : (r'.symbols ≡ [] → ⊥) → IsLawful s (parts p' r' q.cells t')
+      option_still_lawful some =
+          let z : Parts = parts p' r' q.cells t' in
+          let same = m.reader in
+          let begun : r'.begun ≡ false = ap (λ (y : type.Standing). y.begun) same in
+          record {
+            bounded = law.bounded;
+            parts = record { room = m.room ∙ law.parts.room; rules = ap (λ (y : type.Standing). y.rules) same ∙ law.parts.rules; cells = law.parts.cells; table = m.table ∙ law.parts.table };
+            stage = stage_there z (
+              record { under_way = ap (λ (y : type.Standing). y.under_way) same; some = some; shared = m.shared; stop = ap (λ (y : type.Standing). y.stop) same ∙ o.stop; behind = omega (arith, o.behind, m.forward); inside = inside; came = o.came },
+              λ long. let none : length (pending r' p') ≡ 0 = rw begun refl in absurd (omega arith),
+              idle_cells,
+            );
+            table = λ none. table_there z (record {
+              begun = run.begun;
+              first = run.first;
+              before = run.before;
+              bytes = run.bytes ++ take used input;
+              items = run.items ++ (at, part.event_at x input p'.content) ∷ [];
+              runs = option_handed q.types q.partial q.table input r' p' t' at used x m run.begun run.bytes run.items run.runs;
+            });
+          }
+
+      pub option_ended_lawful : r'.symbols ≡ [] → (e : Standing) (r'' : type.Standing) → r'' ≡ type.stopped r' → e.offset ≡ r'.offset → e.stop ≡ s.stop → e.limits ≡ s.limits → e.header ≡ s.header → e.came ≡ s.came → HasRoom e.stage e.upcoming → IsLawful e (parts p' r'' q.cells t')
+      option_ended_lawful whole e r'' over offset stop limits header came room =
+          let same = m.reader in
+          let rules : r'.rules ≡ rules_of s.limits = ap (λ (y : type.Standing). y.rules) same ∙ law.parts.rules in
+          let begun : r'.begun ≡ false = ap (λ (y : type.Standing). y.begun) same in
+          let is = option_over run.begun 1 r' p' t' (run.bytes ++ take used input) (run.items ++ (at, part.event_at x input p'.content) ∷ []) run.first (option_handed q.types q.partial q.table input r' p' t' at used x m run.begun run.bytes run.items run.runs) whole begun in
+          let forest : Forest t'.nodes 0 s.limits.depth = forest_more (rules_of s.limits) run.begun.offset run.begun.nodes (run.bytes ++ take used input) (run.items ++ (at, part.event_at x input p'.content) ∷ []) t'.nodes run.before (rw rules at is) in
+          goes_on_lawful s e q p' r'' q.cells t' (r'.offset - s.offset) law (omega (arith, offset, o.behind, m.forward)) (omega (arith, inside, o.behind, m.forward)) stop limits header (came ∙ o.came)
+          m.room (m.shared.same ∙ begun) (rw over (ap (λ (y : type.Standing). y.rules) same)) (rw over refl) refl idle_cells m.table forest (starts_bare e t'.nodes e.stage room)
+
+-- ---- an option begins
+
+module _ (s : Standing) (q : Parts) (here : s.stage ≡ stage.Option) where
+  pub option_begun_same : state_of (record s { stage = stage.Type }) (parts q.partial (type.started q.types s.offset s.stop) q.cells q.table) ≡ state_of s q
+  option_begun_same = rw here refl
+
+  pub option_begun_lawful : IsLawful s q → s.refusal ≡ None → IsLawful (record s { stage = stage.Type }) (parts q.partial (type.started q.types s.offset s.stop) q.cells q.table)
+  option_begun_lawful law unrefused =
+      let idle = rw here at law.stage in
+      let forest : Forest q.table.nodes 0 s.limits.depth = rw here at (law.table unrefused) in
+      record {
+        bounded = record { long = law.bounded.long; inside = law.bounded.inside; size = law.bounded.size; bound = law.bounded.bound };
+        parts = record { room = law.parts.room; rules = law.parts.rules; cells = law.parts.cells; table = law.parts.table };
+        stage = (
+          record {
+            under_way = refl;
+            some = λ none. cc;
+            shared = record { room = rw (law.parts.rules, law.parts.room) (omega arith); same = idle.0.field; item = λ begun. absurd cc; taken = λ begun. absurd cc };
+            stop = refl;
+            behind = omega arith;
+            inside = law.bounded.inside;
+            came = idle.1;
+          },
+          λ long. absurd (omega arith),
+          idle.0.cells,
+        );
+        table = λ none. record {
+          begun = record { offset = s.offset; stop = s.stop; symbols = Option_at 1 ∷ []; nodes = q.table.nodes };
+          first = refl;
+          before = forest;
+          bytes = [];
+          items = [];
+          runs = option_begun q.types q.partial q.table s.offset s.stop;
+        };
+      }

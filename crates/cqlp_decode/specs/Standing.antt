@@ -8,12 +8,24 @@ use Rattle.cqlp_note.specs.Reader.{Said, More, Bad, Got, says}
 use Rattle.cqlp_note.specs.Step.{Emitted}
 use Rattle.cqlp_note.specs.Limits.{Rules, rules_of, limit_of}
 use Rattle.cqlp_note.specs.Partial.{Progress, item_value, CanLend, content_length}
-use Rattle.cqlp_type.specs.TypeStep.{Option_at}
+use Rattle.cqlp_type.specs.TypeStep.{Option_at, TypeEvent, TypePlace}
 use Rattle.cqlp_type.specs.declared.node.Node.{Node}
 use Rattle.cqlp_type.specs.Table.{Table}
 use Rattle.cqlp_type.specs.Standing as type
 use Rattle.cqlp_type.specs.Standing.{IsShared, CanLendPart}
 use Rattle.cqlp_type.specs.Remaining as part
+use Rattle.cqlp_type.specs.Pushing as option
+use Rattle.cqlp_value.specs.declared.standing.Next.TheVariants as next
+use Rattle.cqlp_value.specs.declared.standing.Under.{Under}
+use Rattle.cqlp_value.specs.declared.standing.Under.TheVariants as under
+use Rattle.cqlp_value.specs.CellStep as cell
+use Rattle.cqlp_value.specs.Items as cells
+use Rattle.cqlp_value.specs.Scalars.{content_size}
+use Rattle.cqlp_value.specs.Inner.{Forest}
+use Rattle.cqlp_value.specs.Standing as value
+use Rattle.cqlp_value.specs.Standing.{is_under_way}
+use Rattle.cqlp_value.specs.Reading as taking
+use Rattle.cqlp_value.specs.Pushing.{is_done}
 use Rattle.cqlp_message.specs.Productions.{Symbol, Stream, Extra, In_type}
 use Rattle.cqlp_decode.specs.declared.table.Want.{Want}
 use Rattle.cqlp_decode.specs.declared.table.Due.{Due}
@@ -26,22 +38,30 @@ use Rattle.cqlp_decode.specs.declared.standing.What.TheVariants as what
 use Rattle.cqlp_decode.specs.declared.standing.Advance.{Advance}
 use Rattle.cqlp_decode.specs.declared.standing.Advance.TheVariants as advance
 use Rattle.cqlp_decode.specs.declared.standing.Standing.{Standing}
+use Rattle.cqlp_decode.specs.declared.standing.Taken.{Taken}
+use Rattle.cqlp_value.specs.Contents.{value_of as scalar_value}
+use Rattle.cqlp_decode.specs.declared.page.Page.{Page}
 use Rattle.cqlp_decode.specs.Upcoming.{symbols_in, wanted, behind, IsRead}
+use Rattle.cqlp_decode.specs.Pages.{cells_from, page_symbols, node_by, IsPage}
 use Rattle.cqlp_decode.specs.Reading as reading
 use Rattle.cqlp_decode.specs.Reading.{Place, Event, step}
 
--- The bytes of what is under way that have come: they are kept, or so many were skipped.
+-- The bytes of what is under way that have come: they are kept, or so many were skipped, or they are those of a value
+-- whose length may have come before them.
 pub data Pending : Type 0 where
   Kept : List ℕ → Pending
   Skipped : ℕ → Pending
+  Valued : Under → List ℕ → Pending
 
 -- these may be the bytes under way
 abbrev pub IsPending : Pending → List ℕ → Type 0
 IsPending (Kept bytes) b = b ≡ bytes
 IsPending (Skipped n) b = length b ≡ n
+IsPending (Valued u seen) b = taking.HaveCome b u seen
 
 -- What a decoder knows of its stream: the caller's rules, the place before what is under way, what has come of it,
--- the start of the frame under way, the refusal if there was one, and the content that is held.
+-- the start of the frame under way, the refusal if there was one, the content that is held, and how many values of a
+-- cell are open.
 pub record State : Type 0 where
   pub rules : Rules
   pub place : Place
@@ -49,6 +69,7 @@ pub record State : Type 0 where
   pub frame : ℕ
   pub refusal : Option Refusal
   pub held : List ℕ
+  pub open_values : ℕ
 
 -- ---- one step
 
@@ -56,6 +77,7 @@ abbrev pub event_at : (held input : List ℕ) → What → Event
 event_at held input (what.Frame h) = reading.Frame h
 event_at held input (what.Holds f i) = reading.Holds f (item_value i input held)
 event_at held input (what.Option q) = reading.type_event (part.event_at q input held)
+event_at held input (what.Cell row column i) = reading.cell_event row column (cells.event_at i input held)
 event_at held input (what.End n) = reading.End n
 
 -- its content can be lent
@@ -63,11 +85,14 @@ abbrev pub WhatThere : (held input : List ℕ) → What → Type 0
 WhatThere held input (what.Frame h) = ⊤
 WhatThere held input (what.Holds f i) = CanLend i input held
 WhatThere held input (what.Option q) = CanLendPart q input held
+WhatThere held input (what.Cell row column i) = cells.CanLend i input held
 WhatThere held input (what.End n) = ⊤
 
 -- a content that lies whole in the bytes that a call used is not held
 abbrev pub IsLent : Event → (used : ℕ) → (held : List ℕ) → Type 0
 IsLent (reading.Holds f v) used held = content_length v ≤ used → held ≡ []
+IsLent (reading.Cell_at row column (cell.Leaf level v)) used held = content_size v ≤ used → held ≡ []
+IsLent (reading.Cell_at row column (cell.Part level offset c last)) used held = length c ≤ used → held ≡ []
 IsLent e used held = ⊤
 
 -- the start of the frame under way, after an event: an end's offset is the next frame's start
@@ -101,21 +126,20 @@ pub record Waits (old : State) (input : List ℕ) (used : ℕ) (new : State) : T
   pub waits : (b : List ℕ) → IsPending old.pending b → (told old (b ++ input) ≡ More) × IsPending new.pending (b ++ input)
 
 -- The first `used` bytes of the input end what is under way, which is this event.
-pub record Hands (old : State) (input : List ℕ) (at used : ℕ) (w : What) (new : State) : Type 0 where
+pub record Hands (old : State) (input : List ℕ) (at used : ℕ) (e : Event) (new : State) : Type 0 where
   pub within : used ≤ length input
-  pub there : WhatThere new.held input w
   pub begun : IsPending new.pending []
-  pub frame : new.frame ≡ frame_after old.frame at (event_at new.held input w)
-  pub lent : IsLent (event_at new.held input w) used new.held
-  pub gives : (b : List ℕ) → IsPending old.pending b → Gives old (b ++ input) at (event_at new.held input w) (length b + used) new.place
+  pub frame : new.frame ≡ frame_after old.frame at e
+  pub lent : IsLent e used new.held
+  pub gives : (b : List ℕ) → IsPending old.pending b → Gives old (b ++ input) at e (length b + used) new.place
   pub offset : (b : List ℕ) → IsPending old.pending b → new.place.offset ≡ old.place.offset + (length b + used)
-  pub due : ends_due new.place.symbols ≡ due_after (event_at new.held input w)
-  pub pays : ends_due new.place.symbols < ends_due old.place.symbols + 2 * used
+  pub due : ends_due new.place.symbols ≡ due_after e
+  pub pays : ends_due new.place.symbols + new.open_values < ends_due old.place.symbols + old.open_values + 2 * used
 
 -- What one call does, from a state without a refusal.
 abbrev pub Moves : State → List ℕ → Advance → State → Type 0
 Moves old input (advance.More used) new = Waits old input used new
-Moves old input (advance.Event at used w) new = Hands old input at used w new
+Moves old input (advance.Event at used w) new = WhatThere new.held input w × Hands old input at used (event_at new.held input w) new
 Moves old input (advance.Refused r) new = (b : List ℕ) → IsPending old.pending b → told old (b ++ input) ≡ Bad (r.at, r.why)
 
 abbrev pub refusal_in : Advance → Option Refusal
@@ -130,35 +154,50 @@ AdvancesFrom None old input a new = Moves old input a new × (new.refusal ≡ re
 abbrev pub Advances : State → List ℕ → Advance → State → Type 0
 Advances old input a new = AdvancesFrom old.refusal old input a new
 
+-- Where a scalar is the cell that is due, and its bytes are all there, it is taken; else nothing is done.
+abbrev pub Takes : State → List ℕ → Option Taken → State → Type 0
+Takes old input None new = new ≡ old
+Takes old input (Some t) new =
+    (old.refusal ≡ None) × (new.refusal ≡ None) × (new.rules ≡ old.rules) × Hands old input t.at t.used (reading.Cell_at t.row t.column (cell.Leaf 0 (scalar_value t.scalar))) new
+
 -- ---- what is inside
 
--- The parts of a decoder that own memory: the field under way, the type option under way, and the types of the metadata
--- begun last.
+-- The parts of a decoder that own memory: the field under way, the type option under way, the cell under way, and the
+-- types of the metadata begun last.
 pub record Parts : Type 0 where
   pub partial : Progress
   pub types : type.Standing
+  pub cells : value.State
   pub table : Table
 
-abbrev pub parts : Progress → type.Standing → Table → Parts
-parts p r t = record { partial = p; types = r; table = t }
+abbrev pub parts : Progress → type.Standing → value.State → Table → Parts
+parts p r c t = record { partial = p; types = r; cells = c; table = t }
+
+-- the types or the values around the one that is read
+abbrev pub levels_of : Parts → ℕ
+levels_of q = max q.types.height (length q.cells.open_values)
 
 -- behind what is read now
 abbrev pub rest_of : List Slot → List Symbol
 rest_of upcoming = symbols_in upcoming ++ Extra ∷ []
 
-abbrev pub symbols_at : Stage → type.Standing → List Slot → List Symbol
-symbols_at stage.Header r upcoming = Stream ∷ []
-symbols_at (stage.Field w) r upcoming = wanted (due.Field w) ∷ rest_of upcoming
-symbols_at stage.Option r upcoming = In_type (Option_at 1 ∷ []) ∷ rest_of upcoming
-symbols_at stage.Type r upcoming = In_type r.symbols ∷ rest_of upcoming
-symbols_at stage.Extra r upcoming = Extra ∷ []
+abbrev pub symbols_at : Stage → Parts → List Slot → List Symbol
+symbols_at stage.Header q upcoming = Stream ∷ []
+symbols_at (stage.Field w) q upcoming = wanted (due.Field w) ∷ rest_of upcoming
+symbols_at stage.Option q upcoming = In_type (Option_at 1 ∷ []) ∷ rest_of upcoming
+symbols_at stage.Type q upcoming = In_type q.types.symbols ∷ rest_of upcoming
+symbols_at (stage.Due p) q upcoming = cells_from q.table.nodes p ++ rest_of upcoming
+symbols_at (stage.Cell p) q upcoming = page_symbols q.table.nodes q.cells p ++ rest_of upcoming
+symbols_at stage.Extra q upcoming = Extra ∷ []
 
-abbrev pub offset_at : Stage → (offset : ℕ) → type.Standing → ℕ
-offset_at stage.Header offset r = offset
-offset_at (stage.Field w) offset r = offset
-offset_at stage.Option offset r = offset
-offset_at stage.Type offset r = r.offset
-offset_at stage.Extra offset r = offset
+abbrev pub offset_at : Stage → (offset : ℕ) → Parts → ℕ
+offset_at stage.Header offset q = offset
+offset_at (stage.Field w) offset q = offset
+offset_at stage.Option offset q = offset
+offset_at stage.Type offset q = q.types.offset
+offset_at (stage.Due p) offset q = offset
+offset_at (stage.Cell p) offset q = q.cells.offset
+offset_at stage.Extra offset q = offset
 
 abbrev pub place_at : (offset stop : ℕ) → List Symbol → List Node → Place
 place_at offset stop symbols nodes = record { offset = offset; stop = stop; symbols = symbols; nodes = nodes; given = reading.Nothing }
@@ -172,22 +211,26 @@ pending_at stage.Header header came q = Kept (take came header)
 pending_at (stage.Field w) header came q = Kept (came_of q.partial)
 pending_at stage.Option header came q = Kept []
 pending_at stage.Type header came q = Kept (type.pending q.types q.partial)
+pending_at (stage.Due p) header came q = Valued under.Nothing q.partial.seen
+pending_at (stage.Cell p) header came q = Valued q.cells.under q.partial.seen
 pending_at stage.Extra header came q = Skipped came
 
 abbrev pub state_of : Standing → Parts → State
 state_of s q = record {
   rules = rules_of s.limits;
-  place = place_at (offset_at s.stage s.offset q.types) s.stop (symbols_at s.stage q.types s.upcoming) q.table.nodes;
+  place = place_at (offset_at s.stage s.offset q) s.stop (symbols_at s.stage q s.upcoming) q.table.nodes;
   pending = pending_at s.stage s.header s.came q;
   frame = s.frame;
   refusal = s.refusal;
   held = q.partial.content;
+  open_values = length q.cells.open_values;
 }
 
--- no field and no type option is under way
+-- no field, no type option and no cell is under way
 pub record IsIdle (q : Parts) : Type 0 where
   pub field : q.partial.under_way ≡ false
   pub types : q.types.under_way ≡ false
+  pub cells : is_under_way q.cells ≡ false
 
 -- the field that is asked for
 abbrev pub asked : Standing → Want → Wanted
@@ -215,19 +258,49 @@ pub record IsOption (s : Standing) (p : Progress) (r : type.Standing) : Type 0 w
 abbrev pub OptionWaits : Parts → Type 0
 OptionWaits q = 0 < length (type.pending q.types q.partial) → type.told q.types q.table.nodes (type.pending q.types q.partial) ≡ More
 
+-- The type option under way began behind whole types, and of it these bytes have come.
+pub record OptionRuns (l : Rules) (q : Parts) : Type 0 where
+  pub begun : TypePlace
+  pub first : begun.symbols ≡ Option_at 1 ∷ []
+  pub before : Forest begun.nodes 0 l.depth
+  pub bytes : List ℕ
+  pub items : List (ℕ × TypeEvent)
+  pub runs : option.After begun q.types q.partial q.table bytes items
+
+-- The cell under way is in this frame, and its type stands in the table.
+pub record IsCell (s : Standing) (q : Parts) (p : Page) : Type 0 where
+  pub under_way : is_under_way q.cells ≡ true
+  pub stands : value.Stands q.table.nodes q.cells
+  pub joined : taking.Joined q.table.nodes q.cells q.partial
+  pub some : is_done q.cells ≡ false
+  pub is : (n : Option ℕ) → q.cells.next ≡ next.Cell n → n ≡ node_by p.columns p.index
+  pub page : IsPage q.table.nodes s.limits.depth p
+  pub stop : q.cells.stop ≡ s.stop
+  pub behind : s.offset ≤ q.cells.offset
+  pub came : s.came ≡ 0
+
 abbrev pub StageHolds : Standing → Parts → Stage → Type 0
 StageHolds s q stage.Header = (s.came < 9) × IsIdle q × (s.frame ≡ s.offset)
-StageHolds s q (stage.Field w) = IsWanted s q.partial w × (q.types.under_way ≡ false)
+StageHolds s q (stage.Field w) = IsWanted s q.partial w × (q.types.under_way ≡ false) × (is_under_way q.cells ≡ false)
 StageHolds s q stage.Option = IsIdle q × (s.came ≡ 0)
-StageHolds s q stage.Type = IsOption s q.partial q.types × OptionWaits q
+StageHolds s q stage.Type = IsOption s q.partial q.types × OptionWaits q × (is_under_way q.cells ≡ false)
+StageHolds s q (stage.Due p) = IsPage q.table.nodes s.limits.depth p × IsIdle q × (s.came ≡ 0)
+StageHolds s q (stage.Cell p) = IsCell s q p × (q.types.under_way ≡ false)
 StageHolds s q stage.Extra = (s.came ≤ s.stop - s.offset) × IsIdle q
 
+-- what stands in the table: whole types, and one that is under way
+abbrev pub TableHolds : Rules → Parts → Stage → Type 0
+TableHolds l q stage.Type = OptionRuns l q
+TableHolds l q t = Forest q.table.nodes 0 l.depth
+
 -- the same, as far as the number of bytes goes
-abbrev pub IsPlaced : Standing → Progress → type.Standing → Stage → Type 0
-IsPlaced s p r stage.Header = (s.came < 9) × (s.frame ≡ s.offset)
-IsPlaced s p r stage.Type = IsOption s p r
-IsPlaced s p r stage.Extra = s.came ≤ s.stop - s.offset
-IsPlaced s p r t = ⊤
+abbrev pub IsPlaced : Standing → Parts → Stage → Type 0
+IsPlaced s q stage.Header = (s.came < 9) × (s.frame ≡ s.offset)
+IsPlaced s q stage.Type = IsOption s q.partial q.types
+IsPlaced s q (stage.Due p) = IsPage q.table.nodes s.limits.depth p
+IsPlaced s q (stage.Cell p) = IsCell s q p
+IsPlaced s q stage.Extra = s.came ≤ s.stop - s.offset
+IsPlaced s q t = ⊤
 
 -- A frame ends no earlier than its bytes so far, and no later than its header says.
 pub record IsBounded (s : Standing) : Type 0 where
@@ -240,12 +313,14 @@ pub record IsBounded (s : Standing) : Type 0 where
 pub record HasParts (s : Standing) (q : Parts) : Type 0 where
   pub room : q.partial.room ≡ max s.limits.text s.limits.cell
   pub rules : q.types.rules ≡ rules_of s.limits
+  pub cells : q.cells.rules ≡ rules_of s.limits
   pub table : q.table.room ≡ s.limits.entries
 
 pub record IsLawful (s : Standing) (q : Parts) : Type 0 where
   pub bounded : IsBounded s
   pub parts : HasParts s q
   pub stage : StageHolds s q s.stage
+  pub table : s.refusal ≡ None → TableHolds (rules_of s.limits) q s.stage
 
 -- the field that is wanted has begun, and as much of it has come as before
 pub record IsAsked (s : Standing) (old p : Progress) (w : Want) : Type 0 where
@@ -266,4 +341,11 @@ HasRoom stage.Header upcoming = ⊥
 HasRoom (stage.Field w) upcoming = (length upcoming + behind w.role ≤ 16) × IsRead (due.Field w)
 HasRoom stage.Option upcoming = ⊤
 HasRoom stage.Type upcoming = ⊥
+HasRoom (stage.Due p) upcoming = ⊥
+HasRoom (stage.Cell p) upcoming = ⊥
 HasRoom stage.Extra upcoming = ⊤
+
+-- a message goes on here, with nothing under way, and perhaps with the cells of a page
+abbrev pub Starts : Standing → List Node → Stage → Type 0
+Starts s nodes (stage.Due p) = IsPage nodes s.limits.depth p
+Starts s nodes t = HasRoom t s.upcoming

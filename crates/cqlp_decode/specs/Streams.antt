@@ -84,10 +84,10 @@ Uses input (step.Event at used e) = used ≤ length input
 Uses input (step.More used) = used ≡ length input
 Uses input (step.Refused r) = ⊤
 
--- A call goes on: an event takes some byte or ends its frame, and a content that lies whole in the bytes used is not
--- held. A refusal changes nothing later.
+-- A call goes on: an event takes some byte, or it ends its frame or a value that is open; and a content that lies whole
+-- in the bytes used is not held. A refusal changes nothing later.
 abbrev pub Goes : State → Step → State → Type 0
-Goes old (step.Event at used e) new = (ends_due new.place.symbols < ends_due old.place.symbols + 2 * used) × IsLent (event_of e) used new.held × (new.rules ≡ old.rules)
+Goes old (step.Event at used e) new = (ends_due new.place.symbols + new.open_values < ends_due old.place.symbols + old.open_values + 2 * used) × IsLent (event_of e) used new.held × (new.rules ≡ old.rules)
 Goes old (step.More used) new = new.rules ≡ old.rules
 Goes old (step.Refused r) new = (new.refusal ≡ Some r) × (new.rules ≡ old.rules)
 

@@ -4,14 +4,18 @@ ghost use Rattle.std.specs.Prelude.{◌≡◌, ◌≤◌, ◌↔◌, List, [], �
 ghost use Rattle.std.specs.Borrow.{sem};
 ghost use Rattle.cqlp_note.specs.Limits.{first_bad, rules_of};
 ghost use Rattle.cqlp_note.specs.Head.{value_of};
+ghost use Rattle.cqlp_value.specs.Items as cell;
 ghost use Rattle.cqlp_decode.specs.Events.{event_of};
 ghost use Rattle.cqlp_decode.specs.Reading as reading;
+ghost use Rattle.cqlp_decode.specs.Reading.{cell_event};
+ghost use Rattle.cqlp_decode.specs.Standing.{levels_of};
 ghost use Rattle.cqlp_note.specs.declared.limits.BadLimits.{BadLimits as Bad};
 
 use crate::event::{Event, Finish, Held, Step};
-use crate::standing::{Advance, Standing, What};
+use crate::standing::{Advance, Standing, Taken, What};
 use cqlp_note::{BadLimits, Field, Limits, NoMemory, Partial, Prim};
 use cqlp_type::{TypeItem, TypeReader, TypeTable};
+use cqlp_value::{CellItem, CellReader};
 use std::alloc::{Allocator, Global};
 use std::marker::Model;
 use thiserror::Error;
@@ -32,6 +36,7 @@ pub struct Decoder<A: Allocator = Global> {
     standing: Standing,
     partial: Partial<A>,
     types: TypeReader<A>,
+    cells: CellReader<A>,
     table: TypeTable<A>,
 }
 
@@ -41,21 +46,22 @@ impl<A: Allocator> Model for Decoder<A> {
 
     ghost Value = { Decoding };
 
-    ghost view = { λ d. record { standing = d.standing; parts = parts d.partial d.types d.table } };
+    ghost view = { λ d. record { standing = d.standing; parts = parts d.partial d.types d.cells d.table } };
 
-    ghost invariant = { λ d. IsLawful d.standing (parts d.partial d.types d.table) };
+    ghost invariant = { λ d. IsLawful d.standing (parts d.partial d.types d.cells d.table) };
 }
 
 impl<A: Allocator + Clone> Decoder<A> {
     ghost use Rattle.cqlp_decode.specs.Streams.{After, state};
 
     /// A decoder at the start of a stream, with room for one content of the greatest length that the limits allow, for
-    /// the types of one metadata, and for their nesting: three requests for memory, and the only ones.
+    /// the types of one metadata, for their nesting, and for that of a cell's values: four requests for memory, and the
+    /// only ones.
     pub fn new(alloc: A, limits: Limits) -> Result<Self, NewError>
         ensures bad { (b : Bad) → IsErrOf result (NewError.BadLimits b) ↔ (first_bad limits ≡ Err b) }
         ensures fresh { IfOk result (λ d. After (state d) [] []) }
         ensures rules { IfOk result (λ d. (state d).rules ≡ rules_of limits) }
-        ensures nothing_held { IfOk result (λ d. ((state d).held ≡ []) × ((state d).place.nodes ≡ []) × (d.parts.types.height ≡ 0)) }
+        ensures nothing_held { IfOk result (λ d. ((state d).held ≡ []) × ((state d).place.nodes ≡ []) × (levels_of d.parts ≡ 0)) }
     {
         if let Err(bad) = limits.check() {
             return Err(NewError::BadLimits(bad));
@@ -67,18 +73,21 @@ impl<A: Allocator + Clone> Decoder<A> {
     }
 
     fn with_room(alloc: A, limits: Limits) -> Result<Self, NoMemory>
+        requires { 1 ≤ limits.cell }
         ensures fresh { IfOk result (λ d. After (state d) [] []) }
         ensures rules { IfOk result (λ d. (state d).rules ≡ rules_of limits) }
-        ensures nothing_held { IfOk result (λ d. ((state d).held ≡ []) × ((state d).place.nodes ≡ []) × (d.parts.types.height ≡ 0)) }
+        ensures nothing_held { IfOk result (λ d. ((state d).held ≡ []) × ((state d).place.nodes ≡ []) × (levels_of d.parts ≡ 0)) }
     {
         let partial = Partial::new(alloc.clone()?, limits.text.max(limits.cell))?;
         let table = TypeTable::new(alloc.clone()?, limits.entries)?;
-        let types = TypeReader::new(alloc, &limits)?;
+        let types = TypeReader::new(alloc.clone()?, &limits)?;
+        let cells = CellReader::new(alloc, &limits)?;
         let standing = Standing::new(limits);
         Ok(Decoder {
             standing,
             partial,
             types,
+            cells,
             table,
         })
     }
@@ -86,7 +95,7 @@ impl<A: Allocator + Clone> Decoder<A> {
 
 impl<A: Allocator> Decoder<A> {
     ghost use Rattle.cqlp_decode.specs.Lending.{Next};
-    ghost use Rattle.cqlp_decode.specs.Standing.{Advances, WhatThere, event_at};
+    ghost use Rattle.cqlp_decode.specs.Standing.{Advances, Takes, WhatThere, event_at};
     ghost use Rattle.cqlp_decode.specs.Streams.{After, Finishes, Goes, Leads, Uses, state};
 
     /// The next event that the input leads to. The caller hands in the bytes behind those that were used, and goes on
@@ -95,6 +104,18 @@ impl<A: Allocator> Decoder<A> {
         ensures* next { sem 𝓛 (Next A.row A.Allocator self.entry (λ after. Goes (state self.old) result (state after) × ((s : List ℕ) (es : List (ℕ × reading.Event)) → After (state self.old) s es → Leads (state self.old) s es input.now result (state after)))) }
         ensures uses { Uses input.now result }
     {
+        if let Some(taken) = self.take_scalar(input) {
+            return Step::Event {
+                at: taken.at,
+                used: taken.used,
+                event: Event::Leaf {
+                    row: taken.row,
+                    column: taken.column,
+                    level: 0,
+                    scalar: taken.scalar,
+                },
+            };
+        }
         match self.advance(input) {
             Advance::More { used } => Step::More { used },
             Advance::Refused(refusal) => Step::Refused(refusal),
@@ -110,7 +131,7 @@ impl<A: Allocator> Decoder<A> {
     pub fn finish(&self) -> Finish
         ensures { (s : List ℕ) (es : List (ℕ × reading.Event)) → After (state self.now) s es → Finishes (state self.now) s es result }
     {
-        self.standing.finish(&self.partial, &self.types)
+        self.standing.finish(&self.partial, &self.types, &self.cells)
     }
 
     /// What is held of the stream: at most as many bytes as the greater of the limits on a text and on a cell, as many
@@ -118,14 +139,14 @@ impl<A: Allocator> Decoder<A> {
     pub fn held(&self) -> Held
         ensures bytes { result.bytes ≡ length (state self.now).held }
         ensures entries { result.entries ≡ length (state self.now).place.nodes }
-        ensures levels { result.levels ≡ self.now.parts.types.height }
+        ensures levels { result.levels ≡ levels_of self.now.parts }
         ensures bounded { let rules = (state self.now).rules in (result.bytes ≤ max rules.text rules.cell) × (result.entries ≤ rules.entries) × (result.levels ≤ rules.depth) }
     {
         let _standing = &self.standing;
         Held {
             bytes: self.partial.held(),
             entries: self.table.len(),
-            levels: self.types.held(),
+            levels: self.types.held().max(self.cells.levels()),
         }
     }
 
@@ -136,12 +157,26 @@ impl<A: Allocator> Decoder<A> {
         &self.table
     }
 
+    /// Takes the cell that is due, where it is a scalar and all its bytes lie in the input.
+    #[inline]
+    fn take_scalar<'a>(&mut self, input: &'a [u8]) -> Option<Taken<'a>>
+        ensures { Takes (state self.old) input.now result (state self.new) }
+    {
+        self.standing
+            .take_scalar(&self.partial, &self.table, input)
+    }
+
     /// The work of a call, with nothing borrowed in its result.
     fn advance(&mut self, input: &[u8]) -> Advance
         ensures { Advances (state self.old) input.now result (state self.new) }
     {
-        self.standing
-            .advance(&mut self.partial, &mut self.types, &mut self.table, input)
+        self.standing.advance(
+            &mut self.partial,
+            &mut self.types,
+            &mut self.cells,
+            &mut self.table,
+            input,
+        )
     }
 
     /// The event that `advance` made of this input.
@@ -160,8 +195,46 @@ impl<A: Allocator> Decoder<A> {
                     count,
                 },
             },
+            What::Cell(row, column, part) => event_in(row, column, part.lend(&self.partial, input)),
             What::End(extra) => Event::End { extra },
         }
+    }
+}
+
+/// The event that a cell of this row and this column holds this.
+fn event_in(row: u32, column: u32, part: CellItem<'_>) -> Event<'_>
+    ensures { event_of result ≡ cell_event row column (cell.event_of part.entry) }
+{
+    match part {
+        CellItem::Leaf { level, scalar } => Event::Leaf {
+            row,
+            column,
+            level,
+            scalar,
+        },
+        CellItem::Null { level } => Event::Null { row, column, level },
+        CellItem::Empty { level } => Event::Empty { row, column, level },
+        CellItem::Enter { level, kind, items } => Event::Enter {
+            row,
+            column,
+            level,
+            kind,
+            items,
+        },
+        CellItem::Leave { level, items } => Event::Leave { level, items },
+        CellItem::Part {
+            level,
+            offset,
+            bytes,
+            last,
+        } => Event::Part {
+            row,
+            column,
+            level,
+            offset,
+            bytes,
+            last,
+        },
     }
 }
 

@@ -4,7 +4,7 @@ ghost use Rattle.std.specs.Prelude.{◌≡◌, ◌+◌, ◌≤◌, ◌++◌, ◌
 ghost use Rattle.cqlp_note.specs.Heading.{has as has_bit};
 ghost use Rattle.cqlp_note.specs.Field.{FieldValue};
 ghost use Rattle.cqlp_note.specs.Head.{value_of};
-ghost use Rattle.cqlp_type.specs.Types.{Types};
+ghost use Rattle.cqlp_type.specs.Types.{Types, NoMore};
 ghost use Rattle.cqlp_decode.specs.Reading.{nodes_after};
 ghost use Rattle.cqlp_message.specs.Productions.{Extra, In, batch_parts, entry_parts, fault_in as fault_of, following, message, number_in, query_parts, specs, text_in};
 
@@ -41,10 +41,10 @@ impl Upcoming {
         );
     }
 
-    /// Puts what follows a field of this role, that has this value, before all else.
+    /// Puts what follows a field of this role, that has this value, before all else, but for the cells of a page.
     pub fn follow(&mut self, role: Role, value: Prim<'_>)
         requires { length self.old + behind role ≤ 16 }
-        ensures { (types : Types) → symbols_in self.new ≡ following types role (value_of value.entry) ++ symbols_in self.old }
+        ensures { symbols_in self.new ≡ following NoMore role (value_of value.entry) ++ symbols_in self.old }
     {
         let number = number(value);
         match role {
@@ -200,7 +200,7 @@ pub fn fault_in(role: Role, value: Prim<'_>) -> Option<Reason>
 }
 
 /// A value's number, unsigned.
-fn number(value: Prim<'_>) -> u32
+pub fn number(value: Prim<'_>) -> u32
     ensures { result ≡ number_in (value_of value.entry) }
 {
     match value {
@@ -223,7 +223,7 @@ fn text(value: Prim<'_>) -> &str
 }
 
 /// Whether some bit of these is set.
-fn has(flags: u32, bits: u32) -> bool
+pub fn has(flags: u32, bits: u32) -> bool
     ensures { result ≡ has_bit flags bits }
 {
     flags & bits > 0

@@ -7,6 +7,7 @@ mod following;
 #[cfg(test)]
 mod heaps;
 pub mod laws;
+mod page;
 mod running;
 mod sink;
 mod standing;

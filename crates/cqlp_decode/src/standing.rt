@@ -6,11 +6,13 @@ ghost use Rattle.cqlp_decode.specs.Standing.{came_of, stage_with};
 
 use crate::event::Finish;
 use crate::following::{begin_metadata, fault_in};
+use crate::page::{Page, page_behind};
 use crate::table::{Due, Want};
 use crate::upcoming::Upcoming;
 use cqlp_message::Role;
-use cqlp_note::{Field, Header, Item, Limits, Notation, Partial, Prim, Reason, Refusal, Taken};
+use cqlp_note::{self as note, Field, Header, Item, Limits, Notation, Partial, Prim, Reason, Refusal};
 use cqlp_type::{TypeAdvance, TypePart, TypeReader, TypeTable};
+use cqlp_value::{CellAdvance, CellOutline, CellReader, Scalar, front_scalar};
 use std::alloc::Allocator;
 
 /// What is read now.
@@ -22,6 +24,10 @@ pub enum Stage {
     Option,
     /// A type option that is under way.
     Type,
+    /// A cell that is not begun.
+    Due(Page),
+    /// A cell that is under way.
+    Cell(Page),
     /// What is behind the last field.
     Extra,
 }
@@ -32,7 +38,19 @@ pub enum What {
     Frame(Header),
     Holds(Field, Item),
     Option(TypePart),
+    /// A part of the cell of a row and a column.
+    Cell(u32, u32, CellOutline),
     End(u32),
+}
+
+/// A scalar that is a cell, whose bytes are so many of the input.
+#[derive(Clone, Copy)]
+pub struct Taken<'a> {
+    pub at: u64,
+    pub used: usize,
+    pub row: u32,
+    pub column: u32,
+    pub scalar: Scalar<'a>,
 }
 
 /// What one call makes of the input, with nothing borrowed.
@@ -45,7 +63,7 @@ pub enum Advance {
     Refused(Refusal),
 }
 
-/// Where the reading of a stream stands, but for the field or type option that is under way.
+/// Where the reading of a stream stands, but for the field, type option or cell that is under way.
 #[derive(Drop)]
 pub struct Standing {
     pub limits: Limits,
@@ -71,19 +89,25 @@ impl Standing {
     ghost use Rattle.cqlp_type.specs.Table.{Table};
     ghost use Rattle.cqlp_type.specs.Standing as type;
     ghost use Rattle.cqlp_type.specs.Standing.{started};
+    ghost use Rattle.cqlp_value.specs.Standing.{ended, is_under_way};
+    ghost use Rattle.cqlp_value.specs.Standing as value;
     ghost use Rattle.cqlp_message.specs.Productions.{Extra, following, message};
     ghost use Rattle.cqlp_decode.specs.Reading as reading;
     ghost use Rattle.cqlp_decode.specs.Reading.{start};
     ghost use Rattle.cqlp_decode.specs.Streams.{After, Finishes};
     ghost use Rattle.cqlp_decode.specs.Upcoming.{behind, symbols_in};
     ghost use Rattle.cqlp_decode.specs.declared.standing.Stage.TheVariants as stage;
-    ghost use Rattle.cqlp_decode.specs.Standing.{Advances, HasParts, HasRoom, IsAsked, IsBounded, IsIdle, IsLawful, IsPending, IsPlaced, IsWanted, Kept, Moves, Parts, asked, parts, rest_of, state_of, symbols_at};
+    ghost use Rattle.cqlp_decode.specs.Standing.{Advances, HasParts, HasRoom, IsAsked, IsBounded, IsIdle, IsLawful, IsPending, IsPlaced, IsWanted, Kept, Moves, Parts, Starts, Takes, asked, parts, refusal_in, rest_of, state_of, symbols_at};
+    ghost use Rattle.cqlp_decode.specs.Pages.{IsPage, cells_behind, node_by};
+    ghost use Rattle.cqlp_decode.specs.Reading.{types_for};
+    ghost use Rattle.cqlp_value.specs.Inner.{Forest};
+    ghost use Rattle.cqlp_value.specs.Pushing.{begun};
 
     /// At the start of a stream.
     pub fn new(limits: Limits) -> Self
         ensures limits { result.limits ≡ limits }
-        ensures lawful { (q : Parts) → IsIdle q → HasParts result q → IsLawful result q }
-        ensures start { (q : Parts) → q.table.nodes ≡ [] → state_of result q ≡ record { rules = rules_of limits; place = start; pending = Kept []; frame = 0; refusal = None; held = q.partial.content } }
+        ensures lawful { (q : Parts) → IsIdle q → HasParts result q → q.table.nodes ≡ [] → IsLawful result q }
+        ensures start { (q : Parts) → q.table.nodes ≡ [] → state_of result q ≡ record { rules = rules_of limits; place = start; pending = Kept []; frame = 0; refusal = None; held = q.partial.content; open_values = length q.cells.open_values } }
     {
         Standing {
             limits,
@@ -103,17 +127,18 @@ impl Standing {
         &mut self,
         partial: &mut Partial<A>,
         types: &mut TypeReader<A>,
+        cells: &mut CellReader<A>,
         table: &mut TypeTable<A>,
         input: &[u8],
     ) -> Advance
-        requires { IsLawful self.old (parts partial.old types.old table.old) }
-        ensures lawful { IsLawful self.new (parts partial.new types.new table.new) }
-        ensures advances { Advances (state_of self.old (parts partial.old types.old table.old)) input.now result (state_of self.new (parts partial.new types.new table.new)) }
+        requires { IsLawful self.old (parts partial.old types.old cells.old table.old) }
+        ensures lawful { IsLawful self.new (parts partial.new types.new cells.new table.new) }
+        ensures advances { Advances (state_of self.old (parts partial.old types.old cells.old table.old)) input.now result (state_of self.new (parts partial.new types.new cells.new table.new)) }
     {
         if let Some(refusal) = self.refusal {
             return Advance::Refused(refusal);
         }
-        let advance = self.step(partial, types, table, input);
+        let advance = self.step(partial, types, cells, table, input);
         if let Advance::Refused(refusal) = advance {
             self.refusal = Some(refusal);
         }
@@ -121,10 +146,15 @@ impl Standing {
     }
 
     /// How the stream ends, if it ends here.
-    pub fn finish<A: Allocator>(&self, partial: &Partial<A>, types: &TypeReader<A>) -> Finish
+    pub fn finish<A: Allocator>(
+        &self,
+        partial: &Partial<A>,
+        types: &TypeReader<A>,
+        cells: &CellReader<A>,
+    ) -> Finish
         requires bounded { IsBounded self.now }
-        requires placed { IsPlaced self.now partial.now types.now self.now.stage }
-        ensures { (t : Table) (s : List ℕ) (es : List (ℕ × reading.Event)) → After (state_of self.now (parts partial.now types.now t)) s es → Finishes (state_of self.now (parts partial.now types.now t)) s es result }
+        requires placed { (t : Table) × IsPlaced self.now (parts partial.now types.now cells.now t) self.now.stage }
+        ensures { (t : Table) → IsPlaced self.now (parts partial.now types.now cells.now t) self.now.stage → (s : List ℕ) (es : List (ℕ × reading.Event)) → After (state_of self.now (parts partial.now types.now cells.now t)) s es → Finishes (state_of self.now (parts partial.now types.now cells.now t)) s es result }
     {
         if let Some(refusal) = self.refusal {
             return Finish::Refused(refusal);
@@ -134,21 +164,27 @@ impl Standing {
         }
         Finish::Cut {
             frame_at: self.frame,
-            bytes: self.bytes_used(partial, types),
+            bytes: self.bytes_used(partial, types, cells),
         }
     }
 
     /// How many bytes of the stream have come.
-    fn bytes_used<A: Allocator>(&self, partial: &Partial<A>, types: &TypeReader<A>) -> u64
+    fn bytes_used<A: Allocator>(
+        &self,
+        partial: &Partial<A>,
+        types: &TypeReader<A>,
+        cells: &CellReader<A>,
+    ) -> u64
         requires bounded { IsBounded self.now }
-        requires placed { IsPlaced self.now partial.now types.now self.now.stage }
-        ensures { (t : Table) (b : List ℕ) → IsPending (state_of self.now (parts partial.now types.now t)).pending b → result ≡ (state_of self.now (parts partial.now types.now t)).place.offset + length b }
+        requires placed { (t : Table) × IsPlaced self.now (parts partial.now types.now cells.now t) self.now.stage }
+        ensures { (t : Table) (b : List ℕ) → IsPending (state_of self.now (parts partial.now types.now cells.now t)).pending b → result ≡ (state_of self.now (parts partial.now types.now cells.now t)).place.offset + length b }
     {
         match self.stage {
             Stage::Header | Stage::Extra => self.offset + self.came,
-            Stage::Option => self.offset,
+            Stage::Option | Stage::Due(_) => self.offset,
             Stage::Field(_) => self.offset + came_of_field(partial),
             Stage::Type => types.offset() + came_of_field(partial),
+            Stage::Cell(_) => cells.bytes_used(partial),
         }
     }
 
@@ -164,14 +200,16 @@ impl Standing {
         &mut self,
         partial: &mut Partial<A>,
         types: &mut TypeReader<A>,
+        cells: &mut CellReader<A>,
         table: &mut TypeTable<A>,
         input: &[u8],
     ) -> Advance
-        requires lawful { IsLawful self.old (parts partial.old types.old table.old) }
+        requires lawful { IsLawful self.old (parts partial.old types.old cells.old table.old) }
         requires unrefused { self.old.refusal ≡ None }
-        ensures lawful { IsLawful self.new (parts partial.new types.new table.new) }
-        ensures moves { Moves (state_of self.old (parts partial.old types.old table.old)) input.now result (state_of self.new (parts partial.new types.new table.new)) }
-        ensures rest { (self.new.refusal ≡ None) × (self.new.limits ≡ self.old.limits) }
+        ensures lawful { IsLawful self.new (parts partial.new types.new cells.new table.new) }
+        ensures moves { Moves (state_of self.old (parts partial.old types.old cells.old table.old)) input.now result (state_of self.new (parts partial.new types.new cells.new table.new)) }
+        ensures limits { self.new.limits ≡ self.old.limits }
+        ensures refusal { refusal_in result ≡ None → self.new.refusal ≡ None }
     {
         match self.stage {
             Stage::Header => self.advance_header(input),
@@ -181,6 +219,11 @@ impl Standing {
                 self.advance_option(partial, types, table, input)
             }
             Stage::Type => self.advance_option(partial, types, table, input),
+            Stage::Due(page) => {
+                self.begin_cell(page, cells);
+                self.advance_cell(partial, cells, table, page, input)
+            }
+            Stage::Cell(page) => self.advance_cell(partial, cells, table, page, input),
             Stage::Extra => self.advance_extra(input),
         }
     }
@@ -255,7 +298,7 @@ impl Standing {
         requires unrefused { self.old.refusal ≡ None }
         ensures bounded { IsBounded self.new }
         ensures offsets { (self.new.offset ≡ self.old.offset + 9) × (self.new.stop ≡ self.old.offset + 9 + header.now.length) }
-        ensures symbols { (r : type.Standing) → symbols_at self.new.stage r self.new.upcoming ≡ message header.now }
+        ensures symbols { (q : Parts) → symbols_at self.new.stage q self.new.upcoming ≡ message header.now }
         ensures room { HasRoom self.new.stage self.new.upcoming }
         ensures rest { (self.new.refusal ≡ None) × (self.new.limits ≡ self.old.limits) × (self.new.frame ≡ self.old.frame) × (self.new.came ≡ 0) }
     {
@@ -269,7 +312,7 @@ impl Standing {
     /// Goes on to what is due next in the message.
     #[tactic(auto, using(crate::proofs::Steps::next_symbols, crate::proofs::Steps::next_room))]
     fn go_on(&mut self)
-        ensures symbols { (r : type.Standing) → symbols_at self.new.stage r self.new.upcoming ≡ rest_of self.old.upcoming }
+        ensures symbols { (q : Parts) → symbols_at self.new.stage q self.new.upcoming ≡ rest_of self.old.upcoming }
         ensures room { HasRoom self.new.stage self.new.upcoming }
         ensures rest { self.new ≡ record self.old { stage = self.new.stage; upcoming = self.new.upcoming } }
     {
@@ -287,17 +330,18 @@ impl Standing {
         requires here { self.old.stage ≡ stage.Field want }
         requires wanted { IsWanted self.old partial.old want }
         requires room { partial.old.room ≡ max self.old.limits.text self.old.limits.cell }
+        requires forest { Forest table.old.nodes 0 self.old.limits.depth }
         requires unrefused { self.old.refusal ≡ None }
-        ensures lawful { (r : type.Standing) → IsLawful self.old (parts partial.old r table.old) → IsLawful self.new (parts partial.new r table.new) }
-        ensures moves { (r : type.Standing) → Moves (state_of self.old (parts partial.old r table.old)) input.now result (state_of self.new (parts partial.new r table.new)) }
+        ensures lawful { (r : type.Standing) (c : value.State) → IsLawful self.old (parts partial.old r c table.old) → IsLawful self.new (parts partial.new r c table.new) }
+        ensures moves { (r : type.Standing) (c : value.State) → Moves (state_of self.old (parts partial.old r c table.old)) input.now result (state_of self.new (parts partial.new r c table.new)) }
         ensures rest { (self.new.refusal ≡ None) × (self.new.limits ≡ self.old.limits) }
     {
         self.ask(partial, want);
         let came = partial.came();
         match partial.advance(input) {
-            Taken::More { used } => Advance::More { used },
-            Taken::Refused(refusal) => Advance::Refused(refusal),
-            Taken::Got { used, item } => {
+            note::Taken::More { used } => Advance::More { used },
+            note::Taken::Refused(refusal) => Advance::Refused(refusal),
+            note::Taken::Got { used, item } => {
                 let value = partial.lend(input, item);
                 if let Some(why) = fault_in(want.role, value) {
                     return Advance::Refused(Refusal {
@@ -308,7 +352,7 @@ impl Standing {
                 let at = self.offset;
                 self.offset += came + used as u64;
                 begin_metadata(want.role, table);
-                self.follow(want.role, value);
+                self.follow(want.role, value, table);
                 Advance::Event {
                     at,
                     used,
@@ -331,15 +375,82 @@ impl Standing {
         }
     }
 
-    /// Goes on behind a field.
-    fn follow(&mut self, role: Role, value: Prim<'_>)
-        requires { length self.old.upcoming + behind role ≤ 16 }
-        ensures symbols { (types : Types) (r : type.Standing) → symbols_at self.new.stage r self.new.upcoming ≡ following types role (value_of value.entry) ++ rest_of self.old.upcoming }
+    /// Goes on behind a field: with the cells of a page, or with what is due next in the message.
+    fn follow<A: Allocator>(&mut self, role: Role, value: Prim<'_>, table: &TypeTable<A>)
+        requires room { length self.old.upcoming + behind role ≤ 16 }
+        requires forest { Forest table.now.nodes 0 self.old.limits.depth }
+        ensures symbols { (q : Parts) → q.table.nodes ≡ table.now.nodes → symbols_at self.new.stage q self.new.upcoming ≡ following (types_for self.old.limits.types role table.now.nodes reading.Nothing) role (value_of value.entry) ++ rest_of self.old.upcoming }
         ensures rest { self.new ≡ record self.old { stage = self.new.stage; upcoming = self.new.upcoming } }
-        ensures room { HasRoom self.new.stage self.new.upcoming }
+        ensures starts { Starts self.new table.now.nodes self.new.stage }
     {
+        if let Some(page) = page_behind(&self.limits, role, value, table) {
+            self.stage = Stage::Due(page);
+            return;
+        }
         self.upcoming.follow(role, value);
         self.go_on();
+    }
+
+    /// Takes the cell that is due, where it is a scalar and all its bytes lie in the input.
+    #[inline]
+    pub fn take_scalar<'a, A: Allocator>(
+        &mut self,
+        partial: &Partial<A>,
+        table: &TypeTable<A>,
+        input: &'a [u8],
+    ) -> Option<Taken<'a>>
+        requires lawful { (r : type.Standing) × (c : value.State) × IsLawful self.old (parts partial.now r c table.now) }
+        ensures lawful { (r : type.Standing) (c : value.State) → IsLawful self.old (parts partial.now r c table.now) → IsLawful self.new (parts partial.now r c table.now) }
+        ensures takes { (r : type.Standing) (c : value.State) → IsLawful self.old (parts partial.now r c table.now) → Takes (state_of self.old (parts partial.now r c table.now)) input.now result (state_of self.new (parts partial.now r c table.now)) }
+    {
+        let Stage::Due(page) = self.stage else {
+            return None;
+        };
+        if partial.held() > 0 {
+            return None;
+        }
+        if let Some(_) = self.refusal {
+            return None;
+        }
+        let kind = page.kind(table);
+        let room = self.stop - self.offset;
+        let Some(front) = front_scalar(&self.limits, kind, room, input) else {
+            return None;
+        };
+        let taken = Taken {
+            at: self.offset,
+            used: front.used,
+            row: page.row,
+            column: page.column,
+            scalar: front.scalar,
+        };
+        self.offset += front.used as u64;
+        self.turn(page, table);
+        Some(taken)
+    }
+
+    /// Goes on behind a cell: with the next cell of its page, or with what is due next in the message.
+    fn turn<A: Allocator>(&mut self, page: Page, table: &TypeTable<A>)
+        requires page { IsPage table.now.nodes self.old.limits.depth page }
+        ensures symbols { (q : Parts) → q.table.nodes ≡ table.now.nodes → symbols_at self.new.stage q self.new.upcoming ≡ cells_behind table.now.nodes page ++ rest_of self.old.upcoming }
+        ensures rest { self.new ≡ record self.old { stage = self.new.stage; upcoming = self.new.upcoming } }
+        ensures starts { Starts self.new table.now.nodes self.new.stage }
+    {
+        match page.next(table) {
+            Some(page) => self.stage = Stage::Due(page),
+            None => self.go_on(),
+        }
+    }
+
+    /// Begins the cell of a page that is due.
+    fn begin_cell<A: Allocator>(&mut self, page: Page, cells: &mut CellReader<A>)
+        requires idle { is_under_way cells.old ≡ false }
+        requires inside { self.old.offset ≤ self.old.stop }
+        ensures self_is { self.new ≡ record self.old { stage = stage.Cell page } }
+        ensures cells_are { cells.new ≡ begun cells.old (node_by page.columns page.index) self.old.offset self.old.stop }
+    {
+        cells.begin(page.node(), self.offset, self.stop);
+        self.stage = Stage::Cell(page);
     }
 
     /// Begins the type option that is due.
@@ -361,17 +472,19 @@ impl Standing {
         table: &mut TypeTable<A>,
         input: &[u8],
     ) -> Advance
-        requires lawful { IsLawful self.old (parts partial.old types.old table.old) }
+        requires lawful { (c : value.State) × IsLawful self.old (parts partial.old types.old c table.old) }
         requires here { self.old.stage ≡ stage.Type }
         requires unrefused { self.old.refusal ≡ None }
-        ensures lawful { IsLawful self.new (parts partial.new types.new table.new) }
-        ensures moves { Moves (state_of self.old (parts partial.old types.old table.old)) input.now result (state_of self.new (parts partial.new types.new table.new)) }
-        ensures rest { (self.new.refusal ≡ None) × (self.new.limits ≡ self.old.limits) }
+        ensures lawful { (c : value.State) → IsLawful self.old (parts partial.old types.old c table.old) → IsLawful self.new (parts partial.new types.new c table.new) }
+        ensures moves { (c : value.State) → IsLawful self.old (parts partial.old types.old c table.old) → Moves (state_of self.old (parts partial.old types.old c table.old)) input.now result (state_of self.new (parts partial.new types.new c table.new)) }
+        ensures limits { self.new.limits ≡ self.old.limits }
+        ensures refusal { refusal_in result ≡ None → self.new.refusal ≡ None }
     {
         match types.advance(partial, table, input) {
             TypeAdvance::More { used } => Advance::More { used },
             TypeAdvance::Refused(refusal) => {
                 self.stage = Stage::Extra;
+                self.refusal = Some(refusal);
                 Advance::Refused(refusal)
             }
             TypeAdvance::Done => unreachable!(),
@@ -394,12 +507,67 @@ impl Standing {
 
     /// Goes on behind a type option that ends at an offset.
     fn go_behind(&mut self, offset: u64)
-        ensures symbols { (r : type.Standing) → symbols_at self.new.stage r self.new.upcoming ≡ rest_of self.old.upcoming }
+        ensures symbols { (q : Parts) → symbols_at self.new.stage q self.new.upcoming ≡ rest_of self.old.upcoming }
         ensures room { HasRoom self.new.stage self.new.upcoming }
         ensures rest { self.new ≡ record self.old { offset = offset; stage = self.new.stage; upcoming = self.new.upcoming } }
     {
         self.offset = offset;
         self.go_on();
+    }
+
+    fn advance_cell<A: Allocator>(
+        &mut self,
+        partial: &mut Partial<A>,
+        cells: &mut CellReader<A>,
+        table: &TypeTable<A>,
+        page: Page,
+        input: &[u8],
+    ) -> Advance
+        requires lawful { (r : type.Standing) × IsLawful self.old (parts partial.old r cells.old table.now) }
+        requires here { self.old.stage ≡ stage.Cell page }
+        requires unrefused { self.old.refusal ≡ None }
+        ensures lawful { (r : type.Standing) → IsLawful self.old (parts partial.old r cells.old table.now) → IsLawful self.new (parts partial.new r cells.new table.now) }
+        ensures moves { (r : type.Standing) → IsLawful self.old (parts partial.old r cells.old table.now) → Moves (state_of self.old (parts partial.old r cells.old table.now)) input.now result (state_of self.new (parts partial.new r cells.new table.now)) }
+        ensures rest { (self.new.refusal ≡ None) × (self.new.limits ≡ self.old.limits) }
+    {
+        match cells.advance(partial, table, input) {
+            CellAdvance::More { used } => Advance::More { used },
+            CellAdvance::Refused(refusal) => {
+                self.stage = Stage::Extra;
+                Advance::Refused(refusal)
+            }
+            CellAdvance::Done => unreachable!(),
+            CellAdvance::Item { at, used, item } => {
+                let event = Advance::Event {
+                    at,
+                    used,
+                    what: What::Cell(page.row, page.column, item),
+                };
+                if !cells.done() {
+                    return event;
+                }
+                self.end_cell(page, cells, table);
+                event
+            }
+        }
+    }
+
+    /// Goes on behind a cell that is whole.
+    fn end_cell<A: Allocator>(
+        &mut self,
+        page: Page,
+        cells: &mut CellReader<A>,
+        table: &TypeTable<A>,
+    )
+        requires page { IsPage table.now.nodes self.old.limits.depth page }
+        ensures symbols { (q : Parts) → q.table.nodes ≡ table.now.nodes → symbols_at self.new.stage q self.new.upcoming ≡ cells_behind table.now.nodes page ++ rest_of self.old.upcoming }
+        ensures rest { self.new ≡ record self.old { offset = cells.old.offset; stage = self.new.stage; upcoming = self.new.upcoming } }
+        ensures starts { Starts self.new table.now.nodes self.new.stage }
+        ensures cells_are { cells.new ≡ ended cells.old }
+    {
+        self.offset = cells.offset();
+        cells.stop();
+        self.turn(page, table);
     }
 
     fn advance_extra(&mut self, input: &[u8]) -> Advance

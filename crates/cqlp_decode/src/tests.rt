@@ -1,6 +1,9 @@
 //! What a decoder makes of worked streams, and for want of memory.
 
+mod cells;
+mod held;
 mod notations;
+mod pages;
 mod runs;
 
 ghost use Rattle.std.specs.Prelude.{◌≤◌};
@@ -23,7 +26,7 @@ const LIMITS: Limits = Limits {
 };
 
 /// How often a new decoder asks for memory.
-const REQUESTS: u64 = 3;
+const REQUESTS: u64 = 4;
 
 const OPTIONS: [u8; 9] = [4, 0, 0, 0, 5, 0, 0, 0, 0];
 

@@ -187,10 +187,6 @@ raw_types (suc n) = Type_and kind.Raw NoMore (raw_types n)
 abbrev pub or_nothing : Option (List Symbol) → List Symbol
 or_nothing o = unwrap_or o []
 
--- The cells of a page are not read so far: behind the number of its rows all is extra.
-abbrev pub page_cells : Types → (rows : ℕ) → List Symbol
-page_cells types rows = []
-
 -- A value's number: unsigned, or the bits of an [int].
 abbrev pub number_in : FieldValue → ℕ
 number_in (note.Byte n) = n
@@ -222,7 +218,7 @@ following types (role.MetaColumns rows flags) v =
 following types role.PreparedFlags v = In field.Columns Count32 (role.PreparedColumns (number_in v)) ∷ []
 following types (role.PreparedColumns flags) v = In field.Keys Count32 (role.PreparedKeys flags (number_in v)) ∷ []
 following types (role.PreparedKeys flags columns) v = copies (number_in v) (group group_of.KeyIndexes) ++ specs flags columns ++ In field.MetaFlags Int (role.MetaFlags false) ∷ []
-following types (role.PageRows flags columns) v = page_cells types (number_in v)
+following types (role.PageRows flags columns) v = rows_from 0 types (number_in v)
 
 -- a kind or flags that no batch has
 abbrev pub fault_in : Role → FieldValue → Option Reason

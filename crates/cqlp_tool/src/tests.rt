@@ -2,6 +2,7 @@
 
 mod cells;
 mod fakes;
+mod pages;
 mod shows;
 mod vectors;
 
@@ -11,6 +12,7 @@ use crate::render::render_events;
 use cqlp_decode::{Decoder, Outcome};
 use cqlp_note::{Limits, OfStd};
 use fakes::Pieces;
+use pages::{BLOBS_IN_PARTS, PAGES, UNTYPED};
 use std::alloc::Global;
 use std::process::Abort;
 use std::test::Fail;
@@ -40,8 +42,8 @@ fn bytes_of(alloc: Global, digits: &str) -> Result<Vec<u8>, Fail> {
 }
 
 /// The lines and the verdict of a stream in pieces.
-fn rendered(alloc: Global, mut pieces: Pieces<'_>) -> Result<Vec<u8>, Fail> {
-    let mut decoder = Decoder::new(alloc, LIMITS)?;
+fn rendered(alloc: Global, limits: Limits, mut pieces: Pieces<'_>) -> Result<Vec<u8>, Fail> {
+    let mut decoder = Decoder::new(alloc, limits)?;
     let text = OfStd::new(Vec::new(alloc));
     let (outcome, mut text) = render_events(&mut decoder, &mut pieces, text, u64::MAX);
     let Outcome::Finished(finish) = outcome else {
@@ -53,12 +55,22 @@ fn rendered(alloc: Global, mut pieces: Pieces<'_>) -> Result<Vec<u8>, Fail> {
 
 /// Each stream gives its lines: in one piece, byte by byte, and in two pieces cut at each place.
 fn expect_lines(rt: &impl Abort, alloc: Global, vectors: &[Vector]) -> Result<(), Fail> {
+    expect_lines_within(rt, alloc, LIMITS, vectors)
+}
+
+/// The same within limits of their own.
+fn expect_lines_within(
+    rt: &impl Abort,
+    alloc: Global,
+    limits: Limits,
+    vectors: &[Vector],
+) -> Result<(), Fail> {
     for vector in vectors {
         let bytes = bytes_of(alloc, vector.stream)?;
-        expect_in_pieces(rt, alloc, vector, Pieces::new(&bytes, 1, 1))?;
+        expect_in_pieces(rt, alloc, limits, vector, Pieces::new(&bytes, 1, 1))?;
         for first in 0..bytes.len() {
             let pieces = Pieces::new(&bytes, bytes.len() - first, usize::MAX);
-            expect_in_pieces(rt, alloc, vector, pieces)?;
+            expect_in_pieces(rt, alloc, limits, vector, pieces)?;
         }
     }
     Ok(())
@@ -67,11 +79,12 @@ fn expect_lines(rt: &impl Abort, alloc: Global, vectors: &[Vector]) -> Result<()
 fn expect_in_pieces(
     rt: &impl Abort,
     alloc: Global,
+    limits: Limits,
     vector: &Vector,
     pieces: Pieces<'_>,
 ) -> Result<(), Fail> {
     let first = pieces.first;
-    let text = rendered(alloc, pieces)?;
+    let text = rendered(alloc, limits, pieces)?;
     let same = text.as_slice() == vector.lines.as_bytes();
     assert!(rt; same, "{} in pieces from {first}", vector.name);
     Ok(())
@@ -125,4 +138,23 @@ fn order_of_refusals(rt: HostRuntime) -> Result<(), Fail> {
 #[test]
 fn metadata(rt: HostRuntime) -> Result<(), Fail> {
     expect_lines(&rt, rt.alloc(), &METADATA)
+}
+
+#[test]
+fn cells_of_pages(rt: HostRuntime) -> Result<(), Fail> {
+    expect_lines(&rt, rt.alloc(), &PAGES)
+}
+
+#[test]
+fn cells_without_types_and_in_parts(rt: HostRuntime) -> Result<(), Fail> {
+    let untyped = Limits {
+        types: false,
+        ..LIMITS
+    };
+    expect_lines_within(&rt, rt.alloc(), untyped, &UNTYPED)?;
+    let in_parts = Limits {
+        parts: true,
+        ..LIMITS
+    };
+    expect_lines_within(&rt, rt.alloc(), in_parts, &BLOBS_IN_PARTS)
 }

@@ -1,5 +1,5 @@
 -- The end of a value, and what goes on.
-use Rattle.std.proofs.Common.{◌≡◌, ◌≢◌, ℕ, ◌+◌, ◌^◌, ◌<◌, ◌≤◌, true, false, List, [], ◌++◌, length, take, drop, Some, refl, sym, ap, ◌∙◌, append_assoc, arith, lt-ltb, le-ltb}
+use Rattle.std.proofs.Common.{◌≡◌, ◌≢◌, ℕ, ◌+◌, ◌^◌, ◌<◌, ◌≤◌, true, false, List, [], ◌∷◌, ◌++◌, length, take, drop, Some, refl, sym, ap, ◌∙◌, append_assoc, arith, lt-ltb, le-ltb}
 use Rattle.std.specs.Int.{w32, from_be_bytes}
 use Rattle.std.proofs.lemmas.List.{length-append, take_at, drop_at}
 use Rattle.cqlp_note.specs.declared.refusal.Reason.TheVariants.{ExtraInValue}
@@ -63,6 +63,7 @@ module _ (nodes : List Node) (d : State) (o : Open) (p : Progress) (input : List
   unfolding told
   close_hands new level fresh le goes at =
       let m = closing.0 in
+      let long : length d.open_values ≡ length m.front + 1 = ap length m.is ∙ length-append m.front (o ∷ []) in
       let front : but_last d.open_values ≡ m.front = ap but_last m.is ∙ but_last_is m.front o in
       rw (goes, at, front) (record {
         within = omega arith;
@@ -77,6 +78,9 @@ module _ (nodes : List Node) (d : State) (o : Open) (p : Progress) (input : List
         lent = tt;
         rules = refl;
         stop = refl;
+        onward = omega arith;
+        behind = rw close_items tt;
+        pays = omega (arith, long);
         stands = fewer_stand nodes d m.front close_items m.innermost.around (omega (arith, m.inside, m.innermost.within)) stands.bounded;
         goes_on = ap is_some_next close_items;
         fresh = fresh;

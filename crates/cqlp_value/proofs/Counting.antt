@@ -2,6 +2,7 @@
 use Rattle.std.proofs.Common.{◌≡◌, ℕ, ◌+◌, ◌-◌, ◌^◌, ◌<◌, ◌≤◌, List, [], ◌∷◌, ◌++◌, length, take, drop, refl, sym, ap, ◌∙◌, arith, inl, inr, lt-ltb, le-ltb}
 use Rattle.std.specs.Int.{w32, from_be_bytes}
 use Rattle.std.proofs.lemmas.Bool.{cases_lt}
+use Rattle.std.proofs.lemmas.List.{length-append}
 use Rattle.cqlp_note.specs.declared.refusal.Reason.TheVariants.{Overrun, BadCount}
 use Rattle.cqlp_note.specs.Reader.{More, Bad, says, number_of}
 use Rattle.cqlp_note.specs.Partial.{Progress}
@@ -12,9 +13,10 @@ use Rattle.cqlp_value.specs.declared.standing.Under.TheVariants as under
 use Rattle.cqlp_value.specs.declared.standing.Due.TheVariants as due
 use Rattle.cqlp_value.specs.CellStep.{CellSymbol, Close_of, Enter, cell_copies, values_of, place_after}
 use Rattle.cqlp_value.specs.Numbers.{WantsNumber, IsCounted}
-use Rattle.cqlp_value.specs.Standing.{State, ended, place, due_value, moved, rest_of, due_of, Stands}
+use Rattle.cqlp_value.specs.Standing.{State, ended, place, due_value, open_after, moved, rest_of, due_of, Stands}
 use Rattle.cqlp_value.specs.Coming.{inner_of}
 use Rattle.cqlp_value.specs.Reading.{counted_open, entered, sized_of, Decided, Emits, Hands, Waits, Fails, Behind, EntersCounted}
+use Rattle.cqlp_value.proofs.Coming.{value_due}
 use Rattle.cqlp_value.proofs.Handing.{same_decided}
 use Rattle.cqlp_value.proofs.Entering.{counted_due, counted_inner, counted_symbols, entered_symbols}
 
@@ -58,7 +60,7 @@ count_waits nodes old n p q input bytes v decided longest wants = (
     all = refl;
     is = counted_short nodes old n decided bytes wants.enough wants.short;
     same = refl;
-    joined = record { longest = rw wants.longest longest; under_way = (v, (wants.under_way, wants.field, wants.enough, refl), same_decided nodes old (under.Counted n) n (size.Counted n) decided) };
+    joined = record { longest = rw wants.longest longest; under_way = (v, (wants.under_way, wants.field, wants.enough, refl, rw wants.seen wants.short), same_decided nodes old (under.Counted n) n (size.Counted n) decided) };
     longest = wants.longest;
   },
   (refl, wants.seen, decided.fits.1),
@@ -66,7 +68,7 @@ count_waits nodes old n p q input bytes v decided longest wants = (
 
 -- the count is whole
 module _ (nodes : List Node) (old new : State) (n start used count : ℕ) (p q : Progress) (seen input : List ℕ) (decided : Decided nodes old n (size.Counted n)) (front : start ≤ 4)
-    (found : IsCounted n start seen (seen ++ drop start input) input used count p q) where
+    (some : length seen < start + 4) (found : IsCounted n start seen (seen ++ drop start input) input used count p q) where
   abbrev bytes : List ℕ
   bytes = seen ++ drop start input
 
@@ -88,6 +90,8 @@ module _ (nodes : List Node) (old new : State) (n start used count : ℕ) (p q :
       let same : count ≡ count_in bytes = found.is.0 less in
       let got = counted_got nodes old n decided bytes stands v found.enough found.whole less in
       let total : ((4 - start) + length seen) + used ≡ 8 = omega (arith, found.count, found.after) in
+      let due = value_due nodes old stands v in
+      let o = counted_open nodes (due_value nodes old) (old.offset + 4 + n) count in
       record {
         within = found.within;
         emits = rw (enters.0, same, total) got;
@@ -96,6 +100,9 @@ module _ (nodes : List Node) (old new : State) (n start used count : ℕ) (p q :
         rules = rw enters.0 refl;
         stop = rw enters.0 refl;
         stands = enters.1;
+        onward = rw (enters.0, total) refl;
+        behind = rw enters.0 tt;
+        pays = rw enters.0 (omega (arith, due.level, length-append (open_after nodes old) (o ∷ []), found.count, found.after, some));
         goes_on = rw enters.0 refl;
         fresh = rw enters.0 refl;
         idle = found.idle;

@@ -62,7 +62,7 @@ module _ (nodes : List Node) (d : State) (n : ℕ) (decided : Decided nodes d n 
 
 -- a scalar that is whole
 module _ (nodes : List Node) (old new : State) (n start : ℕ) (p q : Progress) (seen input : List ℕ) (f : Found) (stands : Stands nodes old) (v : due_of old ≡ due.Value) (decided : Decided nodes old n (size.Scalar n)) (front : start ≤ 4)
-    (found : Finds n start seen (seen ++ drop start input) input f p q) where
+    (some : length seen < start + n) (found : Finds n start seen (seen ++ drop start input) input f p q) where
   abbrev bytes : List ℕ
   bytes = seen ++ drop start input
 
@@ -74,19 +74,22 @@ module _ (nodes : List Node) (old new : State) (n start : ℕ) (p q : Progress) 
 
   pub leaf_hands : (k : Kind) (level : ℕ) → k ≡ kind → level ≡ length old.open_values → is_some (scalar_of k (content_at f.content input q.content)) ≡ true → new ≡ moved nodes old (4 + n)
       → Hands nodes old p input (says (sized_of nodes old n) 4 bytes) ((4 - start) + length seen) old.offset f.used (outline.Leaf level k f.content) new q
-  leaf_hands k level is at some goes =
-      let got = scalar_got nodes old n decided bytes found.enough (rw (is, content_is) at some) in
+  leaf_hands k level is at known goes =
+      let got = scalar_got nodes old n decided bytes found.enough (rw (is, content_is) at known) in
       let count : ((4 - start) + length seen) + f.used ≡ 4 + n = omega (arith, found.count, found.after) in
       let size : length (take n bytes) ≡ n = length-take-le n bytes found.enough in
       let due = value_due nodes old stands v in
       rw (goes, is, at) (record {
         within = found.within;
         emits = rw (count, content_is) got;
-        can_lend = ((found.can_lend, rw found.is refl), rw (content_is, size) decided.can.3, rw is at some);
+        can_lend = ((found.can_lend, rw found.is refl), rw (content_is, size) decided.can.3, rw is at known);
         lent = λ le. found.lent (rw (content_is, size) at le);
         rules = refl;
         stop = refl;
         stands = moved_stands nodes old (4 + n) stands due (omega (arith, decided.fits.0, due.inside));
+        onward = rw count refl;
+        behind = tt;
+        pays = omega (arith, due.level, found.count, found.after, some);
         goes_on = refl;
         fresh = refl;
         idle = found.idle;
@@ -101,7 +104,7 @@ scalar_waits nodes old n p q input bytes v decided longest wants = (
     all = refl;
     is = scalar_short nodes old n decided bytes wants.short;
     same = refl;
-    joined = record { longest = rw wants.room longest; under_way = (v, (wants.under_way, wants.field, refl), same_decided nodes old (under.Scalar n) n (size.Scalar n) decided) };
+    joined = record { longest = rw wants.room longest; under_way = (v, (wants.under_way, wants.field, refl, rw wants.seen wants.short), same_decided nodes old (under.Scalar n) n (size.Scalar n) decided) };
     longest = wants.room;
   },
   (refl, wants.seen, decided.fits.1),

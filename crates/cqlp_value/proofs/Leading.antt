@@ -99,7 +99,7 @@ run_more l start p q s b t es at e x run said a w after =
     runs_then (cell_step l) start p q (s ++ t) (b ++ t) [] es ((at, e) ∷ []) (runs_stay (cell_step l) start s t es p b run) (k, x.after, said ∙ ap (λ (z : Emitted CellEvent CellPlace). Got z k) (emitted_is x at e a w), (sym after, sym none))
 
 -- as far as the types go, it does not matter how much has come
-stands_under : (nodes : List Node) (d : State) (u : Under) → Stands nodes d → Stands nodes (record d { under = u })
+pub stands_under : (nodes : List Node) (d : State) (u : Under) → Stands nodes d → Stands nodes (record d { under = u })
 stands_under nodes d u s = record { open_stand = s.open_stand; within = s.within; next_stands = s.next_stands; bounded = s.bounded }
 
 module _ (nodes : List Node) (old : State) (p : Progress) (input : List ℕ) (new : State) (q : Progress) (under_way : is_under_way old ≡ true) (stands : Stands nodes old) (joined : Joined nodes old p) where

@@ -96,7 +96,7 @@ length_waits nodes old p q input bytes stands v longest wants = (
     all = refl;
     is = length_short nodes old (value_due nodes old stands v) bytes wants.enough wants.short;
     same = refl;
-    joined = record { longest = rw wants.longest longest; under_way = (v, (wants.under_way, wants.field, wants.enough, refl)) };
+    joined = record { longest = rw wants.longest longest; under_way = (v, (wants.under_way, wants.field, wants.enough, refl, rw wants.seen wants.short)) };
     longest = wants.longest;
   },
   sym wants.seen,
@@ -118,6 +118,9 @@ settles_from nodes old p mid input said base W (advance.Item at used i) new q e 
   rules = h.rules;
   stop = h.stop;
   stands = h.stands;
+  onward = h.onward;
+  behind = h.behind;
+  pays = h.pays;
   goes_on = h.goes_on;
   fresh = h.fresh;
   idle = h.idle;

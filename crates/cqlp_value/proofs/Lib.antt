@@ -15,3 +15,9 @@ pub mod Closing
 pub mod Lengths
 pub mod Settling
 pub mod Parting
+pub mod ScalarSizes
+pub mod Leavings
+pub mod ReadBack
+pub mod SpelledRead
+pub mod Fronts
+pub mod OneValue

@@ -13,9 +13,9 @@ use Rattle.cqlp_value.specs.declared.standing.Under.TheVariants as under
 use Rattle.cqlp_value.specs.declared.standing.Due.TheVariants as due
 use Rattle.cqlp_value.specs.CellStep.{Content_from, Part, place_after}
 use Rattle.cqlp_value.specs.Items.{content_at}
-use Rattle.cqlp_value.specs.Gathering.{Wants, Finds}
+use Rattle.cqlp_value.specs.Gathering.{IsGathering, seen_before, Wants, Finds}
 use Rattle.cqlp_value.specs.Standing.{State, is_some_next, levels_symbols, place, moved, rest_of, due_of, last_stop, Stands}
-use Rattle.cqlp_value.specs.Reading.{told, sized_of, Decided, part_size, next_behind, Emits, Hands, Waits, Behind, HaveCome}
+use Rattle.cqlp_value.specs.Reading.{told, sized_of, Decided, part_size, next_behind, IsBehind, Emits, Hands, Waits, Behind, HaveCome}
 use Rattle.cqlp_value.proofs.Opened.{last_stop_le}
 use Rattle.cqlp_value.proofs.Coming.{value_due, part_is}
 use Rattle.cqlp_value.proofs.Handing.{same_decided}
@@ -62,20 +62,21 @@ module _ (nodes : List Node) (d : State) (same : d.rules.part ≡ d.rules.cell) 
       all = refl;
       is = first_short bytes wants.short;
       same = refl;
-      joined = record { longest = rw wants.room longest; under_way = (v, (wants.under_way, wants.field, refl), same_decided nodes d (under.First total) total (size.Parts total) decided) };
+      joined = record { longest = rw wants.room longest; under_way = (v, (wants.under_way, wants.field, refl, rw wants.seen wants.short), same_decided nodes d (under.First total) total (size.Parts total) decided) };
       longest = wants.room;
     },
     (refl, wants.seen, decided.fits.1),
   )
 
-  pub first_hands : (start : ℕ) (p q : Progress) (seen input : List ℕ) (f : Found) (new : State) (level : ℕ) → Stands nodes d → due_of d ≡ due.Value → 0 < d.rules.cell → start ≤ 4 → Finds d.rules.cell start seen (seen ++ drop start input) input f p q
+  pub first_hands : (start : ℕ) (p q : Progress) (seen input : List ℕ) (f : Found) (new : State) (level : ℕ) → Stands nodes d → due_of d ≡ due.Value → 0 < d.rules.cell → start ≤ 4 → length seen < start + d.rules.cell → Finds d.rules.cell start seen (seen ++ drop start input) input f p q
       → new ≡ first_behind → level ≡ length d.open_values
       → Hands nodes d p input (says (sized_of nodes d total) 4 (seen ++ drop start input)) ((4 - start) + length seen) (d.offset + 4) f.used (outline.Part level 0 f.content false) new q
-  first_hands start p q seen input f new level s v some front found goes at =
+  first_hands start p q seen input f new level s v some front more found goes at =
       let got = first_got (seen ++ drop start input) s v found.enough in
       let there : content_at f.content input q.content ≡ take d.rules.cell (seen ++ drop start input) = rw found.is refl in
       let count : ((4 - start) + length seen) + f.used ≡ 4 + d.rules.cell = omega (arith, found.count, found.after) in
       let size = length-take-le d.rules.cell (seen ++ drop start input) found.enough in
+      let due = value_due nodes d s v in
       rw (goes, at) (record {
         within = found.within;
         emits = rw (count, there) got;
@@ -84,6 +85,9 @@ module _ (nodes : List Node) (d : State) (same : d.rules.part ≡ d.rules.cell) 
         rules = refl;
         stop = refl;
         stands = first_stands s v some;
+        onward = rw count refl;
+        behind = tt;
+        pays = omega (arith, due.level, found.count, found.after, more);
         goes_on = refl;
         fresh = refl;
         idle = found.idle;
@@ -147,20 +151,29 @@ module _ (nodes : List Node) (d : State) (same : d.rules.part ≡ d.rules.cell) 
       all = refl;
       is = later_short bytes wants.short;
       same = refl;
-      joined = record { longest = rw wants.room longest; under_way = rw here (wants.under_way, wants.field, refl) };
+      joined = record { longest = rw wants.room longest; under_way = rw here (wants.under_way, wants.field, refl, rw wants.seen wants.short) };
       longest = wants.room;
     },
     sym wants.seen,
   )
 
+  is_behind : (last : Bool) → IsBehind (next_behind last (offset + its_size) total)
+  is_behind true = tt
+  is_behind false = tt
+
+  -- some bytes of it are still wanted
+  pub still_wanted : (begun : Bool) (p : Progress) → IsGathering begun its_size d.offset 0 p → length (seen_before begun p) < its_size
+  still_wanted true p h = h.3
+  still_wanted false p h = omega (arith, part_stands)
+
   goes_on_behind : (last : Bool) → is_some_next (next_behind last (offset + its_size) total) ≡ true
   goes_on_behind true = refl
   goes_on_behind false = refl
 
-  pub later_hands : (p q : Progress) (seen input : List ℕ) (f : Found) (new : State) (level : ℕ) (last : Bool) → Finds its_size 0 seen (seen ++ input) input f p q
+  pub later_hands : (p q : Progress) (seen input : List ℕ) (f : Found) (new : State) (level : ℕ) (last : Bool) → length seen < its_size → Finds its_size 0 seen (seen ++ input) input f p q
       → last ≡ is_last → new ≡ record d { offset = d.offset + its_size; next = next_behind last (offset + its_size) total; under = under.Nothing } → level ≡ length d.open_values
       → Hands nodes d p input (told nodes d (seen ++ input)) (length seen) d.offset f.used (outline.Part level offset f.content last) new q
-  later_hands p q seen input f new level last found ends goes at =
+  later_hands p q seen input f new level last more found ends goes at =
       let got = later_got (seen ++ input) found.enough in
       let there : content_at f.content input q.content ≡ take its_size (seen ++ input) = rw found.is refl in
       let count : length seen + f.used ≡ its_size = omega (arith, found.count) in
@@ -173,6 +186,9 @@ module _ (nodes : List Node) (d : State) (same : d.rules.part ≡ d.rules.cell) 
         rules = refl;
         stop = refl;
         stands = behind_stands is_last refl;
+        onward = rw count refl;
+        behind = is_behind is_last;
+        pays = omega (arith, found.count, more);
         goes_on = goes_on_behind is_last;
         fresh = refl;
         idle = found.idle;

@@ -1,5 +1,6 @@
 -- What the length of a value decides.
-use Rattle.std.proofs.Common.{◌≡◌, ℕ, ◌+◌, ◌-◌, ◌^◌, ◌<◌, ◌≤◌, false, List, [], ◌∷◌, ◌++◌, length, drop, refl, sym, ap, arith}
+use Rattle.std.proofs.Common.{◌≡◌, ℕ, ◌+◌, ◌-◌, ◌*◌, ◌^◌, ◌<◌, ◌≤◌, false, List, [], ◌∷◌, ◌++◌, length, drop, refl, sym, ap, arith}
+use Rattle.std.proofs.lemmas.List.{length-append}
 use Rattle.cqlp_note.specs.declared.refusal.Reason.{Reason}
 use Rattle.cqlp_note.specs.Reader.{says}
 use Rattle.cqlp_note.specs.Partial.{Progress}
@@ -11,7 +12,7 @@ use Rattle.cqlp_value.specs.declared.standing.Due.TheVariants as due
 use Rattle.cqlp_value.specs.declared.standing.Value.{Value}
 use Rattle.cqlp_value.specs.CellStep.{CellSymbol, Null, Empty, Enter, Items_of, place_after}
 use Rattle.cqlp_value.specs.Sizes.{IsSized}
-use Rattle.cqlp_value.specs.Standing.{State, ended, place, due_value, moved, rest_of, due_of, Stands}
+use Rattle.cqlp_value.specs.Standing.{State, ended, place, due_value, open_after, moved, rest_of, due_of, Stands}
 use Rattle.cqlp_value.specs.Coming.{inner_of, room_of}
 use Rattle.cqlp_value.specs.Reading.{fields_open, sized_of, Decided, Emits, Hands, Fails, EntersFields}
 use Rattle.cqlp_value.proofs.Coming.{value_due}
@@ -50,7 +51,7 @@ module _ (nodes : List Node) (d : State) (n : ℕ) (x : List ℕ) where
     after = refl;
   }
 
-module _ (nodes : List Node) (d new : State) (n start : ℕ) (p q : Progress) (input : List ℕ) (s : Stands nodes d) (v : due_of d ≡ due.Value) (room : 4 ≤ room_of nodes d) (within : start ≤ length input) (front : start ≤ 4)
+module _ (nodes : List Node) (d new : State) (n start : ℕ) (p q : Progress) (input : List ℕ) (s : Stands nodes d) (v : due_of d ≡ due.Value) (room : 4 ≤ room_of nodes d) (within : start ≤ length input) (front : start ≤ 4) (some : 0 < start)
     (idle : q.under_way ≡ false) (longest : q.room ≡ p.room) where
   abbrev said_of : List ℕ
   said_of = [] ++ drop start input
@@ -60,6 +61,9 @@ module _ (nodes : List Node) (d new : State) (n start : ℕ) (p q : Progress) (i
 
   count : base + start ≡ 4
   count = omega arith
+
+  pays : length (open_after nodes d) < length d.open_values + 2 * start
+  pays = let due = value_due nodes d s v in omega (arith, due.level, some)
 
   stays : Stands nodes (moved nodes d 4)
   stays = let due = value_due nodes d s v in moved_stands nodes d 4 s due (omega (arith, due.inside))
@@ -73,6 +77,9 @@ module _ (nodes : List Node) (d new : State) (n start : ℕ) (p q : Progress) (i
     rules = refl;
     stop = refl;
     stands = stays;
+    onward = rw count refl;
+    behind = tt;
+    pays = pays;
     goes_on = refl;
     fresh = refl;
     idle = idle;
@@ -88,6 +95,9 @@ module _ (nodes : List Node) (d new : State) (n start : ℕ) (p q : Progress) (i
     rules = refl;
     stop = refl;
     stands = stays;
+    onward = rw count refl;
+    behind = tt;
+    pays = pays;
     goes_on = refl;
     fresh = refl;
     idle = idle;
@@ -113,6 +123,9 @@ module _ (nodes : List Node) (d new : State) (n start : ℕ) (p q : Progress) (i
         rules = refl;
         stop = refl;
         stands = rw enters.0 at enters.1;
+        onward = rw count refl;
+        behind = tt;
+        pays = omega (arith, length-append (open_after nodes d) (o ∷ []), pays);
         goes_on = refl;
         fresh = refl;
         idle = idle;

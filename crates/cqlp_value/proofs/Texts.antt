@@ -1,5 +1,5 @@
 -- Texts among scalars.
-use Rattle.std.proofs.Common.{◌≡◌, ℕ, ◌<◌, Bool, true, false, List, nat_lt, Some, is_some, sym, ◌∙◌, refl, arith, lt-ltb, ltb-true}
+use Rattle.std.proofs.Common.{◌≡◌, ℕ, ◌<◌, Bool, true, false, List, nat_lt, Some, None, is_some, sym, ◌∙◌, refl, arith, lt-ltb, ltb-true}
 use Rattle.std.specs.Bool.{MatchBool}
 use Rattle.std.specs.List.{list_all}
 use Rattle.std.specs.Str.{IsAscii, IsNotAscii, IsUtf8, is_utf8}
@@ -9,7 +9,7 @@ use Rattle.std.proofs.lemmas.List.Sums.{AllPass-from_list_all, list_all-from_All
 use Rattle.std.proofs.lemmas.Str.{IsUtf8-from_ascii, IsUtf8-from_is_utf8, is_utf8-from_IsUtf8}
 use Rattle.std.proofs.lemmas.Str.Ascii.{All-from_ascii, IsAscii-from_all}
 use Rattle.cqlp_type.specs.declared.kind.Kind.TheVariants as kind
-use Rattle.cqlp_value.specs.Scalars.{ScalarValue, Timeuuid, is_version_1, only_if, scalar_of}
+use Rattle.cqlp_value.specs.Scalars.{ScalarValue, Varchar, Timeuuid, is_version_1, only_if, scalar_of}
 
 only_if_some : (b : Bool) (v : ScalarValue) → is_some (only_if b v) ≡ b
 only_if_some true v = refl
@@ -55,3 +55,15 @@ only_if_known false v t = absurd cc
 pub timeuuid_known : (c : List ℕ) → is_some (scalar_of kind.Timeuuid c) ≡ true → scalar_of kind.Timeuuid c ≡ Some (Timeuuid c)
 unfolding scalar_of
 timeuuid_known c t = only_if_known (is_version_1 c) (Timeuuid c) t
+
+pub varchar_is : (c : List ℕ) → IsUtf8 c → scalar_of kind.Varchar c ≡ Some (Varchar c)
+unfolding scalar_of
+varchar_is c u = only_if_known (is_utf8 c) (Varchar c) (varchar_decided c u)
+
+only_if_unknown : (b : Bool) (v : ScalarValue) → b ≡ false → only_if b v ≡ None
+only_if_unknown true v f = absurd cc
+only_if_unknown false v f = refl
+
+pub varchar_is_not : (c : List ℕ) → ¬ IsUtf8 c → scalar_of kind.Varchar c ≡ None
+unfolding scalar_of
+varchar_is_not c n = only_if_unknown (is_utf8 c) (Varchar c) (false_from_ne_true (is_utf8 c) (λ t. n (IsUtf8-from_is_utf8 c t)))

@@ -10,9 +10,9 @@ use Rattle.cqlp_value.specs.declared.gather.Found.{Found}
 abbrev pub content_wanted : (len at : ℕ) → Wanted
 content_wanted len at = record { notation = notation.Content len; limit = len; at = at; room = len }
 
--- The content is under way, and goes on where the input begins; or it is not begun, and no other field is.
+-- The content is under way and wants more bytes, from where the input begins; or it is not begun, and no other field is.
 abbrev pub IsGathering : Bool → (len at start : ℕ) → Progress → Type 0
-IsGathering true len at start p = (p.under_way ≡ true) × (p.field ≡ content_wanted len at) × (start ≡ 0)
+IsGathering true len at start p = (p.under_way ≡ true) × (p.field ≡ content_wanted len at) × (start ≡ 0) × (length p.seen < len)
 IsGathering false len at start p = p.under_way ≡ false
 
 -- what has come of it

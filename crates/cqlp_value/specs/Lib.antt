@@ -11,3 +11,6 @@ pub mod Pushing
 pub mod Standing
 pub mod Inner
 pub mod Levels
+pub mod Values
+pub mod Laws
+pub mod Fronts

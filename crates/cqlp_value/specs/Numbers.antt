@@ -14,9 +14,9 @@ use Rattle.cqlp_value.specs.Gathering.{seen_before}
 abbrev pub int_wanted : (at room : ℕ) → Wanted
 int_wanted at room = record { notation = notation.Int; limit = 0; at = at; room = room }
 
--- The [int] is under way, and goes on where the input begins; or it is not begun, and no other field is.
+-- The [int] is under way and wants more bytes, from where the input begins; or it is not begun, and no other field is.
 abbrev pub IsCounting : Bool → (at room start : ℕ) → Progress → Type 0
-IsCounting true at room start p = (p.under_way ≡ true) × (p.field ≡ int_wanted at room) × (4 ≤ room) × (start ≡ 0)
+IsCounting true at room start p = (p.under_way ≡ true) × (p.field ≡ int_wanted at room) × (4 ≤ room) × (start ≡ 0) × (length p.seen < 4)
 IsCounting false at room start p = p.under_way ≡ false
 
 -- More bytes of the [int] are wanted.

@@ -1,5 +1,5 @@
 -- What one call makes of a cell.
-use Rattle.std.specs.Prelude.{◌≡◌, ◌≢◌, ℕ, ◌+◌, ◌-◌, ◌^◌, ◌<◌, ◌≤◌, ◌++◌, Bool, false, List, [], ◌∷◌, length, min, true, Option, Some, None, ⊤}
+use Rattle.std.specs.Prelude.{◌≡◌, ◌≢◌, ℕ, ◌+◌, ◌-◌, ◌*◌, ◌^◌, ◌<◌, ◌≤◌, ◌++◌, Bool, false, List, [], ◌∷◌, length, min, true, Option, Some, None, ⊤}
 use Rattle.std.specs.Int.{w32, from_be_bytes}
 use Rattle.cqlp_note.specs.declared.refusal.Reason.{Reason}
 use Rattle.cqlp_note.specs.declared.refusal.Refusal.{Refusal}
@@ -45,6 +45,13 @@ part_size d offset total = min d.rules.cell (total - offset)
 abbrev pub next_behind : (last : Bool) → (offset total : ℕ) → Next
 next_behind true offset total = next.Items
 next_behind false offset total = next.Part offset total
+
+-- behind an item: the open values are gone on with, or a long scalar is
+abbrev pub IsBehind : Next → Type 0
+IsBehind next.Nothing = ⊥
+IsBehind (next.Cell _) = ⊥
+IsBehind next.Items = ⊤
+IsBehind (next.Part offset total) = ⊤
 
 module _ (nodes : List Node) where
   -- what the next step says of these bytes
@@ -96,7 +103,8 @@ module _ (nodes : List Node) where
   IsLent (outline.Part level offset i last) input buffer used = length (content_at i input buffer) ≤ used → buffer ≡ []
   IsLent i input buffer used = ⊤
 
-  -- The first `used` bytes of the input, with `base` bytes before it, end this item.
+  -- The first `used` bytes of the input, with `base` bytes before it, end this item. It takes some of them, or it is the
+  -- end of an open value.
   pub record Hands (old : State) (p : Progress) (input : List ℕ) (said : Saying) (base at used : ℕ) (i : CellOutline) (new : State) (q : Progress) : Type 0 where
     pub within : used ≤ length input
     pub emits : Emits said at (base + used) (event_at i input q.content) new
@@ -105,6 +113,9 @@ module _ (nodes : List Node) where
     pub rules : new.rules ≡ old.rules
     pub stop : new.stop ≡ old.stop
     pub stands : Stands nodes new
+    pub onward : new.offset ≡ old.offset + (base + used)
+    pub behind : IsBehind new.next
+    pub pays : length new.open_values < length old.open_values + 2 * used
     pub goes_on : is_under_way new ≡ true
     pub fresh : new.under ≡ under.Nothing
     pub idle : q.under_way ≡ false

@@ -1,11 +1,12 @@
 -- Scalars (section 6 of native_protocol_v4.spec).
-use Rattle.std.specs.Prelude.{ℕ, ◌/◌, ℤ, Bool, true, ◌||◌, List, length, take, drop, Option, Some, None, nat_lt, nat_le, ◌==◌, if◌then◌else◌, slice_index}
+use Rattle.std.specs.Prelude.{ℕ, ◌+◌, ◌/◌, ℤ, Bool, true, ◌||◌, List, length, take, drop, Option, Some, None, nat_lt, nat_le, ◌==◌, if◌then◌else◌, slice_index}
 use Rattle.std.specs.List.{list_all}
 use Rattle.std.specs.Int.{w8, w16, w32, w64, from_be_bytes, cast_signed}
 use Rattle.std.specs.Str.{is_utf8}
 use Rattle.cqlp_type.specs.declared.kind.Kind.{Kind}
 use Rattle.cqlp_type.specs.declared.kind.Kind.TheVariants as kind
 use Rattle.cqlp_note.specs.declared.prim.Address.{Address}
+use Rattle.cqlp_note.specs.declared.prim.Address.TheVariants as address
 use Rattle.cqlp_note.specs.declared.refusal.Reason.{Reason}
 use Rattle.cqlp_note.specs.declared.refusal.Reason.TheVariants.{BadUtf8, BadScalar}
 use Rattle.cqlp_note.specs.Field.{address_of, signed}
@@ -82,3 +83,31 @@ scalar_of kind.Tuple c = None
 abbrev pub fault_of : Kind → Reason
 fault_of kind.Varchar = BadUtf8
 fault_of _ = BadScalar
+
+-- how many bytes spell a scalar
+abbrev pub address_size : Address → ℕ
+address_size (address.V4 bytes) = 4
+address_size (address.V6 bytes) = 16
+
+abbrev pub content_size : ScalarValue → ℕ
+content_size (Custom c) = length c
+content_size (Blob c) = length c
+content_size (Raw c) = length c
+content_size (Varint c) = length c
+content_size (Double c) = length c
+content_size (Float c) = length c
+content_size (Uuid c) = length c
+content_size (Timeuuid c) = length c
+content_size (Ascii c) = length c
+content_size (Varchar c) = length c
+content_size (Bigint z) = 8
+content_size (Counter z) = 8
+content_size (Timestamp z) = 8
+content_size (Time z) = 8
+content_size (Int z) = 4
+content_size (Smallint z) = 2
+content_size (Tinyint z) = 1
+content_size (Date n) = 4
+content_size (Boolean b) = 1
+content_size (Decimal scale c) = 4 + length c
+content_size (Inet a) = address_size a

@@ -5,7 +5,7 @@ ghost use Rattle.cqlp_note.specs.Field.{address_of};
 ghost use Rattle.cqlp_type.specs.Types.{has_no_items};
 ghost use Rattle.cqlp_type.specs.declared.kind.Kind.TheVariants as kind;
 ghost use Rattle.cqlp_value.specs.Scalars.{allows_size, scalar_of, fault_of};
-ghost use Rattle.cqlp_value.specs.Contents.{scalar_in, value_in, value_of};
+ghost use Rattle.cqlp_value.specs.Contents.{IsWholly, scalar_in, value_in, value_of};
 
 use crate::scalars::Scalar;
 use cqlp_note::{Address, Reason};
@@ -18,9 +18,67 @@ const DAY: u64 = 86_400_000_000_000;
 ///
 /// `BadSize` where no scalar of the kind has so many bytes; else `BadUtf8` for a varchar that is not UTF-8, and
 /// `BadScalar` for an ascii with a byte above 7F, a time past the end of a day or a timeuuid that is not of version 1.
+#[inline]
+#[tactic(auto, using(crate::proofs::Texts::varchar_is, crate::proofs::Texts::varchar_is_not), unfolding(crate::specs::Scalars::scalar_of))]
 pub fn scalar(kind: Kind, bytes: &[u8]) -> Result<Scalar<'_>, Reason>
     requires scalar { has_no_items kind ≡ true }
     requires content { bytes.now ≢ [] }
+    ensures { value_in result ≡ scalar_in kind bytes.now }
+{
+    match kind {
+        Kind::Int => match whole(bytes) {
+            Some(bytes) => Ok(Scalar::Int(i32::from_be_bytes(bytes))),
+            None => Err(Reason::BadSize),
+        },
+        Kind::Bigint => match whole(bytes) {
+            Some(bytes) => Ok(Scalar::Bigint(i64::from_be_bytes(bytes))),
+            None => Err(Reason::BadSize),
+        },
+        Kind::Counter => match whole(bytes) {
+            Some(bytes) => Ok(Scalar::Counter(i64::from_be_bytes(bytes))),
+            None => Err(Reason::BadSize),
+        },
+        Kind::Timestamp => match whole(bytes) {
+            Some(bytes) => Ok(Scalar::Timestamp(i64::from_be_bytes(bytes))),
+            None => Err(Reason::BadSize),
+        },
+        Kind::Smallint => match whole(bytes) {
+            Some(bytes) => Ok(Scalar::Smallint(i16::from_be_bytes(bytes))),
+            None => Err(Reason::BadSize),
+        },
+        Kind::Date => match whole(bytes) {
+            Some(bytes) => Ok(Scalar::Date(u32::from_be_bytes(bytes))),
+            None => Err(Reason::BadSize),
+        },
+        Kind::Double => match whole(bytes) {
+            Some(bytes) => Ok(Scalar::Double(bytes)),
+            None => Err(Reason::BadSize),
+        },
+        Kind::Float => match whole(bytes) {
+            Some(bytes) => Ok(Scalar::Float(bytes)),
+            None => Err(Reason::BadSize),
+        },
+        Kind::Uuid => match whole(bytes) {
+            Some(bytes) => Ok(Scalar::Uuid(bytes)),
+            None => Err(Reason::BadSize),
+        },
+        Kind::Boolean => match whole::<1>(bytes) {
+            Some(bytes) => Ok(Scalar::Boolean(bytes[0] != 0)),
+            None => Err(Reason::BadSize),
+        },
+        Kind::Varchar => match str::from_utf8(bytes) {
+            Ok(text) => Ok(Scalar::Varchar(text)),
+            Err(_) => Err(Reason::BadUtf8),
+        },
+        Kind::Blob => Ok(Scalar::Blob(bytes)),
+        Kind::Raw => Ok(Scalar::Raw(bytes)),
+        _ => rare_scalar(kind, bytes),
+    }
+}
+
+/// The same of any kind, its size, its content and its value one after the other.
+fn rare_scalar(kind: Kind, bytes: &[u8]) -> Result<Scalar<'_>, Reason>
+    requires scalar { has_no_items kind ≡ true }
     ensures { value_in result ≡ scalar_in kind bytes.now }
 {
     if !allows(kind, bytes.len()) {
@@ -29,6 +87,18 @@ pub fn scalar(kind: Kind, bytes: &[u8]) -> Result<Scalar<'_>, Reason>
         Ok(made(kind, bytes))
     } else {
         Err(fault(kind))
+    }
+}
+
+/// The bytes, if they are N.
+#[inline]
+fn whole<const N: usize>(bytes: &[u8]) -> Option<[u8; N]>
+    ensures { IsWholly N bytes.now result }
+{
+    if bytes.len() == N {
+        Some(first(bytes))
+    } else {
+        None
     }
 }
 
@@ -140,7 +210,7 @@ fn address(bytes: &[u8]) -> Address
 
 /// The first N bytes.
 #[inline]
-fn first<const N: usize>(bytes: &[u8]) -> [u8; N]
+pub fn first<const N: usize>(bytes: &[u8]) -> [u8; N]
     requires { N ≤ length bytes.now }
     ensures { result ≡ take N bytes.now }
 {

@@ -2,10 +2,12 @@
 #![tactic(auto)]
 
 mod content;
+mod front;
 mod gather;
 #[cfg(test)]
 mod heaps;
 mod item;
+pub mod laws;
 mod levels;
 mod number;
 mod reader;
@@ -15,6 +17,7 @@ mod size;
 mod standing;
 
 pub use content::scalar;
+pub use front::{Front, front_scalar};
 pub use item::{CellAdvance, CellItem, CellOutline, CellPush};
 pub use reader::CellReader;
 pub use scalars::Scalar;

@@ -1,6 +1,6 @@
 //! A cell out of pieces of any size.
 
-ghost use Rattle.std.specs.Prelude.{◌≡◌, ◌≤◌, true, false, length, IfOk};
+ghost use Rattle.std.specs.Prelude.{◌≡◌, ℕ, ◌+◌, ◌≤◌, List, true, false, length, IfOk};
 ghost use Rattle.std.specs.Borrow.{sem};
 ghost use Rattle.cqlp_note.specs.Limits.{rules_of};
 
@@ -32,8 +32,9 @@ impl<A: Allocator> Model for CellReader<A> {
 
 impl<A: Allocator> CellReader<A> {
     ghost use Rattle.cqlp_note.specs.Lending.{Next as Rest};
-    ghost use Rattle.cqlp_value.specs.Standing.{Stands, is_under_way};
-    ghost use Rattle.cqlp_value.specs.Reading.{Answers, Joined, Moves};
+    ghost use Rattle.cqlp_value.specs.Standing.{Stands, ended, is_under_way};
+    ghost use Rattle.cqlp_type.specs.declared.node.Node.{Node};
+    ghost use Rattle.cqlp_value.specs.Reading.{Answers, HaveCome, Joined, Moves};
     ghost use Rattle.cqlp_value.specs.Pushing.{Continues, Pushes, Uses, begun, is_done, made};
 
     /// With room for the nesting that the limits allow. Parts have at least one byte.
@@ -79,6 +80,35 @@ impl<A: Allocator> CellReader<A> {
         ensures bound { result ≤ self.now.rules.depth }
     {
         self.standing.levels.len()
+    }
+
+    /// The offset of what is read next.
+    pub fn offset(&self) -> u64
+        ensures { result ≡ self.now.offset }
+    {
+        let standing = &self.standing;
+        standing.offset
+    }
+
+    /// Ends the cell that is under way, whole or not, if there is one.
+    pub fn stop(&mut self)
+        ensures { self.new ≡ ended self.old }
+    {
+        self.standing.end();
+    }
+
+    /// How many bytes of the stream were used: those before what is read next, and those of it that have come.
+    pub fn bytes_used(&self, partial: &Partial<A>) -> u64
+        requires { (nodes : List Node) × Stands nodes self.now × Joined nodes self.now partial.now }
+        ensures { (b : List ℕ) → HaveCome b self.now.under partial.now.seen → result ≡ self.now.offset + length b }
+    {
+        match self.standing.under {
+            Under::Nothing => self.standing.offset,
+            Under::Length | Under::Later => self.standing.offset + partial.came(),
+            Under::Scalar(_) | Under::Counted(_) | Under::First(_) => {
+                self.standing.offset + 4 + partial.came()
+            }
+        }
     }
 
     /// Takes the next bytes of the cell that is under way, and says where the content of an item lies.

@@ -94,6 +94,7 @@ impl<A: Allocator> Standing<A> {
         requires longest { self.old.limits.cell ≤ partial.old.room }
         requires within { start ≤ length input.now }
         requires front { start ≤ 4 }
+        requires some { length (seen_before begun partial.old) < start + len }
         ensures settles { let seen = seen_before begun partial.old in let bytes = seen ++ drop start input.now in Settles table.now.nodes (state_of self.old) partial.old input.now (says (sized_of table.now.nodes (state_of self.old) len) 4 bytes) ((4 - start) + length seen) (Behind len bytes) result (state_of self.new) partial.new }
         ensures room { self.new.levels.room ≡ self.old.levels.room }
         ensures limits { self.new.limits ≡ self.old.limits }
@@ -139,6 +140,7 @@ impl<A: Allocator> Standing<A> {
         requires levels { self.old.levels.room ≡ self.old.limits.depth }
         requires within { start ≤ length input.now }
         requires front { start ≤ 4 }
+        requires some { length (seen_before begun partial.old) < start + 4 }
         ensures settles { let seen = seen_before begun partial.old in let bytes = seen ++ drop start input.now in Settles table.now.nodes (state_of self.old) partial.old input.now (says (sized_of table.now.nodes (state_of self.old) len) 4 bytes) ((4 - start) + length seen) (Behind len bytes) result (state_of self.new) partial.new }
         ensures room { self.new.levels.room ≡ self.old.levels.room }
         ensures limits { self.new.limits ≡ self.old.limits }
@@ -250,6 +252,7 @@ impl<A: Allocator> Standing<A> {
         requires parts { 0 < self.old.limits.cell }
         requires within { start ≤ length input.now }
         requires front { start ≤ 4 }
+        requires some { length (seen_before begun partial.old) < start + self.old.limits.cell }
         ensures settles { let seen = seen_before begun partial.old in let bytes = seen ++ drop start input.now in Settles table.now.nodes (state_of self.old) partial.old input.now (says (sized_of table.now.nodes (state_of self.old) total) 4 bytes) ((4 - start) + length seen) (Behind total bytes) result (state_of self.new) partial.new }
         ensures room { self.new.levels.room ≡ self.old.levels.room }
         ensures limits { self.new.limits ≡ self.old.limits }
@@ -339,6 +342,7 @@ impl<A: Allocator> Standing<A> {
         requires parts { self.old.limits.parts ≡ true → 0 < self.old.limits.cell }
         requires within { start ≤ length input.now }
         requires front { start ≤ 4 }
+        requires some { 0 < start }
         ensures settles { let bytes = seen_before false partial.old ++ drop start input.now in Settles table.now.nodes (state_of self.old) partial.old input.now (says (sized_of table.now.nodes (state_of self.old) number) 4 bytes) ((4 - start) + length (seen_before false partial.old)) (Behind number bytes) result (state_of self.new) partial.new }
         ensures room { self.new.levels.room ≡ self.old.levels.room }
         ensures limits { self.new.limits ≡ self.old.limits }

@@ -990,7 +990,7 @@ cut 9 10
 
 pub(crate) static METADATA: [Vector; 8] = [
     Vector {
-        name: "list_and_a_row_that_is_not_read",
+        name: "list_with_null_and_empty",
         stream: "84 00 00 00 08 00000035 00000002 00000001 00000001 0001 6b 0001 74 0001 63 0020 0009 00000001 00000014 00000003 00000004 00000001 ffffffff 00000000",
         lines: "\
 0 Frame response 00 0 RESULT 53
@@ -1003,7 +1003,12 @@ pub(crate) static METADATA: [Vector; 8] = [
 30 TypeNode list
 32 TypeNode int
 34 Count Rows 1
-62 End 24
+38 Enter 0 0 0 list 3
+46 Leaf 0 0 1 1
+54 Null 0 0 1
+58 Empty 0 0 1
+62 Leave 0 3
+62 End 0
 whole 62
 ",
     },

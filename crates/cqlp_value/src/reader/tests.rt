@@ -433,6 +433,51 @@ fn cells_without_a_type(rt: HostRuntime) -> Result<(), Fail> {
     Ok(())
 }
 
+/// How many bytes are used of these, which come at once, of a cell without a type.
+fn used_of(alloc: Global, bytes: &[u8]) -> Result<u64, Fail> {
+    let table = TypeTable::new(alloc, 0)?;
+    let mut partial = Partial::new(alloc, LIMITS.cell)?;
+    let mut reader = CellReader::new(alloc, &LIMITS)?;
+    reader.begin(None, AT, AT + 7);
+    let mut lines = String::new(alloc);
+    match pushed(&mut partial, &mut reader, &table, bytes, &mut lines)? {
+        None => Ok(0),
+        Some(_) => Ok(reader.bytes_used(&partial)),
+    }
+}
+
+#[test]
+fn each_byte_is_used(rt: HostRuntime) -> Result<(), Fail> {
+    let bytes = [0, 0, 0, 3, 1, 2, 3];
+    for count in 1..=7usize {
+        assert_eq!(rt; used_of(rt.alloc(), &bytes[..count])?, AT + count as u64);
+    }
+    Ok(())
+}
+
+#[test]
+fn stops_in_a_list(rt: HostRuntime) -> Result<(), Fail> {
+    let table = table_of(rt.alloc(), &LIST)?;
+    let mut partial = Partial::new(rt.alloc(), LIMITS.cell)?;
+    let mut reader = CellReader::new(rt.alloc(), &LIMITS)?;
+    let mut lines = String::new(rt.alloc());
+    if let Some(_) = end_of(&table, 0, LIMITS.depth) {
+        reader.begin(Some(0), AT, AT + 24);
+        let enter = [0, 0, 0, 20, 0, 0, 0, 3];
+        assert_eq!(rt;
+            pushed(&mut partial, &mut reader, &table, &enter, &mut lines)?,
+            Some(8)
+        );
+    }
+    assert_eq!(rt; reader.levels(), 1);
+    reader.stop();
+    assert_eq!(rt; reader.levels(), 0);
+    assert!(rt; !reader.done());
+    reader.begin(None, AT, AT);
+    assert!(rt; !reader.done());
+    Ok(())
+}
+
 #[test]
 fn its_levels_are_its_only_request(rt: HostRuntime) {
     let none = Limited::new(rt.alloc(), 0);

@@ -13,6 +13,6 @@ invariant-events g l = record {
   drained : g.S.Sink.tells l.fn.sink → (s : List ℕ) (es : List (ℕ × Event)) → After (state l.fn.decoder) s es → Drains g.S.Sink.after (state l.decoder) s es (take l.used l.input) (g.S.Sink.view l.fn.sink) (g.S.Sink.view l.sink);
 }
 
--- an event takes some byte, or is the end that is due
+-- an event takes some byte, or is the end of the frame or of a value that is open
 abbrev pub decreases-events : goal.decreases-events
-decreases-events g l = ends_due (state l.decoder).place.symbols + 2 * (length l.input - l.used)
+decreases-events g l = ends_due (state l.decoder).place.symbols + (state l.decoder).open_values + 2 * (length l.input - l.used)

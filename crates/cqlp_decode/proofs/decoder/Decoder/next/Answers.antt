@@ -1,23 +1,42 @@
-use Rattle.std.proofs.Common.{refl, []}
-use Rattle.cqlp_decode.specs.Streams.{state}
-use Rattle.cqlp_decode.proofs.Leads.{more_leads, event_leads, refused_leads, more_uses, event_uses, more_goes, event_goes, refused_goes}
+use Rattle.std.proofs.Common.{refl, [], subst}
+use Rattle.std.specs.Prelude.{Option, None}
+use Rattle.cqlp_note.specs.declared.refusal.Refusal.{Refusal}
+use Rattle.cqlp_decode.specs.declared.event.Event.TheVariants as event
+use Rattle.cqlp_decode.specs.declared.standing.Advance.TheVariants as advance
+use Rattle.cqlp_decode.specs.Standing.{State, Advances}
+use Rattle.cqlp_decode.specs.Streams.{AfterBy, state}
+use Rattle.cqlp_decode.proofs.Leads.{more_leads, hands_leads, event_leads, refused_leads, more_uses, event_uses, more_goes, event_goes, refused_goes}
 use Rattle.cqlp_decode.proofs.decoder.Decoder.next.Goals as goal
+
+pub returns-in-Some : goal.returns-in-Some
+returns-in-Some g c =
+    let old = state c.args.self.now in
+    let new = state c.take_scalar.new.self in
+    let input = c.args.input.now in
+    let t = c.in-Some.taken in
+    let e = event.Leaf t.row t.column 0 t.scalar in
+    let takes = c.in-Some.ensures in (
+      (refl, λ _. tt, ((takes.3.pays, takes.3.lent, takes.2), λ s es after. hands_leads old new input s es t.at t.used e takes.3 takes.1 takes.2 (subst (λ (o : Option Refusal). AfterBy o old s es) takes.0 after))),
+      record { next = tt; uses = takes.3.within },
+    )
 
 pub returns-in-More : goal.returns-in-More
 returns-in-More g c =
     let old = state c.args.self.now in
     let new = state c.advance.new.self in
-    let input = c.args.input.now in (
-      (refl, λ _. tt, (more_goes old new input [] [] old.refusal c.in-More.used c.in-More.ensures, λ s es after. more_leads old new input s es old.refusal c.in-More.used c.in-More.ensures after)),
-      record { next = tt; uses = more_uses old new input [] [] old.refusal c.in-More.used c.in-More.ensures },
+    let input = c.args.input.now in
+    let moves = subst (λ (z : State). Advances z input (advance.More c.in-More.used) new) c.in_default.ensures c.in-More.ensures in (
+      (refl, λ _. tt, (more_goes old new input [] [] old.refusal c.in-More.used moves, λ s es after. more_leads old new input s es old.refusal c.in-More.used moves after)),
+      record { next = tt; uses = more_uses old new input [] [] old.refusal c.in-More.used moves },
     )
 
 pub returns-in-Refused : goal.returns-in-Refused
 returns-in-Refused g c =
     let old = state c.args.self.now in
     let new = state c.advance.new.self in
-    let input = c.args.input.now in (
-      (refl, λ _. tt, (refused_goes old new input [] [] old.refusal refl c.in-Refused.refusal c.in-Refused.ensures, λ s es after. refused_leads old new input s es old.refusal refl c.in-Refused.refusal c.in-Refused.ensures after)),
+    let input = c.args.input.now in
+    let moves = subst (λ (z : State). Advances z input (advance.Refused c.in-Refused.refusal) new) c.in_default.ensures c.in-Refused.ensures in (
+      (refl, λ _. tt, (refused_goes old new input [] [] old.refusal refl c.in-Refused.refusal moves, λ s es after. refused_leads old new input s es old.refusal refl c.in-Refused.refusal moves after)),
       record { next = tt; uses = tt },
     )
 
@@ -25,7 +44,8 @@ pub returns-in-Event : goal.returns-in-Event
 returns-in-Event g c =
     let old = state c.args.self.now in
     let new = state c.advance.new.self in
-    let input = c.args.input.now in (
-      (refl, λ _. tt, (event_goes old new input [] [] old.refusal c.in-Event.at c.in-Event.used c.in-Event.what c.lend.result c.lend.ensures c.in-Event.ensures, λ s es after. event_leads old new input s es old.refusal c.in-Event.at c.in-Event.used c.in-Event.what c.lend.result c.lend.ensures c.in-Event.ensures after)),
-      record { next = tt; uses = event_uses old new input [] [] old.refusal c.in-Event.at c.in-Event.used c.in-Event.what c.in-Event.ensures },
+    let input = c.args.input.now in
+    let moves = subst (λ (z : State). Advances z input (advance.Event c.in-Event.at c.in-Event.used c.in-Event.what) new) c.in_default.ensures c.in-Event.ensures in (
+      (refl, λ _. tt, (event_goes old new input [] [] old.refusal c.in-Event.at c.in-Event.used c.in-Event.what c.lend.result c.lend.ensures moves, λ s es after. event_leads old new input s es old.refusal c.in-Event.at c.in-Event.used c.in-Event.what c.lend.result c.lend.ensures moves after)),
+      record { next = tt; uses = event_uses old new input [] [] old.refusal c.in-Event.at c.in-Event.used c.in-Event.what moves },
     )

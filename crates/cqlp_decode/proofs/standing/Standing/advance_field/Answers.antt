@@ -3,14 +3,14 @@ use Rattle.std.specs.Prelude.{max}
 use Rattle.cqlp_note.specs.declared.head.Wanted.{Wanted}
 use Rattle.cqlp_note.specs.Reader.{Bad}
 use Rattle.cqlp_note.specs.Field.{FieldValue}
+use Rattle.cqlp_note.specs.Head.{value_of}
 use Rattle.cqlp_note.specs.Partial.{Progress}
 use Rattle.cqlp_type.specs.Table.{Table}
 use Rattle.cqlp_message.specs.Productions.{fault_in, following}
 use Rattle.cqlp_decode.specs.declared.standing.Standing.{Standing}
 use Rattle.cqlp_decode.specs.Reading.{types_for, Nothing}
 use Rattle.cqlp_decode.specs.Standing.{parts, rest_of}
-use Rattle.cqlp_decode.proofs.Steps.{fresh_stage}
-use Rattle.cqlp_decode.proofs.FieldSteps.{piece_waits, piece_fails, piece_faults, piece_inside, piece_hands}
+use Rattle.cqlp_decode.proofs.FieldSteps.{piece_waits, piece_fails, piece_faults, piece_inside, piece_hands, goes_on_lawful, metadata_forest, following_there}
 use Rattle.cqlp_decode.proofs.standing.Standing.advance_field.Goals as goal
 
 pub overflow_add-self-in-Got : goal.overflow_add-self-in-Got
@@ -21,52 +21,45 @@ overflow_add-self-in-Got g c =
     omega arith
 
 pub returns-in-More-clause-moves : goal.returns-in-More-clause-moves
-returns-in-More-clause-moves g c = λ r. piece_waits c.args.self.now c.args.partial.now c.ask.new.partial r c.args.table.now c.args.want c.args.input.now c.requires.here c.ask.ensures c.advance.new.self c.in-More.used c.in-More.ensures
+returns-in-More-clause-moves g c = λ r d. piece_waits c.args.self.now c.args.partial.now c.ask.new.partial r d c.args.table.now c.args.want c.args.input.now c.requires.here c.ask.ensures c.advance.new.self c.in-More.used c.in-More.ensures
 
 pub returns-in-Refused-clause-moves : goal.returns-in-Refused-clause-moves
-returns-in-Refused-clause-moves g c = λ r b is.
+returns-in-Refused-clause-moves g c = λ r d b is.
     let e = c.in-Refused.ensures in
     let at : c.in-Refused.refusal.at ≡ c.args.self.now.offset = e.0 ∙ ap (λ (w : Wanted). w.at) c.ask.ensures.field in
-    piece_fails c.args.self.now c.args.partial.now c.ask.new.partial r c.args.table.now c.args.want c.args.input.now c.requires.here c.ask.ensures c.in-Refused.refusal.why e.1 b is ∙ (λ i. Bad (sym at i, c.in-Refused.refusal.why))
+    piece_fails c.args.self.now c.args.partial.now c.ask.new.partial r d c.args.table.now c.args.want c.args.input.now c.requires.here c.ask.ensures c.in-Refused.refusal.why e.1 b is ∙ (λ i. Bad (sym at i, c.in-Refused.refusal.why))
 
 pub returns-in-Some-clause-moves : goal.returns-in-Some-clause-moves
-returns-in-Some-clause-moves g c = λ r b is.
+returns-in-Some-clause-moves g c = λ r d b is.
     let fault = ap (λ (v : FieldValue). fault_in c.args.want.role v) (sym c.lend-value.ensures) ∙ sym c.fault_in.ensures ∙ c.in-Some.is in
-    piece_faults c.args.self.now c.args.partial.now c.ask.new.partial r c.args.table.now c.args.want c.args.input.now c.requires.here c.ask.ensures c.advance.new.self c.in-Got.used _ c.in-Got.ensures.0 c.in-Some.why fault b is
+    piece_faults c.args.self.now c.args.partial.now c.ask.new.partial r d c.args.table.now c.args.want c.args.input.now c.requires.here c.ask.ensures c.advance.new.self c.in-Got.used _ c.in-Got.ensures.0 c.in-Some.why fault b is
 
 pub returns-in_default-clause-lawful : goal.returns-in_default-clause-lawful
-returns-in_default-clause-lawful g c = λ r law.
+returns-in_default-clause-lawful g c = λ r d law.
     let inside = piece_inside c.args.self.now c.args.partial.now c.ask.new.partial c.args.want c.args.input.now c.ask.ensures c.advance.new.self c.in-Got.used _ c.in-Got.ensures.0 c.requires.bounded.inside in
-    let old = law.bounded in
     let came = c.came-came.ensures.is in
-    let wanted = c.requires.wanted in
-    let stage = rw c.requires.here at law.stage in
     let rest = c.follow.ensures.rest in
     let offset : c.follow.new.self.offset ≡ c.args.self.now.offset + (c.came-came.result + c.in-Got.used) = ap (λ (z : Standing). z.offset) rest in
-    let stop : c.follow.new.self.stop ≡ c.args.self.now.stop = ap (λ (z : Standing). z.stop) rest in
-    let none : c.follow.new.self.came ≡ 0 = ap (λ (z : Standing). z.came) rest ∙ wanted.came in
     let ended = c.in-Got.ensures.0.idle in
-    record {
-      bounded = record { long = ap (λ (z : Standing). length z.header) rest ∙ old.long; inside = omega arith; size = omega (arith, old.size); bound = omega (arith, old.bound) };
-      parts = record {
-        room = rw (ap (λ (z : Standing). max z.limits.text z.limits.cell) rest) (ap (λ (z : Progress). z.room) ended ∙ c.ask.ensures.room ∙ law.parts.room);
-        rules = rw (ap (λ (z : Standing). z.limits) rest) law.parts.rules;
-        table = rw (ap (λ (z : Standing). z.limits.entries) rest) (ap (λ (z : Table). z.room) c.begin_metadata.ensures ∙ law.parts.table);
-      };
-      stage = fresh_stage c.follow.new.self (parts c.advance.new.self r c.begin_metadata.new.table) c.follow.new.self.stage c.follow.ensures.room (record { field = ap (λ (z : Progress). z.under_way) ended; types = stage.1 }) none;
-    }
+    let stage = rw c.requires.here at law.stage in
+    goes_on_lawful c.args.self.now c.follow.new.self (parts c.args.partial.now r d c.args.table.now) c.advance.new.self r d c.begin_metadata.new.table (c.came-came.result + c.in-Got.used) law offset (omega (arith, inside))
+    (ap (λ (z : Standing). z.stop) rest) (ap (λ (z : Standing). z.limits) rest) (ap (λ (z : Standing). z.header) rest) (ap (λ (z : Standing). z.came) rest ∙ c.requires.wanted.came)
+    (ap (λ (z : Progress). z.room) ended ∙ c.ask.ensures.room) (ap (λ (z : Progress). z.under_way) ended) refl stage.1 refl stage.2 (ap (λ (z : Table). z.room) c.begin_metadata.ensures)
+    (rw c.begin_metadata.ensures (metadata_forest c.args.want.role c.args.table.now.nodes c.args.self.now.limits.depth c.requires.forest)) c.follow.ensures.starts
 
 pub returns-in_default-clause-moves : goal.returns-in_default-clause-moves
-returns-in_default-clause-moves g c = λ r.
+returns-in_default-clause-moves g c = λ r d.
     let rest = c.follow.ensures.rest in
     let came = c.came-came.ensures.is in
     let value = c.lend-value.ensures in
     let fine = ap (λ (v : FieldValue). fault_in c.args.want.role v) (sym value) ∙ sym c.fault_in.ensures ∙ c.in_default.is in
     let role = c.args.want.role in
-    let types = types_for c.args.self.now.limits.types role c.args.table.now.nodes Nothing in
-    piece_hands c.args.self.now c.args.partial.now c.ask.new.partial r c.args.table.now c.args.want c.args.input.now c.requires.here c.ask.ensures c.advance.new.self c.in-Got.used _ c.in-Got.ensures.0
+    let nodes = ap (λ (z : Table). z.nodes) c.begin_metadata.ensures in
+    piece_hands c.args.self.now c.args.partial.now c.ask.new.partial r d c.args.table.now c.args.want c.args.input.now c.requires.here c.ask.ensures c.advance.new.self c.in-Got.used _ c.in-Got.ensures.0
     c.follow.new.self c.begin_metadata.new.table c.in-Got.item refl c.in-Got.ensures.1 fine c.requires.wanted
     (ap (λ (z : Standing). z.offset) rest ∙ ap (λ (k : ℕ). c.args.self.now.offset + (k + c.in-Got.used)) came)
-    (ap (λ (z : Standing). z.stop) rest) (ap (λ (z : Standing). z.frame) rest) (ap (λ (z : Standing). z.came) rest ∙ c.requires.wanted.came) c.follow.ensures.room
-    (ap (λ (z : Table). z.nodes) c.begin_metadata.ensures)
-    (c.follow.ensures.symbols types r ∙ ap (λ (v : FieldValue). following types role v ++ rest_of c.args.self.now.upcoming) value)
+    (ap (λ (z : Standing). z.stop) rest) (ap (λ (z : Standing). z.frame) rest) (ap (λ (z : Standing). z.came) rest ∙ c.requires.wanted.came) c.follow.ensures.starts
+    nodes
+    (c.follow.ensures.symbols (parts c.advance.new.self r d c.begin_metadata.new.table) refl
+    ∙ following_there role (value_of c.lend-value.result) c.args.self.now.limits.types c.args.table.now.nodes c.begin_metadata.new.table.nodes (rest_of c.args.self.now.upcoming) nodes
+    ∙ ap (λ (v : FieldValue). following (types_for c.args.self.now.limits.types role c.args.table.now.nodes Nothing) role v ++ rest_of c.args.self.now.upcoming) value)

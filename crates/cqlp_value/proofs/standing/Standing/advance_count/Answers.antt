@@ -30,7 +30,7 @@ returns-then-number-clause-settles g c =
     let seen = seen_before c.args.begun c.args.partial.now in
     let refuse = c.refuse-then-number.ensures in
     let room : c.args.self.now.offset + 4 + c.from.result - (c.args.self.now.offset + 4) ≡ c.args.len = omega arith in
-    rw refuse.answer (count_fails c.args.table.now.nodes (state_of c.args.self.now) (state_of c.refuse-then-number.new.self) c.args.len c.args.start c.in-Got.used c.in-Got.number c.args.partial.now c.take_number.new.partial seen c.args.input.now r.decided r.front (rw room at c.in-Got.ensures) (omega arith) refuse.state)
+    rw refuse.answer (count_fails c.args.table.now.nodes (state_of c.args.self.now) (state_of c.refuse-then-number.new.self) c.args.len c.args.start c.in-Got.used c.in-Got.number c.args.partial.now c.take_number.new.partial seen c.args.input.now r.decided r.front r.some (rw room at c.in-Got.ensures) (omega arith) refuse.state)
 
 pub returns-else-number-clause-settles : goal.returns-else-number-clause-settles
 returns-else-number-clause-settles g c =
@@ -38,4 +38,4 @@ returns-else-number-clause-settles g c =
     let seen = seen_before c.args.begun c.args.partial.now in
     let enter = c.enter_counted-item.ensures in
     let room : c.args.self.now.offset + 4 + c.from.result - (c.args.self.now.offset + 4) ≡ c.args.len = omega arith in
-    rw (enter.item, r.value) (count_hands c.args.table.now.nodes (state_of c.args.self.now) (state_of c.enter_counted-item.new.self) c.args.len c.args.start c.in-Got.used c.in-Got.number c.args.partial.now c.take_number.new.partial seen c.args.input.now r.decided r.front (rw room at c.in-Got.ensures) r.stands r.due (omega arith) enter.enters)
+    rw (enter.item, r.value) (count_hands c.args.table.now.nodes (state_of c.args.self.now) (state_of c.enter_counted-item.new.self) c.args.len c.args.start c.in-Got.used c.in-Got.number c.args.partial.now c.take_number.new.partial seen c.args.input.now r.decided r.front r.some (rw room at c.in-Got.ensures) r.stands r.due (omega arith) enter.enters)

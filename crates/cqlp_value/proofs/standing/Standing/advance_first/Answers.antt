@@ -31,4 +31,4 @@ returns-clause-settles g c =
     let r = c.requires in
     let seen = seen_before c.args.begun c.args.partial.now in
     let goes = ap (λ (d : State). record d { next = next.Part c.args.self.now.limits.cell c.args.total }) (rw c.from.ensures at c.pass.ensures.state) in
-    first_hands c.args.table.now.nodes (state_of c.args.self.now) refl c.args.total r.decided c.args.start c.args.partial.now c.gather.new.partial seen c.args.input.now c.in-Some.found _ c.len-level.result r.stands r.due r.parts r.front c.in-Some.ensures goes c.len-level.ensures.is
+    first_hands c.args.table.now.nodes (state_of c.args.self.now) refl c.args.total r.decided c.args.start c.args.partial.now c.gather.new.partial seen c.args.input.now c.in-Some.found _ c.len-level.result r.stands r.due r.parts r.front r.some c.in-Some.ensures goes c.len-level.ensures.is

@@ -21,4 +21,4 @@ returns-clause-settles g c =
     let found = c.in-Some.found in
     let there : content_at found.content c.args.input.now c.gather.new.partial.content ≡ c.lent.result.now = ap bytes_in c.lent.ensures in
     let some : is_some (scalar_of c.args.value.kind (content_at found.content c.args.input.now c.gather.new.partial.content)) ≡ true = rw (there, ← c.accepts.ensures) c.if-not-accepts.false in
-    leaf_hands nodes old (state_of c.pass.new.self) c.args.len c.args.start c.args.partial.now c.gather.new.partial seen c.args.input.now found r.stands r.due r.decided r.front c.in-Some.ensures c.args.value.kind c.len-level.result (ap (λ v. v.kind) r.value) c.len-level.ensures.is some (rw c.from.ensures at c.pass.ensures.state)
+    leaf_hands nodes old (state_of c.pass.new.self) c.args.len c.args.start c.args.partial.now c.gather.new.partial seen c.args.input.now found r.stands r.due r.decided r.front r.some c.in-Some.ensures c.args.value.kind c.len-level.result (ap (λ v. v.kind) r.value) c.len-level.ensures.is some (rw c.from.ensures at c.pass.ensures.state)

@@ -1,0 +1,172 @@
+-- The cells of a page, one after the other.
+use Rattle.std.proofs.Common.{◌≡◌, ℕ, zero, suc, ◌+◌, ◌-◌, ◌<◌, ◌≤◌, ◌^◌, List, [], ◌∷◌, ◌++◌, length, drop, refl, sym, ap, ◌∙◌, append_assoc, arith}
+use Rattle.std.specs.Prelude.{Option, Some, None, Bool}
+use Rattle.cqlp_note.specs.Limits.{Rules}
+use Rattle.cqlp_note.specs.Field.{FieldValue}
+use Rattle.cqlp_type.specs.declared.kind.Kind.{Kind}
+use Rattle.cqlp_type.specs.declared.kind.Kind.TheVariants as kind
+use Rattle.cqlp_type.specs.declared.node.Node.{Node}
+use Rattle.cqlp_type.specs.Types.{Types, NoMore, Type_and, types_of, other_types}
+use Rattle.cqlp_value.specs.declared.standing.Next.{Next}
+use Rattle.cqlp_value.specs.declared.standing.Next.TheVariants as next
+use Rattle.cqlp_value.specs.CellStep.{CellSymbol, Value_of, values_of}
+use Rattle.cqlp_value.specs.Inner.{Forest, types_at, Stand}
+use Rattle.cqlp_value.specs.Standing.{State, place, cell_symbols, CellStands}
+use Rattle.cqlp_value.proofs.Columns.{Column, forest_first, forest_end}
+use Rattle.cqlp_message.specs.declared.grammar.Role.{Role}
+use Rattle.cqlp_message.specs.declared.grammar.Role.TheVariants as role
+use Rattle.cqlp_message.specs.Productions.{Symbol, row_from, rows_from, raw_types, number_in, following}
+use Rattle.cqlp_decode.specs.declared.page.Columns.{Columns}
+use Rattle.cqlp_decode.specs.declared.page.Columns.TheVariants as columns
+use Rattle.cqlp_decode.specs.declared.page.Page.{Page}
+use Rattle.cqlp_decode.specs.Pages.{column_types, types_from, types_left, node_by, cell_symbol, cells_from, page_symbols, IsColumn, IsPage, NextColumn, Turns, Begins, Follows}
+use Rattle.cqlp_decode.specs.Reading as reading
+use Rattle.cqlp_decode.specs.Reading.{page_types}
+use Rattle.cqlp_decode.specs.Standing.{ends_due}
+
+-- rows without columns are nothing
+pub rows_none : (row n : ℕ) → rows_from row NoMore n ≡ []
+rows_none row zero = refl
+rows_none row (suc n) = rows_none (row + 1) n
+
+-- The column of a cell: its type is the first of those left, and stands in the table.
+pub record FirstColumn (nodes : List Node) (depth : ℕ) (c : Columns) (column index : ℕ) : Type 0 where
+  pub first : Kind
+  pub inner : Types
+  pub others : Types
+  pub is : types_from nodes c column index ≡ Type_and first inner others
+  pub stands : (l : Rules) → l.depth ≡ depth → CellStands nodes l (node_by c index)
+  pub symbols : (stop : ℕ) → cell_symbols nodes (node_by c index) stop ≡ Value_of first inner 0 stop ∷ []
+
+pub raw_left : (n column : ℕ) → column < n → raw_types (n - column) ≡ Type_and kind.Raw NoMore (raw_types (n - (column + 1)))
+raw_left n column lt =
+    let e : n - column ≡ suc (n - (column + 1)) = omega arith in
+    rw e refl
+
+pub first_column : (nodes : List Node) (depth : ℕ) (c : Columns) (column index : ℕ) → IsColumn nodes depth c column index → FirstColumn nodes depth c column index
+first_column nodes depth columns.Typed column index h =
+    let f = forest_first nodes index depth h.2 h.0 in
+    record {
+      first = f.x.kind;
+      inner = f.inner;
+      others = f.others;
+      is = f.is;
+      stands = λ l same. rw same f.stands;
+      symbols = λ stop. ap (λ (ts : Types). values_of ts 0 stop) f.one;
+    }
+first_column nodes depth (columns.Raw n) column index h = record {
+  first = kind.Raw;
+  inner = NoMore;
+  others = raw_types (n - (column + 1));
+  is = raw_left n column h;
+  stands = λ l same. tt;
+  symbols = λ stop. refl;
+}
+
+-- a cell that has just begun, and those behind it
+pub page_begun : (nodes : List Node) (depth : ℕ) (d : State) (p : Page) (i : Option ℕ) → d.next ≡ next.Cell i → IsColumn nodes depth p.columns p.column p.index → page_symbols nodes d p ≡ cells_from nodes p
+page_begun nodes depth d p i here h =
+    let f = first_column nodes depth p.columns p.column p.index h in
+    rw (here, f.is) refl
+
+cell_due : (n : Next) (row column : ℕ) (k : Kind) (inner : Types) (ss : List CellSymbol) (rest : List Symbol) → ends_due (cell_symbol n row column k inner ss ∷ rest) ≡ 1
+cell_due next.Nothing row column k inner ss rest = refl
+cell_due (next.Cell i) row column k inner ss rest = refl
+cell_due next.Items row column k inner ss rest = refl
+cell_due (next.Part offset total) row column k inner ss rest = refl
+
+-- the end of a page's frame is still to come
+pub cells_due : (nodes : List Node) (depth : ℕ) (p : Page) (rest : List Symbol) → IsColumn nodes depth p.columns p.column p.index → ends_due (cells_from nodes p ++ rest) ≡ 1
+cells_due nodes depth p rest h = let f = first_column nodes depth p.columns p.column p.index h in rw f.is refl
+
+pub page_due : (nodes : List Node) (depth : ℕ) (d : State) (p : Page) (rest : List Symbol) → IsColumn nodes depth p.columns p.column p.index → ends_due (page_symbols nodes d p ++ rest) ≡ 1
+page_due nodes depth d p rest h =
+    let f = first_column nodes depth p.columns p.column p.index h in
+    rw f.is (cell_due d.next p.row p.column f.first f.inner (place nodes d).symbols _)
+
+-- ---- from cell to cell
+
+pub types_none : (nodes : List Node) → types_of nodes ≡ NoMore → nodes ≡ []
+types_none [] e = refl
+types_none (x ∷ xs) e = absurd cc
+
+pub none_types : (nodes : List Node) → nodes ≡ [] → types_of nodes ≡ NoMore
+none_types [] e = refl
+none_types (x ∷ xs) e = absurd cc
+
+pub first_of_none : (nodes : List Node) (depth : ℕ) (c : Columns) (rows : ℕ) → rows ≡ 0 → Begins nodes depth c rows None
+first_of_none nodes depth c rows e = rw e refl
+
+pub first_without : (nodes : List Node) (depth : ℕ) (c : Columns) (rows : ℕ) → column_types nodes c ≡ NoMore → Begins nodes depth c rows None
+first_without nodes depth c rows e = rw e (rows_none 0 rows)
+
+some_nodes : (nodes : List Node) → (types_of nodes ≡ NoMore → ⊥) → 0 < length nodes
+some_nodes [] some = absurd (some refl)
+some_nodes (x ∷ xs) some = omega arith
+
+some_raw : (n : ℕ) → (raw_types n ≡ NoMore → ⊥) → 0 < n
+some_raw zero some = absurd (some refl)
+some_raw (suc n) some = omega arith
+
+first_there : (nodes : List Node) (depth : ℕ) (c : Columns) → Forest nodes 0 depth → (column_types nodes c ≡ NoMore → ⊥) → (types_from nodes c 0 0 ≡ column_types nodes c) × IsColumn nodes depth c 0 0
+first_there nodes depth columns.Typed f some = (refl, (some_nodes nodes some, omega arith, f, f))
+first_there nodes depth (columns.Raw n) f some = let e : n - 0 ≡ n = omega arith in (ap raw_types e, some_raw n some)
+
+pub first_some : (nodes : List Node) (depth : ℕ) (c : Columns) (rows : ℕ) → Forest nodes 0 depth → (rows ≡ 0 → ⊥) → rows < 2 ^ 32 → (column_types nodes c ≡ NoMore → ⊥) → Begins nodes depth c rows (Some (record { columns = c; row = 0; column = 0; index = 0; left = rows - 1 }))
+first_some nodes depth c zero f rows few some = absurd (rows refl)
+first_some nodes depth c (suc n) f rows few some =
+    let h = first_there nodes depth c f some in
+    let e : suc n - 1 ≡ n = omega arith in
+    (rw (e, h.0) refl, (h.1, omega (arith, few)))
+
+-- the column after one of a known type
+module _ (nodes : List Node) (depth index column : ℕ) (h : IsColumn nodes depth columns.Typed column index) where
+  abbrev pub column_there : Column nodes index depth
+  column_there = forest_first nodes index depth h.2 h.0
+
+  pub others_are : other_types 1 (types_of (drop index nodes)) ≡ types_of (drop (index + column_there.x.span) nodes)
+  others_are = rw column_there.is (sym column_there.next)
+
+  pub next_typed : (i : ℕ) → i ≡ index + column_there.x.span → i < length nodes → (other_types 1 (types_of (drop index nodes)) ≡ types_of (drop i nodes)) × IsColumn nodes depth columns.Typed (column + 1) i
+  next_typed i is lt = (rw is others_are, (lt, omega (arith, is, column_there.some, h.1), rw is column_there.left, h.3))
+
+  pub last_typed : length nodes ≤ index + column_there.x.span → other_types 1 (types_of (drop index nodes)) ≡ NoMore
+  last_typed le =
+      let e : index + column_there.x.span ≡ length nodes = omega (arith, le, column_there.within) in
+      others_are ∙ rw e (forest_end nodes)
+
+pub others_raw : (n column : ℕ) → column < n → other_types 1 (raw_types (n - column)) ≡ raw_types (n - (column + 1))
+others_raw n column lt = rw (raw_left n column lt) refl
+
+pub last_raw : (n column : ℕ) → column < n → n ≤ column + 1 → other_types 1 (raw_types (n - column)) ≡ NoMore
+last_raw n column lt le =
+    let e : n - (column + 1) ≡ 0 = omega arith in
+    others_raw n column lt ∙ rw e refl
+
+-- the first column of the next row
+next_row : (nodes : List Node) (depth : ℕ) (c : Columns) (column index : ℕ) → IsColumn nodes depth c column index → (types_from nodes c 0 0 ≡ column_types nodes c) × IsColumn nodes depth c 0 0
+next_row nodes depth columns.Typed column index h = (refl, (omega (arith, h.0), omega arith, h.3, h.3))
+next_row nodes depth (columns.Raw n) column index h = let e : n - 0 ≡ n = omega arith in (ap raw_types e, omega (arith, h))
+
+module _ (nodes : List Node) (depth : ℕ) (p : Page) (h : IsPage nodes depth p) where
+  pub turns_column : (i : ℕ) → NextColumn nodes depth p (Some i) → Turns nodes depth p (Some (record p { column = p.column + 1; index = i }))
+  turns_column i n = (rw n.0 refl, (n.1, h.1))
+
+  pub turns_row : NextColumn nodes depth p None → (p.left ≡ 0 → ⊥) → Turns nodes depth p (Some (record p { row = p.row + 1; column = 0; index = 0; left = p.left - 1 }))
+  turns_row n some =
+      let first = next_row nodes depth p.columns p.column p.index h.0 in
+      let e : p.left ≡ suc (p.left - 1) = omega (arith, λ (z : p.left ≡ 0). some z) in
+      (rw (n, first.0) (ap (λ (k : ℕ). rows_from (p.row + 1) (column_types nodes p.columns) k) e), (first.1, omega (arith, h.1, e)))
+
+  pub turns_over : NextColumn nodes depth p None → p.left ≡ 0 → Turns nodes depth p None
+  turns_over n none = rw (n, none) refl
+
+-- what follows a field but the number of a page's rows is no page
+pub page_there : (nodes : List Node) (depth : ℕ) (types : Bool) (flags columns rows : ℕ) (v : FieldValue) (c : Columns) (o : Option Page) → number_in v ≡ rows → page_types types flags columns nodes reading.Nothing ≡ column_types nodes c → Begins nodes depth c rows o
+    → Follows nodes depth types (role.PageRows flags columns) v o
+page_there nodes depth types flags columns rows v c None many same h = rw (same, many) (h ∙ sym (rows_none 0 rows))
+page_there nodes depth types flags columns rows v c (Some p) many same h = (rw (same, many) h.0, h.1)
+
+pub no_page : (nodes : List Node) (depth : ℕ) (types : Bool) (r : Role) (v : FieldValue) → ((flags columns : ℕ) → r ≡ role.PageRows flags columns → ⊥) → Follows nodes depth types r v None
+no_page nodes depth types (role.PageRows flags columns) v other = absurd (other flags columns refl)
+no_page nodes depth types r v other = refl

@@ -1,0 +1,156 @@
+//! The cells of a page, in their order.
+
+ghost use Rattle.std.specs.Prelude.{◌≡◌, ◌↔◌, ℕ, IsTrue, List};
+ghost use Rattle.cqlp_note.specs.Head.{value_of};
+ghost use Rattle.cqlp_message.specs.Productions.{number_in};
+ghost use Rattle.cqlp_value.specs.Inner.{Forest};
+ghost use Rattle.cqlp_type.specs.Types.{NoMore};
+ghost use Rattle.cqlp_type.specs.declared.node.Node.{Node};
+ghost use Rattle.cqlp_decode.specs.Reading as reading;
+ghost use Rattle.cqlp_decode.specs.Reading.{page_types};
+ghost use Rattle.cqlp_decode.specs.Pages.{Begins, Follows, IsKind, IsPage, IsSomePage, NextColumn, Turns, column_types, node_by};
+
+use crate::following::{has, number};
+use cqlp_message::Role;
+use cqlp_note::{Limits, Prim};
+use cqlp_type::{Kind, TypeTable};
+use std::alloc::Allocator;
+
+/// The types of a page's columns.
+#[derive(Clone, Copy, Debug, PartialEq, Eq)]
+pub enum Columns {
+    /// Those of the table.
+    Typed,
+    /// So many columns, whose types are not known.
+    Raw(u32),
+}
+
+/// A cell of a page, and how many rows there are behind its own.
+#[derive(Clone, Copy, Debug, PartialEq, Eq)]
+pub struct Page {
+    pub columns: Columns,
+    pub row: u32,
+    pub column: u32,
+    /// Where the type of the column stands in the table, if that is known.
+    pub index: u32,
+    pub left: u32,
+}
+
+impl Columns {
+    fn are_none<A: Allocator>(self, table: &TypeTable<A>) -> bool
+        ensures { IsTrue result ↔ (column_types table.now.nodes self ≡ NoMore) }
+    {
+        match self {
+            Columns::Typed => table.is_empty(),
+            Columns::Raw(columns) => columns == 0,
+        }
+    }
+}
+
+impl Page {
+    /// The first cell of so many rows, if there is one.
+    pub fn first<A: Allocator>(columns: Columns, rows: u32, table: &TypeTable<A>) -> Option<Self>
+        ensures { (depth : ℕ) → Forest table.now.nodes 0 depth → Begins table.now.nodes depth columns rows result }
+    {
+        if rows == 0 || columns.are_none(table) {
+            return None;
+        }
+        Some(Page {
+            columns,
+            row: 0,
+            column: 0,
+            index: 0,
+            left: rows - 1,
+        })
+    }
+
+    /// The node of the column's type, if that is known.
+    pub fn node(&self) -> Option<u32>
+        ensures { result ≡ node_by self.now.columns self.now.index }
+    {
+        match self.columns {
+            Columns::Typed => Some(self.index),
+            Columns::Raw(_) => None,
+        }
+    }
+
+    /// The kind of the column's type.
+    pub fn kind<A: Allocator>(&self, table: &TypeTable<A>) -> Kind
+        requires { IsSomePage table.now.nodes self.now }
+        ensures { (depth : ℕ) → IsPage table.now.nodes depth self.now → IsKind table.now.nodes self.now result }
+    {
+        match self.columns {
+            Columns::Typed => table.node(self.index).unwrap().kind,
+            Columns::Raw(_) => Kind::Raw,
+        }
+    }
+
+    /// The cell behind this one, if there is one.
+    pub fn next<A: Allocator>(self, table: &TypeTable<A>) -> Option<Self>
+        requires { IsSomePage table.now.nodes self }
+        ensures { (depth : ℕ) → IsPage table.now.nodes depth self → Turns table.now.nodes depth self result }
+    {
+        if let Some(index) = self.next_column(table) {
+            return Some(Page {
+                column: self.column + 1,
+                index,
+                ..self
+            });
+        }
+        if self.left == 0 {
+            return None;
+        }
+        Some(Page {
+            row: self.row + 1,
+            column: 0,
+            index: 0,
+            left: self.left - 1,
+            ..self
+        })
+    }
+
+    /// Where the type of the next column stands, if this row has one.
+    fn next_column<A: Allocator>(&self, table: &TypeTable<A>) -> Option<u32>
+        requires { IsSomePage table.now.nodes self.now }
+        ensures { (depth : ℕ) → IsPage table.now.nodes depth self.now → NextColumn table.now.nodes depth self.now result }
+    {
+        match self.columns {
+            Columns::Typed => {
+                let end = table.len();
+                let index = self.index + table.node(self.index).unwrap().span;
+                (index < end).then_some(index)
+            }
+            Columns::Raw(columns) => (self.column + 1 < columns).then_some(0),
+        }
+    }
+}
+
+/// The page that begins behind a field of this role that has this value, if it has a cell.
+pub fn page_behind<A: Allocator>(
+    limits: &Limits,
+    role: Role,
+    value: Prim<'_>,
+    table: &TypeTable<A>,
+) -> Option<Page>
+    ensures { (depth : ℕ) → Forest table.now.nodes 0 depth → Follows table.now.nodes depth limits.now.types role (value_of value.entry) result }
+{
+    let Role::PageRows { flags, columns } = role else {
+        return None;
+    };
+    Page::first(
+        columns_of(limits, flags, columns),
+        number(value),
+        table,
+    )
+}
+
+/// The types of so many columns, whose metadata has these flags.
+fn columns_of(limits: &Limits, flags: u32, columns: u32) -> Columns
+    ensures { (nodes : List Node) → page_types limits.now.types flags columns nodes reading.Nothing ≡ column_types nodes result }
+{
+    match (limits.types, has(flags, 0x04)) {
+        (true, false) => Columns::Typed,
+        (true, true) => Columns::Raw(columns),
+        (false, _) => Columns::Raw(columns),
+    }
+}

@@ -1,0 +1,93 @@
+//! Scalars that lie whole at the front of the input.
+
+ghost use Rattle.cqlp_note.specs.Limits.{rules_of};
+ghost use Rattle.cqlp_value.specs.Fronts.{IsFront};
+
+use crate::content::{first, scalar};
+use crate::scalars::Scalar;
+use cqlp_note::Limits;
+use cqlp_type::Kind;
+
+/// A scalar, and how many bytes it takes with its length.
+#[derive(Clone, Copy, Debug, PartialEq, Eq)]
+pub struct Front<'a> {
+    pub used: usize,
+    pub scalar: Scalar<'a>,
+}
+
+/// The value of this kind at the front of the input, in a container with room for so many bytes, where it is a scalar
+/// that a `CellReader` would hand out whole and all its bytes are there. Section 6 of `native_protocol_v4.spec`.
+#[inline]
+pub fn front_scalar<'a>(
+    limits: &Limits,
+    kind: Kind,
+    room: u64,
+    input: &'a [u8],
+) -> Option<Front<'a>>
+    ensures { IsFront (rules_of limits.now) kind room input.now result }
+{
+    if input.len() < 4 {
+        return None;
+    }
+    let len = u32::from_be_bytes(first(input));
+    if len == 0 || len > i32::MAX as u32 || len > limits.cell || u64::from(len) + 4 > room {
+        return None;
+    }
+    let used = 4 + len as usize;
+    if input.len() < used {
+        return None;
+    }
+    let content = &input[4..used];
+    if !kind.is_scalar() {
+        return None;
+    }
+    match scalar(kind, content) {
+        Ok(scalar) => Some(Front { used, scalar }),
+        Err(_) => None,
+    }
+}
+
+#[cfg(test)]
+mod tests {
+    use super::*;
+
+    const LIMITS: Limits = Limits {
+        text: 64,
+        cell: 64,
+        entries: 8,
+        depth: 3,
+        types: true,
+        parts: true,
+    };
+
+    fn number(input: &[u8], room: u64) -> Option<Front<'_>> {
+        front_scalar(&LIMITS, Kind::Int, room, input)
+    }
+
+    #[test]
+    fn a_scalar_whose_bytes_are_all_there(rt: HostRuntime) {
+        let input = [0, 0, 0, 4, 0, 0, 0, 7, 9];
+        let seven = Front {
+            used: 8,
+            scalar: Scalar::Int(7),
+        };
+        assert_eq!(rt; number(&input, 8), Some(seven));
+        assert_eq!(rt; number(&input, 7), None);
+        for len in 0..8 {
+            assert_eq!(rt; number(&input[..len], 8), None);
+        }
+    }
+
+    #[test]
+    fn all_else_is_left_to_a_reader(rt: HostRuntime) {
+        assert_eq!(rt; number(&[0xff, 0xff, 0xff, 0xff, 0], 8), None);
+        assert_eq!(rt; number(&[0, 0, 0, 0, 0], 8), None);
+        assert_eq!(rt; number(&[0, 0, 0, 3, 0, 0, 0], 8), None);
+        let mut long = [b'x'; 69];
+        long[..4].copy_from_slice(&[0, 0, 0, 65]);
+        assert_eq!(rt; front_scalar(&LIMITS, Kind::Blob, 69, &long), None);
+        let list = [0, 0, 0, 4, 0, 0, 0, 0];
+        assert_eq!(rt; front_scalar(&LIMITS, Kind::List, 8, &list), None);
+        assert_eq!(rt; front_scalar(&LIMITS, Kind::Varchar, 6, &[0, 0, 0, 2, 0xc3, 0x28]), None);
+    }
+}

@@ -1,0 +1,23 @@
+//! Laws of the definitions.
+
+ghost use Rattle.cqlp_value.specs.Laws.{ReadIsSpelled, SpelledIsRead, SpelledIsLong, OneSpelled};
+
+/// What is read of a cell is a value that its bytes spell, with just its items.
+pub fn read_is_spelled()
+    ensures { ReadIsSpelled }
+{}
+
+/// What spells a value that is within the limits is read as its items.
+pub fn spelled_is_read()
+    ensures { SpelledIsRead }
+{}
+
+/// The bytes that spell a value are as many as its size says.
+pub fn spelled_is_long()
+    ensures { SpelledIsLong }
+{}
+
+/// Bytes spell at most one value of a type.
+pub fn one_is_spelled()
+    ensures { OneSpelled }
+{}
