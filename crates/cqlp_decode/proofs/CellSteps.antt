@@ -1,9 +1,8 @@
 -- One step of a cell.
-use Rattle.std.proofs.Common.{◌≡◌, ℕ, ◌+◌, ◌-◌, ◌*◌, ◌<◌, ◌≤◌, false, true, Bool, List, [], ◌∷◌, ◌++◌, length, refl, sym, ap, subst, ◌∙◌, arith}
+use Rattle.std.proofs.Common.{◌≡◌, ℕ, ◌+◌, ◌-◌, ◌≤◌, false, true, List, [], ◌∷◌, ◌++◌, length, refl, sym, ap, subst, ◌∙◌, arith}
 use Rattle.std.specs.Prelude.{Option, Some, None}
-use Rattle.cqlp_note.specs.declared.refusal.Reason.{Reason}
 use Rattle.cqlp_note.specs.declared.refusal.Refusal.{Refusal}
-use Rattle.cqlp_note.specs.Reader.{More, Bad, Got, says}
+use Rattle.cqlp_note.specs.Reader.{Bad, says}
 use Rattle.cqlp_note.specs.Step.{Emitted, map_step}
 use Rattle.cqlp_note.specs.Limits.{Rules, rules_of}
 use Rattle.cqlp_note.specs.Partial.{Progress}
@@ -41,7 +40,7 @@ use Rattle.cqlp_decode.specs.Reading as reading
 use Rattle.cqlp_decode.specs.Reading.{Place, step, cell_event, cells_left, place_of_cells}
 use Rattle.cqlp_decode.specs.Pages.{cell_symbol, page_symbols, cells_behind, types_left, node_by}
 use Rattle.cqlp_decode.specs.declared.standing.Advance.{Advance}
-use Rattle.cqlp_decode.specs.Standing.{State, IsPending, Parts, parts, state_of, place_at, offset_at, symbols_at, rest_of, told, Gives, Waits, Hands, Moves, IsLent, due_after, frame_after, ends_due, IsCell, IsLawful, StageHolds, Starts}
+use Rattle.cqlp_decode.specs.Standing.{State, IsPending, Parts, parts, state_of, place_at, offset_at, symbols_at, rest_of, told, Waits, Hands, Moves, IsLent, due_after, frame_after, ends_due, IsCell, IsLawful, StageHolds, Starts}
 use Rattle.cqlp_decode.proofs.Steps.{begun, one_due, offset_is}
 use Rattle.cqlp_decode.proofs.FieldSteps.{goes_on_lawful}
 use Rattle.cqlp_decode.proofs.Columns.{FirstColumn, first_column, page_begun, page_due}
@@ -159,28 +158,29 @@ module _ (s : Standing) (q : Parts) (p : Page) (here : s.stage ≡ stage.Cell p)
         (open_values : length q'.cells.open_values ≤ length d.open_values) where
       pub cell_hands : Moves (state_of s q) input (advance.Event at used (what.Cell p.row p.column i)) (state_of e q')
       cell_hands =
-          let h = one came.0 came.1 in
-          (rw content h.can_lend, record {
-            within = h.within;
-            begun = fresh;
-            frame = frame ∙ sym (same_frame s.frame at p.row p.column (cell_event_at i input q'.partial.content));
-            lent = rw content (lent_is q.table.nodes p.row p.column used i input p'.content h.can_lend h.lent);
-            gives = λ b is.
-                let g = one b (come_is b is) in
-                let x = g.emits.x in
-                (
-                  record { at = x.at; event = cell_event p.row p.column x.event; after = λ u. place_of_cells p.row p.column stands rest (x.after u) },
-                  told_is (b ++ input) ∙ ap (λ z. map_said (cell_event p.row p.column) (place_of_cells p.row p.column stands rest) z) g.emits.is,
-                  g.emits.offset,
-                  ap (cell_event p.row p.column) g.emits.event ∙ ap event (sym content),
-                  ap (λ (z : CellPlace). place_of_cells p.row p.column stands rest z) g.emits.after ∙ (λ j. place_at (sym offset j) (sym stop j) (sym symbols j) (sym nodes j)),
-                );
-            offset = λ b is. rw (offset, here) (one b (come_is b is)).onward;
-            due = due ∙ sym (no_end p.row p.column (cell_event_at i input q'.partial.content));
-            pays =
-                let before : ends_due (state_of s q).place.symbols ≡ 1 = rw here (page_due q.table.nodes s.limits.depth q.cells p (rest_of s.upcoming) c.page.0) in
-                rw (due, before) (omega (arith, h.pays, open_values));
-          })
+          let h = one came.0 came.1 in (
+            rw content h.can_lend,
+            record {
+              within = h.within;
+              begun = fresh;
+              frame = frame ∙ sym (same_frame s.frame at p.row p.column (cell_event_at i input q'.partial.content));
+              lent = rw content (lent_is q.table.nodes p.row p.column used i input p'.content h.can_lend h.lent);
+              gives = λ b is.
+                  let g = one b (come_is b is) in
+                  let x = g.emits.x in (
+                    record { at = x.at; event = cell_event p.row p.column x.event; after = λ u. place_of_cells p.row p.column stands rest (x.after u) },
+                    told_is (b ++ input) ∙ ap (λ z. map_said (cell_event p.row p.column) (place_of_cells p.row p.column stands rest) z) g.emits.is,
+                    g.emits.offset,
+                    ap (cell_event p.row p.column) g.emits.event ∙ ap event (sym content),
+                    ap (λ (z : CellPlace). place_of_cells p.row p.column stands rest z) g.emits.after ∙ (λ j. place_at (sym offset j) (sym stop j) (sym symbols j) (sym nodes j)),
+                  );
+              offset = λ b is. rw (offset, here) (one b (come_is b is)).onward;
+              due = due ∙ sym (no_end p.row p.column (cell_event_at i input q'.partial.content));
+              pays =
+                  let before : ends_due (state_of s q).place.symbols ≡ 1 = rw here (page_due q.table.nodes s.limits.depth q.cells p (rest_of s.upcoming) c.page.0) in
+                  rw (due, before) (omega (arith, h.pays, open_values));
+            },
+          )
 
     -- the cell goes on
     module _ (more : is_done d ≡ false) where
@@ -265,16 +265,16 @@ begun_moves d d' input new rules place frame pending fewer (advance.More used) m
 begun_moves d d' input new rules place frame pending fewer (advance.Event at used w) m = (
   m.0,
   let h = m.1 in
-  record {
-    within = h.within;
-    begun = h.begun;
-    frame = rw frame h.frame;
-    lent = h.lent;
-    gives = λ b is. let g = h.gives b (pending b is) in (g.0, (λ i. says (step (rules i) (sym place i)) 0 (b ++ input)) ∙ g.1, g.2, g.3, g.4);
-    offset = λ b is. rw (← place) (h.offset b (pending b is));
-    due = h.due;
-    pays = rw (← place) (omega (arith, h.pays, fewer));
-  },
+      record {
+        within = h.within;
+        begun = h.begun;
+        frame = rw frame h.frame;
+        lent = h.lent;
+        gives = λ b is. let g = h.gives b (pending b is) in (g.0, (λ i. says (step (rules i) (sym place i)) 0 (b ++ input)) ∙ g.1, g.2, g.3, g.4);
+        offset = λ b is. rw (← place) (h.offset b (pending b is));
+        due = h.due;
+        pays = rw (← place) (omega (arith, h.pays, fewer));
+      },
 )
 begun_moves d d' input new rules place frame pending fewer (advance.Refused r) m = λ b is. (λ i. says (step (rules i) (sym place i)) 0 (b ++ input)) ∙ m b (pending b is)
 

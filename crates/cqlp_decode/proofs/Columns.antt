@@ -1,5 +1,5 @@
 -- The cells of a page, one after the other.
-use Rattle.std.proofs.Common.{◌≡◌, ℕ, zero, suc, ◌+◌, ◌-◌, ◌<◌, ◌≤◌, ◌^◌, List, [], ◌∷◌, ◌++◌, length, drop, refl, sym, ap, ◌∙◌, append_assoc, arith}
+use Rattle.std.proofs.Common.{◌≡◌, ℕ, zero, suc, ◌+◌, ◌-◌, ◌<◌, ◌≤◌, ◌^◌, List, [], ◌∷◌, ◌++◌, length, drop, refl, sym, ap, ◌∙◌, arith}
 use Rattle.std.specs.Prelude.{Option, Some, None, Bool}
 use Rattle.cqlp_note.specs.Limits.{Rules}
 use Rattle.cqlp_note.specs.Field.{FieldValue}
@@ -10,16 +10,16 @@ use Rattle.cqlp_type.specs.Types.{Types, NoMore, Type_and, types_of, other_types
 use Rattle.cqlp_value.specs.declared.standing.Next.{Next}
 use Rattle.cqlp_value.specs.declared.standing.Next.TheVariants as next
 use Rattle.cqlp_value.specs.CellStep.{CellSymbol, Value_of, values_of}
-use Rattle.cqlp_value.specs.Inner.{Forest, types_at, Stand}
+use Rattle.cqlp_value.specs.Inner.{Forest}
 use Rattle.cqlp_value.specs.Standing.{State, place, cell_symbols, CellStands}
 use Rattle.cqlp_value.proofs.Columns.{Column, forest_first, forest_end}
 use Rattle.cqlp_message.specs.declared.grammar.Role.{Role}
 use Rattle.cqlp_message.specs.declared.grammar.Role.TheVariants as role
-use Rattle.cqlp_message.specs.Productions.{Symbol, row_from, rows_from, raw_types, number_in, following}
+use Rattle.cqlp_message.specs.Productions.{Symbol, rows_from, raw_types, number_in}
 use Rattle.cqlp_decode.specs.declared.page.Columns.{Columns}
 use Rattle.cqlp_decode.specs.declared.page.Columns.TheVariants as columns
 use Rattle.cqlp_decode.specs.declared.page.Page.{Page}
-use Rattle.cqlp_decode.specs.Pages.{column_types, types_from, types_left, node_by, cell_symbol, cells_from, page_symbols, IsColumn, IsPage, NextColumn, Turns, Begins, Follows}
+use Rattle.cqlp_decode.specs.Pages.{column_types, types_from, node_by, cell_symbol, cells_from, page_symbols, IsColumn, IsPage, NextColumn, Turns, Begins, Follows}
 use Rattle.cqlp_decode.specs.Reading as reading
 use Rattle.cqlp_decode.specs.Reading.{page_types}
 use Rattle.cqlp_decode.specs.Standing.{ends_due}

@@ -1,6 +1,6 @@
 -- One step of a field.
 use Rattle.std.proofs.Common.{◌≡◌, ℕ, ◌+◌, ◌-◌, ◌<◌, ◌≤◌, List, [], ◌∷◌, ◌++◌, length, take, drop, refl, sym, ap, ◌∙◌, inl, inr, arith, length-append}
-use Rattle.std.specs.Prelude.{Some, None, Bool, false, max}
+use Rattle.std.specs.Prelude.{Some, None, Bool, false}
 use Rattle.std.proofs.lemmas.Bool.{cases_lt, lt-ltb, le-ltb}
 use Rattle.std.proofs.lemmas.List.{append-nil}
 use Rattle.cqlp_note.specs.declared.refusal.Reason.{Reason}
@@ -35,7 +35,7 @@ use Rattle.cqlp_decode.specs.declared.standing.What.TheVariants as what
 use Rattle.cqlp_decode.specs.Upcoming.{wanted}
 use Rattle.cqlp_decode.specs.Reading as reading
 use Rattle.cqlp_decode.specs.Reading.{Place, value_step, types_for, nodes_after, given_after, Nothing}
-use Rattle.cqlp_decode.specs.Standing.{IsPending, Parts, parts, state_of, place_at, offset_at, symbols_at, rest_of, came_of, told, Gives, Waits, Moves, IsAsked, IsWanted, IsBounded, HasParts, IsIdle, IsLawful, asked, Starts}
+use Rattle.cqlp_decode.specs.Standing.{IsPending, Parts, parts, state_of, place_at, offset_at, symbols_at, rest_of, came_of, told, Gives, Waits, Moves, IsAsked, IsWanted, IsBounded, HasParts, IsLawful, asked, Starts}
 use Rattle.cqlp_decode.proofs.Steps.{begun, one_due, offset_is, fresh_stage, fresh_table}
 
 -- ---- fields
@@ -144,19 +144,21 @@ module _ (s : Standing) (old p : Progress) (r : type.Standing) (d : value.State)
         → Moves (state_of s before) input (advance.Event s.offset used (what.Holds w.field i)) (state_of e (parts new r d t'))
     piece_hands e t' i is there fine law at stop frame none start nodes symbols =
         let q : Parts = parts new r d t' in
-        let offset : offset_at e.stage e.offset q ≡ s.offset + (length p.seen + used) = offset_is e e.stage q start ∙ at in
-        (there, record {
-          within = m.within;
-          begun = begun e e.stage e.header e.came q start none (ap (λ (z : Progress). z.under_way) m.idle);
-          frame = frame;
-          lent = rw (← is) m.lent;
-          gives = λ b pending.
-              let g = field_gives s before w here (p.seen ++ input) v (length p.seen + used) (rw a.field at m.is) fine in
-              rw (pending_is b pending, ← is) (g.0, g.1, g.2, g.3, g.4 ∙ (λ j. place_at (sym offset j) (sym stop j) (sym symbols j) (sym nodes j)));
-          offset = λ b pending. rw (pending_is b pending, offset, here) refl;
-          due = one_due e e.stage q start;
-          pays = rw (here, one_due e e.stage q start) (omega (arith, some));
-        })
+        let offset : offset_at e.stage e.offset q ≡ s.offset + (length p.seen + used) = offset_is e e.stage q start ∙ at in (
+          there,
+          record {
+            within = m.within;
+            begun = begun e e.stage e.header e.came q start none (ap (λ (z : Progress). z.under_way) m.idle);
+            frame = frame;
+            lent = rw (← is) m.lent;
+            gives = λ b pending.
+                let g = field_gives s before w here (p.seen ++ input) v (length p.seen + used) (rw a.field at m.is) fine in
+                rw (pending_is b pending, ← is) (g.0, g.1, g.2, g.3, g.4 ∙ (λ j. place_at (sym offset j) (sym stop j) (sym symbols j) (sym nodes j)));
+            offset = λ b pending. rw (pending_is b pending, offset, here) refl;
+            due = one_due e e.stage q start;
+            pays = rw (here, one_due e e.stage q start) (omega (arith, some));
+          },
+        )
       where
         some : 0 < used
         some = elim (cases_lt 0 (length (came_of old))) [

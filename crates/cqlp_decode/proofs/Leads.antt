@@ -16,7 +16,7 @@ use Rattle.cqlp_decode.specs.Reading as reading
 use Rattle.cqlp_decode.specs.Reading.{Place, step, start, Reads}
 use Rattle.cqlp_decode.specs.Events.{event_of}
 use Rattle.cqlp_decode.specs.Standing.{State, AdvancesFrom, Hands, event_at, frame_after, due_after}
-use Rattle.cqlp_decode.specs.Streams.{AfterBy, Leads, Goes, frame_from, frame_of, open_after, open_from}
+use Rattle.cqlp_decode.specs.Streams.{AfterBy, Leads, Goes, frame_from, open_after, open_from}
 
 -- ---- one more event
 

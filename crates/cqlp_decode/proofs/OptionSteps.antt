@@ -151,19 +151,22 @@ module _ (s : Standing) (q : Parts) (here : s.stage ≡ stage.Type) (o : IsOptio
     module _ (e : Standing) (q' : Parts) (content : q'.partial.content ≡ p'.content) (nodes : q'.table.nodes ≡ t'.nodes) (offset : offset_at e.stage e.offset q' ≡ r'.offset) (stop : e.stop ≡ s.stop) (frame : e.frame ≡ s.frame)
         (symbols : symbols_at e.stage q' e.upcoming ≡ types_left r'.symbols ++ rest) (fresh : IsPending (state_of e q').pending []) (one : ends_due (symbols_at e.stage q' e.upcoming) ≡ 1) (cells : q'.cells ≡ q.cells) where
       pub option_hands : Moves (state_of s q) input (advance.Event at used (what.Option x)) (state_of e q')
-      option_hands = (rw content m.can_lend, record {
-        within = m.within;
-        begun = fresh;
-        frame = frame ∙ sym (same_frame s.frame at (part.event_at x input q'.partial.content));
-        lent = is_lent (part.event_at x input q'.partial.content) used q'.partial.content (rw content m.lent);
-        gives = λ b is.
-            let g = option_gives in
-            let stopped : r'.stop ≡ s.stop = ap (λ (z : type.Standing). z.stop) m.reader ∙ o.stop in
-            rw (pending_is b is) (g.0, g.1, g.2, g.3 ∙ ap (λ (z : List ℕ). type_event (part.event_at x input z)) (sym content), g.4 ∙ (λ j. place_at (sym offset j) ((stopped ∙ sym stop) j) (sym symbols j) (sym nodes j)));
-        offset = λ b is. rw (pending_is b is, offset, here) option_on;
-        due = one ∙ sym (no_end (part.event_at x input q'.partial.content));
-        pays = rw (here, one, cells) (omega (arith, some));
-      })
+      option_hands = (
+        rw content m.can_lend,
+        record {
+          within = m.within;
+          begun = fresh;
+          frame = frame ∙ sym (same_frame s.frame at (part.event_at x input q'.partial.content));
+          lent = is_lent (part.event_at x input q'.partial.content) used q'.partial.content (rw content m.lent);
+          gives = λ b is.
+              let g = option_gives in
+              let stopped : r'.stop ≡ s.stop = ap (λ (z : type.Standing). z.stop) m.reader ∙ o.stop in
+              rw (pending_is b is) (g.0, g.1, g.2, g.3 ∙ ap (λ (z : List ℕ). type_event (part.event_at x input z)) (sym content), g.4 ∙ (λ j. place_at (sym offset j) ((stopped ∙ sym stop) j) (sym symbols j) (sym nodes j)));
+          offset = λ b is. rw (pending_is b is, offset, here) option_on;
+          due = one ∙ sym (no_end (part.event_at x input q'.partial.content));
+          pays = rw (here, one, cells) (omega (arith, some));
+        },
+      )
 
     -- the reader of the option, after a part of it
     began : r'.begun ≡ false

@@ -10,13 +10,9 @@ use Rattle.cqlp_note.specs.declared.header.Header.{Header}
 use Rattle.cqlp_note.specs.Reader.{Bad, Got}
 use Rattle.cqlp_note.specs.Step.{Emitted}
 use Rattle.cqlp_note.specs.Heading.{heading}
-use Rattle.cqlp_note.specs.Limits.{Rules, rules_of}
+use Rattle.cqlp_note.specs.Limits.{rules_of}
 use Rattle.cqlp_type.specs.declared.node.Node.{Node}
-use Rattle.cqlp_value.specs.declared.standing.Next.TheVariants as next
-use Rattle.cqlp_value.specs.declared.standing.Under.TheVariants as under
 use Rattle.cqlp_value.specs.Inner.{Forest}
-use Rattle.cqlp_value.specs.Standing as value
-use Rattle.cqlp_value.specs.Standing.{is_under_way}
 use Rattle.cqlp_message.specs.Productions.{Stream, message}
 use Rattle.cqlp_decode.specs.declared.table.Due.{Due}
 use Rattle.cqlp_decode.specs.declared.table.Due.TheVariants as due
@@ -26,9 +22,7 @@ use Rattle.cqlp_decode.specs.declared.standing.Stage.TheVariants as stage
 use Rattle.cqlp_decode.specs.declared.standing.Standing.{Standing}
 use Rattle.cqlp_decode.specs.declared.standing.Advance.TheVariants as advance
 use Rattle.cqlp_decode.specs.declared.standing.What.TheVariants as what
-use Rattle.cqlp_decode.specs.declared.page.Page.{Page}
 use Rattle.cqlp_decode.specs.Upcoming.{Next}
-use Rattle.cqlp_decode.specs.Pages.{node_by}
 use Rattle.cqlp_decode.specs.Reading as reading
 use Rattle.cqlp_decode.specs.Reading.{Place}
 use Rattle.cqlp_decode.specs.Standing.{IsPending, state_of, place_at, offset_at, pending_at, symbols_at, rest_of, stage_with, came_of, told, Gives, Waits, Moves, Parts, IsIdle, ends_due, HasRoom, Starts, StageHolds, TableHolds, IsPlaced, IsLawful}
@@ -50,21 +44,24 @@ extra_waits s new q input used here le is less same = rw same (record {
 
 pub extra_hands : (s : Standing) (q : Parts) (input : List ℕ) (used : ℕ) → s.stage ≡ stage.Extra → s.offset ≤ s.stop → s.came ≤ s.stop - s.offset → used ≡ min (s.stop - s.offset - s.came) (length input) → s.stop - s.offset ≤ s.came + used
     → Moves (state_of s q) input (advance.Event s.stop used (what.End (s.stop - s.offset))) (state_of (record s { frame = s.stop; offset = s.stop; stage = stage.Header; came = 0 }) q)
-extra_hands s q input used here inside le is all = (tt, record {
-  within = omega arith;
-  begun = refl;
-  frame = refl;
-  lent = tt;
-  gives = λ b came.
-      let size : length b ≡ s.came = rw here at came in
-      let long : s.stop - s.offset ≤ length (b ++ input) = omega (arith, length-append b input) in
-      let same : 0 + (s.stop - s.offset) ≡ length b + used = omega arith in
-      let x : Emitted reading.Event Place = record { at = s.stop; event = reading.End (s.stop - s.offset); after = λ k. place_at s.stop s.stop (Stream ∷ []) q.table.nodes } in
-      (x, rw (here, le-ltb _ _ long) (ap (λ (k : ℕ). Got x k) same), refl, refl, refl);
-  offset = λ b came. let size : length b ≡ s.came = rw here at came in rw here (omega arith);
-  due = refl;
-  pays = rw here (omega arith);
-})
+extra_hands s q input used here inside le is all = (
+  tt,
+  record {
+    within = omega arith;
+    begun = refl;
+    frame = refl;
+    lent = tt;
+    gives = λ b came.
+        let size : length b ≡ s.came = rw here at came in
+        let long : s.stop - s.offset ≤ length (b ++ input) = omega (arith, length-append b input) in
+        let same : 0 + (s.stop - s.offset) ≡ length b + used = omega arith in
+        let x : Emitted reading.Event Place = record { at = s.stop; event = reading.End (s.stop - s.offset); after = λ k. place_at s.stop s.stop (Stream ∷ []) q.table.nodes } in
+        (x, rw (here, le-ltb _ _ long) (ap (λ (k : ℕ). Got x k) same), refl, refl, refl);
+    offset = λ b came. let size : length b ≡ s.came = rw here at came in rw here (omega arith);
+    due = refl;
+    pays = rw here (omega arith);
+  },
+)
 
 -- ---- a message goes on
 
@@ -248,16 +245,18 @@ module _ (s : Standing) (q : Parts) (input : List ℕ) (here : s.stage ≡ stage
     pub header_hands : (new : Standing) (h : Header) → heading nine ≡ Ok h → new.offset ≡ s.offset + 9 → new.stop ≡ s.offset + 9 + h.length → symbols_at new.stage q new.upcoming ≡ message h
         → HasRoom new.stage new.upcoming → new.frame ≡ s.frame → new.came ≡ 0 → IsIdle q → Moves (state_of s q) input (advance.Event s.offset (9 - s.came) (what.Frame h)) (state_of new q)
     header_hands new h is at stop symbols room frame none idle =
-        let offset : offset_at new.stage new.offset q ≡ s.offset + 9 = offset_is_bare new.stage new.offset q new.upcoming room ∙ at in
-        (tt, record {
-          within = omega arith;
-          begun = begun_bare new.stage new.upcoming new.header new.came q room none idle.field;
-          frame = frame;
-          lent = tt;
-          gives = λ b pending. let g = header_gives h is b pending in (g.0, g.1, g.2, g.3, g.4 ∙ (λ j. place_at (sym offset j) (sym stop j) (sym symbols j) q.table.nodes));
-          offset = λ b pending.
-              let came : b ≡ take s.came s.header = rw here at pending in
-              rw (offset, here, came) (omega (arith, kept_long));
-          due = one_due_bare new.stage q new.upcoming room;
-          pays = rw (here, one_due_bare new.stage q new.upcoming room) (omega arith);
-        })
+        let offset : offset_at new.stage new.offset q ≡ s.offset + 9 = offset_is_bare new.stage new.offset q new.upcoming room ∙ at in (
+          tt,
+          record {
+            within = omega arith;
+            begun = begun_bare new.stage new.upcoming new.header new.came q room none idle.field;
+            frame = frame;
+            lent = tt;
+            gives = λ b pending. let g = header_gives h is b pending in (g.0, g.1, g.2, g.3, g.4 ∙ (λ j. place_at (sym offset j) (sym stop j) (sym symbols j) q.table.nodes));
+            offset = λ b pending.
+                let came : b ≡ take s.came s.header = rw here at pending in
+                rw (offset, here, came) (omega (arith, kept_long));
+            due = one_due_bare new.stage q new.upcoming room;
+            pays = rw (here, one_due_bare new.stage q new.upcoming room) (omega arith);
+          },
+        )

@@ -131,7 +131,8 @@ impl<A: Allocator> Decoder<A> {
     pub fn finish(&self) -> Finish
         ensures { (s : List ℕ) (es : List (ℕ × reading.Event)) → After (state self.now) s es → Finishes (state self.now) s es result }
     {
-        self.standing.finish(&self.partial, &self.types, &self.cells)
+        self.standing
+            .finish(&self.partial, &self.types, &self.cells)
     }
 
     /// What is held of the stream: at most as many bytes as the greater of the limits on a text and on a cell, as many
@@ -162,8 +163,7 @@ impl<A: Allocator> Decoder<A> {
     fn take_scalar<'a>(&mut self, input: &'a [u8]) -> Option<Taken<'a>>
         ensures { Takes (state self.old) input.now result (state self.new) }
     {
-        self.standing
-            .take_scalar(&self.partial, &self.table, input)
+        self.standing.take_scalar(&self.partial, &self.table, input)
     }
 
     /// The work of a call, with nothing borrowed in its result.

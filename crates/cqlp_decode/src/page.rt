@@ -137,11 +137,7 @@ pub fn page_behind<A: Allocator>(
     let Role::PageRows { flags, columns } = role else {
         return None;
     };
-    Page::first(
-        columns_of(limits, flags, columns),
-        number(value),
-        table,
-    )
+    Page::first(columns_of(limits, flags, columns), number(value), table)
 }
 
 /// The types of so many columns, whose metadata has these flags.

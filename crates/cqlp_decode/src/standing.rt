@@ -10,7 +10,9 @@ use crate::page::{Page, page_behind};
 use crate::table::{Due, Want};
 use crate::upcoming::Upcoming;
 use cqlp_message::Role;
-use cqlp_note::{self as note, Field, Header, Item, Limits, Notation, Partial, Prim, Reason, Refusal};
+use cqlp_note::{
+    self as note, Field, Header, Item, Limits, Notation, Partial, Prim, Reason, Refusal,
+};
 use cqlp_type::{TypeAdvance, TypePart, TypeReader, TypeTable};
 use cqlp_value::{CellAdvance, CellOutline, CellReader, Scalar, front_scalar};
 use std::alloc::Allocator;

@@ -1,6 +1,6 @@
 -- A scalar that lies whole at the front of the input.
-use Rattle.std.proofs.Common.{◌≡◌, ◌≢◌, ℕ, ◌+◌, ◌^◌, ◌<◌, ◌≤◌, Bool, true, false, List, length, take, drop, refl, sym, ap, ◌∙◌, arith}
-use Rattle.std.specs.Prelude.{Option, Some, None, Result, Ok, Err}
+use Rattle.std.proofs.Common.{◌≡◌, ◌≢◌, ℕ, ◌+◌, ◌^◌, ◌<◌, ◌≤◌, Bool, true, false, List, length, take, drop, refl, arith}
+use Rattle.std.specs.Prelude.{Option, Some, None, Result, Ok}
 use Rattle.std.specs.Option.{ok_or}
 use Rattle.std.specs.Int.{w32, from_be_bytes}
 use Rattle.std.proofs.lemmas.Bool.{le-ltb}
@@ -10,10 +10,9 @@ use Rattle.cqlp_note.specs.Reader.{number_of}
 use Rattle.cqlp_note.specs.Limits.{Rules}
 use Rattle.cqlp_type.specs.declared.kind.Kind.{Kind}
 use Rattle.cqlp_type.specs.Types.{has_no_items}
-use Rattle.cqlp_value.specs.declared.scalars.Scalar.{Scalar}
 use Rattle.cqlp_value.specs.declared.size.Sized.TheVariants as size
 use Rattle.cqlp_value.specs.Scalars.{ScalarValue, allows_size, scalar_of, fault_of}
-use Rattle.cqlp_value.specs.Contents.{value_of, value_in, scalar_in}
+use Rattle.cqlp_value.specs.Contents.{scalar_in}
 use Rattle.cqlp_value.specs.Fronts.{SaysScalar}
 use Rattle.cqlp_value.proofs.Sizing.{short_scalar, fitting_sized}
 

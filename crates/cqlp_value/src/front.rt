@@ -88,6 +88,9 @@ mod tests {
         assert_eq!(rt; front_scalar(&LIMITS, Kind::Blob, 69, &long), None);
         let list = [0, 0, 0, 4, 0, 0, 0, 0];
         assert_eq!(rt; front_scalar(&LIMITS, Kind::List, 8, &list), None);
-        assert_eq!(rt; front_scalar(&LIMITS, Kind::Varchar, 6, &[0, 0, 0, 2, 0xc3, 0x28]), None);
+        assert_eq!(rt;
+            front_scalar(&LIMITS, Kind::Varchar, 6, &[0, 0, 0, 2, 0xc3, 0x28]),
+            None
+        );
     }
 }

@@ -1,4 +1,4 @@
-use Rattle.cqlp_decode.specs.Standing.{state_of, parts}
+use Rattle.cqlp_decode.specs.Standing.{parts}
 use Rattle.cqlp_decode.proofs.Steps.{placed}
 use Rattle.cqlp_decode.proofs.decoder.Decoder.finish.Goals as goal
 

@@ -1,5 +1,5 @@
 use Rattle.std.proofs.Common.{refl, [], subst}
-use Rattle.std.specs.Prelude.{Option, None}
+use Rattle.std.specs.Prelude.{Option}
 use Rattle.cqlp_note.specs.declared.refusal.Refusal.{Refusal}
 use Rattle.cqlp_decode.specs.declared.event.Event.TheVariants as event
 use Rattle.cqlp_decode.specs.declared.standing.Advance.TheVariants as advance

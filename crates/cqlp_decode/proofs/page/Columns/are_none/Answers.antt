@@ -1,4 +1,3 @@
-use Rattle.std.proofs.Common.{refl}
 use Rattle.cqlp_decode.proofs.Columns.{types_none, none_types}
 use Rattle.cqlp_decode.proofs.page.Columns.are_none.Goals as goal
 

@@ -1,5 +1,4 @@
-use Rattle.std.proofs.Common.{◌≡◌, Bool, true, false, refl, sym, ◌∙◌}
-use Rattle.cqlp_decode.specs.Pages.{column_types}
+use Rattle.std.proofs.Common.{◌≡◌, Bool, true, false, sym, ◌∙◌}
 use Rattle.cqlp_decode.proofs.Columns.{first_of_none, first_without, first_some}
 use Rattle.cqlp_decode.proofs.page.Page.first.Goals.{then-rows-eq0-via-then-rows-eq0, then-rows-eq0-via-else-rows-eq0+then-are_none}
 use Rattle.cqlp_decode.proofs.page.Page.first.Goals as goal

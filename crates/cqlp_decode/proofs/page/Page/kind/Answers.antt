@@ -1,5 +1,4 @@
 use Rattle.std.proofs.Common.{◌≡◌, ◌+◌, ◌-◌, Some, sym, ◌∙◌}
-use Rattle.cqlp_type.specs.declared.node.Node.{Node}
 use Rattle.cqlp_type.specs.Types.{NoMore}
 use Rattle.cqlp_message.specs.Productions.{raw_types}
 use Rattle.cqlp_decode.proofs.Columns.{column_there, raw_left}

@@ -1,11 +1,10 @@
-use Rattle.std.proofs.Common.{◌≡◌, ◌+◌, ◌<◌, ◌≤◌, ℕ, length, Some, refl, sym, ap, ◌∙◌, inl, inr, arith}
+use Rattle.std.proofs.Common.{◌≡◌, ◌+◌, length, Some, refl, sym, ◌∙◌, inl, inr, arith}
 use Rattle.std.proofs.lemmas.Bool.{cases_lt, lt-ltb, le-ltb}
-use Rattle.cqlp_type.specs.declared.node.Node.{Node}
 use Rattle.cqlp_decode.proofs.Columns.{column_there, next_typed, last_typed, others_raw, last_raw}
 use Rattle.cqlp_decode.proofs.page.Page.next_column.Goals as goal
 
 pub overflow_add-index : goal.overflow_add-index
-overflow_add-index g c = 
+overflow_add-index g c =
     let h = rw c.in-Typed.is at c.requires.1.0 in
     let there = column_there c.args.table.now.nodes c.requires.0 c.args.self.now.index c.args.self.now.column h in
     let same : Some c.unwrap.result ≡ Some there.x = sym c.unwrap.ensures ∙ c.node.ensures ∙ there.get in

@@ -7,7 +7,7 @@ use Rattle.cqlp_decode.proofs.CellSteps.{cell_waits, cell_fails, going_hands, en
 use Rattle.cqlp_decode.proofs.standing.Standing.advance_cell.Goals as goal
 
 pub unreachable-requires : goal.unreachable-requires
-unreachable-requires g c = 
+unreachable-requires g c =
     let stage = rw c.requires.here at c.requires.lawful.1.stage in
     let done = is_over_done c.args.cells.now stage.0.under_way (c.in-Done.ensures.moves.0) in
     let shut : ◌≡◌ {A = Bool} false true = sym stage.0.some ∙ done in

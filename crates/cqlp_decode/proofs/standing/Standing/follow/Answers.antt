@@ -1,4 +1,4 @@
-use Rattle.std.proofs.Common.{◌≡◌, List, [], ◌∷◌, ◌++◌, refl, sym, ap, ◌∙◌, append_assoc}
+use Rattle.std.proofs.Common.{List, [], ◌∷◌, ◌++◌, sym, ap, ◌∙◌, append_assoc}
 use Rattle.cqlp_note.specs.Head.{value_of}
 use Rattle.cqlp_type.specs.Types.{NoMore}
 use Rattle.cqlp_message.specs.Productions.{Symbol, Extra, following}

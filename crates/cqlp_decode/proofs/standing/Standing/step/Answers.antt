@@ -1,4 +1,4 @@
-use Rattle.std.proofs.Common.{sym, subst}
+use Rattle.std.proofs.Common.{subst}
 use Rattle.cqlp_decode.specs.Standing.{State, Moves, parts, state_of}
 use Rattle.cqlp_decode.proofs.OptionSteps.{option_begun_lawful, option_begun_same}
 use Rattle.cqlp_decode.proofs.CellSteps.{cell_begun_lawful, cell_begun_moves}
@@ -11,17 +11,17 @@ pub returns-in-Field-clause-lawful : goal.returns-in-Field-clause-lawful
 returns-in-Field-clause-lawful g c = c.advance_field.ensures.lawful c.args.types.now c.args.cells.now c.requires.lawful
 
 pub advance_option-requires-clause-lawful : goal.advance_option-requires-clause-lawful
-advance_option-requires-clause-lawful g c = 
+advance_option-requires-clause-lawful g c =
     let q = parts c.args.partial.now c.args.types.now c.args.cells.now c.args.table.now in
     (c.args.cells.now, rw (c.begin_option.ensures.self_is, c.begin_option.ensures.types_are) (option_begun_lawful c.args.self.now q c.in-Option.is c.requires.lawful c.requires.unrefused))
 
 pub returns-in-Option-clause-lawful : goal.returns-in-Option-clause-lawful
-returns-in-Option-clause-lawful g c = 
+returns-in-Option-clause-lawful g c =
     let q = parts c.args.partial.now c.args.types.now c.args.cells.now c.args.table.now in
     c.advance_option.ensures.lawful c.args.cells.now (rw (c.begin_option.ensures.self_is, c.begin_option.ensures.types_are) (option_begun_lawful c.args.self.now q c.in-Option.is c.requires.lawful c.requires.unrefused))
 
 pub returns-in-Option-clause-moves : goal.returns-in-Option-clause-moves
-returns-in-Option-clause-moves g c = 
+returns-in-Option-clause-moves g c =
     let q = parts c.args.partial.now c.args.types.now c.args.cells.now c.args.table.now in
     let law = option_begun_lawful c.args.self.now q c.in-Option.is c.requires.lawful c.requires.unrefused in
     let new = state_of c.advance_option.new.self (parts c.advance_option.new.partial c.advance_option.new.types c.args.cells.now c.advance_option.new.table) in

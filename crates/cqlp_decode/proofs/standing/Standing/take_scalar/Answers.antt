@@ -14,13 +14,12 @@ returns-clause-takes g c = λ r d law.
     let kind = c.kind-kind.ensures c.args.self.now.limits.depth stage.0 in
     let rest = c.turn.ensures.rest in
     let front = c.in-Some-front_scalar.ensures in
-    let empty = nothing_held c.args.partial.now.content (omega (arith, c.if-held-gt0.false, c.held.ensures.is)) in
-    (
+    let empty = nothing_held c.args.partial.now.content (omega (arith, c.if-held-gt0.false, c.held.ensures.is)) in (
       c.in_default-refusal.is,
       ap (λ (z : Standing). z.refusal) rest ∙ c.in_default-refusal.is,
       ap (λ (z : Standing). rules_of z.limits) rest,
       scalar_hands c.args.self.now q page c.in-Due.is law c.in_default-refusal.is c.args.input.now c.in-Some-front_scalar.front.used c.kind-kind.result kind.0 kind.1 (value_of c.in-Some-front_scalar.front.scalar) kind.2 front empty
-    c.turn.new.self (c.turn.ensures.symbols q refl) c.turn.ensures.starts (ap (λ (z : Standing). z.offset) rest) (ap (λ (z : Standing). z.stop) rest) (ap (λ (z : Standing). z.frame) rest) (ap (λ (z : Standing). z.came) rest),
+          c.turn.new.self (c.turn.ensures.symbols q refl) c.turn.ensures.starts (ap (λ (z : Standing). z.offset) rest) (ap (λ (z : Standing). z.stop) rest) (ap (λ (z : Standing). z.frame) rest) (ap (λ (z : Standing). z.came) rest),
     )
 
 pub returns-clause-lawful : goal.returns-clause-lawful
