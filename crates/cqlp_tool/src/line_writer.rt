@@ -9,7 +9,7 @@ use cqlp_note::Target;
 use std::marker::Model;
 
 /// How many bytes wait at most before they are passed on.
-const ROOM: usize = 512;
+const ROOM: usize = 128;
 
 /// Gathers short texts, so that a target gets them in few calls. Nothing waits after a `flush`.
 #[derive(Drop)]
@@ -27,7 +27,7 @@ impl<'a, W: Target> Model for LineWriter<'a, W> {
 
     ghost view = { λ w. record { given = W.contents w.target.now; failures = W.failures w.target.now; waiting = take w.len w.buffer; lender = w.target.ghost_name } };
 
-    ghost invariant = { λ w. (w.len ≤ 512) × (length w.buffer ≡ 512) };
+    ghost invariant = { λ w. (w.len ≤ 128) × (length w.buffer ≡ 128) };
 }
 
 impl<'a, W: Target> LineWriter<'a, W> {
@@ -92,7 +92,7 @@ impl<'a, W: Target> LineWriter<'a, W> {
 
     /// Takes a text that there is room for.
     fn keep(&mut self, bytes: &[u8])
-        requires { length self.old.waiting + length bytes.now ≤ 512 }
+        requires { length self.old.waiting + length bytes.now ≤ 128 }
         ensures { self.new ≡ record self.old { waiting = self.old.waiting ++ bytes.now } }
     {
         let end = self.len + bytes.len();
