@@ -3,14 +3,11 @@
 ghost use Rattle.std.specs.Prelude.{◌≤◌};
 
 use super::pages::take;
-use super::{LIMITS, REQUESTS, count, feed, response, text};
+use super::{LIMITS, REQUESTS};
 use crate::heaps::Rationed;
 use crate::{Decoder, Event, Finish, Step};
-use cqlp_note::{Field, Opcode};
-use cqlp_type::Kind;
 use cqlp_value::Scalar;
 use std::alloc::Allocator;
-use std::process::Abort;
 use std::test::Fail;
 
 /// A page of one cell, which has no type.
@@ -77,54 +74,8 @@ fn a_cut_counts_the_bytes_of_a_cell(rt: HostRuntime) -> Result<(), Fail> {
 /// A list of 1, null and a value of no bytes.
 const CELL: &[u8; 24] = b"\0\0\0\x14\0\0\0\x03\0\0\0\x04\0\0\0\x01\xFF\xFF\xFF\xFF\0\0\0\0";
 
-/// Its events, at an offset, as the cell of a row.
-fn cell_events(at: u64, row: u32) -> [(u64, Event<'static>); 5]
-    requires { at ≤ 1000000 }
-{
-    let (column, level) = (0, 1);
-    let enter = Event::Enter {
-        row,
-        column,
-        level: 0,
-        kind: Kind::List,
-        items: 3,
-    };
-    let leaf = Event::Leaf {
-        row,
-        column,
-        level,
-        scalar: Scalar::Int(1),
-    };
-    [
-        (at, enter),
-        (at + 8, leaf),
-        (at + 16, Event::Null { row, column, level }),
-        (at + 20, Event::Empty { row, column, level }),
-        (at + 24, Event::Leave { level: 0, items: 3 }),
-    ]
-}
-
 /// The body of a page of lists of ints, up to the number of rows.
 const COLUMNS: &[u8; 25] = b"\0\0\0\x02\0\0\0\x01\0\0\0\x01\0\x01k\0\x01t\0\x01c\0\x20\0\x09";
-
-/// The events up to the number of rows.
-fn head_events(at: u64, length: u32, rows: u32) -> [(u64, Event<'static>); 10]
-    requires { at ≤ 1000000 }
-{
-    let int = |field, value| Event::Int { field, value };
-    [
-        (at, response(Opcode::Result, length)),
-        (at + 9, int(Field::ResultKind, 2)),
-        (at + 13, int(Field::MetaFlags, 1)),
-        (at + 17, count(Field::Columns, 1)),
-        (at + 21, text(Field::Keyspace, "k")),
-        (at + 24, text(Field::Table, "t")),
-        (at + 27, text(Field::ColumnName, "c")),
-        (at + 30, Event::TypeNode(Kind::List)),
-        (at + 32, Event::TypeNode(Kind::Int)),
-        (at + 34, count(Field::Rows, rows)),
-    ]
-}
 
 /// The bytes up to the first cell of a page of so many rows.
 fn head(length: u32, rows: u32) -> [u8; 38] {
@@ -136,28 +87,36 @@ fn head(length: u32, rows: u32) -> [u8; 38] {
     head
 }
 
-/// Gives a decoder a page of so many rows, a cell in each piece, and a byte behind them.
-fn feed_page<A: Allocator>(rt: &impl Abort, decoder: &mut Decoder<A>, at: u64, rows: u32)
-    requires { at ≤ 1000 × rows ≤ 1000 }
-{
-    let length = 30 + 24 * rows;
-    let events = head_events(at, length, rows);
-    assert_eq!(rt; feed(rt, decoder, &head(length, rows), &events), None);
-    for row in 0..rows {
-        let events = cell_events(at + 38 + 24 * u64::from(row), row);
-        assert_eq!(rt; feed(rt, decoder, CELL, &events), None);
-        assert_eq!(rt; decoder.held().bytes, 0);
+/// How many events this piece gives.
+fn events_in<A: Allocator>(decoder: &mut Decoder<A>, piece: &[u8]) -> u32 {
+    let mut rest = piece;
+    for events in 0..1_000u32 {
+        match decoder.next(rest) {
+            Step::Event { used, .. } => rest = &rest[used..],
+            Step::More { .. } | Step::Refused(_) => return events,
+        }
     }
-    let end = (at + 9 + u64::from(length), Event::End { extra: 1 });
-    assert_eq!(rt; feed(rt, decoder, &[0xEE], &[end]), None);
+    1_000
+}
+
+/// How many events a page of so many rows gives, a cell in each piece, and a byte behind them.
+fn events_of_page<A: Allocator>(decoder: &mut Decoder<A>, rows: u32) -> u32
+    requires { rows ≤ 1000 }
+{
+    let mut events = events_in(decoder, &head(30 + 24 * rows, rows));
+    for _ in 0..rows {
+        events = events.wrapping_add(events_in(decoder, CELL));
+    }
+    events.wrapping_add(events_in(decoder, &[0xEE]))
 }
 
 #[test]
 fn a_long_page_takes_no_more_memory_than_a_short_one(rt: HostRuntime) -> Result<(), Fail> {
     let heap = Rationed::new(rt.alloc(), REQUESTS);
     let mut decoder = Decoder::new(&heap, LIMITS)?;
-    feed_page(&rt, &mut decoder, 0, 1);
-    feed_page(&rt, &mut decoder, 63, 1_000);
+    assert_eq!(rt; events_of_page(&mut decoder, 1), 16);
+    assert_eq!(rt; events_of_page(&mut decoder, 1_000), 5_011);
     assert_eq!(rt; decoder.finish(), Finish::Whole { bytes: 24_102 });
+    assert_eq!(rt; decoder.held().bytes, 0);
     Ok(())
 }
