@@ -72,6 +72,14 @@ RunsTo f faulted turns outcome.ReadFault old new xs left before after = (d : Fee
 RunsTo f faulted turns outcome.Turns old new xs left before after = (d : Feeds f old new xs before after) × (left ≡ Some d.rest) × (turns ≤ length d.bytes) × HasAll f old new xs before after d
 RunsTo f faulted turns outcome.SinkFault old new xs left before after = FeedsInto f faulted old new xs before after
 
+-- Of the bytes xs of a reader, at most n were read, from the first on; the others are left.
+pub record ReadsAtMost (n : ℕ) (xs : List ℕ) (left : Option (List ℕ)) : Type 0 where
+  pub read : List ℕ
+  pub rest : List ℕ
+  pub parts : xs ≡ read ++ rest
+  pub few : length read ≤ n
+  pub others : left ≡ Some rest
+
 -- a run that says that its reader failed counts a failed call
 abbrev pub Counts : Outcome → (old new : ℕ) → Type 0
 Counts outcome.ReadFault old new = new ≡ counted true old

@@ -1,7 +1,7 @@
 //! A reader's stream, drained into a sink.
 
-ghost use Rattle.std.specs.Prelude.{◌≡◌, List, ℕ, Some};
-ghost use Rattle.cqlp_decode.specs.Draining.{Counts, DrainsAll, RunsTo};
+ghost use Rattle.std.specs.Prelude.{◌≡◌, ◌*◌, List, ℕ, Some};
+ghost use Rattle.cqlp_decode.specs.Draining.{Counts, DrainsAll, ReadsAtMost, RunsTo};
 ghost use Rattle.cqlp_decode.specs.Streams.{state};
 
 use crate::decoder::Decoder;
@@ -40,7 +40,9 @@ pub fn run<R: Source, S: Sink, A: Allocator>(
     turns: u64,
 ) -> Outcome
     ensures runs { (xs : List ℕ) → R.left reader.old ≡ Some xs → S.tells sink.old → RunsTo S.after S.faulted turns result (state decoder.old) (state decoder.new) xs (R.left reader.new) (S.view sink.old) (S.view sink.new) }
+    ensures reads { (xs : List ℕ) → R.left reader.old ≡ Some xs → ReadsAtMost (4096 * turns) xs (R.left reader.new) }
     ensures failures { Counts result (R.failures reader.old) (R.failures reader.new) }
+    ensures rules { (state decoder.new).rules ≡ (state decoder.old).rules }
 {
     let mut buffer = [0; 4096];
     match drain(decoder, &[], sink) {
@@ -69,6 +71,7 @@ pub fn run<R: Source, S: Sink, A: Allocator>(
 fn drain<S: Sink, A: Allocator>(decoder: &mut Decoder<A>, input: &[u8], sink: &mut S) -> Drained
     ensures tells { S.tells sink.old → result ≡ Drained.More → S.tells sink.new }
     ensures drains { S.tells sink.old → DrainsAll S.after S.faulted (state decoder.old) input.now result (state decoder.new) (S.view sink.old) (S.view sink.new) }
+    ensures rules { (state decoder.new).rules ≡ (state decoder.old).rules }
 {
     let mut used = 0;
     'events: loop {
