@@ -1,19 +1,61 @@
-//! All vectors, and what must be said of their parts.
+//! All worked streams, and what must be said of their parts.
 
-use super::LIMITS;
 use super::pages::{BLOBS_IN_PARTS, PAGES, UNTYPED};
 use super::vectors::{
     AUTHENTICATION, ERRORS, EVENTS, FIRST_MESSAGES, HEADERS, METADATA, PARTS, REFUSALS, REQUESTS,
     RESULTS, Vector,
 };
+use super::{LIMITS, bytes_of};
 use cqlp_decode::Finish;
 use cqlp_note::Limits;
+use std::alloc::Global;
+use std::test::Fail;
 
-/// How many groups are of messages; the others are of pages.
-pub(crate) const MESSAGES: usize = 10;
+/// A stream, what must be said of it, and the limits that it is read within.
+#[derive(Drop)]
+pub(crate) struct Stream {
+    pub(crate) name: &'static str,
+    pub(crate) bytes: Vec<u8>,
+    /// The lines of its events, and then the verdict.
+    pub(crate) lines: &'static str,
+    pub(crate) limits: Limits,
+}
 
-/// Each group of vectors, and its limits.
-pub(crate) fn groups() -> [(Limits, &'static [Vector]); 13] {
+/// The streams of messages.
+pub(crate) fn messages(alloc: Global) -> Result<Vec<Stream>, Fail> {
+    let mut streams = Vec::new(alloc);
+    for vectors in [
+        HEADERS.as_slice(),
+        FIRST_MESSAGES.as_slice(),
+        REQUESTS.as_slice(),
+        PARTS.as_slice(),
+        AUTHENTICATION.as_slice(),
+        ERRORS.as_slice(),
+        RESULTS.as_slice(),
+        EVENTS.as_slice(),
+        REFUSALS.as_slice(),
+        METADATA.as_slice(),
+    ] {
+        push_streams(&mut streams, alloc, LIMITS, vectors)?;
+    }
+    Ok(streams)
+}
+
+/// The streams of pages.
+pub(crate) fn pages(alloc: Global) -> Result<Vec<Stream>, Fail> {
+    let mut streams = Vec::new(alloc);
+    push_pages(&mut streams, alloc)?;
+    Ok(streams)
+}
+
+/// The streams of messages, and those of pages.
+pub(crate) fn all(alloc: Global) -> Result<Vec<Stream>, Fail> {
+    let mut streams = messages(alloc)?;
+    push_pages(&mut streams, alloc)?;
+    Ok(streams)
+}
+
+fn push_pages(streams: &mut Vec<Stream>, alloc: Global) -> Result<(), Fail> {
     let untyped = Limits {
         types: false,
         ..LIMITS
@@ -22,21 +64,26 @@ pub(crate) fn groups() -> [(Limits, &'static [Vector]); 13] {
         parts: true,
         ..LIMITS
     };
-    [
-        (LIMITS, &HEADERS),
-        (LIMITS, &FIRST_MESSAGES),
-        (LIMITS, &REQUESTS),
-        (LIMITS, &PARTS),
-        (LIMITS, &AUTHENTICATION),
-        (LIMITS, &ERRORS),
-        (LIMITS, &RESULTS),
-        (LIMITS, &EVENTS),
-        (LIMITS, &REFUSALS),
-        (LIMITS, &METADATA),
-        (LIMITS, &PAGES),
-        (untyped, &UNTYPED),
-        (in_parts, &BLOBS_IN_PARTS),
-    ]
+    push_streams(streams, alloc, LIMITS, &PAGES)?;
+    push_streams(streams, alloc, untyped, &UNTYPED)?;
+    push_streams(streams, alloc, in_parts, &BLOBS_IN_PARTS)
+}
+
+fn push_streams(
+    streams: &mut Vec<Stream>,
+    alloc: Global,
+    limits: Limits,
+    vectors: &[Vector],
+) -> Result<(), Fail> {
+    for vector in vectors {
+        streams.push(Stream {
+            name: vector.name,
+            bytes: bytes_of(alloc, vector.stream)?,
+            lines: vector.lines,
+            limits,
+        })?;
+    }
+    Ok(())
 }
 
 /// The lines of the events, before the verdict.

@@ -4,6 +4,11 @@ use Rattle.cqlp_decode.specs.Streams.{state}
 use Rattle.cqlp_decode.proofs.Gets.{rest_is, drains_event, drains_all, fails_event}
 use Rattle.cqlp_decode.proofs.running.drain.Goals as goal
 
+pub returns-in-More-clause-waits : goal.returns-in-More-clause-waits
+returns-in-More-clause-waits g c = λ tells is s es a.
+    let d = c.events.invariant.drained tells s es a in
+    let leads = c.next.follows.holds-at-none.1 _ _ d.stands in (rw c.in-More.is at leads).1
+
 pub returns-in-More-clause-drains : goal.returns-in-More-clause-drains
 returns-in-More-clause-drains g c = λ tells s es a.
     let d = c.events.invariant.drained tells s es a in

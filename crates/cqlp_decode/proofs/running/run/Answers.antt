@@ -1,4 +1,4 @@
-use Rattle.std.proofs.Common.{◌≡◌, ◌<◌, [], length, take, drop, refl, sym, ◌∙◌, inl, inr, arith}
+use Rattle.std.proofs.Common.{◌≡◌, ◌<◌, [], ◌++◌, length, take, drop, refl, sym, ◌∙◌, inl, inr, arith}
 use Rattle.std.proofs.lemmas.List.{append-nil, take-append-drop, length-append, length-take-le}
 use Rattle.cqlp_decode.specs.Streams.{state}
 use Rattle.cqlp_decode.proofs.Gets.{feeds_none, feeds_then, feeds_into, has_all, read_some, keeps_some, at_end, reads_none, reads_kept, reads_then}
@@ -27,6 +27,7 @@ loop-turn-init g c = record {
   failures = refl;
   reads = λ xs is. reads_none _ xs _ is;
   tells = λ tells. c.in-More.ensures.tells tells refl;
+  waits = λ xs is tells s es a. c.in-More.ensures.waits tells refl s es a;
   fed = λ xs is tells.
       let e = c.in-More.ensures.drains tells in
       let d = state c.args.decoder.now in
@@ -77,6 +78,9 @@ loop-turn-preserved g c =
       reads = λ xs is. reads_then c.loop-turn.turn _ xs _ _ c.read.new.buffer c.in-Ok.count (omega arith) (c.loop-turn.invariant.reads xs is) c.in-Ok.ensures.bound long c.in-Ok.ensures.bytes;
       failures = let a = c.in-Ok.ensures.failures in let b = c.loop-turn.invariant.failures in cc;
       tells = λ tells. c.in-More-drain.ensures.tells (c.loop-turn.invariant.tells tells) refl;
+      waits = λ xs is tells s es a.
+          let d = c.loop-turn.invariant.fed xs is tells in
+          let e = d.0.drained s es a in c.in-More-drain.ensures.waits (c.loop-turn.invariant.tells tells) refl (s ++ d.0.bytes) (es ++ e.more) e.stands;
       fed = λ xs is tells.
           let d = c.loop-turn.invariant.fed xs is tells in
           let r = read_some _ _ d.0.rest c.read.new.buffer c.in-Ok.count d.1 c.in-Ok.ensures.bytes.0 c.in-Ok.ensures.bytes.1 in
