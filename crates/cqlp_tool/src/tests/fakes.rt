@@ -48,12 +48,13 @@ impl Source for Cut<'_> {
     ghost failures = { λ _. 0 };
 
     fn read(&mut self, buffer: &mut [u8]) -> Result<usize, IoFault> {
-        let Some((piece, later)) = self.pieces.split_first() else {
+        if self.pieces.is_empty() {
             return Ok(0);
-        };
+        }
+        let piece = self.pieces[0];
         let count = piece.len().min(buffer.len());
         buffer[..count].copy_from_slice(&piece[..count]);
-        self.pieces = later;
+        self.pieces = &self.pieces[1..];
         Ok(count)
     }
 }
