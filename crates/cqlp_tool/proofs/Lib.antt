@@ -4,4 +4,5 @@ pub mod CellTexts
 pub mod Renders
 pub mod Shows
 pub mod Texts
+pub mod Turns
 pub mod Writing

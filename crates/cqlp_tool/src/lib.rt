@@ -6,6 +6,7 @@ mod cells;
 mod dates;
 mod ending;
 mod events;
+mod form;
 #[cfg(test)]
 mod heaps;
 mod line_writer;
@@ -18,8 +19,8 @@ mod word;
 
 pub use cells::cell_text;
 pub use ending::Ending;
-pub use render::{EventSink, render_events};
-pub use showing::{DEFAULT_LIMITS, show};
+pub use render::render_events;
+pub use showing::{DEFAULT_LIMITS, check, show};
 
 #[cfg(test)]
 mod tests;
