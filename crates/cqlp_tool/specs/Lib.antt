@@ -2,6 +2,7 @@ pub mod CellText
 pub mod Endings
 pub mod Lines
 pub mod Names
+pub mod PageText
 pub mod Rendering
 pub mod Showing
 pub mod Text
