@@ -12,6 +12,7 @@ mod heaps;
 mod line_writer;
 mod names;
 mod offer;
+mod page_text;
 mod render;
 mod showing;
 mod text;
