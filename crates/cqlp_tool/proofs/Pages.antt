@@ -1,5 +1,5 @@
 -- The open values of a page, and its text in parts.
-use Rattle.std.proofs.Common.{◌≡◌, ◌≢◌, ℕ, zero, suc, ◌+◌, ◌-◌, ◌<◌, ◌≤◌, ◌==◌, Bool, false, if◌then◌else◌, List, [], ◌∷◌, ◌++◌, length, drop, set, get_or, Some, None, Result, Ok, Err, refl, sym, ap, ◌∙◌, subst, add-one, length-drop, arith}
+use Rattle.std.proofs.Common.{◌≡◌, ◌≢◌, ℕ, zero, suc, ◌+◌, ◌-◌, ◌<◌, ◌≤◌, ◌==◌, Bool, true, false, if◌then◌else◌, List, [], ◌∷◌, ◌++◌, length, drop, set, get_or, Some, None, Result, Ok, Err, refl, sym, ap, ◌∙◌, subst, add-one, length-drop, arith}
 use Rattle.std.proofs.lemmas.Bool.Decides.{nat_tests}
 use Rattle.std.proofs.lemmas.List.{drop-set}
 use Rattle.std.proofs.lemmas.Option.{same_Some}
@@ -52,6 +52,10 @@ closed columns column (x ∷ os) o e = ap (λ (p : Open). closing p.kind ++ behi
 pub content_starts : (offset : ℕ) (text : List ℕ) → offset ≤ 0 → (if offset == 0 then text else []) ≡ text
 content_starts zero text le = refl
 content_starts (suc n) text le = absurd (omega arith)
+
+pub nothing_shown : (is_page : Bool) (text : List ℕ) → text ≡ [] → (if is_page then text else []) ≡ []
+nothing_shown true text e = e
+nothing_shown false text e = refl
 
 -- the last part of a text
 pub last_part : {a b : Written} (c : Written) {text left x : List ℕ} (r : Result (Unit {0}) SinkFault) → Progress a text left b → left ≡ x → Writes b x r c → Writes a text r c
