@@ -1,4 +1,5 @@
 mod CellRows
+mod PageRows
 pub mod Calendar
 pub mod CellTexts
 pub mod Pages

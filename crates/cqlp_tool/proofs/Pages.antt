@@ -1,13 +1,14 @@
 -- The open values of a page, and its text in parts.
-use Rattle.std.proofs.Common.{◌≡◌, ◌≢◌, ℕ, zero, suc, ◌+◌, ◌-◌, ◌<◌, ◌≤◌, ◌==◌, Bool, false, if◌then◌else◌, List, [], ◌∷◌, ◌++◌, length, drop, set, get_or, Result, Ok, Err, refl, sym, ap, ◌∙◌, subst, add-one, length-drop, arith}
+use Rattle.std.proofs.Common.{◌≡◌, ◌≢◌, ℕ, zero, suc, ◌+◌, ◌-◌, ◌<◌, ◌≤◌, ◌==◌, Bool, true, false, if◌then◌else◌, List, [], ◌∷◌, ◌++◌, length, drop, set, get_or, Some, Result, refl, sym, ap, ◌∙◌, subst, add-one, length-drop, arith}
 use Rattle.std.proofs.lemmas.Bool.Decides.{nat_tests}
 use Rattle.std.proofs.lemmas.List.{drop-set}
+use Rattle.std.proofs.lemmas.Option.{same_Some}
 use Rattle.cqlp_decode.specs.declared.sink.SinkFault.{SinkFault}
 use Rattle.cqlp_type.specs.declared.kind.Kind.{Kind}
 use Rattle.cqlp_tool.specs.declared.page_text.Open.{Open}
 use Rattle.cqlp_tool.specs.declared.page_text.Turn.{Turn}
 use Rattle.cqlp_tool.specs.declared.page_text.Turn.TheVariants.{First}
-use Rattle.cqlp_tool.specs.PageText.{PagePlace, behind, turn_after, with_item, with_open, without_open}
+use Rattle.cqlp_tool.specs.PageText.{PagePlace, behind, closing, end_part, innermost, turn_after, with_item, with_open, without_open}
 use Rattle.cqlp_tool.specs.Written.{Written, Writes}
 use Rattle.cqlp_tool.proofs.Writing.{Progress, progress_writes}
 
@@ -42,6 +43,19 @@ pushed n xs k some within long =
     let end : (n - 1) + 1 ≡ n = omega arith in
     let o : Open = record { kind = k; turn = First } in
     drop-set xs (n - 1) o (omega arith) ∙ ap (λ m. o ∷ drop m xs) end ∙ ap (λ (b : Bool). if b then drop n xs else o ∷ drop n xs) (sym free)
+
+-- the end of the innermost open value
+pub closed : (columns column : ℕ) (os : List Open) (o : Open) → Some o ≡ innermost os → end_part columns column os ≡ closing o.kind ++ behind columns column (without_open os)
+closed columns column [] o e = cc
+closed columns column (x ∷ os) o e = ap (λ (p : Open). closing p.kind ++ behind columns column os) (same_Some x o (sym e))
+
+pub content_starts : (offset : ℕ) (text : List ℕ) → offset ≤ 0 → (if offset == 0 then text else []) ≡ text
+content_starts zero text le = refl
+content_starts (suc n) text le = absurd (omega arith)
+
+pub nothing_shown : (is_page : Bool) (text : List ℕ) → text ≡ [] → (if is_page then text else []) ≡ []
+nothing_shown true text e = e
+nothing_shown false text e = refl
 
 -- the last part of a text
 pub last_part : {a b : Written} (c : Written) {text left x : List ℕ} (r : Result (Unit {0}) SinkFault) → Progress a text left b → left ≡ x → Writes b x r c → Writes a text r c

@@ -28,7 +28,7 @@ pub(crate) fn page_part<W: Target>(
     ensures part { IsSome (W.contents w.old) → WritesText (output (W.contents w.old) (W.failures w.old)) (text_of place.old (event_of event.now)) result (output (W.contents w.new) (W.failures w.new)) }
     ensures place { OnOk result (place.new ≡ place_behind place.old (event_of event.now)) }
 {
-    if !place.is_page() {
+    if !place.shows(event) {
         place.pass(event);
         return Ok(());
     }
@@ -103,6 +103,23 @@ impl PagePlace {
         ensures { result ≡ self.now.is_page }
     {
         self.is_page
+    }
+
+    /// Whether anything may be written of an event.
+    fn shows(&self, event: &Event<'_>) -> bool
+        ensures { result ≡ false → text_of self.now (event_of event.now) ≡ [] }
+    {
+        match *event {
+            Event::Text { .. }
+            | Event::Count { .. }
+            | Event::Leaf { .. }
+            | Event::Null { .. }
+            | Event::Empty { .. }
+            | Event::Enter { .. }
+            | Event::Leave { .. }
+            | Event::Part { .. } => self.is_page,
+            _ => false,
+        }
     }
 
     fn columns(&self) -> u32
