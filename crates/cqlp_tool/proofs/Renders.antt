@@ -26,10 +26,12 @@ known_still (Some t) text known = refl
 -- the text of no events, and of one more
 text-nil : (form : Form) → text form [] ≡ []
 text-nil forms.Lines = refl
+text-nil (forms.Pages place) = refl
 text-nil forms.Nothing = refl
 
 text-cons : (form : Form) (at : ℕ) (e : Event) (es : List (ℕ × Event)) → text_of form at e ++ text (form_after form e) es ≡ text form ((at, e) ∷ es)
 text-cons forms.Lines at e es = refl
+text-cons (forms.Pages place) at e es = refl
 text-cons forms.Nothing at e es = refl
 
 -- the text of events, one after the other, is their text

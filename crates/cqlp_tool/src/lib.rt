@@ -20,8 +20,8 @@ mod word;
 
 pub use cells::cell_text;
 pub use ending::Ending;
-pub use render::render_events;
-pub use showing::{DEFAULT_LIMITS, check, show};
+pub use render::{render_events, render_rows};
+pub use showing::{DEFAULT_LIMITS, check, rows, show};
 
 #[cfg(test)]
 mod tests;

@@ -1,12 +1,14 @@
 //! Streams as text.
 
-ghost use Rattle.std.specs.Prelude.{◌≡◌, List, ℕ, Some, IsSome, []};
-ghost use Rattle.cqlp_decode.specs.Draining.{Counts};
+ghost use Rattle.std.specs.Prelude.{◌≡◌, ◌*◌, List, ℕ, Some, IsSome, []};
+ghost use Rattle.cqlp_decode.specs.Draining.{Counts, ReadsAtMost, WaitsAt};
+ghost use Rattle.cqlp_decode.specs.Reading as reading;
 ghost use Rattle.cqlp_decode.specs.Streams.{After, state};
 
 use crate::buffered::Buffered;
 use crate::events::event_line;
 use crate::form::Form;
+use crate::page_text::{PagePlace, page_part};
 use cqlp_decode::{Decoder, Event, Outcome, Sink, SinkFault, run};
 use cqlp_note::{IoFault, Source, Target};
 use std::alloc::Allocator;
@@ -74,13 +76,15 @@ impl<W: Target> Sink for TextSink<W> {
     ghost faulted = { StopsWithinEvent };
 
     fn take(&mut self, at: u64, event: &Event<'_>) -> Result<(), SinkFault> {
-        match self.form {
+        match &mut self.form {
             Form::Lines => event_line(at, event, &mut self.target),
+            Form::Pages(place) => page_part(place, event, &mut self.target),
             Form::Nothing => Ok(()),
         }
     }
 }
 
+ghost use Rattle.cqlp_tool.specs.PageText.{no_page};
 ghost use Rattle.cqlp_tool.specs.Rendering.{RendersTo, output};
 ghost use Rattle.cqlp_tool.specs.Showing.{RendersOrFails};
 ghost use Rattle.cqlp_tool.specs.declared.form.Form.TheVariants as forms;
@@ -94,9 +98,30 @@ pub fn render_events<R: Source, W: Target, A: Allocator>(
     turns: u64,
 ) -> (Outcome, W)
     ensures lines { (xs : List ℕ) → R.left reader.old ≡ Some xs → IsSome (W.contents w) → RendersTo forms.Lines turns result.0 (state decoder.old) (state decoder.new) xs (R.left reader.new) (output (W.contents w) (W.failures w)) (output (W.contents result.1) (W.failures result.1)) }
+    ensures waits { (xs : List ℕ) → R.left reader.old ≡ Some xs → IsSome (W.contents w) → (s : List ℕ) (es : List (ℕ × reading.Event)) → After (state decoder.old) s es → WaitsAt result.0 (state decoder.new) }
+    ensures reads { (xs : List ℕ) → R.left reader.old ≡ Some xs → ReadsAtMost (4096 * turns) xs (R.left reader.new) }
     ensures failures { Counts result.0 (R.failures reader.old) (R.failures reader.new) }
 {
     let mut sink = TextSink::new(w, Form::Lines);
+    let outcome = run(decoder, reader, &mut sink, turns);
+    (outcome, sink.into_inner())
+}
+
+/// Writes the text of the pages of a reader's bytes, from at most `turns` reads, with a decoder that is new or has just
+/// handed out the end of a frame. Of a page that is under way nothing is written. A fault of the writer is
+/// `Outcome::SinkFault`.
+pub fn render_rows<R: Source, W: Target, A: Allocator>(
+    decoder: &mut Decoder<A>,
+    reader: &mut R,
+    w: W,
+    turns: u64,
+) -> (Outcome, W)
+    ensures text { (xs : List ℕ) → R.left reader.old ≡ Some xs → IsSome (W.contents w) → RendersTo (forms.Pages no_page) turns result.0 (state decoder.old) (state decoder.new) xs (R.left reader.new) (output (W.contents w) (W.failures w)) (output (W.contents result.1) (W.failures result.1)) }
+    ensures waits { (xs : List ℕ) → R.left reader.old ≡ Some xs → IsSome (W.contents w) → (s : List ℕ) (es : List (ℕ × reading.Event)) → After (state decoder.old) s es → WaitsAt result.0 (state decoder.new) }
+    ensures reads { (xs : List ℕ) → R.left reader.old ≡ Some xs → ReadsAtMost (4096 * turns) xs (R.left reader.new) }
+    ensures failures { Counts result.0 (R.failures reader.old) (R.failures reader.new) }
+{
+    let mut sink = TextSink::new(w, Form::Pages(PagePlace::new()));
     let outcome = run(decoder, reader, &mut sink, turns);
     (outcome, sink.into_inner())
 }

@@ -3,6 +3,7 @@
 ghost use Rattle.std.specs.Prelude.{◌≡◌, List, ℕ, Some, IsSome, []};
 ghost use Rattle.cqlp_decode.specs.Streams.{After, state};
 ghost use Rattle.cqlp_note.specs.Limits.{first_bad};
+ghost use Rattle.cqlp_tool.specs.PageText.{no_page};
 ghost use Rattle.cqlp_tool.specs.Rendering.{Output, output};
 ghost use Rattle.cqlp_tool.specs.Showing.{ending_of, ShowsTo, RendersOrFails, CountsReads, Concludes, ConcludesCheck};
 ghost use Rattle.cqlp_tool.specs.declared.ending.Ending.{Ending};
@@ -11,6 +12,7 @@ ghost use Rattle.cqlp_tool.specs.declared.form.Form.TheVariants as forms;
 use crate::buffered::Buffered;
 use crate::ending::{Ending, ending_line};
 use crate::form::Form;
+use crate::page_text::PagePlace;
 use crate::render::{TextSink, run_flushing};
 use cqlp_decode::{Decoder, NewError, Outcome, SinkFault};
 use cqlp_note::{IoFault, Limits, Source, Target};
@@ -50,6 +52,28 @@ pub fn show<R: Source, O: Target, E: Target, A: Allocator>(
         × Concludes ending (output (E.contents err) (E.failures err)) result.0 (output (E.contents result.2) (E.failures result.2)) }
 {
     let (ending, out) = shown(alloc, limits, Form::Lines, input, out);
+    let (status, err) = conclude(ending, err);
+    (status, out, err)
+}
+
+/// Writes the text of the pages of a stream to `out`, and the verdict line or fault line to `err`. Answers the exit
+/// status, and the two outputs.
+pub fn rows<R: Source, O: Target, E: Target, A: Allocator>(
+    alloc: &A,
+    limits: Limits,
+    input: &mut R,
+    out: O,
+    err: E,
+) -> (u8, O, E)
+    requires { first_bad limits ≡ Ok tt }
+    ensures { (xs : List ℕ) → R.left input.old ≡ Some xs → IsSome (O.contents out) → IsSome (E.contents err) →
+        (ending : Ending)
+        × ShowsTo (forms.Pages no_page) limits TURNS ending xs (R.left input.new)
+        (output (O.contents out) (O.failures out)) (output (O.contents result.1) (O.failures result.1))
+        × CountsReads ending (R.failures input.old) (R.failures input.new)
+        × Concludes ending (output (E.contents err) (E.failures err)) result.0 (output (E.contents result.2) (E.failures result.2)) }
+{
+    let (ending, out) = shown(alloc, limits, Form::Pages(PagePlace::new()), input, out);
     let (status, err) = conclude(ending, err);
     (status, out, err)
 }
