@@ -3,7 +3,7 @@
 #![tactic(auto)]
 
 use cqlp_note::OfStd;
-use cqlp_tool::show;
+use cqlp_tool::{DEFAULT_LIMITS, show};
 use std::env::{Env, FillError};
 use std::process::ExitCode;
 
@@ -18,7 +18,7 @@ fn main(rt: HostRuntime) -> ExitCode {
     let mut input = OfStd::new(rt.stdin());
     let out = OfStd::new(rt.stdout());
     let err = OfStd::new(rt.stderr());
-    let (status, _, _) = show(&rt.alloc(), &mut input, out, err);
+    let (status, _, _) = show(&rt.alloc(), DEFAULT_LIMITS, &mut input, out, err);
     ExitCode::from(status)
 }
 

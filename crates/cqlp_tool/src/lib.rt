@@ -6,11 +6,13 @@ mod cells;
 mod dates;
 mod ending;
 mod events;
+mod form;
 #[cfg(test)]
 mod heaps;
 mod line_writer;
 mod names;
 mod offer;
+mod page_text;
 mod render;
 mod showing;
 mod text;
@@ -18,8 +20,8 @@ mod word;
 
 pub use cells::cell_text;
 pub use ending::Ending;
-pub use render::{EventSink, render_events};
-pub use showing::{DEFAULT_LIMITS, show};
+pub use render::{render_events, render_rows};
+pub use showing::{DEFAULT_LIMITS, check, rows, show};
 
 #[cfg(test)]
 mod tests;

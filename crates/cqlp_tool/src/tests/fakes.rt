@@ -137,6 +137,19 @@ impl Target for Narrow {
     }
 }
 
+/// Takes all bytes, and counts its calls.
+#[derive(Drop)]
+pub(crate) struct Calls(pub(crate) u64);
+
+impl Target for Calls {
+    ghost failures = { λ _. 0 };
+
+    fn write(&mut self, bytes: &[u8]) -> Result<usize, IoFault> {
+        self.0 = self.0.saturating_add(1);
+        Ok(bytes.len())
+    }
+}
+
 /// Counts events, and keeps where the last stands.
 #[derive(Drop)]
 pub(crate) struct Counting {

@@ -2,10 +2,10 @@
 
 ghost use Rattle.std.specs.Prelude.{◌≤◌};
 
-use super::fakes::{Counting, Failing, Narrow, Pieces};
+use super::fakes::{Calls, Counting, Failing, Narrow, Pieces};
 use super::{LIMITS, bytes_of};
 use crate::heaps::Limited;
-use crate::showing::show;
+use crate::showing::{DEFAULT_LIMITS, check, rows, show};
 use cqlp_decode::{Decoder, Finish, Outcome, run};
 use cqlp_note::Source;
 use std::alloc::{Allocator, Global};
@@ -35,7 +35,7 @@ fn expect_shown<A: Allocator>(
 ) {
     let out = Narrow::new(alloc, room.0, 7);
     let err = Narrow::new(alloc, room.1, 7);
-    let (status, out, err) = show(heap, input, out, err);
+    let (status, out, err) = show(heap, DEFAULT_LIMITS, input, out, err);
     assert_eq!(rt; status, expected.status);
     assert!(rt; out.text.as_slice() == expected.out);
     assert!(rt; err.text.as_slice() == expected.err);
@@ -100,6 +100,100 @@ fn outputs_that_fail(rt: HostRuntime) {
     };
     let mut input = Pieces::new(OPTIONS, 9, 9);
     expect_shown(&rt, rt.alloc(), &rt.alloc(), &mut input, (99, 5), expected);
+}
+
+#[test]
+fn text_goes_out_before_each_read(rt: HostRuntime) -> Result<(), Fail> {
+    let bytes = bytes_of(
+        rt.alloc(),
+        "040000000500000000 040000000500000000 040000000500000000",
+    )?;
+    let mut input = Pieces::new(&bytes, 9, 9);
+    let (status, out, _) = show(&rt.alloc(), DEFAULT_LIMITS, &mut input, Calls(0), Calls(0));
+    assert_eq!(rt; (status, out.0), (0, 3));
+    Ok(())
+}
+
+/// Checks a reader's stream, with an output that has room for so many bytes.
+fn expect_checked(
+    rt: &impl Abort,
+    alloc: Global,
+    input: &mut impl Source,
+    room: usize,
+    expected: Shown<'_>,
+) {
+    let out = Narrow::new(alloc, room, 7);
+    let err = Narrow::new(alloc, 99, 7);
+    let (status, out, err) = check(&alloc, DEFAULT_LIMITS, input, out, err);
+    assert_eq!(rt; status, expected.status);
+    assert!(rt; out.text.as_slice() == expected.out);
+    assert!(rt; err.text.as_slice() == expected.err);
+}
+
+#[test]
+fn verdicts_of_checks(rt: HostRuntime) {
+    let rows: [(&[u8], &[u8], u8); 3] = [
+        (OPTIONS, b"whole 9\n", 0),
+        (&OPTIONS[..8], b"cut 0 8\n", 1),
+        (
+            &[0x83, 1, 0, 0, 4, 255, 255, 255, 255],
+            b"refused 0 BadVersion\n",
+            1,
+        ),
+    ];
+    for (bytes, out, status) in rows {
+        let mut input = Pieces::new(bytes, 1, 1);
+        let expected = Shown {
+            out,
+            err: b"",
+            status,
+        };
+        expect_checked(&rt, rt.alloc(), &mut input, 99, expected);
+    }
+}
+
+#[test]
+fn faults_of_checks(rt: HostRuntime) {
+    let mut input = Failing {
+        bytes: Pieces::new(OPTIONS, 4, 4),
+        failures: 0,
+    };
+    let expected = Shown {
+        out: b"",
+        err: b"cqlp: read fault\n",
+        status: 3,
+    };
+    expect_checked(&rt, rt.alloc(), &mut input, 99, expected);
+    let expected = Shown {
+        out: b"whole",
+        err: b"cqlp: write fault\n",
+        status: 3,
+    };
+    let mut input = Pieces::new(OPTIONS, 9, 9);
+    expect_checked(&rt, rt.alloc(), &mut input, 5, expected);
+}
+
+/// The text of the pages of a stream that is whole.
+fn expect_rows(rt: &impl Abort, alloc: Global, stream: &str, text: &[u8]) -> Result<(), Fail> {
+    let bytes = bytes_of(alloc, stream)?;
+    let mut input = Pieces::new(&bytes, 1, 1);
+    let out = Narrow::new(alloc, 999, 999);
+    let (status, out, _) = rows(&alloc, DEFAULT_LIMITS, &mut input, out, Calls(0));
+    assert_eq!(rt; status, 0);
+    assert!(rt; out.text.as_slice() == text);
+    Ok(())
+}
+
+#[test]
+fn rows_of_pages(rt: HostRuntime) -> Result<(), Fail> {
+    let two_columns =
+        "84 00 0000 08 00000019 00000002 00000004 00000002 00000001 00000001 07 ffffffff";
+    let text = b"page 2 columns 1 rows\n0x07 | null\n";
+    expect_rows(&rt, rt.alloc(), two_columns, text)?;
+    let list =
+        "84 00 0000 08 00000035 00000002 00000001 00000001 0001 6b 0001 74 0001 63 0020 0009 00000001 00000014 00000002 00000004 00000001 00000004 00000002";
+    let text = b"column \"c\"\npage 1 columns 1 rows\n[1, 2]\n";
+    expect_rows(&rt, rt.alloc(), list, text)
 }
 
 /// How many blocks of memory a decoder is made of.

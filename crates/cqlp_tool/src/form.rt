@@ -1,0 +1,13 @@
+//! Forms of text.
+
+use crate::page_text::PagePlace;
+
+/// What is written of the events of a stream.
+#[derive(Drop)]
+pub(crate) enum Form {
+    /// A line for each.
+    Lines,
+    /// The text of pages, from a place in a page.
+    Pages(PagePlace),
+    Nothing,
+}
