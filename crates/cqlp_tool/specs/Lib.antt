@@ -1,7 +1,9 @@
 pub mod CellText
+pub mod CommandLines
 pub mod Endings
 pub mod Lines
 pub mod Names
+pub mod PageText
 pub mod Rendering
 pub mod Showing
 pub mod Text

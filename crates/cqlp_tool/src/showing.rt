@@ -3,6 +3,7 @@
 ghost use Rattle.std.specs.Prelude.{◌≡◌, List, ℕ, Some, IsSome, []};
 ghost use Rattle.cqlp_decode.specs.Streams.{After, state};
 ghost use Rattle.cqlp_note.specs.Limits.{first_bad};
+ghost use Rattle.cqlp_tool.specs.Endings.{IsStatusOfStream};
 ghost use Rattle.cqlp_tool.specs.Rendering.{output};
 ghost use Rattle.cqlp_tool.specs.Showing.{ending_of, ShowsTo, RendersOrFails, CountsReads, Concludes};
 ghost use Rattle.cqlp_tool.specs.declared.ending.Ending.{Ending};
@@ -26,7 +27,7 @@ pub const DEFAULT_LIMITS: Limits = Limits {
 };
 
 /// How many reads the program makes at most.
-const TURNS: u64 = 4_294_967_296;
+pub(crate) const TURNS: u64 = 4_294_967_296;
 
 /// How many bytes of text go to the output at once.
 const ROOM: usize = 65_536;
@@ -35,20 +36,49 @@ const ROOM: usize = 65_536;
 /// status, and the two outputs.
 pub fn show<R: Source, O: Target, E: Target, A: Allocator>(
     alloc: &A,
+    limits: Limits,
     input: &mut R,
     out: O,
     err: E,
 ) -> (u8, O, E)
-    ensures { (xs : List ℕ) → R.left input.old ≡ Some xs → IsSome (O.contents out) → IsSome (E.contents err) →
+    requires { first_bad limits ≡ Ok tt }
+    ensures status { IsStatusOfStream result.0 }
+    ensures shows { (xs : List ℕ) → R.left input.old ≡ Some xs → IsSome (O.contents out) → IsSome (E.contents err) →
         (ending : Ending)
-        × ShowsTo DEFAULT_LIMITS TURNS ending xs (R.left input.new)
+        × ShowsTo limits TURNS ending xs (R.left input.new)
         (output (O.contents out) (O.failures out)) (output (O.contents result.1) (O.failures result.1))
         × CountsReads ending (R.failures input.old) (R.failures input.new)
         × Concludes ending (output (E.contents err) (E.failures err)) result.0 (output (E.contents result.2) (E.failures result.2)) }
 {
-    let (ending, out) = shown(alloc, DEFAULT_LIMITS, input, out);
+    let (ending, out) = shown(alloc, limits, input, out);
     let (status, err) = conclude(ending, err);
     (status, out, err)
+}
+
+pub fn rows<R: Source, O: Target, E: Target, A: Allocator>(
+    alloc: &A,
+    limits: Limits,
+    input: &mut R,
+    out: O,
+    err: E,
+) -> (u8, O, E)
+    requires { first_bad limits ≡ Ok tt }
+    ensures status { IsStatusOfStream result.0 }
+{
+    show(alloc, limits, input, out, err)
+}
+
+pub fn check<R: Source, O: Target, E: Target, A: Allocator>(
+    alloc: &A,
+    limits: Limits,
+    input: &mut R,
+    out: O,
+    err: E,
+) -> (u8, O, E)
+    requires { first_bad limits ≡ Ok tt }
+    ensures status { IsStatusOfStream result.0 }
+{
+    show(alloc, limits, input, out, err)
 }
 
 /// Writes the lines of the events of a stream within these limits.
@@ -112,8 +142,9 @@ fn render_buffered<R: Source, O: Target, A: Allocator, B: Allocator>(
 }
 
 /// Writes the verdict line or fault line. Answers the exit status, which is 3 where that fails.
-fn conclude<E: Target>(ending: Ending, mut err: E) -> (u8, E)
-    ensures { IsSome (E.contents err) → Concludes ending (output (E.contents err) (E.failures err)) result.0 (output (E.contents result.1) (E.failures result.1)) }
+pub(crate) fn conclude<E: Target>(ending: Ending, mut err: E) -> (u8, E)
+    ensures status { IsStatusOfStream result.0 }
+    ensures concludes { IsSome (E.contents err) → Concludes ending (output (E.contents err) (E.failures err)) result.0 (output (E.contents result.1) (E.failures result.1)) }
 {
     let mut writer = LineWriter::new(&mut err);
     let status = match writer.put_ending(ending) {

@@ -35,7 +35,7 @@ fn expect_shown<A: Allocator>(
 ) {
     let out = Narrow::new(alloc, room.0, 7);
     let err = Narrow::new(alloc, room.1, 7);
-    let (status, out, err) = show(heap, input, out, err);
+    let (status, out, err) = show(heap, LIMITS, input, out, err);
     assert_eq!(rt; status, expected.status);
     assert!(rt; out.text.as_slice() == expected.out);
     assert!(rt; err.text.as_slice() == expected.err);
