@@ -3,6 +3,7 @@
 
 mod buffered;
 mod cells;
+mod command_line;
 mod dates;
 mod ending;
 mod events;
@@ -11,15 +12,18 @@ mod heaps;
 mod line_writer;
 mod names;
 mod offer;
+mod options;
 mod render;
 mod showing;
 mod text;
 mod word;
 
 pub use cells::cell_text;
+pub use command_line::command;
 pub use ending::Ending;
+pub use options::{Options, Task};
 pub use render::{EventSink, render_events};
-pub use showing::{DEFAULT_LIMITS, show};
+pub use showing::{DEFAULT_LIMITS, check, rows, show};
 
 #[cfg(test)]
 mod tests;

@@ -1,6 +1,7 @@
 //! Streams, rendered and shown.
 
 mod cells;
+mod commands;
 mod fakes;
 mod pages;
 mod shows;
