@@ -1,8 +1,8 @@
 -- One more event for a sink, and the end of the input.
-use Rattle.std.proofs.Common.{◌≡◌, ℕ, ◌+◌, ◌-◌, ◌<◌, List, [], ◌∷◌, ◌++◌, length, take, drop, refl, sym, ap, ◌∙◌, append_assoc, arith}
+use Rattle.std.proofs.Common.{◌≡◌, ℕ, ◌+◌, ◌-◌, ◌*◌, ◌<◌, ◌≤◌, List, [], ◌∷◌, ◌++◌, length, take, drop, refl, sym, ap, ◌∙◌, append_assoc, arith}
 use Rattle.std.specs.Prelude.{Option, Some, None}
 use Rattle.std.specs.Io.KnownBytes.{Consumes, Keeps, IsAtEnd}
-use Rattle.std.proofs.lemmas.List.{append-nil, take-append-drop, take_all, take-take, drop-take, length-drop}
+use Rattle.std.proofs.lemmas.List.{append-nil, take-append-drop, take_all, take-take, drop-take, length-append, length-drop, length-take-le}
 use Rattle.cqlp_note.specs.declared.refusal.Refusal.{Refusal}
 use Rattle.cqlp_decode.specs.declared.event.Event.{Event}
 use Rattle.cqlp_decode.specs.declared.event.Step.TheVariants as steps
@@ -11,7 +11,7 @@ use Rattle.cqlp_decode.specs.Reading.{Says, Waits}
 use Rattle.cqlp_decode.specs.Events.{event_of}
 use Rattle.cqlp_decode.specs.Standing.{State}
 use Rattle.cqlp_decode.specs.Streams.{After, Leads}
-use Rattle.cqlp_decode.specs.Draining.{Drains, Fails, Feeds, FeedsInto, HasAll, fold_events}
+use Rattle.cqlp_decode.specs.Draining.{Drains, Fails, Feeds, FeedsInto, HasAll, ReadsAtMost, fold_events}
 
 take_two : (k n : ℕ) (bytes : List ℕ) → take (k + n) bytes ≡ take k bytes ++ take n (drop k bytes)
 take_two k n bytes = sym (rw (take-take k (k + n) bytes (omega arith), drop-take k n bytes) at (take-append-drop k (take (k + n) bytes)))
@@ -121,3 +121,27 @@ keeps_some (Some xs) (Some ys) rest is k = let same : xs ≡ rest = cc in ap Som
 
 pub at_end : (rest left buffer : List ℕ) (n : ℕ) → rest ≡ take n buffer ++ left → n ≡ 0 → left ≡ [] → rest ≡ []
 at_end rest left buffer n is zero none = rw (zero, none) at is
+
+pub reads_none : (n : ℕ) (xs : List ℕ) (left : Option (List ℕ)) → left ≡ Some xs → ReadsAtMost n xs left
+reads_none n xs left is = record { read = []; rest = xs; parts = refl; few = omega arith; others = is }
+
+pub reads_kept : (turn turns : ℕ) (xs : List ℕ) (old new : Option (List ℕ)) → turn < turns → ReadsAtMost (4096 * turn) xs old → Keeps old new → ReadsAtMost (4096 * turns) xs new
+reads_kept turn turns xs old new within d k = record {
+  read = d.read;
+  rest = d.rest;
+  parts = d.parts;
+  few = let few = d.few in omega arith;
+  others = keeps_some old new d.rest d.others k;
+}
+
+-- one more read, into a buffer of 4,096 bytes
+pub reads_then : (turn turns : ℕ) (xs : List ℕ) (old new : Option (List ℕ)) (buffer : List ℕ) (n : ℕ) → turn < turns → ReadsAtMost (4096 * turn) xs old → n ≤ length buffer → length buffer ≡ 4096
+    → Consumes old new (take n buffer) × (n ≡ 0 → 0 < length buffer → IsAtEnd new) → ReadsAtMost (4096 * turns) xs new
+reads_then turn turns xs old new buffer n within d bound long reads =
+    let r = read_some old new d.rest buffer n d.others reads.0 reads.1 in record {
+      read = d.read ++ take n buffer;
+      rest = r.0;
+      parts = d.parts ∙ ap (λ (z : List ℕ). d.read ++ z) r.2 ∙ sym (append_assoc d.read (take n buffer) r.0);
+      few = let few = d.few in omega (arith, length-append d.read (take n buffer), length-take-le n buffer bound);
+      others = r.1;
+    }

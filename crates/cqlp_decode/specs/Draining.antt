@@ -1,5 +1,5 @@
 -- What a sink gets of a stream.
-use Rattle.std.specs.Prelude.{◌≡◌, ℕ, ◌≤◌, ◌++◌, true, List, [], ◌∷◌, length, take, Option, Some, None, ◌⊎◌}
+use Rattle.std.specs.Prelude.{◌≡◌, ℕ, ◌≤◌, ◌++◌, true, List, [], ◌∷◌, length, take, Option, Some, None, ◌⊎◌, ⊤}
 use Rattle.cqlp_note.specs.declared.refusal.Refusal.{Refusal}
 use Rattle.cqlp_note.specs.Streams.{counted}
 use Rattle.cqlp_decode.specs.declared.running.Drained.{Drained}
@@ -71,6 +71,20 @@ RunsTo f faulted turns (outcome.Finished end) old new xs left before after =
 RunsTo f faulted turns outcome.ReadFault old new xs left before after = (d : Feeds f old new xs before after) × (left ≡ Some d.rest) × HasAll f old new xs before after d
 RunsTo f faulted turns outcome.Turns old new xs left before after = (d : Feeds f old new xs before after) × (left ≡ Some d.rest) × (turns ≤ length d.bytes) × HasAll f old new xs before after d
 RunsTo f faulted turns outcome.SinkFault old new xs left before after = FeedsInto f faulted old new xs before after
+
+-- a run that its reader or its turns end was refused nothing, and may be called again
+abbrev pub WaitsAt : Outcome → State → Type 0
+WaitsAt outcome.ReadFault new = new.refusal ≡ None
+WaitsAt outcome.Turns new = new.refusal ≡ None
+WaitsAt o new = ⊤
+
+-- Of the bytes xs of a reader, at most n were read, from the first on; the others are left.
+pub record ReadsAtMost (n : ℕ) (xs : List ℕ) (left : Option (List ℕ)) : Type 0 where
+  pub read : List ℕ
+  pub rest : List ℕ
+  pub parts : xs ≡ read ++ rest
+  pub few : length read ≤ n
+  pub others : left ≡ Some rest
 
 -- a run that says that its reader failed counts a failed call
 abbrev pub Counts : Outcome → (old new : ℕ) → Type 0

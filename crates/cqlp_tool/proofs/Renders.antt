@@ -1,13 +1,15 @@
--- What a run over a sink of lines leaves.
-use Rattle.std.proofs.Common.{◌≡◌, ℕ, List, [], ◌∷◌, ◌++◌, Option, Some, None, refl, sym, ap, ◌∙◌, subst, append_assoc, append-nil}
+-- What a run over a sink of text leaves.
+use Rattle.std.proofs.Common.{◌≡◌, ℕ, List, [], ◌∷◌, ◌++◌, Option, Some, None, IsSome, refl, sym, ap, ◌∙◌, subst, append_assoc, append-nil}
 use Rattle.std.specs.Io.KnownBytes.{append_known}
 use Rattle.cqlp_decode.specs.declared.running.Outcome.{Outcome}
 use Rattle.cqlp_decode.specs.declared.running.Outcome.TheVariants as outcome
 use Rattle.cqlp_decode.specs.Reading.{Event}
 use Rattle.cqlp_decode.specs.Standing.{State}
 use Rattle.cqlp_decode.specs.Draining.{fold_events, Drains, Fails, Feeds, FeedsInto, RunsTo}
-use Rattle.cqlp_tool.specs.Lines.{line, lines}
-use Rattle.cqlp_tool.specs.Rendering.{Output, output, with_text, with_line, StopsWithin, StopsWithinLine, WritesLines, StopsInLines, Renders, RendersPart, RendersTo}
+use Rattle.cqlp_tool.specs.declared.form.Form.{Form}
+use Rattle.cqlp_tool.specs.declared.form.Form.TheVariants as forms
+use Rattle.cqlp_tool.specs.Forms.{text, text_of, form_after, form_behind}
+use Rattle.cqlp_tool.specs.Rendering.{Output, output, with_text, Rendering, rendering, with_event, StopsWithin, StopsWithinEvent, WritesEvents, StopsInEvents, Renders, RendersPart, RendersTo}
 
 pub known_nothing : (given : Option (List ℕ)) → append_known given [] ≡ given
 known_nothing None = refl
@@ -17,41 +19,58 @@ known_then : (given : Option (List ℕ)) (x y : List ℕ) → append_known (appe
 known_then None x y = refl
 known_then (Some t) x y = ap (λ k. Some k) (append_assoc t x y)
 
--- the lines of events, one after the other, are their text
-pub fold-lines : (o : Output) (es : List (ℕ × Event)) → fold_events with_line o es ≡ with_text o (lines es)
-fold-lines o [] = ap (λ g. output g o.failures) (sym (known_nothing o.given))
-fold-lines o (e ∷ es) = fold-lines (with_line o e.0 e.1) es ∙ ap (λ g. output g o.failures) (known_then o.given (line e.0 e.1) (lines es))
+pub known_still : (given : Option (List ℕ)) (text : List ℕ) → IsSome given → IsSome (append_known given text)
+known_still None text known = known
+known_still (Some t) text known = refl
 
-writes_lines : (new : State) (s : List ℕ) (es : List (ℕ × Event)) (bytes : List ℕ) (before after : Output) → Drains with_line new s es bytes before after → WritesLines new s es bytes before after
-writes_lines new s es bytes before after d = record { more = d.more; stands = d.stands; written = d.got ∙ fold-lines before d.more }
+-- the text of no events, and of one more
+text-nil : (form : Form) → text form [] ≡ []
+text-nil forms.Lines = refl
+text-nil forms.Nothing = refl
 
-stops_in_lines : (new : State) (s : List ℕ) (es : List (ℕ × Event)) (bytes : List ℕ) (before after : Output) → Fails with_line StopsWithinLine new s es bytes before after → StopsInLines new s es bytes before after
-stops_in_lines new s es bytes before after d = record {
-  more = d.more;
-  at = d.at;
-  event = d.event;
-  stands = d.stands;
-  written = subst (λ (o : Output). StopsWithin o (line d.at d.event) after) (fold-lines before d.more) d.fault;
-}
+text-cons : (form : Form) (at : ℕ) (e : Event) (es : List (ℕ × Event)) → text_of form at e ++ text (form_after form e) es ≡ text form ((at, e) ∷ es)
+text-cons forms.Lines at e es = refl
+text-cons forms.Nothing at e es = refl
 
-abbrev renders : (old new : State) (xs : List ℕ) (before after : Output) → Feeds with_line old new xs before after → Renders old new xs before after
-renders old new xs before after d = record {
-  bytes = d.bytes;
-  rest = d.rest;
-  parts = d.parts;
-  lines = λ s es stands. writes_lines new s es d.bytes before after (d.drained s es stands);
-}
+-- the text of events, one after the other, is their text
+pub fold-text : (o : Output) (form : Form) (es : List (ℕ × Event)) → fold_events with_event (rendering o form) es ≡ rendering (with_text o (text form es)) (form_behind form es)
+fold-text o form [] = ap (λ g. rendering (output g o.failures) form) (sym (known_nothing o.given) ∙ ap (append_known o.given) (sym (text-nil form)))
+fold-text o form (e ∷ es) =
+    fold-text (with_text o (text_of form e.0 e.1)) (form_after form e.1) es
+    ∙ ap (λ g. rendering (output g o.failures) (form_behind form (e ∷ es))) (known_then o.given (text_of form e.0 e.1) (text (form_after form e.1) es) ∙ ap (append_known o.given) (text-cons form e.0 e.1 es))
 
-renders_part : (old new : State) (xs : List ℕ) (before after : Output) → FeedsInto with_line StopsWithinLine old new xs before after → RendersPart old new xs before after
-renders_part old new xs before after d = record {
-  bytes = d.bytes;
-  rest = d.rest;
-  parts = d.parts;
-  lines = λ s es stands. stops_in_lines new s es d.bytes before after (d.failed s es stands);
-}
+module _ (new : State) (s : List ℕ) (es : List (ℕ × Event)) (bytes : List ℕ) (before after : Rendering) where
+  abbrev writes_events : Drains with_event new s es bytes before after → WritesEvents before.form new s es bytes before.output after.output
+  writes_events d = record { more = d.more; stands = d.stands; written = ap (λ r. r.output) (d.got ∙ fold-text before.output before.form d.more) }
 
-pub renders_to : (turns : ℕ) (o : Outcome) (old new : State) (xs : List ℕ) (left : Option (List ℕ)) (before after : Output) → RunsTo with_line StopsWithinLine turns o old new xs left before after → RendersTo turns o old new xs left before after
-renders_to turns (outcome.Finished end) old new xs left before after ran = (renders old new xs before after ran.0, ran.1, ran.2)
-renders_to turns outcome.ReadFault old new xs left before after ran = (renders old new xs before after ran.0, ran.1)
-renders_to turns outcome.Turns old new xs left before after ran = (renders old new xs before after ran.0, ran.1, ran.2)
+  stops_in_events : Fails with_event StopsWithinEvent new s es bytes before after → StopsInEvents before.form new s es bytes before.output after.output
+  stops_in_events d = record {
+    more = d.more;
+    at = d.at;
+    event = d.event;
+    stands = d.stands;
+    written = subst (λ (r : Rendering). StopsWithin r.output (text_of r.form d.at d.event) after.output) (fold-text before.output before.form d.more) d.fault;
+  }
+
+module _ (old new : State) (xs : List ℕ) (before after : Rendering) where
+  abbrev renders : Feeds with_event old new xs before after → Renders before.form old new xs before.output after.output
+  renders d = record {
+    bytes = d.bytes;
+    rest = d.rest;
+    parts = d.parts;
+    events = λ s es stands. writes_events new s es d.bytes before after (d.drained s es stands);
+  }
+
+  renders_part : FeedsInto with_event StopsWithinEvent old new xs before after → RendersPart before.form old new xs before.output after.output
+  renders_part d = record {
+    bytes = d.bytes;
+    rest = d.rest;
+    parts = d.parts;
+    events = λ s es stands. stops_in_events new s es d.bytes before after (d.failed s es stands);
+  }
+
+pub renders_to : (turns : ℕ) (o : Outcome) (old new : State) (xs : List ℕ) (left : Option (List ℕ)) (before after : Rendering) → RunsTo with_event StopsWithinEvent turns o old new xs left before after → RendersTo before.form turns o old new xs left before.output after.output
+renders_to turns (outcome.Finished end) old new xs left before after ran = (renders old new xs before after ran.0, ran.1, ran.2, ran.3)
+renders_to turns outcome.ReadFault old new xs left before after ran = (renders old new xs before after ran.0, ran.1, ran.2)
+renders_to turns outcome.Turns old new xs left before after ran = (renders old new xs before after ran.0, ran.1, ran.2, ran.3)
 renders_to turns outcome.SinkFault old new xs left before after ran = renders_part old new xs before after ran

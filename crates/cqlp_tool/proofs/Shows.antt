@@ -1,80 +1,138 @@
 -- Rendering through a buffer.
-use Rattle.std.proofs.Common.{◌≡◌, ◌≢◌, ℕ, true, List, [], Option, Some, None, IsSome, refl, sym, ap, ◌∙◌, subst}
+use Rattle.std.proofs.Common.{◌≡◌, ◌≢◌, ℕ, ◌+◌, true, List, [], Option, Some, None, IsSome, refl, sym, ap, inl, inr, ◌∙◌, subst}
 use Rattle.std.specs.Io.KnownBytes.{Keeps, append_known}
 use Rattle.cqlp_note.specs.Streams.{counted}
 use Rattle.cqlp_decode.specs.declared.running.Outcome.{Outcome}
 use Rattle.cqlp_decode.specs.declared.running.Outcome.TheVariants as outcome
 use Rattle.cqlp_decode.specs.Standing.{State}
 use Rattle.cqlp_decode.specs.Streams.{After}
+use Rattle.cqlp_decode.specs.Draining.{RunsTo}
+use Rattle.cqlp_tool.specs.declared.form.Form.{Form}
+use Rattle.cqlp_tool.specs.Forms.{text}
 use Rattle.cqlp_tool.specs.Written.{Written, bare, taken}
-use Rattle.cqlp_tool.specs.Lines.{lines}
-use Rattle.cqlp_tool.specs.Rendering.{Output, output, Renders, RendersTo}
-use Rattle.cqlp_tool.specs.Showing.{RendersOrFails, HasFailed, ShowsTo, ending_of}
+use Rattle.cqlp_tool.specs.Rendering.{Output, output, with_text, Rendering, with_event, StopsWithinEvent, HasFailed, Renders, RendersTo}
+use Rattle.cqlp_tool.specs.Showing.{RendersOrFails, ShowsTo, Concludes, ConcludesCheck, ending_of}
+use Rattle.cqlp_tool.specs.declared.ending.Ending.{Ending}
+use Rattle.cqlp_tool.specs.declared.ending.Ending.TheVariants as ending
+use Rattle.cqlp_tool.specs.Endings.{ending_line, status_of}
+use Rattle.cqlp_decode.specs.declared.event.Finish.{Finish}
 use Rattle.cqlp_note.specs.declared.limits.Limits.{Limits}
 use Rattle.cqlp_note.specs.Limits.{rules_of}
-use Rattle.cqlp_tool.proofs.Renders.{known_nothing}
+use Rattle.cqlp_tool.proofs.Renders.{known_nothing, known_still, renders_to}
+use Rattle.cqlp_tool.proofs.Turns.{runs_on}
 
--- a run that ends without a target's fault wrote lines
-all_lines : (turns : ℕ) (o : Outcome) (old new : State) (xs : List ℕ) (left : Option (List ℕ)) (before after : Output) → o ≢ outcome.SinkFault → RendersTo turns o old new xs left before after → Renders old new xs before after
-all_lines turns (outcome.Finished f) old new xs left before after sound ran = ran.0
-all_lines turns outcome.ReadFault old new xs left before after sound ran = ran.0
-all_lines turns outcome.Turns old new xs left before after sound ran = ran.0
-all_lines turns outcome.SinkFault old new xs left before after sound ran = absurd (sound refl)
+-- known bytes that are kept are the same
+kept : (x y : Option (List ℕ)) → IsSome x → Keeps x y → x ≡ y
+kept None y known keeps = cc
+kept (Some t) None known keeps = absurd keeps
+kept (Some t) (Some u) known keeps = ap (λ k. Some k) (sym keeps)
 
-pub known_still : (given : Option (List ℕ)) (text : List ℕ) → IsSome given → IsSome (append_known given text)
-known_still None text known = known
-known_still (Some t) text known = refl
+-- ---- runs with flushes between them
+
+module _ (old new : State) (xs : List ℕ) (left : Option (List ℕ)) (before after : Rendering) (fresh : After old [] []) where
+  -- what a run that stopped after its turns has written
+  module _ (turns : ℕ) (ran : RunsTo with_event StopsWithinEvent turns outcome.Turns old new xs left before after) where
+    pub tells_on : IsSome before.output.given → IsSome after.output.given
+    tells_on known =
+        let wrote = (renders_to turns outcome.Turns old new xs left before after ran).0.events [] [] fresh in
+        subst (λ (g : Option (List ℕ)). IsSome g) (sym (ap (λ o. o.given) wrote.written)) (known_still before.output.given (text before.form wrote.more) known)
+
+    pub failed_between : (end : Output) → HasFailed after.output end → HasFailed before.output end
+    failed_between end failed =
+        let wrote = (renders_to turns outcome.Turns old new xs left before after ran).0.events [] [] fresh in
+        failed ∙ ap (λ o. counted true o.failures) wrote.written
+
+  -- a run of some turns, as one of at most so many
+  pub renders_or_fails : (turns : ℕ) (o : Outcome) → RunsTo with_event StopsWithinEvent turns o old new xs left before after → RendersOrFails before.form turns o old new xs left before.output after.output
+  renders_or_fails turns (outcome.Finished f) ran = renders_to turns (outcome.Finished f) old new xs left before after ran
+  renders_or_fails turns outcome.ReadFault ran = renders_to turns outcome.ReadFault old new xs left before after ran
+  renders_or_fails turns outcome.Turns ran = renders_to turns outcome.Turns old new xs left before after ran
+  renders_or_fails turns outcome.SinkFault ran = ((renders_to turns outcome.SinkFault old new xs left before after ran).events [] [] fresh).written.failures
+
+  pub ends_early : (turn turns : ℕ) (o : Outcome) → o ≢ outcome.Turns → RunsTo with_event StopsWithinEvent turn o old new xs left before after → RendersOrFails before.form turns o old new xs left before.output after.output
+  ends_early turn turns (outcome.Finished f) early ran = renders_or_fails turns (outcome.Finished f) ran
+  ends_early turn turns outcome.ReadFault early ran = renders_or_fails turns outcome.ReadFault ran
+  ends_early turn turns outcome.Turns early ran = absurd (early refl)
+  ends_early turn turns outcome.SinkFault early ran = renders_or_fails turns outcome.SinkFault ran
+
+-- one more read, behind a flush
+pub goes_on : (old mid new : State) (xs : List ℕ) (left left' : Option (List ℕ)) (first before flushed after : Rendering) (turn : ℕ) (o : Outcome) → After old [] [] → IsSome first.output.given → RunsTo with_event StopsWithinEvent turn outcome.Turns old mid xs left first before
+    → (IsSome before.output.given → flushed ≡ before) → ((rest : List ℕ) → left ≡ Some rest → IsSome flushed.output.given → RunsTo with_event StopsWithinEvent 1 o mid new rest left' flushed after)
+    → RunsTo with_event StopsWithinEvent (turn + 1) o old new xs left' first after
+goes_on old mid new xs left left' first before flushed after turn o fresh known ran same next =
+    let told = tells_on old mid xs left first before fresh turn ran known in
+    let is : flushed ≡ before = same told in
+    let more = next ran.0.rest ran.1 (subst (λ (r : Rendering). IsSome r.output.given) (sym is) told) in
+    runs_on with_event old mid new xs first before after ran.0 StopsWithinEvent turn 1 o left' ran.2 (subst (λ (r : Rendering). RunsTo with_event StopsWithinEvent 1 o mid new ran.0.rest left' r after) is more)
+
+-- ---- what goes to the output behind the buffer
+
+-- where no target failed, all events were written
+all_events : (form : Form) (turns : ℕ) (o : Outcome) (old new : State) (xs : List ℕ) (left : Option (List ℕ)) (before after : Output) → o ≢ outcome.SinkFault → RendersOrFails form turns o old new xs left before after → Renders form old new xs before after
+all_events form turns (outcome.Finished f) old new xs left before after sound ran = ran.0
+all_events form turns outcome.ReadFault old new xs left before after sound ran = ran.0
+all_events form turns outcome.Turns old new xs left before after sound ran = ran.0
+all_events form turns outcome.SinkFault old new xs left before after sound ran = absurd (sound refl)
 
 -- nothing is left in a buffer that was flushed
 flushed : (b c : Written) → IsSome (taken b) → Keeps (taken b) (taken c) → c.waiting ≡ [] → taken b ≡ c.given
-flushed b c known keeps none =
-    let all : taken c ≡ c.given = ap (append_known c.given) none ∙ known_nothing c.given in
-    kept (taken b) (taken c) known keeps ∙ all
-  where
-    kept : (x y : Option (List ℕ)) → IsSome x → Keeps x y → x ≡ y
-    kept None y known keeps = cc
-    kept (Some t) None known keeps = absurd keeps
-    kept (Some t) (Some u) known keeps = ap (λ k. Some k) (sym keeps)
+flushed b c known keeps none = kept (taken b) (taken c) known keeps ∙ ap (append_known c.given) none ∙ known_nothing c.given
 
-or_fails : (turns : ℕ) (o : Outcome) (old new : State) (xs : List ℕ) (left : Option (List ℕ)) (before after : Output) → o ≢ outcome.SinkFault → RendersTo turns o old new xs left before after → RendersOrFails turns o old new xs left before after
-or_fails turns (outcome.Finished f) old new xs left before after sound ran = ran
-or_fails turns outcome.ReadFault old new xs left before after sound ran = ran
-or_fails turns outcome.Turns old new xs left before after sound ran = ran
-or_fails turns outcome.SinkFault old new xs left before after sound ran = absurd (sound refl)
-
-module _ (turns : ℕ) (o : Outcome) (old new : State) (xs : List ℕ) (left given : Option (List ℕ)) (f : ℕ) (a b : Written) (starts : a ≡ bare given f) (fresh : After old [] []) (ran : RendersTo turns o old new xs left (output (taken a) a.failures) (output (taken b) b.failures)) where
+module _ (form : Form) (turns : ℕ) (o : Outcome) (old new : State) (xs : List ℕ) (left given : Option (List ℕ)) (f : ℕ) (a b : Written) (starts : a ≡ bare given f) (fresh : After old [] []) (ran : RendersOrFails form turns o old new xs left (output (taken a) a.failures) (output (taken b) b.failures)) where
   -- what the buffer was given at first
   first_given : output (taken a) a.failures ≡ output given f
   first_given = ap (λ w. output (taken w) w.failures) starts ∙ ap (λ g. output g f) (known_nothing given)
 
-  ran_from : RendersTo turns o old new xs left (output given f) (output (taken b) b.failures)
-  ran_from = subst (λ (x : Output). RendersTo turns o old new xs left x (output (taken b) b.failures)) first_given ran
+  ran_from : RendersOrFails form turns o old new xs left (output given f) (output (taken b) b.failures)
+  ran_from = subst (λ (x : Output). RendersOrFails form turns o old new xs left x (output (taken b) b.failures)) first_given ran
 
   -- the target failed where the run says so
   pub failed_in : o ≡ outcome.SinkFault → HasFailed (output given f) (output b.given b.failures)
-  failed_in is = ((subst (λ (p : Outcome). RendersTo turns p old new xs left (output given f) (output (taken b) b.failures)) is ran_from).lines [] [] fresh).written.failures
+  failed_in is = subst (λ (p : Outcome). RendersOrFails form turns p old new xs left (output given f) (output (taken b) b.failures)) is ran_from
 
   same_failures : o ≢ outcome.SinkFault → b.failures ≡ f
-  same_failures sound = ap (λ x. x.failures) ((all_lines turns o old new xs left _ _ sound ran_from).lines [] [] fresh).written
+  same_failures sound = ap (λ x. x.failures) ((all_events form turns o old new xs left _ _ sound ran_from).events [] [] fresh).written
 
   -- the target failed as the buffer was flushed
   pub failed_later : (c : Written) → o ≢ outcome.SinkFault → c.failures ≡ counted true b.failures → HasFailed (output given f) (output c.given c.failures)
   failed_later c sound failed = failed ∙ ap (counted true) (same_failures sound)
 
   -- all was passed on
-  pub passed_through : (c : Written) → IsSome given → o ≢ outcome.SinkFault → Keeps (taken b) (taken c) → c.waiting ≡ [] → c.failures ≡ b.failures → RendersOrFails turns o old new xs left (output given f) (output c.given c.failures)
+  pub passed_through : (c : Written) → IsSome given → o ≢ outcome.SinkFault → Keeps (taken b) (taken c) → c.waiting ≡ [] → c.failures ≡ b.failures → RendersOrFails form turns o old new xs left (output given f) (output c.given c.failures)
   passed_through c known sound keeps none same =
-      let wrote = ((all_lines turns o old new xs left _ _ sound ran_from).lines [] [] fresh) in
-      let some : IsSome (taken b) = subst (λ (g : Option (List ℕ)). IsSome g) (sym (ap (λ x. x.given) wrote.written)) (known_still given (lines wrote.more) known) in
+      let wrote = ((all_events form turns o old new xs left _ _ sound ran_from).events [] [] fresh) in
+      let some : IsSome (taken b) = subst (λ (g : Option (List ℕ)). IsSome g) (sym (ap (λ x. x.given) wrote.written)) (known_still given (text form wrote.more) known) in
       let after : output (taken b) b.failures ≡ output c.given c.failures = ap (λ g. output g b.failures) (flushed b c some keeps none) ∙ ap (λ n. output c.given n) (sym same) in
-      or_fails turns o old new xs left _ _ sound (subst (λ (x : Output). RendersTo turns o old new xs left (output given f) x) after ran_from)
+      subst (λ (x : Output). RendersOrFails form turns o old new xs left (output given f) x) after ran_from
 
 -- the buffer tells what it was given
 pub tells_at_first : (a : Written) (given : Option (List ℕ)) (f : ℕ) → a ≡ bare given f → IsSome given → IsSome (taken a)
 tells_at_first a given f starts known = subst (λ (w : Written). IsSome (taken w)) (sym starts) (known_still given [] known)
 
-pub shows_by : (limits : Limits) (turns : ℕ) (o : Outcome) (old new : State) (xs : List ℕ) (left : Option (List ℕ)) (before after : Output) → After old [] [] → old.rules ≡ rules_of limits → RendersOrFails turns o old new xs left before after → ShowsTo limits turns (ending_of o) xs left before after
-shows_by limits turns (outcome.Finished f) old new xs left before after fresh rules ran = record { old = old; new = new; fresh = fresh; rules = rules; renders = ran }
-shows_by limits turns outcome.ReadFault old new xs left before after fresh rules ran = record { old = old; new = new; fresh = fresh; rules = rules; renders = ran }
-shows_by limits turns outcome.Turns old new xs left before after fresh rules ran = record { old = old; new = new; fresh = fresh; rules = rules; renders = ran }
-shows_by limits turns outcome.SinkFault old new xs left before after fresh rules ran = ran
+pub shows_by : (form : Form) (limits : Limits) (turns : ℕ) (o : Outcome) (old new : State) (xs : List ℕ) (left : Option (List ℕ)) (before after : Output) → After old [] [] → old.rules ≡ rules_of limits → RendersOrFails form turns o old new xs left before after → ShowsTo form limits turns (ending_of o) xs left before after
+shows_by form limits turns (outcome.Finished f) old new xs left before after fresh rules ran = record { old = old; new = new; fresh = fresh; rules = rules; renders = ran }
+shows_by form limits turns outcome.ReadFault old new xs left before after fresh rules ran = record { old = old; new = new; fresh = fresh; rules = rules; renders = ran }
+shows_by form limits turns outcome.Turns old new xs left before after fresh rules ran = record { old = old; new = new; fresh = fresh; rules = rules; renders = ran }
+shows_by form limits turns outcome.SinkFault old new xs left before after fresh rules ran = ran
+
+-- ---- how a check ends
+
+-- the output of a stream that was read tells what it got
+pub tells_read : (form : Form) (limits : Limits) (turns : ℕ) (f : Finish) (xs : List ℕ) (left : Option (List ℕ)) (before after : Output) → IsSome before.given → ShowsTo form limits turns (ending.Finished f) xs left before after → IsSome after.given
+tells_read form limits turns f xs left before after known shows =
+    let wrote = shows.renders.0.events [] [] shows.fresh in
+    subst (λ (g : Option (List ℕ)). IsSome g) (sym (ap (λ o. o.given) wrote.written)) (known_still before.given (text form wrote.more) known)
+
+module _ (e : Ending) (f : Finish) (is : e ≡ ending.Finished f) (out out' err : Output) (status : ℕ) where
+  pub checks_verdict : status ≡ status_of e → out' ≡ with_text out (ending_line e) → ConcludesCheck e out err status out' err
+  checks_verdict same wrote = subst (λ (x : Ending). ConcludesCheck x out err status out' err) (sym is) (inl (same ∙ ap status_of is, wrote ∙ ap (λ x. with_text out (ending_line x)) is, refl))
+
+  pub checks_failed : (err' : Output) → HasFailed out out' → Concludes ending.WriteFault err status err' → ConcludesCheck e out err status out' err'
+  checks_failed err' failed ends = subst (λ (x : Ending). ConcludesCheck x out err status out' err') (sym is) (inr (failed, ends))
+
+pub checks_fault : (e : Ending) → ((f : Finish) → e ≡ ending.Finished f → ⊥) → (out err : Output) (status : ℕ) (err' : Output) → Concludes e err status err' → ConcludesCheck e out err status out err'
+checks_fault (ending.Finished f) fault out err status err' ends = absurd (fault f refl)
+checks_fault ending.ReadFault fault out err status err' ends = (refl, ends)
+checks_fault ending.WriteFault fault out err status err' ends = (refl, ends)
+checks_fault ending.NoMemory fault out err status err' ends = (refl, ends)
+checks_fault ending.TooManyTurns fault out err status err' ends = (refl, ends)

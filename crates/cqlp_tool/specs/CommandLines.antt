@@ -3,8 +3,8 @@ use Rattle.std.specs.Prelude.{◌≡◌, ℕ, true, false, List, [], ◌∷◌, 
 use Rattle.cqlp_note.specs.declared.limits.Limits.{Limits}
 use Rattle.cqlp_tool.specs.declared.ending.Ending.TheVariants as ending
 use Rattle.cqlp_tool.specs.Lines.{spaced}
-use Rattle.cqlp_tool.specs.Rendering.{Output, with_text, StopsWithin}
-use Rattle.cqlp_tool.specs.Showing.{Concludes, HasFailed}
+use Rattle.cqlp_tool.specs.Rendering.{Output, with_text, HasFailed, StopsWithin}
+use Rattle.cqlp_tool.specs.Showing.{Concludes}
 
 -- the limits where none are given
 abbrev pub default_limits : Limits

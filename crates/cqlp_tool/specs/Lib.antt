@@ -1,6 +1,7 @@
 pub mod CellText
 pub mod CommandLines
 pub mod Endings
+pub mod Forms
 pub mod Lines
 pub mod Names
 pub mod PageText

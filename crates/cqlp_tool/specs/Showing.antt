@@ -9,8 +9,9 @@ use Rattle.cqlp_decode.specs.Standing.{State}
 use Rattle.cqlp_decode.specs.Streams.{After}
 use Rattle.cqlp_tool.specs.declared.ending.Ending.{Ending}
 use Rattle.cqlp_tool.specs.declared.ending.Ending.TheVariants as ending
-use Rattle.cqlp_tool.specs.Endings.{ending_line, status_of}
-use Rattle.cqlp_tool.specs.Rendering.{Output, with_text, RendersTo}
+use Rattle.cqlp_tool.specs.Endings.{ending_line, finish_status, status_of}
+use Rattle.cqlp_tool.specs.declared.form.Form.{Form}
+use Rattle.cqlp_tool.specs.Rendering.{Output, with_text, HasFailed, RendersTo}
 
 -- how the command ends where a run does
 abbrev pub ending_of : Outcome → Ending
@@ -20,31 +21,27 @@ ending_of outcome.SinkFault = ending.WriteFault
 ending_of outcome.Turns = ending.TooManyTurns
 
 -- A decoder that was just made with these limits rendered the bytes xs of a reader.
-pub record RendersNew (limits : Limits) (turns : ℕ) (o : Outcome) (xs : List ℕ) (left : Option (List ℕ)) (before after : Output) : Type 0 where
+pub record RendersNew (form : Form) (limits : Limits) (turns : ℕ) (o : Outcome) (xs : List ℕ) (left : Option (List ℕ)) (before after : Output) : Type 0 where
   pub old : State
   pub new : State
   pub fresh : After old [] []
   pub rules : old.rules ≡ rules_of limits
-  pub renders : RendersTo turns o old new xs left before after
-
--- One call of the target failed.
-abbrev pub HasFailed : (before after : Output) → Type 0
-HasFailed before after = after.failures ≡ counted true before.failures
+  pub renders : RendersTo form turns o old new xs left before after
 
 -- What a decoder rendered; or a target's fault.
-abbrev pub RendersOrFails : (turns : ℕ) → Outcome → (old new : State) → (xs : List ℕ) → Option (List ℕ) → (before after : Output) → Type 0
-RendersOrFails turns (outcome.Finished f) old new xs left before after = RendersTo turns (outcome.Finished f) old new xs left before after
-RendersOrFails turns outcome.ReadFault old new xs left before after = RendersTo turns outcome.ReadFault old new xs left before after
-RendersOrFails turns outcome.Turns old new xs left before after = RendersTo turns outcome.Turns old new xs left before after
-RendersOrFails turns outcome.SinkFault old new xs left before after = HasFailed before after
+abbrev pub RendersOrFails : Form → (turns : ℕ) → Outcome → (old new : State) → (xs : List ℕ) → Option (List ℕ) → (before after : Output) → Type 0
+RendersOrFails form turns (outcome.Finished f) old new xs left before after = RendersTo form turns (outcome.Finished f) old new xs left before after
+RendersOrFails form turns outcome.ReadFault old new xs left before after = RendersTo form turns outcome.ReadFault old new xs left before after
+RendersOrFails form turns outcome.Turns old new xs left before after = RendersTo form turns outcome.Turns old new xs left before after
+RendersOrFails form turns outcome.SinkFault old new xs left before after = HasFailed before after
 
 -- What was written of the bytes xs of a reader, by how the command ends.
-abbrev pub ShowsTo : Limits → (turns : ℕ) → Ending → (xs : List ℕ) → Option (List ℕ) → (before after : Output) → Type 0
-ShowsTo limits turns (ending.Finished f) xs left before after = RendersNew limits turns (outcome.Finished f) xs left before after
-ShowsTo limits turns ending.ReadFault xs left before after = RendersNew limits turns outcome.ReadFault xs left before after
-ShowsTo limits turns ending.TooManyTurns xs left before after = RendersNew limits turns outcome.Turns xs left before after
-ShowsTo limits turns ending.WriteFault xs left before after = HasFailed before after
-ShowsTo limits turns ending.NoMemory xs left before after = after ≡ before
+abbrev pub ShowsTo : Form → Limits → (turns : ℕ) → Ending → (xs : List ℕ) → Option (List ℕ) → (before after : Output) → Type 0
+ShowsTo form limits turns (ending.Finished f) xs left before after = RendersNew form limits turns (outcome.Finished f) xs left before after
+ShowsTo form limits turns ending.ReadFault xs left before after = RendersNew form limits turns outcome.ReadFault xs left before after
+ShowsTo form limits turns ending.TooManyTurns xs left before after = RendersNew form limits turns outcome.Turns xs left before after
+ShowsTo form limits turns ending.WriteFault xs left before after = HasFailed before after
+ShowsTo form limits turns ending.NoMemory xs left before after = after ≡ before
 
 -- A read fault that is told is one more failed call of the reader; and none failed where the stream was read.
 abbrev pub CountsReads : Ending → (old new : ℕ) → Type 0
@@ -56,3 +53,10 @@ CountsReads e old new = new ≡ old
 abbrev pub Concludes : Ending → (before : Output) → (status : ℕ) → (after : Output) → Type 0
 Concludes e before status after =
     ((status ≡ status_of e) × (after ≡ with_text before (ending_line e))) ⊎ ((status ≡ 3) × HasFailed before after)
+
+-- The verdict line of a stream that was read went to the output. The fault line of any other ending, also of an output
+-- that failed there, went to the error output.
+abbrev pub ConcludesCheck : Ending → (out err : Output) → (status : ℕ) → (out' err' : Output) → Type 0
+ConcludesCheck (ending.Finished f) out err status out' err' =
+    ((status ≡ finish_status f) × (out' ≡ with_text out (ending_line (ending.Finished f))) × (err' ≡ err)) ⊎ (HasFailed out out' × Concludes ending.WriteFault err status err')
+ConcludesCheck e out err status out' err' = (out' ≡ out) × Concludes e err status err'

@@ -8,6 +8,7 @@ ghost use Rattle.cqlp_tool.specs.Endings.{IsStatusOfStream};
 ghost use Rattle.cqlp_tool.specs.Rendering.{WritesText, output, with_text};
 ghost use Rattle.cqlp_tool.specs.Showing.{ShowsTo, CountsReads, Concludes};
 ghost use Rattle.cqlp_tool.specs.declared.ending.Ending.{Ending};
+ghost use Rattle.cqlp_tool.specs.declared.form.Form.TheVariants as forms;
 
 use crate::ending::Ending;
 use crate::line_writer::{LineWriter, send};
@@ -40,7 +41,7 @@ pub fn command<R: Files + AllocGlobal, I: Source, O: Target, E: Target>(
 ) -> (u8, O, E)
     ensures no_words { words.now ≡ [] → (xs : List ℕ) → I.left input.old ≡ Some xs → IsSome (O.contents out) → IsSome (E.contents err) →
         (ending : Ending)
-        × ShowsTo default_limits TURNS ending xs (I.left input.new)
+        × ShowsTo forms.Lines default_limits TURNS ending xs (I.left input.new)
         (output (O.contents out) (O.failures out)) (output (O.contents result.1) (O.failures result.1))
         × CountsReads ending (I.failures input.old) (I.failures input.new)
         × Concludes ending (output (E.contents err) (E.failures err)) result.0 (output (E.contents result.2) (E.failures result.2)) }
@@ -70,7 +71,7 @@ pub(crate) fn command_within<
 ) -> (u8, O, E)
     ensures no_words { words.now ≡ [] → (xs : List ℕ) → I.left input.old ≡ Some xs → IsSome (O.contents out) → IsSome (E.contents err) →
         (ending : Ending)
-        × ShowsTo default_limits TURNS ending xs (I.left input.new)
+        × ShowsTo forms.Lines default_limits TURNS ending xs (I.left input.new)
         (output (O.contents out) (O.failures out)) (output (O.contents result.1) (O.failures result.1))
         × CountsReads ending (I.failures input.old) (I.failures input.new)
         × Concludes ending (output (E.contents err) (E.failures err)) result.0 (output (E.contents result.2) (E.failures result.2)) }

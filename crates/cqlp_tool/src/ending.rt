@@ -1,6 +1,8 @@
 //! How a command ends.
 
-ghost use Rattle.std.specs.Prelude.{◌≡◌};
+ghost use Rattle.std.specs.Prelude.{◌≡◌, IsSome};
+ghost use Rattle.cqlp_tool.specs.Endings.{ending_line as line_of};
+ghost use Rattle.cqlp_tool.specs.Rendering.{WritesText, output};
 
 use crate::line_writer::LineWriter;
 use crate::names::reason_name;
@@ -40,6 +42,16 @@ impl Ending {
             Ending::TooManyTurns => 3,
         }
     }
+}
+
+/// Appends the verdict line or the fault line of an ending. A fault is the writer's own.
+pub fn ending_line<W: Target>(ending: Ending, w: &mut W) -> Result<(), SinkFault>
+    ensures { IsSome (W.contents w.old) → WritesText (output (W.contents w.old) (W.failures w.old)) (line_of ending) result (output (W.contents w.new) (W.failures w.new)) }
+{
+    let mut writer = LineWriter::new(w);
+    let written = writer.put_ending(ending);
+    let _ = writer.into_inner();
+    written
 }
 
 impl<W: Target> LineWriter<'_, W> {

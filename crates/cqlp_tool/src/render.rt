@@ -1,68 +1,89 @@
-//! Streams as lines.
+//! Streams as text.
 
-ghost use Rattle.std.specs.Prelude.{◌≡◌, List, ℕ, Some, IsSome};
+ghost use Rattle.std.specs.Prelude.{◌≡◌, List, ℕ, Some, IsSome, []};
 ghost use Rattle.cqlp_decode.specs.Draining.{Counts};
-ghost use Rattle.cqlp_decode.specs.Streams.{state};
+ghost use Rattle.cqlp_decode.specs.Streams.{After, state};
 
+use crate::buffered::Buffered;
 use crate::events::event_line;
+use crate::form::Form;
 use cqlp_decode::{Decoder, Event, Outcome, Sink, SinkFault, run};
-use cqlp_note::{Source, Target};
+use cqlp_note::{IoFault, Source, Target};
 use std::alloc::Allocator;
 use std::marker::Model;
 
-/// Writes the line of each event to a target. No part of a line waits between two events.
+/// Writes the text of each event to a target. No part of a text waits between two events.
 #[derive(Drop)]
-pub struct EventSink<W: Target> {
+pub(crate) struct TextSink<W: Target> {
     target: W,
+    form: Form,
 }
 
-impl<W: Target> Model for EventSink<W> {
+impl<W: Target> Model for TextSink<W> {
     ghost use Rattle.std.specs.Prelude.{◌≡◌, []};
-    ghost use Rattle.cqlp_tool.specs.Rendering.{Output, output};
+    ghost use Rattle.cqlp_tool.specs.Rendering.{Rendering, output, rendering};
 
-    ghost Value = { Output };
+    ghost Value = { Rendering };
 
-    ghost view = { λ s. output (W.contents s.target) (W.failures s.target) };
+    ghost view = { λ s. rendering (output (W.contents s.target) (W.failures s.target)) s.form };
 }
 
-impl<W: Target> EventSink<W> {
-    ghost use Rattle.cqlp_tool.specs.Rendering.{output};
+impl<W: Target> TextSink<W> {
+    ghost use Rattle.cqlp_tool.specs.Rendering.{output, rendering};
 
-    /// Over a target.
-    pub fn new(target: W) -> Self
-        ensures { result ≡ output (W.contents target) (W.failures target) }
+    /// Over a target, in a form.
+    pub fn new(target: W, form: Form) -> Self
+        ensures { result ≡ rendering (output (W.contents target) (W.failures target)) form }
     {
-        EventSink { target }
+        TextSink { target, form }
     }
 
     /// The target.
     pub fn into_inner(self) -> W
-        ensures { output (W.contents result) (W.failures result) ≡ self }
+        ensures { output (W.contents result) (W.failures result) ≡ self.output }
     {
-        let EventSink { target } = self;
+        let TextSink { target, form: _ } = self;
         target
     }
 }
 
-impl<W: Target> Sink for EventSink<W> {
-    ghost use Rattle.cqlp_tool.specs.Rendering.{Output, with_line, StopsWithinLine};
+impl<W: Target, A: Allocator> TextSink<Buffered<W, A>> {
+    ghost use Rattle.std.specs.Prelude.{OnOk, OnErr};
+    ghost use Rattle.cqlp_tool.specs.Rendering.{HasFailed};
 
-    ghost View = { Output };
+    /// Passes on all text that waits.
+    pub fn flush(&mut self) -> Result<(), IoFault>
+        ensures ok { IsSome self.old.output.given → OnOk result (self.new ≡ self.old) }
+        ensures err { OnErr result (HasFailed self.old.output self.new.output) }
+    {
+        self.target.flush()
+    }
+}
+
+impl<W: Target> Sink for TextSink<W> {
+    ghost use Rattle.cqlp_tool.specs.Rendering.{Rendering, with_event, StopsWithinEvent};
+
+    ghost View = { Rendering };
 
     ghost view = { λ s. s };
 
-    ghost tells = { λ s. IsSome s.given };
+    ghost tells = { λ s. IsSome s.output.given };
 
-    ghost after = { with_line };
+    ghost after = { with_event };
 
-    ghost faulted = { StopsWithinLine };
+    ghost faulted = { StopsWithinEvent };
 
     fn take(&mut self, at: u64, event: &Event<'_>) -> Result<(), SinkFault> {
-        event_line(at, event, &mut self.target)
+        match self.form {
+            Form::Lines => event_line(at, event, &mut self.target),
+            Form::Nothing => Ok(()),
+        }
     }
 }
 
 ghost use Rattle.cqlp_tool.specs.Rendering.{RendersTo, output};
+ghost use Rattle.cqlp_tool.specs.Showing.{RendersOrFails};
+ghost use Rattle.cqlp_tool.specs.declared.form.Form.TheVariants as forms;
 
 /// Writes the lines of all events of a reader's bytes, from at most `turns` reads. The events of bytes that the decoder
 /// was given before come first. A fault of the writer is `Outcome::SinkFault`.
@@ -72,10 +93,34 @@ pub fn render_events<R: Source, W: Target, A: Allocator>(
     w: W,
     turns: u64,
 ) -> (Outcome, W)
-    ensures lines { (xs : List ℕ) → R.left reader.old ≡ Some xs → IsSome (W.contents w) → RendersTo turns result.0 (state decoder.old) (state decoder.new) xs (R.left reader.new) (output (W.contents w) (W.failures w)) (output (W.contents result.1) (W.failures result.1)) }
+    ensures lines { (xs : List ℕ) → R.left reader.old ≡ Some xs → IsSome (W.contents w) → RendersTo forms.Lines turns result.0 (state decoder.old) (state decoder.new) xs (R.left reader.new) (output (W.contents w) (W.failures w)) (output (W.contents result.1) (W.failures result.1)) }
     ensures failures { Counts result.0 (R.failures reader.old) (R.failures reader.new) }
 {
-    let mut sink = EventSink::new(w);
+    let mut sink = TextSink::new(w, Form::Lines);
     let outcome = run(decoder, reader, &mut sink, turns);
     (outcome, sink.into_inner())
+}
+
+/// Hands all events of a reader's bytes to a sink over a buffer, from at most `turns` reads, as `run` does. Before each
+/// read, the text of the events so far is passed on.
+pub(crate) fn run_flushing<R: Source, W: Target, A: Allocator, B: Allocator>(
+    decoder: &mut Decoder<A>,
+    reader: &mut R,
+    sink: &mut TextSink<Buffered<W, B>>,
+    turns: u64,
+) -> Outcome
+    ensures renders { (xs : List ℕ) → R.left reader.old ≡ Some xs → IsSome sink.old.output.given → After (state decoder.old) [] [] → RendersOrFails sink.old.form turns result (state decoder.old) (state decoder.new) xs (R.left reader.new) sink.old.output sink.new.output }
+    ensures failures { Counts result (R.failures reader.old) (R.failures reader.new) }
+{
+    let mut outcome = run(decoder, reader, sink, 0);
+    for turn in 0..turns {
+        let Outcome::Turns = outcome else {
+            return outcome;
+        };
+        let Ok(()) = sink.flush() else {
+            return Outcome::SinkFault;
+        };
+        outcome = run(decoder, reader, sink, 1);
+    }
+    outcome
 }

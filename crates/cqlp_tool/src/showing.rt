@@ -1,18 +1,19 @@
-//! A whole stream, shown.
+//! A whole stream, shown or checked.
 
 ghost use Rattle.std.specs.Prelude.{◌≡◌, List, ℕ, Some, IsSome, []};
 ghost use Rattle.cqlp_decode.specs.Streams.{After, state};
 ghost use Rattle.cqlp_note.specs.Limits.{first_bad};
 ghost use Rattle.cqlp_tool.specs.Endings.{IsStatusOfStream};
-ghost use Rattle.cqlp_tool.specs.Rendering.{output};
-ghost use Rattle.cqlp_tool.specs.Showing.{ending_of, ShowsTo, RendersOrFails, CountsReads, Concludes};
+ghost use Rattle.cqlp_tool.specs.Rendering.{Output, output};
+ghost use Rattle.cqlp_tool.specs.Showing.{ending_of, ShowsTo, RendersOrFails, CountsReads, Concludes, ConcludesCheck};
 ghost use Rattle.cqlp_tool.specs.declared.ending.Ending.{Ending};
+ghost use Rattle.cqlp_tool.specs.declared.form.Form.TheVariants as forms;
 
 use crate::buffered::Buffered;
-use crate::ending::Ending;
-use crate::line_writer::LineWriter;
-use crate::render::render_events;
-use cqlp_decode::{Decoder, NewError, Outcome};
+use crate::ending::{Ending, ending_line};
+use crate::form::Form;
+use crate::render::{TextSink, run_flushing};
+use cqlp_decode::{Decoder, NewError, Outcome, SinkFault};
 use cqlp_note::{IoFault, Limits, Source, Target};
 use std::alloc::Allocator;
 
@@ -45,12 +46,12 @@ pub fn show<R: Source, O: Target, E: Target, A: Allocator>(
     ensures status { IsStatusOfStream result.0 }
     ensures shows { (xs : List ℕ) → R.left input.old ≡ Some xs → IsSome (O.contents out) → IsSome (E.contents err) →
         (ending : Ending)
-        × ShowsTo limits TURNS ending xs (R.left input.new)
+        × ShowsTo forms.Lines limits TURNS ending xs (R.left input.new)
         (output (O.contents out) (O.failures out)) (output (O.contents result.1) (O.failures result.1))
         × CountsReads ending (R.failures input.old) (R.failures input.new)
         × Concludes ending (output (E.contents err) (E.failures err)) result.0 (output (E.contents result.2) (E.failures result.2)) }
 {
-    let (ending, out) = shown(alloc, limits, input, out);
+    let (ending, out) = shown(alloc, limits, Form::Lines, input, out);
     let (status, err) = conclude(ending, err);
     (status, out, err)
 }
@@ -68,6 +69,8 @@ pub fn rows<R: Source, O: Target, E: Target, A: Allocator>(
     show(alloc, limits, input, out, err)
 }
 
+/// Reads a stream, and writes the verdict line to `out` or the fault line to `err`. Answers the exit status, and the two
+/// outputs.
 pub fn check<R: Source, O: Target, E: Target, A: Allocator>(
     alloc: &A,
     limits: Limits,
@@ -77,20 +80,36 @@ pub fn check<R: Source, O: Target, E: Target, A: Allocator>(
 ) -> (u8, O, E)
     requires { first_bad limits ≡ Ok tt }
     ensures status { IsStatusOfStream result.0 }
+    ensures checks { (xs : List ℕ) → R.left input.old ≡ Some xs → IsSome (O.contents out) → IsSome (E.contents err) →
+        (ending : Ending) × (read : Output)
+        × ShowsTo forms.Nothing limits TURNS ending xs (R.left input.new)
+        (output (O.contents out) (O.failures out)) read
+        × CountsReads ending (R.failures input.old) (R.failures input.new)
+        × ConcludesCheck ending read (output (E.contents err) (E.failures err)) result.0 (output (O.contents result.1) (O.failures result.1)) (output (E.contents result.2) (E.failures result.2)) }
 {
-    show(alloc, limits, input, out, err)
+    let (ending, mut out) = shown(alloc, limits, Form::Nothing, input, out);
+    let Ending::Finished(_) = ending else {
+        let (status, err) = conclude(ending, err);
+        return (status, out, err);
+    };
+    let Err(SinkFault) = ending_line(ending, &mut out) else {
+        return (ending.status(), out, err);
+    };
+    let (status, err) = conclude(Ending::WriteFault, err);
+    (status, out, err)
 }
 
-/// Writes the lines of the events of a stream within these limits.
+/// Writes the text of the events of a stream within these limits, in a form.
 fn shown<R: Source, O: Target, A: Allocator>(
     alloc: &A,
     limits: Limits,
+    form: Form,
     input: &mut R,
     out: O,
 ) -> (Ending, O)
     requires { first_bad limits ≡ Ok tt }
     ensures shows { (xs : List ℕ) → R.left input.old ≡ Some xs → IsSome (O.contents out) →
-        ShowsTo limits TURNS result.0 xs (R.left input.new)
+        ShowsTo form limits TURNS result.0 xs (R.left input.new)
         (output (O.contents out) (O.failures out)) (output (O.contents result.1) (O.failures result.1)) }
     ensures failures { CountsReads result.0 (R.failures input.old) (R.failures input.new) }
 {
@@ -102,7 +121,7 @@ fn shown<R: Source, O: Target, A: Allocator>(
     let Ok(buffer) = Vec::with_capacity(alloc, ROOM) else {
         return (Ending::NoMemory, out);
     };
-    let (outcome, out) = render_buffered(&mut decoder, input, out, buffer);
+    let (outcome, out) = render_buffered(&mut decoder, input, out, form, buffer);
     (ending_of(outcome), out)
 }
 
@@ -118,20 +137,22 @@ fn ending_of(outcome: Outcome) -> Ending
     }
 }
 
-/// Writes the lines of the events of a reader's bytes, in pieces as large as the buffer.
+/// Writes the text of the events of a reader's bytes, in pieces as large as the buffer where the input does not stop.
 fn render_buffered<R: Source, O: Target, A: Allocator, B: Allocator>(
     decoder: &mut Decoder<A>,
     input: &mut R,
     out: O,
+    form: Form,
     buffer: Vec<u8, B>,
 ) -> (Outcome, O)
     ensures renders { (xs : List ℕ) → R.left input.old ≡ Some xs → IsSome (O.contents out) → After (state decoder.old) [] [] →
-        RendersOrFails TURNS result.0 (state decoder.old) (state decoder.new) xs (R.left input.new)
+        RendersOrFails form TURNS result.0 (state decoder.old) (state decoder.new) xs (R.left input.new)
         (output (O.contents out) (O.failures out)) (output (O.contents result.1) (O.failures result.1)) }
     ensures failures { CountsReads (ending_of result.0) (R.failures input.old) (R.failures input.new) }
 {
-    let buffered = Buffered::new(out, buffer);
-    let (outcome, mut buffered) = render_events(decoder, input, buffered, TURNS);
+    let mut sink = TextSink::new(Buffered::new(out, buffer), form);
+    let outcome = run_flushing(decoder, input, &mut sink, TURNS);
+    let mut buffered = sink.into_inner();
     if let Outcome::SinkFault = outcome {
         return (outcome, buffered.into_inner());
     }
@@ -146,11 +167,8 @@ pub(crate) fn conclude<E: Target>(ending: Ending, mut err: E) -> (u8, E)
     ensures status { IsStatusOfStream result.0 }
     ensures concludes { IsSome (E.contents err) → Concludes ending (output (E.contents err) (E.failures err)) result.0 (output (E.contents result.1) (E.failures result.1)) }
 {
-    let mut writer = LineWriter::new(&mut err);
-    let status = match writer.put_ending(ending) {
-        Ok(()) => ending.status(),
-        Err(_) => 3,
-    };
-    let _ = writer.into_inner();
-    (status, err)
+    match ending_line(ending, &mut err) {
+        Ok(()) => (ending.status(), err),
+        Err(SinkFault) => (3, err),
+    }
 }

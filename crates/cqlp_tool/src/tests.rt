@@ -2,16 +2,19 @@
 
 mod cells;
 mod commands;
+mod cuts;
 mod fakes;
+mod faults;
 mod pages;
 mod shows;
+mod streams;
 mod vectors;
 
 use crate::ending::Ending;
 use crate::line_writer::LineWriter;
 use crate::render::render_events;
-use cqlp_decode::{Decoder, Outcome};
-use cqlp_note::{Limits, OfStd};
+use cqlp_decode::{Decoder, Finish, Outcome};
+use cqlp_note::{Limits, OfStd, Source};
 use fakes::Pieces;
 use pages::{BLOBS_IN_PARTS, PAGES, UNTYPED};
 use std::alloc::Global;
@@ -42,16 +45,31 @@ fn bytes_of(alloc: Global, digits: &str) -> Result<Vec<u8>, Fail> {
     Ok(hex::decode(alloc, packed.as_slice())?)
 }
 
-/// The lines and the verdict of a stream in pieces.
-fn rendered(alloc: Global, limits: Limits, mut pieces: Pieces<'_>) -> Result<Vec<u8>, Fail> {
+/// The lines of a reader's stream, and how it ends.
+fn lines_of(
+    alloc: Global,
+    limits: Limits,
+    reader: &mut impl Source,
+) -> Result<(OfStd<Vec<u8>>, Finish), Fail> {
     let mut decoder = Decoder::new(alloc, limits)?;
     let text = OfStd::new(Vec::new(alloc));
-    let (outcome, mut text) = render_events(&mut decoder, &mut pieces, text, u64::MAX);
+    let (outcome, text) = render_events(&mut decoder, reader, text, u64::MAX);
     let Outcome::Finished(finish) = outcome else {
         return Err("it finishes")?;
     };
+    Ok((text, finish))
+}
+
+/// The lines, and then the verdict.
+fn with_verdict(mut text: OfStd<Vec<u8>>, finish: Finish) -> Result<Vec<u8>, Fail> {
     LineWriter::new(&mut text).put_ending(Ending::Finished(finish))?;
     Ok(text.into_inner())
+}
+
+/// The lines and the verdict of a reader's stream.
+fn rendered(alloc: Global, limits: Limits, reader: &mut impl Source) -> Result<Vec<u8>, Fail> {
+    let (text, finish) = lines_of(alloc, limits, reader)?;
+    with_verdict(text, finish)
 }
 
 /// Each stream gives its lines: in one piece, byte by byte, and in two pieces cut at each place.
@@ -82,10 +100,10 @@ fn expect_in_pieces(
     alloc: Global,
     limits: Limits,
     vector: &Vector,
-    pieces: Pieces<'_>,
+    mut pieces: Pieces<'_>,
 ) -> Result<(), Fail> {
     let first = pieces.first;
-    let text = rendered(alloc, limits, pieces)?;
+    let text = rendered(alloc, limits, &mut pieces)?;
     let same = text.as_slice() == vector.lines.as_bytes();
     assert!(rt; same, "{} in pieces from {first}", vector.name);
     Ok(())

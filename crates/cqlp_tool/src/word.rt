@@ -40,7 +40,8 @@ impl<W: Target> LineWriter<'_, W> {
         Ok(())
     }
 
-    fn put_word(&mut self, word: Word<'_>) -> Result<(), SinkFault>
+    /// Takes the text of a word.
+    pub fn put_word(&mut self, word: Word<'_>) -> Result<(), SinkFault>
         ensures { Writes self.old (word_text word.entry) result self.new }
     {
         match word {

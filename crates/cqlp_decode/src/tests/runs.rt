@@ -1,8 +1,12 @@
 //! How runs end.
 
+ghost use Rattle.std.specs.Prelude.{◌≤◌, max};
+ghost use Rattle.cqlp_decode.specs.Streams.{state};
+
 use super::{LIMITS, count, text};
-use crate::{Decoder, Event, Finish, Outcome, Sink, SinkFault, run};
-use cqlp_note::{Field, Header, OfStd, Opcode};
+use crate::{Decoder, Event, Finish, Held, Outcome, Sink, SinkFault, run};
+use cqlp_note::{Field, Header, OfStd, Opcode, Source};
+use std::alloc::Allocator;
 use std::io;
 use std::io::Read;
 use std::test::Fail;
@@ -123,5 +127,32 @@ fn a_run_ends_where_its_sink_fails(rt: HostRuntime) -> Result<(), Fail> {
         Outcome::SinkFault
     );
     assert_eq!(rt; sink.taken, 1);
+    Ok(())
+}
+
+/// What is held after a run: within the limits that the decoder was made with.
+fn held_after<R: Source, S: Sink, A: Allocator>(
+    decoder: &mut Decoder<A>,
+    reader: &mut R,
+    sink: &mut S,
+) -> Held
+    ensures { let rules = (state decoder.old).rules in (result.bytes ≤ max rules.text rules.cell) × (result.entries ≤ rules.entries) × (result.levels ≤ rules.depth) }
+{
+    let _outcome = run(decoder, reader, sink, u64::MAX);
+    decoder.held()
+}
+
+#[test]
+fn the_front_of_a_text_is_held_after_a_run(rt: HostRuntime) -> Result<(), Fail> {
+    let mut decoder = Decoder::new(rt.alloc(), LIMITS)?;
+    let mut reader = OfStd::new(Once(Some(&SUPPORTED[..20])));
+    let events = events();
+    let mut sink = sink_for(&events);
+    let held = Held {
+        bytes: 7,
+        entries: 0,
+        levels: 0,
+    };
+    assert_eq!(rt; held_after(&mut decoder, &mut reader, &mut sink), held);
     Ok(())
 }

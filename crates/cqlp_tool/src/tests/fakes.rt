@@ -32,6 +32,56 @@ impl Source for Pieces<'_> {
     }
 }
 
+/// Gives these pieces, each in one read.
+#[derive(Drop)]
+pub(crate) struct Cut<'a> {
+    pieces: &'a [&'a [u8]],
+}
+
+impl<'a> Cut<'a> {
+    pub(crate) fn new(pieces: &'a [&'a [u8]]) -> Cut<'a> {
+        Cut { pieces }
+    }
+}
+
+impl Source for Cut<'_> {
+    ghost failures = { λ _. 0 };
+
+    fn read(&mut self, buffer: &mut [u8]) -> Result<usize, IoFault> {
+        let Some((piece, later)) = self.pieces.split_first() else {
+            return Ok(0);
+        };
+        let count = piece.len().min(buffer.len());
+        buffer[..count].copy_from_slice(&piece[..count]);
+        self.pieces = later;
+        Ok(count)
+    }
+}
+
+/// Fails at one call, after so many others.
+#[derive(Drop)]
+pub(crate) struct FailsOnce<'a> {
+    pub(crate) bytes: Pieces<'a>,
+    pub(crate) before: Option<usize>,
+    pub(crate) failures: u64,
+}
+
+impl Source for FailsOnce<'_> {
+    ghost failures = { λ source. source.failures };
+
+    fn read(&mut self, buffer: &mut [u8]) -> Result<usize, IoFault> {
+        if self.before == Some(0) {
+            self.before = None;
+            self.failures = self.failures.saturating_add(1);
+            return Err(IoFault);
+        }
+        if let Some(before) = self.before {
+            self.before = Some(before.saturating_sub(1));
+        }
+        self.bytes.read(buffer)
+    }
+}
+
 /// Gives all of its bytes, and then fails.
 #[derive(Drop)]
 pub(crate) struct Failing<'a> {
@@ -105,6 +155,31 @@ impl Sink for Counting {
     fn take(&mut self, at: u64, _event: &Event<'_>) -> Result<(), SinkFault> {
         self.events = self.events.saturating_add(1);
         self.last = at;
+        Ok(())
+    }
+}
+
+/// Takes so many events, and then fails.
+#[derive(Drop)]
+pub(crate) struct Takes {
+    pub(crate) room: usize,
+    pub(crate) taken: usize,
+}
+
+impl Sink for Takes {
+    ghost View = { ℕ };
+
+    ghost view = { λ _. 0 };
+
+    ghost after = { λ v at e. v };
+
+    ghost faulted = { λ v at e w. Unit {0} };
+
+    fn take(&mut self, _at: u64, _event: &Event<'_>) -> Result<(), SinkFault> {
+        if self.taken >= self.room {
+            return Err(SinkFault);
+        }
+        self.taken += 1;
         Ok(())
     }
 }

@@ -5,7 +5,7 @@ ghost use Rattle.std.specs.Prelude.{◌≤◌};
 use super::fakes::{Counting, Failing, Narrow, Pieces};
 use super::{LIMITS, bytes_of};
 use crate::heaps::Limited;
-use crate::showing::show;
+use crate::showing::{DEFAULT_LIMITS, show};
 use cqlp_decode::{Decoder, Finish, Outcome, run};
 use cqlp_note::Source;
 use std::alloc::{Allocator, Global};
@@ -35,7 +35,7 @@ fn expect_shown<A: Allocator>(
 ) {
     let out = Narrow::new(alloc, room.0, 7);
     let err = Narrow::new(alloc, room.1, 7);
-    let (status, out, err) = show(heap, LIMITS, input, out, err);
+    let (status, out, err) = show(heap, DEFAULT_LIMITS, input, out, err);
     assert_eq!(rt; status, expected.status);
     assert!(rt; out.text.as_slice() == expected.out);
     assert!(rt; err.text.as_slice() == expected.err);

@@ -1,4 +1,4 @@
-use Rattle.std.proofs.Common.{◌+◌, ◌-◌, ◌*◌, ◌≤◌, List, ℕ, length, take}
+use Rattle.std.proofs.Common.{◌≡◌, ◌+◌, ◌-◌, ◌*◌, ◌≤◌, List, ℕ, length, take}
 use Rattle.cqlp_decode.specs.Reading.{Event}
 use Rattle.cqlp_decode.specs.Standing.{ends_due}
 use Rattle.cqlp_decode.specs.Streams.{After, state}
@@ -9,6 +9,7 @@ use Rattle.cqlp_decode.proofs.running.drain.Given as goal
 abbrev pub invariant-events : goal.invariant-events
 invariant-events g l = record {
   within : l.used ≤ length l.input;
+  rules : (state l.decoder).rules ≡ (state l.fn.decoder).rules;
   tells : g.S.Sink.tells l.fn.sink → g.S.Sink.tells l.sink;
   drained : g.S.Sink.tells l.fn.sink → (s : List ℕ) (es : List (ℕ × Event)) → After (state l.fn.decoder) s es → Drains g.S.Sink.after (state l.decoder) s es (take l.used l.input) (g.S.Sink.view l.fn.sink) (g.S.Sink.view l.sink);
 }

@@ -1,7 +1,7 @@
-use Rattle.std.proofs.Common.{◌≡◌, ◌<◌, [], length, take, drop, refl, sym, inl, inr, arith}
+use Rattle.std.proofs.Common.{◌≡◌, ◌<◌, [], ◌++◌, length, take, drop, refl, sym, ◌∙◌, inl, inr, arith}
 use Rattle.std.proofs.lemmas.List.{append-nil, take-append-drop, length-append, length-take-le}
 use Rattle.cqlp_decode.specs.Streams.{state}
-use Rattle.cqlp_decode.proofs.Gets.{feeds_none, feeds_then, feeds_into, has_all, read_some, keeps_some, at_end}
+use Rattle.cqlp_decode.proofs.Gets.{feeds_none, feeds_then, feeds_into, has_all, read_some, keeps_some, at_end, reads_none, reads_kept, reads_then}
 use Rattle.cqlp_decode.proofs.running.run.Goals as goal
 
 -- before the first read
@@ -23,8 +23,11 @@ returns-in-Fault-clause-runs g c = λ xs is tells.
 pub loop-turn-init : goal.loop-turn-init
 loop-turn-init g c = record {
   long = refl;
+  rules = c.in-More.ensures.rules;
   failures = refl;
+  reads = λ xs is. reads_none _ xs _ is;
   tells = λ tells. c.in-More.ensures.tells tells refl;
+  waits = λ xs is tells s es a. c.in-More.ensures.waits tells refl s es a;
   fed = λ xs is tells.
       let e = c.in-More.ensures.drains tells in
       let d = state c.args.decoder.now in
@@ -71,8 +74,13 @@ loop-turn-preserved g c =
     let long : length c.read.new.buffer ≡ 4096 = let a = c.read.auto.buffer in let b = c.loop-turn.invariant.long in omega arith in
     record {
       long = long;
+      rules = c.in-More-drain.ensures.rules ∙ c.loop-turn.invariant.rules;
+      reads = λ xs is. reads_then c.loop-turn.turn _ xs _ _ c.read.new.buffer c.in-Ok.count (omega arith) (c.loop-turn.invariant.reads xs is) c.in-Ok.ensures.bound long c.in-Ok.ensures.bytes;
       failures = let a = c.in-Ok.ensures.failures in let b = c.loop-turn.invariant.failures in cc;
       tells = λ tells. c.in-More-drain.ensures.tells (c.loop-turn.invariant.tells tells) refl;
+      waits = λ xs is tells s es a.
+          let d = c.loop-turn.invariant.fed xs is tells in
+          let e = d.0.drained s es a in c.in-More-drain.ensures.waits (c.loop-turn.invariant.tells tells) refl (s ++ d.0.bytes) (es ++ e.more) e.stands;
       fed = λ xs is tells.
           let d = c.loop-turn.invariant.fed xs is tells in
           let r = read_some _ _ d.0.rest c.read.new.buffer c.in-Ok.count d.1 c.in-Ok.ensures.bytes.0 c.in-Ok.ensures.bytes.1 in
@@ -91,3 +99,23 @@ pub returns-clause-runs : goal.returns-clause-runs
 returns-clause-runs g c = λ xs is tells.
     let d = c.loop-turn.invariant.fed xs is tells in
     (d.0, d.1, omega (arith, d.2), d.3)
+
+-- how much is read
+
+pub returns-in-Err-clause-reads : goal.returns-in-Err-clause-reads
+returns-in-Err-clause-reads g c = λ xs is. reads_kept c.loop-turn.turn c.args.turns xs _ _ (let a = c.loop-turn-test.true in omega arith) (c.loop-turn.invariant.reads xs is) c.in-Err.ensures.bytes
+
+pub returns-then-count-eq0-clause-reads : goal.returns-then-count-eq0-clause-reads
+returns-then-count-eq0-clause-reads g c = λ xs is.
+    let long : length c.read.new.buffer ≡ 4096 = let a = c.read.auto.buffer in let b = c.loop-turn.invariant.long in omega arith in
+    reads_then c.loop-turn.turn c.args.turns xs _ _ c.read.new.buffer c.in-Ok.count (let a = c.loop-turn-test.true in omega arith) (c.loop-turn.invariant.reads xs is) c.in-Ok.ensures.bound long c.in-Ok.ensures.bytes
+
+pub returns-in-Refused-drain-clause-reads : goal.returns-in-Refused-drain-clause-reads
+returns-in-Refused-drain-clause-reads g c = λ xs is.
+    let long : length c.read.new.buffer ≡ 4096 = let a = c.read.auto.buffer in let b = c.loop-turn.invariant.long in omega arith in
+    reads_then c.loop-turn.turn c.args.turns xs _ _ c.read.new.buffer c.in-Ok.count (let a = c.loop-turn-test.true in omega arith) (c.loop-turn.invariant.reads xs is) c.in-Ok.ensures.bound long c.in-Ok.ensures.bytes
+
+pub returns-in-Fault-drain-clause-reads : goal.returns-in-Fault-drain-clause-reads
+returns-in-Fault-drain-clause-reads g c = λ xs is.
+    let long : length c.read.new.buffer ≡ 4096 = let a = c.read.auto.buffer in let b = c.loop-turn.invariant.long in omega arith in
+    reads_then c.loop-turn.turn c.args.turns xs _ _ c.read.new.buffer c.in-Ok.count (let a = c.loop-turn-test.true in omega arith) (c.loop-turn.invariant.reads xs is) c.in-Ok.ensures.bound long c.in-Ok.ensures.bytes

@@ -1,0 +1,26 @@
+-- What is written of the events of a stream, by the form of the text.
+use Rattle.std.specs.Prelude.{ℕ, List, [], ◌∷◌}
+use Rattle.cqlp_decode.specs.Reading.{Event}
+use Rattle.cqlp_tool.specs.declared.form.Form.{Form}
+use Rattle.cqlp_tool.specs.declared.form.Form.TheVariants as form
+use Rattle.cqlp_tool.specs.Lines.{line, lines}
+
+-- the text of an event at an offset
+abbrev pub text_of : Form → (at : ℕ) → Event → List ℕ
+text_of form.Lines at e = line at e
+text_of form.Nothing at e = []
+
+-- the form of what comes behind an event
+abbrev pub form_after : Form → Event → Form
+form_after form.Lines e = form.Lines
+form_after form.Nothing e = form.Nothing
+
+-- the text of events, one after the other
+abbrev pub text : Form → List (ℕ × Event) → List ℕ
+text form.Lines es = lines es
+text form.Nothing es = []
+
+-- the form of what comes behind events
+abbrev pub form_behind : Form → List (ℕ × Event) → Form
+form_behind f [] = f
+form_behind f (e ∷ es) = form_behind (form_after f e.1) es
