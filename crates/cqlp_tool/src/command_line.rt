@@ -55,13 +55,7 @@ pub fn command<R: Files + AllocGlobal, I: Source, O: Target, E: Target>(
 }
 
 /// The same, with all memory for the stream from `heap`.
-pub(crate) fn command_within<
-    R: Files + AllocGlobal,
-    A: Allocator,
-    I: Source,
-    O: Target,
-    E: Target,
->(
+pub(crate) fn command_within<R: Files + AllocGlobal, A: Allocator, I: Source, O: Target, E: Target>(
     rt: &R,
     heap: &A,
     words: &[&str],
@@ -120,7 +114,8 @@ fn perform<A: Allocator, I: Source, O: Target, E: Target>(
 
 /// Tells that a file cannot be opened. Answers the exit status.
 fn cannot_open<E: Target>(file: &str, mut err: E) -> (u8, E)
-    ensures { IsSome (E.contents err) →
+    ensures status { result.0 ≡ 3 }
+    ensures line { IsSome (E.contents err) →
         TellsFault (cannot_open_line file.now) (output (E.contents err) (E.failures err)) result.0 (output (E.contents result.1) (E.failures result.1)) }
 {
     let mut writer = LineWriter::new(&mut err);

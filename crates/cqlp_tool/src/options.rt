@@ -109,16 +109,22 @@ fn with_arguments<'a>(alloc: Global, task: Command<'a>) -> Result<Command<'a>, A
         .value_name("FILE")
         .required(true)
         .help("The file with the stream; - is standard input");
-    let text = limit(alloc, "text", 32, 16_777_216, "1048576")
-        .help("Bytes of one [string] or [long string] at most, from 32 to 16777216");
-    let cell = limit(alloc, "cell", 32, 16_777_216, "1048576")
-        .help("Bytes of one [bytes], [short bytes], [value] or scalar cell at most, from 32 to 16777216");
-    let entries = limit(alloc, "entries", 1, 65_536, "4096")
-        .help("Type options of one metadata at most, nested ones counted, from 1 to 65536");
-    let depth = limit(alloc, "depth", 1, 64, "16")
-        .help("Nesting of one type at most, from 1 to 64; a column's own type has depth 1");
+    let text = limit(alloc, "text", 32, 16_777_216, "1048576").help(
+        "Bytes of one [string] or [long string] at most, from 32 to 16777216",
+    );
+    let cell = limit(alloc, "cell", 32, 16_777_216, "1048576").help(
+        "Bytes of one [bytes], [short bytes], [value] or scalar cell at most, from 32 to 16777216",
+    );
+    let entries = limit(alloc, "entries", 1, 65_536, "4096").help(
+        "Type options of one metadata at most, nested ones counted, from 1 to 65536",
+    );
+    let depth = limit(alloc, "depth", 1, 64, "16").help(
+        "Nesting of one type at most, from 1 to 64; a column's own type has depth 1",
+    );
     let raw = flag(alloc, "raw").help("Read each cell as raw bytes, without its column's type");
-    let parts = flag(alloc, "parts").help("Give longer blob, custom and raw cells in parts of the size of --cell");
+    let parts = flag(alloc, "parts").help(
+        "Give longer blob, custom and raw cells in parts of the size of --cell",
+    );
     task.arg(file)?
         .arg(text)?
         .arg(cell)?
@@ -139,7 +145,5 @@ fn limit<'a>(alloc: Global, name: &'a str, least: i64, greatest: i64, default: &
 
 /// An option without a value.
 fn flag<'a>(alloc: Global, name: &'a str) -> Arg<'a> {
-    Arg::new(alloc, name)
-        .long(name)
-        .action(ArgAction::SetTrue)
+    Arg::new(alloc, name).long(name).action(ArgAction::SetTrue)
 }

@@ -107,7 +107,10 @@ fn bad_command_lines(rt: HostRuntime) {
         let done = execute(&rt, words, OPTIONS);
         assert_eq!(rt; done.status, 2, "{words:?}");
         assert!(rt; done.out.text.is_empty(), "{words:?}");
-        assert!(rt; done.err.text.as_slice().starts_with(b"error: "), "{words:?}");
+        assert!(rt;
+            done.err.text.as_slice().starts_with(b"error: "),
+            "{words:?}"
+        );
     }
 }
 
@@ -139,7 +142,16 @@ fn options_of_a_command_line(rt: HostRuntime) -> Result<(), Fail> {
     };
     assert_eq!(rt; options, expected);
     let words: &[&str] = &[
-        "rows", "--text=32", "--cell", "16777216", "--raw", "file", "--entries", "65536", "--depth=64", "--parts",
+        "rows",
+        "--text=32",
+        "--cell",
+        "16777216",
+        "--raw",
+        "file",
+        "--entries",
+        "65536",
+        "--depth=64",
+        "--parts",
     ];
     let limits = Limits {
         text: 32,
