@@ -185,7 +185,7 @@ writes_lender : (a b : Written) (text : List ℕ) (r : Result (Unit {0}) SinkFau
 writes_lender a b text (Ok u) takes = takes.lender
 writes_lender a b text (Err e) breaks = breaks.lender
 
-known_text : (a b : Written) (given given' : Option (List ℕ)) (f f' lender : ℕ) (text : List ℕ) (r : Result (Unit {0}) SinkFault) → a ≡ record (bare given f) { lender = lender } → bare given' f' ≡ record b { waiting = []; lender = 0 } → b.waiting ≡ [] → Writes a text r b → IsSome given → WritesText (output given f) text r (output given' f')
+pub known_text : (a b : Written) (given given' : Option (List ℕ)) (f f' lender : ℕ) (text : List ℕ) (r : Result (Unit {0}) SinkFault) → a ≡ record (bare given f) { lender = lender } → bare given' f' ≡ record b { waiting = []; lender = 0 } → b.waiting ≡ [] → Writes a text r b → IsSome given → WritesText (output given f) text r (output given' f')
 known_text a b None given' f f' lender text r starts ends empty writes known = cc
 known_text a b (Some t) given' f f' lender text (Ok u) starts ends empty takes known =
     let p = takes.passed t (ap (λ w. w.given) starts) in

@@ -1,5 +1,5 @@
 -- How a command ends: its line and its exit status.
-use Rattle.std.specs.Prelude.{ℕ, List, [], ◌∷◌, ◌++◌, codes, decimal}
+use Rattle.std.specs.Prelude.{ℕ, ◌≤◌, ◌≢◌, List, [], ◌∷◌, ◌++◌, codes, decimal}
 use Rattle.cqlp_decode.specs.declared.event.Finish.{Finish}
 use Rattle.cqlp_decode.specs.declared.event.Finish.TheVariants as finish
 use Rattle.cqlp_tool.specs.declared.ending.Ending.{Ending}
@@ -33,3 +33,7 @@ status_of ending.ReadFault = 3
 status_of ending.WriteFault = 3
 status_of ending.NoMemory = 3
 status_of ending.TooManyTurns = 3
+
+-- what a status can be where a stream was read: 2 is that of a bad command line alone
+abbrev pub IsStatusOfStream : (status : ℕ) → Type 0
+IsStatusOfStream status = (status ≤ 3) × (status ≢ 2)

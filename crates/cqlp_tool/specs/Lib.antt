@@ -1,4 +1,5 @@
 pub mod CellText
+pub mod CommandLines
 pub mod Endings
 pub mod Forms
 pub mod Lines

@@ -25,11 +25,12 @@ pub enum Ending {
 }
 
 impl Ending {
-    ghost use Rattle.cqlp_tool.specs.Endings.{status_of};
+    ghost use Rattle.cqlp_tool.specs.Endings.{IsStatusOfStream, status_of};
 
     /// The exit status: 0 for a whole stream, 1 for one that is cut or refused, 3 for a fault.
     pub fn status(self) -> u8
-        ensures { result ≡ status_of self }
+        ensures value { result ≡ status_of self }
+        ensures stream { IsStatusOfStream result }
     {
         match self {
             Ending::Finished(Finish::Whole { .. }) => 0,
@@ -55,6 +56,7 @@ pub fn ending_line<W: Target>(ending: Ending, w: &mut W) -> Result<(), SinkFault
 
 impl<W: Target> LineWriter<'_, W> {
     ghost use Rattle.std.specs.Prelude.{◌++◌, [], map, codes};
+    ghost use Rattle.cqlp_tool.specs.CommandLines.{cannot_open_line};
     ghost use Rattle.cqlp_tool.specs.Endings.{ending_line, verdict};
     ghost use Rattle.cqlp_tool.specs.Lines.{spaced};
     ghost use Rattle.cqlp_tool.specs.Words.{word_text};
@@ -88,6 +90,14 @@ impl<W: Target> LineWriter<'_, W> {
                 &[Word::Number(at), Word::Name(reason_name(why))],
             ),
         }
+    }
+
+    /// Takes the line of a file that cannot be opened, and passes all on.
+    pub fn put_cannot_open(&mut self, file: &str) -> Result<(), SinkFault>
+        ensures line { Writes self.old (cannot_open_line file.now) result self.new }
+        ensures passed { self.new.waiting ≡ [] }
+    {
+        self.put_line("cqlp: cannot open", &[Word::Name(file)])
     }
 
     /// Takes a line of words, and passes all on.

@@ -102,7 +102,7 @@ impl<'a, W: Target> LineWriter<'a, W> {
 }
 
 /// Passes on all of the bytes.
-fn send<W: Target>(target: &mut W, bytes: &[u8]) -> Result<(), SinkFault>
+pub(crate) fn send<W: Target>(target: &mut W, bytes: &[u8]) -> Result<(), SinkFault>
     ensures { Writes (bare (W.contents target.old) (W.failures target.old)) bytes.now result (bare (W.contents target.new) (W.failures target.new)) }
 {
     if offer(target, bytes) < bytes.len() {

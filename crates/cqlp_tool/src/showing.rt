@@ -3,6 +3,7 @@
 ghost use Rattle.std.specs.Prelude.{◌≡◌, List, ℕ, Some, IsSome, []};
 ghost use Rattle.cqlp_decode.specs.Streams.{After, state};
 ghost use Rattle.cqlp_note.specs.Limits.{first_bad};
+ghost use Rattle.cqlp_tool.specs.Endings.{IsStatusOfStream};
 ghost use Rattle.cqlp_tool.specs.PageText.{no_page};
 ghost use Rattle.cqlp_tool.specs.Rendering.{Output, output};
 ghost use Rattle.cqlp_tool.specs.Showing.{ending_of, ShowsTo, RendersOrFails, CountsReads, Concludes, ConcludesCheck};
@@ -29,7 +30,7 @@ pub const DEFAULT_LIMITS: Limits = Limits {
 };
 
 /// How many reads the program makes at most.
-const TURNS: u64 = 4_294_967_296;
+pub(crate) const TURNS: u64 = 4_294_967_296;
 
 /// How many bytes of text go to the output at once.
 const ROOM: usize = 65_536;
@@ -44,7 +45,8 @@ pub fn show<R: Source, O: Target, E: Target, A: Allocator>(
     err: E,
 ) -> (u8, O, E)
     requires { first_bad limits ≡ Ok tt }
-    ensures { (xs : List ℕ) → R.left input.old ≡ Some xs → IsSome (O.contents out) → IsSome (E.contents err) →
+    ensures status { IsStatusOfStream result.0 }
+    ensures shows { (xs : List ℕ) → R.left input.old ≡ Some xs → IsSome (O.contents out) → IsSome (E.contents err) →
         (ending : Ending)
         × ShowsTo forms.Lines limits TURNS ending xs (R.left input.new)
         (output (O.contents out) (O.failures out)) (output (O.contents result.1) (O.failures result.1))
@@ -66,7 +68,8 @@ pub fn rows<R: Source, O: Target, E: Target, A: Allocator>(
     err: E,
 ) -> (u8, O, E)
     requires { first_bad limits ≡ Ok tt }
-    ensures { (xs : List ℕ) → R.left input.old ≡ Some xs → IsSome (O.contents out) → IsSome (E.contents err) →
+    ensures status { IsStatusOfStream result.0 }
+    ensures shows { (xs : List ℕ) → R.left input.old ≡ Some xs → IsSome (O.contents out) → IsSome (E.contents err) →
         (ending : Ending)
         × ShowsTo (forms.Pages no_page) limits TURNS ending xs (R.left input.new)
         (output (O.contents out) (O.failures out)) (output (O.contents result.1) (O.failures result.1))
@@ -88,7 +91,8 @@ pub fn check<R: Source, O: Target, E: Target, A: Allocator>(
     err: E,
 ) -> (u8, O, E)
     requires { first_bad limits ≡ Ok tt }
-    ensures { (xs : List ℕ) → R.left input.old ≡ Some xs → IsSome (O.contents out) → IsSome (E.contents err) →
+    ensures status { IsStatusOfStream result.0 }
+    ensures checks { (xs : List ℕ) → R.left input.old ≡ Some xs → IsSome (O.contents out) → IsSome (E.contents err) →
         (ending : Ending) × (read : Output)
         × ShowsTo forms.Nothing limits TURNS ending xs (R.left input.new)
         (output (O.contents out) (O.failures out)) read
@@ -171,8 +175,9 @@ fn render_buffered<R: Source, O: Target, A: Allocator, B: Allocator>(
 }
 
 /// Writes the verdict line or fault line. Answers the exit status, which is 3 where that fails.
-fn conclude<E: Target>(ending: Ending, mut err: E) -> (u8, E)
-    ensures { IsSome (E.contents err) → Concludes ending (output (E.contents err) (E.failures err)) result.0 (output (E.contents result.1) (E.failures result.1)) }
+pub(crate) fn conclude<E: Target>(ending: Ending, mut err: E) -> (u8, E)
+    ensures status { IsStatusOfStream result.0 }
+    ensures concludes { IsSome (E.contents err) → Concludes ending (output (E.contents err) (E.failures err)) result.0 (output (E.contents result.1) (E.failures result.1)) }
 {
     match ending_line(ending, &mut err) {
         Ok(()) => (ending.status(), err),

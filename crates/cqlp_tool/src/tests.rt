@@ -1,6 +1,7 @@
 //! Streams, rendered and shown.
 
 mod cells;
+mod commands;
 mod cuts;
 mod fakes;
 mod faults;

@@ -10,7 +10,7 @@ use cqlp_value::Scalar;
 /// A word of a line.
 #[derive(Clone, Copy, Debug, PartialEq, Eq)]
 pub enum Word<'a> {
-    Name(&'static str),
+    Name(&'a str),
     Number(u64),
     Signed(i64),
     /// Two hexadecimal digits.

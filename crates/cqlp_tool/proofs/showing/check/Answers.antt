@@ -2,33 +2,33 @@ use Rattle.cqlp_tool.specs.Rendering.{output}
 use Rattle.cqlp_tool.proofs.Shows.{tells_read, checks_verdict, checks_failed, checks_fault}
 use Rattle.cqlp_tool.proofs.showing.check.Goals as goal
 
-pub returns-in_default : goal.returns-in_default
-returns-in_default g c = λ xs left known err_known. (
+pub returns-in_default-clause-checks : goal.returns-in_default-clause-checks
+returns-in_default-clause-checks g c = λ xs left known err_known. (
   c.shown-ending.result.0,
   output (g.O.Target.contents c.shown-ending.result.1) (g.O.Target.failures c.shown-ending.result.1),
   c.shown-ending.ensures.shows xs left known,
   c.shown-ending.ensures.failures,
-  checks_fault c.shown-ending.result.0 c.in_default.not-Finished _ _ _ _ (c.conclude-status.ensures err_known),
+  checks_fault c.shown-ending.result.0 c.in_default.not-Finished _ _ _ _ (c.conclude-status.ensures.concludes err_known),
 )
 
-pub returns-in_default-ending_line : goal.returns-in_default-ending_line
-returns-in_default-ending_line g c = λ xs left known err_known.
+pub returns-in_default-ending_line-clause-checks : goal.returns-in_default-ending_line-clause-checks
+returns-in_default-ending_line-clause-checks g c = λ xs left known err_known.
     let shows = c.shown-ending.ensures.shows xs left known in
     let told = tells_read _ _ _ _ xs _ _ _ known (rw c.in-Finished.is at shows) in (
       c.shown-ending.result.0,
       output (g.O.Target.contents c.shown-ending.result.1) (g.O.Target.failures c.shown-ending.result.1),
       shows,
       c.shown-ending.ensures.failures,
-      checks_verdict c.shown-ending.result.0 c.in-Finished.field-0 c.in-Finished.is _ _ _ _ c.status.ensures (c.in_default-ending_line.ensures told),
+      checks_verdict c.shown-ending.result.0 c.in-Finished.field-0 c.in-Finished.is _ _ _ _ c.status.ensures.value (c.in_default-ending_line.ensures told),
     )
 
-pub returns : goal.returns
-returns g c = λ xs left known err_known.
+pub returns-clause-checks : goal.returns-clause-checks
+returns-clause-checks g c = λ xs left known err_known.
     let shows = c.shown-ending.ensures.shows xs left known in
     let told = tells_read _ _ _ _ xs _ _ _ known (rw c.in-Finished.is at shows) in (
       c.shown-ending.result.0,
       output (g.O.Target.contents c.shown-ending.result.1) (g.O.Target.failures c.shown-ending.result.1),
       shows,
       c.shown-ending.ensures.failures,
-      checks_failed c.shown-ending.result.0 c.in-Finished.field-0 c.in-Finished.is _ _ _ _ _ (c.in-Err.ensures told).failures (c.conclude-status-2.ensures err_known),
+      checks_failed c.shown-ending.result.0 c.in-Finished.field-0 c.in-Finished.is _ _ _ _ _ (c.in-Err.ensures told).failures (c.conclude-status-2.ensures.concludes err_known),
     )

@@ -1,0 +1,149 @@
+//! What a command line asks for.
+
+ghost use Rattle.std.specs.Prelude.{◌≡◌, IfOk, IfSome, Ok};
+ghost use Rattle.cqlp_note.specs.Limits.{first_bad};
+
+use clap::error::ErrorKind;
+use clap::{Arg, ArgAction, ArgMatches, Command, Error, value_parser};
+use cqlp_note::Limits;
+use std::alloc::{AllocError, Global};
+
+/// What the program does with a stream.
+#[derive(Clone, Copy, Debug, PartialEq, Eq)]
+pub enum Task {
+    /// Writes its events, and the verdict beside them.
+    Show,
+    /// Writes its pages, and the verdict beside them.
+    Rows,
+    /// Writes the verdict alone.
+    Check,
+}
+
+impl Task {
+    /// The task that a subcommand names.
+    fn named(name: &str) -> Option<Task> {
+        match name {
+            "show" => Some(Task::Show),
+            "rows" => Some(Task::Rows),
+            "check" => Some(Task::Check),
+            _ => None,
+        }
+    }
+}
+
+/// What a command line asks for.
+#[derive(Clone, Copy, Debug, PartialEq, Eq)]
+pub struct Options<'a> {
+    pub task: Task,
+    pub limits: Limits,
+    /// The path of the stream's file, or `-` for standard input.
+    pub file: &'a str,
+}
+
+impl<'a> Options<'a> {
+    /// Reads the words after the program's name. What is no command line of the program, and a request for help or the
+    /// version, is an error, whose text says what is wrong or what was asked for.
+    pub fn parse(alloc: Global, words: &'a [&'a str]) -> Result<Options<'a>, Error>
+        ensures { IfOk result (λ options. first_bad options.limits ≡ Ok tt) }
+    {
+        let mut program = program(alloc)?;
+        let matches = program.try_get_matches_from_mut(words)?;
+        match options_of(&matches) {
+            Some(options) => Ok(options),
+            None => Err(program.error(ErrorKind::ValueValidation, "a limit is out of its range")?),
+        }
+    }
+}
+
+/// What the words of a command line were matched to, if its limits are in their ranges.
+fn options_of<'a>(matches: &ArgMatches<'a>) -> Option<Options<'a>>
+    ensures { IfSome result (λ options. first_bad options.limits ≡ Ok tt) }
+{
+    let (name, matches) = matches.subcommand()?;
+    let task = Task::named(name)?;
+    let file = matches.get_str("file")?;
+    let limits = limits_of(matches)?;
+    match limits.check() {
+        Ok(()) => Some(Options { task, limits, file }),
+        Err(_) => None,
+    }
+}
+
+fn limits_of(matches: &ArgMatches<'_>) -> Option<Limits> {
+    Some(Limits {
+        text: matches.get_one::<u32>("text")?,
+        cell: matches.get_one::<u32>("cell")?,
+        entries: matches.get_one::<u32>("entries")?,
+        depth: matches.get_one::<u32>("depth")?,
+        types: !matches.get_flag("raw"),
+        parts: matches.get_flag("parts"),
+    })
+}
+
+/// The program's command line.
+fn program<'a>(alloc: Global) -> Result<Command<'a>, AllocError> {
+    let show = Command::new(alloc, "show")
+        .about("Write a line for each event of a stream, and a verdict to standard error")
+        .after_help("Example: cqlp show --text 4096 capture.bin");
+    let rows = Command::new(alloc, "rows")
+        .about("Write the pages of a stream as text, and a verdict to standard error")
+        .after_help("Example: cqlp rows --parts capture.bin");
+    let check = Command::new(alloc, "check")
+        .about("Write the verdict on a stream alone")
+        .after_help("Example: cqlp check - < capture.bin");
+    Command::new(alloc, "cqlp")
+        .about("Reads streams of the CQL native protocol v4")
+        .after_help("Without words it does what `cqlp show -` does.")
+        .version("0.1.0")
+        .bin_name("cqlp")?
+        .no_binary_name(true)
+        .subcommand_required(true)
+        .subcommand(with_arguments(alloc, show)?)?
+        .subcommand(with_arguments(alloc, rows)?)?
+        .subcommand(with_arguments(alloc, check)?)
+}
+
+/// The arguments that each task takes.
+fn with_arguments<'a>(alloc: Global, task: Command<'a>) -> Result<Command<'a>, AllocError> {
+    let file = Arg::new(alloc, "file")
+        .value_name("FILE")
+        .required(true)
+        .help("The file with the stream; - is standard input");
+    let text = limit(alloc, "text", 32, 16_777_216, "1048576").help(
+        "Bytes of one [string] or [long string] at most, from 32 to 16777216",
+    );
+    let cell = limit(alloc, "cell", 32, 16_777_216, "1048576").help(
+        "Bytes of one [bytes], [short bytes], [value] or scalar cell at most, from 32 to 16777216",
+    );
+    let entries = limit(alloc, "entries", 1, 65_536, "4096").help(
+        "Type options of one metadata at most, nested ones counted, from 1 to 65536",
+    );
+    let depth = limit(alloc, "depth", 1, 64, "16").help(
+        "Nesting of one type at most, from 1 to 64; a column's own type has depth 1",
+    );
+    let raw = flag(alloc, "raw").help("Read each cell as raw bytes, without its column's type");
+    let parts = flag(alloc, "parts").help(
+        "Give longer blob, custom and raw cells in parts of the size of --cell",
+    );
+    task.arg(file)?
+        .arg(text)?
+        .arg(cell)?
+        .arg(entries)?
+        .arg(depth)?
+        .arg(raw)?
+        .arg(parts)
+}
+
+/// An option for a number in a range.
+fn limit<'a>(alloc: Global, name: &'a str, least: i64, greatest: i64, default: &'a str) -> Arg<'a> {
+    Arg::new(alloc, name)
+        .long(name)
+        .value_name("N")
+        .value_parser(value_parser!(u32).range(least..=greatest))
+        .default_value(default)
+}
+
+/// An option without a value.
+fn flag<'a>(alloc: Global, name: &'a str) -> Arg<'a> {
+    Arg::new(alloc, name).long(name).action(ArgAction::SetTrue)
+}
