@@ -1,5 +1,5 @@
 -- Worked pages: their events and verdicts, by computation.
-use Rattle.std.proofs.Common.{◌≡◌, ℕ, zero, suc, ◌+◌, [], ◌∷◌, true, false, refl, pos, negsuc}
+use Rattle.std.proofs.Common.{◌≡◌, [], ◌∷◌, true, false, refl, pos, negsuc}
 use Rattle.std.specs.Str.{is_utf8, chars}
 use lib.Utf8.{encode}
 use Rattle.cqlp_note.specs.declared.opcode.Opcode.TheVariants as opcode
@@ -11,7 +11,6 @@ use Rattle.cqlp_note.specs.Reader.{number_of}
 use Rattle.cqlp_note.specs.Field as note
 use Rattle.cqlp_note.specs.Field.{field_of, content_of}
 use Rattle.cqlp_note.specs.Heading.{heading}
-use Rattle.cqlp_type.specs.Types.{NoMore}
 use Rattle.cqlp_value.specs.Scalars as scalar
 use Rattle.cqlp_value.specs.Scalars.{scalar_of}
 use Rattle.cqlp_value.specs.CellStep as cell

@@ -10,7 +10,7 @@ use Rattle.cqlp_decode.specs.Draining.{RunsTo}
 use Rattle.cqlp_tool.specs.declared.form.Form.{Form}
 use Rattle.cqlp_tool.specs.Forms.{text}
 use Rattle.cqlp_tool.specs.Written.{Written, bare, taken}
-use Rattle.cqlp_tool.specs.Rendering.{Output, output, with_text, Rendering, with_event, StopsWithinEvent, HasFailed, Renders, RendersTo}
+use Rattle.cqlp_tool.specs.Rendering.{Output, output, with_text, Rendering, with_event, StopsWithinEvent, HasFailed, Renders}
 use Rattle.cqlp_tool.specs.Showing.{RendersOrFails, ShowsTo, Concludes, ConcludesCheck, ending_of}
 use Rattle.cqlp_tool.specs.declared.ending.Ending.{Ending}
 use Rattle.cqlp_tool.specs.declared.ending.Ending.TheVariants as ending

@@ -80,6 +80,18 @@ fn limits_of(matches: &ArgMatches<'_>) -> Option<Limits> {
     })
 }
 
+/// What the program's own help ends with.
+const HELP: &str = "Each of the three takes a FILE, where - is standard input, and\n\
+    \x20 --text <N>     bytes of one text at most, from 32 to 16777216 [default: 1048576]\n\
+    \x20 --cell <N>     bytes of one content or scalar cell at most, from 32 to 16777216 [default: 1048576]\n\
+    \x20 --entries <N>  type options of one metadata at most, from 1 to 65536 [default: 4096]\n\
+    \x20 --depth <N>    nesting of one type at most, from 1 to 64 [default: 16]\n\
+    \x20 --raw          each cell as raw bytes\n\
+    \x20 --parts        longer blob, custom and raw cells in parts\n\
+    \n\
+    Without words it does what `cqlp show -` does.\n\
+    Example: cqlp rows capture.bin";
+
 /// The program's command line.
 fn program<'a>(alloc: Global) -> Result<Command<'a>, AllocError> {
     let show = Command::new(alloc, "show")
@@ -93,7 +105,7 @@ fn program<'a>(alloc: Global) -> Result<Command<'a>, AllocError> {
         .after_help("Example: cqlp check - < capture.bin");
     Command::new(alloc, "cqlp")
         .about("Reads streams of the CQL native protocol v4")
-        .after_help("Without words it does what `cqlp show -` does.")
+        .after_help(HELP)
         .version("0.1.0")
         .bin_name("cqlp")?
         .no_binary_name(true)
