@@ -1,10 +1,4 @@
-mod CellRows
-mod PageRows
-pub mod Calendar
-pub mod CellTexts
-pub mod Pages
+pub mod Passing
 pub mod Renders
 pub mod Shows
-pub mod Texts
 pub mod Turns
-pub mod Writing

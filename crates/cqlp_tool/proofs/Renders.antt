@@ -9,7 +9,8 @@ use Rattle.cqlp_decode.specs.Draining.{fold_events, Drains, Fails, Feeds, FeedsI
 use Rattle.cqlp_tool.specs.declared.form.Form.{Form}
 use Rattle.cqlp_tool.specs.declared.form.Form.TheVariants as forms
 use Rattle.cqlp_tool.specs.Forms.{text, text_of, form_after, form_behind}
-use Rattle.cqlp_tool.specs.Rendering.{Output, output, with_text, Rendering, rendering, with_event, StopsWithin, StopsWithinEvent, WritesEvents, StopsInEvents, Renders, RendersPart, RendersTo}
+use Rattle.cqlp_text.specs.Outputs.{Output, output, with_text, StopsWithin}
+use Rattle.cqlp_tool.specs.Rendering.{Rendering, rendering, with_event, StopsWithinEvent, WritesEvents, StopsInEvents, Renders, RendersPart, RendersTo}
 
 pub known_nothing : (given : Option (List ℕ)) → append_known given [] ≡ given
 known_nothing None = refl

@@ -9,12 +9,13 @@ use Rattle.cqlp_decode.specs.Streams.{After}
 use Rattle.cqlp_decode.specs.Draining.{RunsTo}
 use Rattle.cqlp_tool.specs.declared.form.Form.{Form}
 use Rattle.cqlp_tool.specs.Forms.{text}
-use Rattle.cqlp_tool.specs.Written.{Written, bare, taken}
-use Rattle.cqlp_tool.specs.Rendering.{Output, output, with_text, Rendering, with_event, StopsWithinEvent, HasFailed, Renders}
+use Rattle.cqlp_text.specs.Written.{Written, bare, taken}
+use Rattle.cqlp_text.specs.Outputs.{Output, output, with_text, HasFailed}
+use Rattle.cqlp_tool.specs.Rendering.{Rendering, with_event, StopsWithinEvent, Renders}
 use Rattle.cqlp_tool.specs.Showing.{RendersOrFails, ShowsTo, Concludes, ConcludesCheck, ending_of}
-use Rattle.cqlp_tool.specs.declared.ending.Ending.{Ending}
-use Rattle.cqlp_tool.specs.declared.ending.Ending.TheVariants as ending
-use Rattle.cqlp_tool.specs.Endings.{ending_line, status_of}
+use Rattle.cqlp_text.specs.declared.ending.Ending.{Ending}
+use Rattle.cqlp_text.specs.declared.ending.Ending.TheVariants as ending
+use Rattle.cqlp_text.specs.Endings.{ending_line, status_of}
 use Rattle.cqlp_decode.specs.declared.event.Finish.{Finish}
 use Rattle.cqlp_note.specs.declared.limits.Limits.{Limits}
 use Rattle.cqlp_note.specs.Limits.{rules_of}

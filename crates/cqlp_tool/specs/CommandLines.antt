@@ -1,17 +1,14 @@
 -- What is written where a command line starts no task.
 use Rattle.std.specs.Prelude.{◌≡◌, ℕ, true, false, List, [], ◌∷◌, ◌++◌, codes, ◌⊎◌}
 use Rattle.cqlp_note.specs.declared.limits.Limits.{Limits}
-use Rattle.cqlp_tool.specs.declared.ending.Ending.TheVariants as ending
-use Rattle.cqlp_tool.specs.Lines.{spaced}
-use Rattle.cqlp_tool.specs.Rendering.{Output, with_text, HasFailed, StopsWithin}
+use Rattle.cqlp_text.specs.declared.ending.Ending.TheVariants as ending
+use Rattle.cqlp_text.specs.Lines.{spaced}
+use Rattle.cqlp_text.specs.Outputs.{Output, with_text, HasFailed, StopsWithin}
 use Rattle.cqlp_tool.specs.Showing.{Concludes}
 
 -- the limits where none are given
 abbrev pub default_limits : Limits
 default_limits = record { text = 1048576; cell = 1048576; entries = 4096; depth = 16; types = true; parts = false }
-
-abbrev pub cannot_open_line : (file : List ℕ) → List ℕ
-cannot_open_line file = codes "cqlp: cannot open" ++ spaced (file ∷ []) ++ codes "\n"
 
 -- The line was written, and the status is 3; it is 3 too where the target failed.
 abbrev pub TellsFault : (line : List ℕ) → (before : Output) → (status : ℕ) → (after : Output) → Type 0

@@ -3,8 +3,8 @@ use Rattle.std.specs.Prelude.{ℕ, List, [], ◌∷◌}
 use Rattle.cqlp_decode.specs.Reading.{Event}
 use Rattle.cqlp_tool.specs.declared.form.Form.{Form}
 use Rattle.cqlp_tool.specs.declared.form.Form.TheVariants as form
-use Rattle.cqlp_tool.specs.Lines.{line, lines}
-use Rattle.cqlp_tool.specs.PageText.{page_part, page_text, place_behind}
+use Rattle.cqlp_text.specs.Lines.{line, lines}
+use Rattle.cqlp_text.specs.PageText.{page_part, page_text, place_behind}
 
 -- the text of an event at an offset
 abbrev pub text_of : Form → (at : ℕ) → Event → List ℕ

@@ -1,12 +1,4 @@
-pub mod CellText
 pub mod CommandLines
-pub mod Endings
 pub mod Forms
-pub mod Lines
-pub mod Names
-pub mod PageText
 pub mod Rendering
 pub mod Showing
-pub mod Text
-pub mod Words
-pub mod Written

@@ -12,38 +12,6 @@ use Rattle.cqlp_decode.specs.Draining.{HasRefused}
 use Rattle.cqlp_tool.specs.declared.form.Form.{Form}
 use Rattle.cqlp_tool.specs.Forms.{text, text_of, form_after, form_behind}
 
--- what a target was given, where that is known, and how often it failed
-pub record Output : Type 0 where
-  pub given : Option (List ℕ)
-  pub failures : ℕ
-
-abbrev pub output : Option (List ℕ) → ℕ → Output
-output given failures = record { given = given; failures = failures }
-
--- with more text
-abbrev pub with_text : Output → List ℕ → Output
-with_text o text = output (append_known o.given text) o.failures
-
--- One call of the target failed before the whole text was written.
-pub record StopsWithin (old : Output) (text : List ℕ) (new : Output) : Type 0 where
-  pub sent : List ℕ
-  pub lost : ℕ
-  pub behind : List ℕ
-  pub split : sent ++ lost ∷ behind ≡ text
-  pub given : new.given ≡ append_known old.given sent
-  pub failures : new.failures ≡ counted true old.failures
-
--- The whole text was written, or the target failed within it.
-abbrev pub WritesText : (old : Output) → List ℕ → Result (Unit {0}) SinkFault → (new : Output) → Type 0
-WritesText old text (Ok u) new = new ≡ with_text old text
-WritesText old text (Err e) new = StopsWithin old text new
-
--- One call of the target failed.
-abbrev pub HasFailed : (before after : Output) → Type 0
-HasFailed before after = after.failures ≡ counted true before.failures
-
--- ---- events
-
 -- what was written, and the form of what comes next
 pub record Rendering : Type 0 where
   pub output : Output

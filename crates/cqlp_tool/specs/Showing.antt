@@ -7,11 +7,13 @@ use Rattle.cqlp_decode.specs.declared.running.Outcome.{Outcome}
 use Rattle.cqlp_decode.specs.declared.running.Outcome.TheVariants as outcome
 use Rattle.cqlp_decode.specs.Standing.{State}
 use Rattle.cqlp_decode.specs.Streams.{After}
-use Rattle.cqlp_tool.specs.declared.ending.Ending.{Ending}
-use Rattle.cqlp_tool.specs.declared.ending.Ending.TheVariants as ending
-use Rattle.cqlp_tool.specs.Endings.{ending_line, finish_status, status_of}
+use Rattle.cqlp_text.specs.declared.ending.Ending.{Ending}
+use Rattle.cqlp_text.specs.declared.ending.Ending.TheVariants as ending
+use Rattle.cqlp_text.specs.Endings.{ending_line, finish_status, status_of}
 use Rattle.cqlp_tool.specs.declared.form.Form.{Form}
-use Rattle.cqlp_tool.specs.Rendering.{Output, with_text, HasFailed, RendersTo}
+use Rattle.cqlp_tool.specs.declared.form.Form.TheVariants as forms
+use Rattle.cqlp_text.specs.Outputs.{Output, with_text, HasFailed}
+use Rattle.cqlp_tool.specs.Rendering.{RendersTo}
 
 -- how the command ends where a run does
 abbrev pub ending_of : Outcome → Ending
@@ -60,3 +62,13 @@ abbrev pub ConcludesCheck : Ending → (out err : Output) → (status : ℕ) →
 ConcludesCheck (ending.Finished f) out err status out' err' =
     ((status ≡ finish_status f) × (out' ≡ with_text out (ending_line (ending.Finished f))) × (err' ≡ err)) ⊎ (HasFailed out out' × Concludes ending.WriteFault err status err')
 ConcludesCheck e out err status out' err' = (out' ≡ out) × Concludes e err status err'
+
+-- A stream was shown: what was written of it, which calls of the reader failed, and the line that tells how it ended.
+abbrev pub ShowsAndTells : Form → Limits → (turns : ℕ) → (xs : List ℕ) → (left : Option (List ℕ)) → (reads reads' : ℕ) → (out err : Output) → (status : ℕ) → (out' err' : Output) → Type 0
+ShowsAndTells form limits turns xs left reads reads' out err status out' err' =
+    (e : Ending) × ShowsTo form limits turns e xs left out out' × CountsReads e reads reads' × Concludes e err status err'
+
+-- A stream was read and nothing of it written, and how it ended was told.
+abbrev pub ChecksAndTells : Limits → (turns : ℕ) → (xs : List ℕ) → (left : Option (List ℕ)) → (reads reads' : ℕ) → (out err : Output) → (status : ℕ) → (out' err' : Output) → Type 0
+ChecksAndTells limits turns xs left reads reads' out err status out' err' =
+    (e : Ending) × (read : Output) × ShowsTo forms.Nothing limits turns e xs left out read × CountsReads e reads reads' × ConcludesCheck e read err status out' err'

@@ -3,11 +3,11 @@
 ghost use Rattle.std.specs.Prelude.{◌≡◌, ◌≤◌, [], length, IfOk, OnOk, OnErr, true};
 ghost use Rattle.std.specs.Io.KnownBytes.{Keeps, WriteAppends};
 ghost use Rattle.cqlp_note.specs.Streams.{counted, took_none};
-ghost use Rattle.cqlp_tool.specs.Rendering.{output};
-ghost use Rattle.cqlp_tool.specs.Written.{bare, taken};
+ghost use Rattle.cqlp_text.specs.Outputs.{output};
+ghost use Rattle.cqlp_text.specs.Written.{bare, taken};
 
-use crate::offer::offer;
 use cqlp_note::{IoFault, Target};
+use cqlp_text::offer;
 use std::alloc::{Allocator, Global};
 use std::marker::Model;
 
@@ -22,7 +22,7 @@ pub struct Buffered<W: Target, A: Allocator = Global> {
 
 impl<W: Target, A: Allocator> Model for Buffered<W, A> {
     ghost use Rattle.std.specs.Prelude.{◌≡◌, ◌≤◌, drop, vec_len};
-    ghost use Rattle.cqlp_tool.specs.Written.{Written};
+    ghost use Rattle.cqlp_text.specs.Written.{Written};
 
     ghost Value = { Written };
 

@@ -3,21 +3,20 @@
 ghost use Rattle.std.specs.Prelude.{◌≡◌, ◌≢◌, ◌≤◌, ◌⊎◌, List, ℕ, [], Some, IsSome};
 ghost use Rattle.cqlp_note.specs.Limits.{first_bad};
 ghost use Rattle.clap.specs.Words.{kind_of};
-ghost use Rattle.cqlp_tool.specs.CommandLines.{Complains, Helps, TellsFault, TellsHelp, TellsMistake, TellsWrong, cannot_open_line, default_limits};
-ghost use Rattle.cqlp_tool.specs.Endings.{IsStatusOfStream};
-ghost use Rattle.cqlp_tool.specs.Rendering.{WritesText, output, with_text};
-ghost use Rattle.cqlp_tool.specs.Showing.{ShowsTo, CountsReads, Concludes};
-ghost use Rattle.cqlp_tool.specs.declared.ending.Ending.{Ending};
+ghost use Rattle.cqlp_tool.specs.CommandLines.{Complains, Helps, TellsFault, TellsHelp, TellsMistake, TellsWrong, default_limits};
+ghost use Rattle.cqlp_text.specs.Endings.{IsStatusOfStream};
+ghost use Rattle.cqlp_text.specs.Outputs.{WritesText, output, with_text};
+ghost use Rattle.cqlp_tool.specs.Showing.{Concludes, ShowsAndTells};
+ghost use Rattle.cqlp_text.specs.declared.ending.Ending.{Ending};
 ghost use Rattle.cqlp_tool.specs.declared.form.Form.TheVariants as forms;
 
-use crate::ending::Ending;
-use crate::line_writer::{LineWriter, send};
 use crate::options::{Options, Task};
 use crate::showing::{DEFAULT_LIMITS, TURNS, check, conclude, rows, show};
 use clap::Error;
 use clap::error::ErrorKind;
 use cqlp_decode::SinkFault;
 use cqlp_note::{OfStd, Source, Target};
+use cqlp_text::{Ending, cannot_open_line, put_text};
 use std::alloc::{Allocator, Global};
 use std::fs::File;
 use std::rt::Files;
@@ -40,11 +39,9 @@ pub fn command<R: Files + AllocGlobal, I: Source, O: Target, E: Target>(
     err: E,
 ) -> (u8, O, E)
     ensures no_words { words.now ≡ [] → (xs : List ℕ) → I.left input.old ≡ Some xs → IsSome (O.contents out) → IsSome (E.contents err) →
-        (ending : Ending)
-        × ShowsTo forms.Lines default_limits TURNS ending xs (I.left input.new)
-        (output (O.contents out) (O.failures out)) (output (O.contents result.1) (O.failures result.1))
-        × CountsReads ending (I.failures input.old) (I.failures input.new)
-        × Concludes ending (output (E.contents err) (E.failures err)) result.0 (output (E.contents result.2) (E.failures result.2)) }
+        ShowsAndTells forms.Lines default_limits TURNS xs (I.left input.new) (I.failures input.old) (I.failures input.new)
+        (output (O.contents out) (O.failures out)) (output (E.contents err) (E.failures err)) result.0
+        (output (O.contents result.1) (O.failures result.1)) (output (E.contents result.2) (E.failures result.2)) }
     ensures status { result.0 ≤ 3 }
     ensures bad_command_line { result.0 ≡ 2 → IsSome (O.contents out) → IsSome (E.contents err) →
         (input.new ≡ input.old)
@@ -64,11 +61,9 @@ pub(crate) fn command_within<R: Files + AllocGlobal, A: Allocator, I: Source, O:
     err: E,
 ) -> (u8, O, E)
     ensures no_words { words.now ≡ [] → (xs : List ℕ) → I.left input.old ≡ Some xs → IsSome (O.contents out) → IsSome (E.contents err) →
-        (ending : Ending)
-        × ShowsTo forms.Lines default_limits TURNS ending xs (I.left input.new)
-        (output (O.contents out) (O.failures out)) (output (O.contents result.1) (O.failures result.1))
-        × CountsReads ending (I.failures input.old) (I.failures input.new)
-        × Concludes ending (output (E.contents err) (E.failures err)) result.0 (output (E.contents result.2) (E.failures result.2)) }
+        ShowsAndTells forms.Lines default_limits TURNS xs (I.left input.new) (I.failures input.old) (I.failures input.new)
+        (output (O.contents out) (O.failures out)) (output (E.contents err) (E.failures err)) result.0
+        (output (O.contents result.1) (O.failures result.1)) (output (E.contents result.2) (E.failures result.2)) }
     ensures status { result.0 ≤ 3 }
     ensures bad_command_line { result.0 ≡ 2 → IsSome (O.contents out) → IsSome (E.contents err) →
         (input.new ≡ input.old)
@@ -118,10 +113,9 @@ fn cannot_open<E: Target>(file: &str, mut err: E) -> (u8, E)
     ensures line { IsSome (E.contents err) →
         TellsFault (cannot_open_line file.now) (output (E.contents err) (E.failures err)) result.0 (output (E.contents result.1) (E.failures result.1)) }
 {
-    let mut writer = LineWriter::new(&mut err);
-    let _ = writer.put_cannot_open(file);
-    let _ = writer.into_inner();
-    (FAULT, err)
+    match cannot_open_line(file, &mut err) {
+        Ok(()) | Err(SinkFault) => (FAULT, err),
+    }
 }
 
 /// Tells what there is in place of options: help or the version on `out`, and a mistake on `err`.
@@ -179,12 +173,4 @@ fn complain<E: Target>(text: &str, mut err: E) -> (u8, E)
         Ok(()) => (BAD_COMMAND_LINE, err),
         Err(SinkFault) => (FAULT, err),
     }
-}
-
-/// Writes a text. A fault is the writer's own.
-fn put_text<W: Target>(text: &str, w: &mut W) -> Result<(), SinkFault>
-    ensures { IsSome (W.contents w.old) →
-        WritesText (output (W.contents w.old) (W.failures w.old)) text.now result (output (W.contents w.new) (W.failures w.new)) }
-{
-    send(w, text.as_bytes())
 }

@@ -1,6 +1,6 @@
 //! Forms of text.
 
-use crate::page_text::PagePlace;
+use cqlp_text::PagePlace;
 
 /// What is written of the events of a stream.
 #[derive(Drop)]

@@ -6,11 +6,10 @@ ghost use Rattle.cqlp_decode.specs.Reading as reading;
 ghost use Rattle.cqlp_decode.specs.Streams.{After, state};
 
 use crate::buffered::Buffered;
-use crate::events::event_line;
 use crate::form::Form;
-use crate::page_text::{PagePlace, page_part};
 use cqlp_decode::{Decoder, Event, Outcome, Sink, SinkFault, run};
 use cqlp_note::{IoFault, Source, Target};
+use cqlp_text::{PagePlace, event_line, page_part};
 use std::alloc::Allocator;
 use std::marker::Model;
 
@@ -23,7 +22,8 @@ pub(crate) struct TextSink<W: Target> {
 
 impl<W: Target> Model for TextSink<W> {
     ghost use Rattle.std.specs.Prelude.{◌≡◌, []};
-    ghost use Rattle.cqlp_tool.specs.Rendering.{Rendering, output, rendering};
+    ghost use Rattle.cqlp_text.specs.Outputs.{output};
+    ghost use Rattle.cqlp_tool.specs.Rendering.{Rendering, rendering};
 
     ghost Value = { Rendering };
 
@@ -31,7 +31,8 @@ impl<W: Target> Model for TextSink<W> {
 }
 
 impl<W: Target> TextSink<W> {
-    ghost use Rattle.cqlp_tool.specs.Rendering.{output, rendering};
+    ghost use Rattle.cqlp_text.specs.Outputs.{output};
+    ghost use Rattle.cqlp_tool.specs.Rendering.{rendering};
 
     /// Over a target, in a form.
     pub fn new(target: W, form: Form) -> Self
@@ -51,7 +52,7 @@ impl<W: Target> TextSink<W> {
 
 impl<W: Target, A: Allocator> TextSink<Buffered<W, A>> {
     ghost use Rattle.std.specs.Prelude.{OnOk, OnErr};
-    ghost use Rattle.cqlp_tool.specs.Rendering.{HasFailed};
+    ghost use Rattle.cqlp_text.specs.Outputs.{HasFailed};
 
     /// Passes on all text that waits.
     pub fn flush(&mut self) -> Result<(), IoFault>
@@ -84,8 +85,9 @@ impl<W: Target> Sink for TextSink<W> {
     }
 }
 
-ghost use Rattle.cqlp_tool.specs.PageText.{no_page};
-ghost use Rattle.cqlp_tool.specs.Rendering.{RendersTo, output};
+ghost use Rattle.cqlp_text.specs.PageText.{no_page};
+ghost use Rattle.cqlp_text.specs.Outputs.{output};
+ghost use Rattle.cqlp_tool.specs.Rendering.{RendersTo};
 ghost use Rattle.cqlp_tool.specs.Showing.{RendersOrFails};
 ghost use Rattle.cqlp_tool.specs.declared.form.Form.TheVariants as forms;
 

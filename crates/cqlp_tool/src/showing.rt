@@ -3,20 +3,19 @@
 ghost use Rattle.std.specs.Prelude.{◌≡◌, List, ℕ, Some, IsSome, []};
 ghost use Rattle.cqlp_decode.specs.Streams.{After, state};
 ghost use Rattle.cqlp_note.specs.Limits.{first_bad};
-ghost use Rattle.cqlp_tool.specs.Endings.{IsStatusOfStream};
-ghost use Rattle.cqlp_tool.specs.PageText.{no_page};
-ghost use Rattle.cqlp_tool.specs.Rendering.{Output, output};
-ghost use Rattle.cqlp_tool.specs.Showing.{ending_of, ShowsTo, RendersOrFails, CountsReads, Concludes, ConcludesCheck};
-ghost use Rattle.cqlp_tool.specs.declared.ending.Ending.{Ending};
+ghost use Rattle.cqlp_text.specs.Endings.{IsStatusOfStream};
+ghost use Rattle.cqlp_text.specs.PageText.{no_page};
+ghost use Rattle.cqlp_text.specs.Outputs.{Output, output};
+ghost use Rattle.cqlp_tool.specs.Showing.{ending_of, ChecksAndTells, Concludes, CountsReads, RendersOrFails, ShowsAndTells, ShowsTo};
+ghost use Rattle.cqlp_text.specs.declared.ending.Ending.{Ending};
 ghost use Rattle.cqlp_tool.specs.declared.form.Form.TheVariants as forms;
 
 use crate::buffered::Buffered;
-use crate::ending::{Ending, ending_line};
 use crate::form::Form;
-use crate::page_text::PagePlace;
 use crate::render::{TextSink, run_flushing};
 use cqlp_decode::{Decoder, NewError, Outcome, SinkFault};
 use cqlp_note::{IoFault, Limits, Source, Target};
+use cqlp_text::{Ending, PagePlace, ending_line};
 use std::alloc::Allocator;
 
 /// The limits of the program where none are given.
@@ -47,11 +46,9 @@ pub fn show<R: Source, O: Target, E: Target, A: Allocator>(
     requires { first_bad limits ≡ Ok tt }
     ensures status { IsStatusOfStream result.0 }
     ensures shows { (xs : List ℕ) → R.left input.old ≡ Some xs → IsSome (O.contents out) → IsSome (E.contents err) →
-        (ending : Ending)
-        × ShowsTo forms.Lines limits TURNS ending xs (R.left input.new)
-        (output (O.contents out) (O.failures out)) (output (O.contents result.1) (O.failures result.1))
-        × CountsReads ending (R.failures input.old) (R.failures input.new)
-        × Concludes ending (output (E.contents err) (E.failures err)) result.0 (output (E.contents result.2) (E.failures result.2)) }
+        ShowsAndTells forms.Lines limits TURNS xs (R.left input.new) (R.failures input.old) (R.failures input.new)
+        (output (O.contents out) (O.failures out)) (output (E.contents err) (E.failures err)) result.0
+        (output (O.contents result.1) (O.failures result.1)) (output (E.contents result.2) (E.failures result.2)) }
 {
     let (ending, out) = shown(alloc, limits, Form::Lines, input, out);
     let (status, err) = conclude(ending, err);
@@ -70,11 +67,9 @@ pub fn rows<R: Source, O: Target, E: Target, A: Allocator>(
     requires { first_bad limits ≡ Ok tt }
     ensures status { IsStatusOfStream result.0 }
     ensures shows { (xs : List ℕ) → R.left input.old ≡ Some xs → IsSome (O.contents out) → IsSome (E.contents err) →
-        (ending : Ending)
-        × ShowsTo (forms.Pages no_page) limits TURNS ending xs (R.left input.new)
-        (output (O.contents out) (O.failures out)) (output (O.contents result.1) (O.failures result.1))
-        × CountsReads ending (R.failures input.old) (R.failures input.new)
-        × Concludes ending (output (E.contents err) (E.failures err)) result.0 (output (E.contents result.2) (E.failures result.2)) }
+        ShowsAndTells (forms.Pages no_page) limits TURNS xs (R.left input.new) (R.failures input.old) (R.failures input.new)
+        (output (O.contents out) (O.failures out)) (output (E.contents err) (E.failures err)) result.0
+        (output (O.contents result.1) (O.failures result.1)) (output (E.contents result.2) (E.failures result.2)) }
 {
     let (ending, out) = shown(alloc, limits, Form::Pages(PagePlace::new()), input, out);
     let (status, err) = conclude(ending, err);
@@ -93,11 +88,9 @@ pub fn check<R: Source, O: Target, E: Target, A: Allocator>(
     requires { first_bad limits ≡ Ok tt }
     ensures status { IsStatusOfStream result.0 }
     ensures checks { (xs : List ℕ) → R.left input.old ≡ Some xs → IsSome (O.contents out) → IsSome (E.contents err) →
-        (ending : Ending) × (read : Output)
-        × ShowsTo forms.Nothing limits TURNS ending xs (R.left input.new)
-        (output (O.contents out) (O.failures out)) read
-        × CountsReads ending (R.failures input.old) (R.failures input.new)
-        × ConcludesCheck ending read (output (E.contents err) (E.failures err)) result.0 (output (O.contents result.1) (O.failures result.1)) (output (E.contents result.2) (E.failures result.2)) }
+        ChecksAndTells limits TURNS xs (R.left input.new) (R.failures input.old) (R.failures input.new)
+        (output (O.contents out) (O.failures out)) (output (E.contents err) (E.failures err)) result.0
+        (output (O.contents result.1) (O.failures result.1)) (output (E.contents result.2) (E.failures result.2)) }
 {
     let (ending, mut out) = shown(alloc, limits, Form::Nothing, input, out);
     let Ending::Finished(_) = ending else {

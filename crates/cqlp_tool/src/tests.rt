@@ -10,11 +10,10 @@ mod shows;
 mod streams;
 mod vectors;
 
-use crate::ending::Ending;
-use crate::line_writer::LineWriter;
 use crate::render::render_events;
 use cqlp_decode::{Decoder, Finish, Outcome};
 use cqlp_note::{Limits, OfStd, Source};
+use cqlp_text::{Ending, ending_line};
 use fakes::Pieces;
 use pages::{BLOBS_IN_PARTS, PAGES, UNTYPED};
 use std::alloc::Global;
@@ -62,7 +61,7 @@ fn lines_of(
 
 /// The lines, and then the verdict.
 fn with_verdict(mut text: OfStd<Vec<u8>>, finish: Finish) -> Result<Vec<u8>, Fail> {
-    LineWriter::new(&mut text).put_ending(Ending::Finished(finish))?;
+    ending_line(Ending::Finished(finish), &mut text)?;
     Ok(text.into_inner())
 }
 

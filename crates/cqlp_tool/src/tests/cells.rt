@@ -2,10 +2,9 @@
 
 use super::bytes_of;
 use super::fakes::Narrow;
-use crate::cells::cell_text;
-use crate::events::event_line;
 use cqlp_decode::{Event, SinkFault};
 use cqlp_note::{OfStd, Reason};
+use cqlp_text::{cell_text, event_line};
 use cqlp_type::Kind;
 use cqlp_value::{Scalar, scalar};
 use std::alloc::Global;

@@ -1,4 +1,4 @@
-use Rattle.cqlp_tool.specs.Rendering.{output}
+use Rattle.cqlp_text.specs.Outputs.{output}
 use Rattle.cqlp_tool.proofs.Shows.{tells_read, checks_verdict, checks_failed, checks_fault}
 use Rattle.cqlp_tool.proofs.showing.check.Goals as goal
 

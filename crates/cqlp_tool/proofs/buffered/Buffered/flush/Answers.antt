@@ -1,4 +1,4 @@
-use Rattle.cqlp_tool.proofs.Writing.{passing_keeps}
+use Rattle.cqlp_tool.proofs.Passing.{passing_keeps}
 use Rattle.cqlp_tool.proofs.buffered.Buffered.flush.Goals as goal
 
 pub returns-clause-keeps : goal.returns-clause-keeps

@@ -1,0 +1,7 @@
+mod CellRows
+mod PageRows
+pub mod Calendar
+pub mod CellTexts
+pub mod Pages
+pub mod Texts
+pub mod Writing

@@ -1,0 +1,43 @@
+-- How a command ends: its line and its exit status.
+use Rattle.std.specs.Prelude.{ℕ, ◌≤◌, ◌≢◌, List, [], ◌∷◌, ◌++◌, codes, decimal}
+use Rattle.cqlp_decode.specs.declared.event.Finish.{Finish}
+use Rattle.cqlp_decode.specs.declared.event.Finish.TheVariants as finish
+use Rattle.cqlp_text.specs.declared.ending.Ending.{Ending}
+use Rattle.cqlp_text.specs.declared.ending.Ending.TheVariants as ending
+use Rattle.cqlp_text.specs.Lines.{spaced}
+use Rattle.cqlp_text.specs.Names.{reason_name}
+
+abbrev pub verdict : Finish → List ℕ
+verdict (finish.Whole bytes) = codes "whole" ++ spaced (decimal bytes ∷ [])
+verdict (finish.Cut frame_at bytes) = codes "cut" ++ spaced (decimal frame_at ∷ decimal bytes ∷ [])
+verdict (finish.Refused r) = codes "refused" ++ spaced (decimal r.at ∷ reason_name r.why ∷ [])
+
+abbrev pub ending_text : Ending → List ℕ
+ending_text (ending.Finished f) = verdict f
+ending_text ending.ReadFault = codes "cqlp: read fault"
+ending_text ending.WriteFault = codes "cqlp: write fault"
+ending_text ending.NoMemory = codes "cqlp: no memory"
+ending_text ending.TooManyTurns = codes "cqlp: too many turns"
+
+abbrev pub ending_line : Ending → List ℕ
+ending_line e = ending_text e ++ codes "\n"
+
+-- the line of a file that cannot be opened
+abbrev pub cannot_open_line : (file : List ℕ) → List ℕ
+cannot_open_line file = codes "cqlp: cannot open" ++ spaced (file ∷ []) ++ codes "\n"
+
+abbrev pub finish_status : Finish → ℕ
+finish_status (finish.Whole bytes) = 0
+finish_status (finish.Cut frame_at bytes) = 1
+finish_status (finish.Refused r) = 1
+
+abbrev pub status_of : Ending → ℕ
+status_of (ending.Finished f) = finish_status f
+status_of ending.ReadFault = 3
+status_of ending.WriteFault = 3
+status_of ending.NoMemory = 3
+status_of ending.TooManyTurns = 3
+
+-- what a status can be where a stream was read: 2 is that of a bad command line alone
+abbrev pub IsStatusOfStream : (status : ℕ) → Type 0
+IsStatusOfStream status = (status ≤ 3) × (status ≢ 2)

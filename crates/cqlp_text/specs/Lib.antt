@@ -1,0 +1,9 @@
+pub mod CellText
+pub mod Endings
+pub mod Lines
+pub mod Names
+pub mod Outputs
+pub mod PageText
+pub mod Text
+pub mod Words
+pub mod Written

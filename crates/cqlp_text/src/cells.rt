@@ -1,0 +1,165 @@
+//! Cells as text.
+
+ghost use Rattle.std.specs.Prelude.{◌≡◌, ◌≤◌, IsSome, length};
+ghost use Rattle.cqlp_text.specs.CellText.{boolean_text, cell_text as text_of, extended as extended_bytes, sign_byte};
+ghost use Rattle.cqlp_text.specs.Outputs.{WritesText, output};
+ghost use Rattle.cqlp_value.specs.Contents.{value_of};
+
+use crate::line_writer::LineWriter;
+use cqlp_decode::SinkFault;
+use cqlp_note::Target;
+use cqlp_value::Scalar;
+
+/// How many bytes a number has at most that is written in decimal digits.
+const WIDE: usize = 16;
+
+/// Appends the text of a cell: a number in decimal digits, a text in quotes, bytes as hex text, and so on. A fault is
+/// the writer's own.
+pub fn cell_text<W: Target>(scalar: &Scalar<'_>, w: &mut W) -> Result<(), SinkFault>
+    ensures { IsSome (W.contents w.old) → WritesText (output (W.contents w.old) (W.failures w.old)) (text_of (value_of scalar.now)) result (output (W.contents w.new) (W.failures w.new)) }
+{
+    let mut writer = LineWriter::new(w);
+    let written = writer.put_whole_cell(scalar);
+    let _ = writer.into_inner();
+    written
+}
+
+impl<W: Target> LineWriter<'_, W> {
+    ghost use Rattle.std.specs.Prelude.{◌-ℤ◌, [], pos};
+    ghost use Rattle.std.specs.Fmt.{signed_decimal};
+    ghost use Rattle.cqlp_text.specs.CellText.{decimal_text, digits, time_text, varint_text};
+    ghost use Rattle.cqlp_text.specs.Text.{hex_text};
+    ghost use Rattle.cqlp_text.specs.Written.{Writes};
+
+    /// Takes the text of a cell, and passes all on.
+    fn put_whole_cell(&mut self, scalar: &Scalar<'_>) -> Result<(), SinkFault>
+        ensures text { Writes self.old (text_of (value_of scalar.now)) result self.new }
+        ensures passed { self.new.waiting ≡ [] }
+    {
+        self.put_cell(scalar)?;
+        self.flush()
+    }
+
+    /// Takes the text of a cell.
+    pub fn put_cell(&mut self, scalar: &Scalar<'_>) -> Result<(), SinkFault>
+        ensures { Writes self.old (text_of (value_of scalar.now)) result self.new }
+    {
+        match *scalar {
+            Scalar::Custom(bytes) | Scalar::Blob(bytes) | Scalar::Raw(bytes) => {
+                self.put_hex_text(bytes)
+            }
+            Scalar::Double(bytes) => self.put_float(bytes),
+            Scalar::Float(bytes) => self.put_float(bytes),
+            Scalar::Varint(bytes) => self.put_varint(bytes),
+            Scalar::Decimal { scale, unscaled } => self.put_decimal(scale, unscaled),
+            Scalar::Uuid(bytes) | Scalar::Timeuuid(bytes) => self.put_uuid(bytes),
+            Scalar::Ascii(text) | Scalar::Varchar(text) => self.put_quoted(text),
+            Scalar::Bigint(number) | Scalar::Counter(number) | Scalar::Timestamp(number) => {
+                self.put_signed(number)
+            }
+            Scalar::Int(number) => self.put_signed(i64::from(number)),
+            Scalar::Smallint(number) => self.put_signed(i64::from(number)),
+            Scalar::Tinyint(number) => self.put_signed(i64::from(number)),
+            Scalar::Time(nanoseconds) => self.put_time(nanoseconds),
+            Scalar::Date(number) => self.put_date(number),
+            Scalar::Boolean(value) => self.put(boolean_name(value).as_bytes()),
+            Scalar::Inet(address) => self.put_address(address),
+        }
+    }
+
+    /// Takes the bytes of a floating-point number.
+    fn put_float<const N: usize>(&mut self, bytes: [u8; N]) -> Result<(), SinkFault>
+        ensures { Writes self.old (hex_text bytes.entry) result self.new }
+    {
+        self.put_hex_text(&bytes)
+    }
+
+    /// Takes a number of any length: in decimal digits up to 16 bytes, and else its bytes.
+    pub fn put_varint(&mut self, bytes: &[u8]) -> Result<(), SinkFault>
+        ensures { Writes self.old (varint_text bytes.now) result self.new }
+    {
+        if bytes.len() > WIDE {
+            return self.put_hex_text(bytes);
+        }
+        let mut digits = itoa::Buffer::new();
+        self.put(
+            digits
+                .format(i128::from_be_bytes(extended(bytes)))
+                .as_bytes(),
+        )
+    }
+
+    /// Takes a decimal: the unscaled number, `e`, and the negated scale.
+    pub fn put_decimal(&mut self, scale: i32, unscaled: &[u8]) -> Result<(), SinkFault>
+        ensures { Writes self.old (decimal_text scale unscaled.now) result self.new }
+    {
+        self.put_varint(unscaled)?;
+        self.put(b"e")?;
+        self.put_negated(scale)
+    }
+
+    fn put_negated(&mut self, number: i32) -> Result<(), SinkFault>
+        ensures { Writes self.old (signed_decimal (pos 0 -ℤ number)) result self.new }
+    {
+        self.put_signed(-i64::from(number))
+    }
+
+    /// Takes a time of day in nanoseconds since midnight; a negative number, which no cell has, as a number.
+    pub fn put_time(&mut self, nanoseconds: i64) -> Result<(), SinkFault>
+        ensures { Writes self.old (time_text nanoseconds) result self.new }
+    {
+        match u64::try_from(nanoseconds) {
+            Ok(nanoseconds) => self.put_time_of_day(nanoseconds),
+            Err(_) => self.put_signed(nanoseconds),
+        }
+    }
+
+    fn put_time_of_day(&mut self, nanoseconds: u64) -> Result<(), SinkFault>
+        ensures { Writes self.old (time_text (pos nanoseconds)) result self.new }
+    {
+        self.put_digits(2, nanoseconds / 3_600_000_000_000)?;
+        self.put(b":")?;
+        self.put_digits(2, nanoseconds / 60_000_000_000 % 60)?;
+        self.put(b":")?;
+        self.put_digits(2, nanoseconds / 1_000_000_000 % 60)?;
+        self.put(b".")?;
+        self.put_digits(9, nanoseconds % 1_000_000_000)
+    }
+
+    /// Takes so many digits of a number, with leading zeros.
+    pub fn put_digits(&mut self, count: u32, number: u64) -> Result<(), SinkFault>
+        ensures { Writes self.old (digits count number) result self.new }
+    {
+        if count == 0 {
+            return Ok(());
+        }
+        self.put_digits(count - 1, number / 10)?;
+        self.put(&[b'0' + (number % 10) as u8])
+    }
+}
+
+fn boolean_name(value: bool) -> &'static str
+    ensures { result.now ≡ boolean_text value }
+{
+    if value { "true" } else { "false" }
+}
+
+/// At most 16 bytes of a two's complement, with their sign extended to 16.
+fn extended(bytes: &[u8]) -> [u8; WIDE]
+    requires { length bytes.now ≤ 16 }
+    ensures { result ≡ extended_bytes bytes.now }
+{
+    let mut wide = [sign_byte(bytes); WIDE];
+    wide[WIDE - bytes.len()..].copy_from_slice(bytes);
+    wide
+}
+
+/// The byte that goes before a two's complement and leaves its number.
+fn sign_byte(bytes: &[u8]) -> u8
+    ensures { result ≡ sign_byte bytes.now }
+{
+    match bytes {
+        [first, ..] if *first >= 128 => 255,
+        _ => 0,
+    }
+}

@@ -1,0 +1,122 @@
+//! How a command ends.
+
+ghost use Rattle.std.specs.Prelude.{◌≡◌, IsSome};
+ghost use Rattle.cqlp_text.specs.Endings.{cannot_open_line as cannot_open_line_of, ending_line as line_of};
+ghost use Rattle.cqlp_text.specs.Outputs.{WritesText, output};
+
+use crate::line_writer::LineWriter;
+use crate::names::reason_name;
+use crate::word::Word;
+use cqlp_decode::{Finish, SinkFault};
+use cqlp_note::{Refusal, Target};
+
+/// How a command ends.
+#[derive(Clone, Copy, Debug, PartialEq, Eq)]
+pub enum Ending {
+    /// The stream was read to its end, or refused.
+    Finished(Finish),
+    /// The input failed.
+    ReadFault,
+    /// The output failed.
+    WriteFault,
+    NoMemory,
+    /// The input was not at its end after the greatest number of reads.
+    TooManyTurns,
+}
+
+impl Ending {
+    ghost use Rattle.cqlp_text.specs.Endings.{IsStatusOfStream, status_of};
+
+    /// The exit status: 0 for a whole stream, 1 for one that is cut or refused, 3 for a fault.
+    pub fn status(self) -> u8
+        ensures value { result ≡ status_of self }
+        ensures stream { IsStatusOfStream result }
+    {
+        match self {
+            Ending::Finished(Finish::Whole { .. }) => 0,
+            Ending::Finished(Finish::Cut { .. }) => 1,
+            Ending::Finished(Finish::Refused(_)) => 1,
+            Ending::ReadFault => 3,
+            Ending::WriteFault => 3,
+            Ending::NoMemory => 3,
+            Ending::TooManyTurns => 3,
+        }
+    }
+}
+
+/// Appends the verdict line or the fault line of an ending. A fault is the writer's own.
+pub fn ending_line<W: Target>(ending: Ending, w: &mut W) -> Result<(), SinkFault>
+    ensures { IsSome (W.contents w.old) → WritesText (output (W.contents w.old) (W.failures w.old)) (line_of ending) result (output (W.contents w.new) (W.failures w.new)) }
+{
+    let mut writer = LineWriter::new(w);
+    let written = writer.put_ending(ending);
+    let _ = writer.into_inner();
+    written
+}
+
+/// Appends the line of a file that cannot be opened. A fault is the writer's own.
+pub fn cannot_open_line<W: Target>(file: &str, w: &mut W) -> Result<(), SinkFault>
+    ensures { IsSome (W.contents w.old) → WritesText (output (W.contents w.old) (W.failures w.old)) (cannot_open_line_of file.now) result (output (W.contents w.new) (W.failures w.new)) }
+{
+    let mut writer = LineWriter::new(w);
+    let written = writer.put_cannot_open(file);
+    let _ = writer.into_inner();
+    written
+}
+
+impl<W: Target> LineWriter<'_, W> {
+    ghost use Rattle.std.specs.Prelude.{◌++◌, [], map, codes};
+    ghost use Rattle.cqlp_text.specs.Endings.{cannot_open_line, ending_line, verdict};
+    ghost use Rattle.cqlp_text.specs.Lines.{spaced};
+    ghost use Rattle.cqlp_text.specs.Words.{word_text};
+    ghost use Rattle.cqlp_text.specs.Written.{Writes};
+
+    /// Takes the verdict line or the fault line, and passes all on.
+    pub fn put_ending(&mut self, ending: Ending) -> Result<(), SinkFault>
+        ensures line { Writes self.old (ending_line ending) result self.new }
+        ensures passed { self.new.waiting ≡ [] }
+    {
+        match ending {
+            Ending::Finished(finish) => self.put_verdict(finish),
+            Ending::ReadFault => self.put_line("cqlp: read fault", &[]),
+            Ending::WriteFault => self.put_line("cqlp: write fault", &[]),
+            Ending::NoMemory => self.put_line("cqlp: no memory", &[]),
+            Ending::TooManyTurns => self.put_line("cqlp: too many turns", &[]),
+        }
+    }
+
+    fn put_verdict(&mut self, finish: Finish) -> Result<(), SinkFault>
+        ensures line { Writes self.old (verdict finish ++ codes "\n") result self.new }
+        ensures passed { self.new.waiting ≡ [] }
+    {
+        match finish {
+            Finish::Whole { bytes } => self.put_line("whole", &[Word::Number(bytes)]),
+            Finish::Cut { frame_at, bytes } => {
+                self.put_line("cut", &[Word::Number(frame_at), Word::Number(bytes)])
+            }
+            Finish::Refused(Refusal { at, why }) => self.put_line(
+                "refused",
+                &[Word::Number(at), Word::Name(reason_name(why))],
+            ),
+        }
+    }
+
+    /// Takes the line of a file that cannot be opened, and passes all on.
+    pub fn put_cannot_open(&mut self, file: &str) -> Result<(), SinkFault>
+        ensures line { Writes self.old (cannot_open_line file.now) result self.new }
+        ensures passed { self.new.waiting ≡ [] }
+    {
+        self.put_line("cqlp: cannot open", &[Word::Name(file)])
+    }
+
+    /// Takes a line of words, and passes all on.
+    fn put_line(&mut self, first: &str, words: &[Word<'_>]) -> Result<(), SinkFault>
+        ensures line { Writes self.old (first.now ++ (spaced (map word_text words.now) ++ codes "\n")) result self.new }
+        ensures passed { self.new.waiting ≡ [] }
+    {
+        self.put(first.as_bytes())?;
+        self.put_words(words)?;
+        self.put(b"\n")?;
+        self.flush()
+    }
+}

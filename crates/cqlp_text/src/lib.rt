@@ -1,0 +1,20 @@
+//! The text of events, cells, pages and endings, and how it goes to a target.
+#![tactic(auto)]
+
+mod cells;
+mod dates;
+mod ending;
+mod events;
+mod line_writer;
+mod names;
+mod page_text;
+mod targets;
+mod text;
+mod word;
+
+pub use cells::cell_text;
+pub use ending::{Ending, cannot_open_line, ending_line};
+pub use events::event_line;
+pub use line_writer::put_text;
+pub use page_text::{PagePlace, page_part};
+pub use targets::offer;

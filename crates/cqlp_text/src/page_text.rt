@@ -1,0 +1,496 @@
+//! Pages as text.
+
+ghost use Rattle.std.specs.Prelude.{◌≡◌, ◌++◌, IsSome, OnOk, []};
+ghost use Rattle.cqlp_decode.specs.Events.{event_of};
+ghost use Rattle.cqlp_text.specs.PageText.{page_part as text_of, place_behind};
+ghost use Rattle.cqlp_text.specs.Outputs.{WritesText, output};
+
+use crate::line_writer::LineWriter;
+use crate::word::Word;
+use cqlp_decode::{Event, SinkFault};
+use cqlp_note::{Field, Target};
+use cqlp_type::Kind;
+use std::marker::Model;
+
+/// How many values are open at most: no type is deeper.
+const ROOM: usize = 64;
+
+/// The kind of a result that is a page.
+const ROWS: i32 = 2;
+
+/// Appends what is written of an event of a page, which nothing is of an event of another frame, and goes to the place
+/// behind it. A fault is the writer's own.
+pub fn page_part<W: Target>(
+    place: &mut PagePlace,
+    event: &Event<'_>,
+    w: &mut W,
+) -> Result<(), SinkFault>
+    ensures part { IsSome (W.contents w.old) → WritesText (output (W.contents w.old) (W.failures w.old)) (text_of place.old (event_of event.now)) result (output (W.contents w.new) (W.failures w.new)) }
+    ensures place { OnOk result (place.new ≡ place_behind place.old (event_of event.now)) }
+{
+    if !place.shows(event) {
+        place.pass(event);
+        return Ok(());
+    }
+    let mut writer = LineWriter::new(w);
+    let written = writer.put_page_part(place, event);
+    let _ = writer.into_inner();
+    written
+}
+
+/// What comes next in an open value.
+#[derive(Clone, Copy)]
+pub(crate) enum Turn {
+    /// Its first item.
+    First,
+    /// A map's value, behind its key.
+    Paired,
+    /// One more item.
+    Another,
+}
+
+/// A value whose items are written.
+#[derive(Clone, Copy)]
+pub(crate) struct Open {
+    kind: Kind,
+    turn: Turn,
+}
+
+/// What the text of an event depends on of those before it.
+#[derive(Drop)]
+pub struct PagePlace {
+    is_page: bool,
+    columns: u32,
+    column: u32,
+    /// The open values from `free` on, the innermost first.
+    open_values: [Open; ROOM],
+    free: usize,
+}
+
+impl Model for PagePlace {
+    ghost use Rattle.std.specs.Prelude.{◌≡◌, ◌≤◌, length, drop};
+    ghost use Rattle.cqlp_text.specs.PageText.{PagePlace};
+
+    ghost Value = { PagePlace };
+
+    ghost view = { λ p. record { is_page = p.is_page; columns = p.columns; column = p.column; open_values = drop p.free p.open_values } };
+
+    ghost invariant = { λ p. (p.free ≤ 64) × (length p.open_values ≡ 64) };
+}
+
+impl PagePlace {
+    ghost use Rattle.std.specs.Prelude.{false};
+    ghost use Rattle.cqlp_note.specs.Field.{Count as CountValue, Int as IntValue};
+    ghost use Rattle.cqlp_text.specs.PageText.{no_page, before, behind, innermost, with_item, with_open, without_open, place_behind_field};
+
+    /// Before any frame.
+    pub fn new() -> Self
+        ensures { result ≡ no_page }
+    {
+        PagePlace {
+            is_page: false,
+            columns: 0,
+            column: 0,
+            open_values: [Open {
+                kind: Kind::Raw,
+                turn: Turn::First,
+            }; ROOM],
+            free: ROOM,
+        }
+    }
+
+    fn is_page(&self) -> bool
+        ensures { result ≡ self.now.is_page }
+    {
+        self.is_page
+    }
+
+    /// Whether anything may be written of an event.
+    fn shows(&self, event: &Event<'_>) -> bool
+        ensures { result ≡ false → text_of self.now (event_of event.now) ≡ [] }
+    {
+        match *event {
+            Event::Text { .. }
+            | Event::Count { .. }
+            | Event::Leaf { .. }
+            | Event::Null { .. }
+            | Event::Empty { .. }
+            | Event::Enter { .. }
+            | Event::Leave { .. }
+            | Event::Part { .. } => self.is_page,
+            _ => false,
+        }
+    }
+
+    fn columns(&self) -> u32
+        ensures { result ≡ self.now.columns }
+    {
+        self.columns
+    }
+
+    /// The innermost open value.
+    fn innermost(&self) -> Option<Open>
+        ensures { result ≡ innermost self.now.open_values }
+    {
+        self.open_values.get(self.free).copied()
+    }
+
+    /// What stands before a cell of this column, or before an item of the open value.
+    fn before(&self, column: u32) -> &'static str
+        ensures { result.now ≡ before column self.now.open_values }
+    {
+        match self.innermost() {
+            None if column == 0 => "",
+            None => " | ",
+            Some(open) => separator(open.turn),
+        }
+    }
+
+    /// What stands behind a cell of this column, or behind an item of the open value.
+    fn behind(&self, column: u32) -> &'static str
+        ensures { result.now ≡ behind self.now.columns column self.now.open_values }
+    {
+        if self.free < ROOM {
+            ""
+        } else {
+            row_end(self.columns, column)
+        }
+    }
+
+    /// What stands behind the innermost open value.
+    fn behind_innermost(&self) -> &'static str
+        ensures { result.now ≡ behind self.now.columns self.now.column (without_open self.now.open_values) }
+    {
+        if self.free + 1 < ROOM {
+            ""
+        } else {
+            row_end(self.columns, self.column)
+        }
+    }
+
+    /// Goes behind an event.
+    fn pass(&mut self, event: &Event<'_>)
+        ensures { self.new ≡ place_behind self.old (event_of event.now) }
+    {
+        match *event {
+            Event::Int { field, value } => self.pass_int(field, value),
+            Event::Count { field, count } => self.pass_count(field, count),
+            Event::Leaf { column, .. } | Event::Null { column, .. } | Event::Empty { column, .. } =>
+                self.pass_item(column),
+            Event::Enter { column, kind, .. } => self.enter(column, kind),
+            Event::Leave { .. } => self.leave(),
+            Event::Part { column, last, .. } => self.pass_part(column, last),
+            Event::End { .. } => self.start(false),
+            _ => {}
+        }
+    }
+
+    /// Goes to the begin of a result, which is a page or not.
+    fn start(&mut self, is_page: bool)
+        ensures { self.new ≡ record no_page { is_page = is_page } }
+    {
+        self.is_page = is_page;
+        self.columns = 0;
+        self.column = 0;
+        self.free = ROOM;
+    }
+
+    fn pass_int(&mut self, field: Field, value: i32)
+        ensures { self.new ≡ place_behind_field self.old field (IntValue value) }
+    {
+        if let Field::ResultKind = field {
+            if value == ROWS {
+                self.start(true);
+            }
+        }
+    }
+
+    fn pass_count(&mut self, field: Field, count: u32)
+        ensures { self.new ≡ place_behind_field self.old field (CountValue count) }
+    {
+        if let Field::Columns = field {
+            self.columns = count;
+        }
+    }
+
+    /// Goes behind a cell of this column, or an item of the open value.
+    fn pass_item(&mut self, column: u32)
+        ensures { self.new ≡ record self.old { column = column; open_values = with_item self.old.open_values } }
+    {
+        self.column = column;
+        self.count_item();
+    }
+
+    fn pass_part(&mut self, column: u32, last: bool)
+        ensures { self.new ≡ record self.old { column = column; open_values = (if last then with_item self.old.open_values else self.old.open_values) } }
+    {
+        self.column = column;
+        if last {
+            self.count_item();
+        }
+    }
+
+    /// Goes behind an item of the open value, if there is one.
+    fn count_item(&mut self)
+        ensures { self.new ≡ record self.old { open_values = with_item self.old.open_values } }
+    {
+        if self.free < ROOM {
+            let open = self.open_values[self.free];
+            self.open_values[self.free] = Open {
+                kind: open.kind,
+                turn: turn_after(open.kind, open.turn),
+            };
+        }
+    }
+
+    /// Goes into a value of this kind, an item of the one that was open.
+    fn enter(&mut self, column: u32, kind: Kind)
+        ensures { self.new ≡ record self.old { column = column; open_values = with_open kind (with_item self.old.open_values) } }
+    {
+        self.pass_item(column);
+        self.push(kind);
+    }
+
+    fn push(&mut self, kind: Kind)
+        ensures { self.new ≡ record self.old { open_values = with_open kind self.old.open_values } }
+    {
+        if self.free == 0 {
+            return;
+        }
+        self.free -= 1;
+        self.open_values[self.free] = Open {
+            kind,
+            turn: Turn::First,
+        };
+    }
+
+    fn leave(&mut self)
+        ensures { self.new ≡ record self.old { open_values = without_open self.old.open_values } }
+    {
+        if self.free < ROOM {
+            self.free += 1;
+        }
+    }
+}
+
+impl<W: Target> LineWriter<'_, W> {
+    ghost use Rattle.cqlp_note.specs.Field.{Count as CountValue, Text as TextValue};
+    ghost use Rattle.cqlp_value.specs.CellStep as cell;
+    ghost use Rattle.cqlp_text.specs.PageText.{before, behind, column_line, page_line, event_part, field_part, value_part, end_part, opening};
+    ghost use Rattle.cqlp_text.specs.Words.{word_text};
+    ghost use Rattle.cqlp_text.specs.Written.{Writes};
+
+    /// Takes what is written of an event of a page, goes to the place behind it, and passes all on.
+    pub fn put_page_part(
+        &mut self,
+        place: &mut PagePlace,
+        event: &Event<'_>,
+    ) -> Result<(), SinkFault>
+        ensures part { Writes self.old (text_of place.old (event_of event.now)) result self.new }
+        ensures passed { self.new.waiting ≡ [] }
+        ensures place { OnOk result (place.new ≡ place_behind place.old (event_of event.now)) }
+    {
+        if place.is_page() {
+            self.put_event_part(place, event)?;
+        }
+        place.pass(event);
+        self.flush()
+    }
+
+    fn put_event_part(&mut self, place: &PagePlace, event: &Event<'_>) -> Result<(), SinkFault>
+        ensures { Writes self.old (event_part place.now (event_of event.now)) result self.new }
+    {
+        match *event {
+            Event::Text { field, text } => self.put_text_part(place, field, text),
+            Event::Count { field, count } => self.put_count_part(place, field, count),
+            Event::Leaf { column, scalar, .. } => {
+                self.put_value(place, column, Word::Cell(scalar))
+            }
+            Event::Null { column, .. } => self.put_value(place, column, Word::Name("null")),
+            Event::Empty { column, .. } => self.put_value(place, column, Word::Name("empty")),
+            Event::Enter { column, kind, .. } => self.put_opening(place, column, kind),
+            Event::Leave { .. } => self.put_closing(place),
+            Event::Part {
+                column,
+                offset,
+                bytes,
+                last,
+                ..
+            } => self.put_content_part(place, column, offset, bytes, last),
+            _ => Ok(()),
+        }
+    }
+
+    fn put_text_part(
+        &mut self,
+        place: &PagePlace,
+        field: Field,
+        text: &str,
+    ) -> Result<(), SinkFault>
+        ensures { Writes self.old (field_part place.now field (TextValue text.now)) result self.new }
+    {
+        match field {
+            Field::ColumnName => self.put_column_line(text),
+            _ => Ok(()),
+        }
+    }
+
+    fn put_column_line(&mut self, name: &str) -> Result<(), SinkFault>
+        ensures { Writes self.old (column_line name.now) result self.new }
+    {
+        self.put(b"column ")?;
+        self.put_quoted(name)?;
+        self.put(b"\n")
+    }
+
+    fn put_count_part(
+        &mut self,
+        place: &PagePlace,
+        field: Field,
+        count: u32,
+    ) -> Result<(), SinkFault>
+        ensures { Writes self.old (field_part place.now field (CountValue count)) result self.new }
+    {
+        match field {
+            Field::Rows => self.put_page_line(place.columns(), count),
+            _ => Ok(()),
+        }
+    }
+
+    fn put_page_line(&mut self, columns: u32, rows: u32) -> Result<(), SinkFault>
+        ensures { Writes self.old (page_line columns rows) result self.new }
+    {
+        self.put(b"page ")?;
+        self.put_number(u64::from(columns))?;
+        self.put(b" columns ")?;
+        self.put_number(u64::from(rows))?;
+        self.put(b" rows\n")
+    }
+
+    /// Takes a value without items, with what stands before and behind it.
+    fn put_value(&mut self, place: &PagePlace, column: u32, word: Word<'_>) -> Result<(), SinkFault>
+        ensures { Writes self.old (before column place.now.open_values ++ (word_text word.entry ++ behind place.now.columns column place.now.open_values)) result self.new }
+    {
+        self.put(place.before(column).as_bytes())?;
+        self.put_word(word)?;
+        self.put(place.behind(column).as_bytes())
+    }
+
+    fn put_opening(&mut self, place: &PagePlace, column: u32, kind: Kind) -> Result<(), SinkFault>
+        ensures { Writes self.old (before column place.now.open_values ++ opening kind) result self.new }
+    {
+        self.put(place.before(column).as_bytes())?;
+        self.put(opening(kind).as_bytes())
+    }
+
+    fn put_closing(&mut self, place: &PagePlace) -> Result<(), SinkFault>
+        ensures { Writes self.old (end_part place.now.columns place.now.column place.now.open_values) result self.new }
+    {
+        let Some(open) = place.innermost() else {
+            return Ok(());
+        };
+        self.put(closing(open.kind).as_bytes())?;
+        self.put(place.behind_innermost().as_bytes())
+    }
+
+    /// Takes a part of a long content, which begins with `0x`.
+    fn put_content_part(
+        &mut self,
+        place: &PagePlace,
+        column: u32,
+        offset: u32,
+        bytes: &[u8],
+        last: bool,
+    ) -> Result<(), SinkFault>
+        ensures { Writes self.old (value_part place.now column (cell.Part 0 offset bytes.now last)) result self.new }
+    {
+        self.put_content_start(place, column, offset)?;
+        self.put_hex(bytes)?;
+        self.put_content_end(place, column, last)
+    }
+
+    fn put_content_start(
+        &mut self,
+        place: &PagePlace,
+        column: u32,
+        offset: u32,
+    ) -> Result<(), SinkFault>
+        ensures { Writes self.old (if offset == 0 then before column place.now.open_values ++ codes "0x" else []) result self.new }
+    {
+        if offset > 0 {
+            return Ok(());
+        }
+        self.put(place.before(column).as_bytes())?;
+        self.put(b"0x")
+    }
+
+    fn put_content_end(
+        &mut self,
+        place: &PagePlace,
+        column: u32,
+        last: bool,
+    ) -> Result<(), SinkFault>
+        ensures { Writes self.old (if last then behind place.now.columns column place.now.open_values else []) result self.new }
+    {
+        if last {
+            self.put(place.behind(column).as_bytes())
+        } else {
+            Ok(())
+        }
+    }
+}
+
+ghost use Rattle.std.specs.Prelude.{◌==◌, if◌then◌else◌, codes};
+ghost use Rattle.cqlp_text.specs.PageText.{behind as text_behind, closing as text_closing, opening as text_opening, separator as text_between, turn_after as next_turn};
+
+/// What stands before an item of an open value.
+fn separator(turn: Turn) -> &'static str
+    ensures { result.now ≡ text_between turn }
+{
+    match turn {
+        Turn::First => "",
+        Turn::Paired => ": ",
+        Turn::Another => ", ",
+    }
+}
+
+/// What stands behind a cell of this column.
+fn row_end(columns: u32, column: u32) -> &'static str
+    ensures { result.now ≡ text_behind columns column [] }
+{
+    if u64::from(column) + 1 == u64::from(columns) {
+        "\n"
+    } else {
+        ""
+    }
+}
+
+fn opening(kind: Kind) -> &'static str
+    ensures { result.now ≡ text_opening kind }
+{
+    match kind {
+        Kind::List => "[",
+        Kind::Set | Kind::Map => "{",
+        _ => "(",
+    }
+}
+
+fn closing(kind: Kind) -> &'static str
+    ensures { result.now ≡ text_closing kind }
+{
+    match kind {
+        Kind::List => "]",
+        Kind::Set | Kind::Map => "}",
+        _ => ")",
+    }
+}
+
+/// What comes next behind an item of a value of this kind.
+fn turn_after(kind: Kind, turn: Turn) -> Turn
+    ensures { result ≡ next_turn kind turn }
+{
+    match (kind, turn) {
+        (Kind::Map, Turn::First | Turn::Another) => Turn::Paired,
+        _ => Turn::Another,
+    }
+}

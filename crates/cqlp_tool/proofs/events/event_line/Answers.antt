@@ -1,6 +1,0 @@
-use Rattle.std.proofs.Common.{arith}
-use Rattle.cqlp_tool.proofs.Writing.{writes_text}
-use Rattle.cqlp_tool.proofs.events.event_line.Goals as goal
-
-pub returns : goal.returns
-returns g c = writes_text g.W.Target.contents g.W.Target.failures c.args.w.now c.into_inner.result.now _ _ c.put_event-written.new.self _ _ c.put_event-written.result c.new-writer.ensures c.into_inner.ensures.given c.put_event-written.ensures.passed c.put_event-written.ensures.line (λ e. grind arith)
