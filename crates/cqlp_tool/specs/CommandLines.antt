@@ -1,8 +1,7 @@
 -- What is written where a command line starts no task.
-use Rattle.std.specs.Prelude.{◌≡◌, ℕ, true, false, List, [], ◌∷◌, ◌++◌, codes, ◌⊎◌}
+use Rattle.std.specs.Prelude.{◌≡◌, ℕ, true, false, List, ◌⊎◌}
 use Rattle.cqlp_note.specs.declared.limits.Limits.{Limits}
 use Rattle.cqlp_text.specs.declared.ending.Ending.TheVariants as ending
-use Rattle.cqlp_text.specs.Lines.{spaced}
 use Rattle.cqlp_text.specs.Outputs.{Output, with_text, HasFailed, StopsWithin}
 use Rattle.cqlp_tool.specs.Showing.{Concludes}
 

@@ -1,14 +1,12 @@
 -- What is written of a stream.
-use Rattle.std.specs.Prelude.{◌≡◌, ℕ, ◌≤◌, true, List, [], ◌∷◌, ◌++◌, length, Option, Some, None, Result, Ok, Err, ◌⊎◌}
-use Rattle.std.specs.Io.KnownBytes.{append_known}
-use Rattle.cqlp_note.specs.Streams.{counted}
+use Rattle.std.specs.Prelude.{◌≡◌, ℕ, ◌≤◌, List, [], ◌∷◌, ◌++◌, length, Option, Some, None, ◌⊎◌}
 use Rattle.cqlp_decode.specs.declared.running.Outcome.{Outcome}
 use Rattle.cqlp_decode.specs.declared.running.Outcome.TheVariants as outcome
-use Rattle.cqlp_decode.specs.declared.sink.SinkFault.{SinkFault}
 use Rattle.cqlp_decode.specs.Reading.{Event, start, Says, Waits}
 use Rattle.cqlp_decode.specs.Standing.{State}
 use Rattle.cqlp_decode.specs.Streams.{After, Finishes}
 use Rattle.cqlp_decode.specs.Draining.{HasRefused}
+use Rattle.cqlp_text.specs.Outputs.{Output, with_text, StopsWithin}
 use Rattle.cqlp_tool.specs.declared.form.Form.{Form}
 use Rattle.cqlp_tool.specs.Forms.{text, text_of, form_after, form_behind}
 

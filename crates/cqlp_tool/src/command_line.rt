@@ -4,7 +4,7 @@ ghost use Rattle.std.specs.Prelude.{◌≡◌, ◌≢◌, ◌≤◌, ◌⊎◌, 
 ghost use Rattle.cqlp_note.specs.Limits.{first_bad};
 ghost use Rattle.clap.specs.Words.{kind_of};
 ghost use Rattle.cqlp_tool.specs.CommandLines.{Complains, Helps, TellsFault, TellsHelp, TellsMistake, TellsWrong, default_limits};
-ghost use Rattle.cqlp_text.specs.Endings.{IsStatusOfStream};
+ghost use Rattle.cqlp_text.specs.Endings.{IsStatusOfStream, cannot_open_line as cannot_open_line_of};
 ghost use Rattle.cqlp_text.specs.Outputs.{WritesText, output, with_text};
 ghost use Rattle.cqlp_tool.specs.Showing.{Concludes, ShowsAndTells};
 ghost use Rattle.cqlp_text.specs.declared.ending.Ending.{Ending};
@@ -111,7 +111,7 @@ fn perform<A: Allocator, I: Source, O: Target, E: Target>(
 fn cannot_open<E: Target>(file: &str, mut err: E) -> (u8, E)
     ensures status { result.0 ≡ 3 }
     ensures line { IsSome (E.contents err) →
-        TellsFault (cannot_open_line file.now) (output (E.contents err) (E.failures err)) result.0 (output (E.contents result.1) (E.failures result.1)) }
+        TellsFault (cannot_open_line_of file.now) (output (E.contents err) (E.failures err)) result.0 (output (E.contents result.1) (E.failures result.1)) }
 {
     match cannot_open_line(file, &mut err) {
         Ok(()) | Err(SinkFault) => (FAULT, err),
