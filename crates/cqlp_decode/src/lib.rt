@@ -4,16 +4,12 @@
 mod decoder;
 mod event;
 mod following;
-#[cfg(test)]
-mod heaps;
 pub mod laws;
 mod page;
 mod running;
 mod sink;
 mod standing;
 mod table;
-#[cfg(test)]
-mod tests;
 mod upcoming;
 
 pub use decoder::{Decoder, NewError};

@@ -1,8 +1,6 @@
 //! Type options of the CQL native protocol v4.
 #![tactic(auto)]
 
-#[cfg(test)]
-mod heaps;
 mod item;
 mod kind;
 pub mod laws;

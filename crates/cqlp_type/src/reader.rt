@@ -206,6 +206,3 @@ impl<A: Allocator> TypeReader<A> {
         self.remaining.stage = Stage::Idle;
     }
 }
-
-#[cfg(test)]
-mod tests;

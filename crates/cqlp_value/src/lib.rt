@@ -4,8 +4,6 @@
 mod content;
 mod front;
 mod gather;
-#[cfg(test)]
-mod heaps;
 mod item;
 pub mod laws;
 mod levels;

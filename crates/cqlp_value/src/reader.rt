@@ -156,6 +156,3 @@ impl<A: Allocator> CellReader<A> {
         }
     }
 }
-
-#[cfg(test)]
-mod tests;

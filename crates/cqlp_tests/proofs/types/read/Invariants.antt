@@ -1,0 +1,12 @@
+use Rattle.std.proofs.Common.{◌≡◌, ◌≤◌, true, length}
+use Rattle.cqlp_type.specs.Standing.{IsShared}
+use Rattle.cqlp_tests.proofs.types.read.Given as goal
+
+abbrev pub invariant-loop : goal.invariant-loop
+invariant-loop g l = record {
+  within : l.start ≤ length l.bytes;
+  under_way : l.reader.under_way ≡ true;
+  shared : IsShared l.reader l.partial;
+  room : l.reader.rules.entries ≤ l.table.room;
+  kept : l.table.room ≡ l.initial.table.room;
+}
