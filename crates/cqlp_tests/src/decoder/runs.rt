@@ -1,8 +1,11 @@
-//! How runs end.
+//! How runs end, and what is held then.
+
+ghost use Rattle.std.specs.Prelude.{◌≤◌, max};
+ghost use Rattle.cqlp_decode.specs.Streams.{state};
 
 use super::{LIMITS, count, text};
-use cqlp_decode::{Decoder, Event, Finish, Outcome, Sink, SinkFault, run};
-use cqlp_note::{Field, Header, OfStd, Opcode};
+use cqlp_decode::{Decoder, Event, Finish, Held, Outcome, Sink, SinkFault, run};
+use cqlp_note::{Field, Header, OfStd, Opcode, Source};
 use std::io;
 use std::io::Read;
 use std::test::Fail;
@@ -123,5 +126,38 @@ fn a_run_ends_where_its_sink_fails(rt: HostRuntime) -> Result<(), Fail> {
         Outcome::SinkFault
     );
     assert_eq!(rt; sink.taken, 1);
+    Ok(())
+}
+
+/// What is held after a run, however it ends: no more than the limits that the decoder had before it.
+fn held_after<R: Source, S: Sink>(
+    decoder: &mut Decoder,
+    reader: &mut R,
+    sink: &mut S,
+    turns: u64,
+) -> Held
+    ensures { let rules = (state decoder.old).rules in (result.bytes ≤ max rules.text rules.cell) × (result.entries ≤ rules.entries) × (result.levels ≤ rules.depth) }
+{
+    let _ = run(decoder, reader, sink, turns);
+    decoder.held()
+}
+
+#[test]
+fn what_is_held_after_a_run(rt: HostRuntime) -> Result<(), Fail> {
+    let events = events();
+    let runs = [
+        (&SUPPORTED[..8], &events[..], 0),
+        (&SUPPORTED[..20], &events[..], 7),
+        (&SUPPORTED[..20], &events[..1], 0),
+        (&SUPPORTED[..], &events[..], 0),
+    ];
+    for (front, awaited, bytes) in runs {
+        let mut decoder = Decoder::new(rt.alloc(), LIMITS)?;
+        let mut reader = OfStd::new(Once(Some(front)));
+        let mut sink = sink_for(awaited);
+        let held = held_after(&mut decoder, &mut reader, &mut sink, 9);
+        assert_eq!(rt; held.bytes, bytes);
+        assert_eq!(rt; (held.entries, held.levels), (0, 0));
+    }
     Ok(())
 }
