@@ -14,3 +14,4 @@ pub mod PageRows
 pub mod StepRuns
 pub mod PartsRead
 pub mod FramesRead
+mod EventCounts

@@ -1,11 +1,13 @@
 -- Laws of the reading.
-use Rattle.std.specs.Prelude.{◌≡◌, ℕ, ◌≤◌, ◌^◌, ◌++◌, List, [], ◌∷◌, length, FitsSigned}
+use Rattle.std.specs.Prelude.{◌≡◌, ℕ, ◌≤◌, ◌^◌, ◌++◌, List, [], ◌∷◌, length, None, FitsSigned}
 use Rattle.std.specs.Int.{w16}
 use Rattle.cqlp_note.specs.declared.refusal.Reason.{Reason}
 use Rattle.cqlp_note.specs.Limits.{Rules}
 use Rattle.cqlp_message.specs.FrameValues.{FrameValue}
 use Rattle.cqlp_message.specs.Frames.{AllSpell, FlatAll, IsWithin}
 use Rattle.cqlp_decode.specs.Reading.{Place, Event, Verdict, Refused, Waits, Says, start}
+use Rattle.cqlp_decode.specs.Standing.{State}
+use Rattle.cqlp_decode.specs.Streams.{After}
 
 -- Of any bytes there is one list of events, and one verdict.
 abbrev pub IsSaidOnce : Type 0
@@ -25,3 +27,12 @@ AllWithin l (f ∷ fs) = IsWithin l f.0 × FitsSigned w16 f.0.stream × AllWithi
 -- is waited for.
 abbrev pub SpelledIsRead : Type 0
 SpelledIsRead = (l : Rules) (fs : List (FrameValue × ℕ)) (bytes : List ℕ) → AllSpell fs bytes → AllWithin l fs → length bytes ≤ 2 ^ 63 → Says l start bytes (FlatAll 0 fs) Waits
+
+-- There are no more events than bytes, where a part of a long content has any: the end of a frame is paid by its header,
+-- and that of a value by its length.
+abbrev pub HasNoMoreEventsThanBytes : Type 0
+HasNoMoreEventsThanBytes = (l : Rules) (bytes : List ℕ) (es : List (ℕ × Event)) (v : Verdict) → 1 ≤ l.part → Says l start bytes es v → length es ≤ length bytes
+
+-- So a decoder that has not refused has handed out no more events than it has used bytes.
+abbrev pub HandsOutNoMoreEventsThanBytes : Type 0
+HandsOutNoMoreEventsThanBytes = (d : State) (s : List ℕ) (es : List (ℕ × Event)) → 1 ≤ d.rules.part → d.refusal ≡ None → After d s es → length es ≤ length s

@@ -1,6 +1,6 @@
 //! Laws of the reading of a stream.
 
-ghost use Rattle.cqlp_decode.specs.Laws.{GoesOn, IsSaidOnce, SpelledIsRead};
+ghost use Rattle.cqlp_decode.specs.Laws.{GoesOn, HandsOutNoMoreEventsThanBytes, HasNoMoreEventsThanBytes, IsSaidOnce, SpelledIsRead};
 
 /// Of any bytes there is one list of events, and one verdict.
 pub fn said_once()
@@ -16,4 +16,10 @@ pub fn goes_on()
 /// What is spelled is read: frames within the limits, one after the other, say their own events, and nothing is refused.
 pub fn spelled_is_read()
     ensures { SpelledIsRead }
+{}
+
+/// A stream has no more events than bytes, whatever lengths and counts it tells, and a decoder hands out no more.
+pub fn no_more_events_than_bytes()
+    ensures stream { HasNoMoreEventsThanBytes }
+    ensures decoder { HandsOutNoMoreEventsThanBytes }
 {}
