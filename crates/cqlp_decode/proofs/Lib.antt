@@ -15,3 +15,4 @@ pub mod StepRuns
 pub mod PartsRead
 pub mod FramesRead
 mod EventCounts
+mod WiderLimits

@@ -10,7 +10,7 @@ use Rattle.cqlp_decode.specs.Reading.{Event, Place, step, Reads, Verdict, Waits,
 use Rattle.cqlp_note.proofs.Readers.{says_stays}
 use Rattle.cqlp_note.proofs.Runs.{stays_bad, runs_stay, runs_compare}
 
-no_step : (l : Rules) (q r : Place) (rest rest' : List ℕ) (v : Verdict) (es : List (ℕ × Event)) → Ends (says (step l q) 0 rest) v → Reads l q rest es r rest' → es ≡ []
+pub no_step : (l : Rules) (q r : Place) (rest rest' : List ℕ) (v : Verdict) (es : List (ℕ × Event)) → Ends (says (step l q) 0 rest) v → Reads l q rest es r rest' → es ≡ []
 no_step l q r rest rest' v [] ends run = refl
 no_step l q r rest rest' v (e ∷ es) ends run = absurd (rw run.2 at ends)
 

@@ -1,7 +1,8 @@
 -- Laws of the reading.
-use Rattle.std.specs.Prelude.{◌≡◌, ℕ, ◌≤◌, ◌^◌, ◌++◌, List, [], ◌∷◌, length, None, FitsSigned}
+use Rattle.std.specs.Prelude.{◌≡◌, ℕ, ◌≤◌, ◌^◌, ◌++◌, List, [], ◌∷◌, length, None, ◌⊎◌, FitsSigned}
 use Rattle.std.specs.Int.{w16}
 use Rattle.cqlp_note.specs.declared.refusal.Reason.{Reason}
+use Rattle.cqlp_note.specs.declared.refusal.Reason.TheVariants.{TooLong, TooDeep, TooMany}
 use Rattle.cqlp_note.specs.Limits.{Rules}
 use Rattle.cqlp_message.specs.FrameValues.{FrameValue}
 use Rattle.cqlp_message.specs.Frames.{AllSpell, FlatAll, IsWithin}
@@ -36,3 +37,20 @@ HasNoMoreEventsThanBytes = (l : Rules) (bytes : List ℕ) (es : List (ℕ × Eve
 -- So a decoder that has not refused has handed out no more events than it has used bytes.
 abbrev pub HandsOutNoMoreEventsThanBytes : Type 0
 HandsOutNoMoreEventsThanBytes = (d : State) (s : List ℕ) (es : List (ℕ × Event)) → 1 ≤ d.rules.part → d.refusal ≡ None → After d s es → length es ≤ length s
+
+-- other limits on texts, on contents, on the types of one metadata and on their nesting
+abbrev pub with_limits : Rules → (text cell entries depth : ℕ) → Rules
+with_limits l text cell entries depth = record l { text = text; cell = cell; entries = entries; depth = depth }
+
+-- what a limit refuses
+abbrev pub IsOfLimit : Reason → Type 0
+IsOfLimit TooLong = Unit {0}
+IsOfLimit TooDeep = Unit {0}
+IsOfLimit TooMany = Unit {0}
+IsOfLimit why = ⊥
+
+-- What is said within limits is what is said within wider ones; or it ends before that, where a limit refuses.
+abbrev pub LimitsOnlyCut : Type 0
+LimitsOnlyCut = (l : Rules) (text cell entries depth : ℕ) → l.text ≤ text → l.cell ≤ cell → l.entries ≤ entries → l.depth ≤ depth
+    → (bytes : List ℕ) (es fs : List (ℕ × Event)) (v w : Verdict) → Says l start bytes es v → Says (with_limits l text cell entries depth) start bytes fs w
+    → ((fs ≡ es) × (w ≡ v)) ⊎ ((more : List (ℕ × Event)) × (k : ℕ) × (why : Reason) × (fs ≡ es ++ more) × (v ≡ Refused k why) × IsOfLimit why)

@@ -1,6 +1,6 @@
 //! Laws of the reading of a stream.
 
-ghost use Rattle.cqlp_decode.specs.Laws.{GoesOn, HandsOutNoMoreEventsThanBytes, HasNoMoreEventsThanBytes, IsSaidOnce, SpelledIsRead};
+ghost use Rattle.cqlp_decode.specs.Laws.{GoesOn, HandsOutNoMoreEventsThanBytes, HasNoMoreEventsThanBytes, IsSaidOnce, LimitsOnlyCut, SpelledIsRead};
 
 /// Of any bytes there is one list of events, and one verdict.
 pub fn said_once()
@@ -22,4 +22,9 @@ pub fn spelled_is_read()
 pub fn no_more_events_than_bytes()
     ensures stream { HasNoMoreEventsThanBytes }
     ensures decoder { HandsOutNoMoreEventsThanBytes }
+{}
+
+/// Limits only cut: wider ones change no event and no refusal that is not a limit's own.
+pub fn limits_only_cut()
+    ensures { LimitsOnlyCut }
 {}
