@@ -85,10 +85,15 @@ fn feed<A: Allocator>(
     }
 }
 
+/// Whether a decoder says this of the input.
+fn says<A: Allocator>(decoder: &mut Decoder<A>, input: &[u8], expected: &Step<'_>) -> bool {
+    decoder.next(input) == *expected
+}
+
 #[test]
 fn an_empty_stream_is_whole(rt: HostRuntime) -> Result<(), Fail> {
     let mut decoder = Decoder::new(rt.alloc(), LIMITS)?;
-    assert_eq!(rt; decoder.next(&[]), Step::More { used: 0 });
+    assert!(rt; says(&mut decoder, &[], &Step::More { used: 0 }));
     assert_eq!(rt; decoder.finish(), Finish::Whole { bytes: 0 });
     let nothing = Held {
         bytes: 0,
@@ -133,7 +138,7 @@ fn a_frame_ends_without_a_byte(rt: HostRuntime) -> Result<(), Fail> {
         used: 9,
         event: Event::Frame(OPTIONS_HEADER),
     };
-    assert_eq!(rt; decoder.next(&OPTIONS), frame);
+    assert!(rt; says(&mut decoder, &OPTIONS, &frame));
     let cut = Finish::Cut {
         frame_at: 0,
         bytes: 9,
@@ -144,7 +149,7 @@ fn a_frame_ends_without_a_byte(rt: HostRuntime) -> Result<(), Fail> {
         used: 0,
         event: Event::End { extra: 0 },
     };
-    assert_eq!(rt; decoder.next(&[]), end);
+    assert!(rt; says(&mut decoder, &[], &end));
     assert_eq!(rt; decoder.finish(), Finish::Whole { bytes: 9 });
     Ok(())
 }
@@ -153,7 +158,7 @@ fn a_frame_ends_without_a_byte(rt: HostRuntime) -> Result<(), Fail> {
 fn a_cut_names_the_frame_under_way(rt: HostRuntime) -> Result<(), Fail> {
     let mut decoder = Decoder::new(rt.alloc(), LIMITS)?;
     for byte in &OPTIONS[..8] {
-        assert_eq!(rt; decoder.next(&[*byte]), Step::More { used: 1 });
+        assert!(rt; says(&mut decoder, &[*byte], &Step::More { used: 1 }));
     }
     let cut = Finish::Cut {
         frame_at: 0,
@@ -186,7 +191,7 @@ fn a_refusal_is_repeated(rt: HostRuntime) -> Result<(), Fail> {
         b"\x04\0\0\0\x05\0\0\0\0",
     ];
     for input in inputs {
-        assert_eq!(rt; decoder.next(input), Step::Refused(refusal));
+        assert!(rt; says(&mut decoder, input, &Step::Refused(refusal)));
         assert_eq!(rt; decoder.finish(), Finish::Refused(refusal));
     }
     Ok(())
