@@ -93,7 +93,7 @@ module _ (old new : State) (input s : List ℕ) (es : List (ℕ × reading.Event
   refused_leads None eq r a after =
       let bad = a.0 after.bytes after.pending in
       let run = runs_stay (step old.rules) start s input es old.place after.bytes after.read in
-      rw (a.1, a.2, eq) (refl, (input, (old.place, after.bytes ++ input, run, rw bad refl)), (old.place, after.bytes ++ input, run, rw bad refl))
+      rw (a.1, a.2, eq) (refl, (old.place, after.bytes, after.read, (input, bad)), (old.place, after.bytes ++ input, run, rw bad refl))
 
   pub more_uses : (o : Option Refusal) (used : ℕ) → AdvancesFrom o old input (advance.More used) new → used ≡ length input
   more_uses (Some r) used a = absurd (let e = a.0 in cc)

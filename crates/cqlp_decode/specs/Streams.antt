@@ -7,7 +7,9 @@ use Rattle.cqlp_decode.specs.declared.event.Finish.{Finish}
 use Rattle.cqlp_decode.specs.declared.event.Finish.TheVariants as finish
 use Rattle.cqlp_decode.specs.declared.standing.Standing.{Standing}
 use Rattle.cqlp_decode.specs.Reading as reading
-use Rattle.cqlp_decode.specs.Reading.{Event, start, Reads, Says, Waits, Refused}
+use Rattle.cqlp_note.specs.Reader.{says, Bad}
+use Rattle.cqlp_decode.specs.Reading.{Event, Place, start, Reads, Says, Waits, Refused}
+use Rattle.cqlp_decode.specs.Reading.{step as step_of}
 use Rattle.cqlp_decode.specs.Events.{event_of}
 use Rattle.cqlp_decode.specs.Standing.{State, Parts, IsPending, IsLent, state_of, frame_after, ends_due}
 
@@ -58,7 +60,7 @@ pub record Stands (d : State) (s : List ℕ) (es : List (ℕ × Event)) : Type 0
 -- this refusal.
 abbrev pub AfterBy : Option Refusal → State → List ℕ → List (ℕ × Event) → Type 0
 AfterBy None d s es = Stands d s es
-AfterBy (Some r) d s es = (t : List ℕ) × Says d.rules start (s ++ t) es (Refused r.at r.why)
+AfterBy (Some r) d s es = (p : Place) × (bytes : List ℕ) × Reads d.rules start s es p bytes × ((t : List ℕ) × (says (step_of d.rules p) 0 (bytes ++ t) ≡ Bad (r.at, r.why)))
 
 -- a decoder that was made, and then used the bytes s and handed out the events es
 abbrev pub After : State → List ℕ → List (ℕ × Event) → Type 0

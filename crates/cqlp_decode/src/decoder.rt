@@ -1,6 +1,6 @@
 //! The decoder of a stream of frames.
 
-ghost use Rattle.std.specs.Prelude.{◌≡◌, ◌≤◌, ◌↔◌, List, [], ℕ, length, IfOk, IsErrOf, Err, max};
+ghost use Rattle.std.specs.Prelude.{◌≡◌, ◌≤◌, ◌↔◌, List, [], ℕ, length, IfOk, IsErrOf, Err, max, None};
 ghost use Rattle.std.specs.Borrow.{sem};
 ghost use Rattle.cqlp_note.specs.Limits.{first_bad, rules_of};
 ghost use Rattle.cqlp_note.specs.Head.{value_of};
@@ -60,6 +60,7 @@ impl<A: Allocator + Clone> Decoder<A> {
     pub fn new(alloc: A, limits: Limits) -> Result<Self, NewError>
         ensures bad { (b : Bad) → IsErrOf result (NewError.BadLimits b) ↔ (first_bad limits ≡ Err b) }
         ensures fresh { IfOk result (λ d. After (state d) [] []) }
+        ensures unrefused { IfOk result (λ d. (state d).refusal ≡ None) }
         ensures rules { IfOk result (λ d. (state d).rules ≡ rules_of limits) }
         ensures nothing_held { IfOk result (λ d. ((state d).held ≡ []) × ((state d).place.nodes ≡ []) × (levels_of d.parts ≡ 0)) }
     {
@@ -75,6 +76,7 @@ impl<A: Allocator + Clone> Decoder<A> {
     fn with_room(alloc: A, limits: Limits) -> Result<Self, NoMemory>
         requires { 1 ≤ limits.cell }
         ensures fresh { IfOk result (λ d. After (state d) [] []) }
+        ensures unrefused { IfOk result (λ d. (state d).refusal ≡ None) }
         ensures rules { IfOk result (λ d. (state d).rules ≡ rules_of limits) }
         ensures nothing_held { IfOk result (λ d. ((state d).held ≡ []) × ((state d).place.nodes ≡ []) × (levels_of d.parts ≡ 0)) }
     {

@@ -1,7 +1,7 @@
 use Rattle.std.proofs.Common.{refl, ap, ◌∙◌}
 use Rattle.cqlp_type.specs.Table.{Table}
 use Rattle.cqlp_value.specs.Standing as value
-use Rattle.cqlp_decode.specs.Standing.{parts}
+use Rattle.cqlp_decode.specs.Standing.{State, parts}
 use Rattle.cqlp_decode.proofs.decoder.Decoder.with_room.Goals as goal
 
 pub invariant_of-result : goal.invariant_of-result
@@ -13,3 +13,7 @@ invariant_of-result g c =
     let limits = c.new-standing.ensures.limits in
     c.new-standing.ensures.lawful (parts c.in_ok-partial.partial c.in_ok-types.types c.in_ok-cells.cells c.in_ok-table.table) (record { field = field.idle; types = types.idle; cells = rw cells refl })
     (rw limits (record { room = field.room ∙ c.max.ensures; rules = types.rules; cells = ap (λ (z : value.State). z.rules) cells; table = ap (λ (t : Table). t.room) table })) (ap (λ (t : Table). t.nodes) table)
+
+pub returns-clause-unrefused : goal.returns-clause-unrefused
+returns-clause-unrefused g c =
+    ap (λ (z : State). z.refusal) (c.new-standing.ensures.start (parts c.in_ok-partial.partial c.in_ok-types.types c.in_ok-cells.cells c.in_ok-table.table) (ap (λ (t : Table). t.nodes) c.in_ok-table.ensures))
