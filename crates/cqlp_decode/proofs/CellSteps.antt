@@ -214,6 +214,7 @@ module _ (s : Standing) (q : Parts) (p : Page) (here : s.stage ≡ stage.Cell p)
         bounded = law.bounded;
         parts = record { room = h.longest ∙ law.parts.room; rules = law.parts.rules; cells = ap (λ (z : CellState). z.rules) h.same ∙ law.parts.cells; table = law.parts.table };
         stage = let stage = rw here at law.stage in stage_there (parts p' q.types d q.table) (cell_goes d p' h.joined (rw h.same (stands_under q.table.nodes q.cells d.under c.stands)) (ap (λ (z : CellState). is_under_way z) h.same ∙ c.under_way) (ap (λ (z : CellState). is_done z) h.same ∙ c.some) (λ n is. c.is n (sym (ap (λ (z : CellState). z.next) h.same) ∙ is)) (ap (λ (z : CellState). z.stop) h.same ∙ c.stop) (omega (arith, c.behind, ap (λ (z : CellState). z.offset) h.same)), stage.1);
+        quiet = record { types = law.quiet.types; cells = λ idle. let busy = ap (λ (z : CellState). is_under_way z) h.same ∙ c.under_way in cc };
         table = λ none. rw here (rw here at (law.table none));
       }
 
@@ -225,6 +226,7 @@ module _ (s : Standing) (q : Parts) (p : Page) (here : s.stage ≡ stage.Cell p)
         bounded = record { long = law.bounded.long; inside = law.bounded.inside; size = law.bounded.size; bound = law.bounded.bound };
         parts = record { room = h.longest ∙ law.parts.room; rules = law.parts.rules; cells = rw h.ends law.parts.cells; table = law.parts.table };
         stage = (rw c.came (omega arith), record { field = h.idle; types = stage.1; cells = rw h.ends refl });
+        quiet = record { types = law.quiet.types; cells = λ idle. rw h.ends refl };
         table = λ none. rw here at (law.table none);
       }
 
@@ -243,16 +245,17 @@ module _ (s : Standing) (q : Parts) (p : Page) (here : s.stage ≡ stage.Cell p)
       bounded = law.bounded;
       parts = record { room = this.longest ∙ law.parts.room; rules = law.parts.rules; cells = this.rules ∙ law.parts.cells; table = law.parts.table };
       stage = let stage = rw here at law.stage in stage_there (parts p' q.types d q.table) (cell_goes d p' (record { longest = rw (this.rules, this.longest) c.joined.longest; under_way = rw this.fresh this.idle }) this.stands this.goes_on more not_due (this.stop ∙ c.stop) (omega (arith, c.behind, this.onward)), stage.1);
+      quiet = record { types = law.quiet.types; cells = λ idle. let busy = this.goes_on in cc };
       table = λ none. rw here (rw here at (law.table none));
     }
 
-    pub cell_ended_lawful : (e : Standing) (d' : CellState) → e.offset ≡ d.offset → e.stop ≡ s.stop → e.limits ≡ s.limits → e.header ≡ s.header → e.came ≡ s.came → d'.rules ≡ d.rules → Forest q.table.nodes 0 s.limits.depth → is_under_way d' ≡ false → Starts e q.table.nodes e.stage
+    pub cell_ended_lawful : (e : Standing) (d' : CellState) → e.offset ≡ d.offset → e.stop ≡ s.stop → e.limits ≡ s.limits → e.header ≡ s.header → e.came ≡ s.came → d'.rules ≡ d.rules → Forest q.table.nodes 0 s.limits.depth → is_under_way d' ≡ false → d'.open_values ≡ [] → Starts e q.table.nodes e.stage
         → IsLawful e (parts p' q.types d' q.table)
-    cell_ended_lawful e d' offset stop limits header same rules_are forest idle starts =
+    cell_ended_lawful e d' offset stop limits header same rules_are forest idle none starts =
         let n : ℕ = d.offset - s.offset in
         let behind : s.offset ≤ d.offset = omega (arith, c.behind, this.onward) in
         let stage = rw here at law.stage in
-        goes_on_lawful s e q p' q.types d' q.table n law (omega (arith, offset, behind)) (omega (arith, behind, cell_inside)) stop limits header (same ∙ c.came) this.longest this.idle refl stage.1 (rules_are ∙ this.rules) idle refl forest starts
+        goes_on_lawful s e q p' q.types d' q.table n law (omega (arith, offset, behind)) (omega (arith, behind, cell_inside)) stop limits header (same ∙ c.came) this.longest this.idle refl stage.1 (rules_are ∙ this.rules) idle refl forest starts (record { types = law.quiet.types; cells = λ _. none })
 
 -- the moves from a state are those from one of the same place
 begun_moves : (d d' : State) (input : List ℕ) (new : State) → d'.rules ≡ d.rules → d.place ≡ d'.place → d'.frame ≡ d.frame → ((b : List ℕ) → IsPending d'.pending b → IsPending d.pending b) → d.open_values ≤ d'.open_values → (a : Advance) → Moves d input a new → Moves d' input a new
@@ -313,6 +316,7 @@ module _ (s : Standing) (q : Parts) (p : Page) (here : s.stage ≡ stage.Due p) 
           },
           stage.1.types,
         );
+        quiet = record { types = law.quiet.types; cells = λ _. refl };
         table = λ none. rw here at (law.table unrefused);
       }
 
@@ -378,4 +382,4 @@ module _ (s : Standing) (q : Parts) (p : Page) (here : s.stage ≡ stage.Due p) 
 
   pub scalar_lawful : e.limits ≡ s.limits → e.header ≡ s.header → IsLawful e q
   scalar_lawful limits header =
-      goes_on_lawful s e q q.partial q.types q.cells q.table used law offset (omega (arith, front.inside, law.bounded.inside)) stop limits header (came ∙ stage_due.2) refl stage_due.1.field refl stage_due.1.types refl stage_due.1.cells refl (rw here at (law.table unrefused)) starts
+      goes_on_lawful s e q q.partial q.types q.cells q.table used law offset (omega (arith, front.inside, law.bounded.inside)) stop limits header (came ∙ stage_due.2) refl stage_due.1.field refl stage_due.1.types refl stage_due.1.cells refl (rw here at (law.table unrefused)) starts (record { types = law.quiet.types; cells = law.quiet.cells })

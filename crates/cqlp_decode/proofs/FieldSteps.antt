@@ -35,7 +35,7 @@ use Rattle.cqlp_decode.specs.declared.standing.What.TheVariants as what
 use Rattle.cqlp_decode.specs.Upcoming.{wanted}
 use Rattle.cqlp_decode.specs.Reading as reading
 use Rattle.cqlp_decode.specs.Reading.{Place, value_step, types_for, nodes_after, given_after, Nothing}
-use Rattle.cqlp_decode.specs.Standing.{IsPending, Parts, parts, state_of, place_at, offset_at, symbols_at, rest_of, came_of, told, Gives, Waits, Moves, IsAsked, IsWanted, IsBounded, HasParts, IsLawful, asked, Starts}
+use Rattle.cqlp_decode.specs.Standing.{IsPending, Parts, parts, state_of, place_at, offset_at, symbols_at, rest_of, came_of, told, Gives, Waits, Moves, IsAsked, IsWanted, IsBounded, IsQuiet, HasParts, IsLawful, asked, Starts}
 use Rattle.cqlp_decode.proofs.Steps.{begun, one_due, offset_is, fresh_stage, fresh_table}
 
 -- ---- fields
@@ -191,7 +191,7 @@ following_there (role.PageRows flags columns) v types nodes after rest e = rw e 
 following_there r v types nodes after rest e = refl
 
 module _ (s e : Standing) (q : Parts) (p : Progress) (r : type.Standing) (d : value.State) (t : Table) (n : ℕ) (law : IsLawful s q) (offset : e.offset ≡ s.offset + n) (inside : s.offset + n ≤ s.stop) (stop : e.stop ≡ s.stop) (limits : e.limits ≡ s.limits) (header : e.header ≡ s.header) (came : e.came ≡ 0)
-    (room : p.room ≡ q.partial.room) (idle : p.under_way ≡ false) (rules : r.rules ≡ q.types.rules) (types : r.under_way ≡ false) (cells : d.rules ≡ q.cells.rules) (idle_cells : is_under_way d ≡ false) (table : t.room ≡ q.table.room) (forest : Forest t.nodes 0 s.limits.depth) (starts : Starts e t.nodes e.stage) where
+    (room : p.room ≡ q.partial.room) (idle : p.under_way ≡ false) (rules : r.rules ≡ q.types.rules) (types : r.under_way ≡ false) (cells : d.rules ≡ q.cells.rules) (idle_cells : is_under_way d ≡ false) (table : t.room ≡ q.table.room) (forest : Forest t.nodes 0 s.limits.depth) (starts : Starts e t.nodes e.stage) (quiet : IsQuiet (parts p r d t)) where
   pub goes_on_lawful : IsLawful e (parts p r d t)
   goes_on_lawful =
       let z : Parts = parts p r d t in
@@ -201,5 +201,6 @@ module _ (s e : Standing) (q : Parts) (p : Progress) (r : type.Standing) (d : va
         bounded = bounded;
         parts = parts;
         stage = fresh_stage e z e.stage starts (record { field = idle; types = types; cells = idle_cells }) came;
+        quiet = quiet;
         table = λ none. fresh_table e z e.stage starts (rw limits forest);
       }

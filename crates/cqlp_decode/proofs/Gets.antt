@@ -1,5 +1,5 @@
 -- One more event for a sink, and the end of the input.
-use Rattle.std.proofs.Common.{◌≡◌, ℕ, ◌+◌, ◌-◌, ◌*◌, ◌<◌, ◌≤◌, List, [], ◌∷◌, ◌++◌, length, take, drop, refl, sym, ap, ◌∙◌, append_assoc, arith}
+use Rattle.std.proofs.Common.{◌≡◌, ℕ, ◌+◌, ◌-◌, ◌*◌, ◌<◌, ◌≤◌, List, [], ◌∷◌, ◌++◌, length, take, drop, refl, sym, ap, subst, ◌∙◌, append_assoc, arith}
 use Rattle.std.specs.Prelude.{Option, Some, None}
 use Rattle.std.specs.Io.KnownBytes.{Consumes, Keeps, IsAtEnd}
 use Rattle.std.proofs.lemmas.List.{append-nil, take-append-drop, take_all, take-take, drop-take, length-append, length-drop, length-take-le}
@@ -10,8 +10,8 @@ use Rattle.cqlp_decode.specs.Reading as reading
 use Rattle.cqlp_decode.specs.Reading.{Says, Waits}
 use Rattle.cqlp_decode.specs.Events.{event_of}
 use Rattle.cqlp_decode.specs.Standing.{State}
-use Rattle.cqlp_decode.specs.Streams.{After, Leads}
-use Rattle.cqlp_decode.specs.Draining.{Drains, Fails, Feeds, FeedsInto, HasAll, ReadsAtMost, fold_events}
+use Rattle.cqlp_decode.specs.Streams.{After, Leads, Goes, Refuses}
+use Rattle.cqlp_decode.specs.Draining.{Drains, DrainsAll, Fails, Feeds, FeedsInto, HasAll, ReadsAtMost, fold_events}
 
 take_two : (k n : ℕ) (bytes : List ℕ) → take (k + n) bytes ≡ take k bytes ++ take n (drop k bytes)
 take_two k n bytes = sym (rw (take-take k (k + n) bytes (omega arith), drop-take k n bytes) at (take-append-drop k (take (k + n) bytes)))
@@ -19,6 +19,10 @@ take_two k n bytes = sym (rw (take-take k (k + n) bytes (omega arith), drop-take
 -- what `&input[used..]` is
 pub rest_is : (used : ℕ) (input : List ℕ) → take (length input - used) (drop used input) ≡ drop used input
 rest_is used input = take_all _ _ (omega (arith, length-drop used input))
+
+refuses_new : (o : Option Refusal) (old : State) (s : List ℕ) (es : List (ℕ × reading.Event)) (input : List ℕ) (r : Refusal) → o ≡ None → Refuses o old s es input r → Says old.rules reading.start (s ++ input) es (reading.Refused r.at r.why)
+refuses_new None old s es input r is h = h
+refuses_new (Some b) old s es input r is h = absurd cc
 
 module _ {V : Type 0} (f : V → ℕ → reading.Event → V) where
   fold_more : (v : V) (es : List (ℕ × reading.Event)) (at : ℕ) (e : reading.Event) → fold_events f v (es ++ (at, e) ∷ []) ≡ f (fold_events f v es) at e
@@ -56,11 +60,15 @@ module _ {V : Type 0} (f : V → ℕ → reading.Event → V) where
     all : (s ++ take used input) ++ drop used input ≡ s ++ input
     all = append_assoc s (take used input) (drop used input) ∙ ap (λ (z : List ℕ). s ++ z) (take-append-drop used input)
 
-    pub drains_all : (taken : ℕ) → Leads old (s ++ take used input) (es ++ d.more) (drop used input) (steps.More taken) new → (x : Drains f new s es input v w) × Says new.rules reading.start (s ++ input) (es ++ x.more) Waits
-    drains_all taken leads = let h = rw all at leads in (record { more = d.more; stands = h.2; got = d.got }, h.3)
+    pub drains_all : (free : State) → (free.refusal ≡ None → old.refusal ≡ None) → (taken : ℕ) → Goes old (steps.More taken) new → Leads old (s ++ take used input) (es ++ d.more) (drop used input) (steps.More taken) new → DrainsAll f free new s es input input v w
+    drains_all free clear taken goes leads =
+        let h = rw all at leads in record { drains = record { more = d.more; stands = h.2; got = d.got }; says = λ none. rw goes.1 h.3 }
 
-    pub drains_refused : (r : Refusal) → Leads old (s ++ take used input) (es ++ d.more) (drop used input) (steps.Refused r) new → Drains f new s es (take used input) v w
-    drains_refused r leads = record { more = d.more; stands = leads.1; got = d.got }
+    pub drains_refused : (free : State) → (free.refusal ≡ None → old.refusal ≡ None) → (r : Refusal) → Goes old (steps.Refused r) new → Leads old (s ++ take used input) (es ++ d.more) (drop used input) (steps.Refused r) new → DrainsAll f free new s es input (take used input) v w
+    drains_refused free clear r goes leads = record {
+      drains = record { more = d.more; stands = leads.1; got = d.got };
+      says = λ none. rw (goes.0, goes.1) (rw all at (refuses_new old.refusal old (s ++ take used input) (es ++ d.more) (drop used input) r (clear none) leads.2));
+    }
 
   -- one piece after another
   abbrev pub drains_then : (mid new : State) (s a b : List ℕ) (es : List (ℕ × reading.Event)) (v w x : V) (d : Drains f mid s es a v w) → Drains f new (s ++ a) (es ++ d.more) b w x → Drains f new s es (a ++ b) v x
@@ -94,10 +102,21 @@ module _ {V : Type 0} (f : V → ℕ → reading.Event → V) where
       drained = λ s es a. let e = d.drained s es a in drains_then mid new s d.bytes part es v w x e (next (s ++ d.bytes) (es ++ e.more) e.stands);
     }
 
-    pub has_all : (next : (s : List ℕ) (es : List (ℕ × reading.Event)) → After mid s es → (e : Drains f new s es part w x) × Says new.rules reading.start (s ++ part) (es ++ e.more) Waits) → HasAll f old new xs v x (feeds_then (λ s es a. (next s es a).0))
-    has_all next none s es a =
-        let e = d.drained s es a in
-        let n = next (s ++ d.bytes) (es ++ e.more) e.stands in rw (← (append_assoc s d.bytes part), ← (append_assoc es e.more n.0.more)) n.1
+    -- of the piece, what was looked at but not used was refused
+    pub has_all : (left' : Option (List ℕ)) → left' ≡ Some left → (new.refusal ≡ None → end ≡ []) → (old.refusal ≡ None → mid.refusal ≡ None) → (next : (s : List ℕ) (es : List (ℕ × reading.Event)) → After mid s es → DrainsAll f mid new s es piece part w x)
+        → HasAll f old new xs left' v x (feeds_then (λ s es a. (next s es a).drains))
+    has_all left' is' none clear next = record {
+      looked = end;
+      unread = left;
+      parts = refl;
+      others = is';
+      none = none;
+      says = λ free s es a.
+          let e = d.drained s es a in
+          let n = next (s ++ d.bytes) (es ++ e.more) e.stands in
+          let bytes : s ++ (d.bytes ++ part) ++ end ≡ s ++ d.bytes ++ piece = ap (λ (z : List ℕ). z ++ end) (sym (append_assoc s d.bytes part)) ∙ append_assoc (s ++ d.bytes) part end ∙ ap (λ (z : List ℕ). s ++ d.bytes ++ z) (sym split) in
+          rw (bytes, ← (append_assoc es e.more n.drains.more)) (n.says (clear free));
+    }
 
     abbrev pub feeds_into : (faulted : V → ℕ → reading.Event → V → Type 0) → ((s : List ℕ) (es : List (ℕ × reading.Event)) → After mid s es → Fails f faulted new s es part w x) → FeedsInto f faulted old new xs v x
     feeds_into faulted next = record {
@@ -106,6 +125,10 @@ module _ {V : Type 0} (f : V → ℕ → reading.Event → V) where
       parts = parts_then;
       failed = λ s es a. let e = d.drained s es a in fails_then faulted mid new s d.bytes part es v w x e (next (s ++ d.bytes) (es ++ e.more) e.stands);
     }
+
+-- the reader's bytes stay
+pub has_all_still : {V : Type 0} (f : V → ℕ → reading.Event → V) (old new : State) (xs : List ℕ) (left left' : Option (List ℕ)) (v w : V) (d : Feeds f old new xs v w) → left ≡ left' → HasAll f old new xs left v w d → HasAll f old new xs left' v w d
+has_all_still f old new xs left left' v w d same all = subst (λ (l : Option (List ℕ)). HasAll f old new xs l v w d) same all
 
 -- what is left of a reader's bytes after a read
 pub read_some : (old new : Option (List ℕ)) (rest buffer : List ℕ) (n : ℕ) → old ≡ Some rest → Consumes old new (take n buffer) → (n ≡ 0 → 0 < length buffer → IsAtEnd new)

@@ -1,5 +1,5 @@
 -- What one call does, over the whole stream.
-use Rattle.std.proofs.Common.{◌≡◌, ℕ, ◌+◌, ◌≤◌, Bool, false, List, [], ◌∷◌, ◌++◌, length, take, drop, refl, sym, ap, ◌∙◌, arith}
+use Rattle.std.proofs.Common.{◌≡◌, ℕ, ◌+◌, ◌≤◌, Bool, false, List, [], ◌∷◌, ◌++◌, length, take, drop, refl, sym, ap, subst, ◌∙◌, arith}
 use Rattle.std.specs.Prelude.{Option, Some, None, if◌then◌else◌}
 use Rattle.std.proofs.lemmas.List.{length-append, length-take-le, drop_all}
 use Rattle.cqlp_note.specs.declared.refusal.Refusal.{Refusal}
@@ -11,12 +11,13 @@ use Rattle.cqlp_note.proofs.Runs.{runs_then, runs_stay}
 use Rattle.cqlp_decode.specs.declared.standing.Advance.TheVariants as advance
 use Rattle.cqlp_decode.specs.declared.standing.What.{What}
 use Rattle.cqlp_decode.specs.declared.event.Event.{Event}
+use Rattle.cqlp_decode.specs.declared.event.Step.{Step}
 use Rattle.cqlp_decode.specs.declared.event.Step.TheVariants as steps
 use Rattle.cqlp_decode.specs.Reading as reading
 use Rattle.cqlp_decode.specs.Reading.{Place, step, start, Reads}
 use Rattle.cqlp_decode.specs.Events.{event_of}
 use Rattle.cqlp_decode.specs.Standing.{State, AdvancesFrom, Hands, event_at, frame_after, due_after}
-use Rattle.cqlp_decode.specs.Streams.{AfterBy, Leads, Goes, frame_from, open_after, open_from}
+use Rattle.cqlp_decode.specs.Streams.{After, AfterBy, Leads, Goes, Refuses, Repeats, HasRefusedAt, frame_from, open_after, open_from}
 
 -- ---- one more event
 
@@ -38,6 +39,16 @@ run_more l p q s b t es at e x run said a w after =
     let k = length b + length t in
     let none : drop k (b ++ t) ≡ [] = drop_all k (b ++ t) (omega (arith, length-append b t)) in
     runs_then (step l) start p q (s ++ t) (b ++ t) [] es ((at, e) ∷ []) (runs_stay (step l) start s t es p b run) (k, x.after, said ∙ ap (λ (z : Emitted reading.Event Place). Got z k) (emitted_is x at e a w), (sym after, sym none))
+
+-- ---- after a refusal
+
+pub repeated : (old new : State) (x : Step) (o : Option Refusal) (r : Refusal) → o ≡ Some r → Repeats o old x new → (x ≡ steps.Refused r) × (new ≡ old)
+repeated old new x None r is h = absurd cc
+repeated old new x (Some b) r is h = let same : b ≡ r = cc in (h.0 ∙ ap (λ (z : Refusal). steps.Refused z) same, h.1)
+
+pub unrefused : (old new : State) (x : Step) (o : Option Refusal) → o ≡ None → Repeats o old x new
+unrefused old new x None is = tt
+unrefused old new x (Some r) is = absurd cc
 
 -- ---- one call
 
@@ -86,14 +97,22 @@ module _ (old new : State) (input s : List ℕ) (es : List (ℕ × reading.Event
   event_leads (Some r) at used w e is a after = absurd (let e = a.0 in cc)
   event_leads None at used w e is a after = hands_leads at used e (rw is a.0.1) a.1 a.2 after
 
-  pub refused_leads : (o : Option Refusal) → old.refusal ≡ o → (r : Refusal) → AdvancesFrom o old input (advance.Refused r) new → AfterBy o old s es → Leads old s es input (steps.Refused r) new
-  refused_leads (Some before) eq r a after =
+  pub refused_leads : (o : Option Refusal) → old.refusal ≡ o → (r : Refusal) → new.place.nodes ≡ old.place.nodes → AdvancesFrom o old input (advance.Refused r) new → AfterBy o old s es → Leads old s es input (steps.Refused r) new
+  refused_leads (Some before) eq r nodes a after =
       let same : r ≡ before = let e = a.0 in cc in
-      rw (a.1, eq) (ap Some (sym same), after, same)
-  refused_leads None eq r a after =
+      subst (λ (z : State). (z.refusal ≡ Some r) × After z s es × Refuses old.refusal old s es input r) (sym a.1) (
+        eq ∙ ap Some (sym same),
+        subst (λ (o : Option Refusal). AfterBy o old s es) (sym eq) after,
+        subst (λ (o : Option Refusal). Refuses o old s es input r) (sym eq) same,
+      )
+  refused_leads None eq r nodes a after =
       let bad = a.0 after.bytes after.pending in
       let run = runs_stay (step old.rules) start s input es old.place after.bytes after.read in
-      rw (a.1, a.2, eq) (refl, (old.place, after.bytes, after.read, (input, bad)), (old.place, after.bytes ++ input, run, rw bad refl))
+      rw (a.1, a.2, eq) (
+        refl,
+        record { place = old.place; bytes = after.bytes; read = after.read; looked = input; refused = bad; nodes = nodes },
+        (old.place, after.bytes ++ input, run, rw bad refl),
+      )
 
   pub more_uses : (o : Option Refusal) (used : ℕ) → AdvancesFrom o old input (advance.More used) new → used ≡ length input
   more_uses (Some r) used a = absurd (let e = a.0 in cc)
@@ -105,14 +124,29 @@ module _ (old new : State) (input s : List ℕ) (es : List (ℕ × reading.Event
 
   pub more_goes : (o : Option Refusal) (used : ℕ) → AdvancesFrom o old input (advance.More used) new → Goes old (steps.More used) new
   more_goes (Some r) used a = absurd (let e = a.0 in cc)
-  more_goes None used a = a.2
+  more_goes None used a = (a.2, a.1)
 
   pub event_goes : (o : Option Refusal) (at used : ℕ) (w : What) (e : Event) → event_of e ≡ event_at new.held input w → AdvancesFrom o old input (advance.Event at used w) new → Goes old (steps.Event at used e) new
   event_goes (Some r) at used w e is a = absurd (let e = a.0 in cc)
-  event_goes None at used w e is a = (a.0.1.pays, rw is a.0.1.lent, a.2)
+  event_goes None at used w e is a = (a.0.1.pays, rw is a.0.1.lent, a.2, a.1)
 
   pub refused_goes : (o : Option Refusal) → old.refusal ≡ o → (r : Refusal) → AdvancesFrom o old input (advance.Refused r) new → Goes old (steps.Refused r) new
   refused_goes (Some before) eq r a =
       let same : r ≡ before = let e = a.0 in cc in
-      (ap (λ (z : State). z.refusal) a.1 ∙ eq ∙ ap Some (sym same), ap (λ (z : State). z.rules) a.1)
-  refused_goes None eq r a = (a.1, a.2)
+      (ap (λ (z : State). z.rules) a.1, ap (λ (z : State). z.refusal) a.1 ∙ eq ∙ ap Some (sym same))
+  refused_goes None eq r a = (a.2, a.1)
+
+  -- after a refusal
+  pub event_repeats : (o : Option Refusal) (at used : ℕ) (w : What) (e : Event) → AdvancesFrom o old input (advance.Event at used w) new → Repeats o old (steps.Event at used e) new
+  event_repeats (Some r) at used w e a = absurd (let e = a.0 in cc)
+  event_repeats None at used w e a = tt
+
+  pub more_repeats : (o : Option Refusal) (used : ℕ) → AdvancesFrom o old input (advance.More used) new → Repeats o old (steps.More used) new
+  more_repeats (Some r) used a = absurd (let e = a.0 in cc)
+  more_repeats None used a = tt
+
+  pub refused_repeats : (o : Option Refusal) (r : Refusal) → AdvancesFrom o old input (advance.Refused r) new → Repeats o old (steps.Refused r) new
+  refused_repeats (Some before) r a =
+      let same : r ≡ before = let e = a.0 in cc in
+      (ap (λ (x : Refusal). steps.Refused x) same, a.1)
+  refused_repeats None r a = tt

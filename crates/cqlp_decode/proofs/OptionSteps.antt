@@ -224,6 +224,7 @@ module _ (s : Standing) (q : Parts) (here : s.stage ≡ stage.Type) (o : IsOptio
             λ some. (λ i. says (type_step (rules i) (place i)) 0 (m.pending i)) ∙ m.is,
             idle_cells,
           );
+          quiet = record { types = λ idle. let busy = ap (λ (x : type.Standing). x.under_way) same ∙ o.under_way in cc; cells = law.quiet.cells };
           table = λ none. table_there z (record { begun = run.begun; first = run.first; before = run.before; bytes = run.bytes ++ input; items = run.items; runs = option_waited q.types q.partial q.table input r' p' t' used m run.begun run.bytes run.items run.runs });
         }
 
@@ -241,6 +242,7 @@ module _ (s : Standing) (q : Parts) (here : s.stage ≡ stage.Type) (o : IsOptio
               λ long. let none : length (pending r' p') ≡ 0 = rw begun refl in absurd (omega arith),
               idle_cells,
             );
+            quiet = record { types = λ idle. let busy = ap (λ (y : type.Standing). y.under_way) same in cc; cells = law.quiet.cells };
             table = λ none. table_there z (record {
               begun = run.begun;
               first = run.first;
@@ -259,7 +261,7 @@ module _ (s : Standing) (q : Parts) (here : s.stage ≡ stage.Type) (o : IsOptio
           let is = option_over run.begun 1 r' p' t' (run.bytes ++ take used input) (run.items ++ (at, part.event_at x input p'.content) ∷ []) run.first (option_handed q.types q.partial q.table input r' p' t' at used x m run.begun run.bytes run.items run.runs) whole begun in
           let forest : Forest t'.nodes 0 s.limits.depth = forest_more (rules_of s.limits) run.begun.offset run.begun.nodes (run.bytes ++ take used input) (run.items ++ (at, part.event_at x input p'.content) ∷ []) t'.nodes run.before (rw rules at is) in
           goes_on_lawful s e q p' r'' q.cells t' (r'.offset - s.offset) law (omega (arith, offset, o.behind, m.forward)) (omega (arith, inside, o.behind, m.forward)) stop limits header (came ∙ o.came)
-          m.room (m.shared.same ∙ begun) (rw over (ap (λ (y : type.Standing). y.rules) same)) (rw over refl) refl idle_cells m.table forest (starts_bare e t'.nodes e.stage room)
+          m.room (m.shared.same ∙ begun) (rw over (ap (λ (y : type.Standing). y.rules) same)) (rw over refl) refl idle_cells m.table forest (starts_bare e t'.nodes e.stage room) (record { types = λ idle. rw over refl; cells = law.quiet.cells })
 
 -- ---- an option begins
 
@@ -287,6 +289,7 @@ module _ (s : Standing) (q : Parts) (here : s.stage ≡ stage.Option) where
           λ long. absurd (omega arith),
           idle.0.cells,
         );
+        quiet = record { types = λ idle. cc; cells = law.quiet.cells };
         table = λ none. record {
           begun = record { offset = s.offset; stop = s.stop; symbols = Option_at 1 ∷ []; nodes = q.table.nodes };
           first = refl;

@@ -196,6 +196,7 @@ refused_lawful s q r h = record {
   bounded = record { long = h.bounded.long; inside = h.bounded.inside; size = h.bounded.size; bound = h.bounded.bound };
   parts = record { room = h.parts.room; rules = h.parts.rules; cells = h.parts.cells; table = h.parts.table };
   stage = stage_refused s q (Some r) s.stage h.stage;
+  quiet = h.quiet;
   table = λ none. absurd cc;
 }
 

@@ -6,7 +6,7 @@ use Rattle.cqlp_decode.specs.declared.running.Drained.{Drained}
 use Rattle.cqlp_decode.specs.declared.running.Drained.TheVariants as drained
 use Rattle.cqlp_decode.specs.declared.running.Outcome.{Outcome}
 use Rattle.cqlp_decode.specs.declared.running.Outcome.TheVariants as outcome
-use Rattle.cqlp_decode.specs.Reading.{Event, start, Says, Waits}
+use Rattle.cqlp_decode.specs.Reading.{Event, Verdict, start, Says, Waits, Refused}
 use Rattle.cqlp_decode.specs.Standing.{State}
 use Rattle.cqlp_decode.specs.Streams.{After, Finishes}
 
@@ -33,14 +33,35 @@ pub record Fails {V : Type 0} (f : V → ℕ → Event → V) (faulted : V → �
 abbrev pub HasRefused : State → Type 0
 HasRefused d = (r : Refusal) × (d.refusal ≡ Some r)
 
+-- a refusal, or none, as a verdict
+abbrev pub verdict_of : Option Refusal → Verdict
+verdict_of None = Waits
+verdict_of (Some r) = Refused r.at r.why
+
+-- Of a piece the decoder used these bytes, and the sink has got just their events. They are all events that the piece
+-- says, with this verdict, if nothing was refused before it.
+pub record DrainsAll {V : Type 0} (f : V → ℕ → Event → V) (old new : State) (s : List ℕ) (es : List (ℕ × Event)) (piece bytes : List ℕ) (before after : V) : Type 0 where
+  pub drains : Drains f new s es bytes before after
+  pub says : old.refusal ≡ None → Says new.rules start (s ++ piece) (es ++ drains.more) (verdict_of new.refusal)
+
 -- What draining a piece leaves, by how it ends: all of its events, those before a refusal, or those up to a fault.
-abbrev pub DrainsAll : {V : Type 0} → (V → ℕ → Event → V) → (V → ℕ → Event → V → Type 0) → State → List ℕ → Drained → State → (before after : V) → Type 0
-DrainsAll f faulted old input drained.More new before after =
-    (s : List ℕ) (es : List (ℕ × Event)) → After old s es → (d : Drains f new s es input before after) × Says new.rules start (s ++ input) (es ++ d.more) Waits
-DrainsAll f faulted old input drained.Refused new before after =
-    HasRefused new × ((used : ℕ) × ((s : List ℕ) (es : List (ℕ × Event)) → After old s es → Drains f new s es (take used input) before after))
-DrainsAll f faulted old input drained.Fault new before after =
+abbrev pub DrainsTo : {V : Type 0} → (V → ℕ → Event → V) → (V → ℕ → Event → V → Type 0) → State → List ℕ → Drained → State → (before after : V) → Type 0
+DrainsTo f faulted old input drained.More new before after =
+    (s : List ℕ) (es : List (ℕ × Event)) → After old s es → DrainsAll f old new s es input input before after
+DrainsTo f faulted old input drained.Refused new before after =
+    (used : ℕ) × ((s : List ℕ) (es : List (ℕ × Event)) → After old s es → DrainsAll f old new s es input (take used input) before after)
+DrainsTo f faulted old input drained.Fault new before after =
     (used : ℕ) × ((s : List ℕ) (es : List (ℕ × Event)) → After old s es → Fails f faulted new s es (take used input) before after)
+
+-- a piece that was drained to its end was refused nothing, and one that ends early was
+abbrev pub DrainsBy : Drained → State → Type 0
+DrainsBy drained.More new = new.refusal ≡ None
+DrainsBy drained.Refused new = HasRefused new
+DrainsBy drained.Fault new = ⊤
+
+-- what was refused before is refused after, in the same words
+abbrev pub KeepsRefusal : (old new : State) → Type 0
+KeepsRefusal old new = (r : Refusal) → old.refusal ≡ Some r → new.refusal ≡ Some r
 
 -- Of the bytes xs of a reader, `rest` is left or was not used; the others the decoder used, and the sink has got
 -- their events.
@@ -50,10 +71,16 @@ pub record Feeds {V : Type 0} (f : V → ℕ → Event → V) (old new : State) 
   pub parts : xs ≡ bytes ++ rest
   pub drained : (s : List ℕ) (es : List (ℕ × Event)) → After old s es → Drains f new s es bytes before after
 
--- Where there was no refusal, no event of the bytes used so far is still to come; a refusal comes behind them all.
-abbrev pub HasAll : {V : Type 0} (f : V → ℕ → Event → V) (old new : State) (xs : List ℕ) (before after : V) → Feeds f old new xs before after → Type 0
-HasAll f old new xs before after d =
-    new.refusal ≡ None → (s : List ℕ) (es : List (ℕ × Event)) (a : After old s es) → Says new.rules start (s ++ d.bytes) (es ++ (d.drained s es a).more) Waits
+-- Of the bytes that were not used, the first were looked at, where they are refused, and the others are left. What was
+-- handed out is all that the bytes read say, and the decoder's refusal, or none, is their verdict, if it had refused nothing
+-- before.
+pub record HasAll {V : Type 0} (f : V → ℕ → Event → V) (old new : State) (xs : List ℕ) (left : Option (List ℕ)) (before after : V) (d : Feeds f old new xs before after) : Type 0 where
+  pub looked : List ℕ
+  pub unread : List ℕ
+  pub parts : d.rest ≡ looked ++ unread
+  pub others : left ≡ Some unread
+  pub none : new.refusal ≡ None → looked ≡ []
+  pub says : old.refusal ≡ None → (s : List ℕ) (es : List (ℕ × Event)) (a : After old s es) → Says new.rules start (s ++ d.bytes ++ looked) (es ++ (d.drained s es a).more) (verdict_of new.refusal)
 
 -- The same as `Feeds`, but at the last of the events the sink failed.
 pub record FeedsInto {V : Type 0} (f : V → ℕ → Event → V) (faulted : V → ℕ → Event → V → Type 0) (old new : State) (xs : List ℕ) (before after : V) : Type 0 where
@@ -67,12 +94,12 @@ pub record FeedsInto {V : Type 0} (f : V → ℕ → Event → V) (faulted : V �
 -- events were handed out.
 abbrev pub RunsTo : {V : Type 0} → (V → ℕ → Event → V) → (V → ℕ → Event → V → Type 0) → (turns : ℕ) → Outcome → (old new : State) → (xs : List ℕ) → Option (List ℕ) → (before after : V) → Type 0
 RunsTo f faulted turns (outcome.Finished end) old new xs left before after =
-    (d : Feeds f old new xs before after) × ((d.rest ≡ []) ⊎ HasRefused new) × ((s : List ℕ) (es : List (ℕ × Event)) → After new s es → Finishes new s es end) × HasAll f old new xs before after d
-RunsTo f faulted turns outcome.ReadFault old new xs left before after = (d : Feeds f old new xs before after) × (left ≡ Some d.rest) × HasAll f old new xs before after d
-RunsTo f faulted turns outcome.Turns old new xs left before after = (d : Feeds f old new xs before after) × (left ≡ Some d.rest) × (turns ≤ length d.bytes) × HasAll f old new xs before after d
+    (d : Feeds f old new xs before after) × ((d.rest ≡ []) ⊎ HasRefused new) × ((s : List ℕ) (es : List (ℕ × Event)) → After new s es → Finishes new s es end) × HasAll f old new xs left before after d
+RunsTo f faulted turns outcome.ReadFault old new xs left before after = (d : Feeds f old new xs before after) × (left ≡ Some d.rest) × HasAll f old new xs left before after d
+RunsTo f faulted turns outcome.Turns old new xs left before after = (d : Feeds f old new xs before after) × (left ≡ Some d.rest) × (turns ≤ length d.bytes) × HasAll f old new xs left before after d
 RunsTo f faulted turns outcome.SinkFault old new xs left before after = FeedsInto f faulted old new xs before after
 
--- a run that its reader or its turns end was refused nothing, and may be called again
+-- after a run that its reader or its turns end nothing was refused, and it may be called again
 abbrev pub WaitsAt : Outcome → State → Type 0
 WaitsAt outcome.ReadFault new = new.refusal ≡ None
 WaitsAt outcome.Turns new = new.refusal ≡ None

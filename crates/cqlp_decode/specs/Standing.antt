@@ -146,6 +146,11 @@ abbrev pub refusal_in : Advance → Option Refusal
 refusal_in (advance.Refused r) = Some r
 refusal_in a = None
 
+-- a refusal leaves the types of the metadata as they were
+abbrev pub LeavesTypes : Advance → (old new : List Node) → Type 0
+LeavesTypes (advance.Refused r) old new = new ≡ old
+LeavesTypes a old new = ⊤
+
 -- What a call does: a refusal is repeated.
 abbrev pub AdvancesFrom : Option Refusal → State → List ℕ → Advance → State → Type 0
 AdvancesFrom (Some r) old input a new = (a ≡ advance.Refused r) × (new ≡ old)
@@ -173,9 +178,9 @@ pub record Parts : Type 0 where
 abbrev pub parts : Progress → type.Standing → value.State → Table → Parts
 parts p r c t = record { partial = p; types = r; cells = c; table = t }
 
--- the types or the values around the one that is read
+-- the types and the values around the one that is read
 abbrev pub levels_of : Parts → ℕ
-levels_of q = max q.types.height (length q.cells.open_values)
+levels_of q = q.types.height + length q.cells.open_values
 
 -- behind what is read now
 abbrev pub rest_of : List Slot → List Symbol
@@ -231,6 +236,11 @@ pub record IsIdle (q : Parts) : Type 0 where
   pub field : q.partial.under_way ≡ false
   pub types : q.types.under_way ≡ false
   pub cells : is_under_way q.cells ≡ false
+
+-- A reader with nothing under way keeps no level, so that of the two at most one keeps any.
+pub record IsQuiet (q : Parts) : Type 0 where
+  pub types : q.types.under_way ≡ false → q.types.height ≡ 0
+  pub cells : is_under_way q.cells ≡ false → q.cells.open_values ≡ []
 
 -- the field that is asked for
 abbrev pub asked : Standing → Want → Wanted
@@ -320,6 +330,7 @@ pub record IsLawful (s : Standing) (q : Parts) : Type 0 where
   pub bounded : IsBounded s
   pub parts : HasParts s q
   pub stage : StageHolds s q s.stage
+  pub quiet : IsQuiet q
   pub table : s.refusal ≡ None → TableHolds (rules_of s.limits) q s.stage
 
 -- the field that is wanted has begun, and as much of it has come as before

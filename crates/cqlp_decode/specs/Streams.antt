@@ -56,17 +56,25 @@ pub record Stands (d : State) (s : List ℕ) (es : List (ℕ × Event)) : Type 0
   pub frame : d.frame ≡ frame_of es
   pub due : ends_due d.place.symbols ≡ (if is_open es then 1 else 0)
 
--- The same before any refusal; or with bytes that were looked at, but not used, the stream says these events and
--- this refusal.
+-- A decoder that has refused used these bytes and handed out these events: the reading of the bytes says the events, and
+-- where it stands it refuses so, with bytes that were looked at but not used. The types of the metadata are those there.
+pub record HasRefusedAt (r : Refusal) (d : State) (s : List ℕ) (es : List (ℕ × Event)) : Type 0 where
+  pub place : Place
+  pub bytes : List ℕ
+  pub read : Reads d.rules start s es place bytes
+  pub looked : List ℕ
+  pub refused : says (step_of d.rules place) 0 (bytes ++ looked) ≡ Bad (r.at, r.why)
+  pub nodes : d.place.nodes ≡ place.nodes
+
 abbrev pub AfterBy : Option Refusal → State → List ℕ → List (ℕ × Event) → Type 0
 AfterBy None d s es = Stands d s es
-AfterBy (Some r) d s es = (p : Place) × (bytes : List ℕ) × Reads d.rules start s es p bytes × ((t : List ℕ) × (says (step_of d.rules p) 0 (bytes ++ t) ≡ Bad (r.at, r.why)))
+AfterBy (Some r) d s es = HasRefusedAt r d s es
 
 -- a decoder that was made, and then used the bytes s and handed out the events es
 abbrev pub After : State → List ℕ → List (ℕ × Event) → Type 0
 After d s es = AfterBy d.refusal d s es
 
--- what a refusal says of the input
+-- a refusal is that of the bytes used and the input, or it is the one before
 abbrev pub Refuses : Option Refusal → State → List ℕ → List (ℕ × Event) → List ℕ → Refusal → Type 0
 Refuses None old s es input r = Says old.rules start (s ++ input) es (Refused r.at r.why)
 Refuses (Some before) old s es input r = r ≡ before
@@ -87,11 +95,23 @@ Uses input (step.More used) = used ≡ length input
 Uses input (step.Refused r) = ⊤
 
 -- A call goes on: an event takes some byte, or it ends its frame or a value that is open; and a content that lies whole
--- in the bytes used is not held. A refusal changes nothing later.
+-- in the bytes used is not held. Nothing was refused, or it was just now.
 abbrev pub Goes : State → Step → State → Type 0
-Goes old (step.Event at used e) new = (ends_due new.place.symbols + new.open_values < ends_due old.place.symbols + old.open_values + 2 * used) × IsLent (event_of e) used new.held × (new.rules ≡ old.rules)
-Goes old (step.More used) new = new.rules ≡ old.rules
-Goes old (step.Refused r) new = (new.refusal ≡ Some r) × (new.rules ≡ old.rules)
+Goes old (step.Event at used e) new =
+    (ends_due new.place.symbols + new.open_values < ends_due old.place.symbols + old.open_values + 2 * used)
+    × IsLent (event_of e) used new.held × (new.rules ≡ old.rules) × (new.refusal ≡ None)
+Goes old (step.More used) new = (new.rules ≡ old.rules) × (new.refusal ≡ None)
+Goes old (step.Refused r) new = (new.rules ≡ old.rules) × (new.refusal ≡ Some r)
+
+-- after a refusal, whatever came before it, a call says it again and changes nothing
+abbrev pub Repeats : Option Refusal → State → Step → State → Type 0
+Repeats (Some r) old x new = (x ≡ step.Refused r) × (new ≡ old)
+Repeats None old x new = ⊤
+
+-- What a call answers, of any stream that led here.
+abbrev pub Answers : State → List ℕ → Step → State → Type 0
+Answers old input x new =
+    Goes old x new × ((s : List ℕ) (es : List (ℕ × Event)) → After old s es → Leads old s es input x new) × Repeats old.refusal old x new
 
 -- ---- the end of the stream
 

@@ -97,13 +97,13 @@ impl<A: Allocator + Clone> Decoder<A> {
 
 impl<A: Allocator> Decoder<A> {
     ghost use Rattle.cqlp_decode.specs.Lending.{Next};
-    ghost use Rattle.cqlp_decode.specs.Standing.{Advances, Takes, WhatThere, event_at};
-    ghost use Rattle.cqlp_decode.specs.Streams.{After, Finishes, Goes, Leads, Uses, state};
+    ghost use Rattle.cqlp_decode.specs.Standing.{Advances, LeavesTypes, Takes, WhatThere, event_at};
+    ghost use Rattle.cqlp_decode.specs.Streams.{After, Answers, Finishes, Uses, state};
 
-    /// The next event that the input leads to. The caller hands in the bytes behind those that were used, and goes on
-    /// until more are wanted.
+    /// The next event that the input leads to. The caller hands in the bytes after those that were used, and goes on
+    /// until more are wanted. A refusal is final: each later call says it again.
     pub fn next<'a>(&'a mut self, input: &'a [u8]) -> Step<'a>
-        ensures* next { sem 𝓛 (Next A.row A.Allocator self.entry (λ after. Goes (state self.old) result (state after) × ((s : List ℕ) (es : List (ℕ × reading.Event)) → After (state self.old) s es → Leads (state self.old) s es input.now result (state after)))) }
+        ensures* next { sem 𝓛 (Next A.row A.Allocator self.entry (λ after. Answers (state self.old) input.now result (state after))) }
         ensures uses { Uses input.now result }
     {
         if let Some(taken) = self.take_scalar(input) {
@@ -149,7 +149,7 @@ impl<A: Allocator> Decoder<A> {
         Held {
             bytes: self.partial.held(),
             entries: self.table.len(),
-            levels: self.types.held().max(self.cells.levels()),
+            levels: self.types.held() + self.cells.levels(),
         }
     }
 
@@ -170,7 +170,8 @@ impl<A: Allocator> Decoder<A> {
 
     /// The work of a call, with nothing borrowed in its result.
     fn advance(&mut self, input: &[u8]) -> Advance
-        ensures { Advances (state self.old) input.now result (state self.new) }
+        ensures advances { Advances (state self.old) input.now result (state self.new) }
+        ensures table { LeavesTypes result (state self.old).place.nodes (state self.new).place.nodes }
     {
         self.standing.advance(
             &mut self.partial,

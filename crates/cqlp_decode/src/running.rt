@@ -1,9 +1,8 @@
 //! A reader's stream, drained into a sink.
 
-ghost use Rattle.std.specs.Prelude.{◌≡◌, ◌*◌, List, ℕ, None, Some};
-ghost use Rattle.cqlp_decode.specs.Draining.{Counts, DrainsAll, ReadsAtMost, RunsTo, WaitsAt};
-ghost use Rattle.cqlp_decode.specs.Reading as reading;
-ghost use Rattle.cqlp_decode.specs.Streams.{After, state};
+ghost use Rattle.std.specs.Prelude.{◌≡◌, ◌*◌, List, ℕ, Some};
+ghost use Rattle.cqlp_decode.specs.Draining.{Counts, DrainsBy, DrainsTo, KeepsRefusal, ReadsAtMost, RunsTo, WaitsAt};
+ghost use Rattle.cqlp_decode.specs.Streams.{state};
 
 use crate::decoder::Decoder;
 use crate::event::{Finish, Step};
@@ -41,7 +40,8 @@ pub fn run<R: Source, S: Sink, A: Allocator>(
     turns: u64,
 ) -> Outcome
     ensures runs { (xs : List ℕ) → R.left reader.old ≡ Some xs → S.tells sink.old → RunsTo S.after S.faulted turns result (state decoder.old) (state decoder.new) xs (R.left reader.new) (S.view sink.old) (S.view sink.new) }
-    ensures waits { (xs : List ℕ) → R.left reader.old ≡ Some xs → S.tells sink.old → (s : List ℕ) (es : List (ℕ × reading.Event)) → After (state decoder.old) s es → WaitsAt result (state decoder.new) }
+    ensures waits { WaitsAt result (state decoder.new) }
+    ensures stays { KeepsRefusal (state decoder.old) (state decoder.new) }
     ensures reads { (xs : List ℕ) → R.left reader.old ≡ Some xs → ReadsAtMost (4096 * turns) xs (R.left reader.new) }
     ensures failures { Counts result (R.failures reader.old) (R.failures reader.new) }
     ensures rules { (state decoder.new).rules ≡ (state decoder.old).rules }
@@ -72,8 +72,9 @@ pub fn run<R: Source, S: Sink, A: Allocator>(
 /// Hands all events of the input to the sink.
 fn drain<S: Sink, A: Allocator>(decoder: &mut Decoder<A>, input: &[u8], sink: &mut S) -> Drained
     ensures tells { S.tells sink.old → result ≡ Drained.More → S.tells sink.new }
-    ensures waits { S.tells sink.old → result ≡ Drained.More → (s : List ℕ) (es : List (ℕ × reading.Event)) → After (state decoder.old) s es → (state decoder.new).refusal ≡ None }
-    ensures drains { S.tells sink.old → DrainsAll S.after S.faulted (state decoder.old) input.now result (state decoder.new) (S.view sink.old) (S.view sink.new) }
+    ensures refusal { DrainsBy result (state decoder.new) }
+    ensures stays { KeepsRefusal (state decoder.old) (state decoder.new) }
+    ensures drains { S.tells sink.old → DrainsTo S.after S.faulted (state decoder.old) input.now result (state decoder.new) (S.view sink.old) (S.view sink.new) }
     ensures rules { (state decoder.new).rules ≡ (state decoder.old).rules }
 {
     let mut used = 0;

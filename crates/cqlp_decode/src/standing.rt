@@ -99,7 +99,7 @@ impl Standing {
     ghost use Rattle.cqlp_decode.specs.Streams.{After, Finishes};
     ghost use Rattle.cqlp_decode.specs.Upcoming.{behind, symbols_in};
     ghost use Rattle.cqlp_decode.specs.declared.standing.Stage.TheVariants as stage;
-    ghost use Rattle.cqlp_decode.specs.Standing.{Advances, HasParts, HasRoom, IsAsked, IsBounded, IsIdle, IsLawful, IsPending, IsPlaced, IsWanted, Kept, Moves, Parts, Starts, Takes, asked, parts, refusal_in, rest_of, state_of, symbols_at};
+    ghost use Rattle.cqlp_decode.specs.Standing.{Advances, HasParts, HasRoom, IsAsked, IsBounded, IsIdle, IsLawful, IsPending, IsPlaced, IsQuiet, IsWanted, Kept, LeavesTypes, Moves, Parts, Starts, Takes, asked, parts, refusal_in, rest_of, state_of, symbols_at};
     ghost use Rattle.cqlp_decode.specs.Pages.{IsPage, cells_behind, node_by};
     ghost use Rattle.cqlp_decode.specs.Reading.{types_for};
     ghost use Rattle.cqlp_value.specs.Inner.{Forest};
@@ -108,7 +108,7 @@ impl Standing {
     /// At the start of a stream.
     pub fn new(limits: Limits) -> Self
         ensures limits { result.limits ≡ limits }
-        ensures lawful { (q : Parts) → IsIdle q → HasParts result q → q.table.nodes ≡ [] → IsLawful result q }
+        ensures lawful { (q : Parts) → IsIdle q → IsQuiet q → HasParts result q → q.table.nodes ≡ [] → IsLawful result q }
         ensures start { (q : Parts) → q.table.nodes ≡ [] → state_of result q ≡ record { rules = rules_of limits; place = start; pending = Kept []; frame = 0; refusal = None; held = q.partial.content; open_values = length q.cells.open_values } }
     {
         Standing {
@@ -136,6 +136,7 @@ impl Standing {
         requires { IsLawful self.old (parts partial.old types.old cells.old table.old) }
         ensures lawful { IsLawful self.new (parts partial.new types.new cells.new table.new) }
         ensures advances { Advances (state_of self.old (parts partial.old types.old cells.old table.old)) input.now result (state_of self.new (parts partial.new types.new cells.new table.new)) }
+        ensures table { LeavesTypes result table.old.nodes table.new.nodes }
     {
         if let Some(refusal) = self.refusal {
             return Advance::Refused(refusal);
@@ -212,6 +213,7 @@ impl Standing {
         ensures moves { Moves (state_of self.old (parts partial.old types.old cells.old table.old)) input.now result (state_of self.new (parts partial.new types.new cells.new table.new)) }
         ensures limits { self.new.limits ≡ self.old.limits }
         ensures refusal { refusal_in result ≡ None → self.new.refusal ≡ None }
+        ensures table { LeavesTypes result table.old.nodes table.new.nodes }
     {
         match self.stage {
             Stage::Header => self.advance_header(input),
@@ -337,6 +339,7 @@ impl Standing {
         ensures lawful { (r : type.Standing) (c : value.State) → IsLawful self.old (parts partial.old r c table.old) → IsLawful self.new (parts partial.new r c table.new) }
         ensures moves { (r : type.Standing) (c : value.State) → Moves (state_of self.old (parts partial.old r c table.old)) input.now result (state_of self.new (parts partial.new r c table.new)) }
         ensures rest { (self.new.refusal ≡ None) × (self.new.limits ≡ self.old.limits) }
+        ensures table { LeavesTypes result table.old.nodes table.new.nodes }
     {
         self.ask(partial, want);
         let came = partial.came();
@@ -481,6 +484,7 @@ impl Standing {
         ensures moves { (c : value.State) → IsLawful self.old (parts partial.old types.old c table.old) → Moves (state_of self.old (parts partial.old types.old c table.old)) input.now result (state_of self.new (parts partial.new types.new c table.new)) }
         ensures limits { self.new.limits ≡ self.old.limits }
         ensures refusal { refusal_in result ≡ None → self.new.refusal ≡ None }
+        ensures table { LeavesTypes result table.old.nodes table.new.nodes }
     {
         match types.advance(partial, table, input) {
             TypeAdvance::More { used } => Advance::More { used },

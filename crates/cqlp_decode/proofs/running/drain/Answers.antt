@@ -1,19 +1,49 @@
-use Rattle.std.proofs.Common.{◌+◌, ◌≤◌, length, drop, ◌∙◌, arith}
+use Rattle.std.proofs.Common.{◌+◌, ◌≤◌, length, drop, sym, ap, ◌∙◌, arith}
 use Rattle.std.proofs.lemmas.List.{length-drop}
+use Rattle.cqlp_decode.specs.Standing.{State}
 use Rattle.cqlp_decode.specs.Streams.{state}
-use Rattle.cqlp_decode.proofs.Gets.{rest_is, drains_event, drains_all, fails_event}
+use Rattle.cqlp_decode.proofs.Leads.{repeated}
+use Rattle.cqlp_decode.proofs.Gets.{rest_is, drains_event, drains_all, drains_refused, fails_event}
 use Rattle.cqlp_decode.proofs.running.drain.Goals as goal
 
-pub returns-in-More-clause-waits : goal.returns-in-More-clause-waits
-returns-in-More-clause-waits g c = λ tells is s es a.
-    let d = c.events.invariant.drained tells s es a in
-    let leads = c.next.follows.holds-at-none.1 _ _ d.stands in (rw c.in-More.is at leads).1
+pub returns-in-More-clause-refusal : goal.returns-in-More-clause-refusal
+returns-in-More-clause-refusal g c = (rw c.in-More.is at c.next.follows.holds-at-none.0).1
+
+pub returns-in-More-clause-stays : goal.returns-in-More-clause-stays
+returns-in-More-clause-stays g c = λ r is.
+    let again = (repeated (state c.events.decoder) (state c.next.follows.lender-at-none) _ (state c.events.decoder).refusal r (c.events.invariant.stays r is) c.next.follows.holds-at-none.2).0 in
+    absurd (let e = sym c.in-More.is ∙ again in cc)
 
 pub returns-in-More-clause-drains : goal.returns-in-More-clause-drains
 returns-in-More-clause-drains g c = λ tells s es a.
     let d = c.events.invariant.drained tells s es a in
     let leads = c.next.follows.holds-at-none.1 _ _ d.stands in
-    drains_all g.S.Sink.after (state c.events.decoder) (state c.next.follows.lender-at-none) s c.args.input.now c.events.used es _ _ d c.in-More.used (rw (c.in-More.is, rest_is) at leads)
+    let goes = rw c.in-More.is at c.next.follows.holds-at-none.0 in
+    drains_all g.S.Sink.after (state c.events.decoder) (state c.next.follows.lender-at-none) s c.args.input.now c.events.used es _ _ d (state c.args.decoder.now) c.events.invariant.clear c.in-More.used goes (rw (c.in-More.is, rest_is) at leads)
+
+pub returns-in-Refused-clause-refusal : goal.returns-in-Refused-clause-refusal
+returns-in-Refused-clause-refusal g c = (_, (rw c.in-Refused.is at c.next.follows.holds-at-none.0).1)
+
+pub returns-in-Refused-clause-stays : goal.returns-in-Refused-clause-stays
+returns-in-Refused-clause-stays g c = λ r is.
+    let mid = c.events.invariant.stays r is in
+    let again = repeated (state c.events.decoder) (state c.next.follows.lender-at-none) _ (state c.events.decoder).refusal r mid c.next.follows.holds-at-none.2 in
+    ap (λ (z : State). z.refusal) again.1 ∙ mid
+
+pub returns-in-Refused-clause-drains : goal.returns-in-Refused-clause-drains
+returns-in-Refused-clause-drains g c = λ tells. (
+  c.events.used,
+  λ s es a.
+      let d = c.events.invariant.drained tells s es a in
+      let leads = c.next.follows.holds-at-none.1 _ _ d.stands in
+      let goes = rw c.in-Refused.is at c.next.follows.holds-at-none.0 in
+      drains_refused g.S.Sink.after (state c.events.decoder) (state c.next.follows.lender-at-none) s c.args.input.now c.events.used es _ _ d (state c.args.decoder.now) c.events.invariant.clear _ goes (rw (c.in-Refused.is, rest_is) at leads),
+)
+
+pub returns-in-Err-clause-stays : goal.returns-in-Err-clause-stays
+returns-in-Err-clause-stays g c = λ r is.
+    let again = (repeated (state c.events.decoder) (state c.next.follows.lender-at-none) _ (state c.events.decoder).refusal r (c.events.invariant.stays r is) c.next.follows.holds-at-none.2).0 in
+    absurd (let e = sym c.in-Event.is ∙ again in cc)
 
 pub returns-in-Err-clause-drains : goal.returns-in-Err-clause-drains
 returns-in-Err-clause-drains g c = λ tells. (
@@ -31,6 +61,10 @@ events-preserved g c = record {
       let left = length-drop c.events.used c.args.input.now in
       let within = c.events.invariant.within in omega arith;
   rules = let goes = rw c.in-Event.is at c.next.follows.holds-at-none.0 in goes.2 ∙ c.events.invariant.rules;
+  stays = λ r is.
+      let again = (repeated (state c.events.decoder) (state c.next.follows.lender-at-none) _ (state c.events.decoder).refusal r (c.events.invariant.stays r is) c.next.follows.holds-at-none.2).0 in
+      absurd (let e = sym c.in-Event.is ∙ again in cc);
+  clear = λ none. let goes = rw c.in-Event.is at c.next.follows.holds-at-none.0 in goes.3;
   tells = λ tells. (c.in-Ok.ensures.ok (c.events.invariant.tells tells)).0;
   drained = λ tells s es a.
       let d = c.events.invariant.drained tells s es a in

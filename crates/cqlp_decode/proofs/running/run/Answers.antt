@@ -1,7 +1,7 @@
-use Rattle.std.proofs.Common.{◌≡◌, ◌<◌, [], ◌++◌, length, take, drop, refl, sym, ◌∙◌, inl, inr, arith}
+use Rattle.std.proofs.Common.{◌≡◌, ℕ, ◌<◌, List, [], ◌++◌, length, take, drop, refl, sym, ap, ◌∙◌, inl, inr, Some, arith}
 use Rattle.std.proofs.lemmas.List.{append-nil, take-append-drop, length-append, length-take-le}
 use Rattle.cqlp_decode.specs.Streams.{state}
-use Rattle.cqlp_decode.proofs.Gets.{feeds_none, feeds_then, feeds_into, has_all, read_some, keeps_some, at_end, reads_none, reads_kept, reads_then}
+use Rattle.cqlp_decode.proofs.Gets.{feeds_none, feeds_then, feeds_into, has_all, has_all_still, read_some, keeps_some, at_end, reads_none, reads_kept, reads_then}
 use Rattle.cqlp_decode.proofs.running.run.Goals as goal
 
 -- before the first read
@@ -11,7 +11,13 @@ returns-in-Refused-clause-runs g c = λ xs is tells.
     let e = c.in-Refused.ensures.drains tells in
     let d = state c.args.decoder.now in
     let v = g.S.Sink.view c.args.sink.now in
-    (feeds_then g.S.Sink.after d d (state c.drain.new.decoder) xs [] xs v v _ (feeds_none g.S.Sink.after d xs v) refl (take e.1.0 []) (drop e.1.0 []) (sym (take-append-drop e.1.0 [])) e.1.1, inr e.0, c.finish.ensures, λ none. let refused = e.0.1 in absurd cc)
+    let refused = c.in-Refused.ensures.refusal in
+    let split = sym (take-append-drop e.0 []) in (
+      feeds_then g.S.Sink.after d d (state c.drain.new.decoder) xs [] xs v v _ (feeds_none g.S.Sink.after d xs v) refl (take e.0 []) (drop e.0 []) split (λ s es a. (e.1 s es a).drains),
+      inr refused,
+      c.finish.ensures,
+      has_all g.S.Sink.after d d (state c.drain.new.decoder) xs [] xs v v _ (feeds_none g.S.Sink.after d xs v) refl (take e.0 []) (drop e.0 []) split _ is (λ none. absurd (let some = refused.1 in cc)) (λ none. none) e.1,
+    )
 
 pub returns-in-Fault-clause-runs : goal.returns-in-Fault-clause-runs
 returns-in-Fault-clause-runs g c = λ xs is tells.
@@ -27,12 +33,17 @@ loop-turn-init g c = record {
   failures = refl;
   reads = λ xs is. reads_none _ xs _ is;
   tells = λ tells. c.in-More.ensures.tells tells refl;
-  waits = λ xs is tells s es a. c.in-More.ensures.waits tells refl s es a;
+  waits = c.in-More.ensures.refusal;
+  stays = c.in-More.ensures.stays;
   fed = λ xs is tells.
       let e = c.in-More.ensures.drains tells in
       let d = state c.args.decoder.now in
-      let v = g.S.Sink.view c.args.sink.now in
-      (feeds_then g.S.Sink.after d d (state c.drain.new.decoder) xs [] xs v v _ (feeds_none g.S.Sink.after d xs v) refl [] [] refl (λ s es a. (e s es a).0), is, omega arith, has_all g.S.Sink.after d d (state c.drain.new.decoder) xs [] xs v v _ (feeds_none g.S.Sink.after d xs v) refl [] [] refl e);
+      let v = g.S.Sink.view c.args.sink.now in (
+        feeds_then g.S.Sink.after d d (state c.drain.new.decoder) xs [] xs v v _ (feeds_none g.S.Sink.after d xs v) refl [] [] refl (λ s es a. (e s es a).drains),
+        is,
+        omega arith,
+        has_all g.S.Sink.after d d (state c.drain.new.decoder) xs [] xs v v _ (feeds_none g.S.Sink.after d xs v) refl [] [] refl _ is (λ _. refl) (λ none. none) e,
+      );
 }
 
 -- after a read
@@ -40,25 +51,30 @@ loop-turn-init g c = record {
 pub returns-in-Err-clause-runs : goal.returns-in-Err-clause-runs
 returns-in-Err-clause-runs g c = λ xs is tells.
     let d = c.loop-turn.invariant.fed xs is tells in
-    (d.0, keeps_some _ _ d.0.rest d.1 c.in-Err.ensures.bytes, d.3)
+    let left = keeps_some _ _ d.0.rest d.1 c.in-Err.ensures.bytes in
+    (d.0, left, has_all_still g.S.Sink.after (state c.args.decoder.now) (state c.loop-turn.decoder) xs _ _ _ _ d.0 (d.1 ∙ sym left) d.3)
 
 pub returns-then-count-eq0-clause-runs : goal.returns-then-count-eq0-clause-runs
 returns-then-count-eq0-clause-runs g c = λ xs is tells.
     let d = c.loop-turn.invariant.fed xs is tells in
     let r = read_some _ _ d.0.rest c.read.new.buffer c.in-Ok.count d.1 c.in-Ok.ensures.bytes.0 c.in-Ok.ensures.bytes.1 in
     let long : 0 < length c.read.new.buffer = let a = c.read.auto.buffer in let b = c.loop-turn.invariant.long in omega arith in
-    (d.0, inl (at_end d.0.rest r.0 c.read.new.buffer c.in-Ok.count r.2 c.if-count-eq0.true (r.3 c.if-count-eq0.true long)), c.finish-then-count-eq0.ensures, d.3)
+    let none = at_end d.0.rest r.0 c.read.new.buffer c.in-Ok.count r.2 c.if-count-eq0.true (r.3 c.if-count-eq0.true long) in
+    let same = d.1 ∙ ap (λ (z : List ℕ). Some z) (none ∙ sym (r.3 c.if-count-eq0.true long)) ∙ sym r.1 in
+    (d.0, inl none, c.finish-then-count-eq0.ensures, has_all_still g.S.Sink.after (state c.args.decoder.now) (state c.loop-turn.decoder) xs _ _ _ _ d.0 same d.3)
 
 pub returns-in-Refused-drain-clause-runs : goal.returns-in-Refused-drain-clause-runs
 returns-in-Refused-drain-clause-runs g c = λ xs is tells.
     let d = c.loop-turn.invariant.fed xs is tells in
     let r = read_some _ _ d.0.rest c.read.new.buffer c.in-Ok.count d.1 c.in-Ok.ensures.bytes.0 c.in-Ok.ensures.bytes.1 in
     let e = c.in-Refused-drain.ensures.drains (c.loop-turn.invariant.tells tells) in
-    let piece = take c.in-Ok.count c.read.new.buffer in (
-      feeds_then g.S.Sink.after (state c.args.decoder.now) (state c.loop-turn.decoder) (state c.drain-in-loop-turn.new.decoder) xs piece r.0 _ _ _ d.0 r.2 (take e.1.0 piece) (drop e.1.0 piece) (sym (take-append-drop e.1.0 piece)) e.1.1,
-      inr e.0,
+    let refused = c.in-Refused-drain.ensures.refusal in
+    let piece = take c.in-Ok.count c.read.new.buffer in
+    let split = sym (take-append-drop e.0 piece) in (
+      feeds_then g.S.Sink.after (state c.args.decoder.now) (state c.loop-turn.decoder) (state c.drain-in-loop-turn.new.decoder) xs piece r.0 _ _ _ d.0 r.2 (take e.0 piece) (drop e.0 piece) split (λ s es a. (e.1 s es a).drains),
+      inr refused,
       c.finish-in-Refused-drain.ensures,
-      λ none. let refused = e.0.1 in absurd cc,
+      has_all g.S.Sink.after (state c.args.decoder.now) (state c.loop-turn.decoder) (state c.drain-in-loop-turn.new.decoder) xs piece r.0 _ _ _ d.0 r.2 (take e.0 piece) (drop e.0 piece) split _ r.1 (λ none. absurd (let some = refused.1 in cc)) (λ none. c.loop-turn.invariant.waits) e.1,
     )
 
 pub returns-in-Fault-drain-clause-runs : goal.returns-in-Fault-drain-clause-runs
@@ -78,9 +94,8 @@ loop-turn-preserved g c =
       reads = λ xs is. reads_then c.loop-turn.turn _ xs _ _ c.read.new.buffer c.in-Ok.count (omega arith) (c.loop-turn.invariant.reads xs is) c.in-Ok.ensures.bound long c.in-Ok.ensures.bytes;
       failures = let a = c.in-Ok.ensures.failures in let b = c.loop-turn.invariant.failures in cc;
       tells = λ tells. c.in-More-drain.ensures.tells (c.loop-turn.invariant.tells tells) refl;
-      waits = λ xs is tells s es a.
-          let d = c.loop-turn.invariant.fed xs is tells in
-          let e = d.0.drained s es a in c.in-More-drain.ensures.waits (c.loop-turn.invariant.tells tells) refl (s ++ d.0.bytes) (es ++ e.more) e.stands;
+      waits = c.in-More-drain.ensures.refusal;
+      stays = λ r is. c.in-More-drain.ensures.stays r (c.loop-turn.invariant.stays r is);
       fed = λ xs is tells.
           let d = c.loop-turn.invariant.fed xs is tells in
           let r = read_some _ _ d.0.rest c.read.new.buffer c.in-Ok.count d.1 c.in-Ok.ensures.bytes.0 c.in-Ok.ensures.bytes.1 in
@@ -88,10 +103,10 @@ loop-turn-preserved g c =
           let piece = take c.in-Ok.count c.read.new.buffer in
           let size : length piece ≡ c.in-Ok.count = length-take-le c.in-Ok.count c.read.new.buffer c.in-Ok.ensures.bound in
           let some = c.if-count-eq0.false in (
-            feeds_then g.S.Sink.after (state c.args.decoder.now) (state c.loop-turn.decoder) (state c.drain-in-loop-turn.new.decoder) xs piece r.0 _ _ _ d.0 r.2 piece [] (sym (append-nil piece)) (λ s es a. (e s es a).0),
+            feeds_then g.S.Sink.after (state c.args.decoder.now) (state c.loop-turn.decoder) (state c.drain-in-loop-turn.new.decoder) xs piece r.0 _ _ _ d.0 r.2 piece [] (sym (append-nil piece)) (λ s es a. (e s es a).drains),
             r.1,
             omega (arith, d.2, length-append d.0.bytes piece),
-            has_all g.S.Sink.after (state c.args.decoder.now) (state c.loop-turn.decoder) (state c.drain-in-loop-turn.new.decoder) xs piece r.0 _ _ _ d.0 r.2 piece [] (sym (append-nil piece)) e,
+            has_all g.S.Sink.after (state c.args.decoder.now) (state c.loop-turn.decoder) (state c.drain-in-loop-turn.new.decoder) xs piece r.0 _ _ _ d.0 r.2 piece [] (sym (append-nil piece)) _ r.1 (λ _. refl) (λ none. c.loop-turn.invariant.waits) e,
           );
     }
 
@@ -99,6 +114,23 @@ pub returns-clause-runs : goal.returns-clause-runs
 returns-clause-runs g c = λ xs is tells.
     let d = c.loop-turn.invariant.fed xs is tells in
     (d.0, d.1, omega (arith, d.2), d.3)
+
+-- what was refused
+
+pub returns-then-count-eq0-clause-stays : goal.returns-then-count-eq0-clause-stays
+returns-then-count-eq0-clause-stays g c = c.loop-turn.invariant.stays
+
+pub returns-in-Err-clause-stays : goal.returns-in-Err-clause-stays
+returns-in-Err-clause-stays g c = c.loop-turn.invariant.stays
+
+pub returns-clause-stays : goal.returns-clause-stays
+returns-clause-stays g c = c.loop-turn.invariant.stays
+
+pub returns-in-Refused-drain-clause-stays : goal.returns-in-Refused-drain-clause-stays
+returns-in-Refused-drain-clause-stays g c = λ r is. c.in-Refused-drain.ensures.stays r (c.loop-turn.invariant.stays r is)
+
+pub returns-in-Fault-drain-clause-stays : goal.returns-in-Fault-drain-clause-stays
+returns-in-Fault-drain-clause-stays g c = λ r is. c.in-Fault-drain.ensures.stays r (c.loop-turn.invariant.stays r is)
 
 -- how much is read
 

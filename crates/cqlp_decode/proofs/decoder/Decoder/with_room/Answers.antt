@@ -11,7 +11,7 @@ invariant_of-result g c =
     let cells = c.in_ok-cells.ensures in
     let table = c.in_ok-table.ensures in
     let limits = c.new-standing.ensures.limits in
-    c.new-standing.ensures.lawful (parts c.in_ok-partial.partial c.in_ok-types.types c.in_ok-cells.cells c.in_ok-table.table) (record { field = field.idle; types = types.idle; cells = rw cells refl })
+    c.new-standing.ensures.lawful (parts c.in_ok-partial.partial c.in_ok-types.types c.in_ok-cells.cells c.in_ok-table.table) (record { field = field.idle; types = types.idle; cells = rw cells refl }) (record { types = λ _. types.empty; cells = λ _. rw cells refl })
     (rw limits (record { room = field.room ∙ c.max.ensures; rules = types.rules; cells = ap (λ (z : value.State). z.rules) cells; table = ap (λ (t : Table). t.room) table })) (ap (λ (t : Table). t.nodes) table)
 
 pub returns-clause-unrefused : goal.returns-clause-unrefused

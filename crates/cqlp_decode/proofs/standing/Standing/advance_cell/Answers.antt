@@ -55,7 +55,7 @@ returns-else-not-done-clause-lawful g c = λ r law.
     let stage = rw c.requires.here at law.stage in
     let rest = c.end_cell.ensures.rest in
     cell_ended_lawful c.args.self.now q c.args.page c.requires.here stage.0 law.parts.cells c.args.input.now c.in-Item.at c.in-Item.used c.in-Item.item c.advance.new.self c.advance.new.partial c.in-Item.ensures.moves law c.end_cell.new.self c.end_cell.new.cells (ap (λ (z : Standing). z.offset) rest) (ap (λ (z : Standing). z.stop) rest) (ap (λ (z : Standing). z.limits) rest) (ap (λ (z : Standing). z.header) rest)
-    (ap (λ (z : Standing). z.came) rest) (ap (λ (z : State). z.rules) c.end_cell.ensures.cells_are) (rw c.requires.here at (law.table c.requires.unrefused)) (ap is_under_way c.end_cell.ensures.cells_are) c.end_cell.ensures.starts
+    (ap (λ (z : Standing). z.came) rest) (ap (λ (z : State). z.rules) c.end_cell.ensures.cells_are) (rw c.requires.here at (law.table c.requires.unrefused)) (ap is_under_way c.end_cell.ensures.cells_are) (ap (λ (z : State). z.open_values) c.end_cell.ensures.cells_are) c.end_cell.ensures.starts
 
 pub returns-else-not-done-clause-moves : goal.returns-else-not-done-clause-moves
 returns-else-not-done-clause-moves g c = λ r law.

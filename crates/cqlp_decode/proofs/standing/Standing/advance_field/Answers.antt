@@ -44,7 +44,7 @@ returns-in_default-clause-lawful g c = λ r d law.
     goes_on_lawful c.args.self.now c.follow.new.self (parts c.args.partial.now r d c.args.table.now) c.advance.new.self r d c.begin_metadata.new.table (c.came-came.result + c.in-Got.used) law offset (omega (arith, inside))
     (ap (λ (z : Standing). z.stop) rest) (ap (λ (z : Standing). z.limits) rest) (ap (λ (z : Standing). z.header) rest) (ap (λ (z : Standing). z.came) rest ∙ c.requires.wanted.came)
     (ap (λ (z : Progress). z.room) ended ∙ c.ask.ensures.room) (ap (λ (z : Progress). z.under_way) ended) refl stage.1 refl stage.2 (ap (λ (z : Table). z.room) c.begin_metadata.ensures)
-    (rw c.begin_metadata.ensures (metadata_forest c.args.want.role c.args.table.now.nodes c.args.self.now.limits.depth c.requires.forest)) c.follow.ensures.starts
+    (rw c.begin_metadata.ensures (metadata_forest c.args.want.role c.args.table.now.nodes c.args.self.now.limits.depth c.requires.forest)) c.follow.ensures.starts (record { types = law.quiet.types; cells = law.quiet.cells })
 
 pub returns-in_default-clause-moves : goal.returns-in_default-clause-moves
 returns-in_default-clause-moves g c = λ r d.
