@@ -13,14 +13,14 @@ use Rattle.cqlp_decode.specs.Standing.{State}
 use Rattle.cqlp_decode.specs.Streams.{After, Leads, Goes, Refuses}
 use Rattle.cqlp_decode.specs.Draining.{Drains, DrainsAll, Fails, Feeds, FeedsInto, HasAll, ReadsAtMost, fold_events}
 
-take_two : (k n : ℕ) (bytes : List ℕ) → take (k + n) bytes ≡ take k bytes ++ take n (drop k bytes)
+pub take_two : (k n : ℕ) (bytes : List ℕ) → take (k + n) bytes ≡ take k bytes ++ take n (drop k bytes)
 take_two k n bytes = sym (rw (take-take k (k + n) bytes (omega arith), drop-take k n bytes) at (take-append-drop k (take (k + n) bytes)))
 
 -- what `&input[used..]` is
 pub rest_is : (used : ℕ) (input : List ℕ) → take (length input - used) (drop used input) ≡ drop used input
 rest_is used input = take_all _ _ (omega (arith, length-drop used input))
 
-refuses_new : (o : Option Refusal) (old : State) (s : List ℕ) (es : List (ℕ × reading.Event)) (input : List ℕ) (r : Refusal) → o ≡ None → Refuses o old s es input r → Says old.rules reading.start (s ++ input) es (reading.Refused r.at r.why)
+pub refuses_new : (o : Option Refusal) (old : State) (s : List ℕ) (es : List (ℕ × reading.Event)) (input : List ℕ) (r : Refusal) → o ≡ None → Refuses o old s es input r → Says old.rules reading.start (s ++ input) es (reading.Refused r.at r.why)
 refuses_new None old s es input r is h = h
 refuses_new (Some b) old s es input r is h = absurd cc
 

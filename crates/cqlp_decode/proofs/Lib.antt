@@ -16,3 +16,5 @@ pub mod PartsRead
 pub mod FramesRead
 mod EventCounts
 mod WiderLimits
+pub mod OneAnswer
+pub mod OneRun

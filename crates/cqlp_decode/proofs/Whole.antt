@@ -23,7 +23,7 @@ same_verdict (Bad f) (Refused k why) Waits a b = absurd b
 same_verdict (Bad f) (Refused k why) (Refused j how) a b = ap (λ (x : ℕ × Reason). Refused x.0 x.1) (sym a ∙ b)
 same_verdict (Got x used) v w a b = absurd a
 
-is_bad : (d : Said (Emitted Event Place) (ℕ × Reason)) (k : ℕ) (why : Reason) → Ends d (Refused k why) → d ≡ Bad (k, why)
+pub is_bad : (d : Said (Emitted Event Place) (ℕ × Reason)) (k : ℕ) (why : Reason) → Ends d (Refused k why) → d ≡ Bad (k, why)
 is_bad More k why h = absurd h
 is_bad (Bad f) k why h = ap Bad h
 is_bad (Got x used) k why h = absurd h

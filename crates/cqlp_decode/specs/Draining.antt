@@ -59,10 +59,6 @@ DrainsBy drained.More new = new.refusal ≡ None
 DrainsBy drained.Refused new = HasRefused new
 DrainsBy drained.Fault new = ⊤
 
--- what was refused before is refused after, in the same words
-abbrev pub KeepsRefusal : (old new : State) → Type 0
-KeepsRefusal old new = (r : Refusal) → old.refusal ≡ Some r → new.refusal ≡ Some r
-
 -- Of the bytes xs of a reader, `rest` is left or was not used; the others the decoder used, and the sink has got
 -- their events.
 pub record Feeds {V : Type 0} (f : V → ℕ → Event → V) (old new : State) (xs : List ℕ) (before after : V) : Type 0 where

@@ -7,3 +7,4 @@ pub mod Streams
 pub mod Lending
 pub mod Draining
 pub mod Laws
+pub mod OneAnswer

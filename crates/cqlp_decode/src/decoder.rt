@@ -1,6 +1,6 @@
 //! The decoder of a stream of frames.
 
-ghost use Rattle.std.specs.Prelude.{◌≡◌, ◌≤◌, ◌↔◌, List, [], ℕ, length, IfOk, IsErrOf, Err, max, None};
+ghost use Rattle.std.specs.Prelude.{◌≡◌, ◌≤◌, ◌↔◌, List, [], ℕ, length, IfOk, IsErrOf, Err, max, None, Some};
 ghost use Rattle.std.specs.Borrow.{sem};
 ghost use Rattle.cqlp_note.specs.Limits.{first_bad, rules_of};
 ghost use Rattle.cqlp_note.specs.Head.{value_of};
@@ -10,6 +10,7 @@ ghost use Rattle.cqlp_decode.specs.Reading as reading;
 ghost use Rattle.cqlp_decode.specs.Reading.{cell_event};
 ghost use Rattle.cqlp_decode.specs.Standing.{levels_of};
 ghost use Rattle.cqlp_note.specs.declared.limits.BadLimits.{BadLimits as Bad};
+ghost use Rattle.cqlp_note.specs.declared.refusal.Refusal.{Refusal};
 
 use crate::event::{Event, Finish, Held, Step};
 use crate::standing::{Advance, Standing, Taken, What};
@@ -131,7 +132,8 @@ impl<A: Allocator> Decoder<A> {
 
     /// How the stream ends, if it ends after the bytes that were used.
     pub fn finish(&self) -> Finish
-        ensures { (s : List ℕ) (es : List (ℕ × reading.Event)) → After (state self.now) s es → Finishes (state self.now) s es result }
+        ensures refused { (r : Refusal) → (state self.now).refusal ≡ Some r → result ≡ Finish.Refused r }
+        ensures ends { (s : List ℕ) (es : List (ℕ × reading.Event)) → After (state self.now) s es → Finishes (state self.now) s es result }
     {
         self.standing
             .finish(&self.partial, &self.types, &self.cells)

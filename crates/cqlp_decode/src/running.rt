@@ -1,8 +1,9 @@
 //! A reader's stream, drained into a sink.
 
 ghost use Rattle.std.specs.Prelude.{◌≡◌, ◌*◌, List, ℕ, Some};
-ghost use Rattle.cqlp_decode.specs.Draining.{Counts, DrainsBy, DrainsTo, KeepsRefusal, ReadsAtMost, RunsTo, WaitsAt};
+ghost use Rattle.cqlp_decode.specs.Draining.{Counts, DrainsBy, DrainsTo, ReadsAtMost, RunsTo, WaitsAt};
 ghost use Rattle.cqlp_decode.specs.Streams.{state};
+ghost use Rattle.cqlp_note.specs.declared.refusal.Refusal.{Refusal};
 
 use crate::decoder::Decoder;
 use crate::event::{Finish, Step};
@@ -41,7 +42,8 @@ pub fn run<R: Source, S: Sink, A: Allocator>(
 ) -> Outcome
     ensures runs { (xs : List ℕ) → R.left reader.old ≡ Some xs → S.tells sink.old → RunsTo S.after S.faulted turns result (state decoder.old) (state decoder.new) xs (R.left reader.new) (S.view sink.old) (S.view sink.new) }
     ensures waits { WaitsAt result (state decoder.new) }
-    ensures stays { KeepsRefusal (state decoder.old) (state decoder.new) }
+    ensures refused { (r : Refusal) → (state decoder.old).refusal ≡ Some r →
+        (result ≡ Outcome.Finished (Finish.Refused r)) × (state decoder.new ≡ state decoder.old) × (reader.new ≡ reader.old) × (sink.new ≡ sink.old) }
     ensures reads { (xs : List ℕ) → R.left reader.old ≡ Some xs → ReadsAtMost (4096 * turns) xs (R.left reader.new) }
     ensures failures { Counts result (R.failures reader.old) (R.failures reader.new) }
     ensures rules { (state decoder.new).rules ≡ (state decoder.old).rules }
@@ -73,7 +75,8 @@ pub fn run<R: Source, S: Sink, A: Allocator>(
 fn drain<S: Sink, A: Allocator>(decoder: &mut Decoder<A>, input: &[u8], sink: &mut S) -> Drained
     ensures tells { S.tells sink.old → result ≡ Drained.More → S.tells sink.new }
     ensures refusal { DrainsBy result (state decoder.new) }
-    ensures stays { KeepsRefusal (state decoder.old) (state decoder.new) }
+    ensures refused { (r : Refusal) → (state decoder.old).refusal ≡ Some r →
+        (result ≡ Drained.Refused) × (state decoder.new ≡ state decoder.old) × (sink.new ≡ sink.old) }
     ensures drains { S.tells sink.old → DrainsTo S.after S.faulted (state decoder.old) input.now result (state decoder.new) (S.view sink.old) (S.view sink.new) }
     ensures rules { (state decoder.new).rules ≡ (state decoder.old).rules }
 {

@@ -1,7 +1,8 @@
 //! Where the reading of a stream stands, and one step of it.
 
-ghost use Rattle.std.specs.Prelude.{◌≡◌, ◌+◌, ◌-◌, ◌<◌, ◌≤◌, ◌^◌, ◌++◌, ◌∷◌, List, [], ℕ, length, take, None, IsTrue, ◌↔◌, true, false};
+ghost use Rattle.std.specs.Prelude.{◌≡◌, ◌+◌, ◌-◌, ◌<◌, ◌≤◌, ◌^◌, ◌++◌, ◌∷◌, List, [], ℕ, length, take, None, Some, IsTrue, ◌↔◌, true, false};
 ghost use Rattle.cqlp_note.specs.Limits.{limit_of, rules_of};
+ghost use Rattle.cqlp_note.specs.declared.refusal.Refusal.{Refusal as Refusing};
 ghost use Rattle.cqlp_decode.specs.Standing.{came_of, stage_with};
 
 use crate::event::Finish;
@@ -157,7 +158,8 @@ impl Standing {
     ) -> Finish
         requires bounded { IsBounded self.now }
         requires placed { (t : Table) × IsPlaced self.now (parts partial.now types.now cells.now t) self.now.stage }
-        ensures { (t : Table) → IsPlaced self.now (parts partial.now types.now cells.now t) self.now.stage → (s : List ℕ) (es : List (ℕ × reading.Event)) → After (state_of self.now (parts partial.now types.now cells.now t)) s es → Finishes (state_of self.now (parts partial.now types.now cells.now t)) s es result }
+        ensures refused { (r : Refusing) → self.now.refusal ≡ Some r → result ≡ Finish.Refused r }
+        ensures ends { (t : Table) → IsPlaced self.now (parts partial.now types.now cells.now t) self.now.stage → (s : List ℕ) (es : List (ℕ × reading.Event)) → After (state_of self.now (parts partial.now types.now cells.now t)) s es → Finishes (state_of self.now (parts partial.now types.now cells.now t)) s es result }
     {
         if let Some(refusal) = self.refusal {
             return Finish::Refused(refusal);

@@ -1,4 +1,4 @@
-use Rattle.std.proofs.Common.{◌+◌, ◌≤◌, length, drop, sym, ap, ◌∙◌, arith}
+use Rattle.std.proofs.Common.{◌+◌, ◌≤◌, length, drop, refl, sym, ap, ◌∙◌, arith}
 use Rattle.std.proofs.lemmas.List.{length-drop}
 use Rattle.cqlp_decode.specs.Standing.{State}
 use Rattle.cqlp_decode.specs.Streams.{state}
@@ -9,9 +9,10 @@ use Rattle.cqlp_decode.proofs.running.drain.Goals as goal
 pub returns-in-More-clause-refusal : goal.returns-in-More-clause-refusal
 returns-in-More-clause-refusal g c = (rw c.in-More.is at c.next.follows.holds-at-none.0).1
 
-pub returns-in-More-clause-stays : goal.returns-in-More-clause-stays
-returns-in-More-clause-stays g c = λ r is.
-    let again = (repeated (state c.events.decoder) (state c.next.follows.lender-at-none) _ (state c.events.decoder).refusal r (c.events.invariant.stays r is) c.next.follows.holds-at-none.2).0 in
+pub returns-in-More-clause-refused : goal.returns-in-More-clause-refused
+returns-in-More-clause-refused g c = λ r is.
+    let mid = ap (λ (z : State). z.refusal) (c.events.invariant.refused r is).0 ∙ is in
+    let again = (repeated (state c.events.decoder) (state c.next.follows.lender-at-none) _ (state c.events.decoder).refusal r mid c.next.follows.holds-at-none.2).0 in
     absurd (let e = sym c.in-More.is ∙ again in cc)
 
 pub returns-in-More-clause-drains : goal.returns-in-More-clause-drains
@@ -24,11 +25,12 @@ returns-in-More-clause-drains g c = λ tells s es a.
 pub returns-in-Refused-clause-refusal : goal.returns-in-Refused-clause-refusal
 returns-in-Refused-clause-refusal g c = (_, (rw c.in-Refused.is at c.next.follows.holds-at-none.0).1)
 
-pub returns-in-Refused-clause-stays : goal.returns-in-Refused-clause-stays
-returns-in-Refused-clause-stays g c = λ r is.
-    let mid = c.events.invariant.stays r is in
+pub returns-in-Refused-clause-refused : goal.returns-in-Refused-clause-refused
+returns-in-Refused-clause-refused g c = λ r is.
+    let before = c.events.invariant.refused r is in
+    let mid = ap (λ (z : State). z.refusal) before.0 ∙ is in
     let again = repeated (state c.events.decoder) (state c.next.follows.lender-at-none) _ (state c.events.decoder).refusal r mid c.next.follows.holds-at-none.2 in
-    ap (λ (z : State). z.refusal) again.1 ∙ mid
+    (refl, again.1 ∙ before.0, before.1)
 
 pub returns-in-Refused-clause-drains : goal.returns-in-Refused-clause-drains
 returns-in-Refused-clause-drains g c = λ tells. (
@@ -40,9 +42,10 @@ returns-in-Refused-clause-drains g c = λ tells. (
       drains_refused g.S.Sink.after (state c.events.decoder) (state c.next.follows.lender-at-none) s c.args.input.now c.events.used es _ _ d (state c.args.decoder.now) c.events.invariant.clear _ goes (rw (c.in-Refused.is, rest_is) at leads),
 )
 
-pub returns-in-Err-clause-stays : goal.returns-in-Err-clause-stays
-returns-in-Err-clause-stays g c = λ r is.
-    let again = (repeated (state c.events.decoder) (state c.next.follows.lender-at-none) _ (state c.events.decoder).refusal r (c.events.invariant.stays r is) c.next.follows.holds-at-none.2).0 in
+pub returns-in-Err-clause-refused : goal.returns-in-Err-clause-refused
+returns-in-Err-clause-refused g c = λ r is.
+    let mid = ap (λ (z : State). z.refusal) (c.events.invariant.refused r is).0 ∙ is in
+    let again = (repeated (state c.events.decoder) (state c.next.follows.lender-at-none) _ (state c.events.decoder).refusal r mid c.next.follows.holds-at-none.2).0 in
     absurd (let e = sym c.in-Event.is ∙ again in cc)
 
 pub returns-in-Err-clause-drains : goal.returns-in-Err-clause-drains
@@ -61,8 +64,9 @@ events-preserved g c = record {
       let left = length-drop c.events.used c.args.input.now in
       let within = c.events.invariant.within in omega arith;
   rules = let goes = rw c.in-Event.is at c.next.follows.holds-at-none.0 in goes.2 ∙ c.events.invariant.rules;
-  stays = λ r is.
-      let again = (repeated (state c.events.decoder) (state c.next.follows.lender-at-none) _ (state c.events.decoder).refusal r (c.events.invariant.stays r is) c.next.follows.holds-at-none.2).0 in
+  refused = λ r is.
+      let mid = ap (λ (z : State). z.refusal) (c.events.invariant.refused r is).0 ∙ is in
+      let again = (repeated (state c.events.decoder) (state c.next.follows.lender-at-none) _ (state c.events.decoder).refusal r mid c.next.follows.holds-at-none.2).0 in
       absurd (let e = sym c.in-Event.is ∙ again in cc);
   clear = λ none. let goes = rw c.in-Event.is at c.next.follows.holds-at-none.0 in goes.3;
   tells = λ tells. (c.in-Ok.ensures.ok (c.events.invariant.tells tells)).0;

@@ -1,8 +1,9 @@
-use Rattle.std.proofs.Common.{◌≡◌, ◌+◌, ◌-◌, ◌*◌, ◌≤◌, List, ℕ, length, take, None}
+use Rattle.std.proofs.Common.{◌≡◌, ◌+◌, ◌-◌, ◌*◌, ◌≤◌, List, ℕ, length, take, Some, None}
+use Rattle.cqlp_note.specs.declared.refusal.Refusal.{Refusal}
 use Rattle.cqlp_decode.specs.Reading.{Event}
 use Rattle.cqlp_decode.specs.Standing.{ends_due}
 use Rattle.cqlp_decode.specs.Streams.{After, state}
-use Rattle.cqlp_decode.specs.Draining.{Drains, KeepsRefusal}
+use Rattle.cqlp_decode.specs.Draining.{Drains}
 use Rattle.cqlp_decode.proofs.running.drain.Given as goal
 
 -- what is used is read, and the sink has got its events
@@ -10,7 +11,7 @@ abbrev pub invariant-events : goal.invariant-events
 invariant-events g l = record {
   within : l.used ≤ length l.input;
   rules : (state l.decoder).rules ≡ (state l.fn.decoder).rules;
-  stays : KeepsRefusal (state l.fn.decoder) (state l.decoder);
+  refused : (r : Refusal) → (state l.fn.decoder).refusal ≡ Some r → (state l.decoder ≡ state l.fn.decoder) × (l.sink ≡ l.fn.sink);
   clear : (state l.fn.decoder).refusal ≡ None → (state l.decoder).refusal ≡ None;
   tells : g.S.Sink.tells l.fn.sink → g.S.Sink.tells l.sink;
   drained : g.S.Sink.tells l.fn.sink → (s : List ℕ) (es : List (ℕ × Event)) → After (state l.fn.decoder) s es → Drains g.S.Sink.after (state l.decoder) s es (take l.used l.input) (g.S.Sink.view l.fn.sink) (g.S.Sink.view l.sink);

@@ -1,5 +1,8 @@
 use Rattle.std.proofs.Common.{◌≡◌, ℕ, ◌<◌, List, [], ◌++◌, length, take, drop, refl, sym, ap, ◌∙◌, inl, inr, Some, arith}
 use Rattle.std.proofs.lemmas.List.{append-nil, take-append-drop, length-append, length-take-le}
+use Rattle.cqlp_decode.specs.declared.event.Finish.{Finish}
+use Rattle.cqlp_decode.specs.declared.running.Outcome.TheVariants as outcome
+use Rattle.cqlp_decode.specs.Standing.{State}
 use Rattle.cqlp_decode.specs.Streams.{state}
 use Rattle.cqlp_decode.proofs.Gets.{feeds_none, feeds_then, feeds_into, has_all, has_all_still, read_some, keeps_some, at_end, reads_none, reads_kept, reads_then}
 use Rattle.cqlp_decode.proofs.running.run.Goals as goal
@@ -15,7 +18,7 @@ returns-in-Refused-clause-runs g c = λ xs is tells.
     let split = sym (take-append-drop e.0 []) in (
       feeds_then g.S.Sink.after d d (state c.drain.new.decoder) xs [] xs v v _ (feeds_none g.S.Sink.after d xs v) refl (take e.0 []) (drop e.0 []) split (λ s es a. (e.1 s es a).drains),
       inr refused,
-      c.finish.ensures,
+      c.finish.ensures.ends,
       has_all g.S.Sink.after d d (state c.drain.new.decoder) xs [] xs v v _ (feeds_none g.S.Sink.after d xs v) refl (take e.0 []) (drop e.0 []) split _ is (λ none. absurd (let some = refused.1 in cc)) (λ none. none) e.1,
     )
 
@@ -34,7 +37,7 @@ loop-turn-init g c = record {
   reads = λ xs is. reads_none _ xs _ is;
   tells = λ tells. c.in-More.ensures.tells tells refl;
   waits = c.in-More.ensures.refusal;
-  stays = c.in-More.ensures.stays;
+  unrefused = λ r is. let again = c.in-More.ensures.refused r is in let e = again.0 in cc;
   fed = λ xs is tells.
       let e = c.in-More.ensures.drains tells in
       let d = state c.args.decoder.now in
@@ -61,7 +64,7 @@ returns-then-count-eq0-clause-runs g c = λ xs is tells.
     let long : 0 < length c.read.new.buffer = let a = c.read.auto.buffer in let b = c.loop-turn.invariant.long in omega arith in
     let none = at_end d.0.rest r.0 c.read.new.buffer c.in-Ok.count r.2 c.if-count-eq0.true (r.3 c.if-count-eq0.true long) in
     let same = d.1 ∙ ap (λ (z : List ℕ). Some z) (none ∙ sym (r.3 c.if-count-eq0.true long)) ∙ sym r.1 in
-    (d.0, inl none, c.finish-then-count-eq0.ensures, has_all_still g.S.Sink.after (state c.args.decoder.now) (state c.loop-turn.decoder) xs _ _ _ _ d.0 same d.3)
+    (d.0, inl none, c.finish-then-count-eq0.ensures.ends, has_all_still g.S.Sink.after (state c.args.decoder.now) (state c.loop-turn.decoder) xs _ _ _ _ d.0 same d.3)
 
 pub returns-in-Refused-drain-clause-runs : goal.returns-in-Refused-drain-clause-runs
 returns-in-Refused-drain-clause-runs g c = λ xs is tells.
@@ -73,7 +76,7 @@ returns-in-Refused-drain-clause-runs g c = λ xs is tells.
     let split = sym (take-append-drop e.0 piece) in (
       feeds_then g.S.Sink.after (state c.args.decoder.now) (state c.loop-turn.decoder) (state c.drain-in-loop-turn.new.decoder) xs piece r.0 _ _ _ d.0 r.2 (take e.0 piece) (drop e.0 piece) split (λ s es a. (e.1 s es a).drains),
       inr refused,
-      c.finish-in-Refused-drain.ensures,
+      c.finish-in-Refused-drain.ensures.ends,
       has_all g.S.Sink.after (state c.args.decoder.now) (state c.loop-turn.decoder) (state c.drain-in-loop-turn.new.decoder) xs piece r.0 _ _ _ d.0 r.2 (take e.0 piece) (drop e.0 piece) split _ r.1 (λ none. absurd (let some = refused.1 in cc)) (λ none. c.loop-turn.invariant.waits) e.1,
     )
 
@@ -95,7 +98,7 @@ loop-turn-preserved g c =
       failures = let a = c.in-Ok.ensures.failures in let b = c.loop-turn.invariant.failures in cc;
       tells = λ tells. c.in-More-drain.ensures.tells (c.loop-turn.invariant.tells tells) refl;
       waits = c.in-More-drain.ensures.refusal;
-      stays = λ r is. c.in-More-drain.ensures.stays r (c.loop-turn.invariant.stays r is);
+      unrefused = c.loop-turn.invariant.unrefused;
       fed = λ xs is tells.
           let d = c.loop-turn.invariant.fed xs is tells in
           let r = read_some _ _ d.0.rest c.read.new.buffer c.in-Ok.count d.1 c.in-Ok.ensures.bytes.0 c.in-Ok.ensures.bytes.1 in
@@ -115,22 +118,31 @@ returns-clause-runs g c = λ xs is tells.
     let d = c.loop-turn.invariant.fed xs is tells in
     (d.0, d.1, omega (arith, d.2), d.3)
 
--- what was refused
+-- after a refusal
 
-pub returns-then-count-eq0-clause-stays : goal.returns-then-count-eq0-clause-stays
-returns-then-count-eq0-clause-stays g c = c.loop-turn.invariant.stays
+pub returns-in-Refused-clause-refused : goal.returns-in-Refused-clause-refused
+returns-in-Refused-clause-refused g c = λ r is.
+    let again = c.in-Refused.ensures.refused r is in
+    let still : (state c.drain.new.decoder).refusal ≡ Some r = ap (λ (z : State). z.refusal) again.1 ∙ is in
+    (ap (λ (f : Finish). outcome.Finished f) (c.finish.ensures.refused r still), again.1, refl, again.2)
 
-pub returns-in-Err-clause-stays : goal.returns-in-Err-clause-stays
-returns-in-Err-clause-stays g c = c.loop-turn.invariant.stays
+pub returns-in-Fault-clause-refused : goal.returns-in-Fault-clause-refused
+returns-in-Fault-clause-refused g c = λ r is. absurd (let again = c.in-Fault.ensures.refused r is in let e = again.0 in cc)
 
-pub returns-clause-stays : goal.returns-clause-stays
-returns-clause-stays g c = c.loop-turn.invariant.stays
+pub returns-then-count-eq0-clause-refused : goal.returns-then-count-eq0-clause-refused
+returns-then-count-eq0-clause-refused g c = λ r is. absurd (c.loop-turn.invariant.unrefused r is)
 
-pub returns-in-Refused-drain-clause-stays : goal.returns-in-Refused-drain-clause-stays
-returns-in-Refused-drain-clause-stays g c = λ r is. c.in-Refused-drain.ensures.stays r (c.loop-turn.invariant.stays r is)
+pub returns-in-Err-clause-refused : goal.returns-in-Err-clause-refused
+returns-in-Err-clause-refused g c = λ r is. absurd (c.loop-turn.invariant.unrefused r is)
 
-pub returns-in-Fault-drain-clause-stays : goal.returns-in-Fault-drain-clause-stays
-returns-in-Fault-drain-clause-stays g c = λ r is. c.in-Fault-drain.ensures.stays r (c.loop-turn.invariant.stays r is)
+pub returns-clause-refused : goal.returns-clause-refused
+returns-clause-refused g c = λ r is. absurd (c.loop-turn.invariant.unrefused r is)
+
+pub returns-in-Refused-drain-clause-refused : goal.returns-in-Refused-drain-clause-refused
+returns-in-Refused-drain-clause-refused g c = λ r is. absurd (c.loop-turn.invariant.unrefused r is)
+
+pub returns-in-Fault-drain-clause-refused : goal.returns-in-Fault-drain-clause-refused
+returns-in-Fault-drain-clause-refused g c = λ r is. absurd (c.loop-turn.invariant.unrefused r is)
 
 -- how much is read
 

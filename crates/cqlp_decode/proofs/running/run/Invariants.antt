@@ -1,6 +1,7 @@
 use Rattle.std.proofs.Common.{◌≡◌, ◌*◌, ◌≤◌, List, ℕ, length, None, Some}
+use Rattle.cqlp_note.specs.declared.refusal.Refusal.{Refusal}
 use Rattle.cqlp_decode.specs.Streams.{state}
-use Rattle.cqlp_decode.specs.Draining.{Feeds, HasAll, KeepsRefusal, ReadsAtMost}
+use Rattle.cqlp_decode.specs.Draining.{Feeds, HasAll, ReadsAtMost}
 use Rattle.cqlp_decode.proofs.running.run.Given as goal
 
 -- what was read was used, and the sink has got its events
@@ -12,7 +13,7 @@ invariant-loop-turn g l = record {
   reads : (xs : List ℕ) → g.R.Source.left l.fn.reader ≡ Some xs → ReadsAtMost (4096 * l.turn) xs (g.R.Source.left l.reader);
   tells : g.S.Sink.tells l.fn.sink → g.S.Sink.tells l.sink;
   waits : (state l.decoder).refusal ≡ None;
-  stays : KeepsRefusal (state l.fn.decoder) (state l.decoder);
+  unrefused : (r : Refusal) → (state l.fn.decoder).refusal ≡ Some r → ⊥;
   fed : (xs : List ℕ) → g.R.Source.left l.fn.reader ≡ Some xs → g.S.Sink.tells l.fn.sink
       → (d : Feeds g.S.Sink.after (state l.fn.decoder) (state l.decoder) xs (g.S.Sink.view l.fn.sink) (g.S.Sink.view l.sink)) × (g.R.Source.left l.reader ≡ Some d.rest) × (l.turn ≤ length d.bytes) × HasAll g.S.Sink.after (state l.fn.decoder) (state l.decoder) xs (g.R.Source.left l.reader) (g.S.Sink.view l.fn.sink) (g.S.Sink.view l.sink) d;
 }

@@ -17,11 +17,15 @@ returns-in-Some g c =
     let t = c.in-Some.taken in
     let e = event.Leaf t.row t.column 0 t.scalar in
     let takes = c.in-Some.ensures in (
-      (refl, λ _. tt, (
-        (takes.3.pays, takes.3.lent, takes.2, takes.1),
-        λ s es after. hands_leads old new input s es t.at t.used e takes.3 takes.1 takes.2 (subst (λ (o : Option Refusal). AfterBy o old s es) takes.0 after),
-        unrefused old new (steps.Event t.at t.used e) old.refusal takes.0,
-      )),
+      (
+        refl,
+        λ _. tt,
+        (
+          (takes.3.pays, takes.3.lent, takes.2, takes.1),
+          λ s es after. hands_leads old new input s es t.at t.used e takes.3 takes.1 takes.2 (subst (λ (o : Option Refusal). AfterBy o old s es) takes.0 after),
+          unrefused old new (steps.Event t.at t.used e) old.refusal takes.0,
+        ),
+      ),
       record { next = tt; uses = takes.3.within },
     )
 
