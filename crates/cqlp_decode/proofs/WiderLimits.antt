@@ -19,7 +19,8 @@ use Rattle.cqlp_type.specs.TypeStep.{TypeSymbol, TypePlace, Option_at, Text_of, 
 use Rattle.cqlp_value.specs.Scalars.{allows_size}
 use Rattle.cqlp_value.specs.CellStep.{CellSymbol, Value_of, Items_of, Close_of, Content_from, CellPlace, is_opaque, scalar_step, content_step, value_step, cell_step_at}
 use Rattle.cqlp_message.specs.Productions.{Symbol, Stream, In, In_type, Cell_due, In_cell, Extra}
-use Rattle.cqlp_decode.specs.Laws.{IsOfLimit, with_limits}
+use Rattle.cqlp_decode.specs.Excess.{with_limits}
+use Rattle.cqlp_decode.specs.Laws.{IsOfLimit}
 use Rattle.cqlp_decode.specs.Reading.{Event, Place, start, Reads, Says, Verdict, Waits, Refused, Ends, type_event, cell_event, place_of_types, place_of_cells, step_at, step}
 use Rattle.cqlp_decode.proofs.Whole.{no_step, says_once}
 

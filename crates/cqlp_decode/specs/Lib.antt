@@ -6,4 +6,5 @@ pub mod Standing
 pub mod Streams
 pub mod Lending
 pub mod Draining
+pub mod Excess
 pub mod Laws

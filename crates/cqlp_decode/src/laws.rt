@@ -13,12 +13,14 @@ pub fn goes_on()
     ensures { GoesOn }
 {}
 
-/// What is spelled is read: frames within the limits, one after the other, say their own events, and nothing is refused.
+/// What is spelled is read: frames within the limits, one after the other, say their own events, and nothing is refused,
+/// but that no frame begins past offset 2^63.
 pub fn spelled_is_read()
     ensures { SpelledIsRead }
 {}
 
-/// A stream has no more events than bytes, whatever lengths and counts it tells, and a decoder hands out no more.
+/// A stream has no more events than bytes, whatever lengths and counts it tells, and a decoder hands out no more, also before it
+/// refuses.
 pub fn no_more_events_than_bytes()
     ensures stream { HasNoMoreEventsThanBytes }
     ensures decoder { HandsOutNoMoreEventsThanBytes }
