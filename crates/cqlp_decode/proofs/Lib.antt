@@ -14,5 +14,7 @@ pub mod PageRows
 pub mod StepRuns
 pub mod PartsRead
 pub mod FramesRead
+pub mod StepCuts
+pub mod Cuts
 mod EventCounts
 mod WiderLimits

@@ -1,6 +1,6 @@
 //! Laws of the reading of a stream.
 
-ghost use Rattle.cqlp_decode.specs.Laws.{GoesOn, HandsOutNoMoreEventsThanBytes, HasNoMoreEventsThanBytes, IsSaidOnce, LimitsOnlyCut, SpelledIsRead};
+ghost use Rattle.cqlp_decode.specs.Laws.{FreeHasNoLimit, GoesOn, HandsOutNoMoreEventsThanBytes, HasNoMoreEventsThanBytes, IsSaidOnce, LimitsCutAtFirstExcess, LimitsOnlyCut, SpelledIsRead};
 
 /// Of any bytes there is one list of events, and one verdict.
 pub fn said_once()
@@ -29,4 +29,14 @@ pub fn no_more_events_than_bytes()
 /// Limits only cut: wider ones change no event and no refusal that is not a limit's own.
 pub fn limits_only_cut()
     ensures { LimitsOnlyCut }
+{}
+
+/// Within limits a stream says what it says without, cut at the first item that exceeds its own limit.
+pub fn limits_cut_at_first_excess()
+    ensures { LimitsCutAtFirstExcess }
+{}
+
+/// Without limits nothing is refused by one.
+pub fn free_has_no_limit()
+    ensures { FreeHasNoLimit }
 {}
