@@ -9,11 +9,8 @@ use Rattle.cqlp_note.proofs.Runs.{runs_then, runs_compare, same_got}
 use Rattle.cqlp_decode.specs.Excess.{with_limits, free, Exceeds, IsFirstExcess, NothingExceeds, IsCut}
 use Rattle.cqlp_decode.specs.Reading.{Event, Place, start, Reads, Says, Verdict, Waits, Refused, Ends, step}
 use Rattle.cqlp_decode.proofs.Whole.{no_step}
+use Rattle.cqlp_decode.proofs.FreePlaces.{never_exceeds}
 use Rattle.cqlp_decode.proofs.StepCuts.{Cut, same, stops, AtFirst, step_cut, one_excess}
-
--- Read freely, no place is reached where a limit is exceeded.
-pub never_exceeds : (l : Rules) (bytes : List ℕ) (es : List (ℕ × Event)) (p : Place) (rest : List ℕ) (why : Reason) → Reads (free l) start bytes es p rest → Exceeds (free l) p rest why → ⊥
-never_exceeds l bytes es p rest why read over = ?
 
 refused_by : (fault : ℕ × Reason) (v : Verdict) → Ends (Bad fault) v → v ≡ Refused fault.0 fault.1
 refused_by fault Waits h = absurd h

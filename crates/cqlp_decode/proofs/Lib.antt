@@ -15,6 +15,7 @@ pub mod StepRuns
 pub mod PartsRead
 pub mod FramesRead
 pub mod StepCuts
+pub mod FreePlaces
 pub mod Cuts
 mod EventCounts
 mod WiderLimits
