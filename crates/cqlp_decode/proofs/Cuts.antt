@@ -2,15 +2,17 @@
 use Rattle.std.proofs.Common.{◌≡◌, ℕ, ◌+◌, ◌<◌, ◌≤◌, ◌^◌, ◌⊎◌, List, [], ◌∷◌, ◌++◌, length, drop, refl, sym, ap, ◌∙◌, inl, inr, append-nil, arith}
 use Rattle.std.proofs.lemmas.List.{length-append}
 use Rattle.cqlp_note.specs.declared.refusal.Reason.{Reason}
-use Rattle.cqlp_note.specs.Reader.{Said, Got, Bad, says}
+use Rattle.cqlp_note.specs.Reader.{Said, More, Got, Bad, says}
 use Rattle.cqlp_note.specs.Step.{Emitted}
 use Rattle.cqlp_note.specs.Limits.{Rules}
 use Rattle.cqlp_note.proofs.Runs.{runs_then, runs_compare, same_got}
 use Rattle.cqlp_decode.specs.Excess.{with_limits, free, Exceeds, IsFirstExcess, NothingExceeds, IsCut}
+use Rattle.cqlp_decode.specs.Laws.{IsOfLimit}
 use Rattle.cqlp_decode.specs.Reading.{Event, Place, start, Reads, Says, Verdict, Waits, Refused, Ends, step}
 use Rattle.cqlp_decode.proofs.Whole.{no_step}
 use Rattle.cqlp_decode.proofs.FreePlaces.{never_exceeds}
-use Rattle.cqlp_decode.proofs.StepCuts.{Cut, same, stops, AtFirst, step_cut, one_excess}
+use Rattle.cqlp_decode.proofs.Refusals.{AtLimit}
+use Rattle.cqlp_decode.proofs.StepCuts.{Cut, same, stops, AtFirst, refused_exceeds, step_cut, one_excess}
 
 refused_by : (fault : ℕ × Reason) (v : Verdict) → Ends (Bad fault) v → v ≡ Refused fault.0 fault.1
 refused_by fault Waits h = absurd h
@@ -18,14 +20,14 @@ refused_by fault (Refused k why) h = ap (λ (x : ℕ × Reason). Refused x.0 x.1
 
 module _ (l : Rules) where
   abbrev CutAt : Place → List ℕ → Type 0
-  CutAt p rest = Cut (AtFirst p.offset (Exceeds l p rest)) (says (step l p) 0 rest) (says (step (free l) p) 0 rest)
+  CutAt p rest = Cut AtLimit (AtFirst p.offset (Exceeds l p rest)) (says (step l p) 0 rest) (says (step (free l) p) 0 rest)
 
   -- two steps that are each the same as a third one
   both_cut : (p : Place) (rest : List ℕ) (m : Said (Emitted Event Place) (ℕ × Reason)) → ((why : Reason) → Exceeds (free l) p rest why → ⊥)
-      → Cut (AtFirst p.offset (Exceeds l p rest)) (says (step l p) 0 rest) m → Cut (AtFirst p.offset (Exceeds (free l) p rest)) (says (step (free l) p) 0 rest) m → CutAt p rest
+      → Cut AtLimit (AtFirst p.offset (Exceeds l p rest)) (says (step l p) 0 rest) m → Cut AtLimit (AtFirst p.offset (Exceeds (free l) p rest)) (says (step (free l) p) 0 rest) m → CutAt p rest
   both_cut p rest m never a (stops f e bad) = absurd (never f.1 e.1)
-  both_cut p rest m never (stops f e bad) (same eq none) = stops f e bad
-  both_cut p rest m never (same eq none) (same eq' none') = same (eq ∙ sym eq') none
+  both_cut p rest m never (stops f e bad) (same eq clean none) = stops f e bad
+  both_cut p rest m never (same eq clean none) (same eq' clean' none') = same (eq ∙ sym eq') clean none
 
   free_cut : (bytes : List ℕ) (es : List (ℕ × Event)) (p : Place) (rest : List ℕ) → Reads (free l) start bytes es p rest → CutAt p rest
   free_cut bytes es p rest read =
@@ -55,13 +57,13 @@ module _ (l : Rules) where
           let next : run.1 ≡ after = ap (λ (x : Emitted Event Place). x.after) is.0 in
           omega (arith, later.1 gs s left how (rw (is.1, next) at run.3) over)
 
-      first_freely : (f : Said (Emitted Event Place) (ℕ × Reason)) → f ≡ Got (record { at = e.0; event = e.1; after = after }) used → Cut (AtFirst q.offset (Exceeds l q mid)) f (says (step (free l) q) 0 mid)
+      first_freely : (f : Said (Emitted Event Place) (ℕ × Reason)) → f ≡ Got (record { at = e.0; event = e.1; after = after }) used → Cut AtLimit (AtFirst q.offset (Exceeds l q mid)) f (says (step (free l) q) 0 mid)
           → GoesFreely (after used) (drop used mid) es p rest → GoesFreely q mid (e ∷ es) p rest
       first_freely f is (stops why x bad) later = absurd (let no : ◌≡◌ {A = Said (Emitted Event Place) (ℕ × Reason)} (Bad why) (Got (record { at = e.0; event = e.1; after = after }) used) = sym bad ∙ is in cc)
-      first_freely f is (same eq none) later = ((used, after, got, later.0), first_later none later)
+      first_freely f is (same eq clean none) later = ((used, after, got, later.0), first_later none later)
 
     also_got : (q : Place) (mid : List ℕ) (x : Emitted Event Place) (used : ℕ) → CutAt q mid → says (step l q) 0 mid ≡ Got x used → says (step (free l) q) 0 mid ≡ Got x used
-    also_got q mid x used (same eq none) got = sym eq ∙ got
+    also_got q mid x used (same eq clean none) got = sym eq ∙ got
     also_got q mid x used (stops why e bad) got = absurd (let no : ◌≡◌ {A = Said (Emitted Event Place) (ℕ × Reason)} (Bad why) (Got x used) = sym bad ∙ got in cc)
 
     reads_freely : (es fs : List (ℕ × Event)) (q p : Place) (mid rest : List ℕ) → Reads (free l) start bytes fs q mid → Reads l q mid es p rest → GoesFreely q mid es p rest
@@ -81,7 +83,7 @@ module _ (l : Rules) where
         none (p.offset, how) (refl, rw (there.0, there.1) at over)
 
     ends_cut : (es : List (ℕ × Event)) (p : Place) (rest : List ℕ) (v : Verdict) → GoesFreely start bytes es p rest → CutAt p rest → Ends (says (step l p) 0 rest) v → IsCut l bytes es v
-    ends_cut es p rest v goes (same eq none) ends =
+    ends_cut es p rest v goes (same eq clean none) ends =
         let ends' : Ends (says (step (free l) p) 0 rest) v = rw eq at ends in
         inl (nothing_later es p rest v goes none ends', (p, rest, goes.0, ends'))
     ends_cut es p rest v goes (stops f e bad) ends =
@@ -95,7 +97,7 @@ module _ (l : Rules) where
     -- ---- to what is said within limits
 
     got_within : (q : Place) (mid : List ℕ) (x : Emitted Event Place) (used : ℕ) → CutAt q mid → ((how : Reason) → Exceeds l q mid how → ⊥) → says (step (free l) q) 0 mid ≡ Got x used → says (step l q) 0 mid ≡ Got x used
-    got_within q mid x used (same eq none) never got = eq ∙ got
+    got_within q mid x used (same eq clean none) never got = eq ∙ got
     got_within q mid x used (stops f e bad) never got = absurd (never f.1 e.1)
 
     -- Where nothing exceeds a limit before n events, what is read freely up to there is read within limits.
@@ -111,11 +113,11 @@ module _ (l : Rules) where
 
     -- the end where nothing exceeds a limit, and the end where something does
     ends_alike : (p : Place) (rest : List ℕ) (v : Verdict) → CutAt p rest → ((how : Reason) → Exceeds l p rest how → ⊥) → Ends (says (step (free l) p) 0 rest) v → Ends (says (step l p) 0 rest) v
-    ends_alike p rest v (same eq none) never ends = rw eq ends
+    ends_alike p rest v (same eq clean none) never ends = rw eq ends
     ends_alike p rest v (stops f e bad) never ends = absurd (never f.1 e.1)
 
     ends_refused : (p : Place) (rest : List ℕ) (why : Reason) → CutAt p rest → Exceeds l p rest why → Ends (says (step l p) 0 rest) (Refused p.offset why)
-    ends_refused p rest why (same eq none) over = absurd (none (p.offset, why) (refl, over))
+    ends_refused p rest why (same eq clean none) over = absurd (none (p.offset, why) (refl, over))
     ends_refused p rest why (stops f e bad) over =
         let is : f ≡ (p.offset, why) = λ i. (e.0 i, one_excess l p rest p.symbols why f.1 over e.1 i) in
         rw bad is
@@ -128,3 +130,15 @@ module _ (l : Rules) where
     cut_says es v (inr c) =
         let read = reads_within (length es) es [] start c.0 bytes c.1 c.3.first (omega arith) (refl, refl) c.3.read in
         (c.0, c.1, read, rw c.4 (ends_refused c.0 c.1 c.2 (free_cut bytes es c.0 c.1 c.3.read) c.3.exceeds))
+
+is_bad : (d : Said (Emitted Event Place) (ℕ × Reason)) (k : ℕ) (why : Reason) → Ends d (Refused k why) → d ≡ Bad (k, why)
+is_bad More k why h = absurd h
+is_bad (Bad f) k why h = ap Bad h
+is_bad (Got x used) k why h = absurd h
+
+-- Read freely, nothing is refused by a limit.
+pub free_refuses : (l : Rules) (bytes : List ℕ) (es : List (ℕ × Event)) (k : ℕ) (why : Reason) → Says (free l) start bytes es (Refused k why) → IsOfLimit why → ⊥
+free_refuses l bytes es k why s limit =
+    let d = says (step (free l) s.0) 0 s.1 in
+    let over = refused_exceeds AtLimit (AtFirst s.0.offset (Exceeds (free l) s.0 s.1)) d d (k, why) (step_cut (free l) (2 ^ 31) (2 ^ 31) (2 ^ 31) (2 ^ 31) (omega arith) (omega arith) (omega arith) (omega arith) s.0 s.1 s.0.symbols) (is_bad d k why s.3) limit in
+    never_exceeds l bytes es s.0 s.1 why s.2 over.1
