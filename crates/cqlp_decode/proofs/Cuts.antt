@@ -1,20 +1,20 @@
 -- Limits cut what is read without them.
-use Rattle.std.proofs.Common.{◌≡◌, ℕ, ◌+◌, ◌<◌, ◌≤◌, ◌^◌, ◌⊎◌, List, [], ◌∷◌, ◌++◌, length, drop, refl, sym, ap, ◌∙◌, inl, inr, append-nil, arith}
+use Rattle.std.proofs.Common.{◌≡◌, ℕ, ◌+◌, ◌≤◌, ◌^◌, List, [], ◌∷◌, ◌++◌, length, drop, refl, sym, ap, ◌∙◌, inl, inr, arith}
 use Rattle.std.proofs.lemmas.List.{length-append}
 use Rattle.cqlp_note.specs.declared.refusal.Reason.{Reason}
 use Rattle.cqlp_note.specs.Reader.{Said, More, Got, Bad, says}
 use Rattle.cqlp_note.specs.Step.{Emitted}
 use Rattle.cqlp_note.specs.Limits.{Rules}
 use Rattle.cqlp_note.proofs.Runs.{runs_then, runs_compare, same_got}
-use Rattle.cqlp_decode.specs.Excess.{with_limits, free, Exceeds, IsFirstExcess, NothingExceeds, IsCut}
+use Rattle.cqlp_decode.specs.Excess.{with_limits, free, Exceeds, NothingExceeds, IsCut}
 use Rattle.cqlp_decode.specs.Laws.{IsOfLimit}
 use Rattle.cqlp_decode.specs.Reading.{Event, Place, start, Reads, Says, Verdict, Waits, Refused, Ends, step}
 use Rattle.cqlp_decode.proofs.Whole.{no_step}
 use Rattle.cqlp_decode.proofs.FreePlaces.{never_exceeds}
 use Rattle.cqlp_decode.proofs.Refusals.{AtLimit}
-use Rattle.cqlp_decode.proofs.StepCuts.{Cut, same, stops, AtFirst, refused_exceeds, step_cut, one_excess}
+use Rattle.cqlp_decode.proofs.StepCuts.{Cut, same, stops, AtFirst, got_is_not_bad, also_got, refused_exceeds, step_cut, one_excess}
 
-refused_by : (fault : ℕ × Reason) (v : Verdict) → Ends (Bad fault) v → v ≡ Refused fault.0 fault.1
+pub refused_by : (fault : ℕ × Reason) (v : Verdict) → Ends (Bad fault) v → v ≡ Refused fault.0 fault.1
 refused_by fault Waits h = absurd h
 refused_by fault (Refused k why) h = ap (λ (x : ℕ × Reason). Refused x.0 x.1) (sym h)
 
@@ -47,6 +47,11 @@ module _ (l : Rules) where
     GoesFreely q mid es p rest =
         Reads (free l) q mid es p rest × ((gs : List (ℕ × Event)) (r : Place) (left : List ℕ) (how : Reason) → Reads (free l) q mid gs r left → Exceeds l r left how → length es ≤ length gs)
 
+    -- where a step gets something, nothing exceeds a limit
+    nothing_at : (q : Place) (mid : List ℕ) (x : Emitted Event Place) (used : ℕ) → CutAt q mid → says (step l q) 0 mid ≡ Got x used → (f : ℕ × Reason) → AtFirst q.offset (Exceeds l q mid) f → ⊥
+    nothing_at q mid x used (same eq clean none) got = none
+    nothing_at q mid x used (stops why e bad) got = absurd (got_is_not_bad x used why (sym got ∙ bad))
+
     -- a first step that the free reading takes too
     module _ (e : ℕ × Event) (es : List (ℕ × Event)) (q p : Place) (mid rest : List ℕ) (used : ℕ) (after : ℕ → Place) (got : says (step (free l) q) 0 mid ≡ Got (record { at = e.0; event = e.1; after = after }) used) where
       first_later : ((f : ℕ × Reason) → AtFirst q.offset (Exceeds l q mid) f → ⊥) → GoesFreely (after used) (drop used mid) es p rest
@@ -57,22 +62,14 @@ module _ (l : Rules) where
           let next : run.1 ≡ after = ap (λ (x : Emitted Event Place). x.after) is.0 in
           omega (arith, later.1 gs s left how (rw (is.1, next) at run.3) over)
 
-      first_freely : (f : Said (Emitted Event Place) (ℕ × Reason)) → f ≡ Got (record { at = e.0; event = e.1; after = after }) used → Cut AtLimit (AtFirst q.offset (Exceeds l q mid)) f (says (step (free l) q) 0 mid)
-          → GoesFreely (after used) (drop used mid) es p rest → GoesFreely q mid (e ∷ es) p rest
-      first_freely f is (stops why x bad) later = absurd (let no : ◌≡◌ {A = Said (Emitted Event Place) (ℕ × Reason)} (Bad why) (Got (record { at = e.0; event = e.1; after = after }) used) = sym bad ∙ is in cc)
-      first_freely f is (same eq clean none) later = ((used, after, got, later.0), first_later none later)
-
-    also_got : (q : Place) (mid : List ℕ) (x : Emitted Event Place) (used : ℕ) → CutAt q mid → says (step l q) 0 mid ≡ Got x used → says (step (free l) q) 0 mid ≡ Got x used
-    also_got q mid x used (same eq clean none) got = sym eq ∙ got
-    also_got q mid x used (stops why e bad) got = absurd (let no : ◌≡◌ {A = Said (Emitted Event Place) (ℕ × Reason)} (Bad why) (Got x used) = sym bad ∙ got in cc)
-
     reads_freely : (es fs : List (ℕ × Event)) (q p : Place) (mid rest : List ℕ) → Reads (free l) start bytes fs q mid → Reads l q mid es p rest → GoesFreely q mid es p rest
     reads_freely [] fs q p mid rest before r = (r, λ gs s left how run over. omega arith)
     reads_freely (e ∷ es) fs q p mid rest before r =
         let cut = free_cut bytes fs q mid before in
-        let got = also_got q mid _ r.0 cut r.2 in
+        let got = also_got AtLimit _ _ _ _ r.0 cut r.2 in
         let next = runs_then (step (free l)) start q (r.1 r.0) bytes mid (drop r.0 mid) fs (e ∷ []) before (r.0, r.1, got, (refl, refl)) in
-        first_freely e es q p mid rest r.0 r.1 got (says (step l q) 0 mid) r.2 cut (reads_freely es (fs ++ e ∷ []) (r.1 r.0) p (drop r.0 mid) rest next r.3)
+        let later = reads_freely es (fs ++ e ∷ []) (r.1 r.0) p (drop r.0 mid) rest next r.3 in
+        ((r.0, r.1, got, later.0), first_later e es q p mid rest r.0 r.1 got (nothing_at q mid _ r.0 cut r.2) later)
 
     -- Behind what the limits let through nothing exceeds a limit, where nothing follows.
     nothing_later : (es : List (ℕ × Event)) (p : Place) (rest : List ℕ) (v : Verdict) → GoesFreely start bytes es p rest → ((f : ℕ × Reason) → AtFirst p.offset (Exceeds l p rest) f → ⊥) → Ends (says (step (free l) p) 0 rest) v → NothingExceeds l bytes

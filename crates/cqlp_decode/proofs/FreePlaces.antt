@@ -1,8 +1,8 @@
 -- Read freely, no place is reached where a limit is exceeded: a frame has at most 2 ^ 28 bytes behind its header, and each
 -- type option takes some.
-use Rattle.std.proofs.Common.{◌≡◌, ℕ, zero, suc, ◌+◌, ◌-◌, ◌<◌, ◌≤◌, ◌^◌, Bool, true, false, ◌&&◌, ◌||◌, eqb, ltb, leb, cond, min, max, bytes_eq, List, [], ◌∷◌, ◌++◌, length, take, drop, Option, Some, None, Ok, Err, refl, sym, ap, ◌∙◌, subst, arith}
+use Rattle.std.proofs.Common.{◌≡◌, ℕ, zero, suc, ◌+◌, ◌-◌, ◌<◌, ◌≤◌, ◌^◌, Bool, true, false, ◌&&◌, eqb, ltb, leb, cond, max, bytes_eq, List, [], ◌∷◌, ◌++◌, length, take, drop, Option, Some, None, Ok, Err, refl, ap, ◌∙◌, subst, arith}
 use Rattle.std.specs.Prelude.{Result}
-use Rattle.std.specs.Int.{Width, w16, w32, from_be_bytes}
+use Rattle.std.specs.Int.{w16, w32, from_be_bytes}
 use Rattle.std.proofs.lemmas.Bool.{ltb-false}
 use Rattle.std.proofs.lemmas.List.{length-append, take_at}
 use Rattle.cqlp_note.specs.declared.field.Field.TheVariants as field
@@ -12,10 +12,10 @@ use Rattle.cqlp_note.specs.declared.opcode.Opcode.{Opcode}
 use Rattle.cqlp_note.specs.declared.opcode.Opcode.TheVariants as opcode
 use Rattle.cqlp_note.specs.declared.header.Header.{Header}
 use Rattle.cqlp_note.specs.declared.refusal.Reason.{Reason}
-use Rattle.cqlp_note.specs.declared.refusal.Reason.TheVariants.{Overrun, BadOpcode, BadLength, TooDeep, TooMany}
+use Rattle.cqlp_note.specs.declared.refusal.Reason.TheVariants.{TooDeep, TooMany}
 use Rattle.cqlp_note.specs.Reader.{Reader, Gives, Refuses, Takes, Idles, Got, says, number_of}
-use Rattle.cqlp_note.specs.Field.{FieldValue, FieldReader, field_of, is_negative}
-use Rattle.cqlp_note.specs.Step.{Emitted, Step, after_field, map_step}
+use Rattle.cqlp_note.specs.Field.{FieldValue, field_of, is_negative}
+use Rattle.cqlp_note.specs.Step.{Emitted, map_step}
 use Rattle.cqlp_note.specs.Limits.{Rules, limit_of}
 use Rattle.cqlp_note.specs.Heading.{Heading, heading, heading_of, has, beside_number}
 use Rattle.cqlp_note.proofs.Readers.{Always, says_always}
@@ -27,7 +27,7 @@ use Rattle.cqlp_type.specs.declared.node.Node.{Node}
 use Rattle.cqlp_type.specs.Types.{Types, NoMore, Type_and, kinds}
 use Rattle.cqlp_type.specs.TypeStep.{TypeSymbol, TypeEvent, TypePlace, Option_at, Text_of, Fields_of, Whole, symbol_copies, parameters_of, inner_symbols, arity_of, with_arity, with_span, settled, count_in, option_step, type_step_at, type_step}
 use Rattle.cqlp_value.specs.Scalars.{ScalarValue, allows_size, scalar_of}
-use Rattle.cqlp_value.specs.CellStep.{CellSymbol, Value_of, Items_of, Close_of, Content_from, CellEvent, CellPlace, is_opaque, leaf_step, close_step, counted_step, part_step, scalar_step, content_step, value_step, items_step, cell_step_at, cell_step}
+use Rattle.cqlp_value.specs.CellStep.{CellSymbol, Value_of, Items_of, Close_of, Content_from, CellEvent, CellPlace, is_opaque, leaf_step, close_step, counted_step, part_step, scalar_step, content_step, value_step, cell_step_at, cell_step}
 use Rattle.cqlp_message.specs.declared.grammar.Group.{Group}
 use Rattle.cqlp_message.specs.declared.grammar.Group.TheVariants as group_of
 use Rattle.cqlp_message.specs.declared.grammar.Role.{Role}
@@ -367,13 +367,14 @@ unless_ok false x e v s = (refl, s)
 same_ok : {A E : Type 0} (x y : A) → ◌≡◌ {A = Result A E} (Ok x) (Ok y) → x ≡ y
 same_ok x y s = cc
 
+bounded_ok : (n : ℕ) (x h : Header) (k : ℕ) (why : Reason) → n ≡ x.length → ◌≡◌ {A = Heading} (cond (ltb 268435456 n) (Err (k, why)) (Ok x)) (Ok h) → h.length ≤ 268435456
+bounded_ok n x h k why is s =
+    let bounded : (ltb 268435456 n ≡ false) × (◌≡◌ {A = Heading} (Ok x) (Ok h)) = unless_ok (ltb 268435456 n) (Ok x) (k, why) h s in
+    omega (arith, is, ltb-false _ _ bounded.0, ap (λ (y : Header). y.length) (same_ok {E = ℕ × Reason} x h bounded.1))
+
 short_by : (response : Bool) (b : List ℕ) (h : Header) (o : Option Opcode) → heading_of response b o ≡ Ok h → h.length ≤ 268435456
 short_by response b h None s = absurd cc
-short_by response b h (Some o) s =
-    let n = from_be_bytes w32 (take 4 (drop 5 b)) in
-    let bounded = unless_ok (ltb 268435456 n) _ (5, BadLength) h (if_ok _ _ _ h s) in
-    let long : n ≡ h.length = ap (λ (x : Header). x.length) (same_ok {E = ℕ × Reason} _ h bounded.1) in
-    omega (arith, ltb-false _ _ bounded.0, long)
+short_by response b h (Some o) s = bounded_ok (from_be_bytes w32 (take 4 (drop 5 b))) _ h _ _ refl (if_ok _ _ _ h s)
 
 header_short : (b : List ℕ) (h : Header) → heading b ≡ Ok h → h.length ≤ 268435456
 unfolding heading
@@ -429,37 +430,45 @@ module _ (l : Rules) (p : Place) (base : ℕ) (behind : base ≤ p.offset) (shor
   field_stays f r rest v None b deep counted =
       let next = following (types_for l.types r p.nodes p.given) r v in
       let most = following_most (types_for l.types r p.nodes p.given) r v in
-      let size = deepest-append next rest in
-      (base, record {
-        behind = omega (arith, behind);
-        short = short;
-        deep = omega (arith, deep, most, size, role_small r, behind);
-        counted = λ some. omega (arith, role_counted r p.nodes base p.offset (deepest rest) behind counted (omega (arith, some, most, size)));
-      })
+      let size = deepest-append next rest in (
+        base,
+        record {
+          behind = omega (arith, behind);
+          short = short;
+          deep = omega (arith, deep, most, size, role_small r, behind);
+          counted = λ some. omega (arith, role_counted r p.nodes base p.offset (deepest rest) behind counted (omega (arith, some, most, size)));
+        },
+      )
 
   types_stay : (ts : List TypeSymbol) (rest : List Symbol) → max (max 1 (depth_of ts)) (deepest rest) + base ≤ suc p.offset → length p.nodes + base ≤ p.offset
       → Always Stays (map_step type_event (place_of_types p rest) (type_step l (record { offset = p.offset; stop = p.stop; symbols = ts; nodes = p.nodes }))) []
   types_stay ts rest deep counted =
       let q : TypePlace = record { offset = p.offset; stop = p.stop; symbols = ts; nodes = p.nodes } in
       map_always type_event (place_of_types p rest) Stays (type_step l q) []
-      (always_then (λ (x : Emitted TypeEvent TypePlace) b. TypeBounded base q (x.after (length b))) _ (type_step l q) [] (λ x b stays. (base, record {
-        behind = omega (arith, behind, stays.onward);
-        short = omega (arith, short, stays.same_stop);
-        deep = omega (arith, deep, stays.deep, stays.onward, left_depth (x.after (length b)).symbols rest, behind);
-        counted = λ some. stays.counted;
-      })) (type_stays l q base counted ts (omega (arith, deep))))
+      (always_then (λ (x : Emitted TypeEvent TypePlace) b. TypeBounded base q (x.after (length b))) _ (type_step l q) [] (λ x b stays. (
+        base,
+        record {
+          behind = omega (arith, behind, stays.onward);
+          short = omega (arith, short, stays.same_stop);
+          deep = omega (arith, deep, stays.deep, stays.onward, left_depth (x.after (length b)).symbols rest, behind);
+          counted = λ some. stays.counted;
+        },
+      )) (type_stays l q base counted ts (omega (arith, deep))))
 
   cells_stay : (row column : ℕ) (cs : List CellSymbol) (rest : List Symbol) → deepest rest + base ≤ suc p.offset → (1 ≤ deepest rest → length p.nodes + base ≤ p.offset)
       → Always Stays (map_step (cell_event row column) (place_of_cells row column p rest) (cell_step l (record { offset = p.offset; symbols = cs }))) []
   cells_stay row column cs rest deep counted =
       let q : CellPlace = record { offset = p.offset; symbols = cs } in
       map_always (cell_event row column) (place_of_cells row column p rest) Stays (cell_step l q) []
-      (always_then (λ (x : Emitted CellEvent CellPlace) b. q.offset ≤ (x.after (length b)).offset) _ (cell_step l q) [] (λ x b goes. (base, record {
-        behind = omega (arith, behind, goes);
-        short = short;
-        deep = omega (arith, deep, goes, cells_depth row column (x.after (length b)).symbols rest);
-        counted = λ some. omega (arith, goes, counted (omega (arith, some, cells_depth row column (x.after (length b)).symbols rest)));
-      })) (cell_goes l q cs))
+      (always_then (λ (x : Emitted CellEvent CellPlace) b. q.offset ≤ (x.after (length b)).offset) _ (cell_step l q) [] (λ x b goes. (
+        base,
+        record {
+          behind = omega (arith, behind, goes);
+          short = short;
+          deep = omega (arith, deep, goes, cells_depth row column (x.after (length b)).symbols rest);
+          counted = λ some. omega (arith, goes, counted (omega (arith, some, cells_depth row column (x.after (length b)).symbols rest)));
+        },
+      )) (cell_goes l q cs))
 
   step_stays : (ss : List Symbol) → deepest ss + base ≤ suc p.offset → (1 ≤ deepest ss → length p.nodes + base ≤ p.offset) → Always Stays (step_at l p ss) []
   step_stays [] deep counted = tt

@@ -1,5 +1,5 @@
 -- Readers that refuse by no limit.
-use Rattle.std.proofs.Common.{◌≡◌, ℕ, ◌-◌, ◌∷◌, ◌+◌, ◌≤◌, ◌^◌, Bool, true, false, ◌||◌, eqb, ltb, cond, List, [], length, take, drop, Option, Some, None, Ok, Err, refl, sym, inl, inr, arith}
+use Rattle.std.proofs.Common.{◌≡◌, ℕ, ◌+◌, Bool, true, false, ◌||◌, eqb, ltb, cond, List, length, take, drop, Option, Some, None, Ok, Err, refl, sym, inl, inr}
 use Rattle.std.specs.Int.{Width, w8, w16, w32, w64, from_be_bytes}
 use Rattle.std.proofs.lemmas.Bool.{cases_lt, lt-ltb, le-ltb}
 use Rattle.cqlp_note.specs.declared.field.Field.{Field}
@@ -23,7 +23,7 @@ use Rattle.cqlp_message.specs.declared.grammar.Role.{Role}
 use Rattle.cqlp_message.specs.declared.grammar.Role.TheVariants as role
 use Rattle.cqlp_message.specs.Productions.{Symbol, number_in, fault_in}
 use Rattle.cqlp_decode.specs.Laws.{IsOfLimit}
-use Rattle.cqlp_decode.specs.Reading.{Event, Place, header_step, value_step}
+use Rattle.cqlp_decode.specs.Reading.{Place, header_step, value_step}
 
 abbrev pub AtLimit : ℕ × Reason → Type 0
 AtLimit fault = IsOfLimit fault.1

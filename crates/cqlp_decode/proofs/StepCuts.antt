@@ -1,5 +1,5 @@
 -- A step within limits is the step within wider ones, unless what begins there exceeds a limit: then it refuses.
-use Rattle.std.proofs.Common.{◌≡◌, ℕ, ◌+◌, ◌-◌, ◌<◌, ◌≤◌, ◌^◌, Bool, true, false, ◌&&◌, eqb, ltb, leb, cond, List, [], ◌∷◌, length, take, drop, Option, Some, None, refl, sym, ap, ◌∙◌, inl, inr, arith}
+use Rattle.std.proofs.Common.{◌≡◌, ℕ, ◌+◌, ◌-◌, ◌<◌, ◌≤◌, ◌^◌, Bool, true, false, eqb, ltb, leb, cond, List, [], ◌∷◌, length, drop, Option, Some, None, refl, sym, ap, ◌∙◌, inl, inr, arith}
 use Rattle.std.specs.Int.{Width, w16, w32, from_be_bytes}
 use Rattle.std.proofs.lemmas.Bool.{cases_lt, lt-ltb, le-ltb, lt-leb, le-leb, ltb-true, ltb-false, leb-true, eqb-true}
 use Rattle.cqlp_note.specs.declared.field.Notation.{Notation}
@@ -15,14 +15,14 @@ use Rattle.cqlp_note.proofs.Yields.{map_said, says_map, after_got, after_more, a
 use Rattle.cqlp_type.specs.declared.kind.Kind.{Kind}
 use Rattle.cqlp_type.specs.declared.kind.Kind.TheVariants as kind
 use Rattle.cqlp_type.specs.Types.{Types, NoMore, Type_and, kinds, has_no_items}
-use Rattle.cqlp_type.specs.TypeStep.{TypeSymbol, TypeEvent, TypePlace, Option_at, Text_of, Fields_of, Whole, option_step, type_step_at}
+use Rattle.cqlp_type.specs.TypeStep.{TypeSymbol, TypePlace, Option_at, Text_of, Fields_of, Whole, option_step, type_step_at}
 use Rattle.cqlp_value.specs.Scalars.{allows_size, scalar_of}
-use Rattle.cqlp_value.specs.CellStep.{CellSymbol, Value_of, Items_of, Close_of, Content_from, CellEvent, CellPlace, leaf_step, part_step, scalar_step, content_step, value_step, cell_step_at}
+use Rattle.cqlp_value.specs.CellStep.{CellSymbol, Value_of, Items_of, Close_of, Content_from, CellPlace, leaf_step, part_step, scalar_step, content_step, value_step, cell_step_at}
 use Rattle.cqlp_message.specs.Productions.{Symbol, Stream, In, In_type, Cell_due, In_cell, Extra}
-use Rattle.cqlp_decode.specs.Excess.{with_limits, first_number, IsLong, IsLong16, IsLong32, IsLongField, comes_in_parts, IsLongValue, IsLongInCell, IsOption, IsOver, ExceedsInType, ExceedsAt}
+use Rattle.cqlp_decode.specs.Excess.{with_limits, first_number, IsLong16, IsLong32, IsLongField, comes_in_parts, IsLongValue, IsLongInCell, IsOption, IsOver, ExceedsInType, ExceedsAt}
 use Rattle.cqlp_decode.specs.Laws.{IsOfLimit}
-use Rattle.cqlp_decode.proofs.Refusals.{AtLimit, IsClean, NeverBy, clean_says, either_never, number_never, after_never, text_never, byte_never, short_never, int_never, long_never, uuid_never, count_never, wide_count_never, inet_never, leaf_never, close_never, counted_never, header_never, value_never, heading_plain}
-use Rattle.cqlp_decode.specs.Reading.{Event, Place, type_event, cell_event, place_of_types, place_of_cells, header_step, step_at}
+use Rattle.cqlp_decode.proofs.Refusals.{AtLimit, IsClean, NeverBy, clean_says, either_never, after_never, text_never, byte_never, short_never, int_never, long_never, uuid_never, count_never, wide_count_never, inet_never, leaf_never, close_never, counted_never, header_never, value_never, heading_plain}
+use Rattle.cqlp_decode.specs.Reading.{Place, type_event, cell_event, place_of_types, place_of_cells, header_step, step_at}
 
 -- ---- readers
 
@@ -68,6 +68,14 @@ module _ {A F : Type 0} (L E : F → Type 0) (taken : ℕ) (bytes : List ℕ) wh
         | inl lt ↦ rw (lt-ltb _ _ lt) (same refl tt (λ why e. absurd (omega (arith, (needs why e).1, lt))))
         | inr le ↦ rw (le-ltb _ _ le) (cut (ltb-false _ _ t) le)
       ])
+
+pub got_is_not_bad : {A F : Type 0} (v : A) (k : ℕ) (why : F) → Got v k ≡ Bad why → ⊥
+got_is_not_bad v k why is = cc
+
+-- What is got within the limits is got within wider ones.
+pub also_got : {A F : Type 0} (L E : F → Type 0) (d e : Said A F) (v : A) (k : ℕ) → Cut L E d e → d ≡ Got v k → e ≡ Got v k
+also_got L E d e v k (same eq clean none) got = sym eq ∙ got
+also_got L E d e v k (stops why x bad) got = absurd (got_is_not_bad v k why (sym got ∙ bad))
 
 same_bad : {A F : Type 0} (x y : F) → ◌≡◌ {A = Said A F} (Bad x) (Bad y) → x ≡ y
 same_bad x y is = cc

@@ -1,5 +1,5 @@
 -- What of a stream exceeds the caller's limits.
-use Rattle.std.specs.Prelude.{◌≡◌, ℕ, ◌+◌, ◌-◌, ◌<◌, ◌≤◌, ◌^◌, Bool, true, false, ◌&&◌, List, [], ◌∷◌, length, take, Some, nat_lt, ◌==◌, ◌⊎◌}
+use Rattle.std.specs.Prelude.{◌≡◌, ℕ, ◌+◌, ◌-◌, ◌<◌, ◌≤◌, ◌^◌, Bool, true, false, ◌&&◌, List, ◌∷◌, length, take, Some, nat_lt, ◌⊎◌}
 use Rattle.std.specs.Int.{Width, w16, w32, from_be_bytes}
 use Rattle.cqlp_note.specs.declared.field.Notation.{Notation}
 use Rattle.cqlp_note.specs.declared.field.Notation.TheVariants as notation
@@ -8,7 +8,7 @@ use Rattle.cqlp_note.specs.declared.refusal.Reason.TheVariants.{TooLong, TooDeep
 use Rattle.cqlp_note.specs.Heading.{beside_number}
 use Rattle.cqlp_note.specs.Limits.{Rules}
 use Rattle.cqlp_type.specs.declared.kind.Kind.{Kind}
-use Rattle.cqlp_type.specs.Types.{Types, Type_and, kinds, has_no_items}
+use Rattle.cqlp_type.specs.Types.{Type_and, kinds, has_no_items}
 use Rattle.cqlp_type.specs.TypeStep.{TypeSymbol, Option_at, Text_of}
 use Rattle.cqlp_value.specs.Scalars.{allows_size}
 use Rattle.cqlp_value.specs.CellStep.{CellSymbol, Value_of, Items_of, is_opaque}
