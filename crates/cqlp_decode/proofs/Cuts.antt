@@ -6,7 +6,7 @@ use Rattle.cqlp_note.specs.Reader.{Said, More, Got, Bad, says}
 use Rattle.cqlp_note.specs.Step.{Emitted}
 use Rattle.cqlp_note.specs.Limits.{Rules}
 use Rattle.cqlp_note.proofs.Runs.{runs_then, runs_compare, same_got}
-use Rattle.cqlp_decode.specs.Excess.{with_limits, free, Exceeds, NothingExceeds, IsCut}
+use Rattle.cqlp_decode.specs.Excess.{with_limits, free, Exceeds, ComesToExcess, NothingExceeds, IsCut}
 use Rattle.cqlp_decode.specs.Laws.{IsOfLimit}
 use Rattle.cqlp_decode.specs.Reading.{Event, Place, start, Reads, Says, Verdict, Waits, Refused, Ends, step}
 use Rattle.cqlp_decode.proofs.Whole.{no_step}
@@ -73,18 +73,18 @@ module _ (l : Rules) where
 
     -- Behind what the limits let through nothing exceeds a limit, where nothing follows.
     nothing_later : (es : List (ℕ × Event)) (p : Place) (rest : List ℕ) (v : Verdict) → GoesFreely start bytes es p rest → ((f : ℕ × Reason) → AtFirst p.offset (Exceeds l p rest) f → ⊥) → Ends (says (step (free l) p) 0 rest) v → NothingExceeds l bytes
-    nothing_later es p rest v goes none ends gs q left how run over =
-        let c = runs_compare (step (free l)) start p q bytes rest left es gs goes.0 run (goes.1 gs q left how run over) in
+    nothing_later es p rest v goes none ends gs q left how come =
+        let c = runs_compare (step (free l)) start p q bytes rest left es gs goes.0 come.0 (goes.1 gs q left how come.0 come.1) in
         let no = no_step (free l) p q rest left v c.0 ends c.2 in
         let there = rw no at c.2 in
-        none (p.offset, how) (refl, rw (there.0, there.1) at over)
+        none (p.offset, how) (refl, rw (there.0, there.1) at come.1)
 
     ends_cut : (es : List (ℕ × Event)) (p : Place) (rest : List ℕ) (v : Verdict) → GoesFreely start bytes es p rest → CutAt p rest → Ends (says (step l p) 0 rest) v → IsCut l bytes es v
     ends_cut es p rest v goes (same eq clean none) ends =
         let ends' : Ends (says (step (free l) p) 0 rest) v = rw eq at ends in
         inl (nothing_later es p rest v goes none ends', (p, rest, goes.0, ends'))
     ends_cut es p rest v goes (stops f e bad) ends =
-        inr (p, rest, f.1, record { read = goes.0; exceeds = e.1; first = goes.1 }, refused_by f v (rw bad at ends) ∙ ap (λ (k : ℕ). Refused k f.1) e.0)
+        inr (p, rest, f.1, ((goes.0, e.1), λ gs q left how come. goes.1 gs q left how come.0 come.1), refused_by f v (rw bad at ends) ∙ ap (λ (k : ℕ). Refused k f.1) e.0)
 
     pub says_cut : (es : List (ℕ × Event)) (v : Verdict) → Says l start bytes es v → IsCut l bytes es v
     says_cut es v s =
@@ -99,12 +99,12 @@ module _ (l : Rules) where
 
     -- Where nothing exceeds a limit before n events, what is read freely up to there is read within limits.
     abbrev FirstFrom : ℕ → Type 0
-    FirstFrom n = (gs : List (ℕ × Event)) (s : Place) (left : List ℕ) (how : Reason) → Reads (free l) start bytes gs s left → Exceeds l s left how → n ≤ length gs
+    FirstFrom n = (gs : List (ℕ × Event)) (s : Place) (left : List ℕ) (how : Reason) → ComesToExcess l bytes gs s left how → n ≤ length gs
 
     reads_within : (n : ℕ) (es fs : List (ℕ × Event)) (q p : Place) (mid rest : List ℕ) → FirstFrom n → length fs + length es ≤ n → Reads (free l) start bytes fs q mid → Reads (free l) q mid es p rest → Reads l q mid es p rest
     reads_within n [] fs q p mid rest first size before r = r
     reads_within n (e ∷ es) fs q p mid rest first size before r =
-        let got = got_within q mid _ r.0 (free_cut bytes fs q mid before) (λ how over. absurd (omega (arith, size, first fs q mid how before over))) r.2 in
+        let got = got_within q mid _ r.0 (free_cut bytes fs q mid before) (λ how over. absurd (omega (arith, size, first fs q mid how (before, over)))) r.2 in
         let next = runs_then (step (free l)) start q (r.1 r.0) bytes mid (drop r.0 mid) fs (e ∷ []) before (r.0, r.1, r.2, (refl, refl)) in
         (r.0, r.1, got, reads_within n es (fs ++ e ∷ []) (r.1 r.0) p (drop r.0 mid) rest first (omega (arith, size, length-append fs (e ∷ []))) next r.3)
 
@@ -122,11 +122,11 @@ module _ (l : Rules) where
     pub cut_says : (es : List (ℕ × Event)) (v : Verdict) → IsCut l bytes es v → Says l start bytes es v
     cut_says es v (inl c) =
         let s = c.1 in
-        let read = reads_within (length es) es [] start s.0 bytes s.1 (λ gs q left how run over. absurd (c.0 gs q left how run over)) (omega arith) (refl, refl) s.2 in
-        (s.0, s.1, read, ends_alike s.0 s.1 v (free_cut bytes es s.0 s.1 s.2) (λ how over. c.0 es s.0 s.1 how s.2 over) s.3)
+        let read = reads_within (length es) es [] start s.0 bytes s.1 (λ gs q left how come. absurd (c.0 gs q left how come)) (omega arith) (refl, refl) s.2 in
+        (s.0, s.1, read, ends_alike s.0 s.1 v (free_cut bytes es s.0 s.1 s.2) (λ how over. c.0 es s.0 s.1 how (s.2, over)) s.3)
     cut_says es v (inr c) =
-        let read = reads_within (length es) es [] start c.0 bytes c.1 c.3.first (omega arith) (refl, refl) c.3.read in
-        (c.0, c.1, read, rw c.4 (ends_refused c.0 c.1 c.2 (free_cut bytes es c.0 c.1 c.3.read) c.3.exceeds))
+        let read = reads_within (length es) es [] start c.0 bytes c.1 c.3.1 (omega arith) (refl, refl) c.3.0.0 in
+        (c.0, c.1, read, rw c.4 (ends_refused c.0 c.1 c.2 (free_cut bytes es c.0 c.1 c.3.0.0) c.3.0.1))
 
 is_bad : (d : Said (Emitted Event Place) (ℕ × Reason)) (k : ℕ) (why : Reason) → Ends d (Refused k why) → d ≡ Bad (k, why)
 is_bad More k why h = absurd h

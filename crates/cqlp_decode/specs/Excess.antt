@@ -19,7 +19,7 @@ use Rattle.cqlp_decode.specs.Reading.{Place, Event, Verdict, Refused, Reads, Say
 abbrev pub with_limits : Rules → (text cell entries depth : ℕ) → Rules
 with_limits l text cell entries depth = record l { text = text; cell = cell; entries = entries; depth = depth }
 
--- The same rules with limits that nothing passes: a body has at most 2 ^ 28 bytes.
+-- The same rules with limits that nothing passes: each length is below 2 ^ 31, and no body has as many options.
 abbrev pub free : Rules → Rules
 free l = with_limits l (2 ^ 31) (2 ^ 31) (2 ^ 31) (2 ^ 31)
 
@@ -29,8 +29,8 @@ free l = with_limits l (2 ^ 31) (2 ^ 31) (2 ^ 31) (2 ^ 31)
 abbrev pub first_number : (k : ℕ) → Width → List ℕ → ℕ
 first_number k w bytes = from_be_bytes w (take k bytes)
 
--- The bytes begin with a length, of k bytes, that is above the limit. The container has room for that much; and it may be
--- that none of it has come.
+-- The bytes begin with a length, of k bytes, that is above the limit. The container has room for a content of that
+-- length, of which nothing need have come.
 pub record IsLong (k : ℕ) (w : Width) (limit room : ℕ) (bytes : List ℕ) : Type 0 where
   pub came : k ≤ length bytes
   pub fits : k + first_number k w bytes ≤ room
@@ -43,7 +43,8 @@ IsLong16 limit room bytes = IsLong 2 w16 limit room bytes
 abbrev pub IsLong32 : (limit room : ℕ) → List ℕ → Type 0
 IsLong32 limit room bytes = (first_number 4 w32 bytes < 2 ^ 31) × IsLong 4 w32 limit room bytes
 
--- A field in this notation is longer than its limit: a text than `text`, and bytes or a [value] than `cell`.
+-- A field in this notation is longer than its limit: a text than `text`, and bytes or a [value] than `cell`. (A bare
+-- content of n bytes is a notation too, which no symbol of a stream has.)
 abbrev pub IsLongField : Rules → Notation → (room : ℕ) → List ℕ → Type 0
 IsLongField l notation.Text16 room bytes = IsLong16 l.text room bytes
 IsLongField l notation.Text32 room bytes = IsLong32 l.text room bytes
@@ -67,7 +68,8 @@ pub record IsLongValue (l : Rules) (k : Kind) (room : ℕ) (bytes : List ℕ) : 
 -- The value that is next in a cell is longer than `cell`.
 abbrev pub IsLongInCell : Rules → (offset : ℕ) → List CellSymbol → List ℕ → Type 0
 IsLongInCell l offset (Value_of k inner level stop ∷ rest) bytes = IsLongValue l k (stop - offset) bytes
-IsLongInCell l offset (Items_of (Type_and k inner others) level stop taken ∷ rest) bytes = IsLongValue l k (stop - offset) bytes
+IsLongInCell l offset (Items_of (Type_and k inner others) level stop taken ∷ rest) bytes =
+    IsLongValue l k (stop - offset) bytes
 IsLongInCell l offset symbols bytes = ⊥
 
 -- ---- type options
@@ -96,28 +98,35 @@ ExceedsInType l room n symbols bytes why = ⊥
 -- What begins here with these bytes passes the tests that come before its limit, and exceeds that limit.
 abbrev pub ExceedsAt : Rules → Place → List Symbol → List ℕ → Reason → Type 0
 ExceedsAt l p (In f n r ∷ rest) bytes why = (why ≡ TooLong) × IsLongField l n (p.stop - p.offset) bytes
-ExceedsAt l p (In_type symbols ∷ rest) bytes why = ExceedsInType l (p.stop - p.offset) (length p.nodes) symbols bytes why
-ExceedsAt l p (Cell_due row column k inner ∷ rest) bytes why = (why ≡ TooLong) × IsLongValue l k (p.stop - p.offset) bytes
+ExceedsAt l p (In_type symbols ∷ rest) bytes why =
+    ExceedsInType l (p.stop - p.offset) (length p.nodes) symbols bytes why
+ExceedsAt l p (Cell_due row column k inner ∷ rest) bytes why =
+    (why ≡ TooLong) × IsLongValue l k (p.stop - p.offset) bytes
 ExceedsAt l p (In_cell row column symbols ∷ rest) bytes why = (why ≡ TooLong) × IsLongInCell l p.offset symbols bytes
 ExceedsAt l p symbols bytes why = ⊥
 
 abbrev pub Exceeds : Rules → Place → List ℕ → Reason → Type 0
 Exceeds l p bytes why = ExceedsAt l p p.symbols bytes why
 
--- Read freely, these bytes say these events, and then comes what exceeds a limit, at this place before the bytes that are
--- left; and nothing exceeds a limit before that.
-pub record IsFirstExcess (l : Rules) (bytes : List ℕ) (es : List (ℕ × Event)) (p : Place) (rest : List ℕ) (why : Reason) : Type 0 where
-  pub read : Reads (free l) start bytes es p rest
-  pub exceeds : Exceeds l p rest why
-  pub first : (fs : List (ℕ × Event)) (q : Place) (left : List ℕ) (how : Reason) → Reads (free l) start bytes fs q left → Exceeds l q left how → length es ≤ length fs
+-- Read freely, these bytes say these events and lead to this place, where what begins exceeds a limit.
+abbrev pub ComesToExcess : Rules → List ℕ → List (ℕ × Event) → Place → List ℕ → Reason → Type 0
+ComesToExcess l bytes es p rest why = Reads (free l) start bytes es p rest × Exceeds l p rest why
 
--- Read freely, these bytes come to nothing that exceeds a limit.
 abbrev pub NothingExceeds : Rules → List ℕ → Type 0
-NothingExceeds l bytes = (es : List (ℕ × Event)) (p : Place) (rest : List ℕ) (why : Reason) → Reads (free l) start bytes es p rest → Exceeds l p rest why → ⊥
+NothingExceeds l bytes =
+    (es : List (ℕ × Event)) (p : Place) (rest : List ℕ) (why : Reason) → ComesToExcess l bytes es p rest why → ⊥
+
+-- And they lead to no such place after fewer events.
+abbrev pub ComesFirstToExcess : Rules → List ℕ → List (ℕ × Event) → Place → List ℕ → Reason → Type 0
+ComesFirstToExcess l bytes es p rest why =
+    ComesToExcess l bytes es p rest why
+    × ((fs : List (ℕ × Event)) (q : Place) (left : List ℕ) (how : Reason)
+    → ComesToExcess l bytes fs q left how → length es ≤ length fs)
 
 -- What the free reading says of these bytes, if nothing exceeds a limit; else the events before the first that does, and
 -- its refusal, at its first byte.
 abbrev pub IsCut : Rules → List ℕ → List (ℕ × Event) → Verdict → Type 0
 IsCut l bytes es v =
     (NothingExceeds l bytes × Says (free l) start bytes es v)
-    ⊎ ((p : Place) × (rest : List ℕ) × (why : Reason) × IsFirstExcess l bytes es p rest why × (v ≡ Refused p.offset why))
+    ⊎ ((p : Place) × (rest : List ℕ) × (why : Reason)
+    × ComesFirstToExcess l bytes es p rest why × (v ≡ Refused p.offset why))

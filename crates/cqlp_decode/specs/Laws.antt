@@ -37,7 +37,8 @@ verdict_between at = if nat_lt (2 ^ 63) at then Refused at StreamTooLong else Wa
 -- Frames one after the other, within the limits, each with this many bytes more, are read as their events, and then
 -- more is waited for, unless the last of them ends past offset 2 ^ 63.
 abbrev pub SpelledIsRead : Type 0
-SpelledIsRead = (l : Rules) (fs : List (FrameValue × ℕ)) (bytes : List ℕ) → AllSpell fs bytes → AllWithin l fs → AllBeginInTime 0 fs → Says l start bytes (FlatAll 0 fs) (verdict_between (length bytes))
+SpelledIsRead = (l : Rules) (fs : List (FrameValue × ℕ)) (bytes : List ℕ) → AllSpell fs bytes → AllWithin l fs
+    → AllBeginInTime 0 fs → Says l start bytes (FlatAll 0 fs) (verdict_between (length bytes))
 
 -- There are no more events than bytes, where a part of a long content has any: the end of a frame is paid by its header,
 -- and that of a value by its length.
@@ -61,11 +62,13 @@ LimitsOnlyCut = (l : Rules) (text cell entries depth : ℕ) → l.text ≤ text 
     → (bytes : List ℕ) (es fs : List (ℕ × Event)) (v w : Verdict) → Says l start bytes es v → Says (with_limits l text cell entries depth) start bytes fs w
     → ((fs ≡ es) × (w ≡ v)) ⊎ ((more : List (ℕ × Event)) × (k : ℕ) × (why : Reason) × (fs ≡ es ++ more) × (v ≡ Refused k why) × IsOfLimit why)
 
--- Within limits a stream says what it says with limits that nothing passes, cut at the first item that exceeds its own
--- limit. What the free reading says, and the limits, determine it.
+-- Within limits a stream says just what the free reading says, cut where something first exceeds its own limit. So the
+-- free reading and the limits determine it.
 abbrev pub LimitsCutAtFirstExcess : Type 0
-LimitsCutAtFirstExcess = (l : Rules) (bytes : List ℕ) (es : List (ℕ × Event)) (v : Verdict) → (Says l start bytes es v → IsCut l bytes es v) × (IsCut l bytes es v → Says l start bytes es v)
+LimitsCutAtFirstExcess = (l : Rules) (bytes : List ℕ) (es : List (ℕ × Event)) (v : Verdict)
+    → (Says l start bytes es v → IsCut l bytes es v) × (IsCut l bytes es v → Says l start bytes es v)
 
--- Read freely, no stream is refused by a limit.
+-- The free reading refuses nothing by a limit.
 abbrev pub FreeHasNoLimit : Type 0
-FreeHasNoLimit = (l : Rules) (bytes : List ℕ) (es : List (ℕ × Event)) (k : ℕ) (why : Reason) → Says (free l) start bytes es (Refused k why) → IsOfLimit why → ⊥
+FreeHasNoLimit = (l : Rules) (bytes : List ℕ) (es : List (ℕ × Event)) (k : ℕ) (why : Reason)
+    → Says (free l) start bytes es (Refused k why) → IsOfLimit why → ⊥

@@ -31,12 +31,13 @@ pub fn limits_only_cut()
     ensures { LimitsOnlyCut }
 {}
 
-/// Within limits a stream says what it says without, cut at the first item that exceeds its own limit.
+/// Within limits a stream says just what it says without, up to the first item that passes all tests before its limit
+/// and exceeds that: there it is refused, at the item's first byte.
 pub fn limits_cut_at_first_excess()
     ensures { LimitsCutAtFirstExcess }
 {}
 
-/// Without limits nothing is refused by one.
+/// With limits of 2^31 nothing is refused by a limit: those are no limits.
 pub fn free_has_no_limit()
     ensures { FreeHasNoLimit }
 {}
