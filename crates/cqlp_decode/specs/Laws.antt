@@ -11,7 +11,12 @@ use Rattle.cqlp_decode.specs.Standing.{State}
 use Rattle.cqlp_decode.specs.Excess.{with_limits, free, IsCut}
 use Rattle.cqlp_decode.specs.Streams.{After}
 
--- Of any bytes there is one list of events, and one verdict.
+-- Any bytes say some list of events and some verdict, where a part of a long content has any byte.
+abbrev pub IsSaid : Type 0
+IsSaid = (l : Rules) (p : Place) (bytes : List ℕ) → 1 ≤ l.part
+    → (es : List (ℕ × Event)) × (v : Verdict) × Says l p bytes es v
+
+-- And they say no more than one list of events and one verdict.
 abbrev pub IsSaidOnce : Type 0
 IsSaidOnce = (l : Rules) (p : Place) (bytes : List ℕ) (es es' : List (ℕ × Event)) (v v' : Verdict) → Says l p bytes es v → Says l p bytes es' v' → (es' ≡ es) × (v' ≡ v)
 

@@ -1,10 +1,11 @@
 //! Laws of the reading of a stream.
 
-ghost use Rattle.cqlp_decode.specs.Laws.{FreeHasNoLimit, GoesOn, HandsOutNoMoreEventsThanBytes, HasNoMoreEventsThanBytes, IsSaidOnce, LimitsCutAtFirstExcess, LimitsOnlyCut, SpelledIsRead};
+ghost use Rattle.cqlp_decode.specs.Laws.{FreeHasNoLimit, GoesOn, HandsOutNoMoreEventsThanBytes, HasNoMoreEventsThanBytes, IsSaid, IsSaidOnce, LimitsCutAtFirstExcess, LimitsOnlyCut, SpelledIsRead};
 
 /// Of any bytes there is one list of events, and one verdict.
 pub fn said_once()
-    ensures { IsSaidOnce }
+    ensures some { IsSaid }
+    ensures once { IsSaidOnce }
 {}
 
 /// Whatever bytes follow, the events of a stream go on, and a refusal stays. So they do not depend on how the stream is
