@@ -1,6 +1,6 @@
 -- There are no more events than bytes. An event that takes no byte is the end of a frame or of a value, and is paid by
 -- the header or the length where that begins.
-use Rattle.std.proofs.Common.{◌≡◌, ℕ, zero, suc, ◌+◌, ◌-◌, ◌≤◌, ◌^◌, Bool, true, false, ◌&&◌, eqb, ltb, leb, cond, min, bytes_eq, List, [], ◌∷◌, ◌++◌, length, take, drop, Option, Some, None, Ok, Err, refl, ap, ◌∙◌, subst, arith}
+use Rattle.std.proofs.Common.{◌≡◌, ℕ, zero, suc, ◌+◌, ◌-◌, ◌<◌, ◌≤◌, ◌^◌, Bool, true, false, ◌&&◌, eqb, ltb, leb, cond, min, bytes_eq, List, [], ◌∷◌, ◌++◌, length, take, drop, Option, Some, None, Ok, Err, refl, ap, ◌∙◌, subst, arith}
 use Rattle.std.specs.Int.{Width, w8, w16, w32, w64, from_be_bytes}
 use Rattle.std.proofs.lemmas.Bool.{leb-false, lt-leb}
 use Rattle.std.proofs.lemmas.List.{length-append, length-drop, take_at}
@@ -13,7 +13,7 @@ use Rattle.cqlp_note.specs.declared.header.Header.{Header}
 use Rattle.cqlp_note.specs.declared.refusal.Reason.{Reason}
 use Rattle.cqlp_note.specs.declared.refusal.Refusal.{Refusal}
 use Rattle.cqlp_note.specs.declared.refusal.Reason.TheVariants.{Overrun}
-use Rattle.cqlp_note.specs.Reader.{Reader, Gives, Refuses, Takes, Idles, Got, says, number_of}
+use Rattle.cqlp_note.specs.Reader.{Said, More, Bad, Reader, Gives, Refuses, Takes, Idles, Got, says, number_of}
 use Rattle.cqlp_note.specs.Field.{FieldValue, FieldReader, field_of, is_negative}
 use Rattle.cqlp_note.specs.Step.{Emitted, Step, after_field, map_step}
 use Rattle.cqlp_note.specs.Limits.{Rules, limit_of}
@@ -32,27 +32,27 @@ use Rattle.cqlp_message.specs.declared.grammar.Group.TheVariants as group_of
 use Rattle.cqlp_message.specs.declared.grammar.Role.{Role}
 use Rattle.cqlp_message.specs.declared.grammar.Role.TheVariants as role
 use Rattle.cqlp_message.specs.Productions.{Symbol, Stream, In, In_type, Cell_due, In_cell, Extra, plain, counted, copies, where_set, group, body, announced, message, query_parts, errors, results, by_text, targets, events, specs, table_name, row_from, rows_from, or_nothing, number_in, text_in, following, fault_in}
-use Rattle.cqlp_decode.specs.Reading.{Event, Place, start, Reads, Says, Verdict, type_event, cell_event, types_for, nodes_after, types_left, cells_left, place_of_types, place_of_cells, header_step, step_at, step}
+use Rattle.cqlp_decode.specs.Reading.{Event, Place, start, Reads, Says, Verdict, Waits, Refused, type_event, cell_event, types_for, nodes_after, types_left, cells_left, place_of_types, place_of_cells, header_step, step_at, step}
 use Rattle.cqlp_decode.specs.Reading as reading
 use Rattle.cqlp_decode.specs.Standing.{State}
-use Rattle.cqlp_decode.specs.Streams.{Stands, After, AfterBy}
+use Rattle.cqlp_decode.specs.Streams.{After, AfterBy}
 
 -- ---- readers
 
-always_then : {A F : Type 0} (P Q : A → List ℕ → Type 0) (r : Reader A F) (before : List ℕ) → ((v : A) (b : List ℕ) → P v b → Q v b) → Always P r before → Always Q r before
+pub always_then : {A F : Type 0} (P Q : A → List ℕ → Type 0) (r : Reader A F) (before : List ℕ) → ((v : A) (b : List ℕ) → P v b → Q v b) → Always P r before → Always Q r before
 always_then P Q (Gives v) before f h = f v before h
 always_then P Q (Refuses why) before f h = tt
 always_then P Q Idles before f h = tt
 always_then P Q (Takes n next) before f h = λ c long. always_then P Q (next c) (before ++ c) f (h c long)
 
-after_always : {E Q : Type 0} (F : FieldValue → List ℕ → Type 0) (P : Emitted E Q → List ℕ → Type 0) (at : ℕ) (r : FieldReader) (next : FieldValue → Step E Q) (before : List ℕ)
+pub after_always : {E Q : Type 0} (F : FieldValue → List ℕ → Type 0) (P : Emitted E Q → List ℕ → Type 0) (at : ℕ) (r : FieldReader) (next : FieldValue → Step E Q) (before : List ℕ)
     → Always F r before → ((v : FieldValue) (b : List ℕ) → F v b → Always P (next v) b) → Always P (after_field at r next) before
 after_always F P at (Gives v) next before h f = f v before h
 after_always F P at (Refuses why) next before h f = tt
 after_always F P at Idles next before h f = tt
 after_always F P at (Takes n g) next before h f = λ c long. after_always F P at (g c) next (before ++ c) (h c long) f
 
-map_always : {E A F B : Type 0} (f : E → F) (g : A → B) (P : Emitted F B → List ℕ → Type 0) (r : Step E A) (before : List ℕ)
+pub map_always : {E A F B : Type 0} (f : E → F) (g : A → B) (P : Emitted F B → List ℕ → Type 0) (r : Step E A) (before : List ℕ)
     → Always (λ x b. P (record { at = x.at; event = f x.event; after = λ used. g (x.after used) }) b) r before → Always P (map_step f g r) before
 map_always f g P (Gives x) before h = h
 map_always f g P (Refuses why) before h = tt
@@ -434,7 +434,31 @@ events_paid l some (e ∷ es) p q bytes rest r =
 pub no_more_events : (l : Rules) (bytes : List ℕ) (es : List (ℕ × Event)) (v : Verdict) → 1 ≤ l.part → Says l start bytes es v → length es ≤ length bytes
 no_more_events l bytes es v some says = omega (arith, events_paid l some es start says.0 bytes says.1 says.2)
 
-pub no_more_handed_out : (d : State) (s : List ℕ) (es : List (ℕ × Event)) → 1 ≤ d.rules.part → d.refusal ≡ None → After d s es → length es ≤ length s
-no_more_handed_out d s es some sound after =
-    let stands : Stands d s es = subst (λ (r : Option Refusal). AfterBy r d s es) sound after in
-    omega (arith, events_paid d.rules some es start d.place s stands.bytes stands.read)
+handed_out_by : (o : Option Refusal) (d : State) (s : List ℕ) (es : List (ℕ × Event)) → 1 ≤ d.rules.part → AfterBy o d s es → length es ≤ length s
+handed_out_by None d s es some stands = omega (arith, events_paid d.rules some es start d.place s stands.bytes stands.read)
+handed_out_by (Some r) d s es some after = omega (arith, events_paid d.rules some es start after.place s after.bytes after.read)
+
+pub no_more_handed_out : (d : State) (s : List ℕ) (es : List (ℕ × Event)) → 1 ≤ d.rules.part → After d s es → length es ≤ length s
+no_more_handed_out d s es some after = handed_out_by d.refusal d s es some after
+
+-- ---- what is always said
+
+module _ (l : Rules) (some : 1 ≤ l.part) where
+  abbrev SaysSome : Place → List ℕ → Type 0
+  SaysSome p bytes = (es : List (ℕ × Event)) × (v : Verdict) × Says l p bytes es v
+
+  said_by : (p : Place) (bytes : List ℕ) → ((q : Place) (rest : List ℕ) → dues q.symbols + length rest < dues p.symbols + length bytes → SaysSome q rest) → (d : Said (Emitted Event Place) (ℕ × Reason)) → says (step l p) 0 bytes ≡ d → SaysSome p bytes
+  said_by p bytes later More is = ([], Waits, (p, bytes, (refl, refl), rw is tt))
+  said_by p bytes later (Bad fault) is = ([], Refused fault.0 fault.1, (p, bytes, (refl, refl), rw is refl))
+  said_by p bytes later (Got x used) is =
+      let paid = step_paid l some p bytes x used is in
+      let s = later (x.after used) (drop used bytes) (omega (arith, paid.0, paid.1)) in
+      ((x.at, x.event) ∷ s.0, s.1, (s.2.0, s.2.1, (used, x.after, is, s.2.2), s.2.3))
+
+  -- Each step is paid, so there is a last one.
+  said_within : (n : ℕ) (p : Place) (bytes : List ℕ) → dues p.symbols + length bytes < n → SaysSome p bytes
+  said_within zero p bytes lt = absurd (omega (arith, lt))
+  said_within (suc n) p bytes lt = said_by p bytes (λ q rest less. said_within n q rest (omega (arith, lt, less))) (says (step l p) 0 bytes) refl
+
+pub always_said : (l : Rules) (p : Place) (bytes : List ℕ) → 1 ≤ l.part → (es : List (ℕ × Event)) × (v : Verdict) × Says l p bytes es v
+always_said l p bytes some = said_within l some (suc (dues p.symbols + length bytes)) p bytes (omega arith)

@@ -1,12 +1,13 @@
 -- What spells a frame within the limits is read as its events, and so are frames one after the other.
-use Rattle.std.proofs.Common.{◌≡◌, ℕ, ◌+◌, ◌-◌, ◌≤◌, ◌^◌, List, [], ◌∷◌, ◌++◌, length, refl, sym, ap, ◌∙◌, append_assoc, arith}
+use Rattle.std.proofs.Common.{◌≡◌, ℕ, ◌+◌, ◌-◌, ◌≤◌, ◌^◌, List, [], ◌∷◌, ◌++◌, length, refl, sym, ap, ◌∙◌, inl, inr, append_assoc, arith}
 use Rattle.std.specs.Prelude.{FitsSigned, Ok}
 use Rattle.std.specs.Int.{w16}
-use Rattle.std.proofs.lemmas.Bool.{le-ltb}
+use Rattle.std.proofs.lemmas.Bool.{cases_lt, lt-ltb, le-ltb}
 use Rattle.std.proofs.lemmas.List.{append-nil, length-append}
 use Rattle.cqlp_note.specs.declared.header.Header.{Header}
 use Rattle.cqlp_note.specs.Heading.{IsLawful, heading, header_bytes}
 use Rattle.cqlp_note.specs.Limits.{Rules}
+use Rattle.cqlp_note.specs.Reader.{says}
 use Rattle.cqlp_note.specs.Step.{Emitted}
 use Rattle.cqlp_note.proofs.Runs.{runs_then, runs_stay}
 use Rattle.cqlp_note.proofs.Written.{written_is_read}
@@ -19,8 +20,8 @@ use Rattle.cqlp_message.specs.Parts.{parts_size, parts_events}
 use Rattle.cqlp_message.specs.Frames.{FrameSpells, header_of, frame_parts, frame_size, Flat, IsWithin, AllSpell, FlatAll}
 use Rattle.cqlp_message.proofs.Sizes.{parts_long, frame_spelled, frame_long}
 use Rattle.cqlp_message.proofs.Messages.{frame_derives}
-use Rattle.cqlp_decode.specs.Reading.{Place, Nothing, step, Reads, Says, Waits}
-use Rattle.cqlp_decode.specs.Laws.{AllWithin}
+use Rattle.cqlp_decode.specs.Reading.{Place, Nothing, step, Reads, Says, Verdict, Ends}
+use Rattle.cqlp_decode.specs.Laws.{AllWithin, AllBeginInTime, verdict_between}
 use Rattle.cqlp_decode.proofs.StepRuns.{step_runs, runs_join}
 use Rattle.cqlp_decode.proofs.PartsRead.{State, types_in, state_after, state_grown, nodes_in, counts_nodes, inside, parts_read}
 
@@ -77,22 +78,29 @@ module _ (l : Rules) where
       let read : Reads l (inside (at + 9) end (message h) (ns, Nothing)) middle (parts_events (at + 9) ps) (inside ((at + 9) + length middle) end (Extra ∷ []) (second.0.0, Nothing)) [] = rw none at second.1 in
       (second.0.0, frame_joined at stop x (parts_size ps) ns second.0.0 h head middle s.extra b (parts_events (at + 9) ps) size s.more counts whole refl (written_is_read h lawful fits) le read)
 
-module _ (l : Rules) (at stop : ℕ) (ns ns' : List Node) (front back b : List ℕ) (k : ℕ) (es : List (ℕ × Event)) (fs : ℕ → List (ℕ × Event)) where
-  frames_joined : b ≡ front ++ back → length front ≡ k → Reads l (between at stop ns) front es (between (at + length front) (at + length front) ns') [] → Says l (between (at + length front) (at + length front) ns') back (fs (at + length front)) Waits
-      → Says l (between at stop ns) b (es ++ fs (at + k)) Waits
+module _ (l : Rules) (at stop : ℕ) (ns ns' : List Node) (front back b : List ℕ) (k : ℕ) (es : List (ℕ × Event)) (fs : ℕ → List (ℕ × Event)) (v : Verdict) where
+  frames_joined : b ≡ front ++ back → length front ≡ k → Reads l (between at stop ns) front es (between (at + length front) (at + length front) ns') [] → Says l (between (at + length front) (at + length front) ns') back (fs (at + length front)) v
+      → Says l (between at stop ns) b (es ++ fs (at + k)) v
   frames_joined whole size one more =
       let here = between (at + length front) (at + length front) ns' in
       rw (whole, ← size) (more.0, more.1, runs_then (step l) (between at stop ns) here more.0 (front ++ back) back more.1 es _ (runs_stay (step l) (between at stop ns) front back es here [] one) more.2, more.3)
 
--- What is spelled is read: frames one after the other, within the limits, say their events, and then more is waited for.
-pub frames_read : (l : Rules) (fs : List (FrameValue × ℕ)) (at stop : ℕ) (ns : List Node) (b : List ℕ) → AllSpell fs b → AllWithin l fs → at + length b ≤ 2 ^ 63 → Says l (between at stop ns) b (FlatAll at fs) Waits
-frames_read l [] at stop ns b s w le =
-    let first : at ≤ 2 ^ 63 = omega arith in
-    (between at stop ns, b, (refl, refl), rw (s, le-ltb (2 ^ 63) at first) tt)
-frames_read l (f ∷ fs) at stop ns b s w le =
-    let long : length b ≡ length s.front + length s.back = ap length s.whole ∙ length-append s.front s.back in
+-- what is said between frames of no bytes
+nothing_more : (l : Rules) (at stop : ℕ) (ns : List Node) → Ends (says (step l (between at stop ns)) 0 []) (verdict_between at)
+nothing_more l at stop ns = elim (cases_lt (2 ^ 63) at) [
+  | inl lt ↦ rw (lt-ltb (2 ^ 63) at lt) refl
+  | inr le ↦ rw (le-ltb (2 ^ 63) at le) tt
+]
+
+-- What is spelled is read: frames one after the other, within the limits, say their events, and then nothing more.
+pub frames_read : (l : Rules) (fs : List (FrameValue × ℕ)) (at stop : ℕ) (ns : List Node) (b : List ℕ) → AllSpell fs b → AllWithin l fs → AllBeginInTime at fs → Says l (between at stop ns) b (FlatAll at fs) (verdict_between (at + length b))
+frames_read l [] at stop ns b s w early =
+    let none : at + length {A = ℕ} [] ≡ at = omega arith in
+    (between at stop ns, b, (refl, refl), rw (s, none) (nothing_more l at stop ns))
+frames_read l (f ∷ fs) at stop ns b s w early =
+    let long : at + length b ≡ (at + length s.front) + length s.back = omega (arith, ap length s.whole, length-append s.front s.back) in
     let size : length s.front ≡ frame_size f.0 f.1 = frame_long f.0 f.1 s.front s.this in
-    let one = frame_reads l f.0 f.1 at stop ns s.front s.this w.0 w.1 (omega arith) in
+    let one = frame_reads l f.0 f.1 at stop ns s.front s.this w.0 w.1 early.0 in
     let here = at + length s.front in
-    let more = frames_read l fs here here one.0 s.back s.that w.2 (omega arith) in
-    frames_joined l at stop ns one.0 s.front s.back b (frame_size f.0 f.1) (Flat at f.0 f.1) (λ k. FlatAll k fs) s.whole size one.1 more
+    let more = frames_read l fs here here one.0 s.back s.that w.2 (rw size early.1) in
+    rw long (frames_joined l at stop ns one.0 s.front s.back b (frame_size f.0 f.1) (Flat at f.0 f.1) (λ k. FlatAll k fs) (verdict_between (here + length s.back)) s.whole size one.1 more)

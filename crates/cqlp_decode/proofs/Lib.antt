@@ -14,6 +14,10 @@ pub mod PageRows
 pub mod StepRuns
 pub mod PartsRead
 pub mod FramesRead
+pub mod Refusals
+pub mod StepCuts
+pub mod FreePlaces
+pub mod Cuts
 mod EventCounts
 mod WiderLimits
 pub mod OneAnswer

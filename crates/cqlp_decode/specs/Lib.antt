@@ -6,5 +6,6 @@ pub mod Standing
 pub mod Streams
 pub mod Lending
 pub mod Draining
+pub mod Excess
 pub mod Laws
 pub mod OneAnswer
