@@ -1,10 +1,13 @@
 -- Two answers of one call are the same, and so are the states that they leave.
-use Rattle.std.proofs.Common.{◌≡◌, ℕ, ◌+◌, ◌<◌, ◌≤◌, Bool, true, false, List, [], ◌++◌, length, drop, Result, Ok, Err, refl, sym, ap, ◌∙◌, inl, inr, arith}
-use Rattle.std.specs.Prelude.{◌↔◌, IsTrue}
+use Rattle.std.proofs.Common.{◌≡◌, ℕ, ◌+◌, ◌<◌, ◌≤◌, Bool, true, false, List, [], ◌++◌, length, take, drop, Result, Ok, Err, refl, sym, ap, ◌∙◌, inl, inr, arith}
+use Rattle.std.specs.Prelude.{◌↔◌, IsTrue, Option, Some, None, IfOk}
+use Rattle.std.specs.Io.KnownBytes.{ReadConsumes, WriteAppends}
+use Rattle.std.proofs.lemmas.List.{take_at, drop_at, length-take-le}
 use Rattle.std.proofs.lemmas.Bool.{cases_lt}
 use Rattle.cqlp_note.specs.declared.header.Header.{Header}
 use Rattle.cqlp_note.specs.declared.refusal.Reason.{Reason}
 use Rattle.cqlp_note.specs.declared.refusal.Refusal.{Refusal}
+use Rattle.cqlp_note.specs.declared.streams.IoFault.{IoFault}
 use Rattle.cqlp_note.specs.declared.taken.Push.{Push}
 use Rattle.cqlp_note.specs.declared.taken.Push.TheVariants as push
 use Rattle.cqlp_note.specs.declared.taken.Taken.{Taken}
@@ -14,7 +17,7 @@ use Rattle.cqlp_note.specs.Field.{FieldValue}
 use Rattle.cqlp_note.specs.Head.{reader_of, front_of}
 use Rattle.cqlp_note.specs.Partial.{Progress, Ends, Waits, Advances, Pushes, going_on, ended, content_length, content_bytes, item_value}
 use Rattle.cqlp_note.specs.Heading.{Headed, heading}
-use Rattle.cqlp_note.specs.Laws.{IsSameField, IsSamePush, IsSameTaken}
+use Rattle.cqlp_note.specs.Laws.{IsSameField, IsSamePush, IsSameTaken, AfterCall, IsRead, IsWritten}
 use Rattle.cqlp_note.proofs.Runs.{same_got}
 
 -- what is refused, at which field, and what is left
@@ -121,3 +124,42 @@ one_bool P true true x y = refl
 one_bool P true false x y = sym (y.1 (x.0 refl))
 one_bool P false true x y = x.1 (y.0 refl)
 one_bool P false false x y = refl
+
+-- ---- readers and writers
+
+same_cut : (xs bs cs ys zs : List ℕ) (n : ℕ) → length bs ≡ n → length cs ≡ n → xs ≡ bs ++ ys → xs ≡ cs ++ zs → (ys ≡ zs) × (bs ≡ cs)
+same_cut xs bs cs ys zs n long_b long_c b c =
+    let front : bs ++ ys ≡ cs ++ zs = sym b ∙ c in (
+      sym (drop_at bs ys n long_b) ∙ ap (drop n) front ∙ drop_at cs zs n long_c,
+      sym (take_at bs ys n long_b) ∙ ap (take n) front ∙ take_at cs zs n long_c,
+    )
+
+module _ (given : List ℕ) (failed : ℕ) where
+  read_bytes : (answer : Result ℕ IoFault) (new_a new_b : Option (List ℕ)) (buffer_a buffer_b : List ℕ)
+      → IfOk answer (λ n. n ≤ length buffer_a) → IfOk answer (λ n. n ≤ length buffer_b)
+      → ReadConsumes (Some given) new_a answer buffer_a → ReadConsumes (Some given) new_b answer buffer_b → (new_a ≡ new_b) × IfOk answer (λ n. take n buffer_a ≡ take n buffer_b)
+  read_bytes (Ok n) (Some ys) (Some zs) buffer_a buffer_b le_a le_b a b =
+      let e = same_cut given (take n buffer_a) (take n buffer_b) ys zs n (length-take-le n buffer_a le_a) (length-take-le n buffer_b le_b) a.0 b.0 in
+      (ap (λ (x : List ℕ). Some x) e.0, e.1)
+  read_bytes (Ok n) None new_b buffer_a buffer_b le_a le_b a b = absurd a.0
+  read_bytes (Ok n) (Some ys) None buffer_a buffer_b le_a le_b a b = absurd b.0
+  read_bytes (Err e) (Some ys) (Some zs) buffer_a buffer_b le_a le_b a b = (ap (λ (x : List ℕ). Some x) (a ∙ sym b), tt)
+  read_bytes (Err e) None new_b buffer_a buffer_b le_a le_b a b = absurd a
+  read_bytes (Err e) (Some ys) None buffer_a buffer_b le_a le_b a b = absurd b
+
+  pub one_read : (answer : Result ℕ IoFault) (a b : AfterCall) → IsRead given failed answer a → IsRead given failed answer b → (a.bytes ≡ b.bytes) × (a.failures ≡ b.failures) × IfOk answer (λ n. take n a.buffer ≡ take n b.buffer)
+  one_read answer a b x y =
+      let e = read_bytes answer a.bytes b.bytes a.buffer b.buffer x.bound y.bound x.bytes y.bytes in
+      (e.0, x.failures ∙ sym y.failures, e.1)
+
+  written_bytes : (answer : Result ℕ IoFault) (new_a new_b : Option (List ℕ)) (buffer : List ℕ) → WriteAppends (Some given) new_a answer buffer → WriteAppends (Some given) new_b answer buffer → new_a ≡ new_b
+  written_bytes (Ok n) (Some ys) (Some zs) buffer a b = ap (λ (x : List ℕ). Some x) (a ∙ sym b)
+  written_bytes (Ok n) None new_b buffer a b = absurd a
+  written_bytes (Ok n) (Some ys) None buffer a b = absurd b
+  written_bytes (Err e) (Some ys) (Some zs) buffer a b = ap (λ (x : List ℕ). Some x) (a ∙ sym b)
+  written_bytes (Err e) None new_b buffer a b = absurd a
+  written_bytes (Err e) (Some ys) None buffer a b = absurd b
+
+  pub one_write : (answer : Result ℕ IoFault) (a b : AfterCall) → a.buffer ≡ b.buffer → IsWritten given failed answer a → IsWritten given failed answer b → (a.bytes ≡ b.bytes) × (a.failures ≡ b.failures)
+  one_write answer a b same x y =
+      (written_bytes answer a.bytes b.bytes b.buffer (rw same at x.bytes) y.bytes, x.failures ∙ rw same (sym y.failures))

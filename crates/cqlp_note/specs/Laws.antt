@@ -1,6 +1,7 @@
 -- Laws of fields and of headers.
-use Rattle.std.specs.Prelude.{◌≡◌, ℕ, ◌<◌, ◌≤◌, ◌↔◌, ◌++◌, Bool, IsTrue, List, All, length, take, FitsSigned, Result, Ok}
+use Rattle.std.specs.Prelude.{◌≡◌, ℕ, ◌<◌, ◌≤◌, ◌↔◌, ◌++◌, Bool, IsTrue, List, All, length, take, FitsSigned, Option, Some, Result, Ok, IfOk, is_err}
 use Rattle.std.specs.Int.{w16}
+use Rattle.std.specs.Io.KnownBytes.{ReadConsumes, WriteAppends}
 use Rattle.cqlp_note.specs.declared.taken.Push.{Push}
 use Rattle.cqlp_note.specs.declared.taken.Push.TheVariants as push
 use Rattle.cqlp_note.specs.declared.taken.Taken.{Taken}
@@ -9,6 +10,8 @@ use Rattle.cqlp_note.specs.declared.refusal.Refusal.{Refusal}
 use Rattle.cqlp_note.specs.declared.field.Notation.{Notation}
 use Rattle.cqlp_note.specs.declared.header.Header.{Header}
 use Rattle.cqlp_note.specs.declared.refusal.Reason.{Reason}
+use Rattle.cqlp_note.specs.declared.streams.IoFault.{IoFault}
+use Rattle.cqlp_note.specs.Streams.{counted, took_none}
 use Rattle.cqlp_note.specs.Reader.{Bad, Got, says}
 use Rattle.cqlp_note.specs.Field.{FieldValue, field_of}
 use Rattle.cqlp_note.specs.Head.{value_of}
@@ -85,3 +88,30 @@ OneAnswerOfHeaderRead = (at : ℕ) (bytes : List ℕ) (a b : Result Header Refus
 
 abbrev pub OneAnswerOfLawful : Type 0
 OneAnswerOfLawful = (h : Header) (a b : Bool) → (IsTrue a ↔ IsLawful h) → (IsTrue b ↔ IsLawful h) → a ≡ b
+
+-- What a caller sees after a read or a write: the bytes that are still to come or that were given, where they are
+-- known, how many calls failed, and the buffer.
+pub record AfterCall : Type 0 where
+  pub bytes : Option (List ℕ)
+  pub failures : ℕ
+  pub buffer : List ℕ
+
+-- what `read` ensures of a source with these bytes to come
+pub record IsRead (left : List ℕ) (failed : ℕ) (answer : Result ℕ IoFault) (after : AfterCall) : Type 0 where
+  pub bound : IfOk answer (λ n. n ≤ length after.buffer)
+  pub bytes : ReadConsumes (Some left) after.bytes answer after.buffer
+  pub failures : after.failures ≡ counted (is_err answer) failed
+
+-- The outside decides how many bytes come, or that the reader fails. Then these bytes, those left, and the count of
+-- failed calls are the same.
+abbrev pub OneAnswerOfRead : Type 0
+OneAnswerOfRead = (left : List ℕ) (failed : ℕ) (answer : Result ℕ IoFault) (a b : AfterCall) → IsRead left failed answer a → IsRead left failed answer b → (a.bytes ≡ b.bytes) × (a.failures ≡ b.failures) × IfOk answer (λ n. take n a.buffer ≡ take n b.buffer)
+
+-- what `write` ensures of a target that was given these bytes before
+pub record IsWritten (given : List ℕ) (failed : ℕ) (answer : Result ℕ IoFault) (after : AfterCall) : Type 0 where
+  pub bound : IfOk answer (λ n. n ≤ length after.buffer)
+  pub bytes : WriteAppends (Some given) after.bytes answer after.buffer
+  pub failures : after.failures ≡ counted (took_none answer after.buffer) failed
+
+abbrev pub OneAnswerOfWrite : Type 0
+OneAnswerOfWrite = (given : List ℕ) (failed : ℕ) (answer : Result ℕ IoFault) (a b : AfterCall) → a.buffer ≡ b.buffer → IsWritten given failed answer a → IsWritten given failed answer b → (a.bytes ≡ b.bytes) × (a.failures ≡ b.failures)
