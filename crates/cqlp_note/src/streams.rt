@@ -47,7 +47,9 @@ pub trait Target {
         ensures failures { failures self.new ≡ counted (took_none result bytes.now) (failures self.old) };
 }
 
-/// A reader or a writer of std's as a [`Source`] or a [`Target`]. Each call is passed on as it is, and not tried again.
+/// A reader or a writer of std's as a [`Source`] or a [`Target`]. A call is one call of the inner reader or writer, with
+/// the whole buffer, and is not tried again. No contract of std's `Read` and `Write` counts calls, so that is tested;
+/// which bytes came or went, and how many calls failed, is in the contracts.
 #[derive(Drop)]
 pub struct OfStd<X> {
     /// The reader or writer.
@@ -116,44 +118,57 @@ mod tests {
     use std::io;
     use std::test::Fail;
 
-    /// Gives and takes three bytes at a call, but fails at its second.
-    #[derive(Drop)]
-    struct Flaky(u32);
+    /// What a reader or a writer makes of one call.
+    #[derive(Clone, Copy)]
+    enum Outcome {
+        /// At most this many bytes.
+        Bytes(usize),
+        /// An error.
+        Fault(io::ErrorKind),
+    }
 
-    impl Read for Flaky {
+    /// Gives each of its calls the same outcome, counts them, and keeps the length of the last one's buffer.
+    #[derive(Drop)]
+    struct Recorder {
+        outcome: Outcome,
+        calls: u32,
+        asked: usize,
+    }
+
+    impl Recorder {
+        fn new() -> Recorder {
+            Recorder {
+                outcome: Outcome::Bytes(0),
+                calls: 0,
+                asked: 0,
+            }
+        }
+
+        fn call(&mut self, len: usize) -> io::Result<usize>
+            ensures { IfOk result (λ n. n ≤ len) }
+        {
+            self.calls = self.calls.saturating_add(1);
+            self.asked = len;
+            match self.outcome {
+                Outcome::Bytes(most) => Ok(most.min(len)),
+                Outcome::Fault(kind) => Err(io::Error::from(kind)),
+            }
+        }
+    }
+
+    impl Read for Recorder {
         fn read(&mut self, buf: &mut [u8]) -> io::Result<usize> {
-            self.0 = self.0.saturating_add(1);
-            if self.0 == 2 {
-                return Err(io::Error::from(io::ErrorKind::TimedOut));
-            }
-            Ok(buf.len().min(3))
+            self.call(buf.len())
         }
     }
 
-    impl Write for Flaky {
+    impl Write for Recorder {
         fn write(&mut self, buf: &[u8]) -> io::Result<usize> {
-            self.0 = self.0.saturating_add(1);
-            if self.0 == 2 {
-                return Err(io::Error::from(io::ErrorKind::BrokenPipe));
-            }
-            Ok(buf.len().min(3))
+            self.call(buf.len())
         }
 
         fn flush(&mut self) -> io::Result<()> {
-            Ok(())
-        }
-    }
-
-    /// Takes nothing.
-    #[derive(Drop)]
-    struct Full;
-
-    impl Write for Full {
-        fn write(&mut self, _buf: &[u8]) -> io::Result<usize> {
-            Ok(0)
-        }
-
-        fn flush(&mut self) -> io::Result<()> {
+            self.calls = self.calls.saturating_add(1);
             Ok(())
         }
     }
@@ -184,31 +199,83 @@ mod tests {
     }
 
     #[test]
-    fn one_failure_in_mid_stream_is_counted_once(rt: HostRuntime) {
-        let mut reader = OfStd::new(Flaky(0));
-        let mut buffer = [0u8; 8];
-        assert_eq!(rt; reader.read(&mut buffer), Ok(3));
-        assert_eq!(rt; reader.read(&mut buffer), Err(IoFault));
-        assert_eq!(rt; reader.read(&mut buffer), Ok(3));
-        assert_eq!(rt; reader.failures, 1);
-        let mut writer = OfStd::new(Flaky(0));
-        assert_eq!(rt; writer.write(b"abcd"), Ok(3));
-        assert_eq!(rt; writer.write(b"d"), Err(IoFault));
-        assert_eq!(rt; writer.write(b"d"), Ok(1));
-        assert_eq!(rt; writer.failures, 1);
+    fn each_read_is_one_read_of_the_whole_buffer(rt: HostRuntime) {
+        let rows: [(usize, Outcome, Result<usize, IoFault>, u64); 8] = [
+            (8, Outcome::Bytes(8), Ok(8), 0),
+            (8, Outcome::Bytes(3), Ok(3), 0),
+            (0, Outcome::Bytes(8), Ok(0), 0),
+            (8, Outcome::Fault(io::ErrorKind::TimedOut), Err(IoFault), 1),
+            (
+                5,
+                Outcome::Fault(io::ErrorKind::Interrupted),
+                Err(IoFault),
+                2,
+            ),
+            (5, Outcome::Bytes(1), Ok(1), 2),
+            (8, Outcome::Bytes(0), Ok(0), 2),
+            (0, Outcome::Fault(io::ErrorKind::TimedOut), Err(IoFault), 3),
+        ];
+        let mut reader = OfStd::new(Recorder::new());
+        for (len, outcome, answer, failures) in rows {
+            reader.inner.calls = 0;
+            reader.inner.outcome = outcome;
+            let mut buffer = [0u8; 8];
+            assert_eq!(rt; reader.read(&mut buffer[..len.min(8)]), answer);
+            assert_eq!(rt; reader.inner.calls, 1);
+            assert_eq!(rt; reader.inner.asked, len);
+            assert_eq!(rt; reader.failures, failures);
+        }
     }
 
     #[test]
-    fn a_write_of_nothing_is_a_failure(rt: HostRuntime) {
-        let mut writer = OfStd {
-            inner: Full,
+    fn each_write_is_one_write_of_all_bytes(rt: HostRuntime) {
+        let rows: [(usize, Outcome, Result<usize, IoFault>, u64); 8] = [
+            (8, Outcome::Bytes(8), Ok(8), 0),
+            (8, Outcome::Bytes(3), Ok(3), 0),
+            (0, Outcome::Bytes(8), Ok(0), 0),
+            (
+                8,
+                Outcome::Fault(io::ErrorKind::BrokenPipe),
+                Err(IoFault),
+                1,
+            ),
+            (
+                5,
+                Outcome::Fault(io::ErrorKind::Interrupted),
+                Err(IoFault),
+                2,
+            ),
+            (5, Outcome::Bytes(1), Ok(1), 2),
+            (8, Outcome::Bytes(0), Ok(0), 3),
+            (
+                0,
+                Outcome::Fault(io::ErrorKind::BrokenPipe),
+                Err(IoFault),
+                4,
+            ),
+        ];
+        let mut writer = OfStd::new(Recorder::new());
+        for (len, outcome, answer, failures) in rows {
+            writer.inner.calls = 0;
+            writer.inner.outcome = outcome;
+            assert_eq!(rt; writer.write(&b"abcdefgh"[..len.min(8)]), answer);
+            assert_eq!(rt; writer.inner.calls, 1);
+            assert_eq!(rt; writer.inner.asked, len);
+            assert_eq!(rt; writer.failures, failures);
+        }
+    }
+
+    #[test]
+    fn count_of_failures_stops(rt: HostRuntime) {
+        let mut full = OfStd {
+            inner: Recorder::new(),
             failures: u64::MAX - 1,
         };
-        assert_eq!(rt; writer.write(b""), Ok(0));
-        assert_eq!(rt; writer.failures, u64::MAX - 1);
-        assert_eq!(rt; writer.write(b"a"), Ok(0));
-        assert_eq!(rt; writer.failures, u64::MAX);
-        assert_eq!(rt; writer.write(b"a"), Ok(0));
-        assert_eq!(rt; writer.failures, u64::MAX);
+        assert_eq!(rt; full.write(b""), Ok(0));
+        assert_eq!(rt; full.failures, u64::MAX - 1);
+        assert_eq!(rt; full.write(b"a"), Ok(0));
+        assert_eq!(rt; full.failures, u64::MAX);
+        assert_eq!(rt; full.write(b"a"), Ok(0));
+        assert_eq!(rt; full.failures, u64::MAX);
     }
 }

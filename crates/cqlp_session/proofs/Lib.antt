@@ -5,3 +5,4 @@ pub mod Paired
 pub mod Sentences
 pub mod InStep
 pub mod Least
+pub mod OneAnswer

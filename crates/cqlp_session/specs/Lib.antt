@@ -7,3 +7,4 @@ pub mod Client
 pub mod Server
 pub mod World
 pub mod Pairing
+pub mod Laws

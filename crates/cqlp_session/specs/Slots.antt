@@ -1,5 +1,7 @@
 -- What stands under each stream id (section 2.3 of native_protocol_v4.spec): a list with a slot for each id.
-use Rattle.std.specs.Prelude.{◌≡◌, ◌<ℤ◌, ℕ, ◌≤◌, IsTrue, IsSome, ℤ, pos, negsuc, Bool, false, nat_lt, List, length, Option, Some, None, slice_index_or, slice_set, is_none, position}
+use Rattle.std.specs.Prelude.{◌≡◌, ◌<ℤ◌, ℕ, ◌≤◌, IsTrue, IsSome, ℤ, pos, negsuc, Bool, false, nat_lt, List, length, Option, Some, None, slice_index_or, slice_set, is_none, position, ◌<◌, ◌↔◌, ◌⊎◌, Result, IfOk, IsErrOf}
+use Rattle.cqlp_session.specs.declared.refusal.SlotsOrMemory.{SlotsOrMemory}
+use Rattle.cqlp_session.specs.declared.refusal.SlotsOrMemory.TheVariants.{BadSlots}
 
 -- an id's place
 abbrev pub index_of : ℤ → Option ℕ
@@ -34,3 +36,8 @@ pub record IsLeastFree {A : Type 0} (slots : List (Option A)) (id : ℤ) : Type 
 -- a core may have so many slots
 abbrev pub IsSlotCount : ℕ → Type 0
 IsSlotCount n = (1 ≤ n) × (n ≤ 32768)
+
+-- What comes of making a core with this many slots: BadSlots exactly outside 1 to 32,768; else this core, or no memory.
+pub record Makes {C : Type 0} (slots : ℕ) (core : C) (made : Result C SlotsOrMemory) : Type 0 where
+  pub bad_slots : IsErrOf made BadSlots ↔ ((slots ≡ 0) ⊎ (32768 < slots))
+  pub new : IfOk made (λ c. c ≡ core)

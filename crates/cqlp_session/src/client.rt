@@ -1,6 +1,6 @@
 //! The client's core.
 
-ghost use Rattle.std.specs.Prelude.{◌≡◌, ◌+◌, ◌-◌, ◌^◌, ◌<◌, ◌↔◌, ◌⊎◌, All, IfOk, IsErrOf, IsSome, OnErr};
+ghost use Rattle.std.specs.Prelude.{◌≡◌, ◌+◌, ◌-◌, ◌^◌, All, IfOk, IsErrOf, IsSome, OnErr};
 ghost use Rattle.std.specs.Bool.{OnFalse};
 
 use crate::kind::RequestKind;
@@ -34,15 +34,14 @@ impl<A: Allocator> Model for Client<A> {
 impl<A: Allocator> Client<A> {
     ghost use Rattle.cqlp_session.specs.Client.{begun, cancelled, cancels, new_client, replied, reply_to, ticket_for};
     ghost use Rattle.cqlp_session.specs.Signal.{signal_of};
-    ghost use Rattle.cqlp_session.specs.Slots.{IsLeastFree};
+    ghost use Rattle.cqlp_session.specs.Slots.{IsLeastFree, Makes};
 
     /// The core of a connection on which nothing was sent yet. `slots` is how many requests may be open at a time, 1 to
     /// 32,768; their stream ids are those below it (section 2.3 of `native_protocol_v4.spec`). All memory is taken here.
     pub fn new(alloc: A, slots: u16) -> Result<Client<A>, SlotsOrMemory>
     where
         A: Clone,
-        ensures bad_slots { IsErrOf result SlotsOrMemory.BadSlots ↔ ((slots ≡ 0) ⊎ (32768 < slots)) }
-        ensures new { IfOk result (λ client. client ≡ new_client slots) }
+        ensures { Makes slots (new_client slots) result }
     {
         if !(1..=slots::MOST).contains(&slots) {
             return Err(SlotsOrMemory::BadSlots);

@@ -2,6 +2,7 @@
 //! and answered. A step of the connection is a call of a core: what `Client` and `Server` ensure is what a step does.
 
 ghost use Rattle.std.specs.Prelude.{ℕ, ◌≤◌};
+ghost use Rattle.cqlp_session.specs.Laws.{OneAnswerOfClientNew, OneAnswerOfServerNew};
 ghost use Rattle.cqlp_session.specs.Pairing.{AfterAnySteps, BeginsOnceReady, EventsChangeNothing, IdsAreApart, NoneIsRefused, RepliesArePaired};
 
 /// What holds after every list of steps from two new cores.
@@ -20,4 +21,14 @@ pub fn pairing()
 
     // A server with at least as many slots as its client refuses none of its requests, nor the client an answer.
     ensures accepted { (client server : ℕ) → client ≤ server → AfterAnySteps client server NoneIsRefused }
+{}
+
+/// Where memory is granted, `Client::new` has one answer. So have the other calls of a core, whose clauses are equations.
+pub fn one_answer_of_client_new()
+    ensures { OneAnswerOfClientNew }
+{}
+
+/// The same of `Server::new`.
+pub fn one_answer_of_server_new()
+    ensures { OneAnswerOfServerNew }
 {}

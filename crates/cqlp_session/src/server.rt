@@ -1,6 +1,6 @@
 //! The server's core.
 
-ghost use Rattle.std.specs.Prelude.{◌≡◌, ◌<◌, ◌↔◌, ◌⊎◌, IfOk, IsErrOf, OnErr};
+ghost use Rattle.std.specs.Prelude.{◌≡◌, OnErr};
 
 use crate::kind::RequestKind;
 use crate::phase::Phase;
@@ -52,12 +52,12 @@ impl<A: Allocator> Model for Server<A> {
 impl<A: Allocator> Server<A> {
     ghost use Rattle.cqlp_session.specs.Server.{accept_of, accepted, answer_of, answered, new_server};
     ghost use Rattle.cqlp_session.specs.Signal.{signal_of};
+    ghost use Rattle.cqlp_session.specs.Slots.{Makes};
 
     /// The core of a connection on which nothing came yet. `slots` is how many requests may be open at a time, 1 to
     /// 32,768; their stream ids are those below it (section 2.3 of `native_protocol_v4.spec`). All memory is taken here.
     pub fn new(alloc: A, slots: u16) -> Result<Server<A>, SlotsOrMemory>
-        ensures bad_slots { IsErrOf result SlotsOrMemory.BadSlots ↔ ((slots ≡ 0) ⊎ (32768 < slots)) }
-        ensures new { IfOk result (λ server. server ≡ new_server slots) }
+        ensures { Makes slots (new_server slots) result }
     {
         if !(1..=slots::MOST).contains(&slots) {
             return Err(SlotsOrMemory::BadSlots);

@@ -1,0 +1,6 @@
+use Rattle.cqlp_session.specs.Client.{new_client}
+use Rattle.cqlp_session.proofs.OneAnswer.{one_made}
+use Rattle.cqlp_session.proofs.laws.one_answer_of_client_new.Goals as goal
+
+pub returns : goal.returns
+returns c = λ slots a b. one_made slots (new_client slots) a b
