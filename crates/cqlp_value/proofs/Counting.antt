@@ -60,6 +60,7 @@ count_waits nodes old n p q input bytes v decided longest wants = (
     all = refl;
     is = counted_short nodes old n decided bytes wants.enough wants.short;
     same = refl;
+    under_way = wants.under_way;
     joined = record { longest = rw wants.longest longest; under_way = (v, (wants.under_way, wants.field, wants.enough, refl, rw wants.seen wants.short), same_decided nodes old (under.Counted n) n (size.Counted n) decided) };
     longest = wants.longest;
   },

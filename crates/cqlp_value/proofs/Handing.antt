@@ -104,6 +104,7 @@ scalar_waits nodes old n p q input bytes v decided longest wants = (
     all = refl;
     is = scalar_short nodes old n decided bytes wants.short;
     same = refl;
+    under_way = wants.under_way;
     joined = record { longest = rw wants.room longest; under_way = (v, (wants.under_way, wants.field, refl, rw wants.seen wants.short), same_decided nodes old (under.Scalar n) n (size.Scalar n) decided) };
     longest = wants.room;
   },

@@ -96,6 +96,7 @@ length_waits nodes old p q input bytes stands v longest wants = (
     all = refl;
     is = length_short nodes old (value_due nodes old stands v) bytes wants.enough wants.short;
     same = refl;
+    under_way = wants.under_way;
     joined = record { longest = rw wants.longest longest; under_way = (v, (wants.under_way, wants.field, wants.enough, refl, rw wants.seen wants.short)) };
     longest = wants.longest;
   },
@@ -109,7 +110,7 @@ length_fails nodes old new p q bytes stands v lt goes idle room = record { is = 
 -- where a call does not change how much a `Partial` holds, it may as well have begun with another
 pub settles_from : (nodes : List Node) (old : State) (p mid : Progress) (input : List ℕ) (said : Saying) (base : ℕ) (W : Under → List ℕ → Type 0) (a : CellAdvance) (new : State) (q : Progress)
     → mid.room ≡ p.room → Settles nodes old mid input said base W a new q → Settles nodes old p input said base W a new q
-settles_from nodes old p mid input said base W (advance.More used) new q e h = (record { all = h.0.all; is = h.0.is; same = h.0.same; joined = h.0.joined; longest = h.0.longest ∙ e }, h.1)
+settles_from nodes old p mid input said base W (advance.More used) new q e h = (record { all = h.0.all; is = h.0.is; same = h.0.same; under_way = h.0.under_way; joined = h.0.joined; longest = h.0.longest ∙ e }, h.1)
 settles_from nodes old p mid input said base W (advance.Item at used i) new q e h = record {
   within = h.within;
   emits = h.emits;

@@ -62,6 +62,7 @@ module _ (nodes : List Node) (d : State) (same : d.rules.part ≡ d.rules.cell) 
       all = refl;
       is = first_short bytes wants.short;
       same = refl;
+      under_way = wants.under_way;
       joined = record { longest = rw wants.room longest; under_way = (v, (wants.under_way, wants.field, refl, rw wants.seen wants.short), same_decided nodes d (under.First total) total (size.Parts total) decided) };
       longest = wants.room;
     },
@@ -151,6 +152,7 @@ module _ (nodes : List Node) (d : State) (same : d.rules.part ≡ d.rules.cell) 
       all = refl;
       is = later_short bytes wants.short;
       same = refl;
+      under_way = wants.under_way;
       joined = record { longest = rw wants.room longest; under_way = rw here (wants.under_way, wants.field, refl, rw wants.seen wants.short) };
       longest = wants.room;
     },

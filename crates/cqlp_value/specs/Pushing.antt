@@ -1,5 +1,5 @@
 -- What the reader of a cell has read since it began.
-use Rattle.std.specs.Prelude.{◌≡◌, ℕ, ◌≤◌, ◌++◌, Bool, true, false, List, [], ◌∷◌, length, take, Option}
+use Rattle.std.specs.Prelude.{◌≡◌, ℕ, ◌+◌, ◌*◌, ◌<◌, ◌≤◌, ◌++◌, Bool, true, false, List, [], ◌∷◌, length, take, Option}
 use Rattle.cqlp_note.specs.Reader.{More, Bad, says}
 use Rattle.cqlp_note.specs.Step.{Runs}
 use Rattle.cqlp_note.specs.Limits.{Rules}
@@ -12,7 +12,7 @@ use Rattle.cqlp_value.specs.declared.standing.Next.{Next}
 use Rattle.cqlp_value.specs.declared.standing.Next.TheVariants as next
 use Rattle.cqlp_value.specs.declared.standing.Under.TheVariants as under
 use Rattle.cqlp_value.specs.CellStep.{CellEvent, CellPlace, cell_step}
-use Rattle.cqlp_value.specs.Items.{event_of}
+use Rattle.cqlp_value.specs.Items.{content_length, event_of}
 use Rattle.cqlp_value.specs.Standing.{State, ended, is_under_way, place, Stands}
 use Rattle.cqlp_value.specs.Reading.{Joined, HaveCome}
 
@@ -47,23 +47,25 @@ module _ (nodes : List Node) where
   Leads start old s es input (push.Refused r) new q =
       (rest : List ℕ) × Runs (cell_step old.rules) start (s ++ input) es (place nodes old) rest × (says (cell_step old.rules (place nodes old)) 0 rest ≡ Bad (r.at, r.why))
 
-  -- The cell is still under way, as its types stand in the table; or it has ended.
+  -- The cell is still under way, as its types stand in the table; or it has ended. An item takes some byte, or it ends a
+  -- value that is open.
   abbrev pub Continues : State → CellPush → State → Type 0
   Continues old (push.More used) new = (is_under_way new ≡ true) × (new.rules ≡ old.rules) × Stands nodes new
-  Continues old (push.Item at used e) new = (is_under_way new ≡ true) × (new.rules ≡ old.rules) × Stands nodes new
+  Continues old (push.Item at used e) new = (is_under_way new ≡ true) × (new.rules ≡ old.rules) × Stands nodes new × (length new.open_values < length old.open_values + 2 * used)
   Continues old push.Done new = new ≡ ended old
   Continues old (push.Refused r) new = new ≡ ended old
 
-  -- The `Partial` still serves the cell, or has no field under way.
-  abbrev pub Serves : CellPush → State → Progress → Type 0
-  Serves (push.More used) new q = Joined nodes new q
-  Serves (push.Item at used e) new q = Joined nodes new q
-  Serves push.Done new q = q.under_way ≡ false
-  Serves (push.Refused r) new q = q.under_way ≡ false
+  -- The `Partial` still serves the cell, or has no field under way. At an item nothing has come of what is read next, and
+  -- where its content lies whole in the bytes used, the buffer is empty.
+  abbrev pub Serves : Progress → CellPush → State → Progress → Type 0
+  Serves p (push.More used) new q = Joined nodes new q × (q.under_way ≡ true)
+  Serves p (push.Item at used e) new q = Joined nodes new q × (new.under ≡ under.Nothing) × (content_length (event_of e) ≤ used → q.content ≡ [])
+  Serves p push.Done new q = (q ≡ p) × (q.under_way ≡ false)
+  Serves p (push.Refused r) new q = (q.under_way ≡ false) × (q.content ≡ [])
 
   pub record Pushes (old : State) (p : Progress) (input : List ℕ) (x : CellPush) (new : State) (q : Progress) : Type 0 where
     pub leads : (start : CellPlace) (s : List ℕ) (es : List (ℕ × CellEvent)) → After start old p s es → Leads start old s es input x new q
-    pub serves : Serves x new q
+    pub serves : Serves p x new q
     pub longest : q.room ≡ p.room
 
 -- A call ends the cell where nothing is left of it, and only there; else it uses no more than the input, and all of it

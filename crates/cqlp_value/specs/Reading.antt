@@ -1,5 +1,5 @@
 -- What one call makes of a cell.
-use Rattle.std.specs.Prelude.{◌≡◌, ◌≢◌, ℕ, ◌+◌, ◌-◌, ◌*◌, ◌^◌, ◌<◌, ◌≤◌, ◌++◌, Bool, false, List, [], ◌∷◌, length, min, true, Option, Some, None, ⊤}
+use Rattle.std.specs.Prelude.{◌≡◌, ◌≢◌, ℕ, ◌+◌, ◌-◌, ◌*◌, ◌^◌, ◌<◌, ◌≤◌, ◌++◌, Bool, false, List, [], ◌∷◌, length, min, not, true, Option, Some, None, ⊤}
 use Rattle.std.specs.Int.{w32, from_be_bytes}
 use Rattle.cqlp_note.specs.declared.refusal.Reason.{Reason}
 use Rattle.cqlp_note.specs.declared.refusal.Refusal.{Refusal}
@@ -121,11 +121,12 @@ module _ (nodes : List Node) where
     pub idle : q.under_way ≡ false
     pub longest : q.room ≡ p.room
 
-  -- All of the input belongs to an item that goes on.
+  -- All of the input belongs to an item that goes on, in the `Partial`.
   pub record Waits (old : State) (p : Progress) (input : List ℕ) (said : Saying) (used : ℕ) (new : State) (q : Progress) : Type 0 where
     pub all : used ≡ length input
     pub is : said ≡ More
     pub same : new ≡ record old { under = new.under }
+    pub under_way : q.under_way ≡ true
     pub joined : Joined new q
     pub longest : q.room ≡ p.room
 
@@ -208,6 +209,22 @@ Closes old a new = (nodes : List Node) (p : Progress) (input : List ℕ) → Sta
 abbrev pub Moves : List Node → State → Progress → List ℕ → CellAdvance → State → Progress → Type 0
 Moves nodes old p input advance.Done new q = (due_of old ≡ due.Nothing) × (old.under ≡ under.Nothing) × (new ≡ ended old) × (q ≡ p)
 Moves nodes old p input a new q = (b : List ℕ) → HaveCome b old.under p.seen → Settles nodes old p input (told nodes old (b ++ input)) (length b) (HaveCome (b ++ input)) a new q
+
+-- an item that has a content
+abbrev pub has_content : CellOutline → Bool
+has_content (outline.Leaf level k i) = true
+has_content (outline.Part level offset i last) = true
+has_content i = false
+
+-- an item without a content, or a refusal
+abbrev pub has_none : CellAdvance → Bool
+has_none (advance.Item at used i) = not (has_content i)
+has_none (advance.Refused r) = true
+has_none a = false
+
+-- Behind an item without a content, and behind a refusal, the buffer is empty.
+abbrev pub Empties : CellAdvance → Progress → Type 0
+Empties a q = has_none a ≡ true → q.content ≡ []
 
 -- A call ends the cell where nothing is left of it, and only there; else it uses no more than the input, and all of it
 -- while an item goes on.
