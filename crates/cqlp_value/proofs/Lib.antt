@@ -22,3 +22,4 @@ pub mod ReadBack
 pub mod SpelledRead
 pub mod Fronts
 pub mod OneValue
+pub mod OneAnswer
