@@ -51,7 +51,7 @@ module _ (n : Notation) (limit room : ℕ) (bytes : List ℕ) where
 pub fixed_tells : (w : Wanted) (bytes : List ℕ) (r : Result Head Stop) → fixed_of w.notation ≤ w.room → fixed_of w.notation ≤ length bytes
     → Tells w (behind_fixed w.notation w.limit w.room (take (fixed_of w.notation) bytes)) (fixed_of w.notation) (drop (fixed_of w.notation) bytes) r → Tells w (reader_of w) 0 bytes r
 fixed_tells w bytes (Ok (head.Whole used v)) le long h =
-    (omega (arith, length-drop (fixed_of w.notation) bytes, h.0), λ t. fixed_taken w.notation w.limit w.room bytes le long t ∙ h.1 t)
+    (omega (arith, length-drop (fixed_of w.notation) bytes, h.0), λ t. fixed_taken w.notation w.limit w.room bytes le long t ∙ h.1 t, h.2)
 fixed_tells w bytes (Ok (head.Content behind len f)) le long h =
     let n = fixed_of w.notation in
     let count : (behind - n) + n ≡ behind = omega (arith, h.1) in

@@ -7,3 +7,4 @@ pub mod Runs
 pub mod Yields
 pub mod Written
 pub mod Spelled
+pub mod OneAnswer

@@ -1,7 +1,7 @@
 -- What is said of a field goes on over pieces.
-use Rattle.std.proofs.Common.{◌≡◌, ℕ, ◌+◌, ◌-◌, ◌<◌, ◌≤◌, Bool, true, false, List, [], ◌∷◌, ◌++◌, length, take, drop, Result, Ok, Err, refl, ap, ◌∙◌, inl, inr, append_assoc, arith}
+use Rattle.std.proofs.Common.{◌≡◌, ℕ, ◌+◌, ◌-◌, ◌<◌, ◌≤◌, Bool, true, false, List, [], ◌∷◌, ◌++◌, length, take, drop, Result, Ok, Err, Some, None, refl, ap, ◌∙◌, inl, inr, append_assoc, arith}
 use Rattle.std.proofs.lemmas.Bool.{cases_lt, lt-ltb, le-ltb}
-use Rattle.std.proofs.lemmas.List.{take-append-le, drop-append-le, length-append, length-drop, length-take-le, take-append-drop, take_all, append-nil}
+use Rattle.std.proofs.lemmas.List.{take-append-le, drop-append-le, length-append, length-drop, length-take, length-take-le, take-append-drop, take_all, append-nil}
 use Rattle.std.proofs.Math.Seq.{take-append-add, drop-append-add}
 use Rattle.std.specs.Str.{IsUtf8, is_utf8}
 use Rattle.std.proofs.lemmas.Str.{IsUtf8-from_is_utf8, is_utf8-from_IsUtf8}
@@ -15,15 +15,18 @@ use Rattle.cqlp_note.specs.declared.head.Stop.{Stop}
 use Rattle.cqlp_note.specs.declared.head.Stop.TheVariants as stop
 use Rattle.cqlp_note.specs.Reader.{Said, Reader, Gives, Refuses, Takes, Idles, More, Bad, Got, says}
 use Rattle.cqlp_note.specs.Field.{FieldValue}
-use Rattle.cqlp_note.specs.Head.{made, reader_of, Tells}
+use Rattle.cqlp_note.specs.declared.prim.Primitive.{Primitive}
+use Rattle.cqlp_note.specs.declared.prim.Primitive.TheVariants as prim
+use Rattle.cqlp_note.specs.declared.prim.BoundValue.TheVariants as bound
+use Rattle.cqlp_note.specs.Head.{made, reader_of, value_of, HasNoContent, Tells}
 use Rattle.cqlp_note.specs.declared.taken.Stage.{Stage}
 use Rattle.cqlp_note.specs.declared.taken.Stage.TheVariants as stage
-use Rattle.cqlp_note.specs.Partial.{accepts, content_value, content_length, is_under_way, seen_of}
+use Rattle.cqlp_note.specs.Partial.{accepts, content_value, content_length, content_bytes, is_under_way, seen_of}
 use Rattle.cqlp_note.proofs.Fronts.{fixed_short}
 
 -- what a front tells, it tells whatever follows, if nothing follows one that is wanting
 tells_on : (w : Wanted) (xs ys : List ℕ) (told : Result Head Stop) → (length xs < 24 → ys ≡ []) → Tells w (reader_of w) 0 xs told → Tells w (reader_of w) 0 (xs ++ ys) told
-tells_on w xs ys (Ok (head.Whole used v)) none h = (omega (arith, length-append xs ys, h.0), λ t. rw (append_assoc xs ys t) (h.1 (ys ++ t)))
+tells_on w xs ys (Ok (head.Whole used v)) none h = (omega (arith, length-append xs ys, h.0), λ t. rw (append_assoc xs ys t) (h.1 (ys ++ t)), h.2)
 tells_on w xs ys (Ok (head.Content behind len f)) none h =
     let front : behind - 0 ≤ length xs = omega (arith, h.2) in
     (h.0, omega arith, omega (arith, length-append xs ys, h.2), h.3, λ t. rw (append_assoc xs ys t, drop-append-le (behind - 0) xs ys front, append_assoc (drop (behind - 0) xs) ys t) (h.4 (ys ++ t)))
@@ -141,6 +144,32 @@ front_fits front input start le short =
     let all : take (24 - length front) (take start input) ≡ take start input = take_all (24 - length front) (take start input) (omega arith) in
     rw all (omega (arith, length-append front (take start input)))
 
+-- ---- what the buffer holds of a field that goes on
+
+pub kept_first : (front input : List ℕ) (start n : ℕ) → length front + start ≡ n → drop start input ≡ drop n (front ++ input)
+kept_first front input start n is = rw (← is, drop-append-add front input start) refl
+
+-- a value that has no content
+pub no_content : (v : Primitive) → HasNoContent v → content_length (value_of v) ≡ 0
+no_content (prim.Byte n) none = refl
+no_content (prim.Short n) none = refl
+no_content (prim.Int z) none = refl
+no_content (prim.Long z) none = refl
+no_content (prim.Uuid c) none = refl
+no_content (prim.Count n) none = refl
+no_content (prim.Text s) none = absurd none
+no_content (prim.Bytes None) none = refl
+no_content (prim.Bytes (Some c)) none = absurd none
+no_content (prim.Bound bound.Null) none = refl
+no_content (prim.Bound bound.Unset) none = refl
+no_content (prim.Bound (bound.Bytes c)) none = absurd none
+no_content (prim.Inet a z) none = refl
+
+pub same_content : (f : Form) (c : List ℕ) → c ≡ content_bytes (content_value f c)
+same_content form.Text c = refl
+same_content form.Bytes c = refl
+same_content form.Bound c = refl
+
 -- ---- behind a front that came before
 
 module _ (w : Wanted) (front input : List ℕ) where
@@ -194,6 +223,10 @@ pub content_size : (f : Form) (c : List ℕ) → content_length (content_value f
 content_size form.Text c = refl
 content_size form.Bytes c = refl
 content_size form.Bound c = refl
+
+-- a content that lies whole in the bytes used is not in the buffer
+pub whole_lent : (f : Form) (len start : ℕ) (rest buffer : List ℕ) → start + len < content_length (content_value f (take len rest)) → buffer ≡ content_bytes (content_value f (take len rest))
+whole_lent f len start rest buffer lt = absurd (omega (arith, rw content_size at lt, length-take len rest))
 
 -- what `&input[start..]` is
 pub rest_is : (input : List ℕ) (start : ℕ) → take (length input - start) (drop start input) ≡ drop start input

@@ -1,5 +1,5 @@
 -- What is told of a field by its front.
-use Rattle.std.specs.Prelude.{◌≡◌, ℕ, ◌+◌, ◌-◌, ◌^◌, ◌++◌, ◌<◌, ◌≤◌, ◌==◌, ◌||◌, List, length, drop, Some, None, Result, Ok, Err, if◌then◌else◌}
+use Rattle.std.specs.Prelude.{◌≡◌, ℕ, ◌+◌, ◌-◌, ◌^◌, ◌++◌, ◌<◌, ◌≤◌, ◌==◌, ◌||◌, List, length, drop, Some, None, Result, Ok, Err, if◌then◌else◌, ⊤}
 use Rattle.std.specs.Int.{w8, w16, w32, w64, from_be_bytes, cast_signed}
 use Rattle.cqlp_note.specs.declared.field.Notation.{Notation}
 use Rattle.cqlp_note.specs.declared.field.Notation.TheVariants as notation
@@ -31,6 +31,13 @@ value_of (prim.Bound bound.Null) = Bound Null
 value_of (prim.Bound bound.Unset) = Bound Unset
 value_of (prim.Bound (bound.Bytes c)) = Bound (Known c.now)
 value_of (prim.Inet a z) = Inet a z
+
+-- no content stands in it
+abbrev pub HasNoContent : Primitive → Type 0
+HasNoContent (prim.Text s) = ⊥
+HasNoContent (prim.Bytes (Some c)) = ⊥
+HasNoContent (prim.Bound (bound.Bytes c)) = ⊥
+HasNoContent v = ⊤
 
 -- the field that was asked for
 abbrev pub reader_of : Wanted → FieldReader
@@ -94,7 +101,7 @@ front_of n = fixed_of n
 
 -- What the reader of a field says behind k bytes, of the rest and of whatever follows, is told by this.
 abbrev pub Tells : Wanted → FieldReader → (k : ℕ) → (rest : List ℕ) → Result Head Stop → Type 0
-Tells w r k rest (Ok (head.Whole used v)) = (used ≤ k + length rest) × ((t : List ℕ) → says r k (rest ++ t) ≡ Got (value_of v) used)
+Tells w r k rest (Ok (head.Whole used v)) = (used ≤ k + length rest) × ((t : List ℕ) → says r k (rest ++ t) ≡ Got (value_of v) used) × HasNoContent v
 Tells w r k rest (Ok (head.Content behind len f)) =
     (behind ≡ front_of w.notation) × (k ≤ behind) × (behind ≤ k + length rest) × (len ≤ w.limit) × ((t : List ℕ) → says r k (rest ++ t) ≡ says (Takes len (made f)) behind (drop (behind - k) rest ++ t))
 Tells w r k rest (Err stop.Wanting) = (k + length rest < front_of w.notation) × (says r k rest ≡ More)

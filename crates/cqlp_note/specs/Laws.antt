@@ -1,14 +1,20 @@
 -- Laws of fields and of headers.
-use Rattle.std.specs.Prelude.{◌≡◌, ℕ, ◌<◌, ◌≤◌, ◌++◌, List, All, length, take, FitsSigned, Ok}
+use Rattle.std.specs.Prelude.{◌≡◌, ℕ, ◌<◌, ◌≤◌, ◌↔◌, ◌++◌, Bool, IsTrue, List, All, length, take, FitsSigned, Result, Ok}
 use Rattle.std.specs.Int.{w16}
+use Rattle.cqlp_note.specs.declared.taken.Push.{Push}
+use Rattle.cqlp_note.specs.declared.taken.Push.TheVariants as push
+use Rattle.cqlp_note.specs.declared.taken.Taken.{Taken}
+use Rattle.cqlp_note.specs.declared.taken.Taken.TheVariants as taken
+use Rattle.cqlp_note.specs.declared.refusal.Refusal.{Refusal}
 use Rattle.cqlp_note.specs.declared.field.Notation.{Notation}
 use Rattle.cqlp_note.specs.declared.header.Header.{Header}
 use Rattle.cqlp_note.specs.declared.refusal.Reason.{Reason}
 use Rattle.cqlp_note.specs.Reader.{Bad, Got, says}
 use Rattle.cqlp_note.specs.Field.{FieldValue, field_of}
-use Rattle.cqlp_note.specs.Partial.{content_length}
+use Rattle.cqlp_note.specs.Head.{value_of}
+use Rattle.cqlp_note.specs.Partial.{Progress, IsNew, Advances, Pushes, content_length, item_value}
 use Rattle.cqlp_note.specs.Spelling.{Spells}
-use Rattle.cqlp_note.specs.Heading.{IsLawful, header_bytes, heading}
+use Rattle.cqlp_note.specs.Heading.{Headed, IsLawful, header_bytes, heading}
 
 -- What is got of a field, its bytes spell.
 abbrev pub GotIsSpelled : Type 0
@@ -33,3 +39,49 @@ WrittenIsRead = (h : Header) → IsLawful h → FitsSigned w16 h.stream → head
 -- A header that is read from nine bytes is lawful, and has those bytes.
 abbrev pub ReadIsWritten : Type 0
 ReadIsWritten = (h : Header) (bytes : List ℕ) → length bytes ≡ 9 → All (λ b. b < 256) bytes → heading bytes ≡ Ok h → IsLawful h × (header_bytes h ≡ bytes)
+
+-- ---- One answer: from the same history and the same input, two answers of a call that both meet its clauses are the
+-- same, and so are the states that they leave.
+
+-- the same field, of which the same bytes have come, and the same room
+pub record IsSameField (p q : Progress) : Type 0 where
+  pub room : p.room ≡ q.room
+  pub field : p.field ≡ q.field
+  pub seen : p.seen ≡ q.seen
+
+-- the same bytes used, and the same value or the same refusal
+abbrev pub IsSamePush : Push → Push → Type 0
+IsSamePush (push.More m) (push.More n) = m ≡ n
+IsSamePush (push.Got m v) (push.Got n w) = (m ≡ n) × (value_of v ≡ value_of w)
+IsSamePush (push.Refused r) (push.Refused s) = r ≡ s
+IsSamePush a b = ⊥
+
+abbrev pub OneAnswerOfPush : Type 0
+OneAnswerOfPush = (p q : Progress) (input : List ℕ) (a b : Push) (new_p new_q : Progress) → IsSameField p q → Pushes p input a new_p → Pushes q input b new_q → IsSamePush a b × (new_p ≡ new_q)
+
+-- the same of what `advance` answers, where a value lies in the input or in the buffer that is left
+abbrev pub IsSameTaken : (input : List ℕ) → Taken → (new_p : Progress) → Taken → (new_q : Progress) → Type 0
+IsSameTaken input (taken.More m) new_p (taken.More n) new_q = m ≡ n
+IsSameTaken input (taken.Got m i) new_p (taken.Got n j) new_q = (m ≡ n) × (item_value i input new_p.content ≡ item_value j input new_q.content)
+IsSameTaken input (taken.Refused r) new_p (taken.Refused s) new_q = r ≡ s
+IsSameTaken input a new_p b new_q = ⊥
+
+abbrev pub OneAnswerOfAdvance : Type 0
+OneAnswerOfAdvance = (p q : Progress) (input : List ℕ) (a b : Taken) (new_p new_q : Progress) → IsSameField p q → Advances p input a new_p → Advances q input b new_q → IsSameTaken input a new_p b new_q × (new_p ≡ new_q)
+
+-- the same but for the field that was asked for last, which `begin` replaces
+pub record IsSameIdle (p q : Progress) : Type 0 where
+  pub room : p.room ≡ q.room
+  pub under_way : p.under_way ≡ q.under_way
+  pub seen : p.seen ≡ q.seen
+  pub content : p.content ≡ q.content
+
+-- where memory was granted to both
+abbrev pub OneAnswerOfNew : Type 0
+OneAnswerOfNew = (room : ℕ) (p q : Progress) → IsNew room p → IsNew room q → IsSameIdle p q
+
+abbrev pub OneAnswerOfHeaderRead : Type 0
+OneAnswerOfHeaderRead = (at : ℕ) (bytes : List ℕ) (a b : Result Header Refusal) → Headed at bytes a → Headed at bytes b → a ≡ b
+
+abbrev pub OneAnswerOfLawful : Type 0
+OneAnswerOfLawful = (h : Header) (a b : Bool) → (IsTrue a ↔ IsLawful h) → (IsTrue b ↔ IsLawful h) → a ≡ b

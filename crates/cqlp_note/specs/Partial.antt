@@ -27,6 +27,13 @@ pub record Progress : Type 0 where
   pub seen : List ℕ
   pub content : List ℕ
 
+-- room for contents of this many bytes, no field under way, and nothing in the buffer
+pub record IsNew (size : ℕ) (p : Progress) : Type 0 where
+  pub room : p.room ≡ size
+  pub idle : p.under_way ≡ false
+  pub none : p.seen ≡ []
+  pub empty : p.content ≡ []
+
 abbrev pub begun : Progress → Wanted → Progress
 begun p w = record { room = p.room; under_way = true; field = w; seen = []; content = [] }
 
@@ -58,7 +65,7 @@ abbrev pub IsUnderWay : Stage → Wanted → (front content : List ℕ) → (roo
 IsUnderWay stage.Idle w front content room = ⊤
 IsUnderWay stage.Front w front content room = (content ≡ []) × (w.limit ≤ room) × (length front ≤ front_of w.notation) × (0 < length front → says (reader_of w) 0 front ≡ More)
 IsUnderWay (stage.Content len f) w front content room =
-    (length front ≤ 24) × (length content < len) × (len ≤ room) × ((t : List ℕ) → says (reader_of w) 0 ((front ++ content) ++ t) ≡ says (Takes len (made f)) (length front) (content ++ t))
+    (length front ≤ 24) × (length content < len) × (len ≤ room) × ((t : List ℕ) → says (reader_of w) 0 ((front ++ content) ++ t) ≡ says (Takes len (made f)) (length front) (content ++ t)) × (length front ≡ front_of w.notation)
 
 -- ---- what is handed out
 
@@ -96,20 +103,30 @@ content_length (Bytes (Some c)) = length c
 content_length (Bound (Known c)) = length c
 content_length v = 0
 
+-- the content itself
+abbrev pub content_bytes : FieldValue → List ℕ
+content_bytes (Text s) = s
+content_bytes (Bytes (Some c)) = c
+content_bytes (Bound (Known c)) = c
+content_bytes v = []
+
 -- The first `used` bytes of the input end the field, which is this value. Where its content lies whole in them,
--- the buffer is empty; else it holds no more than it has room for.
+-- the buffer is empty; else it holds the content, for which it has room.
 pub record Ends (old : Progress) (input : List ℕ) (used : ℕ) (v : FieldValue) (new : Progress) : Type 0 where
   pub within : used ≤ length input
   pub is : says (reader_of old.field) 0 (old.seen ++ input) ≡ Got v (length old.seen + used)
   pub idle : new ≡ ended old new.content
   pub lent : content_length v ≤ used → new.content ≡ []
+  pub kept : used < content_length v → new.content ≡ content_bytes v
   pub fits : length new.content ≤ old.room
 
--- All of the input belongs to the field, which goes on; the buffer holds no more than it has room for.
+-- All of the input belongs to the field, which goes on. The buffer holds what has come of its content, all behind the
+-- bytes that go before one, and has room for it.
 pub record Waits (old : Progress) (input : List ℕ) (used : ℕ) (new : Progress) : Type 0 where
   pub all : used ≡ length input
   pub is : says (reader_of old.field) 0 (old.seen ++ input) ≡ More
   pub under_way : new ≡ going_on old (old.seen ++ input) new.content
+  pub kept : new.content ≡ drop (front_of old.field.notation) (old.seen ++ input)
   pub fits : length new.content ≤ old.room
 
 -- What the input adds to the bytes before it makes of a field.

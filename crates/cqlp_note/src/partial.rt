@@ -3,7 +3,7 @@
 ghost use Rattle.std.specs.Prelude.{◌≡◌, ◌+◌, ◌-◌, ◌<◌, ◌≤◌, ◌^◌, ◌++◌, List, [], ℕ, true, false, length, drop, IfOk};
 ghost use Rattle.std.specs.Borrow.{sem};
 ghost use Rattle.cqlp_note.specs.Reader.{says, Takes};
-ghost use Rattle.cqlp_note.specs.Head.{Tells, reader_of, value_of, made};
+ghost use Rattle.cqlp_note.specs.Head.{Tells, front_of, reader_of, value_of, made};
 
 use crate::field::Notation;
 use crate::front::Front;
@@ -38,15 +38,12 @@ impl<A: Allocator> Model for Partial<A> {
 
 impl<A: Allocator> Partial<A> {
     ghost use Rattle.cqlp_note.specs.Lending.{Next};
-    ghost use Rattle.cqlp_note.specs.Partial.{Advances, CanLend, Pushes, Uses, begun, ended, item_value};
+    ghost use Rattle.cqlp_note.specs.Partial.{Advances, CanLend, IsNew, Pushes, Uses, begun, ended, item_value};
 
     /// With room for contents of up to `room` bytes, and no field under way. This is the one call that takes memory;
     /// the error is that it was refused.
     pub fn new(alloc: A, room: u32) -> Result<Self, NoMemory>
-        ensures room { IfOk result (λ partial. partial.room ≡ room) }
-        ensures idle { IfOk result (λ partial. partial.under_way ≡ false) }
-        ensures none { IfOk result (λ partial. partial.seen ≡ []) }
-        ensures empty { IfOk result (λ partial. partial.content ≡ []) }
+        ensures { IfOk result (λ partial. IsNew room partial) }
     {
         Ok(Partial {
             stage: Stage::Idle,
@@ -166,13 +163,13 @@ impl<A: Allocator> Partial<A> {
     }
 
     /// Takes a content, of which nothing came before `start` in the input.
-    #[tactic(auto, using(crate::proofs::Pieces::whole_got, crate::proofs::Pieces::whole_bad, crate::proofs::Pieces::seen_is_front, crate::proofs::Pieces::split_goes_on, crate::proofs::Pieces::rest_is, crate::proofs::Pieces::front_fits))]
+    #[tactic(auto, using(crate::proofs::Pieces::whole_bad, crate::proofs::Pieces::seen_is_front, crate::proofs::Pieces::split_goes_on, crate::proofs::Pieces::rest_is, crate::proofs::Pieces::front_fits))]
     fn take_content(&mut self, start: usize, len: u32, form: Form, input: &[u8]) -> Taken
         requires under_way { self.old.under_way ≡ true }
         requires empty { self.old.content ≡ [] }
         requires fits { len ≤ self.old.room }
         requires within { start ≤ length input.now }
-        requires short { length self.old.seen + start ≤ 24 }
+        requires front { length self.old.seen + start ≡ front_of self.old.field.notation }
         requires told { (t : List ℕ) → says (reader_of self.old.field) 0 ((self.old.seen ++ input.now) ++ t) ≡ says (Takes len (made form)) (length self.old.seen + start) (drop start input.now ++ t) }
         ensures { Advances self.old input.now result self.new }
     {
