@@ -8,7 +8,7 @@ use Rattle.cqlp_value.specs.declared.item.CellAdvance.{CellAdvance}
 use Rattle.cqlp_value.specs.declared.item.CellAdvance.TheVariants as advance
 use Rattle.cqlp_value.specs.Items.{CanLend, event_at}
 use Rattle.cqlp_value.specs.Standing.{State}
-use Rattle.cqlp_value.specs.Reading.{Saying, told, Joined, HaveCome, IsLent, Hands, Fails, Moves, has_content, has_none}
+use Rattle.cqlp_value.specs.Reading.{Saying, told, Joined, HaveCome, IsLent, IsKept, Hands, Fails, Moves, has_content, has_none}
 use Rattle.cqlp_value.proofs.Leading.{some_come}
 
 module _ (nodes : List Node) (old : State) (p : Progress) (input : List ℕ) (new : State) (mid : Progress) (joined : Joined nodes old p) where
@@ -31,24 +31,25 @@ bare_event (outline.Empty level) input b c e = refl
 bare_event (outline.Enter level k n) input b c e = refl
 bare_event (outline.Leave level n) input b c e = refl
 
-bare_lends : (nodes : List Node) (i : CellOutline) (input b : List ℕ) (used : ℕ) → not (has_content i) ≡ true → CanLend i input b × IsLent nodes i input b used
-bare_lends nodes (outline.Leaf level k x) input b used e = absurd cc
-bare_lends nodes (outline.Part level offset x last) input b used e = absurd cc
-bare_lends nodes (outline.Null level) input b used e = (tt, tt)
-bare_lends nodes (outline.Empty level) input b used e = (tt, tt)
-bare_lends nodes (outline.Enter level k n) input b used e = (tt, tt)
-bare_lends nodes (outline.Leave level n) input b used e = (tt, tt)
+bare_lends : (nodes : List Node) (i : CellOutline) (p : Progress) (input b : List ℕ) (used : ℕ) → not (has_content i) ≡ true → CanLend i input b × IsLent nodes i input b used × IsKept nodes i p input b used
+bare_lends nodes (outline.Leaf level k x) p input b used e = absurd cc
+bare_lends nodes (outline.Part level offset x last) p input b used e = absurd cc
+bare_lends nodes (outline.Null level) p input b used e = (tt, tt, tt)
+bare_lends nodes (outline.Empty level) p input b used e = (tt, tt, tt)
+bare_lends nodes (outline.Enter level k n) p input b used e = (tt, tt, tt)
+bare_lends nodes (outline.Leave level n) p input b used e = (tt, tt, tt)
 
 module _ (nodes : List Node) (old : State) (p : Progress) (input : List ℕ) (new : State) (mid q : Progress) (idle : q.under_way ≡ false) (room : q.room ≡ mid.room) where
   bare_hands : (said : Saying) (base at used : ℕ) (i : CellOutline) → not (has_content i) ≡ true → Hands nodes old p input said base at used i new mid → Hands nodes old p input said base at used i new q
   bare_hands said base at used i e h =
       let same = bare_event i input mid.content q.content e in
-      let can = bare_lends nodes i input q.content used e in
+      let can = bare_lends nodes i p input q.content used e in
       record {
         within = h.within;
         emits = record { x = h.emits.x; is = h.emits.is; offset = h.emits.offset; event = h.emits.event ∙ same; after = h.emits.after };
         can_lend = can.0;
         lent = can.1;
+        kept = can.2;
         rules = h.rules;
         stop = h.stop;
         stands = h.stands;

@@ -23,13 +23,13 @@ use Rattle.cqlp_value.specs.declared.standing.Next.TheVariants as next
 use Rattle.cqlp_value.specs.declared.standing.Under.{Under}
 use Rattle.cqlp_value.specs.declared.standing.Under.TheVariants as under
 use Rattle.cqlp_value.specs.declared.standing.Due.TheVariants as due
-use Rattle.cqlp_value.specs.CellStep.{CellEvent, CellPlace, cell_step}
+use Rattle.cqlp_value.specs.CellStep.{CellEvent, Null, Empty, Enter, Leave, CellPlace, cell_step}
 use Rattle.cqlp_value.specs.Scalars.{ScalarValue, allows_size, scalar_of}
 use Rattle.cqlp_value.specs.Items.{CanLend, content_at, content_length, event_at, event_of, leaf_event}
 use Rattle.cqlp_value.specs.Levels.{last_open}
 use Rattle.cqlp_value.specs.Standing.{State, ended, is_some_next, is_under_way, symbols_for, place, close_if, is_over, due_in, due_for, due_of, Stands}
-use Rattle.cqlp_value.specs.Reading.{Saying, told, Joined, UnderBy, AreBytes, HaveCome, IsLent, Moves, Empties, has_content}
-use Rattle.cqlp_value.specs.Pushing.{is_done, done_by, Continues, Pushes}
+use Rattle.cqlp_value.specs.Reading.{Saying, told, Joined, UnderBy, AreBytes, HaveCome, IsLent, IsKept, Moves, Empties, has_content}
+use Rattle.cqlp_value.specs.Pushing.{is_done, done_by, Continues, Keeps, Pushes}
 use Rattle.cqlp_value.proofs.ScalarSizes.{scalar_sized}
 
 -- some bytes have come, whichever
@@ -104,19 +104,27 @@ run_more l start p q s b t es at e x run said a w after =
 
 -- ---- the buffer
 
-leaf_content : (level used : ℕ) (k : Kind) (content buffer : List ℕ) (o : Option ScalarValue) → scalar_of k content ≡ o → is_some o ≡ true → allows_size k (length content) ≡ true → (length content ≤ used → buffer ≡ [])
-    → content_length (leaf_event level o) ≤ used → buffer ≡ []
-leaf_content level used k content buffer None is some allowed h = absurd cc
-leaf_content level used k content buffer (Some v) is some allowed h = λ le. h (rw (scalar_sized k content v allowed is) le)
+leaf_length : (level : ℕ) (k : Kind) (content : List ℕ) (o : Option ScalarValue) → scalar_of k content ≡ o → is_some o ≡ true → allows_size k (length content) ≡ true → content_length (leaf_event level o) ≡ length content
+leaf_length level k content None is some allowed = absurd cc
+leaf_length level k content (Some v) is some allowed = sym (scalar_sized k content v allowed is)
 
--- where the content of an item lies whole in the bytes used, the buffer is empty
-lent_content : (nodes : List Node) (i : CellOutline) (input buffer : List ℕ) (used : ℕ) → CanLend i input buffer → IsLent nodes i input buffer used → (not (has_content i) ≡ true → buffer ≡ []) → content_length (event_at i input buffer) ≤ used → buffer ≡ []
-lent_content nodes (outline.Leaf level k c) input buffer used can h e = leaf_content level used k (content_at c input buffer) buffer (scalar_of k (content_at c input buffer)) refl can.2 can.1 h
-lent_content nodes (outline.Part level offset c last) input buffer used can h e = h
-lent_content nodes (outline.Null level) input buffer used can h e = λ le. e refl
-lent_content nodes (outline.Empty level) input buffer used can h e = λ le. e refl
-lent_content nodes (outline.Enter level k n) input buffer used can h e = λ le. e refl
-lent_content nodes (outline.Leave level n) input buffer used can h e = λ le. e refl
+module _ (nodes : List Node) (p q : Progress) (input : List ℕ) (used : ℕ) where
+  leaf_keeps : (level : ℕ) (k : Kind) (content : List ℕ) (o : Option ScalarValue) → scalar_of k content ≡ o → is_some o ≡ true → allows_size k (length content) ≡ true → (length content ≤ used → q.content ≡ [])
+      → (used < length content → (p.under_way ≡ true) × (q.content ≡ p.seen ++ take used input)) → Keeps p input used (leaf_event level o) q
+  leaf_keeps level k content o is some allowed lent kept =
+      let long = leaf_length level k content o is some allowed in
+      record { lent = λ le. lent (rw long at le); kept = λ lt. kept (rw long at lt) }
+
+  bare_keeps : (e : CellEvent) → content_length e ≡ 0 → q.content ≡ [] → Keeps p input used e q
+  bare_keeps e none empty = record { lent = λ le. empty; kept = λ lt. let no : used < 0 = rw none at lt in absurd (omega arith) }
+
+  pub keeps : (i : CellOutline) → CanLend i input q.content → IsLent nodes i input q.content used → IsKept nodes i p input q.content used → (not (has_content i) ≡ true → q.content ≡ []) → Keeps p input used (event_at i input q.content) q
+  keeps (outline.Leaf level k c) can lent kept none = leaf_keeps level k (content_at c input q.content) (scalar_of k (content_at c input q.content)) refl can.2 can.1 lent kept
+  keeps (outline.Part level offset c last) can lent kept none = record { lent = lent; kept = kept }
+  keeps (outline.Null level) can lent kept none = bare_keeps (Null level) refl (none refl)
+  keeps (outline.Empty level) can lent kept none = bare_keeps (Empty level) refl (none refl)
+  keeps (outline.Enter level k n) can lent kept none = bare_keeps (Enter level k n) refl (none refl)
+  keeps (outline.Leave level n) can lent kept none = bare_keeps (Leave level n) refl (none refl)
 
 -- as far as the types go, it does not matter how much has come
 pub stands_under : (nodes : List Node) (d : State) (u : Under) → Stands nodes d → Stands nodes (record d { under = u })
@@ -138,7 +146,7 @@ module _ (nodes : List Node) (old : State) (p : Progress) (input : List ℕ) (ne
                 record { pending = after.pending ++ input; runs = rw (rules, here) (runs_stay (cell_step old.rules) start s input es (place nodes old) after.pending after.runs); come = w.1 },
                 (λ i. saying (rules i) (here i) (after.pending ++ input)) ∙ sym (told_is nodes old (after.pending ++ input)) ∙ w.0.is,
               );
-          serves = (h.0.joined, h.0.under_way);
+          serves = (h.0.joined, h.0.under_way, h.0.kept);
           longest = h.0.longest;
         },
         (ap is_under_way same ∙ under_way, rules, rw same (stands_under nodes old new.under stands)),
@@ -166,7 +174,7 @@ module _ (nodes : List Node) (old : State) (p : Progress) (input : List ℕ) (ne
           serves = (
             record { longest = rw (h.rules, h.longest) joined.longest; under_way = rw h.fresh h.idle },
             h.fresh,
-            rw is (lent_content nodes i input q.content used h.can_lend h.lent empties),
+            rw is (keeps nodes p q input used i h.can_lend h.lent h.kept empties),
           );
           longest = h.longest;
         },

@@ -1,5 +1,5 @@
 -- Laws of the values of cells.
-use Rattle.std.specs.Prelude.{◌≡◌, ℕ, ◌+◌, ◌≤◌, Bool, true, List, length, [], ◌∷◌}
+use Rattle.std.specs.Prelude.{◌≡◌, ℕ, ◌+◌, ◌≤◌, Bool, true, List, length, [], ◌∷◌, if◌then◌else◌}
 use Rattle.cqlp_note.specs.declared.refusal.Refusal.{Refusal}
 use Rattle.cqlp_note.specs.Step.{Runs}
 use Rattle.cqlp_note.specs.Limits.{Rules}
@@ -72,7 +72,8 @@ pub record Call (X : Type 0) : Type 0 where
 
 module _ (nodes : List Node) where
   -- What later calls see of a reader and its `Partial`: the limits; whether a cell is under way, and whether nothing of
-  -- it is left; where its reading stands, in how many open values; whether a field is under way, and the room for one.
+  -- it is left; where its reading stands, in how many open values; whether a field is under way, with its bytes so far;
+  -- the room, and what the buffer holds.
   pub record Seen : Type 0 where
     pub rules : Rules
     pub under_way : Bool
@@ -80,7 +81,9 @@ module _ (nodes : List Node) where
     pub place : CellPlace
     pub levels : ℕ
     pub field : Bool
+    pub bytes : List ℕ
     pub room : ℕ
+    pub buffer : List ℕ
 
   abbrev pub seen : State → Progress → Seen
   seen d p = record {
@@ -90,7 +93,9 @@ module _ (nodes : List Node) where
     place = place nodes d;
     levels = length d.open_values;
     field = p.under_way;
+    bytes = (if p.under_way then p.seen else []);
     room = p.room;
+    buffer = p.content;
   }
 
   -- the two that are left look the same to later calls, and the same bytes have come of what is read next
@@ -122,11 +127,12 @@ module _ (nodes : List Node) where
       × Answers c.reader input c.answer
       × Empties c.answer c.partial'
 
-  -- Two calls are made by readers with the same limits, each with a `Partial` of the same room, after the same bytes and
-  -- events of a cell that began at `start`.
+  -- Two calls are made by readers with the same limits, each with a `Partial` that has the same room and holds the same,
+  -- after the same bytes and events of a cell that began at `start`.
   pub record AreAlike {X : Type 0} (start : CellPlace) (s : List ℕ) (es : List (ℕ × CellEvent)) (c d : Call X) : Type 0 where
     pub rules : c.reader.rules ≡ d.reader.rules
     pub room : c.partial.room ≡ d.partial.room
+    pub buffer : c.partial.content ≡ d.partial.content
     pub this : After nodes start c.reader c.partial s es
     pub that : After nodes start d.reader d.partial s es
 
