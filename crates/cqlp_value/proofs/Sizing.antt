@@ -13,7 +13,7 @@ use Rattle.cqlp_value.specs.CellStep.{CellSymbol, CellPlace, is_opaque, content_
 use Rattle.cqlp_value.specs.Sizes.{is_counted, sized_as, IsContent, HasRoom, IsSized}
 
 -- a scalar's content is read by its kind alone
-scalar_content_is : (l : Rules) (p : CellPlace) (rest : List CellSymbol) (level : ℕ) (k : Kind) (inner : Types) (n : ℕ) → has_no_items k ≡ true → content_step l p rest level k inner n ≡ scalar_step l p rest level k n
+pub scalar_content_is : (l : Rules) (p : CellPlace) (rest : List CellSymbol) (level : ℕ) (k : Kind) (inner : Types) (n : ℕ) → has_no_items k ≡ true → content_step l p rest level k inner n ≡ scalar_step l p rest level k n
 scalar_content_is l p rest level kind.List inner n t = absurd cc
 scalar_content_is l p rest level kind.Set inner n t = absurd cc
 scalar_content_is l p rest level kind.Map inner n t = absurd cc
