@@ -76,6 +76,7 @@ module _ (nodes : List Node) (d : State) (o : Open) (p : Progress) (input : List
         };
         can_lend = tt;
         lent = tt;
+        kept = tt;
         rules = refl;
         stop = refl;
         onward = omega arith;

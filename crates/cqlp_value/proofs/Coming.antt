@@ -13,6 +13,7 @@ use Rattle.cqlp_value.specs.declared.standing.Next.{Next}
 use Rattle.cqlp_value.specs.declared.standing.Next.TheVariants as next
 use Rattle.cqlp_value.specs.declared.standing.Due.{Due}
 use Rattle.cqlp_value.specs.declared.standing.Due.TheVariants as due
+use Rattle.cqlp_value.specs.declared.standing.Value.{Value}
 use Rattle.cqlp_value.specs.CellStep.{CellSymbol, Value_of, Items_of, Close_of, CellPlace, cell_copies, cell_step, cell_step_at, value_step, close_step, part_step}
 use Rattle.cqlp_value.specs.Inner.{types_at, node_at, HasInner, Stand}
 use Rattle.cqlp_value.specs.Standing.{State, value_symbols, left_of, open_symbols, levels_symbols, symbols_for, place, value_at, due_value, open_after, rest_of, passed_by, passed, is_over, over_by, due_of, TypesStand, Stands, HasNext}
@@ -104,6 +105,12 @@ module _ (l : Rules) (p : CellPlace) (rest : List CellSymbol) where
   over_first NoMore level stop taken past e = ap (cell_step_at l p) e
   over_first (Type_and k inner others) level stop taken past e = ap (cell_step_at l p) e ∙ rw past refl
 
+-- the kind of the value that these symbols begin with, if they do
+abbrev pub first_kind : List CellSymbol → Option Kind
+first_kind (Value_of k inner level stop ∷ ss) = Some k
+first_kind (Items_of (Type_and k inner others) level stop taken ∷ ss) = Some k
+first_kind ss = None
+
 or_right : (a b : Bool) → (a || b) ≡ false → b ≡ false
 or_right true b e = absurd cc
 or_right false b e = e
@@ -166,6 +173,29 @@ module _ (nodes : List Node) (d : State) (items : d.next ≡ next.Items) (o : Op
   step_by order.Elements e = item_step order.Elements (λ x. absurd cc) e
   step_by order.Keys e = item_step order.Keys (λ x. absurd cc) e
   step_by order.Values e = item_step order.Values (λ x. absurd cc) e
+
+  first_item : (k : Order) → ((k ≡ order.Fields) → ⊥) → o.order ≡ k → first_kind (place nodes d).symbols ≡ Some (node_at nodes o.node).kind
+  first_item k ne e =
+      let h = has_next nodes d.rules level d.offset o types more in
+      let s = symbols_by nodes d.rules level o k ne e (rw e at types) (rw e at h) in
+      ap first_kind (now_symbols ∙ ap (λ (x : List CellSymbol). x ++ outer) (ap (left_of nodes level o) e ∙ s))
+
+  first_field : o.order ≡ order.Fields → first_kind (place nodes d).symbols ≡ Some (node_at nodes o.node).kind
+  first_field e =
+      let h : HasNext nodes o order.Fields = rw e at (has_next nodes d.rules level d.offset o types more) in
+      let t : TypesStand nodes d.rules level o order.Fields = rw e at types in
+      let one : o.left ≡ suc (o.left - 1) = omega (arith, h.1) in
+      let f = first_type nodes o.node (o.left - 1) _ (rw one at t.0) in
+      ap first_kind (now_symbols ∙ ap (λ (j : Order). left_of nodes level o j ++ outer) e ∙ ap (λ (x : Types). Items_of x level o.stop o.items ∷ outer) (ap (types_at nodes o.node) one ∙ f.types))
+
+  first_by : (k : Order) → o.order ≡ k → first_kind (place nodes d).symbols ≡ Some (node_at nodes o.node).kind
+  first_by order.Fields e = first_field e
+  first_by order.Elements e = first_item order.Elements (λ x. absurd cc) e
+  first_by order.Keys e = first_item order.Keys (λ x. absurd cc) e
+  first_by order.Values e = first_item order.Values (λ x. absurd cc) e
+
+  item_first : first_kind (place nodes d).symbols ≡ Some (due_value nodes d).kind
+  item_first = first_by o.order refl ∙ sym (ap (λ (v : Value). Some v.kind) value_is)
 
   -- ---- what stands behind it
 
@@ -254,6 +284,24 @@ module _ (nodes : List Node) (d : State) (stands : Stands nodes d) where
 
   pub value_due : due_of d ≡ due.Value → ValueDue nodes d
   value_due v = due_by d.next refl v
+
+-- ---- its kind
+
+module _ (nodes : List Node) (d : State) (stands : Stands nodes d) where
+  cell_first : (node : Option ℕ) → d.next ≡ next.Cell node → first_kind (place nodes d).symbols ≡ Some (due_value nodes d).kind
+  cell_first None e = rw e refl
+  cell_first (Some node) e =
+      let n = rw e at stands.next_stands in
+      rw (e, one_value nodes node d.rules.depth 0 d.stop n.1) refl
+
+  first_in : (n : Next) → d.next ≡ n → due_of d ≡ due.Value → first_kind (place nodes d).symbols ≡ Some (due_value nodes d).kind
+  first_in next.Nothing e v = let no : ◌≡◌ {A = Due} due.Nothing due.Value = rw e at v in absurd cc
+  first_in (next.Cell node) e v = cell_first node e
+  first_in next.Items e v = let r = value_next nodes d stands e v in item_first nodes d e r.0 r.1 r.2 stands.bounded
+  first_in (next.Part offset total) e v = let no : ◌≡◌ {A = Due} (due.Part offset total) due.Value = rw e at v in absurd cc
+
+  pub value_first_is : due_of d ≡ due.Value → first_kind (place nodes d).symbols ≡ Some (due_value nodes d).kind
+  value_first_is v = first_in d.next refl v
 
 -- ---- the end of the innermost value
 

@@ -60,6 +60,8 @@ count_waits nodes old n p q input bytes v decided longest wants = (
     all = refl;
     is = counted_short nodes old n decided bytes wants.enough wants.short;
     same = refl;
+    under_way = wants.under_way;
+    kept = wants.empty;
     joined = record { longest = rw wants.longest longest; under_way = (v, (wants.under_way, wants.field, wants.enough, refl, rw wants.seen wants.short), same_decided nodes old (under.Counted n) n (size.Counted n) decided) };
     longest = wants.longest;
   },
@@ -97,6 +99,7 @@ module _ (nodes : List Node) (old new : State) (n start used count : ℕ) (p q :
         emits = rw (enters.0, same, total) got;
         can_lend = tt;
         lent = tt;
+        kept = tt;
         rules = rw enters.0 refl;
         stop = rw enters.0 refl;
         stands = enters.1;

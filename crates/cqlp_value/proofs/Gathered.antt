@@ -1,6 +1,7 @@
 -- What a `Partial` says of a content.
-use Rattle.std.proofs.Common.{◌≡◌, ℕ, ◌+◌, ◌-◌, ◌<◌, ◌≤◌, List, [], ◌++◌, length, take, Some, refl, sym, ◌∙◌, inl, inr, arith}
+use Rattle.std.proofs.Common.{◌≡◌, ℕ, ◌+◌, ◌-◌, ◌<◌, ◌≤◌, Bool, true, false, List, [], ◌++◌, length, take, drop, Some, refl, sym, ap, ◌∙◌, inl, inr, arith}
 use Rattle.std.proofs.lemmas.Bool.{cases_lt, lt-ltb, le-ltb}
+use Rattle.std.proofs.Math.Seq.{take-append-add}
 use Rattle.std.proofs.lemmas.List.{length-take-le}
 use Rattle.cqlp_note.specs.declared.field.Notation.TheVariants as notation
 use Rattle.cqlp_note.specs.declared.refusal.Reason.{Reason}
@@ -8,8 +9,9 @@ use Rattle.cqlp_note.specs.Reader.{Said, More, Bad, Got, Gives, Takes, says}
 use Rattle.cqlp_note.specs.Field.{FieldValue, Bytes, field_of, content_of}
 use Rattle.cqlp_note.specs.Head.{reader_of}
 use Rattle.cqlp_note.specs.declared.taken.Item.{Item}
-use Rattle.cqlp_note.specs.Partial.{Progress, begun, Ends, Waits, CanLend, item_value}
-use Rattle.cqlp_value.specs.Gathering.{content_wanted, Wants, Finds}
+use Rattle.cqlp_note.specs.Partial.{Progress, begun, Ends, Waits, CanLend, content_bytes, item_value}
+use Rattle.cqlp_value.specs.declared.gather.Found.{Found}
+use Rattle.cqlp_value.specs.Gathering.{content_wanted, IsGathering, seen_before, Wants, Finds}
 
 module _ (len at : ℕ) (x : List ℕ) where
   content_read : says (reader_of (content_wanted len at)) 0 x ≡ says (Takes len (λ c. Gives (Bytes (Some c)))) 0 x
@@ -48,6 +50,7 @@ module _ (len at : ℕ) (old new : Progress) (input : List ℕ) (used : ℕ) (fi
     under_way = rw w.under_way refl;
     field = rw w.under_way field;
     seen = rw w.under_way refl;
+    kept = rw field at w.kept;
     room = rw w.under_way refl;
   }
 
@@ -64,6 +67,7 @@ module _ (len at : ℕ) (old new : Progress) (input : List ℕ) (used : ℕ) (fi
         idle = rw e.idle refl;
         room = rw e.idle refl;
         lent = λ le. e.lent (rw got.1 (omega (arith, length-take-le len (old.seen ++ input) got.0)));
+        kept = λ lt. e.kept (rw got.1 (omega (arith, length-take-le len (old.seen ++ input) got.0))) ∙ ap content_bytes got.1;
       }
 
   pub none_refused : (why : Reason) → says (reader_of old.field) 0 (old.seen ++ input) ≡ Bad why → ⊥
@@ -85,6 +89,7 @@ module _ (len at room : ℕ) (old mid new : Progress) (input : List ℕ) (exact 
         under_way = h.under_way;
         field = h.field;
         seen = h.seen ∙ fresh_seen;
+        kept = h.kept ∙ fresh_seen;
         room = h.room ∙ rw fresh refl;
       }
 
@@ -108,3 +113,11 @@ module _ (old mid new : Progress) (fresh : mid ≡ begun old (record { notation 
 
   pub emptied_refused : (why : Reason) → says (reader_of mid.field) 0 (mid.seen ++ []) ≡ Bad why → ⊥
   emptied_refused why b = none_refused 0 0 mid new [] 0 (fresh_field 0 0 (0 - 0) old mid new [] refl fresh) why b
+
+-- A content that is whole, and not in the input, was begun before; then it is what had come of it and the bytes used.
+pub gathered_is : (begun : Bool) (n at start : ℕ) (p q : Progress) (input : List ℕ) (f : Found) → IsGathering begun n at start p → Finds n start (seen_before begun p) (seen_before begun p ++ drop start input) input f p q
+    → f.used < n → (p.under_way ≡ true) × (q.content ≡ p.seen ++ take f.used input)
+gathered_is true n at start p q input f h found lt =
+    let count : n ≡ length p.seen + f.used = omega (arith, found.count, h.2) in
+    (h.0, found.kept lt ∙ rw (h.2, count) (take-append-add p.seen input f.used))
+gathered_is false n at start p q input f h found lt = absurd (omega (arith, found.count, found.after, lt))

@@ -1,5 +1,5 @@
 -- What a step says, where the length of a value has come.
-use Rattle.std.proofs.Common.{◌≡◌, ℕ, ◌+◌, ◌-◌, ◌<◌, ◌≤◌, true, List, ◌++◌, length, take, drop, is_some, Option, Some, None, refl, ◌∙◌, arith, lt-ltb, le-ltb}
+use Rattle.std.proofs.Common.{◌≡◌, ℕ, ◌+◌, ◌-◌, ◌<◌, ◌≤◌, true, List, ◌++◌, length, take, drop, is_some, Option, Some, None, refl, sym, ◌∙◌, arith, lt-ltb, le-ltb}
 use Rattle.std.proofs.lemmas.List.{length-take-le}
 use Rattle.cqlp_note.specs.Reader.{More, Got, says}
 use Rattle.cqlp_note.specs.Step.{Emitted}
@@ -62,7 +62,7 @@ module _ (nodes : List Node) (d : State) (n : ℕ) (decided : Decided nodes d n 
 
 -- a scalar that is whole
 module _ (nodes : List Node) (old new : State) (n start : ℕ) (p q : Progress) (seen input : List ℕ) (f : Found) (stands : Stands nodes old) (v : due_of old ≡ due.Value) (decided : Decided nodes old n (size.Scalar n)) (front : start ≤ 4)
-    (some : length seen < start + n) (found : Finds n start seen (seen ++ drop start input) input f p q) where
+    (some : length seen < start + n) (found : Finds n start seen (seen ++ drop start input) input f p q) (kept : f.used < n → (p.under_way ≡ true) × (q.content ≡ p.seen ++ take f.used input)) where
   abbrev bytes : List ℕ
   bytes = seen ++ drop start input
 
@@ -84,6 +84,7 @@ module _ (nodes : List Node) (old new : State) (n start : ℕ) (p q : Progress) 
         emits = rw (count, content_is) got;
         can_lend = ((found.can_lend, rw found.is refl), rw (content_is, size) decided.can.3, rw is at known);
         lent = λ le. found.lent (rw (content_is, size) at le);
+        kept = λ lt. kept (rw (content_is, size) at lt);
         rules = refl;
         stop = refl;
         stands = moved_stands nodes old (4 + n) stands due (omega (arith, decided.fits.0, due.inside));
@@ -104,6 +105,8 @@ scalar_waits nodes old n p q input bytes v decided longest wants = (
     all = refl;
     is = scalar_short nodes old n decided bytes wants.short;
     same = refl;
+    under_way = wants.under_way;
+    kept = wants.kept ∙ sym wants.seen;
     joined = record { longest = rw wants.room longest; under_way = (v, (wants.under_way, wants.field, refl, rw wants.seen wants.short), same_decided nodes old (under.Scalar n) n (size.Scalar n) decided) };
     longest = wants.room;
   },

@@ -1,5 +1,5 @@
 -- What a push leads to.
-use Rattle.std.proofs.Common.{◌≡◌, ◌≢◌, ℕ, ◌+◌, ◌^◌, ◌<◌, Bool, true, false, List, [], ◌∷◌, ◌++◌, length, take, drop, Some, refl, sym, ap, ◌∙◌, arith}
+use Rattle.std.proofs.Common.{◌≡◌, ◌≢◌, ℕ, ◌+◌, ◌^◌, ◌<◌, ◌≤◌, Bool, true, false, not, List, [], ◌∷◌, ◌++◌, length, take, drop, Option, Some, None, is_some, refl, sym, ap, ◌∙◌, arith}
 use Rattle.std.specs.Int.{w32, to_be_bytes}
 use Rattle.std.proofs.lemmas.Nat.{from_be_bytes-to_be_bytes_4}
 use Rattle.std.proofs.lemmas.List.{length-append, length-take-le, drop_all}
@@ -10,9 +10,11 @@ use Rattle.cqlp_note.specs.Limits.{Rules}
 use Rattle.cqlp_note.specs.Partial.{Progress}
 use Rattle.cqlp_note.proofs.Runs.{runs_then, runs_stay}
 use Rattle.cqlp_note.proofs.Yields.{says_exact, emitted_is}
+use Rattle.cqlp_type.specs.declared.kind.Kind.{Kind}
 use Rattle.cqlp_type.specs.declared.node.Node.{Node}
 use Rattle.cqlp_value.specs.declared.item.CellItem.{CellItem}
 use Rattle.cqlp_value.specs.declared.item.CellOutline.{CellOutline}
+use Rattle.cqlp_value.specs.declared.item.CellOutline.TheVariants as outline
 use Rattle.cqlp_value.specs.declared.item.CellAdvance.TheVariants as advance
 use Rattle.cqlp_value.specs.declared.item.CellPush.TheVariants as push
 use Rattle.cqlp_value.specs.declared.levels.Open.{Open}
@@ -21,12 +23,14 @@ use Rattle.cqlp_value.specs.declared.standing.Next.TheVariants as next
 use Rattle.cqlp_value.specs.declared.standing.Under.{Under}
 use Rattle.cqlp_value.specs.declared.standing.Under.TheVariants as under
 use Rattle.cqlp_value.specs.declared.standing.Due.TheVariants as due
-use Rattle.cqlp_value.specs.CellStep.{CellEvent, CellPlace, cell_step}
-use Rattle.cqlp_value.specs.Items.{CanLend, event_at, event_of}
+use Rattle.cqlp_value.specs.CellStep.{CellEvent, Null, Empty, Enter, Leave, CellPlace, cell_step}
+use Rattle.cqlp_value.specs.Scalars.{ScalarValue, allows_size, scalar_of}
+use Rattle.cqlp_value.specs.Items.{CanLend, content_at, content_length, event_at, event_of, leaf_event}
 use Rattle.cqlp_value.specs.Levels.{last_open}
 use Rattle.cqlp_value.specs.Standing.{State, ended, is_some_next, is_under_way, symbols_for, place, close_if, is_over, due_in, due_for, due_of, Stands}
-use Rattle.cqlp_value.specs.Reading.{Saying, told, Joined, UnderBy, AreBytes, HaveCome, Moves}
-use Rattle.cqlp_value.specs.Pushing.{is_done, done_by, Continues, Pushes}
+use Rattle.cqlp_value.specs.Reading.{Saying, told, Joined, UnderBy, AreBytes, HaveCome, IsLent, IsKept, Moves, Empties, has_content}
+use Rattle.cqlp_value.specs.Pushing.{is_done, done_by, Continues, Keeps, Pushes}
+use Rattle.cqlp_value.proofs.ScalarSizes.{scalar_sized}
 
 -- some bytes have come, whichever
 number_bytes : (n : ℕ) (seen : List ℕ) → n < 2 ^ 31 → (b : List ℕ) × AreBytes (Some n) seen b
@@ -98,6 +102,30 @@ run_more l start p q s b t es at e x run said a w after =
     let none : drop k (b ++ t) ≡ [] = drop_all k (b ++ t) (omega (arith, length-append b t)) in
     runs_then (cell_step l) start p q (s ++ t) (b ++ t) [] es ((at, e) ∷ []) (runs_stay (cell_step l) start s t es p b run) (k, x.after, said ∙ ap (λ (z : Emitted CellEvent CellPlace). Got z k) (emitted_is x at e a w), (sym after, sym none))
 
+-- ---- the buffer
+
+leaf_length : (level : ℕ) (k : Kind) (content : List ℕ) (o : Option ScalarValue) → scalar_of k content ≡ o → is_some o ≡ true → allows_size k (length content) ≡ true → content_length (leaf_event level o) ≡ length content
+leaf_length level k content None is some allowed = absurd cc
+leaf_length level k content (Some v) is some allowed = sym (scalar_sized k content v allowed is)
+
+module _ (nodes : List Node) (p q : Progress) (input : List ℕ) (used : ℕ) where
+  leaf_keeps : (level : ℕ) (k : Kind) (content : List ℕ) (o : Option ScalarValue) → scalar_of k content ≡ o → is_some o ≡ true → allows_size k (length content) ≡ true → (length content ≤ used → q.content ≡ [])
+      → (used < length content → (p.under_way ≡ true) × (q.content ≡ p.seen ++ take used input)) → Keeps p input used (leaf_event level o) q
+  leaf_keeps level k content o is some allowed lent kept =
+      let long = leaf_length level k content o is some allowed in
+      record { lent = λ le. lent (rw long at le); kept = λ lt. kept (rw long at lt) }
+
+  bare_keeps : (e : CellEvent) → content_length e ≡ 0 → q.content ≡ [] → Keeps p input used e q
+  bare_keeps e none empty = record { lent = λ le. empty; kept = λ lt. let no : used < 0 = rw none at lt in absurd (omega arith) }
+
+  pub keeps : (i : CellOutline) → CanLend i input q.content → IsLent nodes i input q.content used → IsKept nodes i p input q.content used → (not (has_content i) ≡ true → q.content ≡ []) → Keeps p input used (event_at i input q.content) q
+  keeps (outline.Leaf level k c) can lent kept none = leaf_keeps level k (content_at c input q.content) (scalar_of k (content_at c input q.content)) refl can.2 can.1 lent kept
+  keeps (outline.Part level offset c last) can lent kept none = record { lent = lent; kept = kept }
+  keeps (outline.Null level) can lent kept none = bare_keeps (Null level) refl (none refl)
+  keeps (outline.Empty level) can lent kept none = bare_keeps (Empty level) refl (none refl)
+  keeps (outline.Enter level k n) can lent kept none = bare_keeps (Enter level k n) refl (none refl)
+  keeps (outline.Leave level n) can lent kept none = bare_keeps (Leave level n) refl (none refl)
+
 -- as far as the types go, it does not matter how much has come
 pub stands_under : (nodes : List Node) (d : State) (u : Under) → Stands nodes d → Stands nodes (record d { under = u })
 stands_under nodes d u s = record { open_stand = s.open_stand; within = s.within; next_stands = s.next_stands; bounded = s.bounded }
@@ -118,7 +146,7 @@ module _ (nodes : List Node) (old : State) (p : Progress) (input : List ℕ) (ne
                 record { pending = after.pending ++ input; runs = rw (rules, here) (runs_stay (cell_step old.rules) start s input es (place nodes old) after.pending after.runs); come = w.1 },
                 (λ i. saying (rules i) (here i) (after.pending ++ input)) ∙ sym (told_is nodes old (after.pending ++ input)) ∙ w.0.is,
               );
-          serves = h.0.joined;
+          serves = (h.0.joined, h.0.under_way, h.0.kept);
           longest = h.0.longest;
         },
         (ap is_under_way same ∙ under_way, rules, rw same (stands_under nodes old new.under stands)),
@@ -127,8 +155,9 @@ module _ (nodes : List Node) (old : State) (p : Progress) (input : List ℕ) (ne
   pub item_lends : (at used : ℕ) (i : CellOutline) → Moves nodes old p input (advance.Item at used i) new q → CanLend i input q.content
   item_lends at used i m = (m came.0 came.1).can_lend
 
-  pub item_pushes : (at used : ℕ) (i : CellOutline) (e : CellItem) → event_of e ≡ event_at i input q.content → Moves nodes old p input (advance.Item at used i) new q → Pushes nodes old p input (push.Item at used e) new q × Continues nodes old (push.Item at used e) new
-  item_pushes at used i e is m =
+  pub item_pushes : (at used : ℕ) (i : CellOutline) (e : CellItem) → event_of e ≡ event_at i input q.content → Moves nodes old p input (advance.Item at used i) new q → Empties (advance.Item at used i) q
+      → Pushes nodes old p input (push.Item at used e) new q × Continues nodes old (push.Item at used e) new
+  item_pushes at used i e is m empties =
       let h = m came.0 came.1 in (
         record {
           leads = λ start s es after.
@@ -142,10 +171,14 @@ module _ (nodes : List Node) (old : State) (p : Progress) (input : List ℕ) (ne
                 runs = rw w.rules (run_more old.rules start (place nodes old) (place nodes new) s after.pending bytes es at (event_of e) g.x after.runs (rw long exact) g.offset (g.event ∙ sym is) (rw long g.after));
                 come = rw w.fresh refl;
               };
-          serves = record { longest = rw (h.rules, h.longest) joined.longest; under_way = rw h.fresh h.idle };
+          serves = (
+            record { longest = rw (h.rules, h.longest) joined.longest; under_way = rw h.fresh h.idle },
+            h.fresh,
+            rw is (keeps nodes p q input used i h.can_lend h.lent h.kept empties),
+          );
           longest = h.longest;
         },
-        (h.goes_on, h.rules, h.stands),
+        (h.goes_on, h.rules, h.stands, h.pays),
       )
 
   pub done_pushes : Moves nodes old p input advance.Done new q → Pushes nodes old p input push.Done new q × (new ≡ ended old)
@@ -155,20 +188,20 @@ module _ (nodes : List Node) (old : State) (p : Progress) (input : List ℕ) (ne
           leads = λ start s es after.
               let none : after.pending ≡ [] = rw m.1 at after.come in
               (rw none at after.runs, none_left nodes old.stop old.offset old.next old.open_values m.0);
-          serves = rw m.3 idle;
+          serves = (m.3, rw m.3 idle);
           longest = rw m.3 refl;
         },
         m.2,
       )
 
-  pub refused_pushes : (r : Refusal) → Moves nodes old p input (advance.Refused r) new q → Pushes nodes old p input (push.Refused r) new q × (new ≡ ended old)
-  refused_pushes r m =
+  pub refused_pushes : (r : Refusal) → Moves nodes old p input (advance.Refused r) new q → Empties (advance.Refused r) q → Pushes nodes old p input (push.Refused r) new q × (new ≡ ended old)
+  refused_pushes r m empties =
       let h = m came.0 came.1 in (
         record {
           leads = λ start s es after.
               let w = m after.pending after.come in
               (after.pending ++ input, runs_stay (cell_step old.rules) start s input es (place nodes old) after.pending after.runs, sym (told_is nodes old (after.pending ++ input)) ∙ w.is);
-          serves = h.idle;
+          serves = (h.idle, empties refl);
           longest = h.longest;
         },
         h.ends,

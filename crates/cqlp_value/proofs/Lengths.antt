@@ -1,5 +1,5 @@
 -- The length of a value.
-use Rattle.std.proofs.Common.{◌≡◌, ℕ, ◌+◌, ◌-◌, ◌^◌, ◌<◌, ◌≤◌, false, List, ◌++◌, length, take, drop, Some, refl, sym, ◌∙◌, arith, inl, inr, lt-ltb, le-ltb}
+use Rattle.std.proofs.Common.{◌≡◌, ℕ, ◌+◌, ◌-◌, ◌^◌, ◌<◌, ◌≤◌, true, false, List, ◌++◌, length, take, drop, Some, refl, sym, ◌∙◌, arith, inl, inr, lt-ltb, le-ltb}
 use Rattle.std.specs.Int.{w32, from_be_bytes}
 use Rattle.std.proofs.lemmas.Bool.{cases_lt}
 use Rattle.std.proofs.lemmas.List.{length-take-le, take-append-drop}
@@ -8,6 +8,8 @@ use Rattle.cqlp_note.specs.declared.refusal.Reason.TheVariants.{Overrun}
 use Rattle.cqlp_note.specs.Reader.{More, Bad, says, number_of}
 use Rattle.cqlp_note.specs.Partial.{Progress}
 use Rattle.cqlp_type.specs.declared.node.Node.{Node}
+use Rattle.cqlp_value.specs.declared.item.CellOutline.{CellOutline}
+use Rattle.cqlp_value.specs.declared.item.CellOutline.TheVariants as outline
 use Rattle.cqlp_value.specs.declared.item.CellAdvance.{CellAdvance}
 use Rattle.cqlp_value.specs.declared.item.CellAdvance.TheVariants as advance
 use Rattle.cqlp_value.specs.declared.standing.Under.{Under}
@@ -16,7 +18,7 @@ use Rattle.cqlp_value.specs.declared.standing.Due.TheVariants as due
 use Rattle.cqlp_value.specs.Numbers.{IsUnsigned, WantsNumber, IsCounted}
 use Rattle.cqlp_value.specs.Standing.{State, ended, due_of, Stands}
 use Rattle.cqlp_value.specs.Coming.{room_of, ValueDue}
-use Rattle.cqlp_value.specs.Reading.{Saying, told, sized_of, Waits, Fails, Settles, Behind, AreBytes, HaveCome}
+use Rattle.cqlp_value.specs.Reading.{Saying, told, sized_of, IsKept, Waits, Fails, Settles, Behind, AreBytes, HaveCome}
 use Rattle.cqlp_value.proofs.Coming.{value_due}
 
 -- what a call does, it does where the same is said in other words
@@ -96,6 +98,8 @@ length_waits nodes old p q input bytes stands v longest wants = (
     all = refl;
     is = length_short nodes old (value_due nodes old stands v) bytes wants.enough wants.short;
     same = refl;
+    under_way = wants.under_way;
+    kept = wants.empty;
     joined = record { longest = rw wants.longest longest; under_way = (v, (wants.under_way, wants.field, wants.enough, refl, rw wants.seen wants.short)) };
     longest = wants.longest;
   },
@@ -106,15 +110,24 @@ pub length_fails : (nodes : List Node) (old new : State) (p q : Progress) (bytes
     → Fails nodes old p (told nodes old bytes) (record { at = old.offset; why = Overrun }) new q
 length_fails nodes old new p q bytes stands v lt goes idle room = record { is = length_overrun nodes old (value_due nodes old stands v) bytes lt; ends = goes; idle = idle; longest = room }
 
--- where a call does not change how much a `Partial` holds, it may as well have begun with another
+still_kept : (nodes : List Node) (i : CellOutline) (p mid : Progress) (input buffer : List ℕ) (used : ℕ) → mid.under_way ≡ false → IsKept nodes i mid input buffer used → IsKept nodes i p input buffer used
+still_kept nodes (outline.Leaf level k c) p mid input buffer used idle h = λ lt. let no : true ≡ false = sym (h lt).0 ∙ idle in absurd cc
+still_kept nodes (outline.Part level offset c last) p mid input buffer used idle h = λ lt. let no : true ≡ false = sym (h lt).0 ∙ idle in absurd cc
+still_kept nodes (outline.Null level) p mid input buffer used idle h = tt
+still_kept nodes (outline.Empty level) p mid input buffer used idle h = tt
+still_kept nodes (outline.Enter level k n) p mid input buffer used idle h = tt
+still_kept nodes (outline.Leave level n) p mid input buffer used idle h = tt
+
+-- where a call begins with no field under way, it may as well have begun with another `Partial` of the same room
 pub settles_from : (nodes : List Node) (old : State) (p mid : Progress) (input : List ℕ) (said : Saying) (base : ℕ) (W : Under → List ℕ → Type 0) (a : CellAdvance) (new : State) (q : Progress)
-    → mid.room ≡ p.room → Settles nodes old mid input said base W a new q → Settles nodes old p input said base W a new q
-settles_from nodes old p mid input said base W (advance.More used) new q e h = (record { all = h.0.all; is = h.0.is; same = h.0.same; joined = h.0.joined; longest = h.0.longest ∙ e }, h.1)
-settles_from nodes old p mid input said base W (advance.Item at used i) new q e h = record {
+    → mid.room ≡ p.room → mid.under_way ≡ false → Settles nodes old mid input said base W a new q → Settles nodes old p input said base W a new q
+settles_from nodes old p mid input said base W (advance.More used) new q e idle h = (record { all = h.0.all; is = h.0.is; same = h.0.same; under_way = h.0.under_way; joined = h.0.joined; kept = h.0.kept; longest = h.0.longest ∙ e }, h.1)
+settles_from nodes old p mid input said base W (advance.Item at used i) new q e idle h = record {
   within = h.within;
   emits = h.emits;
   can_lend = h.can_lend;
   lent = h.lent;
+  kept = still_kept nodes i p mid input q.content used idle h.kept;
   rules = h.rules;
   stop = h.stop;
   stands = h.stands;
@@ -126,5 +139,5 @@ settles_from nodes old p mid input said base W (advance.Item at used i) new q e 
   idle = h.idle;
   longest = h.longest ∙ e;
 }
-settles_from nodes old p mid input said base W advance.Done new q e h = h
-settles_from nodes old p mid input said base W (advance.Refused r) new q e h = record { is = h.is; ends = h.ends; idle = h.idle; longest = h.longest ∙ e }
+settles_from nodes old p mid input said base W advance.Done new q e idle h = h
+settles_from nodes old p mid input said base W (advance.Refused r) new q e idle h = record { is = h.is; ends = h.ends; idle = h.idle; longest = h.longest ∙ e }

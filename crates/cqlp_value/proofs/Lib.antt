@@ -10,14 +10,16 @@ pub mod Coming
 pub mod Handing
 pub mod Entering
 pub mod Counting
+pub mod ScalarSizes
 pub mod Leading
+pub mod Emptying
 pub mod Closing
 pub mod Lengths
 pub mod Settling
 pub mod Parting
-pub mod ScalarSizes
 pub mod Leavings
 pub mod ReadBack
 pub mod SpelledRead
 pub mod Fronts
 pub mod OneValue
+pub mod OneAnswer

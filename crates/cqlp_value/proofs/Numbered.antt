@@ -2,6 +2,7 @@
 use Rattle.std.proofs.Common.{◌≡◌, ℕ, ◌<◌, ◌≤◌, ◌^◌, List, ◌++◌, length, take, refl, sym, ap, ◌∙◌, inl, inr, arith}
 use Rattle.std.proofs.lemmas.Bool.{cases_lt, lt-ltb, le-ltb}
 use Rattle.std.proofs.lemmas.Int.{of_z-to_z}
+use Rattle.std.proofs.lemmas.List.{drop_all}
 use Rattle.std.specs.Int.{w32, from_be_bytes, cast_unsigned}
 use Rattle.cqlp_note.specs.declared.refusal.Reason.{Reason}
 use Rattle.cqlp_note.specs.Reader.{Said, More, Bad, Got, Gives, Takes, says, number_of}
@@ -59,6 +60,7 @@ module _ (at room : ℕ) (old new : Progress) (input : List ℕ) (used : ℕ) (e
     under_way = rw w.under_way refl;
     field = rw w.under_way field;
     seen = rw w.under_way refl;
+    empty = rw field at w.kept ∙ drop_all 4 (old.seen ++ input) (omega (arith, int_waits at room (old.seen ++ input) enough (rw field at w.is)));
     longest = rw w.under_way refl;
   }
 
@@ -101,6 +103,7 @@ module _ (at room : ℕ) (old mid new : Progress) (input : List ℕ) (enough : 4
         under_way = h.under_way;
         field = h.field;
         seen = h.seen ∙ fresh_seen;
+        empty = h.empty;
         longest = h.longest ∙ rw fresh refl;
       }
 

@@ -1,5 +1,5 @@
 -- A long scalar in parts.
-use Rattle.std.proofs.Common.{◌≡◌, ℕ, ◌+◌, ◌-◌, ◌^◌, ◌<◌, ◌≤◌, Bool, true, false, leb, List, [], ◌∷◌, ◌++◌, length, take, drop, min, refl, sym, arith, lt-ltb, le-ltb, cond}
+use Rattle.std.proofs.Common.{◌≡◌, ℕ, ◌+◌, ◌-◌, ◌^◌, ◌<◌, ◌≤◌, Bool, true, false, leb, List, [], ◌∷◌, ◌++◌, length, take, drop, min, refl, sym, ◌∙◌, arith, lt-ltb, le-ltb, cond}
 use Rattle.std.proofs.lemmas.Bool.{leb-true, leb-false, lt-leb}
 use Rattle.std.proofs.lemmas.List.{length-take-le}
 use Rattle.cqlp_note.specs.Reader.{More, says}
@@ -62,6 +62,8 @@ module _ (nodes : List Node) (d : State) (same : d.rules.part ≡ d.rules.cell) 
       all = refl;
       is = first_short bytes wants.short;
       same = refl;
+      under_way = wants.under_way;
+      kept = wants.kept ∙ sym wants.seen;
       joined = record { longest = rw wants.room longest; under_way = (v, (wants.under_way, wants.field, refl, rw wants.seen wants.short), same_decided nodes d (under.First total) total (size.Parts total) decided) };
       longest = wants.room;
     },
@@ -69,9 +71,9 @@ module _ (nodes : List Node) (d : State) (same : d.rules.part ≡ d.rules.cell) 
   )
 
   pub first_hands : (start : ℕ) (p q : Progress) (seen input : List ℕ) (f : Found) (new : State) (level : ℕ) → Stands nodes d → due_of d ≡ due.Value → 0 < d.rules.cell → start ≤ 4 → length seen < start + d.rules.cell → Finds d.rules.cell start seen (seen ++ drop start input) input f p q
-      → new ≡ first_behind → level ≡ length d.open_values
+      → (f.used < d.rules.cell → (p.under_way ≡ true) × (q.content ≡ p.seen ++ take f.used input)) → new ≡ first_behind → level ≡ length d.open_values
       → Hands nodes d p input (says (sized_of nodes d total) 4 (seen ++ drop start input)) ((4 - start) + length seen) (d.offset + 4) f.used (outline.Part level 0 f.content false) new q
-  first_hands start p q seen input f new level s v some front more found goes at =
+  first_hands start p q seen input f new level s v some front more found kept goes at =
       let got = first_got (seen ++ drop start input) s v found.enough in
       let there : content_at f.content input q.content ≡ take d.rules.cell (seen ++ drop start input) = rw found.is refl in
       let count : ((4 - start) + length seen) + f.used ≡ 4 + d.rules.cell = omega (arith, found.count, found.after) in
@@ -82,6 +84,7 @@ module _ (nodes : List Node) (d : State) (same : d.rules.part ≡ d.rules.cell) 
         emits = rw (count, there) got;
         can_lend = (found.can_lend, rw found.is refl);
         lent = λ le. found.lent (rw (there, size) at le);
+        kept = λ lt. kept (rw (there, size) at lt);
         rules = refl;
         stop = refl;
         stands = first_stands s v some;
@@ -151,6 +154,8 @@ module _ (nodes : List Node) (d : State) (same : d.rules.part ≡ d.rules.cell) 
       all = refl;
       is = later_short bytes wants.short;
       same = refl;
+      under_way = wants.under_way;
+      kept = wants.kept ∙ sym wants.seen;
       joined = record { longest = rw wants.room longest; under_way = rw here (wants.under_way, wants.field, refl, rw wants.seen wants.short) };
       longest = wants.room;
     },
@@ -171,9 +176,9 @@ module _ (nodes : List Node) (d : State) (same : d.rules.part ≡ d.rules.cell) 
   goes_on_behind false = refl
 
   pub later_hands : (p q : Progress) (seen input : List ℕ) (f : Found) (new : State) (level : ℕ) (last : Bool) → length seen < its_size → Finds its_size 0 seen (seen ++ input) input f p q
-      → last ≡ is_last → new ≡ record d { offset = d.offset + its_size; next = next_behind last (offset + its_size) total; under = under.Nothing } → level ≡ length d.open_values
+      → (f.used < its_size → (p.under_way ≡ true) × (q.content ≡ p.seen ++ take f.used input)) → last ≡ is_last → new ≡ record d { offset = d.offset + its_size; next = next_behind last (offset + its_size) total; under = under.Nothing } → level ≡ length d.open_values
       → Hands nodes d p input (told nodes d (seen ++ input)) (length seen) d.offset f.used (outline.Part level offset f.content last) new q
-  later_hands p q seen input f new level last more found ends goes at =
+  later_hands p q seen input f new level last more found kept ends goes at =
       let got = later_got (seen ++ input) found.enough in
       let there : content_at f.content input q.content ≡ take its_size (seen ++ input) = rw found.is refl in
       let count : length seen + f.used ≡ its_size = omega (arith, found.count) in
@@ -183,6 +188,7 @@ module _ (nodes : List Node) (d : State) (same : d.rules.part ≡ d.rules.cell) 
         emits = rw (count, there) got;
         can_lend = (found.can_lend, rw found.is refl);
         lent = λ le. found.lent (rw (there, size) at le);
+        kept = λ lt. kept (rw (there, size) at lt);
         rules = refl;
         stop = refl;
         stands = behind_stands is_last refl;

@@ -74,6 +74,7 @@ module _ (nodes : List Node) (d new : State) (n start : ℕ) (p q : Progress) (i
     emits = rw count (null_got nodes d n said_of h);
     can_lend = tt;
     lent = tt;
+    kept = tt;
     rules = refl;
     stop = refl;
     stands = stays;
@@ -92,6 +93,7 @@ module _ (nodes : List Node) (d new : State) (n start : ℕ) (p q : Progress) (i
     emits = rw count (empty_got nodes d n said_of h);
     can_lend = tt;
     lent = tt;
+    kept = tt;
     rules = refl;
     stop = refl;
     stands = stays;
@@ -120,6 +122,7 @@ module _ (nodes : List Node) (d new : State) (n start : ℕ) (p q : Progress) (i
         });
         can_lend = tt;
         lent = tt;
+        kept = tt;
         rules = refl;
         stop = refl;
         stands = rw enters.0 at enters.1;

@@ -13,7 +13,7 @@ use Rattle.cqlp_value.specs.CellStep.{CellSymbol, CellPlace, is_opaque, content_
 use Rattle.cqlp_value.specs.Sizes.{is_counted, sized_as, IsContent, HasRoom, IsSized}
 
 -- a scalar's content is read by its kind alone
-scalar_content_is : (l : Rules) (p : CellPlace) (rest : List CellSymbol) (level : ℕ) (k : Kind) (inner : Types) (n : ℕ) → has_no_items k ≡ true → content_step l p rest level k inner n ≡ scalar_step l p rest level k n
+pub scalar_content_is : (l : Rules) (p : CellPlace) (rest : List CellSymbol) (level : ℕ) (k : Kind) (inner : Types) (n : ℕ) → has_no_items k ≡ true → content_step l p rest level k inner n ≡ scalar_step l p rest level k n
 scalar_content_is l p rest level kind.List inner n t = absurd cc
 scalar_content_is l p rest level kind.Set inner n t = absurd cc
 scalar_content_is l p rest level kind.Map inner n t = absurd cc
@@ -55,7 +55,7 @@ module _ (l : Rules) (k : Kind) (n : ℕ) (scalar : has_no_items k ≡ true) whe
   pub long_scalar : l.part ≡ l.cell → allows_size k n ≡ true → l.cell < n → l.parts ≡ true → is_opaque k ≡ true → IsContent l k n (size.Parts n)
   long_scalar e t lt parts opaque = record {
     is = λ p rest inner level. scalar_content_is l p rest level k inner n scalar ∙ rw (t, e, lt-ltb l.cell n lt, parts, opaque) refl;
-    can = (refl, lt, parts);
+    can = (refl, lt, parts, scalar);
   }
 
   pub too_long : allows_size k n ≡ true → l.cell < n → (l.parts && is_opaque k) ≡ false → IsContent l k n (size.Refused TooLong)

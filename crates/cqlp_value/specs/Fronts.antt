@@ -1,5 +1,5 @@
 -- A scalar that lies whole at the front of the input.
-use Rattle.std.specs.Prelude.{◌≡◌, ℕ, ◌<◌, ◌≤◌, List, [], length, Option, Some, None, ⊤}
+use Rattle.std.specs.Prelude.{◌≡◌, ℕ, ◌<◌, ◌≤◌, List, [], length, Option, Some, None}
 use Rattle.cqlp_note.specs.Reader.{Got, says}
 use Rattle.cqlp_note.specs.Limits.{Rules}
 use Rattle.cqlp_type.specs.declared.kind.Kind.{Kind}
@@ -16,6 +16,7 @@ pub record SaysScalar (l : Rules) (k : Kind) (room : ℕ) (input : List ℕ) (us
   pub inside : used ≤ room
   pub some : 0 < used
 
+-- A scalar at the front of the input, and just where these bytes say one.
 abbrev pub IsFront : Rules → Kind → (room : ℕ) → (input : List ℕ) → Option Front → Type 0
-IsFront l k room input None = ⊤
+IsFront l k room input None = (used : ℕ) (v : ScalarValue) → ¬ (SaysScalar l k room input used v)
 IsFront l k room input (Some f) = SaysScalar l k room input f.used (value_of f.scalar)

@@ -20,15 +20,16 @@ abbrev pub seen_before : Bool → Progress → List ℕ
 seen_before true p = p.seen
 seen_before false p = []
 
--- More bytes of the content are wanted.
+-- More bytes of the content are wanted; the buffer holds those that have come.
 pub record Wants (len at : ℕ) (bytes : List ℕ) (old new : Progress) : Type 0 where
   pub short : length bytes < len
   pub under_way : new.under_way ≡ true
   pub field : new.field ≡ content_wanted len at
   pub seen : new.seen ≡ bytes
+  pub kept : new.content ≡ bytes
   pub room : new.room ≡ old.room
 
--- The content is whole, and lies there. Where it is whole in the input, nothing is in the buffer.
+-- The content is whole, and lies there. Where it is whole in the input, nothing is in the buffer, and else the content is.
 pub record Finds (len start : ℕ) (seen bytes input : List ℕ) (f : Found) (old new : Progress) : Type 0 where
   pub after : start ≤ f.used
   pub within : f.used ≤ length input
@@ -39,6 +40,7 @@ pub record Finds (len start : ℕ) (seen bytes input : List ℕ) (f : Found) (ol
   pub idle : new.under_way ≡ false
   pub room : new.room ≡ old.room
   pub lent : len ≤ f.used → new.content ≡ []
+  pub kept : f.used < len → new.content ≡ take len bytes
 
 -- What the bytes from start in the input on make of a content.
 abbrev pub Gathers : Bool → (len at start : ℕ) → Progress → List ℕ → Option Found → Progress → Type 0

@@ -8,7 +8,7 @@ use Rattle.cqlp_value.specs.declared.item.CellItem.{CellItem}
 use Rattle.cqlp_value.specs.declared.item.CellItem.TheVariants as lent
 use Rattle.cqlp_value.specs.declared.item.CellOutline.{CellOutline}
 use Rattle.cqlp_value.specs.declared.item.CellOutline.TheVariants as outline
-use Rattle.cqlp_value.specs.Scalars.{ScalarValue, allows_size, scalar_of}
+use Rattle.cqlp_value.specs.Scalars.{ScalarValue, allows_size, content_size, scalar_of}
 use Rattle.cqlp_value.specs.Contents.{value_of}
 use Rattle.cqlp_value.specs.CellStep.{CellEvent, Leaf, Null, Empty, Enter, Leave, Part}
 
@@ -52,3 +52,9 @@ event_of (lent.Empty level) = Empty level
 event_of (lent.Enter level k n) = Enter level k n
 event_of (lent.Leave level n) = Leave level n
 event_of (lent.Part level offset c last) = Part level offset c.now last
+
+-- the bytes of its content
+abbrev pub content_length : CellEvent → ℕ
+content_length (Leaf level v) = content_size v
+content_length (Part level offset c last) = length c
+content_length e = 0

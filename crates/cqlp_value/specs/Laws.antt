@@ -1,11 +1,22 @@
 -- Laws of the values of cells.
-use Rattle.std.specs.Prelude.{◌≡◌, ℕ, ◌+◌, ◌≤◌, List, length, [], ◌∷◌}
+use Rattle.std.specs.Prelude.{◌≡◌, ℕ, ◌+◌, ◌≤◌, Bool, true, List, length, [], ◌∷◌, if◌then◌else◌}
+use Rattle.cqlp_note.specs.declared.refusal.Refusal.{Refusal}
 use Rattle.cqlp_note.specs.Step.{Runs}
 use Rattle.cqlp_note.specs.Limits.{Rules}
+use Rattle.cqlp_note.specs.Partial.{Progress}
 use Rattle.cqlp_type.specs.declared.kind.Kind.{Kind}
+use Rattle.cqlp_type.specs.declared.node.Node.{Node}
 use Rattle.cqlp_type.specs.Types.{Types}
+use Rattle.cqlp_value.specs.declared.item.CellAdvance.{CellAdvance}
+use Rattle.cqlp_value.specs.declared.item.CellAdvance.TheVariants as advance
+use Rattle.cqlp_value.specs.declared.item.CellPush.{CellPush}
+use Rattle.cqlp_value.specs.declared.item.CellPush.TheVariants as push
 use Rattle.cqlp_value.specs.CellStep.{Value_of, CellEvent, CellPlace, cell_step}
 use Rattle.cqlp_value.specs.Values.{Values, ValueSpells, values_size, values_items, AreWithin}
+use Rattle.cqlp_value.specs.Items.{event_at, event_of}
+use Rattle.cqlp_value.specs.Standing.{State, Stands, is_under_way, place}
+use Rattle.cqlp_value.specs.Reading.{Answers, Empties, HaveCome, Joined, Moves}
+use Rattle.cqlp_value.specs.Pushing.{After, Continues, Pushes, Uses, is_done}
 
 -- What is read of a cell, up to its end, is a value of its type that its bytes spell, with just its items.
 abbrev pub ReadIsSpelled : Type 0
@@ -28,3 +39,111 @@ SpelledIsLong = (k : Kind) (inner : Types) (v : Values) (b : List ℕ) → Value
 -- Bytes spell at most one value of a type.
 abbrev pub OneSpelled : Type 0
 OneSpelled = (k : Kind) (inner : Types) (v w : Values) (b : List ℕ) → ValueSpells k inner v b → ValueSpells k inner w b → v ≡ w
+
+-- ---- one answer
+
+-- What a call says of a cell, a content as bytes.
+pub data Answer : Type 0 where
+  More : (used : ℕ) → Answer
+  Item : (at used : ℕ) → CellEvent → Answer
+  Done : Answer
+  Refused : Refusal → Answer
+
+abbrev pub push_answer : CellPush → Answer
+push_answer (push.More used) = More used
+push_answer (push.Item at used e) = Item at used (event_of e)
+push_answer push.Done = Done
+push_answer (push.Refused r) = Refused r
+
+-- the same of `advance`, whose content lies in this input or this buffer
+abbrev pub advance_answer : (input buffer : List ℕ) → CellAdvance → Answer
+advance_answer input buffer (advance.More used) = More used
+advance_answer input buffer (advance.Item at used i) = Item at used (event_at i input buffer)
+advance_answer input buffer advance.Done = Done
+advance_answer input buffer (advance.Refused r) = Refused r
+
+-- A call: the reader and the `Partial` before it, its answer, and the two after it.
+pub record Call (X : Type 0) : Type 0 where
+  pub reader : State
+  pub partial : Progress
+  pub answer : X
+  pub reader' : State
+  pub partial' : Progress
+
+module _ (nodes : List Node) where
+  -- What later calls see of a reader and its `Partial`: the limits; whether a cell is under way, and whether nothing of
+  -- it is left; where its reading stands, in how many open values; whether a field is under way, with its bytes so far;
+  -- the room, and what the buffer holds.
+  pub record Seen : Type 0 where
+    pub rules : Rules
+    pub under_way : Bool
+    pub done : Bool
+    pub place : CellPlace
+    pub levels : ℕ
+    pub field : Bool
+    pub bytes : List ℕ
+    pub room : ℕ
+    pub buffer : List ℕ
+
+  abbrev pub seen : State → Progress → Seen
+  seen d p = record {
+    rules = d.rules;
+    under_way = is_under_way d;
+    done = is_done d;
+    place = place nodes d;
+    levels = length d.open_values;
+    field = p.under_way;
+    bytes = (if p.under_way then p.seen else []);
+    room = p.room;
+    buffer = p.content;
+  }
+
+  -- the two that are left look the same to later calls, and the same bytes have come of what is read next
+  pub record LeaveAlike {X : Type 0} (c d : Call X) : Type 0 where
+    pub same : seen c.reader' c.partial' ≡ seen d.reader' d.partial'
+    pub come : List ℕ
+    pub this : HaveCome come c.reader'.under c.partial'.seen
+    pub that : HaveCome come d.reader'.under d.partial'.seen
+
+  -- what a call of either requires
+  pub record IsReady {X : Type 0} (c : Call X) : Type 0 where
+    pub under_way : is_under_way c.reader ≡ true
+    pub stands : Stands nodes c.reader
+    pub joined : Joined nodes c.reader c.partial
+
+  -- what `push` requires and ensures
+  abbrev pub IsPush : List ℕ → Call CellPush → Type 0
+  IsPush input c =
+      IsReady c
+      × Uses c.reader input c.answer
+      × Continues nodes c.reader c.answer c.reader'
+      × Pushes nodes c.reader c.partial input c.answer c.reader' c.partial'
+
+  -- what `advance` requires and ensures
+  abbrev pub IsAdvance : List ℕ → Call CellAdvance → Type 0
+  IsAdvance input c =
+      IsReady c
+      × Moves nodes c.reader c.partial input c.answer c.reader' c.partial'
+      × Answers c.reader input c.answer
+      × Empties c.answer c.partial'
+
+  -- Two calls are made by readers with the same limits, each with a `Partial` that has the same room and holds the same,
+  -- after the same bytes and events of a cell that began at `start`.
+  pub record AreAlike {X : Type 0} (start : CellPlace) (s : List ℕ) (es : List (ℕ × CellEvent)) (c d : Call X) : Type 0 where
+    pub rules : c.reader.rules ≡ d.reader.rules
+    pub room : c.partial.room ≡ d.partial.room
+    pub buffer : c.partial.content ≡ d.partial.content
+    pub this : After nodes start c.reader c.partial s es
+    pub that : After nodes start d.reader d.partial s es
+
+-- After the same bytes and events of a cell, the same input has one answer: what `push` says, and what it leaves.
+abbrev pub OneAnswerOfPush : Type 0
+OneAnswerOfPush = (nodes : List Node) (start : CellPlace) (s : List ℕ) (es : List (ℕ × CellEvent)) (input : List ℕ) (c d : Call CellPush)
+    → AreAlike nodes start s es c d → IsPush nodes input c → IsPush nodes input d
+    → (push_answer c.answer ≡ push_answer d.answer) × LeaveAlike nodes c d
+
+-- The same of `advance`.
+abbrev pub OneAnswerOfAdvance : Type 0
+OneAnswerOfAdvance = (nodes : List Node) (start : CellPlace) (s : List ℕ) (es : List (ℕ × CellEvent)) (input : List ℕ) (c d : Call CellAdvance)
+    → AreAlike nodes start s es c d → IsAdvance nodes input c → IsAdvance nodes input d
+    → (advance_answer input c.partial'.content c.answer ≡ advance_answer input d.partial'.content d.answer) × LeaveAlike nodes c d

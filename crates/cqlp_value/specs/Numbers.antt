@@ -1,5 +1,5 @@
 -- An [int] out of pieces.
-use Rattle.std.specs.Prelude.{◌≡◌, ℕ, ◌+◌, ◌-◌, ◌^◌, ◌<◌, ◌≤◌, ◌++◌, ℤ, pos, Bool, true, false, List, length, take, drop}
+use Rattle.std.specs.Prelude.{◌≡◌, ℕ, ◌+◌, ◌-◌, ◌^◌, ◌<◌, ◌≤◌, ◌++◌, ℤ, pos, Bool, true, false, List, [], length, take, drop}
 use Rattle.std.specs.Int.{w32, from_be_bytes}
 use Rattle.cqlp_note.specs.declared.head.Wanted.{Wanted}
 use Rattle.cqlp_note.specs.declared.field.Notation.TheVariants as notation
@@ -26,6 +26,7 @@ pub record WantsNumber (at room : ℕ) (bytes : List ℕ) (old new : Progress) :
   pub under_way : new.under_way ≡ true
   pub field : new.field ≡ int_wanted at room
   pub seen : new.seen ≡ bytes
+  pub empty : new.content ≡ []
   pub longest : new.room ≡ old.room
 
 -- n is the number m without a sign: the same one, or both have the sign bit

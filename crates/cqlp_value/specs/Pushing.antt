@@ -1,5 +1,5 @@
 -- What the reader of a cell has read since it began.
-use Rattle.std.specs.Prelude.{◌≡◌, ℕ, ◌≤◌, ◌++◌, Bool, true, false, List, [], ◌∷◌, length, take, Option}
+use Rattle.std.specs.Prelude.{◌≡◌, ℕ, ◌+◌, ◌*◌, ◌<◌, ◌≤◌, ◌++◌, Bool, true, false, List, [], ◌∷◌, length, take, Option}
 use Rattle.cqlp_note.specs.Reader.{More, Bad, says}
 use Rattle.cqlp_note.specs.Step.{Runs}
 use Rattle.cqlp_note.specs.Limits.{Rules}
@@ -12,9 +12,9 @@ use Rattle.cqlp_value.specs.declared.standing.Next.{Next}
 use Rattle.cqlp_value.specs.declared.standing.Next.TheVariants as next
 use Rattle.cqlp_value.specs.declared.standing.Under.TheVariants as under
 use Rattle.cqlp_value.specs.CellStep.{CellEvent, CellPlace, cell_step}
-use Rattle.cqlp_value.specs.Items.{event_of}
+use Rattle.cqlp_value.specs.Items.{content_length, event_of}
 use Rattle.cqlp_value.specs.Standing.{State, ended, is_under_way, place, Stands}
-use Rattle.cqlp_value.specs.Reading.{Joined, HaveCome}
+use Rattle.cqlp_value.specs.Reading.{Joined, HaveCome, gathered}
 
 abbrev pub made : Rules → State
 made l = record { rules = l; offset = 0; stop = 0; next = next.Nothing; under = under.Nothing; open_values = [] }
@@ -30,6 +30,12 @@ done_by n os = false
 -- a cell is under way, and nothing of it is left
 abbrev pub is_done : State → Bool
 is_done d = done_by d.next d.open_values
+
+-- Where the content of an event lies whole in the bytes used, the buffer is empty. Else it holds the content, which is
+-- what had come of it and the bytes used.
+pub record Keeps (p : Progress) (input : List ℕ) (used : ℕ) (e : CellEvent) (q : Progress) : Type 0 where
+  pub lent : content_length e ≤ used → q.content ≡ []
+  pub kept : used < content_length e → (p.under_way ≡ true) × (q.content ≡ p.seen ++ take used input)
 
 module _ (nodes : List Node) where
   -- A cell began at `start`, and of it these bytes were used and these events handed out.
@@ -47,23 +53,24 @@ module _ (nodes : List Node) where
   Leads start old s es input (push.Refused r) new q =
       (rest : List ℕ) × Runs (cell_step old.rules) start (s ++ input) es (place nodes old) rest × (says (cell_step old.rules (place nodes old)) 0 rest ≡ Bad (r.at, r.why))
 
-  -- The cell is still under way, as its types stand in the table; or it has ended.
+  -- The cell is still under way, as its types stand in the table; or it has ended. An item takes some byte, or it ends a
+  -- value that is open.
   abbrev pub Continues : State → CellPush → State → Type 0
   Continues old (push.More used) new = (is_under_way new ≡ true) × (new.rules ≡ old.rules) × Stands nodes new
-  Continues old (push.Item at used e) new = (is_under_way new ≡ true) × (new.rules ≡ old.rules) × Stands nodes new
+  Continues old (push.Item at used e) new = (is_under_way new ≡ true) × (new.rules ≡ old.rules) × Stands nodes new × (length new.open_values < length old.open_values + 2 * used)
   Continues old push.Done new = new ≡ ended old
   Continues old (push.Refused r) new = new ≡ ended old
 
-  -- The `Partial` still serves the cell, or has no field under way.
-  abbrev pub Serves : CellPush → State → Progress → Type 0
-  Serves (push.More used) new q = Joined nodes new q
-  Serves (push.Item at used e) new q = Joined nodes new q
-  Serves push.Done new q = q.under_way ≡ false
-  Serves (push.Refused r) new q = q.under_way ≡ false
+  -- The `Partial` still serves the cell, or has no field under way. At an item nothing has come of what is read next.
+  abbrev pub Serves : Progress → (input : List ℕ) → CellPush → State → Progress → Type 0
+  Serves p input (push.More used) new q = Joined nodes new q × (q.under_way ≡ true) × (q.content ≡ gathered new.under q.seen)
+  Serves p input (push.Item at used e) new q = Joined nodes new q × (new.under ≡ under.Nothing) × Keeps p input used (event_of e) q
+  Serves p input push.Done new q = (q ≡ p) × (q.under_way ≡ false)
+  Serves p input (push.Refused r) new q = (q.under_way ≡ false) × (q.content ≡ [])
 
   pub record Pushes (old : State) (p : Progress) (input : List ℕ) (x : CellPush) (new : State) (q : Progress) : Type 0 where
     pub leads : (start : CellPlace) (s : List ℕ) (es : List (ℕ × CellEvent)) → After start old p s es → Leads start old s es input x new q
-    pub serves : Serves x new q
+    pub serves : Serves p input x new q
     pub longest : q.room ≡ p.room
 
 -- A call ends the cell where nothing is left of it, and only there; else it uses no more than the input, and all of it

@@ -1,5 +1,5 @@
 -- What one call makes of a cell.
-use Rattle.std.specs.Prelude.{◌≡◌, ◌≢◌, ℕ, ◌+◌, ◌-◌, ◌*◌, ◌^◌, ◌<◌, ◌≤◌, ◌++◌, Bool, false, List, [], ◌∷◌, length, min, true, Option, Some, None, ⊤}
+use Rattle.std.specs.Prelude.{◌≡◌, ◌≢◌, ℕ, ◌+◌, ◌-◌, ◌*◌, ◌^◌, ◌<◌, ◌≤◌, ◌++◌, Bool, false, List, [], ◌∷◌, length, take, min, not, true, Option, Some, None, ⊤}
 use Rattle.std.specs.Int.{w32, from_be_bytes}
 use Rattle.cqlp_note.specs.declared.refusal.Reason.{Reason}
 use Rattle.cqlp_note.specs.declared.refusal.Refusal.{Refusal}
@@ -53,6 +53,15 @@ IsBehind (next.Cell _) = ⊥
 IsBehind next.Items = ⊤
 IsBehind (next.Part offset total) = ⊤
 
+-- what the buffer holds of an item that goes on: what has come of its content
+abbrev pub gathered : Under → (seen : List ℕ) → List ℕ
+gathered under.Nothing seen = []
+gathered under.Length seen = []
+gathered (under.Counted n) seen = []
+gathered (under.Scalar n) seen = seen
+gathered (under.First n) seen = seen
+gathered under.Later seen = seen
+
 module _ (nodes : List Node) where
   -- what the next step says of these bytes
   unfoldable pub told : State → List ℕ → Saying
@@ -103,6 +112,12 @@ module _ (nodes : List Node) where
   IsLent (outline.Part level offset i last) input buffer used = length (content_at i input buffer) ≤ used → buffer ≡ []
   IsLent i input buffer used = ⊤
 
+  -- where it does not, the buffer holds the content, which is what had come of it and the bytes used
+  abbrev pub IsKept : CellOutline → Progress → (input buffer : List ℕ) → (used : ℕ) → Type 0
+  IsKept (outline.Leaf level k i) p input buffer used = used < length (content_at i input buffer) → (p.under_way ≡ true) × (buffer ≡ p.seen ++ take used input)
+  IsKept (outline.Part level offset i last) p input buffer used = used < length (content_at i input buffer) → (p.under_way ≡ true) × (buffer ≡ p.seen ++ take used input)
+  IsKept i p input buffer used = ⊤
+
   -- The first `used` bytes of the input, with `base` bytes before it, end this item. It takes some of them, or it is the
   -- end of an open value.
   pub record Hands (old : State) (p : Progress) (input : List ℕ) (said : Saying) (base at used : ℕ) (i : CellOutline) (new : State) (q : Progress) : Type 0 where
@@ -110,6 +125,7 @@ module _ (nodes : List Node) where
     pub emits : Emits said at (base + used) (event_at i input q.content) new
     pub can_lend : CanLend i input q.content
     pub lent : IsLent i input q.content used
+    pub kept : IsKept i p input q.content used
     pub rules : new.rules ≡ old.rules
     pub stop : new.stop ≡ old.stop
     pub stands : Stands nodes new
@@ -121,12 +137,14 @@ module _ (nodes : List Node) where
     pub idle : q.under_way ≡ false
     pub longest : q.room ≡ p.room
 
-  -- All of the input belongs to an item that goes on.
+  -- All of the input belongs to an item that goes on, in the `Partial`.
   pub record Waits (old : State) (p : Progress) (input : List ℕ) (said : Saying) (used : ℕ) (new : State) (q : Progress) : Type 0 where
     pub all : used ≡ length input
     pub is : said ≡ More
     pub same : new ≡ record old { under = new.under }
+    pub under_way : q.under_way ≡ true
     pub joined : Joined new q
+    pub kept : q.content ≡ gathered new.under q.seen
     pub longest : q.room ≡ p.room
 
   -- The cell ends by this refusal.
@@ -208,6 +226,22 @@ Closes old a new = (nodes : List Node) (p : Progress) (input : List ℕ) → Sta
 abbrev pub Moves : List Node → State → Progress → List ℕ → CellAdvance → State → Progress → Type 0
 Moves nodes old p input advance.Done new q = (due_of old ≡ due.Nothing) × (old.under ≡ under.Nothing) × (new ≡ ended old) × (q ≡ p)
 Moves nodes old p input a new q = (b : List ℕ) → HaveCome b old.under p.seen → Settles nodes old p input (told nodes old (b ++ input)) (length b) (HaveCome (b ++ input)) a new q
+
+-- an item that has a content
+abbrev pub has_content : CellOutline → Bool
+has_content (outline.Leaf level k i) = true
+has_content (outline.Part level offset i last) = true
+has_content i = false
+
+-- an item without a content, or a refusal
+abbrev pub has_none : CellAdvance → Bool
+has_none (advance.Item at used i) = not (has_content i)
+has_none (advance.Refused r) = true
+has_none a = false
+
+-- Behind an item without a content, and behind a refusal, the buffer is empty.
+abbrev pub Empties : CellAdvance → Progress → Type 0
+Empties a q = has_none a ≡ true → q.content ≡ []
 
 -- A call ends the cell where nothing is left of it, and only there; else it uses no more than the input, and all of it
 -- while an item goes on.

@@ -30,7 +30,7 @@ sized_as l p rest k inner level (size.Refused why) = Refuses (p.offset, why)
 -- such a value can be of this kind and of n bytes
 abbrev pub CanBe : Rules → Kind → (n : ℕ) → Sized → Type 0
 CanBe l k n (size.Scalar m) = (m ≡ n) × (n ≤ l.cell) × (has_no_items k ≡ true) × (allows_size k n ≡ true)
-CanBe l k n (size.Parts m) = (m ≡ n) × (l.cell < n) × (l.parts ≡ true)
+CanBe l k n (size.Parts m) = (m ≡ n) × (l.cell < n) × (l.parts ≡ true) × (has_no_items k ≡ true)
 CanBe l k n (size.Counted m) = (m ≡ n) × (is_counted k ≡ true)
 CanBe l k n (size.Fields m) = (m ≡ n) × (is_counted k ≡ false) × (has_no_items k ≡ false)
 CanBe l k n s = Unit {0}

@@ -39,9 +39,7 @@ pub(crate) fn gather<A: Allocator>(
         begin(partial, len, at, &input[start..]);
         None
     } else {
-        if partial.held() > 0 {
-            empty(partial);
-        }
+        empty(partial);
         Some(Found {
             used: start + len as usize,
             content: Item::Content {
@@ -89,8 +87,21 @@ fn begin<A: Allocator>(partial: &mut Partial<A>, len: u32, at: u64, input: &[u8]
 }
 
 /// Empties the buffer.
+#[inline]
+pub(crate) fn empty<A: Allocator>(partial: &mut Partial<A>)
+    requires { partial.old.under_way ≡ false }
+    ensures idle { partial.new.under_way ≡ false }
+    ensures empty { partial.new.content ≡ [] }
+    ensures room { partial.new.room ≡ partial.old.room }
+{
+    if partial.held() > 0 {
+        clear(partial);
+    }
+}
+
+/// Empties the buffer by a content without bytes.
 #[tactic(auto, using(crate::proofs::Gathered::content_waits, crate::proofs::Gathered::content_got, crate::proofs::Gathered::content_never))]
-fn empty<A: Allocator>(partial: &mut Partial<A>)
+fn clear<A: Allocator>(partial: &mut Partial<A>)
     requires { partial.old.under_way ≡ false }
     ensures idle { partial.new.under_way ≡ false }
     ensures empty { partial.new.content ≡ [] }

@@ -2,6 +2,7 @@
 
 ghost use Rattle.std.specs.Prelude.{◌≡◌};
 ghost use Rattle.cqlp_value.specs.Items.{CanLend, event_at, event_of};
+ghost use Rattle.cqlp_value.specs.Reading.{has_none};
 
 use crate::content::made;
 use crate::gather::lent;
@@ -121,6 +122,22 @@ pub enum CellPush<'a> {
     Done,
     /// The cell ends, since it is refused.
     Refused(Refusal),
+}
+
+impl CellAdvance {
+    /// Whether it is an item without a content, or a refusal.
+    #[inline]
+    pub(crate) fn has_none(&self) -> bool
+        ensures { result ≡ has_none self.now }
+    {
+        match self {
+            CellAdvance::More { .. } | CellAdvance::Done => false,
+            CellAdvance::Refused(_) => true,
+            CellAdvance::Item { at: _, used: _, item } => {
+                !matches!(item, CellOutline::Leaf { .. } | CellOutline::Part { .. })
+            }
+        }
+    }
 }
 
 impl CellOutline {

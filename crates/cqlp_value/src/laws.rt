@@ -1,6 +1,6 @@
 //! Laws of the definitions.
 
-ghost use Rattle.cqlp_value.specs.Laws.{ReadIsSpelled, SpelledIsRead, SpelledIsLong, OneSpelled};
+ghost use Rattle.cqlp_value.specs.Laws.{ReadIsSpelled, SpelledIsRead, SpelledIsLong, OneSpelled, OneAnswerOfPush, OneAnswerOfAdvance};
 
 /// What is read of a cell is a value that its bytes spell, with just its items.
 pub fn read_is_spelled()
@@ -20,4 +20,14 @@ pub fn spelled_is_long()
 /// Bytes spell at most one value of a type.
 pub fn one_is_spelled()
     ensures { OneSpelled }
+{}
+
+/// After the same bytes and events of a cell, one answer of `CellReader::push` to an input meets its clauses.
+pub fn one_answer_of_cell_push()
+    ensures { OneAnswerOfPush }
+{}
+
+/// After the same bytes and events of a cell, one answer of `CellReader::advance` to an input meets its clauses.
+pub fn one_answer_of_cell_advance()
+    ensures { OneAnswerOfAdvance }
 {}

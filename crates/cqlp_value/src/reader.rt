@@ -34,7 +34,7 @@ impl<A: Allocator> CellReader<A> {
     ghost use Rattle.cqlp_note.specs.Lending.{Next as Rest};
     ghost use Rattle.cqlp_value.specs.Standing.{Stands, ended, is_under_way};
     ghost use Rattle.cqlp_type.specs.declared.node.Node.{Node};
-    ghost use Rattle.cqlp_value.specs.Reading.{Answers, HaveCome, Joined, Moves};
+    ghost use Rattle.cqlp_value.specs.Reading.{Answers, Empties, HaveCome, Joined, Moves};
     ghost use Rattle.cqlp_value.specs.Pushing.{Continues, Pushes, Uses, begun, is_done, made};
 
     /// With room for the nesting that the limits allow. Parts have at least one byte.
@@ -123,6 +123,7 @@ impl<A: Allocator> CellReader<A> {
         requires joined { Joined table.now.nodes self.old partial.old }
         ensures moves { Moves table.now.nodes self.old partial.old input.now result self.new partial.new }
         ensures answers { Answers self.old input.now result }
+        ensures empties { Empties result partial.new }
     {
         self.standing.advance(partial, table, input)
     }

@@ -12,10 +12,10 @@ ghost use Rattle.cqlp_value.specs.Numbers.{IsCounting};
 ghost use Rattle.cqlp_value.specs.Sizes.{is_counted};
 ghost use Rattle.cqlp_value.specs.Standing.{Stands, due_of, due_value, ended, moved, state_of};
 ghost use Rattle.cqlp_value.specs.Coming.{room_of};
-ghost use Rattle.cqlp_value.specs.Reading.{Answers, Behind, Closes, Decided, EntersCounted, EntersFields, HaveCome, InnerStands, Joined, Moves, Settles, inner_order as order_inside, next_behind, part_size, sized_of, told};
+ghost use Rattle.cqlp_value.specs.Reading.{Answers, Behind, Closes, Decided, Empties, EntersCounted, EntersFields, HaveCome, InnerStands, Joined, Moves, Settles, inner_order as order_inside, next_behind, part_size, sized_of, told};
 
 use crate::content::{accepts, fault};
-use crate::gather::{gather, lent};
+use crate::gather::{empty, gather, lent};
 use crate::item::{CellAdvance, CellOutline};
 use crate::levels::{Open, Order};
 use crate::number::{Number, take_number};
@@ -26,8 +26,33 @@ use cqlp_type::{Kind, TypeTable};
 use std::alloc::Allocator;
 
 impl<A: Allocator> Standing<A> {
-    /// Takes the next bytes of the cell.
+    /// Takes the next bytes of the cell. The content of an earlier item is kept no longer than to the next one.
+    #[inline]
     pub(crate) fn advance(
+        &mut self,
+        partial: &mut Partial<A>,
+        table: &TypeTable<A>,
+        input: &[u8],
+    ) -> CellAdvance
+        requires stands { Stands table.now.nodes (state_of self.old) }
+        requires joined { Joined table.now.nodes (state_of self.old) partial.old }
+        requires levels { self.old.levels.room ≡ self.old.limits.depth }
+        requires parts { self.old.limits.parts ≡ true → 0 < self.old.limits.cell }
+        ensures moves { Moves table.now.nodes (state_of self.old) partial.old input.now result (state_of self.new) partial.new }
+        ensures answers { Answers (state_of self.old) input.now result }
+        ensures empties { Empties result partial.new }
+        ensures room { self.new.levels.room ≡ self.old.levels.room }
+        ensures limits { self.new.limits ≡ self.old.limits }
+    {
+        let answer = self.step(partial, table, input);
+        if answer.has_none() {
+            empty(partial);
+        }
+        answer
+    }
+
+    /// Takes the next bytes of the cell.
+    fn step(
         &mut self,
         partial: &mut Partial<A>,
         table: &TypeTable<A>,

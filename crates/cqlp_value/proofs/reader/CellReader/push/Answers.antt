@@ -17,7 +17,7 @@ returns-in-More g c =
 pub returns-in-Item : goal.returns-in-Item
 returns-in-Item g c =
     let r = c.requires in
-    let w = item_pushes c.args.table.now.nodes c.args.reader.now c.args.partial.now c.args.input.now c.advance.new.self c.advance.new.partial r.under_way r.stands r.joined c.in-Item.at c.in-Item.used c.in-Item.item c.lend.result c.lend.ensures c.in-Item.ensures.moves in
+    let w = item_pushes c.args.table.now.nodes c.args.reader.now c.args.partial.now c.args.input.now c.advance.new.self c.advance.new.partial r.under_way r.stands r.joined c.in-Item.at c.in-Item.used c.in-Item.item c.lend.result c.lend.ensures c.in-Item.ensures.moves c.in-Item.ensures.empties in
     let a = c.in-Item.ensures.answers in
     ((refl, λ _. tt, w.0), record { uses = (a.0, is_not_done c.args.reader.now a.1); reader = w.1; next = tt })
 
@@ -30,5 +30,5 @@ returns-in-Done g c =
 pub returns-in-Refused : goal.returns-in-Refused
 returns-in-Refused g c =
     let r = c.requires in
-    let w = refused_pushes c.args.table.now.nodes c.args.reader.now c.args.partial.now c.args.input.now c.advance.new.self c.advance.new.partial r.under_way r.stands r.joined c.in-Refused.refusal c.in-Refused.ensures.moves in
+    let w = refused_pushes c.args.table.now.nodes c.args.reader.now c.args.partial.now c.args.input.now c.advance.new.self c.advance.new.partial r.under_way r.stands r.joined c.in-Refused.refusal c.in-Refused.ensures.moves c.in-Refused.ensures.empties in
     ((refl, λ _. tt, w.0), record { uses = is_not_done c.args.reader.now c.in-Refused.ensures.answers; reader = w.1; next = tt })

@@ -1,7 +1,8 @@
-use Rattle.std.proofs.Common.{◌++◌, drop, refl, ap, arith}
+use Rattle.std.proofs.Common.{◌+◌, ◌++◌, drop, refl, ap, arith}
 use Rattle.cqlp_value.specs.declared.standing.Next.TheVariants as next
 use Rattle.cqlp_value.specs.Gathering.{seen_before}
 use Rattle.cqlp_value.specs.Standing.{State, state_of}
+use Rattle.cqlp_value.proofs.Gathered.{gathered_is}
 use Rattle.cqlp_value.proofs.Parting.{first_room, first_waits, first_hands}
 use Rattle.cqlp_value.proofs.standing.Standing.advance_first.Goals as goal
 
@@ -31,4 +32,4 @@ returns-clause-settles g c =
     let r = c.requires in
     let seen = seen_before c.args.begun c.args.partial.now in
     let goes = ap (λ (d : State). record d { next = next.Part c.args.self.now.limits.cell c.args.total }) (rw c.from.ensures at c.pass.ensures.state) in
-    first_hands c.args.table.now.nodes (state_of c.args.self.now) refl c.args.total r.decided c.args.start c.args.partial.now c.gather.new.partial seen c.args.input.now c.in-Some.found _ c.len-level.result r.stands r.due r.parts r.front r.some c.in-Some.ensures goes c.len-level.ensures.is
+    first_hands c.args.table.now.nodes (state_of c.args.self.now) refl c.args.total r.decided c.args.start c.args.partial.now c.gather.new.partial seen c.args.input.now c.in-Some.found _ c.len-level.result r.stands r.due r.parts r.front r.some c.in-Some.ensures (gathered_is c.args.begun c.args.self.now.limits.cell (c.args.self.now.offset + 4) c.args.start c.args.partial.now c.gather.new.partial c.args.input.now c.in-Some.found r.under_way c.in-Some.ensures) goes c.len-level.ensures.is

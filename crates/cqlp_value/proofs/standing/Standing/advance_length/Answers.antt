@@ -28,5 +28,5 @@ returns-in-Got-clause-settles g c =
     let r = c.requires in
     let seen = seen_before c.args.begun c.args.partial.now in
     let found = rw c.value-value.ensures at c.in-Got.ensures in
-    settles_from c.args.table.now.nodes (state_of c.args.self.now) c.args.partial.now c.take_number.new.partial c.args.input.now _ _ _ _ _ _ found.longest
+    settles_from c.args.table.now.nodes (state_of c.args.self.now) c.args.partial.now c.take_number.new.partial c.args.input.now _ _ _ _ _ _ found.longest found.idle
     (length_settles c.args.table.now.nodes (state_of c.args.self.now) c.args.partial.now c.take_number.new.partial seen c.args.input.now c.in-Got.used c.in-Got.number r.stands r.due found _ _ _ c.settle.ensures.settles)

@@ -1,5 +1,5 @@
 use Rattle.cqlp_value.proofs.Gathered.{emptied, emptied_waits, emptied_refused}
-use Rattle.cqlp_value.proofs.gather.empty.Goals as goal
+use Rattle.cqlp_value.proofs.gather.clear.Goals as goal
 
 pub returns-clause-empty : goal.returns-clause-empty
 returns-clause-empty g c = emptied c.args.partial.now c.begin.new.self c.advance.new.self c.begin.ensures _ _ c.in-Got.ensures.0
