@@ -158,7 +158,7 @@ impl<A: Allocator> TypeReader<A> {
         requires under_way { reader.old.under_way ≡ true }
         requires shared { IsShared reader.old partial.old }
         requires room { reader.old.rules.entries ≤ table.old.room }
-        ensures uses { Uses input.now result }
+        ensures uses { Uses reader.old input.now result }
         ensures reader { Continues reader.old result reader.new }
         ensures table { Fills reader.old table.old result table.new }
         ensures* next { sem 𝓛 (Next B.row B.Allocator partial.entry (λ after. Pushes reader.old partial.old table.old input.now result reader.new after table.new)) }
