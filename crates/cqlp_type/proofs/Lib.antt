@@ -10,3 +10,4 @@ pub mod SpelledRead
 pub mod TableLaws
 pub mod TreeLengths
 pub mod Lengths
+pub mod OneAnswer

@@ -72,14 +72,14 @@ module _ (old : Standing) (p : Progress) (t : Table) (input : List ℕ) (new : S
 
   -- ---- what a push leads to
 
-  waits_some : (used : ℕ) → Waits old p t input used new p' t' → old.symbols ≡ [] → ⊥
+  pub waits_some : (used : ℕ) → Waits old p t input used new p' t' → old.symbols ≡ [] → ⊥
   waits_some used w none =
       let same : new.symbols ≡ [] = ap (λ (z : Standing). z.symbols) w.reader ∙ none in
       let begun : new.begun ≡ true = ap (λ (z : Standing). z.begun) w.reader in
       let over : new.begun ≡ false = nothing_begun new p' w.shared same in
       absurd cc
 
-  told_some : (bytes : List ℕ) → (told old t.nodes bytes ≡ More → ⊥) → old.symbols ≡ [] → ⊥
+  pub told_some : (bytes : List ℕ) → (told old t.nodes bytes ≡ More → ⊥) → old.symbols ≡ [] → ⊥
   told_some bytes said none = said (rw none refl)
 
   pub waits_pushes : (used : ℕ) → old.under_way ≡ true → Waits old p t input used new p' t'
