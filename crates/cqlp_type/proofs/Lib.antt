@@ -11,3 +11,4 @@ pub mod TableLaws
 pub mod TreeLengths
 pub mod Lengths
 pub mod OneAnswer
+pub mod OptionLengths

@@ -149,33 +149,37 @@ module _ (old : Standing) (p : Progress) (t : Table) (input : List ℕ) (new : S
   advance_decided (advance.More used) under w =
       let place : place_of new t'.nodes ≡ place_of old t.nodes = rw (w.reader, w.table) refl in
       let goes : new.under_way ≡ true = ap (λ (z : Standing). z.under_way) w.reader ∙ under in
-      let field : p'.under_way ≡ true = w.shared.same ∙ ap (λ (z : Standing). z.begun) w.reader in
-      ((λ i. record { answer = More (w.all i); under_way = goes i; place = place i; pending = w.pending i; field = field i })
-      ∙ sym (waits_decided old.symbols (told old t.nodes (pending old p ++ input)) (place_of old t.nodes) (pending old p) input (waits_some old p t input new p' t' used w) w.is),
+      let field : p'.under_way ≡ true = w.shared.same ∙ ap (λ (z : Standing). z.begun) w.reader in (
+        (λ i. record { answer = More (w.all i); under_way = goes i; place = place i; pending = w.pending i; field = field i })
+            ∙ sym (waits_decided old.symbols (told old t.nodes (pending old p ++ input)) (place_of old t.nodes) (pending old p) input (waits_some old p t input new p' t' used w) w.is),
         ap (λ (z : Standing). z.rules) w.reader,
-        rw w.table refl)
+        rw w.table refl,
+      )
   advance_decided (advance.Item at used q) under w =
       let goes : new.under_way ≡ true = ap (λ (z : Standing). z.under_way) w.reader in
       let begun : new.begun ≡ false = ap (λ (z : Standing). z.begun) w.reader in
       let field : p'.under_way ≡ false = w.shared.same ∙ begun in
       let none : pending new p' ≡ [] = rw begun refl in
-      let some = told_some old p t input new p' t' (pending old p ++ input) (λ more. let no = sym more ∙ w.is in absurd cc) in
-      ((λ i. record { answer = Item (sym w.place i) used (sym w.event i); under_way = goes i; place = sym w.after i; pending = none i; field = field i })
-      ∙ sym (gives_decided old.symbols (told old t.nodes (pending old p ++ input)) (place_of old t.nodes) (pending old p) input w.step used some w.is),
+      let some = told_some old p t input new p' t' (pending old p ++ input) (λ more. let no = sym more ∙ w.is in absurd cc) in (
+        (λ i. record { answer = Item (sym w.place i) used (sym w.event i); under_way = goes i; place = sym w.after i; pending = none i; field = field i })
+            ∙ sym (gives_decided old.symbols (told old t.nodes (pending old p ++ input)) (place_of old t.nodes) (pending old p) input w.step used some w.is),
         ap (λ (z : Standing). z.rules) w.reader,
-        w.table)
+        w.table,
+      )
   advance_decided advance.Done under d =
-      let idle : p'.under_way ≡ false = rw d.2 d.3 in
-      ((λ i. outcome Done (d.1 i) p' (d.4 i)) ∙ (λ i. record { answer = Done; under_way = false; place = ended_at (place_of old t.nodes); pending = []; field = idle i })
-      ∙ sym (over_decided old.symbols (told old t.nodes (pending old p ++ input)) (place_of old t.nodes) (pending old p) input d.0),
+      let idle : p'.under_way ≡ false = rw d.2 d.3 in (
+        (λ i. outcome Done (d.1 i) p' (d.4 i)) ∙ (λ i. record { answer = Done; under_way = false; place = ended_at (place_of old t.nodes); pending = []; field = idle i })
+            ∙ sym (over_decided old.symbols (told old t.nodes (pending old p ++ input)) (place_of old t.nodes) (pending old p) input d.0),
         rw d.1 refl,
-        rw d.4 refl)
+        rw d.4 refl,
+      )
   advance_decided (advance.Refused r) under d =
-      let some = told_some old p t input new p' t' (pending old p ++ input) (λ more. let no = sym more ∙ d.0 in absurd cc) in
-      ((λ i. outcome (Refused r) (d.1 i) p' (d.5 i)) ∙ (λ i. record { answer = Refused r; under_way = false; place = ended_at (place_of old t.nodes); pending = []; field = d.2 i })
-      ∙ sym (fails_decided old.symbols (told old t.nodes (pending old p ++ input)) (place_of old t.nodes) (pending old p) input r some d.0),
+      let some = told_some old p t input new p' t' (pending old p ++ input) (λ more. let no = sym more ∙ d.0 in absurd cc) in (
+        (λ i. outcome (Refused r) (d.1 i) p' (d.5 i)) ∙ (λ i. record { answer = Refused r; under_way = false; place = ended_at (place_of old t.nodes); pending = []; field = d.2 i })
+            ∙ sym (fails_decided old.symbols (told old t.nodes (pending old p ++ input)) (place_of old t.nodes) (pending old p) input r some d.0),
         rw d.1 refl,
-        rw d.5 refl)
+        rw d.5 refl,
+      )
 
 -- ---- two calls
 

@@ -1,5 +1,5 @@
 -- Laws of types, of their tables and of how they are read.
-use Rattle.std.specs.Prelude.{◌≡◌, ℕ, suc, ◌+◌, ◌++◌, ◌≤◌, Bool, true, false, List, [], ◌∷◌, length, slice_get}
+use Rattle.std.specs.Prelude.{◌≡◌, ℕ, suc, ◌+◌, ◌++◌, ◌<◌, ◌≤◌, Bool, true, false, List, [], ◌∷◌, All, length, slice_get, Some}
 use Rattle.cqlp_note.specs.declared.refusal.Refusal.{Refusal}
 use Rattle.cqlp_note.specs.Step.{Runs}
 use Rattle.cqlp_note.specs.Limits.{Rules}
@@ -16,7 +16,8 @@ use Rattle.cqlp_type.specs.Table.{Table, beginnings, child}
 use Rattle.cqlp_type.specs.Remaining.{event_at}
 use Rattle.cqlp_type.specs.Standing.{Standing, IsShared, place_of, pending, Advances}
 use Rattle.cqlp_type.specs.Trees.{Trees, trees_in, options_in, types_in, AreTrees, Shallow, AreShort, trees_items, placed, TreeSpells}
-use Rattle.cqlp_type.specs.TypeTrees.{trees_size}
+use Rattle.cqlp_type.specs.declared.tree.TypeTree.{TypeTree}
+use Rattle.cqlp_type.specs.TypeTrees.{tree_of, trees_size, spelled_len}
 use Rattle.cqlp_type.specs.Pushing.{After, IsWhole, Uses, Continues, Fills, Pushes, event_of}
 
 -- The types of nodes in preorder are those that the nodes were made of, and those of the nodes behind them.
@@ -43,6 +44,20 @@ ReadIsSpelled = (l : Rules) (depth : ℕ) (before after : TypePlace) (b : List �
 -- The bytes that spell a type are as many as its size says.
 abbrev pub SpelledIsLong : Type 0
 SpelledIsLong = (t : Trees) (b : List ℕ) → TreeSpells t b → length b ≡ trees_size false t
+
+-- These bytes are the option of a caller's type.
+abbrev pub IsOptionOf : TypeTree → List ℕ → Type 0
+IsOptionOf t b = AreTrees (tree_of t) × TreeSpells (tree_of t) b
+
+-- Where a type has a length, some bytes are its option, all such bytes are this many, and they are no more than the
+-- longest body of a frame; and where some bytes are its option, which are no more, it has their length.
+pub record HasLenOfOption (t : TypeTree) : Type 0 where
+  pub spelled : (n : ℕ) → spelled_len t ≡ Some n → (b : List ℕ) × IsOptionOf t b
+  pub long : (n : ℕ) → spelled_len t ≡ Some n → (n ≤ 268435456) × ((b : List ℕ) → IsOptionOf t b → length b ≡ n)
+  pub some : (b : List ℕ) → All (λ x. x < 256) b → IsOptionOf t b → length b ≤ 268435456 → spelled_len t ≡ Some (length b)
+
+abbrev pub LenIsOfOption : Type 0
+LenIsOfOption = (t : TypeTree) → HasLenOfOption t
 
 -- ---- tables
 

@@ -1,6 +1,6 @@
 //! Laws of the definitions.
 
-ghost use Rattle.cqlp_type.specs.Laws.{TypesOfPreorder, TypesOfOwnPreorder, SpelledIsRead, ReadIsSpelled, SpelledIsLong, RootsAreTypes, ChildrenOfWhole, ChildrenOfOpen, OpenIsLast, OneAnswerOfPush, OneAnswerOfAdvance};
+ghost use Rattle.cqlp_type.specs.Laws.{TypesOfPreorder, TypesOfOwnPreorder, SpelledIsRead, ReadIsSpelled, SpelledIsLong, RootsAreTypes, ChildrenOfWhole, ChildrenOfOpen, OpenIsLast, LenIsOfOption, OneAnswerOfPush, OneAnswerOfAdvance};
 
 /// The types of nodes in preorder are those that the nodes were made of.
 #[tactic(auto, using(crate::proofs::Forests::types_of_preorder, crate::proofs::Forests::types_of_own_preorder))]
@@ -22,6 +22,11 @@ pub fn read_is_spelled()
 /// The bytes that spell a type are as many as `type_len` counts.
 pub fn spelled_is_long()
     ensures { SpelledIsLong }
+{}
+
+/// `type_len` is the length of the bytes that are a type's option, where there are any and they are not too many.
+pub fn len_is_of_option()
+    ensures { LenIsOfOption }
 {}
 
 /// Where types that stand side by side begin, also where the last one is under way.

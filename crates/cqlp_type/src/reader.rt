@@ -41,15 +41,13 @@ impl<A: Allocator> Model for TypeReader<A> {
 }
 
 impl<A: Allocator> TypeReader<A> {
-    ghost use Rattle.cqlp_type.specs.Standing.{IsShared, Advances, IsFor, pending, started, stopped};
+    ghost use Rattle.cqlp_type.specs.Standing.{IsShared, Advances, IsFor, made, pending, started, stopped};
     ghost use Rattle.cqlp_note.specs.Lending.{Next};
     ghost use Rattle.cqlp_type.specs.Pushing.{Uses, Continues, Fills, Pushes};
 
     /// With room for the nesting that the limits allow.
     pub fn new(alloc: A, limits: &Limits) -> Result<Self, NoMemory>
-        ensures rules { IfOk result (λ reader. reader.rules ≡ rules_of limits.now) }
-        ensures idle { IfOk result (λ reader. reader.under_way ≡ false) }
-        ensures empty { IfOk result (λ reader. reader.height ≡ 0) }
+        ensures { IfOk result (λ reader. reader ≡ made (rules_of limits.now)) }
     {
         Ok(TypeReader {
             limits: *limits,
