@@ -10,3 +10,5 @@ pub mod SpelledRead
 pub mod TableLaws
 pub mod TreeLengths
 pub mod Lengths
+pub mod OneAnswer
+pub mod OptionLengths

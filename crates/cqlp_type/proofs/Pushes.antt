@@ -4,7 +4,7 @@ use Rattle.std.proofs.lemmas.List.{length-append, length-take-le, drop_all}
 use Rattle.cqlp_note.specs.declared.head.Wanted.{Wanted}
 use Rattle.cqlp_note.specs.declared.refusal.Reason.{Reason}
 use Rattle.cqlp_note.specs.declared.refusal.Refusal.{Refusal}
-use Rattle.cqlp_note.specs.Reader.{Said, Got, says}
+use Rattle.cqlp_note.specs.Reader.{Said, More, Got, says}
 use Rattle.cqlp_note.specs.Step.{Emitted, Runs}
 use Rattle.cqlp_note.specs.Limits.{Rules}
 use Rattle.cqlp_note.specs.Partial.{Progress}
@@ -17,7 +17,7 @@ use Rattle.cqlp_type.specs.declared.item.TypePush.TheVariants as push
 use Rattle.cqlp_type.specs.TypeStep.{TypeSymbol, Option_at, TypeEvent, TypePlace, type_step}
 use Rattle.cqlp_type.specs.Table.{Table}
 use Rattle.cqlp_type.specs.Remaining.{event_at}
-use Rattle.cqlp_type.specs.Standing.{Standing, IsShared, IsFor, place_of, pending, started, stopped, Waits, Ends, Advances}
+use Rattle.cqlp_type.specs.Standing.{Standing, IsShared, IsFor, place_of, pending, told, started, stopped, Waits, Ends, Advances}
 use Rattle.cqlp_type.specs.Pushing.{After, IsWhole, Pushes, event_of}
 use Rattle.cqlp_type.proofs.ReadBack.{option_read}
 
@@ -72,53 +72,66 @@ module _ (old : Standing) (p : Progress) (t : Table) (input : List ℕ) (new : S
 
   -- ---- what a push leads to
 
-  pub waits_pushes : (used : ℕ) → old.under_way ≡ true → Waits old p t input used new p' t' → Pushes old p t input (push.More used) new p' t' × (used ≡ length input) × ((new.under_way ≡ true) × (new.rules ≡ old.rules)) × (t' ≡ t)
+  pub waits_some : (used : ℕ) → Waits old p t input used new p' t' → old.symbols ≡ [] → ⊥
+  waits_some used w none =
+      let same : new.symbols ≡ [] = ap (λ (z : Standing). z.symbols) w.reader ∙ none in
+      let begun : new.begun ≡ true = ap (λ (z : Standing). z.begun) w.reader in
+      let over : new.begun ≡ false = nothing_begun new p' w.shared same in
+      absurd cc
+
+  pub told_some : (bytes : List ℕ) → (told old t.nodes bytes ≡ More → ⊥) → old.symbols ≡ [] → ⊥
+  told_some bytes said none = said (rw none refl)
+
+  pub waits_pushes : (used : ℕ) → old.under_way ≡ true → Waits old p t input used new p' t'
+      → Pushes old p t input (push.More used) new p' t' × ((used ≡ length input) × (old.symbols ≡ [] → ⊥)) × ((new.under_way ≡ true) × (new.rules ≡ old.rules)) × (t' ≡ t)
   waits_pushes used under w =
       let place : place_of new t'.nodes ≡ place_of old t.nodes = rw (w.reader, w.table) refl in
       let rules : new.rules ≡ old.rules = ap (λ (z : Standing). z.rules) w.reader in (
         record {
           leads = λ start depth first s es run. (option_waited used w start s es run, (λ i. told_by (rules i) (place i) (w.pending i)) ∙ w.is);
-          serves = w.shared;
+          serves = (w.shared, w.shared.same ∙ ap (λ (z : Standing). z.begun) w.reader);
           room = w.room;
         },
-        w.all,
+        (w.all, waits_some used w),
         (ap (λ (z : Standing). z.under_way) w.reader ∙ under, rules),
         w.table,
       )
 
   pub item_pushes : (at used : ℕ) (q : TypePart) (e : TypeItem) → event_of e ≡ event_at q input p'.content → Ends old p t input at used q new p' t'
-      → Pushes old p t input (push.Item at used e) new p' t' × (used ≤ length input) × ((new.under_way ≡ true) × (new.rules ≡ old.rules)) × ((t'.room ≡ t.room) × (length t.nodes ≤ old.rules.entries → length t'.nodes ≤ old.rules.entries))
+      → Pushes old p t input (push.Item at used e) new p' t' × ((used ≤ length input) × (old.symbols ≡ [] → ⊥)) × ((new.under_way ≡ true) × (new.rules ≡ old.rules)) × ((t'.room ≡ t.room) × (length t.nodes ≤ old.rules.entries → length t'.nodes ≤ old.rules.entries))
   item_pushes at used q e is w =
       let rules : new.rules ≡ old.rules = ap (λ (z : Standing). z.rules) w.reader in
       let begun : new.begun ≡ false = ap (λ (z : Standing). z.begun) w.reader in (
         record {
           leads = λ start depth first s es run. (rw begun refl, rw is (option_handed at used q w start s es run));
-          serves = (w.shared, λ short. w.lent (rw is at short));
+          serves = (w.shared, w.shared.same ∙ begun, λ short. w.lent (rw is at short));
           room = w.room;
         },
-        w.within,
+        (w.within, told_some (pending old p ++ input) (λ more. let no = sym more ∙ w.is in absurd cc)),
         (ap (λ (z : Standing). z.under_way) w.reader, rules),
         (w.table, w.entries),
       )
 
-  pub done_pushes : IsShared old p → Advances old p t input advance.Done new p' t' → Pushes old p t input push.Done new p' t' × (new ≡ stopped old) × (t' ≡ t)
+  pub done_pushes : IsShared old p → Advances old p t input advance.Done new p' t' → Pushes old p t input push.Done new p' t' × (old.symbols ≡ []) × (new ≡ stopped old) × (t' ≡ t)
   done_pushes shared d = (
     record {
       leads = λ start depth first s es run. rw d.4 (option_over start depth old p t s es first run d.0 (nothing_begun old p shared d.0));
-      serves = rw d.2 d.3;
+      serves = (d.2, rw d.2 d.3);
       room = rw d.2 refl;
     },
+    d.0,
     d.1,
     d.4,
   )
 
-  pub refused_pushes : (r : Refusal) → Advances old p t input (advance.Refused r) new p' t' → Pushes old p t input (push.Refused r) new p' t' × (new ≡ stopped old) × (t' ≡ t)
+  pub refused_pushes : (r : Refusal) → Advances old p t input (advance.Refused r) new p' t' → Pushes old p t input (push.Refused r) new p' t' × (old.symbols ≡ [] → ⊥) × (new ≡ stopped old) × (t' ≡ t)
   refused_pushes r d = (
     record {
       leads = λ start depth first s es run. (runs_stay (type_step old.rules) start s input es (place_of old t.nodes) (pending old p) run, d.0);
       serves = (d.2, d.3);
       room = d.4;
     },
+    told_some (pending old p ++ input) (λ more. let no = sym more ∙ d.0 in absurd cc),
     d.1,
     d.5,
   )

@@ -1,15 +1,24 @@
 -- Laws of types, of their tables and of how they are read.
-use Rattle.std.specs.Prelude.{◌≡◌, ℕ, suc, ◌+◌, ◌++◌, ◌≤◌, false, List, [], ◌∷◌, length, slice_get}
+use Rattle.std.specs.Prelude.{◌≡◌, ℕ, suc, ◌+◌, ◌++◌, ◌<◌, ◌≤◌, Bool, true, false, List, [], ◌∷◌, All, length, slice_get, Some}
+use Rattle.cqlp_note.specs.declared.refusal.Refusal.{Refusal}
 use Rattle.cqlp_note.specs.Step.{Runs}
 use Rattle.cqlp_note.specs.Limits.{Rules}
+use Rattle.cqlp_note.specs.Partial.{Progress}
 use Rattle.cqlp_type.specs.declared.kind.Kind.{Kind}
 use Rattle.cqlp_type.specs.declared.node.Node.{Node}
 use Rattle.cqlp_type.specs.Types.{Types, NoMore, Type_and, how_many, types_of, preorder, followed_by}
 use Rattle.cqlp_type.specs.TypeStep.{TypeEvent, Option_at, TypePlace, type_step}
-use Rattle.cqlp_type.specs.Table.{beginnings, child}
+use Rattle.cqlp_type.specs.declared.item.TypeAdvance.{TypeAdvance}
+use Rattle.cqlp_type.specs.declared.item.TypeAdvance.TheVariants as advance
+use Rattle.cqlp_type.specs.declared.item.TypePush.{TypePush}
+use Rattle.cqlp_type.specs.declared.item.TypePush.TheVariants as push
+use Rattle.cqlp_type.specs.Table.{Table, beginnings, child}
+use Rattle.cqlp_type.specs.Remaining.{event_at}
+use Rattle.cqlp_type.specs.Standing.{Standing, IsShared, place_of, pending, Advances}
 use Rattle.cqlp_type.specs.Trees.{Trees, trees_in, options_in, types_in, AreTrees, Shallow, AreShort, trees_items, placed, TreeSpells}
-use Rattle.cqlp_type.specs.TypeTrees.{trees_size}
-use Rattle.cqlp_type.specs.Pushing.{IsWhole}
+use Rattle.cqlp_type.specs.declared.tree.TypeTree.{TypeTree}
+use Rattle.cqlp_type.specs.TypeTrees.{tree_of, trees_size, spelled_len}
+use Rattle.cqlp_type.specs.Pushing.{After, IsWhole, Uses, Continues, Fills, Pushes, event_of}
 
 -- The types of nodes in preorder are those that the nodes were made of, and those of the nodes behind them.
 abbrev pub TypesOfPreorder : Type 0
@@ -35,6 +44,20 @@ ReadIsSpelled = (l : Rules) (depth : ℕ) (before after : TypePlace) (b : List �
 -- The bytes that spell a type are as many as its size says.
 abbrev pub SpelledIsLong : Type 0
 SpelledIsLong = (t : Trees) (b : List ℕ) → TreeSpells t b → length b ≡ trees_size false t
+
+-- These bytes are the option of a caller's type.
+abbrev pub IsOptionOf : TypeTree → List ℕ → Type 0
+IsOptionOf t b = AreTrees (tree_of t) × TreeSpells (tree_of t) b
+
+-- Where a type has a length, some bytes are its option, all such bytes are this many, and they are no more than the
+-- longest body of a frame; and where some bytes are its option, which are no more, it has their length.
+pub record HasLenOfOption (t : TypeTree) : Type 0 where
+  pub spelled : (n : ℕ) → spelled_len t ≡ Some n → (b : List ℕ) × IsOptionOf t b
+  pub long : (n : ℕ) → spelled_len t ≡ Some n → (n ≤ 268435456) × ((b : List ℕ) → IsOptionOf t b → length b ≡ n)
+  pub some : (b : List ℕ) → All (λ x. x < 256) b → IsOptionOf t b → length b ≤ 268435456 → spelled_len t ≡ Some (length b)
+
+abbrev pub LenIsOfOption : Type 0
+LenIsOfOption = (t : TypeTree) → HasLenOfOption t
 
 -- ---- tables
 
@@ -62,3 +85,100 @@ ChildrenOfOpen = (before : List Node) (x : Node) (inner : Types) (rest : List No
 -- a type that is under way, last of all, is one
 abbrev pub OpenIsLast : Type 0
 OpenIsLast = (x : Node) (rest : List Node) (number : ℕ) → x.span ≡ 0 → beginnings number 0 (x ∷ rest) ≡ number ∷ []
+
+-- ---- one answer
+
+-- What a call says of an option, its text as bytes.
+pub data Answer : Type 0 where
+  More : (used : ℕ) → Answer
+  Item : (at used : ℕ) → TypeEvent → Answer
+  Done : Answer
+  Refused : Refusal → Answer
+
+abbrev pub push_answer : TypePush → Answer
+push_answer (push.More used) = More used
+push_answer (push.Item at used e) = Item at used (event_of e)
+push_answer push.Done = Done
+push_answer (push.Refused r) = Refused r
+
+-- the same of `advance`, whose text lies in this input or this buffer
+abbrev pub advance_answer : (input buffer : List ℕ) → TypeAdvance → Answer
+advance_answer input buffer (advance.More used) = More used
+advance_answer input buffer (advance.Item at used q) = Item at used (event_at q input buffer)
+advance_answer input buffer advance.Done = Done
+advance_answer input buffer (advance.Refused r) = Refused r
+
+-- What later calls see of a reader, its `Partial` and its table: the limits; whether an option is under way, where its
+-- reading stands, with which nodes, and which bytes of the item have come; whether a field is under way; and the room
+-- for nodes.
+pub record Seen : Type 0 where
+  pub rules : Rules
+  pub under_way : Bool
+  pub place : TypePlace
+  pub pending : List ℕ
+  pub field : Bool
+  pub room : ℕ
+
+abbrev pub seen : Standing → Progress → Table → Seen
+seen r p t = record {
+  rules = r.rules;
+  under_way = r.under_way;
+  place = place_of r t.nodes;
+  pending = pending r p;
+  field = p.under_way;
+  room = t.room;
+}
+
+-- A call: the reader, the `Partial` and the table before it, its answer, and the three after it.
+pub record Call (X : Type 0) : Type 0 where
+  pub reader : Standing
+  pub partial : Progress
+  pub table : Table
+  pub answer : X
+  pub reader' : Standing
+  pub partial' : Progress
+  pub table' : Table
+
+-- what `push` requires and ensures
+abbrev pub IsPush : List ℕ → Call TypePush → Type 0
+IsPush input c =
+    (c.reader.under_way ≡ true)
+    × IsShared c.reader c.partial
+    × Uses c.reader input c.answer
+    × Continues c.reader c.answer c.reader'
+    × Fills c.reader c.table c.answer c.table'
+    × Pushes c.reader c.partial c.table input c.answer c.reader' c.partial' c.table'
+
+-- what `advance` requires and ensures
+abbrev pub IsAdvance : List ℕ → Call TypeAdvance → Type 0
+IsAdvance input c =
+    (c.reader.under_way ≡ true)
+    × IsShared c.reader c.partial
+    × Advances c.reader c.partial c.table input c.answer c.reader' c.partial' c.table'
+
+-- Two calls are made by readers with the same limits, into tables with the same room, after the same bytes and items of
+-- an option that began at `start`.
+abbrev pub AreAlike : {X : Type 0} → (start : TypePlace) → List ℕ → List (ℕ × TypeEvent) → Call X → Call X → Type 0
+AreAlike start s es c d =
+    (c.reader.rules ≡ d.reader.rules)
+    × (c.table.room ≡ d.table.room)
+    × After start c.reader c.partial c.table s es
+    × After start d.reader d.partial d.table s es
+
+-- the three that are left look the same to later calls
+abbrev pub LeaveAlike : {X : Type 0} → Call X → Call X → Type 0
+LeaveAlike c d = seen c.reader' c.partial' c.table' ≡ seen d.reader' d.partial' d.table'
+
+-- After the same bytes and items of an option, the same input has one answer: what `push` says, and what it leaves.
+abbrev pub OneAnswerOfPush : Type 0
+OneAnswerOfPush = (start : TypePlace) (depth : ℕ) → start.symbols ≡ Option_at depth ∷ []
+    → (s : List ℕ) (es : List (ℕ × TypeEvent)) (input : List ℕ) (c d : Call TypePush)
+    → AreAlike start s es c d → IsPush input c → IsPush input d
+    → (push_answer c.answer ≡ push_answer d.answer) × LeaveAlike c d
+
+-- The same of `advance`.
+abbrev pub OneAnswerOfAdvance : Type 0
+OneAnswerOfAdvance = (start : TypePlace)
+    → (s : List ℕ) (es : List (ℕ × TypeEvent)) (input : List ℕ) (c d : Call TypeAdvance)
+    → AreAlike start s es c d → IsAdvance input c → IsAdvance input d
+    → (advance_answer input c.partial'.content c.answer ≡ advance_answer input d.partial'.content d.answer) × LeaveAlike c d

@@ -48,12 +48,13 @@ Leads depth start old p t s es input push.Done new p' t' =
 Leads depth start old p t s es input (push.Refused r) new p' t' =
     Runs (type_step old.rules) start (s ++ input) es (place_of old t.nodes) (pending old p ++ input) × (told old t.nodes (pending old p ++ input) ≡ Bad (r.at, r.why))
 
--- how much of the input is used
-abbrev pub Uses : List ℕ → TypePush → Type 0
-Uses input (push.More used) = used ≡ length input
-Uses input (push.Item at used e) = used ≤ length input
-Uses input push.Done = Unit {0}
-Uses input (push.Refused r) = Unit {0}
+-- A call ends the option by Done where nothing is left of it, and only there; else it uses no more than the input, and
+-- all of it while an item goes on.
+abbrev pub Uses : Standing → List ℕ → TypePush → Type 0
+Uses old input (push.More used) = (used ≡ length input) × (old.symbols ≡ [] → ⊥)
+Uses old input (push.Item at used e) = (used ≤ length input) × (old.symbols ≡ [] → ⊥)
+Uses old input push.Done = old.symbols ≡ []
+Uses old input (push.Refused r) = old.symbols ≡ [] → ⊥
 
 -- The option is still under way, or it has ended.
 abbrev pub Continues : Standing → TypePush → Standing → Type 0
@@ -67,15 +68,17 @@ abbrev pub Fills : Standing → Table → TypePush → Table → Type 0
 Fills old t (push.Item at used e) t' = (t'.room ≡ t.room) × (length t.nodes ≤ old.rules.entries → length t'.nodes ≤ old.rules.entries)
 Fills old t x t' = t' ≡ t
 
--- The `Partial` still serves the option, or has no field under way. Where the content of a text lies whole in the
--- bytes that are used, its buffer is empty.
-abbrev pub Serves : TypePush → Standing → Progress → Type 0
-Serves (push.More used) new p' = IsShared new p'
-Serves (push.Item at used e) new p' = IsShared new p' × (text_length (event_of e) ≤ used → p'.content ≡ [])
-Serves push.Done new p' = p'.under_way ≡ false
-Serves (push.Refused r) new p' = (p'.under_way ≡ false) × (p'.content ≡ [])
+-- The `Partial` reads the item that goes on, and has no field under way where an item or the option has ended. Where the
+-- content of a text lies whole in the bytes that are used, its buffer is empty; so it is after a refusal, and Done leaves
+-- the `Partial` as it was.
+abbrev pub Serves : Progress → TypePush → Standing → Progress → Type 0
+Serves p (push.More used) new p' = IsShared new p' × (p'.under_way ≡ true)
+Serves p (push.Item at used e) new p' =
+    IsShared new p' × (p'.under_way ≡ false) × (text_length (event_of e) ≤ used → p'.content ≡ [])
+Serves p push.Done new p' = (p' ≡ p) × (p'.under_way ≡ false)
+Serves p (push.Refused r) new p' = (p'.under_way ≡ false) × (p'.content ≡ [])
 
 pub record Pushes (old : Standing) (p : Progress) (t : Table) (input : List ℕ) (x : TypePush) (new : Standing) (p' : Progress) (t' : Table) : Type 0 where
   pub leads : (start : TypePlace) (depth : ℕ) → start.symbols ≡ Option_at depth ∷ [] → (s : List ℕ) (es : List (ℕ × TypeEvent)) → After start old p t s es → Leads depth start old p t s es input x new p' t'
-  pub serves : Serves x new p'
+  pub serves : Serves p x new p'
   pub room : p'.room ≡ p.room

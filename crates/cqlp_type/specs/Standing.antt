@@ -38,6 +38,10 @@ abbrev pub standing : Limits → (offset stop : ℕ) → Stage → Nest → (beg
 standing l offset stop s n begun taken =
     record { rules = rules_of l; under_way = is_under_way s; offset = offset; stop = stop; symbols = stage_symbols s n; height = n.height; begun = begun; taken = taken }
 
+-- a reader that has read nothing
+abbrev pub made : Rules → Standing
+made l = record { rules = l; under_way = false; offset = 0; stop = 0; symbols = []; height = 0; begun = false; taken = 0 }
+
 -- an option that begins here
 abbrev pub started : Standing → (offset stop : ℕ) → Standing
 started r offset stop = record { rules = r.rules; under_way = true; offset = offset; stop = stop; symbols = Option_at 1 ∷ []; height = 0; begun = false; taken = 0 }

@@ -1,6 +1,6 @@
 //! Laws of the definitions.
 
-ghost use Rattle.cqlp_type.specs.Laws.{TypesOfPreorder, TypesOfOwnPreorder, SpelledIsRead, ReadIsSpelled, SpelledIsLong, RootsAreTypes, ChildrenOfWhole, ChildrenOfOpen, OpenIsLast};
+ghost use Rattle.cqlp_type.specs.Laws.{TypesOfPreorder, TypesOfOwnPreorder, SpelledIsRead, ReadIsSpelled, SpelledIsLong, RootsAreTypes, ChildrenOfWhole, ChildrenOfOpen, OpenIsLast, LenIsOfOption, OneAnswerOfPush, OneAnswerOfAdvance};
 
 /// The types of nodes in preorder are those that the nodes were made of.
 #[tactic(auto, using(crate::proofs::Forests::types_of_preorder, crate::proofs::Forests::types_of_own_preorder))]
@@ -24,6 +24,11 @@ pub fn spelled_is_long()
     ensures { SpelledIsLong }
 {}
 
+/// `type_len` is the length of the bytes that are a type's option, where there are any and they are not too many.
+pub fn len_is_of_option()
+    ensures { LenIsOfOption }
+{}
+
 /// Where types that stand side by side begin, also where the last one is under way.
 pub fn roots_are_types()
     ensures whole { RootsAreTypes }
@@ -34,4 +39,14 @@ pub fn roots_are_types()
 pub fn children_are_inner_types()
     ensures whole { ChildrenOfWhole }
     ensures under_way { ChildrenOfOpen }
+{}
+
+/// After the same bytes and items of an option, one answer of `TypeReader::push` to an input meets its clauses.
+pub fn one_answer_of_type_push()
+    ensures { OneAnswerOfPush }
+{}
+
+/// After the same bytes and items of an option, one answer of `TypeReader::advance` to an input meets its clauses.
+pub fn one_answer_of_type_advance()
+    ensures { OneAnswerOfAdvance }
 {}

@@ -41,15 +41,13 @@ impl<A: Allocator> Model for TypeReader<A> {
 }
 
 impl<A: Allocator> TypeReader<A> {
-    ghost use Rattle.cqlp_type.specs.Standing.{IsShared, Advances, IsFor, pending, started, stopped};
+    ghost use Rattle.cqlp_type.specs.Standing.{IsShared, Advances, IsFor, made, pending, started, stopped};
     ghost use Rattle.cqlp_note.specs.Lending.{Next};
     ghost use Rattle.cqlp_type.specs.Pushing.{Uses, Continues, Fills, Pushes};
 
     /// With room for the nesting that the limits allow.
     pub fn new(alloc: A, limits: &Limits) -> Result<Self, NoMemory>
-        ensures rules { IfOk result (λ reader. reader.rules ≡ rules_of limits.now) }
-        ensures idle { IfOk result (λ reader. reader.under_way ≡ false) }
-        ensures empty { IfOk result (λ reader. reader.height ≡ 0) }
+        ensures { IfOk result (λ reader. reader ≡ made (rules_of limits.now)) }
     {
         Ok(TypeReader {
             limits: *limits,
@@ -158,7 +156,7 @@ impl<A: Allocator> TypeReader<A> {
         requires under_way { reader.old.under_way ≡ true }
         requires shared { IsShared reader.old partial.old }
         requires room { reader.old.rules.entries ≤ table.old.room }
-        ensures uses { Uses input.now result }
+        ensures uses { Uses reader.old input.now result }
         ensures reader { Continues reader.old result reader.new }
         ensures table { Fills reader.old table.old result table.new }
         ensures* next { sem 𝓛 (Next B.row B.Allocator partial.entry (λ after. Pushes reader.old partial.old table.old input.now result reader.new after table.new)) }

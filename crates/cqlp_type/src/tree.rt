@@ -13,7 +13,7 @@ const LONGEST: u32 = 268_435_456;
 /// A type, with the texts of its option. Section 4.2.5.2 of `native_protocol_v4.spec`.
 #[derive(Debug, PartialEq, Eq, Drop)]
 pub enum TypeTree {
-    /// A type without parameters.
+    /// A type without parameters: of a kind that is plain. Of any other kind, `Raw` among them, it has no option.
     Plain(Kind),
     /// A type that is known by the name of its class.
     Custom(String),
@@ -30,9 +30,9 @@ pub enum TypeTree {
     Tuple(Vec<TypeTree>),
 }
 
-/// How many bytes a type's option has. None where a text has more than 65,535 bytes, a user-defined type or a tuple
-/// has more fields than that, a plain type is of a kind that has parameters, or the option has more than 268,435,456
-/// bytes.
+/// How many bytes a type's option has. None where it has no option, since a text has more than 65,535 bytes, a
+/// user-defined type or a tuple has more fields than that, or a `Plain` is of the kind `Raw` or of one that has
+/// parameters; and where the option has more than 268,435,456 bytes. `laws::len_is_of_option` says so by the bytes.
 #[cycle(type_len)]
 pub fn type_len(tree: &TypeTree) -> Option<u32>
     ensures { result ≡ spelled_len tree.now }

@@ -15,9 +15,9 @@ returns-in-Item g c =
 pub returns-in-Done : goal.returns-in-Done
 returns-in-Done g c =
     let r = done_pushes c.args.reader.now c.args.partial.now c.args.table.now c.args.input.now c.advance.new.self c.advance.new.partial c.advance.new.table c.requires.shared c.in-Done.ensures in
-    ((refl, λ _. tt, r.0), record { uses = tt; reader = r.1; table = r.2; next = tt })
+    ((refl, λ _. tt, r.0), record { uses = r.1; reader = r.2; table = r.3; next = tt })
 
 pub returns-in-Refused : goal.returns-in-Refused
 returns-in-Refused g c =
     let r = refused_pushes c.args.reader.now c.args.partial.now c.args.table.now c.args.input.now c.advance.new.self c.advance.new.partial c.advance.new.table c.in-Refused.refusal c.in-Refused.ensures in
-    ((refl, λ _. tt, r.0), record { uses = tt; reader = r.1; table = r.2; next = tt })
+    ((refl, λ _. tt, r.0), record { uses = r.1; reader = r.2; table = r.3; next = tt })
