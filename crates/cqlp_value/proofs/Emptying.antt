@@ -1,5 +1,5 @@
 -- The buffer behind an item without a content, and behind a refusal.
-use Rattle.std.proofs.Common.{◌≡◌, ℕ, ◌+◌, Bool, true, false, not, List, [], ◌++◌, length, refl, sym, ◌∙◌}
+use Rattle.std.proofs.Common.{◌≡◌, ℕ, Bool, true, false, not, List, ◌++◌, length, refl, sym, ◌∙◌}
 use Rattle.cqlp_note.specs.Partial.{Progress}
 use Rattle.cqlp_type.specs.declared.node.Node.{Node}
 use Rattle.cqlp_value.specs.declared.item.CellOutline.{CellOutline}
@@ -8,7 +8,7 @@ use Rattle.cqlp_value.specs.declared.item.CellAdvance.{CellAdvance}
 use Rattle.cqlp_value.specs.declared.item.CellAdvance.TheVariants as advance
 use Rattle.cqlp_value.specs.Items.{CanLend, event_at}
 use Rattle.cqlp_value.specs.Standing.{State}
-use Rattle.cqlp_value.specs.Reading.{Saying, told, Joined, HaveCome, IsLent, IsKept, Hands, Fails, Moves, has_content, has_none}
+use Rattle.cqlp_value.specs.Reading.{Saying, told, Joined, IsLent, IsKept, Hands, Moves, has_content, has_none}
 use Rattle.cqlp_value.proofs.Leading.{some_come}
 
 module _ (nodes : List Node) (old : State) (p : Progress) (input : List ℕ) (new : State) (mid : Progress) (joined : Joined nodes old p) where

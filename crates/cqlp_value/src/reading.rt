@@ -52,12 +52,7 @@ impl<A: Allocator> Standing<A> {
     }
 
     /// Takes the next bytes of the cell.
-    fn step(
-        &mut self,
-        partial: &mut Partial<A>,
-        table: &TypeTable<A>,
-        input: &[u8],
-    ) -> CellAdvance
+    fn step(&mut self, partial: &mut Partial<A>, table: &TypeTable<A>, input: &[u8]) -> CellAdvance
         requires stands { Stands table.now.nodes (state_of self.old) }
         requires joined { Joined table.now.nodes (state_of self.old) partial.old }
         requires levels { self.old.levels.room ≡ self.old.limits.depth }
