@@ -1,4 +1,4 @@
--- The buffer behind an item without a content, and behind a refusal.
+-- The buffer after an item without a content, and after a refusal.
 use Rattle.std.proofs.Common.{◌≡◌, ℕ, Bool, true, false, not, List, ◌++◌, length, refl, sym, ◌∙◌}
 use Rattle.cqlp_note.specs.Partial.{Progress}
 use Rattle.cqlp_type.specs.declared.node.Node.{Node}
@@ -68,6 +68,6 @@ module _ (nodes : List Node) (old : State) (p : Progress) (input : List ℕ) (ne
   bare_moves advance.Done e m = absurd cc
   bare_moves (advance.Refused r) e m = λ b come. let f = m b come in record { is = f.is; ends = f.ends; idle = idle; longest = room ∙ f.longest }
 
-  -- what a call does stays so where the buffer is emptied behind it
+  -- what a call does stays so where the buffer is emptied after it
   pub emptied_moves : (a : CellAdvance) (b : Bool) → b ≡ has_none a → b ≡ true → Moves nodes old p input a new mid → Moves nodes old p input a new q
   emptied_moves a b is e m = bare_moves a (sym is ∙ e) m

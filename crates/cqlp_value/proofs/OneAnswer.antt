@@ -149,7 +149,7 @@ module _ (nodes : List Node) where
 
 -- ---- what has come of an item, by its bytes
 
--- the bytes that its field has had, behind the length if that has come
+-- the bytes that its field has had, after the length if that has come
 abbrev field_bytes : Option Kind → List ℕ → List ℕ
 field_bytes None b = b
 field_bytes (Some k) b = cond (ltb (length b) 4) b (drop 4 b)
@@ -169,7 +169,7 @@ not_counted kind.Set e = absurd cc
 not_counted kind.Map e = absurd cc
 not_counted k e = refl
 
--- behind a length
+-- after a length
 behind_length : (head seen : List ℕ) → length head ≡ 4 → (ltb (length (head ++ seen)) 4 ≡ false) × (drop 4 (head ++ seen) ≡ seen)
 behind_length head seen long = (le-ltb (length (head ++ seen)) 4 (omega (arith, length-append head seen)), drop_at head seen 4 long)
 
@@ -214,7 +214,7 @@ pub record Outcome : Type 0 where
   pub bytes : List ℕ
   pub buffer : List ℕ
 
--- what the buffer holds behind an item with a content of n bytes, of which these had come before
+-- what the buffer holds after an item with a content of n bytes, of which these had come before
 abbrev left_by : (n used : ℕ) → (seen input : List ℕ) → List ℕ
 left_by n used seen input = cond (ltb used n) (seen ++ take used input) []
 

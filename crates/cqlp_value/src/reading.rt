@@ -26,7 +26,7 @@ use cqlp_type::{Kind, TypeTable};
 use std::alloc::Allocator;
 
 impl<A: Allocator> Standing<A> {
-    /// Takes the next bytes of the cell. The content of an earlier item is kept no longer than to the next one.
+    /// Takes the next bytes of the cell. An item without a content, and a refusal, leave the buffer empty.
     #[inline]
     pub(crate) fn advance(
         &mut self,
