@@ -1,5 +1,5 @@
--- The buffer behind an item without a content, and behind a refusal.
-use Rattle.std.proofs.Common.{◌≡◌, ℕ, ◌+◌, Bool, true, false, not, List, [], ◌++◌, length, refl, sym, ◌∙◌}
+-- The buffer after an item without a content, and after a refusal.
+use Rattle.std.proofs.Common.{◌≡◌, ℕ, Bool, true, false, not, List, ◌++◌, length, refl, sym, ◌∙◌}
 use Rattle.cqlp_note.specs.Partial.{Progress}
 use Rattle.cqlp_type.specs.declared.node.Node.{Node}
 use Rattle.cqlp_value.specs.declared.item.CellOutline.{CellOutline}
@@ -8,7 +8,7 @@ use Rattle.cqlp_value.specs.declared.item.CellAdvance.{CellAdvance}
 use Rattle.cqlp_value.specs.declared.item.CellAdvance.TheVariants as advance
 use Rattle.cqlp_value.specs.Items.{CanLend, event_at}
 use Rattle.cqlp_value.specs.Standing.{State}
-use Rattle.cqlp_value.specs.Reading.{Saying, told, Joined, HaveCome, IsLent, IsKept, Hands, Fails, Moves, has_content, has_none}
+use Rattle.cqlp_value.specs.Reading.{Saying, told, Joined, IsLent, IsKept, Hands, Moves, has_content, has_none}
 use Rattle.cqlp_value.proofs.Leading.{some_come}
 
 module _ (nodes : List Node) (old : State) (p : Progress) (input : List ℕ) (new : State) (mid : Progress) (joined : Joined nodes old p) where
@@ -68,6 +68,6 @@ module _ (nodes : List Node) (old : State) (p : Progress) (input : List ℕ) (ne
   bare_moves advance.Done e m = absurd cc
   bare_moves (advance.Refused r) e m = λ b come. let f = m b come in record { is = f.is; ends = f.ends; idle = idle; longest = room ∙ f.longest }
 
-  -- what a call does stays so where the buffer is emptied behind it
+  -- what a call does stays so where the buffer is emptied after it
   pub emptied_moves : (a : CellAdvance) (b : Bool) → b ≡ has_none a → b ≡ true → Moves nodes old p input a new mid → Moves nodes old p input a new q
   emptied_moves a b is e m = bare_moves a (sym is ∙ e) m

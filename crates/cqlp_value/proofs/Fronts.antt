@@ -17,7 +17,11 @@ use Rattle.cqlp_value.specs.declared.size.Sized.TheVariants as size
 use Rattle.cqlp_value.specs.Scalars.{ScalarValue, allows_size, scalar_of, fault_of}
 use Rattle.cqlp_value.specs.CellStep.{CellEvent, Leaf, CellPlace, is_opaque, leaf_step, part_step, counted_step, scalar_step, content_step, sized_step, value_step}
 use Rattle.cqlp_value.specs.Contents.{scalar_in}
-use Rattle.cqlp_value.specs.Fronts.{SaysScalar}
+use Rattle.cqlp_value.specs.declared.front.Front.{Front}
+use Rattle.cqlp_value.specs.Contents.{value_of}
+use Rattle.cqlp_value.specs.Fronts.{SaysScalar, IsFront}
+use Rattle.cqlp_value.specs.Laws.{AreSameFront}
+use Rattle.cqlp_note.proofs.Runs.{same_got}
 use Rattle.cqlp_value.proofs.Sizing.{scalar_content_is, short_scalar, fitting_sized}
 
 -- a content that is a scalar has an allowed size
@@ -174,3 +178,18 @@ module _ (l : Rules) (k : Kind) (room used : ℕ) (input : List ℕ) (v : Scalar
         there = omega (arith, length-drop 4 input, sized.1);
         is = leaf_is start k (scalar_of k (take n rest)) _ _ d.1;
       }
+
+-- ---- one answer
+
+same_scalar : (l : Rules) (k : Kind) (room : ℕ) (input : List ℕ) (j n : ℕ) (v w : ScalarValue) → SaysScalar l k room input j v → SaysScalar l k room input n w → (j ≡ n) × (v ≡ w)
+same_scalar l k room input j n v w h g =
+    let start : CellPlace = record { offset = 0; symbols = [] } in
+    let same = same_got _ _ j n (sym (h.is start [] NoMore 0) ∙ g.is start [] NoMore 0) in
+    let events : Leaf 0 v ≡ Leaf 0 w = ap (λ (x : Emitted CellEvent CellPlace). x.event) same.0 in
+    (same.1, cc)
+
+pub one_front : (l : Rules) (k : Kind) (room : ℕ) (input : List ℕ) (a b : Option Front) → IsFront l k room input a → IsFront l k room input b → AreSameFront a b
+one_front l k room input None None h g = tt
+one_front l k room input None (Some y) h g = h y.used (value_of y.scalar) g
+one_front l k room input (Some x) None h g = g x.used (value_of x.scalar) h
+one_front l k room input (Some x) (Some y) h g = same_scalar l k room input x.used y.used (value_of x.scalar) (value_of y.scalar) h g

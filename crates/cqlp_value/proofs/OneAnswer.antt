@@ -1,5 +1,5 @@
 -- What a call says of a cell, and what it leaves, are decided by what the step says of the bytes that have come.
-use Rattle.std.proofs.Common.{◌≡◌, ℕ, zero, suc, ◌+◌, ◌-◌, ◌<◌, ◌≤◌, Bool, true, false, ◌&&◌, List, [], ◌∷◌, ◌++◌, length, take, drop, Option, Some, None, refl, sym, ap, ◌∙◌, append_assoc, arith, inl, inr, cond, ltb, lt-ltb, le-ltb}
+use Rattle.std.proofs.Common.{◌≡◌, ℕ, zero, suc, ◌+◌, ◌-◌, ◌<◌, Bool, true, false, ◌&&◌, List, [], ◌∷◌, ◌++◌, length, take, drop, Option, Some, None, refl, sym, ap, ◌∙◌, append_assoc, arith, inl, inr, cond, ltb, lt-ltb, le-ltb}
 use Rattle.std.proofs.lemmas.Bool.{cases_lt}
 use Rattle.std.proofs.lemmas.List.{drop_all, drop_at, length-append, length-drop, length-take-le, take-append-drop}
 use Rattle.cqlp_note.specs.declared.refusal.Reason.{Reason}
@@ -15,8 +15,6 @@ use Rattle.cqlp_type.specs.declared.node.Node.{Node}
 use Rattle.cqlp_type.specs.declared.kind.Kind.{Kind}
 use Rattle.cqlp_type.specs.declared.kind.Kind.TheVariants as kind
 use Rattle.cqlp_type.specs.Types.{Types, NoMore, Type_and, has_no_items}
-use Rattle.cqlp_value.specs.declared.item.CellItem.{CellItem}
-use Rattle.cqlp_value.specs.declared.item.CellOutline.{CellOutline}
 use Rattle.cqlp_value.specs.declared.item.CellAdvance.{CellAdvance}
 use Rattle.cqlp_value.specs.declared.item.CellAdvance.TheVariants as advance
 use Rattle.cqlp_value.specs.declared.item.CellPush.{CellPush}
@@ -33,12 +31,12 @@ use Rattle.cqlp_value.specs.Items.{content_length, event_at, event_of}
 use Rattle.cqlp_value.specs.Sizes.{is_counted}
 use Rattle.cqlp_value.specs.Inner.{types_at}
 use Rattle.cqlp_value.specs.Standing.{State, value_symbols, left_of, open_symbols, levels_symbols, symbols_for, cell_symbols, place, due_value, is_under_way, is_some_next, ended, NextStands, Stands}
-use Rattle.cqlp_value.specs.Reading.{gathered, told, Joined, UnderBy, PartUnder, HaveCome, Answers, Empties, Moves}
+use Rattle.cqlp_value.specs.Reading.{gathered, Joined, UnderBy, PartUnder, HaveCome, Answers, Empties, Moves}
 use Rattle.cqlp_value.specs.Pushing.{After, Continues, Keeps, Pushes, Uses, is_done, done_by}
-use Rattle.cqlp_value.specs.Laws.{Answer, More, Item, Done, Refused, push_answer, advance_answer, Call, Seen, seen, LeaveAlike, IsReady, IsPush, IsAdvance, AreAlike}
+use Rattle.cqlp_value.specs.Laws.{Answer, More, Item, Done, Refused, push_answer, advance_answer, Call, Seen, seen, LeaveAlike, IsPush, IsAdvance, AreAlike}
 use Rattle.cqlp_value.proofs.Coming.{first_kind, one_value, value_first_is}
 use Rattle.cqlp_value.proofs.Leading.{keeps, told_is, stands_under, is_over_done, is_not_done}
-use Rattle.cqlp_value.proofs.Leavings.{left_none, stop_is}
+use Rattle.cqlp_value.proofs.Leavings.{stop_is}
 
 -- ---- runs with the same events
 
@@ -151,7 +149,7 @@ module _ (nodes : List Node) where
 
 -- ---- what has come of an item, by its bytes
 
--- the bytes that its field has had, behind the length if that has come
+-- the bytes that its field has had, after the length if that has come
 abbrev field_bytes : Option Kind → List ℕ → List ℕ
 field_bytes None b = b
 field_bytes (Some k) b = cond (ltb (length b) 4) b (drop 4 b)
@@ -171,7 +169,7 @@ not_counted kind.Set e = absurd cc
 not_counted kind.Map e = absurd cc
 not_counted k e = refl
 
--- behind a length
+-- after a length
 behind_length : (head seen : List ℕ) → length head ≡ 4 → (ltb (length (head ++ seen)) 4 ≡ false) × (drop 4 (head ++ seen) ≡ seen)
 behind_length head seen long = (le-ltb (length (head ++ seen)) 4 (omega (arith, length-append head seen)), drop_at head seen 4 long)
 
@@ -196,8 +194,7 @@ module _ (nodes : List Node) (d : State) (p : Progress) (stands : Stands nodes d
   come_in : (u : Under) → UnderBy nodes d p u → p.under_way ≡ true → HaveCome b u p.seen → AreCome u
   come_in under.Nothing h busy come = let no : ◌≡◌ {A = Bool} true false = sym busy ∙ h in absurd cc
   come_in under.Length h busy come =
-      let short : length p.seen < 4 = h.1.4 in
-      (
+      let short : length p.seen < 4 = h.1.4 in (
         rw (value_first_is nodes d stands h.0, come, lt-ltb (length p.seen) 4 short) refl,
         rw (value_first_is nodes d stands h.0, come, drop_all 4 p.seen (omega arith)) (sym (either_none (is_counted (due_value nodes d).kind))),
       )
@@ -217,7 +214,7 @@ pub record Outcome : Type 0 where
   pub bytes : List ℕ
   pub buffer : List ℕ
 
--- what the buffer holds behind an item with a content of n bytes, of which these had come before
+-- what the buffer holds after an item with a content of n bytes, of which these had come before
 abbrev left_by : (n used : ℕ) → (seen input : List ℕ) → List ℕ
 left_by n used seen input = cond (ltb used n) (seen ++ take used input) []
 
@@ -354,9 +351,9 @@ module _ (nodes : List Node) where
       kept_is : (used : ℕ) (e : CellEvent) → Keeps p input used e q → q.content ≡ left_by (content_length e) used (field_bytes (first_kind here.symbols) b) input
       kept_is used e k = elim (cases_lt used (content_length e)) [
         | inl lt ↦
-          let h = k.kept lt in
-          let come = come_in nodes old p stands b old.under joined.under_way h.0 come in
-          rw (lt-ltb used (content_length e) lt) (h.1 ∙ ap (λ (z : List ℕ). z ++ take used input) come.0)
+            let h = k.kept lt in
+            let come = come_in nodes old p stands b old.under joined.under_way h.0 come in
+            rw (lt-ltb used (content_length e) lt) (h.1 ∙ ap (λ (z : List ℕ). z ++ take used input) come.0)
         | inr le ↦ rw (le-ltb used (content_length e) le) (k.lent le)
       ]
 

@@ -1,5 +1,5 @@
 -- Laws of the values of cells.
-use Rattle.std.specs.Prelude.{◌≡◌, ℕ, ◌+◌, ◌≤◌, Bool, true, List, length, [], ◌∷◌, if◌then◌else◌}
+use Rattle.std.specs.Prelude.{◌≡◌, ℕ, ◌+◌, ◌≤◌, Bool, true, List, length, [], ◌∷◌, Option, Some, None, ⊤, if◌then◌else◌}
 use Rattle.cqlp_note.specs.declared.refusal.Refusal.{Refusal}
 use Rattle.cqlp_note.specs.Step.{Runs}
 use Rattle.cqlp_note.specs.Limits.{Rules}
@@ -13,6 +13,9 @@ use Rattle.cqlp_value.specs.declared.item.CellPush.{CellPush}
 use Rattle.cqlp_value.specs.declared.item.CellPush.TheVariants as push
 use Rattle.cqlp_value.specs.CellStep.{Value_of, CellEvent, CellPlace, cell_step}
 use Rattle.cqlp_value.specs.Values.{Values, ValueSpells, values_size, values_items, AreWithin}
+use Rattle.cqlp_value.specs.declared.front.Front.{Front}
+use Rattle.cqlp_value.specs.Contents.{value_of}
+use Rattle.cqlp_value.specs.Fronts.{IsFront}
 use Rattle.cqlp_value.specs.Items.{event_at, event_of}
 use Rattle.cqlp_value.specs.Standing.{State, Stands, is_under_way, place}
 use Rattle.cqlp_value.specs.Reading.{Answers, Empties, HaveCome, Joined, Moves}
@@ -147,3 +150,13 @@ abbrev pub OneAnswerOfAdvance : Type 0
 OneAnswerOfAdvance = (nodes : List Node) (start : CellPlace) (s : List ℕ) (es : List (ℕ × CellEvent)) (input : List ℕ) (c d : Call CellAdvance)
     → AreAlike nodes start s es c d → IsAdvance nodes input c → IsAdvance nodes input d
     → (advance_answer input c.partial'.content c.answer ≡ advance_answer input d.partial'.content d.answer) × LeaveAlike nodes c d
+
+-- the same bytes used, and the same scalar
+abbrev pub AreSameFront : Option Front → Option Front → Type 0
+AreSameFront None None = ⊤
+AreSameFront (Some f) (Some g) = (f.used ≡ g.used) × (value_of f.scalar ≡ value_of g.scalar)
+AreSameFront a b = ⊥
+
+-- Of the same input `front_scalar` gives the same scalar, or none.
+abbrev pub OneAnswerOfFrontScalar : Type 0
+OneAnswerOfFrontScalar = (l : Rules) (k : Kind) (room : ℕ) (input : List ℕ) (a b : Option Front) → IsFront l k room input a → IsFront l k room input b → AreSameFront a b

@@ -239,7 +239,7 @@ has_none (advance.Item at used i) = not (has_content i)
 has_none (advance.Refused r) = true
 has_none a = false
 
--- Behind an item without a content, and behind a refusal, the buffer is empty.
+-- After an item without a content, and after a refusal, the buffer is empty.
 abbrev pub Empties : CellAdvance → Progress → Type 0
 Empties a q = has_none a ≡ true → q.content ≡ []
 

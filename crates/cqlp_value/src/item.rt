@@ -133,7 +133,7 @@ impl CellAdvance {
         match self {
             CellAdvance::More { .. } | CellAdvance::Done => false,
             CellAdvance::Refused(_) => true,
-            CellAdvance::Item { at: _, used: _, item } => {
+            CellAdvance::Item { item, .. } => {
                 !matches!(item, CellOutline::Leaf { .. } | CellOutline::Part { .. })
             }
         }

@@ -1,6 +1,6 @@
 //! Laws of the definitions.
 
-ghost use Rattle.cqlp_value.specs.Laws.{ReadIsSpelled, SpelledIsRead, SpelledIsLong, OneSpelled, OneAnswerOfPush, OneAnswerOfAdvance};
+ghost use Rattle.cqlp_value.specs.Laws.{ReadIsSpelled, SpelledIsRead, SpelledIsLong, OneSpelled, OneAnswerOfPush, OneAnswerOfAdvance, OneAnswerOfFrontScalar};
 
 /// What is read of a cell is a value that its bytes spell, with just its items.
 pub fn read_is_spelled()
@@ -30,4 +30,9 @@ pub fn one_answer_of_cell_push()
 /// After the same bytes and events of a cell, one answer of `CellReader::advance` to an input meets its clauses.
 pub fn one_answer_of_cell_advance()
     ensures { OneAnswerOfAdvance }
+{}
+
+/// One answer of `front_scalar` meets its clause.
+pub fn one_answer_of_front_scalar()
+    ensures { OneAnswerOfFrontScalar }
 {}

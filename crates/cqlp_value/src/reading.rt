@@ -26,7 +26,7 @@ use cqlp_type::{Kind, TypeTable};
 use std::alloc::Allocator;
 
 impl<A: Allocator> Standing<A> {
-    /// Takes the next bytes of the cell. The content of an earlier item is kept no longer than to the next one.
+    /// Takes the next bytes of the cell. An item without a content, and a refusal, leave the buffer empty.
     #[inline]
     pub(crate) fn advance(
         &mut self,
@@ -52,12 +52,7 @@ impl<A: Allocator> Standing<A> {
     }
 
     /// Takes the next bytes of the cell.
-    fn step(
-        &mut self,
-        partial: &mut Partial<A>,
-        table: &TypeTable<A>,
-        input: &[u8],
-    ) -> CellAdvance
+    fn step(&mut self, partial: &mut Partial<A>, table: &TypeTable<A>, input: &[u8]) -> CellAdvance
         requires stands { Stands table.now.nodes (state_of self.old) }
         requires joined { Joined table.now.nodes (state_of self.old) partial.old }
         requires levels { self.old.levels.room ≡ self.old.limits.depth }
