@@ -1,5 +1,5 @@
 -- What two answers to one call have in common.
-use Rattle.std.proofs.Common.{◌≡◌, ℕ, ◌<◌, ◌≤◌, ◌-◌, ◌^◌, nat_lt, Bool, true, false, List, [], ◌∷◌, ◌++◌, length, take, drop, Option, Some, None, IsSome, Ok, Err, refl, sym, ap, ◌∙◌, inl, inr, ◌⊎◌, append_assoc, arith}
+use Rattle.std.proofs.Common.{◌≡◌, ℕ, ◌<◌, ◌≤◌, ◌-◌, ◌^◌, Bool, true, List, [], ◌∷◌, ◌++◌, length, take, drop, Option, Some, None, IsSome, Ok, Err, refl, sym, ap, ◌∙◌, inl, inr, ◌⊎◌, append_assoc, arith}
 use Rattle.std.proofs.lemmas.Bool.{cases_lt, lt-ltb, le-ltb}
 use Rattle.std.proofs.lemmas.List.{take-append-drop}
 use Rattle.std.specs.Io.KnownBytes.{Appends, append_known}
@@ -82,15 +82,15 @@ offered_once old new new' bytes n n' known alike a b =
     let there = appended old.given new'.given (take n' bytes) known b.given in
     elim (cases_lt n (length bytes)) [
       | inl lt ↦ elim (cases_lt n' (length bytes)) [
-          | inl lt' ↦ inr (lt, lt', fronts_given old new new' (take n bytes) (drop n bytes) (take n' bytes) (drop n' bytes) (take-append-drop n bytes ∙ sym (take-append-drop n' bytes)) here there alike.1)
-          | inr le' ↦ absurd (counts_up old.failures alike.0 (sym (failed_at old new bytes n a lt) ∙ sym alike.1 ∙ sound_at old new' bytes n' b le'))
-        ]
+        | inl lt' ↦ inr (lt, lt', fronts_given old new new' (take n bytes) (drop n bytes) (take n' bytes) (drop n' bytes) (take-append-drop n bytes ∙ sym (take-append-drop n' bytes)) here there alike.1)
+        | inr le' ↦ absurd (counts_up old.failures alike.0 (sym (failed_at old new bytes n a lt) ∙ sym alike.1 ∙ sound_at old new' bytes n' b le'))
+      ]
       | inr le ↦ elim (cases_lt n' (length bytes)) [
-          | inl lt' ↦ absurd (counts_up old.failures alike.0 (sym (failed_at old new' bytes n' b lt') ∙ alike.1 ∙ sound_at old new bytes n a le))
-          | inr le' ↦
-              let all : n ≡ length bytes = omega (arith, a.bound) in
-              let same : n' ≡ n = omega (arith, a.bound, b.bound) in
-              let given : new'.given ≡ new.given = there ∙ ap (λ k. append_known old.given (take k bytes)) same ∙ sym here in
-              inl (all, same, ap (λ k. output k new'.failures) given ∙ ap (λ k. output new.given k) alike.1)
-        ]
+        | inl lt' ↦ absurd (counts_up old.failures alike.0 (sym (failed_at old new' bytes n' b lt') ∙ alike.1 ∙ sound_at old new bytes n a le))
+        | inr le' ↦
+            let all : n ≡ length bytes = omega (arith, a.bound) in
+            let same : n' ≡ n = omega (arith, a.bound, b.bound) in
+            let given : new'.given ≡ new.given = there ∙ ap (λ k. append_known old.given (take k bytes)) same ∙ sym here in
+            inl (all, same, ap (λ k. output k new'.failures) given ∙ ap (λ k. output new.given k) alike.1)
+      ]
     ]

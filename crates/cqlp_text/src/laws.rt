@@ -13,7 +13,7 @@ pub fn one_answer_of_event_line()
 {}
 
 /// Of an event at a place of a page there is one text; at a fault of the target, a front of it was written. The place
-/// behind the event is told by one equation.
+/// after the event is one equation of the call.
 pub fn one_answer_of_page_part()
     ensures { PagePartIsWrittenOnce }
 {}

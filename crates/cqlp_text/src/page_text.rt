@@ -19,7 +19,7 @@ const ROOM: usize = 64;
 const ROWS: i32 = 2;
 
 /// Appends what is written of an event of a page, which nothing is of an event of another frame, and goes to the place
-/// behind it, also at a fault, which is the writer's own.
+/// after it, also at a fault, which is the writer's own.
 pub fn page_part<W: Target>(
     place: &mut PagePlace,
     event: &Event<'_>,
@@ -280,7 +280,7 @@ impl<W: Target> LineWriter<'_, W> {
     ghost use Rattle.cqlp_text.specs.Words.{word_text};
     ghost use Rattle.cqlp_text.specs.Written.{Writes};
 
-    /// Takes what is written of an event of a page, goes to the place behind it, and passes all on.
+    /// Takes what is written of an event of a page, goes to the place after it, also at a fault, and passes all on.
     pub fn put_page_part(
         &mut self,
         place: &mut PagePlace,
