@@ -98,7 +98,7 @@ module _ (form : Form) (turns : ℕ) (f : Finish) (old new : State) (xs : List �
   ended_by None is =
       let w = ran.0.events s es a in
       let all = ran.3 in
-      let no_rest : ran.0.rest ≡ [] = elim ran.1 [ | inl e ↦ e | inr r ↦ let not : new.refusal ≡ Some r.0 = r.1 in absurd cc ] in
+      let no_rest : ran.0.rest ≡ [] = elim ran.1 [ inl e ↦ e | inr r ↦ let not : new.refusal ≡ Some r.0 = r.1 in absurd cc ] in
       let whole : s ++ ran.0.bytes ≡ s ++ xs = ap (λ k. s ++ k) (sym (ran.0.parts ∙ ap (λ k. ran.0.bytes ++ k) no_rest ∙ append-nil ran.0.bytes)) in
       let read : s ++ ran.0.bytes ++ all.looked ≡ s ++ xs = ap (λ k. s ++ ran.0.bytes ++ k) (all.none is) ∙ append-nil (s ++ ran.0.bytes) ∙ whole in
       record {
@@ -189,14 +189,18 @@ module _ (form : Form) (turns : ℕ) (old new old' new' : State) (xs : List ℕ)
       let r = reads_all new p.bytes p.rest (es ++ w.more) rules p.parts w.stands in
       let r' = reads_all new' p'.bytes p'.rest (es ++ w'.more) rules' p'.parts w'.stands in
       let same : after'.failures ≡ after.failures = w'.failures ∙ sym w.failures in
-      inr (w.failures, w'.failures, elim (cases_lt (length (es ++ w'.more)) (length (es ++ w.more))) [
-        | inl lt ↦
-            let c = runs_compare (step l) start r'.0 r.0 (s ++ xs) r'.1 r.1 (es ++ w'.more) (es ++ w.more) r'.2 r.2 (omega arith) in
-            elim (more_text after'.given after.given after'.failures after.failures w'.lost w.lost w'.more w.more c.0 c.1 w'.front w.front (sym same)) [ | inl m ↦ inr m | inr m ↦ inl m ]
-        | inr le ↦
-            let c = runs_compare (step l) start r.0 r'.0 (s ++ xs) r.1 r'.1 (es ++ w.more) (es ++ w'.more) r.2 r'.2 le in
-            more_text after.given after'.given after.failures after'.failures w.lost w'.lost w.more w'.more c.0 c.1 w.front w'.front same
-      ])
+      inr (
+        w.failures,
+        w'.failures,
+        elim (cases_lt (length (es ++ w'.more)) (length (es ++ w.more))) [
+          | inl lt ↦
+              let c = runs_compare (step l) start r'.0 r.0 (s ++ xs) r'.1 r.1 (es ++ w'.more) (es ++ w.more) r'.2 r.2 (omega arith) in
+              elim (more_text after'.given after.given after'.failures after.failures w'.lost w.lost w'.more w.more c.0 c.1 w'.front w.front (sym same)) [ inl m ↦ inr m | inr m ↦ inl m ]
+          | inr le ↦
+              let c = runs_compare (step l) start r.0 r'.0 (s ++ xs) r.1 r'.1 (es ++ w.more) (es ++ w'.more) r.2 r'.2 le in
+              more_text after.given after'.given after.failures after'.failures w.lost w'.lost w.more w'.more c.0 c.1 w.front w'.front same
+        ],
+      )
 
   pub runs_once : (o o' : Outcome) → EndsAlike o o' left left' → RendersTo form turns o old new xs left before after → RendersTo form turns o' old' new' xs left' before after' → (o' ≡ o) × IsOneOutput before after after'
   runs_once (outcome.Finished f) (outcome.Finished f') alike ran ran' = let one = finished_once f f' ran ran' in (ap (λ k. outcome.Finished k) one.0, one.1)

@@ -32,7 +32,7 @@ text-cons forms.Lines at e es = refl
 text-cons (forms.Pages place) at e es = refl
 text-cons forms.Nothing at e es = refl
 
--- the text of events, and of others behind them
+-- the text of events, and of others after them
 pub text-append : (form : Form) (es fs : List (ℕ × Event)) → text form (es ++ fs) ≡ text form es ++ text (form_behind form es) fs
 text-append form [] fs = sym (ap (λ k. k ++ text form fs) (text-nil form))
 text-append form (e ∷ es) fs =

@@ -29,7 +29,8 @@ EndsAs xs es (Refused at why) f = f ≡ finish.Refused (record { at = at; why = 
 
 -- A renderer that is Finished wrote the text of all events that the stream says, and tells its end.
 abbrev pub IsRenderedWhole : Form → Type 0
-IsRenderedWhole form = (turns : ℕ) (f : Finish) (old new : State) (xs : List ℕ) (left : Option (List ℕ)) (before after : Output) (s : List ℕ) (es more : List (ℕ × Event)) (v : Verdict)
+IsRenderedWhole form = (turns : ℕ) (f : Finish) (old new : State) (xs : List ℕ) (left : Option (List ℕ))
+    (before after : Output) (s : List ℕ) (es more : List (ℕ × Event)) (v : Verdict)
     → After old s es → old.refusal ≡ None → new.rules ≡ old.rules → Says old.rules start (s ++ xs) (es ++ more) v
     → RendersTo form turns (outcome.Finished f) old new xs left before after
     → (after ≡ with_text before (text form more)) × EndsAs (s ++ xs) (es ++ more) v f
@@ -38,7 +39,8 @@ IsRenderedWhole form = (turns : ℕ) (f : Finish) (old new : State) (xs : List �
 abbrev pub IsSound : (before after : ℕ) → Type 0
 IsSound before after = (before < 2 ^ 64 - 1) × (after ≡ before)
 
--- The outside granted all: no target and no reader failed, the stream ends before the turns do, and the line of no memory was not written.
+-- The outside granted all: no target and no reader failed, the stream has fewer bytes than there are turns, and the line
+-- of no memory was not written.
 pub record IsGranted (turns : ℕ) (xs : List ℕ) (reads reads' : ℕ) (out err out' err' : Output) : Type 0 where
   pub reader : IsSound reads reads'
   pub output : IsSound out.failures out'.failures
@@ -49,23 +51,29 @@ pub record IsGranted (turns : ℕ) (xs : List ℕ) (reads reads' : ℕ) (out err
 -- A stream that says these events and this verdict is shown: where the outside granted all, or the status is not that of
 -- a fault, just the text of the events was written, the verdict line is that of the stream, and the status is its own.
 abbrev pub IsShownRightly : Form → Type 0
-IsShownRightly form = (limits : Limits) (turns : ℕ) (xs : List ℕ) (left : Option (List ℕ)) (reads reads' : ℕ) (out err : Output) (status : ℕ) (out' err' : Output) (es : List (ℕ × Event)) (v : Verdict)
+IsShownRightly form = (limits : Limits) (turns : ℕ) (xs : List ℕ) (left : Option (List ℕ))
+    (reads reads' : ℕ) (out err : Output) (status : ℕ) (out' err' : Output) (es : List (ℕ × Event)) (v : Verdict)
     → Says (rules_of limits) start xs es v → IsGranted turns xs reads reads' out err out' err' ⊎ (status ≢ 3)
     → ShowsAndTells form limits turns xs left reads reads' out err status out' err'
-    → (f : Finish) × EndsAs xs es v f × (status ≡ finish_status f) × (out' ≡ with_text out (text form es)) × (err' ≡ with_text err (ending_line (ending.Finished f)))
+    → (f : Finish) × EndsAs xs es v f × (status ≡ finish_status f)
+    × (out' ≡ with_text out (text form es)) × (err' ≡ with_text err (ending_line (ending.Finished f)))
 
 -- The same of a stream that is checked: the verdict line is all that was written.
 abbrev pub IsCheckedRightly : Type 0
-IsCheckedRightly = (limits : Limits) (turns : ℕ) (xs : List ℕ) (left : Option (List ℕ)) (reads reads' : ℕ) (out err : Output) (status : ℕ) (out' err' : Output) (es : List (ℕ × Event)) (v : Verdict)
+IsCheckedRightly = (limits : Limits) (turns : ℕ) (xs : List ℕ) (left : Option (List ℕ))
+    (reads reads' : ℕ) (out err : Output) (status : ℕ) (out' err' : Output) (es : List (ℕ × Event)) (v : Verdict)
     → Says (rules_of limits) start xs es v → IsGranted turns xs reads reads' out err out' err' ⊎ (status ≢ 3)
     → ChecksAndTells limits turns xs left reads reads' out err status out' err'
-    → (f : Finish) × EndsAs xs es v f × (status ≡ finish_status f) × (out' ≡ with_text out (ending_line (ending.Finished f))) × (err' ≡ err)
+    → (f : Finish) × EndsAs xs es v f × (status ≡ finish_status f)
+    × (out' ≡ with_text out (ending_line (ending.Finished f))) × (err' ≡ err)
 
 -- ---- one answer
 
--- Two outputs, from the same one, are the same; or the target failed in both, and one was given what the other was and more.
+-- Two outputs, from the same one, are the same; or the target failed in both, and one was given what the other was, and
+-- then perhaps more.
 abbrev pub IsOneOutput : (before after after' : Output) → Type 0
-IsOneOutput before after after' = (after' ≡ after) ⊎ (HasFailed before after × HasFailed before after' × GoesOnFromOther after after')
+IsOneOutput before after after' =
+    (after' ≡ after) ⊎ (HasFailed before after × HasFailed before after' × GoesOnFromOther after after')
 
 -- What only the outside decides is the same of two runs: how they end, and what a reader has left that failed or was not
 -- at its end.
@@ -78,7 +86,8 @@ EndsAlike o o' left left' = ⊥
 
 -- Two runs of a renderer, from the same history and the same bytes, that end alike: one outcome, and one output.
 abbrev pub IsRenderedOnce : Form → Type 0
-IsRenderedOnce form = (turns : ℕ) (o o' : Outcome) (old new new' : State) (xs : List ℕ) (left left' : Option (List ℕ)) (before after after' : Output) (s : List ℕ) (es : List (ℕ × Event))
+IsRenderedOnce form = (turns : ℕ) (o o' : Outcome) (old new new' : State) (xs : List ℕ) (left left' : Option (List ℕ))
+    (before after after' : Output) (s : List ℕ) (es : List (ℕ × Event))
     → After old s es → old.refusal ≡ None → new.rules ≡ old.rules → new'.rules ≡ old.rules → EndsAlike o o' left left'
     → RendersTo form turns o old new xs left before after → RendersTo form turns o' old new' xs left' before after'
     → (o' ≡ o) × IsOneOutput before after after'
@@ -92,15 +101,20 @@ EndAlike ending.WriteFault ending.WriteFault left left' = Unit {0}
 EndAlike ending.NoMemory ending.NoMemory left left' = Unit {0}
 EndAlike e e' left left' = ⊥
 
--- Two commands that show the same bytes within the same limits, and end alike: one ending, one status, and one text on each output.
+-- Two commands that show the same bytes within the same limits, and end alike: one ending, one status, and one text on each
+-- output.
 abbrev pub IsShownOnce : Form → Type 0
-IsShownOnce form = (limits : Limits) (turns : ℕ) (xs : List ℕ) (left left' : Option (List ℕ)) (reads reads' reads'' : ℕ) (out err : Output) (status status' : ℕ) (out' err' out'' err'' : Output)
-    → (shows : ShowsAndTells form limits turns xs left reads reads' out err status out' err') (shows' : ShowsAndTells form limits turns xs left' reads reads'' out err status' out'' err'')
+IsShownOnce form = (limits : Limits) (turns : ℕ) (xs : List ℕ) (left left' : Option (List ℕ))
+    (reads reads' reads'' : ℕ) (out err : Output) (status status' : ℕ) (out' err' out'' err'' : Output)
+    → (shows : ShowsAndTells form limits turns xs left reads reads' out err status out' err')
+    (shows' : ShowsAndTells form limits turns xs left' reads reads'' out err status' out'' err'')
     → EndAlike shows.0 shows'.0 left left' → FailsAlike err err' err''
     → (shows'.0 ≡ shows.0) × (status' ≡ status) × IsOneOutput out out' out'' × IsOneOutput err err' err''
 
 abbrev pub IsCheckedOnce : Type 0
-IsCheckedOnce = (limits : Limits) (turns : ℕ) (xs : List ℕ) (left left' : Option (List ℕ)) (reads reads' reads'' : ℕ) (out err : Output) (status status' : ℕ) (out' err' out'' err'' : Output)
-    → (checks : ChecksAndTells limits turns xs left reads reads' out err status out' err') (checks' : ChecksAndTells limits turns xs left' reads reads'' out err status' out'' err'')
+IsCheckedOnce = (limits : Limits) (turns : ℕ) (xs : List ℕ) (left left' : Option (List ℕ))
+    (reads reads' reads'' : ℕ) (out err : Output) (status status' : ℕ) (out' err' out'' err'' : Output)
+    → (checks : ChecksAndTells limits turns xs left reads reads' out err status out' err')
+    (checks' : ChecksAndTells limits turns xs left' reads reads'' out err status' out'' err'')
     → EndAlike checks.0 checks'.0 left left' → FailsAlike out out' out'' → FailsAlike err err' err''
     → (checks'.0 ≡ checks.0) × (status' ≡ status) × IsOneOutput out out' out'' × IsOneOutput err err' err''

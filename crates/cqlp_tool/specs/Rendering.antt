@@ -76,8 +76,8 @@ RendersTo form turns outcome.ReadFault old new xs left before after = (d : Rende
 RendersTo form turns outcome.Turns old new xs left before after = (d : Renders form old new xs before after) × (left ≡ Some d.rest) × (turns ≤ length d.bytes) × RendersAll form old new xs left before after d
 RendersTo form turns outcome.SinkFault old new xs left before after = RendersPart form old new xs before after
 
--- Behind the bytes s and the events es, these bytes were used, and the target failed. What it was given is a front of what
--- the whole text of their events would have made of it.
+-- After the bytes s and the events es, these bytes were used, and the target failed. With some more text, which was lost,
+-- it would have been given just the text of their events.
 pub record WritesFront (form : Form) (new : State) (s : List ℕ) (es : List (ℕ × Event)) (bytes : List ℕ) (before after : Output) : Type 0 where
   pub more : List (ℕ × Event)
   pub stands : After new (s ++ bytes) (es ++ more)

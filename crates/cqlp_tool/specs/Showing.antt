@@ -42,7 +42,7 @@ pub record RendersFrontNew (form : Form) (limits : Limits) (xs : List ℕ) (befo
   pub same_rules : new.rules ≡ old.rules
   pub renders : RendersFront form old new xs before after
 
--- What a decoder rendered through a buffer; where the target fails, a front of it.
+-- What a decoder rendered through a buffer; where the target failed, it was given a front of that.
 abbrev pub RendersOrFails : Form → (turns : ℕ) → Outcome → (old new : State) → (xs : List ℕ) → Option (List ℕ) → (before after : Output) → Type 0
 RendersOrFails form turns (outcome.Finished f) old new xs left before after = RendersTo form turns (outcome.Finished f) old new xs left before after
 RendersOrFails form turns outcome.ReadFault old new xs left before after = RendersTo form turns outcome.ReadFault old new xs left before after
