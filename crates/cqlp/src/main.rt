@@ -9,22 +9,13 @@ use std::{env, io};
 /// The exit status where the words are no text.
 const BAD_COMMAND_LINE: u8 = 2;
 
-/// The exit status where there is no memory for the words.
+/// The exit status where there is no memory for the words, or the standard error fails.
 const FAULT: u8 = 3;
 
 fn main(rt: HostRuntime) -> ExitCode {
     match run(&rt) {
         Ok(status) => ExitCode::from(status),
-        Err(error) => match error.kind() {
-            io::ErrorKind::InvalidData => {
-                let _ = eprintln!(rt; "error: invalid UTF-8 was detected in one or more arguments");
-                ExitCode::from(BAD_COMMAND_LINE)
-            }
-            _ => {
-                let _ = eprintln!(rt; "cqlp: no memory");
-                ExitCode::from(FAULT)
-            }
-        },
+        Err(error) => ExitCode::from(complain(&rt, error.kind())),
     }
 }
 
@@ -40,4 +31,16 @@ fn run(rt: &HostRuntime) -> io::Result<u8> {
     let err = OfStd::new(rt.stderr());
     let (status, _, _) = command(rt, words.as_slice(), &mut input, out, err);
     Ok(status)
+}
+
+/// Writes why the words cannot be read. Answers the exit status.
+fn complain(rt: &HostRuntime, why: io::ErrorKind) -> u8 {
+    let io::ErrorKind::InvalidData = why else {
+        let _ = eprintln!(rt; "cqlp: no memory");
+        return FAULT;
+    };
+    match eprintln!(rt; "error: invalid UTF-8 was detected in one or more arguments") {
+        Ok(()) => BAD_COMMAND_LINE,
+        Err(_) => FAULT,
+    }
 }

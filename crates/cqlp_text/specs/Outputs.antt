@@ -1,6 +1,6 @@
 -- What a target was given of a text.
-use Rattle.std.specs.Prelude.{◌≡◌, ℕ, true, List, ◌∷◌, ◌++◌, Option, Result, Ok, Err}
-use Rattle.std.specs.Io.KnownBytes.{append_known}
+use Rattle.std.specs.Prelude.{◌≡◌, ◌≤◌, ℕ, true, nat_lt, List, ◌∷◌, ◌++◌, length, take, Option, Result, Ok, Err}
+use Rattle.std.specs.Io.KnownBytes.{Appends, append_known}
 use Rattle.cqlp_note.specs.Streams.{counted}
 use Rattle.cqlp_decode.specs.declared.sink.SinkFault.{SinkFault}
 
@@ -33,3 +33,9 @@ WritesText old text (Err e) new = StopsWithin old text new
 -- One call of the target failed.
 abbrev pub HasFailed : (before after : Output) → Type 0
 HasFailed before after = after.failures ≡ counted true before.failures
+
+-- The target took the first n of these bytes, and failed where they are not all.
+pub record Offered (old : Output) (bytes : List ℕ) (n : ℕ) (new : Output) : Type 0 where
+  pub bound : n ≤ length bytes
+  pub given : Appends old.given new.given (take n bytes)
+  pub failures : new.failures ≡ counted (nat_lt n (length bytes)) old.failures

@@ -5,6 +5,7 @@ mod cells;
 mod dates;
 mod ending;
 mod events;
+pub mod laws;
 mod line_writer;
 mod names;
 mod page_text;

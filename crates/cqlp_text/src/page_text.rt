@@ -1,6 +1,6 @@
 //! Pages as text.
 
-ghost use Rattle.std.specs.Prelude.{◌≡◌, ◌++◌, IsSome, OnOk, []};
+ghost use Rattle.std.specs.Prelude.{◌≡◌, ◌++◌, IsSome, []};
 ghost use Rattle.cqlp_decode.specs.Events.{event_of};
 ghost use Rattle.cqlp_text.specs.PageText.{page_part as text_of, place_behind};
 ghost use Rattle.cqlp_text.specs.Outputs.{WritesText, output};
@@ -19,14 +19,14 @@ const ROOM: usize = 64;
 const ROWS: i32 = 2;
 
 /// Appends what is written of an event of a page, which nothing is of an event of another frame, and goes to the place
-/// behind it. A fault is the writer's own.
+/// after it, also at a fault, which is the writer's own.
 pub fn page_part<W: Target>(
     place: &mut PagePlace,
     event: &Event<'_>,
     w: &mut W,
 ) -> Result<(), SinkFault>
     ensures part { IsSome (W.contents w.old) → WritesText (output (W.contents w.old) (W.failures w.old)) (text_of place.old (event_of event.now)) result (output (W.contents w.new) (W.failures w.new)) }
-    ensures place { OnOk result (place.new ≡ place_behind place.old (event_of event.now)) }
+    ensures place { place.new ≡ place_behind place.old (event_of event.now) }
 {
     if !place.shows(event) {
         place.pass(event);
@@ -280,7 +280,7 @@ impl<W: Target> LineWriter<'_, W> {
     ghost use Rattle.cqlp_text.specs.Words.{word_text};
     ghost use Rattle.cqlp_text.specs.Written.{Writes};
 
-    /// Takes what is written of an event of a page, goes to the place behind it, and passes all on.
+    /// Takes what is written of an event of a page, goes to the place after it, also at a fault, and passes all on.
     pub fn put_page_part(
         &mut self,
         place: &mut PagePlace,
@@ -288,12 +288,15 @@ impl<W: Target> LineWriter<'_, W> {
     ) -> Result<(), SinkFault>
         ensures part { Writes self.old (text_of place.old (event_of event.now)) result self.new }
         ensures passed { self.new.waiting ≡ [] }
-        ensures place { OnOk result (place.new ≡ place_behind place.old (event_of event.now)) }
+        ensures place { place.new ≡ place_behind place.old (event_of event.now) }
     {
-        if place.is_page() {
-            self.put_event_part(place, event)?;
+        if !place.is_page() {
+            place.pass(event);
+            return self.flush();
         }
+        let written = self.put_event_part(place, event);
         place.pass(event);
+        written?;
         self.flush()
     }
 

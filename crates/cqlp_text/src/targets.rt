@@ -1,17 +1,13 @@
 //! Bytes on their way to a target.
 
-ghost use Rattle.std.specs.Prelude.{◌≤◌, ◌≡◌, length, take, nat_lt};
-ghost use Rattle.std.specs.Io.KnownBytes.{Appends};
-ghost use Rattle.cqlp_note.specs.Streams.{counted};
+ghost use Rattle.cqlp_text.specs.Outputs.{Offered, output};
 
 use cqlp_note::Target;
 
 /// Passes bytes on until the target fails, and answers how many it took. A call that takes only some of the bytes is
 /// followed by one with the others.
 pub fn offer<W: Target>(target: &mut W, bytes: &[u8]) -> usize
-    ensures bound { result ≤ length bytes.now }
-    ensures given { Appends (W.contents target.old) (W.contents target.new) (take result bytes.now) }
-    ensures failures { W.failures target.new ≡ counted (nat_lt result (length bytes.now)) (W.failures target.old) }
+    ensures { Offered (output (W.contents target.old) (W.failures target.old)) bytes.now result (output (W.contents target.new) (W.failures target.new)) }
 {
     let mut sent = 0;
     while sent < bytes.len() {

@@ -1,3 +1,4 @@
+pub mod OneAnswer
 pub mod Passing
 pub mod Renders
 pub mod Shows

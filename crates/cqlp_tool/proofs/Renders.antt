@@ -5,35 +5,46 @@ use Rattle.cqlp_decode.specs.declared.running.Outcome.{Outcome}
 use Rattle.cqlp_decode.specs.declared.running.Outcome.TheVariants as outcome
 use Rattle.cqlp_decode.specs.Reading.{Event}
 use Rattle.cqlp_decode.specs.Standing.{State}
-use Rattle.cqlp_decode.specs.Draining.{fold_events, Drains, Fails, Feeds, FeedsInto, RunsTo}
+use Rattle.cqlp_decode.specs.Draining.{fold_events, Drains, Fails, Feeds, FeedsInto, HasAll, RunsTo}
 use Rattle.cqlp_tool.specs.declared.form.Form.{Form}
 use Rattle.cqlp_tool.specs.declared.form.Form.TheVariants as forms
 use Rattle.cqlp_tool.specs.Forms.{text, text_of, form_after, form_behind}
 use Rattle.cqlp_text.specs.Outputs.{Output, output, with_text, StopsWithin}
-use Rattle.cqlp_tool.specs.Rendering.{Rendering, rendering, with_event, StopsWithinEvent, WritesEvents, StopsInEvents, Renders, RendersPart, RendersTo}
+use Rattle.cqlp_text.proofs.OneAnswer.{known_then}
+use Rattle.cqlp_tool.specs.Rendering.{Rendering, rendering, with_event, StopsWithinEvent, WritesEvents, StopsInEvents, Renders, RendersAll, RendersPart, RendersTo}
 
 pub known_nothing : (given : Option (List ℕ)) → append_known given [] ≡ given
 known_nothing None = refl
 known_nothing (Some t) = ap (λ k. Some k) (append-nil t)
-
-known_then : (given : Option (List ℕ)) (x y : List ℕ) → append_known (append_known given x) y ≡ append_known given (x ++ y)
-known_then None x y = refl
-known_then (Some t) x y = ap (λ k. Some k) (append_assoc t x y)
 
 pub known_still : (given : Option (List ℕ)) (text : List ℕ) → IsSome given → IsSome (append_known given text)
 known_still None text known = known
 known_still (Some t) text known = refl
 
 -- the text of no events, and of one more
-text-nil : (form : Form) → text form [] ≡ []
+pub text-nil : (form : Form) → text form [] ≡ []
 text-nil forms.Lines = refl
 text-nil (forms.Pages place) = refl
 text-nil forms.Nothing = refl
 
-text-cons : (form : Form) (at : ℕ) (e : Event) (es : List (ℕ × Event)) → text_of form at e ++ text (form_after form e) es ≡ text form ((at, e) ∷ es)
+pub text-cons : (form : Form) (at : ℕ) (e : Event) (es : List (ℕ × Event)) → text_of form at e ++ text (form_after form e) es ≡ text form ((at, e) ∷ es)
 text-cons forms.Lines at e es = refl
 text-cons (forms.Pages place) at e es = refl
 text-cons forms.Nothing at e es = refl
+
+-- the text of events, and of others after them
+pub text-append : (form : Form) (es fs : List (ℕ × Event)) → text form (es ++ fs) ≡ text form es ++ text (form_behind form es) fs
+text-append form [] fs = sym (ap (λ k. k ++ text form fs) (text-nil form))
+text-append form (e ∷ es) fs =
+    sym (text-cons form e.0 e.1 (es ++ fs)) ∙ ap (λ k. text_of form e.0 e.1 ++ k) (text-append (form_after form e.1) es fs)
+    ∙ sym (append_assoc (text_of form e.0 e.1) (text (form_after form e.1) es) (text (form_behind form (e ∷ es)) fs))
+    ∙ ap (λ k. k ++ text (form_behind form (e ∷ es)) fs) (text-cons form e.0 e.1 es)
+
+-- and of one more
+pub text-last : (form : Form) (es : List (ℕ × Event)) (at : ℕ) (e : Event) → text form (es ++ (at, e) ∷ []) ≡ text form es ++ text_of (form_behind form es) at e
+text-last form es at e =
+    text-append form es ((at, e) ∷ []) ∙ ap (λ k. text form es ++ k) (sym (text-cons (form_behind form es) at e [])
+    ∙ ap (λ k. text_of (form_behind form es) at e ++ k) (text-nil (form_after (form_behind form es) e)) ∙ append-nil (text_of (form_behind form es) at e))
 
 -- the text of events, one after the other, is their text
 pub fold-text : (o : Output) (form : Form) (es : List (ℕ × Event)) → fold_events with_event (rendering o form) es ≡ rendering (with_text o (text form es)) (form_behind form es)
@@ -72,8 +83,11 @@ module _ (old new : State) (xs : List ℕ) (before after : Rendering) where
     events = λ s es stands. stops_in_events new s es d.bytes before after (d.failed s es stands);
   }
 
+  renders_all : (left : Option (List ℕ)) (d : Feeds with_event old new xs before after) → HasAll with_event old new xs left before after d → RendersAll before.form old new xs left before.output after.output (renders d)
+  renders_all left d all = record { looked = all.looked; unread = all.unread; parts = all.parts; others = all.others; none = all.none; says = all.says }
+
 pub renders_to : (turns : ℕ) (o : Outcome) (old new : State) (xs : List ℕ) (left : Option (List ℕ)) (before after : Rendering) → RunsTo with_event StopsWithinEvent turns o old new xs left before after → RendersTo before.form turns o old new xs left before.output after.output
-renders_to turns (outcome.Finished end) old new xs left before after ran = (renders old new xs before after ran.0, ran.1, ran.2, ran.3)
-renders_to turns outcome.ReadFault old new xs left before after ran = (renders old new xs before after ran.0, ran.1, ran.2)
-renders_to turns outcome.Turns old new xs left before after ran = (renders old new xs before after ran.0, ran.1, ran.2, ran.3)
+renders_to turns (outcome.Finished end) old new xs left before after ran = (renders old new xs before after ran.0, ran.1, ran.2, renders_all old new xs before after left ran.0 ran.3)
+renders_to turns outcome.ReadFault old new xs left before after ran = (renders old new xs before after ran.0, ran.1, renders_all old new xs before after left ran.0 ran.2)
+renders_to turns outcome.Turns old new xs left before after ran = (renders old new xs before after ran.0, ran.1, ran.2, renders_all old new xs before after left ran.0 ran.3)
 renders_to turns outcome.SinkFault old new xs left before after ran = renders_part old new xs before after ran

@@ -1,5 +1,5 @@
 -- One run after another.
-use Rattle.std.proofs.Common.{◌≡◌, ℕ, ◌+◌, ◌≤◌, List, ◌++◌, length, Option, sym, ap, ◌∙◌, append_assoc, arith}
+use Rattle.std.proofs.Common.{◌≡◌, ℕ, ◌+◌, ◌≤◌, List, ◌++◌, length, Option, None, sym, ap, ◌∙◌, append_assoc, arith}
 use Rattle.std.proofs.lemmas.List.{length-append}
 use Rattle.cqlp_decode.specs.declared.running.Outcome.{Outcome}
 use Rattle.cqlp_decode.specs.declared.running.Outcome.TheVariants as outcome
@@ -20,10 +20,17 @@ module _ {V : Type 0} (f : V → ℕ → Event → V) (old mid new : State) (xs 
     drained = λ s es a. let p = d.drained s es a in drains_then f mid new s d.bytes e.bytes es u v w p (e.drained (s ++ d.bytes) (es ++ p.more) p.stands);
   }
 
-  has_all_on : (e : Feeds f mid new d.rest v w) → HasAll f mid new d.rest v w e → HasAll f old new xs u w (feeds_on e)
-  has_all_on e all none s es a =
-      let p = d.drained s es a in
-      rw (← (append_assoc s d.bytes e.bytes), ← (append_assoc es p.more (e.drained (s ++ d.bytes) (es ++ p.more) p.stands).more)) (all none (s ++ d.bytes) (es ++ p.more) p.stands)
+  has_all_on : (clear : old.refusal ≡ None → mid.refusal ≡ None) (left : Option (List ℕ)) (e : Feeds f mid new d.rest v w) → HasAll f mid new d.rest left v w e → HasAll f old new xs left u w (feeds_on e)
+  has_all_on clear left e all = record {
+    looked = all.looked;
+    unread = all.unread;
+    parts = all.parts;
+    others = all.others;
+    none = all.none;
+    says = λ free s es a.
+        let p = d.drained s es a in
+        rw (← (append_assoc s d.bytes e.bytes), ← (append_assoc es p.more (e.drained (s ++ d.bytes) (es ++ p.more) p.stands).more)) (all.says (clear free) (s ++ d.bytes) (es ++ p.more) p.stands);
+  }
 
   module _ (faulted : V → ℕ → Event → V → Type 0) where
     feeds_into_on : FeedsInto f faulted mid new d.rest v w → FeedsInto f faulted old new xs u w
@@ -35,8 +42,8 @@ module _ {V : Type 0} (f : V → ℕ → Event → V) (old mid new : State) (xs 
     }
 
     -- a run from where another stopped after its turns
-    pub runs_on : (turns more : ℕ) (o : Outcome) (left : Option (List ℕ)) → turns ≤ length d.bytes → RunsTo f faulted more o mid new d.rest left v w → RunsTo f faulted (turns + more) o old new xs left u w
-    runs_on turns more (outcome.Finished end) left long ran = (feeds_on ran.0, ran.1, ran.2, has_all_on ran.0 ran.3)
-    runs_on turns more outcome.ReadFault left long ran = (feeds_on ran.0, ran.1, has_all_on ran.0 ran.2)
-    runs_on turns more outcome.Turns left long ran = (feeds_on ran.0, ran.1, omega (arith, long, ran.2, length-append d.bytes ran.0.bytes), has_all_on ran.0 ran.3)
-    runs_on turns more outcome.SinkFault left long ran = feeds_into_on ran
+    pub runs_on : (clear : old.refusal ≡ None → mid.refusal ≡ None) (turns more : ℕ) (o : Outcome) (left : Option (List ℕ)) → turns ≤ length d.bytes → RunsTo f faulted more o mid new d.rest left v w → RunsTo f faulted (turns + more) o old new xs left u w
+    runs_on clear turns more (outcome.Finished end) left long ran = (feeds_on ran.0, ran.1, ran.2, has_all_on clear left ran.0 ran.3)
+    runs_on clear turns more outcome.ReadFault left long ran = (feeds_on ran.0, ran.1, has_all_on clear left ran.0 ran.2)
+    runs_on clear turns more outcome.Turns left long ran = (feeds_on ran.0, ran.1, omega (arith, long, ran.2, length-append d.bytes ran.0.bytes), has_all_on clear left ran.0 ran.3)
+    runs_on clear turns more outcome.SinkFault left long ran = feeds_into_on ran

@@ -2,16 +2,16 @@
 use Rattle.std.specs.Prelude.{◌≡◌, ℕ, true, false, List, ◌⊎◌}
 use Rattle.cqlp_note.specs.declared.limits.Limits.{Limits}
 use Rattle.cqlp_text.specs.declared.ending.Ending.TheVariants as ending
-use Rattle.cqlp_text.specs.Outputs.{Output, with_text, HasFailed, StopsWithin}
+use Rattle.cqlp_text.specs.Outputs.{Output, with_text, StopsWithin}
 use Rattle.cqlp_tool.specs.Showing.{Concludes}
 
 -- the limits where none are given
 abbrev pub default_limits : Limits
 default_limits = record { text = 1048576; cell = 1048576; entries = 4096; depth = 16; types = true; parts = false }
 
--- The line was written, and the status is 3; it is 3 too where the target failed.
+-- The line was written, and the status is 3; it is 3 too where the target failed within it.
 abbrev pub TellsFault : (line : List ℕ) → (before : Output) → (status : ℕ) → (after : Output) → Type 0
-TellsFault line before status after = (status ≡ 3) × ((after ≡ with_text before line) ⊎ HasFailed before after)
+TellsFault line before status after = (status ≡ 3) × ((after ≡ with_text before line) ⊎ StopsWithin before line after)
 
 -- Help was written to the output, with status 0; or the output failed, and the fault line tells that.
 abbrev pub Helps : (text : List ℕ) → (out err : Output) → (status : ℕ) → (out' err' : Output) → Type 0

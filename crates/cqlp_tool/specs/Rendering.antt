@@ -1,11 +1,13 @@
 -- What is written of a stream.
-use Rattle.std.specs.Prelude.{◌≡◌, ℕ, ◌≤◌, List, [], ◌∷◌, ◌++◌, length, Option, Some, None, ◌⊎◌}
+use Rattle.std.specs.Prelude.{◌≡◌, ℕ, ◌≤◌, true, List, [], ◌∷◌, ◌++◌, length, Option, Some, None, ◌⊎◌}
+use Rattle.std.specs.Io.KnownBytes.{append_known}
+use Rattle.cqlp_note.specs.Streams.{counted}
 use Rattle.cqlp_decode.specs.declared.running.Outcome.{Outcome}
 use Rattle.cqlp_decode.specs.declared.running.Outcome.TheVariants as outcome
-use Rattle.cqlp_decode.specs.Reading.{Event, start, Says, Waits}
+use Rattle.cqlp_decode.specs.Reading.{Event, start, Says}
 use Rattle.cqlp_decode.specs.Standing.{State}
 use Rattle.cqlp_decode.specs.Streams.{After, Finishes}
-use Rattle.cqlp_decode.specs.Draining.{HasRefused}
+use Rattle.cqlp_decode.specs.Draining.{HasRefused, verdict_of}
 use Rattle.cqlp_text.specs.Outputs.{Output, with_text, StopsWithin}
 use Rattle.cqlp_tool.specs.declared.form.Form.{Form}
 use Rattle.cqlp_tool.specs.Forms.{text, text_of, form_after, form_behind}
@@ -46,10 +48,16 @@ pub record Renders (form : Form) (old new : State) (xs : List ℕ) (before after
   pub parts : xs ≡ bytes ++ rest
   pub events : (s : List ℕ) (es : List (ℕ × Event)) → After old s es → WritesEvents form new s es bytes before after
 
--- Where there was no refusal, no event of the bytes used so far is still to come; a refusal comes behind them all.
-abbrev pub RendersAll : (form : Form) (old new : State) (xs : List ℕ) (before after : Output) → Renders form old new xs before after → Type 0
-RendersAll form old new xs before after d =
-    new.refusal ≡ None → (s : List ℕ) (es : List (ℕ × Event)) (a : After old s es) → Says new.rules start (s ++ d.bytes) (es ++ (d.events s es a).more) Waits
+-- Of the bytes that were not used, the first were looked at, where they are refused, and the others are left. What was
+-- written is the text of all events that the bytes read say, and the decoder's refusal, or none, is their verdict, if it
+-- had refused nothing before.
+pub record RendersAll (form : Form) (old new : State) (xs : List ℕ) (left : Option (List ℕ)) (before after : Output) (d : Renders form old new xs before after) : Type 0 where
+  pub looked : List ℕ
+  pub unread : List ℕ
+  pub parts : d.rest ≡ looked ++ unread
+  pub others : left ≡ Some unread
+  pub none : new.refusal ≡ None → looked ≡ []
+  pub says : old.refusal ≡ None → (s : List ℕ) (es : List (ℕ × Event)) (a : After old s es) → Says new.rules start (s ++ d.bytes ++ looked) (es ++ (d.events s es a).more) (verdict_of new.refusal)
 
 -- The same as `Renders`, but the target failed within the text of the last event.
 pub record RendersPart (form : Form) (old new : State) (xs : List ℕ) (before after : Output) : Type 0 where
@@ -63,7 +71,23 @@ pub record RendersPart (form : Form) (old new : State) (xs : List ℕ) (before a
 -- But for that, all events were written.
 abbrev pub RendersTo : Form → (turns : ℕ) → Outcome → (old new : State) → (xs : List ℕ) → Option (List ℕ) → (before after : Output) → Type 0
 RendersTo form turns (outcome.Finished end) old new xs left before after =
-    (d : Renders form old new xs before after) × ((d.rest ≡ []) ⊎ HasRefused new) × ((s : List ℕ) (es : List (ℕ × Event)) → After new s es → Finishes new s es end) × RendersAll form old new xs before after d
-RendersTo form turns outcome.ReadFault old new xs left before after = (d : Renders form old new xs before after) × (left ≡ Some d.rest) × RendersAll form old new xs before after d
-RendersTo form turns outcome.Turns old new xs left before after = (d : Renders form old new xs before after) × (left ≡ Some d.rest) × (turns ≤ length d.bytes) × RendersAll form old new xs before after d
+    (d : Renders form old new xs before after) × ((d.rest ≡ []) ⊎ HasRefused new) × ((s : List ℕ) (es : List (ℕ × Event)) → After new s es → Finishes new s es end) × RendersAll form old new xs left before after d
+RendersTo form turns outcome.ReadFault old new xs left before after = (d : Renders form old new xs before after) × (left ≡ Some d.rest) × RendersAll form old new xs left before after d
+RendersTo form turns outcome.Turns old new xs left before after = (d : Renders form old new xs before after) × (left ≡ Some d.rest) × (turns ≤ length d.bytes) × RendersAll form old new xs left before after d
 RendersTo form turns outcome.SinkFault old new xs left before after = RendersPart form old new xs before after
+
+-- After the bytes s and the events es, these bytes were used, and the target failed. With some more text, which was lost,
+-- it would have been given just the text of their events.
+pub record WritesFront (form : Form) (new : State) (s : List ℕ) (es : List (ℕ × Event)) (bytes : List ℕ) (before after : Output) : Type 0 where
+  pub more : List (ℕ × Event)
+  pub stands : After new (s ++ bytes) (es ++ more)
+  pub lost : List ℕ
+  pub front : append_known after.given lost ≡ append_known before.given (text form more)
+  pub failures : after.failures ≡ counted true before.failures
+
+-- Of the bytes xs of a reader, `rest` is left or was not used; the target failed within the text of the others.
+pub record RendersFront (form : Form) (old new : State) (xs : List ℕ) (before after : Output) : Type 0 where
+  pub bytes : List ℕ
+  pub rest : List ℕ
+  pub parts : xs ≡ bytes ++ rest
+  pub events : (s : List ℕ) (es : List (ℕ × Event)) → After old s es → WritesFront form new s es bytes before after

@@ -1,5 +1,5 @@
 -- What a command that shows a stream writes.
-use Rattle.std.specs.Prelude.{◌≡◌, ℕ, true, List, [], Option, ◌⊎◌}
+use Rattle.std.specs.Prelude.{◌≡◌, ℕ, true, List, [], Option, None, ◌⊎◌}
 use Rattle.cqlp_note.specs.declared.limits.Limits.{Limits}
 use Rattle.cqlp_note.specs.Limits.{rules_of}
 use Rattle.cqlp_note.specs.Streams.{counted}
@@ -12,8 +12,8 @@ use Rattle.cqlp_text.specs.declared.ending.Ending.TheVariants as ending
 use Rattle.cqlp_text.specs.Endings.{ending_line, finish_status, status_of}
 use Rattle.cqlp_tool.specs.declared.form.Form.{Form}
 use Rattle.cqlp_tool.specs.declared.form.Form.TheVariants as forms
-use Rattle.cqlp_text.specs.Outputs.{Output, with_text, HasFailed}
-use Rattle.cqlp_tool.specs.Rendering.{RendersTo}
+use Rattle.cqlp_text.specs.Outputs.{Output, with_text, StopsWithin}
+use Rattle.cqlp_tool.specs.Rendering.{RendersFront, RendersTo}
 
 -- how the command ends where a run does
 abbrev pub ending_of : Outcome → Ending
@@ -22,27 +22,39 @@ ending_of outcome.ReadFault = ending.ReadFault
 ending_of outcome.SinkFault = ending.WriteFault
 ending_of outcome.Turns = ending.TooManyTurns
 
--- A decoder that was just made with these limits rendered the bytes xs of a reader.
+-- A decoder that was just made with these limits, and has refused nothing, rendered the bytes xs of a reader.
 pub record RendersNew (form : Form) (limits : Limits) (turns : ℕ) (o : Outcome) (xs : List ℕ) (left : Option (List ℕ)) (before after : Output) : Type 0 where
   pub old : State
   pub new : State
   pub fresh : After old [] []
+  pub unrefused : old.refusal ≡ None
   pub rules : old.rules ≡ rules_of limits
+  pub same_rules : new.rules ≡ old.rules
   pub renders : RendersTo form turns o old new xs left before after
 
--- What a decoder rendered; or a target's fault.
+-- The same, but the target failed.
+pub record RendersFrontNew (form : Form) (limits : Limits) (xs : List ℕ) (before after : Output) : Type 0 where
+  pub old : State
+  pub new : State
+  pub fresh : After old [] []
+  pub unrefused : old.refusal ≡ None
+  pub rules : old.rules ≡ rules_of limits
+  pub same_rules : new.rules ≡ old.rules
+  pub renders : RendersFront form old new xs before after
+
+-- What a decoder rendered through a buffer; where the target failed, it was given a front of that.
 abbrev pub RendersOrFails : Form → (turns : ℕ) → Outcome → (old new : State) → (xs : List ℕ) → Option (List ℕ) → (before after : Output) → Type 0
 RendersOrFails form turns (outcome.Finished f) old new xs left before after = RendersTo form turns (outcome.Finished f) old new xs left before after
 RendersOrFails form turns outcome.ReadFault old new xs left before after = RendersTo form turns outcome.ReadFault old new xs left before after
 RendersOrFails form turns outcome.Turns old new xs left before after = RendersTo form turns outcome.Turns old new xs left before after
-RendersOrFails form turns outcome.SinkFault old new xs left before after = HasFailed before after
+RendersOrFails form turns outcome.SinkFault old new xs left before after = RendersFront form old new xs before after
 
 -- What was written of the bytes xs of a reader, by how the command ends.
 abbrev pub ShowsTo : Form → Limits → (turns : ℕ) → Ending → (xs : List ℕ) → Option (List ℕ) → (before after : Output) → Type 0
 ShowsTo form limits turns (ending.Finished f) xs left before after = RendersNew form limits turns (outcome.Finished f) xs left before after
 ShowsTo form limits turns ending.ReadFault xs left before after = RendersNew form limits turns outcome.ReadFault xs left before after
 ShowsTo form limits turns ending.TooManyTurns xs left before after = RendersNew form limits turns outcome.Turns xs left before after
-ShowsTo form limits turns ending.WriteFault xs left before after = HasFailed before after
+ShowsTo form limits turns ending.WriteFault xs left before after = RendersFrontNew form limits xs before after
 ShowsTo form limits turns ending.NoMemory xs left before after = after ≡ before
 
 -- A read fault that is told is one more failed call of the reader; and none failed where the stream was read.
@@ -51,16 +63,17 @@ CountsReads ending.ReadFault old new = new ≡ counted true old
 CountsReads ending.WriteFault old new = Unit {0}
 CountsReads e old new = new ≡ old
 
--- The line of the ending was written, and the status is its own; or the target failed, and the status is 3.
+-- The line of the ending was written, and the status is its own; or the target failed within it, and the status is 3.
 abbrev pub Concludes : Ending → (before : Output) → (status : ℕ) → (after : Output) → Type 0
 Concludes e before status after =
-    ((status ≡ status_of e) × (after ≡ with_text before (ending_line e))) ⊎ ((status ≡ 3) × HasFailed before after)
+    ((status ≡ status_of e) × (after ≡ with_text before (ending_line e))) ⊎ ((status ≡ 3) × StopsWithin before (ending_line e) after)
 
 -- The verdict line of a stream that was read went to the output. The fault line of any other ending, also of an output
 -- that failed there, went to the error output.
 abbrev pub ConcludesCheck : Ending → (out err : Output) → (status : ℕ) → (out' err' : Output) → Type 0
 ConcludesCheck (ending.Finished f) out err status out' err' =
-    ((status ≡ finish_status f) × (out' ≡ with_text out (ending_line (ending.Finished f))) × (err' ≡ err)) ⊎ (HasFailed out out' × Concludes ending.WriteFault err status err')
+    ((status ≡ finish_status f) × (out' ≡ with_text out (ending_line (ending.Finished f))) × (err' ≡ err))
+    ⊎ (StopsWithin out (ending_line (ending.Finished f)) out' × Concludes ending.WriteFault err status err')
 ConcludesCheck e out err status out' err' = (out' ≡ out) × Concludes e err status err'
 
 -- A stream was shown: what was written of it, which calls of the reader failed, and the line that tells how it ended.

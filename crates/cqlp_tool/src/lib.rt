@@ -6,6 +6,7 @@ mod command_line;
 mod form;
 #[cfg(test)]
 mod heaps;
+pub mod laws;
 mod options;
 mod render;
 mod showing;

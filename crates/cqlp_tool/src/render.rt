@@ -1,8 +1,7 @@
 //! Streams as text.
 
 ghost use Rattle.std.specs.Prelude.{◌≡◌, ◌*◌, List, ℕ, Some, IsSome, []};
-ghost use Rattle.cqlp_decode.specs.Draining.{Counts, ReadsAtMost, WaitsAt};
-ghost use Rattle.cqlp_decode.specs.Reading as reading;
+ghost use Rattle.cqlp_decode.specs.Draining.{Counts, KeepsRefusal, ReadsAtMost, WaitsAt};
 ghost use Rattle.cqlp_decode.specs.Streams.{After, state};
 
 use crate::buffered::Buffered;
@@ -57,6 +56,7 @@ impl<W: Target, A: Allocator> TextSink<Buffered<W, A>> {
     /// Passes on all text that waits.
     pub fn flush(&mut self) -> Result<(), IoFault>
         ensures ok { IsSome self.old.output.given → OnOk result (self.new ≡ self.old) }
+        ensures keeps { IsSome self.old.output.given → self.new.output.given ≡ self.old.output.given }
         ensures err { OnErr result (HasFailed self.old.output self.new.output) }
     {
         self.target.flush()
@@ -100,9 +100,11 @@ pub fn render_events<R: Source, W: Target, A: Allocator>(
     turns: u64,
 ) -> (Outcome, W)
     ensures lines { (xs : List ℕ) → R.left reader.old ≡ Some xs → IsSome (W.contents w) → RendersTo forms.Lines turns result.0 (state decoder.old) (state decoder.new) xs (R.left reader.new) (output (W.contents w) (W.failures w)) (output (W.contents result.1) (W.failures result.1)) }
-    ensures waits { (xs : List ℕ) → R.left reader.old ≡ Some xs → IsSome (W.contents w) → (s : List ℕ) (es : List (ℕ × reading.Event)) → After (state decoder.old) s es → WaitsAt result.0 (state decoder.new) }
+    ensures waits { WaitsAt result.0 (state decoder.new) }
+    ensures stays { KeepsRefusal (state decoder.old) (state decoder.new) }
     ensures reads { (xs : List ℕ) → R.left reader.old ≡ Some xs → ReadsAtMost (4096 * turns) xs (R.left reader.new) }
     ensures failures { Counts result.0 (R.failures reader.old) (R.failures reader.new) }
+    ensures rules { (state decoder.new).rules ≡ (state decoder.old).rules }
 {
     let mut sink = TextSink::new(w, Form::Lines);
     let outcome = run(decoder, reader, &mut sink, turns);
@@ -119,9 +121,11 @@ pub fn render_rows<R: Source, W: Target, A: Allocator>(
     turns: u64,
 ) -> (Outcome, W)
     ensures text { (xs : List ℕ) → R.left reader.old ≡ Some xs → IsSome (W.contents w) → RendersTo (forms.Pages no_page) turns result.0 (state decoder.old) (state decoder.new) xs (R.left reader.new) (output (W.contents w) (W.failures w)) (output (W.contents result.1) (W.failures result.1)) }
-    ensures waits { (xs : List ℕ) → R.left reader.old ≡ Some xs → IsSome (W.contents w) → (s : List ℕ) (es : List (ℕ × reading.Event)) → After (state decoder.old) s es → WaitsAt result.0 (state decoder.new) }
+    ensures waits { WaitsAt result.0 (state decoder.new) }
+    ensures stays { KeepsRefusal (state decoder.old) (state decoder.new) }
     ensures reads { (xs : List ℕ) → R.left reader.old ≡ Some xs → ReadsAtMost (4096 * turns) xs (R.left reader.new) }
     ensures failures { Counts result.0 (R.failures reader.old) (R.failures reader.new) }
+    ensures rules { (state decoder.new).rules ≡ (state decoder.old).rules }
 {
     let mut sink = TextSink::new(w, Form::Pages(PagePlace::new()));
     let outcome = run(decoder, reader, &mut sink, turns);
@@ -138,6 +142,7 @@ pub(crate) fn run_flushing<R: Source, W: Target, A: Allocator, B: Allocator>(
 ) -> Outcome
     ensures renders { (xs : List ℕ) → R.left reader.old ≡ Some xs → IsSome sink.old.output.given → After (state decoder.old) [] [] → RendersOrFails sink.old.form turns result (state decoder.old) (state decoder.new) xs (R.left reader.new) sink.old.output sink.new.output }
     ensures failures { Counts result (R.failures reader.old) (R.failures reader.new) }
+    ensures rules { (state decoder.new).rules ≡ (state decoder.old).rules }
 {
     let mut outcome = run(decoder, reader, sink, 0);
     for turn in 0..turns {

@@ -154,6 +154,7 @@ fn render_buffered<R: Source, O: Target, A: Allocator, B: Allocator>(
         RendersOrFails form TURNS result.0 (state decoder.old) (state decoder.new) xs (R.left input.new)
         (output (O.contents out) (O.failures out)) (output (O.contents result.1) (O.failures result.1)) }
     ensures failures { CountsReads (ending_of result.0) (R.failures input.old) (R.failures input.new) }
+    ensures rules { (state decoder.new).rules ≡ (state decoder.old).rules }
 {
     let mut sink = TextSink::new(Buffered::new(out, buffer), form);
     let outcome = run_flushing(decoder, input, &mut sink, TURNS);

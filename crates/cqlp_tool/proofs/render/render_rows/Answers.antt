@@ -3,6 +3,3 @@ use Rattle.cqlp_tool.proofs.render.render_rows.Goals as goal
 
 pub returns-clause-text : goal.returns-clause-text
 returns-clause-text g c = λ xs left tells. rw c.into_inner.ensures (renders_to _ _ _ _ _ _ _ _ ((rw (c.new-sink.ensures, c.new.ensures) at c.run-outcome.ensures.runs) xs left tells))
-
-pub returns-clause-waits : goal.returns-clause-waits
-returns-clause-waits g c = λ xs left tells s es after. (rw c.new-sink.ensures at c.run-outcome.ensures.waits) xs left tells s es after

@@ -30,5 +30,5 @@ returns-clause-checks g c = λ xs left known err_known.
       output (g.O.Target.contents c.shown-ending.result.1) (g.O.Target.failures c.shown-ending.result.1),
       shows,
       c.shown-ending.ensures.failures,
-      checks_failed c.shown-ending.result.0 c.in-Finished.field-0 c.in-Finished.is _ _ _ _ _ (c.in-Err.ensures told).failures (c.conclude-status-2.ensures.concludes err_known),
+      checks_failed c.shown-ending.result.0 c.in-Finished.field-0 c.in-Finished.is _ _ _ _ _ (c.in-Err.ensures told) (c.conclude-status-2.ensures.concludes err_known),
     )

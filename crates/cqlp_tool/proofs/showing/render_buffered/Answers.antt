@@ -1,4 +1,3 @@
-use Rattle.std.proofs.Common.{ap, ◌∙◌}
 use Rattle.cqlp_tool.proofs.Shows.{tells_at_first, failed_in, failed_later, passed_through}
 use Rattle.cqlp_tool.proofs.showing.render_buffered.Goals as goal
 
@@ -15,4 +14,4 @@ returns-in-Ok-clause-renders g c = λ xs left known fresh.
 pub returns-in-Err-clause-renders : goal.returns-in-Err-clause-renders
 returns-in-Err-clause-renders g c = λ xs left known fresh.
     let ran = rw (← c.into_inner-buffered.ensures) at ((rw c.new-sink.ensures at c.run_flushing-outcome.ensures.renders) xs left (tells_at_first _ _ _ c.new.ensures known) fresh) in
-    ap (λ x. x.failures) c.into_inner-in-Err.ensures ∙ (failed_later _ _ _ _ _ _ _ _ _ _ c.into_inner-buffered.result c.new.ensures fresh ran c.flush.new.self c.in_default.not-SinkFault c.in-Err.ensures.err)
+    rw c.into_inner-in-Err.ensures (failed_later _ _ _ _ _ _ _ _ _ _ c.into_inner-buffered.result c.new.ensures fresh ran c.flush.new.self known c.in_default.not-SinkFault c.in-Err.ensures.keeps c.in-Err.ensures.err)

@@ -10,4 +10,4 @@ unreachable-requires g c =
 
 pub returns-clause-shows : goal.returns-clause-shows
 returns-clause-shows g c = λ xs left known.
-    rw c.ending_of.ensures (shows_by _ _ _ _ _ _ _ _ _ _ c.in-Ok.ensures.fresh c.in-Ok.ensures.rules (c.render_buffered-outcome.ensures.renders xs left known c.in-Ok.ensures.fresh))
+    rw c.ending_of.ensures (shows_by _ _ _ _ _ _ _ _ _ _ c.in-Ok.ensures.fresh c.in-Ok.ensures.unrefused c.in-Ok.ensures.rules c.render_buffered-outcome.ensures.rules (c.render_buffered-outcome.ensures.renders xs left known c.in-Ok.ensures.fresh))
