@@ -12,3 +12,4 @@ pub mod TreeLengths
 pub mod Lengths
 pub mod OneAnswer
 pub mod OptionLengths
+pub mod OpenTypes

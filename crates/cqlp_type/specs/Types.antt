@@ -1,5 +1,5 @@
 -- Types as trees, and their nodes in preorder.
-use Rattle.std.specs.Prelude.{ℕ, zero, suc, ◌++◌, Bool, true, false, List, [], ◌∷◌, length}
+use Rattle.std.specs.Prelude.{◌≡◌, ℕ, zero, suc, ◌++◌, Bool, true, false, List, [], ◌∷◌, length}
 use Rattle.cqlp_type.specs.declared.kind.Kind.{Kind}
 use Rattle.cqlp_type.specs.declared.kind.Kind.TheVariants as kind
 use Rattle.cqlp_type.specs.declared.node.Node.{Node}
@@ -59,3 +59,8 @@ preorder (Type_and k inner others) = record { kind = k; arity = how_many inner; 
 abbrev pub followed_by : Types → Types → Types
 followed_by NoMore us = us
 followed_by (Type_and k inner others) us = Type_and k inner (followed_by others us)
+
+-- These nodes are whole types side by side, in preorder.
+pub record IsPreorder (nodes : List Node) : Type 0 where
+  pub types : Types
+  pub are : nodes ≡ preorder types
