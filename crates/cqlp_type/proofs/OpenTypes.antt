@@ -21,13 +21,14 @@ use Rattle.cqlp_type.specs.declared.kind.Kind.{Kind}
 use Rattle.cqlp_type.specs.declared.kind.Kind.TheVariants as kind
 use Rattle.cqlp_type.specs.declared.node.Node.{Node}
 use Rattle.cqlp_type.specs.declared.item.TypePart.{TypePart}
-use Rattle.cqlp_type.specs.Types.{Types, NoMore, Type_and, how_many, IsPreorder, preorder, followed_by, kinds}
+use Rattle.cqlp_type.specs.Types.{Types, NoMore, Type_and, how_many, HasInner, AreFormed, IsPreorder, preorder, followed_by, kinds}
 use Rattle.cqlp_type.specs.TypeStep.{TypeSymbol, Option_at, Text_of, Fields_of, Whole, TypeEvent, IsNode, IsField, TypePlace, parameters_of, arity_of, inner_symbols, symbol_copies, with_arity, with_span, settled, type_place, option_step, count_in, type_step_at, type_step}
 use Rattle.cqlp_type.specs.Table.{Table, HoldsTypes}
 use Rattle.cqlp_type.specs.Remaining.{Closes, Keeps, item_step, short_in, event_at}
 use Rattle.cqlp_type.specs.Standing.{Standing, IsShared, place_of, pending, told, started, Waits, Ends}
 use Rattle.cqlp_type.specs.Pushing.{ReadsInto, IsWhole}
-use Rattle.cqlp_type.specs.Trees.{types_in}
+use Rattle.cqlp_type.specs.Trees.{Head, Plain, Custom, ListOf, SetOf, MapOf, TupleOf, UdtOf, Trees, NoTree, Tree_and, kind_in, types_in, is_plain, IsHead, AreTrees}
+use Rattle.cqlp_type.proofs.Forests.{many_types}
 use Rattle.cqlp_type.proofs.ReadBack.{option_read}
 use Rattle.cqlp_type.proofs.Pushes.{run_more, option_begun, option_waited, option_handed, option_over, nothing_begun}
 
@@ -247,9 +248,33 @@ preorder_followed (Type_and k inner others) us =
     let first : Node = record { kind = k; arity = how_many inner; span = suc (length (preorder inner)) } in
     ap (λ (x : List Node). first ∷ x) (ap (λ (x : List Node). preorder inner ++ x) (preorder_followed others us) ∙ sym (append_assoc (preorder inner) (preorder others) (preorder us)))
 
+formed_followed : (ts us : Types) → AreFormed ts → AreFormed us → AreFormed (followed_by ts us)
+formed_followed NoMore us a b = b
+formed_followed (Type_and k inner others) us a b = (a.0, a.1, formed_followed others us a.2 b)
+
+plain_inner : (k : Kind) (n : ℕ) → is_plain k ≡ true → HasInner k n
+plain_inner kind.List n e = absurd cc
+plain_inner kind.Map n e = absurd cc
+plain_inner kind.Set n e = absurd cc
+plain_inner k n e = tt
+
+has_inner : (h : Head) (n : ℕ) → IsHead h n → HasInner (kind_in h) n
+has_inner (Plain k) n h = plain_inner k n h.0
+has_inner (Custom class) n h = tt
+has_inner ListOf n h = h
+has_inner SetOf n h = h
+has_inner MapOf n h = h
+has_inner TupleOf n h = tt
+has_inner (UdtOf keyspace name) n h = tt
+
+trees_formed : (t : Trees) → AreTrees t → AreFormed (types_in t)
+trees_formed NoTree a = tt
+trees_formed (Tree_and name h inner others) a = (has_inner h (how_many (types_in inner)) (rw (many_types inner) a.0), trees_formed inner a.1, trees_formed others a.2)
+
 pub whole_more : (l : Rules) (depth at : ℕ) (before : List Node) (s : List ℕ) (es : List (ℕ × TypeEvent)) (nodes : List Node) → IsPreorder before → IsWhole l depth at before s es nodes → IsPreorder nodes
 whole_more l depth at before s es nodes h w = record {
   types = followed_by h.types (types_in w.tree);
+  formed = formed_followed h.types (types_in w.tree) h.formed (trees_formed w.tree w.are);
   are = w.table ∙ ap (λ (x : List Node). x ++ preorder (types_in w.tree)) h.are ∙ sym (preorder_followed h.types (types_in w.tree));
 }
 
@@ -324,7 +349,7 @@ pub reads_begun : (r : Standing) (p : Progress) (t : Table) (at stop : ℕ) → 
 reads_begun r p t at stop whole = record { start = record { offset = at; stop = stop; symbols = Option_at 1 ∷ []; nodes = t.nodes }; first = refl; before = whole; bytes = []; items = []; after = option_begun r p t at stop }
 
 pub nothing_whole : IsPreorder []
-nothing_whole = record { types = NoMore; are = refl }
+nothing_whole = record { types = NoMore; formed = tt; are = refl }
 
 -- a node that is under way
 pub pushed_holds : (nodes : List Node) (x : Node) → x.span ≡ 0 → HoldsTypes (nodes ++ x ∷ [])
