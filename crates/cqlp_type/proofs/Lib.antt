@@ -13,3 +13,4 @@ pub mod Lengths
 pub mod OneAnswer
 pub mod OptionLengths
 pub mod OpenTypes
+pub mod Ids

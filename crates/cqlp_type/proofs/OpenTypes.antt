@@ -316,11 +316,10 @@ module _ (r : Standing) (p : Progress) (t : Table) (input : List ℕ) (reads : R
       closes reads.start.nodes rest t.nodes (text_opens reads.start.nodes f rest t.nodes (rw same shape)) (ended used (IsField f v) rest t.nodes within said)
   keeps used v (Fields_of named depth ∷ rest) same within said =
       let n = short_in v in
-      let o = fields_open reads.start.nodes named depth n rest t.nodes (rw same shape) in
-      (
+      let o = fields_open reads.start.nodes named depth n rest t.nodes (rw same shape) in (
         opens reads.start.nodes (symbol_copies n (inner_symbols named depth) ++ rest) (with_arity n t.nodes) o,
         closes reads.start.nodes (symbol_copies n (inner_symbols named depth) ++ rest) (with_arity n t.nodes) o
-        (ended used (IsField field.Fields (Count n)) (symbol_copies n (inner_symbols named depth) ++ rest) (with_arity n t.nodes) within said),
+            (ended used (IsField field.Fields (Count n)) (symbol_copies n (inner_symbols named depth) ++ rest) (with_arity n t.nodes) within said),
       )
   keeps used v (Whole i ∷ rest) same within said = tt
 
