@@ -18,7 +18,10 @@ use Rattle.cqlp_note.proofs.Fields.{either_always}
 use Rattle.cqlp_note.proofs.Yields.{map_said, says_map}
 use Rattle.cqlp_type.specs.declared.kind.Kind.{Kind}
 use Rattle.cqlp_type.specs.declared.item.TypePart.{TypePart}
-use Rattle.cqlp_type.specs.Types.{kinds}
+use Rattle.cqlp_type.specs.declared.kind.Kind.TheVariants as kind
+use Rattle.cqlp_type.specs.Types.{Types, NoMore, Type_and, how_many, AreFormed, kinds}
+use Rattle.cqlp_type.specs.Types as types
+use Rattle.cqlp_type.specs.Pushing.{ReadsInto}
 use Rattle.cqlp_type.specs.TypeStep.{TypeSymbol, TypeEvent, IsNode, IsField, TypePlace, Option_at, Text_of, Fields_of, Whole, option_step, type_step_at, type_step, type_place, settled, symbol_copies, inner_symbols, with_arity, count_in}
 use Rattle.cqlp_type.specs.Table.{Table}
 use Rattle.cqlp_type.specs.Standing as type
@@ -35,9 +38,31 @@ use Rattle.cqlp_decode.specs.declared.standing.Stage.{Stage}
 use Rattle.cqlp_decode.proofs.Steps.{starts_bare, begun_bare, one_due_bare, offset_is_bare}
 use Rattle.cqlp_decode.proofs.FieldSteps.{used_some, goes_on_lawful}
 use Rattle.cqlp_type.proofs.Pushes.{option_begun, option_waited, option_handed, option_over}
-use Rattle.cqlp_value.specs.Inner.{Forest}
+use Rattle.cqlp_value.specs.Inner.{HasInner, AreTypes, Forest}
 use Rattle.cqlp_value.specs.Standing.{is_under_way}
 use Rattle.cqlp_value.proofs.Columns.{forest_more}
+
+-- ---- the table that an option is read into
+
+inner_formed : (k : Kind) (n : ℕ) → HasInner k n → types.HasInner k n
+inner_formed kind.List n h = h
+inner_formed kind.Set n h = h
+inner_formed kind.Map n h = h
+inner_formed k n h = tt
+
+types_formed : (ts : Types) → AreTypes ts → AreFormed ts
+types_formed NoMore h = tt
+types_formed (Type_and k inner others) h = (inner_formed k (how_many inner) h.0, types_formed inner h.1, types_formed others h.2)
+
+pub option_reads : (l : Rules) (q : Parts) → OptionRuns l q → ReadsInto q.types q.partial q.table
+option_reads l q r = record {
+  start = r.begun;
+  first = r.first;
+  before = record { types = r.before.types; formed = types_formed r.before.types r.before.formed; are = r.before.are };
+  bytes = r.bytes;
+  items = r.items;
+  after = r.runs;
+}
 
 -- ---- the place after a step is as far on as it takes bytes
 

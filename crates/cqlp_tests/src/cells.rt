@@ -3,6 +3,7 @@
 ghost use Rattle.std.specs.Prelude.{◌≡◌, ◌+◌, ◌≤◌, ◌<◌, ◌^◌, true, length, IfOk, IfSome, IsTrue};
 ghost use Rattle.cqlp_note.specs.Limits.{rules_of};
 ghost use Rattle.cqlp_type.specs.Standing.{IsShared};
+ghost use Rattle.cqlp_type.specs.Pushing.{ReadsInto};
 ghost use Rattle.cqlp_value.specs.Inner.{HasInner, StandTo};
 ghost use Rattle.cqlp_value.specs.Standing.{CellStands, Stands, is_under_way};
 ghost use Rattle.cqlp_value.specs.Reading.{Joined};
@@ -67,9 +68,11 @@ fn option_part(
     requires under_way { reader.old.under_way ≡ true }
     requires shared { IsShared reader.old partial.old }
     requires room { reader.old.rules.entries ≤ table.old.room }
+    requires table { ReadsInto reader.old partial.old table.old }
     ensures under_way { IfSome result (λ n. reader.new.under_way ≡ true) }
     ensures shared { IfSome result (λ n. IsShared reader.new partial.new) }
     ensures room { IfSome result (λ n. reader.new.rules.entries ≤ table.new.room) }
+    ensures table { IfSome result (λ n. ReadsInto reader.new partial.new table.new) }
     ensures used { IfSome result (λ n. n ≤ length option.now) }
 {
     match TypeReader::push(partial, reader, table, option) {
@@ -81,6 +84,7 @@ fn option_part(
 }
 
 /// The table of the type that this option spells.
+#[tactic(auto, using(cqlp_type::proofs::OpenTypes::nothing_whole))]
 fn table_of(alloc: Global, option: &[u8]) -> Result<TypeTable, Fail> {
     let mut partial = Partial::new(alloc, LIMITS.text)?;
     let mut reader = TypeReader::new(alloc, &LIMITS)?;

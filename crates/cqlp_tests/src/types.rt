@@ -2,6 +2,8 @@
 
 ghost use Rattle.std.specs.Prelude.{◌≡◌, ◌+◌, ◌<◌, ◌≤◌, ◌^◌, true, length, IfOk, IfSome};
 ghost use Rattle.cqlp_type.specs.Standing.{IsShared};
+ghost use Rattle.cqlp_type.specs.Types.{IsPreorder};
+ghost use Rattle.cqlp_type.specs.Pushing.{ReadsInto};
 
 use crate::heaps::Limited;
 use cqlp_note::{Limits, NoMemory, Partial};
@@ -32,9 +34,11 @@ fn pushed<B: Allocator, C: Allocator>(
     requires under_way { reader.old.under_way ≡ true }
     requires shared { IsShared reader.old partial.old }
     requires room { reader.old.rules.entries ≤ table.old.room }
+    requires table { ReadsInto reader.old partial.old table.old }
     ensures under_way { IfOk result (λ used. IfSome used (λ n. reader.new.under_way ≡ true)) }
     ensures shared { IfOk result (λ used. IfSome used (λ n. IsShared reader.new partial.new)) }
     ensures room { IfOk result (λ used. IfSome used (λ n. reader.new.rules.entries ≤ table.new.room)) }
+    ensures table { IfOk result (λ used. IfSome used (λ n. ReadsInto reader.new partial.new table.new)) }
     ensures used { IfOk result (λ used. IfSome used (λ n. n ≤ length input.now)) }
     ensures kept { table.new.room ≡ table.old.room }
 {
@@ -57,6 +61,17 @@ fn pushed<B: Allocator, C: Allocator>(
     }
 }
 
+/// Sees that the next option may begin: where one ended within its types, all are removed.
+#[tactic(auto, using(cqlp_type::proofs::OpenTypes::nothing_whole))]
+fn make_whole<C: Allocator>(table: &mut TypeTable<C>)
+    ensures whole { IsPreorder table.new.nodes }
+    ensures room { table.new.room ≡ table.old.room }
+{
+    if !table.whole() {
+        table.clear();
+    }
+}
+
 /// What the reading of an option says of these bytes, which come in pieces of this size.
 fn read<C: Allocator>(
     alloc: Global,
@@ -71,6 +86,7 @@ fn read<C: Allocator>(
 {
     let mut partial = Partial::new(alloc, limits.text)?;
     let mut reader = TypeReader::new(alloc, limits)?;
+    make_whole(table);
     reader.begin(AT, AT + 1_000_000);
     let mut lines = String::new(alloc);
     let mut start = 0;
@@ -187,6 +203,7 @@ fn depth_comes_before_number(rt: HostRuntime) -> Result<(), Fail> {
 }
 
 #[test]
+#[tactic(auto, using(cqlp_type::proofs::OpenTypes::nothing_whole))]
 fn announced_fields_take_no_memory(rt: HostRuntime) -> Result<(), Fail> {
     let limited = Limited::new(rt.alloc(), 2);
     let mut partial = Partial::new(rt.alloc(), LIMITS.text)?;
@@ -212,6 +229,7 @@ fn announced_fields_take_no_memory(rt: HostRuntime) -> Result<(), Fail> {
 }
 
 #[test]
+#[tactic(auto, using(cqlp_type::proofs::OpenTypes::nothing_whole))]
 fn whole_is_told_once(rt: HostRuntime) -> Result<(), Fail> {
     let mut partial = Partial::new(rt.alloc(), LIMITS.text)?;
     let mut reader = TypeReader::new(rt.alloc(), &LIMITS)?;
@@ -250,6 +268,7 @@ fn table_is_walked_and_cloned(rt: HostRuntime) -> Result<(), Fail> {
     let heap = Limited::new(rt.alloc(), 2);
     let mut table = TypeTable::new(&heap, 8)?;
     read(rt.alloc(), &LIMITS, &mut table, &[0, 0x20, 0, 9], 9)?;
+    assert!(rt; table.whole());
     read(
         rt.alloc(),
         &LIMITS,
@@ -263,6 +282,7 @@ fn table_is_walked_and_cloned(rt: HostRuntime) -> Result<(), Fail> {
     assert_eq!(rt; table.node(2), node(Kind::Map, 2, 0));
     assert_eq!(rt; table.node(4), node(Kind::List, 1, 0));
     assert_eq!(rt; table.node(5), None);
+    assert!(rt; !table.whole());
     assert_eq!(rt; table.roots(), 2);
     assert_eq!(rt;
         [table.root(0), table.root(1), table.root(2)],

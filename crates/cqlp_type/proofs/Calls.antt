@@ -1,9 +1,11 @@
 -- What a call makes of an option, by what the `Partial` makes of its item.
-use Rattle.std.proofs.Common.{◌≡◌, ℕ, ◌+◌, ◌-◌, ◌≤◌, true, false, List, [], ◌∷◌, ◌++◌, length, drop, refl, sym, ap, ◌∙◌, arith}
+use Rattle.std.proofs.Common.{◌≡◌, ℕ, ◌+◌, ◌-◌, ◌≤◌, true, false, List, [], ◌∷◌, ◌++◌, length, drop, refl, sym, ap, subst, ◌∙◌, arith}
 use Rattle.std.proofs.lemmas.List.{length-append}
 use Rattle.cqlp_note.specs.declared.head.Wanted.{Wanted}
 use Rattle.cqlp_note.specs.declared.refusal.Reason.{Reason}
 use Rattle.cqlp_note.specs.declared.taken.Item.{Item}
+use Rattle.cqlp_note.specs.declared.taken.Item.TheVariants as item
+use Rattle.cqlp_note.specs.declared.head.Form.TheVariants as form
 use Rattle.cqlp_note.specs.declared.field.Notation.TheVariants as notation
 use Rattle.cqlp_note.specs.declared.refusal.Reason.TheVariants.{Overrun}
 use Rattle.cqlp_note.specs.Reader.{Said, More, Bad, Got, Gives, Refuses, says}
@@ -21,8 +23,10 @@ use Rattle.cqlp_type.specs.declared.node.Node.{Node}
 use Rattle.cqlp_type.specs.declared.item.TypePart.{TypePart}
 use Rattle.cqlp_type.specs.TypeStep.{TypeSymbol, Option_at, Text_of, Fields_of, Whole, TypeEvent, TypePlace, type_place}
 use Rattle.cqlp_type.specs.Table.{Table}
-use Rattle.cqlp_type.specs.Remaining.{event_at, item_step, IsPart}
+use Rattle.cqlp_type.specs.Remaining.{event_at, item_step, Keeps, IsPart, number_of, short_in}
 use Rattle.cqlp_type.specs.Standing.{Standing, stopped, place_of, notation_of, IsFor, IsShared, pending, told, CanLendPart, text_length, Waits, Ends}
+use Rattle.cqlp_type.specs.Pushing.{ReadsInto}
+use Rattle.cqlp_type.proofs.OpenTypes.{keeps}
 use Rattle.cqlp_type.proofs.ReadBack.{text_is}
 use Rattle.cqlp_type.proofs.Items.{short_got, IsRead, field_says, item_waits, item_fails, item_gives, waiting_inside, item_size}
 
@@ -76,6 +80,12 @@ text_got limit room bytes v k g = text_is v _ (says_always (Spells notation.Text
 
 short_plain : (limit room : ℕ) (bytes : List ℕ) (v : FieldValue) (k : ℕ) → says (field_of notation.Short limit room) 0 bytes ≡ Got v k → content_length v ≡ 0
 short_plain limit room bytes v k g = ap content_length (short_got Overrun limit room (λ n. Gives (Short n)) bytes v k g).0
+
+number_is : (i : Item) (input buffer : List ℕ) → short_in (item_value i input buffer) ≡ number_of i
+number_is (item.Plain v) input buffer = refl
+number_is (item.Content form.Text l) input buffer = refl
+number_is (item.Content form.Bytes l) input buffer = refl
+number_is (item.Content form.Bound l) input buffer = refl
 
 -- only an id can be refused
 failed_plain : (l : Rules) (p : TypePlace) (w : Wanted) (bytes : List ℕ) (v : FieldValue) (k : ℕ) (fault : ℕ × Reason) (ss : List TypeSymbol) → IsFor l p.offset p.stop ss w → says (reader_of w) 0 bytes ≡ Got v k
@@ -193,6 +203,19 @@ module _ (old r : Standing) (p q : Progress) (t : Table) (input : List ℕ) (rea
 
     pub idle_after : (q'.under_way ≡ false) × (q'.room ≡ p.room)
     idle_after = (ap (λ (z : Progress). z.under_way) idle, ap (λ (z : Progress). z.room) idle ∙ room)
+
+    -- what the item does to the table, it does to one that holds types
+    pub kept : ReadsInto old p t → Keeps r.rules r.symbols t.nodes (number_of i)
+    kept reads =
+        let rules : old.rules ≡ r.rules = ap (λ (z : Standing). z.rules) (sym reader) in
+        let symbols : old.symbols ≡ r.symbols = ap (λ (z : Standing). z.symbols) (sym reader) in
+        let place : place_of old t.nodes ≡ place_of r t.nodes = ap (λ (z : Standing). place_of z t.nodes) (sym reader) in
+        let k = length (pending old p) + used in
+        let said = goes ∙ (λ j. says (item_step (sym rules j) (sym place j) (sym symbols j) value) k (drop k (pending old p ++ input))) in
+        let here = keeps old p t input reads used value old.symbols refl e.within said in
+        let P : Rules × List TypeSymbol × ℕ → Type 0 = λ z. Keeps z.0 z.1 t.nodes z.2 in
+        let same : (old.rules, old.symbols, short_in value) ≡ (r.rules, r.symbols, number_of i) = λ j. (rules j, symbols j, number_is i input q'.content j) in
+        subst P same here
 
     -- an item that is no text has no content
     pub failed : (why : Reason) → item_step r.rules (place_of r t.nodes) r.symbols value ≡ Refuses (r.offset, why) → (told old t.nodes (pending old p ++ input) ≡ Bad (r.offset, why)) × (q'.content ≡ [])

@@ -12,3 +12,5 @@ pub mod TreeLengths
 pub mod Lengths
 pub mod OneAnswer
 pub mod OptionLengths
+pub mod OpenTypes
+pub mod Ids

@@ -204,12 +204,12 @@ pub one_push : (start : TypePlace) (depth : ℕ) → start.symbols ≡ Option_at
     → (push_answer c.answer ≡ push_answer d.answer) × LeaveAlike c d
 one_push start depth first s es input c d a x y =
     one_of start s es input c d (push_answer c.answer) (push_answer d.answer) a
-    (push_decided start c.reader c.partial c.table s es a.2 input c.reader' c.partial' c.table' depth c.answer first x.0 x.2 x.3 x.4 x.5)
-    (push_decided start d.reader d.partial d.table s es a.3 input d.reader' d.partial' d.table' depth d.answer first y.0 y.2 y.3 y.4 y.5)
+    (push_decided start c.reader c.partial c.table s es a.2 input c.reader' c.partial' c.table' depth c.answer first x.0 x.4 x.5 x.6 x.7)
+    (push_decided start d.reader d.partial d.table s es a.3 input d.reader' d.partial' d.table' depth d.answer first y.0 y.4 y.5 y.6 y.7)
 
 pub one_advance : (start : TypePlace) (s : List ℕ) (es : List (ℕ × TypeEvent)) (input : List ℕ) (c d : Call TypeAdvance) → AreAlike start s es c d → IsAdvance input c → IsAdvance input d
     → (advance_answer input c.partial'.content c.answer ≡ advance_answer input d.partial'.content d.answer) × LeaveAlike c d
 one_advance start s es input c d a x y =
     one_of start s es input c d (advance_answer input c.partial'.content c.answer) (advance_answer input d.partial'.content d.answer) a
-    (advance_decided c.reader c.partial c.table input c.reader' c.partial' c.table' c.answer x.0 x.2)
-    (advance_decided d.reader d.partial d.table input d.reader' d.partial' d.table' d.answer y.0 y.2)
+    (advance_decided c.reader c.partial c.table input c.reader' c.partial' c.table' c.answer x.0 x.4)
+    (advance_decided d.reader d.partial d.table input d.reader' d.partial' d.table' d.answer y.0 y.4)

@@ -14,15 +14,16 @@ use Rattle.cqlp_type.specs.declared.item.TypePart.{TypePart}
 use Rattle.cqlp_type.specs.declared.item.TypeItem.{TypeItem}
 use Rattle.cqlp_type.specs.declared.item.TypeAdvance.TheVariants as advance
 use Rattle.cqlp_type.specs.declared.item.TypePush.TheVariants as push
+use Rattle.cqlp_type.specs.Types.{IsPreorder}
 use Rattle.cqlp_type.specs.TypeStep.{TypeSymbol, Option_at, TypeEvent, TypePlace, type_step}
 use Rattle.cqlp_type.specs.Table.{Table}
 use Rattle.cqlp_type.specs.Remaining.{event_at}
 use Rattle.cqlp_type.specs.Standing.{Standing, IsShared, IsFor, place_of, pending, told, started, stopped, Waits, Ends, Advances}
-use Rattle.cqlp_type.specs.Pushing.{After, IsWhole, Pushes, event_of}
+use Rattle.cqlp_type.specs.Pushing.{After, ReadsInto, IsWhole, Pushes, event_of}
 use Rattle.cqlp_type.proofs.ReadBack.{option_read}
 
 -- one more step of a run
-run_more : (l : Rules) (start p q : TypePlace) (s b t : List ℕ) (es : List (ℕ × TypeEvent)) (at : ℕ) (e : TypeEvent) (x : Emitted TypeEvent TypePlace) → Runs (type_step l) start s es p b
+pub run_more : (l : Rules) (start p q : TypePlace) (s b t : List ℕ) (es : List (ℕ × TypeEvent)) (at : ℕ) (e : TypeEvent) (x : Emitted TypeEvent TypePlace) → Runs (type_step l) start s es p b
     → says (type_step l p) 0 (b ++ t) ≡ Got x (length b + length t) → x.at ≡ at → x.event ≡ e → x.after (length b + length t) ≡ q → Runs (type_step l) start (s ++ t) (es ++ (at, e) ∷ []) q []
 run_more l start p q s b t es at e x run said a w after =
     let k = length b + length t in
@@ -82,42 +83,45 @@ module _ (old : Standing) (p : Progress) (t : Table) (input : List ℕ) (new : S
   pub told_some : (bytes : List ℕ) → (told old t.nodes bytes ≡ More → ⊥) → old.symbols ≡ [] → ⊥
   told_some bytes said none = said (rw none refl)
 
-  pub waits_pushes : (used : ℕ) → old.under_way ≡ true → Waits old p t input used new p' t'
+  pub waits_pushes : (used : ℕ) → old.under_way ≡ true → ReadsInto new p' t' → Waits old p t input used new p' t'
       → Pushes old p t input (push.More used) new p' t' × ((used ≡ length input) × (old.symbols ≡ [] → ⊥)) × ((new.under_way ≡ true) × (new.rules ≡ old.rules)) × (t' ≡ t)
-  waits_pushes used under w =
+  waits_pushes used under reads w =
       let place : place_of new t'.nodes ≡ place_of old t.nodes = rw (w.reader, w.table) refl in
       let rules : new.rules ≡ old.rules = ap (λ (z : Standing). z.rules) w.reader in (
         record {
           leads = λ start depth first s es run. (option_waited used w start s es run, (λ i. told_by (rules i) (place i) (w.pending i)) ∙ w.is);
           serves = (w.shared, w.shared.same ∙ ap (λ (z : Standing). z.begun) w.reader);
           room = w.room;
+          table = reads;
         },
         (w.all, waits_some used w),
         (ap (λ (z : Standing). z.under_way) w.reader ∙ under, rules),
         w.table,
       )
 
-  pub item_pushes : (at used : ℕ) (q : TypePart) (e : TypeItem) → event_of e ≡ event_at q input p'.content → Ends old p t input at used q new p' t'
+  pub item_pushes : (at used : ℕ) (q : TypePart) (e : TypeItem) → event_of e ≡ event_at q input p'.content → ReadsInto new p' t' → Ends old p t input at used q new p' t'
       → Pushes old p t input (push.Item at used e) new p' t' × ((used ≤ length input) × (old.symbols ≡ [] → ⊥)) × ((new.under_way ≡ true) × (new.rules ≡ old.rules)) × ((t'.room ≡ t.room) × (length t.nodes ≤ old.rules.entries → length t'.nodes ≤ old.rules.entries))
-  item_pushes at used q e is w =
+  item_pushes at used q e is reads w =
       let rules : new.rules ≡ old.rules = ap (λ (z : Standing). z.rules) w.reader in
       let begun : new.begun ≡ false = ap (λ (z : Standing). z.begun) w.reader in (
         record {
           leads = λ start depth first s es run. (rw begun refl, rw is (option_handed at used q w start s es run));
           serves = (w.shared, w.shared.same ∙ begun, λ short. w.lent (rw is at short));
           room = w.room;
+          table = reads;
         },
         (w.within, told_some (pending old p ++ input) (λ more. let no = sym more ∙ w.is in absurd cc)),
         (ap (λ (z : Standing). z.under_way) w.reader, rules),
         (w.table, w.entries),
       )
 
-  pub done_pushes : IsShared old p → Advances old p t input advance.Done new p' t' → Pushes old p t input push.Done new p' t' × (old.symbols ≡ []) × (new ≡ stopped old) × (t' ≡ t)
-  done_pushes shared d = (
+  pub done_pushes : IsShared old p → IsPreorder t'.nodes → Advances old p t input advance.Done new p' t' → Pushes old p t input push.Done new p' t' × (old.symbols ≡ []) × (new ≡ stopped old) × (t' ≡ t)
+  done_pushes shared whole d = (
     record {
       leads = λ start depth first s es run. rw d.4 (option_over start depth old p t s es first run d.0 (nothing_begun old p shared d.0));
       serves = (d.2, rw d.2 d.3);
       room = rw d.2 refl;
+      table = whole;
     },
     d.0,
     d.1,
@@ -130,6 +134,7 @@ module _ (old : Standing) (p : Progress) (t : Table) (input : List ℕ) (new : S
       leads = λ start depth first s es run. (runs_stay (type_step old.rules) start s input es (place_of old t.nodes) (pending old p) run, d.0);
       serves = (d.2, d.3);
       room = d.4;
+      table = tt;
     },
     told_some (pending old p ++ input) (λ more. let no = sym more ∙ d.0 in absurd cc),
     d.1,

@@ -3,10 +3,11 @@ use Rattle.std.specs.Prelude.{◌≡◌, ℕ, suc, ◌+◌, ◌++◌, ◌<◌, �
 use Rattle.cqlp_note.specs.declared.refusal.Refusal.{Refusal}
 use Rattle.cqlp_note.specs.Step.{Runs}
 use Rattle.cqlp_note.specs.Limits.{Rules}
+use Rattle.cqlp_note.specs.Heading.{beside_number}
 use Rattle.cqlp_note.specs.Partial.{Progress}
 use Rattle.cqlp_type.specs.declared.kind.Kind.{Kind}
 use Rattle.cqlp_type.specs.declared.node.Node.{Node}
-use Rattle.cqlp_type.specs.Types.{Types, NoMore, Type_and, how_many, types_of, preorder, followed_by}
+use Rattle.cqlp_type.specs.Types.{Types, NoMore, Type_and, how_many, types_of, preorder, followed_by, kinds}
 use Rattle.cqlp_type.specs.TypeStep.{TypeEvent, Option_at, TypePlace, type_step}
 use Rattle.cqlp_type.specs.declared.item.TypeAdvance.{TypeAdvance}
 use Rattle.cqlp_type.specs.declared.item.TypeAdvance.TheVariants as advance
@@ -18,7 +19,7 @@ use Rattle.cqlp_type.specs.Standing.{Standing, IsShared, place_of, pending, Adva
 use Rattle.cqlp_type.specs.Trees.{Trees, trees_in, options_in, types_in, AreTrees, Shallow, AreShort, trees_items, placed, TreeSpells}
 use Rattle.cqlp_type.specs.declared.tree.TypeTree.{TypeTree}
 use Rattle.cqlp_type.specs.TypeTrees.{tree_of, trees_size, spelled_len}
-use Rattle.cqlp_type.specs.Pushing.{After, IsWhole, Uses, Continues, Fills, Pushes, event_of}
+use Rattle.cqlp_type.specs.Pushing.{After, ReadsInto, AdvanceLeaves, IsWhole, Uses, Continues, Fills, Pushes, event_of}
 
 -- The types of nodes in preorder are those that the nodes were made of, and those of the nodes behind them.
 abbrev pub TypesOfPreorder : Type 0
@@ -88,6 +89,10 @@ OpenIsLast = (x : Node) (rest : List Node) (number : ℕ) → x.span ≡ 0 → b
 
 -- ---- one answer
 
+-- Each kind has one id.
+abbrev pub OneAnswerOfId : Type 0
+OneAnswerOfId = (k : Kind) (a b : ℕ) → beside_number a kinds ≡ Some k → beside_number b kinds ≡ Some k → a ≡ b
+
 -- What a call says of an option, its text as bytes.
 pub data Answer : Type 0 where
   More : (used : ℕ) → Answer
@@ -144,6 +149,8 @@ abbrev pub IsPush : List ℕ → Call TypePush → Type 0
 IsPush input c =
     (c.reader.under_way ≡ true)
     × IsShared c.reader c.partial
+    × (c.reader.rules.entries ≤ c.table.room)
+    × ReadsInto c.reader c.partial c.table
     × Uses c.reader input c.answer
     × Continues c.reader c.answer c.reader'
     × Fills c.reader c.table c.answer c.table'
@@ -154,7 +161,10 @@ abbrev pub IsAdvance : List ℕ → Call TypeAdvance → Type 0
 IsAdvance input c =
     (c.reader.under_way ≡ true)
     × IsShared c.reader c.partial
+    × (c.reader.rules.entries ≤ c.table.room)
+    × ReadsInto c.reader c.partial c.table
     × Advances c.reader c.partial c.table input c.answer c.reader' c.partial' c.table'
+    × AdvanceLeaves c.answer c.reader' c.partial' c.table'
 
 -- Two calls are made by readers with the same limits, into tables with the same room, after the same bytes and items of
 -- an option that began at `start`.

@@ -9,9 +9,11 @@ use Rattle.cqlp_note.specs.Partial.{Progress}
 use Rattle.cqlp_type.specs.declared.node.Node.{Node}
 use Rattle.cqlp_type.specs.declared.item.TypeItem.{TypeItem}
 use Rattle.cqlp_type.specs.declared.item.TypeItem.TheVariants as item
+use Rattle.cqlp_type.specs.declared.item.TypeAdvance.{TypeAdvance}
+use Rattle.cqlp_type.specs.declared.item.TypeAdvance.TheVariants as advance
 use Rattle.cqlp_type.specs.declared.item.TypePush.{TypePush}
 use Rattle.cqlp_type.specs.declared.item.TypePush.TheVariants as push
-use Rattle.cqlp_type.specs.Types.{preorder}
+use Rattle.cqlp_type.specs.Types.{IsPreorder, preorder}
 use Rattle.cqlp_type.specs.TypeStep.{TypeEvent, IsNode, IsField, TypePlace, type_step, Option_at}
 use Rattle.cqlp_type.specs.Table.{Table}
 use Rattle.cqlp_type.specs.Trees.{Trees, trees_in, types_in, AreTrees, Shallow, trees_items, placed, TreeSpells}
@@ -25,6 +27,30 @@ event_of (item.Count n) = IsField field.Fields (Count n)
 -- An option began at `start`, and of it these bytes were used and these items handed out.
 abbrev pub After : (start : TypePlace) → Standing → Progress → Table → List ℕ → List (ℕ × TypeEvent) → Type 0
 After start r p t s es = Runs (type_step r.rules) start s es (place_of r t.nodes) (pending r p)
+
+-- The option under way is read into this table: it began where the table was whole types, and what was read of it since
+-- stands in the table behind them.
+pub record ReadsInto (r : Standing) (p : Progress) (t : Table) : Type 0 where
+  pub start : TypePlace
+  pub first : start.symbols ≡ Option_at 1 ∷ []
+  pub before : IsPreorder start.nodes
+  pub bytes : List ℕ
+  pub items : List (ℕ × TypeEvent)
+  pub after : After start r p t bytes items
+
+-- What a call leaves: an option that goes on is read into the same table, and one that is whole leaves whole types, so
+-- that the next may begin. A refused one leaves what was read of it.
+abbrev pub PushLeaves : TypePush → Standing → Progress → Table → Type 0
+PushLeaves (push.More used) r p t = ReadsInto r p t
+PushLeaves (push.Item at used e) r p t = ReadsInto r p t
+PushLeaves push.Done r p t = IsPreorder t.nodes
+PushLeaves (push.Refused x) r p t = Unit {0}
+
+abbrev pub AdvanceLeaves : TypeAdvance → Standing → Progress → Table → Type 0
+AdvanceLeaves (advance.More used) r p t = ReadsInto r p t
+AdvanceLeaves (advance.Item at used q) r p t = ReadsInto r p t
+AdvanceLeaves advance.Done r p t = IsPreorder t.nodes
+AdvanceLeaves (advance.Refused x) r p t = Unit {0}
 
 -- These bytes spell the option of a type at this depth, none of whose inner types is too deep; these are its items,
 -- the first at `at`; and its nodes in preorder stand behind the ones before.
@@ -81,4 +107,5 @@ Serves p (push.Refused r) new p' = (p'.under_way ≡ false) × (p'.content ≡ [
 pub record Pushes (old : Standing) (p : Progress) (t : Table) (input : List ℕ) (x : TypePush) (new : Standing) (p' : Progress) (t' : Table) : Type 0 where
   pub leads : (start : TypePlace) (depth : ℕ) → start.symbols ≡ Option_at depth ∷ [] → (s : List ℕ) (es : List (ℕ × TypeEvent)) → After start old p t s es → Leads depth start old p t s es input x new p' t'
   pub serves : Serves p x new p'
+  pub table : PushLeaves x new p' t'
   pub room : p'.room ≡ p.room

@@ -1,12 +1,14 @@
 -- What is still to be read of a type option, as it is kept.
-use Rattle.std.specs.Prelude.{◌≡◌, ℕ, ◌+◌, ◌≤◌, Bool, true, false, List, [], ◌∷◌, ◌++◌, length, Result, Ok, Err}
+use Rattle.std.specs.Prelude.{◌≡◌, ℕ, ◌+◌, ◌<◌, ◌≤◌, Bool, true, false, List, [], ◌∷◌, ◌++◌, length, Some, Result, Ok, Err}
 use Rattle.cqlp_note.specs.declared.field.Field.TheVariants as field
 use Rattle.cqlp_note.specs.declared.refusal.Reason.{Reason}
 use Rattle.cqlp_note.specs.declared.taken.Item.{Item}
+use Rattle.cqlp_note.specs.declared.taken.Item.TheVariants as item
 use Rattle.cqlp_note.specs.Reader.{Refuses, Idles}
 use Rattle.cqlp_note.specs.Field.{FieldValue, Short, Count}
 use Rattle.cqlp_note.specs.Step.{Step, Emit}
 use Rattle.cqlp_note.specs.Limits.{Rules}
+use Rattle.cqlp_note.specs.Head.{value_of}
 use Rattle.cqlp_note.specs.Heading.{beside_number}
 use Rattle.cqlp_note.specs.Partial.{item_value}
 use Rattle.cqlp_type.specs.declared.kind.Kind.{Kind}
@@ -16,8 +18,8 @@ use Rattle.cqlp_type.specs.declared.remaining.Stage.TheVariants as stage
 use Rattle.cqlp_type.specs.declared.item.TypePart.{TypePart}
 use Rattle.cqlp_type.specs.declared.item.TypePart.TheVariants as part
 use Rattle.cqlp_type.specs.Types.{kinds}
-use Rattle.cqlp_type.specs.TypeStep.{TypeSymbol, Option_at, Text_of, Fields_of, Whole, TypeEvent, IsNode, IsField, TypePlace, symbol_copies, inner_symbols, with_arity, settled, type_place, option_step}
-use Rattle.cqlp_type.specs.Table.{Table}
+use Rattle.cqlp_type.specs.TypeStep.{TypeSymbol, Option_at, Text_of, Fields_of, Whole, TypeEvent, IsNode, IsField, TypePlace, symbol_copies, parameters_of, arity_of, inner_symbols, with_arity, with_span, settled, type_place, option_step}
+use Rattle.cqlp_type.specs.Table.{Table, HoldsTypes}
 use Rattle.cqlp_type.specs.Levels.{Nest}
 
 -- an option is under way
@@ -90,6 +92,27 @@ Goes s p input buffer (Err why) symbols nodes = (s ≡ Refuses (p.offset, why)) 
 abbrev pub Follows : Rules → (at stop : ℕ) → List TypeSymbol → List Node → FieldValue → (input buffer : List ℕ) → Result TypePart Reason → List TypeSymbol → List Node → Type 0
 Follows l at stop symbols nodes v input buffer result symbols' nodes' =
     let p : TypePlace = record { offset = at; stop = stop; symbols = symbols; nodes = nodes } in Goes (item_step l p symbols v) p input buffer result symbols' nodes'
+
+-- ---- what the table holds on the way
+
+-- the number that an item is; 0 where it is no [short]
+abbrev pub number_of : Item → ℕ
+number_of (item.Plain v) = short_in (value_of v)
+number_of (item.Content f l) = 0
+
+-- Each type that is whole before the next item leaves a table that holds types.
+abbrev pub Closes : List TypeSymbol → List Node → Type 0
+Closes (Whole i ∷ rest) nodes = HoldsTypes (with_span i nodes) × Closes rest (with_span i nodes)
+Closes ss nodes = Unit {0}
+
+-- So does all that an item does to it which is this number or a text.
+abbrev pub Keeps : Rules → List TypeSymbol → List Node → ℕ → Type 0
+Keeps l (Option_at depth ∷ rest) nodes n = (k : Kind) → beside_number n kinds ≡ Some k → depth ≤ l.depth → length nodes < l.entries
+    → Closes (parameters_of k depth ++ Whole (length nodes) ∷ rest) (nodes ++ record { kind = k; arity = arity_of k; span = 0 } ∷ [])
+Keeps l (Text_of f ∷ rest) nodes n = Closes rest nodes
+Keeps l (Fields_of named depth ∷ rest) nodes n =
+    HoldsTypes (with_arity n nodes) × Closes (symbol_copies n (inner_symbols named depth) ++ rest) (with_arity n nodes)
+Keeps l ss nodes n = Unit {0}
 
 -- ---- what is whole before the next item
 

@@ -1,11 +1,20 @@
 -- Tables of types: nodes in preorder, of which the last type may be under way.
-use Rattle.std.specs.Prelude.{ℕ, zero, suc, ◌+◌, ◌-◌, List, [], ◌∷◌, take, drop, Option, option_and_then, slice_get, ◌==◌, if◌then◌else◌}
+use Rattle.std.specs.Prelude.{◌≢◌, ℕ, zero, suc, ◌+◌, ◌-◌, List, [], ◌∷◌, All, take, drop, Option, option_and_then, slice_get, ◌==◌, if◌then◌else◌}
 use Rattle.cqlp_type.specs.declared.node.Node.{Node}
+use Rattle.cqlp_type.specs.Types.{IsPreorder}
 
 -- What a caller knows of a `TypeTable`: its nodes, and how many there can be.
 pub record Table : Type 0 where
   pub nodes : List Node
   pub room : ℕ
+
+-- no type is under way
+abbrev pub AreWhole : List Node → Type 0
+AreWhole nodes = All (λ x. x.span ≢ 0) nodes
+
+-- A table in which no type is under way is whole types side by side.
+abbrev pub HoldsTypes : List Node → Type 0
+HoldsTypes nodes = AreWhole nodes → IsPreorder nodes
 
 -- The numbers of the nodes at which types begin that stand side by side, from a node with this number on, behind some
 -- that are skipped. The span of a type that is under way is 0: all further nodes are its own.

@@ -1,5 +1,5 @@
 -- Types as trees, and their nodes in preorder.
-use Rattle.std.specs.Prelude.{ℕ, zero, suc, ◌++◌, Bool, true, false, List, [], ◌∷◌, length}
+use Rattle.std.specs.Prelude.{◌≡◌, ℕ, zero, suc, ◌++◌, Bool, true, false, List, [], ◌∷◌, length}
 use Rattle.cqlp_type.specs.declared.kind.Kind.{Kind}
 use Rattle.cqlp_type.specs.declared.kind.Kind.TheVariants as kind
 use Rattle.cqlp_type.specs.declared.node.Node.{Node}
@@ -59,3 +59,20 @@ preorder (Type_and k inner others) = record { kind = k; arity = how_many inner; 
 abbrev pub followed_by : Types → Types → Types
 followed_by NoMore us = us
 followed_by (Type_and k inner others) us = Type_and k inner (followed_by others us)
+
+-- a list and a set have one inner type, and a map has two
+abbrev pub HasInner : Kind → ℕ → Type 0
+HasInner kind.List n = n ≡ 1
+HasInner kind.Set n = n ≡ 1
+HasInner kind.Map n = n ≡ 2
+HasInner _ n = Unit {0}
+
+abbrev pub AreFormed : Types → Type 0
+AreFormed NoMore = Unit {0}
+AreFormed (Type_and k inner others) = HasInner k (how_many inner) × AreFormed inner × AreFormed others
+
+-- These nodes are whole types side by side, in preorder.
+pub record IsPreorder (nodes : List Node) : Type 0 where
+  pub types : Types
+  pub formed : AreFormed types
+  pub are : nodes ≡ preorder types

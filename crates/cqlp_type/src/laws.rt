@@ -1,6 +1,6 @@
 //! Laws of the definitions.
 
-ghost use Rattle.cqlp_type.specs.Laws.{TypesOfPreorder, TypesOfOwnPreorder, SpelledIsRead, ReadIsSpelled, SpelledIsLong, RootsAreTypes, ChildrenOfWhole, ChildrenOfOpen, OpenIsLast, LenIsOfOption, OneAnswerOfPush, OneAnswerOfAdvance};
+ghost use Rattle.cqlp_type.specs.Laws.{TypesOfPreorder, TypesOfOwnPreorder, SpelledIsRead, ReadIsSpelled, SpelledIsLong, RootsAreTypes, ChildrenOfWhole, ChildrenOfOpen, OpenIsLast, LenIsOfOption, OneAnswerOfId, OneAnswerOfPush, OneAnswerOfAdvance};
 
 /// The types of nodes in preorder are those that the nodes were made of.
 #[tactic(auto, using(crate::proofs::Forests::types_of_preorder, crate::proofs::Forests::types_of_own_preorder))]
@@ -39,6 +39,11 @@ pub fn roots_are_types()
 pub fn children_are_inner_types()
     ensures whole { ChildrenOfWhole }
     ensures under_way { ChildrenOfOpen }
+{}
+
+/// One id meets the clause of `Kind::id`.
+pub fn one_answer_of_kind_id()
+    ensures { OneAnswerOfId }
 {}
 
 /// After the same bytes and items of an option, one answer of `TypeReader::push` to an input meets its clauses.

@@ -43,7 +43,10 @@ impl<A: Allocator> Model for TypeReader<A> {
 impl<A: Allocator> TypeReader<A> {
     ghost use Rattle.cqlp_type.specs.Standing.{IsShared, Advances, IsFor, made, pending, started, stopped};
     ghost use Rattle.cqlp_note.specs.Lending.{Next};
-    ghost use Rattle.cqlp_type.specs.Pushing.{Uses, Continues, Fills, Pushes};
+    ghost use Rattle.cqlp_type.specs.Pushing.{Uses, Continues, Fills, Pushes, ReadsInto, AdvanceLeaves};
+    ghost use Rattle.cqlp_type.specs.Table.{Table};
+    ghost use Rattle.cqlp_type.specs.Types.{IsPreorder};
+    ghost use Rattle.cqlp_note.specs.Partial.{Progress};
 
     /// With room for the nesting that the limits allow.
     pub fn new(alloc: A, limits: &Limits) -> Result<Self, NoMemory>
@@ -62,11 +65,12 @@ impl<A: Allocator> TypeReader<A> {
         })
     }
 
-    /// Begins an option at an offset, in a frame that ends at another.
+    /// Begins an option at an offset, in a frame that ends at another. It may be read into any table of whole types.
     pub fn begin(&mut self, at: u64, end: u64)
         requires idle { self.old.under_way ≡ false }
         requires place { at ≤ end }
-        ensures { self.new ≡ started self.old at end }
+        ensures is { self.new ≡ started self.old at end }
+        ensures reads { (p : Progress) (t : Table) → IsPreorder t.nodes → ReadsInto self.new p t }
     {
         self.at = at;
         self.end = end;
@@ -99,7 +103,7 @@ impl<A: Allocator> TypeReader<A> {
         self.at
     }
 
-    /// Takes the next bytes of the option that is under way.
+    /// Takes the next bytes of the option that is under way, whose nodes are in the table.
     pub fn advance<B: Allocator, C: Allocator>(
         &mut self,
         partial: &mut Partial<B>,
@@ -109,7 +113,9 @@ impl<A: Allocator> TypeReader<A> {
         requires under_way { self.old.under_way ≡ true }
         requires shared { IsShared self.old partial.old }
         requires room { self.old.rules.entries ≤ table.old.room }
-        ensures { Advances self.old partial.old table.old input.now result self.new partial.new table.new }
+        requires table { ReadsInto self.old partial.old table.old }
+        ensures is { Advances self.old partial.old table.old input.now result self.new partial.new table.new }
+        ensures leaves { AdvanceLeaves result self.new partial.new table.new }
     {
         if let Stage::Done = self.remaining.stage {
             self.stop();
@@ -156,6 +162,7 @@ impl<A: Allocator> TypeReader<A> {
         requires under_way { reader.old.under_way ≡ true }
         requires shared { IsShared reader.old partial.old }
         requires room { reader.old.rules.entries ≤ table.old.room }
+        requires table { ReadsInto reader.old partial.old table.old }
         ensures uses { Uses reader.old input.now result }
         ensures reader { Continues reader.old result reader.new }
         ensures table { Fills reader.old table.old result table.new }

@@ -6,7 +6,7 @@ ghost use Rattle.cqlp_note.specs.Limits.{rules_of};
 ghost use Rattle.cqlp_note.specs.Field.{FieldValue};
 ghost use Rattle.cqlp_type.specs.TypeStep.{Whole, symbol_copies, inner_symbols};
 ghost use Rattle.cqlp_type.specs.declared.remaining.Stage.TheVariants as stage;
-ghost use Rattle.cqlp_type.specs.Remaining.{stage_symbols, is_under_way, is_wanted, HasRoom, Follows, IsPart, Settles, short_in};
+ghost use Rattle.cqlp_type.specs.Remaining.{stage_symbols, is_under_way, is_wanted, HasRoom, Closes, Keeps, Follows, IsPart, Settles, number_of, short_in};
 ghost use Rattle.cqlp_type.specs.declared.kind.Kind.{Kind};
 
 use crate::item::TypePart;
@@ -58,6 +58,7 @@ impl<A: Allocator> Remaining<A> {
         requires lawful { HasRoom self.old.stage self.old.levels }
         requires depth { self.old.levels.room ≡ limits.now.depth }
         requires entries { limits.now.entries ≤ table.old.room }
+        requires types { Keeps (rules_of limits.now) (stage_symbols self.old.stage self.old.levels) table.old.nodes (number_of item) }
         ensures lawful { HasRoom self.new.stage self.new.levels }
         ensures depth { self.new.levels.room ≡ limits.now.depth }
         ensures under_way { is_under_way self.new.stage ≡ true }
@@ -105,6 +106,7 @@ impl<A: Allocator> Remaining<A> {
         requires lawful { HasRoom self.old.stage self.old.levels }
         requires depth { self.old.levels.room ≡ limits.now.depth }
         requires entries { limits.now.entries ≤ table.old.room }
+        requires types { Keeps (rules_of limits.now) (stage_symbols self.old.stage self.old.levels) table.old.nodes id }
         ensures lawful { HasRoom self.new.stage self.new.levels }
         ensures depth { self.new.levels.room ≡ limits.now.depth }
         ensures under_way { is_under_way self.new.stage ≡ true }
@@ -141,7 +143,8 @@ impl<A: Allocator> Remaining<A> {
 
 /// The number that an item is; 0 where it is no \[short\].
 fn number_in(item: Item) -> u16
-    ensures { (input buffer : List ℕ) → short_in (item_value item input buffer) ≡ result }
+    ensures is { result ≡ number_of item }
+    ensures value { (input buffer : List ℕ) → short_in (item_value item input buffer) ≡ result }
 {
     match item {
         Item::Plain(Prim::Short(number)) => number,
@@ -157,7 +160,8 @@ fn inside<A: Allocator, C: Allocator>(
     count: u16,
     table: &mut TypeTable<C>,
 ) -> Stage
-    requires { levels.old.height < levels.old.room }
+    requires room { levels.old.height < levels.old.room }
+    requires types { Closes (symbol_copies count (inner_symbols named (levels.old.height + 1 + 1)) ++ Whole node ∷ levels.old.symbols) table.old.nodes }
     ensures { Settles (symbol_copies count (inner_symbols named (levels.old.height + 1 + 1)) ++ Whole node ∷ levels.old.symbols) table.old levels.old.room result levels.new table.new }
 {
     levels.push(node, named, count);
@@ -166,7 +170,8 @@ fn inside<A: Allocator, C: Allocator>(
 
 /// Goes on to what comes next. Each type that is whole before it gets its span.
 fn settle<A: Allocator, C: Allocator>(levels: &mut Levels<A>, table: &mut TypeTable<C>) -> Stage
-    requires { levels.old.height ≤ levels.old.room }
+    requires room { levels.old.height ≤ levels.old.room }
+    requires types { Closes levels.old.symbols table.old.nodes }
     ensures { Settles levels.old.symbols table.old levels.old.room result levels.new table.new }
 {
     loop {

@@ -18,20 +18,22 @@ pub struct TypeTable<A: Allocator = Global> {
 
 impl<A: Allocator> Model for TypeTable<A> {
     ghost use Rattle.std.specs.Prelude.{◌≤◌, length, vec_capacity};
-    ghost use Rattle.cqlp_type.specs.Table.{Table};
+    ghost use Rattle.cqlp_type.specs.Table.{Table, HoldsTypes};
 
     ghost Value = { Table };
 
     ghost view = { λ t. record { nodes = t.nodes.items; room = t.room } };
 
-    ghost invariant = { λ t. (t.room ≤ vec_capacity t.nodes) × (length t.nodes.items ≤ t.room) };
+    ghost invariant = { λ t. (t.room ≤ vec_capacity t.nodes) × (length t.nodes.items ≤ t.room) × HoldsTypes t.nodes.items };
 }
 
 impl<A: Allocator> TypeTable<A> {
-    ghost use Rattle.cqlp_type.specs.Table.{root, child};
+    ghost use Rattle.cqlp_type.specs.Table.{AreWhole, HoldsTypes, root, child};
+    ghost use Rattle.cqlp_type.specs.Types.{IsPreorder};
     ghost use Rattle.cqlp_type.specs.TypeStep.{with_arity, with_span};
 
     /// With room for `room` nodes, which is all that it will ever have.
+    #[tactic(auto, using(crate::proofs::OpenTypes::nothing_holds))]
     pub fn new(alloc: A, room: u32) -> Result<Self, NoMemory>
         ensures { IfOk result (λ table. table ≡ record { nodes = []; room = room }) }
     {
@@ -55,6 +57,14 @@ impl<A: Allocator> TypeTable<A> {
         ensures { IsTrue result ↔ (self.now.nodes ≡ []) }
     {
         self.nodes.is_empty()
+    }
+
+    /// Whether no type is under way. Then the nodes are those of whole types side by side.
+    pub fn whole(&self) -> bool
+        ensures is { IsTrue result ↔ AreWhole self.now.nodes }
+        ensures types { IsTrue result → IsPreorder self.now.nodes }
+    {
+        self.nodes.iter().all(|node| node.span != 0)
     }
 
     /// The node with this number; the first has the number 0.
@@ -95,6 +105,7 @@ impl<A: Allocator> TypeTable<A> {
     }
 
     /// Removes all nodes, and keeps the room.
+    #[tactic(auto, using(crate::proofs::OpenTypes::nothing_holds))]
     pub fn clear(&mut self)
         ensures { self.new ≡ record { nodes = []; room = self.old.room } }
     {
@@ -108,8 +119,11 @@ impl<A: Allocator> TypeTable<A> {
         self.room
     }
 
+    /// Adds the node of a type that is under way.
+    #[tactic(auto, using(crate::proofs::OpenTypes::pushed_holds))]
     pub(crate) fn push(&mut self, node: Node)
-        requires { length self.old.nodes < self.old.room }
+        requires room { length self.old.nodes < self.old.room }
+        requires under_way { node.span ≡ 0 }
         ensures { self.new ≡ record { nodes = self.old.nodes ++ node ∷ []; room = self.old.room } }
     {
         self.nodes.push_reserved(node);
@@ -117,6 +131,7 @@ impl<A: Allocator> TypeTable<A> {
 
     /// Sets how many inner types the last type has.
     pub(crate) fn set_arity(&mut self, arity: u16)
+        requires { HoldsTypes (with_arity arity self.old.nodes) }
         ensures { self.new ≡ record { nodes = with_arity arity self.old.nodes; room = self.old.room } }
     {
         if !self.nodes.is_empty() {
@@ -127,6 +142,7 @@ impl<A: Allocator> TypeTable<A> {
 
     /// The type that begins at this node ends with the last one.
     pub(crate) fn close(&mut self, i: u32)
+        requires { HoldsTypes (with_span i self.old.nodes) }
         ensures { self.new ≡ record { nodes = with_span i self.old.nodes; room = self.old.room } }
     {
         let _room = self.room;

@@ -16,5 +16,6 @@ loop-node-preserved g c =
       height = omega (arith, n.1, i.height);
       levels = n.2 ∙ i.levels;
       table = room ∙ i.table;
+      types = rw nodes (rw n.0 at i.types).1;
       same = rw nodes (length_with_span c.in-Whole.node before ∙ i.same);
     }

@@ -1,7 +1,11 @@
-use Rattle.std.proofs.Common.{◌≡◌, ℕ, refl, sym, ap, ◌∙◌, arith}
+use Rattle.std.proofs.Common.{rules, ◌≡◌, ℕ, refl, sym, ap, ◌∙◌, arith}
 use Rattle.cqlp_note.specs.Reader.{Bad}
 use Rattle.cqlp_note.specs.Partial.{Progress}
-use Rattle.cqlp_type.proofs.Calls.{waits_fits, waits_on, field_at, stopped_is, refused_told, ends_fits, ends_on, failed, idle_after}
+use Rattle.cqlp_type.specs.declared.remaining.Stage.{Stage}
+use Rattle.cqlp_type.specs.Remaining.{stage_symbols}
+use Rattle.cqlp_type.specs.Standing.{Standing}
+use Rattle.cqlp_type.proofs.Calls.{kept, waits_fits, waits_on, field_at, stopped_is, refused_told, ends_fits, ends_on, failed, idle_after}
+use Rattle.cqlp_type.proofs.OpenTypes.{reads_waited, reads_handed, reads_over}
 use Rattle.cqlp_type.proofs.reader.TypeReader.advance.Goals as goal
 
 pub overflow_add-self : goal.overflow_add-self
@@ -15,7 +19,8 @@ pub returns-in-More : goal.returns-in-More
 returns-in-More g c =
     let r = c.ready.ensures in
     let view = c.self-in-More.view_is in
-    waits_on c.args.self.now _ c.args.partial.now c.ready.new.partial c.args.table.now c.args.input.now (rw (← view) at r.reader) (rw (← view) at r.shared) (rw (← view) at r.pending) r.room c.in-More.used c.advance.new.self c.in-More.ensures
+    let w = waits_on c.args.self.now _ c.args.partial.now c.ready.new.partial c.args.table.now c.args.input.now (rw (← view) at r.reader) (rw (← view) at r.shared) (rw (← view) at r.pending) r.room c.in-More.used c.advance.new.self c.in-More.ensures in
+    record { is = w; leaves = reads_waited c.args.self.now c.args.partial.now c.args.table.now c.args.input.now _ c.advance.new.self c.args.table.now c.requires.table c.in-More.used w }
 
 pub returns-in-Refused : goal.returns-in-Refused
 returns-in-Refused g c =
@@ -23,14 +28,18 @@ returns-in-Refused g c =
     let e = c.in-Refused.ensures in
     let old = c.args.self.now in
     let told = refused_told old c.ready.new.self c.args.partial.now c.ready.new.partial c.args.table.now c.args.input.now r.reader r.shared r.pending r.room c.in-Refused.refusal.why e.1 in
-    let at : c.in-Refused.refusal.at ≡ c.ready.new.self.offset = e.0 ∙ field_at old c.ready.new.self c.args.partial.now c.ready.new.partial c.args.table.now c.args.input.now r.reader r.shared r.pending r.room in (
-      told ∙ ap (λ (k : ℕ). Bad (k, c.in-Refused.refusal.why)) (sym at),
-      c.stop-in-Refused.ensures ∙ stopped_is old c.ready.new.self c.args.partial.now c.ready.new.partial c.args.table.now c.args.input.now r.reader r.shared r.pending r.room,
-      ap (λ (z : Progress). z.under_way) e.2,
-      ap (λ (z : Progress). z.content) e.2,
-      ap (λ (z : Progress). z.room) e.2 ∙ r.room,
-      refl,
-    )
+    let at : c.in-Refused.refusal.at ≡ c.ready.new.self.offset = e.0 ∙ field_at old c.ready.new.self c.args.partial.now c.ready.new.partial c.args.table.now c.args.input.now r.reader r.shared r.pending r.room in
+    record {
+      is = (
+        told ∙ ap (λ (k : ℕ). Bad (k, c.in-Refused.refusal.why)) (sym at),
+        c.stop-in-Refused.ensures ∙ stopped_is old c.ready.new.self c.args.partial.now c.ready.new.partial c.args.table.now c.args.input.now r.reader r.shared r.pending r.room,
+        ap (λ (z : Progress). z.under_way) e.2,
+        ap (λ (z : Progress). z.content) e.2,
+        ap (λ (z : Progress). z.room) e.2 ∙ r.room,
+        refl,
+      );
+      leaves = tt;
+    }
 
 pub overflow_add-self-in-Ok : goal.overflow_add-self-in-Ok
 overflow_add-self-in-Ok g c =
@@ -61,8 +70,9 @@ returns-in-Ok g c =
     let view = c.self-in-Got.view_is in
     let n = c.self-in-Got.inside in
     let f = c.in-Ok.ensures in
-    rw f.under_way (ends_on c.args.self.now _ c.args.partial.now c.ready.new.partial c.args.table.now c.args.input.now (rw (← view) at r.reader) (rw (← view) at r.shared) (rw (← view) at r.pending) r.room c.in-Got.used c.in-Got.item c.advance.new.self c.in-Got.ensures.1 c.in-Got.ensures.0
-    c.in-Ok.item _ c.follow.new.self.levels.height c.follow.new.table (f.follows n.at n.end c.args.input.now c.advance.new.self.content) f.part f.table f.entries)
+    let w = ends_on c.args.self.now _ c.args.partial.now c.ready.new.partial c.args.table.now c.args.input.now (rw (← view) at r.reader) (rw (← view) at r.shared) (rw (← view) at r.pending) r.room c.in-Got.used c.in-Got.item c.advance.new.self c.in-Got.ensures.1 c.in-Got.ensures.0
+    c.in-Ok.item _ c.follow.new.self.levels.height c.follow.new.table (f.follows n.at n.end c.args.input.now c.advance.new.self.content) f.part f.table f.entries in
+    rw f.under_way (record { is = w; leaves = reads_handed c.args.self.now c.args.partial.now c.args.table.now c.args.input.now _ c.advance.new.self c.follow.new.table c.requires.table n.at c.in-Got.used c.in-Ok.item w })
 
 pub returns-in-Err : goal.returns-in-Err
 returns-in-Err g c =
@@ -74,4 +84,21 @@ returns-in-Err g c =
     let told = failed c.args.self.now _ c.args.partial.now c.ready.new.partial c.args.table.now c.args.input.now (rw (← view) at r.reader) (rw (← view) at r.shared) (rw (← view) at r.pending) r.room c.in-Got.used c.in-Got.item c.advance.new.self c.in-Got.ensures.1 c.in-Got.ensures.0 c.in-Err.why e.0 in
     let idle = idle_after c.args.self.now _ c.args.partial.now c.ready.new.partial c.args.table.now c.args.input.now (rw (← view) at r.reader) (rw (← view) at r.shared) (rw (← view) at r.pending) r.room c.in-Got.used c.in-Got.item c.advance.new.self c.in-Got.ensures.1 c.in-Got.ensures.0 in
     let stopped = stopped_is c.args.self.now _ c.args.partial.now c.ready.new.partial c.args.table.now c.args.input.now (rw (← view) at r.reader) (rw (← view) at r.shared) (rw (← view) at r.pending) r.room in
-    (told.0, c.stop-in-Err.ensures ∙ stopped, idle.0, told.1, idle.1, λ i. record { nodes = e.1 i; room = f.table i })
+    record { is = (told.0, c.stop-in-Err.ensures ∙ stopped, idle.0, told.1, idle.1, λ i. record { nodes = e.1 i; room = f.table i }); leaves = tt }
+
+pub follow-requires : goal.follow-requires
+follow-requires g c =
+    let r = c.ready.ensures in
+    let view = c.self-in-Got.view_is in
+    record {
+      wanted = search rules;
+      lawful = search rules;
+      depth = search rules;
+      entries = search rules;
+      types = kept c.args.self.now _ c.args.partial.now c.ready.new.partial c.args.table.now c.args.input.now (rw (← view) at r.reader) (rw (← view) at r.shared) (rw (← view) at r.pending) r.room c.in-Got.used c.in-Got.item c.advance.new.self c.in-Got.ensures.1 c.in-Got.ensures.0 c.requires.table;
+    }
+
+pub returns-in-Done-clause-leaves : goal.returns-in-Done-clause-leaves
+returns-in-Done-clause-leaves g c =
+    let none = sym (ap (λ (z : Standing). z.symbols) c.self.view_is) ∙ ap (λ (x : Stage). stage_symbols x c.self.inside.remaining.levels) c.in-Done.is in
+    reads_over c.args.self.now c.args.partial.now c.args.table.now c.requires.table c.requires.shared none
