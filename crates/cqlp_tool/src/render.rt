@@ -1,12 +1,13 @@
 //! Streams as text.
 
 ghost use Rattle.std.specs.Prelude.{◌≡◌, ◌*◌, List, ℕ, Some, IsSome, []};
-ghost use Rattle.cqlp_decode.specs.Draining.{Counts, KeepsRefusal, ReadsAtMost, WaitsAt};
+ghost use Rattle.cqlp_decode.specs.Draining.{Counts, ReadsAtMost, WaitsAt};
+ghost use Rattle.cqlp_note.specs.declared.refusal.Refusal.{Refusal};
 ghost use Rattle.cqlp_decode.specs.Streams.{After, state};
 
 use crate::buffered::Buffered;
 use crate::form::Form;
-use cqlp_decode::{Decoder, Event, Outcome, Sink, SinkFault, run};
+use cqlp_decode::{Decoder, Event, Finish, Outcome, Sink, SinkFault, run};
 use cqlp_note::{IoFault, Source, Target};
 use cqlp_text::{PagePlace, event_line, page_part};
 use std::alloc::Allocator;
@@ -101,7 +102,9 @@ pub fn render_events<R: Source, W: Target, A: Allocator>(
 ) -> (Outcome, W)
     ensures lines { (xs : List ℕ) → R.left reader.old ≡ Some xs → IsSome (W.contents w) → RendersTo forms.Lines turns result.0 (state decoder.old) (state decoder.new) xs (R.left reader.new) (output (W.contents w) (W.failures w)) (output (W.contents result.1) (W.failures result.1)) }
     ensures waits { WaitsAt result.0 (state decoder.new) }
-    ensures stays { KeepsRefusal (state decoder.old) (state decoder.new) }
+    ensures refused { (r : Refusal) → (state decoder.old).refusal ≡ Some r →
+        (result.0 ≡ Outcome.Finished (Finish.Refused r)) × (state decoder.new ≡ state decoder.old) × (reader.new ≡ reader.old)
+        × (output (W.contents result.1) (W.failures result.1) ≡ output (W.contents w) (W.failures w)) }
     ensures reads { (xs : List ℕ) → R.left reader.old ≡ Some xs → ReadsAtMost (4096 * turns) xs (R.left reader.new) }
     ensures failures { Counts result.0 (R.failures reader.old) (R.failures reader.new) }
     ensures rules { (state decoder.new).rules ≡ (state decoder.old).rules }
@@ -122,7 +125,9 @@ pub fn render_rows<R: Source, W: Target, A: Allocator>(
 ) -> (Outcome, W)
     ensures text { (xs : List ℕ) → R.left reader.old ≡ Some xs → IsSome (W.contents w) → RendersTo (forms.Pages no_page) turns result.0 (state decoder.old) (state decoder.new) xs (R.left reader.new) (output (W.contents w) (W.failures w)) (output (W.contents result.1) (W.failures result.1)) }
     ensures waits { WaitsAt result.0 (state decoder.new) }
-    ensures stays { KeepsRefusal (state decoder.old) (state decoder.new) }
+    ensures refused { (r : Refusal) → (state decoder.old).refusal ≡ Some r →
+        (result.0 ≡ Outcome.Finished (Finish.Refused r)) × (state decoder.new ≡ state decoder.old) × (reader.new ≡ reader.old)
+        × (output (W.contents result.1) (W.failures result.1) ≡ output (W.contents w) (W.failures w)) }
     ensures reads { (xs : List ℕ) → R.left reader.old ≡ Some xs → ReadsAtMost (4096 * turns) xs (R.left reader.new) }
     ensures failures { Counts result.0 (R.failures reader.old) (R.failures reader.new) }
     ensures rules { (state decoder.new).rules ≡ (state decoder.old).rules }
