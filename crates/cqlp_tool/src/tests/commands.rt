@@ -3,10 +3,9 @@
 use super::fakes::{Narrow, Pieces};
 use crate::command_line::{command, command_within};
 use crate::heaps::Limited;
-use std::alloc::{Allocator, Global};
+use std::alloc::Allocator;
 use std::process::Abort;
 use std::rt::Files;
-use std::test::Fail;
 
 const OPTIONS: &[u8] = &[4, 0, 0, 0, 5, 0, 0, 0, 0];
 
