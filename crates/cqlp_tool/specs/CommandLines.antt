@@ -28,15 +28,9 @@ Complains text before status after =
 abbrev pub TellsNoMemory : (out err : Output) → (status : ℕ) → (out' err' : Output) → Type 0
 TellsNoMemory out err status out' err' = (out' ≡ out) × Concludes ending.NoMemory err status err'
 
--- Some help was written, or there was no memory for it.
-abbrev pub TellsHelp : (out err : Output) → (status : ℕ) → (out' err' : Output) → Type 0
-TellsHelp out err status out' err' =
-    ((text : List ℕ) × Helps text out err status out' err') ⊎ TellsNoMemory out err status out' err'
-
--- Nothing was written to the output, and what is wrong to the other one; or there was no memory for it.
-abbrev pub TellsMistake : (out err : Output) → (status : ℕ) → (out' err' : Output) → Type 0
-TellsMistake out err status out' err' =
-    ((text : List ℕ) × (out' ≡ out) × Complains text err status err') ⊎ TellsNoMemory out err status out' err'
+-- Nothing was written to the output, and what is wrong to the other one.
+abbrev pub TellsMistake : (text : List ℕ) → (out err : Output) → (status : ℕ) → (out' err' : Output) → Type 0
+TellsMistake text out err status out' err' = (out' ≡ out) × Complains text err status err'
 
 -- What status 2 says: nothing was written to the output, and some text to the other one.
 abbrev pub TellsWrong : (out err out' err' : Output) → Type 0

@@ -1,23 +1,22 @@
 //! The command line, from its words to the exit status.
 
-ghost use Rattle.std.specs.Prelude.{◌≡◌, ◌≢◌, ◌≤◌, ◌⊎◌, List, ℕ, [], Some, IsSome};
+ghost use Rattle.std.specs.Prelude.{◌≡◌, ◌≤◌, List, ℕ, [], Some, IsSome};
 ghost use Rattle.cqlp_note.specs.Limits.{first_bad};
-ghost use Rattle.clap.specs.Words.{kind_of};
-ghost use Rattle.cqlp_tool.specs.CommandLines.{Complains, Helps, TellsFault, TellsHelp, TellsMistake, TellsWrong, default_limits};
+ghost use Rattle.cqlp_tool.specs.CommandLines.{Complains, Helps, TellsFault, TellsMistake, TellsNoMemory, TellsWrong, default_limits};
 ghost use Rattle.cqlp_text.specs.Endings.{IsStatusOfStream, cannot_open_line as cannot_open_line_of};
 ghost use Rattle.cqlp_text.specs.Outputs.{WritesText, output, with_text};
 ghost use Rattle.cqlp_tool.specs.Showing.{Concludes, ShowsAndTells};
 ghost use Rattle.cqlp_text.specs.declared.ending.Ending.{Ending};
+ghost use Rattle.cqlp_options.specs.NoTasks.{IfHelp, IfMistake};
+ghost use Rattle.cqlp_options.specs.declared.no_task.NoTask.TheVariants as no_tasks;
 ghost use Rattle.cqlp_tool.specs.declared.form.Form.TheVariants as forms;
 
-use crate::options::{Options, Task};
-use crate::showing::{DEFAULT_LIMITS, TURNS, check, conclude, rows, show};
-use clap::Error;
-use clap::error::ErrorKind;
+use crate::showing::{TURNS, check, conclude, rows, show};
 use cqlp_decode::SinkFault;
 use cqlp_note::{OfStd, Source, Target};
+use cqlp_options::{DEFAULT_LIMITS, NoTask, Options, Task};
 use cqlp_text::{Ending, cannot_open_line, put_text};
-use std::alloc::{Allocator, Global};
+use std::alloc::Allocator;
 use std::fs::File;
 use std::rt::Files;
 
@@ -75,7 +74,7 @@ pub(crate) fn command_within<R: Files + AllocGlobal, A: Allocator, I: Source, O:
     }
     let options = match Options::parse(rt.alloc(), words) {
         Ok(options) => options,
-        Err(error) => return tell(rt.alloc(), &error, out, err),
+        Err(no_task) => return tell(no_task, out, err),
     };
     if options.file == "-" {
         return perform(heap, options, input, out, err);
@@ -119,31 +118,31 @@ fn cannot_open<E: Target>(file: &str, mut err: E) -> (u8, E)
 }
 
 /// Tells what there is in place of options: help or the version on `out`, and a mistake on `err`.
-fn tell<O: Target, E: Target>(alloc: Global, error: &Error, out: O, err: E) -> (u8, O, E)
-    ensures help { (kind_of error.now ≡ ErrorKind.DisplayHelp) ⊎ (kind_of error.now ≡ ErrorKind.DisplayVersion) → IsSome (O.contents out) → IsSome (E.contents err) →
-        TellsHelp (output (O.contents out) (O.failures out)) (output (E.contents err) (E.failures err)) result.0
-        (output (O.contents result.1) (O.failures result.1)) (output (E.contents result.2) (E.failures result.2)) }
-    ensures mistake { kind_of error.now ≢ ErrorKind.DisplayHelp → kind_of error.now ≢ ErrorKind.DisplayVersion → IsSome (E.contents err) →
-        TellsMistake (output (O.contents out) (O.failures out)) (output (E.contents err) (E.failures err)) result.0
+fn tell<O: Target, E: Target>(no_task: NoTask, out: O, err: E) -> (u8, O, E)
+    ensures help { IfHelp no_task (λ text. IsSome (O.contents out) → IsSome (E.contents err) →
+        Helps text (output (O.contents out) (O.failures out)) (output (E.contents err) (E.failures err)) result.0
+        (output (O.contents result.1) (O.failures result.1)) (output (E.contents result.2) (E.failures result.2))) }
+    ensures mistake { IfMistake no_task (λ text. IsSome (E.contents err) →
+        TellsMistake text (output (O.contents out) (O.failures out)) (output (E.contents err) (E.failures err)) result.0
+        (output (O.contents result.1) (O.failures result.1)) (output (E.contents result.2) (E.failures result.2))) }
+    ensures no_memory { no_task ≡ no_tasks.NoMemory → IsSome (E.contents err) →
+        TellsNoMemory (output (O.contents out) (O.failures out)) (output (E.contents err) (E.failures err)) result.0
         (output (O.contents result.1) (O.failures result.1)) (output (E.contents result.2) (E.failures result.2)) }
     ensures status { result.0 ≤ 3 }
     ensures bad_command_line { result.0 ≡ 2 → IsSome (O.contents out) → IsSome (E.contents err) →
         TellsWrong (output (O.contents out) (O.failures out)) (output (E.contents err) (E.failures err))
         (output (O.contents result.1) (O.failures result.1)) (output (E.contents result.2) (E.failures result.2)) }
 {
-    let text = match error.kind() {
-        ErrorKind::OutOfMemory => None,
-        _ => error.to_string(alloc).ok(),
-    };
-    let Some(text) = text else {
-        let (status, err) = conclude(Ending::NoMemory, err);
-        return (status, out, err);
-    };
-    if error.use_stderr() {
-        let (status, err) = complain(text.as_str(), err);
-        (status, out, err)
-    } else {
-        help(text.as_str(), out, err)
+    match no_task {
+        NoTask::Help(text) => help(text.as_str(), out, err),
+        NoTask::Mistake(text) => {
+            let (status, err) = complain(text.as_str(), err);
+            (status, out, err)
+        }
+        NoTask::NoMemory => {
+            let (status, err) = conclude(Ending::NoMemory, err);
+            (status, out, err)
+        }
     }
 }
 

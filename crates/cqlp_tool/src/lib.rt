@@ -7,15 +7,14 @@ mod form;
 #[cfg(test)]
 mod heaps;
 pub mod laws;
-mod options;
 mod render;
 mod showing;
 
 pub use command_line::command;
+pub use cqlp_options::{DEFAULT_LIMITS, NoTask, Options, Task};
 pub use cqlp_text::{Ending, cell_text};
-pub use options::{Options, Task};
 pub use render::{render_events, render_rows};
-pub use showing::{DEFAULT_LIMITS, check, rows, show};
+pub use showing::{check, rows, show};
 
 #[cfg(test)]
 mod tests;

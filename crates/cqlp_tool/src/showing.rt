@@ -18,16 +18,6 @@ use cqlp_note::{IoFault, Limits, Source, Target};
 use cqlp_text::{Ending, PagePlace, ending_line};
 use std::alloc::Allocator;
 
-/// The limits of the program where none are given.
-pub const DEFAULT_LIMITS: Limits = Limits {
-    text: 1_048_576,
-    cell: 1_048_576,
-    entries: 4_096,
-    depth: 16,
-    types: true,
-    parts: false,
-};
-
 /// How many reads the program makes at most.
 pub(crate) const TURNS: u64 = 4_294_967_296;
 

@@ -3,13 +3,9 @@
 use super::fakes::{Narrow, Pieces};
 use crate::command_line::{command, command_within};
 use crate::heaps::Limited;
-use crate::options::{Options, Task};
-use crate::showing::DEFAULT_LIMITS;
-use cqlp_note::Limits;
-use std::alloc::{Allocator, Global};
+use std::alloc::Allocator;
 use std::process::Abort;
 use std::rt::Files;
-use std::test::Fail;
 
 const OPTIONS: &[u8] = &[4, 0, 0, 0, 5, 0, 0, 0, 0];
 
@@ -130,44 +126,6 @@ fn help_that_was_asked_for(rt: HostRuntime) {
         assert!(rt; done.out.text.as_slice().starts_with(start), "{words:?}");
         assert!(rt; done.err.text.is_empty(), "{words:?}");
     }
-}
-
-#[test]
-fn options_of_a_command_line(rt: HostRuntime) -> Result<(), Fail> {
-    let options = Options::parse(rt.alloc(), &["check", "-"])?;
-    let expected = Options {
-        task: Task::Check,
-        limits: DEFAULT_LIMITS,
-        file: "-",
-    };
-    assert_eq!(rt; options, expected);
-    let words: &[&str] = &[
-        "rows",
-        "--text=32",
-        "--cell",
-        "16777216",
-        "--raw",
-        "file",
-        "--entries",
-        "65536",
-        "--depth=64",
-        "--parts",
-    ];
-    let limits = Limits {
-        text: 32,
-        cell: 16_777_216,
-        entries: 65_536,
-        depth: 64,
-        types: false,
-        parts: true,
-    };
-    let expected = Options {
-        task: Task::Rows,
-        limits,
-        file: "file",
-    };
-    assert_eq!(rt; Options::parse(rt.alloc(), words)?, expected);
-    Ok(())
 }
 
 #[test]

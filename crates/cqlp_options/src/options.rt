@@ -3,6 +3,7 @@
 ghost use Rattle.std.specs.Prelude.{◌≡◌, IfOk, IfSome, Ok};
 ghost use Rattle.cqlp_note.specs.Limits.{first_bad};
 
+use crate::no_task::{NoTask, no_task_of};
 use clap::error::ErrorKind;
 use clap::{Arg, ArgAction, ArgMatches, Command, Error, value_parser};
 use cqlp_note::Limits;
@@ -31,6 +32,16 @@ impl Task {
     }
 }
 
+/// The limits of the program where none are given.
+pub const DEFAULT_LIMITS: Limits = Limits {
+    text: 1_048_576,
+    cell: 1_048_576,
+    entries: 4_096,
+    depth: 16,
+    types: true,
+    parts: false,
+};
+
 /// What a command line asks for.
 #[derive(Clone, Copy, Debug, PartialEq, Eq)]
 pub struct Options<'a> {
@@ -43,15 +54,24 @@ pub struct Options<'a> {
 impl<'a> Options<'a> {
     /// Reads the words after the program's name. What is no command line of the program, and a request for help or the
     /// version, is an error, whose text says what is wrong or what was asked for.
-    pub fn parse(alloc: Global, words: &'a [&'a str]) -> Result<Options<'a>, Error>
+    pub fn parse(alloc: Global, words: &'a [&'a str]) -> Result<Options<'a>, NoTask>
         ensures { IfOk result (λ options. first_bad options.limits ≡ Ok tt) }
     {
-        let mut program = program(alloc)?;
-        let matches = program.try_get_matches_from_mut(words)?;
-        match options_of(&matches) {
-            Some(options) => Ok(options),
-            None => Err(program.error(ErrorKind::ValueValidation, "a limit is out of its range")?),
+        match parsed(alloc, words) {
+            Ok(options) => Ok(options),
+            Err(error) => Err(no_task_of(alloc, &error)),
         }
+    }
+}
+
+fn parsed<'a>(alloc: Global, words: &'a [&'a str]) -> Result<Options<'a>, Error>
+    ensures { IfOk result (λ options. first_bad options.limits ≡ Ok tt) }
+{
+    let mut program = program(alloc)?;
+    let matches = program.try_get_matches_from_mut(words)?;
+    match options_of(&matches) {
+        Some(options) => Ok(options),
+        None => Err(program.error(ErrorKind::ValueValidation, "a limit is out of its range")?),
     }
 }
 
@@ -115,35 +135,32 @@ fn program<'a>(alloc: Global) -> Result<Command<'a>, AllocError> {
         .subcommand(with_arguments(alloc, check)?)
 }
 
-/// The arguments that each task takes.
+/// The arguments that each task takes. Each is handed on as it is made, so that no other is alive at a `?`.
 fn with_arguments<'a>(alloc: Global, task: Command<'a>) -> Result<Command<'a>, AllocError> {
-    let file = Arg::new(alloc, "file")
-        .value_name("FILE")
-        .required(true)
-        .help("The file with the stream; - is standard input");
-    let text = limit(alloc, "text", 32, 16_777_216, "1048576").help(
+    let task = task.arg(
+        Arg::new(alloc, "file")
+            .value_name("FILE")
+            .required(true)
+            .help("The file with the stream; - is standard input"),
+    )?;
+    let task = task.arg(limit(alloc, "text", 32, 16_777_216, "1048576").help(
         "Bytes of one [string] or [long string] at most, from 32 to 16777216",
-    );
-    let cell = limit(alloc, "cell", 32, 16_777_216, "1048576").help(
+    ))?;
+    let task = task.arg(limit(alloc, "cell", 32, 16_777_216, "1048576").help(
         "Bytes of one [bytes], [short bytes], [value] or scalar cell at most, from 32 to 16777216",
-    );
-    let entries = limit(alloc, "entries", 1, 65_536, "4096").help(
+    ))?;
+    let task = task.arg(limit(alloc, "entries", 1, 65_536, "4096").help(
         "Type options of one metadata at most, nested ones counted, from 1 to 65536",
-    );
-    let depth = limit(alloc, "depth", 1, 64, "16").help(
+    ))?;
+    let task = task.arg(limit(alloc, "depth", 1, 64, "16").help(
         "Nesting of one type at most, from 1 to 64; a column's own type has depth 1",
-    );
-    let raw = flag(alloc, "raw").help("Read each cell as raw bytes, without its column's type");
-    let parts = flag(alloc, "parts").help(
+    ))?;
+    let task = task.arg(flag(alloc, "raw").help(
+        "Read each cell as raw bytes, without its column's type",
+    ))?;
+    task.arg(flag(alloc, "parts").help(
         "Give longer blob, custom and raw cells in parts of the size of --cell",
-    );
-    task.arg(file)?
-        .arg(text)?
-        .arg(cell)?
-        .arg(entries)?
-        .arg(depth)?
-        .arg(raw)?
-        .arg(parts)
+    ))
 }
 
 /// An option for a number in a range.

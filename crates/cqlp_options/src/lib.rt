@@ -1,0 +1,11 @@
+//! What a command line of the program cqlp asks for.
+#![tactic(auto)]
+
+mod no_task;
+mod options;
+
+pub use no_task::NoTask;
+pub use options::{DEFAULT_LIMITS, Options, Task};
+
+#[cfg(test)]
+mod tests;
