@@ -1,4 +1,4 @@
-//! Readers, writers and sinks that fail where they are told to.
+//! Readers and writers that fail where they are told to, and a sink that counts.
 
 ghost use Rattle.std.specs.Prelude.{ℕ};
 
@@ -29,57 +29,6 @@ impl Source for Pieces<'_> {
         self.bytes = &self.bytes[count..];
         self.first = self.size;
         Ok(count)
-    }
-}
-
-/// Gives these pieces, each in one read.
-#[derive(Drop)]
-pub(crate) struct Cut<'a> {
-    pieces: &'a [&'a [u8]],
-}
-
-impl<'a> Cut<'a> {
-    pub(crate) fn new(pieces: &'a [&'a [u8]]) -> Cut<'a> {
-        Cut { pieces }
-    }
-}
-
-impl Source for Cut<'_> {
-    ghost failures = { λ _. 0 };
-
-    fn read(&mut self, buffer: &mut [u8]) -> Result<usize, IoFault> {
-        if self.pieces.is_empty() {
-            return Ok(0);
-        }
-        let piece = self.pieces[0];
-        let count = piece.len().min(buffer.len());
-        buffer[..count].copy_from_slice(&piece[..count]);
-        self.pieces = &self.pieces[1..];
-        Ok(count)
-    }
-}
-
-/// Fails at one call, after so many others.
-#[derive(Drop)]
-pub(crate) struct FailsOnce<'a> {
-    pub(crate) bytes: Pieces<'a>,
-    pub(crate) before: Option<usize>,
-    pub(crate) failures: u64,
-}
-
-impl Source for FailsOnce<'_> {
-    ghost failures = { λ source. source.failures };
-
-    fn read(&mut self, buffer: &mut [u8]) -> Result<usize, IoFault> {
-        if self.before == Some(0) {
-            self.before = None;
-            self.failures = self.failures.saturating_add(1);
-            return Err(IoFault);
-        }
-        if let Some(before) = self.before {
-            self.before = Some(before.saturating_sub(1));
-        }
-        self.bytes.read(buffer)
     }
 }
 
@@ -169,31 +118,6 @@ impl Sink for Counting {
     fn take(&mut self, at: u64, _event: &Event<'_>) -> Result<(), SinkFault> {
         self.events = self.events.saturating_add(1);
         self.last = at;
-        Ok(())
-    }
-}
-
-/// Takes so many events, and then fails.
-#[derive(Drop)]
-pub(crate) struct Takes {
-    pub(crate) room: usize,
-    pub(crate) taken: usize,
-}
-
-impl Sink for Takes {
-    ghost View = { ℕ };
-
-    ghost view = { λ _. 0 };
-
-    ghost after = { λ v at e. v };
-
-    ghost faulted = { λ v at e w. Unit {0} };
-
-    fn take(&mut self, _at: u64, _event: &Event<'_>) -> Result<(), SinkFault> {
-        if self.taken >= self.room {
-            return Err(SinkFault);
-        }
-        self.taken += 1;
         Ok(())
     }
 }

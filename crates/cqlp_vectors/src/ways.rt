@@ -1,0 +1,140 @@
+//! The ways in which a stream is read. Each prints where it says something else than the whole stream does.
+
+use crate::endpoints::{Ends, FailsOnce, Narrow, Takes};
+use crate::stream::{Said, Stream};
+use cqlp_decode::{Finish, Outcome, run};
+use cqlp_tool::render_events;
+use std::io;
+
+/// How many bytes a read gives where a run stops between two reads.
+const PIECE: usize = 7;
+
+/// Byte by byte, in two pieces cut at each place, and in three cut at each pair of places.
+pub fn in_pieces(rt: &HostRuntime, stream: &Stream<'_>, whole: &Said) -> io::Result<()> {
+    in_these_pieces(rt, stream, whole, [1; 3])?;
+    for first in 1..stream.bytes.len() {
+        in_these_pieces(rt, stream, whole, [first, usize::MAX, usize::MAX])?;
+        for second in 1..stream.bytes.len() - first {
+            in_these_pieces(rt, stream, whole, [first, second, usize::MAX])?;
+        }
+    }
+    Ok(())
+}
+
+fn in_these_pieces(
+    rt: &HostRuntime,
+    stream: &Stream<'_>,
+    whole: &Said,
+    sizes: [usize; 3],
+) -> io::Result<()> {
+    let said = stream.said(rt.alloc(), &mut stream.pieces(sizes))?;
+    if !said.is(whole) {
+        println!(rt; "differs in pieces of {sizes:?} bytes")?;
+    }
+    Ok(())
+}
+
+/// Each front: one that is refused says all that the stream does; any other says a front of its lines, and is whole at
+/// the end of a frame, and cut elsewhere.
+pub fn fronts(rt: &HostRuntime, stream: &Stream<'_>, whole: &Said) -> io::Result<()> {
+    let mut decoder = stream.decoder(rt.alloc())?;
+    let mut ends = Ends {
+        places: Vec::new(rt.alloc()),
+    };
+    let mut reader = stream.pieces([usize::MAX; 3]);
+    let _ = run(&mut decoder, &mut reader, &mut ends, u64::MAX);
+    for count in 0..stream.bytes.len() {
+        let said = stream.front(count).whole(rt.alloc())?;
+        if !is_front(&said, whole, finish_after(&ends.places, count as u64)) {
+            println!(rt; "differs where it ends after {count} bytes")?;
+        }
+    }
+    Ok(())
+}
+
+fn is_front(said: &Said, whole: &Said, finish: Finish) -> bool {
+    if let Outcome::Finished(Finish::Refused(_)) = said.outcome {
+        return said.is(whole);
+    }
+    said.outcome == Outcome::Finished(finish) && whole.lines.starts_with(&said.lines)
+}
+
+/// How a stream whose frames end at these places ends after this many bytes, where they are not refused.
+fn finish_after(ends: &[u64], bytes: u64) -> Finish {
+    let mut frame_at = 0;
+    for end in ends {
+        if *end <= bytes {
+            frame_at = *end;
+        }
+    }
+    if frame_at == bytes {
+        Finish::Whole { bytes }
+    } else {
+        Finish::Cut { frame_at, bytes }
+    }
+}
+
+/// With a reader that fails at each of its calls, and a second run after the fault.
+pub fn after_read_faults(rt: &HostRuntime, stream: &Stream<'_>, whole: &Said) -> io::Result<()> {
+    for before in 0..=stream.bytes.len().div_ceil(PIECE) {
+        let mut reader = FailsOnce::new(stream.pieces([PIECE; 3]), before);
+        let (first, said) = stream.said_in_two_runs(rt.alloc(), &mut reader, u64::MAX)?;
+        let is_told = (first == Outcome::ReadFault) == reader.has_failed();
+        if !is_told || !said.is(whole) {
+            println!(rt; "differs with a read that fails after {before}")?;
+        }
+    }
+    Ok(())
+}
+
+/// With a run that stops after each number of turns, and a second run.
+pub fn after_turns(rt: &HostRuntime, stream: &Stream<'_>, whole: &Said) -> io::Result<()> {
+    for turns in 0..=stream.bytes.len().div_ceil(PIECE) {
+        let mut reader = stream.pieces([PIECE; 3]);
+        let (_, said) = stream.said_in_two_runs(rt.alloc(), &mut reader, turns as u64)?;
+        if !said.is(whole) {
+            println!(rt; "differs with a run of {turns} turns before")?;
+        }
+    }
+    Ok(())
+}
+
+/// To a writer that fails after each number of bytes, which gets that many of the text.
+pub fn with_room_for_text(rt: &HostRuntime, stream: &Stream<'_>, whole: &Said) -> io::Result<()> {
+    let text = whole.lines.as_slice();
+    for room in 0..=text.len() {
+        let mut decoder = stream.decoder(rt.alloc())?;
+        let mut reader = stream.pieces([usize::MAX; 3]);
+        let writer = Narrow::new(rt.alloc(), room);
+        let (outcome, writer) = render_events(&mut decoder, &mut reader, writer, u64::MAX);
+        let is_written = text.starts_with(&writer.text) && writer.text.len() == room;
+        if !is_written || outcome != with_room(room, text.len(), whole) {
+            println!(rt; "differs with room for {room} bytes of text")?;
+        }
+    }
+    Ok(())
+}
+
+/// To a sink that fails after each number of events, which gets that many.
+pub fn with_room_for_events(rt: &HostRuntime, stream: &Stream<'_>, whole: &Said) -> io::Result<()> {
+    let events = whole.lines.iter().filter(|byte| **byte == b'\n').count();
+    for room in 0..=events {
+        let mut decoder = stream.decoder(rt.alloc())?;
+        let mut reader = stream.pieces([3, 5, 5]);
+        let mut sink = Takes { room, taken: 0 };
+        let outcome = run(&mut decoder, &mut reader, &mut sink, u64::MAX);
+        if sink.taken != room || outcome != with_room(room, events, whole) {
+            println!(rt; "differs with room for {room} events")?;
+        }
+    }
+    Ok(())
+}
+
+/// How a run ends where there is room for a part of what is said, or for all.
+fn with_room(room: usize, all: usize, whole: &Said) -> Outcome {
+    if room < all {
+        Outcome::SinkFault
+    } else {
+        whole.outcome
+    }
+}
