@@ -4,6 +4,7 @@ use crate::endpoints::{Ends, FailsOnce, Narrow, Takes};
 use crate::stream::{Said, Stream};
 use cqlp_decode::{Finish, Outcome, run};
 use cqlp_tool::render_events;
+use std::alloc::Global;
 use std::io;
 
 /// How many bytes a read gives where a run stops between two reads.
@@ -27,8 +28,10 @@ fn in_these_pieces(
     whole: &Said,
     sizes: [usize; 3],
 ) -> io::Result<()> {
-    let said = stream.said(rt.alloc(), &mut stream.pieces(sizes))?;
-    if !said.is(whole) {
+    let is_same = stream
+        .said(rt.alloc(), &mut stream.pieces(sizes))?
+        .is(whole);
+    if !is_same {
         println!(rt; "differs in pieces of {sizes:?} bytes")?;
     }
     Ok(())
@@ -37,19 +40,25 @@ fn in_these_pieces(
 /// Each front: one that is refused says all that the stream does; any other says a front of its lines, and is whole at
 /// the end of a frame, and cut elsewhere.
 pub fn fronts(rt: &HostRuntime, stream: &Stream<'_>, whole: &Said) -> io::Result<()> {
-    let mut decoder = stream.decoder(rt.alloc())?;
-    let mut ends = Ends {
-        places: Vec::new(rt.alloc()),
-    };
-    let mut reader = stream.pieces([usize::MAX; 3]);
-    let _ = run(&mut decoder, &mut reader, &mut ends, u64::MAX);
+    let ends = ends_of(rt.alloc(), stream)?;
     for count in 0..stream.bytes.len() {
-        let said = stream.front(count).whole(rt.alloc())?;
-        if !is_front(&said, whole, finish_after(&ends.places, count as u64)) {
+        let finish = finish_after(&ends, count as u64);
+        if !is_front(&stream.front(count).whole(rt.alloc())?, whole, finish) {
             println!(rt; "differs where it ends after {count} bytes")?;
         }
     }
     Ok(())
+}
+
+/// Where the frames of a stream end.
+fn ends_of(alloc: Global, stream: &Stream<'_>) -> io::Result<Vec<u64>> {
+    let mut decoder = stream.decoder(alloc)?;
+    let mut ends = Ends {
+        places: Vec::new(alloc),
+    };
+    let mut reader = stream.pieces([usize::MAX; 3]);
+    let _ = run(&mut decoder, &mut reader, &mut ends, u64::MAX);
+    Ok(ends.places)
 }
 
 fn is_front(said: &Said, whole: &Said, finish: Finish) -> bool {
@@ -77,57 +86,84 @@ fn finish_after(ends: &[u64], bytes: u64) -> Finish {
 /// With a reader that fails at each of its calls, and a second run after the fault.
 pub fn after_read_faults(rt: &HostRuntime, stream: &Stream<'_>, whole: &Said) -> io::Result<()> {
     for before in 0..=stream.bytes.len().div_ceil(PIECE) {
-        let mut reader = FailsOnce::new(stream.pieces([PIECE; 3]), before);
-        let (first, said) = stream.said_in_two_runs(rt.alloc(), &mut reader, u64::MAX)?;
-        let is_told = (first == Outcome::ReadFault) == reader.has_failed();
-        if !is_told || !said.is(whole) {
+        if !is_same_after_read_fault(rt.alloc(), stream, whole, before)? {
             println!(rt; "differs with a read that fails after {before}")?;
         }
     }
     Ok(())
 }
 
+fn is_same_after_read_fault(
+    alloc: Global,
+    stream: &Stream<'_>,
+    whole: &Said,
+    before: usize,
+) -> io::Result<bool> {
+    let mut reader = FailsOnce::new(stream.pieces([PIECE; 3]), before);
+    let (first, said) = stream.said_in_two_runs(alloc, &mut reader, u64::MAX)?;
+    let is_reported = (first == Outcome::ReadFault) == reader.has_failed();
+    Ok(is_reported && said.is(whole))
+}
+
 /// With a run that stops after each number of turns, and a second run.
 pub fn after_turns(rt: &HostRuntime, stream: &Stream<'_>, whole: &Said) -> io::Result<()> {
     for turns in 0..=stream.bytes.len().div_ceil(PIECE) {
-        let mut reader = stream.pieces([PIECE; 3]);
-        let (_, said) = stream.said_in_two_runs(rt.alloc(), &mut reader, turns as u64)?;
-        if !said.is(whole) {
+        if !is_same_after_turns(rt.alloc(), stream, whole, turns as u64)? {
             println!(rt; "differs with a run of {turns} turns before")?;
         }
     }
     Ok(())
 }
 
+fn is_same_after_turns(
+    alloc: Global,
+    stream: &Stream<'_>,
+    whole: &Said,
+    turns: u64,
+) -> io::Result<bool> {
+    let mut reader = stream.pieces([PIECE; 3]);
+    let (_, said) = stream.said_in_two_runs(alloc, &mut reader, turns)?;
+    Ok(said.is(whole))
+}
+
 /// To a writer that fails after each number of bytes, which gets that many of the text.
 pub fn with_room_for_text(rt: &HostRuntime, stream: &Stream<'_>, whole: &Said) -> io::Result<()> {
-    let text = whole.lines.as_slice();
-    for room in 0..=text.len() {
-        let mut decoder = stream.decoder(rt.alloc())?;
-        let mut reader = stream.pieces([usize::MAX; 3]);
-        let writer = Narrow::new(rt.alloc(), room);
-        let (outcome, writer) = render_events(&mut decoder, &mut reader, writer, u64::MAX);
-        let is_written = text.starts_with(&writer.text) && writer.text.len() == room;
-        if !is_written || outcome != with_room(room, text.len(), whole) {
+    for room in 0..=whole.lines.len() {
+        if !fills_text(rt.alloc(), stream, whole, room)? {
             println!(rt; "differs with room for {room} bytes of text")?;
         }
     }
     Ok(())
 }
 
+fn fills_text(alloc: Global, stream: &Stream<'_>, whole: &Said, room: usize) -> io::Result<bool> {
+    let mut decoder = stream.decoder(alloc)?;
+    let mut reader = stream.pieces([usize::MAX; 3]);
+    let writer = Narrow::new(alloc, room);
+    let (outcome, writer) = render_events(&mut decoder, &mut reader, writer, u64::MAX);
+    let is_written = whole.lines.starts_with(&writer.text) && writer.text.len() == room;
+    Ok(is_written && outcome == with_room(room, whole.lines.len(), whole))
+}
+
 /// To a sink that fails after each number of events, which gets that many.
 pub fn with_room_for_events(rt: &HostRuntime, stream: &Stream<'_>, whole: &Said) -> io::Result<()> {
     let events = whole.lines.iter().filter(|byte| **byte == b'\n').count();
     for room in 0..=events {
-        let mut decoder = stream.decoder(rt.alloc())?;
-        let mut reader = stream.pieces([3, 5, 5]);
-        let mut sink = Takes { room, taken: 0 };
-        let outcome = run(&mut decoder, &mut reader, &mut sink, u64::MAX);
-        if sink.taken != room || outcome != with_room(room, events, whole) {
+        let expected = (room, with_room(room, events, whole));
+        if taken_of(rt.alloc(), stream, room)? != expected {
             println!(rt; "differs with room for {room} events")?;
         }
     }
     Ok(())
+}
+
+/// How many events a sink gets that fails after this many, and how the run ends.
+fn taken_of(alloc: Global, stream: &Stream<'_>, room: usize) -> io::Result<(usize, Outcome)> {
+    let mut decoder = stream.decoder(alloc)?;
+    let mut reader = stream.pieces([3, 5, 5]);
+    let mut sink = Takes { room, taken: 0 };
+    let outcome = run(&mut decoder, &mut reader, &mut sink, u64::MAX);
+    Ok((sink.taken, outcome))
 }
 
 /// How a run ends where there is room for a part of what is said, or for all.
