@@ -5,23 +5,23 @@ use Rattle.cqlp_note.specs.declared.refusal.Refusal.{Refusal}
 use Rattle.cqlp_note.specs.Reader.{Bad, says}
 use Rattle.cqlp_note.specs.Step.{Emitted, map_step}
 use Rattle.cqlp_note.specs.Limits.{Rules, rules_of}
-use Rattle.cqlp_note.specs.Partial.{Progress}
+use Rattle.cqlp_note.specs.Partial.{FieldState}
 use Rattle.cqlp_note.proofs.Yields.{map_said, says_map}
 use Rattle.cqlp_type.specs.declared.kind.Kind.{Kind}
 use Rattle.cqlp_type.specs.declared.node.Node.{Node}
 use Rattle.cqlp_type.specs.Types.{Types, Type_and}
-use Rattle.cqlp_value.specs.declared.item.CellOutline.{CellOutline}
-use Rattle.cqlp_value.specs.declared.item.CellAdvance.TheVariants as cell_advance
-use Rattle.cqlp_value.specs.declared.standing.Next.{Next}
-use Rattle.cqlp_value.specs.declared.standing.Next.TheVariants as next
+use Rattle.cqlp_value.specs.declared.advance.CellOutline.{CellOutline}
+use Rattle.cqlp_value.specs.declared.advance.CellAdvance.TheVariants as cell_advance
+use Rattle.cqlp_value.specs.declared.standing.NextInCell.{NextInCell}
+use Rattle.cqlp_value.specs.declared.standing.NextInCell.TheVariants as next
 use Rattle.cqlp_value.specs.CellStep.{CellSymbol, CellEvent, CellPlace, Value_of, cell_step}
 use Rattle.cqlp_value.specs.CellStep as cell
-use Rattle.cqlp_value.specs.declared.item.CellOutline.TheVariants as outline
+use Rattle.cqlp_value.specs.declared.advance.CellOutline.TheVariants as outline
 use Rattle.cqlp_value.specs.Scalars.{ScalarValue, allows_size, scalar_of}
 use Rattle.cqlp_value.specs.Items.{event_at as cell_event_at, leaf_event, content_at, CanLend}
 use Rattle.cqlp_value.specs.Inner.{Forest}
 use Rattle.cqlp_value.specs.Standing as value
-use Rattle.cqlp_value.specs.Standing.{State as CellState, place, cell_symbols, is_under_way}
+use Rattle.cqlp_value.specs.Standing.{CellState, place, cell_symbols, is_under_way}
 use Rattle.cqlp_value.specs.Reading.{HaveCome, IsBehind}
 use Rattle.cqlp_value.specs.Reading as taking
 use Rattle.cqlp_value.specs.Pushing.{is_done, begun as begun_at}
@@ -30,23 +30,23 @@ use Rattle.cqlp_value.proofs.Leading.{some_come, stands_under, told_is as cell_t
 use Rattle.cqlp_value.proofs.ScalarSizes.{scalar_sized}
 use Rattle.cqlp_value.proofs.Leavings.{left_none, left_some, stop_is}
 use Rattle.cqlp_message.specs.Productions.{Symbol, Cell_due, In_cell}
-use Rattle.cqlp_decode.specs.declared.page.Page.{Page}
-use Rattle.cqlp_decode.specs.declared.standing.Stage.{Stage}
-use Rattle.cqlp_decode.specs.declared.standing.Stage.TheVariants as stage
-use Rattle.cqlp_decode.specs.declared.standing.Standing.{Standing}
-use Rattle.cqlp_decode.specs.declared.standing.Advance.TheVariants as advance
-use Rattle.cqlp_decode.specs.declared.standing.What.TheVariants as what
+use Rattle.cqlp_decode.specs.declared.page.CellCursor.{CellCursor}
+use Rattle.cqlp_decode.specs.declared.standing.StreamStage.{StreamStage}
+use Rattle.cqlp_decode.specs.declared.standing.StreamStage.TheVariants as stage
+use Rattle.cqlp_decode.specs.declared.standing.StreamStanding.{StreamStanding}
+use Rattle.cqlp_decode.specs.declared.advance.EventAdvance.TheVariants as advance
+use Rattle.cqlp_decode.specs.declared.advance.EventOutline.TheVariants as what
 use Rattle.cqlp_decode.specs.Reading as reading
 use Rattle.cqlp_decode.specs.Reading.{Place, step, cell_event, cells_left, place_of_cells}
 use Rattle.cqlp_decode.specs.Pages.{cell_symbol, page_symbols, cells_behind, types_left, node_by}
-use Rattle.cqlp_decode.specs.declared.standing.Advance.{Advance}
-use Rattle.cqlp_decode.specs.Standing.{State, IsPending, Parts, parts, state_of, place_at, offset_at, symbols_at, rest_of, told, Waits, Hands, Moves, IsLent, due_after, frame_after, ends_due, IsCell, IsLawful, StageHolds, Starts}
+use Rattle.cqlp_decode.specs.declared.advance.EventAdvance.{EventAdvance}
+use Rattle.cqlp_decode.specs.Standing.{StreamState, IsPending, Parts, parts, state_of, place_at, offset_at, symbols_at, rest_of, told, Waits, Hands, Moves, IsLent, due_after, frame_after, ends_due, IsCell, IsConsistent, StageHolds, Starts}
 use Rattle.cqlp_decode.proofs.Steps.{begun, one_due, offset_is}
 use Rattle.cqlp_decode.proofs.FieldSteps.{goes_on_lawful}
 use Rattle.cqlp_decode.proofs.Columns.{FirstColumn, first_column, page_begun, page_due}
 
 -- the step of a cell under way, or of one that has just begun, is that of what is left of it
-alike : (l : Rules) (nodes : List Node) (d : CellState) (n : Next) (row column stop : ℕ) (k : Kind) (inner : Types) (rest : List Symbol) → ((i : Option ℕ) → n ≡ next.Cell i → (place nodes d).symbols ≡ Value_of k inner 0 stop ∷ [])
+alike : (l : Rules) (nodes : List Node) (d : CellState) (n : NextInCell) (row column stop : ℕ) (k : Kind) (inner : Types) (rest : List Symbol) → ((i : Option ℕ) → n ≡ next.Cell i → (place nodes d).symbols ≡ Value_of k inner 0 stop ∷ [])
     → let here : Place = place_at d.offset stop (cell_symbol n row column k inner (place nodes d).symbols ∷ rest) nodes in
     step l here ≡ map_step (cell_event row column) (place_of_cells row column here rest) (cell_step l (place nodes d))
 alike l nodes d (next.Cell i) row column stop k inner rest due = rw (due i refl) refl
@@ -89,18 +89,18 @@ lent_is nodes row column used (outline.Enter level k n) input buffer can h = tt
 lent_is nodes row column used (outline.Leave level n) input buffer can h = tt
 lent_is nodes row column used (outline.Part level offset c last) input buffer can h = h
 
-still_by : (n : Next) (row column : ℕ) (k : Kind) (inner : Types) (ss : List CellSymbol) (rest : List Symbol) → IsBehind n → (ss ≡ [] → ⊥) → cell_symbol n row column k inner ss ∷ rest ≡ cells_left row column ss ++ rest
+still_by : (n : NextInCell) (row column : ℕ) (k : Kind) (inner : Types) (ss : List CellSymbol) (rest : List Symbol) → IsBehind n → (ss ≡ [] → ⊥) → cell_symbol n row column k inner ss ∷ rest ≡ cells_left row column ss ++ rest
 still_by next.Nothing row column k inner ss rest behind some = absurd behind
 still_by (next.Cell i) row column k inner ss rest behind some = absurd behind
 still_by next.Items row column k inner ss rest behind some = sym (still_left row column ss rest some)
 still_by (next.Part offset total) row column k inner ss rest behind some = sym (still_left row column ss rest some)
 
 -- what is left of a page, where a part of the cell was handed out
-under_way_still : (nodes : List Node) (depth : ℕ) (d : CellState) (p : Page) → FirstColumn nodes depth p.columns p.column p.index → IsBehind d.next → ((place nodes d).symbols ≡ [] → ⊥) → (rest : List Symbol)
+under_way_still : (nodes : List Node) (depth : ℕ) (d : CellState) (p : CellCursor) → FirstColumn nodes depth p.columns p.column p.index → IsBehind d.next → ((place nodes d).symbols ≡ [] → ⊥) → (rest : List Symbol)
     → page_symbols nodes d p ++ rest ≡ cells_left p.row p.column (place nodes d).symbols ++ (cells_behind nodes p ++ rest)
 under_way_still nodes depth d p f behind some rest = rw f.is (still_by d.next p.row p.column f.first f.inner (place nodes d).symbols _ behind some)
 
-module _ (s : Standing) (q : Parts) (p : Page) (here : s.stage ≡ stage.Cell p) (c : IsCell s q p) (rules : q.cells.rules ≡ rules_of s.limits) where
+module _ (s : StreamStanding) (q : Parts) (p : CellCursor) (here : s.stage ≡ stage.InCell p) (c : IsCell s q p) (rules : q.cells.rules ≡ rules_of s.limits) where
   abbrev rest : List Symbol
   rest = cells_behind q.table.nodes p ++ rest_of s.upcoming
 
@@ -129,7 +129,7 @@ module _ (s : Standing) (q : Parts) (p : Page) (here : s.stage ≡ stage.Cell p)
   came : (b : List ℕ) × HaveCome b q.cells.under q.partial.seen
   came = some_come q.table.nodes q.cells q.partial c.joined
 
-  pub cell_waits : (input : List ℕ) (used : ℕ) (d : CellState) (p' : Progress) → taking.Moves q.table.nodes q.cells q.partial input (cell_advance.More used) d p' → Waits (state_of s q) input used (state_of s (parts p' q.types d q.table))
+  pub cell_waits : (input : List ℕ) (used : ℕ) (d : CellState) (p' : FieldState) → taking.Moves q.table.nodes q.cells q.partial input (cell_advance.More used) d p' → Waits (state_of s q) input used (state_of s (parts p' q.types d q.table))
   cell_waits input used d p' m =
       let same = (m came.0 came.1).0.same in
       record {
@@ -141,11 +141,11 @@ module _ (s : Standing) (q : Parts) (p : Page) (here : s.stage ≡ stage.Cell p)
             (told_is (b ++ input) ∙ ap (λ z. map_said (cell_event p.row p.column) (place_of_cells p.row p.column stands rest) z) w.0.is, rw here w.1);
       }
 
-  pub cell_fails : (input : List ℕ) (r : Refusal) (d : CellState) (p' : Progress) → taking.Moves q.table.nodes q.cells q.partial input (cell_advance.Refused r) d p'
+  pub cell_fails : (input : List ℕ) (r : Refusal) (d : CellState) (p' : FieldState) → taking.Moves q.table.nodes q.cells q.partial input (cell_advance.Refused r) d p'
       → (b : List ℕ) → IsPending (state_of s q).pending b → told (state_of s q) (b ++ input) ≡ Bad (r.at, r.why)
   cell_fails input r d p' m b is = told_is (b ++ input) ∙ ap (λ z. map_said (cell_event p.row p.column) (place_of_cells p.row p.column stands rest) z) (m b (come_is b is)).is
 
-  module _ (input : List ℕ) (at used : ℕ) (i : CellOutline) (d : CellState) (p' : Progress) (m : taking.Moves q.table.nodes q.cells q.partial input (cell_advance.Item at used i) d p') where
+  module _ (input : List ℕ) (at used : ℕ) (i : CellOutline) (d : CellState) (p' : FieldState) (m : taking.Moves q.table.nodes q.cells q.partial input (cell_advance.Item at used i) d p') where
     abbrev event : (held : List ℕ) → reading.Event
     event held = cell_event p.row p.column (cell_event_at i input held)
 
@@ -153,7 +153,7 @@ module _ (s : Standing) (q : Parts) (p : Page) (here : s.stage ≡ stage.Cell p)
     one b come = m b come
 
     -- the place that the decoder stands at then
-    module _ (e : Standing) (q' : Parts) (content : q'.partial.content ≡ p'.content) (nodes : q'.table.nodes ≡ q.table.nodes) (offset : offset_at e.stage e.offset q' ≡ d.offset) (stop : e.stop ≡ s.stop) (frame : e.frame ≡ s.frame)
+    module _ (e : StreamStanding) (q' : Parts) (content : q'.partial.content ≡ p'.content) (nodes : q'.table.nodes ≡ q.table.nodes) (offset : offset_at e.stage e.offset q' ≡ d.offset) (stop : e.stop ≡ s.stop) (frame : e.frame ≡ s.frame)
         (symbols : symbols_at e.stage q' e.upcoming ≡ cells_left p.row p.column (place q.table.nodes d).symbols ++ rest) (fresh : IsPending (state_of e q').pending []) (due : ends_due (symbols_at e.stage q' e.upcoming) ≡ 1)
         (open_values : length q'.cells.open_values ≤ length d.open_values) where
       pub cell_hands : Moves (state_of s q) input (advance.Event at used (what.Cell p.row p.column i)) (state_of e q')
@@ -191,7 +191,7 @@ module _ (s : Standing) (q : Parts) (p : Page) (here : s.stage ≡ stage.Cell p)
           cell_hands s (parts p' q.types d q.table) refl refl (rw here refl) refl refl (rw here left) (rw (here, h.fresh) refl) (rw here (page_due q.table.nodes s.limits.depth d p (rest_of s.upcoming) c.page.0)) (omega arith)
 
     -- the cell is whole, and this is next
-    module _ (whole : is_done d ≡ true) (e : Standing) (d' : CellState) (offset : e.offset ≡ d.offset) (stop : e.stop ≡ s.stop) (frame : e.frame ≡ s.frame) (zero : e.came ≡ 0) (symbols : symbols_at e.stage (parts p' q.types d' q.table) e.upcoming ≡ rest)
+    module _ (whole : is_done d ≡ true) (e : StreamStanding) (d' : CellState) (offset : e.offset ≡ d.offset) (stop : e.stop ≡ s.stop) (frame : e.frame ≡ s.frame) (zero : e.came ≡ 0) (symbols : symbols_at e.stage (parts p' q.types d' q.table) e.upcoming ≡ rest)
         (starts : Starts e q.table.nodes e.stage) (none : d'.open_values ≡ []) where
       pub ended_hands : Moves (state_of s q) input (advance.Event at used (what.Cell p.row p.column i)) (state_of e (parts p' q.types d' q.table))
       ended_hands =
@@ -201,13 +201,13 @@ module _ (s : Standing) (q : Parts) (p : Page) (here : s.stage ≡ stage.Cell p)
 
   -- ---- what holds of the decoder then
 
-  cell_goes : (d : CellState) (p' : Progress) → taking.Joined q.table.nodes d p' → value.Stands q.table.nodes d → is_under_way d ≡ true → is_done d ≡ false → ((n : Option ℕ) → d.next ≡ next.Cell n → n ≡ node_by p.columns p.index) → d.stop ≡ s.stop → s.offset ≤ d.offset → IsCell s (parts p' q.types d q.table) p
+  cell_goes : (d : CellState) (p' : FieldState) → taking.Joined q.table.nodes d p' → value.Stands q.table.nodes d → is_under_way d ≡ true → is_done d ≡ false → ((n : Option ℕ) → d.next ≡ next.Cell n → n ≡ node_by p.columns p.index) → d.stop ≡ s.stop → s.offset ≤ d.offset → IsCell s (parts p' q.types d q.table) p
   cell_goes d p' joined stands under_way some is stop behind = record { under_way = under_way; stands = stands; joined = joined; some = some; is = is; page = c.page; stop = stop; behind = behind; came = c.came }
 
-  stage_there : (z : Parts) → StageHolds s z (stage.Cell p) → StageHolds s z s.stage
-  stage_there z h = subst (λ (t : Stage). StageHolds s z t) (sym here) h
+  stage_there : (z : Parts) → StageHolds s z (stage.InCell p) → StageHolds s z s.stage
+  stage_there z h = subst (λ (t : StreamStage). StageHolds s z t) (sym here) h
 
-  pub cell_more_lawful : (input : List ℕ) (used : ℕ) (d : CellState) (p' : Progress) → taking.Moves q.table.nodes q.cells q.partial input (cell_advance.More used) d p' → IsLawful s q → IsLawful s (parts p' q.types d q.table)
+  pub cell_more_lawful : (input : List ℕ) (used : ℕ) (d : CellState) (p' : FieldState) → taking.Moves q.table.nodes q.cells q.partial input (cell_advance.More used) d p' → IsConsistent s q → IsConsistent s (parts p' q.types d q.table)
   cell_more_lawful input used d p' m law =
       let h = (m came.0 came.1).0 in
       record {
@@ -218,7 +218,7 @@ module _ (s : Standing) (q : Parts) (p : Page) (here : s.stage ≡ stage.Cell p)
         table = λ none. rw here (rw here at (law.table none));
       }
 
-  pub cell_refused_lawful : (input : List ℕ) (r : Refusal) (d : CellState) (p' : Progress) → taking.Moves q.table.nodes q.cells q.partial input (cell_advance.Refused r) d p' → IsLawful s q → IsLawful (record s { stage = stage.Extra }) (parts p' q.types d q.table)
+  pub cell_refused_lawful : (input : List ℕ) (r : Refusal) (d : CellState) (p' : FieldState) → taking.Moves q.table.nodes q.cells q.partial input (cell_advance.Refused r) d p' → IsConsistent s q → IsConsistent (record s { stage = stage.Extra }) (parts p' q.types d q.table)
   cell_refused_lawful input r d p' m law =
       let h = m came.0 came.1 in
       let stage = rw here at law.stage in
@@ -230,7 +230,7 @@ module _ (s : Standing) (q : Parts) (p : Page) (here : s.stage ≡ stage.Cell p)
         table = λ none. rw here at (law.table none);
       }
 
-  module _ (input : List ℕ) (at used : ℕ) (i : CellOutline) (d : CellState) (p' : Progress) (m : taking.Moves q.table.nodes q.cells q.partial input (cell_advance.Item at used i) d p') (law : IsLawful s q) where
+  module _ (input : List ℕ) (at used : ℕ) (i : CellOutline) (d : CellState) (p' : FieldState) (m : taking.Moves q.table.nodes q.cells q.partial input (cell_advance.Item at used i) d p') (law : IsConsistent s q) where
     abbrev this : taking.Hands q.table.nodes q.cells q.partial input (taking.told q.table.nodes q.cells (came.0 ++ input)) (length came.0) at used i d p'
     this = m came.0 came.1
 
@@ -240,7 +240,7 @@ module _ (s : Standing) (q : Parts) (p : Page) (here : s.stage ≡ stage.Cell p)
     pub cell_inside : d.offset ≤ s.stop
     cell_inside = omega (arith, stop_is q.table.nodes d this.stands, this.stop, c.stop)
 
-    pub cell_going_lawful : is_done d ≡ false → IsLawful s (parts p' q.types d q.table)
+    pub cell_going_lawful : is_done d ≡ false → IsConsistent s (parts p' q.types d q.table)
     cell_going_lawful more = record {
       bounded = law.bounded;
       parts = record { room = this.longest ∙ law.parts.room; rules = law.parts.rules; cells = this.rules ∙ law.parts.cells; table = law.parts.table };
@@ -249,8 +249,8 @@ module _ (s : Standing) (q : Parts) (p : Page) (here : s.stage ≡ stage.Cell p)
       table = λ none. rw here (rw here at (law.table none));
     }
 
-    pub cell_ended_lawful : (e : Standing) (d' : CellState) → e.offset ≡ d.offset → e.stop ≡ s.stop → e.limits ≡ s.limits → e.header ≡ s.header → e.came ≡ s.came → d'.rules ≡ d.rules → Forest q.table.nodes 0 s.limits.depth → is_under_way d' ≡ false → d'.open_values ≡ [] → Starts e q.table.nodes e.stage
-        → IsLawful e (parts p' q.types d' q.table)
+    pub cell_ended_lawful : (e : StreamStanding) (d' : CellState) → e.offset ≡ d.offset → e.stop ≡ s.stop → e.limits ≡ s.limits → e.header ≡ s.header → e.came ≡ s.came → d'.rules ≡ d.rules → Forest q.table.nodes 0 s.limits.depth → is_under_way d' ≡ false → d'.open_values ≡ [] → Starts e q.table.nodes e.stage
+        → IsConsistent e (parts p' q.types d' q.table)
     cell_ended_lawful e d' offset stop limits header same rules_are forest idle none starts =
         let n : ℕ = d.offset - s.offset in
         let behind : s.offset ≤ d.offset = omega (arith, c.behind, this.onward) in
@@ -258,7 +258,7 @@ module _ (s : Standing) (q : Parts) (p : Page) (here : s.stage ≡ stage.Cell p)
         goes_on_lawful s e q p' q.types d' q.table n law (omega (arith, offset, behind)) (omega (arith, behind, cell_inside)) stop limits header (same ∙ c.came) this.longest this.idle refl stage.1 (rules_are ∙ this.rules) idle refl forest starts (record { types = law.quiet.types; cells = λ _. none })
 
 -- the moves from a state are those from one of the same place
-begun_moves : (d d' : State) (input : List ℕ) (new : State) → d'.rules ≡ d.rules → d.place ≡ d'.place → d'.frame ≡ d.frame → ((b : List ℕ) → IsPending d'.pending b → IsPending d.pending b) → d.open_values ≤ d'.open_values → (a : Advance) → Moves d input a new → Moves d' input a new
+begun_moves : (d d' : StreamState) (input : List ℕ) (new : StreamState) → d'.rules ≡ d.rules → d.place ≡ d'.place → d'.frame ≡ d.frame → ((b : List ℕ) → IsPending d'.pending b → IsPending d.pending b) → d.open_values ≤ d'.open_values → (a : EventAdvance) → Moves d input a new → Moves d' input a new
 begun_moves d d' input new rules place frame pending fewer (advance.More used) m = record {
   all = m.all;
   place = m.place ∙ place;
@@ -283,14 +283,14 @@ begun_moves d d' input new rules place frame pending fewer (advance.Refused r) m
 
 -- ---- a cell begins
 
-module _ (s : Standing) (q : Parts) (p : Page) (here : s.stage ≡ stage.Due p) where
-  abbrev begins : Standing
-  begins = record s { stage = stage.Cell p }
+module _ (s : StreamStanding) (q : Parts) (p : CellCursor) (here : s.stage ≡ stage.BeforeCell p) where
+  abbrev begins : StreamStanding
+  begins = record s { stage = stage.InCell p }
 
   abbrev beside : Parts
   beside = parts q.partial q.types (begun_at q.cells (node_by p.columns p.index) s.offset s.stop) q.table
 
-  pub cell_begun_lawful : IsLawful s q → s.refusal ≡ None → IsLawful begins beside
+  pub cell_begun_lawful : IsConsistent s q → s.refusal ≡ None → IsConsistent begins beside
   cell_begun_lawful law unrefused =
       let stage = rw here at law.stage in
       let f = first_column q.table.nodes s.limits.depth p.columns p.column p.index stage.0.0 in
@@ -321,7 +321,7 @@ module _ (s : Standing) (q : Parts) (p : Page) (here : s.stage ≡ stage.Due p) 
       }
 
   -- a cell that has just begun is read as one that is due
-  pub cell_begun_moves : (input : List ℕ) (a : Advance) (new : State) → IsLawful s q → Moves (state_of begins beside) input a new → Moves (state_of s q) input a new
+  pub cell_begun_moves : (input : List ℕ) (a : EventAdvance) (new : StreamState) → IsConsistent s q → Moves (state_of begins beside) input a new → Moves (state_of s q) input a new
   cell_begun_moves input a new law m =
       let stage = rw here at law.stage in
       let place : (state_of begins beside).place ≡ (state_of s q).place = rw here (ap (λ (z : List Symbol). place_at s.offset s.stop (z ++ rest_of s.upcoming) q.table.nodes) (page_begun q.table.nodes s.limits.depth (begun_at q.cells (node_by p.columns p.index) s.offset s.stop) p (node_by p.columns p.index) refl stage.0.0)) in
@@ -334,8 +334,8 @@ nothing_held (x ∷ xs) le = absurd (omega (arith, le))
 
 -- ---- a scalar that is a cell, whose bytes are all there
 
-module _ (s : Standing) (q : Parts) (p : Page) (here : s.stage ≡ stage.Due p) (law : IsLawful s q) (unrefused : s.refusal ≡ None) (input : List ℕ) (used : ℕ) (k : Kind) (inner others : Types) (v : ScalarValue) (is : types_left q.table.nodes p ≡ Type_and k inner others)
-    (front : SaysScalar (rules_of s.limits) k (s.stop - s.offset) input used v) (empty : q.partial.content ≡ []) (e : Standing) (symbols : symbols_at e.stage q e.upcoming ≡ cells_behind q.table.nodes p ++ rest_of s.upcoming)
+module _ (s : StreamStanding) (q : Parts) (p : CellCursor) (here : s.stage ≡ stage.BeforeCell p) (law : IsConsistent s q) (unrefused : s.refusal ≡ None) (input : List ℕ) (used : ℕ) (k : Kind) (inner others : Types) (v : ScalarValue) (is : types_left q.table.nodes p ≡ Type_and k inner others)
+    (front : SaysScalar (rules_of s.limits) k (s.stop - s.offset) input used v) (empty : q.partial.content ≡ []) (e : StreamStanding) (symbols : symbols_at e.stage q e.upcoming ≡ cells_behind q.table.nodes p ++ rest_of s.upcoming)
     (starts : Starts e q.table.nodes e.stage) (offset : e.offset ≡ s.offset + used) (stop : e.stop ≡ s.stop) (frame : e.frame ≡ s.frame) (came : e.came ≡ s.came) where
   abbrev there : List Symbol
   there = cells_behind q.table.nodes p ++ rest_of s.upcoming
@@ -346,7 +346,7 @@ module _ (s : Standing) (q : Parts) (p : Page) (here : s.stage ≡ stage.Due p) 
   place_due : (state_of s q).place ≡ due_place
   place_due = rw (here, is) refl
 
-  stage_due : StageHolds s q (stage.Due p)
+  stage_due : StageHolds s q (stage.BeforeCell p)
   stage_due = rw here at law.stage
 
   scalar_told : (b : List ℕ) → told (state_of s q) b ≡ map_said (cell_event p.row p.column) (place_of_cells p.row p.column due_place there) (says (cell_step (rules_of s.limits) (record { offset = s.offset; symbols = Value_of k inner 0 s.stop ∷ [] })) 0 b)
@@ -380,6 +380,6 @@ module _ (s : Standing) (q : Parts) (p : Page) (here : s.stage ≡ stage.Due p) 
             rw (one_due e e.stage q starts, before) (omega (arith, front.some));
       }
 
-  pub scalar_lawful : e.limits ≡ s.limits → e.header ≡ s.header → IsLawful e q
+  pub scalar_lawful : e.limits ≡ s.limits → e.header ≡ s.header → IsConsistent e q
   scalar_lawful limits header =
       goes_on_lawful s e q q.partial q.types q.cells q.table used law offset (omega (arith, front.inside, law.bounded.inside)) stop limits header (came ∙ stage_due.2) refl stage_due.1.field refl stage_due.1.types refl stage_due.1.cells refl (rw here at (law.table unrefused)) starts (record { types = law.quiet.types; cells = law.quiet.cells })

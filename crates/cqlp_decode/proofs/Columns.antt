@@ -7,18 +7,18 @@ use Rattle.cqlp_type.specs.declared.kind.Kind.{Kind}
 use Rattle.cqlp_type.specs.declared.kind.Kind.TheVariants as kind
 use Rattle.cqlp_type.specs.declared.node.Node.{Node}
 use Rattle.cqlp_type.specs.Types.{Types, NoMore, Type_and, types_of, other_types}
-use Rattle.cqlp_value.specs.declared.standing.Next.{Next}
-use Rattle.cqlp_value.specs.declared.standing.Next.TheVariants as next
+use Rattle.cqlp_value.specs.declared.standing.NextInCell.{NextInCell}
+use Rattle.cqlp_value.specs.declared.standing.NextInCell.TheVariants as next
 use Rattle.cqlp_value.specs.CellStep.{CellSymbol, Value_of, values_of}
 use Rattle.cqlp_value.specs.Inner.{Forest}
-use Rattle.cqlp_value.specs.Standing.{State, place, cell_symbols, CellStands}
+use Rattle.cqlp_value.specs.Standing.{CellState, place, cell_symbols, CellStands}
 use Rattle.cqlp_value.proofs.Columns.{Column, forest_first, forest_end}
 use Rattle.cqlp_message.specs.declared.grammar.Role.{Role}
 use Rattle.cqlp_message.specs.declared.grammar.Role.TheVariants as role
 use Rattle.cqlp_message.specs.Productions.{Symbol, rows_from, raw_types, number_in}
 use Rattle.cqlp_decode.specs.declared.page.Columns.{Columns}
 use Rattle.cqlp_decode.specs.declared.page.Columns.TheVariants as columns
-use Rattle.cqlp_decode.specs.declared.page.Page.{Page}
+use Rattle.cqlp_decode.specs.declared.page.CellCursor.{CellCursor}
 use Rattle.cqlp_decode.specs.Pages.{column_types, types_from, node_by, cell_symbol, cells_from, page_symbols, IsColumn, IsPage, NextColumn, Turns, Begins, Follows}
 use Rattle.cqlp_decode.specs.Reading as reading
 use Rattle.cqlp_decode.specs.Reading.{page_types}
@@ -64,22 +64,22 @@ first_column nodes depth (columns.Raw n) column index h = record {
 }
 
 -- a cell that has just begun, and those behind it
-pub page_begun : (nodes : List Node) (depth : ℕ) (d : State) (p : Page) (i : Option ℕ) → d.next ≡ next.Cell i → IsColumn nodes depth p.columns p.column p.index → page_symbols nodes d p ≡ cells_from nodes p
+pub page_begun : (nodes : List Node) (depth : ℕ) (d : CellState) (p : CellCursor) (i : Option ℕ) → d.next ≡ next.Cell i → IsColumn nodes depth p.columns p.column p.index → page_symbols nodes d p ≡ cells_from nodes p
 page_begun nodes depth d p i here h =
     let f = first_column nodes depth p.columns p.column p.index h in
     rw (here, f.is) refl
 
-cell_due : (n : Next) (row column : ℕ) (k : Kind) (inner : Types) (ss : List CellSymbol) (rest : List Symbol) → ends_due (cell_symbol n row column k inner ss ∷ rest) ≡ 1
+cell_due : (n : NextInCell) (row column : ℕ) (k : Kind) (inner : Types) (ss : List CellSymbol) (rest : List Symbol) → ends_due (cell_symbol n row column k inner ss ∷ rest) ≡ 1
 cell_due next.Nothing row column k inner ss rest = refl
 cell_due (next.Cell i) row column k inner ss rest = refl
 cell_due next.Items row column k inner ss rest = refl
 cell_due (next.Part offset total) row column k inner ss rest = refl
 
 -- the end of a page's frame is still to come
-pub cells_due : (nodes : List Node) (depth : ℕ) (p : Page) (rest : List Symbol) → IsColumn nodes depth p.columns p.column p.index → ends_due (cells_from nodes p ++ rest) ≡ 1
+pub cells_due : (nodes : List Node) (depth : ℕ) (p : CellCursor) (rest : List Symbol) → IsColumn nodes depth p.columns p.column p.index → ends_due (cells_from nodes p ++ rest) ≡ 1
 cells_due nodes depth p rest h = let f = first_column nodes depth p.columns p.column p.index h in rw f.is refl
 
-pub page_due : (nodes : List Node) (depth : ℕ) (d : State) (p : Page) (rest : List Symbol) → IsColumn nodes depth p.columns p.column p.index → ends_due (page_symbols nodes d p ++ rest) ≡ 1
+pub page_due : (nodes : List Node) (depth : ℕ) (d : CellState) (p : CellCursor) (rest : List Symbol) → IsColumn nodes depth p.columns p.column p.index → ends_due (page_symbols nodes d p ++ rest) ≡ 1
 page_due nodes depth d p rest h =
     let f = first_column nodes depth p.columns p.column p.index h in
     rw f.is (cell_due d.next p.row p.column f.first f.inner (place nodes d).symbols _)
@@ -148,7 +148,7 @@ next_row : (nodes : List Node) (depth : ℕ) (c : Columns) (column index : ℕ) 
 next_row nodes depth columns.Typed column index h = (refl, (omega (arith, h.0), omega arith, h.3, h.3))
 next_row nodes depth (columns.Raw n) column index h = let e : n - 0 ≡ n = omega arith in (ap raw_types e, omega (arith, h))
 
-module _ (nodes : List Node) (depth : ℕ) (p : Page) (h : IsPage nodes depth p) where
+module _ (nodes : List Node) (depth : ℕ) (p : CellCursor) (h : IsPage nodes depth p) where
   pub turns_column : (i : ℕ) → NextColumn nodes depth p (Some i) → Turns nodes depth p (Some (record p { column = p.column + 1; index = i }))
   turns_column i n = (rw n.0 refl, (n.1, h.1))
 
@@ -162,7 +162,7 @@ module _ (nodes : List Node) (depth : ℕ) (p : Page) (h : IsPage nodes depth p)
   turns_over n none = rw (n, none) refl
 
 -- what follows a field but the number of a page's rows is no page
-pub page_there : (nodes : List Node) (depth : ℕ) (types : Bool) (flags columns rows : ℕ) (v : FieldValue) (c : Columns) (o : Option Page) → number_in v ≡ rows → page_types types flags columns nodes reading.Nothing ≡ column_types nodes c → Begins nodes depth c rows o
+pub page_there : (nodes : List Node) (depth : ℕ) (types : Bool) (flags columns rows : ℕ) (v : FieldValue) (c : Columns) (o : Option CellCursor) → number_in v ≡ rows → page_types types flags columns nodes reading.Nothing ≡ column_types nodes c → Begins nodes depth c rows o
     → Follows nodes depth types (role.PageRows flags columns) v o
 page_there nodes depth types flags columns rows v c None many same h = rw (same, many) (h ∙ sym (rows_none 0 rows))
 page_there nodes depth types flags columns rows v c (Some p) many same h = (rw (same, many) h.0, h.1)

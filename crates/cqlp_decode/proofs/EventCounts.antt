@@ -34,7 +34,7 @@ use Rattle.cqlp_message.specs.declared.grammar.Role.TheVariants as role
 use Rattle.cqlp_message.specs.Productions.{Symbol, Stream, In, In_type, Cell_due, In_cell, Extra, plain, counted, copies, where_set, group, body, announced, message, query_parts, errors, results, by_text, targets, events, specs, table_name, row_from, rows_from, or_nothing, number_in, text_in, following, fault_in}
 use Rattle.cqlp_decode.specs.Reading.{Event, Place, start, Reads, Says, Verdict, Waits, Refused, type_event, cell_event, types_for, nodes_after, types_left, cells_left, place_of_types, place_of_cells, header_step, step_at, step}
 use Rattle.cqlp_decode.specs.Reading as reading
-use Rattle.cqlp_decode.specs.Standing.{State}
+use Rattle.cqlp_decode.specs.Standing.{StreamState}
 use Rattle.cqlp_decode.specs.Streams.{After, AfterBy}
 
 -- ---- readers
@@ -434,11 +434,11 @@ events_paid l some (e ∷ es) p q bytes rest r =
 pub no_more_events : (l : Rules) (bytes : List ℕ) (es : List (ℕ × Event)) (v : Verdict) → 1 ≤ l.part → Says l start bytes es v → length es ≤ length bytes
 no_more_events l bytes es v some says = omega (arith, events_paid l some es start says.0 bytes says.1 says.2)
 
-handed_out_by : (o : Option Refusal) (d : State) (s : List ℕ) (es : List (ℕ × Event)) → 1 ≤ d.rules.part → AfterBy o d s es → length es ≤ length s
+handed_out_by : (o : Option Refusal) (d : StreamState) (s : List ℕ) (es : List (ℕ × Event)) → 1 ≤ d.rules.part → AfterBy o d s es → length es ≤ length s
 handed_out_by None d s es some stands = omega (arith, events_paid d.rules some es start d.place s stands.bytes stands.read)
 handed_out_by (Some r) d s es some after = omega (arith, events_paid d.rules some es start after.place s after.bytes after.read)
 
-pub no_more_handed_out : (d : State) (s : List ℕ) (es : List (ℕ × Event)) → 1 ≤ d.rules.part → After d s es → length es ≤ length s
+pub no_more_handed_out : (d : StreamState) (s : List ℕ) (es : List (ℕ × Event)) → 1 ≤ d.rules.part → After d s es → length es ≤ length s
 no_more_handed_out d s es some after = handed_out_by d.refusal d s es some after
 
 -- ---- what is always said

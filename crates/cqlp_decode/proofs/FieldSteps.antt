@@ -5,13 +5,13 @@ use Rattle.std.proofs.lemmas.Bool.{cases_lt, lt-ltb, le-ltb}
 use Rattle.std.proofs.lemmas.List.{append-nil}
 use Rattle.cqlp_note.specs.declared.refusal.Reason.{Reason}
 use Rattle.cqlp_note.specs.declared.field.Notation.{Notation}
-use Rattle.cqlp_note.specs.declared.taken.Item.{Item}
+use Rattle.cqlp_note.specs.declared.advance.FieldOutline.{FieldOutline}
 use Rattle.cqlp_note.specs.Reader.{Said, Reader, More, Bad, Got, Gives as GivesNow, Refuses, Takes, Idles, says}
 use Rattle.cqlp_note.specs.Field.{FieldValue, field_of}
 use Rattle.cqlp_note.specs.Step.{Emitted, after_field}
 use Rattle.cqlp_note.specs.Head.{reader_of, fixed_of, behind_fixed}
 use Rattle.cqlp_note.specs.Limits.{rules_of, limit_of}
-use Rattle.cqlp_note.specs.Partial.{Progress, item_value, CanLend, Ends}
+use Rattle.cqlp_note.specs.Partial.{FieldState, item_value, CanLend, Ends}
 use Rattle.cqlp_note.specs.Partial as partial
 use Rattle.cqlp_note.proofs.Yields.{after_more, after_bad, after_got, got_inside, says_exact}
 use Rattle.cqlp_note.proofs.Fronts.{fixed_overruns, fixed_wanting, fixed_taken}
@@ -27,15 +27,15 @@ use Rattle.cqlp_message.specs.declared.grammar.Role.{Role}
 use Rattle.cqlp_message.specs.declared.grammar.Role.TheVariants as role
 use Rattle.cqlp_message.specs.Productions.{Symbol, following, fault_in}
 use Rattle.cqlp_decode.specs.declared.table.Want.{Want}
-use Rattle.cqlp_decode.specs.declared.table.Due.TheVariants as due
-use Rattle.cqlp_decode.specs.declared.standing.Stage.TheVariants as stage
-use Rattle.cqlp_decode.specs.declared.standing.Standing.{Standing}
-use Rattle.cqlp_decode.specs.declared.standing.Advance.TheVariants as advance
-use Rattle.cqlp_decode.specs.declared.standing.What.TheVariants as what
+use Rattle.cqlp_decode.specs.declared.table.Expected.TheVariants as due
+use Rattle.cqlp_decode.specs.declared.standing.StreamStage.TheVariants as stage
+use Rattle.cqlp_decode.specs.declared.standing.StreamStanding.{StreamStanding}
+use Rattle.cqlp_decode.specs.declared.advance.EventAdvance.TheVariants as advance
+use Rattle.cqlp_decode.specs.declared.advance.EventOutline.TheVariants as what
 use Rattle.cqlp_decode.specs.Upcoming.{wanted}
 use Rattle.cqlp_decode.specs.Reading as reading
 use Rattle.cqlp_decode.specs.Reading.{Place, value_step, types_for, nodes_after, given_after, Nothing}
-use Rattle.cqlp_decode.specs.Standing.{IsPending, Parts, parts, state_of, place_at, offset_at, symbols_at, rest_of, came_of, told, Gives, Waits, Moves, IsAsked, IsWanted, IsBounded, IsQuiet, HasParts, IsLawful, asked, Starts}
+use Rattle.cqlp_decode.specs.Standing.{IsPending, Parts, parts, state_of, place_at, offset_at, symbols_at, rest_of, came_of, told, Gives, Waits, Moves, IsAsked, IsWanted, IsBounded, IsQuiet, HasParts, IsConsistent, asked, Starts}
 use Rattle.cqlp_decode.proofs.Steps.{begun, one_due, offset_is, fresh_stage, fresh_table}
 
 -- ---- fields
@@ -83,7 +83,7 @@ given_none (role.PageRows flags columns) = refl
 given_none r = refl
 
 -- what is read of a field that is wanted
-module _ (s : Standing) (q : Parts) (w : Want) (here : s.stage ≡ stage.Field w) (bytes : List ℕ) where
+module _ (s : StreamStanding) (q : Parts) (w : Want) (here : s.stage ≡ stage.Field w) (bytes : List ℕ) where
   abbrev rest : List Symbol
   rest = rest_of s.upcoming
 
@@ -114,14 +114,14 @@ module _ (s : Standing) (q : Parts) (w : Want) (here : s.stage ≡ stage.Field w
       (x, told_is ∙ (after_got s.offset (reader_of (asked s w)) next_step 0 bytes v k m).1 ∙ rw fine refl, refl, refl, rw (given_none w.role) refl)
 
 -- what a piece of input makes of a field that is wanted, and was begun
-module _ (s : Standing) (old p : Progress) (r : type.Standing) (d : value.State) (t : Table) (w : Want) (input : List ℕ) (here : s.stage ≡ stage.Field w) (a : IsAsked s old p w) where
+module _ (s : StreamStanding) (old p : FieldState) (r : type.TypeState) (d : value.CellState) (t : Table) (w : Want) (input : List ℕ) (here : s.stage ≡ stage.Field w) (a : IsAsked s old p w) where
   abbrev before : Parts
   before = parts old r d t
 
   pending_is : (b : List ℕ) → IsPending (state_of s before).pending b → b ≡ p.seen
   pending_is b is = let e : b ≡ came_of old = rw here at is in e ∙ sym a.seen
 
-  pub piece_waits : (new : Progress) (used : ℕ) → partial.Waits p input used new → Waits (state_of s before) input used (state_of s (parts new r d t))
+  pub piece_waits : (new : FieldState) (used : ℕ) → partial.Waits p input used new → Waits (state_of s before) input used (state_of s (parts new r d t))
   piece_waits new used m = record {
     all = m.all;
     place = rw here refl;
@@ -134,11 +134,11 @@ module _ (s : Standing) (old p : Progress) (r : type.Standing) (d : value.State)
   pub piece_fails : (why : Reason) → says (reader_of p.field) 0 (p.seen ++ input) ≡ Bad why → (b : List ℕ) → IsPending (state_of s before).pending b → told (state_of s before) (b ++ input) ≡ Bad (s.offset, why)
   piece_fails why m b is = rw (pending_is b is) (field_fails s before w here (p.seen ++ input) why (rw a.field at m))
 
-  module _ (new : Progress) (used : ℕ) (v : FieldValue) (m : Ends p input used v new) where
+  module _ (new : FieldState) (used : ℕ) (v : FieldValue) (m : Ends p input used v new) where
     pub piece_faults : (why : Reason) → fault_in w.role v ≡ Some why → (b : List ℕ) → IsPending (state_of s before).pending b → told (state_of s before) (b ++ input) ≡ Bad (s.offset, why)
     piece_faults why fault b is = rw (pending_is b is) (field_faults s before w here (p.seen ++ input) v (length p.seen + used) why (rw a.field at m.is) fault)
 
-    pub piece_hands : (e : Standing) (t' : Table) (i : Item) → v ≡ item_value i input new.content → CanLend i input new.content → fault_in w.role v ≡ None → IsWanted s old w
+    pub piece_hands : (e : StreamStanding) (t' : Table) (i : FieldOutline) → v ≡ item_value i input new.content → CanLend i input new.content → fault_in w.role v ≡ None → IsWanted s old w
         → e.offset ≡ s.offset + (length p.seen + used) → e.stop ≡ s.stop → e.frame ≡ s.frame → e.came ≡ 0 → Starts e t'.nodes e.stage → t'.nodes ≡ nodes_after w.role t.nodes
         → symbols_at e.stage (parts new r d t') e.upcoming ≡ following (types_for s.limits.types w.role t.nodes Nothing) w.role v ++ rest_of s.upcoming
         → Moves (state_of s before) input (advance.Event s.offset used (what.Holds w.field i)) (state_of e (parts new r d t'))
@@ -148,7 +148,7 @@ module _ (s : Standing) (old p : Progress) (r : type.Standing) (d : value.State)
           there,
           record {
             within = m.within;
-            begun = begun e e.stage e.header e.came q start none (ap (λ (z : Progress). z.under_way) m.idle);
+            begun = begun e e.stage e.header e.came q start none (ap (λ (z : FieldState). z.under_way) m.idle);
             frame = frame;
             lent = rw (← is) m.lent;
             gives = λ b pending.
@@ -170,7 +170,7 @@ module _ (s : Standing) (old p : Progress) (r : type.Standing) (d : value.State)
         ]
 
 -- the same, where types do not matter
-module _ (s : Standing) (old p : Progress) (w : Want) (input : List ℕ) (a : IsAsked s old p w) (new : Progress) where
+module _ (s : StreamStanding) (old p : FieldState) (w : Want) (input : List ℕ) (a : IsAsked s old p w) (new : FieldState) where
   pub piece_inside : (used : ℕ) (v : FieldValue) → Ends p input used v new → s.offset ≤ s.stop → s.offset + (length p.seen + used) ≤ s.stop
   piece_inside used v m inside =
       let r = got_inside w.notation (limit_of (rules_of s.limits) w.notation) (s.stop - s.offset) (p.seen ++ input) v (length p.seen + used) (rw a.field at m.is) (omega (arith, m.within, length-append p.seen input)) in
@@ -190,9 +190,9 @@ pub following_there : (r : Role) (v : FieldValue) (types : Bool) (nodes after : 
 following_there (role.PageRows flags columns) v types nodes after rest e = rw e refl
 following_there r v types nodes after rest e = refl
 
-module _ (s e : Standing) (q : Parts) (p : Progress) (r : type.Standing) (d : value.State) (t : Table) (n : ℕ) (law : IsLawful s q) (offset : e.offset ≡ s.offset + n) (inside : s.offset + n ≤ s.stop) (stop : e.stop ≡ s.stop) (limits : e.limits ≡ s.limits) (header : e.header ≡ s.header) (came : e.came ≡ 0)
+module _ (s e : StreamStanding) (q : Parts) (p : FieldState) (r : type.TypeState) (d : value.CellState) (t : Table) (n : ℕ) (law : IsConsistent s q) (offset : e.offset ≡ s.offset + n) (inside : s.offset + n ≤ s.stop) (stop : e.stop ≡ s.stop) (limits : e.limits ≡ s.limits) (header : e.header ≡ s.header) (came : e.came ≡ 0)
     (room : p.room ≡ q.partial.room) (idle : p.under_way ≡ false) (rules : r.rules ≡ q.types.rules) (types : r.under_way ≡ false) (cells : d.rules ≡ q.cells.rules) (idle_cells : is_under_way d ≡ false) (table : t.room ≡ q.table.room) (forest : Forest t.nodes 0 s.limits.depth) (starts : Starts e t.nodes e.stage) (quiet : IsQuiet (parts p r d t)) where
-  pub goes_on_lawful : IsLawful e (parts p r d t)
+  pub goes_on_lawful : IsConsistent e (parts p r d t)
   goes_on_lawful =
       let z : Parts = parts p r d t in
       let bounded : IsBounded e = record { long = ap (λ (h : List ℕ). length h) header ∙ law.bounded.long; inside = omega (arith, law.bounded.inside); size = omega (arith, law.bounded.size); bound = omega (arith, law.bounded.bound) } in

@@ -23,7 +23,7 @@ use Rattle.cqlp_message.proofs.Messages.{frame_derives}
 use Rattle.cqlp_decode.specs.Reading.{Place, Nothing, step, Reads, Says, Verdict, Ends}
 use Rattle.cqlp_decode.specs.Laws.{AllWithin, AllBeginInTime, verdict_between}
 use Rattle.cqlp_decode.proofs.StepRuns.{step_runs, runs_join}
-use Rattle.cqlp_decode.proofs.PartsRead.{State, types_in, state_after, state_grown, nodes_in, counts_nodes, inside, parts_read}
+use Rattle.cqlp_decode.proofs.PartsRead.{StreamState, types_in, state_after, state_grown, nodes_in, counts_nodes, inside, parts_read}
 
 -- a place between frames
 abbrev pub between : (at stop : ℕ) → List Node → Place
@@ -73,7 +73,7 @@ module _ (l : Rules) where
       let end = (at + 9) + n in
       let inside_end : (at + 9) + length middle ≤ end = omega arith in
       let counts : n ≡ length middle + x = omega arith in
-      let second = parts_read l end ps (at + 9) (message h) (ns, Nothing) middle (frame_derives l State (types_in l) state_after state_grown nodes_in counts_nodes f n s.agrees w.types (ns, Nothing)) (frame_spelled f x b s) w.parts inside_end in
+      let second = parts_read l end ps (at + 9) (message h) (ns, Nothing) middle (frame_derives l StreamState (types_in l) state_after state_grown nodes_in counts_nodes f n s.agrees w.types (ns, Nothing)) (frame_spelled f x b s) w.parts inside_end in
       let none : second.0.1 ≡ Nothing = second.2 refl in
       let read : Reads l (inside (at + 9) end (message h) (ns, Nothing)) middle (parts_events (at + 9) ps) (inside ((at + 9) + length middle) end (Extra ∷ []) (second.0.0, Nothing)) [] = rw none at second.1 in
       (second.0.0, frame_joined at stop x (parts_size ps) ns second.0.0 h head middle s.extra b (parts_events (at + 9) ps) size s.more counts whole refl (written_is_read h lawful fits) le read)

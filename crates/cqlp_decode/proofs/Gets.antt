@@ -9,7 +9,7 @@ use Rattle.cqlp_decode.specs.declared.event.Step.TheVariants as steps
 use Rattle.cqlp_decode.specs.Reading as reading
 use Rattle.cqlp_decode.specs.Reading.{Says, Waits}
 use Rattle.cqlp_decode.specs.Events.{event_of}
-use Rattle.cqlp_decode.specs.Standing.{State}
+use Rattle.cqlp_decode.specs.Standing.{StreamState}
 use Rattle.cqlp_decode.specs.Streams.{After, Leads, Goes, Refuses}
 use Rattle.cqlp_decode.specs.Draining.{Drains, DrainsAll, Fails, Feeds, FeedsInto, HasAll, ReadsAtMost, fold_events}
 
@@ -20,7 +20,7 @@ take_two k n bytes = sym (rw (take-take k (k + n) bytes (omega arith), drop-take
 pub rest_is : (used : ℕ) (input : List ℕ) → take (length input - used) (drop used input) ≡ drop used input
 rest_is used input = take_all _ _ (omega (arith, length-drop used input))
 
-pub refuses_new : (o : Option Refusal) (old : State) (s : List ℕ) (es : List (ℕ × reading.Event)) (input : List ℕ) (r : Refusal) → o ≡ None → Refuses o old s es input r → Says old.rules reading.start (s ++ input) es (reading.Refused r.at r.why)
+pub refuses_new : (o : Option Refusal) (old : StreamState) (s : List ℕ) (es : List (ℕ × reading.Event)) (input : List ℕ) (r : Refusal) → o ≡ None → Refuses o old s es input r → Says old.rules reading.start (s ++ input) es (reading.Refused r.at r.why)
 refuses_new None old s es input r is h = h
 refuses_new (Some b) old s es input r is h = absurd cc
 
@@ -33,10 +33,10 @@ module _ {V : Type 0} (f : V → ℕ → reading.Event → V) where
   fold_append v [] fs = refl
   fold_append v (x ∷ es) fs = fold_append (f v x.0 x.1) es fs
 
-  pub drains_none : (d : State) (s : List ℕ) (es : List (ℕ × reading.Event)) (v : V) → After d s es → Drains f d s es [] v v
+  pub drains_none : (d : StreamState) (s : List ℕ) (es : List (ℕ × reading.Event)) (v : V) → After d s es → Drains f d s es [] v v
   drains_none d s es v a = record { more = []; stands = rw (append-nil s, append-nil es) a; got = refl }
 
-  module _ (old new : State) (s input : List ℕ) (used : ℕ) (es : List (ℕ × reading.Event)) (v w : V) (d : Drains f old s es (take used input) v w) where
+  module _ (old new : StreamState) (s input : List ℕ) (used : ℕ) (es : List (ℕ × reading.Event)) (v w : V) (d : Drains f old s es (take used input) v w) where
     stands_more : (at taken : ℕ) (e : Event) → Leads old (s ++ take used input) (es ++ d.more) (drop used input) (steps.Event at taken e) new → After new (s ++ take (used + taken) input) (es ++ (d.more ++ (at, event_of e) ∷ []))
     stands_more at taken e leads = rw (take_two used taken input, ← (append_assoc s (take used input) (take taken (drop used input))), ← (append_assoc es d.more ((at, event_of e) ∷ []))) leads.3
 
@@ -60,25 +60,25 @@ module _ {V : Type 0} (f : V → ℕ → reading.Event → V) where
     all : (s ++ take used input) ++ drop used input ≡ s ++ input
     all = append_assoc s (take used input) (drop used input) ∙ ap (λ (z : List ℕ). s ++ z) (take-append-drop used input)
 
-    pub drains_all : (free : State) → (free.refusal ≡ None → old.refusal ≡ None) → (taken : ℕ) → Goes old (steps.More taken) new → Leads old (s ++ take used input) (es ++ d.more) (drop used input) (steps.More taken) new → DrainsAll f free new s es input input v w
+    pub drains_all : (free : StreamState) → (free.refusal ≡ None → old.refusal ≡ None) → (taken : ℕ) → Goes old (steps.More taken) new → Leads old (s ++ take used input) (es ++ d.more) (drop used input) (steps.More taken) new → DrainsAll f free new s es input input v w
     drains_all free clear taken goes leads =
         let h = rw all at leads in record { drains = record { more = d.more; stands = h.2; got = d.got }; says = λ none. rw goes.1 h.3 }
 
-    pub drains_refused : (free : State) → (free.refusal ≡ None → old.refusal ≡ None) → (r : Refusal) → Goes old (steps.Refused r) new → Leads old (s ++ take used input) (es ++ d.more) (drop used input) (steps.Refused r) new → DrainsAll f free new s es input (take used input) v w
+    pub drains_refused : (free : StreamState) → (free.refusal ≡ None → old.refusal ≡ None) → (r : Refusal) → Goes old (steps.Refused r) new → Leads old (s ++ take used input) (es ++ d.more) (drop used input) (steps.Refused r) new → DrainsAll f free new s es input (take used input) v w
     drains_refused free clear r goes leads = record {
       drains = record { more = d.more; stands = leads.1; got = d.got };
       says = λ none. rw (goes.0, goes.1) (rw all at (refuses_new old.refusal old (s ++ take used input) (es ++ d.more) (drop used input) r (clear none) leads.2));
     }
 
   -- one piece after another
-  abbrev pub drains_then : (mid new : State) (s a b : List ℕ) (es : List (ℕ × reading.Event)) (v w x : V) (d : Drains f mid s es a v w) → Drains f new (s ++ a) (es ++ d.more) b w x → Drains f new s es (a ++ b) v x
+  abbrev pub drains_then : (mid new : StreamState) (s a b : List ℕ) (es : List (ℕ × reading.Event)) (v w x : V) (d : Drains f mid s es a v w) → Drains f new (s ++ a) (es ++ d.more) b w x → Drains f new s es (a ++ b) v x
   drains_then mid new s a b es v w x d e = record {
     more = d.more ++ e.more;
     stands = rw (← (append_assoc s a b), ← (append_assoc es d.more e.more)) e.stands;
     got = e.got ∙ ap (λ (z : V). fold_events f z e.more) d.got ∙ sym (fold_append v d.more e.more);
   }
 
-  pub fails_then : (faulted : V → ℕ → reading.Event → V → Type 0) (mid new : State) (s a b : List ℕ) (es : List (ℕ × reading.Event)) (v w x : V) (d : Drains f mid s es a v w) → Fails f faulted new (s ++ a) (es ++ d.more) b w x → Fails f faulted new s es (a ++ b) v x
+  pub fails_then : (faulted : V → ℕ → reading.Event → V → Type 0) (mid new : StreamState) (s a b : List ℕ) (es : List (ℕ × reading.Event)) (v w x : V) (d : Drains f mid s es a v w) → Fails f faulted new (s ++ a) (es ++ d.more) b w x → Fails f faulted new s es (a ++ b) v x
   fails_then faulted mid new s a b es v w x d e = record {
     more = d.more ++ e.more;
     at = e.at;
@@ -87,10 +87,10 @@ module _ {V : Type 0} (f : V → ℕ → reading.Event → V) where
     fault = rw (fold_append v d.more e.more, ← d.got) e.fault;
   }
 
-  abbrev pub feeds_none : (d : State) (xs : List ℕ) (v : V) → Feeds f d d xs v v
+  abbrev pub feeds_none : (d : StreamState) (xs : List ℕ) (v : V) → Feeds f d d xs v v
   feeds_none d xs v = record { bytes = []; rest = xs; parts = refl; drained = λ s es a. drains_none d s es v a }
 
-  module _ (old mid new : State) (xs piece left : List ℕ) (v w x : V) (d : Feeds f old mid xs v w) (is : d.rest ≡ piece ++ left) (part end : List ℕ) (split : piece ≡ part ++ end) where
+  module _ (old mid new : StreamState) (xs piece left : List ℕ) (v w x : V) (d : Feeds f old mid xs v w) (is : d.rest ≡ piece ++ left) (part end : List ℕ) (split : piece ≡ part ++ end) where
     pub parts_then : xs ≡ (d.bytes ++ part) ++ (end ++ left)
     parts_then = d.parts ∙ ap (λ (z : List ℕ). d.bytes ++ z) (is ∙ ap (λ (z : List ℕ). z ++ left) split ∙ append_assoc part end left) ∙ sym (append_assoc d.bytes part (end ++ left))
 
@@ -127,7 +127,7 @@ module _ {V : Type 0} (f : V → ℕ → reading.Event → V) where
     }
 
 -- the reader's bytes stay
-pub has_all_still : {V : Type 0} (f : V → ℕ → reading.Event → V) (old new : State) (xs : List ℕ) (left left' : Option (List ℕ)) (v w : V) (d : Feeds f old new xs v w) → left ≡ left' → HasAll f old new xs left v w d → HasAll f old new xs left' v w d
+pub has_all_still : {V : Type 0} (f : V → ℕ → reading.Event → V) (old new : StreamState) (xs : List ℕ) (left left' : Option (List ℕ)) (v w : V) (d : Feeds f old new xs v w) → left ≡ left' → HasAll f old new xs left v w d → HasAll f old new xs left' v w d
 has_all_still f old new xs left left' v w d same all = subst (λ (l : Option (List ℕ)). HasAll f old new xs l v w d) same all
 
 -- what is left of a reader's bytes after a read

@@ -8,15 +8,15 @@ use Rattle.cqlp_note.specs.Reader.{Got, says}
 use Rattle.cqlp_note.specs.Step.{Emitted}
 use Rattle.cqlp_note.proofs.Yields.{says_exact, emitted_is}
 use Rattle.cqlp_note.proofs.Runs.{runs_then, runs_stay}
-use Rattle.cqlp_decode.specs.declared.standing.Advance.TheVariants as advance
-use Rattle.cqlp_decode.specs.declared.standing.What.{What}
+use Rattle.cqlp_decode.specs.declared.advance.EventAdvance.TheVariants as advance
+use Rattle.cqlp_decode.specs.declared.advance.EventOutline.{EventOutline}
 use Rattle.cqlp_decode.specs.declared.event.Event.{Event}
 use Rattle.cqlp_decode.specs.declared.event.Step.{Step}
 use Rattle.cqlp_decode.specs.declared.event.Step.TheVariants as steps
 use Rattle.cqlp_decode.specs.Reading as reading
 use Rattle.cqlp_decode.specs.Reading.{Place, step, start, Reads}
 use Rattle.cqlp_decode.specs.Events.{event_of}
-use Rattle.cqlp_decode.specs.Standing.{State, AdvancesFrom, Hands, event_at, frame_after, due_after}
+use Rattle.cqlp_decode.specs.Standing.{StreamState, AdvancesFrom, Hands, event_at, frame_after, due_after}
 use Rattle.cqlp_decode.specs.Streams.{After, AfterBy, Leads, Goes, Refuses, Repeats, HasRefusedAt, frame_from, open_after, open_from}
 
 -- ---- one more event
@@ -42,17 +42,17 @@ run_more l p q s b t es at e x run said a w after =
 
 -- ---- after a refusal
 
-pub repeated : (old new : State) (x : Step) (o : Option Refusal) (r : Refusal) → o ≡ Some r → Repeats o old x new → (x ≡ steps.Refused r) × (new ≡ old)
+pub repeated : (old new : StreamState) (x : Step) (o : Option Refusal) (r : Refusal) → o ≡ Some r → Repeats o old x new → (x ≡ steps.Refused r) × (new ≡ old)
 repeated old new x None r is h = absurd cc
 repeated old new x (Some b) r is h = let same : b ≡ r = cc in (h.0 ∙ ap (λ (z : Refusal). steps.Refused z) same, h.1)
 
-pub unrefused : (old new : State) (x : Step) (o : Option Refusal) → o ≡ None → Repeats o old x new
+pub unrefused : (old new : StreamState) (x : Step) (o : Option Refusal) → o ≡ None → Repeats o old x new
 unrefused old new x None is = tt
 unrefused old new x (Some r) is = absurd cc
 
 -- ---- one call
 
-module _ (old new : State) (input s : List ℕ) (es : List (ℕ × reading.Event)) where
+module _ (old new : StreamState) (input s : List ℕ) (es : List (ℕ × reading.Event)) where
   pub more_leads : (o : Option Refusal) (used : ℕ) → AdvancesFrom o old input (advance.More used) new → AfterBy o old s es → Leads old s es input (steps.More used) new
   more_leads (Some r) used a after = absurd (let e = a.0 in cc)
   more_leads None used a after =
@@ -93,14 +93,14 @@ module _ (old new : State) (input s : List ℕ) (es : List (ℕ × reading.Event
         },
       )
 
-  pub event_leads : (o : Option Refusal) (at used : ℕ) (w : What) (e : Event) → event_of e ≡ event_at new.held input w → AdvancesFrom o old input (advance.Event at used w) new → AfterBy o old s es → Leads old s es input (steps.Event at used e) new
+  pub event_leads : (o : Option Refusal) (at used : ℕ) (w : EventOutline) (e : Event) → event_of e ≡ event_at new.held input w → AdvancesFrom o old input (advance.Event at used w) new → AfterBy o old s es → Leads old s es input (steps.Event at used e) new
   event_leads (Some r) at used w e is a after = absurd (let e = a.0 in cc)
   event_leads None at used w e is a after = hands_leads at used e (rw is a.0.1) a.1 a.2 after
 
   pub refused_leads : (o : Option Refusal) → old.refusal ≡ o → (r : Refusal) → new.place.nodes ≡ old.place.nodes → AdvancesFrom o old input (advance.Refused r) new → AfterBy o old s es → Leads old s es input (steps.Refused r) new
   refused_leads (Some before) eq r nodes a after =
       let same : r ≡ before = let e = a.0 in cc in
-      subst (λ (z : State). (z.refusal ≡ Some r) × After z s es × Refuses old.refusal old s es input r) (sym a.1) (
+      subst (λ (z : StreamState). (z.refusal ≡ Some r) × After z s es × Refuses old.refusal old s es input r) (sym a.1) (
         eq ∙ ap Some (sym same),
         subst (λ (o : Option Refusal). AfterBy o old s es) (sym eq) after,
         subst (λ (o : Option Refusal). Refuses o old s es input r) (sym eq) same,
@@ -118,7 +118,7 @@ module _ (old new : State) (input s : List ℕ) (es : List (ℕ × reading.Event
   more_uses (Some r) used a = absurd (let e = a.0 in cc)
   more_uses None used a = a.0.all
 
-  pub event_uses : (o : Option Refusal) (at used : ℕ) (w : What) → AdvancesFrom o old input (advance.Event at used w) new → used ≤ length input
+  pub event_uses : (o : Option Refusal) (at used : ℕ) (w : EventOutline) → AdvancesFrom o old input (advance.Event at used w) new → used ≤ length input
   event_uses (Some r) at used w a = absurd (let e = a.0 in cc)
   event_uses None at used w a = a.0.1.within
 
@@ -126,18 +126,18 @@ module _ (old new : State) (input s : List ℕ) (es : List (ℕ × reading.Event
   more_goes (Some r) used a = absurd (let e = a.0 in cc)
   more_goes None used a = (a.2, a.1)
 
-  pub event_goes : (o : Option Refusal) (at used : ℕ) (w : What) (e : Event) → event_of e ≡ event_at new.held input w → AdvancesFrom o old input (advance.Event at used w) new → Goes old (steps.Event at used e) new
+  pub event_goes : (o : Option Refusal) (at used : ℕ) (w : EventOutline) (e : Event) → event_of e ≡ event_at new.held input w → AdvancesFrom o old input (advance.Event at used w) new → Goes old (steps.Event at used e) new
   event_goes (Some r) at used w e is a = absurd (let e = a.0 in cc)
   event_goes None at used w e is a = (a.0.1.pays, rw is a.0.1.lent, a.2, a.1)
 
   pub refused_goes : (o : Option Refusal) → old.refusal ≡ o → (r : Refusal) → AdvancesFrom o old input (advance.Refused r) new → Goes old (steps.Refused r) new
   refused_goes (Some before) eq r a =
       let same : r ≡ before = let e = a.0 in cc in
-      (ap (λ (z : State). z.rules) a.1, ap (λ (z : State). z.refusal) a.1 ∙ eq ∙ ap Some (sym same))
+      (ap (λ (z : StreamState). z.rules) a.1, ap (λ (z : StreamState). z.refusal) a.1 ∙ eq ∙ ap Some (sym same))
   refused_goes None eq r a = (a.2, a.1)
 
   -- after a refusal
-  pub event_repeats : (o : Option Refusal) (at used : ℕ) (w : What) (e : Event) → AdvancesFrom o old input (advance.Event at used w) new → Repeats o old (steps.Event at used e) new
+  pub event_repeats : (o : Option Refusal) (at used : ℕ) (w : EventOutline) (e : Event) → AdvancesFrom o old input (advance.Event at used w) new → Repeats o old (steps.Event at used e) new
   event_repeats (Some r) at used w e a = absurd (let e = a.0 in cc)
   event_repeats None at used w e a = tt
 

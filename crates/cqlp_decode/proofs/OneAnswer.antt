@@ -19,7 +19,7 @@ use Rattle.cqlp_decode.specs.declared.event.Finish.TheVariants as finish
 use Rattle.cqlp_decode.specs.declared.event.Held.{Held}
 use Rattle.cqlp_decode.specs.Reading.{Event, Place, Verdict, Waits, Refused, Reads, Says, start, step}
 use Rattle.cqlp_decode.specs.Events.{event_of}
-use Rattle.cqlp_decode.specs.Standing.{State, Pending, Kept, Skipped, Valued, IsPending}
+use Rattle.cqlp_decode.specs.Standing.{StreamState, Pending, Kept, Skipped, Valued, IsPending}
 use Rattle.cqlp_decode.specs.Streams.{Decoding, state, After, AfterBy, Stands, HasRefusedAt, Refuses, Leads, Goes, Answers, Finishes, FinishesBy, frame_of, is_open}
 use Rattle.cqlp_decode.specs.OneAnswer as one
 use Rattle.cqlp_decode.specs.OneAnswer.{answer_of, AreAlike, IsNew, IsHeld, IsOneAnswerOfNew, IsOneAnswerOfNext, IsOneAnswerOfFinish, IsOneAnswerOfHeld}
@@ -99,16 +99,16 @@ module _ (l : Rules) (s input : List ℕ) (es : List (ℕ × Event)) where
 
 -- ---- two decoders
 
-alike_same : (d d' : State) → d' ≡ d → AreAlike d d'
-alike_same d d' same = record { rules = ap (λ (z : State). z.rules) same; refusal = ap (λ (z : State). z.refusal) same; nodes = ap (λ (z : State). z.place.nodes) same }
+alike_same : (d d' : StreamState) → d' ≡ d → AreAlike d d'
+alike_same d d' same = record { rules = ap (λ (z : StreamState). z.rules) same; refusal = ap (λ (z : StreamState). z.refusal) same; nodes = ap (λ (z : StreamState). z.place.nodes) same }
 
 -- what was read, where nothing has come of what is next
-reads_to : (l : Rules) (d : State) (s : List ℕ) (es : List (ℕ × Event)) → d.rules ≡ l → d.refusal ≡ None → IsPending d.pending [] → After d s es → Reads l start s es d.place []
+reads_to : (l : Rules) (d : StreamState) (s : List ℕ) (es : List (ℕ × Event)) → d.rules ≡ l → d.refusal ≡ None → IsPending d.pending [] → After d s es → Reads l start s es d.place []
 reads_to l d s es rules none begun a =
     let st : Stands d s es = subst (λ (o : Option Refusal). AfterBy o d s es) none a in
     subst (λ (z : Rules). Reads z start s es d.place []) rules (subst (λ (b : List ℕ). Reads d.rules start s es d.place b) (pending_none d.pending st.bytes begun st.pending) st.read)
 
-same_nodes : (l : Rules) (d d' : State) (s : List ℕ) (es : List (ℕ × Event)) → d.rules ≡ l → d'.rules ≡ l → (o o' : Option Refusal) → AfterBy o d s es → AfterBy o' d' s es → d'.place.nodes ≡ d.place.nodes
+same_nodes : (l : Rules) (d d' : StreamState) (s : List ℕ) (es : List (ℕ × Event)) → d.rules ≡ l → d'.rules ≡ l → (o o' : Option Refusal) → AfterBy o d s es → AfterBy o' d' s es → d'.place.nodes ≡ d.place.nodes
 same_nodes l d d' s es is is' None None a a' =
     ap (λ (p : Place). p.nodes) (place_once l s es d.place d'.place a.bytes a'.bytes (rw is at a.read) (rw is' at a'.read)).0
 same_nodes l d d' s es is is' None (Some r) a a' =
@@ -123,7 +123,7 @@ same_refusal r r' same = let at : r'.at ≡ r.at = cc in let why : r'.why ≡ r.
 
 -- ---- next
 
-module _ (old new new' : State) (s input : List ℕ) (es : List (ℕ × Event)) where
+module _ (old new new' : StreamState) (s input : List ℕ) (es : List (ℕ × Event)) where
   event_event : (at at' used used' : ℕ) (e e' : events.Event) → Goes old (steps.Event at used e) new → Goes old (steps.Event at' used' e') new' → Leads old s es input (steps.Event at used e) new → Leads old s es input (steps.Event at' used' e') new'
       → (answer_of (steps.Event at' used' e') ≡ answer_of (steps.Event at used e)) × AreAlike new new'
   event_event at at' used used' e e' g g' a a' =
@@ -163,7 +163,7 @@ module _ (old new new' : State) (s input : List ℕ) (es : List (ℕ × Event)) 
       let same = (says_once old.rules start (s ++ input) es es Waits (Refused r.at r.why) x (refuses_new old.refusal old s es input r none a'.2)).1 in
       cc
 
-next_new : (old new new' : State) (s input : List ℕ) (es : List (ℕ × Event)) (x y : Step) → old.refusal ≡ None → After old s es → Answers old input x new → Answers old input y new' → (answer_of y ≡ answer_of x) × AreAlike new new'
+next_new : (old new new' : StreamState) (s input : List ℕ) (es : List (ℕ × Event)) (x y : Step) → old.refusal ≡ None → After old s es → Answers old input x new → Answers old input y new' → (answer_of y ≡ answer_of x) × AreAlike new new'
 next_new old new new' s input es (steps.Event at used e) (steps.Event at' used' e') none a ax ay = event_event old new new' s input es at at' used used' e e' ax.0 ay.0 (ax.1 s es a) (ay.1 s es a)
 next_new old new new' s input es (steps.Event at used e) (steps.More used') none a ax ay = absurd (event_and_all old new new' s input es new'.rules (sym ay.0.0) Waits at used e ax.0 (ax.1 s es a) (ay.1 s es a).3)
 next_new old new new' s input es (steps.Event at used e) (steps.Refused r) none a ax ay = absurd (event_and_all old new new' s input es old.rules refl (Refused r.at r.why) at used e ax.0 (ax.1 s es a) (refuses_new old.refusal old s es input r none (ay.1 s es a).2))

@@ -15,7 +15,7 @@ use Rattle.cqlp_decode.specs.declared.event.Finish.TheVariants as finish
 use Rattle.cqlp_decode.specs.declared.running.Outcome.{Outcome}
 use Rattle.cqlp_decode.specs.declared.running.Outcome.TheVariants as outcome
 use Rattle.cqlp_decode.specs.Reading.{Event, Place, Verdict, Waits, Refused, Reads, Says, start, step}
-use Rattle.cqlp_decode.specs.Standing.{State}
+use Rattle.cqlp_decode.specs.Standing.{StreamState}
 use Rattle.cqlp_decode.specs.Streams.{Decoding, state, After, AfterBy, Stands, HasRefusedAt, Finishes, FinishesBy}
 use Rattle.cqlp_decode.specs.Draining.{Feeds, HasAll, HasRefused, RunsTo, fold_events, verdict_of}
 use Rattle.cqlp_decode.specs.OneAnswer.{IsFrontEitherWay, IsNew, IsSound, Ran, handed, AreOneRun, IsOneAnswerOfRun, RunsRight, EndsBy}
@@ -24,7 +24,7 @@ use Rattle.cqlp_decode.proofs.OneAnswer.{finish_by}
 
 -- ---- what was read, by the events so far
 
-after_reads : (d : State) (s : List ℕ) (es : List (ℕ × Event)) → After d s es → (p : Place) × (b : List ℕ) × Reads d.rules start s es p b
+after_reads : (d : StreamState) (s : List ℕ) (es : List (ℕ × Event)) → After d s es → (p : Place) × (b : List ℕ) × Reads d.rules start s es p b
 after_reads d s es a = by d.refusal a
   where
     by : (o : Option Refusal) → AfterBy o d s es → (p : Place) × (b : List ℕ) × Reads d.rules start s es p b
@@ -43,7 +43,7 @@ either_way l s a b c d xs es fs gs p q x y is is' run run' =
 
 module _ {V : Type 0} (f : V → ℕ → Event → V) (faulted : V → ℕ → Event → V → Type 0) where
   -- what a run handed to its sink is the reading of a front of the bytes
-  record Given (old new : State) (xs : List ℕ) (s : List ℕ) (es given : List (ℕ × Event)) : Type 0 where
+  record Given (old new : StreamState) (xs : List ℕ) (s : List ℕ) (es given : List (ℕ × Event)) : Type 0 where
     bytes : List ℕ
     rest : List ℕ
     parts : xs ≡ bytes ++ rest
@@ -51,13 +51,13 @@ module _ {V : Type 0} (f : V → ℕ → Event → V) (faulted : V → ℕ → E
     left : List ℕ
     read : Reads old.rules start (s ++ bytes) (es ++ given) place left
 
-  given_fed : (old new : State) (xs : List ℕ) (before after : V) (s : List ℕ) (es : List (ℕ × Event)) (a : After old s es) → new.rules ≡ old.rules → (d : Feeds f old new xs before after) → Given old new xs s es (d.drained s es a).more
+  given_fed : (old new : StreamState) (xs : List ℕ) (before after : V) (s : List ℕ) (es : List (ℕ × Event)) (a : After old s es) → new.rules ≡ old.rules → (d : Feeds f old new xs before after) → Given old new xs s es (d.drained s es a).more
   given_fed old new xs before after s es a rules d =
       let e = d.drained s es a in
       let r = after_reads new (s ++ d.bytes) (es ++ e.more) e.stands in
       record { bytes = d.bytes; rest = d.rest; parts = d.parts; place = r.0; left = r.1; read = subst (λ (l : Rules). Reads l start (s ++ d.bytes) (es ++ e.more) r.0 r.1) rules r.2 }
 
-  given_by : (turns : ℕ) (o : Outcome) (old new : State) (xs : List ℕ) (left : Option (List ℕ)) (before after : V) (s : List ℕ) (es : List (ℕ × Event)) (a : After old s es) (rules : new.rules ≡ old.rules) (ran : RunsTo f faulted turns o old new xs left before after) → Given old new xs s es (handed f faulted turns o old new xs left before after ran s es a)
+  given_by : (turns : ℕ) (o : Outcome) (old new : StreamState) (xs : List ℕ) (left : Option (List ℕ)) (before after : V) (s : List ℕ) (es : List (ℕ × Event)) (a : After old s es) (rules : new.rules ≡ old.rules) (ran : RunsTo f faulted turns o old new xs left before after) → Given old new xs s es (handed f faulted turns o old new xs left before after ran s es a)
   given_by turns (outcome.Finished end) old new xs left before after s es a rules ran = given_fed old new xs before after s es a rules ran.0
   given_by turns outcome.ReadFault old new xs left before after s es a rules ran = given_fed old new xs before after s es a rules ran.0
   given_by turns outcome.Turns old new xs left before after s es a rules ran = given_fed old new xs before after s es a rules ran.0
@@ -68,17 +68,17 @@ module _ {V : Type 0} (f : V → ℕ → Event → V) (faulted : V → ℕ → E
       record { bytes = ran.bytes; rest = ran.rest; parts = ran.parts; place = r.0; left = r.1; read = subst (λ (l : Rules). Reads l start (s ++ ran.bytes) all r.0 r.1) rules r.2 }
 
   -- a run whose sink did not fail has handed out all events of what was read
-  record AllOf (old new : State) (xs : List ℕ) (left : Option (List ℕ)) (before after : V) : Type 0 where
+  record AllOf (old new : StreamState) (xs : List ℕ) (left : Option (List ℕ)) (before after : V) : Type 0 where
     fed : Feeds f old new xs before after
     has : HasAll f old new xs left before after fed
 
-  all_of : (turns : ℕ) (o : Outcome) (old new : State) (xs : List ℕ) (left : Option (List ℕ)) (before after : V) → IsSound o → RunsTo f faulted turns o old new xs left before after → AllOf old new xs left before after
+  all_of : (turns : ℕ) (o : Outcome) (old new : StreamState) (xs : List ℕ) (left : Option (List ℕ)) (before after : V) → IsSound o → RunsTo f faulted turns o old new xs left before after → AllOf old new xs left before after
   all_of turns (outcome.Finished end) old new xs left before after sound ran = record { fed = ran.0; has = ran.3 }
   all_of turns outcome.ReadFault old new xs left before after sound ran = record { fed = ran.0; has = ran.2 }
   all_of turns outcome.Turns old new xs left before after sound ran = record { fed = ran.0; has = ran.3 }
   all_of turns outcome.SinkFault old new xs left before after sound ran = absurd sound
 
-  module _ (old new : State) (xs : List ℕ) (left : Option (List ℕ)) (before after : V) where
+  module _ (old new : StreamState) (xs : List ℕ) (left : Option (List ℕ)) (before after : V) where
     read_of : (unread : List ℕ) (d : AllOf old new xs left before after) → left ≡ Some unread → xs ≡ d.fed.bytes ++ d.has.looked ++ unread
     read_of unread d is =
         let same : d.has.unread ≡ unread = let e = sym d.has.others ∙ is in cc in
@@ -97,7 +97,7 @@ module _ {V : Type 0} (f : V → ℕ → Event → V) (faulted : V → ℕ → E
   same_verdict (Some r) (Some r') same = ap Some (let at : r'.at ≡ r.at = cc in let why : r'.why ≡ r.why = cc in λ i. record { at = at i; why = why i })
 
   -- where both read the same bytes
-  sinks_alike : (old new new' : State) (xs : List ℕ) (left left' : Option (List ℕ)) (before after after' : V) (s : List ℕ) (es : List (ℕ × Event)) (a : After old s es) → old.refusal ≡ None → new.rules ≡ old.rules → new'.rules ≡ old.rules
+  sinks_alike : (old new new' : StreamState) (xs : List ℕ) (left left' : Option (List ℕ)) (before after after' : V) (s : List ℕ) (es : List (ℕ × Event)) (a : After old s es) → old.refusal ≡ None → new.rules ≡ old.rules → new'.rules ≡ old.rules
       → (d : AllOf old new xs left before after) (d' : AllOf old new' xs left' before after') → left' ≡ left → (after' ≡ after) × (new'.refusal ≡ new.refusal)
   sinks_alike old new new' xs left left' before after after' s es a none rules rules' d d' same =
       let x = read_of old new xs left before after d.has.unread d d.has.others in
@@ -125,7 +125,7 @@ module _ {V : Type 0} (f : V → ℕ → Event → V) (faulted : V → ℕ → E
     ends : FinishesBy refusal (s ++ xs) (es ++ more) end
     got : after ≡ fold_events f before more
 
-  finishing_by : (o : Option Refusal) (turns : ℕ) (end : Finish) (old new : State) (xs : List ℕ) (left : Option (List ℕ)) (before after : V) (s : List ℕ) (es : List (ℕ × Event)) (a : After old s es) → old.refusal ≡ None → new.rules ≡ old.rules → new.refusal ≡ o
+  finishing_by : (o : Option Refusal) (turns : ℕ) (end : Finish) (old new : StreamState) (xs : List ℕ) (left : Option (List ℕ)) (before after : V) (s : List ℕ) (es : List (ℕ × Event)) (a : After old s es) → old.refusal ≡ None → new.rules ≡ old.rules → new.refusal ≡ o
       → RunsTo f faulted turns (outcome.Finished end) old new xs left before after → Finishing old.rules o end xs before after s es
   finishing_by None turns end old new xs left before after s es a none rules is ran =
       let e = ran.0.drained s es a in
@@ -166,17 +166,17 @@ module _ {V : Type 0} (f : V → ℕ → Event → V) (faulted : V → ℕ → E
 
   -- ---- the laws
 
-  finished_with : (o : Outcome) (end : Finish) → o ≡ outcome.Finished end → (turns : ℕ) (old new : State) (xs : List ℕ) (left : Option (List ℕ)) (before after : V) → RunsTo f faulted turns o old new xs left before after → RunsTo f faulted turns (outcome.Finished end) old new xs left before after
+  finished_with : (o : Outcome) (end : Finish) → o ≡ outcome.Finished end → (turns : ℕ) (old new : StreamState) (xs : List ℕ) (left : Option (List ℕ)) (before after : V) → RunsTo f faulted turns o old new xs left before after → RunsTo f faulted turns (outcome.Finished end) old new xs left before after
   finished_with o end is turns old new xs left before after ran = subst (λ (z : Outcome). RunsTo f faulted turns z old new xs left before after) is ran
 
-  module _ (turns : ℕ) (o o' : Outcome) (old new new' : State) (xs : List ℕ) (left left' : Option (List ℕ)) (before after after' : V) (s : List ℕ) (es : List (ℕ × Event)) (a : After old s es) (ran : Ran f faulted turns o old new xs left before after) (ran' : Ran f faulted turns o' old new' xs left' before after') where
+  module _ (turns : ℕ) (o o' : Outcome) (old new new' : StreamState) (xs : List ℕ) (left left' : Option (List ℕ)) (before after after' : V) (s : List ℕ) (es : List (ℕ × Event)) (a : After old s es) (ran : Ran f faulted turns o old new xs left before after) (ran' : Ran f faulted turns o' old new' xs left' before after') where
     sinks_by : (w : Option Refusal) → old.refusal ≡ w → IsSound o → IsSound o' → left' ≡ left → (after' ≡ after) × (new'.refusal ≡ new.refusal)
     sinks_by None none sound sound' same =
         sinks_alike old new new' xs left left' before after after' s es a none ran.rules ran'.rules (all_of turns o old new xs left before after sound ran.runs) (all_of turns o' old new' xs left' before after' sound' ran'.runs) same
     sinks_by (Some r) is sound sound' same =
         let p = ran.refused r is in
         let q = ran'.refused r is in
-        (q.2 ∙ sym p.2, ap (λ (z : State). z.refusal) (q.1 ∙ sym p.1))
+        (q.2 ∙ sym p.2, ap (λ (z : StreamState). z.refusal) (q.1 ∙ sym p.1))
 
     ends_by : (w : Option Refusal) → old.refusal ≡ w → (end end' : Finish) → o ≡ outcome.Finished end → o' ≡ outcome.Finished end' → (end' ≡ end) × (after' ≡ after)
     ends_by None none end end' is is' =

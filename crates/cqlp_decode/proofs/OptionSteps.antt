@@ -12,12 +12,12 @@ use Rattle.cqlp_note.specs.declared.field.Field.TheVariants as field
 use Rattle.cqlp_note.specs.Step.{Emitted, Step, Emit, after_field}
 use Rattle.cqlp_note.specs.Limits.{Rules, rules_of}
 use Rattle.cqlp_note.specs.Heading.{beside_number}
-use Rattle.cqlp_note.specs.Partial.{Progress}
+use Rattle.cqlp_note.specs.Partial.{FieldState}
 use Rattle.cqlp_note.proofs.Readers.{Always, says_always}
 use Rattle.cqlp_note.proofs.Fields.{either_always}
 use Rattle.cqlp_note.proofs.Yields.{map_said, says_map}
 use Rattle.cqlp_type.specs.declared.kind.Kind.{Kind}
-use Rattle.cqlp_type.specs.declared.item.TypePart.{TypePart}
+use Rattle.cqlp_type.specs.declared.advance.TypeOutline.{TypeOutline}
 use Rattle.cqlp_type.specs.declared.kind.Kind.TheVariants as kind
 use Rattle.cqlp_type.specs.Types.{Types, NoMore, Type_and, how_many, AreFormed, kinds}
 use Rattle.cqlp_type.specs.Types as types
@@ -28,13 +28,13 @@ use Rattle.cqlp_type.specs.Standing as type
 use Rattle.cqlp_type.specs.Standing.{place_of, pending}
 use Rattle.cqlp_type.specs.Remaining as part
 use Rattle.cqlp_message.specs.Productions.{Symbol, In_type}
-use Rattle.cqlp_decode.specs.declared.standing.Stage.TheVariants as stage
-use Rattle.cqlp_decode.specs.declared.standing.Standing.{Standing}
-use Rattle.cqlp_decode.specs.declared.standing.Advance.TheVariants as advance
-use Rattle.cqlp_decode.specs.declared.standing.What.TheVariants as what
+use Rattle.cqlp_decode.specs.declared.standing.StreamStage.TheVariants as stage
+use Rattle.cqlp_decode.specs.declared.standing.StreamStanding.{StreamStanding}
+use Rattle.cqlp_decode.specs.declared.advance.EventAdvance.TheVariants as advance
+use Rattle.cqlp_decode.specs.declared.advance.EventOutline.TheVariants as what
 use Rattle.cqlp_decode.specs.Reading.{Place, type_event, types_left, place_of_types}
-use Rattle.cqlp_decode.specs.Standing.{IsPending, Parts, parts, state_of, place_at, offset_at, symbols_at, rest_of, told, Gives, Waits, Moves, IsLent, due_after, frame_after, ends_due, HasRoom, IsOption, OptionWaits, OptionRuns, IsLawful, StageHolds, TableHolds}
-use Rattle.cqlp_decode.specs.declared.standing.Stage.{Stage}
+use Rattle.cqlp_decode.specs.Standing.{IsPending, Parts, parts, state_of, place_at, offset_at, symbols_at, rest_of, told, Gives, Waits, Moves, IsLent, due_after, frame_after, ends_due, HasRoom, IsOption, OptionWaits, OptionRuns, IsConsistent, StageHolds, TableHolds}
+use Rattle.cqlp_decode.specs.declared.standing.StreamStage.{StreamStage}
 use Rattle.cqlp_decode.proofs.Steps.{starts_bare, begun_bare, one_due_bare, offset_is_bare}
 use Rattle.cqlp_decode.proofs.FieldSteps.{used_some, goes_on_lawful}
 use Rattle.cqlp_type.proofs.Pushes.{option_begun, option_waited, option_handed, option_over}
@@ -118,7 +118,7 @@ is_lent : (e : TypeEvent) (used : ℕ) (content : List ℕ) → (type.text_lengt
 is_lent (IsNode k) used content h = tt
 is_lent (IsField f v) used content h = h
 
-module _ (s : Standing) (q : Parts) (here : s.stage ≡ stage.Type) (o : IsOption s q.partial q.types) (rules : q.types.rules ≡ rules_of s.limits) where
+module _ (s : StreamStanding) (q : Parts) (here : s.stage ≡ stage.InType) (o : IsOption s q.partial q.types) (rules : q.types.rules ≡ rules_of s.limits) where
   abbrev rest : List Symbol
   rest = rest_of s.upcoming
 
@@ -131,10 +131,10 @@ module _ (s : Standing) (q : Parts) (here : s.stage ≡ stage.Type) (o : IsOptio
   pending_is : (b : List ℕ) → IsPending (state_of s q).pending b → b ≡ pending q.types q.partial
   pending_is b is = rw here at is
 
-  pub option_waits : (input : List ℕ) (used : ℕ) (r' : type.Standing) (p' : Progress) (t' : Table) → type.Waits q.types q.partial q.table input used r' p' t' → Waits (state_of s q) input used (state_of s (parts p' r' q.cells t'))
+  pub option_waits : (input : List ℕ) (used : ℕ) (r' : type.TypeState) (p' : FieldState) (t' : Table) → type.Waits q.types q.partial q.table input used r' p' t' → Waits (state_of s q) input used (state_of s (parts p' r' q.cells t'))
   option_waits input used r' p' t' m =
-      let offset : r'.offset ≡ q.types.offset = ap (λ (z : type.Standing). z.offset) m.reader in
-      let symbols : r'.symbols ≡ q.types.symbols = ap (λ (z : type.Standing). z.symbols) m.reader in
+      let offset : r'.offset ≡ q.types.offset = ap (λ (z : type.TypeState). z.offset) m.reader in
+      let symbols : r'.symbols ≡ q.types.symbols = ap (λ (z : type.TypeState). z.symbols) m.reader in
       record {
         all = m.all;
         place = rw (here, m.table) (λ j. place_at (offset j) s.stop (In_type (symbols j) ∷ rest) q.table.nodes);
@@ -145,7 +145,7 @@ module _ (s : Standing) (q : Parts) (here : s.stage ≡ stage.Type) (o : IsOptio
   pub option_fails : (input : List ℕ) (at : ℕ) (why : Reason) → type.told q.types q.table.nodes (pending q.types q.partial ++ input) ≡ Bad (at, why) → (b : List ℕ) → IsPending (state_of s q).pending b → told (state_of s q) (b ++ input) ≡ Bad (at, why)
   option_fails input at why m b is = rw (pending_is b is) (told_is (pending q.types q.partial ++ input) ∙ ap (λ z. map_said type_event (place_of_types stands rest) z) m)
 
-  module _ (input : List ℕ) (at used : ℕ) (x : TypePart) (r' : type.Standing) (p' : Progress) (t' : Table) (m : type.Ends q.types q.partial q.table input at used x r' p' t') (waits : OptionWaits q) where
+  module _ (input : List ℕ) (at used : ℕ) (x : TypeOutline) (r' : type.TypeState) (p' : FieldState) (t' : Table) (m : type.Ends q.types q.partial q.table input at used x r' p' t') (waits : OptionWaits q) where
     abbrev bytes : List ℕ
     bytes = pending q.types q.partial ++ input
 
@@ -173,7 +173,7 @@ module _ (s : Standing) (q : Parts) (here : s.stage ≡ stage.Type) (o : IsOptio
     )
 
     -- the place that the decoder stands at then
-    module _ (e : Standing) (q' : Parts) (content : q'.partial.content ≡ p'.content) (nodes : q'.table.nodes ≡ t'.nodes) (offset : offset_at e.stage e.offset q' ≡ r'.offset) (stop : e.stop ≡ s.stop) (frame : e.frame ≡ s.frame)
+    module _ (e : StreamStanding) (q' : Parts) (content : q'.partial.content ≡ p'.content) (nodes : q'.table.nodes ≡ t'.nodes) (offset : offset_at e.stage e.offset q' ≡ r'.offset) (stop : e.stop ≡ s.stop) (frame : e.frame ≡ s.frame)
         (symbols : symbols_at e.stage q' e.upcoming ≡ types_left r'.symbols ++ rest) (fresh : IsPending (state_of e q').pending []) (one : ends_due (symbols_at e.stage q' e.upcoming) ≡ 1) (cells : q'.cells ≡ q.cells) where
       pub option_hands : Moves (state_of s q) input (advance.Event at used (what.Option x)) (state_of e q')
       option_hands = (
@@ -185,7 +185,7 @@ module _ (s : Standing) (q : Parts) (here : s.stage ≡ stage.Type) (o : IsOptio
           lent = is_lent (part.event_at x input q'.partial.content) used q'.partial.content (rw content m.lent);
           gives = λ b is.
               let g = option_gives in
-              let stopped : r'.stop ≡ s.stop = ap (λ (z : type.Standing). z.stop) m.reader ∙ o.stop in
+              let stopped : r'.stop ≡ s.stop = ap (λ (z : type.TypeState). z.stop) m.reader ∙ o.stop in
               rw (pending_is b is) (g.0, g.1, g.2, g.3 ∙ ap (λ (z : List ℕ). type_event (part.event_at x input z)) (sym content), g.4 ∙ (λ j. place_at (sym offset j) ((stopped ∙ sym stop) j) (sym symbols j) (sym nodes j)));
           offset = λ b is. rw (pending_is b is, offset, here) option_on;
           due = one ∙ sym (no_end (part.event_at x input q'.partial.content));
@@ -195,7 +195,7 @@ module _ (s : Standing) (q : Parts) (here : s.stage ≡ stage.Type) (o : IsOptio
 
     -- the reader of the option, after a part of it
     began : r'.begun ≡ false
-    began = ap (λ (z : type.Standing). z.begun) m.reader
+    began = ap (λ (z : type.TypeState). z.begun) m.reader
 
     none_pending : pending r' p' ≡ []
     none_pending = rw began refl
@@ -205,7 +205,7 @@ module _ (s : Standing) (q : Parts) (here : s.stage ≡ stage.Type) (o : IsOptio
     still_hands more = option_hands s (parts p' r' q.cells t') refl refl (rw here refl) refl refl (rw here (sym (left_some r'.symbols rest more))) (rw (here, none_pending) refl) (rw here refl) refl
 
     -- the option is whole
-    module _ (whole : r'.symbols ≡ []) (e : Standing) (r'' : type.Standing) (offset : e.offset ≡ r'.offset) (stop : e.stop ≡ s.stop) (frame : e.frame ≡ s.frame) (came : e.came ≡ 0) (symbols : (z : Parts) → symbols_at e.stage z e.upcoming ≡ rest)
+    module _ (whole : r'.symbols ≡ []) (e : StreamStanding) (r'' : type.TypeState) (offset : e.offset ≡ r'.offset) (stop : e.stop ≡ s.stop) (frame : e.frame ≡ s.frame) (came : e.came ≡ 0) (symbols : (z : Parts) → symbols_at e.stage z e.upcoming ≡ rest)
         (room : HasRoom e.stage e.upcoming) where
       pub ended_hands : Moves (state_of s q) input (advance.Event at used (what.Option x)) (state_of e (parts p' r'' q.cells t'))
       ended_hands =
@@ -214,60 +214,60 @@ module _ (s : Standing) (q : Parts) (here : s.stage ≡ stage.Type) (o : IsOptio
 
   -- ---- what holds of the decoder then
 
-  stage_there : (z : Parts) → StageHolds s z stage.Type → StageHolds s z s.stage
-  stage_there z h = subst (λ (t : Stage). StageHolds s z t) (sym here) h
+  stage_there : (z : Parts) → StageHolds s z stage.InType → StageHolds s z s.stage
+  stage_there z h = subst (λ (t : StreamStage). StageHolds s z t) (sym here) h
 
   table_there : (z : Parts) → OptionRuns (rules_of s.limits) z → TableHolds (rules_of s.limits) z s.stage
-  table_there z h = subst (λ (t : Stage). TableHolds (rules_of s.limits) z t) (sym here) h
+  table_there z h = subst (λ (t : StreamStage). TableHolds (rules_of s.limits) z t) (sym here) h
 
-  module _ (law : IsLawful s q) (unrefused : s.refusal ≡ None) where
+  module _ (law : IsConsistent s q) (unrefused : s.refusal ≡ None) where
     run : OptionRuns (rules_of s.limits) q
     run = rw here at (law.table unrefused)
 
     idle_cells : is_under_way q.cells ≡ false
     idle_cells = let stage = rw here at law.stage in stage.2
 
-    pub option_more_lawful : (input : List ℕ) (used : ℕ) (r' : type.Standing) (p' : Progress) (t' : Table) → type.Waits q.types q.partial q.table input used r' p' t' → IsLawful s (parts p' r' q.cells t')
+    pub option_more_lawful : (input : List ℕ) (used : ℕ) (r' : type.TypeState) (p' : FieldState) (t' : Table) → type.Waits q.types q.partial q.table input used r' p' t' → IsConsistent s (parts p' r' q.cells t')
     option_more_lawful input used r' p' t' m =
         let z : Parts = parts p' r' q.cells t' in
         let same = m.reader in
-        let rules : r'.rules ≡ q.types.rules = ap (λ (x : type.Standing). x.rules) same in
+        let rules : r'.rules ≡ q.types.rules = ap (λ (x : type.TypeState). x.rules) same in
         let place : place_of r' t'.nodes ≡ place_of q.types q.table.nodes = rw (same, m.table) refl in
         record {
           bounded = law.bounded;
           parts = record { room = m.room ∙ law.parts.room; rules = rules ∙ law.parts.rules; cells = law.parts.cells; table = rw m.table law.parts.table };
           stage = stage_there z (
             record {
-              under_way = ap (λ (x : type.Standing). x.under_way) same ∙ o.under_way;
-              some = λ none. o.some (sym (ap (λ (x : type.Standing). x.symbols) same) ∙ none);
+              under_way = ap (λ (x : type.TypeState). x.under_way) same ∙ o.under_way;
+              some = λ none. o.some (sym (ap (λ (x : type.TypeState). x.symbols) same) ∙ none);
               shared = m.shared;
-              stop = ap (λ (x : type.Standing). x.stop) same ∙ o.stop;
-              behind = omega (arith, o.behind, ap (λ (x : type.Standing). x.offset) same);
-              inside = omega (arith, o.inside, ap (λ (x : type.Standing). x.offset) same);
+              stop = ap (λ (x : type.TypeState). x.stop) same ∙ o.stop;
+              behind = omega (arith, o.behind, ap (λ (x : type.TypeState). x.offset) same);
+              inside = omega (arith, o.inside, ap (λ (x : type.TypeState). x.offset) same);
               came = o.came;
             },
             λ some. (λ i. says (type_step (rules i) (place i)) 0 (m.pending i)) ∙ m.is,
             idle_cells,
           );
-          quiet = record { types = λ idle. let busy = ap (λ (x : type.Standing). x.under_way) same ∙ o.under_way in cc; cells = law.quiet.cells };
+          quiet = record { types = λ idle. let busy = ap (λ (x : type.TypeState). x.under_way) same ∙ o.under_way in cc; cells = law.quiet.cells };
           table = λ none. table_there z (record { begun = run.begun; first = run.first; before = run.before; bytes = run.bytes ++ input; items = run.items; runs = option_waited q.types q.partial q.table input r' p' t' used m run.begun run.bytes run.items run.runs });
         }
 
-    module _ (input : List ℕ) (at used : ℕ) (x : TypePart) (r' : type.Standing) (p' : Progress) (t' : Table) (m : type.Ends q.types q.partial q.table input at used x r' p' t') (inside : r'.offset ≤ s.stop) where
-      pub option_still_lawful : (r'.symbols ≡ [] → ⊥) → IsLawful s (parts p' r' q.cells t')
+    module _ (input : List ℕ) (at used : ℕ) (x : TypeOutline) (r' : type.TypeState) (p' : FieldState) (t' : Table) (m : type.Ends q.types q.partial q.table input at used x r' p' t') (inside : r'.offset ≤ s.stop) where
+      pub option_still_lawful : (r'.symbols ≡ [] → ⊥) → IsConsistent s (parts p' r' q.cells t')
       option_still_lawful some =
           let z : Parts = parts p' r' q.cells t' in
           let same = m.reader in
-          let begun : r'.begun ≡ false = ap (λ (y : type.Standing). y.begun) same in
+          let begun : r'.begun ≡ false = ap (λ (y : type.TypeState). y.begun) same in
           record {
             bounded = law.bounded;
-            parts = record { room = m.room ∙ law.parts.room; rules = ap (λ (y : type.Standing). y.rules) same ∙ law.parts.rules; cells = law.parts.cells; table = m.table ∙ law.parts.table };
+            parts = record { room = m.room ∙ law.parts.room; rules = ap (λ (y : type.TypeState). y.rules) same ∙ law.parts.rules; cells = law.parts.cells; table = m.table ∙ law.parts.table };
             stage = stage_there z (
-              record { under_way = ap (λ (y : type.Standing). y.under_way) same; some = some; shared = m.shared; stop = ap (λ (y : type.Standing). y.stop) same ∙ o.stop; behind = omega (arith, o.behind, m.forward); inside = inside; came = o.came },
+              record { under_way = ap (λ (y : type.TypeState). y.under_way) same; some = some; shared = m.shared; stop = ap (λ (y : type.TypeState). y.stop) same ∙ o.stop; behind = omega (arith, o.behind, m.forward); inside = inside; came = o.came },
               λ long. let none : length (pending r' p') ≡ 0 = rw begun refl in absurd (omega arith),
               idle_cells,
             );
-            quiet = record { types = λ idle. let busy = ap (λ (y : type.Standing). y.under_way) same in cc; cells = law.quiet.cells };
+            quiet = record { types = λ idle. let busy = ap (λ (y : type.TypeState). y.under_way) same in cc; cells = law.quiet.cells };
             table = λ none. table_there z (record {
               begun = run.begun;
               first = run.first;
@@ -278,23 +278,23 @@ module _ (s : Standing) (q : Parts) (here : s.stage ≡ stage.Type) (o : IsOptio
             });
           }
 
-      pub option_ended_lawful : r'.symbols ≡ [] → (e : Standing) (r'' : type.Standing) → r'' ≡ type.stopped r' → e.offset ≡ r'.offset → e.stop ≡ s.stop → e.limits ≡ s.limits → e.header ≡ s.header → e.came ≡ s.came → HasRoom e.stage e.upcoming → IsLawful e (parts p' r'' q.cells t')
+      pub option_ended_lawful : r'.symbols ≡ [] → (e : StreamStanding) (r'' : type.TypeState) → r'' ≡ type.stopped r' → e.offset ≡ r'.offset → e.stop ≡ s.stop → e.limits ≡ s.limits → e.header ≡ s.header → e.came ≡ s.came → HasRoom e.stage e.upcoming → IsConsistent e (parts p' r'' q.cells t')
       option_ended_lawful whole e r'' over offset stop limits header came room =
           let same = m.reader in
-          let rules : r'.rules ≡ rules_of s.limits = ap (λ (y : type.Standing). y.rules) same ∙ law.parts.rules in
-          let begun : r'.begun ≡ false = ap (λ (y : type.Standing). y.begun) same in
+          let rules : r'.rules ≡ rules_of s.limits = ap (λ (y : type.TypeState). y.rules) same ∙ law.parts.rules in
+          let begun : r'.begun ≡ false = ap (λ (y : type.TypeState). y.begun) same in
           let is = option_over run.begun 1 r' p' t' (run.bytes ++ take used input) (run.items ++ (at, part.event_at x input p'.content) ∷ []) run.first (option_handed q.types q.partial q.table input r' p' t' at used x m run.begun run.bytes run.items run.runs) whole begun in
           let forest : Forest t'.nodes 0 s.limits.depth = forest_more (rules_of s.limits) run.begun.offset run.begun.nodes (run.bytes ++ take used input) (run.items ++ (at, part.event_at x input p'.content) ∷ []) t'.nodes run.before (rw rules at is) in
           goes_on_lawful s e q p' r'' q.cells t' (r'.offset - s.offset) law (omega (arith, offset, o.behind, m.forward)) (omega (arith, inside, o.behind, m.forward)) stop limits header (came ∙ o.came)
-          m.room (m.shared.same ∙ begun) (rw over (ap (λ (y : type.Standing). y.rules) same)) (rw over refl) refl idle_cells m.table forest (starts_bare e t'.nodes e.stage room) (record { types = λ idle. rw over refl; cells = law.quiet.cells })
+          m.room (m.shared.same ∙ begun) (rw over (ap (λ (y : type.TypeState). y.rules) same)) (rw over refl) refl idle_cells m.table forest (starts_bare e t'.nodes e.stage room) (record { types = λ idle. rw over refl; cells = law.quiet.cells })
 
 -- ---- an option begins
 
-module _ (s : Standing) (q : Parts) (here : s.stage ≡ stage.Option) where
-  pub option_begun_same : state_of (record s { stage = stage.Type }) (parts q.partial (type.started q.types s.offset s.stop) q.cells q.table) ≡ state_of s q
+module _ (s : StreamStanding) (q : Parts) (here : s.stage ≡ stage.BeforeType) where
+  pub option_begun_same : state_of (record s { stage = stage.InType }) (parts q.partial (type.started q.types s.offset s.stop) q.cells q.table) ≡ state_of s q
   option_begun_same = rw here refl
 
-  pub option_begun_lawful : IsLawful s q → s.refusal ≡ None → IsLawful (record s { stage = stage.Type }) (parts q.partial (type.started q.types s.offset s.stop) q.cells q.table)
+  pub option_begun_lawful : IsConsistent s q → s.refusal ≡ None → IsConsistent (record s { stage = stage.InType }) (parts q.partial (type.started q.types s.offset s.stop) q.cells q.table)
   option_begun_lawful law unrefused =
       let idle = rw here at law.stage in
       let forest : Forest q.table.nodes 0 s.limits.depth = rw here at (law.table unrefused) in

@@ -29,19 +29,19 @@ use Rattle.cqlp_decode.specs.Reading.{Place, Given, Nothing, type_event, types_l
 use Rattle.cqlp_decode.proofs.StepRuns.{after_yields, step_runs, runs_join}
 
 -- what the reading of a frame carries along
-abbrev pub State : Type 0
-State = List Node × Given
+abbrev pub StreamState : Type 0
+StreamState = List Node × Given
 
-abbrev pub types_in : Rules → State → Role → Types
+abbrev pub types_in : Rules → StreamState → Role → Types
 types_in l s r = types_for l.types r s.0 s.1
 
-abbrev pub state_after : State → Role → State
+abbrev pub state_after : StreamState → Role → StreamState
 state_after s r = (nodes_after r s.0, given_after r s.1)
 
-abbrev pub state_grown : State → Trees → State
+abbrev pub state_grown : StreamState → Trees → StreamState
 state_grown s t = (s.0 ++ preorder (types_of t), s.1)
 
-abbrev pub nodes_in : State → ℕ
+abbrev pub nodes_in : StreamState → ℕ
 nodes_in s = length s.0
 
 nodes_counted : (r : Role) (ns : List Node) → length (nodes_after r ns) ≡ options_after r (length ns)
@@ -49,11 +49,11 @@ nodes_counted (role.MetaFlags rows) ns = refl
 nodes_counted role.PreparedFlags ns = refl
 nodes_counted r ns = refl
 
-pub counts_nodes : Counts State state_after state_grown nodes_in
+pub counts_nodes : Counts StreamState state_after state_grown nodes_in
 counts_nodes = record { stays = λ s r. nodes_counted r s.0; grows = λ s t. length-append s.0 (preorder (types_of t)) ∙ ap (λ k. length s.0 + k) (many_nodes t) }
 
 -- a place in a frame
-abbrev pub inside : (offset stop : ℕ) → List Symbol → State → Place
+abbrev pub inside : (offset stop : ℕ) → List Symbol → StreamState → Place
 inside at stop ss s = record { offset = at; stop = stop; symbols = ss; nodes = s.0; given = s.1 }
 
 never_given : (r : Role) → given_after r Nothing ≡ Nothing
@@ -83,11 +83,11 @@ option_runs l rest given (e ∷ es) at stop (t ∷ ss) ns b left q r =
     (r.0, (λ u. in_option rest given (r.1 u)), rw (same_event e.1) said, option_runs l rest given es next.offset next.stop next.symbols next.nodes (drop r.0 b) left q r.3)
 
 -- Reading these symbols over these bytes says these events, and comes to the end of the frame's message.
-abbrev pub EndsMessage : Rules → (at stop : ℕ) → List Symbol → State → List ℕ → List (ℕ × Event) → Type 0
-EndsMessage l at stop ss s b es = (t : State) × Reads l (inside at stop ss s) b es (inside (at + length b) stop (Extra ∷ []) t) [] × (s.1 ≡ Nothing → t.1 ≡ Nothing)
+abbrev pub EndsMessage : Rules → (at stop : ℕ) → List Symbol → StreamState → List ℕ → List (ℕ × Event) → Type 0
+EndsMessage l at stop ss s b es = (t : StreamState) × Reads l (inside at stop ss s) b es (inside (at + length b) stop (Extra ∷ []) t) [] × (s.1 ≡ Nothing → t.1 ≡ Nothing)
 
 module _ (l : Rules) (stop : ℕ) where
-  field_reads : (at : ℕ) (f : Field) (n : Notation) (r : Role) (rest : List Symbol) (v : FieldValue) (s : State) (b : List ℕ) → fault_in r v ≡ None → Spells n v b → content_length v ≤ limit_of l n → at + length b ≤ stop
+  field_reads : (at : ℕ) (f : Field) (n : Notation) (r : Role) (rest : List Symbol) (v : FieldValue) (s : StreamState) (b : List ℕ) → fault_in r v ≡ None → Spells n v b → content_length v ≤ limit_of l n → at + length b ≤ stop
       → Reads l (inside at stop (In f n r ∷ rest) s) b ((at, Holds f v) ∷ []) (inside (at + length b) stop (following (types_in l s r) r v ++ rest) (state_after s r)) []
   field_reads at f n r rest v s b ok spelled within le =
       let p = inside at stop (In f n r ∷ rest) s in
@@ -96,20 +96,20 @@ module _ (l : Rules) (stop : ℕ) where
       let y = field_yields n v (limit_of l n) (stop - at) b spelled within room in
       step_runs (step l) p x b (after_yields at _ (λ v. value_step l.types p f r rest v (fault_in r v)) v x b y (rw ok (refl, refl)))
 
-  type_reads : (at : ℕ) (rest : List Symbol) (t : Trees) (s : State) (b : List ℕ) → OptionSpells t b → PartWithin l (Type_is t) → length s.0 + options_in t ≤ l.entries → at + length b ≤ stop
+  type_reads : (at : ℕ) (rest : List Symbol) (t : Trees) (s : StreamState) (b : List ℕ) → OptionSpells t b → PartWithin l (Type_is t) → length s.0 + options_in t ≤ l.entries → at + length b ≤ stop
       → Reads l (inside at stop (In_type (Option_at 1 ∷ []) ∷ rest) s) b (part_events at (Type_is t)) (inside (at + length b) stop rest (state_grown s t)) []
   type_reads at rest t s b o w room le =
       let end : TypePlace = record { offset = at + length b; stop = stop; symbols = []; nodes = s.0 ++ preorder (types_of t) } in
       option_runs l rest s.1 (placed at (trees_items false t)) at stop (Option_at 1 ∷ []) s.0 b [] end (tree_read l t 1 at stop s.0 b o.one o.formed w.0 w.1 room o.spelled le)
 
-  onward : (at : ℕ) (ss ss' : List Symbol) (s s' : State) (front back b : List ℕ) (k : ℕ) (es : List (ℕ × Event)) (fs : ℕ → List (ℕ × Event)) → b ≡ front ++ back → length front ≡ k → (s.1 ≡ Nothing → s'.1 ≡ Nothing)
+  onward : (at : ℕ) (ss ss' : List Symbol) (s s' : StreamState) (front back b : List ℕ) (k : ℕ) (es : List (ℕ × Event)) (fs : ℕ → List (ℕ × Event)) → b ≡ front ++ back → length front ≡ k → (s.1 ≡ Nothing → s'.1 ≡ Nothing)
       → Reads l (inside at stop ss s) front es (inside (at + length front) stop ss' s') [] → EndsMessage l (at + length front) stop ss' s' back (fs (at + length front)) → EndsMessage l at stop ss s b (es ++ fs (at + k))
   onward at ss ss' s s' front back b k es fs whole size stays first later =
       let end : at + length (front ++ back) ≡ (at + length front) + length back = omega (arith, length-append front back) in
       rw (whole, ← size) (later.0, rw end (runs_join (step l) _ _ _ front back es _ first later.1), (λ e. later.2 (stays e)))
 
   -- Parts that come of the symbols are read as their events, and after them the end of the frame is due.
-  pub parts_read : (ps : List Part) (at : ℕ) (ss : List Symbol) (s : State) (b : List ℕ) → Derives l State (types_in l) state_after state_grown nodes_in ps ss s → PartsSpell ps b → PartsWithin l ps → at + length b ≤ stop
+  pub parts_read : (ps : List Part) (at : ℕ) (ss : List Symbol) (s : StreamState) (b : List ℕ) → Derives l StreamState (types_in l) state_after state_grown nodes_in ps ss s → PartsSpell ps b → PartsWithin l ps → at + length b ≤ stop
       → EndsMessage l at stop ss s b (parts_events at ps)
   parts_read [] at ss s b d spelled within le =
       let none : at + length b ≡ at = rw spelled (omega arith) in

@@ -14,23 +14,23 @@ use Rattle.cqlp_note.specs.Limits.{rules_of}
 use Rattle.cqlp_type.specs.declared.node.Node.{Node}
 use Rattle.cqlp_value.specs.Inner.{Forest}
 use Rattle.cqlp_message.specs.Productions.{Stream, message}
-use Rattle.cqlp_decode.specs.declared.table.Due.{Due}
-use Rattle.cqlp_decode.specs.declared.table.Due.TheVariants as due
+use Rattle.cqlp_decode.specs.declared.table.Expected.{Expected}
+use Rattle.cqlp_decode.specs.declared.table.Expected.TheVariants as due
 use Rattle.cqlp_decode.specs.declared.upcoming.Slot.{Slot}
-use Rattle.cqlp_decode.specs.declared.standing.Stage.{Stage}
-use Rattle.cqlp_decode.specs.declared.standing.Stage.TheVariants as stage
-use Rattle.cqlp_decode.specs.declared.standing.Standing.{Standing}
-use Rattle.cqlp_decode.specs.declared.standing.Advance.TheVariants as advance
-use Rattle.cqlp_decode.specs.declared.standing.What.TheVariants as what
-use Rattle.cqlp_decode.specs.Upcoming.{Next}
+use Rattle.cqlp_decode.specs.declared.standing.StreamStage.{StreamStage}
+use Rattle.cqlp_decode.specs.declared.standing.StreamStage.TheVariants as stage
+use Rattle.cqlp_decode.specs.declared.standing.StreamStanding.{StreamStanding}
+use Rattle.cqlp_decode.specs.declared.advance.EventAdvance.TheVariants as advance
+use Rattle.cqlp_decode.specs.declared.advance.EventOutline.TheVariants as what
+use Rattle.cqlp_decode.specs.Upcoming.{Pops}
 use Rattle.cqlp_decode.specs.Reading as reading
 use Rattle.cqlp_decode.specs.Reading.{Place}
-use Rattle.cqlp_decode.specs.Standing.{IsPending, state_of, place_at, offset_at, pending_at, symbols_at, rest_of, stage_with, came_of, told, Gives, Waits, Moves, Parts, IsIdle, ends_due, HasRoom, Starts, StageHolds, TableHolds, IsPlaced, IsLawful}
+use Rattle.cqlp_decode.specs.Standing.{IsPending, state_of, place_at, offset_at, pending_at, symbols_at, rest_of, stage_with, came_of, told, Gives, Waits, Moves, Parts, IsIdle, ends_due, HasRoom, Starts, StageHolds, TableHolds, IsPlaced, IsConsistent}
 use Rattle.cqlp_decode.proofs.Columns.{cells_due}
 
 -- ---- what is skipped
 
-pub extra_waits : (s new : Standing) (q : Parts) (input : List ℕ) (used : ℕ) → s.stage ≡ stage.Extra → s.came ≤ s.stop - s.offset → used ≡ min (s.stop - s.offset - s.came) (length input) → s.came + used < s.stop - s.offset
+pub extra_waits : (s new : StreamStanding) (q : Parts) (input : List ℕ) (used : ℕ) → s.stage ≡ stage.Extra → s.came ≤ s.stop - s.offset → used ≡ min (s.stop - s.offset - s.came) (length input) → s.came + used < s.stop - s.offset
     → new ≡ record s { came = s.came + used } → Waits (state_of s q) input used (state_of new q)
 extra_waits s new q input used here le is less same = rw same (record {
   all = omega arith;
@@ -42,7 +42,7 @@ extra_waits s new q input used here le is less same = rw same (record {
       (rw (here, lt-ltb _ _ short) refl, rw here (omega (arith, length-append b input)));
 })
 
-pub extra_hands : (s : Standing) (q : Parts) (input : List ℕ) (used : ℕ) → s.stage ≡ stage.Extra → s.offset ≤ s.stop → s.came ≤ s.stop - s.offset → used ≡ min (s.stop - s.offset - s.came) (length input) → s.stop - s.offset ≤ s.came + used
+pub extra_hands : (s : StreamStanding) (q : Parts) (input : List ℕ) (used : ℕ) → s.stage ≡ stage.Extra → s.offset ≤ s.stop → s.came ≤ s.stop - s.offset → used ≡ min (s.stop - s.offset - s.came) (length input) → s.stop - s.offset ≤ s.came + used
     → Moves (state_of s q) input (advance.Event s.stop used (what.End (s.stop - s.offset))) (state_of (record s { frame = s.stop; offset = s.stop; stage = stage.Header; came = 0 }) q)
 extra_hands s q input used here inside le is all = (
   tt,
@@ -66,64 +66,64 @@ extra_hands s q input used here inside le is all = (
 -- ---- a message goes on
 
 -- nothing has come of what is read now
-pub begun_bare : (t : Stage) (upcoming : List Slot) (header : List ℕ) (came : ℕ) (q : Parts) → HasRoom t upcoming → came ≡ 0 → q.partial.under_way ≡ false → IsPending (pending_at t header came q) []
+pub begun_bare : (t : StreamStage) (upcoming : List Slot) (header : List ℕ) (came : ℕ) (q : Parts) → HasRoom t upcoming → came ≡ 0 → q.partial.under_way ≡ false → IsPending (pending_at t header came q) []
 begun_bare stage.Header upcoming header came q room none idle = absurd room
 begun_bare (stage.Field w) upcoming header came q room none idle = rw idle refl
-begun_bare stage.Option upcoming header came q room none idle = refl
-begun_bare stage.Type upcoming header came q room none idle = absurd room
-begun_bare (stage.Due p) upcoming header came q room none idle = absurd room
-begun_bare (stage.Cell p) upcoming header came q room none idle = absurd room
+begun_bare stage.BeforeType upcoming header came q room none idle = refl
+begun_bare stage.InType upcoming header came q room none idle = absurd room
+begun_bare (stage.BeforeCell p) upcoming header came q room none idle = absurd room
+begun_bare (stage.InCell p) upcoming header came q room none idle = absurd room
 begun_bare stage.Extra upcoming header came q room none idle = sym none
 
-pub begun : (s : Standing) (t : Stage) (header : List ℕ) (came : ℕ) (q : Parts) → Starts s q.table.nodes t → came ≡ 0 → q.partial.under_way ≡ false → IsPending (pending_at t header came q) []
+pub begun : (s : StreamStanding) (t : StreamStage) (header : List ℕ) (came : ℕ) (q : Parts) → Starts s q.table.nodes t → came ≡ 0 → q.partial.under_way ≡ false → IsPending (pending_at t header came q) []
 begun s stage.Header header came q start none idle = absurd start
 begun s (stage.Field w) header came q start none idle = rw idle refl
-begun s stage.Option header came q start none idle = refl
-begun s stage.Type header came q start none idle = absurd start
-begun s (stage.Due p) header came q start none idle = refl
-begun s (stage.Cell p) header came q start none idle = absurd start
+begun s stage.BeforeType header came q start none idle = refl
+begun s stage.InType header came q start none idle = absurd start
+begun s (stage.BeforeCell p) header came q start none idle = refl
+begun s (stage.InCell p) header came q start none idle = absurd start
 begun s stage.Extra header came q start none idle = sym none
 
 -- its end is still to come
-pub one_due_bare : (t : Stage) (q : Parts) (upcoming : List Slot) → HasRoom t upcoming → ends_due (symbols_at t q upcoming) ≡ 1
+pub one_due_bare : (t : StreamStage) (q : Parts) (upcoming : List Slot) → HasRoom t upcoming → ends_due (symbols_at t q upcoming) ≡ 1
 one_due_bare stage.Header q upcoming room = absurd room
 one_due_bare (stage.Field w) q upcoming room = refl
-one_due_bare stage.Option q upcoming room = refl
-one_due_bare stage.Type q upcoming room = absurd room
-one_due_bare (stage.Due p) q upcoming room = absurd room
-one_due_bare (stage.Cell p) q upcoming room = absurd room
+one_due_bare stage.BeforeType q upcoming room = refl
+one_due_bare stage.InType q upcoming room = absurd room
+one_due_bare (stage.BeforeCell p) q upcoming room = absurd room
+one_due_bare (stage.InCell p) q upcoming room = absurd room
 one_due_bare stage.Extra q upcoming room = refl
 
-pub one_due : (s : Standing) (t : Stage) (q : Parts) → Starts s q.table.nodes t → ends_due (symbols_at t q s.upcoming) ≡ 1
+pub one_due : (s : StreamStanding) (t : StreamStage) (q : Parts) → Starts s q.table.nodes t → ends_due (symbols_at t q s.upcoming) ≡ 1
 one_due s stage.Header q start = absurd start
 one_due s (stage.Field w) q start = refl
-one_due s stage.Option q start = refl
-one_due s stage.Type q start = absurd start
-one_due s (stage.Due p) q start = cells_due q.table.nodes s.limits.depth p (rest_of s.upcoming) start.0
-one_due s (stage.Cell p) q start = absurd start
+one_due s stage.BeforeType q start = refl
+one_due s stage.InType q start = absurd start
+one_due s (stage.BeforeCell p) q start = cells_due q.table.nodes s.limits.depth p (rest_of s.upcoming) start.0
+one_due s (stage.InCell p) q start = absurd start
 one_due s stage.Extra q start = refl
 
 -- it begins at the offset
-pub offset_is_bare : (t : Stage) (offset : ℕ) (q : Parts) (upcoming : List Slot) → HasRoom t upcoming → offset_at t offset q ≡ offset
+pub offset_is_bare : (t : StreamStage) (offset : ℕ) (q : Parts) (upcoming : List Slot) → HasRoom t upcoming → offset_at t offset q ≡ offset
 offset_is_bare stage.Header offset q upcoming room = absurd room
 offset_is_bare (stage.Field w) offset q upcoming room = refl
-offset_is_bare stage.Option offset q upcoming room = refl
-offset_is_bare stage.Type offset q upcoming room = absurd room
-offset_is_bare (stage.Due p) offset q upcoming room = absurd room
-offset_is_bare (stage.Cell p) offset q upcoming room = absurd room
+offset_is_bare stage.BeforeType offset q upcoming room = refl
+offset_is_bare stage.InType offset q upcoming room = absurd room
+offset_is_bare (stage.BeforeCell p) offset q upcoming room = absurd room
+offset_is_bare (stage.InCell p) offset q upcoming room = absurd room
 offset_is_bare stage.Extra offset q upcoming room = refl
 
-pub offset_is : (s : Standing) (t : Stage) (q : Parts) → Starts s q.table.nodes t → offset_at t s.offset q ≡ s.offset
+pub offset_is : (s : StreamStanding) (t : StreamStage) (q : Parts) → Starts s q.table.nodes t → offset_at t s.offset q ≡ s.offset
 offset_is s stage.Header q start = absurd start
 offset_is s (stage.Field w) q start = refl
-offset_is s stage.Option q start = refl
-offset_is s stage.Type q start = absurd start
-offset_is s (stage.Due p) q start = refl
-offset_is s (stage.Cell p) q start = absurd start
+offset_is s stage.BeforeType q start = refl
+offset_is s stage.InType q start = absurd start
+offset_is s (stage.BeforeCell p) q start = refl
+offset_is s (stage.InCell p) q start = absurd start
 offset_is s stage.Extra q start = refl
 
 -- what holds of the next stage, of which nothing has come
-pub fresh_stage : (e : Standing) (q : Parts) (t : Stage) → Starts e q.table.nodes t → IsIdle q → e.came ≡ 0 → StageHolds e q t
+pub fresh_stage : (e : StreamStanding) (q : Parts) (t : StreamStage) → Starts e q.table.nodes t → IsIdle q → e.came ≡ 0 → StageHolds e q t
 fresh_stage e q stage.Header start idle none = absurd start
 fresh_stage e q (stage.Field w) start idle none = (
   record {
@@ -136,62 +136,62 @@ fresh_stage e q (stage.Field w) start idle none = (
   idle.types,
   idle.cells,
 )
-fresh_stage e q stage.Option start idle none = (idle, none)
-fresh_stage e q stage.Type start idle none = absurd start
-fresh_stage e q (stage.Due p) start idle none = (start, idle, none)
-fresh_stage e q (stage.Cell p) start idle none = absurd start
+fresh_stage e q stage.BeforeType start idle none = (idle, none)
+fresh_stage e q stage.InType start idle none = absurd start
+fresh_stage e q (stage.BeforeCell p) start idle none = (start, idle, none)
+fresh_stage e q (stage.InCell p) start idle none = absurd start
 fresh_stage e q stage.Extra start idle none = (omega arith, idle)
 
 -- the table then holds whole types alone
-pub fresh_table : (e : Standing) (q : Parts) (t : Stage) → Starts e q.table.nodes t → Forest q.table.nodes 0 e.limits.depth → TableHolds (rules_of e.limits) q t
+pub fresh_table : (e : StreamStanding) (q : Parts) (t : StreamStage) → Starts e q.table.nodes t → Forest q.table.nodes 0 e.limits.depth → TableHolds (rules_of e.limits) q t
 fresh_table e q stage.Header start f = f
 fresh_table e q (stage.Field w) start f = f
-fresh_table e q stage.Option start f = f
-fresh_table e q stage.Type start f = absurd start
-fresh_table e q (stage.Due p) start f = f
-fresh_table e q (stage.Cell p) start f = f
+fresh_table e q stage.BeforeType start f = f
+fresh_table e q stage.InType start f = absurd start
+fresh_table e q (stage.BeforeCell p) start f = f
+fresh_table e q (stage.InCell p) start f = f
 fresh_table e q stage.Extra start f = f
 
 -- where a message goes on without a page
-pub starts_bare : (s : Standing) (nodes : List Node) (t : Stage) → HasRoom t s.upcoming → Starts s nodes t
+pub starts_bare : (s : StreamStanding) (nodes : List Node) (t : StreamStage) → HasRoom t s.upcoming → Starts s nodes t
 starts_bare s nodes stage.Header room = room
 starts_bare s nodes (stage.Field w) room = room
-starts_bare s nodes stage.Option room = room
-starts_bare s nodes stage.Type room = room
-starts_bare s nodes (stage.Due p) room = absurd room
-starts_bare s nodes (stage.Cell p) room = room
+starts_bare s nodes stage.BeforeType room = room
+starts_bare s nodes stage.InType room = room
+starts_bare s nodes (stage.BeforeCell p) room = absurd room
+starts_bare s nodes (stage.InCell p) room = room
 starts_bare s nodes stage.Extra room = room
 
-pub next_symbols : (old new : List Slot) (o : Option Due) → Next old o new → (q : Parts) → symbols_at (stage_with o) q new ≡ rest_of old
+pub next_symbols : (old new : List Slot) (o : Option Expected) → Pops old o new → (q : Parts) → symbols_at (stage_with o) q new ≡ rest_of old
 next_symbols old new None n q = rw n.0 refl
 next_symbols old new (Some (due.Field w)) n q = rw n.0 refl
 next_symbols old new (Some due.Option) n q = rw n.0 refl
 
-pub next_room : (old new : List Slot) (o : Option Due) → Next old o new → HasRoom (stage_with o) new
+pub next_room : (old new : List Slot) (o : Option Expected) → Pops old o new → HasRoom (stage_with o) new
 next_room old new None n = tt
 next_room old new (Some (due.Field w)) n = (n.1, n.2)
 next_room old new (Some due.Option) n = tt
 
-pub placed : (s : Standing) (q : Parts) (t : Stage) → StageHolds s q t → IsPlaced s q t
+pub placed : (s : StreamStanding) (q : Parts) (t : StreamStage) → StageHolds s q t → IsPlaced s q t
 placed s q stage.Header h = (h.0, h.2)
 placed s q (stage.Field w) h = tt
-placed s q stage.Option h = tt
-placed s q stage.Type h = h.0
-placed s q (stage.Due p) h = h.0
-placed s q (stage.Cell p) h = h.0
+placed s q stage.BeforeType h = tt
+placed s q stage.InType h = h.0
+placed s q (stage.BeforeCell p) h = h.0
+placed s q (stage.InCell p) h = h.0
 placed s q stage.Extra h = h.0
 
 -- a refusal changes nothing of the rest
-stage_refused : (s : Standing) (q : Parts) (r : Option Refusal) (t : Stage) → StageHolds s q t → StageHolds (record s { refusal = r }) q t
+stage_refused : (s : StreamStanding) (q : Parts) (r : Option Refusal) (t : StreamStage) → StageHolds s q t → StageHolds (record s { refusal = r }) q t
 stage_refused s q r stage.Header h = h
 stage_refused s q r (stage.Field w) h = (record { room = h.0.room; read = h.0.read; field = h.0.field; waits = h.0.waits; came = h.0.came }, h.1, h.2)
-stage_refused s q r stage.Option h = h
-stage_refused s q r stage.Type h = (record { under_way = h.0.under_way; some = h.0.some; shared = h.0.shared; stop = h.0.stop; behind = h.0.behind; inside = h.0.inside; came = h.0.came }, h.1, h.2)
-stage_refused s q r (stage.Due p) h = h
-stage_refused s q r (stage.Cell p) h = (record { under_way = h.0.under_way; stands = h.0.stands; joined = h.0.joined; some = h.0.some; is = h.0.is; page = h.0.page; stop = h.0.stop; behind = h.0.behind; came = h.0.came }, h.1)
+stage_refused s q r stage.BeforeType h = h
+stage_refused s q r stage.InType h = (record { under_way = h.0.under_way; some = h.0.some; shared = h.0.shared; stop = h.0.stop; behind = h.0.behind; inside = h.0.inside; came = h.0.came }, h.1, h.2)
+stage_refused s q r (stage.BeforeCell p) h = h
+stage_refused s q r (stage.InCell p) h = (record { under_way = h.0.under_way; stands = h.0.stands; joined = h.0.joined; some = h.0.some; is = h.0.is; page = h.0.page; stop = h.0.stop; behind = h.0.behind; came = h.0.came }, h.1)
 stage_refused s q r stage.Extra h = h
 
-pub refused_lawful : (s : Standing) (q : Parts) (r : Refusal) → IsLawful s q → IsLawful (record s { refusal = Some r }) q
+pub refused_lawful : (s : StreamStanding) (q : Parts) (r : Refusal) → IsConsistent s q → IsConsistent (record s { refusal = Some r }) q
 refused_lawful s q r h = record {
   bounded = record { long = h.bounded.long; inside = h.bounded.inside; size = h.bounded.size; bound = h.bounded.bound };
   parts = record { room = h.parts.room; rules = h.parts.rules; cells = h.parts.cells; table = h.parts.table };
@@ -202,19 +202,19 @@ refused_lawful s q r h = record {
 
 -- ---- headers
 
-module _ (s : Standing) (q : Parts) (input : List ℕ) (here : s.stage ≡ stage.Header) (early : s.offset ≤ 2 ^ 63) (long : length s.header ≡ 9) (some : s.came < 9) where
+module _ (s : StreamStanding) (q : Parts) (input : List ℕ) (here : s.stage ≡ stage.Header) (early : s.offset ≤ 2 ^ 63) (long : length s.header ≡ 9) (some : s.came < 9) where
   kept_long : length (take s.came s.header) ≡ s.came
   kept_long = length-take-le s.came s.header (omega arith)
 
-  pub header_waits : (new : Standing) → s.came + length input < 9 → take new.came new.header ≡ take s.came s.header ++ input → new ≡ record s { header = new.header; came = new.came } → Waits (state_of s q) input (length input) (state_of new q)
+  pub header_waits : (new : StreamStanding) → s.came + length input < 9 → take new.came new.header ≡ take s.came s.header ++ input → new ≡ record s { header = new.header; came = new.came } → Waits (state_of s q) input (length input) (state_of new q)
   header_waits new few kept rest = record {
     all = refl;
-    place = ap (λ (z : Standing). place_at (offset_at z.stage z.offset q) z.stop (symbols_at z.stage q z.upcoming) q.table.nodes) rest;
-    frame = ap (λ (z : Standing). z.frame) rest;
+    place = ap (λ (z : StreamStanding). place_at (offset_at z.stage z.offset q) z.stop (symbols_at z.stage q z.upcoming) q.table.nodes) rest;
+    frame = ap (λ (z : StreamStanding). z.frame) rest;
     waits = λ b is.
         let came : b ≡ take s.came s.header = rw here at is in
         let short : length (b ++ input) < 9 = rw came (omega (arith, length-append (take s.came s.header) input, kept_long)) in
-        let there : new.stage ≡ stage.Header = ap (λ (z : Standing). z.stage) rest ∙ here in
+        let there : new.stage ≡ stage.Header = ap (λ (z : StreamStanding). z.stage) rest ∙ here in
         (rw (here, le-ltb _ _ early, lt-ltb _ _ short) refl, rw there (ap (λ (x : List ℕ). x ++ input) came ∙ sym kept));
   }
 
@@ -243,7 +243,7 @@ module _ (s : Standing) (q : Parts) (input : List ℕ) (here : s.stage ≡ stage
         let count : length b + (9 - s.came) ≡ 9 = rw came (omega (arith, kept_long)) in
         (x, rw (here, le-ltb _ _ early, le-ltb _ _ (whole b came), front b came, is) (ap (λ (k : ℕ). Got x k) (sym count)), refl, refl, rw count refl)
 
-    pub header_hands : (new : Standing) (h : Header) → heading nine ≡ Ok h → new.offset ≡ s.offset + 9 → new.stop ≡ s.offset + 9 + h.length → symbols_at new.stage q new.upcoming ≡ message h
+    pub header_hands : (new : StreamStanding) (h : Header) → heading nine ≡ Ok h → new.offset ≡ s.offset + 9 → new.stop ≡ s.offset + 9 + h.length → symbols_at new.stage q new.upcoming ≡ message h
         → HasRoom new.stage new.upcoming → new.frame ≡ s.frame → new.came ≡ 0 → IsIdle q → Moves (state_of s q) input (advance.Event s.offset (9 - s.came) (what.Frame h)) (state_of new q)
     header_hands new h is at stop symbols room frame none idle =
         let offset : offset_at new.stage new.offset q ≡ s.offset + 9 = offset_is_bare new.stage new.offset q new.upcoming room ∙ at in (

@@ -7,7 +7,7 @@ use Rattle.cqlp_decode.specs.declared.running.Drained.TheVariants as drained
 use Rattle.cqlp_decode.specs.declared.running.Outcome.{Outcome}
 use Rattle.cqlp_decode.specs.declared.running.Outcome.TheVariants as outcome
 use Rattle.cqlp_decode.specs.Reading.{Event, Verdict, start, Says, Waits, Refused}
-use Rattle.cqlp_decode.specs.Standing.{State}
+use Rattle.cqlp_decode.specs.Standing.{StreamState}
 use Rattle.cqlp_decode.specs.Streams.{After, Finishes}
 
 -- the view after these events, in order
@@ -17,20 +17,20 @@ fold_events f v (e ∷ es) = fold_events f (f v e.0 e.1) es
 
 -- Behind the bytes s and the events es, these bytes were used and their events handed out, and the sink has got just
 -- them.
-pub record Drains {V : Type 0} (f : V → ℕ → Event → V) (new : State) (s : List ℕ) (es : List (ℕ × Event)) (bytes : List ℕ) (before after : V) : Type 0 where
+pub record Drains {V : Type 0} (f : V → ℕ → Event → V) (new : StreamState) (s : List ℕ) (es : List (ℕ × Event)) (bytes : List ℕ) (before after : V) : Type 0 where
   pub more : List (ℕ × Event)
   pub stands : After new (s ++ bytes) (es ++ more)
   pub got : after ≡ fold_events f before more
 
 -- The same, but at the last of the events the sink failed.
-pub record Fails {V : Type 0} (f : V → ℕ → Event → V) (faulted : V → ℕ → Event → V → Type 0) (new : State) (s : List ℕ) (es : List (ℕ × Event)) (bytes : List ℕ) (before after : V) : Type 0 where
+pub record Fails {V : Type 0} (f : V → ℕ → Event → V) (faulted : V → ℕ → Event → V → Type 0) (new : StreamState) (s : List ℕ) (es : List (ℕ × Event)) (bytes : List ℕ) (before after : V) : Type 0 where
   pub more : List (ℕ × Event)
   pub at : ℕ
   pub event : Event
   pub stands : After new (s ++ bytes) (es ++ more ++ (at, event) ∷ [])
   pub fault : faulted (fold_events f before more) at event after
 
-abbrev pub HasRefused : State → Type 0
+abbrev pub HasRefused : StreamState → Type 0
 HasRefused d = (r : Refusal) × (d.refusal ≡ Some r)
 
 -- a refusal, or none, as a verdict
@@ -40,12 +40,12 @@ verdict_of (Some r) = Refused r.at r.why
 
 -- Of a piece the decoder used these bytes, and the sink has got just their events. They are all events that the piece
 -- says, with this verdict, if nothing was refused before it.
-pub record DrainsAll {V : Type 0} (f : V → ℕ → Event → V) (old new : State) (s : List ℕ) (es : List (ℕ × Event)) (piece bytes : List ℕ) (before after : V) : Type 0 where
+pub record DrainsAll {V : Type 0} (f : V → ℕ → Event → V) (old new : StreamState) (s : List ℕ) (es : List (ℕ × Event)) (piece bytes : List ℕ) (before after : V) : Type 0 where
   pub drains : Drains f new s es bytes before after
   pub says : old.refusal ≡ None → Says new.rules start (s ++ piece) (es ++ drains.more) (verdict_of new.refusal)
 
 -- What draining a piece leaves, by how it ends: all of its events, those before a refusal, or those up to a fault.
-abbrev pub DrainsTo : {V : Type 0} → (V → ℕ → Event → V) → (V → ℕ → Event → V → Type 0) → State → List ℕ → Drained → State → (before after : V) → Type 0
+abbrev pub DrainsTo : {V : Type 0} → (V → ℕ → Event → V) → (V → ℕ → Event → V → Type 0) → StreamState → List ℕ → Drained → StreamState → (before after : V) → Type 0
 DrainsTo f faulted old input drained.More new before after =
     (s : List ℕ) (es : List (ℕ × Event)) → After old s es → DrainsAll f old new s es input input before after
 DrainsTo f faulted old input drained.Refused new before after =
@@ -54,14 +54,14 @@ DrainsTo f faulted old input drained.Fault new before after =
     (used : ℕ) × ((s : List ℕ) (es : List (ℕ × Event)) → After old s es → Fails f faulted new s es (take used input) before after)
 
 -- a piece that was drained to its end was refused nothing, and one that ends early was
-abbrev pub DrainsBy : Drained → State → Type 0
+abbrev pub DrainsBy : Drained → StreamState → Type 0
 DrainsBy drained.More new = new.refusal ≡ None
 DrainsBy drained.Refused new = HasRefused new
 DrainsBy drained.Fault new = ⊤
 
 -- Of the bytes xs of a reader, `rest` is left or was not used; the others the decoder used, and the sink has got
 -- their events.
-pub record Feeds {V : Type 0} (f : V → ℕ → Event → V) (old new : State) (xs : List ℕ) (before after : V) : Type 0 where
+pub record Feeds {V : Type 0} (f : V → ℕ → Event → V) (old new : StreamState) (xs : List ℕ) (before after : V) : Type 0 where
   pub bytes : List ℕ
   pub rest : List ℕ
   pub parts : xs ≡ bytes ++ rest
@@ -70,7 +70,7 @@ pub record Feeds {V : Type 0} (f : V → ℕ → Event → V) (old new : State) 
 -- Of the bytes that were not used, the first were looked at, where they are refused, and the others are left. What was
 -- handed out is all that the bytes read say, and the decoder's refusal, or none, is their verdict, if it had refused nothing
 -- before.
-pub record HasAll {V : Type 0} (f : V → ℕ → Event → V) (old new : State) (xs : List ℕ) (left : Option (List ℕ)) (before after : V) (d : Feeds f old new xs before after) : Type 0 where
+pub record HasAll {V : Type 0} (f : V → ℕ → Event → V) (old new : StreamState) (xs : List ℕ) (left : Option (List ℕ)) (before after : V) (d : Feeds f old new xs before after) : Type 0 where
   pub looked : List ℕ
   pub unread : List ℕ
   pub parts : d.rest ≡ looked ++ unread
@@ -79,7 +79,7 @@ pub record HasAll {V : Type 0} (f : V → ℕ → Event → V) (old new : State)
   pub says : old.refusal ≡ None → (s : List ℕ) (es : List (ℕ × Event)) (a : After old s es) → Says new.rules start (s ++ d.bytes ++ looked) (es ++ (d.drained s es a).more) (verdict_of new.refusal)
 
 -- The same as `Feeds`, but at the last of the events the sink failed.
-pub record FeedsInto {V : Type 0} (f : V → ℕ → Event → V) (faulted : V → ℕ → Event → V → Type 0) (old new : State) (xs : List ℕ) (before after : V) : Type 0 where
+pub record FeedsInto {V : Type 0} (f : V → ℕ → Event → V) (faulted : V → ℕ → Event → V → Type 0) (old new : StreamState) (xs : List ℕ) (before after : V) : Type 0 where
   pub bytes : List ℕ
   pub rest : List ℕ
   pub parts : xs ≡ bytes ++ rest
@@ -88,7 +88,7 @@ pub record FeedsInto {V : Type 0} (f : V → ℕ → Event → V) (faulted : V �
 -- What a run leaves, by how it ends; the reader had the bytes xs. It finishes at the end of the input or at a
 -- refusal, with what the end of the stream says there; and each turn has read some byte. But at a sink's fault, all
 -- events were handed out.
-abbrev pub RunsTo : {V : Type 0} → (V → ℕ → Event → V) → (V → ℕ → Event → V → Type 0) → (turns : ℕ) → Outcome → (old new : State) → (xs : List ℕ) → Option (List ℕ) → (before after : V) → Type 0
+abbrev pub RunsTo : {V : Type 0} → (V → ℕ → Event → V) → (V → ℕ → Event → V → Type 0) → (turns : ℕ) → Outcome → (old new : StreamState) → (xs : List ℕ) → Option (List ℕ) → (before after : V) → Type 0
 RunsTo f faulted turns (outcome.Finished end) old new xs left before after =
     (d : Feeds f old new xs before after) × ((d.rest ≡ []) ⊎ HasRefused new) × ((s : List ℕ) (es : List (ℕ × Event)) → After new s es → Finishes new s es end) × HasAll f old new xs left before after d
 RunsTo f faulted turns outcome.ReadFault old new xs left before after = (d : Feeds f old new xs before after) × (left ≡ Some d.rest) × HasAll f old new xs left before after d
@@ -96,7 +96,7 @@ RunsTo f faulted turns outcome.Turns old new xs left before after = (d : Feeds f
 RunsTo f faulted turns outcome.SinkFault old new xs left before after = FeedsInto f faulted old new xs before after
 
 -- after a run that its reader or its turns end nothing was refused, and it may be called again
-abbrev pub WaitsAt : Outcome → State → Type 0
+abbrev pub WaitsAt : Outcome → StreamState → Type 0
 WaitsAt outcome.ReadFault new = new.refusal ≡ None
 WaitsAt outcome.Turns new = new.refusal ≡ None
 WaitsAt o new = ⊤

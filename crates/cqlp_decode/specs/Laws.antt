@@ -7,7 +7,7 @@ use Rattle.cqlp_note.specs.Limits.{Rules}
 use Rattle.cqlp_message.specs.FrameValues.{FrameValue}
 use Rattle.cqlp_message.specs.Frames.{AllSpell, FlatAll, IsWithin, frame_size}
 use Rattle.cqlp_decode.specs.Reading.{Place, Event, Verdict, Refused, Waits, Says, start}
-use Rattle.cqlp_decode.specs.Standing.{State}
+use Rattle.cqlp_decode.specs.Standing.{StreamState}
 use Rattle.cqlp_decode.specs.Excess.{with_limits, free, IsCut}
 use Rattle.cqlp_decode.specs.Streams.{After}
 
@@ -52,7 +52,7 @@ HasNoMoreEventsThanBytes = (l : Rules) (bytes : List ℕ) (es : List (ℕ × Eve
 
 -- So a decoder has handed out no more events than it has used bytes, whether it has refused or not.
 abbrev pub HandsOutNoMoreEventsThanBytes : Type 0
-HandsOutNoMoreEventsThanBytes = (d : State) (s : List ℕ) (es : List (ℕ × Event)) → 1 ≤ d.rules.part → After d s es → length es ≤ length s
+HandsOutNoMoreEventsThanBytes = (d : StreamState) (s : List ℕ) (es : List (ℕ × Event)) → 1 ≤ d.rules.part → After d s es → length es ≤ length s
 
 -- what a limit refuses
 abbrev pub IsOfLimit : Reason → Type 0

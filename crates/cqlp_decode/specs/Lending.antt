@@ -5,5 +5,5 @@ use Rattle.std.specs.declared.alloc.Allocator.{Ghosts}
 use Rattle.cqlp_decode.specs.contracts.decoder.Decoder.{the_row}
 use Rattle.cqlp_decode.specs.Streams.{Decoding}
 
-abbrev pub Next : (Z : RattleType) (g : Ghosts Z.Denot) → MutBor Decoding → (Decoding → Type 0) → Fml
-Next Z g d P = Rests (the_row Z g) d P
+abbrev pub LeavesDecoder : (Z : RattleType) (g : Ghosts Z.Denot) → MutBor Decoding → (Decoding → Type 0) → Fml
+LeavesDecoder Z g d P = Rests (the_row Z g) d P

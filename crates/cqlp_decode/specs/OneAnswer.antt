@@ -13,7 +13,7 @@ use Rattle.cqlp_decode.specs.declared.running.Outcome.{Outcome}
 use Rattle.cqlp_decode.specs.declared.running.Outcome.TheVariants as outcome
 use Rattle.cqlp_decode.specs.Reading.{Event, Place, Verdict, Waits, Refused, Says, start}
 use Rattle.cqlp_decode.specs.Events.{event_of}
-use Rattle.cqlp_decode.specs.Standing.{State, levels_of}
+use Rattle.cqlp_decode.specs.Standing.{StreamState, levels_of}
 use Rattle.cqlp_decode.specs.Streams.{Decoding, state, After, Uses, Answers, Finishes, FinishesBy}
 use Rattle.cqlp_decode.specs.Draining.{RunsTo, WaitsAt, fold_events}
 
@@ -31,7 +31,7 @@ answer_of (step.More used) = Wants used
 answer_of (step.Refused r) = Refuses r
 
 -- Two decoders have the same limits, the same refusal, if any, and the same types of metadata.
-pub record AreAlike (d d' : State) : Type 0 where
+pub record AreAlike (d d' : StreamState) : Type 0 where
   pub rules : d'.rules ≡ d.rules
   pub refusal : d'.refusal ≡ d.refusal
   pub nodes : d'.place.nodes ≡ d.place.nodes
@@ -52,11 +52,11 @@ IsOneAnswerOfNew =
 -- After the same bytes and events the next answer is one, and so is what comes after it.
 abbrev pub IsOneAnswerOfNext : Type 0
 IsOneAnswerOfNext =
-    (old new new' : State) (s input : List ℕ) (es : List (ℕ × Event)) (x y : Step) → After old s es → Answers old input x new → Answers old input y new'
+    (old new new' : StreamState) (s input : List ℕ) (es : List (ℕ × Event)) (x y : Step) → After old s es → Answers old input x new → Answers old input y new'
     → (answer_of y ≡ answer_of x) × AreAlike new new'
 
 abbrev pub IsOneAnswerOfFinish : Type 0
-IsOneAnswerOfFinish = (d : State) (s : List ℕ) (es : List (ℕ × Event)) (f f' : Finish) → Finishes d s es f → Finishes d s es f' → f' ≡ f
+IsOneAnswerOfFinish = (d : StreamState) (s : List ℕ) (es : List (ℕ × Event)) (f f' : Finish) → Finishes d s es f → Finishes d s es f' → f' ≡ f
 
 -- what the clauses of `held` say
 pub record IsHeld (d : Decoding) (h : Held) : Type 0 where
@@ -85,14 +85,14 @@ EndsBy (Refused at why) bytes es end = end ≡ finish.Refused (record { at = at;
 
 module _ {V : Type 0} (f : V → ℕ → Event → V) (faulted : V → ℕ → Event → V → Type 0) where
   -- what the clauses of `run` say of a reader that had the bytes xs
-  pub record Ran (turns : ℕ) (o : Outcome) (old new : State) (xs : List ℕ) (left : Option (List ℕ)) (before after : V) : Type 0 where
+  pub record Ran (turns : ℕ) (o : Outcome) (old new : StreamState) (xs : List ℕ) (left : Option (List ℕ)) (before after : V) : Type 0 where
     pub runs : RunsTo f faulted turns o old new xs left before after
     pub waits : WaitsAt o new
     pub refused : (r : Refusal) → old.refusal ≡ Some r → (o ≡ outcome.Finished (finish.Refused r)) × (new ≡ old) × (after ≡ before)
     pub rules : new.rules ≡ old.rules
 
   -- the events that a run handed to the sink
-  abbrev pub handed : (turns : ℕ) (o : Outcome) (old new : State) (xs : List ℕ) (left : Option (List ℕ)) (before after : V) → RunsTo f faulted turns o old new xs left before after → (s : List ℕ) (es : List (ℕ × Event)) → After old s es → List (ℕ × Event)
+  abbrev pub handed : (turns : ℕ) (o : Outcome) (old new : StreamState) (xs : List ℕ) (left : Option (List ℕ)) (before after : V) → RunsTo f faulted turns o old new xs left before after → (s : List ℕ) (es : List (ℕ × Event)) → After old s es → List (ℕ × Event)
   handed turns (outcome.Finished end) old new xs left before after ran s es a = (ran.0.drained s es a).more
   handed turns outcome.ReadFault old new xs left before after ran s es a = (ran.0.drained s es a).more
   handed turns outcome.Turns old new xs left before after ran s es a = (ran.0.drained s es a).more
@@ -101,14 +101,14 @@ module _ {V : Type 0} (f : V → ℕ → Event → V) (faulted : V → ℕ → E
   -- Two runs from one decoder over one reader's bytes hand out the same events, as far as both go. Where no sink failed,
   -- and both read the same bytes, the sinks are left alike. And where both finish, they do so alike, however their
   -- reader cut its bytes.
-  pub record AreOneRun (turns : ℕ) (o o' : Outcome) (old new new' : State) (xs : List ℕ) (left left' : Option (List ℕ)) (before after after' : V) (s : List ℕ) (es : List (ℕ × Event)) (a : After old s es) (ran : Ran turns o old new xs left before after) (ran' : Ran turns o' old new' xs left' before after') : Type 0 where
+  pub record AreOneRun (turns : ℕ) (o o' : Outcome) (old new new' : StreamState) (xs : List ℕ) (left left' : Option (List ℕ)) (before after after' : V) (s : List ℕ) (es : List (ℕ × Event)) (a : After old s es) (ran : Ran turns o old new xs left before after) (ran' : Ran turns o' old new' xs left' before after') : Type 0 where
     pub events : IsFrontEitherWay (handed turns o old new xs left before after ran.runs s es a) (handed turns o' old new' xs left' before after' ran'.runs s es a)
     pub sinks : IsSound o → IsSound o' → left' ≡ left → (after' ≡ after) × (new'.refusal ≡ new.refusal)
     pub ends : (end end' : Finish) → o ≡ outcome.Finished end → o' ≡ outcome.Finished end' → (end' ≡ end) × (after' ≡ after)
 
   abbrev pub IsOneAnswerOfRun : Type 0
   IsOneAnswerOfRun =
-      (turns : ℕ) (o o' : Outcome) (old new new' : State) (xs : List ℕ) (left left' : Option (List ℕ)) (before after after' : V) (s : List ℕ) (es : List (ℕ × Event)) (a : After old s es)
+      (turns : ℕ) (o o' : Outcome) (old new new' : StreamState) (xs : List ℕ) (left left' : Option (List ℕ)) (before after after' : V) (s : List ℕ) (es : List (ℕ × Event)) (a : After old s es)
       (ran : Ran turns o old new xs left before after) (ran' : Ran turns o' old new' xs left' before after')
       → AreOneRun turns o o' old new new' xs left left' before after after' s es a ran ran'
 
@@ -116,6 +116,6 @@ module _ {V : Type 0} (f : V → ℕ → Event → V) (faulted : V → ℕ → E
   -- finishes has handed out just these events, and ends with that verdict.
   abbrev pub RunsRight : Type 0
   RunsRight =
-      (limits : Limits) (d : Decoding) (new : State) (turns : ℕ) (xs : List ℕ) (left : Option (List ℕ)) (before after : V) (es : List (ℕ × Event)) (v : Verdict) (end : Finish)
+      (limits : Limits) (d : Decoding) (new : StreamState) (turns : ℕ) (xs : List ℕ) (left : Option (List ℕ)) (before after : V) (es : List (ℕ × Event)) (v : Verdict) (end : Finish)
       → IsNew limits d → Says (rules_of limits) start xs es v → Ran turns (outcome.Finished end) (state d) new xs left before after
       → (after ≡ fold_events f before es) × EndsBy v xs es end

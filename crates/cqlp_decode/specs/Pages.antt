@@ -4,8 +4,8 @@ use Rattle.cqlp_note.specs.Field.{FieldValue}
 use Rattle.cqlp_type.specs.declared.kind.Kind.{Kind}
 use Rattle.cqlp_type.specs.declared.node.Node.{Node}
 use Rattle.cqlp_type.specs.Types.{Types, NoMore, Type_and, types_of, other_types}
-use Rattle.cqlp_value.specs.declared.standing.Next.{Next}
-use Rattle.cqlp_value.specs.declared.standing.Next.TheVariants as next
+use Rattle.cqlp_value.specs.declared.standing.NextInCell.{NextInCell}
+use Rattle.cqlp_value.specs.declared.standing.NextInCell.TheVariants as next
 use Rattle.cqlp_value.specs.CellStep.{CellSymbol}
 use Rattle.cqlp_value.specs.Inner.{Forest}
 use Rattle.cqlp_value.specs.Standing as cell
@@ -14,7 +14,7 @@ use Rattle.cqlp_message.specs.declared.grammar.Role.{Role}
 use Rattle.cqlp_message.specs.Productions.{Symbol, Cell_due, In_cell, row_from, rows_from, raw_types, following}
 use Rattle.cqlp_decode.specs.declared.page.Columns.{Columns}
 use Rattle.cqlp_decode.specs.declared.page.Columns.TheVariants as columns
-use Rattle.cqlp_decode.specs.declared.page.Page.{Page}
+use Rattle.cqlp_decode.specs.declared.page.CellCursor.{CellCursor}
 use Rattle.cqlp_decode.specs.Reading as reading
 use Rattle.cqlp_decode.specs.Reading.{types_for}
 
@@ -27,7 +27,7 @@ abbrev pub types_from : List Node → Columns → (column index : ℕ) → Types
 types_from nodes columns.Typed column index = types_of (drop index nodes)
 types_from nodes (columns.Raw n) column index = raw_types (n - column)
 
-abbrev pub types_left : List Node → Page → Types
+abbrev pub types_left : List Node → CellCursor → Types
 types_left nodes p = types_from nodes p.columns p.column p.index
 
 -- the node of a column's type, if it is known
@@ -36,28 +36,28 @@ node_by columns.Typed index = Some index
 node_by (columns.Raw n) index = None
 
 -- the rows behind this one
-abbrev pub rows_behind : List Node → Page → List Symbol
+abbrev pub rows_behind : List Node → CellCursor → List Symbol
 rows_behind nodes p = rows_from (p.row + 1) (column_types nodes p.columns) p.left
 
 -- the cells behind this one
-abbrev pub cells_behind : List Node → Page → List Symbol
+abbrev pub cells_behind : List Node → CellCursor → List Symbol
 cells_behind nodes p = row_from p.row (p.column + 1) (other_types 1 (types_left nodes p)) ++ rows_behind nodes p
 
 -- this cell and those behind it, none of which has begun
-abbrev pub cells_from : List Node → Page → List Symbol
+abbrev pub cells_from : List Node → CellCursor → List Symbol
 cells_from nodes p = row_from p.row p.column (types_left nodes p) ++ rows_behind nodes p
 
 -- the cell under way, of which nothing was handed out, or something
-abbrev pub cell_symbol : Next → (row column : ℕ) → Kind → Types → List CellSymbol → Symbol
+abbrev pub cell_symbol : NextInCell → (row column : ℕ) → Kind → Types → List CellSymbol → Symbol
 cell_symbol (next.Cell i) row column k inner symbols = Cell_due row column k inner
 cell_symbol n row column k inner symbols = In_cell row column symbols
 
-abbrev pub first_cell : Next → (row column : ℕ) → Types → List CellSymbol → List Symbol
+abbrev pub first_cell : NextInCell → (row column : ℕ) → Types → List CellSymbol → List Symbol
 first_cell n row column NoMore symbols = []
 first_cell n row column (Type_and k inner others) symbols = cell_symbol n row column k inner symbols ∷ []
 
 -- what is left of the cell under way, and those behind it
-abbrev pub page_symbols : List Node → cell.State → Page → List Symbol
+abbrev pub page_symbols : List Node → cell.CellState → CellCursor → List Symbol
 page_symbols nodes d p = first_cell d.next p.row p.column (types_left nodes p) (place nodes d).symbols ++ cells_behind nodes p
 
 -- ---- where a cell stands
@@ -67,34 +67,34 @@ abbrev pub IsColumn : List Node → (depth : ℕ) → Columns → (column index 
 IsColumn nodes depth columns.Typed column index = (index < length nodes) × (column ≤ index) × Forest nodes index depth × Forest nodes 0 depth
 IsColumn nodes depth (columns.Raw n) column index = column < n
 
-abbrev pub IsPage : List Node → (depth : ℕ) → Page → Type 0
+abbrev pub IsPage : List Node → (depth : ℕ) → CellCursor → Type 0
 IsPage nodes depth p = IsColumn nodes depth p.columns p.column p.index × (p.row + p.left < 2 ^ 32)
 
 -- the kind of a column's type
-abbrev pub IsKind : List Node → Page → Kind → Type 0
+abbrev pub IsKind : List Node → CellCursor → Kind → Type 0
 IsKind nodes p k = (inner others : Types) × (types_left nodes p ≡ Type_and k inner others)
 
-abbrev pub IsSomePage : List Node → Page → Type 0
+abbrev pub IsSomePage : List Node → CellCursor → Type 0
 IsSomePage nodes p = (depth : ℕ) × IsPage nodes depth p
 
 -- ---- from cell to cell
 
 -- where the type of the next column stands, if there is one
-abbrev pub NextColumn : List Node → (depth : ℕ) → Page → Option ℕ → Type 0
+abbrev pub NextColumn : List Node → (depth : ℕ) → CellCursor → Option ℕ → Type 0
 NextColumn nodes depth p None = other_types 1 (types_left nodes p) ≡ NoMore
 NextColumn nodes depth p (Some i) = (other_types 1 (types_left nodes p) ≡ types_from nodes p.columns (p.column + 1) i) × IsColumn nodes depth p.columns (p.column + 1) i
 
 -- the next cell, if there is one
-abbrev pub Turns : List Node → (depth : ℕ) → Page → Option Page → Type 0
+abbrev pub Turns : List Node → (depth : ℕ) → CellCursor → Option CellCursor → Type 0
 Turns nodes depth p None = cells_behind nodes p ≡ []
 Turns nodes depth p (Some q) = (cells_behind nodes p ≡ cells_from nodes q) × IsPage nodes depth q
 
 -- the first cell of so many rows, if there is one
-abbrev pub Begins : List Node → (depth : ℕ) → Columns → (rows : ℕ) → Option Page → Type 0
+abbrev pub Begins : List Node → (depth : ℕ) → Columns → (rows : ℕ) → Option CellCursor → Type 0
 Begins nodes depth c rows None = rows_from 0 (column_types nodes c) rows ≡ []
 Begins nodes depth c rows (Some p) = (rows_from 0 (column_types nodes c) rows ≡ cells_from nodes p) × IsPage nodes depth p
 
 -- the page behind a field, if it has a cell
-abbrev pub Follows : List Node → (depth : ℕ) → (types : Bool) → Role → FieldValue → Option Page → Type 0
+abbrev pub Follows : List Node → (depth : ℕ) → (types : Bool) → Role → FieldValue → Option CellCursor → Type 0
 Follows nodes depth types r v None = following (types_for types r nodes reading.Nothing) r v ≡ following NoMore r v
 Follows nodes depth types r v (Some p) = (following (types_for types r nodes reading.Nothing) r v ≡ cells_from nodes p) × IsPage nodes depth p

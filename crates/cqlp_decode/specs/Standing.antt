@@ -7,7 +7,7 @@ use Rattle.cqlp_note.specs.Head.{reader_of}
 use Rattle.cqlp_note.specs.Reader.{Said, More, Bad, Got, says}
 use Rattle.cqlp_note.specs.Step.{Emitted}
 use Rattle.cqlp_note.specs.Limits.{Rules, rules_of, limit_of}
-use Rattle.cqlp_note.specs.Partial.{Progress, item_value, CanLend, content_length}
+use Rattle.cqlp_note.specs.Partial.{FieldState, item_value, CanLend, content_length}
 use Rattle.cqlp_type.specs.TypeStep.{Option_at, TypeEvent, TypePlace}
 use Rattle.cqlp_type.specs.declared.node.Node.{Node}
 use Rattle.cqlp_type.specs.Table.{Table}
@@ -15,7 +15,7 @@ use Rattle.cqlp_type.specs.Standing as type
 use Rattle.cqlp_type.specs.Standing.{IsShared, CanLendPart}
 use Rattle.cqlp_type.specs.Remaining as part
 use Rattle.cqlp_type.specs.Pushing as option
-use Rattle.cqlp_value.specs.declared.standing.Next.TheVariants as next
+use Rattle.cqlp_value.specs.declared.standing.NextInCell.TheVariants as next
 use Rattle.cqlp_value.specs.declared.standing.Under.{Under}
 use Rattle.cqlp_value.specs.declared.standing.Under.TheVariants as under
 use Rattle.cqlp_value.specs.CellStep as cell
@@ -28,19 +28,19 @@ use Rattle.cqlp_value.specs.Reading as taking
 use Rattle.cqlp_value.specs.Pushing.{is_done}
 use Rattle.cqlp_message.specs.Productions.{Symbol, Stream, Extra, In_type}
 use Rattle.cqlp_decode.specs.declared.table.Want.{Want}
-use Rattle.cqlp_decode.specs.declared.table.Due.{Due}
-use Rattle.cqlp_decode.specs.declared.table.Due.TheVariants as due
+use Rattle.cqlp_decode.specs.declared.table.Expected.{Expected}
+use Rattle.cqlp_decode.specs.declared.table.Expected.TheVariants as due
 use Rattle.cqlp_decode.specs.declared.upcoming.Slot.{Slot}
-use Rattle.cqlp_decode.specs.declared.standing.Stage.{Stage}
-use Rattle.cqlp_decode.specs.declared.standing.Stage.TheVariants as stage
-use Rattle.cqlp_decode.specs.declared.standing.What.{What}
-use Rattle.cqlp_decode.specs.declared.standing.What.TheVariants as what
-use Rattle.cqlp_decode.specs.declared.standing.Advance.{Advance}
-use Rattle.cqlp_decode.specs.declared.standing.Advance.TheVariants as advance
-use Rattle.cqlp_decode.specs.declared.standing.Standing.{Standing}
-use Rattle.cqlp_decode.specs.declared.standing.Taken.{Taken}
+use Rattle.cqlp_decode.specs.declared.standing.StreamStage.{StreamStage}
+use Rattle.cqlp_decode.specs.declared.standing.StreamStage.TheVariants as stage
+use Rattle.cqlp_decode.specs.declared.advance.EventOutline.{EventOutline}
+use Rattle.cqlp_decode.specs.declared.advance.EventOutline.TheVariants as what
+use Rattle.cqlp_decode.specs.declared.advance.EventAdvance.{EventAdvance}
+use Rattle.cqlp_decode.specs.declared.advance.EventAdvance.TheVariants as advance
+use Rattle.cqlp_decode.specs.declared.standing.StreamStanding.{StreamStanding}
+use Rattle.cqlp_decode.specs.declared.advance.ScalarCell.{ScalarCell}
 use Rattle.cqlp_value.specs.Contents.{value_of as scalar_value}
-use Rattle.cqlp_decode.specs.declared.page.Page.{Page}
+use Rattle.cqlp_decode.specs.declared.page.CellCursor.{CellCursor}
 use Rattle.cqlp_decode.specs.Upcoming.{symbols_in, wanted, behind, IsRead}
 use Rattle.cqlp_decode.specs.Pages.{cells_from, page_symbols, node_by, IsPage}
 use Rattle.cqlp_decode.specs.Reading as reading
@@ -62,7 +62,7 @@ IsPending (Valued u seen) b = taking.HaveCome b u seen
 -- What a decoder knows of its stream: the caller's rules, the place before what is under way, what has come of it,
 -- the start of the frame under way, the refusal if there was one, the content that is held, and how many values of a
 -- cell are open.
-pub record State : Type 0 where
+pub record StreamState : Type 0 where
   pub rules : Rules
   pub place : Place
   pub pending : Pending
@@ -73,7 +73,7 @@ pub record State : Type 0 where
 
 -- ---- one step
 
-abbrev pub event_at : (held input : List ℕ) → What → Event
+abbrev pub event_at : (held input : List ℕ) → EventOutline → Event
 event_at held input (what.Frame h) = reading.Frame h
 event_at held input (what.Holds f i) = reading.Holds f (item_value i input held)
 event_at held input (what.Option q) = reading.type_event (part.event_at q input held)
@@ -81,7 +81,7 @@ event_at held input (what.Cell row column i) = reading.cell_event row column (ce
 event_at held input (what.End n) = reading.End n
 
 -- its content can be lent
-abbrev pub WhatThere : (held input : List ℕ) → What → Type 0
+abbrev pub WhatThere : (held input : List ℕ) → EventOutline → Type 0
 WhatThere held input (what.Frame h) = ⊤
 WhatThere held input (what.Holds f i) = CanLend i input held
 WhatThere held input (what.Option q) = CanLendPart q input held
@@ -111,22 +111,22 @@ due_after (reading.End n) = 0
 due_after e = 1
 
 -- what the step at this place says of these bytes
-abbrev pub told : State → List ℕ → Said (Emitted Event Place) (ℕ × Reason)
+abbrev pub told : StreamState → List ℕ → Said (Emitted Event Place) (ℕ × Reason)
 told d bytes = says (step d.rules d.place) 0 bytes
 
 -- the step gives this event, takes k bytes, and leads there
-abbrev pub Gives : State → (bytes : List ℕ) → (at : ℕ) → Event → (k : ℕ) → Place → Type 0
+abbrev pub Gives : StreamState → (bytes : List ℕ) → (at : ℕ) → Event → (k : ℕ) → Place → Type 0
 Gives d bytes at e k after = (x : Emitted Event Place) × (told d bytes ≡ Got x k) × (x.at ≡ at) × (x.event ≡ e) × (x.after k ≡ after)
 
 -- All of the input belongs to what is under way.
-pub record Waits (old : State) (input : List ℕ) (used : ℕ) (new : State) : Type 0 where
+pub record Waits (old : StreamState) (input : List ℕ) (used : ℕ) (new : StreamState) : Type 0 where
   pub all : used ≡ length input
   pub place : new.place ≡ old.place
   pub frame : new.frame ≡ old.frame
   pub waits : (b : List ℕ) → IsPending old.pending b → (told old (b ++ input) ≡ More) × IsPending new.pending (b ++ input)
 
 -- The first `used` bytes of the input end what is under way, which is this event.
-pub record Hands (old : State) (input : List ℕ) (at used : ℕ) (e : Event) (new : State) : Type 0 where
+pub record Hands (old : StreamState) (input : List ℕ) (at used : ℕ) (e : Event) (new : StreamState) : Type 0 where
   pub within : used ≤ length input
   pub begun : IsPending new.pending []
   pub frame : new.frame ≡ frame_after old.frame at e
@@ -137,30 +137,30 @@ pub record Hands (old : State) (input : List ℕ) (at used : ℕ) (e : Event) (n
   pub pays : ends_due new.place.symbols + new.open_values < ends_due old.place.symbols + old.open_values + 2 * used
 
 -- What one call does, from a state without a refusal.
-abbrev pub Moves : State → List ℕ → Advance → State → Type 0
+abbrev pub Moves : StreamState → List ℕ → EventAdvance → StreamState → Type 0
 Moves old input (advance.More used) new = Waits old input used new
 Moves old input (advance.Event at used w) new = WhatThere new.held input w × Hands old input at used (event_at new.held input w) new
 Moves old input (advance.Refused r) new = (b : List ℕ) → IsPending old.pending b → told old (b ++ input) ≡ Bad (r.at, r.why)
 
-abbrev pub refusal_in : Advance → Option Refusal
+abbrev pub refusal_in : EventAdvance → Option Refusal
 refusal_in (advance.Refused r) = Some r
 refusal_in a = None
 
 -- a refusal leaves the types of the metadata as they were
-abbrev pub LeavesTypes : Advance → (old new : List Node) → Type 0
+abbrev pub LeavesTypes : EventAdvance → (old new : List Node) → Type 0
 LeavesTypes (advance.Refused r) old new = new ≡ old
 LeavesTypes a old new = ⊤
 
 -- What a call does: a refusal is repeated.
-abbrev pub AdvancesFrom : Option Refusal → State → List ℕ → Advance → State → Type 0
+abbrev pub AdvancesFrom : Option Refusal → StreamState → List ℕ → EventAdvance → StreamState → Type 0
 AdvancesFrom (Some r) old input a new = (a ≡ advance.Refused r) × (new ≡ old)
 AdvancesFrom None old input a new = Moves old input a new × (new.refusal ≡ refusal_in a) × (new.rules ≡ old.rules)
 
-abbrev pub Advances : State → List ℕ → Advance → State → Type 0
+abbrev pub Advances : StreamState → List ℕ → EventAdvance → StreamState → Type 0
 Advances old input a new = AdvancesFrom old.refusal old input a new
 
 -- Where a scalar is the cell that is due, and its bytes are all there, it is taken; else nothing is done.
-abbrev pub Takes : State → List ℕ → Option Taken → State → Type 0
+abbrev pub Takes : StreamState → List ℕ → Option ScalarCell → StreamState → Type 0
 Takes old input None new = new ≡ old
 Takes old input (Some t) new =
     (old.refusal ≡ None) × (new.refusal ≡ None) × (new.rules ≡ old.rules) × Hands old input t.at t.used (reading.Cell_at t.row t.column (cell.Leaf 0 (scalar_value t.scalar))) new
@@ -170,12 +170,12 @@ Takes old input (Some t) new =
 -- The parts of a decoder that own memory: the field under way, the type option under way, the cell under way, and the
 -- types of the metadata begun last.
 pub record Parts : Type 0 where
-  pub partial : Progress
-  pub types : type.Standing
-  pub cells : value.State
+  pub partial : FieldState
+  pub types : type.TypeState
+  pub cells : value.CellState
   pub table : Table
 
-abbrev pub parts : Progress → type.Standing → value.State → Table → Parts
+abbrev pub parts : FieldState → type.TypeState → value.CellState → Table → Parts
 parts p r c t = record { partial = p; types = r; cells = c; table = t }
 
 -- the types and the values around the one that is read
@@ -186,41 +186,41 @@ levels_of q = q.types.height + length q.cells.open_values
 abbrev pub rest_of : List Slot → List Symbol
 rest_of upcoming = symbols_in upcoming ++ Extra ∷ []
 
-abbrev pub symbols_at : Stage → Parts → List Slot → List Symbol
+abbrev pub symbols_at : StreamStage → Parts → List Slot → List Symbol
 symbols_at stage.Header q upcoming = Stream ∷ []
 symbols_at (stage.Field w) q upcoming = wanted (due.Field w) ∷ rest_of upcoming
-symbols_at stage.Option q upcoming = In_type (Option_at 1 ∷ []) ∷ rest_of upcoming
-symbols_at stage.Type q upcoming = In_type q.types.symbols ∷ rest_of upcoming
-symbols_at (stage.Due p) q upcoming = cells_from q.table.nodes p ++ rest_of upcoming
-symbols_at (stage.Cell p) q upcoming = page_symbols q.table.nodes q.cells p ++ rest_of upcoming
+symbols_at stage.BeforeType q upcoming = In_type (Option_at 1 ∷ []) ∷ rest_of upcoming
+symbols_at stage.InType q upcoming = In_type q.types.symbols ∷ rest_of upcoming
+symbols_at (stage.BeforeCell p) q upcoming = cells_from q.table.nodes p ++ rest_of upcoming
+symbols_at (stage.InCell p) q upcoming = page_symbols q.table.nodes q.cells p ++ rest_of upcoming
 symbols_at stage.Extra q upcoming = Extra ∷ []
 
-abbrev pub offset_at : Stage → (offset : ℕ) → Parts → ℕ
+abbrev pub offset_at : StreamStage → (offset : ℕ) → Parts → ℕ
 offset_at stage.Header offset q = offset
 offset_at (stage.Field w) offset q = offset
-offset_at stage.Option offset q = offset
-offset_at stage.Type offset q = q.types.offset
-offset_at (stage.Due p) offset q = offset
-offset_at (stage.Cell p) offset q = q.cells.offset
+offset_at stage.BeforeType offset q = offset
+offset_at stage.InType offset q = q.types.offset
+offset_at (stage.BeforeCell p) offset q = offset
+offset_at (stage.InCell p) offset q = q.cells.offset
 offset_at stage.Extra offset q = offset
 
 abbrev pub place_at : (offset stop : ℕ) → List Symbol → List Node → Place
 place_at offset stop symbols nodes = record { offset = offset; stop = stop; symbols = symbols; nodes = nodes; given = reading.Nothing }
 
 -- the bytes of the field under way that have come
-abbrev pub came_of : Progress → List ℕ
+abbrev pub came_of : FieldState → List ℕ
 came_of p = if p.under_way then p.seen else []
 
-abbrev pub pending_at : Stage → (header : List ℕ) → (came : ℕ) → Parts → Pending
+abbrev pub pending_at : StreamStage → (header : List ℕ) → (came : ℕ) → Parts → Pending
 pending_at stage.Header header came q = Kept (take came header)
 pending_at (stage.Field w) header came q = Kept (came_of q.partial)
-pending_at stage.Option header came q = Kept []
-pending_at stage.Type header came q = Kept (type.pending q.types q.partial)
-pending_at (stage.Due p) header came q = Valued under.Nothing q.partial.seen
-pending_at (stage.Cell p) header came q = Valued q.cells.under q.partial.seen
+pending_at stage.BeforeType header came q = Kept []
+pending_at stage.InType header came q = Kept (type.pending q.types q.partial)
+pending_at (stage.BeforeCell p) header came q = Valued under.Nothing q.partial.seen
+pending_at (stage.InCell p) header came q = Valued q.cells.under q.partial.seen
 pending_at stage.Extra header came q = Skipped came
 
-abbrev pub state_of : Standing → Parts → State
+abbrev pub state_of : StreamStanding → Parts → StreamState
 state_of s q = record {
   rules = rules_of s.limits;
   place = place_at (offset_at s.stage s.offset q) s.stop (symbols_at s.stage q s.upcoming) q.table.nodes;
@@ -243,11 +243,11 @@ pub record IsQuiet (q : Parts) : Type 0 where
   pub cells : is_under_way q.cells ≡ false → q.cells.open_values ≡ []
 
 -- the field that is asked for
-abbrev pub asked : Standing → Want → Wanted
+abbrev pub asked : StreamStanding → Want → Wanted
 asked s w = record { notation = w.notation; limit = limit_of (rules_of s.limits) w.notation; at = s.offset; room = s.stop - s.offset }
 
 -- The field under way is the one that is wanted, as far as it has begun; what follows it has room.
-pub record IsWanted (s : Standing) (p : Progress) (w : Want) : Type 0 where
+pub record IsWanted (s : StreamStanding) (p : FieldState) (w : Want) : Type 0 where
   pub room : length s.upcoming + behind w.role ≤ 16
   pub read : IsRead (due.Field w)
   pub field : p.under_way ≡ true → p.field ≡ asked s w
@@ -255,7 +255,7 @@ pub record IsWanted (s : Standing) (p : Progress) (w : Want) : Type 0 where
   pub came : s.came ≡ 0
 
 -- The type option under way is in this frame.
-pub record IsOption (s : Standing) (p : Progress) (r : type.Standing) : Type 0 where
+pub record IsOption (s : StreamStanding) (p : FieldState) (r : type.TypeState) : Type 0 where
   pub under_way : r.under_way ≡ true
   pub some : r.symbols ≡ [] → ⊥
   pub shared : IsShared r p
@@ -278,7 +278,7 @@ pub record OptionRuns (l : Rules) (q : Parts) : Type 0 where
   pub runs : option.After begun q.types q.partial q.table bytes items
 
 -- The cell under way is in this frame, and its type stands in the table.
-pub record IsCell (s : Standing) (q : Parts) (p : Page) : Type 0 where
+pub record IsCell (s : StreamStanding) (q : Parts) (p : CellCursor) : Type 0 where
   pub under_way : is_under_way q.cells ≡ true
   pub stands : value.Stands q.table.nodes q.cells
   pub joined : taking.Joined q.table.nodes q.cells q.partial
@@ -289,44 +289,44 @@ pub record IsCell (s : Standing) (q : Parts) (p : Page) : Type 0 where
   pub behind : s.offset ≤ q.cells.offset
   pub came : s.came ≡ 0
 
-abbrev pub StageHolds : Standing → Parts → Stage → Type 0
+abbrev pub StageHolds : StreamStanding → Parts → StreamStage → Type 0
 StageHolds s q stage.Header = (s.came < 9) × IsIdle q × (s.frame ≡ s.offset)
 StageHolds s q (stage.Field w) = IsWanted s q.partial w × (q.types.under_way ≡ false) × (is_under_way q.cells ≡ false)
-StageHolds s q stage.Option = IsIdle q × (s.came ≡ 0)
-StageHolds s q stage.Type = IsOption s q.partial q.types × OptionWaits q × (is_under_way q.cells ≡ false)
-StageHolds s q (stage.Due p) = IsPage q.table.nodes s.limits.depth p × IsIdle q × (s.came ≡ 0)
-StageHolds s q (stage.Cell p) = IsCell s q p × (q.types.under_way ≡ false)
+StageHolds s q stage.BeforeType = IsIdle q × (s.came ≡ 0)
+StageHolds s q stage.InType = IsOption s q.partial q.types × OptionWaits q × (is_under_way q.cells ≡ false)
+StageHolds s q (stage.BeforeCell p) = IsPage q.table.nodes s.limits.depth p × IsIdle q × (s.came ≡ 0)
+StageHolds s q (stage.InCell p) = IsCell s q p × (q.types.under_way ≡ false)
 StageHolds s q stage.Extra = (s.came ≤ s.stop - s.offset) × IsIdle q
 
 -- what stands in the table: whole types, and one that is under way
-abbrev pub TableHolds : Rules → Parts → Stage → Type 0
-TableHolds l q stage.Type = OptionRuns l q
+abbrev pub TableHolds : Rules → Parts → StreamStage → Type 0
+TableHolds l q stage.InType = OptionRuns l q
 TableHolds l q t = Forest q.table.nodes 0 l.depth
 
 -- the same, as far as the number of bytes goes
-abbrev pub IsPlaced : Standing → Parts → Stage → Type 0
+abbrev pub IsPlaced : StreamStanding → Parts → StreamStage → Type 0
 IsPlaced s q stage.Header = (s.came < 9) × (s.frame ≡ s.offset)
-IsPlaced s q stage.Type = IsOption s q.partial q.types
-IsPlaced s q (stage.Due p) = IsPage q.table.nodes s.limits.depth p
-IsPlaced s q (stage.Cell p) = IsCell s q p
+IsPlaced s q stage.InType = IsOption s q.partial q.types
+IsPlaced s q (stage.BeforeCell p) = IsPage q.table.nodes s.limits.depth p
+IsPlaced s q (stage.InCell p) = IsCell s q p
 IsPlaced s q stage.Extra = s.came ≤ s.stop - s.offset
 IsPlaced s q t = ⊤
 
 -- A frame ends no earlier than its bytes so far, and no later than its header says.
-pub record IsBounded (s : Standing) : Type 0 where
+pub record IsBounded (s : StreamStanding) : Type 0 where
   pub long : length s.header ≡ 9
   pub inside : s.offset ≤ s.stop
   pub size : s.stop ≤ s.offset + 268435456
   pub bound : s.stop ≤ 2 ^ 63 + 268435465
 
 -- The parts have just the room that the limits ask for.
-pub record HasParts (s : Standing) (q : Parts) : Type 0 where
+pub record HasParts (s : StreamStanding) (q : Parts) : Type 0 where
   pub room : q.partial.room ≡ max s.limits.text s.limits.cell
   pub rules : q.types.rules ≡ rules_of s.limits
   pub cells : q.cells.rules ≡ rules_of s.limits
   pub table : q.table.room ≡ s.limits.entries
 
-pub record IsLawful (s : Standing) (q : Parts) : Type 0 where
+pub record IsConsistent (s : StreamStanding) (q : Parts) : Type 0 where
   pub bounded : IsBounded s
   pub parts : HasParts s q
   pub stage : StageHolds s q s.stage
@@ -334,29 +334,29 @@ pub record IsLawful (s : Standing) (q : Parts) : Type 0 where
   pub table : s.refusal ≡ None → TableHolds (rules_of s.limits) q s.stage
 
 -- the field that is wanted has begun, and as much of it has come as before
-pub record IsAsked (s : Standing) (old p : Progress) (w : Want) : Type 0 where
+pub record IsAsked (s : StreamStanding) (old p : FieldState) (w : Want) : Type 0 where
   pub under_way : p.under_way ≡ true
   pub field : p.field ≡ asked s w
   pub seen : p.seen ≡ came_of old
   pub room : p.room ≡ old.room
 
 -- the stage that the next thing due in a message is
-abbrev pub stage_with : Option Due → Stage
+abbrev pub stage_with : Option Expected → StreamStage
 stage_with (Some (due.Field w)) = stage.Field w
-stage_with (Some due.Option) = stage.Option
+stage_with (Some due.Option) = stage.BeforeType
 stage_with None = stage.Extra
 
 -- a message goes on here, with nothing under way, and what follows has room
-abbrev pub HasRoom : Stage → List Slot → Type 0
+abbrev pub HasRoom : StreamStage → List Slot → Type 0
 HasRoom stage.Header upcoming = ⊥
 HasRoom (stage.Field w) upcoming = (length upcoming + behind w.role ≤ 16) × IsRead (due.Field w)
-HasRoom stage.Option upcoming = ⊤
-HasRoom stage.Type upcoming = ⊥
-HasRoom (stage.Due p) upcoming = ⊥
-HasRoom (stage.Cell p) upcoming = ⊥
+HasRoom stage.BeforeType upcoming = ⊤
+HasRoom stage.InType upcoming = ⊥
+HasRoom (stage.BeforeCell p) upcoming = ⊥
+HasRoom (stage.InCell p) upcoming = ⊥
 HasRoom stage.Extra upcoming = ⊤
 
 -- a message goes on here, with nothing under way, and perhaps with the cells of a page
-abbrev pub Starts : Standing → List Node → Stage → Type 0
-Starts s nodes (stage.Due p) = IsPage nodes s.limits.depth p
+abbrev pub Starts : StreamStanding → List Node → StreamStage → Type 0
+Starts s nodes (stage.BeforeCell p) = IsPage nodes s.limits.depth p
 Starts s nodes t = HasRoom t s.upcoming

@@ -5,21 +5,21 @@ use Rattle.cqlp_decode.specs.declared.event.Step.{Step}
 use Rattle.cqlp_decode.specs.declared.event.Step.TheVariants as step
 use Rattle.cqlp_decode.specs.declared.event.Finish.{Finish}
 use Rattle.cqlp_decode.specs.declared.event.Finish.TheVariants as finish
-use Rattle.cqlp_decode.specs.declared.standing.Standing.{Standing}
+use Rattle.cqlp_decode.specs.declared.standing.StreamStanding.{StreamStanding}
 use Rattle.cqlp_decode.specs.Reading as reading
 use Rattle.cqlp_note.specs.Reader.{says, Bad}
 use Rattle.cqlp_decode.specs.Reading.{Event, Place, start, Reads, Says, Waits, Refused}
 use Rattle.cqlp_decode.specs.Reading.{step as step_of}
 use Rattle.cqlp_decode.specs.Events.{event_of}
-use Rattle.cqlp_decode.specs.Standing.{State, Parts, IsPending, IsLent, state_of, frame_after, ends_due}
+use Rattle.cqlp_decode.specs.Standing.{StreamState, Parts, IsPending, IsLent, state_of, frame_after, ends_due}
 
 -- What contracts see of a decoder: where it stands, and its parts that own memory.
 pub record Decoding : Type 0 where
-  pub standing : Standing
+  pub standing : StreamStanding
   pub parts : Parts
 
 -- what it knows of its stream
-abbrev pub state : Decoding → State
+abbrev pub state : Decoding → StreamState
 state d = state_of d.standing d.parts
 
 -- ---- events so far
@@ -48,7 +48,7 @@ is_open es = open_from false es
 
 -- The decoder used these bytes and handed out these events: the reading of the bytes says the events, and stands
 -- where the decoder does, before the bytes that are under way.
-pub record Stands (d : State) (s : List ℕ) (es : List (ℕ × Event)) : Type 0 where
+pub record Stands (d : StreamState) (s : List ℕ) (es : List (ℕ × Event)) : Type 0 where
   pub bytes : List ℕ
   pub pending : IsPending d.pending bytes
   pub read : Reads d.rules start s es d.place bytes
@@ -58,7 +58,7 @@ pub record Stands (d : State) (s : List ℕ) (es : List (ℕ × Event)) : Type 0
 
 -- A decoder that has refused used these bytes and handed out these events: the reading of the bytes says the events, and
 -- where it stands it refuses so, with bytes that were looked at but not used. The types of the metadata are those there.
-pub record HasRefusedAt (r : Refusal) (d : State) (s : List ℕ) (es : List (ℕ × Event)) : Type 0 where
+pub record HasRefusedAt (r : Refusal) (d : StreamState) (s : List ℕ) (es : List (ℕ × Event)) : Type 0 where
   pub place : Place
   pub bytes : List ℕ
   pub read : Reads d.rules start s es place bytes
@@ -66,21 +66,21 @@ pub record HasRefusedAt (r : Refusal) (d : State) (s : List ℕ) (es : List (ℕ
   pub refused : says (step_of d.rules place) 0 (bytes ++ looked) ≡ Bad (r.at, r.why)
   pub nodes : d.place.nodes ≡ place.nodes
 
-abbrev pub AfterBy : Option Refusal → State → List ℕ → List (ℕ × Event) → Type 0
+abbrev pub AfterBy : Option Refusal → StreamState → List ℕ → List (ℕ × Event) → Type 0
 AfterBy None d s es = Stands d s es
 AfterBy (Some r) d s es = HasRefusedAt r d s es
 
 -- a decoder that was made, and then used the bytes s and handed out the events es
-abbrev pub After : State → List ℕ → List (ℕ × Event) → Type 0
+abbrev pub After : StreamState → List ℕ → List (ℕ × Event) → Type 0
 After d s es = AfterBy d.refusal d s es
 
 -- a refusal is that of the bytes used and the input, or it is the one before
-abbrev pub Refuses : Option Refusal → State → List ℕ → List (ℕ × Event) → List ℕ → Refusal → Type 0
+abbrev pub Refuses : Option Refusal → StreamState → List ℕ → List (ℕ × Event) → List ℕ → Refusal → Type 0
 Refuses None old s es input r = Says old.rules start (s ++ input) es (Refused r.at r.why)
 Refuses (Some before) old s es input r = r ≡ before
 
 -- What a call leads to that was made after these bytes and events.
-abbrev pub Leads : State → List ℕ → List (ℕ × Event) → List ℕ → Step → State → Type 0
+abbrev pub Leads : StreamState → List ℕ → List (ℕ × Event) → List ℕ → Step → StreamState → Type 0
 Leads old s es input (step.Event at used e) new =
     (used ≤ length input) × (new.refusal ≡ None) × IsPending new.pending [] × After new (s ++ take used input) (es ++ (at, event_of e) ∷ [])
 Leads old s es input (step.More used) new =
@@ -96,7 +96,7 @@ Uses input (step.Refused r) = ⊤
 
 -- A call goes on: an event takes some byte, or it ends its frame or a value that is open; and a content that lies whole
 -- in the bytes used is not held. Nothing was refused, or it was just now.
-abbrev pub Goes : State → Step → State → Type 0
+abbrev pub Goes : StreamState → Step → StreamState → Type 0
 Goes old (step.Event at used e) new =
     (ends_due new.place.symbols + new.open_values < ends_due old.place.symbols + old.open_values + 2 * used)
     × IsLent (event_of e) used new.held × (new.rules ≡ old.rules) × (new.refusal ≡ None)
@@ -104,12 +104,12 @@ Goes old (step.More used) new = (new.rules ≡ old.rules) × (new.refusal ≡ No
 Goes old (step.Refused r) new = (new.rules ≡ old.rules) × (new.refusal ≡ Some r)
 
 -- after a refusal, whatever came before it, a call says it again and changes nothing
-abbrev pub Repeats : Option Refusal → State → Step → State → Type 0
+abbrev pub Repeats : Option Refusal → StreamState → Step → StreamState → Type 0
 Repeats (Some r) old x new = (x ≡ step.Refused r) × (new ≡ old)
 Repeats None old x new = ⊤
 
 -- What a call answers, of any stream that led here.
-abbrev pub Answers : State → List ℕ → Step → State → Type 0
+abbrev pub Answers : StreamState → List ℕ → Step → StreamState → Type 0
 Answers old input x new =
     Goes old x new × ((s : List ℕ) (es : List (ℕ × Event)) → After old s es → Leads old s es input x new) × Repeats old.refusal old x new
 
@@ -122,5 +122,5 @@ FinishesBy None s es (finish.Whole bytes) = (bytes ≡ length s) × (is_open es 
 FinishesBy None s es (finish.Cut frame_at bytes) = (bytes ≡ length s) × (frame_at ≡ frame_of es) × (is_open es ≡ false → frame_of es < length s)
 FinishesBy None s es (finish.Refused r) = ⊥
 
-abbrev pub Finishes : State → List ℕ → List (ℕ × Event) → Finish → Type 0
+abbrev pub Finishes : StreamState → List ℕ → List (ℕ × Event) → Finish → Type 0
 Finishes d s es f = FinishesBy d.refusal s es f

@@ -7,16 +7,16 @@ use Rattle.cqlp_message.specs.declared.grammar.Role.TheVariants as role
 use Rattle.cqlp_message.specs.Productions.{Symbol, In, In_type, copies, group}
 use Rattle.cqlp_type.specs.TypeStep.{Option_at}
 use Rattle.cqlp_note.specs.Head.{fixed_of}
-use Rattle.cqlp_decode.specs.declared.table.Due.{Due}
-use Rattle.cqlp_decode.specs.declared.table.Due.TheVariants as due
+use Rattle.cqlp_decode.specs.declared.table.Expected.{Expected}
+use Rattle.cqlp_decode.specs.declared.table.Expected.TheVariants as due
 use Rattle.cqlp_decode.specs.declared.upcoming.Slot.{Slot}
 use Rattle.cqlp_decode.specs.declared.upcoming.Slot.TheVariants.{One, Many}
 
-abbrev pub wanted : Due → Symbol
+abbrev pub wanted : Expected → Symbol
 wanted (due.Field w) = In w.field w.notation w.role
 wanted due.Option = In_type (Option_at 1 ∷ [])
 
-abbrev pub wants : List Due → List Symbol
+abbrev pub wants : List Expected → List Symbol
 wants [] = []
 wants (w ∷ ws) = wanted w ∷ wants ws
 
@@ -30,11 +30,11 @@ symbols_in [] = []
 symbols_in (s ∷ ss) = symbols_in ss ++ symbols_of s
 
 -- a field that has some bytes of its own
-abbrev pub IsRead : Due → Type 0
+abbrev pub IsRead : Expected → Type 0
 IsRead (due.Field w) = 0 < fixed_of w.notation
 IsRead due.Option = ⊤
 
-abbrev pub AreRead : List Due → Type 0
+abbrev pub AreRead : List Expected → Type 0
 AreRead [] = ⊤
 AreRead (w ∷ ws) = IsRead w × AreRead ws
 
@@ -73,7 +73,7 @@ behind (role.PreparedColumns flags) = 5
 behind (role.PreparedKeys flags columns) = 5
 behind (role.PageRows flags columns) = 0
 
-abbrev pub behind_due : Due → ℕ
+abbrev pub behind_due : Expected → ℕ
 behind_due (due.Field w) = behind w.role
 behind_due due.Option = 0
 
@@ -83,27 +83,27 @@ need (One w) = max 1 (behind_due w)
 need (Many g n) = opened g + 1
 
 -- the slots that these fields, the first of them on top, can come to take
-abbrev pub room_for : List Due → ℕ
+abbrev pub room_for : List Expected → ℕ
 room_for [] = 0
 room_for (w ∷ ws) = max (room_for ws) (length ws + max 1 (behind_due w))
 
 -- no slot stands for nothing
-abbrev pub IsLawful : Slot → Type 0
-IsLawful (One w) = IsRead w
-IsLawful (Many g n) = 0 < n
+abbrev pub IsSlot : Slot → Type 0
+IsSlot (One w) = IsRead w
+IsSlot (Many g n) = 0 < n
 
 -- the slots from number k on never come to take more than there are
 abbrev pub Fits : ℕ → List Slot → Type 0
 Fits k [] = ⊤
-Fits k (s ∷ ss) = IsLawful s × (k + need s ≤ 16) × Fits (k + 1) ss
+Fits k (s ∷ ss) = IsSlot s × (k + need s ≤ 16) × Fits (k + 1) ss
 
 -- ---- steps
 
 abbrev pub Popped : List Slot → Option Slot → List Slot → Type 0
 Popped old None new = (old ≡ []) × (new ≡ [])
-Popped old (Some s) new = (old ≡ new ++ s ∷ []) × (length new + need s ≤ 16) × IsLawful s
+Popped old (Some s) new = (old ≡ new ++ s ∷ []) × (length new + need s ≤ 16) × IsSlot s
 
 -- the next field, and room for what follows it
-abbrev pub Next : List Slot → Option Due → List Slot → Type 0
-Next old None new = (symbols_in old ≡ []) × (new ≡ [])
-Next old (Some w) new = (symbols_in old ≡ wanted w ∷ symbols_in new) × (length new + behind_due w ≤ 16) × IsRead w
+abbrev pub Pops : List Slot → Option Expected → List Slot → Type 0
+Pops old None new = (symbols_in old ≡ []) × (new ≡ [])
+Pops old (Some w) new = (symbols_in old ≡ wanted w ∷ symbols_in new) × (length new + behind_due w ≤ 16) × IsRead w

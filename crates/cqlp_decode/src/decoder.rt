@@ -12,8 +12,9 @@ ghost use Rattle.cqlp_decode.specs.Standing.{levels_of};
 ghost use Rattle.cqlp_note.specs.declared.limits.BadLimits.{BadLimits as Bad};
 ghost use Rattle.cqlp_note.specs.declared.refusal.Refusal.{Refusal};
 
+use crate::advance::{EventAdvance, EventOutline, ScalarCell};
 use crate::event::{Event, Finish, Held, Step};
-use crate::standing::{Advance, Standing, Taken, What};
+use crate::standing::StreamStanding;
 use cqlp_note::{BadLimits, Field, Limits, NoMemory, Partial, Prim};
 use cqlp_type::{TypeItem, TypeReader, TypeTable};
 use cqlp_value::{CellItem, CellReader};
@@ -34,7 +35,7 @@ pub enum NewError {
 /// Reads a stream of frames, one event per call, from pieces of any size. All its memory is taken when it is made.
 #[derive(Drop)]
 pub struct Decoder<A: Allocator = Global> {
-    standing: Standing,
+    standing: StreamStanding,
     partial: Partial<A>,
     types: TypeReader<A>,
     cells: CellReader<A>,
@@ -42,14 +43,14 @@ pub struct Decoder<A: Allocator = Global> {
 }
 
 impl<A: Allocator> Model for Decoder<A> {
-    ghost use Rattle.cqlp_decode.specs.Standing.{IsLawful, parts};
+    ghost use Rattle.cqlp_decode.specs.Standing.{IsConsistent, parts};
     ghost use Rattle.cqlp_decode.specs.Streams.{Decoding};
 
     ghost Value = { Decoding };
 
     ghost view = { λ d. record { standing = d.standing; parts = parts d.partial d.types d.cells d.table } };
 
-    ghost invariant = { λ d. IsLawful d.standing (parts d.partial d.types d.cells d.table) };
+    ghost invariant = { λ d. IsConsistent d.standing (parts d.partial d.types d.cells d.table) };
 }
 
 impl<A: Allocator + Clone> Decoder<A> {
@@ -85,7 +86,7 @@ impl<A: Allocator + Clone> Decoder<A> {
         let table = TypeTable::new(alloc.clone()?, limits.entries)?;
         let types = TypeReader::new(alloc.clone()?, &limits)?;
         let cells = CellReader::new(alloc, &limits)?;
-        let standing = Standing::new(limits);
+        let standing = StreamStanding::new(limits);
         Ok(Decoder {
             standing,
             partial,
@@ -97,14 +98,14 @@ impl<A: Allocator + Clone> Decoder<A> {
 }
 
 impl<A: Allocator> Decoder<A> {
-    ghost use Rattle.cqlp_decode.specs.Lending.{Next};
+    ghost use Rattle.cqlp_decode.specs.Lending.{LeavesDecoder};
     ghost use Rattle.cqlp_decode.specs.Standing.{Advances, LeavesTypes, Takes, WhatThere, event_at};
     ghost use Rattle.cqlp_decode.specs.Streams.{After, Answers, Finishes, Uses, state};
 
     /// The next event that the input leads to. The caller hands in the bytes after those that were used, and goes on
     /// until more are wanted. A refusal is final: each later call says it again.
     pub fn next<'a>(&'a mut self, input: &'a [u8]) -> Step<'a>
-        ensures* next { sem 𝓛 (Next A.row A.Allocator self.entry (λ after. Answers (state self.old) input.now result (state after))) }
+        ensures* next { sem 𝓛 (LeavesDecoder A.row A.Allocator self.entry (λ after. Answers (state self.old) input.now result (state after))) }
         ensures uses { Uses input.now result }
     {
         if let Some(taken) = self.take_scalar(input) {
@@ -120,9 +121,9 @@ impl<A: Allocator> Decoder<A> {
             };
         }
         match self.advance(input) {
-            Advance::More { used } => Step::More { used },
-            Advance::Refused(refusal) => Step::Refused(refusal),
-            Advance::Event { at, used, what } => Step::Event {
+            EventAdvance::More { used } => Step::More { used },
+            EventAdvance::Refused(refusal) => Step::Refused(refusal),
+            EventAdvance::Event { at, used, what } => Step::Event {
                 at,
                 used,
                 event: self.lend(input, what),
@@ -164,14 +165,14 @@ impl<A: Allocator> Decoder<A> {
 
     /// Takes the cell that is due, where it is a scalar and all its bytes lie in the input.
     #[inline]
-    fn take_scalar<'a>(&mut self, input: &'a [u8]) -> Option<Taken<'a>>
+    fn take_scalar<'a>(&mut self, input: &'a [u8]) -> Option<ScalarCell<'a>>
         ensures { Takes (state self.old) input.now result (state self.new) }
     {
         self.standing.take_scalar(&self.partial, &self.table, input)
     }
 
     /// The work of a call, with nothing borrowed in its result.
-    fn advance(&mut self, input: &[u8]) -> Advance
+    fn advance(&mut self, input: &[u8]) -> EventAdvance
         ensures advances { Advances (state self.old) input.now result (state self.new) }
         ensures table { LeavesTypes result (state self.old).place.nodes (state self.new).place.nodes }
     {
@@ -185,14 +186,14 @@ impl<A: Allocator> Decoder<A> {
     }
 
     /// The event that `advance` made of this input.
-    fn lend<'a>(&'a self, input: &'a [u8], what: What) -> Event<'a>
+    fn lend<'a>(&'a self, input: &'a [u8], what: EventOutline) -> Event<'a>
         requires { WhatThere (state self.now).held input.now what }
         ensures { event_of result ≡ event_at (state self.now).held input.now what }
     {
         match what {
-            What::Frame(header) => Event::Frame(header),
-            What::Holds(field, item) => event_with(field, self.partial.lend(input, item)),
-            What::Option(part) => match part.lend(&self.partial, input) {
+            EventOutline::Frame(header) => Event::Frame(header),
+            EventOutline::Holds(field, item) => event_with(field, self.partial.lend(input, item)),
+            EventOutline::Option(part) => match part.lend(&self.partial, input) {
                 TypeItem::Node(kind) => Event::TypeNode(kind),
                 TypeItem::Text(field, text) => Event::Text { field, text },
                 TypeItem::Count(count) => Event::Count {
@@ -200,8 +201,12 @@ impl<A: Allocator> Decoder<A> {
                     count,
                 },
             },
-            What::Cell(row, column, part) => event_in(row, column, part.lend(&self.partial, input)),
-            What::End(extra) => Event::End { extra },
+            EventOutline::Cell(row, column, part) => event_in(
+                row,
+                column,
+                part.lend(&self.partial, input),
+            ),
+            EventOutline::End(extra) => Event::End { extra },
         }
     }
 }

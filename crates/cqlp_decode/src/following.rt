@@ -9,7 +9,7 @@ ghost use Rattle.cqlp_decode.specs.Reading.{nodes_after};
 ghost use Rattle.cqlp_message.specs.Productions.{Extra, In, batch_parts, entry_parts, fault_in as fault_of, following, message, number_in, query_parts, specs, text_in};
 
 use crate::table::{
-    Due, Want, body_fields, counted, error_fields, event_fields, plain, result_fields,
+    Expected, Want, body_fields, counted, error_fields, event_fields, plain, result_fields,
     target_fields,
 };
 use crate::upcoming::Upcoming;
@@ -87,7 +87,7 @@ impl Upcoming {
         let notation = Notation::Count32;
         self.push_if(
             true,
-            Due::Field(Want {
+            Expected::Field(Want {
                 field,
                 notation,
                 role,
@@ -100,7 +100,7 @@ impl Upcoming {
         requires { length self.old + 5 ≤ 16 }
         ensures { (types : Types) (v : FieldValue) → number_in v ≡ columns → symbols_in self.new ≡ following types (Role.MetaColumns rows flags) v ++ symbols_in self.old }
     {
-        let rows_due = Due::Field(Want {
+        let rows_due = Expected::Field(Want {
             field: Field::Rows,
             notation: Notation::Count32,
             role: Role::PageRows { flags, columns },
@@ -115,7 +115,7 @@ impl Upcoming {
         requires { length self.old + 5 ≤ 16 }
         ensures { (types : Types) (v : FieldValue) → number_in v ≡ keys → symbols_in self.new ≡ following types (Role.PreparedKeys flags columns) v ++ symbols_in self.old }
     {
-        let result_flags = Due::Field(Want {
+        let result_flags = Expected::Field(Want {
             field: Field::MetaFlags,
             notation: Notation::Int,
             role: Role::MetaFlags { rows: false },

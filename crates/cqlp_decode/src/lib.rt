@@ -1,6 +1,7 @@
 //! A stream of frames of the CQL native protocol v4, read as events.
 #![tactic(auto)]
 
+mod advance;
 mod decoder;
 mod event;
 mod following;

@@ -27,7 +27,7 @@ pub enum Columns {
 
 /// A cell of a page, and how many rows there are behind its own.
 #[derive(Clone, Copy, Debug, PartialEq, Eq)]
-pub struct Page {
+pub struct CellCursor {
     pub columns: Columns,
     pub row: u32,
     pub column: u32,
@@ -47,7 +47,7 @@ impl Columns {
     }
 }
 
-impl Page {
+impl CellCursor {
     /// The first cell of so many rows, if there is one.
     pub fn first<A: Allocator>(columns: Columns, rows: u32, table: &TypeTable<A>) -> Option<Self>
         ensures { (depth : ℕ) → Forest table.now.nodes 0 depth → Begins table.now.nodes depth columns rows result }
@@ -55,7 +55,7 @@ impl Page {
         if rows == 0 || columns.are_none(table) {
             return None;
         }
-        Some(Page {
+        Some(CellCursor {
             columns,
             row: 0,
             column: 0,
@@ -91,7 +91,7 @@ impl Page {
         ensures { (depth : ℕ) → IsPage table.now.nodes depth self → Turns table.now.nodes depth self result }
     {
         if let Some(index) = self.next_column(table) {
-            return Some(Page {
+            return Some(CellCursor {
                 column: self.column + 1,
                 index,
                 ..self
@@ -100,7 +100,7 @@ impl Page {
         if self.left == 0 {
             return None;
         }
-        Some(Page {
+        Some(CellCursor {
             row: self.row + 1,
             column: 0,
             index: 0,
@@ -131,13 +131,13 @@ pub fn page_behind<A: Allocator>(
     role: Role,
     value: Prim<'_>,
     table: &TypeTable<A>,
-) -> Option<Page>
+) -> Option<CellCursor>
     ensures { (depth : ℕ) → Forest table.now.nodes 0 depth → Follows table.now.nodes depth limits.now.types role (value_of value.entry) result }
 {
     let Role::PageRows { flags, columns } = role else {
         return None;
     };
-    Page::first(columns_of(limits, flags, columns), number(value), table)
+    CellCursor::first(columns_of(limits, flags, columns), number(value), table)
 }
 
 /// The types of so many columns, whose metadata has these flags.

@@ -5,70 +5,40 @@ ghost use Rattle.cqlp_note.specs.Limits.{limit_of, rules_of};
 ghost use Rattle.cqlp_note.specs.declared.refusal.Refusal.{Refusal as Refusing};
 ghost use Rattle.cqlp_decode.specs.Standing.{came_of, stage_with};
 
+use crate::advance::{EventAdvance, EventOutline, ScalarCell};
 use crate::event::Finish;
 use crate::following::{begin_metadata, fault_in};
-use crate::page::{Page, page_behind};
-use crate::table::{Due, Want};
+use crate::page::{CellCursor, page_behind};
+use crate::table::{Expected, Want};
 use crate::upcoming::Upcoming;
 use cqlp_message::Role;
 use cqlp_note::{
-    self as note, Field, Header, Item, Limits, Notation, Partial, Prim, Reason, Refusal,
+    self as note, Field, FieldOutline, Header, Limits, Notation, Partial, Prim, Reason, Refusal,
 };
-use cqlp_type::{TypeAdvance, TypePart, TypeReader, TypeTable};
+use cqlp_type::{TypeAdvance, TypeOutline, TypeReader, TypeTable};
 use cqlp_value::{CellAdvance, CellOutline, CellReader, Scalar, front_scalar};
 use std::alloc::Allocator;
 
 /// What is read now.
 #[derive(Clone, Copy, Debug, PartialEq, Eq)]
-pub enum Stage {
+pub enum StreamStage {
     Header,
     Field(Want),
     /// A type option that is not begun.
-    Option,
+    BeforeType,
     /// A type option that is under way.
-    Type,
+    InType,
     /// A cell that is not begun.
-    Due(Page),
+    BeforeCell(CellCursor),
     /// A cell that is under way.
-    Cell(Page),
-    /// What is behind the last field.
+    InCell(CellCursor),
+    /// What is after the last field.
     Extra,
-}
-
-/// An event, with nothing borrowed.
-#[derive(Clone, Copy)]
-pub enum What {
-    Frame(Header),
-    Holds(Field, Item),
-    Option(TypePart),
-    /// A part of the cell of a row and a column.
-    Cell(u32, u32, CellOutline),
-    End(u32),
-}
-
-/// A scalar that is a cell, whose bytes are so many of the input.
-#[derive(Clone, Copy)]
-pub struct Taken<'a> {
-    pub at: u64,
-    pub used: usize,
-    pub row: u32,
-    pub column: u32,
-    pub scalar: Scalar<'a>,
-}
-
-/// What one call makes of the input, with nothing borrowed.
-#[derive(Clone, Copy)]
-pub enum Advance {
-    /// All of the input was used, and more is wanted.
-    More { used: usize },
-    /// An event at an offset, which so many bytes of the input end.
-    Event { at: u64, used: usize, what: What },
-    Refused(Refusal),
 }
 
 /// Where the reading of a stream stands, but for the field, type option or cell that is under way.
 #[derive(Drop)]
-pub struct Standing {
+pub struct StreamStanding {
     pub limits: Limits,
     /// The start of the frame under way.
     pub frame: u64,
@@ -76,7 +46,7 @@ pub struct Standing {
     pub offset: u64,
     /// The end of the frame under way.
     pub stop: u64,
-    pub stage: Stage,
+    pub stage: StreamStage,
     pub upcoming: Upcoming,
     pub header: [u8; 9],
     /// How many bytes of the header, or behind the last field, have come.
@@ -84,10 +54,10 @@ pub struct Standing {
     pub refusal: Option<Refusal>,
 }
 
-impl Standing {
+impl StreamStanding {
     ghost use Rattle.std.specs.Prelude.{max};
     ghost use Rattle.cqlp_note.specs.Head.{value_of};
-    ghost use Rattle.cqlp_note.specs.Partial.{Progress};
+    ghost use Rattle.cqlp_note.specs.Partial.{FieldState};
     ghost use Rattle.cqlp_type.specs.Types.{Types};
     ghost use Rattle.cqlp_type.specs.Table.{Table};
     ghost use Rattle.cqlp_type.specs.Standing as type;
@@ -99,8 +69,8 @@ impl Standing {
     ghost use Rattle.cqlp_decode.specs.Reading.{start};
     ghost use Rattle.cqlp_decode.specs.Streams.{After, Finishes};
     ghost use Rattle.cqlp_decode.specs.Upcoming.{behind, symbols_in};
-    ghost use Rattle.cqlp_decode.specs.declared.standing.Stage.TheVariants as stage;
-    ghost use Rattle.cqlp_decode.specs.Standing.{Advances, HasParts, HasRoom, IsAsked, IsBounded, IsIdle, IsLawful, IsPending, IsPlaced, IsQuiet, IsWanted, Kept, LeavesTypes, Moves, Parts, Starts, Takes, asked, parts, refusal_in, rest_of, state_of, symbols_at};
+    ghost use Rattle.cqlp_decode.specs.declared.standing.StreamStage.TheVariants as stage;
+    ghost use Rattle.cqlp_decode.specs.Standing.{Advances, HasParts, HasRoom, IsAsked, IsBounded, IsIdle, IsConsistent, IsPending, IsPlaced, IsQuiet, IsWanted, Kept, LeavesTypes, Moves, Parts, Starts, Takes, asked, parts, refusal_in, rest_of, state_of, symbols_at};
     ghost use Rattle.cqlp_decode.specs.Pages.{IsPage, cells_behind, node_by};
     ghost use Rattle.cqlp_decode.specs.Reading.{types_for};
     ghost use Rattle.cqlp_value.specs.Inner.{Forest};
@@ -109,15 +79,15 @@ impl Standing {
     /// At the start of a stream.
     pub fn new(limits: Limits) -> Self
         ensures limits { result.limits ≡ limits }
-        ensures lawful { (q : Parts) → IsIdle q → IsQuiet q → HasParts result q → q.table.nodes ≡ [] → IsLawful result q }
+        ensures lawful { (q : Parts) → IsIdle q → IsQuiet q → HasParts result q → q.table.nodes ≡ [] → IsConsistent result q }
         ensures start { (q : Parts) → q.table.nodes ≡ [] → state_of result q ≡ record { rules = rules_of limits; place = start; pending = Kept []; frame = 0; refusal = None; held = q.partial.content; open_values = length q.cells.open_values } }
     {
-        Standing {
+        StreamStanding {
             limits,
             frame: 0,
             offset: 0,
             stop: 0,
-            stage: Stage::Header,
+            stage: StreamStage::Header,
             upcoming: Upcoming::new(),
             header: [0; 9],
             came: 0,
@@ -133,17 +103,17 @@ impl Standing {
         cells: &mut CellReader<A>,
         table: &mut TypeTable<A>,
         input: &[u8],
-    ) -> Advance
-        requires { IsLawful self.old (parts partial.old types.old cells.old table.old) }
-        ensures lawful { IsLawful self.new (parts partial.new types.new cells.new table.new) }
+    ) -> EventAdvance
+        requires { IsConsistent self.old (parts partial.old types.old cells.old table.old) }
+        ensures lawful { IsConsistent self.new (parts partial.new types.new cells.new table.new) }
         ensures advances { Advances (state_of self.old (parts partial.old types.old cells.old table.old)) input.now result (state_of self.new (parts partial.new types.new cells.new table.new)) }
         ensures table { LeavesTypes result table.old.nodes table.new.nodes }
     {
         if let Some(refusal) = self.refusal {
-            return Advance::Refused(refusal);
+            return EventAdvance::Refused(refusal);
         }
         let advance = self.step(partial, types, cells, table, input);
-        if let Advance::Refused(refusal) = advance {
+        if let EventAdvance::Refused(refusal) = advance {
             self.refusal = Some(refusal);
         }
         advance
@@ -185,11 +155,11 @@ impl Standing {
         ensures { (t : Table) (b : List ℕ) → IsPending (state_of self.now (parts partial.now types.now cells.now t)).pending b → result ≡ (state_of self.now (parts partial.now types.now cells.now t)).place.offset + length b }
     {
         match self.stage {
-            Stage::Header | Stage::Extra => self.offset + self.came,
-            Stage::Option | Stage::Due(_) => self.offset,
-            Stage::Field(_) => self.offset + came_of_field(partial),
-            Stage::Type => types.offset() + came_of_field(partial),
-            Stage::Cell(_) => cells.bytes_used(partial),
+            StreamStage::Header | StreamStage::Extra => self.offset + self.came,
+            StreamStage::BeforeType | StreamStage::BeforeCell(_) => self.offset,
+            StreamStage::Field(_) => self.offset + came_of_field(partial),
+            StreamStage::InType => types.offset() + came_of_field(partial),
+            StreamStage::InCell(_) => cells.bytes_used(partial),
         }
     }
 
@@ -197,7 +167,7 @@ impl Standing {
     fn is_between(&self) -> bool
         ensures { IsTrue result ↔ ((self.now.stage ≡ stage.Header) × (self.now.came ≡ 0)) }
     {
-        matches!(self.stage, Stage::Header) && self.came == 0
+        matches!(self.stage, StreamStage::Header) && self.came == 0
     }
 
     /// The next step, where there was no refusal.
@@ -208,43 +178,43 @@ impl Standing {
         cells: &mut CellReader<A>,
         table: &mut TypeTable<A>,
         input: &[u8],
-    ) -> Advance
-        requires lawful { IsLawful self.old (parts partial.old types.old cells.old table.old) }
+    ) -> EventAdvance
+        requires lawful { IsConsistent self.old (parts partial.old types.old cells.old table.old) }
         requires unrefused { self.old.refusal ≡ None }
-        ensures lawful { IsLawful self.new (parts partial.new types.new cells.new table.new) }
+        ensures lawful { IsConsistent self.new (parts partial.new types.new cells.new table.new) }
         ensures moves { Moves (state_of self.old (parts partial.old types.old cells.old table.old)) input.now result (state_of self.new (parts partial.new types.new cells.new table.new)) }
         ensures limits { self.new.limits ≡ self.old.limits }
         ensures refusal { refusal_in result ≡ None → self.new.refusal ≡ None }
         ensures table { LeavesTypes result table.old.nodes table.new.nodes }
     {
         match self.stage {
-            Stage::Header => self.advance_header(input),
-            Stage::Field(want) => self.advance_field(partial, table, want, input),
-            Stage::Option => {
+            StreamStage::Header => self.advance_header(input),
+            StreamStage::Field(want) => self.advance_field(partial, table, want, input),
+            StreamStage::BeforeType => {
                 self.begin_option(types);
                 self.advance_option(partial, types, table, input)
             }
-            Stage::Type => self.advance_option(partial, types, table, input),
-            Stage::Due(page) => {
+            StreamStage::InType => self.advance_option(partial, types, table, input),
+            StreamStage::BeforeCell(page) => {
                 self.begin_cell(page, cells);
                 self.advance_cell(partial, cells, table, page, input)
             }
-            Stage::Cell(page) => self.advance_cell(partial, cells, table, page, input),
-            Stage::Extra => self.advance_extra(input),
+            StreamStage::InCell(page) => self.advance_cell(partial, cells, table, page, input),
+            StreamStage::Extra => self.advance_extra(input),
         }
     }
 
-    fn advance_header(&mut self, input: &[u8]) -> Advance
+    fn advance_header(&mut self, input: &[u8]) -> EventAdvance
         requires bounded { IsBounded self.old }
         requires here { self.old.stage ≡ stage.Header }
         requires came { self.old.came < 9 }
         requires unrefused { self.old.refusal ≡ None }
-        ensures lawful { (q : Parts) → IsLawful self.old q → IsLawful self.new q }
+        ensures lawful { (q : Parts) → IsConsistent self.old q → IsConsistent self.new q }
         ensures moves { (q : Parts) → IsIdle q → Moves (state_of self.old q) input.now result (state_of self.new q) }
         ensures rest { (self.new.refusal ≡ None) × (self.new.limits ≡ self.old.limits) }
     {
         if self.offset > 1 << 63 {
-            return Advance::Refused(Refusal {
+            return EventAdvance::Refused(Refusal {
                 at: self.offset,
                 why: Reason::StreamTooLong,
             });
@@ -252,17 +222,17 @@ impl Standing {
         let missing = 9 - self.came as usize;
         if input.len() < missing {
             self.keep_header(input);
-            return Advance::More { used: input.len() };
+            return EventAdvance::More { used: input.len() };
         }
         match Header::read(&self.whole_header(input), self.offset) {
-            Err(refusal) => Advance::Refused(refusal),
+            Err(refusal) => EventAdvance::Refused(refusal),
             Ok(header) => {
                 let at = self.offset;
                 self.enter(&header);
-                Advance::Event {
+                EventAdvance::Event {
                     at,
                     used: missing,
-                    what: What::Frame(header),
+                    what: EventOutline::Frame(header),
                 }
             }
         }
@@ -331,27 +301,27 @@ impl Standing {
         table: &mut TypeTable<A>,
         want: Want,
         input: &[u8],
-    ) -> Advance
+    ) -> EventAdvance
         requires bounded { IsBounded self.old }
         requires here { self.old.stage ≡ stage.Field want }
         requires wanted { IsWanted self.old partial.old want }
         requires room { partial.old.room ≡ max self.old.limits.text self.old.limits.cell }
         requires forest { Forest table.old.nodes 0 self.old.limits.depth }
         requires unrefused { self.old.refusal ≡ None }
-        ensures lawful { (r : type.Standing) (c : value.State) → IsLawful self.old (parts partial.old r c table.old) → IsLawful self.new (parts partial.new r c table.new) }
-        ensures moves { (r : type.Standing) (c : value.State) → Moves (state_of self.old (parts partial.old r c table.old)) input.now result (state_of self.new (parts partial.new r c table.new)) }
+        ensures lawful { (r : type.TypeState) (c : value.CellState) → IsConsistent self.old (parts partial.old r c table.old) → IsConsistent self.new (parts partial.new r c table.new) }
+        ensures moves { (r : type.TypeState) (c : value.CellState) → Moves (state_of self.old (parts partial.old r c table.old)) input.now result (state_of self.new (parts partial.new r c table.new)) }
         ensures rest { (self.new.refusal ≡ None) × (self.new.limits ≡ self.old.limits) }
         ensures table { LeavesTypes result table.old.nodes table.new.nodes }
     {
         self.ask(partial, want);
         let came = partial.came();
         match partial.advance(input) {
-            note::Taken::More { used } => Advance::More { used },
-            note::Taken::Refused(refusal) => Advance::Refused(refusal),
-            note::Taken::Got { used, item } => {
+            note::FieldAdvance::More { used } => EventAdvance::More { used },
+            note::FieldAdvance::Refused(refusal) => EventAdvance::Refused(refusal),
+            note::FieldAdvance::Got { used, item } => {
                 let value = partial.lend(input, item);
                 if let Some(why) = fault_in(want.role, value) {
-                    return Advance::Refused(Refusal {
+                    return EventAdvance::Refused(Refusal {
                         at: self.offset,
                         why,
                     });
@@ -360,10 +330,10 @@ impl Standing {
                 self.offset += came + used as u64;
                 begin_metadata(want.role, table);
                 self.follow(want.role, value, table);
-                Advance::Event {
+                EventAdvance::Event {
                     at,
                     used,
-                    what: What::Holds(want.field, item),
+                    what: EventOutline::Holds(want.field, item),
                 }
             }
         }
@@ -391,7 +361,7 @@ impl Standing {
         ensures starts { Starts self.new table.now.nodes self.new.stage }
     {
         if let Some(page) = page_behind(&self.limits, role, value, table) {
-            self.stage = Stage::Due(page);
+            self.stage = StreamStage::BeforeCell(page);
             return;
         }
         self.upcoming.follow(role, value);
@@ -405,12 +375,12 @@ impl Standing {
         partial: &Partial<A>,
         table: &TypeTable<A>,
         input: &'a [u8],
-    ) -> Option<Taken<'a>>
-        requires lawful { (r : type.Standing) × (c : value.State) × IsLawful self.old (parts partial.now r c table.now) }
-        ensures lawful { (r : type.Standing) (c : value.State) → IsLawful self.old (parts partial.now r c table.now) → IsLawful self.new (parts partial.now r c table.now) }
-        ensures takes { (r : type.Standing) (c : value.State) → IsLawful self.old (parts partial.now r c table.now) → Takes (state_of self.old (parts partial.now r c table.now)) input.now result (state_of self.new (parts partial.now r c table.now)) }
+    ) -> Option<ScalarCell<'a>>
+        requires lawful { (r : type.TypeState) × (c : value.CellState) × IsConsistent self.old (parts partial.now r c table.now) }
+        ensures lawful { (r : type.TypeState) (c : value.CellState) → IsConsistent self.old (parts partial.now r c table.now) → IsConsistent self.new (parts partial.now r c table.now) }
+        ensures takes { (r : type.TypeState) (c : value.CellState) → IsConsistent self.old (parts partial.now r c table.now) → Takes (state_of self.old (parts partial.now r c table.now)) input.now result (state_of self.new (parts partial.now r c table.now)) }
     {
-        let Stage::Due(page) = self.stage else {
+        let StreamStage::BeforeCell(page) = self.stage else {
             return None;
         };
         if partial.held() > 0 {
@@ -424,7 +394,7 @@ impl Standing {
         let Some(front) = front_scalar(&self.limits, kind, room, input) else {
             return None;
         };
-        let taken = Taken {
+        let taken = ScalarCell {
             at: self.offset,
             used: front.used,
             row: page.row,
@@ -437,39 +407,39 @@ impl Standing {
     }
 
     /// Goes on behind a cell: with the next cell of its page, or with what is due next in the message.
-    fn turn<A: Allocator>(&mut self, page: Page, table: &TypeTable<A>)
+    fn turn<A: Allocator>(&mut self, page: CellCursor, table: &TypeTable<A>)
         requires page { IsPage table.now.nodes self.old.limits.depth page }
         ensures symbols { (q : Parts) → q.table.nodes ≡ table.now.nodes → symbols_at self.new.stage q self.new.upcoming ≡ cells_behind table.now.nodes page ++ rest_of self.old.upcoming }
         ensures rest { self.new ≡ record self.old { stage = self.new.stage; upcoming = self.new.upcoming } }
         ensures starts { Starts self.new table.now.nodes self.new.stage }
     {
         match page.next(table) {
-            Some(page) => self.stage = Stage::Due(page),
+            Some(page) => self.stage = StreamStage::BeforeCell(page),
             None => self.go_on(),
         }
     }
 
     /// Begins the cell of a page that is due.
-    fn begin_cell<A: Allocator>(&mut self, page: Page, cells: &mut CellReader<A>)
+    fn begin_cell<A: Allocator>(&mut self, page: CellCursor, cells: &mut CellReader<A>)
         requires idle { is_under_way cells.old ≡ false }
         requires inside { self.old.offset ≤ self.old.stop }
-        ensures self_is { self.new ≡ record self.old { stage = stage.Cell page } }
+        ensures self_is { self.new ≡ record self.old { stage = stage.InCell page } }
         ensures cells_are { cells.new ≡ begun cells.old (node_by page.columns page.index) self.old.offset self.old.stop }
     {
         cells.begin(page.node(), self.offset, self.stop);
-        self.stage = Stage::Cell(page);
+        self.stage = StreamStage::InCell(page);
     }
 
     /// Begins the type option that is due.
     fn begin_option<A: Allocator>(&mut self, types: &mut TypeReader<A>)
-        requires here { self.old.stage ≡ stage.Option }
+        requires here { self.old.stage ≡ stage.BeforeType }
         requires idle { types.old.under_way ≡ false }
         requires inside { self.old.offset ≤ self.old.stop }
-        ensures self_is { self.new ≡ record self.old { stage = stage.Type } }
+        ensures self_is { self.new ≡ record self.old { stage = stage.InType } }
         ensures types_are { types.new ≡ started types.old self.old.offset self.old.stop }
     {
         types.begin(self.offset, self.stop);
-        self.stage = Stage::Type;
+        self.stage = StreamStage::InType;
     }
 
     fn advance_option<A: Allocator>(
@@ -478,29 +448,29 @@ impl Standing {
         types: &mut TypeReader<A>,
         table: &mut TypeTable<A>,
         input: &[u8],
-    ) -> Advance
-        requires lawful { (c : value.State) × IsLawful self.old (parts partial.old types.old c table.old) }
-        requires here { self.old.stage ≡ stage.Type }
+    ) -> EventAdvance
+        requires lawful { (c : value.CellState) × IsConsistent self.old (parts partial.old types.old c table.old) }
+        requires here { self.old.stage ≡ stage.InType }
         requires unrefused { self.old.refusal ≡ None }
-        ensures lawful { (c : value.State) → IsLawful self.old (parts partial.old types.old c table.old) → IsLawful self.new (parts partial.new types.new c table.new) }
-        ensures moves { (c : value.State) → IsLawful self.old (parts partial.old types.old c table.old) → Moves (state_of self.old (parts partial.old types.old c table.old)) input.now result (state_of self.new (parts partial.new types.new c table.new)) }
+        ensures lawful { (c : value.CellState) → IsConsistent self.old (parts partial.old types.old c table.old) → IsConsistent self.new (parts partial.new types.new c table.new) }
+        ensures moves { (c : value.CellState) → IsConsistent self.old (parts partial.old types.old c table.old) → Moves (state_of self.old (parts partial.old types.old c table.old)) input.now result (state_of self.new (parts partial.new types.new c table.new)) }
         ensures limits { self.new.limits ≡ self.old.limits }
         ensures refusal { refusal_in result ≡ None → self.new.refusal ≡ None }
         ensures table { LeavesTypes result table.old.nodes table.new.nodes }
     {
         match types.advance(partial, table, input) {
-            TypeAdvance::More { used } => Advance::More { used },
+            TypeAdvance::More { used } => EventAdvance::More { used },
             TypeAdvance::Refused(refusal) => {
-                self.stage = Stage::Extra;
+                self.stage = StreamStage::Extra;
                 self.refusal = Some(refusal);
-                Advance::Refused(refusal)
+                EventAdvance::Refused(refusal)
             }
             TypeAdvance::Done => unreachable!(),
             TypeAdvance::Item { at, used, item } => {
-                let event = Advance::Event {
+                let event = EventAdvance::Event {
                     at,
                     used,
-                    what: What::Option(item),
+                    what: EventOutline::Option(item),
                 };
                 let offset = types.offset();
                 if !types.done() {
@@ -528,28 +498,28 @@ impl Standing {
         partial: &mut Partial<A>,
         cells: &mut CellReader<A>,
         table: &TypeTable<A>,
-        page: Page,
+        page: CellCursor,
         input: &[u8],
-    ) -> Advance
-        requires lawful { (r : type.Standing) × IsLawful self.old (parts partial.old r cells.old table.now) }
-        requires here { self.old.stage ≡ stage.Cell page }
+    ) -> EventAdvance
+        requires lawful { (r : type.TypeState) × IsConsistent self.old (parts partial.old r cells.old table.now) }
+        requires here { self.old.stage ≡ stage.InCell page }
         requires unrefused { self.old.refusal ≡ None }
-        ensures lawful { (r : type.Standing) → IsLawful self.old (parts partial.old r cells.old table.now) → IsLawful self.new (parts partial.new r cells.new table.now) }
-        ensures moves { (r : type.Standing) → IsLawful self.old (parts partial.old r cells.old table.now) → Moves (state_of self.old (parts partial.old r cells.old table.now)) input.now result (state_of self.new (parts partial.new r cells.new table.now)) }
+        ensures lawful { (r : type.TypeState) → IsConsistent self.old (parts partial.old r cells.old table.now) → IsConsistent self.new (parts partial.new r cells.new table.now) }
+        ensures moves { (r : type.TypeState) → IsConsistent self.old (parts partial.old r cells.old table.now) → Moves (state_of self.old (parts partial.old r cells.old table.now)) input.now result (state_of self.new (parts partial.new r cells.new table.now)) }
         ensures rest { (self.new.refusal ≡ None) × (self.new.limits ≡ self.old.limits) }
     {
         match cells.advance(partial, table, input) {
-            CellAdvance::More { used } => Advance::More { used },
+            CellAdvance::More { used } => EventAdvance::More { used },
             CellAdvance::Refused(refusal) => {
-                self.stage = Stage::Extra;
-                Advance::Refused(refusal)
+                self.stage = StreamStage::Extra;
+                EventAdvance::Refused(refusal)
             }
             CellAdvance::Done => unreachable!(),
             CellAdvance::Item { at, used, item } => {
-                let event = Advance::Event {
+                let event = EventAdvance::Event {
                     at,
                     used,
-                    what: What::Cell(page.row, page.column, item),
+                    what: EventOutline::Cell(page.row, page.column, item),
                 };
                 if !cells.done() {
                     return event;
@@ -563,7 +533,7 @@ impl Standing {
     /// Goes on behind a cell that is whole.
     fn end_cell<A: Allocator>(
         &mut self,
-        page: Page,
+        page: CellCursor,
         cells: &mut CellReader<A>,
         table: &TypeTable<A>,
     )
@@ -578,12 +548,12 @@ impl Standing {
         self.turn(page, table);
     }
 
-    fn advance_extra(&mut self, input: &[u8]) -> Advance
+    fn advance_extra(&mut self, input: &[u8]) -> EventAdvance
         requires bounded { IsBounded self.old }
         requires here { self.old.stage ≡ stage.Extra }
         requires came { self.old.came ≤ self.old.stop - self.old.offset }
         requires unrefused { self.old.refusal ≡ None }
-        ensures lawful { (q : Parts) → IsLawful self.old q → IsLawful self.new q }
+        ensures lawful { (q : Parts) → IsConsistent self.old q → IsConsistent self.new q }
         ensures moves { (q : Parts) → IsIdle q → Moves (state_of self.old q) input.now result (state_of self.new q) }
         ensures rest { (self.new.refusal ≡ None) × (self.new.limits ≡ self.old.limits) }
     {
@@ -591,18 +561,18 @@ impl Standing {
         let used = (extra - self.came).min(input.len() as u64);
         if self.came + used < extra {
             self.came += used;
-            return Advance::More {
+            return EventAdvance::More {
                 used: used as usize,
             };
         }
         self.frame = self.stop;
         self.offset = self.stop;
         self.came = 0;
-        self.stage = Stage::Header;
-        Advance::Event {
+        self.stage = StreamStage::Header;
+        EventAdvance::Event {
             at: self.stop,
             used: used as usize,
-            what: What::End(extra as u32),
+            what: EventOutline::End(extra as u32),
         }
     }
 }
@@ -620,13 +590,13 @@ fn came_of_field<A: Allocator>(partial: &Partial<A>) -> u64
 }
 
 /// What is read next, where this is due next in a message.
-fn stage_of(next: Option<Due>) -> Stage
+fn stage_of(next: Option<Expected>) -> StreamStage
     ensures { result ≡ stage_with next }
 {
     match next {
-        Some(Due::Field(want)) => Stage::Field(want),
-        Some(Due::Option) => Stage::Option,
-        None => Stage::Extra,
+        Some(Expected::Field(want)) => StreamStage::Field(want),
+        Some(Expected::Option) => StreamStage::BeforeType,
+        None => StreamStage::Extra,
     }
 }
 

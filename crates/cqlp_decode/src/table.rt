@@ -6,14 +6,14 @@ ghost use Rattle.cqlp_note.specs.Heading.{beside_number, has as has_bit};
 ghost use Rattle.cqlp_message.specs.Productions.{body, by_text, errors, events, group as symbols_of_group, or_nothing, results, targets};
 ghost use Rattle.cqlp_decode.specs.Upcoming.{AreRead, behind_due, opened, room_for, wants};
 ghost use Rattle.std.specs.Prelude.{◌-◌, drop, slice_index_or};
-ghost use Rattle.cqlp_decode.specs.declared.table.Due.{Due as Declared};
+ghost use Rattle.cqlp_decode.specs.declared.table.Expected.{Expected as Declared};
 
 use cqlp_message::{Group, Role};
 use cqlp_note::{Field, Notation, Opcode};
 
 /// What is to be read next.
 #[derive(Clone, Copy, Debug, PartialEq, Eq)]
-pub enum Due {
+pub enum Expected {
     Field(Want),
     /// The type option of a column.
     Option,
@@ -30,7 +30,7 @@ pub struct Want {
 /// A field from whose value nothing follows.
 macro_rules! plain {
     ($field:ident, $notation:ident) => {
-        Due::Field(Want {
+        Expected::Field(Want {
             field: Field::$field,
             notation: Notation::$notation,
             role: Role::Alone,
@@ -41,7 +41,7 @@ macro_rules! plain {
 /// A field of this role.
 macro_rules! with_role {
     ($field:ident, $notation:ident, $role:ident) => {
-        Due::Field(Want {
+        Expected::Field(Want {
             field: Field::$field,
             notation: Notation::$notation,
             role: Role::$role,
@@ -52,7 +52,7 @@ macro_rules! with_role {
 /// A count of so many groups, a \[short\].
 macro_rules! counted {
     ($field:ident, $group:expr) => {
-        Due::Field(Want {
+        Expected::Field(Want {
             field: Field::$field,
             notation: Notation::Count16,
             role: Role::Counts($group),
@@ -61,7 +61,7 @@ macro_rules! counted {
 }
 
 /// The fields of a message.
-pub fn body_fields(opcode: Opcode) -> &'static [Due]
+pub fn body_fields(opcode: Opcode) -> &'static [Expected]
     ensures fields { wants result.now ≡ body opcode }
     ensures read { AreRead result.now }
     ensures room { room_for result.now ≤ 7 }
@@ -100,7 +100,7 @@ pub fn body_fields(opcode: Opcode) -> &'static [Due]
 }
 
 /// The fields of one group.
-pub fn group_fields(group: Group) -> &'static [Due]
+pub fn group_fields(group: Group) -> &'static [Expected]
     ensures fields { wants result.now ≡ symbols_of_group group }
     ensures some { 0 < length result.now }
     ensures read { AreRead result.now }
@@ -123,18 +123,18 @@ pub fn group_fields(group: Group) -> &'static [Due]
         Group::BatchEntries => &[with_role!(EntryKind, Byte, EntryKind)],
         Group::Arguments => &[plain!(Argument, Text16)],
         Group::KeyIndexes => &[plain!(KeyIndex, Short)],
-        Group::Columns { one_table: true } => &[plain!(ColumnName, Text16), Due::Option],
+        Group::Columns { one_table: true } => &[plain!(ColumnName, Text16), Expected::Option],
         Group::Columns { one_table: false } => &[
             plain!(Keyspace, Text16),
             plain!(Table, Text16),
             plain!(ColumnName, Text16),
-            Due::Option,
+            Expected::Option,
         ],
     }
 }
 
 /// The fields behind an error's message.
-pub fn error_fields(code: u32) -> &'static [Due]
+pub fn error_fields(code: u32) -> &'static [Expected]
     ensures fields { wants result.now ≡ or_nothing (beside_number code errors) }
     ensures read { AreRead result.now }
     ensures room { room_for result.now ≤ 5 }
@@ -184,13 +184,13 @@ pub fn error_fields(code: u32) -> &'static [Due]
 }
 
 /// The fields of a result of this kind.
-pub fn result_fields(kind: u32) -> &'static [Due]
+pub fn result_fields(kind: u32) -> &'static [Expected]
     ensures fields { wants result.now ≡ or_nothing (beside_number kind results) }
     ensures read { AreRead result.now }
     ensures room { room_for result.now ≤ 5 }
 {
     match kind {
-        2 => &[Due::Field(Want {
+        2 => &[Expected::Field(Want {
             field: Field::MetaFlags,
             notation: Notation::Int,
             role: Role::MetaFlags { rows: true },
@@ -209,7 +209,7 @@ pub fn result_fields(kind: u32) -> &'static [Due]
 }
 
 /// The names of a changed target.
-pub fn target_fields(target: &str) -> &'static [Due]
+pub fn target_fields(target: &str) -> &'static [Expected]
     ensures fields { wants result.now ≡ by_text target.now targets }
     ensures read { AreRead result.now }
     ensures room { room_for result.now ≤ 3 }
@@ -230,7 +230,7 @@ pub fn target_fields(target: &str) -> &'static [Due]
 }
 
 /// The fields of an event of this type.
-pub fn event_fields(event_type: &str) -> &'static [Due]
+pub fn event_fields(event_type: &str) -> &'static [Expected]
     ensures fields { wants result.now ≡ by_text event_type.now events }
     ensures read { AreRead result.now }
     ensures room { room_for result.now ≤ 3 }

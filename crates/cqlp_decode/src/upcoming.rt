@@ -3,14 +3,14 @@
 ghost use Rattle.std.specs.Prelude.{◌≡◌, ◌+◌, ◌<◌, ◌≤◌, ◌++◌, ◌∷◌, [], length, drop, max, if◌then◌else◌};
 ghost use Rattle.cqlp_decode.specs.declared.upcoming.Slot.TheVariants as slot;
 
-use crate::table::{Due, group_fields};
+use crate::table::{Expected, group_fields};
 use cqlp_message::Group;
 use std::marker::Model;
 
 /// Fields that are still to be read.
 #[derive(Clone, Copy, Debug, PartialEq, Eq)]
 pub enum Slot {
-    One(Due),
+    One(Expected),
     /// So many of this group.
     Many(Group, u32),
 }
@@ -35,7 +35,7 @@ impl Model for Upcoming {
 }
 
 impl Upcoming {
-    ghost use Rattle.cqlp_decode.specs.Upcoming.{Popped, Next, IsLawful, IsRead, AreRead, need, opened, behind_due, room_for, symbols_in, wanted, wants};
+    ghost use Rattle.cqlp_decode.specs.Upcoming.{Popped, Pops, IsSlot, IsRead, AreRead, need, opened, behind_due, room_for, symbols_in, wanted, wants};
     ghost use Rattle.cqlp_message.specs.Productions.{copies, group as symbols_of_group};
 
     pub fn new() -> Self
@@ -55,8 +55,8 @@ impl Upcoming {
 
     /// The next field.
     #[tactic(auto, using(crate::proofs::Stack::next_one, crate::proofs::Stack::next_many))]
-    pub fn pop(&mut self) -> Option<Due>
-        ensures { Next self.old result self.new }
+    pub fn pop(&mut self) -> Option<Expected>
+        ensures { Pops self.old result self.new }
     {
         match self.pop_slot()? {
             Slot::One(due) => Some(due),
@@ -81,7 +81,7 @@ impl Upcoming {
 
     /// Puts a field before all else, where it stands.
     #[tactic(auto, using(crate::proofs::Stack::symbols_pushed))]
-    pub fn push_if(&mut self, stands: bool, due: Due)
+    pub fn push_if(&mut self, stands: bool, due: Expected)
         requires read { IsRead due }
         requires room { length self.old + max 1 (behind_due due) ≤ 16 }
         ensures symbols { symbols_in self.new ≡ (if stands then wanted due ∷ [] else []) ++ symbols_in self.old }
@@ -94,7 +94,7 @@ impl Upcoming {
 
     /// Puts these fields before all else.
     #[tactic(auto, using(crate::proofs::Stack::read_at, crate::proofs::Stack::room_at, crate::proofs::Stack::fields_pushed, crate::proofs::Stack::fields_none))]
-    pub fn push_fields(&mut self, fields: &[Due])
+    pub fn push_fields(&mut self, fields: &[Expected])
         requires read { AreRead fields.now }
         requires room { length self.old + room_for fields.now ≤ 16 }
         ensures symbols { symbols_in self.new ≡ wants fields.now ++ symbols_in self.old }
@@ -108,7 +108,7 @@ impl Upcoming {
     }
 
     /// The first field of a group; the others come next.
-    fn open(&mut self, group: Group) -> Due
+    fn open(&mut self, group: Group) -> Expected
         requires { length self.old + opened group ≤ 16 }
         ensures symbols { wanted result ∷ symbols_in self.new ≡ symbols_of_group group ++ symbols_in self.old }
         ensures room { length self.new + behind_due result ≤ 16 }
@@ -120,7 +120,7 @@ impl Upcoming {
     }
 
     fn push(&mut self, slot: Slot)
-        requires lawful { IsLawful slot }
+        requires lawful { IsSlot slot }
         requires room { length self.old + need slot ≤ 16 }
         ensures { self.new ≡ self.old ++ slot ∷ [] }
     {

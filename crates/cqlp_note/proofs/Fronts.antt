@@ -10,7 +10,7 @@ use Rattle.cqlp_note.specs.Reader.{Takes, More, Bad, Got, says, fits, number_of}
 use Rattle.cqlp_note.specs.Field.{Inet, field_of, content_of, is_negative, signed, address_of}
 use Rattle.cqlp_note.specs.Head.{fixed_of, behind_fixed, front_of, inet_of, made, reader_of, Tells}
 use Rattle.cqlp_note.specs.declared.head.Wanted.{Wanted}
-use Rattle.cqlp_note.specs.declared.head.Form.TheVariants as form
+use Rattle.cqlp_note.specs.declared.head.ContentForm.TheVariants as form
 use Rattle.cqlp_note.specs.declared.head.Head.{Head}
 use Rattle.cqlp_note.specs.declared.head.Head.TheVariants as head
 use Rattle.cqlp_note.specs.declared.head.Stop.{Stop}

@@ -7,8 +7,8 @@ use Rattle.std.specs.Str.{IsUtf8, is_utf8}
 use Rattle.std.proofs.lemmas.Str.{IsUtf8-from_is_utf8, is_utf8-from_IsUtf8}
 use Rattle.cqlp_note.specs.declared.refusal.Reason.TheVariants.{BadUtf8}
 use Rattle.cqlp_note.specs.declared.head.Wanted.{Wanted}
-use Rattle.cqlp_note.specs.declared.head.Form.{Form}
-use Rattle.cqlp_note.specs.declared.head.Form.TheVariants as form
+use Rattle.cqlp_note.specs.declared.head.ContentForm.{ContentForm}
+use Rattle.cqlp_note.specs.declared.head.ContentForm.TheVariants as form
 use Rattle.cqlp_note.specs.declared.head.Head.{Head}
 use Rattle.cqlp_note.specs.declared.head.Head.TheVariants as head
 use Rattle.cqlp_note.specs.declared.head.Stop.{Stop}
@@ -19,8 +19,8 @@ use Rattle.cqlp_note.specs.declared.prim.Primitive.{Primitive}
 use Rattle.cqlp_note.specs.declared.prim.Primitive.TheVariants as prim
 use Rattle.cqlp_note.specs.declared.prim.BoundValue.TheVariants as bound
 use Rattle.cqlp_note.specs.Head.{made, reader_of, value_of, HasNoContent, Tells}
-use Rattle.cqlp_note.specs.declared.taken.Stage.{Stage}
-use Rattle.cqlp_note.specs.declared.taken.Stage.TheVariants as stage
+use Rattle.cqlp_note.specs.declared.advance.FieldStage.{FieldStage}
+use Rattle.cqlp_note.specs.declared.advance.FieldStage.TheVariants as stage
 use Rattle.cqlp_note.specs.Partial.{accepts, content_value, content_length, content_bytes, is_under_way, seen_of}
 use Rattle.cqlp_note.proofs.Fronts.{fixed_short}
 
@@ -78,17 +78,17 @@ got_beyond (Takes n next) taken bytes t v k m g = elim (cases_lt (length bytes) 
 
 -- ---- contents
 
-gives : (f : Form) (c : List ℕ) (k : ℕ) (rest : List ℕ) → accepts f c ≡ true → says (made f c) k rest ≡ Got (content_value f c) k
+gives : (f : ContentForm) (c : List ℕ) (k : ℕ) (rest : List ℕ) → accepts f c ≡ true → says (made f c) k rest ≡ Got (content_value f c) k
 gives form.Text c k rest t = rw t
 gives form.Bytes c k rest t = refl
 gives form.Bound c k rest t = refl
 
-refuses : (f : Form) (c : List ℕ) (k : ℕ) (rest : List ℕ) → accepts f c ≡ false → says (made f c) k rest ≡ Bad BadUtf8
+refuses : (f : ContentForm) (c : List ℕ) (k : ℕ) (rest : List ℕ) → accepts f c ≡ false → says (made f c) k rest ≡ Bad BadUtf8
 refuses form.Text c k rest t = rw t
 refuses form.Bytes c k rest t = absurd cc
 refuses form.Bound c k rest t = absurd cc
 
-module _ (f : Form) (len k : ℕ) (rest : List ℕ) where
+module _ (f : ContentForm) (len k : ℕ) (rest : List ℕ) where
   pub content_waits : length rest < len → says (Takes len (made f)) k rest ≡ More
   content_waits lt = rw (lt-ltb _ _ lt)
 
@@ -99,7 +99,7 @@ module _ (f : Form) (len k : ℕ) (rest : List ℕ) where
   content_bad le t = rw (le-ltb _ _ le) (refuses f (take len rest) _ _ t)
 
 -- what is said behind a front, where a content of len bytes comes
-module _ (w : Wanted) (seen input : List ℕ) (start len : ℕ) (f : Form) (told : (t : List ℕ) → says (reader_of w) 0 ((seen ++ input) ++ t) ≡ says (Takes len (made f)) (length seen + start) (drop start input ++ t)) where
+module _ (w : Wanted) (seen input : List ℕ) (start len : ℕ) (f : ContentForm) (told : (t : List ℕ) → says (reader_of w) 0 ((seen ++ input) ++ t) ≡ says (Takes len (made f)) (length seen + start) (drop start input ++ t)) where
   told_now : says (reader_of w) 0 (seen ++ input) ≡ says (Takes len (made f)) (length seen + start) (drop start input)
   told_now = rw (append-nil (seen ++ input), append-nil (drop start input)) at (told [])
 
@@ -114,7 +114,7 @@ module _ (w : Wanted) (seen input : List ℕ) (start len : ℕ) (f : Form) (told
   pub whole_bad : len ≤ length (drop start input) → accepts f (take len (drop start input)) ≡ false → says (reader_of w) 0 (seen ++ input) ≡ Bad BadUtf8
   whole_bad le t = told_now ∙ content_bad f len _ _ le t
 
-pub seen_is_front : (s : Stage) (front content : List ℕ) → is_under_way s ≡ true → content ≡ [] → seen_of s front content ≡ front
+pub seen_is_front : (s : FieldStage) (front content : List ℕ) → is_under_way s ≡ true → content ≡ [] → seen_of s front content ≡ front
 seen_is_front stage.Idle front content u e = absurd cc
 seen_is_front stage.Front front content u e = refl
 seen_is_front (stage.Content len f) front content u e = rw (e, append-nil front) refl
@@ -127,7 +127,7 @@ split_all front input start le short =
     rw (all, append_assoc front (take start input) (drop start input), take-append-drop start input) refl
 
 -- so the content goes on behind that front
-pub split_goes_on : (w : Wanted) (seen input : List ℕ) (start len : ℕ) (f : Form) (front content : List ℕ)
+pub split_goes_on : (w : Wanted) (seen input : List ℕ) (start len : ℕ) (f : ContentForm) (front content : List ℕ)
     → ((t : List ℕ) → says (reader_of w) 0 ((seen ++ input) ++ t) ≡ says (Takes len (made f)) (length seen + start) (drop start input ++ t))
     → start ≤ length input → length seen + start ≤ 24 → front ≡ seen ++ take (24 - length seen) (take start input) → content ≡ drop start input
     → (t : List ℕ) → says (reader_of w) 0 ((front ++ content) ++ t) ≡ says (Takes len (made f)) (length front) (content ++ t)
@@ -165,7 +165,7 @@ no_content (prim.Bound bound.Unset) none = refl
 no_content (prim.Bound (bound.Bytes c)) none = absurd none
 no_content (prim.Inet a z) none = refl
 
-pub same_content : (f : Form) (c : List ℕ) → c ≡ content_bytes (content_value f c)
+pub same_content : (f : ContentForm) (c : List ℕ) → c ≡ content_bytes (content_value f c)
 same_content form.Text c = refl
 same_content form.Bytes c = refl
 same_content form.Bound c = refl
@@ -186,7 +186,7 @@ module _ (w : Wanted) (front input : List ℕ) where
       let count : length front + (k - length front) ≡ k = omega arith in
       rw count (rw (append-nil (front ++ input)) at (told []))
 
-  pub content_front : (behind len : ℕ) (f : Form) → length front ≤ behind
+  pub content_front : (behind len : ℕ) (f : ContentForm) → length front ≤ behind
       → ((t : List ℕ) → says (reader_of w) 0 ((front ++ input) ++ t) ≡ says (Takes len (made f)) behind (drop (behind - 0) (front ++ input) ++ t))
       → (t : List ℕ) → says (reader_of w) 0 ((front ++ input) ++ t) ≡ says (Takes len (made f)) (length front + (behind - length front)) (drop (behind - length front) input ++ t)
   content_front behind len f le told t =
@@ -196,7 +196,7 @@ module _ (w : Wanted) (front input : List ℕ) where
 
 -- ---- contents in pieces
 
-module _ (w : Wanted) (front content input : List ℕ) (len : ℕ) (f : Form) (told : (t : List ℕ) → says (reader_of w) 0 ((front ++ content) ++ t) ≡ says (Takes len (made f)) (length front) (content ++ t)) (less : length content < len) (enough : len - length content ≤ length input) where
+module _ (w : Wanted) (front content input : List ℕ) (len : ℕ) (f : ContentForm) (told : (t : List ℕ) → says (reader_of w) 0 ((front ++ content) ++ t) ≡ says (Takes len (made f)) (length front) (content ++ t)) (less : length content < len) (enough : len - length content ≤ length input) where
   pub gathered_len : length (content ++ take (len - length content) input) ≡ len
   gathered_len = omega (arith, length-append content (take (len - length content) input), length-take-le (len - length content) input enough)
 
@@ -219,13 +219,13 @@ module _ (w : Wanted) (front content input : List ℕ) (len : ℕ) (f : Form) (t
       let all : len ≤ length (content ++ input) = omega (arith, length-append content input) in
       told input ∙ content_bad f len (length front) (content ++ input) all (rw gathered_is t)
 
-pub content_size : (f : Form) (c : List ℕ) → content_length (content_value f c) ≡ length c
+pub content_size : (f : ContentForm) (c : List ℕ) → content_length (content_value f c) ≡ length c
 content_size form.Text c = refl
 content_size form.Bytes c = refl
 content_size form.Bound c = refl
 
 -- a content that lies whole in the bytes used is not in the buffer
-pub whole_lent : (f : Form) (len start : ℕ) (rest buffer : List ℕ) → start + len < content_length (content_value f (take len rest)) → buffer ≡ content_bytes (content_value f (take len rest))
+pub whole_lent : (f : ContentForm) (len start : ℕ) (rest buffer : List ℕ) → start + len < content_length (content_value f (take len rest)) → buffer ≡ content_bytes (content_value f (take len rest))
 whole_lent f len start rest buffer lt = absurd (omega (arith, rw content_size at lt, length-take len rest))
 
 -- what `&input[start..]` is

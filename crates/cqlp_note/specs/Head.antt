@@ -8,8 +8,8 @@ use Rattle.cqlp_note.specs.declared.prim.BoundValue.TheVariants as bound
 use Rattle.cqlp_note.specs.declared.prim.Primitive.{Primitive}
 use Rattle.cqlp_note.specs.declared.prim.Primitive.TheVariants as prim
 use Rattle.cqlp_note.specs.declared.head.Wanted.{Wanted}
-use Rattle.cqlp_note.specs.declared.head.Form.{Form}
-use Rattle.cqlp_note.specs.declared.head.Form.TheVariants as form
+use Rattle.cqlp_note.specs.declared.head.ContentForm.{ContentForm}
+use Rattle.cqlp_note.specs.declared.head.ContentForm.TheVariants as form
 use Rattle.cqlp_note.specs.declared.head.Head.{Head}
 use Rattle.cqlp_note.specs.declared.head.Head.TheVariants as head
 use Rattle.cqlp_note.specs.declared.head.Stop.{Stop}
@@ -44,7 +44,7 @@ abbrev pub reader_of : Wanted → FieldReader
 reader_of w = field_of w.notation w.limit w.room
 
 -- what is made of a content
-abbrev pub made : Form → List ℕ → FieldReader
+abbrev pub made : ContentForm → List ℕ → FieldReader
 made form.Text c = text_of c
 made form.Bytes c = Gives (Bytes (Some c))
 made form.Bound c = Gives (Bound (Known c))
@@ -108,7 +108,7 @@ Tells w r k rest (Err stop.Wanting) = (k + length rest < front_of w.notation) ×
 Tells w r k rest (Err (stop.Refused why)) = (t : List ℕ) → says r k (rest ++ t) ≡ Bad why
 
 -- the same of a content of len bytes, of which k bytes tell, whatever they lie in
-abbrev pub TellsContent : Wanted → (k len : ℕ) → Form → Result Head Stop → Type 0
+abbrev pub TellsContent : Wanted → (k len : ℕ) → ContentForm → Result Head Stop → Type 0
 TellsContent w k len f (Ok (head.Whole used v)) = ⊥
 TellsContent w k len f (Ok (head.Content behind n g)) = (behind ≡ k) × (n ≡ len) × (g ≡ f) × (len ≤ w.limit) × (content_of k len w.limit w.room (made f) ≡ Takes len (made f))
 TellsContent w k len f (Err stop.Wanting) = ⊥

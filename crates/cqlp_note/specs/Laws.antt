@@ -2,10 +2,10 @@
 use Rattle.std.specs.Prelude.{◌≡◌, ℕ, ◌<◌, ◌≤◌, ◌↔◌, ◌++◌, Bool, IsTrue, List, All, length, take, FitsSigned, Option, Some, Result, Ok, IfOk, is_err}
 use Rattle.std.specs.Int.{w16}
 use Rattle.std.specs.Io.KnownBytes.{ReadConsumes, WriteAppends}
-use Rattle.cqlp_note.specs.declared.taken.Push.{Push}
-use Rattle.cqlp_note.specs.declared.taken.Push.TheVariants as push
-use Rattle.cqlp_note.specs.declared.taken.Taken.{Taken}
-use Rattle.cqlp_note.specs.declared.taken.Taken.TheVariants as taken
+use Rattle.cqlp_note.specs.declared.advance.Push.{Push}
+use Rattle.cqlp_note.specs.declared.advance.Push.TheVariants as push
+use Rattle.cqlp_note.specs.declared.advance.FieldAdvance.{FieldAdvance}
+use Rattle.cqlp_note.specs.declared.advance.FieldAdvance.TheVariants as taken
 use Rattle.cqlp_note.specs.declared.refusal.Refusal.{Refusal}
 use Rattle.cqlp_note.specs.declared.field.Notation.{Notation}
 use Rattle.cqlp_note.specs.declared.header.Header.{Header}
@@ -15,7 +15,7 @@ use Rattle.cqlp_note.specs.Streams.{counted, took_none}
 use Rattle.cqlp_note.specs.Reader.{Bad, Got, says}
 use Rattle.cqlp_note.specs.Field.{FieldValue, field_of}
 use Rattle.cqlp_note.specs.Head.{value_of}
-use Rattle.cqlp_note.specs.Partial.{Progress, IsNew, Advances, Pushes, content_length, item_value}
+use Rattle.cqlp_note.specs.Partial.{FieldState, IsNew, Advances, Pushes, content_length, item_value}
 use Rattle.cqlp_note.specs.Spelling.{Spells}
 use Rattle.cqlp_note.specs.Heading.{Headed, IsLawful, header_bytes, heading}
 
@@ -47,7 +47,7 @@ ReadIsWritten = (h : Header) (bytes : List ℕ) → length bytes ≡ 9 → All (
 -- same, and so are the states that they leave.
 
 -- the same field, of which the same bytes have come, and the same room
-pub record IsSameField (p q : Progress) : Type 0 where
+pub record IsSameField (p q : FieldState) : Type 0 where
   pub room : p.room ≡ q.room
   pub field : p.field ≡ q.field
   pub seen : p.seen ≡ q.seen
@@ -60,20 +60,20 @@ IsSamePush (push.Refused r) (push.Refused s) = r ≡ s
 IsSamePush a b = ⊥
 
 abbrev pub OneAnswerOfPush : Type 0
-OneAnswerOfPush = (p q : Progress) (input : List ℕ) (a b : Push) (new_p new_q : Progress) → IsSameField p q → Pushes p input a new_p → Pushes q input b new_q → IsSamePush a b × (new_p ≡ new_q)
+OneAnswerOfPush = (p q : FieldState) (input : List ℕ) (a b : Push) (new_p new_q : FieldState) → IsSameField p q → Pushes p input a new_p → Pushes q input b new_q → IsSamePush a b × (new_p ≡ new_q)
 
 -- the same of what `advance` answers, where a value lies in the input or in the buffer that is left
-abbrev pub IsSameTaken : (input : List ℕ) → Taken → (new_p : Progress) → Taken → (new_q : Progress) → Type 0
+abbrev pub IsSameTaken : (input : List ℕ) → FieldAdvance → (new_p : FieldState) → FieldAdvance → (new_q : FieldState) → Type 0
 IsSameTaken input (taken.More m) new_p (taken.More n) new_q = m ≡ n
 IsSameTaken input (taken.Got m i) new_p (taken.Got n j) new_q = (m ≡ n) × (item_value i input new_p.content ≡ item_value j input new_q.content)
 IsSameTaken input (taken.Refused r) new_p (taken.Refused s) new_q = r ≡ s
 IsSameTaken input a new_p b new_q = ⊥
 
 abbrev pub OneAnswerOfAdvance : Type 0
-OneAnswerOfAdvance = (p q : Progress) (input : List ℕ) (a b : Taken) (new_p new_q : Progress) → IsSameField p q → Advances p input a new_p → Advances q input b new_q → IsSameTaken input a new_p b new_q × (new_p ≡ new_q)
+OneAnswerOfAdvance = (p q : FieldState) (input : List ℕ) (a b : FieldAdvance) (new_p new_q : FieldState) → IsSameField p q → Advances p input a new_p → Advances q input b new_q → IsSameTaken input a new_p b new_q × (new_p ≡ new_q)
 
 -- the same but for the field that was asked for last, which `begin` replaces
-pub record IsSameIdle (p q : Progress) : Type 0 where
+pub record IsSameIdle (p q : FieldState) : Type 0 where
   pub room : p.room ≡ q.room
   pub under_way : p.under_way ≡ q.under_way
   pub seen : p.seen ≡ q.seen
@@ -81,7 +81,7 @@ pub record IsSameIdle (p q : Progress) : Type 0 where
 
 -- where memory was granted to both
 abbrev pub OneAnswerOfNew : Type 0
-OneAnswerOfNew = (room : ℕ) (p q : Progress) → IsNew room p → IsNew room q → IsSameIdle p q
+OneAnswerOfNew = (room : ℕ) (p q : FieldState) → IsNew room p → IsNew room q → IsSameIdle p q
 
 abbrev pub OneAnswerOfHeaderRead : Type 0
 OneAnswerOfHeaderRead = (at : ℕ) (bytes : List ℕ) (a b : Result Header Refusal) → Headed at bytes a → Headed at bytes b → a ≡ b

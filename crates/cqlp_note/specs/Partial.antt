@@ -2,25 +2,25 @@
 use Rattle.std.specs.Prelude.{◌≡◌, ℕ, ◌+◌, ◌++◌, ◌<◌, ◌≤◌, Bool, true, false, List, [], length, take, drop, Some, ⊤}
 use Rattle.std.specs.Str.{is_utf8}
 use Rattle.cqlp_note.specs.declared.head.Wanted.{Wanted}
-use Rattle.cqlp_note.specs.declared.head.Form.{Form}
-use Rattle.cqlp_note.specs.declared.head.Form.TheVariants as form
-use Rattle.cqlp_note.specs.declared.taken.Lies.{Lies}
-use Rattle.cqlp_note.specs.declared.taken.Lies.TheVariants as lies
-use Rattle.cqlp_note.specs.declared.taken.Item.{Item}
-use Rattle.cqlp_note.specs.declared.taken.Item.TheVariants as item
-use Rattle.cqlp_note.specs.declared.taken.Taken.{Taken}
-use Rattle.cqlp_note.specs.declared.taken.Taken.TheVariants as taken
-use Rattle.cqlp_note.specs.declared.taken.Push.{Push}
-use Rattle.cqlp_note.specs.declared.taken.Push.TheVariants as push
-use Rattle.cqlp_note.specs.declared.taken.Stage.{Stage}
-use Rattle.cqlp_note.specs.declared.taken.Stage.TheVariants as stage
+use Rattle.cqlp_note.specs.declared.head.ContentForm.{ContentForm}
+use Rattle.cqlp_note.specs.declared.head.ContentForm.TheVariants as form
+use Rattle.cqlp_note.specs.declared.advance.ContentPlace.{ContentPlace}
+use Rattle.cqlp_note.specs.declared.advance.ContentPlace.TheVariants as lies
+use Rattle.cqlp_note.specs.declared.advance.FieldOutline.{FieldOutline}
+use Rattle.cqlp_note.specs.declared.advance.FieldOutline.TheVariants as item
+use Rattle.cqlp_note.specs.declared.advance.FieldAdvance.{FieldAdvance}
+use Rattle.cqlp_note.specs.declared.advance.FieldAdvance.TheVariants as taken
+use Rattle.cqlp_note.specs.declared.advance.Push.{Push}
+use Rattle.cqlp_note.specs.declared.advance.Push.TheVariants as push
+use Rattle.cqlp_note.specs.declared.advance.FieldStage.{FieldStage}
+use Rattle.cqlp_note.specs.declared.advance.FieldStage.TheVariants as stage
 use Rattle.cqlp_note.specs.Reader.{More, Bad, Got, Takes, says}
 use Rattle.cqlp_note.specs.Field.{FieldValue, Text, Bytes, Bound, Known}
 use Rattle.cqlp_note.specs.Head.{reader_of, value_of, made, front_of}
 
 -- What a caller knows of a `Partial`: the room for a content; whether a field is under way, which was asked for
 -- last, and its bytes since `begin`; and the content that the buffer holds.
-pub record Progress : Type 0 where
+pub record FieldState : Type 0 where
   pub room : ℕ
   pub under_way : Bool
   pub field : Wanted
@@ -28,40 +28,40 @@ pub record Progress : Type 0 where
   pub content : List ℕ
 
 -- room for contents of this many bytes, no field under way, and nothing in the buffer
-pub record IsNew (size : ℕ) (p : Progress) : Type 0 where
+pub record IsNew (size : ℕ) (p : FieldState) : Type 0 where
   pub room : p.room ≡ size
   pub idle : p.under_way ≡ false
   pub none : p.seen ≡ []
   pub empty : p.content ≡ []
 
-abbrev pub begun : Progress → Wanted → Progress
+abbrev pub begun : FieldState → Wanted → FieldState
 begun p w = record { room = p.room; under_way = true; field = w; seen = []; content = [] }
 
 -- the same field, after these bytes of it
-abbrev pub going_on : Progress → (seen content : List ℕ) → Progress
+abbrev pub going_on : FieldState → (seen content : List ℕ) → FieldState
 going_on p seen content = record { room = p.room; under_way = true; field = p.field; seen = seen; content = content }
 
 -- no field, with this content in the buffer
-abbrev pub ended : Progress → (content : List ℕ) → Progress
+abbrev pub ended : FieldState → (content : List ℕ) → FieldState
 ended p content = record { room = p.room; under_way = false; field = p.field; seen = []; content = content }
 
 -- ---- what is inside
 
-abbrev pub is_under_way : Stage → Bool
+abbrev pub is_under_way : FieldStage → Bool
 is_under_way stage.Idle = false
 is_under_way stage.Front = true
 is_under_way (stage.Content len f) = true
 
-abbrev pub seen_of : Stage → (front content : List ℕ) → List ℕ
+abbrev pub seen_of : FieldStage → (front content : List ℕ) → List ℕ
 seen_of stage.Idle front content = []
 seen_of stage.Front front content = front
 seen_of (stage.Content len f) front content = front ++ content
 
-abbrev pub progress : Stage → Wanted → (front content : List ℕ) → (room : ℕ) → Progress
+abbrev pub progress : FieldStage → Wanted → (front content : List ℕ) → (room : ℕ) → FieldState
 progress s w front content room = record { room = room; under_way = is_under_way s; field = w; seen = seen_of s front content; content = content }
 
 -- A front goes on, or is empty. A content of len bytes goes on behind its front.
-abbrev pub IsUnderWay : Stage → Wanted → (front content : List ℕ) → (room : ℕ) → Type 0
+abbrev pub IsUnderWay : FieldStage → Wanted → (front content : List ℕ) → (room : ℕ) → Type 0
 IsUnderWay stage.Idle w front content room = ⊤
 IsUnderWay stage.Front w front content room = (content ≡ []) × (w.limit ≤ room) × (length front ≤ front_of w.notation) × (0 < length front → says (reader_of w) 0 front ≡ More)
 IsUnderWay (stage.Content len f) w front content room =
@@ -69,30 +69,30 @@ IsUnderWay (stage.Content len f) w front content room =
 
 -- ---- what is handed out
 
-abbrev pub accepts : Form → List ℕ → Bool
+abbrev pub accepts : ContentForm → List ℕ → Bool
 accepts form.Text c = is_utf8 c
 accepts form.Bytes c = true
 accepts form.Bound c = true
 
-abbrev pub content_value : Form → List ℕ → FieldValue
+abbrev pub content_value : ContentForm → List ℕ → FieldValue
 content_value form.Text c = Text c
 content_value form.Bytes c = Bytes (Some c)
 content_value form.Bound c = Bound (Known c)
 
-abbrev pub content_at : Lies → (input buffer : List ℕ) → List ℕ
+abbrev pub content_at : ContentPlace → (input buffer : List ℕ) → List ℕ
 content_at (lies.InInput start len) input buffer = take len (drop start input)
 content_at lies.InBuffer input buffer = buffer
 
-abbrev pub item_value : Item → (input buffer : List ℕ) → FieldValue
+abbrev pub item_value : FieldOutline → (input buffer : List ℕ) → FieldValue
 item_value (item.Plain v) input buffer = value_of v
 item_value (item.Content f l) input buffer = content_value f (content_at l input buffer)
 
-abbrev pub LiesThere : Lies → (input : List ℕ) → Type 0
+abbrev pub LiesThere : ContentPlace → (input : List ℕ) → Type 0
 LiesThere (lies.InInput start len) input = start + len ≤ length input
 LiesThere lies.InBuffer input = ⊤
 
 -- an item that can be lent from this input and this buffer
-abbrev pub CanLend : Item → (input buffer : List ℕ) → Type 0
+abbrev pub CanLend : FieldOutline → (input buffer : List ℕ) → Type 0
 CanLend (item.Plain v) input buffer = ⊤
 CanLend (item.Content f l) input buffer = LiesThere l input × (accepts f (content_at l input buffer) ≡ true)
 
@@ -112,7 +112,7 @@ content_bytes v = []
 
 -- The first `used` bytes of the input end the field, which is this value. Where its content lies whole in them,
 -- the buffer is empty; else it holds the content, for which it has room.
-pub record Ends (old : Progress) (input : List ℕ) (used : ℕ) (v : FieldValue) (new : Progress) : Type 0 where
+pub record Ends (old : FieldState) (input : List ℕ) (used : ℕ) (v : FieldValue) (new : FieldState) : Type 0 where
   pub within : used ≤ length input
   pub is : says (reader_of old.field) 0 (old.seen ++ input) ≡ Got v (length old.seen + used)
   pub idle : new ≡ ended old new.content
@@ -122,7 +122,7 @@ pub record Ends (old : Progress) (input : List ℕ) (used : ℕ) (v : FieldValue
 
 -- All of the input belongs to the field, which goes on. The buffer holds what has come of its content, all behind the
 -- bytes that go before one, and has room for it.
-pub record Waits (old : Progress) (input : List ℕ) (used : ℕ) (new : Progress) : Type 0 where
+pub record Waits (old : FieldState) (input : List ℕ) (used : ℕ) (new : FieldState) : Type 0 where
   pub all : used ≡ length input
   pub is : says (reader_of old.field) 0 (old.seen ++ input) ≡ More
   pub under_way : new ≡ going_on old (old.seen ++ input) new.content
@@ -130,12 +130,12 @@ pub record Waits (old : Progress) (input : List ℕ) (used : ℕ) (new : Progres
   pub fits : length new.content ≤ old.room
 
 -- What the input adds to the bytes before it makes of a field.
-abbrev pub Advances : Progress → List ℕ → Taken → Progress → Type 0
+abbrev pub Advances : FieldState → List ℕ → FieldAdvance → FieldState → Type 0
 Advances old input (taken.More used) new = Waits old input used new
 Advances old input (taken.Got used i) new = Ends old input used (item_value i input new.content) new × CanLend i input new.content
 Advances old input (taken.Refused r) new = (r.at ≡ old.field.at) × (says (reader_of old.field) 0 (old.seen ++ input) ≡ Bad r.why) × (new ≡ ended old [])
 
-abbrev pub Pushes : Progress → List ℕ → Push → Progress → Type 0
+abbrev pub Pushes : FieldState → List ℕ → Push → FieldState → Type 0
 Pushes old input (push.More used) new = Waits old input used new
 Pushes old input (push.Got used v) new = Ends old input used (value_of v) new
 Pushes old input (push.Refused r) new = (r.at ≡ old.field.at) × (says (reader_of old.field) 0 (old.seen ++ input) ≡ Bad r.why) × (new ≡ ended old [])

@@ -22,7 +22,7 @@ pub(crate) struct Wanted {
 
 /// What is made of a content: a text, bytes, or a value of a request.
 #[derive(Clone, Copy)]
-pub enum Form {
+pub enum ContentForm {
     /// UTF-8.
     Text,
     /// Any bytes.
@@ -43,7 +43,7 @@ pub(crate) enum Head {
     Content {
         behind: usize,
         len: u32,
-        form: Form,
+        form: ContentForm,
     },
 }
 
@@ -112,10 +112,10 @@ fn behind(wanted: Wanted, bytes: &[u8]) -> Result<Head, Stop>
             wanted,
             2,
             u16::from_be_bytes(first(bytes)).into(),
-            Form::Text,
+            ContentForm::Text,
         ),
         Notation::Text32 => match natural(bytes) {
-            Some(len) => content(wanted, 4, len, Form::Text),
+            Some(len) => content(wanted, 4, len, ContentForm::Text),
             None => Err(Stop::Refused(Reason::BadCount)),
         },
         Notation::Bytes16 => {
@@ -123,15 +123,15 @@ fn behind(wanted: Wanted, bytes: &[u8]) -> Result<Head, Stop>
                 wanted,
                 2,
                 u16::from_be_bytes(first(bytes)).into(),
-                Form::Bytes,
+                ContentForm::Bytes,
             )
         }
         Notation::Bytes32 => match natural(bytes) {
-            Some(len) => content(wanted, 4, len, Form::Bytes),
+            Some(len) => content(wanted, 4, len, ContentForm::Bytes),
             None => whole(4, Primitive::Bytes(None)),
         },
         Notation::Bound => match natural(bytes) {
-            Some(len) => content(wanted, 4, len, Form::Bound),
+            Some(len) => content(wanted, 4, len, ContentForm::Bound),
             None => match i32::from_be_bytes(first(bytes)) {
                 -1 => whole(4, Primitive::Bound(BoundValue::Null)),
                 -2 => whole(4, Primitive::Bound(BoundValue::Unset)),
@@ -155,13 +155,13 @@ fn behind(wanted: Wanted, bytes: &[u8]) -> Result<Head, Stop>
             }
             _ => Err(Stop::Refused(Reason::BadInet)),
         },
-        Notation::Content(len) => content(wanted, 0, len, Form::Bytes),
+        Notation::Content(len) => content(wanted, 0, len, ContentForm::Bytes),
     }
 }
 
 /// A content of this length, behind so many bytes.
 #[tactic(auto, unfolding(crate::specs::Field::content_of))]
-fn content(wanted: Wanted, behind: usize, len: u32, form: Form) -> Result<Head, Stop>
+fn content(wanted: Wanted, behind: usize, len: u32, form: ContentForm) -> Result<Head, Stop>
     requires { behind ≤ 4 }
     ensures { TellsContent wanted behind len form result }
 {

@@ -1,6 +1,7 @@
 //! Fields and headers of the CQL native protocol v4, read from pieces of any size.
 #![tactic(auto)]
 
+mod advance;
 mod field;
 mod front;
 mod head;
@@ -14,10 +15,10 @@ mod partial;
 mod prim;
 mod refusal;
 mod streams;
-mod taken;
 
+pub use advance::{ContentPlace, FieldAdvance, FieldOutline, Push};
 pub use field::{Field, Notation};
-pub use head::Form;
+pub use head::ContentForm;
 pub use header::Header;
 pub use limits::{BadLimits, Limits};
 pub use opcode::Opcode;
@@ -26,4 +27,3 @@ pub use partial::Partial;
 pub use prim::{Address, BoundValue, Primitive as Prim};
 pub use refusal::{NoMemory, Reason, Refusal};
 pub use streams::{IoFault, OfStd, Source, Target};
-pub use taken::{Item, Lies, Push, Taken};

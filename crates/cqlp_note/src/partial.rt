@@ -5,12 +5,12 @@ ghost use Rattle.std.specs.Borrow.{sem};
 ghost use Rattle.cqlp_note.specs.Reader.{says, Takes};
 ghost use Rattle.cqlp_note.specs.Head.{Tells, front_of, reader_of, value_of, made};
 
+use crate::advance::{ContentPlace, FieldAdvance, FieldOutline, FieldStage, Push};
 use crate::field::Notation;
-use crate::front::Front;
-use crate::head::{Form, Head, Stop, Wanted, head_of};
+use crate::front::FieldFront;
+use crate::head::{ContentForm, Head, Stop, Wanted, head_of};
 use crate::prim::{BoundValue, Primitive};
 use crate::refusal::{NoMemory, Reason, Refusal};
-use crate::taken::{Item, Lies, Push, Stage, Taken};
 use std::alloc::{Allocator, Global};
 use std::marker::Model;
 
@@ -18,18 +18,18 @@ use std::marker::Model;
 /// gathered in a buffer, which is reserved once.
 #[derive(Drop)]
 pub struct Partial<A: Allocator = Global> {
-    stage: Stage,
+    stage: FieldStage,
     wanted: Wanted,
-    front: Front,
+    front: FieldFront,
     content: Vec<u8, A>,
     room: u32,
 }
 
 impl<A: Allocator> Model for Partial<A> {
     ghost use Rattle.std.specs.Prelude.{◌≤◌, length, vec_capacity};
-    ghost use Rattle.cqlp_note.specs.Partial.{Progress, progress, IsUnderWay};
+    ghost use Rattle.cqlp_note.specs.Partial.{FieldState, progress, IsUnderWay};
 
-    ghost Value = { Progress };
+    ghost Value = { FieldState };
 
     ghost view = { λ p. progress p.stage p.wanted p.front p.content.items p.room };
 
@@ -37,7 +37,7 @@ impl<A: Allocator> Model for Partial<A> {
 }
 
 impl<A: Allocator> Partial<A> {
-    ghost use Rattle.cqlp_note.specs.Lending.{Next};
+    ghost use Rattle.cqlp_note.specs.Lending.{LeavesField};
     ghost use Rattle.cqlp_note.specs.Partial.{Advances, CanLend, IsNew, Pushes, Uses, begun, ended, item_value};
 
     /// With room for contents of up to `room` bytes, and no field under way. This is the one call that takes memory;
@@ -46,14 +46,14 @@ impl<A: Allocator> Partial<A> {
         ensures { IfOk result (λ partial. IsNew room partial) }
     {
         Ok(Partial {
-            stage: Stage::Idle,
+            stage: FieldStage::Idle,
             wanted: Wanted {
                 notation: Notation::Byte,
                 limit: 0,
                 at: 0,
                 room: 0,
             },
-            front: Front::new(),
+            front: FieldFront::new(),
             content: Vec::with_capacity(alloc, room as usize)?,
             room,
         })
@@ -73,9 +73,9 @@ impl<A: Allocator> Partial<A> {
             at,
             room: end - at,
         };
-        self.front = Front::new();
+        self.front = FieldFront::new();
         self.content.clear();
-        self.stage = Stage::Front;
+        self.stage = FieldStage::Front;
     }
 
     /// Takes the next bytes of the field that is under way. A content that lies whole in them is lent from them. No
@@ -83,29 +83,29 @@ impl<A: Allocator> Partial<A> {
     pub fn push<'a>(&'a mut self, input: &'a [u8]) -> Push<'a>
         requires { self.old.under_way ≡ true }
         ensures uses { Uses input.now result }
-        ensures* next { sem 𝓛 (Next A.row A.Allocator self.entry (λ after. Pushes self.old input.now result after)) }
+        ensures* next { sem 𝓛 (LeavesField A.row A.Allocator self.entry (λ after. Pushes self.old input.now result after)) }
     {
         match self.advance(input) {
-            Taken::More { used } => Push::More { used },
-            Taken::Got { used, item } => Push::Got {
+            FieldAdvance::More { used } => Push::More { used },
+            FieldAdvance::Got { used, item } => Push::Got {
                 used,
                 prim: self.lend(input, item),
             },
-            Taken::Refused(refusal) => Push::Refused(refusal),
+            FieldAdvance::Refused(refusal) => Push::Refused(refusal),
         }
     }
 
     /// The value of an item that `advance` made of this input.
-    pub fn lend<'a>(&'a self, input: &'a [u8], item: Item) -> Primitive<'a>
+    pub fn lend<'a>(&'a self, input: &'a [u8], item: FieldOutline) -> Primitive<'a>
         requires { CanLend item input.now self.now.content }
         ensures { value_of result ≡ item_value item input.now self.now.content }
     {
         match item {
-            Item::Plain(prim) => prim,
-            Item::Content { form, lies } => {
+            FieldOutline::Plain(prim) => prim,
+            FieldOutline::Content { form, lies } => {
                 let bytes = match lies {
-                    Lies::InInput { start, len } => &input[start..start + len],
-                    Lies::InBuffer => self.content.as_slice(),
+                    ContentPlace::InInput { start, len } => &input[start..start + len],
+                    ContentPlace::InBuffer => self.content.as_slice(),
                 };
                 form.prim(bytes)
             }
@@ -115,39 +115,39 @@ impl<A: Allocator> Partial<A> {
     /// Does what `push` does, but tells where a content lies in place of lending it, so that a reader around this one
     /// can go on before it lends.
     #[tactic(auto, using(crate::proofs::Pieces::content_front, crate::proofs::Pieces::gathered_bad, crate::proofs::Fronts::fixed_short))]
-    pub fn advance(&mut self, input: &[u8]) -> Taken
+    pub fn advance(&mut self, input: &[u8]) -> FieldAdvance
         requires { self.old.under_way ≡ true }
         ensures { Advances self.old input.now result self.new }
     {
         match self.stage {
-            Stage::Content { len, form } if self.content.is_empty() => {
+            FieldStage::Content { len, form } if self.content.is_empty() => {
                 self.take_content(0, len, form, input)
             }
-            Stage::Content { len, form } => {
+            FieldStage::Content { len, form } => {
                 let missing = len as usize - self.content.len();
                 if input.len() < missing {
                     self.content.extend_from_slice(input).unwrap();
-                    return Taken::More { used: input.len() };
+                    return FieldAdvance::More { used: input.len() };
                 }
                 self.content.extend_from_slice(&input[..missing]).unwrap();
-                self.stage = Stage::Idle;
+                self.stage = FieldStage::Idle;
                 if !form.accepts(&self.content) {
                     return self.refuse(Reason::BadUtf8);
                 }
-                let lies = Lies::InBuffer;
-                let item = Item::Content { form, lies };
-                Taken::Got {
+                let lies = ContentPlace::InBuffer;
+                let item = FieldOutline::Content { form, lies };
+                FieldAdvance::Got {
                     used: missing,
                     item,
                 }
             }
-            Stage::Idle => unreachable!(),
-            Stage::Front => match told(self.wanted, &self.front, input) {
+            FieldStage::Idle => unreachable!(),
+            FieldStage::Front => match told(self.wanted, &self.front, input) {
                 Ok(Head::Whole { used, prim }) => {
-                    self.stage = Stage::Idle;
+                    self.stage = FieldStage::Idle;
                     let used = used - self.front.len();
-                    let item = Item::Plain(prim);
-                    Taken::Got { used, item }
+                    let item = FieldOutline::Plain(prim);
+                    FieldAdvance::Got { used, item }
                 }
                 Ok(Head::Content { behind, len, form }) => {
                     let start = behind - self.front.len();
@@ -155,7 +155,7 @@ impl<A: Allocator> Partial<A> {
                 }
                 Err(Stop::Wanting) => {
                     self.front = self.front.with(input);
-                    Taken::More { used: input.len() }
+                    FieldAdvance::More { used: input.len() }
                 }
                 Err(Stop::Refused(why)) => self.refuse(why),
             },
@@ -164,7 +164,13 @@ impl<A: Allocator> Partial<A> {
 
     /// Takes a content, of which nothing came before `start` in the input.
     #[tactic(auto, using(crate::proofs::Pieces::whole_bad, crate::proofs::Pieces::seen_is_front, crate::proofs::Pieces::split_goes_on, crate::proofs::Pieces::rest_is, crate::proofs::Pieces::front_fits))]
-    fn take_content(&mut self, start: usize, len: u32, form: Form, input: &[u8]) -> Taken
+    fn take_content(
+        &mut self,
+        start: usize,
+        len: u32,
+        form: ContentForm,
+        input: &[u8],
+    ) -> FieldAdvance
         requires under_way { self.old.under_way ≡ true }
         requires empty { self.old.content ≡ [] }
         requires fits { len ≤ self.old.room }
@@ -178,27 +184,27 @@ impl<A: Allocator> Partial<A> {
         if rest.len() < size {
             self.front = self.front.with(&input[..start]);
             self.content.extend_from_slice(rest).unwrap();
-            self.stage = Stage::Content { len, form };
-            return Taken::More { used: input.len() };
+            self.stage = FieldStage::Content { len, form };
+            return FieldAdvance::More { used: input.len() };
         }
         if !form.accepts(&rest[..size]) {
             return self.refuse(Reason::BadUtf8);
         }
-        self.stage = Stage::Idle;
+        self.stage = FieldStage::Idle;
         let used = start + size;
-        let lies = Lies::InInput { start, len: size };
-        let item = Item::Content { form, lies };
-        Taken::Got { used, item }
+        let lies = ContentPlace::InInput { start, len: size };
+        let item = FieldOutline::Content { form, lies };
+        FieldAdvance::Got { used, item }
     }
 
     /// Ends the field by a refusal.
-    fn refuse(&mut self, why: Reason) -> Taken
-        ensures answer { result ≡ Taken.Refused (record { at = self.old.field.at; why = why }) }
+    fn refuse(&mut self, why: Reason) -> FieldAdvance
+        ensures answer { result ≡ FieldAdvance.Refused (record { at = self.old.field.at; why = why }) }
         ensures idle { self.new ≡ ended self.old [] }
     {
-        self.stage = Stage::Idle;
+        self.stage = FieldStage::Idle;
         self.content.clear();
-        Taken::Refused(Refusal {
+        FieldAdvance::Refused(Refusal {
             at: self.wanted.at,
             why,
         })
@@ -208,7 +214,7 @@ impl<A: Allocator> Partial<A> {
     pub fn is_under_way(&self) -> bool
         ensures { result ≡ self.now.under_way }
     {
-        !matches!(self.stage, Stage::Idle)
+        !matches!(self.stage, FieldStage::Idle)
     }
 
     /// How many bytes of the field that is under way have come.
@@ -219,9 +225,9 @@ impl<A: Allocator> Partial<A> {
     {
         let _room = self.room;
         match self.stage {
-            Stage::Idle => 0,
-            Stage::Front => self.front.len() as u64,
-            Stage::Content { .. } => self.front.len() as u64 + self.content.len() as u64,
+            FieldStage::Idle => 0,
+            FieldStage::Front => self.front.len() as u64,
+            FieldStage::Content { .. } => self.front.len() as u64 + self.content.len() as u64,
         }
     }
 
@@ -235,7 +241,7 @@ impl<A: Allocator> Partial<A> {
     }
 }
 
-impl Form {
+impl ContentForm {
     ghost use Rattle.cqlp_note.specs.Partial.{accepts, content_value};
 
     /// What such a content is.
@@ -246,9 +252,9 @@ impl Form {
     {
         match self {
             // The bytes are text, which `accepts` found out.
-            Form::Text => Primitive::Text(unsafe { str::from_utf8_unchecked(bytes) }),
-            Form::Bytes => Primitive::Bytes(Some(bytes)),
-            Form::Bound => Primitive::Bound(BoundValue::Bytes(bytes)),
+            ContentForm::Text => Primitive::Text(unsafe { str::from_utf8_unchecked(bytes) }),
+            ContentForm::Bytes => Primitive::Bytes(Some(bytes)),
+            ContentForm::Bound => Primitive::Bound(BoundValue::Bytes(bytes)),
         }
     }
 
@@ -258,18 +264,18 @@ impl Form {
         ensures { result ≡ accepts self bytes.now }
     {
         match self {
-            Form::Text => match str::from_utf8(bytes) {
+            ContentForm::Text => match str::from_utf8(bytes) {
                 Ok(_) => true,
                 Err(_) => false,
             },
-            Form::Bytes | Form::Bound => true,
+            ContentForm::Bytes | ContentForm::Bound => true,
         }
     }
 }
 
 /// What the front of a field tells, of which the first bytes came before.
 #[tactic(auto, using(crate::proofs::Pieces::tells_pieces))]
-fn told(wanted: Wanted, front: &Front, input: &[u8]) -> Result<Head, Stop>
+fn told(wanted: Wanted, front: &FieldFront, input: &[u8]) -> Result<Head, Stop>
     ensures { Tells wanted (reader_of wanted) 0 (front.now ++ input.now) result }
 {
     if front.as_slice().is_empty() {

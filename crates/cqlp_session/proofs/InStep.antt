@@ -11,7 +11,7 @@ use Rattle.cqlp_session.specs.declared.kind.RequestKind.{RequestKind}
 use Rattle.cqlp_session.specs.declared.kind.RequestKind.TheVariants as kind
 use Rattle.cqlp_session.specs.declared.phase.Phase.{Phase}
 use Rattle.cqlp_session.specs.declared.phase.Phase.TheVariants.{Fresh, Opening, Challenged, Ready, Failed}
-use Rattle.cqlp_session.specs.declared.streams.Open.{Open}
+use Rattle.cqlp_session.specs.declared.streams.OpenRequest.{OpenRequest}
 use Rattle.cqlp_session.specs.declared.ticket.Ticket.{Ticket}
 use Rattle.cqlp_session.specs.declared.ticket.BeginError.{BeginError}
 use Rattle.cqlp_session.specs.declared.server.ServerRefusal.{ServerRefusal}
@@ -97,7 +97,7 @@ opening_less p k o before after fits e less = elim (cases_Bool (is_handshake k))
 
 -- ---- slots
 
-abbrev pub is_busy : Option Open → Bool
+abbrev pub is_busy : Option OpenRequest → Bool
 is_busy None = false
 is_busy (Some o) = is_handshake o.kind
 
@@ -162,7 +162,7 @@ none_busy p (suc n) e = rw e (omega (arith, none_busy p n e))
 
 pub start_in_step : (c s : ℕ) → c ≤ s → IsInStep (start c s)
 start_in_step c s le = record {
-  room = omega (arith, length-replicate {A = Option Open} c None, length-replicate {A = Option RequestKind} s None);
+  room = omega (arith, length-replicate {A = Option OpenRequest} c None, length-replicate {A = Option RequestKind} s None);
   may = tt;
   same = refl;
   client_opening = none_busy is_busy c refl;
@@ -170,7 +170,7 @@ start_in_step c s le = record {
 }
 
 -- no handshake is answered while none is awaited
-not_handshake : (slots : List (Option Open)) (r : Request) → count is_busy slots ≡ 0 → IsKnown slots r → is_handshake r.kind ≡ false
+not_handshake : (slots : List (Option OpenRequest)) (r : Request) → count is_busy slots ≡ 0 → IsKnown slots r → is_handshake r.kind ≡ false
 not_handshake slots r quiet k = elim (cases_Bool (is_handshake r.kind)) [
   | inl is ↦
       let put = count_put is_busy slots r.ticket.id None (has_taken slots r.ticket.id k.entry k.there) in
@@ -180,11 +180,11 @@ not_handshake slots r quiet k = elim (cases_Bool (is_handshake r.kind)) [
   | inr isnt ↦ isnt
 ]
 
-quiet_told : (slots : List (Option Open)) (p : Phase) (s : Signal) (tag : Option Request) → count is_busy slots ≡ 0 → IsComingAs slots s tag → told_phase p s.opcode tag ≡ p
+quiet_told : (slots : List (Option OpenRequest)) (p : Phase) (s : Signal) (tag : Option Request) → count is_busy slots ≡ 0 → IsComingAs slots s tag → told_phase p s.opcode tag ≡ p
 quiet_told slots p s None quiet h = refl
 quiet_told slots p s (Some r) quiet h = phase_kept p r.kind s.opcode (not_handshake slots r quiet h.known)
 
-quiet_replies : (slots : List (Option Open)) (p : Phase) (down : List (Message (Option Request))) → count is_busy slots ≡ 0 → AllByRecursion (IsComing slots) down → replies_all p down ≡ p
+quiet_replies : (slots : List (Option OpenRequest)) (p : Phase) (down : List (Message (Option Request))) → count is_busy slots ≡ 0 → AllByRecursion (IsComing slots) down → replies_all p down ≡ p
 quiet_replies slots p [] quiet h = refl
 quiet_replies slots p (m ∷ down) quiet h = ap (λ q. replies_all q down) (quiet_told slots p m.seen m.tag quiet h.0) ∙ quiet_replies slots p down quiet h.1
 
@@ -200,7 +200,7 @@ in_step_sent w k (Ok t) p s is =
     let quiet : count is_busy slots ≡ 0 = s.client_opening ∙ (opening_begun phase k may).0 in
     let still = λ (q : Phase). quiet_replies slots q w.down quiet p.down in
     let front : accepts_all w.server.phase w.up ≡ phase = s.same ∙ still phase in
-    let entry : Option Open = Some (record { number = t.number; kind = k; cancelled = false }) in
+    let entry : Option OpenRequest = Some (record { number = t.number; kind = k; cancelled = false }) in
     let put = rw (ap is_busy at.free) at (count_put is_busy slots t.id entry at.has) in
     let m = request_message (record { ticket = t; kind = k }) in
     record {
@@ -349,11 +349,11 @@ in_step_delivered_down w (m ∷ rest) p s e = in_step_came w m rest m.tag s e re
 
 -- ---- a request is cancelled
 
-busy_marked : (o : Option Open) → is_busy (option_map marked o) ≡ is_busy o
+busy_marked : (o : Option OpenRequest) → is_busy (option_map marked o) ≡ is_busy o
 busy_marked None = refl
 busy_marked (Some o) = refl
 
-cancels_taken : (slots : List (Option Open)) (number : ℕ) (id : ℤ) (o : Option Open) → under slots id ≡ o → is_cancellable number o ≡ true → has_slot slots id ≡ true
+cancels_taken : (slots : List (Option OpenRequest)) (number : ℕ) (id : ℤ) (o : Option OpenRequest) → under slots id ≡ o → is_cancellable number o ≡ true → has_slot slots id ≡ true
 cancels_taken slots number id None e is = absurd (cc is)
 cancels_taken slots number id (Some o) e is = has_taken slots id o e
 

@@ -9,7 +9,7 @@ use Rattle.cqlp_note.specs.declared.opcode.Opcode.{Opcode}
 use Rattle.cqlp_note.specs.declared.opcode.Opcode.TheVariants as opcode
 use Rattle.cqlp_session.specs.declared.kind.RequestKind.{RequestKind}
 use Rattle.cqlp_session.specs.declared.kind.RequestKind.TheVariants as kind
-use Rattle.cqlp_session.specs.declared.streams.Open.{Open}
+use Rattle.cqlp_session.specs.declared.streams.OpenRequest.{OpenRequest}
 use Rattle.cqlp_session.specs.declared.ticket.Ticket.{Ticket}
 use Rattle.cqlp_session.specs.declared.ticket.Reply.{Reply}
 use Rattle.cqlp_session.specs.declared.ticket.Reply.TheVariants as reply
@@ -29,53 +29,53 @@ use Rattle.cqlp_session.proofs.Under.{int_eq_same, int_eq_other, cases_int, unde
 -- ---- a request and its slot
 
 -- The client's slot under the request's id has its number and its kind.
-pub record IsKnown (slots : List (Option Open)) (r : Request) : Type 0 where
-  pub entry : Open
+pub record IsKnown (slots : List (Option OpenRequest)) (r : Request) : Type 0 where
+  pub entry : OpenRequest
   pub there : under slots r.ticket.id ≡ Some entry
   pub number : entry.number ≡ r.ticket.number
   pub kind : entry.kind ≡ r.kind
 
-pub known_kept : (slots : List (Option Open)) (id : ℤ) (what : Option Open) (r : Request) → r.ticket.id ≢ id → IsKnown slots r → IsKnown (put slots id what) r
+pub known_kept : (slots : List (Option OpenRequest)) (id : ℤ) (what : Option OpenRequest) (r : Request) → r.ticket.id ≢ id → IsKnown slots r → IsKnown (put slots id what) r
 known_kept slots id what r ne k = record { entry = k.entry; there = under_put_other slots id r.ticket.id what ne ∙ k.there; number = k.number; kind = k.kind }
 
-pub known_apart : (slots : List (Option Open)) (id : ℤ) (r : Request) → under slots id ≡ None → IsKnown slots r → r.ticket.id ≢ id
+pub known_apart : (slots : List (Option OpenRequest)) (id : ℤ) (r : Request) → under slots id ≡ None → IsKnown slots r → r.ticket.id ≢ id
 known_apart slots id r free k e = let same = ap (under slots) e in absurd (cc (same, k.there, free))
 
 -- two known requests under one id have one number
-pub known_number : (slots : List (Option Open)) (r q : Request) → IsKnown slots r → IsKnown slots q → q.ticket.id ≡ r.ticket.id → q.ticket.number ≡ r.ticket.number
+pub known_number : (slots : List (Option OpenRequest)) (r q : Request) → IsKnown slots r → IsKnown slots q → q.ticket.id ≡ r.ticket.id → q.ticket.number ≡ r.ticket.number
 known_number slots r q k h e =
     let same = ap (under slots) e in
     let entries : h.entry ≡ k.entry = cc (same, k.there, h.there) in
-    sym h.number ∙ ap (λ (o : Open). o.number) entries ∙ k.number
+    sym h.number ∙ ap (λ (o : OpenRequest). o.number) entries ∙ k.number
 
 -- ---- what is on its way
 
-pub record IsSent (slots : List (Option Open)) (m : Message Request) : Type 0 where
+pub record IsSent (slots : List (Option OpenRequest)) (m : Message Request) : Type 0 where
   pub seen : m.seen ≡ (request_message m.tag).seen
   pub known : IsKnown slots m.tag
 
-pub record IsAnswerTo (slots : List (Option Open)) (s : Signal) (r : Request) : Type 0 where
+pub record IsAnswerTo (slots : List (Option OpenRequest)) (s : Signal) (r : Request) : Type 0 where
   pub response : s.response ≡ true
   pub stream : s.stream ≡ r.ticket.id
   pub fits : answers r.kind s.opcode ≡ true
   pub known : IsKnown slots r
 
-abbrev pub IsComingAs : List (Option Open) → Signal → Option Request → Type 0
+abbrev pub IsComingAs : List (Option OpenRequest) → Signal → Option Request → Type 0
 IsComingAs slots s None = s ≡ event_message.seen
 IsComingAs slots s (Some r) = IsAnswerTo slots s r
 
-abbrev pub IsComing : List (Option Open) → Message (Option Request) → Type 0
+abbrev pub IsComing : List (Option OpenRequest) → Message (Option Request) → Type 0
 IsComing slots m = IsComingAs slots m.seen m.tag
 
 -- the request under an id of the server is the one that was last taken in there
-pub record IsTaken (slots : List (Option Open)) (taken : List (Message Request)) (id : ℤ) (k : RequestKind) : Type 0 where
+pub record IsTaken (slots : List (Option OpenRequest)) (taken : List (Message Request)) (id : ℤ) (k : RequestKind) : Type 0 where
   pub request : Request
   pub last : last_under id taken ≡ Some request
   pub stream : request.ticket.id ≡ id
   pub kind : request.kind ≡ k
   pub known : IsKnown slots request
 
-pub record IsServed (slots : List (Option Open)) (served : List (Option RequestKind)) (r : Request) : Type 0 where
+pub record IsServed (slots : List (Option OpenRequest)) (served : List (Option RequestKind)) (r : Request) : Type 0 where
   pub known : IsKnown slots r
   pub kind : RequestKind
   pub there : under served r.ticket.id ≡ Some kind
@@ -158,14 +158,14 @@ ticket_may c k t is = elim (cases_Bool (may_begin c.phase k)) [
 ]
 
 -- none of the known requests has an id that is free
-none_sent : (slots : List (Option Open)) (id : ℤ) (up : List (Message Request)) → under slots id ≡ None → AllByRecursion (IsSent slots) up → count (is_sent_under id) up ≡ 0
+none_sent : (slots : List (Option OpenRequest)) (id : ℤ) (up : List (Message Request)) → under slots id ≡ None → AllByRecursion (IsSent slots) up → count (is_sent_under id) up ≡ 0
 none_sent slots id up free h = count_none (is_sent_under id) up (each_weaker (IsSent slots) (λ m. is_sent_under id m ≡ false) up (λ m k. int_eq_other m.tag.ticket.id id (known_apart slots id m.tag free k.known)) h)
 
-not_coming : (slots : List (Option Open)) (id : ℤ) (s : Signal) (tag : Option Request) → under slots id ≡ None → IsComingAs slots s tag → is_tagged_under id tag ≡ false
+not_coming : (slots : List (Option OpenRequest)) (id : ℤ) (s : Signal) (tag : Option Request) → under slots id ≡ None → IsComingAs slots s tag → is_tagged_under id tag ≡ false
 not_coming slots id s None free h = refl
 not_coming slots id s (Some r) free h = int_eq_other r.ticket.id id (known_apart slots id r free h.known)
 
-none_coming : (slots : List (Option Open)) (id : ℤ) (down : List (Message (Option Request))) → under slots id ≡ None → AllByRecursion (IsComing slots) down → count (is_coming_under id) down ≡ 0
+none_coming : (slots : List (Option OpenRequest)) (id : ℤ) (down : List (Message (Option Request))) → under slots id ≡ None → AllByRecursion (IsComing slots) down → count (is_coming_under id) down ≡ 0
 none_coming slots id down free h = count_none (is_coming_under id) down (each_weaker (IsComing slots) (λ m. is_coming_under id m ≡ false) down (λ m k. not_coming slots id m.seen m.tag free k) h)
 
 none_present : (w : World) (id : ℤ) (o : Option RequestKind) → IsPaired w → under w.client.slots id ≡ None → under w.server.slots id ≡ o → present o ≡ 0
@@ -183,10 +183,10 @@ none_flies w id p free =
     omega (arith, up, down, at)
 
 -- a slot that is written under an id that was free keeps what is known
-kept_sent : (slots : List (Option Open)) (id : ℤ) (what : Option Open) → under slots id ≡ None → (m : Message Request) → IsSent slots m → IsSent (put slots id what) m
+kept_sent : (slots : List (Option OpenRequest)) (id : ℤ) (what : Option OpenRequest) → under slots id ≡ None → (m : Message Request) → IsSent slots m → IsSent (put slots id what) m
 kept_sent slots id what free m h = record { seen = h.seen; known = known_kept slots id what m.tag (known_apart slots id m.tag free h.known) h.known }
 
-coming_kept : (slots : List (Option Open)) (id : ℤ) (what : Option Open) (s : Signal) (tag : Option Request) → is_tagged_under id tag ≡ false → IsComingAs slots s tag → IsComingAs (put slots id what) s tag
+coming_kept : (slots : List (Option OpenRequest)) (id : ℤ) (what : Option OpenRequest) (s : Signal) (tag : Option Request) → is_tagged_under id tag ≡ false → IsComingAs slots s tag → IsComingAs (put slots id what) s tag
 coming_kept slots id what s None other h = h
 coming_kept slots id what s (Some r) other h = record {
   response = h.response;
@@ -195,7 +195,7 @@ coming_kept slots id what s (Some r) other h = record {
   known = known_kept slots id what r (λ e. absurd (cc (ap (λ i. int_eq i id) e ∙ int_eq_same id, other))) h.known;
 }
 
-taken_kept : (slots : List (Option Open)) (id : ℤ) (what : Option Open) (taken : List (Message Request)) (at : ℤ) (k : RequestKind) → at ≢ id → IsTaken slots taken at k → IsTaken (put slots id what) taken at k
+taken_kept : (slots : List (Option OpenRequest)) (id : ℤ) (what : Option OpenRequest) (taken : List (Message Request)) (at : ℤ) (k : RequestKind) → at ≢ id → IsTaken slots taken at k → IsTaken (put slots id what) taken at k
 taken_kept slots id what taken at k ne t = record {
   request = t.request;
   last = t.last;
@@ -204,11 +204,11 @@ taken_kept slots id what taken at k ne t = record {
   known = known_kept slots id what t.request (λ e. ne (sym t.stream ∙ e)) t.known;
 }
 
-served_kept : (slots : List (Option Open)) (served : List (Option RequestKind)) (id : ℤ) (what : Option Open) (r : Request) → r.ticket.id ≢ id → IsServed slots served r → IsServed (put slots id what) served r
+served_kept : (slots : List (Option OpenRequest)) (served : List (Option RequestKind)) (id : ℤ) (what : Option OpenRequest) (r : Request) → r.ticket.id ≢ id → IsServed slots served r → IsServed (put slots id what) served r
 served_kept slots served id what r ne s = record { known = known_kept slots id what r ne s.known; kind = s.kind; there = s.there }
 
 -- a server's slot that is written under another id
-served_written : (slots : List (Option Open)) (served : List (Option RequestKind)) (id : ℤ) (what : Option RequestKind) (r : Request) → r.ticket.id ≢ id → IsServed slots served r → IsServed slots (put served id what) r
+served_written : (slots : List (Option OpenRequest)) (served : List (Option RequestKind)) (id : ℤ) (what : Option RequestKind) (r : Request) → r.ticket.id ≢ id → IsServed slots served r → IsServed slots (put served id what) r
 served_written slots served id what r ne s = record { known = s.known; kind = s.kind; there = under_put_other served id r.ticket.id what ne ∙ s.there }
 
 flights_sent : (up : List (Message Request)) (served : List (Option RequestKind)) (down : List (Message (Option Request))) (r : Request) (id : ℤ) → flights (up ++ request_message r ∷ []) served down id ≡ flights up served down id + cond (int_eq r.ticket.id id) 1 0
@@ -232,7 +232,7 @@ paired_sent w k (Err e) p is = p
 paired_sent w k (Ok t) p is =
     let slots = w.client.slots in
     let at = ticket_found w.client k t is in
-    let entry : Open = record { number = t.number; kind = k; cancelled = false } in
+    let entry : OpenRequest = record { number = t.number; kind = k; cancelled = false } in
     let r : Request = record { ticket = t; kind = k } in
     let known : IsKnown (put slots t.id (Some entry)) r = record { entry = entry; there = under_put_same slots t.id (Some entry) at.has; number = refl; kind = refl } in
     let apart = λ (q : Request) (h : IsKnown slots q). known_apart slots t.id q at.free h in
@@ -388,12 +388,12 @@ pub answer_found : (c : ServerCore) (id : ℤ) (o : Opcode) (k : RequestKind) �
 answer_found c id o k is = answer_for_found c id o k (under c.slots id) refl is
 
 -- a request that another number's removal leaves has another id
-apart_left : (slots : List (Option Open)) (r q : Request) → IsKnown slots r → IsKnown slots q → not (eqb q.ticket.number r.ticket.number) ≡ true → q.ticket.id ≢ r.ticket.id
+apart_left : (slots : List (Option OpenRequest)) (r q : Request) → IsKnown slots r → IsKnown slots q → not (eqb q.ticket.number r.ticket.number) ≡ true → q.ticket.id ≢ r.ticket.id
 apart_left slots r q known h left e =
     let same = eq-eqb q.ticket.number r.ticket.number (known_number slots r q known h e) in
     absurd (cc (left, ap not same))
 
-without_known : (slots : List (Option Open)) (P : Request → Type 0) (known_of : (q : Request) → P q → IsKnown slots q) (r : Request) (rs : List Request) → IsKnown slots r → AllByRecursion P rs → AllByRecursion (λ q. P q × (q.ticket.id ≢ r.ticket.id)) (without (Some r) rs)
+without_known : (slots : List (Option OpenRequest)) (P : Request → Type 0) (known_of : (q : Request) → P q → IsKnown slots q) (r : Request) (rs : List Request) → IsKnown slots r → AllByRecursion P rs → AllByRecursion (λ q. P q × (q.ticket.id ≢ r.ticket.id)) (without (Some r) rs)
 without_known slots P known_of r rs known h =
     each_weaker _ _ (without (Some r) rs) (λ q k. (k.0, apart_left slots r q known (known_of q k.0) k.1)) (each_filtered P (λ q. not (eqb q.ticket.number r.ticket.number)) rs h)
 
@@ -480,7 +480,7 @@ no_event kind.AuthResponse opcode.Event e = cc e
 no_event k o e = refl
 
 -- what a client answers to the reply to this request
-abbrev pub told : Signal → Open → Reply
+abbrev pub told : Signal → OpenRequest → Reply
 told s o = let ticket : Ticket = record { id = s.stream; number = o.number } in cond o.cancelled (reply.Dropped ticket) (reply.Answer ticket o.kind)
 
 pub reply_told : (c : ClientCore) (s : Signal) (r : Request) (a : IsAnswerTo c.slots s r) → reply_to c s ≡ Ok (told s a.known.entry)
@@ -491,10 +491,10 @@ reply_told c s r a =
     rw (a.response, event, there, fits) refl
 
 -- the client once the request is answered
-abbrev pub freed : ClientCore → Signal → Open → ClientCore
+abbrev pub freed : ClientCore → Signal → OpenRequest → ClientCore
 freed c s o = record { phase = phase_answered c.phase o.kind s.opcode; begun = c.begun; slots = put c.slots s.stream None }
 
-replied_told : (c : ClientCore) (s : Signal) (o : Open) (cancelled : Bool) → o.cancelled ≡ cancelled → replied c s (Ok (told s o)) ≡ closed c s (under c.slots s.stream)
+replied_told : (c : ClientCore) (s : Signal) (o : OpenRequest) (cancelled : Bool) → o.cancelled ≡ cancelled → replied c s (Ok (told s o)) ≡ closed c s (under c.slots s.stream)
 replied_told c s o true e = rw e refl
 replied_told c s o false e = rw e refl
 
@@ -577,7 +577,7 @@ paired_delivered_down w (m ∷ rest) p e =
 -- ---- a request is cancelled
 
 -- whatever stands under an id, marked
-known_marked : (slots : List (Option Open)) (id : ℤ) (r : Request) → IsKnown slots r → IsKnown (put slots id (option_map marked (under slots id))) r
+known_marked : (slots : List (Option OpenRequest)) (id : ℤ) (r : Request) → IsKnown slots r → IsKnown (put slots id (option_map marked (under slots id))) r
 known_marked slots id r k = elim (cases_int r.ticket.id id) [
   | inl same ↦
       let here : under slots id ≡ Some k.entry = ap (under slots) (sym same) ∙ k.there in
@@ -591,7 +591,7 @@ known_marked slots id r k = elim (cases_int r.ticket.id id) [
   | inr other ↦ known_kept slots id (option_map marked (under slots id)) r other k
 ]
 
-coming_marked : (slots : List (Option Open)) (id : ℤ) (s : Signal) (tag : Option Request) → IsComingAs slots s tag → IsComingAs (put slots id (option_map marked (under slots id))) s tag
+coming_marked : (slots : List (Option OpenRequest)) (id : ℤ) (s : Signal) (tag : Option Request) → IsComingAs slots s tag → IsComingAs (put slots id (option_map marked (under slots id))) s tag
 coming_marked slots id s None h = h
 coming_marked slots id s (Some r) h = record { response = h.response; stream = h.stream; fits = h.fits; known = known_marked slots id r h.known }
 

@@ -5,7 +5,7 @@ use Rattle.std.proofs.lemmas.List.Elements.{All-from_recursion}
 use Rattle.std.specs.List.{AllByRecursion}
 use Rattle.cqlp_note.specs.declared.opcode.Opcode.TheVariants as opcode
 use Rattle.cqlp_session.specs.declared.kind.RequestKind.{RequestKind}
-use Rattle.cqlp_session.specs.declared.streams.Open.{Open}
+use Rattle.cqlp_session.specs.declared.streams.OpenRequest.{OpenRequest}
 use Rattle.cqlp_session.specs.declared.ticket.Ticket.{Ticket}
 use Rattle.cqlp_session.specs.declared.ticket.Reply.{Reply}
 use Rattle.cqlp_session.specs.declared.ticket.Reply.TheVariants as reply
@@ -23,7 +23,7 @@ use Rattle.cqlp_session.proofs.Paired.{IsComing, IsComingAs, IsPaired, known_apa
 event_told : (c : ClientCore) (s : Signal) → s ≡ event_message.seen → reply_to c s ≡ Ok reply.ServerEvent
 event_told c s e = ap (reply_to c) e
 
-about : (s : Signal) (o : Open) (r : Request) (cancelled : Bool) → s.stream ≡ r.ticket.id → o.number ≡ r.ticket.number → o.kind ≡ r.kind
+about : (s : Signal) (o : OpenRequest) (r : Request) (cancelled : Bool) → s.stream ≡ r.ticket.id → o.number ≡ r.ticket.number → o.kind ≡ r.kind
     → (let ticket : Ticket = record { id = s.stream; number = o.number } in IsReplyAbout (Some r) (Ok (cond cancelled (reply.Dropped ticket) (reply.Answer ticket o.kind))))
 about s o r true id number kind = λ i. record { id = sym id i; number = sym number i }
 about s o r false id number kind = λ i. Some (record { ticket = record { id = sym id i; number = sym number i }; kind = sym kind i })

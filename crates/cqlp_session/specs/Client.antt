@@ -10,7 +10,7 @@ use Rattle.cqlp_session.specs.declared.ticket.BeginError.{BeginError}
 use Rattle.cqlp_session.specs.declared.ticket.BeginError.TheVariants.{Phase, Spent, Full}
 use Rattle.cqlp_session.specs.declared.ticket.Stray.{Stray}
 use Rattle.cqlp_session.specs.declared.ticket.Stray.TheVariants.{NotResponse, NoSuchStream, WrongOpcode}
-use Rattle.cqlp_session.specs.declared.streams.Open.{Open}
+use Rattle.cqlp_session.specs.declared.streams.OpenRequest.{OpenRequest}
 use Rattle.cqlp_session.specs.Kind.{answers, is_handshake}
 use Rattle.cqlp_session.specs.Phase.{may_begin, phase_begun, phase_answered}
 use Rattle.cqlp_session.specs.Signal.{Signal, is_pushed}
@@ -20,7 +20,7 @@ use Rattle.cqlp_session.specs.Slots.{least_free, put, under}
 pub record ClientCore : Type 0 where
   pub phase : PhaseOf
   pub begun : ℕ
-  pub slots : List (Option Open)
+  pub slots : List (Option OpenRequest)
 
 -- a core that is made: nothing has begun
 abbrev pub new_client : (slots : ℕ) → ClientCore
@@ -52,7 +52,7 @@ begun c k (Err e) = c
 -- ---- reply
 
 -- what is answered, where this is open under the message's id
-abbrev pub reply_for : Signal → Option Open → Result Reply Stray
+abbrev pub reply_for : Signal → Option OpenRequest → Result Reply Stray
 reply_for s None = Err NoSuchStream
 reply_for s (Some o) =
     let ticket : Ticket = record { id = s.stream; number = o.number } in
@@ -66,7 +66,7 @@ reply_to c s =
     else (if s.response then reply_for s (under c.slots s.stream) else Err NotResponse)
 
 -- the core once the request that is open under this id is answered
-abbrev pub closed : ClientCore → Signal → Option Open → ClientCore
+abbrev pub closed : ClientCore → Signal → Option OpenRequest → ClientCore
 closed c s None = c
 closed c s (Some o) = record { phase = phase_answered c.phase o.kind s.opcode; begun = c.begun; slots = put c.slots s.stream None }
 
@@ -80,7 +80,7 @@ replied c s (Err e) = c
 -- ---- cancel
 
 -- what is open under an id is a request of this number, and may be cancelled
-abbrev pub is_cancellable : (number : ℕ) → Option Open → Bool
+abbrev pub is_cancellable : (number : ℕ) → Option OpenRequest → Bool
 is_cancellable number None = false
 is_cancellable number (Some o) = (o.number == number) && (not o.cancelled && not (is_handshake o.kind))
 
@@ -90,7 +90,7 @@ abbrev pub cancels : ClientCore → Ticket → Bool
 cancels c t = is_cancellable t.number (under c.slots t.id)
 
 -- the same request, cancelled
-abbrev pub marked : Open → Open
+abbrev pub marked : OpenRequest → OpenRequest
 marked o = record { number = o.number; kind = o.kind; cancelled = true }
 
 -- the core after this answer to `cancel`

@@ -7,7 +7,7 @@ use crate::kind::RequestKind;
 use crate::phase::Phase;
 use crate::refusal::SlotsOrMemory;
 use crate::slots;
-use crate::streams::{Open, Streams};
+use crate::streams::{OpenRequest, Streams};
 use crate::ticket::{BeginError, Reply, Stray, Ticket};
 use cqlp_note::{Header, Opcode};
 use std::alloc::{Allocator, Global};
@@ -88,7 +88,7 @@ impl<A: Allocator> Client<A> {
         let number = self.begun + 1;
         self.phase = self.phase.begun(kind);
         self.begun = number;
-        let open = Open {
+        let open = OpenRequest {
             number,
             kind,
             cancelled: false,
@@ -156,7 +156,7 @@ impl<A: Allocator> Client<A> {
         if open.number != ticket.number || open.cancelled || open.kind.is_handshake() {
             return false;
         }
-        let open = Open {
+        let open = OpenRequest {
             cancelled: true,
             ..open
         };

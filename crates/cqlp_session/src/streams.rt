@@ -9,7 +9,7 @@ use std::marker::Model;
 
 /// A request whose reply has not come.
 #[derive(Clone, Copy, Debug, PartialEq, Eq)]
-pub struct Open {
+pub struct OpenRequest {
     /// The place of the request among all that the core began.
     pub number: u64,
     pub kind: RequestKind,
@@ -19,18 +19,18 @@ pub struct Open {
 /// The request that is open under each id, and which ids are free.
 #[derive(Drop)]
 pub(crate) struct Streams<A: Allocator = Global> {
-    slots: Vec<Option<Open>, A>,
+    slots: Vec<Option<OpenRequest>, A>,
     /// A bit for each id, set where it is free.
     free: Vec<u64, A>,
 }
 
 impl<A: Allocator> Model for Streams<A> {
     ghost use Rattle.std.specs.Prelude.{List, Option, length};
-    ghost use Rattle.cqlp_session.specs.declared.streams.Open.{Open};
+    ghost use Rattle.cqlp_session.specs.declared.streams.OpenRequest.{OpenRequest};
     ghost use Rattle.cqlp_session.specs.Slots.{IsSlotCount};
     ghost use Rattle.cqlp_session.specs.Ids.{Marks};
 
-    ghost Value = { List (Option Open) };
+    ghost Value = { List (Option OpenRequest) };
 
     ghost view = { λ s. s.slots.items };
 
@@ -54,7 +54,7 @@ impl<A: Allocator> Streams<A> {
     }
 
     /// The request that is open under this id.
-    pub(crate) fn under(&self, id: i16) -> Option<Open>
+    pub(crate) fn under(&self, id: i16) -> Option<OpenRequest>
         ensures { result ≡ under self.now id }
     {
         slots::under(&self.slots, id)
@@ -73,7 +73,7 @@ impl<A: Allocator> Streams<A> {
     }
 
     /// Opens a request under this id, or frees it.
-    pub(crate) fn put(&mut self, id: i16, what: Option<Open>)
+    pub(crate) fn put(&mut self, id: i16, what: Option<OpenRequest>)
         ensures { self.new ≡ put self.old id what }
     {
         let Some(place) = slots::index_of(id) else {

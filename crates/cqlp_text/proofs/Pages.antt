@@ -5,7 +5,7 @@ use Rattle.std.proofs.lemmas.List.{drop-set}
 use Rattle.std.proofs.lemmas.Option.{same_Some}
 use Rattle.cqlp_decode.specs.declared.sink.SinkFault.{SinkFault}
 use Rattle.cqlp_type.specs.declared.kind.Kind.{Kind}
-use Rattle.cqlp_text.specs.declared.page_text.Open.{Open}
+use Rattle.cqlp_text.specs.declared.page_text.WrittenValue.{WrittenValue}
 use Rattle.cqlp_text.specs.declared.page_text.Turn.{Turn}
 use Rattle.cqlp_text.specs.declared.page_text.Turn.TheVariants.{First}
 use Rattle.cqlp_text.specs.PageText.{PagePlace, behind, closing, end_part, innermost, turn_after, with_item, with_open, without_open}
@@ -13,41 +13,41 @@ use Rattle.cqlp_text.specs.Written.{Written, Writes}
 use Rattle.cqlp_text.proofs.Writing.{Progress, progress_writes}
 
 -- the place with these open values
-abbrev pub placed : Bool → (columns column : ℕ) → List Open → PagePlace
+abbrev pub placed : Bool → (columns column : ℕ) → List WrittenValue → PagePlace
 placed is_page columns column os = record { is_page = is_page; columns = columns; column = column; open_values = os }
 
-next : (n : ℕ) (xs : List Open) → drop (suc n) xs ≡ without_open (drop n xs)
+next : (n : ℕ) (xs : List WrittenValue) → drop (suc n) xs ≡ without_open (drop n xs)
 next zero [] = refl
 next zero (x ∷ xs) = refl
 next (suc n) [] = refl
 next (suc n) (x ∷ xs) = next n xs
 
-pub drop_next : (n : ℕ) (xs : List Open) → drop (n + 1) xs ≡ without_open (drop n xs)
+pub drop_next : (n : ℕ) (xs : List WrittenValue) → drop (n + 1) xs ≡ without_open (drop n xs)
 drop_next n xs = ap (λ k. drop k xs) (add-one n) ∙ next n xs
 
 -- nothing stands behind an item
-pub behind_item : (columns column n : ℕ) (xs : List Open) → n < length xs → behind columns column (drop n xs) ≡ []
+pub behind_item : (columns column n : ℕ) (xs : List WrittenValue) → n < length xs → behind columns column (drop n xs) ≡ []
 behind_item columns column n [] lt = absurd (omega arith)
 behind_item columns column zero (x ∷ xs) lt = refl
 behind_item columns column (suc n) (x ∷ xs) lt = behind_item columns column n xs (omega arith)
 
-pub item_counted : (n : ℕ) (xs : List Open) (d : Open) (t : Turn) → n < length xs → t ≡ turn_after (get_or xs n d).kind (get_or xs n d).turn
+pub item_counted : (n : ℕ) (xs : List WrittenValue) (d : WrittenValue) (t : Turn) → n < length xs → t ≡ turn_after (get_or xs n d).kind (get_or xs n d).turn
     → drop n (set xs n (record { kind = (get_or xs n d).kind; turn = t })) ≡ with_item (drop n xs)
 item_counted n [] d t lt e = absurd (omega arith)
-item_counted zero (x ∷ xs) d t lt e = ap (λ (u : Turn). let o : Open = record { kind = x.kind; turn = u } in o ∷ xs) e
+item_counted zero (x ∷ xs) d t lt e = ap (λ (u : Turn). let o : WrittenValue = record { kind = x.kind; turn = u } in o ∷ xs) e
 item_counted (suc n) (x ∷ xs) d t lt e = item_counted n xs d t (omega arith) e
 
-pub pushed : (n : ℕ) (xs : List Open) (k : Kind) → n ≢ 0 → n ≤ 64 → length xs ≡ 64 → drop (n - 1) (set xs (n - 1) (record { kind = k; turn = First })) ≡ with_open k (drop n xs)
+pub pushed : (n : ℕ) (xs : List WrittenValue) (k : Kind) → n ≢ 0 → n ≤ 64 → length xs ≡ 64 → drop (n - 1) (set xs (n - 1) (record { kind = k; turn = First })) ≡ with_open k (drop n xs)
 pushed n xs k some within long =
     let free : (length (drop n xs) == 64) ≡ false = simp length-drop (grind (arith, nat_tests)) in
     let end : (n - 1) + 1 ≡ n = omega arith in
-    let o : Open = record { kind = k; turn = First } in
+    let o : WrittenValue = record { kind = k; turn = First } in
     drop-set xs (n - 1) o (omega arith) ∙ ap (λ m. o ∷ drop m xs) end ∙ ap (λ (b : Bool). if b then drop n xs else o ∷ drop n xs) (sym free)
 
 -- the end of the innermost open value
-pub closed : (columns column : ℕ) (os : List Open) (o : Open) → Some o ≡ innermost os → end_part columns column os ≡ closing o.kind ++ behind columns column (without_open os)
+pub closed : (columns column : ℕ) (os : List WrittenValue) (o : WrittenValue) → Some o ≡ innermost os → end_part columns column os ≡ closing o.kind ++ behind columns column (without_open os)
 closed columns column [] o e = cc
-closed columns column (x ∷ os) o e = ap (λ (p : Open). closing p.kind ++ behind columns column os) (same_Some x o (sym e))
+closed columns column (x ∷ os) o e = ap (λ (p : WrittenValue). closing p.kind ++ behind columns column os) (same_Some x o (sym e))
 
 pub content_starts : (offset : ℕ) (text : List ℕ) → offset ≤ 0 → (if offset == 0 then text else []) ≡ text
 content_starts zero text le = refl

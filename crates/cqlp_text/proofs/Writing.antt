@@ -9,7 +9,7 @@ use Rattle.std.specs.Io.KnownBytes.{Appends}
 use Rattle.cqlp_note.specs.Streams.{counted}
 use Rattle.cqlp_decode.specs.declared.sink.SinkFault.{SinkFault}
 use Rattle.cqlp_text.specs.Outputs.{WritesText, output}
-use Rattle.cqlp_text.specs.Written.{Written, PassesOn, Takes, BreaksOff, Writes, bare}
+use Rattle.cqlp_text.specs.Written.{Written, PassesOn, Receives, BreaksOff, Writes, bare}
 
 passed_then : (a b c : Written) (x y left : List ℕ) → PassesOn a x b.waiting b.given → PassesOn b y left c.given → PassesOn a (x ++ y) left c.given
 passed_then a b c x y left first second text given =
@@ -18,21 +18,21 @@ passed_then a b c x y left first second text given =
     (p.0 ++ q.0, q.1 ∙ ap (λ t. Some t) (append_assoc text p.0 q.0), append_assoc p.0 q.0 left ∙ ap (λ t. p.0 ++ t) q.2 ∙ sym (append_assoc p.0 b.waiting y) ∙ ap (λ t. t ++ y) p.2 ∙ append_assoc a.waiting x y)
 
 -- nothing more
-pub takes_nothing : (w : Written) → Takes w [] w
+pub takes_nothing : (w : Written) → Receives w [] w
 takes_nothing w = record {
   passed = λ text given. ([], given ∙ ap (λ t. Some t) (sym (append-nil text)), sym (append-nil w.waiting));
   failures = refl;
   lender = refl;
 }
 
-pub takes_then_takes : (a b c : Written) (x y : List ℕ) → Takes a x b → Takes b y c → Takes a (x ++ y) c
+pub takes_then_takes : (a b c : Written) (x y : List ℕ) → Receives a x b → Receives b y c → Receives a (x ++ y) c
 takes_then_takes a b c x y first second = record {
   passed = passed_then a b c x y c.waiting first.passed second.passed;
   failures = second.failures ∙ first.failures;
   lender = second.lender ∙ first.lender;
 }
 
-pub takes_then_breaks : (a b c : Written) (x y : List ℕ) → Takes a x b → BreaksOff b y c → BreaksOff a (x ++ y) c
+pub takes_then_breaks : (a b c : Written) (x y : List ℕ) → Receives a x b → BreaksOff b y c → BreaksOff a (x ++ y) c
 takes_then_breaks a b c x y first second = record {
   lost = second.lost;
   behind = second.behind;
@@ -97,7 +97,7 @@ breaks_at old new f f' n bytes short grows failed =
     }
 
 -- a target that took all
-pub takes_at : (old new : Option (List ℕ)) (f f' n : ℕ) (bytes : List ℕ) → n ≤ length bytes → length bytes ≤ n → Appends old new (take n bytes) → f' ≡ counted (nat_lt n (length bytes)) f → Takes (bare old f) bytes (bare new f')
+pub takes_at : (old new : Option (List ℕ)) (f f' n : ℕ) (bytes : List ℕ) → n ≤ length bytes → length bytes ≤ n → Appends old new (take n bytes) → f' ≡ counted (nat_lt n (length bytes)) f → Receives (bare old f) bytes (bare new f')
 takes_at old new f f' n bytes within all grows same =
     let whole : take n bytes ≡ bytes = grind (arith, common_steps) in
     record {
@@ -112,21 +112,21 @@ takes_at old new f f' n bytes within all grows same =
 pub record Progress (start : Written) (text left : List ℕ) (now : Written) : Type 0 where
   pub front : List ℕ
   pub split : front ++ left ≡ text
-  pub takes : Takes start front now
+  pub takes : Receives start front now
 
 pub progress_starts : (w : Written) (text : List ℕ) → Progress w text text w
 progress_starts w text = record { front = []; split = refl; takes = takes_nothing w }
 
-pub progress_goes_on : {a b c : Written} {text left x : List ℕ} (later : List ℕ) → Progress a text left b → left ≡ x ++ later → Takes b x c → Progress a text later c
+pub progress_goes_on : {a b c : Written} {text left x : List ℕ} (later : List ℕ) → Progress a text left b → left ≡ x ++ later → Receives b x c → Progress a text later c
 progress_goes_on {a} {b} {c} {text} {left} {x} later here parts takes = record {
   front = here.front ++ x;
   split = append_assoc here.front x later ∙ ap (λ t. here.front ++ t) (sym parts) ∙ here.split;
   takes = takes_then_takes a b c here.front x here.takes takes;
 }
 
-pub progress_ends : {a b : Written} {text left : List ℕ} → Progress a text left b → left ≡ [] → Takes a text b
+pub progress_ends : {a b : Written} {text left : List ℕ} → Progress a text left b → left ≡ [] → Receives a text b
 progress_ends {a} {b} {text} {left} here none =
-    subst (λ (t : List ℕ). Takes a t b) (sym (append-nil here.front) ∙ ap (λ t. here.front ++ t) (sym none) ∙ here.split) here.takes
+    subst (λ (t : List ℕ). Receives a t b) (sym (append-nil here.front) ∙ ap (λ t. here.front ++ t) (sym none) ∙ here.split) here.takes
 
 pub progress_breaks : {a b c : Written} {text left x : List ℕ} (later : List ℕ) → Progress a text left b → left ≡ x ++ later → BreaksOff b x c → BreaksOff a text c
 progress_breaks {a} {b} {c} {text} {left} {x} later here parts breaks =

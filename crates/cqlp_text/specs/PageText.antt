@@ -11,7 +11,7 @@ use Rattle.cqlp_value.specs.CellStep.{CellEvent}
 use Rattle.cqlp_value.specs.CellStep as cell
 use Rattle.cqlp_decode.specs.Reading.{Event}
 use Rattle.cqlp_decode.specs.Reading as reading
-use Rattle.cqlp_text.specs.declared.page_text.Open.{Open}
+use Rattle.cqlp_text.specs.declared.page_text.WrittenValue.{WrittenValue}
 use Rattle.cqlp_text.specs.declared.page_text.Turn.{Turn}
 use Rattle.cqlp_text.specs.declared.page_text.Turn.TheVariants.{First, Paired, Another}
 use Rattle.cqlp_text.specs.Text.{quoted}
@@ -24,7 +24,7 @@ pub record PagePlace : Type 0 where
   pub is_page : Bool
   pub columns : ℕ
   pub column : ℕ
-  pub open_values : List Open
+  pub open_values : List WrittenValue
 
 abbrev pub no_page : PagePlace
 no_page = record { is_page = false; columns = 0; column = 0; open_values = [] }
@@ -49,16 +49,16 @@ separator Paired = codes ": "
 separator Another = codes ", "
 
 -- before a cell of this column, or before an item of the value that is open
-abbrev pub before : (column : ℕ) → List Open → List ℕ
+abbrev pub before : (column : ℕ) → List WrittenValue → List ℕ
 before column [] = if column == 0 then [] else codes " | "
 before column (o ∷ os) = separator o.turn
 
 -- behind the last cell of a row
-abbrev pub behind : (columns column : ℕ) → List Open → List ℕ
+abbrev pub behind : (columns column : ℕ) → List WrittenValue → List ℕ
 behind columns column [] = if column + 1 == columns then codes "\n" else []
 behind columns column (o ∷ os) = []
 
-abbrev pub innermost : List Open → Option Open
+abbrev pub innermost : List WrittenValue → Option WrittenValue
 innermost [] = None
 innermost (o ∷ os) = Some o
 
@@ -68,12 +68,12 @@ turn_after kind.Map First = Paired
 turn_after kind.Map Another = Paired
 turn_after _ _ = Another
 
-abbrev pub with_item : List Open → List Open
+abbrev pub with_item : List WrittenValue → List WrittenValue
 with_item [] = []
 with_item (o ∷ os) = record o { turn = turn_after o.kind o.turn } ∷ os
 
 -- one more open value; no type is deeper than 64, the greatest depth that limits allow
-abbrev pub with_open : Kind → List Open → List Open
+abbrev pub with_open : Kind → List WrittenValue → List WrittenValue
 with_open k os = if length os == 64 then os else record { kind = k; turn = First } ∷ os
 
 -- ---- the text of an event on a page
@@ -93,17 +93,17 @@ module _ (p : PagePlace) (column : ℕ) where
       (if offset == 0 then before column p.open_values ++ codes "0x" else [])
       ++ (encode_lower bytes ++ (if last then behind p.columns column p.open_values else []))
 
-  abbrev pub open_after : CellEvent → List Open
+  abbrev pub open_after : CellEvent → List WrittenValue
   open_after (cell.Enter level k items) = with_open k (with_item p.open_values)
   open_after (cell.Part level offset bytes false) = p.open_values
   open_after e = with_item p.open_values
 
 -- the innermost open value ends
-abbrev pub end_part : (columns column : ℕ) → List Open → List ℕ
+abbrev pub end_part : (columns column : ℕ) → List WrittenValue → List ℕ
 end_part columns column [] = []
 end_part columns column (o ∷ os) = closing o.kind ++ behind columns column os
 
-abbrev pub without_open : List Open → List Open
+abbrev pub without_open : List WrittenValue → List WrittenValue
 without_open [] = []
 without_open (o ∷ os) = os
 

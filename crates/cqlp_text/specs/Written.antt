@@ -18,7 +18,7 @@ PassesOn old bytes left given =
     (text : List ℕ) → old.given ≡ Some text → (sent : List ℕ) × (given ≡ Some (text ++ sent)) × (sent ++ left ≡ old.waiting ++ bytes)
 
 -- All of the bytes were taken.
-pub record Takes (old : Written) (bytes : List ℕ) (new : Written) : Type 0 where
+pub record Receives (old : Written) (bytes : List ℕ) (new : Written) : Type 0 where
   pub passed : PassesOn old bytes new.waiting new.given
   pub failures : new.failures ≡ old.failures
   pub lender : new.lender ≡ old.lender
@@ -34,7 +34,7 @@ pub record BreaksOff (old : Written) (bytes : List ℕ) (new : Written) : Type 0
 
 -- The bytes were taken, or the target failed.
 abbrev pub Writes : (old : Written) → List ℕ → Result (Unit {0}) SinkFault → (new : Written) → Type 0
-Writes old bytes (Ok u) new = Takes old bytes new
+Writes old bytes (Ok u) new = Receives old bytes new
 Writes old bytes (Err e) new = BreaksOff old bytes new
 
 -- a target that is owned, with nothing that waits

@@ -5,7 +5,7 @@ ghost use Rattle.cqlp_text.specs.CellText.{boolean_text, cell_text as text_of, e
 ghost use Rattle.cqlp_text.specs.Outputs.{WritesText, output};
 ghost use Rattle.cqlp_value.specs.Contents.{value_of};
 
-use crate::line_writer::LineWriter;
+use crate::text_writer::TextWriter;
 use cqlp_decode::SinkFault;
 use cqlp_note::Target;
 use cqlp_value::Scalar;
@@ -18,13 +18,13 @@ const WIDE: usize = 16;
 pub fn cell_text<W: Target>(scalar: &Scalar<'_>, w: &mut W) -> Result<(), SinkFault>
     ensures { IsSome (W.contents w.old) → WritesText (output (W.contents w.old) (W.failures w.old)) (text_of (value_of scalar.now)) result (output (W.contents w.new) (W.failures w.new)) }
 {
-    let mut writer = LineWriter::new(w);
+    let mut writer = TextWriter::new(w);
     let written = writer.put_whole_cell(scalar);
     let _ = writer.into_inner();
     written
 }
 
-impl<W: Target> LineWriter<'_, W> {
+impl<W: Target> TextWriter<'_, W> {
     ghost use Rattle.std.specs.Prelude.{◌-ℤ◌, [], pos};
     ghost use Rattle.std.specs.Fmt.{signed_decimal};
     ghost use Rattle.cqlp_text.specs.CellText.{decimal_text, digits, time_text, varint_text};

@@ -3,7 +3,7 @@
 ghost use Rattle.std.specs.Prelude.{◌≡◌, ◌<◌, pos, ◌-ℤ◌, unsigned_abs};
 ghost use Rattle.jiff_core.specs.Date.{epoch_day};
 
-use crate::line_writer::LineWriter;
+use crate::text_writer::TextWriter;
 use cqlp_decode::SinkFault;
 use cqlp_note::Target;
 use jiff_core::civil::Date;
@@ -17,7 +17,7 @@ const FIRST: u32 = EPOCH - 719_528;
 /// How many days the years 0 to 9999 have.
 const DAYS: u32 = 3_652_425;
 
-impl<W: Target> LineWriter<'_, W> {
+impl<W: Target> TextWriter<'_, W> {
     ghost use Rattle.std.specs.Prelude.{◌++◌, ◌^◌, codes};
     ghost use Rattle.std.specs.Fmt.{signed_decimal};
     ghost use Rattle.cqlp_text.specs.CellText.{civil_text, date_text};

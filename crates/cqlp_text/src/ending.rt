@@ -4,8 +4,8 @@ ghost use Rattle.std.specs.Prelude.{◌≡◌, IsSome};
 ghost use Rattle.cqlp_text.specs.Endings.{cannot_open_line as cannot_open_line_of, ending_line as line_of};
 ghost use Rattle.cqlp_text.specs.Outputs.{WritesText, output};
 
-use crate::line_writer::LineWriter;
 use crate::names::reason_name;
+use crate::text_writer::TextWriter;
 use crate::word::Word;
 use cqlp_decode::{Finish, SinkFault};
 use cqlp_note::{Refusal, Target};
@@ -48,7 +48,7 @@ impl Ending {
 pub fn ending_line<W: Target>(ending: Ending, w: &mut W) -> Result<(), SinkFault>
     ensures { IsSome (W.contents w.old) → WritesText (output (W.contents w.old) (W.failures w.old)) (line_of ending) result (output (W.contents w.new) (W.failures w.new)) }
 {
-    let mut writer = LineWriter::new(w);
+    let mut writer = TextWriter::new(w);
     let written = writer.put_ending(ending);
     let _ = writer.into_inner();
     written
@@ -58,13 +58,13 @@ pub fn ending_line<W: Target>(ending: Ending, w: &mut W) -> Result<(), SinkFault
 pub fn cannot_open_line<W: Target>(file: &str, w: &mut W) -> Result<(), SinkFault>
     ensures { IsSome (W.contents w.old) → WritesText (output (W.contents w.old) (W.failures w.old)) (cannot_open_line_of file.now) result (output (W.contents w.new) (W.failures w.new)) }
 {
-    let mut writer = LineWriter::new(w);
+    let mut writer = TextWriter::new(w);
     let written = writer.put_cannot_open(file);
     let _ = writer.into_inner();
     written
 }
 
-impl<W: Target> LineWriter<'_, W> {
+impl<W: Target> TextWriter<'_, W> {
     ghost use Rattle.std.specs.Prelude.{◌++◌, [], map, codes};
     ghost use Rattle.cqlp_text.specs.Endings.{cannot_open_line, ending_line, verdict};
     ghost use Rattle.cqlp_text.specs.Lines.{spaced};

@@ -5,8 +5,8 @@ ghost use Rattle.cqlp_decode.specs.Events.{bound_of, event_of};
 ghost use Rattle.cqlp_text.specs.Lines.{line as line_of};
 ghost use Rattle.cqlp_text.specs.Outputs.{WritesText, output};
 
-use crate::line_writer::LineWriter;
 use crate::names::{field_name, kind_name, opcode_name};
+use crate::text_writer::TextWriter;
 use crate::word::Word;
 use cqlp_decode::{Event, SinkFault};
 use cqlp_note::{BoundValue, Header, Target};
@@ -15,13 +15,13 @@ use cqlp_note::{BoundValue, Header, Target};
 pub fn event_line<W: Target>(at: u64, event: &Event<'_>, w: &mut W) -> Result<(), SinkFault>
     ensures { IsSome (W.contents w.old) → WritesText (output (W.contents w.old) (W.failures w.old)) (line_of at (event_of event.now)) result (output (W.contents w.new) (W.failures w.new)) }
 {
-    let mut writer = LineWriter::new(w);
+    let mut writer = TextWriter::new(w);
     let written = writer.put_event(at, event);
     let _ = writer.into_inner();
     written
 }
 
-impl<W: Target> LineWriter<'_, W> {
+impl<W: Target> TextWriter<'_, W> {
     ghost use Rattle.cqlp_decode.specs.Reading as reading;
     ghost use Rattle.cqlp_text.specs.Lines.{line, spaced, words};
     ghost use Rattle.cqlp_text.specs.Written.{Writes};

@@ -6,16 +6,16 @@ mod dates;
 mod ending;
 mod events;
 pub mod laws;
-mod line_writer;
 mod names;
 mod page_text;
 mod targets;
 mod text;
+mod text_writer;
 mod word;
 
 pub use cells::cell_text;
 pub use ending::{Ending, cannot_open_line, ending_line};
 pub use events::event_line;
-pub use line_writer::put_text;
 pub use page_text::{PagePlace, page_part};
 pub use targets::offer;
+pub use text_writer::put_text;

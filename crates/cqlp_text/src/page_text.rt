@@ -5,7 +5,7 @@ ghost use Rattle.cqlp_decode.specs.Events.{event_of};
 ghost use Rattle.cqlp_text.specs.PageText.{page_part as text_of, place_behind};
 ghost use Rattle.cqlp_text.specs.Outputs.{WritesText, output};
 
-use crate::line_writer::LineWriter;
+use crate::text_writer::TextWriter;
 use crate::word::Word;
 use cqlp_decode::{Event, SinkFault};
 use cqlp_note::{Field, Target};
@@ -32,7 +32,7 @@ pub fn page_part<W: Target>(
         place.pass(event);
         return Ok(());
     }
-    let mut writer = LineWriter::new(w);
+    let mut writer = TextWriter::new(w);
     let written = writer.put_page_part(place, event);
     let _ = writer.into_inner();
     written
@@ -51,7 +51,7 @@ pub(crate) enum Turn {
 
 /// A value whose items are written.
 #[derive(Clone, Copy)]
-pub(crate) struct Open {
+pub(crate) struct WrittenValue {
     kind: Kind,
     turn: Turn,
 }
@@ -63,7 +63,7 @@ pub struct PagePlace {
     columns: u32,
     column: u32,
     /// The open values from `free` on, the innermost first.
-    open_values: [Open; ROOM],
+    open_values: [WrittenValue; ROOM],
     free: usize,
 }
 
@@ -91,7 +91,7 @@ impl PagePlace {
             is_page: false,
             columns: 0,
             column: 0,
-            open_values: [Open {
+            open_values: [WrittenValue {
                 kind: Kind::Raw,
                 turn: Turn::First,
             }; ROOM],
@@ -129,7 +129,7 @@ impl PagePlace {
     }
 
     /// The innermost open value.
-    fn innermost(&self) -> Option<Open>
+    fn innermost(&self) -> Option<WrittenValue>
         ensures { result ≡ innermost self.now.open_values }
     {
         self.open_values.get(self.free).copied()
@@ -236,7 +236,7 @@ impl PagePlace {
     {
         if self.free < ROOM {
             let open = self.open_values[self.free];
-            self.open_values[self.free] = Open {
+            self.open_values[self.free] = WrittenValue {
                 kind: open.kind,
                 turn: turn_after(open.kind, open.turn),
             };
@@ -258,7 +258,7 @@ impl PagePlace {
             return;
         }
         self.free -= 1;
-        self.open_values[self.free] = Open {
+        self.open_values[self.free] = WrittenValue {
             kind,
             turn: Turn::First,
         };
@@ -273,7 +273,7 @@ impl PagePlace {
     }
 }
 
-impl<W: Target> LineWriter<'_, W> {
+impl<W: Target> TextWriter<'_, W> {
     ghost use Rattle.cqlp_note.specs.Field.{Count as CountValue, Text as TextValue};
     ghost use Rattle.cqlp_value.specs.CellStep as cell;
     ghost use Rattle.cqlp_text.specs.PageText.{before, behind, column_line, page_line, event_part, field_part, value_part, end_part, opening};

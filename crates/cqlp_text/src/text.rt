@@ -9,7 +9,7 @@ ghost use Rattle.cqlp_text.specs.Text.{hex_text, quoted, escaped, is_plain, addr
 ghost use Rattle.cqlp_note.specs.declared.prim.Address.TheVariants.{V4, V6};
 ghost use Rattle.cqlp_text.specs.Written.{Writes};
 
-use crate::line_writer::LineWriter;
+use crate::text_writer::TextWriter;
 use cqlp_decode::SinkFault;
 use cqlp_note::{Address, Target};
 use uuid::Uuid;
@@ -17,7 +17,7 @@ use uuid::Uuid;
 /// How many bytes become hex digits at once.
 const CHUNK: usize = 64;
 
-impl<W: Target> LineWriter<'_, W> {
+impl<W: Target> TextWriter<'_, W> {
     /// Takes a number as decimal digits.
     pub fn put_number(&mut self, number: u64) -> Result<(), SinkFault>
         ensures { Writes self.old (decimal number) result self.new }

@@ -2,7 +2,7 @@
 
 ghost use Rattle.std.specs.Prelude.{◌≡◌, map};
 
-use crate::line_writer::LineWriter;
+use crate::text_writer::TextWriter;
 use cqlp_decode::SinkFault;
 use cqlp_note::{Address, Target};
 use cqlp_value::Scalar;
@@ -24,7 +24,7 @@ pub enum Word<'a> {
     Cell(Scalar<'a>),
 }
 
-impl<W: Target> LineWriter<'_, W> {
+impl<W: Target> TextWriter<'_, W> {
     ghost use Rattle.cqlp_text.specs.Lines.{spaced};
     ghost use Rattle.cqlp_text.specs.Words.{word_text};
     ghost use Rattle.cqlp_text.specs.Written.{Writes};

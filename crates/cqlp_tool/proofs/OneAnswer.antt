@@ -14,7 +14,7 @@ use Rattle.cqlp_decode.specs.declared.event.Finish.TheVariants as finish
 use Rattle.cqlp_decode.specs.declared.running.Outcome.{Outcome}
 use Rattle.cqlp_decode.specs.declared.running.Outcome.TheVariants as outcome
 use Rattle.cqlp_decode.specs.Reading.{Event, Place, Verdict, Waits, Refused, Says, Reads, start, step}
-use Rattle.cqlp_decode.specs.Standing.{State}
+use Rattle.cqlp_decode.specs.Standing.{StreamState}
 use Rattle.cqlp_decode.specs.Streams.{After, AfterBy, FinishesBy}
 use Rattle.cqlp_decode.specs.Draining.{verdict_of}
 use Rattle.cqlp_decode.proofs.Whole.{says_once, refusal_stays}
@@ -24,8 +24,8 @@ use Rattle.cqlp_text.specs.Endings.{ending_line, finish_status, status_of}
 use Rattle.cqlp_text.specs.Laws.{FailsAlike, GoesOnFromOther}
 use Rattle.cqlp_text.specs.Outputs.{Output, output, with_text, HasFailed, StopsWithin}
 use Rattle.cqlp_text.proofs.OneAnswer.{fronts, known_then, known_fronts, counts_up, stops_once}
-use Rattle.cqlp_tool.specs.declared.form.Form.{Form}
-use Rattle.cqlp_tool.specs.declared.form.Form.TheVariants as forms
+use Rattle.cqlp_tool.specs.declared.text_form.TextForm.{TextForm}
+use Rattle.cqlp_tool.specs.declared.text_form.TextForm.TheVariants as forms
 use Rattle.cqlp_tool.specs.Forms.{text, form_behind}
 use Rattle.cqlp_tool.specs.Rendering.{Renders, RendersAll, RendersFront, RendersTo}
 use Rattle.cqlp_tool.specs.Showing.{ShowsTo, CountsReads, Concludes, ConcludesCheck}
@@ -90,7 +90,7 @@ ended_says l stream es es' f v a says =
     (same.0, subst (λ (x : List (ℕ × Event)). EndsAs stream x v f) (sym same.0) (subst (λ (w : Verdict). EndsAs stream es w f) (sym same.1) a.ends))
 
 -- a run that is Finished
-module _ (form : Form) (turns : ℕ) (f : Finish) (old new : State) (xs : List ℕ) (left : Option (List ℕ)) (before after : Output) (ran : RendersTo form turns (outcome.Finished f) old new xs left before after) (l : Rules) (s : List ℕ) (es : List (ℕ × Event)) (a : After old s es) (free : old.refusal ≡ None) (rules : new.rules ≡ l) where
+module _ (form : TextForm) (turns : ℕ) (f : Finish) (old new : StreamState) (xs : List ℕ) (left : Option (List ℕ)) (before after : Output) (ran : RendersTo form turns (outcome.Finished f) old new xs left before after) (l : Rules) (s : List ℕ) (es : List (ℕ × Event)) (a : After old s es) (free : old.refusal ≡ None) (rules : new.rules ≡ l) where
   said_by : (all : RendersAll form old new xs left before after ran.0) → Says l start (s ++ ran.0.bytes ++ all.looked) (es ++ (ran.0.events s es a).more) (verdict_of new.refusal)
   said_by all = subst (λ (r : Rules). Says r start (s ++ ran.0.bytes ++ all.looked) (es ++ (ran.0.events s es a).more) (verdict_of new.refusal)) rules (all.says free s es a)
 
@@ -129,18 +129,18 @@ module _ (form : Form) (turns : ℕ) (f : Finish) (old new : State) (xs : List �
       let said = ended_says l (s ++ xs) (es ++ w.more) (es ++ more) f v (ended_by new.refusal refl) says in
       (w.written ∙ ap (λ m. with_text before (text form m)) (sym (append_cancel_left es more w.more said.0)), said.1)
 
-pub rendered_whole : (form : Form) → IsRenderedWhole form
+pub rendered_whole : (form : TextForm) → IsRenderedWhole form
 rendered_whole form turns f old new xs left before after s es more v a free rules says ran = whole_by form turns f old new xs left before after ran old.rules s es a free rules more v says
 
 -- ---- two answers
 
 -- all that was read was used, where no more of a reader is left than was not used
-all_used : (form : Form) (old new : State) (xs : List ℕ) (left : Option (List ℕ)) (before after : Output) (d : Renders form old new xs before after) (all : RendersAll form old new xs left before after d) → left ≡ Some d.rest → all.looked ≡ []
+all_used : (form : TextForm) (old new : StreamState) (xs : List ℕ) (left : Option (List ℕ)) (before after : Output) (d : Renders form old new xs before after) (all : RendersAll form old new xs left before after d) → left ≡ Some d.rest → all.looked ≡ []
 all_used form old new xs left before after d all is =
     let unread : all.unread ≡ d.rest = let other : left ≡ Some all.unread = all.others in cc in
     no_bytes all.looked (omega (arith, ap length all.parts, length-append all.looked all.unread, ap length unread))
 
-module _ (form : Form) (turns : ℕ) (old new old' new' : State) (xs : List ℕ) (left left' : Option (List ℕ)) (before after after' : Output) (l : Rules) (s : List ℕ) (es : List (ℕ × Event)) (a : After old s es) (a' : After old' s es) (free : old.refusal ≡ None) (free' : old'.refusal ≡ None) (rules : new.rules ≡ l) (rules' : new'.rules ≡ l) where
+module _ (form : TextForm) (turns : ℕ) (old new old' new' : StreamState) (xs : List ℕ) (left left' : Option (List ℕ)) (before after after' : Output) (l : Rules) (s : List ℕ) (es : List (ℕ × Event)) (a : After old s es) (a' : After old' s es) (free : old.refusal ≡ None) (free' : old'.refusal ≡ None) (rules : new.rules ≡ l) (rules' : new'.rules ≡ l) where
   finished_once : (f f' : Finish) → RendersTo form turns (outcome.Finished f) old new xs left before after → RendersTo form turns (outcome.Finished f') old' new' xs left' before after' → (f' ≡ f) × IsOneOutput before after after'
   finished_once f f' ran ran' =
       let w = ran.0.events s es a in
@@ -163,11 +163,11 @@ module _ (form : Form) (turns : ℕ) (old new old' new' : State) (xs : List ℕ)
 
   -- ---- two fronts
 
-  reads_by : (o : Option Refusal) (d : State) (z : List ℕ) (fs : List (ℕ × Event)) → AfterBy o d z fs → (q : Place) × (rest : List ℕ) × Reads d.rules start z fs q rest
+  reads_by : (o : Option Refusal) (d : StreamState) (z : List ℕ) (fs : List (ℕ × Event)) → AfterBy o d z fs → (q : Place) × (rest : List ℕ) × Reads d.rules start z fs q rest
   reads_by None d z fs stands = (d.place, stands.bytes, stands.read)
   reads_by (Some r) d z fs refused = (refused.place, refused.bytes, refused.read)
 
-  reads_all : (d : State) (bytes rest : List ℕ) (fs : List (ℕ × Event)) → d.rules ≡ l → xs ≡ bytes ++ rest → After d (s ++ bytes) fs → (q : Place) × (end : List ℕ) × Reads l start (s ++ xs) fs q end
+  reads_all : (d : StreamState) (bytes rest : List ℕ) (fs : List (ℕ × Event)) → d.rules ≡ l → xs ≡ bytes ++ rest → After d (s ++ bytes) fs → (q : Place) × (end : List ℕ) × Reads l start (s ++ xs) fs q end
   reads_all d bytes rest fs is parts stands =
       let r = reads_by d.refusal d (s ++ bytes) fs stands in
       let run : Reads l start (s ++ bytes) fs r.0 r.1 = subst (λ (k : Rules). Reads k start (s ++ bytes) fs r.0 r.1) is r.2 in
@@ -209,13 +209,13 @@ module _ (form : Form) (turns : ℕ) (old new old' new' : State) (xs : List ℕ)
   runs_once outcome.SinkFault outcome.SinkFault alike ran ran' = (refl, front_once (part_is_front form old new xs before after ran) (part_is_front form old' new' xs before after' ran'))
   runs_once o o' alike ran ran' = absurd alike
 
-pub rendered_once : (form : Form) → IsRenderedOnce form
+pub rendered_once : (form : TextForm) → IsRenderedOnce form
 rendered_once form turns o o' old new new' xs left left' before after after' s es a free rules rules' alike ran ran' =
     runs_once form turns old new old new' xs left left' before after after' old.rules s es a a free free rules rules' o o' alike ran ran'
 
 -- ---- commands
 
-pub shows_once : (form : Form) (limits : Limits) (turns : ℕ) (xs : List ℕ) (left left' : Option (List ℕ)) (before after after' : Output) (e e' : Ending) → EndAlike e e' left left' → ShowsTo form limits turns e xs left before after → ShowsTo form limits turns e' xs left' before after' → (e' ≡ e) × IsOneOutput before after after'
+pub shows_once : (form : TextForm) (limits : Limits) (turns : ℕ) (xs : List ℕ) (left left' : Option (List ℕ)) (before after after' : Output) (e e' : Ending) → EndAlike e e' left left' → ShowsTo form limits turns e xs left before after → ShowsTo form limits turns e' xs left' before after' → (e' ≡ e) × IsOneOutput before after after'
 shows_once form limits turns xs left left' before after after' (ending.Finished f) (ending.Finished f') alike a b =
     let one = runs_once form turns a.old a.new b.old b.new xs left left' before after after' (rules_of limits) [] [] a.fresh b.fresh a.unrefused b.unrefused (a.same_rules ∙ a.rules) (b.same_rules ∙ b.rules) (outcome.Finished f) (outcome.Finished f') tt a.renders b.renders in
     let same : outcome.Finished f' ≡ outcome.Finished f = one.0 in
@@ -235,7 +235,7 @@ concludes_once e before after after' status status' alike (inl a) (inr b) = absu
 concludes_once e before after after' status status' alike (inr a) (inl b) = absurd (counts_up before.failures alike.0 (sym a.1.failures ∙ sym alike.1 ∙ ap (λ o. o.failures) b.1))
 concludes_once e before after after' status status' alike (inr a) (inr b) = (b.0 ∙ sym a.0, inr (a.1.failures, b.1.failures, stops_once before after after' (ending_line e) a.1 b.1))
 
-pub shown_once : (form : Form) → IsShownOnce form
+pub shown_once : (form : TextForm) → IsShownOnce form
 shown_once form limits turns xs left left' reads reads' reads'' out err status status' out' err' out'' err'' a b alike fails =
     let one = shows_once form limits turns xs left left' out out' out'' a.0 b.0 alike a.1 b.1 in
     let told = concludes_once a.0 err err' err'' status status' fails a.3 (subst (λ (e : Ending). Concludes e err status' err'') one.0 b.3) in
@@ -288,7 +288,7 @@ three_of : (e : Ending) (before after : Output) (status : ℕ) → status_of e �
 three_of e before after status three (inl a) = a.0 ∙ three
 three_of e before after status three (inr a) = a.0
 
-module _ (form : Form) (limits : Limits) (turns : ℕ) (xs : List ℕ) (left : Option (List ℕ)) (reads reads' : ℕ) (out err : Output) (status : ℕ) (out' err' : Output) where
+module _ (form : TextForm) (limits : Limits) (turns : ℕ) (xs : List ℕ) (left : Option (List ℕ)) (reads reads' : ℕ) (out err : Output) (status : ℕ) (out' err' : Output) where
   no_fault : (e : Ending) → status_of e ≡ 3 → ShowsTo form limits turns e xs left out out' → CountsReads e reads reads' → Concludes e err status err' → IsGranted turns xs reads reads' out err out' err' ⊎ (status ≢ 3) → ⊥
   no_fault e three shows counts ends (inr not) = not (three_of e err err' status three ends)
   no_fault (ending.Finished f) three shows counts ends (inl g) = no_finish f three
@@ -318,7 +318,7 @@ module _ (form : Form) (limits : Limits) (turns : ℕ) (xs : List ℕ) (left : O
     shown_right ending.NoMemory shows counts ends = absurd (no_fault ending.NoMemory refl shows counts ends granted)
     shown_right ending.TooManyTurns shows counts ends = absurd (no_fault ending.TooManyTurns refl shows counts ends granted)
 
-pub shown_rightly : (form : Form) → IsShownRightly form
+pub shown_rightly : (form : TextForm) → IsShownRightly form
 shown_rightly form limits turns xs left reads reads' out err status out' err' es v says granted a = shown_right form limits turns xs left reads reads' out err status out' err' es v says granted a.0 a.1 a.2 a.3
 
 module _ (limits : Limits) (turns : ℕ) (xs : List ℕ) (left : Option (List ℕ)) (reads reads' : ℕ) (out err : Output) (status : ℕ) (out' err' : Output) (es : List (ℕ × Event)) (v : Verdict) (says : Says (rules_of limits) start xs es v) where

@@ -4,10 +4,10 @@ use Rattle.std.specs.Io.KnownBytes.{append_known}
 use Rattle.cqlp_decode.specs.declared.running.Outcome.{Outcome}
 use Rattle.cqlp_decode.specs.declared.running.Outcome.TheVariants as outcome
 use Rattle.cqlp_decode.specs.Reading.{Event}
-use Rattle.cqlp_decode.specs.Standing.{State}
+use Rattle.cqlp_decode.specs.Standing.{StreamState}
 use Rattle.cqlp_decode.specs.Draining.{fold_events, Drains, Fails, Feeds, FeedsInto, HasAll, RunsTo}
-use Rattle.cqlp_tool.specs.declared.form.Form.{Form}
-use Rattle.cqlp_tool.specs.declared.form.Form.TheVariants as forms
+use Rattle.cqlp_tool.specs.declared.text_form.TextForm.{TextForm}
+use Rattle.cqlp_tool.specs.declared.text_form.TextForm.TheVariants as forms
 use Rattle.cqlp_tool.specs.Forms.{text, text_of, form_after, form_behind}
 use Rattle.cqlp_text.specs.Outputs.{Output, output, with_text, StopsWithin}
 use Rattle.cqlp_text.proofs.OneAnswer.{known_then}
@@ -22,18 +22,18 @@ known_still None text known = known
 known_still (Some t) text known = refl
 
 -- the text of no events, and of one more
-pub text-nil : (form : Form) → text form [] ≡ []
+pub text-nil : (form : TextForm) → text form [] ≡ []
 text-nil forms.Lines = refl
 text-nil (forms.Pages place) = refl
 text-nil forms.Nothing = refl
 
-pub text-cons : (form : Form) (at : ℕ) (e : Event) (es : List (ℕ × Event)) → text_of form at e ++ text (form_after form e) es ≡ text form ((at, e) ∷ es)
+pub text-cons : (form : TextForm) (at : ℕ) (e : Event) (es : List (ℕ × Event)) → text_of form at e ++ text (form_after form e) es ≡ text form ((at, e) ∷ es)
 text-cons forms.Lines at e es = refl
 text-cons (forms.Pages place) at e es = refl
 text-cons forms.Nothing at e es = refl
 
 -- the text of events, and of others after them
-pub text-append : (form : Form) (es fs : List (ℕ × Event)) → text form (es ++ fs) ≡ text form es ++ text (form_behind form es) fs
+pub text-append : (form : TextForm) (es fs : List (ℕ × Event)) → text form (es ++ fs) ≡ text form es ++ text (form_behind form es) fs
 text-append form [] fs = sym (ap (λ k. k ++ text form fs) (text-nil form))
 text-append form (e ∷ es) fs =
     sym (text-cons form e.0 e.1 (es ++ fs)) ∙ ap (λ k. text_of form e.0 e.1 ++ k) (text-append (form_after form e.1) es fs)
@@ -41,19 +41,19 @@ text-append form (e ∷ es) fs =
     ∙ ap (λ k. k ++ text (form_behind form (e ∷ es)) fs) (text-cons form e.0 e.1 es)
 
 -- and of one more
-pub text-last : (form : Form) (es : List (ℕ × Event)) (at : ℕ) (e : Event) → text form (es ++ (at, e) ∷ []) ≡ text form es ++ text_of (form_behind form es) at e
+pub text-last : (form : TextForm) (es : List (ℕ × Event)) (at : ℕ) (e : Event) → text form (es ++ (at, e) ∷ []) ≡ text form es ++ text_of (form_behind form es) at e
 text-last form es at e =
     text-append form es ((at, e) ∷ []) ∙ ap (λ k. text form es ++ k) (sym (text-cons (form_behind form es) at e [])
     ∙ ap (λ k. text_of (form_behind form es) at e ++ k) (text-nil (form_after (form_behind form es) e)) ∙ append-nil (text_of (form_behind form es) at e))
 
 -- the text of events, one after the other, is their text
-pub fold-text : (o : Output) (form : Form) (es : List (ℕ × Event)) → fold_events with_event (rendering o form) es ≡ rendering (with_text o (text form es)) (form_behind form es)
+pub fold-text : (o : Output) (form : TextForm) (es : List (ℕ × Event)) → fold_events with_event (rendering o form) es ≡ rendering (with_text o (text form es)) (form_behind form es)
 fold-text o form [] = ap (λ g. rendering (output g o.failures) form) (sym (known_nothing o.given) ∙ ap (append_known o.given) (sym (text-nil form)))
 fold-text o form (e ∷ es) =
     fold-text (with_text o (text_of form e.0 e.1)) (form_after form e.1) es
     ∙ ap (λ g. rendering (output g o.failures) (form_behind form (e ∷ es))) (known_then o.given (text_of form e.0 e.1) (text (form_after form e.1) es) ∙ ap (append_known o.given) (text-cons form e.0 e.1 es))
 
-module _ (new : State) (s : List ℕ) (es : List (ℕ × Event)) (bytes : List ℕ) (before after : Rendering) where
+module _ (new : StreamState) (s : List ℕ) (es : List (ℕ × Event)) (bytes : List ℕ) (before after : Rendering) where
   abbrev writes_events : Drains with_event new s es bytes before after → WritesEvents before.form new s es bytes before.output after.output
   writes_events d = record { more = d.more; stands = d.stands; written = ap (λ r. r.output) (d.got ∙ fold-text before.output before.form d.more) }
 
@@ -66,7 +66,7 @@ module _ (new : State) (s : List ℕ) (es : List (ℕ × Event)) (bytes : List �
     written = subst (λ (r : Rendering). StopsWithin r.output (text_of r.form d.at d.event) after.output) (fold-text before.output before.form d.more) d.fault;
   }
 
-module _ (old new : State) (xs : List ℕ) (before after : Rendering) where
+module _ (old new : StreamState) (xs : List ℕ) (before after : Rendering) where
   abbrev renders : Feeds with_event old new xs before after → Renders before.form old new xs before.output after.output
   renders d = record {
     bytes = d.bytes;
@@ -86,7 +86,7 @@ module _ (old new : State) (xs : List ℕ) (before after : Rendering) where
   renders_all : (left : Option (List ℕ)) (d : Feeds with_event old new xs before after) → HasAll with_event old new xs left before after d → RendersAll before.form old new xs left before.output after.output (renders d)
   renders_all left d all = record { looked = all.looked; unread = all.unread; parts = all.parts; others = all.others; none = all.none; says = all.says }
 
-pub renders_to : (turns : ℕ) (o : Outcome) (old new : State) (xs : List ℕ) (left : Option (List ℕ)) (before after : Rendering) → RunsTo with_event StopsWithinEvent turns o old new xs left before after → RendersTo before.form turns o old new xs left before.output after.output
+pub renders_to : (turns : ℕ) (o : Outcome) (old new : StreamState) (xs : List ℕ) (left : Option (List ℕ)) (before after : Rendering) → RunsTo with_event StopsWithinEvent turns o old new xs left before after → RendersTo before.form turns o old new xs left before.output after.output
 renders_to turns (outcome.Finished end) old new xs left before after ran = (renders old new xs before after ran.0, ran.1, ran.2, renders_all old new xs before after left ran.0 ran.3)
 renders_to turns outcome.ReadFault old new xs left before after ran = (renders old new xs before after ran.0, ran.1, renders_all old new xs before after left ran.0 ran.2)
 renders_to turns outcome.Turns old new xs left before after ran = (renders old new xs before after ran.0, ran.1, ran.2, renders_all old new xs before after left ran.0 ran.3)

@@ -4,11 +4,11 @@ use Rattle.std.specs.Io.KnownBytes.{Keeps, append_known}
 use Rattle.cqlp_note.specs.Streams.{counted}
 use Rattle.cqlp_decode.specs.declared.running.Outcome.{Outcome}
 use Rattle.cqlp_decode.specs.declared.running.Outcome.TheVariants as outcome
-use Rattle.cqlp_decode.specs.Standing.{State}
+use Rattle.cqlp_decode.specs.Standing.{StreamState}
 use Rattle.cqlp_decode.specs.Reading.{Event}
 use Rattle.cqlp_decode.specs.Streams.{After}
 use Rattle.cqlp_decode.specs.Draining.{RunsTo}
-use Rattle.cqlp_tool.specs.declared.form.Form.{Form}
+use Rattle.cqlp_tool.specs.declared.text_form.TextForm.{TextForm}
 use Rattle.cqlp_tool.specs.Forms.{text, text_of, form_behind}
 use Rattle.cqlp_text.specs.Written.{Written, bare, taken}
 use Rattle.cqlp_text.specs.Outputs.{Output, output, with_text, HasFailed, StopsWithin}
@@ -32,7 +32,7 @@ kept (Some t) (Some u) known keeps = ap (λ k. Some k) (sym keeps)
 
 -- ---- fronts
 
-module _ (form : Form) (old new : State) (xs : List ℕ) (before : Output) where
+module _ (form : TextForm) (old new : StreamState) (xs : List ℕ) (before : Output) where
   -- a target that failed within the text of an event was given a front
   pub part_is_front : (after : Output) → RendersPart form old new xs before after → RendersFront form old new xs before after
   part_is_front after p = record {
@@ -78,7 +78,7 @@ module _ (form : Form) (old new : State) (xs : List ℕ) (before : Output) where
 
 -- ---- runs with flushes between them
 
-module _ (old new : State) (xs : List ℕ) (left : Option (List ℕ)) (before after : Rendering) (fresh : After old [] []) where
+module _ (old new : StreamState) (xs : List ℕ) (left : Option (List ℕ)) (before after : Rendering) (fresh : After old [] []) where
   -- what a run that stopped after its turns has written
   module _ (turns : ℕ) (ran : RunsTo with_event StopsWithinEvent turns outcome.Turns old new xs left before after) where
     pub tells_on : IsSome before.output.given → IsSome after.output.given
@@ -104,7 +104,7 @@ module _ (old new : State) (xs : List ℕ) (left : Option (List ℕ)) (before af
   ends_early turn turns outcome.SinkFault early ran = renders_or_fails turns outcome.SinkFault ran
 
 -- one more read, behind a flush
-pub goes_on : (old mid new : State) (xs : List ℕ) (left left' : Option (List ℕ)) (first before flushed after : Rendering) (turn : ℕ) (o : Outcome) → After old [] [] → mid.refusal ≡ None → IsSome first.output.given → RunsTo with_event StopsWithinEvent turn outcome.Turns old mid xs left first before
+pub goes_on : (old mid new : StreamState) (xs : List ℕ) (left left' : Option (List ℕ)) (first before flushed after : Rendering) (turn : ℕ) (o : Outcome) → After old [] [] → mid.refusal ≡ None → IsSome first.output.given → RunsTo with_event StopsWithinEvent turn outcome.Turns old mid xs left first before
     → (IsSome before.output.given → flushed ≡ before) → ((rest : List ℕ) → left ≡ Some rest → IsSome flushed.output.given → RunsTo with_event StopsWithinEvent 1 o mid new rest left' flushed after)
     → RunsTo with_event StopsWithinEvent (turn + 1) o old new xs left' first after
 goes_on old mid new xs left left' first before flushed after turn o fresh waits known ran same next =
@@ -116,7 +116,7 @@ goes_on old mid new xs left left' first before flushed after turn o fresh waits 
 -- ---- what goes to the output behind the buffer
 
 -- where no target failed, all events were written
-all_events : (form : Form) (turns : ℕ) (o : Outcome) (old new : State) (xs : List ℕ) (left : Option (List ℕ)) (before after : Output) → o ≢ outcome.SinkFault → RendersOrFails form turns o old new xs left before after → Renders form old new xs before after
+all_events : (form : TextForm) (turns : ℕ) (o : Outcome) (old new : StreamState) (xs : List ℕ) (left : Option (List ℕ)) (before after : Output) → o ≢ outcome.SinkFault → RendersOrFails form turns o old new xs left before after → Renders form old new xs before after
 all_events form turns (outcome.Finished f) old new xs left before after sound ran = ran.0
 all_events form turns outcome.ReadFault old new xs left before after sound ran = ran.0
 all_events form turns outcome.Turns old new xs left before after sound ran = ran.0
@@ -126,7 +126,7 @@ all_events form turns outcome.SinkFault old new xs left before after sound ran =
 flushed : (b c : Written) → IsSome (taken b) → Keeps (taken b) (taken c) → c.waiting ≡ [] → taken b ≡ c.given
 flushed b c known keeps none = kept (taken b) (taken c) known keeps ∙ ap (append_known c.given) none ∙ known_nothing c.given
 
-module _ (form : Form) (turns : ℕ) (o : Outcome) (old new : State) (xs : List ℕ) (left given : Option (List ℕ)) (f : ℕ) (a b : Written) (starts : a ≡ bare given f) (fresh : After old [] []) (ran : RendersOrFails form turns o old new xs left (output (taken a) a.failures) (output (taken b) b.failures)) where
+module _ (form : TextForm) (turns : ℕ) (o : Outcome) (old new : StreamState) (xs : List ℕ) (left given : Option (List ℕ)) (f : ℕ) (a b : Written) (starts : a ≡ bare given f) (fresh : After old [] []) (ran : RendersOrFails form turns o old new xs left (output (taken a) a.failures) (output (taken b) b.failures)) where
   -- what the buffer was given at first
   first_given : output (taken a) a.failures ≡ output given f
   first_given = ap (λ w. output (taken w) w.failures) starts ∙ ap (λ g. output g f) (known_nothing given)
@@ -161,7 +161,7 @@ module _ (form : Form) (turns : ℕ) (o : Outcome) (old new : State) (xs : List 
 pub tells_at_first : (a : Written) (given : Option (List ℕ)) (f : ℕ) → a ≡ bare given f → IsSome given → IsSome (taken a)
 tells_at_first a given f starts known = subst (λ (w : Written). IsSome (taken w)) (sym starts) (known_still given [] known)
 
-pub shows_by : (form : Form) (limits : Limits) (turns : ℕ) (o : Outcome) (old new : State) (xs : List ℕ) (left : Option (List ℕ)) (before after : Output) → After old [] [] → old.refusal ≡ None → old.rules ≡ rules_of limits → new.rules ≡ old.rules → RendersOrFails form turns o old new xs left before after → ShowsTo form limits turns (ending_of o) xs left before after
+pub shows_by : (form : TextForm) (limits : Limits) (turns : ℕ) (o : Outcome) (old new : StreamState) (xs : List ℕ) (left : Option (List ℕ)) (before after : Output) → After old [] [] → old.refusal ≡ None → old.rules ≡ rules_of limits → new.rules ≡ old.rules → RendersOrFails form turns o old new xs left before after → ShowsTo form limits turns (ending_of o) xs left before after
 shows_by form limits turns (outcome.Finished f) old new xs left before after fresh unrefused rules same ran = record { old = old; new = new; fresh = fresh; unrefused = unrefused; rules = rules; same_rules = same; renders = ran }
 shows_by form limits turns outcome.ReadFault old new xs left before after fresh unrefused rules same ran = record { old = old; new = new; fresh = fresh; unrefused = unrefused; rules = rules; same_rules = same; renders = ran }
 shows_by form limits turns outcome.Turns old new xs left before after fresh unrefused rules same ran = record { old = old; new = new; fresh = fresh; unrefused = unrefused; rules = rules; same_rules = same; renders = ran }
@@ -170,7 +170,7 @@ shows_by form limits turns outcome.SinkFault old new xs left before after fresh 
 -- ---- how a check ends
 
 -- the output of a stream that was read tells what it got
-pub tells_read : (form : Form) (limits : Limits) (turns : ℕ) (f : Finish) (xs : List ℕ) (left : Option (List ℕ)) (before after : Output) → IsSome before.given → ShowsTo form limits turns (ending.Finished f) xs left before after → IsSome after.given
+pub tells_read : (form : TextForm) (limits : Limits) (turns : ℕ) (f : Finish) (xs : List ℕ) (left : Option (List ℕ)) (before after : Output) → IsSome before.given → ShowsTo form limits turns (ending.Finished f) xs left before after → IsSome after.given
 tells_read form limits turns f xs left before after known shows =
     let wrote = shows.renders.0.events [] [] shows.fresh in
     subst (λ (g : Option (List ℕ)). IsSome g) (sym (ap (λ o. o.given) wrote.written)) (known_still before.given (text form wrote.more) known)

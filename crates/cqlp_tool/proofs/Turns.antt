@@ -4,11 +4,11 @@ use Rattle.std.proofs.lemmas.List.{length-append}
 use Rattle.cqlp_decode.specs.declared.running.Outcome.{Outcome}
 use Rattle.cqlp_decode.specs.declared.running.Outcome.TheVariants as outcome
 use Rattle.cqlp_decode.specs.Reading.{Event}
-use Rattle.cqlp_decode.specs.Standing.{State}
+use Rattle.cqlp_decode.specs.Standing.{StreamState}
 use Rattle.cqlp_decode.specs.Draining.{Feeds, FeedsInto, HasAll, RunsTo}
 use Rattle.cqlp_decode.proofs.Gets.{drains_then, fails_then}
 
-module _ {V : Type 0} (f : V → ℕ → Event → V) (old mid new : State) (xs : List ℕ) (u v w : V) (d : Feeds f old mid xs u v) where
+module _ {V : Type 0} (f : V → ℕ → Event → V) (old mid new : StreamState) (xs : List ℕ) (u v w : V) (d : Feeds f old mid xs u v) where
   parts_on : (bytes rest : List ℕ) → d.rest ≡ bytes ++ rest → xs ≡ (d.bytes ++ bytes) ++ rest
   parts_on bytes rest parts = d.parts ∙ ap (λ z. d.bytes ++ z) parts ∙ sym (append_assoc d.bytes bytes rest)
 

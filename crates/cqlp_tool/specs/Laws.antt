@@ -8,14 +8,14 @@ use Rattle.cqlp_decode.specs.declared.event.Finish.TheVariants as finish
 use Rattle.cqlp_decode.specs.declared.running.Outcome.{Outcome}
 use Rattle.cqlp_decode.specs.declared.running.Outcome.TheVariants as outcome
 use Rattle.cqlp_decode.specs.Reading.{Event, Verdict, Waits, Refused, Says, start}
-use Rattle.cqlp_decode.specs.Standing.{State}
+use Rattle.cqlp_decode.specs.Standing.{StreamState}
 use Rattle.cqlp_decode.specs.Streams.{After, FinishesBy}
 use Rattle.cqlp_text.specs.declared.ending.Ending.{Ending}
 use Rattle.cqlp_text.specs.declared.ending.Ending.TheVariants as ending
 use Rattle.cqlp_text.specs.Endings.{ending_line, finish_status}
 use Rattle.cqlp_text.specs.Laws.{FailsAlike, GoesOnFromOther}
 use Rattle.cqlp_text.specs.Outputs.{Output, with_text, HasFailed}
-use Rattle.cqlp_tool.specs.declared.form.Form.{Form}
+use Rattle.cqlp_tool.specs.declared.text_form.TextForm.{TextForm}
 use Rattle.cqlp_tool.specs.Forms.{text}
 use Rattle.cqlp_tool.specs.Rendering.{RendersTo}
 use Rattle.cqlp_tool.specs.Showing.{ShowsAndTells, ChecksAndTells}
@@ -28,8 +28,8 @@ EndsAs xs es Waits f = FinishesBy None xs es f
 EndsAs xs es (Refused at why) f = f ≡ finish.Refused (record { at = at; why = why })
 
 -- A renderer that is Finished wrote the text of all events that the stream says, and tells its end.
-abbrev pub IsRenderedWhole : Form → Type 0
-IsRenderedWhole form = (turns : ℕ) (f : Finish) (old new : State) (xs : List ℕ) (left : Option (List ℕ))
+abbrev pub IsRenderedWhole : TextForm → Type 0
+IsRenderedWhole form = (turns : ℕ) (f : Finish) (old new : StreamState) (xs : List ℕ) (left : Option (List ℕ))
     (before after : Output) (s : List ℕ) (es more : List (ℕ × Event)) (v : Verdict)
     → After old s es → old.refusal ≡ None → new.rules ≡ old.rules → Says old.rules start (s ++ xs) (es ++ more) v
     → RendersTo form turns (outcome.Finished f) old new xs left before after
@@ -50,7 +50,7 @@ pub record IsGranted (turns : ℕ) (xs : List ℕ) (reads reads' : ℕ) (out err
 
 -- A stream that says these events and this verdict is shown: where the outside granted all, or the status is not that of
 -- a fault, just the text of the events was written, the verdict line is that of the stream, and the status is its own.
-abbrev pub IsShownRightly : Form → Type 0
+abbrev pub IsShownRightly : TextForm → Type 0
 IsShownRightly form = (limits : Limits) (turns : ℕ) (xs : List ℕ) (left : Option (List ℕ))
     (reads reads' : ℕ) (out err : Output) (status : ℕ) (out' err' : Output) (es : List (ℕ × Event)) (v : Verdict)
     → Says (rules_of limits) start xs es v → IsGranted turns xs reads reads' out err out' err' ⊎ (status ≢ 3)
@@ -85,8 +85,8 @@ EndsAlike outcome.SinkFault outcome.SinkFault left left' = Unit {0}
 EndsAlike o o' left left' = ⊥
 
 -- Two runs of a renderer, from the same history and the same bytes, that end alike: one outcome, and one output.
-abbrev pub IsRenderedOnce : Form → Type 0
-IsRenderedOnce form = (turns : ℕ) (o o' : Outcome) (old new new' : State) (xs : List ℕ) (left left' : Option (List ℕ))
+abbrev pub IsRenderedOnce : TextForm → Type 0
+IsRenderedOnce form = (turns : ℕ) (o o' : Outcome) (old new new' : StreamState) (xs : List ℕ) (left left' : Option (List ℕ))
     (before after after' : Output) (s : List ℕ) (es : List (ℕ × Event))
     → After old s es → old.refusal ≡ None → new.rules ≡ old.rules → new'.rules ≡ old.rules → EndsAlike o o' left left'
     → RendersTo form turns o old new xs left before after → RendersTo form turns o' old new' xs left' before after'
@@ -103,7 +103,7 @@ EndAlike e e' left left' = ⊥
 
 -- Two commands that show the same bytes within the same limits, and end alike: one ending, one status, and one text on each
 -- output.
-abbrev pub IsShownOnce : Form → Type 0
+abbrev pub IsShownOnce : TextForm → Type 0
 IsShownOnce form = (limits : Limits) (turns : ℕ) (xs : List ℕ) (left left' : Option (List ℕ))
     (reads reads' reads'' : ℕ) (out err : Output) (status status' : ℕ) (out' err' out'' err'' : Output)
     → (shows : ShowsAndTells form limits turns xs left reads reads' out err status out' err')

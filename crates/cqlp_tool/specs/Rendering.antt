@@ -5,19 +5,19 @@ use Rattle.cqlp_note.specs.Streams.{counted}
 use Rattle.cqlp_decode.specs.declared.running.Outcome.{Outcome}
 use Rattle.cqlp_decode.specs.declared.running.Outcome.TheVariants as outcome
 use Rattle.cqlp_decode.specs.Reading.{Event, start, Says}
-use Rattle.cqlp_decode.specs.Standing.{State}
+use Rattle.cqlp_decode.specs.Standing.{StreamState}
 use Rattle.cqlp_decode.specs.Streams.{After, Finishes}
 use Rattle.cqlp_decode.specs.Draining.{HasRefused, verdict_of}
 use Rattle.cqlp_text.specs.Outputs.{Output, with_text, StopsWithin}
-use Rattle.cqlp_tool.specs.declared.form.Form.{Form}
+use Rattle.cqlp_tool.specs.declared.text_form.TextForm.{TextForm}
 use Rattle.cqlp_tool.specs.Forms.{text, text_of, form_after, form_behind}
 
 -- what was written, and the form of what comes next
 pub record Rendering : Type 0 where
   pub output : Output
-  pub form : Form
+  pub form : TextForm
 
-abbrev pub rendering : Output → Form → Rendering
+abbrev pub rendering : Output → TextForm → Rendering
 rendering o f = record { output = o; form = f }
 
 -- with the text of an event
@@ -28,13 +28,13 @@ abbrev pub StopsWithinEvent : Rendering → (at : ℕ) → Event → Rendering �
 StopsWithinEvent old at e new = StopsWithin old.output (text_of old.form at e) new.output
 
 -- Behind the bytes s and the events es, these bytes were used, and just the text of their events was written.
-pub record WritesEvents (form : Form) (new : State) (s : List ℕ) (es : List (ℕ × Event)) (bytes : List ℕ) (before after : Output) : Type 0 where
+pub record WritesEvents (form : TextForm) (new : StreamState) (s : List ℕ) (es : List (ℕ × Event)) (bytes : List ℕ) (before after : Output) : Type 0 where
   pub more : List (ℕ × Event)
   pub stands : After new (s ++ bytes) (es ++ more)
   pub written : after ≡ with_text before (text form more)
 
 -- The same, but within the text of the last event the target failed.
-pub record StopsInEvents (form : Form) (new : State) (s : List ℕ) (es : List (ℕ × Event)) (bytes : List ℕ) (before after : Output) : Type 0 where
+pub record StopsInEvents (form : TextForm) (new : StreamState) (s : List ℕ) (es : List (ℕ × Event)) (bytes : List ℕ) (before after : Output) : Type 0 where
   pub more : List (ℕ × Event)
   pub at : ℕ
   pub event : Event
@@ -42,7 +42,7 @@ pub record StopsInEvents (form : Form) (new : State) (s : List ℕ) (es : List (
   pub written : StopsWithin (with_text before (text form more)) (text_of (form_behind form more) at event) after
 
 -- Of the bytes xs of a reader, `rest` is left or was not used; the text of the events of the others was written.
-pub record Renders (form : Form) (old new : State) (xs : List ℕ) (before after : Output) : Type 0 where
+pub record Renders (form : TextForm) (old new : StreamState) (xs : List ℕ) (before after : Output) : Type 0 where
   pub bytes : List ℕ
   pub rest : List ℕ
   pub parts : xs ≡ bytes ++ rest
@@ -51,7 +51,7 @@ pub record Renders (form : Form) (old new : State) (xs : List ℕ) (before after
 -- Of the bytes that were not used, the first were looked at, where they are refused, and the others are left. What was
 -- written is the text of all events that the bytes read say, and the decoder's refusal, or none, is their verdict, if it
 -- had refused nothing before.
-pub record RendersAll (form : Form) (old new : State) (xs : List ℕ) (left : Option (List ℕ)) (before after : Output) (d : Renders form old new xs before after) : Type 0 where
+pub record RendersAll (form : TextForm) (old new : StreamState) (xs : List ℕ) (left : Option (List ℕ)) (before after : Output) (d : Renders form old new xs before after) : Type 0 where
   pub looked : List ℕ
   pub unread : List ℕ
   pub parts : d.rest ≡ looked ++ unread
@@ -60,7 +60,7 @@ pub record RendersAll (form : Form) (old new : State) (xs : List ℕ) (left : Op
   pub says : old.refusal ≡ None → (s : List ℕ) (es : List (ℕ × Event)) (a : After old s es) → Says new.rules start (s ++ d.bytes ++ looked) (es ++ (d.events s es a).more) (verdict_of new.refusal)
 
 -- The same as `Renders`, but the target failed within the text of the last event.
-pub record RendersPart (form : Form) (old new : State) (xs : List ℕ) (before after : Output) : Type 0 where
+pub record RendersPart (form : TextForm) (old new : StreamState) (xs : List ℕ) (before after : Output) : Type 0 where
   pub bytes : List ℕ
   pub rest : List ℕ
   pub parts : xs ≡ bytes ++ rest
@@ -69,7 +69,7 @@ pub record RendersPart (form : Form) (old new : State) (xs : List ℕ) (before a
 -- What was written of the bytes xs of a reader, by how it ends: at the end of the input or at a refusal, with what the
 -- end of the stream says there; at a reader's fault; after so many reads, each of some byte; or at a target's fault.
 -- But for that, all events were written.
-abbrev pub RendersTo : Form → (turns : ℕ) → Outcome → (old new : State) → (xs : List ℕ) → Option (List ℕ) → (before after : Output) → Type 0
+abbrev pub RendersTo : TextForm → (turns : ℕ) → Outcome → (old new : StreamState) → (xs : List ℕ) → Option (List ℕ) → (before after : Output) → Type 0
 RendersTo form turns (outcome.Finished end) old new xs left before after =
     (d : Renders form old new xs before after) × ((d.rest ≡ []) ⊎ HasRefused new) × ((s : List ℕ) (es : List (ℕ × Event)) → After new s es → Finishes new s es end) × RendersAll form old new xs left before after d
 RendersTo form turns outcome.ReadFault old new xs left before after = (d : Renders form old new xs before after) × (left ≡ Some d.rest) × RendersAll form old new xs left before after d
@@ -78,7 +78,7 @@ RendersTo form turns outcome.SinkFault old new xs left before after = RendersPar
 
 -- After the bytes s and the events es, these bytes were used, and the target failed. With some more text, which was lost,
 -- it would have been given just the text of their events.
-pub record WritesFront (form : Form) (new : State) (s : List ℕ) (es : List (ℕ × Event)) (bytes : List ℕ) (before after : Output) : Type 0 where
+pub record WritesFront (form : TextForm) (new : StreamState) (s : List ℕ) (es : List (ℕ × Event)) (bytes : List ℕ) (before after : Output) : Type 0 where
   pub more : List (ℕ × Event)
   pub stands : After new (s ++ bytes) (es ++ more)
   pub lost : List ℕ
@@ -86,7 +86,7 @@ pub record WritesFront (form : Form) (new : State) (s : List ℕ) (es : List (�
   pub failures : after.failures ≡ counted true before.failures
 
 -- Of the bytes xs of a reader, `rest` is left or was not used; the target failed within the text of the others.
-pub record RendersFront (form : Form) (old new : State) (xs : List ℕ) (before after : Output) : Type 0 where
+pub record RendersFront (form : TextForm) (old new : StreamState) (xs : List ℕ) (before after : Output) : Type 0 where
   pub bytes : List ℕ
   pub rest : List ℕ
   pub parts : xs ≡ bytes ++ rest

@@ -5,13 +5,13 @@ use Rattle.cqlp_note.specs.Limits.{rules_of}
 use Rattle.cqlp_note.specs.Streams.{counted}
 use Rattle.cqlp_decode.specs.declared.running.Outcome.{Outcome}
 use Rattle.cqlp_decode.specs.declared.running.Outcome.TheVariants as outcome
-use Rattle.cqlp_decode.specs.Standing.{State}
+use Rattle.cqlp_decode.specs.Standing.{StreamState}
 use Rattle.cqlp_decode.specs.Streams.{After}
 use Rattle.cqlp_text.specs.declared.ending.Ending.{Ending}
 use Rattle.cqlp_text.specs.declared.ending.Ending.TheVariants as ending
 use Rattle.cqlp_text.specs.Endings.{ending_line, finish_status, status_of}
-use Rattle.cqlp_tool.specs.declared.form.Form.{Form}
-use Rattle.cqlp_tool.specs.declared.form.Form.TheVariants as forms
+use Rattle.cqlp_tool.specs.declared.text_form.TextForm.{TextForm}
+use Rattle.cqlp_tool.specs.declared.text_form.TextForm.TheVariants as forms
 use Rattle.cqlp_text.specs.Outputs.{Output, with_text, StopsWithin}
 use Rattle.cqlp_tool.specs.Rendering.{RendersFront, RendersTo}
 
@@ -23,9 +23,9 @@ ending_of outcome.SinkFault = ending.WriteFault
 ending_of outcome.Turns = ending.TooManyTurns
 
 -- A decoder that was just made with these limits, and has refused nothing, rendered the bytes xs of a reader.
-pub record RendersNew (form : Form) (limits : Limits) (turns : ℕ) (o : Outcome) (xs : List ℕ) (left : Option (List ℕ)) (before after : Output) : Type 0 where
-  pub old : State
-  pub new : State
+pub record RendersNew (form : TextForm) (limits : Limits) (turns : ℕ) (o : Outcome) (xs : List ℕ) (left : Option (List ℕ)) (before after : Output) : Type 0 where
+  pub old : StreamState
+  pub new : StreamState
   pub fresh : After old [] []
   pub unrefused : old.refusal ≡ None
   pub rules : old.rules ≡ rules_of limits
@@ -33,9 +33,9 @@ pub record RendersNew (form : Form) (limits : Limits) (turns : ℕ) (o : Outcome
   pub renders : RendersTo form turns o old new xs left before after
 
 -- The same, but the target failed.
-pub record RendersFrontNew (form : Form) (limits : Limits) (xs : List ℕ) (before after : Output) : Type 0 where
-  pub old : State
-  pub new : State
+pub record RendersFrontNew (form : TextForm) (limits : Limits) (xs : List ℕ) (before after : Output) : Type 0 where
+  pub old : StreamState
+  pub new : StreamState
   pub fresh : After old [] []
   pub unrefused : old.refusal ≡ None
   pub rules : old.rules ≡ rules_of limits
@@ -43,14 +43,14 @@ pub record RendersFrontNew (form : Form) (limits : Limits) (xs : List ℕ) (befo
   pub renders : RendersFront form old new xs before after
 
 -- What a decoder rendered through a buffer; where the target failed, it was given a front of that.
-abbrev pub RendersOrFails : Form → (turns : ℕ) → Outcome → (old new : State) → (xs : List ℕ) → Option (List ℕ) → (before after : Output) → Type 0
+abbrev pub RendersOrFails : TextForm → (turns : ℕ) → Outcome → (old new : StreamState) → (xs : List ℕ) → Option (List ℕ) → (before after : Output) → Type 0
 RendersOrFails form turns (outcome.Finished f) old new xs left before after = RendersTo form turns (outcome.Finished f) old new xs left before after
 RendersOrFails form turns outcome.ReadFault old new xs left before after = RendersTo form turns outcome.ReadFault old new xs left before after
 RendersOrFails form turns outcome.Turns old new xs left before after = RendersTo form turns outcome.Turns old new xs left before after
 RendersOrFails form turns outcome.SinkFault old new xs left before after = RendersFront form old new xs before after
 
 -- What was written of the bytes xs of a reader, by how the command ends.
-abbrev pub ShowsTo : Form → Limits → (turns : ℕ) → Ending → (xs : List ℕ) → Option (List ℕ) → (before after : Output) → Type 0
+abbrev pub ShowsTo : TextForm → Limits → (turns : ℕ) → Ending → (xs : List ℕ) → Option (List ℕ) → (before after : Output) → Type 0
 ShowsTo form limits turns (ending.Finished f) xs left before after = RendersNew form limits turns (outcome.Finished f) xs left before after
 ShowsTo form limits turns ending.ReadFault xs left before after = RendersNew form limits turns outcome.ReadFault xs left before after
 ShowsTo form limits turns ending.TooManyTurns xs left before after = RendersNew form limits turns outcome.Turns xs left before after
@@ -77,7 +77,7 @@ ConcludesCheck (ending.Finished f) out err status out' err' =
 ConcludesCheck e out err status out' err' = (out' ≡ out) × Concludes e err status err'
 
 -- A stream was shown: what was written of it, which calls of the reader failed, and the line that tells how it ended.
-abbrev pub ShowsAndTells : Form → Limits → (turns : ℕ) → (xs : List ℕ) → (left : Option (List ℕ)) → (reads reads' : ℕ) → (out err : Output) → (status : ℕ) → (out' err' : Output) → Type 0
+abbrev pub ShowsAndTells : TextForm → Limits → (turns : ℕ) → (xs : List ℕ) → (left : Option (List ℕ)) → (reads reads' : ℕ) → (out err : Output) → (status : ℕ) → (out' err' : Output) → Type 0
 ShowsAndTells form limits turns xs left reads reads' out err status out' err' =
     (e : Ending) × ShowsTo form limits turns e xs left out out' × CountsReads e reads reads' × Concludes e err status err'
 

@@ -9,7 +9,7 @@ ghost use Rattle.cqlp_tool.specs.Showing.{Concludes, ShowsAndTells};
 ghost use Rattle.cqlp_text.specs.declared.ending.Ending.{Ending};
 ghost use Rattle.cqlp_options.specs.NoTasks.{IfHelp, IfMistake};
 ghost use Rattle.cqlp_options.specs.declared.no_task.NoTask.TheVariants as no_tasks;
-ghost use Rattle.cqlp_tool.specs.declared.form.Form.TheVariants as forms;
+ghost use Rattle.cqlp_tool.specs.declared.text_form.TextForm.TheVariants as forms;
 
 use crate::showing::{TURNS, check, conclude, rows, show};
 use cqlp_decode::SinkFault;

@@ -3,7 +3,7 @@
 
 ghost use Rattle.cqlp_text.specs.PageText.{no_page};
 ghost use Rattle.cqlp_tool.specs.Laws.{IsCheckedOnce, IsCheckedRightly, IsRenderedOnce, IsRenderedWhole, IsShownOnce, IsShownRightly};
-ghost use Rattle.cqlp_tool.specs.declared.form.Form.TheVariants as forms;
+ghost use Rattle.cqlp_tool.specs.declared.text_form.TextForm.TheVariants as forms;
 
 /// Finished, all lines of the stream were written, and its end is told; and two runs that end alike wrote the same.
 pub fn one_answer_of_render_events()

@@ -3,12 +3,12 @@
 
 mod buffered;
 mod command_line;
-mod form;
 #[cfg(test)]
 mod heaps;
 pub mod laws;
 mod render;
 mod showing;
+mod text_form;
 
 pub use command_line::command;
 pub use cqlp_options::{DEFAULT_LIMITS, NoTask, Options, Task};

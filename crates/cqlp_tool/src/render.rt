@@ -6,7 +6,7 @@ ghost use Rattle.cqlp_note.specs.declared.refusal.Refusal.{Refusal};
 ghost use Rattle.cqlp_decode.specs.Streams.{After, state};
 
 use crate::buffered::Buffered;
-use crate::form::Form;
+use crate::text_form::TextForm;
 use cqlp_decode::{Decoder, Event, Finish, Outcome, Sink, SinkFault, run};
 use cqlp_note::{IoFault, Source, Target};
 use cqlp_text::{PagePlace, event_line, page_part};
@@ -17,7 +17,7 @@ use std::marker::Model;
 #[derive(Drop)]
 pub(crate) struct TextSink<W: Target> {
     target: W,
-    form: Form,
+    form: TextForm,
 }
 
 impl<W: Target> Model for TextSink<W> {
@@ -35,7 +35,7 @@ impl<W: Target> TextSink<W> {
     ghost use Rattle.cqlp_tool.specs.Rendering.{rendering};
 
     /// Over a target, in a form.
-    pub fn new(target: W, form: Form) -> Self
+    pub fn new(target: W, form: TextForm) -> Self
         ensures { result ≡ rendering (output (W.contents target) (W.failures target)) form }
     {
         TextSink { target, form }
@@ -79,9 +79,9 @@ impl<W: Target> Sink for TextSink<W> {
 
     fn take(&mut self, at: u64, event: &Event<'_>) -> Result<(), SinkFault> {
         match &mut self.form {
-            Form::Lines => event_line(at, event, &mut self.target),
-            Form::Pages(place) => page_part(place, event, &mut self.target),
-            Form::Nothing => Ok(()),
+            TextForm::Lines => event_line(at, event, &mut self.target),
+            TextForm::Pages(place) => page_part(place, event, &mut self.target),
+            TextForm::Nothing => Ok(()),
         }
     }
 }
@@ -90,7 +90,7 @@ ghost use Rattle.cqlp_text.specs.PageText.{no_page};
 ghost use Rattle.cqlp_text.specs.Outputs.{output};
 ghost use Rattle.cqlp_tool.specs.Rendering.{RendersTo};
 ghost use Rattle.cqlp_tool.specs.Showing.{RendersOrFails};
-ghost use Rattle.cqlp_tool.specs.declared.form.Form.TheVariants as forms;
+ghost use Rattle.cqlp_tool.specs.declared.text_form.TextForm.TheVariants as forms;
 
 /// Writes the lines of all events of a reader's bytes, from at most `turns` reads. The events of bytes that the decoder
 /// was given before come first. A fault of the writer is `Outcome::SinkFault`.
@@ -109,7 +109,7 @@ pub fn render_events<R: Source, W: Target, A: Allocator>(
     ensures failures { Counts result.0 (R.failures reader.old) (R.failures reader.new) }
     ensures rules { (state decoder.new).rules ≡ (state decoder.old).rules }
 {
-    let mut sink = TextSink::new(w, Form::Lines);
+    let mut sink = TextSink::new(w, TextForm::Lines);
     let outcome = run(decoder, reader, &mut sink, turns);
     (outcome, sink.into_inner())
 }
@@ -132,7 +132,7 @@ pub fn render_rows<R: Source, W: Target, A: Allocator>(
     ensures failures { Counts result.0 (R.failures reader.old) (R.failures reader.new) }
     ensures rules { (state decoder.new).rules ≡ (state decoder.old).rules }
 {
-    let mut sink = TextSink::new(w, Form::Pages(PagePlace::new()));
+    let mut sink = TextSink::new(w, TextForm::Pages(PagePlace::new()));
     let outcome = run(decoder, reader, &mut sink, turns);
     (outcome, sink.into_inner())
 }

@@ -8,11 +8,11 @@ ghost use Rattle.cqlp_text.specs.PageText.{no_page};
 ghost use Rattle.cqlp_text.specs.Outputs.{Output, output};
 ghost use Rattle.cqlp_tool.specs.Showing.{ending_of, ChecksAndTells, Concludes, CountsReads, RendersOrFails, ShowsAndTells, ShowsTo};
 ghost use Rattle.cqlp_text.specs.declared.ending.Ending.{Ending};
-ghost use Rattle.cqlp_tool.specs.declared.form.Form.TheVariants as forms;
+ghost use Rattle.cqlp_tool.specs.declared.text_form.TextForm.TheVariants as forms;
 
 use crate::buffered::Buffered;
-use crate::form::Form;
 use crate::render::{TextSink, run_flushing};
+use crate::text_form::TextForm;
 use cqlp_decode::{Decoder, NewError, Outcome, SinkFault};
 use cqlp_note::{IoFault, Limits, Source, Target};
 use cqlp_text::{Ending, PagePlace, ending_line};
@@ -40,7 +40,7 @@ pub fn show<R: Source, O: Target, E: Target, A: Allocator>(
         (output (O.contents out) (O.failures out)) (output (E.contents err) (E.failures err)) result.0
         (output (O.contents result.1) (O.failures result.1)) (output (E.contents result.2) (E.failures result.2)) }
 {
-    let (ending, out) = shown(alloc, limits, Form::Lines, input, out);
+    let (ending, out) = shown(alloc, limits, TextForm::Lines, input, out);
     let (status, err) = conclude(ending, err);
     (status, out, err)
 }
@@ -61,7 +61,7 @@ pub fn rows<R: Source, O: Target, E: Target, A: Allocator>(
         (output (O.contents out) (O.failures out)) (output (E.contents err) (E.failures err)) result.0
         (output (O.contents result.1) (O.failures result.1)) (output (E.contents result.2) (E.failures result.2)) }
 {
-    let (ending, out) = shown(alloc, limits, Form::Pages(PagePlace::new()), input, out);
+    let (ending, out) = shown(alloc, limits, TextForm::Pages(PagePlace::new()), input, out);
     let (status, err) = conclude(ending, err);
     (status, out, err)
 }
@@ -82,7 +82,7 @@ pub fn check<R: Source, O: Target, E: Target, A: Allocator>(
         (output (O.contents out) (O.failures out)) (output (E.contents err) (E.failures err)) result.0
         (output (O.contents result.1) (O.failures result.1)) (output (E.contents result.2) (E.failures result.2)) }
 {
-    let (ending, mut out) = shown(alloc, limits, Form::Nothing, input, out);
+    let (ending, mut out) = shown(alloc, limits, TextForm::Nothing, input, out);
     let Ending::Finished(_) = ending else {
         let (status, err) = conclude(ending, err);
         return (status, out, err);
@@ -98,7 +98,7 @@ pub fn check<R: Source, O: Target, E: Target, A: Allocator>(
 fn shown<R: Source, O: Target, A: Allocator>(
     alloc: &A,
     limits: Limits,
-    form: Form,
+    form: TextForm,
     input: &mut R,
     out: O,
 ) -> (Ending, O)
@@ -137,7 +137,7 @@ fn render_buffered<R: Source, O: Target, A: Allocator, B: Allocator>(
     decoder: &mut Decoder<A>,
     input: &mut R,
     out: O,
-    form: Form,
+    form: TextForm,
     buffer: Vec<u8, B>,
 ) -> (Outcome, O)
     ensures renders { (xs : List ℕ) → R.left input.old ≡ Some xs → IsSome (O.contents out) → After (state decoder.old) [] [] →

@@ -3,9 +3,9 @@ use Rattle.std.proofs.Common.{◌≡◌, ℕ, ◌+◌, ◌-◌, ◌≤◌, true,
 use Rattle.std.proofs.lemmas.List.{length-append}
 use Rattle.cqlp_note.specs.declared.head.Wanted.{Wanted}
 use Rattle.cqlp_note.specs.declared.refusal.Reason.{Reason}
-use Rattle.cqlp_note.specs.declared.taken.Item.{Item}
-use Rattle.cqlp_note.specs.declared.taken.Item.TheVariants as item
-use Rattle.cqlp_note.specs.declared.head.Form.TheVariants as form
+use Rattle.cqlp_note.specs.declared.advance.FieldOutline.{FieldOutline}
+use Rattle.cqlp_note.specs.declared.advance.FieldOutline.TheVariants as item
+use Rattle.cqlp_note.specs.declared.head.ContentForm.TheVariants as form
 use Rattle.cqlp_note.specs.declared.field.Notation.TheVariants as notation
 use Rattle.cqlp_note.specs.declared.refusal.Reason.TheVariants.{Overrun}
 use Rattle.cqlp_note.specs.Reader.{Said, More, Bad, Got, Gives, Refuses, says}
@@ -14,24 +14,24 @@ use Rattle.cqlp_note.specs.Field.{FieldValue, Short, Text, field_of}
 use Rattle.cqlp_note.specs.Limits.{Rules, limit_of}
 use Rattle.cqlp_note.specs.Head.{reader_of}
 use Rattle.cqlp_note.specs.Spelling.{Spells}
-use Rattle.cqlp_note.specs.Partial.{Progress, item_value, content_length, CanLend, going_on, ended}
+use Rattle.cqlp_note.specs.Partial.{FieldState, item_value, content_length, CanLend, going_on, ended}
 use Rattle.cqlp_note.specs.Partial as partial
 use Rattle.cqlp_note.proofs.Readers.{says_always}
 use Rattle.cqlp_note.proofs.Fields.{field_spells}
 use Rattle.cqlp_note.proofs.Yields.{got_inside}
 use Rattle.cqlp_type.specs.declared.node.Node.{Node}
-use Rattle.cqlp_type.specs.declared.item.TypePart.{TypePart}
+use Rattle.cqlp_type.specs.declared.advance.TypeOutline.{TypeOutline}
 use Rattle.cqlp_type.specs.TypeStep.{TypeSymbol, Option_at, Text_of, Fields_of, Whole, TypeEvent, TypePlace, type_place}
 use Rattle.cqlp_type.specs.Table.{Table}
 use Rattle.cqlp_type.specs.Remaining.{event_at, item_step, Keeps, IsPart, number_of, short_in}
-use Rattle.cqlp_type.specs.Standing.{Standing, stopped, place_of, notation_of, IsFor, IsShared, pending, told, CanLendPart, text_length, Waits, Ends}
+use Rattle.cqlp_type.specs.Standing.{TypeState, stopped, place_of, notation_of, IsFor, IsShared, pending, told, CanLendPart, text_length, Waits, Ends}
 use Rattle.cqlp_type.specs.Pushing.{ReadsInto}
 use Rattle.cqlp_type.proofs.OpenTypes.{keeps}
 use Rattle.cqlp_type.proofs.ReadBack.{text_is}
 use Rattle.cqlp_type.proofs.Items.{short_got, IsRead, field_says, item_waits, item_fails, item_gives, waiting_inside, item_size}
 
 -- the item is the field that was asked for
-module _ (r : Standing) (nodes : List Node) (w : Wanted) (bytes : List ℕ) where
+module _ (r : TypeState) (nodes : List Node) (w : Wanted) (bytes : List ℕ) where
   abbrev here : List TypeSymbol → Said FieldValue Reason
   here = field_says r.rules (place_of r nodes) bytes
 
@@ -81,7 +81,7 @@ text_got limit room bytes v k g = text_is v _ (says_always (Spells notation.Text
 short_plain : (limit room : ℕ) (bytes : List ℕ) (v : FieldValue) (k : ℕ) → says (field_of notation.Short limit room) 0 bytes ≡ Got v k → content_length v ≡ 0
 short_plain limit room bytes v k g = ap content_length (short_got Overrun limit room (λ n. Gives (Short n)) bytes v k g).0
 
-number_is : (i : Item) (input buffer : List ℕ) → short_in (item_value i input buffer) ≡ number_of i
+number_is : (i : FieldOutline) (input buffer : List ℕ) → short_in (item_value i input buffer) ≡ number_of i
 number_is (item.Plain v) input buffer = refl
 number_is (item.Content form.Text l) input buffer = refl
 number_is (item.Content form.Bytes l) input buffer = refl
@@ -96,7 +96,7 @@ failed_plain l p w bytes v k fault (Text_of t ∷ ss) f g r = absurd cc
 failed_plain l p w bytes v k fault (Fields_of named depth ∷ ss) f g r = absurd cc
 failed_plain l p w bytes v k fault (Whole n ∷ ss) f g r = absurd f
 
-module _ (w : Wanted) (bytes : List ℕ) (k : ℕ) (i : Item) (input buffer : List ℕ) (x : TypePart) where
+module _ (w : Wanted) (bytes : List ℕ) (k : ℕ) (i : FieldOutline) (input buffer : List ℕ) (x : TypeOutline) where
   part_lends : CanLend i input buffer → (l : Rules) (offset stop : ℕ) (ss : List TypeSymbol) → IsFor l offset stop ss w → IsPart ss i x → says (reader_of w) 0 bytes ≡ Got (item_value i input buffer) k → CanLendPart x input buffer
   part_lends can l offset stop [] f is g = absurd f
   part_lends can l offset stop (Option_at depth ∷ ss) f is g = rw is.1 tt
@@ -113,9 +113,9 @@ module _ (w : Wanted) (bytes : List ℕ) (k : ℕ) (i : Item) (input buffer : Li
   part_plain used l offset stop (Whole n ∷ ss) f is g le = absurd f
 
 -- r is the reader with its item begun
-module _ (old r : Standing) (p q : Progress) (t : Table) (input : List ℕ) (reader : r ≡ record old { begun = true; taken = r.taken }) (shared : IsShared r q) (same : pending r q ≡ pending old p) (room : q.room ≡ p.room) where
+module _ (old r : TypeState) (p q : FieldState) (t : Table) (input : List ℕ) (reader : r ≡ record old { begun = true; taken = r.taken }) (shared : IsShared r q) (same : pending r q ≡ pending old p) (room : q.room ≡ p.room) where
   begun : r.begun ≡ true
-  begun = ap (λ (z : Standing). z.begun) reader
+  begun = ap (λ (z : TypeState). z.begun) reader
 
   seen : q.seen ≡ pending old p
   seen = rw begun at same
@@ -127,9 +127,9 @@ module _ (old r : Standing) (p q : Progress) (t : Table) (input : List ℕ) (rea
   asked = shared.item begun
 
   told_same : (bytes : List ℕ) → told old t.nodes bytes ≡ told r t.nodes bytes
-  told_same bytes = ap (λ (z : Standing). told z t.nodes bytes) (sym reader)
+  told_same bytes = ap (λ (z : TypeState). told z t.nodes bytes) (sym reader)
 
-  module _ (used : ℕ) (q' : Progress) (w : partial.Waits q input used q') where
+  module _ (used : ℕ) (q' : FieldState) (w : partial.Waits q input used q') where
     now : says (reader_of q.field) 0 (q.seen ++ input) ≡ More
     now = w.is
 
@@ -143,20 +143,20 @@ module _ (old r : Standing) (p q : Progress) (t : Table) (input : List ℕ) (rea
 
     waits_shared : IsShared (record r { taken = r.taken + used }) q'
     waits_shared = record {
-      room = let e : q'.room ≡ q.room = ap (λ (z : Progress). z.room) progress in rw e shared.room;
-      same = ap (λ (z : Progress). z.under_way) progress ∙ sym begun;
-      item = λ _. let e : q'.field ≡ q.field = ap (λ (z : Progress). z.field) progress in rw e asked;
-      taken = λ _. let e : q'.seen ≡ q.seen ++ input = ap (λ (z : Progress). z.seen) progress in rw e (omega (arith, length-append q.seen input, taken_is, w.all));
+      room = let e : q'.room ≡ q.room = ap (λ (z : FieldState). z.room) progress in rw e shared.room;
+      same = ap (λ (z : FieldState). z.under_way) progress ∙ sym begun;
+      item = λ _. let e : q'.field ≡ q.field = ap (λ (z : FieldState). z.field) progress in rw e asked;
+      taken = λ _. let e : q'.seen ≡ q.seen ++ input = ap (λ (z : FieldState). z.seen) progress in rw e (omega (arith, length-append q.seen input, taken_is, w.all));
     }
 
     pub waits_on : Waits old p t input used (record r { taken = r.taken + used }) q' t
     waits_on = record {
       all = w.all;
       is = told_same (pending old p ++ input) ∙ rw (← seen) (told_waits r t.nodes q.field (q.seen ++ input) asked now).0;
-      pending = rw begun (ap (λ (z : Progress). z.seen) progress ∙ ap (λ (x : List ℕ). x ++ input) seen);
-      reader = ap (λ (z : Standing). record z { taken = r.taken + used }) reader;
+      pending = rw begun (ap (λ (z : FieldState). z.seen) progress ∙ ap (λ (x : List ℕ). x ++ input) seen);
+      reader = ap (λ (z : TypeState). record z { taken = r.taken + used }) reader;
       shared = waits_shared;
-      room = ap (λ (z : Progress). z.room) progress ∙ room;
+      room = ap (λ (z : FieldState). z.room) progress ∙ room;
       table = refl;
     }
 
@@ -177,7 +177,7 @@ module _ (old r : Standing) (p q : Progress) (t : Table) (input : List ℕ) (rea
   pub refused_told : (why : Reason) → says (reader_of q.field) 0 (q.seen ++ input) ≡ Bad why → told old t.nodes (pending old p ++ input) ≡ Bad (r.offset, why)
   refused_told why m = told_same (pending old p ++ input) ∙ rw (← seen) (told_fails r t.nodes q.field (q.seen ++ input) asked why m)
 
-  module _ (used : ℕ) (i : Item) (q' : Progress) (can : CanLend i input q'.content) (e : partial.Ends q input used (item_value i input q'.content) q') where
+  module _ (used : ℕ) (i : FieldOutline) (q' : FieldState) (can : CanLend i input q'.content) (e : partial.Ends q input used (item_value i input q'.content) q') where
     abbrev value : FieldValue
     value = item_value i input q'.content
 
@@ -202,14 +202,14 @@ module _ (old r : Standing) (p q : Progress) (t : Table) (input : List ℕ) (rea
     idle = e.idle
 
     pub idle_after : (q'.under_way ≡ false) × (q'.room ≡ p.room)
-    idle_after = (ap (λ (z : Progress). z.under_way) idle, ap (λ (z : Progress). z.room) idle ∙ room)
+    idle_after = (ap (λ (z : FieldState). z.under_way) idle, ap (λ (z : FieldState). z.room) idle ∙ room)
 
     -- what the item does to the table, it does to one that holds types
     pub kept : ReadsInto old p t → Keeps r.rules r.symbols t.nodes (number_of i)
     kept reads =
-        let rules : old.rules ≡ r.rules = ap (λ (z : Standing). z.rules) (sym reader) in
-        let symbols : old.symbols ≡ r.symbols = ap (λ (z : Standing). z.symbols) (sym reader) in
-        let place : place_of old t.nodes ≡ place_of r t.nodes = ap (λ (z : Standing). place_of z t.nodes) (sym reader) in
+        let rules : old.rules ≡ r.rules = ap (λ (z : TypeState). z.rules) (sym reader) in
+        let symbols : old.symbols ≡ r.symbols = ap (λ (z : TypeState). z.symbols) (sym reader) in
+        let place : place_of old t.nodes ≡ place_of r t.nodes = ap (λ (z : TypeState). place_of z t.nodes) (sym reader) in
         let k = length (pending old p) + used in
         let said = goes ∙ (λ j. says (item_step (sym rules j) (sym place j) (sym symbols j) value) k (drop k (pending old p ++ input))) in
         let here = keeps old p t input reads used value old.symbols refl e.within said in
@@ -224,16 +224,16 @@ module _ (old r : Standing) (p q : Progress) (t : Table) (input : List ℕ) (rea
       e.lent (rw (failed_plain r.rules (place_of r t.nodes) q.field (q.seen ++ input) value (length q.seen + used) (r.offset, why) r.symbols asked got f) (omega arith)),
     )
 
-    module _ (x : TypePart) (symbols : List TypeSymbol) (height : ℕ) (t' : Table)
+    module _ (x : TypeOutline) (symbols : List TypeSymbol) (height : ℕ) (t' : Table)
         (is : item_step r.rules (place_of r t.nodes) r.symbols value ≡ Emit r.offset (event_at x input q'.content) (type_place (place_of r t.nodes) (symbols, t'.nodes)))
         (part_is : IsPart r.symbols i x) (table : t'.room ≡ t.room) (entries : length t.nodes ≤ r.rules.entries → length t'.nodes ≤ r.rules.entries) where
-      abbrev new : Standing
+      abbrev new : TypeState
       new = record { rules = r.rules; under_way = true; offset = r.offset + (r.taken + used); stop = r.stop; symbols = symbols; height = height; begun = false; taken = 0 }
 
       new_shared : IsShared new q'
       new_shared = record {
-        room = let same_room : q'.room ≡ q.room = ap (λ (z : Progress). z.room) idle in rw same_room shared.room;
-        same = ap (λ (z : Progress). z.under_way) idle;
+        room = let same_room : q'.room ≡ q.room = ap (λ (z : FieldState). z.room) idle in rw same_room shared.room;
+        same = ap (λ (z : FieldState). z.under_way) idle;
         item = λ no. absurd cc;
         taken = λ no. absurd cc;
       }
@@ -247,13 +247,13 @@ module _ (old r : Standing) (p q : Progress) (t : Table) (input : List ℕ) (rea
         event = refl;
         after = rw long refl;
         forward =
-            let here : old.offset ≡ r.offset = ap (λ (z : Standing). z.offset) (sym reader) in
+            let here : old.offset ≡ r.offset = ap (λ (z : TypeState). z.offset) (sym reader) in
             omega (arith, ends_fits.0);
-        reader = ap (λ (z : Standing). record { rules = z.rules; under_way = true; offset = r.offset + (r.taken + used); stop = z.stop; symbols = symbols; height = height; begun = false; taken = 0 }) reader;
+        reader = ap (λ (z : TypeState). record { rules = z.rules; under_way = true; offset = r.offset + (r.taken + used); stop = z.stop; symbols = symbols; height = height; begun = false; taken = 0 }) reader;
         shared = new_shared;
         room = idle_after.1;
         can_lend = part_lends q.field (q.seen ++ input) (length q.seen + used) i input q'.content x can r.rules r.offset r.stop r.symbols asked part_is got;
         lent = λ short. e.lent (part_plain q.field (q.seen ++ input) (length q.seen + used) i input q'.content x used r.rules r.offset r.stop r.symbols asked part_is got short);
         table = table;
-        entries = let same_rules : old.rules ≡ r.rules = ap (λ (z : Standing). z.rules) (sym reader) in rw same_rules entries;
+        entries = let same_rules : old.rules ≡ r.rules = ap (λ (z : TypeState). z.rules) (sym reader) in rw same_rules entries;
       }

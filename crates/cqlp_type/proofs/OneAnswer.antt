@@ -7,18 +7,18 @@ use Rattle.cqlp_note.specs.Reader.{Said, Got, Bad, says}
 use Rattle.cqlp_note.specs.Reader as reader
 use Rattle.cqlp_note.specs.Step.{Emitted, Step, Runs}
 use Rattle.cqlp_note.specs.Limits.{Rules}
-use Rattle.cqlp_note.specs.Partial.{Progress}
+use Rattle.cqlp_note.specs.Partial.{FieldState}
 use Rattle.cqlp_note.proofs.Readers.{says_stays}
 use Rattle.cqlp_note.proofs.Runs.{stays_got, same_got, runs_stay}
 use Rattle.cqlp_type.specs.declared.item.TypePush.{TypePush}
 use Rattle.cqlp_type.specs.declared.item.TypePush.TheVariants as push
-use Rattle.cqlp_type.specs.declared.item.TypeAdvance.{TypeAdvance}
-use Rattle.cqlp_type.specs.declared.item.TypeAdvance.TheVariants as advance
+use Rattle.cqlp_type.specs.declared.advance.TypeAdvance.{TypeAdvance}
+use Rattle.cqlp_type.specs.declared.advance.TypeAdvance.TheVariants as advance
 use Rattle.cqlp_type.specs.TypeStep.{TypeSymbol, Option_at, TypeEvent, TypePlace, type_step}
 use Rattle.cqlp_type.specs.Table.{Table}
-use Rattle.cqlp_type.specs.Standing.{Standing, place_of, pending, told, stopped, Advances}
+use Rattle.cqlp_type.specs.Standing.{TypeState, place_of, pending, told, stopped, Advances}
 use Rattle.cqlp_type.specs.Pushing.{After, Uses, Continues, Fills, Pushes, event_of}
-use Rattle.cqlp_type.specs.Laws.{Answer, More, Item, Done, Refused, push_answer, advance_answer, Call, IsPush, IsAdvance, AreAlike, LeaveAlike}
+use Rattle.cqlp_type.specs.Laws.{Answer, More, FieldOutline, Done, Refused, push_answer, advance_answer, Call, IsPush, IsAdvance, AreAlike, LeaveAlike}
 use Rattle.cqlp_type.proofs.Pushes.{waits_some, told_some}
 
 -- ---- runs with the same items
@@ -57,12 +57,12 @@ abbrev decided_by : List TypeSymbol → Said (Emitted TypeEvent TypePlace) (ℕ 
 decided_by [] d p came input = record { answer = Done; under_way = false; place = ended_at p; pending = []; field = false }
 decided_by (s ∷ ss) reader.More p came input = record { answer = More (length input); under_way = true; place = p; pending = came ++ input; field = true }
 decided_by (s ∷ ss) (Bad f) p came input = record { answer = Refused (record { at = f.0; why = f.1 }); under_way = false; place = ended_at p; pending = []; field = false }
-decided_by (s ∷ ss) (Got x k) p came input = record { answer = Item x.at (k - length came) x.event; under_way = true; place = x.after k; pending = []; field = false }
+decided_by (s ∷ ss) (Got x k) p came input = record { answer = FieldOutline x.at (k - length came) x.event; under_way = true; place = x.after k; pending = []; field = false }
 
 abbrev decided : Rules → TypePlace → (came input : List ℕ) → Outcome
 decided l p came input = decided_by p.symbols (says (type_step l p) 0 (came ++ input)) p came input
 
-abbrev outcome : Answer → Standing → Progress → Table → Outcome
+abbrev outcome : Answer → TypeState → FieldState → Table → Outcome
 outcome a r p t = record { answer = a; under_way = r.under_way; place = place_of r t.nodes; pending = pending r p; field = p.under_way }
 
 waits_decided : (ss : List TypeSymbol) (d : Said (Emitted TypeEvent TypePlace) (ℕ × Reason)) (p : TypePlace) (came input : List ℕ) → (ss ≡ [] → ⊥) → d ≡ reader.More → decided_by ss d p came input ≡ record { answer = More (length input); under_way = true; place = p; pending = came ++ input; field = true }
@@ -74,7 +74,7 @@ fails_decided [] d p came input r some e = absurd (some refl)
 fails_decided (s ∷ ss) d p came input r some e = rw e refl
 
 gives_decided : (ss : List TypeSymbol) (d : Said (Emitted TypeEvent TypePlace) (ℕ × Reason)) (p : TypePlace) (came input : List ℕ) (x : Emitted TypeEvent TypePlace) (used : ℕ) → (ss ≡ [] → ⊥) → d ≡ Got x (length came + used)
-    → decided_by ss d p came input ≡ record { answer = Item x.at used x.event; under_way = true; place = x.after (length came + used); pending = []; field = false }
+    → decided_by ss d p came input ≡ record { answer = FieldOutline x.at used x.event; under_way = true; place = x.after (length came + used); pending = []; field = false }
 gives_decided [] d p came input x used some e = absurd (some refl)
 gives_decided (s ∷ ss) d p came input x used some e =
     let less : (length came + used) - length came ≡ used = omega arith in
@@ -85,7 +85,7 @@ over_decided ss d p came input none = rw none refl
 
 -- ---- what a push says and leaves
 
-module _ (start : TypePlace) (old : Standing) (p : Progress) (t : Table) (s : List ℕ) (es : List (ℕ × TypeEvent)) (run : After start old p t s es) (input : List ℕ) (new : Standing) (p' : Progress) (t' : Table) where
+module _ (start : TypePlace) (old : TypeState) (p : FieldState) (t : Table) (s : List ℕ) (es : List (ℕ × TypeEvent)) (run : After start old p t s es) (input : List ℕ) (new : TypeState) (p' : FieldState) (t' : Table) where
   abbrev here : TypePlace
   here = place_of old t.nodes
 
@@ -112,7 +112,7 @@ module _ (start : TypePlace) (old : Standing) (p : Progress) (t : Table) (s : Li
       (λ i. record { answer = More (length input); under_way = under i; place = same.0 i; pending = same.1 i; field = field i }) ∙ sym (waits_decided old.symbols (told old t.nodes all) here came input some told_here)
 
   item_decided : (at used : ℕ) (e : TypeEvent) → new.rules ≡ old.rules → new.under_way ≡ true → p'.under_way ≡ false → used ≤ length input → pending new p' ≡ [] → After start new p' t' (s ++ take used input) (es ++ (at, e) ∷ []) → (old.symbols ≡ [] → ⊥)
-      → outcome (Item at used e) new p' t' ≡ result
+      → outcome (FieldOutline at used e) new p' t' ≡ result
   item_decided at used e rules under field within none later some =
       let rest = drop used input in
       let whole : (s ++ take used input) ++ rest ≡ s ++ input = rw (append_assoc s (take used input) rest, take-append-drop used input) refl in
@@ -124,7 +124,7 @@ module _ (start : TypePlace) (old : Standing) (p : Progress) (t : Table) (s : Li
       let taken : n.0 ≡ length came + used = omega (arith, inside, left, within, length-append came input, length-drop used input, length-drop n.0 all) in
       let said : told old t.nodes all ≡ Got x (length came + used) = rw taken at n.2 in
       let there : place_of new t'.nodes ≡ n.1 (length came + used) = n.3.0 ∙ ap n.1 taken in
-      (λ i. record { answer = Item at used e; under_way = under i; place = there i; pending = none i; field = field i }) ∙ sym (gives_decided old.symbols (told old t.nodes all) here came input x used some said)
+      (λ i. record { answer = FieldOutline at used e; under_way = under i; place = there i; pending = none i; field = field i }) ∙ sym (gives_decided old.symbols (told old t.nodes all) here came input x used some said)
 
   pub push_decided : (depth : ℕ) (x : TypePush) → start.symbols ≡ Option_at depth ∷ [] → old.under_way ≡ true → Uses old input x → Continues old x new → Fills old t x t' → Pushes old p t input x new p' t'
       → (outcome (push_answer x) new p' t' ≡ result) × (new.rules ≡ old.rules) × (t'.room ≡ t.room)
@@ -143,27 +143,27 @@ module _ (start : TypePlace) (old : Standing) (p : Progress) (t : Table) (s : Li
 
 -- ---- what `advance` says and leaves
 
-module _ (old : Standing) (p : Progress) (t : Table) (input : List ℕ) (new : Standing) (p' : Progress) (t' : Table) where
+module _ (old : TypeState) (p : FieldState) (t : Table) (input : List ℕ) (new : TypeState) (p' : FieldState) (t' : Table) where
   pub advance_decided : (x : TypeAdvance) → old.under_way ≡ true → Advances old p t input x new p' t'
       → (outcome (advance_answer input p'.content x) new p' t' ≡ decided old.rules (place_of old t.nodes) (pending old p) input) × (new.rules ≡ old.rules) × (t'.room ≡ t.room)
   advance_decided (advance.More used) under w =
       let place : place_of new t'.nodes ≡ place_of old t.nodes = rw (w.reader, w.table) refl in
-      let goes : new.under_way ≡ true = ap (λ (z : Standing). z.under_way) w.reader ∙ under in
-      let field : p'.under_way ≡ true = w.shared.same ∙ ap (λ (z : Standing). z.begun) w.reader in (
+      let goes : new.under_way ≡ true = ap (λ (z : TypeState). z.under_way) w.reader ∙ under in
+      let field : p'.under_way ≡ true = w.shared.same ∙ ap (λ (z : TypeState). z.begun) w.reader in (
         (λ i. record { answer = More (w.all i); under_way = goes i; place = place i; pending = w.pending i; field = field i })
             ∙ sym (waits_decided old.symbols (told old t.nodes (pending old p ++ input)) (place_of old t.nodes) (pending old p) input (waits_some old p t input new p' t' used w) w.is),
-        ap (λ (z : Standing). z.rules) w.reader,
+        ap (λ (z : TypeState). z.rules) w.reader,
         rw w.table refl,
       )
   advance_decided (advance.Item at used q) under w =
-      let goes : new.under_way ≡ true = ap (λ (z : Standing). z.under_way) w.reader in
-      let begun : new.begun ≡ false = ap (λ (z : Standing). z.begun) w.reader in
+      let goes : new.under_way ≡ true = ap (λ (z : TypeState). z.under_way) w.reader in
+      let begun : new.begun ≡ false = ap (λ (z : TypeState). z.begun) w.reader in
       let field : p'.under_way ≡ false = w.shared.same ∙ begun in
       let none : pending new p' ≡ [] = rw begun refl in
       let some = told_some old p t input new p' t' (pending old p ++ input) (λ more. let no = sym more ∙ w.is in absurd cc) in (
-        (λ i. record { answer = Item (sym w.place i) used (sym w.event i); under_way = goes i; place = sym w.after i; pending = none i; field = field i })
+        (λ i. record { answer = FieldOutline (sym w.place i) used (sym w.event i); under_way = goes i; place = sym w.after i; pending = none i; field = field i })
             ∙ sym (gives_decided old.symbols (told old t.nodes (pending old p ++ input)) (place_of old t.nodes) (pending old p) input w.step used some w.is),
-        ap (λ (z : Standing). z.rules) w.reader,
+        ap (λ (z : TypeState). z.rules) w.reader,
         w.table,
       )
   advance_decided advance.Done under d =

@@ -12,7 +12,7 @@ use Rattle.cqlp_note.specs.Reader.{Gives, Refuses, Takes, Idles, Got, says, numb
 use Rattle.cqlp_note.specs.Field.{FieldValue, Count, FieldReader, field_of}
 use Rattle.cqlp_note.specs.Step.{Emitted, Step, Emit, Runs, after_field}
 use Rattle.cqlp_note.specs.Limits.{Rules}
-use Rattle.cqlp_note.specs.Partial.{Progress}
+use Rattle.cqlp_note.specs.Partial.{FieldState}
 use Rattle.cqlp_note.specs.Heading.{beside_number}
 use Rattle.cqlp_note.proofs.Readers.{Always, says_always}
 use Rattle.cqlp_note.proofs.Fields.{either_always}
@@ -20,12 +20,12 @@ use Rattle.cqlp_note.proofs.Yields.{says_exact}
 use Rattle.cqlp_type.specs.declared.kind.Kind.{Kind}
 use Rattle.cqlp_type.specs.declared.kind.Kind.TheVariants as kind
 use Rattle.cqlp_type.specs.declared.node.Node.{Node}
-use Rattle.cqlp_type.specs.declared.item.TypePart.{TypePart}
+use Rattle.cqlp_type.specs.declared.advance.TypeOutline.{TypeOutline}
 use Rattle.cqlp_type.specs.Types.{Types, NoMore, Type_and, how_many, HasInner, AreFormed, IsPreorder, preorder, followed_by, kinds}
 use Rattle.cqlp_type.specs.TypeStep.{TypeSymbol, Option_at, Text_of, Fields_of, Whole, TypeEvent, IsNode, IsField, TypePlace, parameters_of, arity_of, inner_symbols, symbol_copies, with_arity, with_span, settled, type_place, option_step, count_in, type_step_at, type_step}
 use Rattle.cqlp_type.specs.Table.{Table, HoldsTypes}
 use Rattle.cqlp_type.specs.Remaining.{Closes, Keeps, item_step, short_in, event_at}
-use Rattle.cqlp_type.specs.Standing.{Standing, IsShared, place_of, pending, told, started, Waits, Ends}
+use Rattle.cqlp_type.specs.Standing.{TypeState, IsShared, place_of, pending, told, started, Waits, Ends}
 use Rattle.cqlp_type.specs.Pushing.{ReadsInto, IsWhole}
 use Rattle.cqlp_type.specs.Trees.{Head, Plain, Custom, ListOf, SetOf, MapOf, TupleOf, UdtOf, Trees, NoTree, Tree_and, kind_in, types_in, is_plain, IsHead, AreTrees}
 use Rattle.cqlp_type.proofs.Forests.{many_types}
@@ -280,7 +280,7 @@ whole_more l depth at before s es nodes h w = record {
 
 -- ---- an item
 
-module _ (r : Standing) (p : Progress) (t : Table) (input : List ℕ) (reads : ReadsInto r p t) where
+module _ (r : TypeState) (p : FieldState) (t : Table) (input : List ℕ) (reads : ReadsInto r p t) where
   shape : Shape reads.start.nodes r.symbols t.nodes
   shape = run_shaped reads.start.nodes r.rules reads.start (place_of r t.nodes) reads.bytes (pending r p) reads.items (Fresh 1 reads.first refl) reads.after
 
@@ -325,11 +325,11 @@ module _ (r : Standing) (p : Progress) (t : Table) (input : List ℕ) (reads : R
 
 -- ---- after a call
 
-module _ (old : Standing) (p : Progress) (t : Table) (input : List ℕ) (new : Standing) (p' : Progress) (t' : Table) (reads : ReadsInto old p t) where
+module _ (old : TypeState) (p : FieldState) (t : Table) (input : List ℕ) (new : TypeState) (p' : FieldState) (t' : Table) (reads : ReadsInto old p t) where
   pub reads_waited : (used : ℕ) → Waits old p t input used new p' t' → ReadsInto new p' t'
   reads_waited used w = record { start = reads.start; first = reads.first; before = reads.before; bytes = reads.bytes ++ input; items = reads.items; after = option_waited old p t input new p' t' used w reads.start reads.bytes reads.items reads.after }
 
-  pub reads_handed : (at used : ℕ) (q : TypePart) → Ends old p t input at used q new p' t' → ReadsInto new p' t'
+  pub reads_handed : (at used : ℕ) (q : TypeOutline) → Ends old p t input at used q new p' t' → ReadsInto new p' t'
   reads_handed at used q w = record {
     start = reads.start;
     first = reads.first;
@@ -339,12 +339,12 @@ module _ (old : Standing) (p : Progress) (t : Table) (input : List ℕ) (new : S
     after = option_handed old p t input new p' t' at used q w reads.start reads.bytes reads.items reads.after;
   }
 
-pub reads_over : (old : Standing) (p : Progress) (t : Table) → ReadsInto old p t → IsShared old p → old.symbols ≡ [] → IsPreorder t.nodes
+pub reads_over : (old : TypeState) (p : FieldState) (t : Table) → ReadsInto old p t → IsShared old p → old.symbols ≡ [] → IsPreorder t.nodes
 reads_over old p t reads shared none =
     whole_more old.rules 1 reads.start.offset reads.start.nodes reads.bytes reads.items t.nodes reads.before
     (option_over reads.start 1 old p t reads.bytes reads.items reads.first reads.after none (nothing_begun old p shared none))
 
-pub reads_begun : (r : Standing) (p : Progress) (t : Table) (at stop : ℕ) → IsPreorder t.nodes → ReadsInto (started r at stop) p t
+pub reads_begun : (r : TypeState) (p : FieldState) (t : Table) (at stop : ℕ) → IsPreorder t.nodes → ReadsInto (started r at stop) p t
 reads_begun r p t at stop whole = record { start = record { offset = at; stop = stop; symbols = Option_at 1 ∷ []; nodes = t.nodes }; first = refl; before = whole; bytes = []; items = []; after = option_begun r p t at stop }
 
 pub nothing_whole : IsPreorder []

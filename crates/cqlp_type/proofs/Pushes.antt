@@ -7,18 +7,18 @@ use Rattle.cqlp_note.specs.declared.refusal.Refusal.{Refusal}
 use Rattle.cqlp_note.specs.Reader.{Said, More, Got, says}
 use Rattle.cqlp_note.specs.Step.{Emitted, Runs}
 use Rattle.cqlp_note.specs.Limits.{Rules}
-use Rattle.cqlp_note.specs.Partial.{Progress}
+use Rattle.cqlp_note.specs.Partial.{FieldState}
 use Rattle.cqlp_note.proofs.Runs.{runs_then, runs_stay}
 use Rattle.cqlp_note.proofs.Yields.{says_exact, emitted_is}
-use Rattle.cqlp_type.specs.declared.item.TypePart.{TypePart}
+use Rattle.cqlp_type.specs.declared.advance.TypeOutline.{TypeOutline}
 use Rattle.cqlp_type.specs.declared.item.TypeItem.{TypeItem}
-use Rattle.cqlp_type.specs.declared.item.TypeAdvance.TheVariants as advance
+use Rattle.cqlp_type.specs.declared.advance.TypeAdvance.TheVariants as advance
 use Rattle.cqlp_type.specs.declared.item.TypePush.TheVariants as push
 use Rattle.cqlp_type.specs.Types.{IsPreorder}
 use Rattle.cqlp_type.specs.TypeStep.{TypeSymbol, Option_at, TypeEvent, TypePlace, type_step}
 use Rattle.cqlp_type.specs.Table.{Table}
 use Rattle.cqlp_type.specs.Remaining.{event_at}
-use Rattle.cqlp_type.specs.Standing.{Standing, IsShared, IsFor, place_of, pending, told, started, stopped, Waits, Ends, Advances}
+use Rattle.cqlp_type.specs.Standing.{TypeState, IsShared, IsFor, place_of, pending, told, started, stopped, Waits, Ends, Advances}
 use Rattle.cqlp_type.specs.Pushing.{After, ReadsInto, IsWhole, Pushes, event_of}
 use Rattle.cqlp_type.proofs.ReadBack.{option_read}
 
@@ -36,7 +36,7 @@ told_by l q b = says (type_step l q) 0 b
 
 -- ---- what was read since an option began
 
-pub option_begun : (r : Standing) (p : Progress) (t : Table) (at stop : ℕ) → After (record { offset = at; stop = stop; symbols = Option_at 1 ∷ []; nodes = t.nodes }) (started r at stop) p t [] []
+pub option_begun : (r : TypeState) (p : FieldState) (t : Table) (at stop : ℕ) → After (record { offset = at; stop = stop; symbols = Option_at 1 ∷ []; nodes = t.nodes }) (started r at stop) p t [] []
 option_begun r p t at stop = (refl, refl)
 
 not_begun : (l : Rules) (offset stop : ℕ) (w : Wanted) (b : Bool) (ss : List TypeSymbol) → ss ≡ [] → (b ≡ true → IsFor l offset stop ss w) → b ≡ false
@@ -44,27 +44,27 @@ not_begun l offset stop w true ss none f = absurd (rw none at (f refl))
 not_begun l offset stop w false ss none f = refl
 
 -- where nothing is left to be read, no item has begun
-pub nothing_begun : (r : Standing) (p : Progress) → IsShared r p → r.symbols ≡ [] → r.begun ≡ false
+pub nothing_begun : (r : TypeState) (p : FieldState) → IsShared r p → r.symbols ≡ [] → r.begun ≡ false
 nothing_begun r p shared none = not_begun r.rules r.offset r.stop p.field r.begun r.symbols none shared.item
 
-pub option_over : (start : TypePlace) (depth : ℕ) (r : Standing) (p : Progress) (t : Table) (s : List ℕ) (es : List (ℕ × TypeEvent)) → start.symbols ≡ Option_at depth ∷ [] → After start r p t s es → r.symbols ≡ [] → r.begun ≡ false
+pub option_over : (start : TypePlace) (depth : ℕ) (r : TypeState) (p : FieldState) (t : Table) (s : List ℕ) (es : List (ℕ × TypeEvent)) → start.symbols ≡ Option_at depth ∷ [] → After start r p t s es → r.symbols ≡ [] → r.begun ≡ false
     → IsWhole r.rules depth start.offset start.nodes s es t.nodes
 option_over start depth r p t s es first run done idle =
     let none : pending r p ≡ [] = rw idle refl in
     option_read r.rules depth start (place_of r t.nodes) s es first done (rw none at run)
 
-module _ (old : Standing) (p : Progress) (t : Table) (input : List ℕ) (new : Standing) (p' : Progress) (t' : Table) where
+module _ (old : TypeState) (p : FieldState) (t : Table) (input : List ℕ) (new : TypeState) (p' : FieldState) (t' : Table) where
   pub option_waited : (used : ℕ) → Waits old p t input used new p' t' → (start : TypePlace) (s : List ℕ) (es : List (ℕ × TypeEvent)) → After start old p t s es → After start new p' t' (s ++ input) es
   option_waited used w start s es run =
       let place : place_of new t'.nodes ≡ place_of old t.nodes = rw (w.reader, w.table) refl in
-      let rules : new.rules ≡ old.rules = ap (λ (z : Standing). z.rules) w.reader in
+      let rules : new.rules ≡ old.rules = ap (λ (z : TypeState). z.rules) w.reader in
       rw (rules, place, w.pending) (runs_stay (type_step old.rules) start s input es (place_of old t.nodes) (pending old p) run)
 
-  pub option_handed : (at used : ℕ) (q : TypePart) → Ends old p t input at used q new p' t' → (start : TypePlace) (s : List ℕ) (es : List (ℕ × TypeEvent)) → After start old p t s es
+  pub option_handed : (at used : ℕ) (q : TypeOutline) → Ends old p t input at used q new p' t' → (start : TypePlace) (s : List ℕ) (es : List (ℕ × TypeEvent)) → After start old p t s es
       → After start new p' t' (s ++ take used input) (es ++ (at, event_at q input p'.content) ∷ [])
   option_handed at used q w start s es run =
-      let rules : new.rules ≡ old.rules = ap (λ (z : Standing). z.rules) w.reader in
-      let begun : new.begun ≡ false = ap (λ (z : Standing). z.begun) w.reader in
+      let rules : new.rules ≡ old.rules = ap (λ (z : TypeState). z.rules) w.reader in
+      let begun : new.begun ≡ false = ap (λ (z : TypeState). z.begun) w.reader in
       let none : pending new p' ≡ [] = rw begun refl in
       let bytes = take used input in
       let long : length bytes ≡ used = length-take-le used input w.within in
@@ -75,8 +75,8 @@ module _ (old : Standing) (p : Progress) (t : Table) (input : List ℕ) (new : S
 
   pub waits_some : (used : ℕ) → Waits old p t input used new p' t' → old.symbols ≡ [] → ⊥
   waits_some used w none =
-      let same : new.symbols ≡ [] = ap (λ (z : Standing). z.symbols) w.reader ∙ none in
-      let begun : new.begun ≡ true = ap (λ (z : Standing). z.begun) w.reader in
+      let same : new.symbols ≡ [] = ap (λ (z : TypeState). z.symbols) w.reader ∙ none in
+      let begun : new.begun ≡ true = ap (λ (z : TypeState). z.begun) w.reader in
       let over : new.begun ≡ false = nothing_begun new p' w.shared same in
       absurd cc
 
@@ -87,23 +87,23 @@ module _ (old : Standing) (p : Progress) (t : Table) (input : List ℕ) (new : S
       → Pushes old p t input (push.More used) new p' t' × ((used ≡ length input) × (old.symbols ≡ [] → ⊥)) × ((new.under_way ≡ true) × (new.rules ≡ old.rules)) × (t' ≡ t)
   waits_pushes used under reads w =
       let place : place_of new t'.nodes ≡ place_of old t.nodes = rw (w.reader, w.table) refl in
-      let rules : new.rules ≡ old.rules = ap (λ (z : Standing). z.rules) w.reader in (
+      let rules : new.rules ≡ old.rules = ap (λ (z : TypeState). z.rules) w.reader in (
         record {
           leads = λ start depth first s es run. (option_waited used w start s es run, (λ i. told_by (rules i) (place i) (w.pending i)) ∙ w.is);
-          serves = (w.shared, w.shared.same ∙ ap (λ (z : Standing). z.begun) w.reader);
+          serves = (w.shared, w.shared.same ∙ ap (λ (z : TypeState). z.begun) w.reader);
           room = w.room;
           table = reads;
         },
         (w.all, waits_some used w),
-        (ap (λ (z : Standing). z.under_way) w.reader ∙ under, rules),
+        (ap (λ (z : TypeState). z.under_way) w.reader ∙ under, rules),
         w.table,
       )
 
-  pub item_pushes : (at used : ℕ) (q : TypePart) (e : TypeItem) → event_of e ≡ event_at q input p'.content → ReadsInto new p' t' → Ends old p t input at used q new p' t'
+  pub item_pushes : (at used : ℕ) (q : TypeOutline) (e : TypeItem) → event_of e ≡ event_at q input p'.content → ReadsInto new p' t' → Ends old p t input at used q new p' t'
       → Pushes old p t input (push.Item at used e) new p' t' × ((used ≤ length input) × (old.symbols ≡ [] → ⊥)) × ((new.under_way ≡ true) × (new.rules ≡ old.rules)) × ((t'.room ≡ t.room) × (length t.nodes ≤ old.rules.entries → length t'.nodes ≤ old.rules.entries))
   item_pushes at used q e is reads w =
-      let rules : new.rules ≡ old.rules = ap (λ (z : Standing). z.rules) w.reader in
-      let begun : new.begun ≡ false = ap (λ (z : Standing). z.begun) w.reader in (
+      let rules : new.rules ≡ old.rules = ap (λ (z : TypeState). z.rules) w.reader in
+      let begun : new.begun ≡ false = ap (λ (z : TypeState). z.begun) w.reader in (
         record {
           leads = λ start depth first s es run. (rw begun refl, rw is (option_handed at used q w start s es run));
           serves = (w.shared, w.shared.same ∙ begun, λ short. w.lent (rw is at short));
@@ -111,7 +111,7 @@ module _ (old : Standing) (p : Progress) (t : Table) (input : List ℕ) (new : S
           table = reads;
         },
         (w.within, told_some (pending old p ++ input) (λ more. let no = sym more ∙ w.is in absurd cc)),
-        (ap (λ (z : Standing). z.under_way) w.reader, rules),
+        (ap (λ (z : TypeState). z.under_way) w.reader, rules),
         (w.table, w.entries),
       )
 

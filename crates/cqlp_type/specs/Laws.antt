@@ -4,18 +4,18 @@ use Rattle.cqlp_note.specs.declared.refusal.Refusal.{Refusal}
 use Rattle.cqlp_note.specs.Step.{Runs}
 use Rattle.cqlp_note.specs.Limits.{Rules}
 use Rattle.cqlp_note.specs.Heading.{beside_number}
-use Rattle.cqlp_note.specs.Partial.{Progress}
+use Rattle.cqlp_note.specs.Partial.{FieldState}
 use Rattle.cqlp_type.specs.declared.kind.Kind.{Kind}
 use Rattle.cqlp_type.specs.declared.node.Node.{Node}
 use Rattle.cqlp_type.specs.Types.{Types, NoMore, Type_and, how_many, types_of, preorder, followed_by, kinds}
 use Rattle.cqlp_type.specs.TypeStep.{TypeEvent, Option_at, TypePlace, type_step}
-use Rattle.cqlp_type.specs.declared.item.TypeAdvance.{TypeAdvance}
-use Rattle.cqlp_type.specs.declared.item.TypeAdvance.TheVariants as advance
+use Rattle.cqlp_type.specs.declared.advance.TypeAdvance.{TypeAdvance}
+use Rattle.cqlp_type.specs.declared.advance.TypeAdvance.TheVariants as advance
 use Rattle.cqlp_type.specs.declared.item.TypePush.{TypePush}
 use Rattle.cqlp_type.specs.declared.item.TypePush.TheVariants as push
 use Rattle.cqlp_type.specs.Table.{Table, beginnings, child}
 use Rattle.cqlp_type.specs.Remaining.{event_at}
-use Rattle.cqlp_type.specs.Standing.{Standing, IsShared, place_of, pending, Advances}
+use Rattle.cqlp_type.specs.Standing.{TypeState, IsShared, place_of, pending, Advances}
 use Rattle.cqlp_type.specs.Trees.{Trees, trees_in, options_in, types_in, AreTrees, Shallow, AreShort, trees_items, placed, TreeSpells}
 use Rattle.cqlp_type.specs.declared.tree.TypeTree.{TypeTree}
 use Rattle.cqlp_type.specs.TypeTrees.{tree_of, trees_size, spelled_len}
@@ -96,20 +96,20 @@ OneAnswerOfId = (k : Kind) (a b : ℕ) → beside_number a kinds ≡ Some k → 
 -- What a call says of an option, its text as bytes.
 pub data Answer : Type 0 where
   More : (used : ℕ) → Answer
-  Item : (at used : ℕ) → TypeEvent → Answer
+  FieldOutline : (at used : ℕ) → TypeEvent → Answer
   Done : Answer
   Refused : Refusal → Answer
 
 abbrev pub push_answer : TypePush → Answer
 push_answer (push.More used) = More used
-push_answer (push.Item at used e) = Item at used (event_of e)
+push_answer (push.Item at used e) = FieldOutline at used (event_of e)
 push_answer push.Done = Done
 push_answer (push.Refused r) = Refused r
 
 -- the same of `advance`, whose text lies in this input or this buffer
 abbrev pub advance_answer : (input buffer : List ℕ) → TypeAdvance → Answer
 advance_answer input buffer (advance.More used) = More used
-advance_answer input buffer (advance.Item at used q) = Item at used (event_at q input buffer)
+advance_answer input buffer (advance.Item at used q) = FieldOutline at used (event_at q input buffer)
 advance_answer input buffer advance.Done = Done
 advance_answer input buffer (advance.Refused r) = Refused r
 
@@ -124,7 +124,7 @@ pub record Seen : Type 0 where
   pub field : Bool
   pub room : ℕ
 
-abbrev pub seen : Standing → Progress → Table → Seen
+abbrev pub seen : TypeState → FieldState → Table → Seen
 seen r p t = record {
   rules = r.rules;
   under_way = r.under_way;
@@ -136,12 +136,12 @@ seen r p t = record {
 
 -- A call: the reader, the `Partial` and the table before it, its answer, and the three after it.
 pub record Call (X : Type 0) : Type 0 where
-  pub reader : Standing
-  pub partial : Progress
+  pub reader : TypeState
+  pub partial : FieldState
   pub table : Table
   pub answer : X
-  pub reader' : Standing
-  pub partial' : Progress
+  pub reader' : TypeState
+  pub partial' : FieldState
   pub table' : Table
 
 -- what `push` requires and ensures

@@ -2,8 +2,8 @@
 use Rattle.std.specs.Prelude.{◌≡◌, ℕ, ◌+◌, ◌<◌, ◌≤◌, Bool, true, false, List, [], ◌∷◌, ◌++◌, length, Some, Result, Ok, Err}
 use Rattle.cqlp_note.specs.declared.field.Field.TheVariants as field
 use Rattle.cqlp_note.specs.declared.refusal.Reason.{Reason}
-use Rattle.cqlp_note.specs.declared.taken.Item.{Item}
-use Rattle.cqlp_note.specs.declared.taken.Item.TheVariants as item
+use Rattle.cqlp_note.specs.declared.advance.FieldOutline.{FieldOutline}
+use Rattle.cqlp_note.specs.declared.advance.FieldOutline.TheVariants as item
 use Rattle.cqlp_note.specs.Reader.{Refuses, Idles}
 use Rattle.cqlp_note.specs.Field.{FieldValue, Short, Count}
 use Rattle.cqlp_note.specs.Step.{Step, Emit}
@@ -13,28 +13,28 @@ use Rattle.cqlp_note.specs.Heading.{beside_number}
 use Rattle.cqlp_note.specs.Partial.{item_value}
 use Rattle.cqlp_type.specs.declared.kind.Kind.{Kind}
 use Rattle.cqlp_type.specs.declared.node.Node.{Node}
-use Rattle.cqlp_type.specs.declared.remaining.Stage.{Stage}
-use Rattle.cqlp_type.specs.declared.remaining.Stage.TheVariants as stage
-use Rattle.cqlp_type.specs.declared.item.TypePart.{TypePart}
-use Rattle.cqlp_type.specs.declared.item.TypePart.TheVariants as part
+use Rattle.cqlp_type.specs.declared.remaining.OptionStage.{OptionStage}
+use Rattle.cqlp_type.specs.declared.remaining.OptionStage.TheVariants as stage
+use Rattle.cqlp_type.specs.declared.advance.TypeOutline.{TypeOutline}
+use Rattle.cqlp_type.specs.declared.advance.TypeOutline.TheVariants as part
 use Rattle.cqlp_type.specs.Types.{kinds}
 use Rattle.cqlp_type.specs.TypeStep.{TypeSymbol, Option_at, Text_of, Fields_of, Whole, TypeEvent, IsNode, IsField, TypePlace, symbol_copies, parameters_of, arity_of, inner_symbols, with_arity, with_span, settled, type_place, option_step}
 use Rattle.cqlp_type.specs.Table.{Table, HoldsTypes}
 use Rattle.cqlp_type.specs.Levels.{Nest}
 
 -- an option is under way
-abbrev pub is_under_way : Stage → Bool
+abbrev pub is_under_way : OptionStage → Bool
 is_under_way stage.Idle = false
 is_under_way _ = true
 
 -- something is still to be read
-abbrev pub is_wanted : Stage → Bool
+abbrev pub is_wanted : OptionStage → Bool
 is_wanted stage.Idle = false
 is_wanted stage.Done = false
 is_wanted _ = true
 
 -- what is read now, and what is left of the options around it
-abbrev pub stage_symbols : Stage → Nest → List TypeSymbol
+abbrev pub stage_symbols : OptionStage → Nest → List TypeSymbol
 stage_symbols stage.Idle n = []
 stage_symbols stage.Done n = []
 stage_symbols stage.Id n = Option_at (n.height + 1) ∷ n.symbols
@@ -45,14 +45,14 @@ stage_symbols (stage.TypeName node) n = Text_of field.TypeName ∷ Fields_of tru
 stage_symbols (stage.Fields node named) n = Fields_of named (n.height + 1 + 1) ∷ Whole node ∷ n.symbols
 
 -- the levels that come to be needed before the next id
-abbrev pub opened : Stage → ℕ
+abbrev pub opened : OptionStage → ℕ
 opened stage.Idle = 0
 opened stage.Done = 0
 opened stage.Id = 0
 opened stage.Name = 0
 opened _ = 1
 
-abbrev pub HasRoom : Stage → Nest → Type 0
+abbrev pub HasRoom : OptionStage → Nest → Type 0
 HasRoom s n = n.height + opened s ≤ n.room
 
 -- ---- one item
@@ -72,31 +72,31 @@ item_step l p (Fields_of named depth ∷ rest) v =
 item_step l p (Whole i ∷ rest) v = Idles
 
 -- the event that a part is, whose text lies in this input or this buffer
-abbrev pub event_at : TypePart → (input buffer : List ℕ) → TypeEvent
+abbrev pub event_at : TypeOutline → (input buffer : List ℕ) → TypeEvent
 event_at (part.Node k) input buffer = IsNode k
 event_at (part.Text f i) input buffer = IsField f (item_value i input buffer)
 event_at (part.Count n) input buffer = IsField field.Fields (Count n)
 
 -- the part that an item is, by what is read first
-abbrev pub IsPart : List TypeSymbol → Item → TypePart → Type 0
+abbrev pub IsPart : List TypeSymbol → FieldOutline → TypeOutline → Type 0
 IsPart (Option_at depth ∷ rest) i q = (k : Kind) × (q ≡ part.Node k)
 IsPart (Text_of f ∷ rest) i q = q ≡ part.Text f i
 IsPart (Fields_of named depth ∷ rest) i q = (n : ℕ) × (q ≡ part.Count n)
 IsPart ss i q = ⊥
 
 -- A step gives this part, and leaves these symbols and these nodes; or it refuses, and the nodes stay.
-abbrev pub Goes : Step TypeEvent TypePlace → TypePlace → (input buffer : List ℕ) → Result TypePart Reason → List TypeSymbol → List Node → Type 0
+abbrev pub Goes : Step TypeEvent TypePlace → TypePlace → (input buffer : List ℕ) → Result TypeOutline Reason → List TypeSymbol → List Node → Type 0
 Goes s p input buffer (Ok q) symbols nodes = s ≡ Emit p.offset (event_at q input buffer) (type_place p (symbols, nodes))
 Goes s p input buffer (Err why) symbols nodes = (s ≡ Refuses (p.offset, why)) × (nodes ≡ p.nodes)
 
-abbrev pub Follows : Rules → (at stop : ℕ) → List TypeSymbol → List Node → FieldValue → (input buffer : List ℕ) → Result TypePart Reason → List TypeSymbol → List Node → Type 0
+abbrev pub Follows : Rules → (at stop : ℕ) → List TypeSymbol → List Node → FieldValue → (input buffer : List ℕ) → Result TypeOutline Reason → List TypeSymbol → List Node → Type 0
 Follows l at stop symbols nodes v input buffer result symbols' nodes' =
     let p : TypePlace = record { offset = at; stop = stop; symbols = symbols; nodes = nodes } in Goes (item_step l p symbols v) p input buffer result symbols' nodes'
 
 -- ---- what the table holds on the way
 
 -- the number that an item is; 0 where it is no [short]
-abbrev pub number_of : Item → ℕ
+abbrev pub number_of : FieldOutline → ℕ
 number_of (item.Plain v) = short_in (value_of v)
 number_of (item.Content f l) = 0
 
@@ -116,7 +116,7 @@ Keeps l ss nodes n = Unit {0}
 
 -- ---- what is whole before the next item
 
-pub record Settles (symbols : List TypeSymbol) (old : Table) (room : ℕ) (s : Stage) (n : Nest) (new : Table) : Type 0 where
+pub record Settles (symbols : List TypeSymbol) (old : Table) (room : ℕ) (s : OptionStage) (n : Nest) (new : Table) : Type 0 where
   pub is : ◌≡◌ {A = List TypeSymbol × List Node} (stage_symbols s n, new.nodes) (settled symbols old.nodes)
   pub under_way : is_under_way s ≡ true
   pub closed : opened s ≡ 0

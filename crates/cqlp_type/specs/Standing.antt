@@ -9,13 +9,13 @@ use Rattle.cqlp_note.specs.Reader.{Said, More, Bad, Got, says}
 use Rattle.cqlp_note.specs.Field.{Text}
 use Rattle.cqlp_note.specs.Step.{Emitted}
 use Rattle.cqlp_note.specs.Limits.{Rules, rules_of, limit_of}
-use Rattle.cqlp_note.specs.Partial.{Progress, item_value, content_length, CanLend}
+use Rattle.cqlp_note.specs.Partial.{FieldState, item_value, content_length, CanLend}
 use Rattle.cqlp_type.specs.declared.node.Node.{Node}
-use Rattle.cqlp_type.specs.declared.remaining.Stage.{Stage}
-use Rattle.cqlp_type.specs.declared.item.TypePart.{TypePart}
-use Rattle.cqlp_type.specs.declared.item.TypePart.TheVariants as part
-use Rattle.cqlp_type.specs.declared.item.TypeAdvance.{TypeAdvance}
-use Rattle.cqlp_type.specs.declared.item.TypeAdvance.TheVariants as advance
+use Rattle.cqlp_type.specs.declared.remaining.OptionStage.{OptionStage}
+use Rattle.cqlp_type.specs.declared.advance.TypeOutline.{TypeOutline}
+use Rattle.cqlp_type.specs.declared.advance.TypeOutline.TheVariants as part
+use Rattle.cqlp_type.specs.declared.advance.TypeAdvance.{TypeAdvance}
+use Rattle.cqlp_type.specs.declared.advance.TypeAdvance.TheVariants as advance
 use Rattle.cqlp_type.specs.TypeStep.{TypeSymbol, Option_at, Text_of, Whole, TypeEvent, IsNode, IsField, TypePlace, type_step}
 use Rattle.cqlp_type.specs.Table.{Table}
 use Rattle.cqlp_type.specs.Levels.{Nest}
@@ -24,7 +24,7 @@ use Rattle.cqlp_type.specs.Remaining.{is_under_way, stage_symbols, event_at}
 -- What a caller knows of a `TypeReader`: the limits; whether an option is under way, and where its frame ends; the
 -- offset of the item that is read now, what is still to be read, and how many levels of nesting are kept; whether the
 -- item has been begun in the caller's `Partial`, and how many of its bytes have come.
-pub record Standing : Type 0 where
+pub record TypeState : Type 0 where
   pub rules : Rules
   pub under_way : Bool
   pub offset : ℕ
@@ -34,23 +34,23 @@ pub record Standing : Type 0 where
   pub begun : Bool
   pub taken : ℕ
 
-abbrev pub standing : Limits → (offset stop : ℕ) → Stage → Nest → (begun : Bool) → (taken : ℕ) → Standing
+abbrev pub standing : Limits → (offset stop : ℕ) → OptionStage → Nest → (begun : Bool) → (taken : ℕ) → TypeState
 standing l offset stop s n begun taken =
     record { rules = rules_of l; under_way = is_under_way s; offset = offset; stop = stop; symbols = stage_symbols s n; height = n.height; begun = begun; taken = taken }
 
 -- a reader that has read nothing
-abbrev pub made : Rules → Standing
+abbrev pub made : Rules → TypeState
 made l = record { rules = l; under_way = false; offset = 0; stop = 0; symbols = []; height = 0; begun = false; taken = 0 }
 
 -- an option that begins here
-abbrev pub started : Standing → (offset stop : ℕ) → Standing
+abbrev pub started : TypeState → (offset stop : ℕ) → TypeState
 started r offset stop = record { rules = r.rules; under_way = true; offset = offset; stop = stop; symbols = Option_at 1 ∷ []; height = 0; begun = false; taken = 0 }
 
 -- no option is under way any more
-abbrev pub stopped : Standing → Standing
+abbrev pub stopped : TypeState → TypeState
 stopped r = record { rules = r.rules; under_way = false; offset = r.offset; stop = r.stop; symbols = []; height = 0; begun = false; taken = 0 }
 
-abbrev pub place_of : Standing → List Node → TypePlace
+abbrev pub place_of : TypeState → List Node → TypePlace
 place_of r nodes = record { offset = r.offset; stop = r.stop; symbols = r.symbols; nodes = nodes }
 
 -- ---- the caller's `Partial`
@@ -66,24 +66,24 @@ IsFor l offset stop (Whole i ∷ ss) w = ⊥
 IsFor l offset stop (s ∷ ss) w = w ≡ record { notation = notation_of s; limit = limit_of l (notation_of s); at = offset; room = stop - offset }
 
 -- The `Partial` has room for the texts, and reads the item if that has begun.
-pub record IsShared (r : Standing) (p : Progress) : Type 0 where
+pub record IsShared (r : TypeState) (p : FieldState) : Type 0 where
   pub room : r.rules.text ≤ p.room
   pub same : p.under_way ≡ r.begun
   pub item : r.begun ≡ true → IsFor r.rules r.offset r.stop r.symbols p.field
   pub taken : r.begun ≡ true → length p.seen ≡ r.taken
 
 -- the bytes of the item that have come
-abbrev pub pending : Standing → Progress → List ℕ
+abbrev pub pending : TypeState → FieldState → List ℕ
 pending r p = if r.begun then p.seen else []
 
 -- ---- one call
 
 -- what the step at this place says of these bytes
-abbrev pub told : Standing → List Node → List ℕ → Said (Emitted TypeEvent TypePlace) (ℕ × Reason)
+abbrev pub told : TypeState → List Node → List ℕ → Said (Emitted TypeEvent TypePlace) (ℕ × Reason)
 told r nodes bytes = says (type_step r.rules (place_of r nodes)) 0 bytes
 
 -- a text that can be lent
-abbrev pub CanLendPart : TypePart → (input buffer : List ℕ) → Type 0
+abbrev pub CanLendPart : TypeOutline → (input buffer : List ℕ) → Type 0
 CanLendPart (part.Text f i) input buffer = CanLend i input buffer × ((s : List ℕ) × (item_value i input buffer ≡ Text s))
 CanLendPart q input buffer = Unit {0}
 
@@ -93,7 +93,7 @@ text_length (IsNode k) = 0
 text_length (IsField f v) = content_length v
 
 -- All of the input belongs to the item, which goes on.
-pub record Waits (old : Standing) (p : Progress) (t : Table) (input : List ℕ) (used : ℕ) (new : Standing) (p' : Progress) (t' : Table) : Type 0 where
+pub record Waits (old : TypeState) (p : FieldState) (t : Table) (input : List ℕ) (used : ℕ) (new : TypeState) (p' : FieldState) (t' : Table) : Type 0 where
   pub all : used ≡ length input
   pub is : told old t.nodes (pending old p ++ input) ≡ More
   pub pending : pending new p' ≡ pending old p ++ input
@@ -104,7 +104,7 @@ pub record Waits (old : Standing) (p : Progress) (t : Table) (input : List ℕ) 
 
 -- The first `used` bytes of the input end an item, and none of the next has come. Where the content of a text lies
 -- whole in them, the buffer is empty.
-pub record Ends (old : Standing) (p : Progress) (t : Table) (input : List ℕ) (at used : ℕ) (q : TypePart) (new : Standing) (p' : Progress) (t' : Table) : Type 0 where
+pub record Ends (old : TypeState) (p : FieldState) (t : Table) (input : List ℕ) (at used : ℕ) (q : TypeOutline) (new : TypeState) (p' : FieldState) (t' : Table) : Type 0 where
   pub within : used ≤ length input
   pub step : Emitted TypeEvent TypePlace
   pub is : told old t.nodes (pending old p ++ input) ≡ Got step (length (pending old p) + used)
@@ -121,7 +121,7 @@ pub record Ends (old : Standing) (p : Progress) (t : Table) (input : List ℕ) (
   pub entries : length t.nodes ≤ old.rules.entries → length t'.nodes ≤ old.rules.entries
 
 -- What the input makes of an option.
-abbrev pub Advances : Standing → Progress → Table → List ℕ → TypeAdvance → Standing → Progress → Table → Type 0
+abbrev pub Advances : TypeState → FieldState → Table → List ℕ → TypeAdvance → TypeState → FieldState → Table → Type 0
 Advances old p t input (advance.More used) new p' t' = Waits old p t input used new p' t'
 Advances old p t input (advance.Item at used q) new p' t' = Ends old p t input at used q new p' t'
 Advances old p t input advance.Done new p' t' = (old.symbols ≡ []) × (new ≡ stopped old) × (p' ≡ p) × (p.under_way ≡ false) × (t' ≡ t)

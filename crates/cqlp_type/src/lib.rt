@@ -1,17 +1,19 @@
 //! Type options of the CQL native protocol v4.
 #![tactic(auto)]
 
+mod advance;
 mod item;
 mod kind;
 pub mod laws;
-mod levels;
 mod node;
+mod open_options;
 mod reader;
 mod remaining;
 mod table;
 mod tree;
 
-pub use item::{TypeAdvance, TypeItem, TypePart, TypePush};
+pub use advance::{TypeAdvance, TypeOutline};
+pub use item::{TypeItem, TypePush};
 pub use kind::Kind;
 pub use node::Node;
 pub use reader::TypeReader;

@@ -4,11 +4,12 @@ ghost use Rattle.std.specs.Prelude.{◌≡◌, ◌+◌, ◌<◌, ◌≤◌, ◌+
 ghost use Rattle.std.specs.Borrow.{sem};
 ghost use Rattle.cqlp_note.specs.Limits.{rules_of};
 
-use crate::item::{TypeAdvance, TypePush};
-use crate::levels::Levels;
-use crate::remaining::{Remaining, Stage};
+use crate::advance::TypeAdvance;
+use crate::item::TypePush;
+use crate::open_options::OpenOptions;
+use crate::remaining::{OptionStage, Remaining};
 use crate::table::TypeTable;
-use cqlp_note::{Limits, NoMemory, Notation, Partial, Refusal, Taken};
+use cqlp_note::{FieldAdvance, Limits, NoMemory, Notation, Partial, Refusal};
 use std::alloc::{Allocator, Global};
 use std::marker::Model;
 
@@ -30,10 +31,10 @@ pub struct TypeReader<A: Allocator = Global> {
 
 impl<A: Allocator> Model for TypeReader<A> {
     ghost use Rattle.std.specs.Prelude.{◌≡◌, ◌≤◌};
-    ghost use Rattle.cqlp_type.specs.Standing.{Standing, standing};
+    ghost use Rattle.cqlp_type.specs.Standing.{TypeState, standing};
     ghost use Rattle.cqlp_type.specs.Remaining.{HasRoom};
 
-    ghost Value = { Standing };
+    ghost Value = { TypeState };
 
     ghost view = { λ r. standing r.limits r.at r.end r.remaining.stage r.remaining.levels r.begun r.taken };
 
@@ -42,11 +43,11 @@ impl<A: Allocator> Model for TypeReader<A> {
 
 impl<A: Allocator> TypeReader<A> {
     ghost use Rattle.cqlp_type.specs.Standing.{IsShared, Advances, IsFor, made, pending, started, stopped};
-    ghost use Rattle.cqlp_note.specs.Lending.{Next};
+    ghost use Rattle.cqlp_note.specs.Lending.{LeavesField};
     ghost use Rattle.cqlp_type.specs.Pushing.{Uses, Continues, Fills, Pushes, ReadsInto, AdvanceLeaves};
     ghost use Rattle.cqlp_type.specs.Table.{Table};
     ghost use Rattle.cqlp_type.specs.Types.{IsPreorder};
-    ghost use Rattle.cqlp_note.specs.Partial.{Progress};
+    ghost use Rattle.cqlp_note.specs.Partial.{FieldState};
 
     /// With room for the nesting that the limits allow.
     pub fn new(alloc: A, limits: &Limits) -> Result<Self, NoMemory>
@@ -59,8 +60,8 @@ impl<A: Allocator> TypeReader<A> {
             begun: false,
             taken: 0,
             remaining: Remaining {
-                stage: Stage::Idle,
-                levels: Levels::new(alloc, limits.depth)?,
+                stage: OptionStage::Idle,
+                levels: OpenOptions::new(alloc, limits.depth)?,
             },
         })
     }
@@ -70,21 +71,21 @@ impl<A: Allocator> TypeReader<A> {
         requires idle { self.old.under_way ≡ false }
         requires place { at ≤ end }
         ensures is { self.new ≡ started self.old at end }
-        ensures reads { (p : Progress) (t : Table) → IsPreorder t.nodes → ReadsInto self.new p t }
+        ensures reads { (p : FieldState) (t : Table) → IsPreorder t.nodes → ReadsInto self.new p t }
     {
         self.at = at;
         self.end = end;
         self.begun = false;
         self.taken = 0;
         self.remaining.levels.clear();
-        self.remaining.stage = Stage::Id;
+        self.remaining.stage = OptionStage::Id;
     }
 
     /// Whether an option is under way and whole, so that the next push says so.
     pub fn done(&self) -> bool
         ensures { IsTrue result ↔ ((self.now.under_way ≡ true) × (self.now.symbols ≡ [])) }
     {
-        matches!(self.remaining.stage, Stage::Done)
+        matches!(self.remaining.stage, OptionStage::Done)
     }
 
     /// How many levels of nesting are kept.
@@ -117,21 +118,21 @@ impl<A: Allocator> TypeReader<A> {
         ensures is { Advances self.old partial.old table.old input.now result self.new partial.new table.new }
         ensures leaves { AdvanceLeaves result self.new partial.new table.new }
     {
-        if let Stage::Done = self.remaining.stage {
+        if let OptionStage::Done = self.remaining.stage {
             self.stop();
             return TypeAdvance::Done;
         }
         self.ready(partial);
         match partial.advance(input) {
-            Taken::More { used } => {
+            FieldAdvance::More { used } => {
                 self.taken += used as u64;
                 TypeAdvance::More { used }
             }
-            Taken::Refused(refusal) => {
+            FieldAdvance::Refused(refusal) => {
                 self.stop();
                 TypeAdvance::Refused(refusal)
             }
-            Taken::Got { used, item } => {
+            FieldAdvance::Got { used, item } => {
                 let at = self.at;
                 match self.remaining.follow(&self.limits, item, table) {
                     Ok(item) => {
@@ -166,7 +167,7 @@ impl<A: Allocator> TypeReader<A> {
         ensures uses { Uses reader.old input.now result }
         ensures reader { Continues reader.old result reader.new }
         ensures table { Fills reader.old table.old result table.new }
-        ensures* next { sem 𝓛 (Next B.row B.Allocator partial.entry (λ after. Pushes reader.old partial.old table.old input.now result reader.new after table.new)) }
+        ensures* next { sem 𝓛 (LeavesField B.row B.Allocator partial.entry (λ after. Pushes reader.old partial.old table.old input.now result reader.new after table.new)) }
     {
         match reader.advance(partial, table, input) {
             TypeAdvance::More { used } => TypePush::More { used },
@@ -193,7 +194,7 @@ impl<A: Allocator> TypeReader<A> {
             return;
         }
         let (notation, limit) = match self.remaining.stage {
-            Stage::Id | Stage::Fields { .. } => (Notation::Short, 0),
+            OptionStage::Id | OptionStage::Fields { .. } => (Notation::Short, 0),
             _ => (Notation::Text16, self.limits.text),
         };
         partial.begin(notation, limit, self.at, self.end);
@@ -208,6 +209,6 @@ impl<A: Allocator> TypeReader<A> {
         self.begun = false;
         self.taken = 0;
         self.remaining.levels.clear();
-        self.remaining.stage = Stage::Idle;
+        self.remaining.stage = OptionStage::Idle;
     }
 }

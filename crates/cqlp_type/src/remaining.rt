@@ -5,21 +5,21 @@ ghost use Rattle.cqlp_note.specs.Partial.{item_value};
 ghost use Rattle.cqlp_note.specs.Limits.{rules_of};
 ghost use Rattle.cqlp_note.specs.Field.{FieldValue};
 ghost use Rattle.cqlp_type.specs.TypeStep.{Whole, symbol_copies, inner_symbols};
-ghost use Rattle.cqlp_type.specs.declared.remaining.Stage.TheVariants as stage;
+ghost use Rattle.cqlp_type.specs.declared.remaining.OptionStage.TheVariants as stage;
 ghost use Rattle.cqlp_type.specs.Remaining.{stage_symbols, is_under_way, is_wanted, HasRoom, Closes, Keeps, Follows, IsPart, Settles, number_of, short_in};
 ghost use Rattle.cqlp_type.specs.declared.kind.Kind.{Kind};
 
-use crate::item::TypePart;
+use crate::advance::TypeOutline;
 use crate::kind::Kind;
-use crate::levels::{Levels, Next};
 use crate::node::Node;
+use crate::open_options::{NextOption, OpenOptions};
 use crate::table::TypeTable;
-use cqlp_note::{Field, Item, Limits, Prim, Reason};
+use cqlp_note::{Field, FieldOutline, Limits, Prim, Reason};
 use std::alloc::Allocator;
 
 /// What of an option is read now.
 #[derive(Clone, Copy)]
-pub(crate) enum Stage {
+pub(crate) enum OptionStage {
     /// No option is under way.
     Idle,
     /// Nothing: the option is whole, which is still to be said.
@@ -41,8 +41,8 @@ pub(crate) enum Stage {
 /// What is still to be read of a type option: what is read now, and what is left of the options around it.
 #[derive(Drop)]
 pub(crate) struct Remaining<A: Allocator> {
-    pub(crate) stage: Stage,
-    pub(crate) levels: Levels<A>,
+    pub(crate) stage: OptionStage,
+    pub(crate) levels: OpenOptions<A>,
 }
 
 impl<A: Allocator> Remaining<A> {
@@ -51,9 +51,9 @@ impl<A: Allocator> Remaining<A> {
     pub(crate) fn follow<C: Allocator>(
         &mut self,
         limits: &Limits,
-        item: Item,
+        item: FieldOutline,
         table: &mut TypeTable<C>,
-    ) -> Result<TypePart, Reason>
+    ) -> Result<TypeOutline, Reason>
         requires wanted { is_wanted self.old.stage ≡ true }
         requires lawful { HasRoom self.old.stage self.old.levels }
         requires depth { self.old.levels.room ≡ limits.now.depth }
@@ -68,29 +68,29 @@ impl<A: Allocator> Remaining<A> {
         ensures follows { (at stop : ℕ) (input buffer : List ℕ) → Follows (rules_of limits.now) at stop (stage_symbols self.old.stage self.old.levels) table.old.nodes (item_value item input buffer) input buffer result (stage_symbols self.new.stage self.new.levels) table.new.nodes }
     {
         match self.stage {
-            Stage::Idle | Stage::Done => unreachable!(),
-            Stage::Id => self.option(limits, number_in(item), table),
-            Stage::Fields { node, named } => {
+            OptionStage::Idle | OptionStage::Done => unreachable!(),
+            OptionStage::Id => self.option(limits, number_in(item), table),
+            OptionStage::Fields { node, named } => {
                 let count = number_in(item);
                 table.set_arity(count);
                 self.stage = inside(&mut self.levels, node, named, count, table);
-                Ok(TypePart::Count(count.into()))
+                Ok(TypeOutline::Count(count.into()))
             }
-            Stage::Name => {
-                self.stage = Stage::Id;
-                Ok(TypePart::Text(Field::FieldName, item))
+            OptionStage::Name => {
+                self.stage = OptionStage::Id;
+                Ok(TypeOutline::Text(Field::FieldName, item))
             }
-            Stage::Class { node } => {
+            OptionStage::Class { node } => {
                 self.stage = inside(&mut self.levels, node, false, 0, table);
-                Ok(TypePart::Text(Field::Class, item))
+                Ok(TypeOutline::Text(Field::Class, item))
             }
-            Stage::Keyspace { node } => {
-                self.stage = Stage::TypeName { node };
-                Ok(TypePart::Text(Field::Keyspace, item))
+            OptionStage::Keyspace { node } => {
+                self.stage = OptionStage::TypeName { node };
+                Ok(TypeOutline::Text(Field::Keyspace, item))
             }
-            Stage::TypeName { node } => {
-                self.stage = Stage::Fields { node, named: true };
-                Ok(TypePart::Text(Field::TypeName, item))
+            OptionStage::TypeName { node } => {
+                self.stage = OptionStage::Fields { node, named: true };
+                Ok(TypeOutline::Text(Field::TypeName, item))
             }
         }
     }
@@ -101,7 +101,7 @@ impl<A: Allocator> Remaining<A> {
         limits: &Limits,
         id: u16,
         table: &mut TypeTable<C>,
-    ) -> Result<TypePart, Reason>
+    ) -> Result<TypeOutline, Reason>
         requires here { self.old.stage ≡ stage.Id }
         requires lawful { HasRoom self.old.stage self.old.levels }
         requires depth { self.old.levels.room ≡ limits.now.depth }
@@ -112,7 +112,7 @@ impl<A: Allocator> Remaining<A> {
         ensures under_way { is_under_way self.new.stage ≡ true }
         ensures table { table.new.room ≡ table.old.room }
         ensures entries { length table.old.nodes ≤ limits.now.entries → length table.new.nodes ≤ limits.now.entries }
-        ensures part { IfOk result (λ q. (k : Kind) × (q ≡ TypePart.Node k)) }
+        ensures part { IfOk result (λ q. (k : Kind) × (q ≡ TypeOutline.Node k)) }
         ensures follows { (at stop : ℕ) (v : FieldValue) (input buffer : List ℕ) → short_in v ≡ id → Follows (rules_of limits.now) at stop (stage_symbols self.old.stage self.old.levels) table.old.nodes v input buffer result (stage_symbols self.new.stage self.new.levels) table.new.nodes }
     {
         let Some(kind) = Kind::from_id(id) else {
@@ -132,34 +132,34 @@ impl<A: Allocator> Remaining<A> {
             span: 0,
         });
         self.stage = match kind {
-            Kind::Custom => Stage::Class { node },
-            Kind::Udt => Stage::Keyspace { node },
-            Kind::Tuple => Stage::Fields { node, named: false },
+            Kind::Custom => OptionStage::Class { node },
+            Kind::Udt => OptionStage::Keyspace { node },
+            Kind::Tuple => OptionStage::Fields { node, named: false },
             _ => inside(&mut self.levels, node, false, arity, table),
         };
-        Ok(TypePart::Node(kind))
+        Ok(TypeOutline::Node(kind))
     }
 }
 
 /// The number that an item is; 0 where it is no \[short\].
-fn number_in(item: Item) -> u16
+fn number_in(item: FieldOutline) -> u16
     ensures is { result ≡ number_of item }
     ensures value { (input buffer : List ℕ) → short_in (item_value item input buffer) ≡ result }
 {
     match item {
-        Item::Plain(Prim::Short(number)) => number,
+        FieldOutline::Plain(Prim::Short(number)) => number,
         _ => 0,
     }
 }
 
 /// Goes on to the inner options of the option that begins at this node.
 fn inside<A: Allocator, C: Allocator>(
-    levels: &mut Levels<A>,
+    levels: &mut OpenOptions<A>,
     node: u32,
     named: bool,
     count: u16,
     table: &mut TypeTable<C>,
-) -> Stage
+) -> OptionStage
     requires room { levels.old.height < levels.old.room }
     requires types { Closes (symbol_copies count (inner_symbols named (levels.old.height + 1 + 1)) ++ Whole node ∷ levels.old.symbols) table.old.nodes }
     ensures { Settles (symbol_copies count (inner_symbols named (levels.old.height + 1 + 1)) ++ Whole node ∷ levels.old.symbols) table.old levels.old.room result levels.new table.new }
@@ -169,17 +169,20 @@ fn inside<A: Allocator, C: Allocator>(
 }
 
 /// Goes on to what comes next. Each type that is whole before it gets its span.
-fn settle<A: Allocator, C: Allocator>(levels: &mut Levels<A>, table: &mut TypeTable<C>) -> Stage
+fn settle<A: Allocator, C: Allocator>(
+    levels: &mut OpenOptions<A>,
+    table: &mut TypeTable<C>,
+) -> OptionStage
     requires room { levels.old.height ≤ levels.old.room }
     requires types { Closes levels.old.symbols table.old.nodes }
     ensures { Settles levels.old.symbols table.old levels.old.room result levels.new table.new }
 {
     loop {
         match levels.next() {
-            Next::Inner { named: true } => return Stage::Name,
-            Next::Inner { named: false } => return Stage::Id,
-            Next::Whole(node) => table.close(node),
-            Next::Nothing => return Stage::Done,
+            NextOption::Inner { named: true } => return OptionStage::Name,
+            NextOption::Inner { named: false } => return OptionStage::Id,
+            NextOption::Whole(node) => table.close(node),
+            NextOption::Nothing => return OptionStage::Done,
         }
     }
 }

@@ -4,21 +4,21 @@ use Rattle.std.specs.Int.{w32, from_be_bytes}
 use Rattle.std.proofs.lemmas.List.{length-append, take_at, drop_at}
 use Rattle.cqlp_note.specs.declared.refusal.Reason.TheVariants.{ExtraInValue}
 use Rattle.cqlp_note.specs.Reader.{says}
-use Rattle.cqlp_note.specs.Partial.{Progress}
+use Rattle.cqlp_note.specs.Partial.{FieldState}
 use Rattle.cqlp_type.specs.declared.node.Node.{Node}
-use Rattle.cqlp_value.specs.declared.item.CellAdvance.{CellAdvance}
-use Rattle.cqlp_value.specs.declared.item.CellAdvance.TheVariants as advance
-use Rattle.cqlp_value.specs.declared.item.CellOutline.TheVariants as outline
-use Rattle.cqlp_value.specs.declared.levels.Open.{Open}
-use Rattle.cqlp_value.specs.declared.standing.Next.{Next}
-use Rattle.cqlp_value.specs.declared.standing.Next.TheVariants as next
+use Rattle.cqlp_value.specs.declared.advance.CellAdvance.{CellAdvance}
+use Rattle.cqlp_value.specs.declared.advance.CellAdvance.TheVariants as advance
+use Rattle.cqlp_value.specs.declared.advance.CellOutline.TheVariants as outline
+use Rattle.cqlp_value.specs.declared.open_values.OpenValue.{OpenValue}
+use Rattle.cqlp_value.specs.declared.standing.NextInCell.{NextInCell}
+use Rattle.cqlp_value.specs.declared.standing.NextInCell.TheVariants as next
 use Rattle.cqlp_value.specs.declared.standing.Under.{Under}
 use Rattle.cqlp_value.specs.declared.standing.Under.TheVariants as under
-use Rattle.cqlp_value.specs.declared.standing.Due.{Due}
-use Rattle.cqlp_value.specs.declared.standing.Due.TheVariants as due
+use Rattle.cqlp_value.specs.declared.standing.CellDue.{CellDue}
+use Rattle.cqlp_value.specs.declared.standing.CellDue.TheVariants as due
 use Rattle.cqlp_value.specs.CellStep.{Leave, place_after}
 use Rattle.cqlp_value.specs.Levels.{but_last}
-use Rattle.cqlp_value.specs.Standing.{State, ended, is_some_next, levels_symbols, place, is_over, due_of, AreOpen, last_stop, Stands}
+use Rattle.cqlp_value.specs.Standing.{CellState, ended, is_some_next, levels_symbols, place, is_over, due_of, AreOpen, last_stop, Stands}
 use Rattle.cqlp_value.specs.Coming.{room_of}
 use Rattle.cqlp_value.specs.Reading.{Saying, told, sized_of, Hands, Fails, Settles, Moves, Answers, Behind, AreBytes, HaveCome}
 use Rattle.cqlp_value.proofs.Nesting.{but_last_is}
@@ -28,28 +28,28 @@ use Rattle.cqlp_value.proofs.Lengths.{length_whole, come_behind, settles_as}
 
 -- ---- the end of the innermost value
 
-close_items_by : (d : State) (o : Open) (n : Next) → d.next ≡ n → due_of d ≡ due.Close o → d.next ≡ next.Items
-close_items_by d o next.Nothing e v = let no : ◌≡◌ {A = Due} due.Nothing (due.Close o) = rw e at v in absurd cc
-close_items_by d o (next.Cell _) e v = let no : ◌≡◌ {A = Due} due.Value (due.Close o) = rw e at v in absurd cc
+close_items_by : (d : CellState) (o : OpenValue) (n : NextInCell) → d.next ≡ n → due_of d ≡ due.Close o → d.next ≡ next.Items
+close_items_by d o next.Nothing e v = let no : ◌≡◌ {A = CellDue} due.Nothing (due.Close o) = rw e at v in absurd cc
+close_items_by d o (next.Cell _) e v = let no : ◌≡◌ {A = CellDue} due.Value (due.Close o) = rw e at v in absurd cc
 close_items_by d o next.Items e v = e
-close_items_by d o (next.Part offset total) e v = let no : ◌≡◌ {A = Due} (due.Part offset total) (due.Close o) = rw e at v in absurd cc
+close_items_by d o (next.Part offset total) e v = let no : ◌≡◌ {A = CellDue} (due.Part offset total) (due.Close o) = rw e at v in absurd cc
 
 -- with fewer values open
-module _ (nodes : List Node) (d : State) (front : List Open) (items : d.next ≡ next.Items) where
+module _ (nodes : List Node) (d : CellState) (front : List OpenValue) (items : d.next ≡ next.Items) where
   fewer_stand : AreOpen nodes d.rules 0 d.stop front → d.offset ≤ last_stop d.stop front → d.stop < 2 ^ 64 → Stands nodes (record d { open_values = front })
   fewer_stand a le bounded = record { open_stand = a; within = rw items (omega arith); next_stands = rw items tt; bounded = bounded }
 
   fewer_place : record { offset = d.offset + 0; symbols = levels_symbols nodes 0 front } ≡ place nodes (record d { open_values = front })
   fewer_place = let zero : d.offset + 0 ≡ d.offset = omega arith in rw (items, zero) refl
 
-module _ (nodes : List Node) (d : State) (o : Open) (p : Progress) (input : List ℕ) (stands : Stands nodes d) (v : due_of d ≡ due.Close o) (idle : p.under_way ≡ false) where
+module _ (nodes : List Node) (d : CellState) (o : OpenValue) (p : FieldState) (input : List ℕ) (stands : Stands nodes d) (v : due_of d ≡ due.Close o) (idle : p.under_way ≡ false) where
   close_items : d.next ≡ next.Items
   close_items = close_items_by d o d.next refl v
 
   closing : Inmost nodes d o × (is_over o d.offset ≡ true)
   closing = close_next nodes d stands close_items o v
 
-  pub close_fails : (new : State) → d.offset < o.stop → new ≡ ended d → Fails nodes d p (told nodes d input) (record { at = d.offset; why = ExtraInValue }) new p
+  pub close_fails : (new : CellState) → d.offset < o.stop → new ≡ ended d → Fails nodes d p (told nodes d input) (record { at = d.offset; why = ExtraInValue }) new p
   unfolding told
   close_fails new lt goes = record {
     is = rw (close_is nodes d close_items o closing.0 closing.1, lt-ltb d.offset o.stop lt) refl;
@@ -58,7 +58,7 @@ module _ (nodes : List Node) (d : State) (o : Open) (p : Progress) (input : List
     longest = refl;
   }
 
-  pub close_hands : (new : State) (level : ℕ) → d.under ≡ under.Nothing → o.stop ≤ d.offset → new ≡ record d { open_values = but_last d.open_values } → level ≡ length (but_last d.open_values)
+  pub close_hands : (new : CellState) (level : ℕ) → d.under ≡ under.Nothing → o.stop ≤ d.offset → new ≡ record d { open_values = but_last d.open_values } → level ≡ length (but_last d.open_values)
       → Hands nodes d p input (told nodes d input) 0 d.offset 0 (outline.Leave level o.items) new p
   unfolding told
   close_hands new level fresh le goes at =
@@ -91,9 +91,9 @@ module _ (nodes : List Node) (d : State) (o : Open) (p : Progress) (input : List
 
 -- ---- what goes on
 
-module _ (nodes : List Node) (old : State) (p : Progress) (input : List ℕ) (n : ℕ) (stands : Stands nodes old) (v : due_of old ≡ due.Value) (room : 4 ≤ room_of nodes old) where
+module _ (nodes : List Node) (old : CellState) (p : FieldState) (input : List ℕ) (n : ℕ) (stands : Stands nodes old) (v : due_of old ≡ due.Value) (room : 4 ≤ room_of nodes old) where
   -- behind a length that came before
-  pub resumed : (b : List ℕ) (a : CellAdvance) (new : State) (q : Progress) → AreBytes (Some n) p.seen b
+  pub resumed : (b : List ℕ) (a : CellAdvance) (new : CellState) (q : FieldState) → AreBytes (Some n) p.seen b
       → Settles nodes old p input (says (sized_of nodes old n) 4 (p.seen ++ input)) (4 + length p.seen) (Behind n (p.seen ++ input)) a new q
       → Settles nodes old p input (told nodes old (b ++ input)) (length b) (HaveCome (b ++ input)) a new q
   resumed b a new q h s =
@@ -108,7 +108,7 @@ module _ (nodes : List Node) (old : State) (p : Progress) (input : List ℕ) (n 
       settles_as nodes old p input _ _ _ _ _ _ a new q said base (λ u seen w. come_behind n (b ++ input) (p.seen ++ input) u seen (h.0, h.1, h.2, all) w) s
 
 -- a call that settles does not end the cell
-pub moves_by : (nodes : List Node) (old : State) (p : Progress) (input : List ℕ) (said : Saying) (base : ℕ) (W : Under → List ℕ → Type 0) (a : CellAdvance) (new : State) (q : Progress) → Settles nodes old p input said base W a new q
+pub moves_by : (nodes : List Node) (old : CellState) (p : FieldState) (input : List ℕ) (said : Saying) (base : ℕ) (W : Under → List ℕ → Type 0) (a : CellAdvance) (new : CellState) (q : FieldState) → Settles nodes old p input said base W a new q
     → ((b : List ℕ) → HaveCome b old.under p.seen → Settles nodes old p input (told nodes old (b ++ input)) (length b) (HaveCome (b ++ input)) a new q) → Moves nodes old p input a new q
 moves_by nodes old p input said base W (advance.More used) new q h f = f
 moves_by nodes old p input said base W (advance.Item at used i) new q h f = f
@@ -116,24 +116,24 @@ moves_by nodes old p input said base W advance.Done new q h f = absurd h
 moves_by nodes old p input said base W (advance.Refused r) new q h f = f
 
 -- where nothing had come
-pub moves_afresh : (nodes : List Node) (old : State) (p : Progress) (input : List ℕ) (a : CellAdvance) (new : State) (q : Progress) → old.under ≡ under.Nothing → Settles nodes old p input (told nodes old input) 0 (HaveCome input) a new q → Moves nodes old p input a new q
+pub moves_afresh : (nodes : List Node) (old : CellState) (p : FieldState) (input : List ℕ) (a : CellAdvance) (new : CellState) (q : FieldState) → old.under ≡ under.Nothing → Settles nodes old p input (told nodes old input) 0 (HaveCome input) a new q → Moves nodes old p input a new q
 moves_afresh nodes old p input a new q fresh h = moves_by nodes old p input _ _ _ a new q h (λ b come. let none : b ≡ [] = rw fresh at come in rw none h)
 
 -- such a call has not been asked to end it
-pub settles_answers : (nodes : List Node) (old : State) (p : Progress) (input : List ℕ) (said : Saying) (base : ℕ) (W : Under → List ℕ → Type 0) (a : CellAdvance) (new : State) (q : Progress) → Settles nodes old p input said base W a new q → due_of old ≢ due.Nothing → Answers old input a
+pub settles_answers : (nodes : List Node) (old : CellState) (p : FieldState) (input : List ℕ) (said : Saying) (base : ℕ) (W : Under → List ℕ → Type 0) (a : CellAdvance) (new : CellState) (q : FieldState) → Settles nodes old p input said base W a new q → due_of old ≢ due.Nothing → Answers old input a
 settles_answers nodes old p input said base W (advance.More used) new q h some = (h.0.all, some)
 settles_answers nodes old p input said base W (advance.Item at used i) new q h some = (h.within, some)
 settles_answers nodes old p input said base W advance.Done new q h some = absurd h
 settles_answers nodes old p input said base W (advance.Refused r) new q h some = some
 
-pub value_some : (d : State) → due_of d ≡ due.Value → due_of d ≢ due.Nothing
-value_some d v n = let no : ◌≡◌ {A = Due} due.Value due.Nothing = sym v ∙ n in absurd cc
+pub value_some : (d : CellState) → due_of d ≡ due.Value → due_of d ≢ due.Nothing
+value_some d v n = let no : ◌≡◌ {A = CellDue} due.Value due.Nothing = sym v ∙ n in absurd cc
 
-pub close_some : (d : State) (o : Open) → due_of d ≡ due.Close o → due_of d ≢ due.Nothing
-close_some d o v n = let no : ◌≡◌ {A = Due} (due.Close o) due.Nothing = sym v ∙ n in absurd cc
+pub close_some : (d : CellState) (o : OpenValue) → due_of d ≡ due.Close o → due_of d ≢ due.Nothing
+close_some d o v n = let no : ◌≡◌ {A = CellDue} (due.Close o) due.Nothing = sym v ∙ n in absurd cc
 
-pub part_some : (d : State) (offset total : ℕ) → due_of d ≡ due.Part offset total → due_of d ≢ due.Nothing
-part_some d offset total v n = let no : ◌≡◌ {A = Due} (due.Part offset total) due.Nothing = sym v ∙ n in absurd cc
+pub part_some : (d : CellState) (offset total : ℕ) → due_of d ≡ due.Part offset total → due_of d ≢ due.Nothing
+part_some d offset total v n = let no : ◌≡◌ {A = CellDue} (due.Part offset total) due.Nothing = sym v ∙ n in absurd cc
 
-pub later_some : (d : State) (offset total : ℕ) → d.next ≡ next.Part offset total → due_of d ≢ due.Nothing
+pub later_some : (d : CellState) (offset total : ℕ) → d.next ≡ next.Part offset total → due_of d ≢ due.Nothing
 later_some d offset total e = part_some d offset total (rw e refl)

@@ -6,17 +6,17 @@ use Rattle.cqlp_note.specs.Limits.{Rules}
 use Rattle.cqlp_type.specs.declared.kind.Kind.{Kind}
 use Rattle.cqlp_type.specs.declared.node.Node.{Node}
 use Rattle.cqlp_type.specs.Types.{Types, NoMore, Type_and}
-use Rattle.cqlp_value.specs.declared.levels.Open.{Open}
-use Rattle.cqlp_value.specs.declared.levels.Order.{Order}
-use Rattle.cqlp_value.specs.declared.levels.Order.TheVariants as order
-use Rattle.cqlp_value.specs.declared.standing.Next.{Next}
-use Rattle.cqlp_value.specs.declared.standing.Next.TheVariants as next
-use Rattle.cqlp_value.specs.declared.standing.Due.{Due}
-use Rattle.cqlp_value.specs.declared.standing.Due.TheVariants as due
-use Rattle.cqlp_value.specs.declared.standing.Value.{Value}
+use Rattle.cqlp_value.specs.declared.open_values.OpenValue.{OpenValue}
+use Rattle.cqlp_value.specs.declared.open_values.Order.{Order}
+use Rattle.cqlp_value.specs.declared.open_values.Order.TheVariants as order
+use Rattle.cqlp_value.specs.declared.standing.NextInCell.{NextInCell}
+use Rattle.cqlp_value.specs.declared.standing.NextInCell.TheVariants as next
+use Rattle.cqlp_value.specs.declared.standing.CellDue.{CellDue}
+use Rattle.cqlp_value.specs.declared.standing.CellDue.TheVariants as due
+use Rattle.cqlp_value.specs.declared.standing.DueValue.{DueValue}
 use Rattle.cqlp_value.specs.CellStep.{CellSymbol, Value_of, Items_of, Close_of, CellPlace, cell_copies, cell_step, cell_step_at, value_step, close_step, part_step}
 use Rattle.cqlp_value.specs.Inner.{types_at, node_at, HasInner, Stand}
-use Rattle.cqlp_value.specs.Standing.{State, value_symbols, left_of, open_symbols, levels_symbols, symbols_for, place, value_at, due_value, open_after, rest_of, passed_by, passed, is_over, over_by, due_of, TypesStand, Stands, HasNext}
+use Rattle.cqlp_value.specs.Standing.{CellState, value_symbols, left_of, open_symbols, levels_symbols, symbols_for, place, value_at, due_value, open_after, rest_of, passed_by, passed, is_over, over_by, due_of, TypesStand, Stands, HasNext}
 use Rattle.cqlp_value.specs.Coming.{ValueDue}
 use Rattle.cqlp_value.proofs.Nesting.{last_is, with_last_is}
 use Rattle.cqlp_value.proofs.Inside.{first_stands}
@@ -61,7 +61,7 @@ copies_more (suc n) symbols rest lt = let e : suc n - 1 ≡ n = omega arith in r
 first_is : (x : CellSymbol) (one rest : List CellSymbol) → one ≡ x ∷ [] → one ++ rest ≡ x ∷ rest
 first_is x one rest e = rw e refl
 
-module _ (nodes : List Node) (l : Rules) (level : ℕ) (o : Open) where
+module _ (nodes : List Node) (l : Rules) (level : ℕ) (o : OpenValue) where
   abbrev item : CellSymbol
   item = Value_of (node_at nodes o.node).kind (types_at nodes (o.node + 1) (node_at nodes o.node).arity) (level + 1) o.stop
 
@@ -116,7 +116,7 @@ or_right true b e = absurd cc
 or_right false b e = e
 
 -- an item of the innermost open value comes next
-module _ (nodes : List Node) (d : State) (items : d.next ≡ next.Items) (o : Open) (m : Inmost nodes d o) (more : is_over o d.offset ≡ false) (bounded : d.stop < 2 ^ 64) where
+module _ (nodes : List Node) (d : CellState) (items : d.next ≡ next.Items) (o : OpenValue) (m : Inmost nodes d o) (more : is_over o d.offset ≡ false) (bounded : d.stop < 2 ^ 64) where
   abbrev level : ℕ
   level = length m.front
 
@@ -195,7 +195,7 @@ module _ (nodes : List Node) (d : State) (items : d.next ≡ next.Items) (o : Op
   first_by order.Values e = first_item order.Values (λ x. absurd cc) e
 
   item_first : first_kind (place nodes d).symbols ≡ Some (due_value nodes d).kind
-  item_first = first_by o.order refl ∙ sym (ap (λ (v : Value). Some v.kind) value_is)
+  item_first = first_by o.order refl ∙ sym (ap (λ (v : DueValue). Some v.kind) value_is)
 
   -- ---- what stands behind it
 
@@ -241,7 +241,7 @@ module _ (nodes : List Node) (d : State) (items : d.next ≡ next.Items) (o : Op
       }
 
 -- the cell comes next
-module _ (nodes : List Node) (d : State) (stands : Stands nodes d) where
+module _ (nodes : List Node) (d : CellState) (stands : Stands nodes d) where
   raw_due : d.next ≡ next.Cell None → ValueDue nodes d
   raw_due e =
       let n = rw e at stands.next_stands in
@@ -276,36 +276,36 @@ module _ (nodes : List Node) (d : State) (stands : Stands nodes d) where
   any_cell_due None e = raw_due e
   any_cell_due (Some node) e = cell_due node e
 
-  due_by : (n : Next) → d.next ≡ n → due_of d ≡ due.Value → ValueDue nodes d
-  due_by next.Nothing e v = let no : ◌≡◌ {A = Due} due.Nothing due.Value = rw e at v in absurd cc
+  due_by : (n : NextInCell) → d.next ≡ n → due_of d ≡ due.Value → ValueDue nodes d
+  due_by next.Nothing e v = let no : ◌≡◌ {A = CellDue} due.Nothing due.Value = rw e at v in absurd cc
   due_by (next.Cell node) e v = any_cell_due node e
   due_by next.Items e v = let r = value_next nodes d stands e v in item_due nodes d e r.0 r.1 r.2 stands.bounded
-  due_by (next.Part offset total) e v = let no : ◌≡◌ {A = Due} (due.Part offset total) due.Value = rw e at v in absurd cc
+  due_by (next.Part offset total) e v = let no : ◌≡◌ {A = CellDue} (due.Part offset total) due.Value = rw e at v in absurd cc
 
   pub value_due : due_of d ≡ due.Value → ValueDue nodes d
   value_due v = due_by d.next refl v
 
 -- ---- its kind
 
-module _ (nodes : List Node) (d : State) (stands : Stands nodes d) where
+module _ (nodes : List Node) (d : CellState) (stands : Stands nodes d) where
   cell_first : (node : Option ℕ) → d.next ≡ next.Cell node → first_kind (place nodes d).symbols ≡ Some (due_value nodes d).kind
   cell_first None e = rw e refl
   cell_first (Some node) e =
       let n = rw e at stands.next_stands in
       rw (e, one_value nodes node d.rules.depth 0 d.stop n.1) refl
 
-  first_in : (n : Next) → d.next ≡ n → due_of d ≡ due.Value → first_kind (place nodes d).symbols ≡ Some (due_value nodes d).kind
-  first_in next.Nothing e v = let no : ◌≡◌ {A = Due} due.Nothing due.Value = rw e at v in absurd cc
+  first_in : (n : NextInCell) → d.next ≡ n → due_of d ≡ due.Value → first_kind (place nodes d).symbols ≡ Some (due_value nodes d).kind
+  first_in next.Nothing e v = let no : ◌≡◌ {A = CellDue} due.Nothing due.Value = rw e at v in absurd cc
   first_in (next.Cell node) e v = cell_first node e
   first_in next.Items e v = let r = value_next nodes d stands e v in item_first nodes d e r.0 r.1 r.2 stands.bounded
-  first_in (next.Part offset total) e v = let no : ◌≡◌ {A = Due} (due.Part offset total) due.Value = rw e at v in absurd cc
+  first_in (next.Part offset total) e v = let no : ◌≡◌ {A = CellDue} (due.Part offset total) due.Value = rw e at v in absurd cc
 
   pub value_first_is : due_of d ≡ due.Value → first_kind (place nodes d).symbols ≡ Some (due_value nodes d).kind
   value_first_is v = first_in d.next refl v
 
 -- ---- the end of the innermost value
 
-module _ (nodes : List Node) (d : State) (items : d.next ≡ next.Items) (o : Open) (m : Inmost nodes d o) (over : is_over o d.offset ≡ true) where
+module _ (nodes : List Node) (d : CellState) (items : d.next ≡ next.Items) (o : OpenValue) (m : Inmost nodes d o) (over : is_over o d.offset ≡ true) where
   close_by : (k : Order) → o.order ≡ k → over_by o d.offset k ≡ true → (place nodes d).symbols ≡ left_of nodes (length m.front) o k ++ levels_symbols nodes 0 m.front
       → cell_step d.rules (place nodes d) ≡ close_step (place nodes d) (levels_symbols nodes 0 m.front) (length m.front) o.stop o.items
   close_by order.Elements e t now = close_first d.rules (place nodes d) _ _ o.stop o.items (now ∙ rw (eqb-true o.left 0 t) refl)
@@ -321,5 +321,5 @@ module _ (nodes : List Node) (d : State) (items : d.next ≡ next.Items) (o : Op
       let e : 0 + length m.front ≡ length m.front = omega arith in
       close_by o.order refl over (rw (items, m.is, levels_symbols_is nodes 0 m.front o, e) refl)
 
-pub part_is : (nodes : List Node) (d : State) (offset total : ℕ) → d.next ≡ next.Part offset total → cell_step d.rules (place nodes d) ≡ part_step d.rules (place nodes d) (levels_symbols nodes 0 d.open_values) (length d.open_values) 0 offset total
-part_is nodes d offset total e = ap (λ (n : Next). cell_step_at d.rules (place nodes d) (symbols_for nodes d.stop d.open_values n)) e
+pub part_is : (nodes : List Node) (d : CellState) (offset total : ℕ) → d.next ≡ next.Part offset total → cell_step d.rules (place nodes d) ≡ part_step d.rules (place nodes d) (levels_symbols nodes 0 d.open_values) (length d.open_values) 0 offset total
+part_is nodes d offset total e = ap (λ (n : NextInCell). cell_step_at d.rules (place nodes d) (symbols_for nodes d.stop d.open_values n)) e

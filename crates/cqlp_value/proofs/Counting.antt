@@ -5,15 +5,15 @@ use Rattle.std.proofs.lemmas.Bool.{cases_lt}
 use Rattle.std.proofs.lemmas.List.{length-append}
 use Rattle.cqlp_note.specs.declared.refusal.Reason.TheVariants.{Overrun, BadCount}
 use Rattle.cqlp_note.specs.Reader.{More, Bad, says, number_of}
-use Rattle.cqlp_note.specs.Partial.{Progress}
+use Rattle.cqlp_note.specs.Partial.{FieldState}
 use Rattle.cqlp_type.specs.declared.node.Node.{Node}
-use Rattle.cqlp_value.specs.declared.item.CellOutline.TheVariants as outline
+use Rattle.cqlp_value.specs.declared.advance.CellOutline.TheVariants as outline
 use Rattle.cqlp_value.specs.declared.size.Sized.TheVariants as size
 use Rattle.cqlp_value.specs.declared.standing.Under.TheVariants as under
-use Rattle.cqlp_value.specs.declared.standing.Due.TheVariants as due
+use Rattle.cqlp_value.specs.declared.standing.CellDue.TheVariants as due
 use Rattle.cqlp_value.specs.CellStep.{CellSymbol, Close_of, Enter, cell_copies, values_of, place_after}
 use Rattle.cqlp_value.specs.Numbers.{WantsNumber, IsCounted}
-use Rattle.cqlp_value.specs.Standing.{State, ended, place, due_value, open_after, moved, rest_of, due_of, Stands}
+use Rattle.cqlp_value.specs.Standing.{CellState, ended, place, due_value, open_after, moved, rest_of, due_of, Stands}
 use Rattle.cqlp_value.specs.Coming.{inner_of}
 use Rattle.cqlp_value.specs.Reading.{counted_open, entered, sized_of, Decided, Emits, Hands, Waits, Fails, Behind, EntersCounted}
 use Rattle.cqlp_value.proofs.Coming.{value_due}
@@ -24,7 +24,7 @@ use Rattle.cqlp_value.proofs.Entering.{counted_due, counted_inner, counted_symbo
 abbrev count_in : List ℕ → ℕ
 count_in x = from_be_bytes w32 (take 4 x)
 
-module _ (nodes : List Node) (d : State) (n : ℕ) (decided : Decided nodes d n (size.Counted n)) (x : List ℕ) where
+module _ (nodes : List Node) (d : CellState) (n : ℕ) (decided : Decided nodes d n (size.Counted n)) (x : List ℕ) where
   pub counted_overrun : n < 4 → says (sized_of nodes d n) 4 x ≡ Bad (d.offset + 4, Overrun)
   unfolding number_of
   counted_overrun lt = rw (decided.is, lt-ltb n 4 lt) refl
@@ -53,7 +53,7 @@ module _ (nodes : List Node) (d : State) (n : ℕ) (decided : Decided nodes d n 
       }
 
 -- the count goes on
-pub count_waits : (nodes : List Node) (old : State) (n : ℕ) (p q : Progress) (input bytes : List ℕ) → due_of old ≡ due.Value → Decided nodes old n (size.Counted n) → old.rules.cell ≤ p.room → WantsNumber (old.offset + 4) n bytes p q
+pub count_waits : (nodes : List Node) (old : CellState) (n : ℕ) (p q : FieldState) (input bytes : List ℕ) → due_of old ≡ due.Value → Decided nodes old n (size.Counted n) → old.rules.cell ≤ p.room → WantsNumber (old.offset + 4) n bytes p q
     → Waits nodes old p input (says (sized_of nodes old n) 4 bytes) (length input) (record old { under = under.Counted n }) q × Behind n bytes (under.Counted n) q.seen
 count_waits nodes old n p q input bytes v decided longest wants = (
   record {
@@ -69,7 +69,7 @@ count_waits nodes old n p q input bytes v decided longest wants = (
 )
 
 -- the count is whole
-module _ (nodes : List Node) (old new : State) (n start used count : ℕ) (p q : Progress) (seen input : List ℕ) (decided : Decided nodes old n (size.Counted n)) (front : start ≤ 4)
+module _ (nodes : List Node) (old new : CellState) (n start used count : ℕ) (p q : FieldState) (seen input : List ℕ) (decided : Decided nodes old n (size.Counted n)) (front : start ≤ 4)
     (some : length seen < start + 4) (found : IsCounted n start seen (seen ++ drop start input) input used count p q) where
   abbrev bytes : List ℕ
   bytes = seen ++ drop start input

@@ -1,17 +1,17 @@
 -- The buffer after an item without a content, and after a refusal.
 use Rattle.std.proofs.Common.{◌≡◌, ℕ, Bool, true, false, not, List, ◌++◌, length, refl, sym, ◌∙◌}
-use Rattle.cqlp_note.specs.Partial.{Progress}
+use Rattle.cqlp_note.specs.Partial.{FieldState}
 use Rattle.cqlp_type.specs.declared.node.Node.{Node}
-use Rattle.cqlp_value.specs.declared.item.CellOutline.{CellOutline}
-use Rattle.cqlp_value.specs.declared.item.CellOutline.TheVariants as outline
-use Rattle.cqlp_value.specs.declared.item.CellAdvance.{CellAdvance}
-use Rattle.cqlp_value.specs.declared.item.CellAdvance.TheVariants as advance
+use Rattle.cqlp_value.specs.declared.advance.CellOutline.{CellOutline}
+use Rattle.cqlp_value.specs.declared.advance.CellOutline.TheVariants as outline
+use Rattle.cqlp_value.specs.declared.advance.CellAdvance.{CellAdvance}
+use Rattle.cqlp_value.specs.declared.advance.CellAdvance.TheVariants as advance
 use Rattle.cqlp_value.specs.Items.{CanLend, event_at}
-use Rattle.cqlp_value.specs.Standing.{State}
+use Rattle.cqlp_value.specs.Standing.{CellState}
 use Rattle.cqlp_value.specs.Reading.{Saying, told, Joined, IsLent, IsKept, Hands, Moves, has_content, has_none}
 use Rattle.cqlp_value.proofs.Leading.{some_come}
 
-module _ (nodes : List Node) (old : State) (p : Progress) (input : List ℕ) (new : State) (mid : Progress) (joined : Joined nodes old p) where
+module _ (nodes : List Node) (old : CellState) (p : FieldState) (input : List ℕ) (new : CellState) (mid : FieldState) (joined : Joined nodes old p) where
   none_idle : (a : CellAdvance) → Moves nodes old p input a new mid → has_none a ≡ true → mid.under_way ≡ false
   none_idle (advance.More used) m e = absurd cc
   none_idle (advance.Item at used i) m e = (m (some_come nodes old p joined).0 (some_come nodes old p joined).1).idle
@@ -31,7 +31,7 @@ bare_event (outline.Empty level) input b c e = refl
 bare_event (outline.Enter level k n) input b c e = refl
 bare_event (outline.Leave level n) input b c e = refl
 
-bare_lends : (nodes : List Node) (i : CellOutline) (p : Progress) (input b : List ℕ) (used : ℕ) → not (has_content i) ≡ true → CanLend i input b × IsLent nodes i input b used × IsKept nodes i p input b used
+bare_lends : (nodes : List Node) (i : CellOutline) (p : FieldState) (input b : List ℕ) (used : ℕ) → not (has_content i) ≡ true → CanLend i input b × IsLent nodes i input b used × IsKept nodes i p input b used
 bare_lends nodes (outline.Leaf level k x) p input b used e = absurd cc
 bare_lends nodes (outline.Part level offset x last) p input b used e = absurd cc
 bare_lends nodes (outline.Null level) p input b used e = (tt, tt, tt)
@@ -39,7 +39,7 @@ bare_lends nodes (outline.Empty level) p input b used e = (tt, tt, tt)
 bare_lends nodes (outline.Enter level k n) p input b used e = (tt, tt, tt)
 bare_lends nodes (outline.Leave level n) p input b used e = (tt, tt, tt)
 
-module _ (nodes : List Node) (old : State) (p : Progress) (input : List ℕ) (new : State) (mid q : Progress) (idle : q.under_way ≡ false) (room : q.room ≡ mid.room) where
+module _ (nodes : List Node) (old : CellState) (p : FieldState) (input : List ℕ) (new : CellState) (mid q : FieldState) (idle : q.under_way ≡ false) (room : q.room ≡ mid.room) where
   bare_hands : (said : Saying) (base at used : ℕ) (i : CellOutline) → not (has_content i) ≡ true → Hands nodes old p input said base at used i new mid → Hands nodes old p input said base at used i new q
   bare_hands said base at used i e h =
       let same = bare_event i input mid.content q.content e in

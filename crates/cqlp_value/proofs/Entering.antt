@@ -6,14 +6,14 @@ use Rattle.cqlp_type.specs.declared.kind.Kind.{Kind}
 use Rattle.cqlp_type.specs.declared.kind.Kind.TheVariants as kind
 use Rattle.cqlp_type.specs.declared.node.Node.{Node}
 use Rattle.cqlp_type.specs.Types.{has_no_items}
-use Rattle.cqlp_value.specs.declared.levels.Open.{Open}
+use Rattle.cqlp_value.specs.declared.open_values.OpenValue.{OpenValue}
 use Rattle.cqlp_value.specs.declared.size.Sized.TheVariants as size
-use Rattle.cqlp_value.specs.declared.standing.Due.TheVariants as due
-use Rattle.cqlp_value.specs.declared.standing.Value.{Value}
+use Rattle.cqlp_value.specs.declared.standing.CellDue.TheVariants as due
+use Rattle.cqlp_value.specs.declared.standing.DueValue.{DueValue}
 use Rattle.cqlp_value.specs.CellStep.{Close_of, cell_copies, values_of}
 use Rattle.cqlp_value.specs.Sizes.{is_counted}
 use Rattle.cqlp_value.specs.Inner.{types_at, node_at, HasInner, Stand}
-use Rattle.cqlp_value.specs.Standing.{State, open_symbols, place, due_value, open_after, moved, rest_of, due_of, TypesStand, Stands}
+use Rattle.cqlp_value.specs.Standing.{CellState, open_symbols, place, due_value, open_after, moved, rest_of, due_of, TypesStand, Stands}
 use Rattle.cqlp_value.specs.Coming.{InnerDue, ValueDue}
 use Rattle.cqlp_value.specs.Reading.{order_by, counted_open, fields_open, entered, Decided, InnerStands}
 use Rattle.cqlp_value.proofs.Opened.{last_stop_is, levels_symbols_is, open_join, first_there}
@@ -21,7 +21,7 @@ use Rattle.cqlp_value.proofs.Coming.{FirstType, first_type, one_value, value_due
 
 -- ---- the second type of a map
 
-module _ (nodes : List Node) (v : Value) (depth : ℕ) (s : Stand nodes (v.node + 1) 2 depth) where
+module _ (nodes : List Node) (v : DueValue) (depth : ℕ) (s : Stand nodes (v.node + 1) 2 depth) where
   key_first : FirstType nodes (v.node + 1) 1 depth
   key_first = first_type nodes (v.node + 1) 1 depth s
 
@@ -46,7 +46,7 @@ not_scalar kind.Map t = refl
 not_scalar k t = absurd cc
 
 -- the types of the items of a list, a set or a map stand in the table
-pub counted_types : (nodes : List Node) (l : Rules) (level : ℕ) (v : Value) (stop count : ℕ) (k : Kind) → is_counted k ≡ true → HasInner k v.arity → Stand nodes (v.node + 1) v.arity (l.depth - (level + 1))
+pub counted_types : (nodes : List Node) (l : Rules) (level : ℕ) (v : DueValue) (stop count : ℕ) (k : Kind) → is_counted k ≡ true → HasInner k v.arity → Stand nodes (v.node + 1) v.arity (l.depth - (level + 1))
     → TypesStand nodes l level (record { order = (order_by k (v.node + 1 + (node_at nodes (v.node + 1)).span)).0; node = v.node + 1; other = (order_by k (v.node + 1 + (node_at nodes (v.node + 1)).span)).1; left = count; items = count; stop = stop }) (order_by k (v.node + 1 + (node_at nodes (v.node + 1)).span)).0
 counted_types nodes l level v stop count kind.List t h s = rw h at s
 counted_types nodes l level v stop count kind.Set t h s = rw h at s
@@ -54,7 +54,7 @@ counted_types nodes l level v stop count kind.Map t h s = let f = first_type nod
 counted_types nodes l level v stop count k t h s = absurd cc
 
 -- the symbols of its items
-pub counted_symbols : (nodes : List Node) (l : Rules) (level : ℕ) (v : Value) (stop count : ℕ) (k : Kind) → is_counted k ≡ true → HasInner k v.arity → Stand nodes (v.node + 1) v.arity (l.depth - (level + 1))
+pub counted_symbols : (nodes : List Node) (l : Rules) (level : ℕ) (v : DueValue) (stop count : ℕ) (k : Kind) → is_counted k ≡ true → HasInner k v.arity → Stand nodes (v.node + 1) v.arity (l.depth - (level + 1))
     → cell_copies count (values_of (types_at nodes (v.node + 1) v.arity) (level + 1) stop) ++ Close_of level stop count ∷ []
     ≡ open_symbols nodes level (record { order = (order_by k (v.node + 1 + (node_at nodes (v.node + 1)).span)).0; node = v.node + 1; other = (order_by k (v.node + 1 + (node_at nodes (v.node + 1)).span)).1; left = count; items = count; stop = stop })
 counted_symbols nodes l level v stop count kind.List t h s = rw h refl
@@ -65,7 +65,7 @@ counted_symbols nodes l level v stop count kind.Map t h s =
     rw (h, f.types, key) refl
 counted_symbols nodes l level v stop count k t h s = absurd cc
 
-module _ (nodes : List Node) (d : State) (size : ℕ) (o : Open) (s : Stands nodes d) (v : ValueDue nodes d) (deep : length d.open_values < d.rules.depth) (types : TypesStand nodes d.rules (length d.open_values) o o.order)
+module _ (nodes : List Node) (d : CellState) (size : ℕ) (o : OpenValue) (s : Stands nodes d) (v : ValueDue nodes d) (deep : length d.open_values < d.rules.depth) (types : TypesStand nodes d.rules (length d.open_values) o o.order)
     (front : d.offset + size ≤ o.stop) (within : o.stop ≤ (due_value nodes d).stop) where
   pub entered_stands : Stands nodes (entered (moved nodes d size) o)
   entered_stands =
@@ -77,20 +77,20 @@ module _ (nodes : List Node) (d : State) (size : ℕ) (o : Open) (s : Stands nod
         bounded = s.bounded;
       }
 
-pub entered_symbols : (nodes : List Node) (d : State) (size : ℕ) (o : Open) → ValueDue nodes d → (place nodes (entered (moved nodes d size) o)).symbols ≡ open_symbols nodes (length d.open_values) o ++ rest_of nodes d
+pub entered_symbols : (nodes : List Node) (d : CellState) (size : ℕ) (o : OpenValue) → ValueDue nodes d → (place nodes (entered (moved nodes d size) o)).symbols ≡ open_symbols nodes (length d.open_values) o ++ rest_of nodes d
 entered_symbols nodes d size o v =
     let e : 0 + length (open_after nodes d) ≡ length d.open_values = omega (arith, v.level) in
     rw (levels_symbols_is nodes 0 (open_after nodes d) o, e) refl
 
 -- a list, a set or a map
-module _ (nodes : List Node) (d : State) (len count : ℕ) (s : Stands nodes d) (due : due_of d ≡ due.Value) (decided : Decided nodes d len (size.Counted len)) where
+module _ (nodes : List Node) (d : CellState) (len count : ℕ) (s : Stands nodes d) (due : due_of d ≡ due.Value) (decided : Decided nodes d len (size.Counted len)) where
   pub counted_due : ValueDue nodes d
   counted_due = value_due nodes d s due
 
   pub counted_inner : InnerDue nodes d
   counted_inner = counted_due.inner (not_scalar _ decided.can.1)
 
-  abbrev counted : Open
+  abbrev counted : OpenValue
   counted = counted_open nodes (due_value nodes d) (d.offset + 4 + len) count
 
   pub counted_stands : 4 ≤ len → Stands nodes (entered (moved nodes d 8) counted)
@@ -109,14 +109,14 @@ module _ (nodes : List Node) (d : State) (len count : ℕ) (s : Stands nodes d) 
       (d.rules.depth - (length d.open_values + 1), rw two at counted_inner.stands)
 
 -- a tuple or a user-defined type
-module _ (nodes : List Node) (d : State) (len : ℕ) (s : Stands nodes d) (due : due_of d ≡ due.Value) (decided : Decided nodes d len (size.Fields len)) (low : (due_value nodes d).arity < 2 ^ 16) where
+module _ (nodes : List Node) (d : CellState) (len : ℕ) (s : Stands nodes d) (due : due_of d ≡ due.Value) (decided : Decided nodes d len (size.Fields len)) (low : (due_value nodes d).arity < 2 ^ 16) where
   pub fields_due : ValueDue nodes d
   fields_due = value_due nodes d s due
 
   pub fields_inner : InnerDue nodes d
   fields_inner = fields_due.inner decided.can.2
 
-  abbrev fielded : Open
+  abbrev fielded : OpenValue
   fielded = fields_open (due_value nodes d) (d.offset + 4 + len)
 
   pub fields_stands : Stands nodes (entered (moved nodes d 4) fielded)

@@ -17,7 +17,7 @@ use Rattle.cqlp_value.specs.declared.size.Sized.TheVariants as size
 use Rattle.cqlp_value.specs.Scalars.{ScalarValue, allows_size, scalar_of, fault_of}
 use Rattle.cqlp_value.specs.CellStep.{CellEvent, Leaf, CellPlace, is_opaque, leaf_step, part_step, counted_step, scalar_step, content_step, sized_step, value_step}
 use Rattle.cqlp_value.specs.Contents.{scalar_in}
-use Rattle.cqlp_value.specs.declared.front.Front.{Front}
+use Rattle.cqlp_value.specs.declared.front.FrontScalar.{FrontScalar}
 use Rattle.cqlp_value.specs.Contents.{value_of}
 use Rattle.cqlp_value.specs.Fronts.{SaysScalar, IsFront}
 use Rattle.cqlp_value.specs.Laws.{AreSameFront}
@@ -188,7 +188,7 @@ same_scalar l k room input j n v w h g =
     let events : Leaf 0 v ≡ Leaf 0 w = ap (λ (x : Emitted CellEvent CellPlace). x.event) same.0 in
     (same.1, cc)
 
-pub one_front : (l : Rules) (k : Kind) (room : ℕ) (input : List ℕ) (a b : Option Front) → IsFront l k room input a → IsFront l k room input b → AreSameFront a b
+pub one_front : (l : Rules) (k : Kind) (room : ℕ) (input : List ℕ) (a b : Option FrontScalar) → IsFront l k room input a → IsFront l k room input b → AreSameFront a b
 one_front l k room input None None h g = tt
 one_front l k room input None (Some y) h g = h y.used (value_of y.scalar) g
 one_front l k room input (Some x) None h g = g x.used (value_of x.scalar) h

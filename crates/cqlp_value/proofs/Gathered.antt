@@ -8,8 +8,8 @@ use Rattle.cqlp_note.specs.declared.refusal.Reason.{Reason}
 use Rattle.cqlp_note.specs.Reader.{Said, More, Bad, Got, Gives, Takes, says}
 use Rattle.cqlp_note.specs.Field.{FieldValue, Bytes, field_of, content_of}
 use Rattle.cqlp_note.specs.Head.{reader_of}
-use Rattle.cqlp_note.specs.declared.taken.Item.{Item}
-use Rattle.cqlp_note.specs.Partial.{Progress, begun, Ends, Waits, CanLend, content_bytes, item_value}
+use Rattle.cqlp_note.specs.declared.advance.FieldOutline.{FieldOutline}
+use Rattle.cqlp_note.specs.Partial.{FieldState, begun, Ends, Waits, CanLend, content_bytes, item_value}
 use Rattle.cqlp_value.specs.declared.gather.Found.{Found}
 use Rattle.cqlp_value.specs.Gathering.{content_wanted, IsGathering, seen_before, Wants, Finds}
 
@@ -43,7 +43,7 @@ module _ (len at : ℕ) (x : List ℕ) where
   ]
 
 -- a content that goes on
-module _ (len at : ℕ) (old new : Progress) (input : List ℕ) (used : ℕ) (field : old.field ≡ content_wanted len at) where
+module _ (len at : ℕ) (old new : FieldState) (input : List ℕ) (used : ℕ) (field : old.field ≡ content_wanted len at) where
   pub more_wanted : Waits old input used new → Wants len at (old.seen ++ input) old new
   more_wanted w = record {
     short = content_waits len at (old.seen ++ input) (rw field at w.is);
@@ -54,7 +54,7 @@ module _ (len at : ℕ) (old new : Progress) (input : List ℕ) (used : ℕ) (fi
     room = rw w.under_way refl;
   }
 
-  pub all_found : (i : Item) → Ends old input used (item_value i input new.content) new → CanLend i input new.content → Finds len 0 old.seen (old.seen ++ input) input (record { used = used; content = i }) old new
+  pub all_found : (i : FieldOutline) → Ends old input used (item_value i input new.content) new → CanLend i input new.content → Finds len 0 old.seen (old.seen ++ input) input (record { used = used; content = i }) old new
   all_found i e there =
       let got = content_got len at (old.seen ++ input) _ _ (rw field at e.is) in
       record {
@@ -74,7 +74,7 @@ module _ (len at : ℕ) (old new : Progress) (input : List ℕ) (used : ℕ) (fi
   none_refused why b = content_never len at (old.seen ++ input) why (rw field at b)
 
 -- a content that begins
-module _ (len at room : ℕ) (old mid new : Progress) (input : List ℕ) (exact : room ≡ len) (fresh : mid ≡ begun old (record { notation = notation.Content len; limit = len; at = at; room = room })) where
+module _ (len at room : ℕ) (old mid new : FieldState) (input : List ℕ) (exact : room ≡ len) (fresh : mid ≡ begun old (record { notation = notation.Content len; limit = len; at = at; room = room })) where
   fresh_field : mid.field ≡ content_wanted len at
   fresh_field = rw (fresh, exact) refl
 
@@ -102,7 +102,7 @@ module _ (len at room : ℕ) (old mid new : Progress) (input : List ℕ) (exact 
   begun_refused why b = none_refused len at mid new input 0 fresh_field why b
 
 -- a content of no bytes, which empties the buffer
-module _ (old mid new : Progress) (fresh : mid ≡ begun old (record { notation = notation.Content 0; limit = 0; at = 0; room = 0 - 0 })) where
+module _ (old mid new : FieldState) (fresh : mid ≡ begun old (record { notation = notation.Content 0; limit = 0; at = 0; room = 0 - 0 })) where
   pub emptied : (v : FieldValue) (used : ℕ) → Ends mid [] used v new → new.content ≡ []
   emptied v used e =
       let got = content_got 0 0 (mid.seen ++ []) v _ (rw (fresh_field 0 0 (0 - 0) old mid new [] refl fresh) at e.is) in
@@ -115,7 +115,7 @@ module _ (old mid new : Progress) (fresh : mid ≡ begun old (record { notation 
   emptied_refused why b = none_refused 0 0 mid new [] 0 (fresh_field 0 0 (0 - 0) old mid new [] refl fresh) why b
 
 -- A content that is whole, and not in the input, was begun before; then it is what had come of it and the bytes used.
-pub gathered_is : (begun : Bool) (n at start : ℕ) (p q : Progress) (input : List ℕ) (f : Found) → IsGathering begun n at start p → Finds n start (seen_before begun p) (seen_before begun p ++ drop start input) input f p q
+pub gathered_is : (begun : Bool) (n at start : ℕ) (p q : FieldState) (input : List ℕ) (f : Found) → IsGathering begun n at start p → Finds n start (seen_before begun p) (seen_before begun p ++ drop start input) input f p q
     → f.used < n → (p.under_way ≡ true) × (q.content ≡ p.seen ++ take f.used input)
 gathered_is true n at start p q input f h found lt =
     let count : n ≡ length p.seen + f.used = omega (arith, found.count, h.2) in

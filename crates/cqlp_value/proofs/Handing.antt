@@ -3,27 +3,27 @@ use Rattle.std.proofs.Common.{◌≡◌, ℕ, ◌+◌, ◌-◌, ◌<◌, ◌≤�
 use Rattle.std.proofs.lemmas.List.{length-take-le}
 use Rattle.cqlp_note.specs.Reader.{More, Got, says}
 use Rattle.cqlp_note.specs.Step.{Emitted}
-use Rattle.cqlp_note.specs.Partial.{Progress}
+use Rattle.cqlp_note.specs.Partial.{FieldState}
 use Rattle.cqlp_type.specs.declared.kind.Kind.{Kind}
 use Rattle.cqlp_type.specs.declared.node.Node.{Node}
 use Rattle.cqlp_value.specs.declared.gather.Found.{Found}
-use Rattle.cqlp_value.specs.declared.item.CellOutline.TheVariants as outline
+use Rattle.cqlp_value.specs.declared.advance.CellOutline.TheVariants as outline
 use Rattle.cqlp_value.specs.declared.size.Sized.{Sized}
 use Rattle.cqlp_value.specs.declared.size.Sized.TheVariants as size
 use Rattle.cqlp_value.specs.declared.standing.Under.{Under}
 use Rattle.cqlp_value.specs.declared.standing.Under.TheVariants as under
-use Rattle.cqlp_value.specs.declared.standing.Due.TheVariants as due
+use Rattle.cqlp_value.specs.declared.standing.CellDue.TheVariants as due
 use Rattle.cqlp_value.specs.Scalars.{ScalarValue, scalar_of}
 use Rattle.cqlp_value.specs.CellStep.{CellSymbol, CellEvent, CellPlace, leaf_step}
 use Rattle.cqlp_value.specs.Items.{content_at, leaf_event}
 use Rattle.cqlp_value.specs.Gathering.{Wants, Finds}
-use Rattle.cqlp_value.specs.Standing.{State, place, due_value, moved, rest_of, due_of, Stands}
+use Rattle.cqlp_value.specs.Standing.{CellState, place, due_value, moved, rest_of, due_of, Stands}
 use Rattle.cqlp_value.specs.Coming.{ValueDue}
 use Rattle.cqlp_value.specs.Reading.{sized_of, Decided, Emits, Hands, Waits, Behind}
 use Rattle.cqlp_value.proofs.Coming.{value_due}
 
 -- behind the value that comes next, as far as the one around it goes
-pub moved_stands : (nodes : List Node) (d : State) (size : ℕ) → Stands nodes d → ValueDue nodes d → d.offset + size ≤ (due_value nodes d).stop → Stands nodes (moved nodes d size)
+pub moved_stands : (nodes : List Node) (d : CellState) (size : ℕ) → Stands nodes d → ValueDue nodes d → d.offset + size ≤ (due_value nodes d).stop → Stands nodes (moved nodes d size)
 moved_stands nodes d size s v le = record { open_stand = v.after; within = rw v.ends (omega arith); next_stands = tt; bounded = s.bounded }
 
 -- ---- scalars
@@ -34,7 +34,7 @@ leaf_known p rest level k (Some v) taken bytes t = (_, refl, refl, refl, refl)
 leaf_known p rest level k None taken bytes t = absurd cc
 
 -- how much of it has come changes no step
-module _ (nodes : List Node) (d : State) (u : Under) where
+module _ (nodes : List Node) (d : CellState) (u : Under) where
   pub same_sized : (n : ℕ) → sized_of nodes (record d { under = u }) n ≡ sized_of nodes d n
   unfolding sized_of
   same_sized n = refl
@@ -42,7 +42,7 @@ module _ (nodes : List Node) (d : State) (u : Under) where
   pub same_decided : (n : ℕ) (s : Sized) → Decided nodes d n s → Decided nodes (record d { under = u }) n s
   same_decided n s h = record { is = same_sized n ∙ h.is; can = h.can; fits = h.fits }
 
-module _ (nodes : List Node) (d : State) (n : ℕ) (decided : Decided nodes d n (size.Scalar n)) (x : List ℕ) where
+module _ (nodes : List Node) (d : CellState) (n : ℕ) (decided : Decided nodes d n (size.Scalar n)) (x : List ℕ) where
   abbrev its_kind : Kind
   its_kind = (due_value nodes d).kind
 
@@ -61,7 +61,7 @@ module _ (nodes : List Node) (d : State) (n : ℕ) (decided : Decided nodes d n 
       }
 
 -- a scalar that is whole
-module _ (nodes : List Node) (old new : State) (n start : ℕ) (p q : Progress) (seen input : List ℕ) (f : Found) (stands : Stands nodes old) (v : due_of old ≡ due.Value) (decided : Decided nodes old n (size.Scalar n)) (front : start ≤ 4)
+module _ (nodes : List Node) (old new : CellState) (n start : ℕ) (p q : FieldState) (seen input : List ℕ) (f : Found) (stands : Stands nodes old) (v : due_of old ≡ due.Value) (decided : Decided nodes old n (size.Scalar n)) (front : start ≤ 4)
     (some : length seen < start + n) (found : Finds n start seen (seen ++ drop start input) input f p q) (kept : f.used < n → (p.under_way ≡ true) × (q.content ≡ p.seen ++ take f.used input)) where
   abbrev bytes : List ℕ
   bytes = seen ++ drop start input
@@ -98,7 +98,7 @@ module _ (nodes : List Node) (old new : State) (n start : ℕ) (p q : Progress) 
       })
 
 -- a scalar that goes on
-pub scalar_waits : (nodes : List Node) (old : State) (n : ℕ) (p q : Progress) (input bytes : List ℕ) → due_of old ≡ due.Value → Decided nodes old n (size.Scalar n) → old.rules.cell ≤ p.room → Wants n (old.offset + 4) bytes p q
+pub scalar_waits : (nodes : List Node) (old : CellState) (n : ℕ) (p q : FieldState) (input bytes : List ℕ) → due_of old ≡ due.Value → Decided nodes old n (size.Scalar n) → old.rules.cell ≤ p.room → Wants n (old.offset + 4) bytes p q
     → Waits nodes old p input (says (sized_of nodes old n) 4 bytes) (length input) (record old { under = under.Scalar n }) q × Behind n bytes (under.Scalar n) q.seen
 scalar_waits nodes old n p q input bytes v decided longest wants = (
   record {

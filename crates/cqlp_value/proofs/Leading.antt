@@ -7,27 +7,27 @@ use Rattle.cqlp_note.specs.declared.refusal.Refusal.{Refusal}
 use Rattle.cqlp_note.specs.Reader.{Got, says}
 use Rattle.cqlp_note.specs.Step.{Emitted, Runs}
 use Rattle.cqlp_note.specs.Limits.{Rules}
-use Rattle.cqlp_note.specs.Partial.{Progress}
+use Rattle.cqlp_note.specs.Partial.{FieldState}
 use Rattle.cqlp_note.proofs.Runs.{runs_then, runs_stay}
 use Rattle.cqlp_note.proofs.Yields.{says_exact, emitted_is}
 use Rattle.cqlp_type.specs.declared.kind.Kind.{Kind}
 use Rattle.cqlp_type.specs.declared.node.Node.{Node}
 use Rattle.cqlp_value.specs.declared.item.CellItem.{CellItem}
-use Rattle.cqlp_value.specs.declared.item.CellOutline.{CellOutline}
-use Rattle.cqlp_value.specs.declared.item.CellOutline.TheVariants as outline
-use Rattle.cqlp_value.specs.declared.item.CellAdvance.TheVariants as advance
+use Rattle.cqlp_value.specs.declared.advance.CellOutline.{CellOutline}
+use Rattle.cqlp_value.specs.declared.advance.CellOutline.TheVariants as outline
+use Rattle.cqlp_value.specs.declared.advance.CellAdvance.TheVariants as advance
 use Rattle.cqlp_value.specs.declared.item.CellPush.TheVariants as push
-use Rattle.cqlp_value.specs.declared.levels.Open.{Open}
-use Rattle.cqlp_value.specs.declared.standing.Next.{Next}
-use Rattle.cqlp_value.specs.declared.standing.Next.TheVariants as next
+use Rattle.cqlp_value.specs.declared.open_values.OpenValue.{OpenValue}
+use Rattle.cqlp_value.specs.declared.standing.NextInCell.{NextInCell}
+use Rattle.cqlp_value.specs.declared.standing.NextInCell.TheVariants as next
 use Rattle.cqlp_value.specs.declared.standing.Under.{Under}
 use Rattle.cqlp_value.specs.declared.standing.Under.TheVariants as under
-use Rattle.cqlp_value.specs.declared.standing.Due.TheVariants as due
+use Rattle.cqlp_value.specs.declared.standing.CellDue.TheVariants as due
 use Rattle.cqlp_value.specs.CellStep.{CellEvent, Null, Empty, Enter, Leave, CellPlace, cell_step}
 use Rattle.cqlp_value.specs.Scalars.{ScalarValue, allows_size, scalar_of}
 use Rattle.cqlp_value.specs.Items.{CanLend, content_at, content_length, event_at, event_of, leaf_event}
 use Rattle.cqlp_value.specs.Levels.{last_open}
-use Rattle.cqlp_value.specs.Standing.{State, ended, is_some_next, is_under_way, symbols_for, place, close_if, is_over, due_in, due_for, due_of, Stands}
+use Rattle.cqlp_value.specs.Standing.{CellState, ended, is_some_next, is_under_way, symbols_for, place, close_if, is_over, due_in, due_for, due_of, Stands}
 use Rattle.cqlp_value.specs.Reading.{Saying, told, Joined, UnderBy, AreBytes, HaveCome, IsLent, IsKept, Moves, Empties, has_content}
 use Rattle.cqlp_value.specs.Pushing.{is_done, done_by, Continues, Keeps, Pushes}
 use Rattle.cqlp_value.proofs.ScalarSizes.{scalar_sized}
@@ -36,7 +36,7 @@ use Rattle.cqlp_value.proofs.ScalarSizes.{scalar_sized}
 number_bytes : (n : ℕ) (seen : List ℕ) → n < 2 ^ 31 → (b : List ℕ) × AreBytes (Some n) seen b
 number_bytes n seen low = (to_be_bytes w32 n ++ seen, (to_be_bytes w32 n, refl, from_be_bytes-to_be_bytes_4 n (omega arith), refl))
 
-come_by : (nodes : List Node) (d : State) (p : Progress) (u : Under) → UnderBy nodes d p u → (b : List ℕ) × HaveCome b u p.seen
+come_by : (nodes : List Node) (d : CellState) (p : FieldState) (u : Under) → UnderBy nodes d p u → (b : List ℕ) × HaveCome b u p.seen
 come_by nodes d p under.Nothing h = ([], refl)
 come_by nodes d p under.Length h = (p.seen, refl)
 come_by nodes d p (under.Scalar n) h = number_bytes n p.seen h.2.fits.1
@@ -44,11 +44,11 @@ come_by nodes d p (under.Counted n) h = number_bytes n p.seen h.2.fits.1
 come_by nodes d p (under.First n) h = number_bytes n p.seen h.2.fits.1
 come_by nodes d p under.Later h = (p.seen, refl)
 
-pub some_come : (nodes : List Node) (d : State) (p : Progress) → Joined nodes d p → (b : List ℕ) × HaveCome b d.under p.seen
+pub some_come : (nodes : List Node) (d : CellState) (p : FieldState) → Joined nodes d p → (b : List ℕ) × HaveCome b d.under p.seen
 some_come nodes d p j = come_by nodes d p d.under j.under_way
 
 -- only one list of bytes has come, or the step says the same of each
-pub told_is : (nodes : List Node) (d : State) (bytes : List ℕ) → told nodes d bytes ≡ says (cell_step d.rules (place nodes d)) 0 bytes
+pub told_is : (nodes : List Node) (d : CellState) (bytes : List ℕ) → told nodes d bytes ≡ says (cell_step d.rules (place nodes d)) 0 bytes
 unfolding told
 told_is nodes d bytes = refl
 
@@ -57,35 +57,35 @@ saying l p bytes = says (cell_step l p) 0 bytes
 
 -- ---- whether something is left
 
-some_due : (b : Bool) (o : Open) → close_if b o ≢ due.Nothing
+some_due : (b : Bool) (o : OpenValue) → close_if b o ≢ due.Nothing
 some_due true o e = absurd cc
 some_due false o e = absurd cc
 
-some_last : (offset : ℕ) (o : Open) (os : List Open) → due_in offset (last_open (o ∷ os)) ≢ due.Nothing
+some_last : (offset : ℕ) (o : OpenValue) (os : List OpenValue) → due_in offset (last_open (o ∷ os)) ≢ due.Nothing
 some_last offset o [] e = some_due (is_over o offset) o e
 some_last offset o (q ∷ os) e = some_last offset q os e
 
-done_when : (n : Next) (offset : ℕ) (os : List Open) → is_some_next n ≡ true → due_for offset os n ≡ due.Nothing → done_by n os ≡ true
+done_when : (n : NextInCell) (offset : ℕ) (os : List OpenValue) → is_some_next n ≡ true → due_for offset os n ≡ due.Nothing → done_by n os ≡ true
 done_when next.Nothing offset os u e = absurd cc
 done_when (next.Cell _) offset os u e = absurd cc
 done_when next.Items offset [] u e = refl
 done_when next.Items offset (o ∷ os) u e = absurd (some_last offset o os e)
 done_when (next.Part start total) offset os u e = absurd cc
 
-not_done_when : (n : Next) (offset : ℕ) (os : List Open) → due_for offset os n ≢ due.Nothing → done_by n os ≡ false
+not_done_when : (n : NextInCell) (offset : ℕ) (os : List OpenValue) → due_for offset os n ≢ due.Nothing → done_by n os ≡ false
 not_done_when next.Nothing offset os e = absurd (e refl)
 not_done_when (next.Cell _) offset os e = refl
 not_done_when next.Items offset [] e = absurd (e refl)
 not_done_when next.Items offset (o ∷ os) e = refl
 not_done_when (next.Part start total) offset os e = refl
 
-pub is_over_done : (d : State) → is_under_way d ≡ true → due_of d ≡ due.Nothing → is_done d ≡ true
+pub is_over_done : (d : CellState) → is_under_way d ≡ true → due_of d ≡ due.Nothing → is_done d ≡ true
 is_over_done d u e = done_when d.next d.offset d.open_values u e
 
-pub is_not_done : (d : State) → due_of d ≢ due.Nothing → is_done d ≡ false
+pub is_not_done : (d : CellState) → due_of d ≢ due.Nothing → is_done d ≡ false
 is_not_done d e = not_done_when d.next d.offset d.open_values e
 
-none_left : (nodes : List Node) (stop offset : ℕ) (n : Next) (os : List Open) → due_for offset os n ≡ due.Nothing → symbols_for nodes stop os n ≡ []
+none_left : (nodes : List Node) (stop offset : ℕ) (n : NextInCell) (os : List OpenValue) → due_for offset os n ≡ due.Nothing → symbols_for nodes stop os n ≡ []
 none_left nodes stop offset next.Nothing os e = refl
 none_left nodes stop offset (next.Cell _) os e = absurd cc
 none_left nodes stop offset next.Items [] e = refl
@@ -108,7 +108,7 @@ leaf_length : (level : ℕ) (k : Kind) (content : List ℕ) (o : Option ScalarVa
 leaf_length level k content None is some allowed = absurd cc
 leaf_length level k content (Some v) is some allowed = sym (scalar_sized k content v allowed is)
 
-module _ (nodes : List Node) (p q : Progress) (input : List ℕ) (used : ℕ) where
+module _ (nodes : List Node) (p q : FieldState) (input : List ℕ) (used : ℕ) where
   leaf_keeps : (level : ℕ) (k : Kind) (content : List ℕ) (o : Option ScalarValue) → scalar_of k content ≡ o → is_some o ≡ true → allows_size k (length content) ≡ true → (length content ≤ used → q.content ≡ [])
       → (used < length content → (p.under_way ≡ true) × (q.content ≡ p.seen ++ take used input)) → Keeps p input used (leaf_event level o) q
   leaf_keeps level k content o is some allowed lent kept =
@@ -127,10 +127,10 @@ module _ (nodes : List Node) (p q : Progress) (input : List ℕ) (used : ℕ) wh
   keeps (outline.Leave level n) can lent kept none = bare_keeps (Leave level n) refl (none refl)
 
 -- as far as the types go, it does not matter how much has come
-pub stands_under : (nodes : List Node) (d : State) (u : Under) → Stands nodes d → Stands nodes (record d { under = u })
+pub stands_under : (nodes : List Node) (d : CellState) (u : Under) → Stands nodes d → Stands nodes (record d { under = u })
 stands_under nodes d u s = record { open_stand = s.open_stand; within = s.within; next_stands = s.next_stands; bounded = s.bounded }
 
-module _ (nodes : List Node) (old : State) (p : Progress) (input : List ℕ) (new : State) (q : Progress) (under_way : is_under_way old ≡ true) (stands : Stands nodes old) (joined : Joined nodes old p) where
+module _ (nodes : List Node) (old : CellState) (p : FieldState) (input : List ℕ) (new : CellState) (q : FieldState) (under_way : is_under_way old ≡ true) (stands : Stands nodes old) (joined : Joined nodes old p) where
   came : (b : List ℕ) × HaveCome b old.under p.seen
   came = some_come nodes old p joined
 
@@ -138,7 +138,7 @@ module _ (nodes : List Node) (old : State) (p : Progress) (input : List ℕ) (ne
   more_pushes used m =
       let h = m came.0 came.1 in
       let same = h.0.same in
-      let rules : new.rules ≡ old.rules = ap (λ (d : State). d.rules) same in
+      let rules : new.rules ≡ old.rules = ap (λ (d : CellState). d.rules) same in
       let here : place nodes new ≡ place nodes old = ap (place nodes) same in (
         record {
           leads = λ start s es after.

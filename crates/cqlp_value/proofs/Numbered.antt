@@ -8,7 +8,7 @@ use Rattle.cqlp_note.specs.declared.refusal.Reason.{Reason}
 use Rattle.cqlp_note.specs.Reader.{Said, More, Bad, Got, Gives, Takes, says, number_of}
 use Rattle.cqlp_note.specs.Field.{FieldValue, Int, field_of, signed}
 use Rattle.cqlp_note.specs.Head.{reader_of}
-use Rattle.cqlp_note.specs.Partial.{Progress, begun, Ends, Waits}
+use Rattle.cqlp_note.specs.Partial.{FieldState, begun, Ends, Waits}
 use Rattle.cqlp_value.specs.Numbers.{int_wanted, int_in, IsUnsigned, WantsNumber, IsCounted}
 
 -- the number that the first four bytes are
@@ -52,7 +52,7 @@ pub unsigned_same : (m n : ℕ) → n ≡ m → IsUnsigned m n
 unsigned_same m n e = (λ _. e, λ le. omega arith)
 
 -- an [int] that goes on
-module _ (at room : ℕ) (old new : Progress) (input : List ℕ) (used : ℕ) (enough : 4 ≤ room) (field : old.field ≡ int_wanted at room) where
+module _ (at room : ℕ) (old new : FieldState) (input : List ℕ) (used : ℕ) (enough : 4 ≤ room) (field : old.field ≡ int_wanted at room) where
   pub more_wanted : Waits old input used new → WantsNumber at room (old.seen ++ input) old new
   more_wanted w = record {
     short = int_waits at room (old.seen ++ input) enough (rw field at w.is);
@@ -87,7 +87,7 @@ module _ (at room : ℕ) (old new : Progress) (input : List ℕ) (used : ℕ) (e
   none_refused why b = int_never at room (old.seen ++ input) enough why (rw field at b)
 
 -- an [int] that begins
-module _ (at room : ℕ) (old mid new : Progress) (input : List ℕ) (enough : 4 ≤ room) (fresh : mid ≡ begun old (int_wanted at room)) where
+module _ (at room : ℕ) (old mid new : FieldState) (input : List ℕ) (enough : 4 ≤ room) (fresh : mid ≡ begun old (int_wanted at room)) where
   fresh_field : mid.field ≡ int_wanted at room
   fresh_field = rw fresh refl
 

@@ -8,32 +8,32 @@ use Rattle.cqlp_note.specs.Reader.{Said, Got, Bad, says}
 use Rattle.cqlp_note.specs.Reader as reader
 use Rattle.cqlp_note.specs.Step.{Emitted, Step, Runs}
 use Rattle.cqlp_note.specs.Limits.{Rules}
-use Rattle.cqlp_note.specs.Partial.{Progress}
+use Rattle.cqlp_note.specs.Partial.{FieldState}
 use Rattle.cqlp_note.proofs.Readers.{says_stays}
 use Rattle.cqlp_note.proofs.Runs.{stays_got, same_got, runs_stay}
 use Rattle.cqlp_type.specs.declared.node.Node.{Node}
 use Rattle.cqlp_type.specs.declared.kind.Kind.{Kind}
 use Rattle.cqlp_type.specs.declared.kind.Kind.TheVariants as kind
 use Rattle.cqlp_type.specs.Types.{Types, NoMore, Type_and, has_no_items}
-use Rattle.cqlp_value.specs.declared.item.CellAdvance.{CellAdvance}
-use Rattle.cqlp_value.specs.declared.item.CellAdvance.TheVariants as advance
+use Rattle.cqlp_value.specs.declared.advance.CellAdvance.{CellAdvance}
+use Rattle.cqlp_value.specs.declared.advance.CellAdvance.TheVariants as advance
 use Rattle.cqlp_value.specs.declared.item.CellPush.{CellPush}
 use Rattle.cqlp_value.specs.declared.item.CellPush.TheVariants as push
-use Rattle.cqlp_value.specs.declared.levels.Open.{Open}
-use Rattle.cqlp_value.specs.declared.levels.Order.{Order}
-use Rattle.cqlp_value.specs.declared.levels.Order.TheVariants as order
-use Rattle.cqlp_value.specs.declared.standing.Next.{Next}
-use Rattle.cqlp_value.specs.declared.standing.Next.TheVariants as next
+use Rattle.cqlp_value.specs.declared.open_values.OpenValue.{OpenValue}
+use Rattle.cqlp_value.specs.declared.open_values.Order.{Order}
+use Rattle.cqlp_value.specs.declared.open_values.Order.TheVariants as order
+use Rattle.cqlp_value.specs.declared.standing.NextInCell.{NextInCell}
+use Rattle.cqlp_value.specs.declared.standing.NextInCell.TheVariants as next
 use Rattle.cqlp_value.specs.declared.standing.Under.{Under}
 use Rattle.cqlp_value.specs.declared.standing.Under.TheVariants as under
 use Rattle.cqlp_value.specs.CellStep.{CellSymbol, Value_of, Items_of, Close_of, Content_from, CellEvent, CellPlace, cell_copies, values_of, cell_step}
 use Rattle.cqlp_value.specs.Items.{content_length, event_at, event_of}
 use Rattle.cqlp_value.specs.Sizes.{is_counted}
 use Rattle.cqlp_value.specs.Inner.{types_at}
-use Rattle.cqlp_value.specs.Standing.{State, value_symbols, left_of, open_symbols, levels_symbols, symbols_for, cell_symbols, place, due_value, is_under_way, is_some_next, ended, NextStands, Stands}
+use Rattle.cqlp_value.specs.Standing.{CellState, value_symbols, left_of, open_symbols, levels_symbols, symbols_for, cell_symbols, place, due_value, is_under_way, is_some_next, ended, NextStands, Stands}
 use Rattle.cqlp_value.specs.Reading.{gathered, Joined, UnderBy, PartUnder, HaveCome, Answers, Empties, Moves}
 use Rattle.cqlp_value.specs.Pushing.{After, Continues, Keeps, Pushes, Uses, is_done, done_by}
-use Rattle.cqlp_value.specs.Laws.{Answer, More, Item, Done, Refused, push_answer, advance_answer, Call, Seen, seen, LeaveAlike, IsPush, IsAdvance, AreAlike}
+use Rattle.cqlp_value.specs.Laws.{Answer, More, FieldOutline, Done, Refused, push_answer, advance_answer, Call, Seen, seen, LeaveAlike, IsPush, IsAdvance, AreAlike}
 use Rattle.cqlp_value.proofs.Coming.{first_kind, one_value, value_first_is}
 use Rattle.cqlp_value.proofs.Leading.{keeps, told_is, stands_under, is_over_done, is_not_done}
 use Rattle.cqlp_value.proofs.Leavings.{stop_is}
@@ -94,7 +94,7 @@ module _ (nodes : List Node) where
   two_values : (node other level stop : ℕ) → endings (value_symbols nodes node level stop ++ value_symbols nodes other level stop) ≡ 0
   two_values node other level stop = endings-append (value_symbols nodes node level stop) (value_symbols nodes other level stop) ∙ rw (endings_values (types_at nodes node 1) level stop, endings_values (types_at nodes other 1) level stop) refl
 
-  endings_open : (level : ℕ) (o : Open) (k : Order) → endings (left_of nodes level o k) ≡ 1
+  endings_open : (level : ℕ) (o : OpenValue) (k : Order) → endings (left_of nodes level o k) ≡ 1
   endings_open level o order.Elements =
       let these = value_symbols nodes o.node (level + 1) o.stop in
       omega (arith, endings-append (cell_copies o.left these) (Close_of level o.stop o.items ∷ []), endings_copies o.left these (endings_values (types_at nodes o.node 1) (level + 1) o.stop))
@@ -107,7 +107,7 @@ module _ (nodes : List Node) where
       omega (arith, endings-append one (cell_copies o.left these ++ Close_of level o.stop o.items ∷ []), endings_values (types_at nodes o.node 1) (level + 1) o.stop, endings-append (cell_copies o.left these) (Close_of level o.stop o.items ∷ []), endings_copies o.left these (two_values o.other o.node (level + 1) o.stop))
   endings_open level o order.Fields = refl
 
-  endings_levels : (level : ℕ) (os : List Open) → endings (levels_symbols nodes level os) ≡ length os
+  endings_levels : (level : ℕ) (os : List OpenValue) → endings (levels_symbols nodes level os) ≡ length os
   endings_levels level [] = refl
   endings_levels level (o ∷ os) = omega (arith, endings-append (levels_symbols nodes (level + 1) os) (open_symbols nodes level o), endings_levels (level + 1) os, endings_open level o o.order)
 
@@ -115,7 +115,7 @@ module _ (nodes : List Node) where
   endings_cell None stop = refl
   endings_cell (Some node) stop = endings_values (types_at nodes node 1) 0 stop
 
-  some_open : (level : ℕ) (o : Open) (k : Order) → is_none (left_of nodes level o k) ≡ false
+  some_open : (level : ℕ) (o : OpenValue) (k : Order) → is_none (left_of nodes level o k) ≡ false
   some_open level o order.Elements = none_behind (cell_copies o.left (value_symbols nodes o.node (level + 1) o.stop)) (Close_of level o.stop o.items ∷ []) refl
   some_open level o order.Keys = none_behind (cell_copies o.left (value_symbols nodes o.node (level + 1) o.stop ++ value_symbols nodes o.other (level + 1) o.stop)) (Close_of level o.stop o.items ∷ []) refl
   some_open level o order.Values =
@@ -124,13 +124,13 @@ module _ (nodes : List Node) where
   some_open level o order.Fields = refl
 
   module _ (l : Rules) (stop : ℕ) where
-    endings_by : (n : Next) (os : List Open) → NextStands nodes l os n → endings (symbols_for nodes stop os n) ≡ length os
+    endings_by : (n : NextInCell) (os : List OpenValue) → NextStands nodes l os n → endings (symbols_for nodes stop os n) ≡ length os
     endings_by next.Nothing os h = rw h refl
     endings_by (next.Cell node) os h = rw h.0 (endings_cell node stop)
     endings_by next.Items os h = endings_levels 0 os
     endings_by (next.Part offset total) os h = omega (arith, endings_levels 0 os)
 
-    done_in : (n : Next) (os : List Open) → NextStands nodes l os n → done_by n os ≡ (is_some_next n && is_none (symbols_for nodes stop os n))
+    done_in : (n : NextInCell) (os : List OpenValue) → NextStands nodes l os n → done_by n os ≡ (is_some_next n && is_none (symbols_for nodes stop os n))
     done_in next.Nothing os h = refl
     done_in (next.Cell None) os h = refl
     done_in (next.Cell (Some node)) os h = rw (one_value nodes node l.depth 0 stop h.1) refl
@@ -138,13 +138,13 @@ module _ (nodes : List Node) where
     done_in next.Items (o ∷ os) h = sym (none_behind (levels_symbols nodes 1 os) (open_symbols nodes 0 o) (some_open 0 o o.order))
     done_in (next.Part offset total) os h = refl
 
-  levels_are : (d : State) → Stands nodes d → length d.open_values ≡ endings (place nodes d).symbols
+  levels_are : (d : CellState) → Stands nodes d → length d.open_values ≡ endings (place nodes d).symbols
   levels_are d s = sym (endings_by d.rules d.stop d.next d.open_values s.next_stands)
 
-  done_are : (d : State) → Stands nodes d → is_done d ≡ (is_under_way d && is_none (place nodes d).symbols)
+  done_are : (d : CellState) → Stands nodes d → is_done d ≡ (is_under_way d && is_none (place nodes d).symbols)
   done_are d s = done_in d.rules d.stop d.next d.open_values s.next_stands
 
-  ended_stands : (d : State) → Stands nodes d → Stands nodes (ended d)
+  ended_stands : (d : CellState) → Stands nodes d → Stands nodes (ended d)
   ended_stands d s = record { open_stand = tt; within = omega (arith, stop_is nodes d s); next_stands = refl; bounded = s.bounded }
 
 -- ---- what has come of an item, by its bytes
@@ -173,14 +173,14 @@ not_counted k e = refl
 behind_length : (head seen : List ℕ) → length head ≡ 4 → (ltb (length (head ++ seen)) 4 ≡ false) × (drop 4 (head ++ seen) ≡ seen)
 behind_length head seen long = (le-ltb (length (head ++ seen)) 4 (omega (arith, length-append head seen)), drop_at head seen 4 long)
 
-module _ (nodes : List Node) (d : State) (p : Progress) (stands : Stands nodes d) (b : List ℕ) where
+module _ (nodes : List Node) (d : CellState) (p : FieldState) (stands : Stands nodes d) (b : List ℕ) where
   abbrev first : Option Kind
   first = first_kind (place nodes d).symbols
 
   abbrev AreCome : Under → Type 0
   AreCome u = (p.seen ≡ field_bytes first b) × (gathered u p.seen ≡ buffer_bytes first b)
 
-  part_first : (n : Next) → PartUnder nodes d p n → first_kind (symbols_for nodes d.stop d.open_values n) ≡ None
+  part_first : (n : NextInCell) → PartUnder nodes d p n → first_kind (symbols_for nodes d.stop d.open_values n) ≡ None
   part_first next.Nothing h = absurd h
   part_first (next.Cell _) h = absurd h
   part_first next.Items h = absurd h
@@ -230,7 +230,7 @@ decided_by [] d p came input held = record { answer = Done; under_way = false; p
 decided_by (s ∷ ss) reader.More p came input held = record { answer = More (length input); under_way = true; place = p; come = came ++ input; field = true; bytes = field_bytes (first_kind p.symbols) (came ++ input); buffer = buffer_bytes (first_kind p.symbols) (came ++ input) }
 decided_by (s ∷ ss) (Bad f) p came input held = record { answer = Refused (record { at = f.0; why = f.1 }); under_way = false; place = ended_at p; come = []; field = false; bytes = []; buffer = [] }
 decided_by (s ∷ ss) (Got x k) p came input held =
-    record { answer = Item x.at (k - length came) x.event; under_way = true; place = x.after k; come = []; field = false; bytes = []; buffer = left_by (content_length x.event) (k - length came) (field_bytes (first_kind p.symbols) came) input }
+    record { answer = FieldOutline x.at (k - length came) x.event; under_way = true; place = x.after k; come = []; field = false; bytes = []; buffer = left_by (content_length x.event) (k - length came) (field_bytes (first_kind p.symbols) came) input }
 
 abbrev decided : Rules → CellPlace → (came input held : List ℕ) → Outcome
 decided l p came input held = decided_by p.symbols (says (cell_step l p) 0 (came ++ input)) p came input held
@@ -251,7 +251,7 @@ module _ (p : CellPlace) (came input held : List ℕ) where
 
   decided_item : (ss : List CellSymbol) (d : Saying) (x : Emitted CellEvent CellPlace) (used : ℕ) → is_none ss ≡ false → d ≡ Got x (length came + used)
       → decided_by ss d p came input held
-      ≡ record { answer = Item x.at used x.event; under_way = true; place = x.after (length came + used); come = []; field = false; bytes = []; buffer = left_by (content_length x.event) used (field_bytes (first_kind p.symbols) came) input }
+      ≡ record { answer = FieldOutline x.at used x.event; under_way = true; place = x.after (length came + used); come = []; field = false; bytes = []; buffer = left_by (content_length x.event) used (field_bytes (first_kind p.symbols) came) input }
   decided_item [] d x used e said = absurd cc
   decided_item (s ∷ ss) d x used e said = let less : (length came + used) - length came ≡ used = omega arith in rw (said, less) refl
 
@@ -259,7 +259,7 @@ module _ (p : CellPlace) (came input held : List ℕ) where
 
 module _ (nodes : List Node) where
   -- An answer, and what it leaves, are what is decided.
-  pub record Meets (l : Rules) (most : ℕ) (o : Outcome) (x : Answer) (new : State) (q : Progress) : Type 0 where
+  pub record Meets (l : Rules) (most : ℕ) (o : Outcome) (x : Answer) (new : CellState) (q : FieldState) : Type 0 where
     pub answer : x ≡ o.answer
     pub under_way : is_under_way new ≡ o.under_way
     pub place : place nodes new ≡ o.place
@@ -286,7 +286,7 @@ module _ (nodes : List Node) where
   }
 
   module _ (l : Rules) (room : ℕ) (o : Outcome) where
-    meets_seen : (x : Answer) (new : State) (q : Progress) → Meets l room o x new q → seen nodes new q ≡ seen_by l room o
+    meets_seen : (x : Answer) (new : CellState) (q : FieldState) → Meets l room o x new q → seen nodes new q ≡ seen_by l room o
     meets_seen x new q m =
         let done : is_done new ≡ (o.under_way && is_none o.place.symbols) = done_are nodes new m.stands ∙ (λ i. m.under_way i && is_none ((m.place i).symbols)) in
         let levels : length new.open_values ≡ endings o.place.symbols = levels_are nodes new m.stands ∙ (λ i. endings ((m.place i).symbols)) in
@@ -300,7 +300,7 @@ module _ (nodes : List Node) where
 
   -- ---- a call
 
-  module _ (old : State) (p : Progress) (under_way : is_under_way old ≡ true) (stands : Stands nodes old) (joined : Joined nodes old p) (b input : List ℕ) (come : HaveCome b old.under p.seen) where
+  module _ (old : CellState) (p : FieldState) (under_way : is_under_way old ≡ true) (stands : Stands nodes old) (joined : Joined nodes old p) (b input : List ℕ) (come : HaveCome b old.under p.seen) where
     abbrev outcome : Outcome
     outcome = decided old.rules (place nodes old) b input p.content
 
@@ -320,7 +320,7 @@ module _ (nodes : List Node) where
         let is : is_done old ≡ (true && is_none here.symbols) = rw under_way at (done_are nodes old stands) in
         sym is ∙ e
 
-    module _ (new : State) (q : Progress) where
+    module _ (new : CellState) (q : FieldState) where
       done_meets : is_done old ≡ true → new ≡ ended old → q.under_way ≡ false → q.content ≡ p.content → q.room ≡ p.room → Meets old.rules p.room outcome Done new q
       done_meets done goes idle same room =
           rw (decided_done here b input p.content here.symbols said (none_left done), goes) (record { answer = refl; under_way = refl; place = refl; come = refl; field = idle; bytes = rw idle refl; buffer = same; stands = ended_stands nodes old stands; rules = refl; room = room })
@@ -358,11 +358,11 @@ module _ (nodes : List Node) where
       ]
 
       item_meets : (at used : ℕ) (e : CellEvent) (x : Emitted CellEvent CellPlace) → is_done old ≡ false → said ≡ Got x (length b + used) → x.at ≡ at → x.event ≡ e → x.after (length b + used) ≡ place nodes new → is_under_way new ≡ true
-          → new.under ≡ under.Nothing → q.under_way ≡ false → Keeps p input used e q → Stands nodes new → new.rules ≡ old.rules → q.room ≡ p.room → Meets old.rules p.room outcome (Item at used e) new q
+          → new.under ≡ under.Nothing → q.under_way ≡ false → Keeps p input used e q → Stands nodes new → new.rules ≡ old.rules → q.room ≡ p.room → Meets old.rules p.room outcome (FieldOutline at used e) new q
       item_meets at used e x more is begins event after going fresh idle keeps s rules room =
           rw (decided_item here b input p.content here.symbols said x used (some_left more) is)
           (record {
-            answer = λ i. Item (sym begins i) used (sym event i);
+            answer = λ i. FieldOutline (sym begins i) used (sym event i);
             under_way = going;
             place = sym after;
             come = rw fresh refl;
@@ -380,13 +380,13 @@ module _ (nodes : List Node) where
       advance_meets (advance.More used) m a empty =
           let w = m b come in
           let same = w.0.same in
-          more_meets used w.0.all (is_not_done old a.1) (sym (told_is nodes old (b ++ input)) ∙ w.0.is) (ap is_under_way same ∙ under_way) (ap (place nodes) same) w.1 w.0.under_way w.0.joined w.0.kept (rw same (stands_under nodes old new.under stands)) (ap (λ (d : State). d.rules) same) w.0.longest
+          more_meets used w.0.all (is_not_done old a.1) (sym (told_is nodes old (b ++ input)) ∙ w.0.is) (ap is_under_way same ∙ under_way) (ap (place nodes) same) w.1 w.0.under_way w.0.joined w.0.kept (rw same (stands_under nodes old new.under stands)) (ap (λ (d : CellState). d.rules) same) w.0.longest
       advance_meets (advance.Item at used i) m a empty =
           let h = m b come in
           item_meets at used (event_at i input q.content) h.emits.x (is_not_done old a.1) (sym (told_is nodes old (b ++ input)) ∙ h.emits.is) h.emits.offset h.emits.event h.emits.after h.goes_on h.fresh h.idle (keeps nodes p q input used i h.can_lend h.lent h.kept empty) h.stands h.rules h.longest
       advance_meets advance.Done m a empty =
           let idle : p.under_way ≡ false = rw m.1 at joined.under_way in
-          done_meets (is_over_done old under_way m.0) m.2 (rw m.3 idle) (ap (λ (z : Progress). z.content) m.3) (ap (λ (z : Progress). z.room) m.3)
+          done_meets (is_over_done old under_way m.0) m.2 (rw m.3 idle) (ap (λ (z : FieldState). z.content) m.3) (ap (λ (z : FieldState). z.room) m.3)
       advance_meets (advance.Refused r) m a empty =
           let f = m b come in
           bad_meets r (is_not_done old a) (sym (told_is nodes old (b ++ input)) ∙ f.is) f.ends f.idle (empty refl) f.longest
@@ -417,7 +417,7 @@ module _ (nodes : List Node) where
             let all : (b ++ t) ++ drop used input ≡ b ++ input = append_assoc b t (drop used input) ∙ ap (λ (z : List ℕ). b ++ z) (take-append-drop used input) in
             let whole : one.0 ≡ length b + used = omega (arith, stays.1, ap length one.3.1, length-drop one.0 (b ++ t), length-append b t, long) in
             item_meets at used (event_of e) x u.1 (rw (all, whole) at stays.0) refl refl (rw whole at (sym one.3.0)) k.0 fresh (rw fresh at h.serves.0.under_way) h.serves.2 k.2 k.1 h.longest
-        push_meets push.Done u k h = done_meets u k h.serves.1 (ap (λ (z : Progress). z.content) h.serves.0) h.longest
+        push_meets push.Done u k h = done_meets u k h.serves.1 (ap (λ (z : FieldState). z.content) h.serves.0) h.longest
         push_meets (push.Refused r) u k h =
             let g = h.leads start s es after in
             let same = run_same (cell_step old.rules) start here here (s ++ input) (b ++ input) g.0 es (runs_stay (cell_step old.rules) start s input es here b run) g.1 in
@@ -425,7 +425,7 @@ module _ (nodes : List Node) where
 
   -- ---- two calls
 
-  moved_to : (l l' : Rules) (n n' : ℕ) (at at' : CellPlace) (b b' held held' input : List ℕ) (x : Answer) (new : State) (q : Progress) → l ≡ l' → n ≡ n' → at ≡ at' → b ≡ b' → held ≡ held' → Meets l n (decided l at b input held) x new q → Meets l' n' (decided l' at' b' input held') x new q
+  moved_to : (l l' : Rules) (n n' : ℕ) (at at' : CellPlace) (b b' held held' input : List ℕ) (x : Answer) (new : CellState) (q : FieldState) → l ≡ l' → n ≡ n' → at ≡ at' → b ≡ b' → held ≡ held' → Meets l n (decided l at b input held) x new q → Meets l' n' (decided l' at' b' input held') x new q
   moved_to l l' n n' at at' b b' held held' input x new q el en ea eb eh m = rw (← el, ← en, ← ea, ← eb, ← eh) m
 
   -- after the same bytes and events, two readers stand at the same place, and the same bytes have come

@@ -3,18 +3,18 @@ use Rattle.std.proofs.Common.{◌≡◌, ℕ, ◌+◌, ◌-◌, ◌^◌, ◌<◌
 use Rattle.std.proofs.lemmas.Bool.{leb-true, leb-false, lt-leb}
 use Rattle.std.proofs.lemmas.List.{length-take-le}
 use Rattle.cqlp_note.specs.Reader.{More, says}
-use Rattle.cqlp_note.specs.Partial.{Progress}
+use Rattle.cqlp_note.specs.Partial.{FieldState}
 use Rattle.cqlp_type.specs.declared.node.Node.{Node}
 use Rattle.cqlp_value.specs.declared.gather.Found.{Found}
-use Rattle.cqlp_value.specs.declared.item.CellOutline.TheVariants as outline
+use Rattle.cqlp_value.specs.declared.advance.CellOutline.TheVariants as outline
 use Rattle.cqlp_value.specs.declared.size.Sized.TheVariants as size
-use Rattle.cqlp_value.specs.declared.standing.Next.TheVariants as next
+use Rattle.cqlp_value.specs.declared.standing.NextInCell.TheVariants as next
 use Rattle.cqlp_value.specs.declared.standing.Under.TheVariants as under
-use Rattle.cqlp_value.specs.declared.standing.Due.TheVariants as due
+use Rattle.cqlp_value.specs.declared.standing.CellDue.TheVariants as due
 use Rattle.cqlp_value.specs.CellStep.{Content_from, Part, place_after}
 use Rattle.cqlp_value.specs.Items.{content_at}
 use Rattle.cqlp_value.specs.Gathering.{IsGathering, seen_before, Wants, Finds}
-use Rattle.cqlp_value.specs.Standing.{State, is_some_next, levels_symbols, place, moved, rest_of, due_of, last_stop, Stands}
+use Rattle.cqlp_value.specs.Standing.{CellState, is_some_next, levels_symbols, place, moved, rest_of, due_of, last_stop, Stands}
 use Rattle.cqlp_value.specs.Reading.{told, sized_of, Decided, part_size, next_behind, IsBehind, Emits, Hands, Waits, Behind, HaveCome}
 use Rattle.cqlp_value.proofs.Opened.{last_stop_le}
 use Rattle.cqlp_value.proofs.Coming.{value_due, part_is}
@@ -22,7 +22,7 @@ use Rattle.cqlp_value.proofs.Handing.{same_decided}
 
 -- ---- the first part
 
-module _ (nodes : List Node) (d : State) (same : d.rules.part ≡ d.rules.cell) (total : ℕ) (decided : Decided nodes d total (size.Parts total)) where
+module _ (nodes : List Node) (d : CellState) (same : d.rules.part ≡ d.rules.cell) (total : ℕ) (decided : Decided nodes d total (size.Parts total)) where
   first_size : min d.rules.cell (total - 0) ≡ d.rules.cell
   first_size = omega (arith, decided.can.1)
 
@@ -35,7 +35,7 @@ module _ (nodes : List Node) (d : State) (same : d.rules.part ≡ d.rules.cell) 
   pub first_short : (x : List ℕ) → length x < d.rules.cell → says (sized_of nodes d total) 4 x ≡ More
   first_short x lt = rw (decided.is, same, first_size, lt-ltb (length x) d.rules.cell lt) refl
 
-  abbrev first_behind : State
+  abbrev first_behind : CellState
   first_behind = record (moved nodes d (4 + d.rules.cell)) { next = next.Part d.rules.cell total }
 
   first_got : (x : List ℕ) → Stands nodes d → due_of d ≡ due.Value → d.rules.cell ≤ length x → Emits nodes (says (sized_of nodes d total) 4 x) (d.offset + 4) (4 + d.rules.cell) (Part (length d.open_values) 0 (take d.rules.cell x) false) first_behind
@@ -55,7 +55,7 @@ module _ (nodes : List Node) (d : State) (same : d.rules.part ≡ d.rules.cell) 
       let due = value_due nodes d s v in
       record { open_stand = due.after; within = rw due.ends (omega (arith, decided.fits.0, due.inside, decided.can.1)); next_stands = (decided.can.1, some); bounded = s.bounded }
 
-  pub first_waits : (p q : Progress) (input bytes : List ℕ) → due_of d ≡ due.Value → d.rules.cell ≤ p.room → Wants d.rules.cell (d.offset + 4) bytes p q
+  pub first_waits : (p q : FieldState) (input bytes : List ℕ) → due_of d ≡ due.Value → d.rules.cell ≤ p.room → Wants d.rules.cell (d.offset + 4) bytes p q
       → Waits nodes d p input (says (sized_of nodes d total) 4 bytes) (length input) (record d { under = under.First total }) q × Behind total bytes (under.First total) q.seen
   first_waits p q input bytes v longest wants = (
     record {
@@ -70,7 +70,7 @@ module _ (nodes : List Node) (d : State) (same : d.rules.part ≡ d.rules.cell) 
     (refl, wants.seen, decided.fits.1),
   )
 
-  pub first_hands : (start : ℕ) (p q : Progress) (seen input : List ℕ) (f : Found) (new : State) (level : ℕ) → Stands nodes d → due_of d ≡ due.Value → 0 < d.rules.cell → start ≤ 4 → length seen < start + d.rules.cell → Finds d.rules.cell start seen (seen ++ drop start input) input f p q
+  pub first_hands : (start : ℕ) (p q : FieldState) (seen input : List ℕ) (f : Found) (new : CellState) (level : ℕ) → Stands nodes d → due_of d ≡ due.Value → 0 < d.rules.cell → start ≤ 4 → length seen < start + d.rules.cell → Finds d.rules.cell start seen (seen ++ drop start input) input f p q
       → (f.used < d.rules.cell → (p.under_way ≡ true) × (q.content ≡ p.seen ++ take f.used input)) → new ≡ first_behind → level ≡ length d.open_values
       → Hands nodes d p input (says (sized_of nodes d total) 4 (seen ++ drop start input)) ((4 - start) + length seen) (d.offset + 4) f.used (outline.Part level 0 f.content false) new q
   first_hands start p q seen input f new level s v some front more found kept goes at =
@@ -99,7 +99,7 @@ module _ (nodes : List Node) (d : State) (same : d.rules.part ≡ d.rules.cell) 
 
 -- ---- a later part
 
-module _ (nodes : List Node) (d : State) (same : d.rules.part ≡ d.rules.cell) (offset total : ℕ) (here : d.next ≡ next.Part offset total) (stands : Stands nodes d) where
+module _ (nodes : List Node) (d : CellState) (same : d.rules.part ≡ d.rules.cell) (offset total : ℕ) (here : d.next ≡ next.Part offset total) (stands : Stands nodes d) where
   part_stands : (offset < total) × (0 < d.rules.cell)
   part_stands = rw here at stands.next_stands
 
@@ -115,7 +115,7 @@ module _ (nodes : List Node) (d : State) (same : d.rules.part ≡ d.rules.cell) 
   abbrev is_last : Bool
   is_last = leb (total - offset) d.rules.cell
 
-  abbrev behind : State
+  abbrev behind : CellState
   behind = record d { offset = d.offset + its_size; next = next_behind is_last (offset + its_size) total; under = under.Nothing }
 
   later_short : (x : List ℕ) → length x < its_size → told nodes d x ≡ More
@@ -147,7 +147,7 @@ module _ (nodes : List Node) (d : State) (same : d.rules.part ≡ d.rules.cell) 
       let lt : d.rules.cell < total - offset = leb-false _ _ e in
       record { open_stand = stands.open_stand; within = omega (arith, part_within); next_stands = (omega (arith, part_stands.0), part_stands.1); bounded = stands.bounded }
 
-  pub later_waits : (p q : Progress) (input bytes : List ℕ) → d.rules.cell ≤ p.room → Wants its_size d.offset bytes p q
+  pub later_waits : (p q : FieldState) (input bytes : List ℕ) → d.rules.cell ≤ p.room → Wants its_size d.offset bytes p q
       → Waits nodes d p input (told nodes d bytes) (length input) (record d { under = under.Later }) q × HaveCome bytes under.Later q.seen
   later_waits p q input bytes longest wants = (
     record {
@@ -167,7 +167,7 @@ module _ (nodes : List Node) (d : State) (same : d.rules.part ≡ d.rules.cell) 
   is_behind false = tt
 
   -- some bytes of it are still wanted
-  pub still_wanted : (begun : Bool) (p : Progress) → IsGathering begun its_size d.offset 0 p → length (seen_before begun p) < its_size
+  pub still_wanted : (begun : Bool) (p : FieldState) → IsGathering begun its_size d.offset 0 p → length (seen_before begun p) < its_size
   still_wanted true p h = h.3
   still_wanted false p h = omega (arith, part_stands)
 
@@ -175,7 +175,7 @@ module _ (nodes : List Node) (d : State) (same : d.rules.part ≡ d.rules.cell) 
   goes_on_behind true = refl
   goes_on_behind false = refl
 
-  pub later_hands : (p q : Progress) (seen input : List ℕ) (f : Found) (new : State) (level : ℕ) (last : Bool) → length seen < its_size → Finds its_size 0 seen (seen ++ input) input f p q
+  pub later_hands : (p q : FieldState) (seen input : List ℕ) (f : Found) (new : CellState) (level : ℕ) (last : Bool) → length seen < its_size → Finds its_size 0 seen (seen ++ input) input f p q
       → (f.used < its_size → (p.under_way ≡ true) × (q.content ≡ p.seen ++ take f.used input)) → last ≡ is_last → new ≡ record d { offset = d.offset + its_size; next = next_behind last (offset + its_size) total; under = under.Nothing } → level ≡ length d.open_values
       → Hands nodes d p input (told nodes d (seen ++ input)) (length seen) d.offset f.used (outline.Part level offset f.content last) new q
   later_hands p q seen input f new level last more found kept ends goes at =

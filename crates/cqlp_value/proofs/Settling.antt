@@ -3,16 +3,16 @@ use Rattle.std.proofs.Common.{◌≡◌, ℕ, ◌+◌, ◌-◌, ◌*◌, ◌^◌
 use Rattle.std.proofs.lemmas.List.{length-append}
 use Rattle.cqlp_note.specs.declared.refusal.Reason.{Reason}
 use Rattle.cqlp_note.specs.Reader.{says}
-use Rattle.cqlp_note.specs.Partial.{Progress}
+use Rattle.cqlp_note.specs.Partial.{FieldState}
 use Rattle.cqlp_type.specs.declared.node.Node.{Node}
-use Rattle.cqlp_value.specs.declared.item.CellOutline.TheVariants as outline
+use Rattle.cqlp_value.specs.declared.advance.CellOutline.TheVariants as outline
 use Rattle.cqlp_value.specs.declared.size.Sized.{Sized}
 use Rattle.cqlp_value.specs.declared.size.Sized.TheVariants as size
-use Rattle.cqlp_value.specs.declared.standing.Due.TheVariants as due
-use Rattle.cqlp_value.specs.declared.standing.Value.{Value}
+use Rattle.cqlp_value.specs.declared.standing.CellDue.TheVariants as due
+use Rattle.cqlp_value.specs.declared.standing.DueValue.{DueValue}
 use Rattle.cqlp_value.specs.CellStep.{CellSymbol, Null, Empty, Enter, Items_of, place_after}
 use Rattle.cqlp_value.specs.Sizes.{IsSized}
-use Rattle.cqlp_value.specs.Standing.{State, ended, place, due_value, open_after, moved, rest_of, due_of, Stands}
+use Rattle.cqlp_value.specs.Standing.{CellState, ended, place, due_value, open_after, moved, rest_of, due_of, Stands}
 use Rattle.cqlp_value.specs.Coming.{inner_of, room_of}
 use Rattle.cqlp_value.specs.Reading.{fields_open, sized_of, Decided, Emits, Hands, Fails, EntersFields}
 use Rattle.cqlp_value.proofs.Coming.{value_due}
@@ -20,17 +20,17 @@ use Rattle.cqlp_value.proofs.Handing.{moved_stands}
 use Rattle.cqlp_value.proofs.Entering.{fields_due, fields_inner, entered_symbols}
 
 -- what a value is by its length, it is where the reader stands
-pub is_decided : (nodes : List Node) (d : State) (n : ℕ) (s : Sized) → IsSized d.rules (due_value nodes d).kind (room_of nodes d) n s → Decided nodes d n s
+pub is_decided : (nodes : List Node) (d : CellState) (n : ℕ) (s : Sized) → IsSized d.rules (due_value nodes d).kind (room_of nodes d) n s → Decided nodes d n s
 unfolding sized_of
 is_decided nodes d n s h = record { is = h.is (place nodes d) (rest_of nodes d) (inner_of nodes (due_value nodes d)) (length d.open_values); can = h.can; fits = h.fits }
 
-pub value_decided : (nodes : List Node) (d : State) (v : Value) (n : ℕ) (s : Sized) → v ≡ due_value nodes d → IsSized d.rules v.kind (v.stop - d.offset) n s → Decided nodes d n s
+pub value_decided : (nodes : List Node) (d : CellState) (v : DueValue) (n : ℕ) (s : Sized) → v ≡ due_value nodes d → IsSized d.rules v.kind (v.stop - d.offset) n s → Decided nodes d n s
 value_decided nodes d v n s e h = is_decided nodes d n s (rw e at h)
 
 -- ---- what a length alone decides
 
-module _ (nodes : List Node) (d : State) (n : ℕ) (x : List ℕ) where
-  pub refused_fails : (why : Reason) (p q : Progress) (new : State) → Decided nodes d n (size.Refused why) → new ≡ ended d → q.under_way ≡ false → q.room ≡ p.room → Fails nodes d p (says (sized_of nodes d n) 4 x) (record { at = d.offset; why = why }) new q
+module _ (nodes : List Node) (d : CellState) (n : ℕ) (x : List ℕ) where
+  pub refused_fails : (why : Reason) (p q : FieldState) (new : CellState) → Decided nodes d n (size.Refused why) → new ≡ ended d → q.under_way ≡ false → q.room ≡ p.room → Fails nodes d p (says (sized_of nodes d n) 4 x) (record { at = d.offset; why = why }) new q
   refused_fails why p q new h goes idle room = record { is = rw h.is refl; ends = goes; idle = idle; longest = room }
 
   null_got : Decided nodes d n size.Null → Emits nodes (says (sized_of nodes d n) 4 x) d.offset 4 (Null (length d.open_values)) (moved nodes d 4)
@@ -51,7 +51,7 @@ module _ (nodes : List Node) (d : State) (n : ℕ) (x : List ℕ) where
     after = refl;
   }
 
-module _ (nodes : List Node) (d new : State) (n start : ℕ) (p q : Progress) (input : List ℕ) (s : Stands nodes d) (v : due_of d ≡ due.Value) (room : 4 ≤ room_of nodes d) (within : start ≤ length input) (front : start ≤ 4) (some : 0 < start)
+module _ (nodes : List Node) (d new : CellState) (n start : ℕ) (p q : FieldState) (input : List ℕ) (s : Stands nodes d) (v : due_of d ≡ due.Value) (room : 4 ≤ room_of nodes d) (within : start ≤ length input) (front : start ≤ 4) (some : 0 < start)
     (idle : q.under_way ≡ false) (longest : q.room ≡ p.room) where
   abbrev said_of : List ℕ
   said_of = [] ++ drop start input

@@ -2,28 +2,28 @@
 use Rattle.std.specs.Prelude.{◌≡◌, ℕ, ◌+◌, ◌-◌, ◌^◌, ◌<◌, ◌≤◌, false, List, length}
 use Rattle.cqlp_type.specs.declared.node.Node.{Node}
 use Rattle.cqlp_type.specs.Types.{Types, has_no_items}
-use Rattle.cqlp_value.specs.declared.standing.Value.{Value}
+use Rattle.cqlp_value.specs.declared.standing.DueValue.{DueValue}
 use Rattle.cqlp_value.specs.CellStep.{cell_step, value_step}
 use Rattle.cqlp_value.specs.Inner.{types_at, HasInner, Stand}
-use Rattle.cqlp_value.specs.Standing.{State, place, due_value, open_after, rest_of, AreOpen, last_stop}
+use Rattle.cqlp_value.specs.Standing.{CellState, place, due_value, open_after, rest_of, AreOpen, last_stop}
 
 -- the types in a value
-abbrev pub inner_of : List Node → Value → Types
+abbrev pub inner_of : List Node → DueValue → Types
 inner_of nodes v = types_at nodes (v.node + 1) v.arity
 
 -- the bytes from here to the end of the value around the next one
-abbrev pub room_of : List Node → State → ℕ
+abbrev pub room_of : List Node → CellState → ℕ
 room_of nodes d = (due_value nodes d).stop - d.offset
 
 -- The types in the value that comes next stand in the table, and it can be opened.
-pub record InnerDue (nodes : List Node) (d : State) : Type 0 where
+pub record InnerDue (nodes : List Node) (d : CellState) : Type 0 where
   pub formed : HasInner (due_value nodes d).kind (due_value nodes d).arity
   pub stands : Stand nodes ((due_value nodes d).node + 1) (due_value nodes d).arity (d.rules.depth - (length d.open_values + 1))
   pub deep : length d.open_values < d.rules.depth
   pub there : (due_value nodes d).node < length nodes
 
 -- A value comes next.
-pub record ValueDue (nodes : List Node) (d : State) : Type 0 where
+pub record ValueDue (nodes : List Node) (d : CellState) : Type 0 where
   pub step : cell_step d.rules (place nodes d) ≡ value_step d.rules (place nodes d) (rest_of nodes d) (due_value nodes d).kind (inner_of nodes (due_value nodes d)) (length d.open_values) (room_of nodes d)
   pub inside : d.offset ≤ (due_value nodes d).stop
   pub inner : has_no_items (due_value nodes d).kind ≡ false → InnerDue nodes d

@@ -4,7 +4,7 @@ use Rattle.cqlp_note.specs.Reader.{Got, says}
 use Rattle.cqlp_note.specs.Limits.{Rules}
 use Rattle.cqlp_type.specs.declared.kind.Kind.{Kind}
 use Rattle.cqlp_type.specs.Types.{Types}
-use Rattle.cqlp_value.specs.declared.front.Front.{Front}
+use Rattle.cqlp_value.specs.declared.front.FrontScalar.{FrontScalar}
 use Rattle.cqlp_value.specs.Scalars.{ScalarValue}
 use Rattle.cqlp_value.specs.Contents.{value_of}
 use Rattle.cqlp_value.specs.CellStep.{CellSymbol, CellPlace, Leaf, place_after, value_step}
@@ -17,6 +17,6 @@ pub record SaysScalar (l : Rules) (k : Kind) (room : ℕ) (input : List ℕ) (us
   pub some : 0 < used
 
 -- A scalar at the front of the input, and just where these bytes say one.
-abbrev pub IsFront : Rules → Kind → (room : ℕ) → (input : List ℕ) → Option Front → Type 0
+abbrev pub IsFront : Rules → Kind → (room : ℕ) → (input : List ℕ) → Option FrontScalar → Type 0
 IsFront l k room input None = (used : ℕ) (v : ScalarValue) → ¬ (SaysScalar l k room input used v)
 IsFront l k room input (Some f) = SaysScalar l k room input f.used (value_of f.scalar)

@@ -1,13 +1,13 @@
 -- What is handed out of a cell.
 use Rattle.std.specs.Prelude.{◌≡◌, ℕ, true, List, [], length, Option, Some, None, is_some, ⊤}
-use Rattle.cqlp_note.specs.declared.taken.Item.{Item}
+use Rattle.cqlp_note.specs.declared.advance.FieldOutline.{FieldOutline}
 use Rattle.cqlp_note.specs.Field.{FieldValue, Bytes}
 use Rattle.cqlp_note.specs.Partial as partial
 use Rattle.cqlp_note.specs.Partial.{item_value}
 use Rattle.cqlp_value.specs.declared.item.CellItem.{CellItem}
 use Rattle.cqlp_value.specs.declared.item.CellItem.TheVariants as lent
-use Rattle.cqlp_value.specs.declared.item.CellOutline.{CellOutline}
-use Rattle.cqlp_value.specs.declared.item.CellOutline.TheVariants as outline
+use Rattle.cqlp_value.specs.declared.advance.CellOutline.{CellOutline}
+use Rattle.cqlp_value.specs.declared.advance.CellOutline.TheVariants as outline
 use Rattle.cqlp_value.specs.Scalars.{ScalarValue, allows_size, content_size, scalar_of}
 use Rattle.cqlp_value.specs.Contents.{value_of}
 use Rattle.cqlp_value.specs.CellStep.{CellEvent, Leaf, Null, Empty, Enter, Leave, Part}
@@ -18,11 +18,11 @@ bytes_in (Bytes (Some c)) = c
 bytes_in _ = []
 
 -- these bytes lie there
-abbrev pub LieAt : Item → (input buffer : List ℕ) → Type 0
+abbrev pub LieAt : FieldOutline → (input buffer : List ℕ) → Type 0
 LieAt i input buffer = partial.CanLend i input buffer × (item_value i input buffer ≡ Bytes (Some (bytes_in (item_value i input buffer))))
 
 -- the bytes that lie there
-abbrev pub content_at : Item → (input buffer : List ℕ) → List ℕ
+abbrev pub content_at : FieldOutline → (input buffer : List ℕ) → List ℕ
 content_at i input buffer = bytes_in (item_value i input buffer)
 
 -- a scalar, if it is one

@@ -3,21 +3,21 @@ use Rattle.std.specs.Prelude.{◌≡◌, ℕ, ◌+◌, ◌≤◌, Bool, true, Li
 use Rattle.cqlp_note.specs.declared.refusal.Refusal.{Refusal}
 use Rattle.cqlp_note.specs.Step.{Runs}
 use Rattle.cqlp_note.specs.Limits.{Rules}
-use Rattle.cqlp_note.specs.Partial.{Progress}
+use Rattle.cqlp_note.specs.Partial.{FieldState}
 use Rattle.cqlp_type.specs.declared.kind.Kind.{Kind}
 use Rattle.cqlp_type.specs.declared.node.Node.{Node}
 use Rattle.cqlp_type.specs.Types.{Types}
-use Rattle.cqlp_value.specs.declared.item.CellAdvance.{CellAdvance}
-use Rattle.cqlp_value.specs.declared.item.CellAdvance.TheVariants as advance
+use Rattle.cqlp_value.specs.declared.advance.CellAdvance.{CellAdvance}
+use Rattle.cqlp_value.specs.declared.advance.CellAdvance.TheVariants as advance
 use Rattle.cqlp_value.specs.declared.item.CellPush.{CellPush}
 use Rattle.cqlp_value.specs.declared.item.CellPush.TheVariants as push
 use Rattle.cqlp_value.specs.CellStep.{Value_of, CellEvent, CellPlace, cell_step}
 use Rattle.cqlp_value.specs.Values.{Values, ValueSpells, values_size, values_items, AreWithin}
-use Rattle.cqlp_value.specs.declared.front.Front.{Front}
+use Rattle.cqlp_value.specs.declared.front.FrontScalar.{FrontScalar}
 use Rattle.cqlp_value.specs.Contents.{value_of}
 use Rattle.cqlp_value.specs.Fronts.{IsFront}
 use Rattle.cqlp_value.specs.Items.{event_at, event_of}
-use Rattle.cqlp_value.specs.Standing.{State, Stands, is_under_way, place}
+use Rattle.cqlp_value.specs.Standing.{CellState, Stands, is_under_way, place}
 use Rattle.cqlp_value.specs.Reading.{Answers, Empties, HaveCome, Joined, Moves}
 use Rattle.cqlp_value.specs.Pushing.{After, Continues, Pushes, Uses, is_done}
 
@@ -48,30 +48,30 @@ OneSpelled = (k : Kind) (inner : Types) (v w : Values) (b : List ℕ) → ValueS
 -- What a call says of a cell, a content as bytes.
 pub data Answer : Type 0 where
   More : (used : ℕ) → Answer
-  Item : (at used : ℕ) → CellEvent → Answer
+  FieldOutline : (at used : ℕ) → CellEvent → Answer
   Done : Answer
   Refused : Refusal → Answer
 
 abbrev pub push_answer : CellPush → Answer
 push_answer (push.More used) = More used
-push_answer (push.Item at used e) = Item at used (event_of e)
+push_answer (push.Item at used e) = FieldOutline at used (event_of e)
 push_answer push.Done = Done
 push_answer (push.Refused r) = Refused r
 
 -- the same of `advance`, whose content lies in this input or this buffer
 abbrev pub advance_answer : (input buffer : List ℕ) → CellAdvance → Answer
 advance_answer input buffer (advance.More used) = More used
-advance_answer input buffer (advance.Item at used i) = Item at used (event_at i input buffer)
+advance_answer input buffer (advance.Item at used i) = FieldOutline at used (event_at i input buffer)
 advance_answer input buffer advance.Done = Done
 advance_answer input buffer (advance.Refused r) = Refused r
 
 -- A call: the reader and the `Partial` before it, its answer, and the two after it.
 pub record Call (X : Type 0) : Type 0 where
-  pub reader : State
-  pub partial : Progress
+  pub reader : CellState
+  pub partial : FieldState
   pub answer : X
-  pub reader' : State
-  pub partial' : Progress
+  pub reader' : CellState
+  pub partial' : FieldState
 
 module _ (nodes : List Node) where
   -- What later calls see of a reader and its `Partial`: the limits; whether a cell is under way, and whether nothing of
@@ -88,7 +88,7 @@ module _ (nodes : List Node) where
     pub room : ℕ
     pub buffer : List ℕ
 
-  abbrev pub seen : State → Progress → Seen
+  abbrev pub seen : CellState → FieldState → Seen
   seen d p = record {
     rules = d.rules;
     under_way = is_under_way d;
@@ -152,11 +152,11 @@ OneAnswerOfAdvance = (nodes : List Node) (start : CellPlace) (s : List ℕ) (es 
     → (advance_answer input c.partial'.content c.answer ≡ advance_answer input d.partial'.content d.answer) × LeaveAlike nodes c d
 
 -- the same bytes used, and the same scalar
-abbrev pub AreSameFront : Option Front → Option Front → Type 0
+abbrev pub AreSameFront : Option FrontScalar → Option FrontScalar → Type 0
 AreSameFront None None = ⊤
 AreSameFront (Some f) (Some g) = (f.used ≡ g.used) × (value_of f.scalar ≡ value_of g.scalar)
 AreSameFront a b = ⊥
 
 -- Of the same input `front_scalar` gives the same scalar, or none.
 abbrev pub OneAnswerOfFrontScalar : Type 0
-OneAnswerOfFrontScalar = (l : Rules) (k : Kind) (room : ℕ) (input : List ℕ) (a b : Option Front) → IsFront l k room input a → IsFront l k room input b → AreSameFront a b
+OneAnswerOfFrontScalar = (l : Rules) (k : Kind) (room : ℕ) (input : List ℕ) (a b : Option FrontScalar) → IsFront l k room input a → IsFront l k room input b → AreSameFront a b

@@ -1,25 +1,25 @@
 -- The values around the one that is read.
 use Rattle.std.specs.Prelude.{ℕ, List, [], ◌∷◌, Option, Some, None}
-use Rattle.cqlp_value.specs.declared.levels.Open.{Open}
+use Rattle.cqlp_value.specs.declared.open_values.OpenValue.{OpenValue}
 
 -- The open values, the outermost first, and how many there can be.
 pub record Nest : Type 0 where
-  pub open_values : List Open
+  pub open_values : List OpenValue
   pub room : ℕ
 
 -- the innermost
-abbrev pub last_open : List Open → Option Open
+abbrev pub last_open : List OpenValue → Option OpenValue
 last_open [] = None
 last_open (o ∷ []) = Some o
 last_open (o ∷ p ∷ os) = last_open (p ∷ os)
 
-abbrev pub but_last : List Open → List Open
+abbrev pub but_last : List OpenValue → List OpenValue
 but_last [] = []
 but_last (o ∷ []) = []
 but_last (o ∷ p ∷ os) = o ∷ but_last (p ∷ os)
 
 -- another in its place
-abbrev pub with_last : Open → List Open → List Open
+abbrev pub with_last : OpenValue → List OpenValue → List OpenValue
 with_last x [] = []
 with_last x (o ∷ []) = x ∷ []
 with_last x (o ∷ p ∷ os) = o ∷ with_last x (p ∷ os)

@@ -5,32 +5,32 @@ use Rattle.cqlp_note.specs.declared.refusal.Reason.{Reason}
 use Rattle.cqlp_note.specs.declared.refusal.Refusal.{Refusal}
 use Rattle.cqlp_note.specs.Reader.{Said, More, Bad, Got, says}
 use Rattle.cqlp_note.specs.Step.{Step, Emitted}
-use Rattle.cqlp_note.specs.Partial.{Progress}
+use Rattle.cqlp_note.specs.Partial.{FieldState}
 use Rattle.cqlp_type.specs.declared.node.Node.{Node}
 use Rattle.cqlp_type.specs.declared.kind.Kind.{Kind}
 use Rattle.cqlp_type.specs.declared.kind.Kind.TheVariants as kind
-use Rattle.cqlp_value.specs.declared.item.CellOutline.{CellOutline}
-use Rattle.cqlp_value.specs.declared.item.CellOutline.TheVariants as outline
-use Rattle.cqlp_value.specs.declared.item.CellAdvance.{CellAdvance}
-use Rattle.cqlp_value.specs.declared.item.CellAdvance.TheVariants as advance
-use Rattle.cqlp_value.specs.declared.levels.Open.{Open}
-use Rattle.cqlp_value.specs.declared.levels.Order.{Order}
-use Rattle.cqlp_value.specs.declared.levels.Order.TheVariants as order
+use Rattle.cqlp_value.specs.declared.advance.CellOutline.{CellOutline}
+use Rattle.cqlp_value.specs.declared.advance.CellOutline.TheVariants as outline
+use Rattle.cqlp_value.specs.declared.advance.CellAdvance.{CellAdvance}
+use Rattle.cqlp_value.specs.declared.advance.CellAdvance.TheVariants as advance
+use Rattle.cqlp_value.specs.declared.open_values.OpenValue.{OpenValue}
+use Rattle.cqlp_value.specs.declared.open_values.Order.{Order}
+use Rattle.cqlp_value.specs.declared.open_values.Order.TheVariants as order
 use Rattle.cqlp_value.specs.declared.size.Sized.{Sized}
 use Rattle.cqlp_value.specs.declared.size.Sized.TheVariants as size
-use Rattle.cqlp_value.specs.declared.standing.Next.{Next}
-use Rattle.cqlp_value.specs.declared.standing.Next.TheVariants as next
+use Rattle.cqlp_value.specs.declared.standing.NextInCell.{NextInCell}
+use Rattle.cqlp_value.specs.declared.standing.NextInCell.TheVariants as next
 use Rattle.cqlp_value.specs.declared.standing.Under.{Under}
 use Rattle.cqlp_value.specs.declared.standing.Under.TheVariants as under
-use Rattle.cqlp_value.specs.declared.standing.Due.TheVariants as due
-use Rattle.cqlp_value.specs.declared.standing.Value.{Value}
+use Rattle.cqlp_value.specs.declared.standing.CellDue.TheVariants as due
+use Rattle.cqlp_value.specs.declared.standing.DueValue.{DueValue}
 use Rattle.cqlp_value.specs.Inner.{node_at, Stand}
 use Rattle.cqlp_value.specs.CellStep.{CellEvent, CellPlace, cell_step, sized_step}
 use Rattle.cqlp_value.specs.Items.{content_at, event_at, CanLend}
 use Rattle.cqlp_value.specs.Gathering.{IsGathering}
 use Rattle.cqlp_value.specs.Numbers.{IsCounting}
 use Rattle.cqlp_value.specs.Sizes.{sized_as, CanBe, HasRoom}
-use Rattle.cqlp_value.specs.Standing.{State, ended, is_under_way, place, due_value, moved, rest_of, due_of, Stands}
+use Rattle.cqlp_value.specs.Standing.{CellState, ended, is_under_way, place, due_value, moved, rest_of, due_of, Stands}
 use Rattle.cqlp_value.specs.Coming.{inner_of, room_of}
 
 -- what a step says
@@ -38,16 +38,16 @@ abbrev pub Saying : Type 0
 Saying = Said (Emitted CellEvent CellPlace) (ℕ × Reason)
 
 -- the bytes of the next part
-abbrev pub part_size : State → (offset total : ℕ) → ℕ
+abbrev pub part_size : CellState → (offset total : ℕ) → ℕ
 part_size d offset total = min d.rules.cell (total - offset)
 
 -- what is read behind a part
-abbrev pub next_behind : (last : Bool) → (offset total : ℕ) → Next
+abbrev pub next_behind : (last : Bool) → (offset total : ℕ) → NextInCell
 next_behind true offset total = next.Items
 next_behind false offset total = next.Part offset total
 
 -- behind an item: the open values are gone on with, or a long scalar is
-abbrev pub IsBehind : Next → Type 0
+abbrev pub IsBehind : NextInCell → Type 0
 IsBehind next.Nothing = ⊥
 IsBehind (next.Cell _) = ⊥
 IsBehind next.Items = ⊤
@@ -64,26 +64,26 @@ gathered under.Later seen = seen
 
 module _ (nodes : List Node) where
   -- what the next step says of these bytes
-  unfoldable pub told : State → List ℕ → Saying
+  unfoldable pub told : CellState → List ℕ → Saying
   told d bytes = says (cell_step d.rules (place nodes d)) 0 bytes
 
   -- how it goes on behind the length of the value that comes next, the number n
-  unfoldable pub sized_of : State → (n : ℕ) → Step CellEvent CellPlace
+  unfoldable pub sized_of : CellState → (n : ℕ) → Step CellEvent CellPlace
   sized_of d n = sized_step d.rules (place nodes d) (rest_of nodes d) (due_value nodes d).kind (inner_of nodes (due_value nodes d)) (length d.open_values) (room_of nodes d) n
 
   -- The value that comes next is this by its length.
-  pub record Decided (d : State) (n : ℕ) (s : Sized) : Type 0 where
+  pub record Decided (d : CellState) (n : ℕ) (s : Sized) : Type 0 where
     pub is : sized_of d n ≡ sized_as d.rules (place nodes d) (rest_of nodes d) (due_value nodes d).kind (inner_of nodes (due_value nodes d)) (length d.open_values) s
     pub can : CanBe d.rules (due_value nodes d).kind n s
     pub fits : HasRoom (room_of nodes d) n s
 
   -- ---- what has come of it
 
-  abbrev pub PartUnder : State → Progress → Next → Type 0
+  abbrev pub PartUnder : CellState → FieldState → NextInCell → Type 0
   PartUnder d p (next.Part offset total) = IsGathering true (part_size d offset total) d.offset 0 p
   PartUnder d p n = ⊥
 
-  abbrev pub UnderBy : State → Progress → Under → Type 0
+  abbrev pub UnderBy : CellState → FieldState → Under → Type 0
   UnderBy d p under.Nothing = p.under_way ≡ false
   UnderBy d p under.Length = (due_of d ≡ due.Value) × IsCounting true d.offset (room_of nodes d) 0 p
   UnderBy d p (under.Scalar n) = (due_of d ≡ due.Value) × IsGathering true n (d.offset + 4) 0 p × Decided d n (size.Scalar n)
@@ -92,14 +92,14 @@ module _ (nodes : List Node) where
   UnderBy d p under.Later = PartUnder d p d.next
 
   -- A `Partial` is what it is where the reader stands: it reads what the reader wants, or nothing.
-  pub record Joined (d : State) (p : Progress) : Type 0 where
+  pub record Joined (d : CellState) (p : FieldState) : Type 0 where
     pub longest : d.rules.cell ≤ p.room
     pub under_way : UnderBy d p d.under
 
   -- ---- what a call does
 
   -- A step says this event at this offset, of k bytes, and leads to where the reader stands.
-  pub record Emits (said : Saying) (at k : ℕ) (e : CellEvent) (new : State) : Type 0 where
+  pub record Emits (said : Saying) (at k : ℕ) (e : CellEvent) (new : CellState) : Type 0 where
     pub x : Emitted CellEvent CellPlace
     pub is : said ≡ Got x k
     pub offset : x.at ≡ at
@@ -113,14 +113,14 @@ module _ (nodes : List Node) where
   IsLent i input buffer used = ⊤
 
   -- where it does not, the buffer holds the content, which is what had come of it and the bytes used
-  abbrev pub IsKept : CellOutline → Progress → (input buffer : List ℕ) → (used : ℕ) → Type 0
+  abbrev pub IsKept : CellOutline → FieldState → (input buffer : List ℕ) → (used : ℕ) → Type 0
   IsKept (outline.Leaf level k i) p input buffer used = used < length (content_at i input buffer) → (p.under_way ≡ true) × (buffer ≡ p.seen ++ take used input)
   IsKept (outline.Part level offset i last) p input buffer used = used < length (content_at i input buffer) → (p.under_way ≡ true) × (buffer ≡ p.seen ++ take used input)
   IsKept i p input buffer used = ⊤
 
   -- The first `used` bytes of the input, with `base` bytes before it, end this item. It takes some of them, or it is the
   -- end of an open value.
-  pub record Hands (old : State) (p : Progress) (input : List ℕ) (said : Saying) (base at used : ℕ) (i : CellOutline) (new : State) (q : Progress) : Type 0 where
+  pub record Hands (old : CellState) (p : FieldState) (input : List ℕ) (said : Saying) (base at used : ℕ) (i : CellOutline) (new : CellState) (q : FieldState) : Type 0 where
     pub within : used ≤ length input
     pub emits : Emits said at (base + used) (event_at i input q.content) new
     pub can_lend : CanLend i input q.content
@@ -138,7 +138,7 @@ module _ (nodes : List Node) where
     pub longest : q.room ≡ p.room
 
   -- All of the input belongs to an item that goes on, in the `Partial`.
-  pub record Waits (old : State) (p : Progress) (input : List ℕ) (said : Saying) (used : ℕ) (new : State) (q : Progress) : Type 0 where
+  pub record Waits (old : CellState) (p : FieldState) (input : List ℕ) (said : Saying) (used : ℕ) (new : CellState) (q : FieldState) : Type 0 where
     pub all : used ≡ length input
     pub is : said ≡ More
     pub same : new ≡ record old { under = new.under }
@@ -148,14 +148,14 @@ module _ (nodes : List Node) where
     pub longest : q.room ≡ p.room
 
   -- The cell ends by this refusal.
-  pub record Fails (old : State) (p : Progress) (said : Saying) (r : Refusal) (new : State) (q : Progress) : Type 0 where
+  pub record Fails (old : CellState) (p : FieldState) (said : Saying) (r : Refusal) (new : CellState) (q : FieldState) : Type 0 where
     pub is : said ≡ Bad (r.at, r.why)
     pub ends : new ≡ ended old
     pub idle : q.under_way ≡ false
     pub longest : q.room ≡ p.room
 
   -- What a call does where a step says this, with W of what waits.
-  abbrev pub Settles : State → Progress → List ℕ → Saying → (base : ℕ) → (W : Under → List ℕ → Type 0) → CellAdvance → State → Progress → Type 0
+  abbrev pub Settles : CellState → FieldState → List ℕ → Saying → (base : ℕ) → (W : Under → List ℕ → Type 0) → CellAdvance → CellState → FieldState → Type 0
   Settles old p input said base W (advance.More used) new q = Waits old p input said used new q × W new.under q.seen
   Settles old p input said base W (advance.Item at used i) new q = Hands old p input said base at used i new q
   Settles old p input said base W advance.Done new q = ⊥
@@ -168,29 +168,29 @@ order_by kind.Map other = (order.Keys, other)
 order_by k other = (order.Elements, 0)
 
 -- how the items of a list, a set or a map follow one another, and the node of a map's second type
-abbrev pub inner_order : List Node → Value → Order × ℕ
+abbrev pub inner_order : List Node → DueValue → Order × ℕ
 inner_order nodes v = order_by v.kind (v.node + 1 + (node_at nodes (v.node + 1)).span)
 
-abbrev pub counted_open : List Node → Value → (stop count : ℕ) → Open
+abbrev pub counted_open : List Node → DueValue → (stop count : ℕ) → OpenValue
 counted_open nodes v stop count = record { order = (inner_order nodes v).0; node = v.node + 1; other = (inner_order nodes v).1; left = count; items = count; stop = stop }
 
-abbrev pub fields_open : Value → (stop : ℕ) → Open
+abbrev pub fields_open : DueValue → (stop : ℕ) → OpenValue
 fields_open v stop = record { order = order.Fields; node = v.node + 1; other = 0; left = v.arity; items = 0; stop = stop }
 
 -- the same with one more value open
-abbrev pub entered : State → Open → State
+abbrev pub entered : CellState → OpenValue → CellState
 entered d o = record d { open_values = d.open_values ++ o ∷ [] }
 
 -- A list, a set or a map of so many bytes is open, with so many elements or pairs.
-abbrev pub EntersCounted : List Node → State → (len count : ℕ) → State → Type 0
+abbrev pub EntersCounted : List Node → CellState → (len count : ℕ) → CellState → Type 0
 EntersCounted nodes old len count new = (new ≡ entered (moved nodes old 8) (counted_open nodes (due_value nodes old) (old.offset + 4 + len) count)) × Stands nodes new
 
 -- A tuple or a user-defined type of so many bytes is open.
-abbrev pub EntersFields : List Node → State → (len : ℕ) → State → Type 0
+abbrev pub EntersFields : List Node → CellState → (len : ℕ) → CellState → Type 0
 EntersFields nodes old len new = (new ≡ entered (moved nodes old 4) (fields_open (due_value nodes old) (old.offset + 4 + len))) × Stands nodes new
 
 -- the first inner type of a map stands in the table
-abbrev pub InnerStands : List Node → Value → Type 0
+abbrev pub InnerStands : List Node → DueValue → Type 0
 InnerStands nodes v = (v.kind ≡ kind.Map) → (depth : ℕ) × Stand nodes (v.node + 1) 2 depth
 
 -- the length that has come of the item under way
@@ -219,11 +219,11 @@ abbrev pub HaveCome : (bytes : List ℕ) → Under → (seen : List ℕ) → Typ
 HaveCome bytes u seen = AreBytes (length_under u) (seen_under u seen) bytes
 
 -- What the end of the innermost value does, whatever table and `Partial` there are.
-abbrev pub Closes : State → CellAdvance → State → Type 0
-Closes old a new = (nodes : List Node) (p : Progress) (input : List ℕ) → Stands nodes old → p.under_way ≡ false → Settles nodes old p input (told nodes old input) 0 (HaveCome input) a new p
+abbrev pub Closes : CellState → CellAdvance → CellState → Type 0
+Closes old a new = (nodes : List Node) (p : FieldState) (input : List ℕ) → Stands nodes old → p.under_way ≡ false → Settles nodes old p input (told nodes old input) 0 (HaveCome input) a new p
 
 -- A call ends a cell that is whole, or it does what the step says of the bytes that have come and the input.
-abbrev pub Moves : List Node → State → Progress → List ℕ → CellAdvance → State → Progress → Type 0
+abbrev pub Moves : List Node → CellState → FieldState → List ℕ → CellAdvance → CellState → FieldState → Type 0
 Moves nodes old p input advance.Done new q = (due_of old ≡ due.Nothing) × (old.under ≡ under.Nothing) × (new ≡ ended old) × (q ≡ p)
 Moves nodes old p input a new q = (b : List ℕ) → HaveCome b old.under p.seen → Settles nodes old p input (told nodes old (b ++ input)) (length b) (HaveCome (b ++ input)) a new q
 
@@ -240,12 +240,12 @@ has_none (advance.Refused r) = true
 has_none a = false
 
 -- After an item without a content, and after a refusal, the buffer is empty.
-abbrev pub Empties : CellAdvance → Progress → Type 0
+abbrev pub Empties : CellAdvance → FieldState → Type 0
 Empties a q = has_none a ≡ true → q.content ≡ []
 
 -- A call ends the cell where nothing is left of it, and only there; else it uses no more than the input, and all of it
 -- while an item goes on.
-abbrev pub Answers : State → List ℕ → CellAdvance → Type 0
+abbrev pub Answers : CellState → List ℕ → CellAdvance → Type 0
 Answers old input (advance.More used) = (used ≡ length input) × (due_of old ≢ due.Nothing)
 Answers old input (advance.Item at used i) = (used ≤ length input) × (due_of old ≢ due.Nothing)
 Answers old input advance.Done = due_of old ≡ due.Nothing

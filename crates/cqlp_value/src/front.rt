@@ -10,7 +10,7 @@ use cqlp_type::Kind;
 
 /// A scalar, and how many bytes it takes with its length.
 #[derive(Clone, Copy, Debug, PartialEq, Eq)]
-pub struct Front<'a> {
+pub struct FrontScalar<'a> {
     pub used: usize,
     pub scalar: Scalar<'a>,
 }
@@ -23,7 +23,7 @@ pub fn front_scalar<'a>(
     kind: Kind,
     room: u64,
     input: &'a [u8],
-) -> Option<Front<'a>>
+) -> Option<FrontScalar<'a>>
     ensures { IsFront (rules_of limits.now) kind room input.now result }
 {
     if input.len() < 4 {
@@ -42,7 +42,7 @@ pub fn front_scalar<'a>(
         return None;
     }
     match scalar(kind, content) {
-        Ok(scalar) => Some(Front { used, scalar }),
+        Ok(scalar) => Some(FrontScalar { used, scalar }),
         Err(_) => None,
     }
 }

@@ -6,14 +6,14 @@ ghost use Rattle.cqlp_note.specs.Partial.{item_value};
 ghost use Rattle.cqlp_value.specs.Items.{LieAt};
 ghost use Rattle.cqlp_value.specs.Gathering.{Gathers, IsGathering, Wants};
 
-use cqlp_note::{Form, Item, Lies, Notation, Partial, Prim, Taken};
+use cqlp_note::{ContentForm, ContentPlace, FieldAdvance, FieldOutline, Notation, Partial, Prim};
 use std::alloc::Allocator;
 
 /// A content that is whole, behind so many bytes of the input.
 #[derive(Clone, Copy)]
 pub(crate) struct Found {
     pub used: usize,
-    pub content: Item,
+    pub content: FieldOutline,
 }
 
 /// Takes the next bytes of a content of `len` bytes from `start` in the input on. It begins here, at offset `at` in the
@@ -42,9 +42,9 @@ pub(crate) fn gather<A: Allocator>(
         empty(partial);
         Some(Found {
             used: start + len as usize,
-            content: Item::Content {
-                form: Form::Bytes,
-                lies: Lies::InInput {
+            content: FieldOutline::Content {
+                form: ContentForm::Bytes,
+                lies: ContentPlace::InInput {
                     start,
                     len: len as usize,
                 },
@@ -60,12 +60,12 @@ fn resume<A: Allocator>(partial: &mut Partial<A>, len: u32, input: &[u8]) -> Opt
     ensures { Gathers true len partial.old.field.at 0 partial.old input.now result partial.new }
 {
     match partial.advance(input) {
-        Taken::More { .. } => None,
-        Taken::Got { used, item } => Some(Found {
+        FieldAdvance::More { .. } => None,
+        FieldAdvance::Got { used, item } => Some(Found {
             used,
             content: item,
         }),
-        Taken::Refused(_) => unreachable!(),
+        FieldAdvance::Refused(_) => unreachable!(),
     }
 }
 
@@ -80,9 +80,9 @@ fn begin<A: Allocator>(partial: &mut Partial<A>, len: u32, at: u64, input: &[u8]
 {
     partial.begin(Notation::Content(len), len, at, at + u64::from(len));
     match partial.advance(input) {
-        Taken::More { .. } => {}
-        Taken::Got { .. } => unreachable!(),
-        Taken::Refused(_) => unreachable!(),
+        FieldAdvance::More { .. } => {}
+        FieldAdvance::Got { .. } => unreachable!(),
+        FieldAdvance::Refused(_) => unreachable!(),
     }
 }
 
@@ -109,9 +109,9 @@ fn clear<A: Allocator>(partial: &mut Partial<A>)
 {
     partial.begin(Notation::Content(0), 0, 0, 0);
     match partial.advance(&[]) {
-        Taken::More { .. } => unreachable!(),
-        Taken::Got { .. } => {}
-        Taken::Refused(_) => unreachable!(),
+        FieldAdvance::More { .. } => unreachable!(),
+        FieldAdvance::Got { .. } => {}
+        FieldAdvance::Refused(_) => unreachable!(),
     }
 }
 
@@ -120,7 +120,7 @@ fn clear<A: Allocator>(partial: &mut Partial<A>)
 pub(crate) fn lent<'a, A: Allocator>(
     partial: &'a Partial<A>,
     input: &'a [u8],
-    content: Item,
+    content: FieldOutline,
 ) -> &'a [u8]
     requires { LieAt content input.now partial.now.content }
     ensures { item_value content input.now partial.now.content ≡ Bytes (Some result.now) }

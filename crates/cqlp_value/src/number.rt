@@ -5,7 +5,7 @@ ghost use Rattle.std.specs.Int.{w32, cast_unsigned};
 ghost use Rattle.cqlp_note.specs.Partial.{item_value};
 ghost use Rattle.cqlp_value.specs.Numbers.{Counts, IsCounting, IsNumberAt, WantsNumber, int_in};
 
-use cqlp_note::{Item, Notation, Partial, Prim, Taken};
+use cqlp_note::{FieldAdvance, FieldOutline, Notation, Partial, Prim};
 use std::alloc::Allocator;
 
 /// What a piece of input makes of an \[int\].
@@ -56,12 +56,12 @@ fn resume<A: Allocator>(partial: &mut Partial<A>, input: &[u8]) -> Number
     ensures { Counts true partial.old.field.at partial.old.field.room 0 partial.old input.now result partial.new }
 {
     match partial.advance(input) {
-        Taken::More { .. } => Number::More,
-        Taken::Got { used, item } => Number::Got {
+        FieldAdvance::More { .. } => Number::More,
+        FieldAdvance::Got { used, item } => Number::Got {
             used,
             number: number_in(partial, input, item),
         },
-        Taken::Refused(_) => unreachable!(),
+        FieldAdvance::Refused(_) => unreachable!(),
     }
 }
 
@@ -74,14 +74,14 @@ fn begin<A: Allocator>(partial: &mut Partial<A>, at: u64, end: u64, input: &[u8]
 {
     partial.begin(Notation::Int, 0, at, end);
     match partial.advance(input) {
-        Taken::More { .. } => {}
-        Taken::Got { .. } => unreachable!(),
-        Taken::Refused(_) => unreachable!(),
+        FieldAdvance::More { .. } => {}
+        FieldAdvance::Got { .. } => unreachable!(),
+        FieldAdvance::Refused(_) => unreachable!(),
     }
 }
 
 /// The unsigned number that the bytes of an \[int\] are.
-fn number_in<A: Allocator>(partial: &Partial<A>, input: &[u8], item: Item) -> u32
+fn number_in<A: Allocator>(partial: &Partial<A>, input: &[u8], item: FieldOutline) -> u32
     requires { IsNumberAt item input.now partial.now.content }
     ensures { result ≡ cast_unsigned w32 (int_in (item_value item input.now partial.now.content)) }
 {

@@ -4,9 +4,10 @@ ghost use Rattle.std.specs.Prelude.{◌≡◌, ℕ, ◌+◌, ◌≤◌, List, tr
 ghost use Rattle.std.specs.Borrow.{sem};
 ghost use Rattle.cqlp_note.specs.Limits.{rules_of};
 
-use crate::item::{CellAdvance, CellPush};
-use crate::levels::Levels;
-use crate::standing::{Next, Standing, Under};
+use crate::advance::CellAdvance;
+use crate::item::CellPush;
+use crate::open_values::OpenValues;
+use crate::standing::{CellStanding, NextInCell, Under};
 use cqlp_note::{Limits, NoMemory, Partial};
 use cqlp_type::TypeTable;
 use std::alloc::{Allocator, Global};
@@ -16,14 +17,14 @@ use std::marker::Model;
 /// caller's table. Section 6 of `native_protocol_v4.spec`.
 #[derive(Drop)]
 pub struct CellReader<A: Allocator = Global> {
-    standing: Standing<A>,
+    standing: CellStanding<A>,
 }
 
 impl<A: Allocator> Model for CellReader<A> {
     ghost use Rattle.std.specs.Prelude.{◌≡◌, ◌<◌, true};
-    ghost use Rattle.cqlp_value.specs.Standing.{State, state_of};
+    ghost use Rattle.cqlp_value.specs.Standing.{CellState, state_of};
 
-    ghost Value = { State };
+    ghost Value = { CellState };
 
     ghost view = { λ r. state_of r.standing };
 
@@ -31,7 +32,7 @@ impl<A: Allocator> Model for CellReader<A> {
 }
 
 impl<A: Allocator> CellReader<A> {
-    ghost use Rattle.cqlp_note.specs.Lending.{Next as Rest};
+    ghost use Rattle.cqlp_note.specs.Lending.{LeavesField as Rest};
     ghost use Rattle.cqlp_value.specs.Standing.{Stands, ended, is_under_way};
     ghost use Rattle.cqlp_type.specs.declared.node.Node.{Node};
     ghost use Rattle.cqlp_value.specs.Reading.{Answers, Empties, HaveCome, Joined, Moves};
@@ -43,13 +44,13 @@ impl<A: Allocator> CellReader<A> {
         ensures { IfOk result (λ reader. reader ≡ made (rules_of limits.now)) }
     {
         Ok(CellReader {
-            standing: Standing {
+            standing: CellStanding {
                 limits: *limits,
                 offset: 0,
                 stop: 0,
-                next: Next::Nothing,
+                next: NextInCell::Nothing,
                 under: Under::Nothing,
-                levels: Levels::new(alloc, limits.depth)?,
+                levels: OpenValues::new(alloc, limits.depth)?,
             },
         })
     }
@@ -62,7 +63,7 @@ impl<A: Allocator> CellReader<A> {
     {
         self.standing.offset = at;
         self.standing.stop = end;
-        self.standing.next = Next::Cell(node);
+        self.standing.next = NextInCell::Cell(node);
         self.standing.under = Under::Nothing;
         self.standing.levels.clear();
     }
@@ -71,7 +72,7 @@ impl<A: Allocator> CellReader<A> {
     pub fn done(&self) -> bool
         ensures { result ≡ is_done self.now }
     {
-        matches!(self.standing.next, Next::Items) && self.standing.levels.len() == 0
+        matches!(self.standing.next, NextInCell::Items) && self.standing.levels.len() == 0
     }
 
     /// How many values are open.

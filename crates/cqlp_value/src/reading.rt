@@ -4,8 +4,8 @@ ghost use Rattle.std.specs.Prelude.{◌≡◌, ◌≢◌, ◌+◌, ◌-◌, ◌<
 ghost use Rattle.cqlp_note.specs.Reader.{says};
 ghost use Rattle.cqlp_note.specs.Limits.{rules_of};
 ghost use Rattle.cqlp_value.specs.declared.size.Sized.TheVariants as size;
-ghost use Rattle.cqlp_value.specs.declared.standing.Due.TheVariants as due;
-ghost use Rattle.cqlp_value.specs.declared.standing.Next.TheVariants as next;
+ghost use Rattle.cqlp_value.specs.declared.standing.CellDue.TheVariants as due;
+ghost use Rattle.cqlp_value.specs.declared.standing.NextInCell.TheVariants as next;
 ghost use Rattle.cqlp_value.specs.declared.standing.Under.TheVariants as under;
 ghost use Rattle.cqlp_value.specs.Gathering.{IsGathering, seen_before};
 ghost use Rattle.cqlp_value.specs.Numbers.{IsCounting};
@@ -14,18 +14,18 @@ ghost use Rattle.cqlp_value.specs.Standing.{Stands, due_of, due_value, ended, mo
 ghost use Rattle.cqlp_value.specs.Coming.{room_of};
 ghost use Rattle.cqlp_value.specs.Reading.{Answers, Behind, Closes, Decided, Empties, EntersCounted, EntersFields, HaveCome, InnerStands, Joined, Moves, Settles, inner_order as order_inside, next_behind, part_size, sized_of, told};
 
+use crate::advance::{CellAdvance, CellOutline};
 use crate::content::{accepts, fault};
 use crate::gather::{empty, gather, lent};
-use crate::item::{CellAdvance, CellOutline};
-use crate::levels::{Open, Order};
 use crate::number::{Number, take_number};
+use crate::open_values::{OpenValue, Order};
 use crate::size::{Sized, size_up};
-use crate::standing::{Due, Next, Standing, Under, Value};
+use crate::standing::{CellDue, CellStanding, DueValue, NextInCell, Under};
 use cqlp_note::{Partial, Reason, Refusal};
 use cqlp_type::{Kind, TypeTable};
 use std::alloc::Allocator;
 
-impl<A: Allocator> Standing<A> {
+impl<A: Allocator> CellStanding<A> {
     /// Takes the next bytes of the cell. An item without a content, and a refusal, leave the buffer empty.
     #[inline]
     pub(crate) fn advance(
@@ -64,13 +64,13 @@ impl<A: Allocator> Standing<A> {
     {
         match self.under {
             Under::Nothing => match self.due() {
-                Due::Nothing => {
+                CellDue::Nothing => {
                     self.end();
                     CellAdvance::Done
                 }
-                Due::Close(value) => self.close(value),
-                Due::Value => self.advance_length(false, partial, table, input),
-                Due::Part { offset, total } => {
+                CellDue::Close(value) => self.close(value),
+                CellDue::Value => self.advance_length(false, partial, table, input),
+                CellDue::Part { offset, total } => {
                     self.advance_part(false, offset, total, partial, table, input)
                 }
             },
@@ -85,12 +85,12 @@ impl<A: Allocator> Standing<A> {
             }
             Under::First(total) => self.advance_first(true, total, 0, partial, table, input),
             Under::Later => match self.next {
-                Next::Part { offset, total } => {
+                NextInCell::Part { offset, total } => {
                     self.advance_part(true, offset, total, partial, table, input)
                 }
-                Next::Nothing => unreachable!(),
-                Next::Cell(_) => unreachable!(),
-                Next::Items => unreachable!(),
+                NextInCell::Nothing => unreachable!(),
+                NextInCell::Cell(_) => unreachable!(),
+                NextInCell::Items => unreachable!(),
             },
         }
     }
@@ -99,7 +99,7 @@ impl<A: Allocator> Standing<A> {
     fn advance_scalar(
         &mut self,
         begun: bool,
-        value: Value,
+        value: DueValue,
         len: u32,
         start: usize,
         partial: &mut Partial<A>,
@@ -144,7 +144,7 @@ impl<A: Allocator> Standing<A> {
     fn advance_count(
         &mut self,
         begun: bool,
-        value: Value,
+        value: DueValue,
         len: u32,
         start: usize,
         partial: &mut Partial<A>,
@@ -186,7 +186,7 @@ impl<A: Allocator> Standing<A> {
     /// Goes on inside a list, a set or a map of so many bytes, which has so many elements or pairs.
     fn enter_counted(
         &mut self,
-        value: Value,
+        value: DueValue,
         len: u32,
         count: u32,
         table: &TypeTable<A>,
@@ -207,7 +207,7 @@ impl<A: Allocator> Standing<A> {
         let stop = self.offset + 4 + u64::from(len);
         let (order, other) = inner_order(value, table);
         self.pass(8, table);
-        self.levels.push(Open {
+        self.levels.push(OpenValue {
             order,
             node: value.node + 1,
             other,
@@ -223,7 +223,7 @@ impl<A: Allocator> Standing<A> {
     }
 
     /// Goes on inside a tuple or a user-defined type of so many bytes.
-    fn enter_fields(&mut self, value: Value, len: u32, table: &TypeTable<A>) -> CellOutline
+    fn enter_fields(&mut self, value: DueValue, len: u32, table: &TypeTable<A>) -> CellOutline
         requires stands { Stands table.now.nodes (state_of self.old) }
         requires due { due_of (state_of self.old) ≡ due.Value }
         requires value { value ≡ due_value table.now.nodes (state_of self.old) }
@@ -239,7 +239,7 @@ impl<A: Allocator> Standing<A> {
         let stop = self.offset + 4 + u64::from(len);
         let arity = u32::from(value.arity);
         self.pass(4, table);
-        self.levels.push(Open {
+        self.levels.push(OpenValue {
             order: Order::Fields,
             node: value.node + 1,
             other: 0,
@@ -285,7 +285,7 @@ impl<A: Allocator> Standing<A> {
         };
         let level = self.levels.len();
         self.pass(4 + u64::from(size), table);
-        self.next = Next::Part {
+        self.next = NextInCell::Part {
             offset: size,
             total,
         };
@@ -345,7 +345,7 @@ impl<A: Allocator> Standing<A> {
     /// Goes on behind the length of a value, which ends behind so many bytes of the input.
     fn settle(
         &mut self,
-        value: Value,
+        value: DueValue,
         number: u32,
         start: usize,
         partial: &mut Partial<A>,
@@ -439,7 +439,7 @@ impl<A: Allocator> Standing<A> {
     }
 
     /// Ends the innermost value.
-    fn close(&mut self, value: Open) -> CellAdvance
+    fn close(&mut self, value: OpenValue) -> CellAdvance
         requires due { due_of (state_of self.old) ≡ due.Close value }
         requires fresh { self.old.under ≡ under.Nothing }
         ensures closes { Closes (state_of self.old) result (state_of self.new) }
@@ -474,18 +474,18 @@ impl<A: Allocator> Standing<A> {
 }
 
 /// What is read behind a part.
-fn next_part(last: bool, offset: u32, total: u32) -> Next
+fn next_part(last: bool, offset: u32, total: u32) -> NextInCell
     ensures { result ≡ next_behind last offset total }
 {
     if last {
-        Next::Items
+        NextInCell::Items
     } else {
-        Next::Part { offset, total }
+        NextInCell::Part { offset, total }
     }
 }
 
 /// How the items of a list, a set or a map follow one another, and the node of a map's second type.
-fn inner_order<A: Allocator>(value: Value, table: &TypeTable<A>) -> (Order, u32)
+fn inner_order<A: Allocator>(value: DueValue, table: &TypeTable<A>) -> (Order, u32)
     requires { InnerStands table.now.nodes value }
     ensures { result ≡ order_inside table.now.nodes value }
 {

@@ -3,18 +3,18 @@
 ghost use Rattle.std.specs.Prelude.{◌≡◌, ◌+◌, ◌-◌, ◌<◌, ◌≤◌, ◌^◌, ◌++◌, ◌∷◌, [], length, true, false, None, Some};
 ghost use Rattle.std.specs.Prelude.{IsSome, slice_get};
 ghost use Rattle.cqlp_value.specs.Standing.{CellThere, cell_value as cell_value_of, value_at as value_of_node};
-ghost use Rattle.cqlp_value.specs.declared.standing.Next.TheVariants as next;
+ghost use Rattle.cqlp_value.specs.declared.standing.NextInCell.TheVariants as next;
 ghost use Rattle.cqlp_value.specs.declared.standing.Under.TheVariants as under;
-ghost use Rattle.cqlp_value.specs.declared.standing.Due.TheVariants as due;
+ghost use Rattle.cqlp_value.specs.declared.standing.CellDue.TheVariants as due;
 
-use crate::levels::{Levels, Open, Order};
+use crate::open_values::{OpenValue, OpenValues, Order};
 use cqlp_note::{Limits, Reason, Refusal};
 use cqlp_type::{Kind, TypeTable};
 use std::alloc::Allocator;
 
 /// What is read next.
 #[derive(Clone, Copy)]
-pub(crate) enum Next {
+pub(crate) enum NextInCell {
     /// No cell is under way.
     Nothing,
     /// The cell, of the type at this node, or of none.
@@ -44,16 +44,16 @@ pub(crate) enum Under {
 
 /// What comes next, where nothing of it has come.
 #[derive(Clone, Copy)]
-pub(crate) enum Due {
+pub(crate) enum CellDue {
     Nothing,
     Value,
-    Close(Open),
+    Close(OpenValue),
     Part { offset: u32, total: u32 },
 }
 
 /// A value that is read next: its type, and where the value around it ends.
 #[derive(Clone, Copy)]
-pub(crate) struct Value {
+pub(crate) struct DueValue {
     pub kind: Kind,
     pub arity: u16,
     pub node: u32,
@@ -61,37 +61,37 @@ pub(crate) struct Value {
 }
 
 #[derive(Drop)]
-pub(crate) struct Standing<A: Allocator> {
+pub(crate) struct CellStanding<A: Allocator> {
     pub limits: Limits,
     /// The offset of what is read next.
     pub offset: u64,
     /// Where the cell's container ends.
     pub stop: u64,
-    pub next: Next,
+    pub next: NextInCell,
     pub under: Under,
-    pub levels: Levels<A>,
+    pub levels: OpenValues<A>,
 }
 
-impl<A: Allocator> Standing<A> {
+impl<A: Allocator> CellStanding<A> {
     ghost use Rattle.cqlp_note.specs.Limits.{rules_of};
     ghost use Rattle.cqlp_value.specs.Standing.{state_of, due_of, due_value, moved, ended, Stands};
 
     /// What comes next, where nothing of it has come.
     #[inline]
-    pub(crate) fn due(&self) -> Due
+    pub(crate) fn due(&self) -> CellDue
         ensures { result ≡ due_of (state_of self.now) }
     {
         match self.next {
-            Next::Nothing => Due::Nothing,
-            Next::Cell(_) => Due::Value,
-            Next::Part { offset, total } => Due::Part { offset, total },
-            Next::Items => match self.levels.last() {
-                None => Due::Nothing,
+            NextInCell::Nothing => CellDue::Nothing,
+            NextInCell::Cell(_) => CellDue::Value,
+            NextInCell::Part { offset, total } => CellDue::Part { offset, total },
+            NextInCell::Items => match self.levels.last() {
+                None => CellDue::Nothing,
                 Some(value) => {
                     if value.is_over(self.offset) {
-                        Due::Close(value)
+                        CellDue::Close(value)
                     } else {
-                        Due::Value
+                        CellDue::Value
                     }
                 }
             },
@@ -100,19 +100,19 @@ impl<A: Allocator> Standing<A> {
 
     /// The value that is read next.
     #[inline]
-    pub(crate) fn value(&self, table: &TypeTable<A>) -> Value
+    pub(crate) fn value(&self, table: &TypeTable<A>) -> DueValue
         requires stands { Stands table.now.nodes (state_of self.now) }
         requires due { due_of (state_of self.now) ≡ due.Value }
         ensures { result ≡ due_value table.now.nodes (state_of self.now) }
     {
         match self.next {
-            Next::Cell(node) => cell_value(table, node, self.stop),
-            Next::Items => {
+            NextInCell::Cell(node) => cell_value(table, node, self.stop),
+            NextInCell::Items => {
                 let value = self.levels.last().unwrap();
                 value_at(table, value.node, value.stop)
             }
-            Next::Nothing => unreachable!(),
-            Next::Part { .. } => unreachable!(),
+            NextInCell::Nothing => unreachable!(),
+            NextInCell::Part { .. } => unreachable!(),
         }
     }
 
@@ -126,12 +126,12 @@ impl<A: Allocator> Standing<A> {
         ensures room { self.new.levels.room ≡ self.old.levels.room }
         ensures limits { self.new.limits ≡ self.old.limits }
     {
-        if let Next::Items = self.next {
+        if let NextInCell::Items = self.next {
             let value = self.levels.last().unwrap();
             self.levels.set_last(value.passed(table));
         }
         self.offset += size;
-        self.next = Next::Items;
+        self.next = NextInCell::Items;
         self.under = Under::Nothing;
     }
 
@@ -141,7 +141,7 @@ impl<A: Allocator> Standing<A> {
         ensures room { self.new.levels.room ≡ self.old.levels.room }
         ensures limits { self.new.limits ≡ self.old.limits }
     {
-        self.next = Next::Nothing;
+        self.next = NextInCell::Nothing;
         self.under = Under::Nothing;
         self.levels.clear();
     }
@@ -149,13 +149,13 @@ impl<A: Allocator> Standing<A> {
 
 /// The value that the cell is.
 #[inline]
-fn cell_value<A: Allocator>(table: &TypeTable<A>, node: Option<u32>, stop: u64) -> Value
+fn cell_value<A: Allocator>(table: &TypeTable<A>, node: Option<u32>, stop: u64) -> DueValue
     requires { CellThere table.now.nodes node }
     ensures { result ≡ cell_value_of table.now.nodes node stop }
 {
     match node {
         Some(node) => value_at(table, node, stop),
-        None => Value {
+        None => DueValue {
             kind: Kind::Raw,
             arity: 0,
             node: 0,
@@ -167,12 +167,12 @@ fn cell_value<A: Allocator>(table: &TypeTable<A>, node: Option<u32>, stop: u64) 
 /// A value of the type at this node, in a value that ends there.
 #[tactic(auto, unfolding(crate::specs::Inner::node_at))]
 #[inline]
-fn value_at<A: Allocator>(table: &TypeTable<A>, node: u32, stop: u64) -> Value
+fn value_at<A: Allocator>(table: &TypeTable<A>, node: u32, stop: u64) -> DueValue
     requires { IsSome (slice_get table.now.nodes node) }
     ensures { result ≡ value_of_node table.now.nodes node stop }
 {
     let head = table.node(node).unwrap();
-    Value {
+    DueValue {
         kind: head.kind,
         arity: head.arity,
         node,
@@ -180,7 +180,7 @@ fn value_at<A: Allocator>(table: &TypeTable<A>, node: u32, stop: u64) -> Value
     }
 }
 
-impl Open {
+impl OpenValue {
     ghost use Rattle.cqlp_value.specs.Standing.{HasNext, is_over, passed};
 
     /// Whether no further item begins at this offset.
@@ -197,30 +197,30 @@ impl Open {
 
     /// What it is behind its next item.
     #[inline]
-    fn passed<A: Allocator>(self, table: &TypeTable<A>) -> Open
+    fn passed<A: Allocator>(self, table: &TypeTable<A>) -> OpenValue
         requires { HasNext table.now.nodes self self.order }
         ensures { result ≡ passed table.now.nodes self }
     {
         let _nodes = table.len();
         match self.order {
-            Order::Elements => Open {
+            Order::Elements => OpenValue {
                 left: self.left - 1,
                 ..self
             },
-            Order::Keys => Open {
+            Order::Keys => OpenValue {
                 order: Order::Values,
                 node: self.other,
                 other: self.node,
                 left: self.left - 1,
                 ..self
             },
-            Order::Values => Open {
+            Order::Values => OpenValue {
                 order: Order::Keys,
                 node: self.other,
                 other: self.node,
                 ..self
             },
-            Order::Fields => Open {
+            Order::Fields => OpenValue {
                 node: self.node + table.node(self.node).unwrap().span,
                 left: self.left - 1,
                 items: self.items + 1,

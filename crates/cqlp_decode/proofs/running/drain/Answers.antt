@@ -1,6 +1,6 @@
 use Rattle.std.proofs.Common.{◌+◌, ◌≤◌, length, drop, refl, sym, ap, ◌∙◌, arith}
 use Rattle.std.proofs.lemmas.List.{length-drop}
-use Rattle.cqlp_decode.specs.Standing.{State}
+use Rattle.cqlp_decode.specs.Standing.{StreamState}
 use Rattle.cqlp_decode.specs.Streams.{state}
 use Rattle.cqlp_decode.proofs.Leads.{repeated}
 use Rattle.cqlp_decode.proofs.Gets.{rest_is, drains_event, drains_all, drains_refused, fails_event}
@@ -11,7 +11,7 @@ returns-in-More-clause-refusal g c = (rw c.in-More.is at c.next.follows.holds-at
 
 pub returns-in-More-clause-refused : goal.returns-in-More-clause-refused
 returns-in-More-clause-refused g c = λ r is.
-    let mid = ap (λ (z : State). z.refusal) (c.events.invariant.refused r is).0 ∙ is in
+    let mid = ap (λ (z : StreamState). z.refusal) (c.events.invariant.refused r is).0 ∙ is in
     let again = (repeated (state c.events.decoder) (state c.next.follows.lender-at-none) _ (state c.events.decoder).refusal r mid c.next.follows.holds-at-none.2).0 in
     absurd (let e = sym c.in-More.is ∙ again in cc)
 
@@ -28,7 +28,7 @@ returns-in-Refused-clause-refusal g c = (_, (rw c.in-Refused.is at c.next.follow
 pub returns-in-Refused-clause-refused : goal.returns-in-Refused-clause-refused
 returns-in-Refused-clause-refused g c = λ r is.
     let before = c.events.invariant.refused r is in
-    let mid = ap (λ (z : State). z.refusal) before.0 ∙ is in
+    let mid = ap (λ (z : StreamState). z.refusal) before.0 ∙ is in
     let again = repeated (state c.events.decoder) (state c.next.follows.lender-at-none) _ (state c.events.decoder).refusal r mid c.next.follows.holds-at-none.2 in
     (refl, again.1 ∙ before.0, before.1)
 
@@ -44,7 +44,7 @@ returns-in-Refused-clause-drains g c = λ tells. (
 
 pub returns-in-Err-clause-refused : goal.returns-in-Err-clause-refused
 returns-in-Err-clause-refused g c = λ r is.
-    let mid = ap (λ (z : State). z.refusal) (c.events.invariant.refused r is).0 ∙ is in
+    let mid = ap (λ (z : StreamState). z.refusal) (c.events.invariant.refused r is).0 ∙ is in
     let again = (repeated (state c.events.decoder) (state c.next.follows.lender-at-none) _ (state c.events.decoder).refusal r mid c.next.follows.holds-at-none.2).0 in
     absurd (let e = sym c.in-Event.is ∙ again in cc)
 
@@ -65,7 +65,7 @@ events-preserved g c = record {
       let within = c.events.invariant.within in omega arith;
   rules = let goes = rw c.in-Event.is at c.next.follows.holds-at-none.0 in goes.2 ∙ c.events.invariant.rules;
   refused = λ r is.
-      let mid = ap (λ (z : State). z.refusal) (c.events.invariant.refused r is).0 ∙ is in
+      let mid = ap (λ (z : StreamState). z.refusal) (c.events.invariant.refused r is).0 ∙ is in
       let again = (repeated (state c.events.decoder) (state c.next.follows.lender-at-none) _ (state c.events.decoder).refusal r mid c.next.follows.holds-at-none.2).0 in
       absurd (let e = sym c.in-Event.is ∙ again in cc);
   clear = λ none. let goes = rw c.in-Event.is at c.next.follows.holds-at-none.0 in goes.3;

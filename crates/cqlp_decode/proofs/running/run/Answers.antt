@@ -2,7 +2,7 @@ use Rattle.std.proofs.Common.{◌≡◌, ℕ, ◌<◌, List, [], ◌++◌, lengt
 use Rattle.std.proofs.lemmas.List.{append-nil, take-append-drop, length-append, length-take-le}
 use Rattle.cqlp_decode.specs.declared.event.Finish.{Finish}
 use Rattle.cqlp_decode.specs.declared.running.Outcome.TheVariants as outcome
-use Rattle.cqlp_decode.specs.Standing.{State}
+use Rattle.cqlp_decode.specs.Standing.{StreamState}
 use Rattle.cqlp_decode.specs.Streams.{state}
 use Rattle.cqlp_decode.proofs.Gets.{feeds_none, feeds_then, feeds_into, has_all, has_all_still, read_some, keeps_some, at_end, reads_none, reads_kept, reads_then}
 use Rattle.cqlp_decode.proofs.running.run.Goals as goal
@@ -123,7 +123,7 @@ returns-clause-runs g c = λ xs is tells.
 pub returns-in-Refused-clause-refused : goal.returns-in-Refused-clause-refused
 returns-in-Refused-clause-refused g c = λ r is.
     let again = c.in-Refused.ensures.refused r is in
-    let still : (state c.drain.new.decoder).refusal ≡ Some r = ap (λ (z : State). z.refusal) again.1 ∙ is in
+    let still : (state c.drain.new.decoder).refusal ≡ Some r = ap (λ (z : StreamState). z.refusal) again.1 ∙ is in
     (ap (λ (f : Finish). outcome.Finished f) (c.finish.ensures.refused r still), again.1, refl, again.2)
 
 pub returns-in-Fault-clause-refused : goal.returns-in-Fault-clause-refused

@@ -1,4 +1,4 @@
-use Rattle.cqlp_tool.specs.declared.form.Form.TheVariants as forms
+use Rattle.cqlp_tool.specs.declared.text_form.TextForm.TheVariants as forms
 use Rattle.cqlp_tool.proofs.OneAnswer.{rendered_whole, rendered_once}
 use Rattle.cqlp_tool.proofs.laws.one_answer_of_render_events.Goals as goal
 

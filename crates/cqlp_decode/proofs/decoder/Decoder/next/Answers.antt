@@ -3,8 +3,8 @@ use Rattle.std.specs.Prelude.{Option}
 use Rattle.cqlp_note.specs.declared.refusal.Refusal.{Refusal}
 use Rattle.cqlp_decode.specs.declared.event.Event.TheVariants as event
 use Rattle.cqlp_decode.specs.declared.event.Step.TheVariants as steps
-use Rattle.cqlp_decode.specs.declared.standing.Advance.TheVariants as advance
-use Rattle.cqlp_decode.specs.Standing.{State, Advances}
+use Rattle.cqlp_decode.specs.declared.advance.EventAdvance.TheVariants as advance
+use Rattle.cqlp_decode.specs.Standing.{StreamState, Advances}
 use Rattle.cqlp_decode.specs.Streams.{AfterBy, state}
 use Rattle.cqlp_decode.proofs.Leads.{more_leads, hands_leads, event_leads, refused_leads, more_uses, event_uses, more_goes, event_goes, refused_goes, more_repeats, event_repeats, refused_repeats, unrefused}
 use Rattle.cqlp_decode.proofs.decoder.Decoder.next.Goals as goal
@@ -34,7 +34,7 @@ returns-in-More g c =
     let old = state c.args.self.now in
     let new = state c.advance.new.self in
     let input = c.args.input.now in
-    let moves = subst (λ (z : State). Advances z input (advance.More c.in-More.used) new) c.in_default.ensures c.in-More.ensures.advances in (
+    let moves = subst (λ (z : StreamState). Advances z input (advance.More c.in-More.used) new) c.in_default.ensures c.in-More.ensures.advances in (
       (refl, λ _. tt, (more_goes old new input [] [] old.refusal c.in-More.used moves, λ s es after. more_leads old new input s es old.refusal c.in-More.used moves after, more_repeats old new input [] [] old.refusal c.in-More.used moves)),
       record { next = tt; uses = more_uses old new input [] [] old.refusal c.in-More.used moves },
     )
@@ -44,8 +44,8 @@ returns-in-Refused g c =
     let old = state c.args.self.now in
     let new = state c.advance.new.self in
     let input = c.args.input.now in
-    let moves = subst (λ (z : State). Advances z input (advance.Refused c.in-Refused.refusal) new) c.in_default.ensures c.in-Refused.ensures.advances in
-    let nodes : new.place.nodes ≡ old.place.nodes = c.in-Refused.ensures.table ∙ ap (λ (z : State). z.place.nodes) c.in_default.ensures in (
+    let moves = subst (λ (z : StreamState). Advances z input (advance.Refused c.in-Refused.refusal) new) c.in_default.ensures c.in-Refused.ensures.advances in
+    let nodes : new.place.nodes ≡ old.place.nodes = c.in-Refused.ensures.table ∙ ap (λ (z : StreamState). z.place.nodes) c.in_default.ensures in (
       (refl, λ _. tt, (refused_goes old new input [] [] old.refusal refl c.in-Refused.refusal moves, λ s es after. refused_leads old new input s es old.refusal refl c.in-Refused.refusal nodes moves after, refused_repeats old new input [] [] old.refusal c.in-Refused.refusal moves)),
       record { next = tt; uses = tt },
     )
@@ -55,7 +55,7 @@ returns-in-Event g c =
     let old = state c.args.self.now in
     let new = state c.advance.new.self in
     let input = c.args.input.now in
-    let moves = subst (λ (z : State). Advances z input (advance.Event c.in-Event.at c.in-Event.used c.in-Event.what) new) c.in_default.ensures c.in-Event.ensures.advances in (
+    let moves = subst (λ (z : StreamState). Advances z input (advance.Event c.in-Event.at c.in-Event.used c.in-Event.what) new) c.in_default.ensures c.in-Event.ensures.advances in (
       (refl, λ _. tt, (event_goes old new input [] [] old.refusal c.in-Event.at c.in-Event.used c.in-Event.what c.lend.result c.lend.ensures moves, λ s es after. event_leads old new input s es old.refusal c.in-Event.at c.in-Event.used c.in-Event.what c.lend.result c.lend.ensures moves after, event_repeats old new input [] [] old.refusal c.in-Event.at c.in-Event.used c.in-Event.what c.lend.result moves)),
       record { next = tt; uses = event_uses old new input [] [] old.refusal c.in-Event.at c.in-Event.used c.in-Event.what moves },
     )

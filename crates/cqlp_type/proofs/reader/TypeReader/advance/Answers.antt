@@ -1,9 +1,9 @@
 use Rattle.std.proofs.Common.{rules, ◌≡◌, ℕ, refl, sym, ap, ◌∙◌, arith}
 use Rattle.cqlp_note.specs.Reader.{Bad}
-use Rattle.cqlp_note.specs.Partial.{Progress}
-use Rattle.cqlp_type.specs.declared.remaining.Stage.{Stage}
+use Rattle.cqlp_note.specs.Partial.{FieldState}
+use Rattle.cqlp_type.specs.declared.remaining.OptionStage.{OptionStage}
 use Rattle.cqlp_type.specs.Remaining.{stage_symbols}
-use Rattle.cqlp_type.specs.Standing.{Standing}
+use Rattle.cqlp_type.specs.Standing.{TypeState}
 use Rattle.cqlp_type.proofs.Calls.{kept, waits_fits, waits_on, field_at, stopped_is, refused_told, ends_fits, ends_on, failed, idle_after}
 use Rattle.cqlp_type.proofs.OpenTypes.{reads_waited, reads_handed, reads_over}
 use Rattle.cqlp_type.proofs.reader.TypeReader.advance.Goals as goal
@@ -33,9 +33,9 @@ returns-in-Refused g c =
       is = (
         told ∙ ap (λ (k : ℕ). Bad (k, c.in-Refused.refusal.why)) (sym at),
         c.stop-in-Refused.ensures ∙ stopped_is old c.ready.new.self c.args.partial.now c.ready.new.partial c.args.table.now c.args.input.now r.reader r.shared r.pending r.room,
-        ap (λ (z : Progress). z.under_way) e.2,
-        ap (λ (z : Progress). z.content) e.2,
-        ap (λ (z : Progress). z.room) e.2 ∙ r.room,
+        ap (λ (z : FieldState). z.under_way) e.2,
+        ap (λ (z : FieldState). z.content) e.2,
+        ap (λ (z : FieldState). z.room) e.2 ∙ r.room,
         refl,
       );
       leaves = tt;
@@ -100,5 +100,5 @@ follow-requires g c =
 
 pub returns-in-Done-clause-leaves : goal.returns-in-Done-clause-leaves
 returns-in-Done-clause-leaves g c =
-    let none = sym (ap (λ (z : Standing). z.symbols) c.self.view_is) ∙ ap (λ (x : Stage). stage_symbols x c.self.inside.remaining.levels) c.in-Done.is in
+    let none = sym (ap (λ (z : TypeState). z.symbols) c.self.view_is) ∙ ap (λ (x : OptionStage). stage_symbols x c.self.inside.remaining.levels) c.in-Done.is in
     reads_over c.args.self.now c.args.partial.now c.args.table.now c.requires.table c.requires.shared none

@@ -1,0 +1,18 @@
+use Rattle.std.proofs.Common.{◌≡◌, ◌+◌, ◌-◌, Some, sym, ◌∙◌}
+use Rattle.cqlp_type.specs.Types.{NoMore}
+use Rattle.cqlp_message.specs.Productions.{raw_types}
+use Rattle.cqlp_decode.proofs.Columns.{column_there, raw_left}
+use Rattle.cqlp_decode.proofs.page.CellCursor.kind.Goals as goal
+
+pub returns-in-Typed : goal.returns-in-Typed
+returns-in-Typed g c = λ depth page.
+    let h = rw c.in-Typed.is at page.0 in
+    let there = column_there c.args.table.now.nodes depth c.args.self.now.index c.args.self.now.column h in
+    let same : Some c.unwrap.result ≡ Some there.x = sym c.unwrap.ensures ∙ c.node.ensures ∙ there.get in
+    let x : c.unwrap.result ≡ there.x = cc in
+    (there.inner, there.others, rw (c.in-Typed.is, x) there.is)
+
+pub returns-in-Raw : goal.returns-in-Raw
+returns-in-Raw g c = λ depth page.
+    let lt = rw c.in-Raw.is at page.0 in
+    (NoMore, raw_types (c.in-Raw.field-0 - (c.args.self.now.column + 1)), rw c.in-Raw.is (raw_left c.in-Raw.field-0 c.args.self.now.column lt))

@@ -1,0 +1,36 @@
+use Rattle.std.proofs.Common.{◌≡◌, ◌+◌, length, Some, refl, sym, ◌∙◌, inl, inr, arith}
+use Rattle.std.proofs.lemmas.Bool.{cases_lt, lt-ltb, le-ltb}
+use Rattle.cqlp_decode.proofs.Columns.{column_there, next_typed, last_typed, others_raw, last_raw}
+use Rattle.cqlp_decode.proofs.page.CellCursor.next_column.Goals as goal
+
+pub overflow_add-index : goal.overflow_add-index
+overflow_add-index g c =
+    let h = rw c.in-Typed.is at c.requires.1.0 in
+    let there = column_there c.args.table.now.nodes c.requires.0 c.args.self.now.index c.args.self.now.column h in
+    let same : Some c.unwrap.result ≡ Some there.x = sym c.unwrap.ensures ∙ c.node.ensures ∙ there.get in
+    let x : c.unwrap.result ≡ there.x = cc in
+    rw x (omega (arith, there.within, c.len-end.ensures.is, c.len-end.type_inv))
+
+pub returns-in-Typed : goal.returns-in-Typed
+returns-in-Typed g c = λ depth page.
+    let h = rw c.in-Typed.is at page.0 in
+    let nodes = c.args.table.now.nodes in
+    let index = c.args.self.now.index in
+    let column = c.args.self.now.column in
+    let there = column_there nodes depth index column h in
+    let same : Some c.unwrap.result ≡ Some there.x = sym c.unwrap.ensures ∙ c.node.ensures ∙ there.get in
+    let x : c.unwrap.result ≡ there.x = cc in
+    rw (c.in-Typed.is, c.then_some.ensures, c.len-end.ensures.is, x) (elim (cases_lt (index + there.x.span) (length nodes)) [
+      | inl few ↦ rw (lt-ltb _ _ few) (next_typed nodes depth index column h (index + there.x.span) refl few)
+      | inr le ↦ rw (le-ltb _ _ le) (last_typed nodes depth index column h le)
+    ])
+
+pub returns-in-Raw : goal.returns-in-Raw
+returns-in-Raw g c = λ depth page.
+    let lt = rw c.in-Raw.is at page.0 in
+    let column = c.args.self.now.column in
+    let n = c.in-Raw.columns in
+    rw (c.in-Raw.is, c.then_some-in-Raw.ensures) (elim (cases_lt (column + 1) n) [
+      | inl few ↦ rw (lt-ltb _ _ few) (others_raw n column lt, few)
+      | inr le ↦ rw (le-ltb _ _ le) (last_raw n column lt le)
+    ])

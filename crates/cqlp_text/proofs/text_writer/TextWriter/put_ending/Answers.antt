@@ -1,0 +1,10 @@
+use Rattle.cqlp_text.proofs.text_writer.TextWriter.put_ending.Goals as goal
+
+pub returns-in-WriteFault-clause-line : goal.returns-in-WriteFault-clause-line
+returns-in-WriteFault-clause-line g c = rw c.in-WriteFault.is c.put_line-in-WriteFault.ensures.line
+
+pub returns-in-NoMemory-clause-line : goal.returns-in-NoMemory-clause-line
+returns-in-NoMemory-clause-line g c = rw c.in-NoMemory.is c.put_line-in-NoMemory.ensures.line
+
+pub returns-in-TooManyTurns-clause-line : goal.returns-in-TooManyTurns-clause-line
+returns-in-TooManyTurns-clause-line g c = rw c.in-TooManyTurns.is c.put_line-in-TooManyTurns.ensures.line

@@ -1,0 +1,18 @@
+use Rattle.std.proofs.Common.{◌++◌, codes, refl, sym, ap}
+use Rattle.std.specs.List.{flat_map}
+use Rattle.cqlp_text.specs.Text.{escaped}
+use Rattle.cqlp_text.proofs.Writing.{progress_starts, progress_goes_on, progress_stops, progress_writes}
+use Rattle.cqlp_text.proofs.text_writer.TextWriter.put_quoted.Goals as goal
+
+pub returns-in_err-put : goal.returns-in_err-put
+returns-in_err-put g c = progress_stops _ c.from_residual.result c.from_residual.ensures.0 (progress_starts _ _) refl c.in_err-put.ensures
+
+pub returns-in_err-put_escaped : goal.returns-in_err-put_escaped
+returns-in_err-put_escaped g c =
+    progress_stops _ c.from_residual-in_err-put_escaped.result c.from_residual-in_err-put_escaped.ensures.0 (progress_goes_on _ (progress_starts _ _) refl c.in_ok-put.ensures)
+    (ap (λ t. flat_map escaped t ++ codes "\"") (sym c.as_bytes.ensures.value)) c.in_err-put_escaped.ensures
+
+pub returns : goal.returns
+returns g c =
+    progress_writes _ c.put-2.result
+    (progress_goes_on _ (progress_goes_on _ (progress_starts _ _) refl c.in_ok-put.ensures) (ap (λ t. flat_map escaped t ++ codes "\"") (sym c.as_bytes.ensures.value)) c.in_ok-put_escaped.ensures) c.put-2.ensures

@@ -1,0 +1,122 @@
+//! Text on its way to a target.
+
+ghost use Rattle.std.specs.Prelude.{◌≡◌, ◌+◌, ◌≤◌, ◌++◌, [], length, IsSome, OnOk};
+ghost use Rattle.cqlp_text.specs.Outputs.{WritesText, output};
+ghost use Rattle.cqlp_text.specs.Written.{Writes, bare};
+
+use crate::targets::offer;
+use cqlp_decode::SinkFault;
+use cqlp_note::Target;
+use std::marker::Model;
+
+/// How many bytes wait at most before they are passed on.
+const ROOM: usize = 128;
+
+/// Gathers short texts, so that a target gets them in few calls. Nothing waits after a `flush`.
+#[derive(Drop)]
+pub struct TextWriter<'a, W: Target> {
+    target: &'a mut W,
+    buffer: [u8; ROOM],
+    len: usize,
+}
+
+impl<'a, W: Target> Model for TextWriter<'a, W> {
+    ghost use Rattle.std.specs.Prelude.{◌≡◌, ◌≤◌, length, take};
+    ghost use Rattle.cqlp_text.specs.Written.{Written};
+
+    ghost Value = { Written };
+
+    ghost view = { λ w. record { given = W.contents w.target.now; failures = W.failures w.target.now; waiting = take w.len w.buffer; lender = w.target.ghost_name } };
+
+    ghost invariant = { λ w. (w.len ≤ 128) × (length w.buffer ≡ 128) };
+}
+
+impl<'a, W: Target> TextWriter<'a, W> {
+    /// With nothing that waits.
+    pub fn new(target: &'a mut W) -> Self
+        ensures { result ≡ record (bare (W.contents target.old) (W.failures target.old)) { lender = target.entry.ghost_name } }
+    {
+        TextWriter {
+            target,
+            buffer: [0; ROOM],
+            len: 0,
+        }
+    }
+
+    /// The target, which did not get what waits.
+    pub fn into_inner(self) -> &'a mut W
+        ensures lender { result.ghost_name ≡ self.entry.lender }
+        ensures given { bare (W.contents result.now) (W.failures result.now) ≡ record self.entry { waiting = []; lender = 0 } }
+    {
+        let TextWriter {
+            target,
+            buffer: _,
+            len: _,
+        } = self;
+        target
+    }
+
+    /// Takes a text.
+    pub fn put(&mut self, bytes: &[u8]) -> Result<(), SinkFault>
+        ensures { Writes self.old bytes.now result self.new }
+    {
+        if bytes.len() <= ROOM - self.len {
+            self.keep(bytes);
+            return Ok(());
+        }
+        self.flush()?;
+        if bytes.len() <= ROOM {
+            self.keep(bytes);
+            Ok(())
+        } else {
+            self.pass_on(bytes)
+        }
+    }
+
+    /// Passes on all that waits; after a fault nothing waits either.
+    pub fn flush(&mut self) -> Result<(), SinkFault>
+        ensures writes { Writes self.old [] result self.new }
+        ensures empty { self.new.waiting ≡ [] }
+    {
+        let len = self.len;
+        self.len = 0;
+        send(self.target, &self.buffer[..len])
+    }
+
+    /// Passes a text on, where nothing waits.
+    fn pass_on(&mut self, bytes: &[u8]) -> Result<(), SinkFault>
+        requires { self.old.waiting ≡ [] }
+        ensures { Writes self.old bytes.now result self.new }
+    {
+        send(self.target, bytes)
+    }
+
+    /// Takes a text that there is room for.
+    fn keep(&mut self, bytes: &[u8])
+        requires { length self.old.waiting + length bytes.now ≤ 128 }
+        ensures { self.new ≡ record self.old { waiting = self.old.waiting ++ bytes.now } }
+    {
+        let end = self.len + bytes.len();
+        self.buffer[self.len..end].copy_from_slice(bytes);
+        self.len = end;
+    }
+}
+
+/// Appends a text as it is. A fault is the writer's own.
+pub fn put_text<W: Target>(text: &str, w: &mut W) -> Result<(), SinkFault>
+    ensures { IsSome (W.contents w.old) →
+        WritesText (output (W.contents w.old) (W.failures w.old)) text.now result (output (W.contents w.new) (W.failures w.new)) }
+{
+    send(w, text.as_bytes())
+}
+
+/// Passes on all of the bytes.
+fn send<W: Target>(target: &mut W, bytes: &[u8]) -> Result<(), SinkFault>
+    ensures { Writes (bare (W.contents target.old) (W.failures target.old)) bytes.now result (bare (W.contents target.new) (W.failures target.new)) }
+{
+    if offer(target, bytes) < bytes.len() {
+        Err(SinkFault)
+    } else {
+        Ok(())
+    }
+}

@@ -1,0 +1,49 @@
+use Rattle.std.proofs.Common.{sym, ◌∙◌, arith}
+use Rattle.cqlp_value.specs.Standing.{state_of}
+use Rattle.cqlp_value.proofs.Closing.{resumed, moves_by, moves_afresh, settles_answers, close_some}
+use Rattle.cqlp_value.proofs.standing.CellStanding.step.Goals as goal
+
+pub returns-in-Close-clause-moves : goal.returns-in-Close-clause-moves
+returns-in-Close-clause-moves g c =
+    let r = c.requires in
+    let nodes = c.args.table.now.nodes in
+    let idle = rw c.in-Nothing.is at r.joined.under_way in
+    moves_afresh nodes (state_of c.args.self.now) c.args.partial.now c.args.input.now c.close.result (state_of c.close.new.self) c.args.partial.now c.in-Nothing.is (c.close.ensures.closes nodes c.args.partial.now c.args.input.now r.stands idle)
+
+pub returns-in-Scalar-clause-moves : goal.returns-in-Scalar-clause-moves
+returns-in-Scalar-clause-moves g c =
+    let r = c.requires in
+    let nodes = c.args.table.now.nodes in
+    let old = state_of c.args.self.now in
+    let under = rw c.in-Scalar.is at r.joined.under_way in
+    let s = c.advance_scalar.ensures.settles in
+    moves_by nodes old c.args.partial.now c.args.input.now _ _ _ c.advance_scalar.result (state_of c.advance_scalar.new.self) c.advance_scalar.new.partial s
+    (λ b come. resumed nodes old c.args.partial.now c.args.input.now c.in-Scalar.len r.stands under.0 (omega (arith, under.2.fits.0)) b _ _ _ (rw c.in-Scalar.is at come) s)
+
+pub returns-in-Counted-clause-moves : goal.returns-in-Counted-clause-moves
+returns-in-Counted-clause-moves g c =
+    let r = c.requires in
+    let nodes = c.args.table.now.nodes in
+    let old = state_of c.args.self.now in
+    let under = rw c.in-Counted.is at r.joined.under_way in
+    let s = c.advance_count.ensures.settles in
+    moves_by nodes old c.args.partial.now c.args.input.now _ _ _ c.advance_count.result (state_of c.advance_count.new.self) c.advance_count.new.partial s
+    (λ b come. resumed nodes old c.args.partial.now c.args.input.now c.in-Counted.len r.stands under.0 (omega (arith, under.2.fits.0)) b _ _ _ (rw c.in-Counted.is at come) s)
+
+pub returns-in-First-clause-moves : goal.returns-in-First-clause-moves
+returns-in-First-clause-moves g c =
+    let r = c.requires in
+    let nodes = c.args.table.now.nodes in
+    let old = state_of c.args.self.now in
+    let under = rw c.in-First.is at r.joined.under_way in
+    let s = c.advance_first.ensures.settles in
+    moves_by nodes old c.args.partial.now c.args.input.now _ _ _ c.advance_first.result (state_of c.advance_first.new.self) c.advance_first.new.partial s
+    (λ b come. resumed nodes old c.args.partial.now c.args.input.now c.in-First.total r.stands under.0 (omega (arith, under.2.fits.0)) b _ _ _ (rw c.in-First.is at come) s)
+
+pub returns-in-Close-clause-answers : goal.returns-in-Close-clause-answers
+returns-in-Close-clause-answers g c =
+    let r = c.requires in
+    let nodes = c.args.table.now.nodes in
+    let idle = rw c.in-Nothing.is at r.joined.under_way in
+    settles_answers nodes (state_of c.args.self.now) c.args.partial.now c.args.input.now _ _ _ c.close.result (state_of c.close.new.self) c.args.partial.now (c.close.ensures.closes nodes c.args.partial.now c.args.input.now r.stands idle)
+    (close_some (state_of c.args.self.now) _ (sym c.due.ensures ∙ c.in-Close.is))
