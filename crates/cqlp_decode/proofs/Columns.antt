@@ -16,6 +16,7 @@ use Rattle.cqlp_value.proofs.Columns.{Column, forest_first, forest_end}
 use Rattle.cqlp_message.specs.declared.grammar.Role.{Role}
 use Rattle.cqlp_message.specs.declared.grammar.Role.TheVariants as role
 use Rattle.cqlp_message.specs.Productions.{Symbol, rows_from, raw_types, number_in}
+use Rattle.cqlp_message.proofs.Stack.{rows_none}
 use Rattle.cqlp_decode.specs.declared.page.Columns.{Columns}
 use Rattle.cqlp_decode.specs.declared.page.Columns.TheVariants as columns
 use Rattle.cqlp_decode.specs.declared.page.CellCursor.{CellCursor}
@@ -23,11 +24,6 @@ use Rattle.cqlp_decode.specs.Pages.{column_types, types_from, node_by, cell_symb
 use Rattle.cqlp_decode.specs.Reading as reading
 use Rattle.cqlp_decode.specs.Reading.{page_types}
 use Rattle.cqlp_decode.specs.Standing.{ends_due}
-
--- rows without columns are nothing
-pub rows_none : (row n : ℕ) → rows_from row NoMore n ≡ []
-rows_none row zero = refl
-rows_none row (suc n) = rows_none (row + 1) n
 
 -- The column of a cell: its type is the first of those left, and stands in the table.
 pub record FirstColumn (nodes : List Node) (depth : ℕ) (c : Columns) (column index : ℕ) : Type 0 where

@@ -26,13 +26,13 @@ use Rattle.cqlp_value.proofs.Columns.{forest_none}
 use Rattle.cqlp_message.specs.declared.grammar.Role.{Role}
 use Rattle.cqlp_message.specs.declared.grammar.Role.TheVariants as role
 use Rattle.cqlp_message.specs.Productions.{Symbol, following, fault_in}
-use Rattle.cqlp_decode.specs.declared.table.Want.{Want}
-use Rattle.cqlp_decode.specs.declared.table.Expected.TheVariants as due
+use Rattle.cqlp_message.specs.declared.table.Want.{Want}
+use Rattle.cqlp_message.specs.declared.table.Expected.TheVariants as due
 use Rattle.cqlp_decode.specs.declared.standing.StreamStage.TheVariants as stage
 use Rattle.cqlp_decode.specs.declared.standing.StreamStanding.{StreamStanding}
 use Rattle.cqlp_decode.specs.declared.advance.EventAdvance.TheVariants as advance
 use Rattle.cqlp_decode.specs.declared.advance.EventOutline.TheVariants as what
-use Rattle.cqlp_decode.specs.Upcoming.{wanted}
+use Rattle.cqlp_message.specs.Upcoming.{wanted}
 use Rattle.cqlp_decode.specs.Reading as reading
 use Rattle.cqlp_decode.specs.Reading.{Place, value_step, types_for, nodes_after, given_after, Nothing}
 use Rattle.cqlp_decode.specs.Standing.{IsPending, Parts, parts, state_of, place_at, offset_at, symbols_at, rest_of, came_of, told, Gives, Waits, Moves, IsAsked, IsWanted, IsBounded, IsQuiet, HasParts, IsConsistent, asked, Starts}

@@ -1,4 +1,3 @@
-pub mod Stack
 pub mod Columns
 pub mod Steps
 pub mod FieldSteps

@@ -11,14 +11,14 @@ use Rattle.cqlp_note.specs.Reader.{says}
 use Rattle.cqlp_note.proofs.Runs.{runs_compare, runs_stay}
 use Rattle.cqlp_value.specs.declared.standing.Under.{Under}
 use Rattle.cqlp_value.specs.Reading as cells
-use Rattle.cqlp_decode.specs.declared.event.Step.{Step}
-use Rattle.cqlp_decode.specs.declared.event.Step.TheVariants as steps
-use Rattle.cqlp_decode.specs.declared.event.Event as events
-use Rattle.cqlp_decode.specs.declared.event.Finish.{Finish}
-use Rattle.cqlp_decode.specs.declared.event.Finish.TheVariants as finish
-use Rattle.cqlp_decode.specs.declared.event.Held.{Held}
+use Rattle.cqlp_decode.specs.declared.step.Step.{Step}
+use Rattle.cqlp_decode.specs.declared.step.Step.TheVariants as steps
+use Rattle.cqlp_message.specs.declared.event.Event as events
+use Rattle.cqlp_message.specs.declared.event.Finish.{Finish}
+use Rattle.cqlp_message.specs.declared.event.Finish.TheVariants as finish
+use Rattle.cqlp_decode.specs.declared.step.Held.{Held}
 use Rattle.cqlp_decode.specs.Reading.{Event, Place, Verdict, Waits, Refused, Reads, Says, start, step}
-use Rattle.cqlp_decode.specs.Events.{event_of}
+use Rattle.cqlp_message.specs.Events.{event_of}
 use Rattle.cqlp_decode.specs.Standing.{StreamState, Pending, Kept, Skipped, Valued, IsPending}
 use Rattle.cqlp_decode.specs.Streams.{Decoding, state, After, AfterBy, Stands, HasRefusedAt, Refuses, Leads, Goes, Answers, Finishes, FinishesBy, frame_of, is_open}
 use Rattle.cqlp_decode.specs.OneAnswer as one

@@ -10,8 +10,8 @@ use Rattle.cqlp_note.specs.declared.refusal.Reason.{Reason}
 use Rattle.cqlp_note.specs.Reader.{says}
 use Rattle.cqlp_note.proofs.Readers.{says_stays}
 use Rattle.cqlp_note.proofs.Runs.{runs_compare, runs_stay, stays_bad}
-use Rattle.cqlp_decode.specs.declared.event.Finish.{Finish}
-use Rattle.cqlp_decode.specs.declared.event.Finish.TheVariants as finish
+use Rattle.cqlp_message.specs.declared.event.Finish.{Finish}
+use Rattle.cqlp_message.specs.declared.event.Finish.TheVariants as finish
 use Rattle.cqlp_decode.specs.declared.running.Outcome.{Outcome}
 use Rattle.cqlp_decode.specs.declared.running.Outcome.TheVariants as outcome
 use Rattle.cqlp_decode.specs.Reading.{Event, Place, Verdict, Waits, Refused, Reads, Says, start, step}

@@ -1,6 +1,4 @@
 pub mod Reading
-pub mod Events
-pub mod Upcoming
 pub mod Pages
 pub mod Standing
 pub mod Streams

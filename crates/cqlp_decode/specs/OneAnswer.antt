@@ -4,15 +4,15 @@ use Rattle.std.specs.Prelude.{◌≡◌, ℕ, ◌++◌, List, [], ◌∷◌, len
 use Rattle.cqlp_note.specs.declared.limits.Limits.{Limits}
 use Rattle.cqlp_note.specs.declared.refusal.Refusal.{Refusal}
 use Rattle.cqlp_note.specs.Limits.{rules_of}
-use Rattle.cqlp_decode.specs.declared.event.Step.{Step}
-use Rattle.cqlp_decode.specs.declared.event.Step.TheVariants as step
-use Rattle.cqlp_decode.specs.declared.event.Finish.{Finish}
-use Rattle.cqlp_decode.specs.declared.event.Finish.TheVariants as finish
-use Rattle.cqlp_decode.specs.declared.event.Held.{Held}
+use Rattle.cqlp_decode.specs.declared.step.Step.{Step}
+use Rattle.cqlp_decode.specs.declared.step.Step.TheVariants as step
+use Rattle.cqlp_message.specs.declared.event.Finish.{Finish}
+use Rattle.cqlp_message.specs.declared.event.Finish.TheVariants as finish
+use Rattle.cqlp_decode.specs.declared.step.Held.{Held}
 use Rattle.cqlp_decode.specs.declared.running.Outcome.{Outcome}
 use Rattle.cqlp_decode.specs.declared.running.Outcome.TheVariants as outcome
 use Rattle.cqlp_decode.specs.Reading.{Event, Place, Verdict, Waits, Refused, Says, start}
-use Rattle.cqlp_decode.specs.Events.{event_of}
+use Rattle.cqlp_message.specs.Events.{event_of}
 use Rattle.cqlp_decode.specs.Standing.{StreamState, levels_of}
 use Rattle.cqlp_decode.specs.Streams.{Decoding, state, After, Uses, Answers, Finishes, FinishesBy}
 use Rattle.cqlp_decode.specs.Draining.{RunsTo, WaitsAt, fold_events}

@@ -27,10 +27,10 @@ use Rattle.cqlp_value.specs.Standing.{is_under_way}
 use Rattle.cqlp_value.specs.Reading as taking
 use Rattle.cqlp_value.specs.Pushing.{is_done}
 use Rattle.cqlp_message.specs.Productions.{Symbol, Stream, Extra, In_type}
-use Rattle.cqlp_decode.specs.declared.table.Want.{Want}
-use Rattle.cqlp_decode.specs.declared.table.Expected.{Expected}
-use Rattle.cqlp_decode.specs.declared.table.Expected.TheVariants as due
-use Rattle.cqlp_decode.specs.declared.upcoming.Slot.{Slot}
+use Rattle.cqlp_message.specs.declared.table.Want.{Want}
+use Rattle.cqlp_message.specs.declared.table.Expected.{Expected}
+use Rattle.cqlp_message.specs.declared.table.Expected.TheVariants as due
+use Rattle.cqlp_message.specs.declared.upcoming.Slot.{Slot}
 use Rattle.cqlp_decode.specs.declared.standing.StreamStage.{StreamStage}
 use Rattle.cqlp_decode.specs.declared.standing.StreamStage.TheVariants as stage
 use Rattle.cqlp_decode.specs.declared.advance.EventOutline.{EventOutline}
@@ -41,7 +41,7 @@ use Rattle.cqlp_decode.specs.declared.standing.StreamStanding.{StreamStanding}
 use Rattle.cqlp_decode.specs.declared.advance.ScalarCell.{ScalarCell}
 use Rattle.cqlp_value.specs.Contents.{value_of as scalar_value}
 use Rattle.cqlp_decode.specs.declared.page.CellCursor.{CellCursor}
-use Rattle.cqlp_decode.specs.Upcoming.{symbols_in, wanted, behind, IsRead}
+use Rattle.cqlp_message.specs.Upcoming.{symbols_in, wanted, behind, IsRead}
 use Rattle.cqlp_decode.specs.Pages.{cells_from, page_symbols, node_by, IsPage}
 use Rattle.cqlp_decode.specs.Reading as reading
 use Rattle.cqlp_decode.specs.Reading.{Place, Event, step}

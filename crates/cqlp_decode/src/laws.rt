@@ -3,7 +3,7 @@
 ghost use Rattle.cqlp_decode.specs.Laws.{FreeHasNoLimit, GoesOn, HandsOutNoMoreEventsThanBytes, HasNoMoreEventsThanBytes, IsSaid, IsSaidOnce, LimitsCutAtFirstExcess, LimitsOnlyCut, SpelledIsRead};
 ghost use Rattle.cqlp_decode.specs.OneAnswer.{IsOneAnswerOfFinish, IsOneAnswerOfHeld, IsOneAnswerOfNew, IsOneAnswerOfNext, IsOneAnswerOfRun, RunsRight};
 
-use crate::sink::Sink;
+use cqlp_message::Sink;
 
 /// Of any bytes there is one list of events, and one verdict.
 pub fn said_once()

@@ -3,17 +3,14 @@
 
 mod advance;
 mod decoder;
-mod event;
-mod following;
 pub mod laws;
+mod metadata;
 mod page;
 mod running;
-mod sink;
 mod standing;
-mod table;
-mod upcoming;
+mod step;
 
+pub use cqlp_message::{Event, Finish, Sink, SinkFault};
 pub use decoder::{Decoder, NewError};
-pub use event::{Event, Finish, Held, Step};
 pub use running::{Outcome, run};
-pub use sink::{Sink, SinkFault};
+pub use step::{Held, Step};

@@ -10,8 +10,7 @@ ghost use Rattle.cqlp_decode.specs.Reading as reading;
 ghost use Rattle.cqlp_decode.specs.Reading.{page_types};
 ghost use Rattle.cqlp_decode.specs.Pages.{Begins, Follows, IsKind, IsPage, IsSomePage, NextColumn, Turns, column_types, node_by};
 
-use crate::following::{has, number};
-use cqlp_message::Role;
+use cqlp_message::{Role, has, number};
 use cqlp_note::{Limits, Prim};
 use cqlp_type::{Kind, TypeTable};
 use std::alloc::Allocator;

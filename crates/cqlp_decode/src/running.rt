@@ -6,8 +6,8 @@ ghost use Rattle.cqlp_decode.specs.Streams.{state};
 ghost use Rattle.cqlp_note.specs.declared.refusal.Refusal.{Refusal};
 
 use crate::decoder::Decoder;
-use crate::event::{Finish, Step};
-use crate::sink::{Sink, SinkFault};
+use crate::step::Step;
+use cqlp_message::{Finish, Sink, SinkFault};
 use cqlp_note::{IoFault, Source};
 use std::alloc::Allocator;
 

@@ -6,12 +6,9 @@ ghost use Rattle.cqlp_note.specs.declared.refusal.Refusal.{Refusal as Refusing};
 ghost use Rattle.cqlp_decode.specs.Standing.{came_of, stage_with};
 
 use crate::advance::{EventAdvance, EventOutline, ScalarCell};
-use crate::event::Finish;
-use crate::following::{begin_metadata, fault_in};
+use crate::metadata::begin_metadata;
 use crate::page::{CellCursor, page_behind};
-use crate::table::{Expected, Want};
-use crate::upcoming::Upcoming;
-use cqlp_message::Role;
+use cqlp_message::{Expected, Finish, Role, Upcoming, Want, fault_in};
 use cqlp_note::{
     self as note, Field, FieldOutline, Header, Limits, Notation, Partial, Prim, Reason, Refusal,
 };
@@ -68,7 +65,7 @@ impl StreamStanding {
     ghost use Rattle.cqlp_decode.specs.Reading as reading;
     ghost use Rattle.cqlp_decode.specs.Reading.{start};
     ghost use Rattle.cqlp_decode.specs.Streams.{After, Finishes};
-    ghost use Rattle.cqlp_decode.specs.Upcoming.{behind, symbols_in};
+    ghost use Rattle.cqlp_message.specs.Upcoming.{behind, symbols_in};
     ghost use Rattle.cqlp_decode.specs.declared.standing.StreamStage.TheVariants as stage;
     ghost use Rattle.cqlp_decode.specs.Standing.{Advances, HasParts, HasRoom, IsAsked, IsBounded, IsIdle, IsConsistent, IsPending, IsPlaced, IsQuiet, IsWanted, Kept, LeavesTypes, Moves, Parts, Starts, Takes, asked, parts, refusal_in, rest_of, state_of, symbols_at};
     ghost use Rattle.cqlp_decode.specs.Pages.{IsPage, cells_behind, node_by};

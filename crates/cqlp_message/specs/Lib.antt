@@ -1,4 +1,5 @@
 pub mod Productions
+pub mod Upcoming
 pub mod FrameValues
 pub mod Owned
 pub mod Events

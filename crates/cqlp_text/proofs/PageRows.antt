@@ -6,7 +6,7 @@ use Rattle.cqlp_note.specs.declared.field.Field.TheVariants as field
 use Rattle.cqlp_type.specs.declared.kind.Kind.TheVariants as kind
 use Rattle.cqlp_value.specs.CellStep as cell
 use Rattle.cqlp_value.specs.Scalars as scalar
-use Rattle.cqlp_decode.specs.Reading.{Event, Holds, Cell_at, Leave, End}
+use Rattle.cqlp_message.specs.Events.{Event, Holds, Cell_at, Leave, End}
 use Rattle.cqlp_text.specs.PageText.{no_page, page_text}
 use Rattle.hex.specs.Hex.{encode_with}
 

@@ -7,7 +7,7 @@ use Rattle.std.proofs.lemmas.Bool.Decides.{nat_tests}
 use Rattle.std.proofs.lemmas.Bool.{lt-ltb, le-ltb}
 use Rattle.std.specs.Io.KnownBytes.{Appends}
 use Rattle.cqlp_note.specs.Streams.{counted}
-use Rattle.cqlp_decode.specs.declared.sink.SinkFault.{SinkFault}
+use Rattle.cqlp_message.specs.declared.sink.SinkFault.{SinkFault}
 use Rattle.cqlp_text.specs.Outputs.{WritesText, output}
 use Rattle.cqlp_text.specs.Written.{Written, PassesOn, Receives, BreaksOff, Writes, bare}
 

@@ -1,8 +1,8 @@
 -- Laws of one answer: what a call writes is decided by its arguments, but for whether its target failed.
 use Rattle.std.specs.Prelude.{◌≡◌, ℕ, ◌-◌, ◌^◌, ◌<◌, List, length, IsSome, Result, Ok, Err, ◌⊎◌}
 use Rattle.cqlp_value.specs.Scalars.{ScalarValue}
-use Rattle.cqlp_decode.specs.declared.sink.SinkFault.{SinkFault}
-use Rattle.cqlp_decode.specs.Reading.{Event}
+use Rattle.cqlp_message.specs.declared.sink.SinkFault.{SinkFault}
+use Rattle.cqlp_message.specs.Events.{Event}
 use Rattle.cqlp_text.specs.declared.ending.Ending.{Ending}
 use Rattle.cqlp_text.specs.CellText.{cell_text}
 use Rattle.cqlp_text.specs.Endings.{ending_line, cannot_open_line}

@@ -2,7 +2,7 @@
 use Rattle.std.specs.Prelude.{◌≡◌, ◌≤◌, ℕ, true, nat_lt, List, ◌∷◌, ◌++◌, length, take, Option, Result, Ok, Err}
 use Rattle.std.specs.Io.KnownBytes.{Appends, append_known}
 use Rattle.cqlp_note.specs.Streams.{counted}
-use Rattle.cqlp_decode.specs.declared.sink.SinkFault.{SinkFault}
+use Rattle.cqlp_message.specs.declared.sink.SinkFault.{SinkFault}
 
 -- what a target was given, where that is known, and how often it failed
 pub record Output : Type 0 where

@@ -7,7 +7,7 @@ ghost use Rattle.cqlp_text.specs.Outputs.{WritesText, output};
 use crate::names::reason_name;
 use crate::text_writer::TextWriter;
 use crate::word::Word;
-use cqlp_decode::{Finish, SinkFault};
+use cqlp_message::{Finish, SinkFault};
 use cqlp_note::{Refusal, Target};
 
 /// How a command ends.

@@ -5,7 +5,7 @@ ghost use Rattle.cqlp_text.specs.Outputs.{WritesText, output};
 ghost use Rattle.cqlp_text.specs.Written.{Writes, bare};
 
 use crate::targets::offer;
-use cqlp_decode::SinkFault;
+use cqlp_message::SinkFault;
 use cqlp_note::Target;
 use std::marker::Model;
 

@@ -9,8 +9,8 @@ use Rattle.cqlp_note.specs.declared.refusal.Refusal.{Refusal}
 use Rattle.cqlp_note.specs.Limits.{Rules, rules_of}
 use Rattle.cqlp_note.specs.Streams.{counted}
 use Rattle.cqlp_note.proofs.Runs.{runs_stay, runs_compare}
-use Rattle.cqlp_decode.specs.declared.event.Finish.{Finish}
-use Rattle.cqlp_decode.specs.declared.event.Finish.TheVariants as finish
+use Rattle.cqlp_message.specs.declared.event.Finish.{Finish}
+use Rattle.cqlp_message.specs.declared.event.Finish.TheVariants as finish
 use Rattle.cqlp_decode.specs.declared.running.Outcome.{Outcome}
 use Rattle.cqlp_decode.specs.declared.running.Outcome.TheVariants as outcome
 use Rattle.cqlp_decode.specs.Reading.{Event, Place, Verdict, Waits, Refused, Says, Reads, start, step}

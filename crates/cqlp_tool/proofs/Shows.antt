@@ -18,7 +18,7 @@ use Rattle.cqlp_tool.specs.Showing.{RendersOrFails, ShowsTo, Concludes, Conclude
 use Rattle.cqlp_text.specs.declared.ending.Ending.{Ending}
 use Rattle.cqlp_text.specs.declared.ending.Ending.TheVariants as ending
 use Rattle.cqlp_text.specs.Endings.{ending_line, status_of}
-use Rattle.cqlp_decode.specs.declared.event.Finish.{Finish}
+use Rattle.cqlp_message.specs.declared.event.Finish.{Finish}
 use Rattle.cqlp_note.specs.declared.limits.Limits.{Limits}
 use Rattle.cqlp_note.specs.Limits.{rules_of}
 use Rattle.cqlp_tool.proofs.Renders.{known_nothing, known_still, text-last, renders_to}

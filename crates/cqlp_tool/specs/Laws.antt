@@ -3,8 +3,8 @@
 use Rattle.std.specs.Prelude.{◌≡◌, ◌≢◌, ℕ, ◌-◌, ◌^◌, ◌<◌, List, [], ◌++◌, length, Option, None, ◌⊎◌}
 use Rattle.cqlp_note.specs.declared.limits.Limits.{Limits}
 use Rattle.cqlp_note.specs.Limits.{rules_of}
-use Rattle.cqlp_decode.specs.declared.event.Finish.{Finish}
-use Rattle.cqlp_decode.specs.declared.event.Finish.TheVariants as finish
+use Rattle.cqlp_message.specs.declared.event.Finish.{Finish}
+use Rattle.cqlp_message.specs.declared.event.Finish.TheVariants as finish
 use Rattle.cqlp_decode.specs.declared.running.Outcome.{Outcome}
 use Rattle.cqlp_decode.specs.declared.running.Outcome.TheVariants as outcome
 use Rattle.cqlp_decode.specs.Reading.{Event, Verdict, Waits, Refused, Says, start}

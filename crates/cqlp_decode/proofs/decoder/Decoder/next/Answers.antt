@@ -1,8 +1,8 @@
 use Rattle.std.proofs.Common.{◌≡◌, refl, [], ap, ◌∙◌, subst}
 use Rattle.std.specs.Prelude.{Option}
 use Rattle.cqlp_note.specs.declared.refusal.Refusal.{Refusal}
-use Rattle.cqlp_decode.specs.declared.event.Event.TheVariants as event
-use Rattle.cqlp_decode.specs.declared.event.Step.TheVariants as steps
+use Rattle.cqlp_message.specs.declared.event.Event.TheVariants as event
+use Rattle.cqlp_decode.specs.declared.step.Step.TheVariants as steps
 use Rattle.cqlp_decode.specs.declared.advance.EventAdvance.TheVariants as advance
 use Rattle.cqlp_decode.specs.Standing.{StreamState, Advances}
 use Rattle.cqlp_decode.specs.Streams.{AfterBy, state}

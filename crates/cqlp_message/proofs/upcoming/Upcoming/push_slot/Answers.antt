@@ -1,8 +1,8 @@
 use Rattle.std.proofs.Common.{◌≡◌, ◌+◌, ◌≤◌, length, arith, rules}
 use Rattle.std.proofs.lemmas.List.{length-take-le}
-use Rattle.cqlp_decode.specs.Upcoming.{need}
-use Rattle.cqlp_decode.proofs.Stack.{one_needed, pushed-is, pushed-fits}
-use Rattle.cqlp_decode.proofs.upcoming.Upcoming.push.Goals as goal
+use Rattle.cqlp_message.specs.Upcoming.{need}
+use Rattle.cqlp_message.proofs.Stack.{one_needed, pushed-is, pushed-fits}
+use Rattle.cqlp_message.proofs.upcoming.Upcoming.push_slot.Goals as goal
 
 pub invariant_of-self : goal.invariant_of-self
 invariant_of-self c =

@@ -4,11 +4,11 @@ ghost use Rattle.std.specs.Prelude.{◌≡◌, ◌+◌, ◌<◌, ◌≤◌, leng
 ghost use Rattle.std.specs.Prelude.{◌++◌};
 ghost use Rattle.cqlp_note.specs.Heading.{beside_number, has as has_bit};
 ghost use Rattle.cqlp_message.specs.Productions.{body, by_text, errors, events, group as symbols_of_group, or_nothing, results, targets};
-ghost use Rattle.cqlp_decode.specs.Upcoming.{AreRead, behind_due, opened, room_for, wants};
+ghost use Rattle.cqlp_message.specs.Upcoming.{AreRead, behind_due, opened, room_for, wants};
 ghost use Rattle.std.specs.Prelude.{◌-◌, drop, slice_index_or};
-ghost use Rattle.cqlp_decode.specs.declared.table.Expected.{Expected as Declared};
+ghost use Rattle.cqlp_message.specs.declared.table.Expected.{Expected as Declared};
 
-use cqlp_message::{Group, Role};
+use crate::grammar::{Group, Role};
 use cqlp_note::{Field, Notation, Opcode};
 
 /// What is to be read next.

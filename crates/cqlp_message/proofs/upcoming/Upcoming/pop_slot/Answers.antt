@@ -2,11 +2,11 @@ use Rattle.std.proofs.Common.{◌≡◌, length, arith, rules}
 use Rattle.cqlp_note.specs.declared.field.Field.TheVariants.{TraceId}
 use Rattle.cqlp_note.specs.declared.field.Notation.TheVariants.{Byte}
 use Rattle.cqlp_message.specs.declared.grammar.Role.TheVariants.{Alone}
-use Rattle.cqlp_decode.specs.declared.table.Expected.TheVariants.{Field}
-use Rattle.cqlp_decode.specs.declared.upcoming.Slot.{Slot}
-use Rattle.cqlp_decode.specs.declared.upcoming.Slot.TheVariants.{One}
-use Rattle.cqlp_decode.proofs.Stack.{popped-is, popped-fits}
-use Rattle.cqlp_decode.proofs.upcoming.Upcoming.pop_slot.Goals as goal
+use Rattle.cqlp_message.specs.declared.table.Expected.TheVariants.{Field}
+use Rattle.cqlp_message.specs.declared.upcoming.Slot.{Slot}
+use Rattle.cqlp_message.specs.declared.upcoming.Slot.TheVariants.{One}
+use Rattle.cqlp_message.proofs.Stack.{popped-is, popped-fits}
+use Rattle.cqlp_message.proofs.upcoming.Upcoming.pop_slot.Goals as goal
 
 abbrev none : Slot
 none = One (Field (record { field = TraceId; notation = Byte; role = Alone }))

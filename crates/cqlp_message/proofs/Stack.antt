@@ -3,13 +3,14 @@ use Rattle.std.proofs.Common.{◌≡◌, ℕ, zero, suc, drop, drop-cons, add-on
 use Rattle.std.proofs.Math.ListN.{set}
 use Rattle.std.proofs.lemmas.List.{append-nil, take_more, take_more_set, length-take-le, drop_all}
 use Rattle.std.specs.Prelude.{max}
-use Rattle.cqlp_message.specs.Productions.{Symbol, copies, group}
+use Rattle.cqlp_type.specs.Types.{NoMore}
+use Rattle.cqlp_message.specs.Productions.{Symbol, copies, group, rows_from}
 use Rattle.cqlp_message.specs.declared.grammar.Group.{Group}
 use Rattle.std.specs.Prelude.{Some}
-use Rattle.cqlp_decode.specs.declared.table.Expected.{Expected}
-use Rattle.cqlp_decode.specs.declared.upcoming.Slot.{Slot}
-use Rattle.cqlp_decode.specs.declared.upcoming.Slot.TheVariants.{One, Many}
-use Rattle.cqlp_decode.specs.Upcoming.{symbols_of, symbols_in, need, behind_due, room_for, wanted, wants, IsSlot, IsRead, AreRead, Fits, Popped, Pops}
+use Rattle.cqlp_message.specs.declared.table.Expected.{Expected}
+use Rattle.cqlp_message.specs.declared.upcoming.Slot.{Slot}
+use Rattle.cqlp_message.specs.declared.upcoming.Slot.TheVariants.{One, Many}
+use Rattle.cqlp_message.specs.Upcoming.{symbols_of, symbols_in, need, behind_due, room_for, wanted, wants, IsSlot, IsRead, AreRead, Fits, Popped, Pops}
 
 pub symbols_pushed : (ss : List Slot) (s : Slot) → symbols_in (ss ++ s ∷ []) ≡ symbols_of s ++ symbols_in ss
 symbols_pushed [] s = sym (append-nil (symbols_of s))
@@ -80,3 +81,10 @@ next_many old mid rest new g n w p others first room followed =
       room,
       followed,
     )
+
+-- ---- pages
+
+-- rows without columns are nothing
+pub rows_none : (row n : ℕ) → rows_from row NoMore n ≡ []
+rows_none row zero = refl
+rows_none row (suc n) = rows_none (row + 1) n

@@ -1,5 +1,5 @@
-use Rattle.cqlp_decode.proofs.Stack.{next_many}
-use Rattle.cqlp_decode.proofs.upcoming.Upcoming.pop.Goals as goal
+use Rattle.cqlp_message.proofs.Stack.{next_many}
+use Rattle.cqlp_message.proofs.upcoming.Upcoming.pop.Goals as goal
 
 pub returns-in-Many : goal.returns-in-Many
 returns-in-Many c =

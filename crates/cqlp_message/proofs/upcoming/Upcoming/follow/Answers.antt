@@ -2,9 +2,9 @@ use Rattle.std.proofs.Common.{List, ◌++◌, sym, ap}
 use Rattle.cqlp_note.specs.Head.{value_of}
 use Rattle.cqlp_type.specs.Types.{NoMore}
 use Rattle.cqlp_message.specs.Productions.{Symbol, number_in}
-use Rattle.cqlp_decode.specs.Upcoming.{symbols_in}
-use Rattle.cqlp_decode.proofs.Columns.{rows_none}
-use Rattle.cqlp_decode.proofs.upcoming.Upcoming.follow.Goals as goal
+use Rattle.cqlp_message.specs.Upcoming.{symbols_in}
+use Rattle.cqlp_message.proofs.Stack.{rows_none}
+use Rattle.cqlp_message.proofs.upcoming.Upcoming.follow.Goals as goal
 
 pub returns-in-MetaColumns : goal.returns-in-MetaColumns
 returns-in-MetaColumns c = rw c.in-MetaColumns.is (c.push_metadata.ensures NoMore (value_of c.args.value) (sym c.number-number.ensures))

@@ -5,21 +5,18 @@ ghost use Rattle.cqlp_note.specs.Heading.{has as has_bit};
 ghost use Rattle.cqlp_note.specs.Field.{FieldValue};
 ghost use Rattle.cqlp_note.specs.Head.{value_of};
 ghost use Rattle.cqlp_type.specs.Types.{Types, NoMore};
-ghost use Rattle.cqlp_decode.specs.Reading.{nodes_after};
 ghost use Rattle.cqlp_message.specs.Productions.{Extra, In, batch_parts, entry_parts, fault_in as fault_of, following, message, number_in, query_parts, specs, text_in};
 
+use crate::grammar::{Group, Role};
 use crate::table::{
     Expected, Want, body_fields, counted, error_fields, event_fields, plain, result_fields,
     target_fields,
 };
 use crate::upcoming::Upcoming;
-use cqlp_message::{Group, Role};
 use cqlp_note::{Field, Header, Notation, Prim, Reason};
-use cqlp_type::TypeTable;
-use std::alloc::Allocator;
 
 impl Upcoming {
-    ghost use Rattle.cqlp_decode.specs.Upcoming.{behind, symbols_in};
+    ghost use Rattle.cqlp_message.specs.Upcoming.{behind, symbols_in};
 
     /// Begins a message: the parts that its header announces, and its fields.
     pub fn begin(&mut self, header: &Header)
@@ -55,7 +52,7 @@ impl Upcoming {
             Role::BatchFlags => self.push_batch_parts(number),
             Role::ErrorCode => {
                 self.push_fields(error_fields(number));
-                self.push_if(true, plain!(Message, Text16));
+                self.push(plain!(Message, Text16));
             }
             Role::ResultKind => self.push_fields(result_fields(number)),
             Role::ChangeTarget => self.push_fields(target_fields(text(value))),
@@ -85,14 +82,11 @@ impl Upcoming {
         ensures symbols { symbols_in self.new ≡ In field Notation.Count32 role ∷ symbols_in self.old }
     {
         let notation = Notation::Count32;
-        self.push_if(
-            true,
-            Expected::Field(Want {
-                field,
-                notation,
-                role,
-            }),
-        );
+        self.push(Expected::Field(Want {
+            field,
+            notation,
+            role,
+        }));
     }
 
     /// The rest of metadata behind the number of its columns, and the number of rows where they follow.
@@ -120,7 +114,7 @@ impl Upcoming {
             notation: Notation::Int,
             role: Role::MetaFlags { rows: false },
         });
-        self.push_if(true, result_flags);
+        self.push(result_flags);
         self.push_specs_unless(false, flags, columns);
         self.push_many(Group::KeyIndexes, keys);
     }
@@ -170,21 +164,12 @@ impl Upcoming {
         requires { length self.old + 2 ≤ 16 }
         ensures { symbols_in self.new ≡ entry_parts kind ++ symbols_in self.old }
     {
-        self.push_if(true, counted!(Values, Group::BatchValues));
+        self.push(counted!(Values, Group::BatchValues));
         if kind == 0 {
-            self.push_if(true, plain!(Query, Text32));
+            self.push(plain!(Query, Text32));
         } else {
-            self.push_if(true, plain!(StatementId, Bytes16));
+            self.push(plain!(StatementId, Bytes16));
         }
-    }
-}
-
-/// Metadata begins without types.
-pub fn begin_metadata<A: Allocator>(role: Role, table: &mut TypeTable<A>)
-    ensures { table.new ≡ record { nodes = nodes_after role table.old.nodes; room = table.old.room } }
-{
-    if matches!(role, Role::MetaFlags { .. } | Role::PreparedFlags) {
-        table.clear();
     }
 }
 

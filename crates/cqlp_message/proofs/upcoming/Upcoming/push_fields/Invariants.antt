@@ -1,6 +1,6 @@
 use Rattle.std.proofs.Common.{◌≡◌, ◌+◌, ◌-◌, ◌≤◌, ◌++◌, length, drop}
-use Rattle.cqlp_decode.specs.Upcoming.{symbols_in, wants}
-use Rattle.cqlp_decode.proofs.upcoming.Upcoming.push_fields.Given as goal
+use Rattle.cqlp_message.specs.Upcoming.{symbols_in, wants}
+use Rattle.cqlp_message.proofs.upcoming.Upcoming.push_fields.Given as goal
 
 -- the fields from number `left` on stand before all else
 abbrev pub invariant-loop-left : goal.invariant-loop-left

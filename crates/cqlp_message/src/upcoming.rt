@@ -1,17 +1,17 @@
 //! What is still to be read of a message.
 
 ghost use Rattle.std.specs.Prelude.{◌≡◌, ◌+◌, ◌<◌, ◌≤◌, ◌++◌, ◌∷◌, [], length, drop, max, if◌then◌else◌};
-ghost use Rattle.cqlp_decode.specs.declared.upcoming.Slot.TheVariants as slot;
+ghost use Rattle.cqlp_message.specs.declared.upcoming.Slot.TheVariants as slot;
 
+use crate::grammar::Group;
 use crate::table::{Expected, group_fields};
-use cqlp_message::Group;
 use std::marker::Model;
 
 /// Fields that are still to be read.
 #[derive(Clone, Copy, Debug, PartialEq, Eq)]
 pub enum Slot {
     One(Expected),
-    /// So many of this group.
+    /// This many of a group.
     Many(Group, u32),
 }
 
@@ -24,8 +24,8 @@ pub struct Upcoming {
 
 impl Model for Upcoming {
     ghost use Rattle.std.specs.Prelude.{List, ◌≤◌, take};
-    ghost use Rattle.cqlp_decode.specs.declared.upcoming.Slot.{Slot};
-    ghost use Rattle.cqlp_decode.specs.Upcoming.{Fits};
+    ghost use Rattle.cqlp_message.specs.declared.upcoming.Slot.{Slot};
+    ghost use Rattle.cqlp_message.specs.Upcoming.{Fits};
 
     ghost Value = { List Slot };
 
@@ -35,7 +35,7 @@ impl Model for Upcoming {
 }
 
 impl Upcoming {
-    ghost use Rattle.cqlp_decode.specs.Upcoming.{Popped, Pops, IsSlot, IsRead, AreRead, need, opened, behind_due, room_for, symbols_in, wanted, wants};
+    ghost use Rattle.cqlp_message.specs.Upcoming.{Popped, Pops, IsSlot, IsRead, AreRead, need, opened, behind_due, room_for, symbols_in, wanted, wants};
     ghost use Rattle.cqlp_message.specs.Productions.{copies, group as symbols_of_group};
 
     pub fn new() -> Self
@@ -47,7 +47,7 @@ impl Upcoming {
         }
     }
 
-    pub fn clear(&mut self)
+    pub(crate) fn clear(&mut self)
         ensures { self.new ≡ [] }
     {
         self.len = 0;
@@ -67,34 +67,44 @@ impl Upcoming {
         }
     }
 
-    /// Puts so many groups before all else.
+    /// Puts this many groups before all else.
     #[tactic(auto, using(crate::proofs::Stack::symbols_pushed))]
-    pub fn push_many(&mut self, group: Group, count: u32)
+    pub(crate) fn push_many(&mut self, group: Group, count: u32)
         requires { length self.old + (opened group + 1) ≤ 16 }
         ensures symbols { symbols_in self.new ≡ copies count (symbols_of_group group) ++ symbols_in self.old }
         ensures height { length self.new ≤ length self.old + 1 }
     {
         if count > 0 {
-            self.push(Slot::Many(group, count));
+            self.push_slot(Slot::Many(group, count));
         }
     }
 
-    /// Puts a field before all else, where it stands.
+    /// Puts a field before all else.
     #[tactic(auto, using(crate::proofs::Stack::symbols_pushed))]
-    pub fn push_if(&mut self, stands: bool, due: Expected)
+    pub(crate) fn push(&mut self, due: Expected)
+        requires read { IsRead due }
+        requires room { length self.old + max 1 (behind_due due) ≤ 16 }
+        ensures symbols { symbols_in self.new ≡ wanted due ∷ symbols_in self.old }
+        ensures height { length self.new ≡ length self.old + 1 }
+    {
+        self.push_slot(Slot::One(due));
+    }
+
+    /// Puts a field before all else, where it stands.
+    pub(crate) fn push_if(&mut self, stands: bool, due: Expected)
         requires read { IsRead due }
         requires room { length self.old + max 1 (behind_due due) ≤ 16 }
         ensures symbols { symbols_in self.new ≡ (if stands then wanted due ∷ [] else []) ++ symbols_in self.old }
         ensures height { length self.new ≤ length self.old + 1 }
     {
         if stands {
-            self.push(Slot::One(due));
+            self.push(due);
         }
     }
 
     /// Puts these fields before all else.
     #[tactic(auto, using(crate::proofs::Stack::read_at, crate::proofs::Stack::room_at, crate::proofs::Stack::fields_pushed, crate::proofs::Stack::fields_none))]
-    pub fn push_fields(&mut self, fields: &[Expected])
+    pub(crate) fn push_fields(&mut self, fields: &[Expected])
         requires read { AreRead fields.now }
         requires room { length self.old + room_for fields.now ≤ 16 }
         ensures symbols { symbols_in self.new ≡ wants fields.now ++ symbols_in self.old }
@@ -103,7 +113,7 @@ impl Upcoming {
         let mut left = fields.len();
         while left > 0 {
             left -= 1;
-            self.push(Slot::One(fields[left]));
+            self.push_slot(Slot::One(fields[left]));
         }
     }
 
@@ -119,7 +129,7 @@ impl Upcoming {
         fields[0]
     }
 
-    fn push(&mut self, slot: Slot)
+    fn push_slot(&mut self, slot: Slot)
         requires lawful { IsSlot slot }
         requires room { length self.old + need slot ≤ 16 }
         ensures { self.new ≡ self.old ++ slot ∷ [] }

@@ -12,8 +12,8 @@ pub struct SinkFault;
 
 /// What takes the events of a stream, one after the other.
 pub trait Sink {
-    ghost use Rattle.cqlp_decode.specs.Events.{event_of};
-    ghost use Rattle.cqlp_decode.specs.Reading as reading;
+    ghost use Rattle.cqlp_message.specs.Events.{event_of};
+    ghost use Rattle.cqlp_message.specs.Events as told;
 
     /// What contracts see of it.
     ghost View: { Type 0 };
@@ -24,10 +24,10 @@ pub trait Sink {
     ghost tells: { Self → Type 0 } = { λ _. Unit {0} };
 
     /// The view after an event at an offset, from the view before it.
-    ghost after: { View → ℕ → reading.Event → View };
+    ghost after: { View → ℕ → told.Event → View };
 
     /// What a fault at an event may leave.
-    ghost faulted: { View → ℕ → reading.Event → View → Type 0 };
+    ghost faulted: { View → ℕ → told.Event → View → Type 0 };
 
     /// Takes the event at an offset.
     fn take(&mut self, at: u64, event: &Event<'_>) -> Result<(), SinkFault>

@@ -7,10 +7,10 @@ use Rattle.cqlp_message.specs.declared.grammar.Role.TheVariants as role
 use Rattle.cqlp_message.specs.Productions.{Symbol, In, In_type, copies, group}
 use Rattle.cqlp_type.specs.TypeStep.{Option_at}
 use Rattle.cqlp_note.specs.Head.{fixed_of}
-use Rattle.cqlp_decode.specs.declared.table.Expected.{Expected}
-use Rattle.cqlp_decode.specs.declared.table.Expected.TheVariants as due
-use Rattle.cqlp_decode.specs.declared.upcoming.Slot.{Slot}
-use Rattle.cqlp_decode.specs.declared.upcoming.Slot.TheVariants.{One, Many}
+use Rattle.cqlp_message.specs.declared.table.Expected.{Expected}
+use Rattle.cqlp_message.specs.declared.table.Expected.TheVariants as due
+use Rattle.cqlp_message.specs.declared.upcoming.Slot.{Slot}
+use Rattle.cqlp_message.specs.declared.upcoming.Slot.TheVariants.{One, Many}
 
 abbrev pub wanted : Expected → Symbol
 wanted (due.Field w) = In w.field w.notation w.role

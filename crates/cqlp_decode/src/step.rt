@@ -1,0 +1,33 @@
+//! What calls of a decoder tell.
+
+use cqlp_message::Event;
+use cqlp_note::Refusal;
+
+/// What one call makes of the input.
+#[derive(Clone, Copy, Debug, PartialEq, Eq)]
+pub enum Step<'a> {
+    /// An event, whose field begins at this offset of the stream; an end's offset is the frame's end. So many bytes of
+    /// the input were used.
+    Event {
+        at: u64,
+        used: usize,
+        event: Event<'a>,
+    },
+    /// All of the input was used, and more is wanted.
+    More {
+        used: usize,
+    },
+    /// The stream is refused, here and at every later call; nothing was used.
+    Refused(Refusal),
+}
+
+/// What a decoder holds of the stream.
+#[derive(Clone, Copy, Debug, PartialEq, Eq)]
+pub struct Held {
+    /// The bytes of a content that came in pieces.
+    pub bytes: u32,
+    /// The type options of the metadata begun last.
+    pub entries: u32,
+    /// The types or values around the one that is read.
+    pub levels: u32,
+}
