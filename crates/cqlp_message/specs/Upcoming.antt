@@ -1,11 +1,13 @@
 -- What is still to be read of a message, as it is kept.
-use Rattle.std.specs.Prelude.{◌≡◌, ℕ, ◌+◌, ◌<◌, ◌≤◌, ◌++◌, List, [], ◌∷◌, length, Option, Some, None, max, ⊤}
+use Rattle.std.specs.Prelude.{◌≡◌, ℕ, ◌+◌, ◌<◌, ◌≤◌, ◌++◌, ◌-◌, List, [], ◌∷◌, length, slice_index_or, Option, Some, None, max, ⊤}
 use Rattle.cqlp_message.specs.declared.grammar.Group.{Group}
 use Rattle.cqlp_message.specs.declared.grammar.Group.TheVariants as group_of
 use Rattle.cqlp_message.specs.declared.grammar.Role.{Role}
 use Rattle.cqlp_message.specs.declared.grammar.Role.TheVariants as role
-use Rattle.cqlp_message.specs.Productions.{Symbol, In, In_type, copies, group}
+use Rattle.cqlp_message.specs.Productions.{Symbol, In, In_type, copies, group, following, number_in}
+use Rattle.cqlp_type.specs.Types.{Types}
 use Rattle.cqlp_type.specs.TypeStep.{Option_at}
+use Rattle.cqlp_note.specs.Field.{FieldValue}
 use Rattle.cqlp_note.specs.Head.{fixed_of}
 use Rattle.cqlp_message.specs.declared.table.Expected.{Expected}
 use Rattle.cqlp_message.specs.declared.table.Expected.TheVariants as due
@@ -87,6 +89,10 @@ abbrev pub room_for : List Expected → ℕ
 room_for [] = 0
 room_for (w ∷ ws) = max (room_for ws) (length ws + max 1 (behind_due w))
 
+-- beside the other fields, what follows the first takes no more slots than these
+abbrev pub FirstFits : List Expected → (most : ℕ) → Type 0
+FirstFits ws most = (d : Expected) → (length ws - 1) + behind_due (slice_index_or ws 0 d) ≤ most
+
 -- no slot stands for nothing
 abbrev pub IsSlot : Slot → Type 0
 IsSlot (One w) = IsRead w
@@ -102,6 +108,11 @@ Fits k (s ∷ ss) = IsSlot s × (k + need s ≤ 16) × Fits (k + 1) ss
 abbrev pub Popped : List Slot → Option Slot → List Slot → Type 0
 Popped old None new = (old ≡ []) × (new ≡ [])
 Popped old (Some s) new = (old ≡ new ++ s ∷ []) × (length new + need s ≤ 16) × IsSlot s
+
+-- what follows a field of this role and number stands before all else
+abbrev pub PutsFollowing : Role → (number : ℕ) → List Slot → List Slot → Type 0
+PutsFollowing r number old new =
+    (types : Types) (v : FieldValue) → number_in v ≡ number → symbols_in new ≡ following types r v ++ symbols_in old
 
 -- the next field, and room for what follows it
 abbrev pub Pops : List Slot → Option Expected → List Slot → Type 0

@@ -1,10 +1,9 @@
 //! What follows a header, and what follows a field.
 
-ghost use Rattle.std.specs.Prelude.{◌≡◌, ◌+◌, ◌≤◌, ◌++◌, ◌∷◌, [], length, if◌then◌else◌};
+ghost use Rattle.std.specs.Prelude.{◌≡◌, ◌+◌, ◌≤◌, ◌++◌, ◌∷◌, [], length};
 ghost use Rattle.cqlp_note.specs.Heading.{has as has_bit};
-ghost use Rattle.cqlp_note.specs.Field.{FieldValue};
 ghost use Rattle.cqlp_note.specs.Head.{value_of};
-ghost use Rattle.cqlp_type.specs.Types.{Types, NoMore};
+ghost use Rattle.cqlp_type.specs.Types.{NoMore};
 ghost use Rattle.cqlp_message.specs.Productions.{Extra, In, batch_parts, entry_parts, fault_in as fault_of, following, message, number_in, query_parts, specs, text_in};
 
 use crate::grammar::{Group, Role};
@@ -16,7 +15,7 @@ use crate::upcoming::Upcoming;
 use cqlp_note::{Field, Header, Notation, Prim, Reason};
 
 impl Upcoming {
-    ghost use Rattle.cqlp_message.specs.Upcoming.{behind, symbols_in};
+    ghost use Rattle.cqlp_message.specs.Upcoming.{PutsFollowing, behind, symbols_in};
 
     /// Begins a message: the parts that its header announces, and its fields.
     pub fn begin(&mut self, header: &Header)
@@ -92,7 +91,7 @@ impl Upcoming {
     /// The rest of metadata behind the number of its columns, and the number of rows where they follow.
     fn push_metadata(&mut self, rows: bool, flags: u32, columns: u32)
         requires { length self.old + 5 ≤ 16 }
-        ensures { (types : Types) (v : FieldValue) → number_in v ≡ columns → symbols_in self.new ≡ following types (Role.MetaColumns rows flags) v ++ symbols_in self.old }
+        ensures { PutsFollowing (Role.MetaColumns rows flags) columns self.old self.new }
     {
         let rows_due = Expected::Field(Want {
             field: Field::Rows,
@@ -100,14 +99,16 @@ impl Upcoming {
             role: Role::PageRows { flags, columns },
         });
         self.push_if(rows, rows_due);
-        self.push_specs_unless(has(flags, 0x04), flags, columns);
+        if !has(flags, 0x04) {
+            self.push_specs(flags, columns);
+        }
         self.push_if(has(flags, 0x02), plain!(PagingState, Bytes32));
     }
 
     /// The rest of the metadata of a prepared statement's values, and the metadata of its result.
     fn push_prepared(&mut self, flags: u32, columns: u32, keys: u32)
         requires { length self.old + 5 ≤ 16 }
-        ensures { (types : Types) (v : FieldValue) → number_in v ≡ keys → symbols_in self.new ≡ following types (Role.PreparedKeys flags columns) v ++ symbols_in self.old }
+        ensures { PutsFollowing (Role.PreparedKeys flags columns) keys self.old self.new }
     {
         let result_flags = Expected::Field(Want {
             field: Field::MetaFlags,
@@ -115,19 +116,16 @@ impl Upcoming {
             role: Role::MetaFlags { rows: false },
         });
         self.push(result_flags);
-        self.push_specs_unless(false, flags, columns);
+        self.push_specs(flags, columns);
         self.push_many(Group::KeyIndexes, keys);
     }
 
     /// The columns of a table, or of several.
-    fn push_specs_unless(&mut self, left_out: bool, flags: u32, columns: u32)
+    fn push_specs(&mut self, flags: u32, columns: u32)
         requires { length self.old + 4 ≤ 16 }
-        ensures symbols { symbols_in self.new ≡ (if left_out then [] else specs flags columns) ++ symbols_in self.old }
+        ensures symbols { symbols_in self.new ≡ specs flags columns ++ symbols_in self.old }
         ensures height { length self.new ≤ length self.old + 3 }
     {
-        if left_out {
-            return;
-        }
         let one_table = has(flags, 0x01);
         self.push_many(Group::Columns { one_table }, columns);
         self.push_if(one_table, plain!(Table, Text16));

@@ -1,12 +1,9 @@
 //! The productions: which fields come, and what follows from their values.
 
-ghost use Rattle.std.specs.Prelude.{◌≡◌, ◌+◌, ◌<◌, ◌≤◌, length, max, ◌==◌, if◌then◌else◌};
-ghost use Rattle.std.specs.Prelude.{◌++◌};
-ghost use Rattle.cqlp_note.specs.Heading.{beside_number, has as has_bit};
+ghost use Rattle.std.specs.Prelude.{◌≡◌, ◌<◌, ◌≤◌, drop, length};
+ghost use Rattle.cqlp_note.specs.Heading.{beside_number};
 ghost use Rattle.cqlp_message.specs.Productions.{body, by_text, errors, events, group as symbols_of_group, or_nothing, results, targets};
-ghost use Rattle.cqlp_message.specs.Upcoming.{AreRead, behind_due, opened, room_for, wants};
-ghost use Rattle.std.specs.Prelude.{◌-◌, drop, slice_index_or};
-ghost use Rattle.cqlp_message.specs.declared.table.Expected.{Expected as Declared};
+ghost use Rattle.cqlp_message.specs.Upcoming.{AreRead, FirstFits, opened, room_for, wants};
 
 use crate::grammar::{Group, Role};
 use cqlp_note::{Field, Notation, Opcode};
@@ -49,7 +46,7 @@ macro_rules! with_role {
     };
 }
 
-/// A count of so many groups, a \[short\].
+/// A count of this many groups, a \[short\].
 macro_rules! counted {
     ($field:ident, $group:expr) => {
         Expected::Field(Want {
@@ -104,7 +101,7 @@ pub fn group_fields(group: Group) -> &'static [Expected]
     ensures fields { wants result.now ≡ symbols_of_group group }
     ensures some { 0 < length result.now }
     ensures read { AreRead result.now }
-    ensures first { (d : Declared) → (length result.now - 1) + behind_due (slice_index_or result.now 0 d) ≤ opened group }
+    ensures first { FirstFits result.now (opened group) }
     ensures others { room_for (drop 1 result.now) ≤ opened group }
 {
     match group {

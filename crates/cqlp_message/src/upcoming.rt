@@ -1,7 +1,6 @@
 //! What is still to be read of a message.
 
-ghost use Rattle.std.specs.Prelude.{◌≡◌, ◌+◌, ◌<◌, ◌≤◌, ◌++◌, ◌∷◌, [], length, drop, max, if◌then◌else◌};
-ghost use Rattle.cqlp_message.specs.declared.upcoming.Slot.TheVariants as slot;
+ghost use Rattle.std.specs.Prelude.{◌≡◌, ◌+◌, ◌≤◌, ◌++◌, ◌∷◌, [], length, max, if◌then◌else◌};
 
 use crate::grammar::Group;
 use crate::table::{Expected, group_fields};
