@@ -193,8 +193,7 @@ one_new limits d d' n n' =
       record { rules = n'.rules ∙ sym n.rules; refusal = n'.unrefused ∙ sym n.unrefused; nodes = n'.nothing_held.1 ∙ sym n.nothing_held.1 },
       st.read.0,
       st'.read.0,
-      n'.nothing_held.0 ∙ sym n.nothing_held.0,
-      n'.nothing_held.2 ∙ sym n.nothing_held.2,
+      (n'.nothing_held.0 ∙ sym n.nothing_held.0, n'.nothing_held.2 ∙ sym n.nothing_held.2),
     )
 
 pub finish_by : (o : Option Refusal) (s : List ℕ) (es : List (ℕ × Event)) (f f' : Finish) → FinishesBy o s es f → FinishesBy o s es f' → f' ≡ f

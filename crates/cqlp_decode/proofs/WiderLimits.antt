@@ -6,7 +6,7 @@ use Rattle.cqlp_note.specs.Reader.{says}
 use Rattle.cqlp_note.specs.Limits.{Rules}
 use Rattle.cqlp_note.proofs.Runs.{runs_compare}
 use Rattle.cqlp_decode.specs.Excess.{with_limits, Exceeds}
-use Rattle.cqlp_decode.specs.Laws.{IsOfLimit}
+use Rattle.cqlp_decode.specs.Laws.{IsOfLimit, IsSameOrCut}
 use Rattle.cqlp_decode.specs.Reading.{Event, Place, start, Reads, Says, Verdict, Refused, Ends, step}
 use Rattle.cqlp_decode.proofs.Whole.{no_step, says_once}
 use Rattle.cqlp_decode.proofs.Refusals.{AtLimit}
@@ -27,12 +27,8 @@ module _ (l : Rules) (text cell entries depth : ℕ) (texts : l.text ≤ text) (
   reads_widely [] p q bytes rest r = r
   reads_widely (e ∷ es) p q bytes rest r = (r.0, r.1, also_got AtLimit _ _ _ _ r.0 (cut_at p bytes) r.2, reads_widely es (r.1 r.0) q (drop r.0 bytes) rest r.3)
 
-  -- the same is said, or what is said within wider limits goes on
-  abbrev SameOrCut : (es fs : List (ℕ × Event)) (v w : Verdict) → Type 0
-  SameOrCut es fs v w = ((fs ≡ es) × (w ≡ v)) ⊎ ((more : List (ℕ × Event)) × (k : ℕ) × (why : Reason) × (fs ≡ es ++ more) × (v ≡ Refused k why) × IsOfLimit why)
-
   module _ (bytes : List ℕ) (es fs : List (ℕ × Event)) (v w : Verdict) (p : Place) (rest : List ℕ) (read : Reads wide start bytes es p rest) (ends : Ends (says (step l p) 0 rest) v) (b : Says wide start bytes fs w) where
-    cut_by : CutAt p rest → SameOrCut es fs v w
+    cut_by : CutAt p rest → IsSameOrCut es fs v w
     cut_by (same eq clean none) = inl (says_once wide start bytes es fs v w (p, rest, read, rw eq at ends) b)
     cut_by (stops f over bad) = elim (cases_lt (length fs) (length es)) [
       | inl lt ↦
@@ -44,5 +40,5 @@ module _ (l : Rules) (text cell entries depth : ℕ) (texts : l.text ≤ text) (
           inr (c.0, f.0, f.1, c.1, refused_by f v (rw bad at ends), excess_of_limit l p rest p.symbols f.1 over.1)
     ]
 
-  pub only_cut : (bytes : List ℕ) (es fs : List (ℕ × Event)) (v w : Verdict) → Says l start bytes es v → Says wide start bytes fs w → SameOrCut es fs v w
+  pub only_cut : (bytes : List ℕ) (es fs : List (ℕ × Event)) (v w : Verdict) → Says l start bytes es v → Says wide start bytes fs w → IsSameOrCut es fs v w
   only_cut bytes es fs v w a b = cut_by bytes es fs v w a.0 a.1 (reads_widely es start a.0 bytes a.1 a.2) a.3 b (cut_at a.0 a.1)

@@ -123,8 +123,8 @@ ComesFirstToExcess l bytes es p rest why =
     × ((fs : List (ℕ × Event)) (q : Place) (left : List ℕ) (how : Reason)
     → ComesToExcess l bytes fs q left how → length es ≤ length fs)
 
--- What the free reading says of these bytes, if nothing exceeds a limit; else the events before the first that does, and
--- its refusal, at its first byte.
+-- What the free reading says of these bytes, if nothing exceeds a limit; else the events before the first that does,
+-- and its refusal, at its first byte.
 abbrev pub IsCut : Rules → List ℕ → List (ℕ × Event) → Verdict → Type 0
 IsCut l bytes es v =
     (NothingExceeds l bytes × Says (free l) start bytes es v)

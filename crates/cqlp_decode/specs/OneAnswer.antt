@@ -16,6 +16,7 @@ use Rattle.cqlp_message.specs.Events.{event_of}
 use Rattle.cqlp_decode.specs.Standing.{StreamState, levels_of}
 use Rattle.cqlp_decode.specs.Streams.{Decoding, state, After, Uses, Answers, Finishes, FinishesBy}
 use Rattle.cqlp_decode.specs.Draining.{RunsTo, WaitsAt, fold_events}
+use Rattle.cqlp_decode.specs.Laws.{BeginsWith}
 
 -- ---- the decoder
 
@@ -43,20 +44,27 @@ pub record IsNew (limits : Limits) (d : Decoding) : Type 0 where
   pub rules : (state d).rules ≡ rules_of limits
   pub nothing_held : ((state d).held ≡ []) × ((state d).place.nodes ≡ []) × (levels_of d.parts ≡ 0)
 
--- Any two decoders that were made with the same limits stand at the start of a stream, with nothing held.
+-- Two decoders hold the same bytes, and the same number of levels.
+abbrev pub HoldTheSame : (d d' : Decoding) → Type 0
+HoldTheSame d d' = ((state d').held ≡ (state d).held) × (levels_of d'.parts ≡ levels_of d.parts)
+
+-- Any two decoders that were made with the same limits stand at the start of a stream, and hold the same.
 abbrev pub IsOneAnswerOfNew : Type 0
 IsOneAnswerOfNew =
     (limits : Limits) (d d' : Decoding) → IsNew limits d → IsNew limits d'
-    → AreAlike (state d) (state d') × ((state d).place ≡ start) × ((state d').place ≡ start) × ((state d').held ≡ (state d).held) × (levels_of d'.parts ≡ levels_of d.parts)
+    → AreAlike (state d) (state d') × ((state d).place ≡ start) × ((state d').place ≡ start) × HoldTheSame d d'
 
 -- After the same bytes and events the next answer is one, and so is what comes after it.
 abbrev pub IsOneAnswerOfNext : Type 0
 IsOneAnswerOfNext =
-    (old new new' : StreamState) (s input : List ℕ) (es : List (ℕ × Event)) (x y : Step) → After old s es → Answers old input x new → Answers old input y new'
+    (old new new' : StreamState) (s input : List ℕ) (es : List (ℕ × Event)) (x y : Step)
+    → After old s es → Answers old input x new → Answers old input y new'
     → (answer_of y ≡ answer_of x) × AreAlike new new'
 
 abbrev pub IsOneAnswerOfFinish : Type 0
-IsOneAnswerOfFinish = (d : StreamState) (s : List ℕ) (es : List (ℕ × Event)) (f f' : Finish) → Finishes d s es f → Finishes d s es f' → f' ≡ f
+IsOneAnswerOfFinish =
+    (d : StreamState) (s : List ℕ) (es : List (ℕ × Event)) (f f' : Finish)
+    → Finishes d s es f → Finishes d s es f' → f' ≡ f
 
 -- what the clauses of `held` say
 pub record IsHeld (d : Decoding) (h : Held) : Type 0 where
@@ -71,7 +79,7 @@ IsOneAnswerOfHeld = (d : Decoding) (h h' : Held) → IsHeld d h → IsHeld d h' 
 
 -- one list is a front of the other
 abbrev pub IsFrontEitherWay : (es fs : List (ℕ × Event)) → Type 0
-IsFrontEitherWay es fs = ((more : List (ℕ × Event)) × (fs ≡ es ++ more)) ⊎ ((more : List (ℕ × Event)) × (es ≡ fs ++ more))
+IsFrontEitherWay es fs = BeginsWith fs es ⊎ BeginsWith es fs
 
 -- the sink did not fail, so all events of what was read were handed to it
 abbrev pub IsSound : Outcome → Type 0
@@ -85,30 +93,49 @@ EndsBy (Refused at why) bytes es end = end ≡ finish.Refused (record { at = at;
 
 module _ {V : Type 0} (f : V → ℕ → Event → V) (faulted : V → ℕ → Event → V → Type 0) where
   -- what the clauses of `run` say of a reader that had the bytes xs
-  pub record Ran (turns : ℕ) (o : Outcome) (old new : StreamState) (xs : List ℕ) (left : Option (List ℕ)) (before after : V) : Type 0 where
+  pub record Ran
+      (turns : ℕ) (o : Outcome) (old new : StreamState) (xs : List ℕ) (left : Option (List ℕ)) (before after : V)
+      : Type 0 where
     pub runs : RunsTo f faulted turns o old new xs left before after
     pub waits : WaitsAt o new
-    pub refused : (r : Refusal) → old.refusal ≡ Some r → (o ≡ outcome.Finished (finish.Refused r)) × (new ≡ old) × (after ≡ before)
+    pub refused :
+        (r : Refusal) → old.refusal ≡ Some r
+        → (o ≡ outcome.Finished (finish.Refused r)) × (new ≡ old) × (after ≡ before)
     pub rules : new.rules ≡ old.rules
 
   -- the events that a run handed to the sink
-  abbrev pub handed : (turns : ℕ) (o : Outcome) (old new : StreamState) (xs : List ℕ) (left : Option (List ℕ)) (before after : V) → RunsTo f faulted turns o old new xs left before after → (s : List ℕ) (es : List (ℕ × Event)) → After old s es → List (ℕ × Event)
+  abbrev pub handed :
+      (turns : ℕ) (o : Outcome) (old new : StreamState) (xs : List ℕ) (left : Option (List ℕ)) (before after : V)
+      → RunsTo f faulted turns o old new xs left before after
+      → (s : List ℕ) (es : List (ℕ × Event)) → After old s es → List (ℕ × Event)
   handed turns (outcome.Finished end) old new xs left before after ran s es a = (ran.0.drained s es a).more
   handed turns outcome.ReadFault old new xs left before after ran s es a = (ran.0.drained s es a).more
   handed turns outcome.Turns old new xs left before after ran s es a = (ran.0.drained s es a).more
-  handed turns outcome.SinkFault old new xs left before after ran s es a = let d = ran.failed s es a in d.more ++ (d.at, d.event) ∷ []
+  handed turns outcome.SinkFault old new xs left before after ran s es a =
+      let d = ran.failed s es a in
+      d.more ++ (d.at, d.event) ∷ []
 
-  -- Two runs from one decoder over one reader's bytes hand out the same events, as far as both go. Where no sink failed,
-  -- and both read the same bytes, the sinks are left alike. And where both finish, they do so alike, however their
-  -- reader cut its bytes.
-  pub record AreOneRun (turns : ℕ) (o o' : Outcome) (old new new' : StreamState) (xs : List ℕ) (left left' : Option (List ℕ)) (before after after' : V) (s : List ℕ) (es : List (ℕ × Event)) (a : After old s es) (ran : Ran turns o old new xs left before after) (ran' : Ran turns o' old new' xs left' before after') : Type 0 where
-    pub events : IsFrontEitherWay (handed turns o old new xs left before after ran.runs s es a) (handed turns o' old new' xs left' before after' ran'.runs s es a)
+  -- Two runs from one decoder over one reader's bytes hand out the same events, as far as both go. Where no sink
+  -- failed, and both read the same bytes, the sinks are left alike. And where both finish, they do so alike, however
+  -- their reader cut its bytes.
+  pub record AreOneRun
+      (turns : ℕ) (o o' : Outcome) (old new new' : StreamState) (xs : List ℕ) (left left' : Option (List ℕ))
+      (before after after' : V) (s : List ℕ) (es : List (ℕ × Event)) (a : After old s es)
+      (ran : Ran turns o old new xs left before after) (ran' : Ran turns o' old new' xs left' before after')
+      : Type 0 where
+    pub events :
+        IsFrontEitherWay
+        (handed turns o old new xs left before after ran.runs s es a)
+        (handed turns o' old new' xs left' before after' ran'.runs s es a)
     pub sinks : IsSound o → IsSound o' → left' ≡ left → (after' ≡ after) × (new'.refusal ≡ new.refusal)
-    pub ends : (end end' : Finish) → o ≡ outcome.Finished end → o' ≡ outcome.Finished end' → (end' ≡ end) × (after' ≡ after)
+    pub ends :
+        (end end' : Finish) → o ≡ outcome.Finished end → o' ≡ outcome.Finished end'
+        → (end' ≡ end) × (after' ≡ after)
 
   abbrev pub IsOneAnswerOfRun : Type 0
   IsOneAnswerOfRun =
-      (turns : ℕ) (o o' : Outcome) (old new new' : StreamState) (xs : List ℕ) (left left' : Option (List ℕ)) (before after after' : V) (s : List ℕ) (es : List (ℕ × Event)) (a : After old s es)
+      (turns : ℕ) (o o' : Outcome) (old new new' : StreamState) (xs : List ℕ) (left left' : Option (List ℕ))
+      (before after after' : V) (s : List ℕ) (es : List (ℕ × Event)) (a : After old s es)
       (ran : Ran turns o old new xs left before after) (ran' : Ran turns o' old new' xs left' before after')
       → AreOneRun turns o o' old new new' xs left left' before after after' s es a ran ran'
 
@@ -116,6 +143,8 @@ module _ {V : Type 0} (f : V → ℕ → Event → V) (faulted : V → ℕ → E
   -- finishes has handed out just these events, and ends with that verdict.
   abbrev pub RunsRight : Type 0
   RunsRight =
-      (limits : Limits) (d : Decoding) (new : StreamState) (turns : ℕ) (xs : List ℕ) (left : Option (List ℕ)) (before after : V) (es : List (ℕ × Event)) (v : Verdict) (end : Finish)
-      → IsNew limits d → Says (rules_of limits) start xs es v → Ran turns (outcome.Finished end) (state d) new xs left before after
+      (limits : Limits) (d : Decoding) (new : StreamState) (turns : ℕ) (xs : List ℕ) (left : Option (List ℕ))
+      (before after : V) (es : List (ℕ × Event)) (v : Verdict) (end : Finish)
+      → IsNew limits d → Says (rules_of limits) start xs es v
+      → Ran turns (outcome.Finished end) (state d) new xs left before after
       → (after ≡ fold_events f before es) × EndsBy v xs es end

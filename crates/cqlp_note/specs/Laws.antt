@@ -21,16 +21,25 @@ use Rattle.cqlp_note.specs.Heading.{Headed, IsLawful, header_bytes, heading}
 
 -- What is got of a field, its bytes spell.
 abbrev pub GotIsSpelled : Type 0
-GotIsSpelled = (n : Notation) (limit room : ℕ) (bytes : List ℕ) (v : FieldValue) (used : ℕ) → says (field_of n limit room) 0 bytes ≡ Got v used → Spells n v (take used bytes)
+GotIsSpelled =
+    (n : Notation) (limit room : ℕ) (bytes : List ℕ) (v : FieldValue) (used : ℕ)
+    → says (field_of n limit room) 0 bytes ≡ Got v used → Spells n v (take used bytes)
 
 -- What is spelled, within the limit and the room, is got by exactly its bytes, whatever follows them.
 abbrev pub SpelledIsGot : Type 0
-SpelledIsGot = (n : Notation) (v : FieldValue) (limit room : ℕ) (bytes : List ℕ) → Spells n v bytes → content_length v ≤ limit → length bytes ≤ room → (t : List ℕ) → says (field_of n limit room) 0 (bytes ++ t) ≡ Got v (length bytes)
+SpelledIsGot =
+    (n : Notation) (v : FieldValue) (limit room : ℕ) (bytes : List ℕ)
+    → Spells n v bytes → content_length v ≤ limit → length bytes ≤ room
+    → (t : List ℕ) → says (field_of n limit room) 0 (bytes ++ t) ≡ Got v (length bytes)
 
 -- What was said of a field stays, whatever bytes follow: a value, of bytes that have come, and a refusal.
 pub record SaidStays (n : Notation) (limit room : ℕ) (bytes t : List ℕ) : Type 0 where
-  pub got : (v : FieldValue) (used : ℕ) → says (field_of n limit room) 0 bytes ≡ Got v used → (used ≤ length bytes) × (says (field_of n limit room) 0 (bytes ++ t) ≡ Got v used)
-  pub bad : (why : Reason) → says (field_of n limit room) 0 bytes ≡ Bad why → says (field_of n limit room) 0 (bytes ++ t) ≡ Bad why
+  pub got :
+      (v : FieldValue) (used : ℕ) → says (field_of n limit room) 0 bytes ≡ Got v used
+      → (used ≤ length bytes) × (says (field_of n limit room) 0 (bytes ++ t) ≡ Got v used)
+  pub bad :
+      (why : Reason) → says (field_of n limit room) 0 bytes ≡ Bad why
+      → says (field_of n limit room) 0 (bytes ++ t) ≡ Bad why
 
 abbrev pub FieldsStay : Type 0
 FieldsStay = (n : Notation) (limit room : ℕ) (bytes t : List ℕ) → SaidStays n limit room bytes t
@@ -41,7 +50,9 @@ WrittenIsRead = (h : Header) → IsLawful h → FitsSigned w16 h.stream → head
 
 -- A header that is read from nine bytes is lawful, and has those bytes.
 abbrev pub ReadIsWritten : Type 0
-ReadIsWritten = (h : Header) (bytes : List ℕ) → length bytes ≡ 9 → All (λ b. b < 256) bytes → heading bytes ≡ Ok h → IsLawful h × (header_bytes h ≡ bytes)
+ReadIsWritten =
+    (h : Header) (bytes : List ℕ) → length bytes ≡ 9 → All (λ b. b < 256) bytes
+    → heading bytes ≡ Ok h → IsLawful h × (header_bytes h ≡ bytes)
 
 -- ---- One answer: from the same history and the same input, two answers of a call that both meet its clauses are the
 -- same, and so are the states that they leave.
@@ -60,17 +71,24 @@ IsSamePush (push.Refused r) (push.Refused s) = r ≡ s
 IsSamePush a b = ⊥
 
 abbrev pub OneAnswerOfPush : Type 0
-OneAnswerOfPush = (p q : FieldState) (input : List ℕ) (a b : Push) (new_p new_q : FieldState) → IsSameField p q → Pushes p input a new_p → Pushes q input b new_q → IsSamePush a b × (new_p ≡ new_q)
+OneAnswerOfPush =
+    (p q : FieldState) (input : List ℕ) (a b : Push) (new_p new_q : FieldState)
+    → IsSameField p q → Pushes p input a new_p → Pushes q input b new_q → IsSamePush a b × (new_p ≡ new_q)
 
 -- the same of what `advance` answers, where a value lies in the input or in the buffer that is left
-abbrev pub IsSameTaken : (input : List ℕ) → FieldAdvance → (new_p : FieldState) → FieldAdvance → (new_q : FieldState) → Type 0
+abbrev pub IsSameTaken :
+    (input : List ℕ) → FieldAdvance → (new_p : FieldState) → FieldAdvance → (new_q : FieldState) → Type 0
 IsSameTaken input (taken.More m) new_p (taken.More n) new_q = m ≡ n
-IsSameTaken input (taken.Got m i) new_p (taken.Got n j) new_q = (m ≡ n) × (item_value i input new_p.content ≡ item_value j input new_q.content)
+IsSameTaken input (taken.Got m i) new_p (taken.Got n j) new_q =
+    (m ≡ n) × (item_value i input new_p.content ≡ item_value j input new_q.content)
 IsSameTaken input (taken.Refused r) new_p (taken.Refused s) new_q = r ≡ s
 IsSameTaken input a new_p b new_q = ⊥
 
 abbrev pub OneAnswerOfAdvance : Type 0
-OneAnswerOfAdvance = (p q : FieldState) (input : List ℕ) (a b : FieldAdvance) (new_p new_q : FieldState) → IsSameField p q → Advances p input a new_p → Advances q input b new_q → IsSameTaken input a new_p b new_q × (new_p ≡ new_q)
+OneAnswerOfAdvance =
+    (p q : FieldState) (input : List ℕ) (a b : FieldAdvance) (new_p new_q : FieldState)
+    → IsSameField p q → Advances p input a new_p → Advances q input b new_q
+    → IsSameTaken input a new_p b new_q × (new_p ≡ new_q)
 
 -- the same but for the field that was asked for last, which `begin` replaces
 pub record IsSameIdle (p q : FieldState) : Type 0 where
@@ -84,7 +102,9 @@ abbrev pub OneAnswerOfNew : Type 0
 OneAnswerOfNew = (room : ℕ) (p q : FieldState) → IsNew room p → IsNew room q → IsSameIdle p q
 
 abbrev pub OneAnswerOfHeaderRead : Type 0
-OneAnswerOfHeaderRead = (at : ℕ) (bytes : List ℕ) (a b : Result Header Refusal) → Headed at bytes a → Headed at bytes b → a ≡ b
+OneAnswerOfHeaderRead =
+    (at : ℕ) (bytes : List ℕ) (a b : Result Header Refusal)
+    → Headed at bytes a → Headed at bytes b → a ≡ b
 
 abbrev pub OneAnswerOfLawful : Type 0
 OneAnswerOfLawful = (h : Header) (a b : Bool) → (IsTrue a ↔ IsLawful h) → (IsTrue b ↔ IsLawful h) → a ≡ b
@@ -105,7 +125,10 @@ pub record IsRead (left : List ℕ) (failed : ℕ) (answer : Result ℕ IoFault)
 -- The outside decides how many bytes come, or that the reader fails. Then these bytes, those left, and the count of
 -- failed calls are the same.
 abbrev pub OneAnswerOfRead : Type 0
-OneAnswerOfRead = (left : List ℕ) (failed : ℕ) (answer : Result ℕ IoFault) (a b : AfterCall) → IsRead left failed answer a → IsRead left failed answer b → (a.bytes ≡ b.bytes) × (a.failures ≡ b.failures) × IfOk answer (λ n. take n a.buffer ≡ take n b.buffer)
+OneAnswerOfRead =
+    (left : List ℕ) (failed : ℕ) (answer : Result ℕ IoFault) (a b : AfterCall)
+    → IsRead left failed answer a → IsRead left failed answer b
+    → (a.bytes ≡ b.bytes) × (a.failures ≡ b.failures) × IfOk answer (λ n. take n a.buffer ≡ take n b.buffer)
 
 -- what `write` ensures of a target that was given these bytes before
 pub record IsWritten (given : List ℕ) (failed : ℕ) (answer : Result ℕ IoFault) (after : AfterCall) : Type 0 where
@@ -114,4 +137,7 @@ pub record IsWritten (given : List ℕ) (failed : ℕ) (answer : Result ℕ IoFa
   pub failures : after.failures ≡ counted (took_none answer after.buffer) failed
 
 abbrev pub OneAnswerOfWrite : Type 0
-OneAnswerOfWrite = (given : List ℕ) (failed : ℕ) (answer : Result ℕ IoFault) (a b : AfterCall) → a.buffer ≡ b.buffer → IsWritten given failed answer a → IsWritten given failed answer b → (a.bytes ≡ b.bytes) × (a.failures ≡ b.failures)
+OneAnswerOfWrite =
+    (given : List ℕ) (failed : ℕ) (answer : Result ℕ IoFault) (a b : AfterCall)
+    → a.buffer ≡ b.buffer → IsWritten given failed answer a → IsWritten given failed answer b
+    → (a.bytes ≡ b.bytes) × (a.failures ≡ b.failures)

@@ -38,7 +38,15 @@ pub record World : Type 0 where
 
 -- two new cores, and nothing on the wires
 abbrev pub start : (client_slots server_slots : ℕ) → World
-start c s = record { client = new_client c; server = new_server s; up = []; down = []; taken = []; waiting = []; serving = [] }
+start c s = record {
+  client = new_client c;
+  server = new_server s;
+  up = [];
+  down = [];
+  taken = [];
+  waiting = [];
+  serving = [];
+}
 
 -- what may happen next
 pub data Step : Type 0 where
@@ -53,7 +61,10 @@ pub data Step : Type 0 where
 
 -- a request on the wire
 abbrev pub request_message : Request → Message Request
-request_message r = record { seen = record { response = false; stream = r.ticket.id; opcode = opcode_of r.kind }; tag = r }
+request_message r = record {
+  seen = record { response = false; stream = r.ticket.id; opcode = opcode_of r.kind };
+  tag = r;
+}
 
 abbrev pub sent : World → RequestKind → Result Ticket BeginError → World
 sent w k (Ok t) =
@@ -64,7 +75,12 @@ sent w k (Err e) = w
 -- ---- Deliver_up: the first message on the wire comes to the server. One that is refused is lost.
 
 abbrev pub taken_in : World → Message Request → List (Message Request) → Result RequestKind ServerRefusal → World
-taken_in w m rest (Ok k) = record w { server = accepted w.server m.seen (Ok k); up = rest; taken = m ∷ w.taken; serving = m.tag ∷ w.serving }
+taken_in w m rest (Ok k) = record w {
+  server = accepted w.server m.seen (Ok k);
+  up = rest;
+  taken = m ∷ w.taken;
+  serving = m.tag ∷ w.serving;
+}
 taken_in w m rest (Err e) = record w { up = rest }
 
 abbrev pub delivered_up : World → List (Message Request) → World
@@ -89,7 +105,11 @@ without (Some r) rs = filter (λ q. not (q.ticket.number == r.ticket.number)) rs
 abbrev pub responded : World → ℤ → Opcode → Result RequestKind AnswerError → World
 responded w id o (Ok k) =
     let r = last_under id w.taken in
-    record w { server = answered w.server id o (Ok k); down = w.down ++ answer_message id o r ∷ []; serving = without r w.serving }
+    record w {
+      server = answered w.server id o (Ok k);
+      down = w.down ++ answer_message id o r ∷ [];
+      serving = without r w.serving;
+    }
 responded w id o (Err e) = w
 
 -- ---- Push: an event goes down.
@@ -101,7 +121,11 @@ event_message = record { seen = record { response = true; stream = negsuc 0; opc
 
 abbrev pub delivered_down : World → List (Message (Option Request)) → World
 delivered_down w [] = w
-delivered_down w (m ∷ rest) = record w { client = replied w.client m.seen (reply_to w.client m.seen); down = rest; waiting = without m.tag w.waiting }
+delivered_down w (m ∷ rest) = record w {
+  client = replied w.client m.seen (reply_to w.client m.seen);
+  down = rest;
+  waiting = without m.tag w.waiting;
+}
 
 -- the world after one step
 abbrev pub happens : World → Step → World

@@ -39,8 +39,8 @@ IsRenderedWhole form = (turns : ℕ) (f : Finish) (old new : StreamState) (xs : 
 abbrev pub IsSound : (before after : ℕ) → Type 0
 IsSound before after = (before < 2 ^ 64 - 1) × (after ≡ before)
 
--- The outside granted all: no target and no reader failed, the stream has fewer bytes than there are turns, and the line
--- of no memory was not written.
+-- The outside granted all: no target and no reader failed, the stream has fewer bytes than there are turns, and the
+-- line of no memory was not written.
 pub record IsGranted (turns : ℕ) (xs : List ℕ) (reads reads' : ℕ) (out err out' err' : Output) : Type 0 where
   pub reader : IsSound reads reads'
   pub output : IsSound out.failures out'.failures
@@ -48,8 +48,9 @@ pub record IsGranted (turns : ℕ) (xs : List ℕ) (reads reads' : ℕ) (out err
   pub time : length xs < turns
   pub memory : err' ≢ with_text err (ending_line ending.NoMemory)
 
--- A stream that says these events and this verdict is shown: where the outside granted all, or the status is not that of
--- a fault, just the text of the events was written, the verdict line is that of the stream, and the status is its own.
+-- A stream that says these events and this verdict is shown: where the outside granted all, or the status is not that
+-- of a fault, just the text of the events was written, the verdict line is that of the stream, and the status is its
+-- own.
 abbrev pub IsShownRightly : TextForm → Type 0
 IsShownRightly form = (limits : Limits) (turns : ℕ) (xs : List ℕ) (left : Option (List ℕ))
     (reads reads' : ℕ) (out err : Output) (status : ℕ) (out' err' : Output) (es : List (ℕ × Event)) (v : Verdict)
@@ -75,8 +76,8 @@ abbrev pub IsOneOutput : (before after after' : Output) → Type 0
 IsOneOutput before after after' =
     (after' ≡ after) ⊎ (HasFailed before after × HasFailed before after' × GoesOnFromOther after after')
 
--- What only the outside decides is the same of two runs: how they end, and what a reader has left that failed or was not
--- at its end.
+-- What only the outside decides is the same of two runs: how they end, and what a reader has left that failed or was
+-- not at its end.
 abbrev pub EndsAlike : Outcome → Outcome → (left left' : Option (List ℕ)) → Type 0
 EndsAlike (outcome.Finished f) (outcome.Finished f') left left' = Unit {0}
 EndsAlike outcome.ReadFault outcome.ReadFault left left' = left' ≡ left
@@ -86,7 +87,8 @@ EndsAlike o o' left left' = ⊥
 
 -- Two runs of a renderer, from the same history and the same bytes, that end alike: one outcome, and one output.
 abbrev pub IsRenderedOnce : TextForm → Type 0
-IsRenderedOnce form = (turns : ℕ) (o o' : Outcome) (old new new' : StreamState) (xs : List ℕ) (left left' : Option (List ℕ))
+IsRenderedOnce form =
+    (turns : ℕ) (o o' : Outcome) (old new new' : StreamState) (xs : List ℕ) (left left' : Option (List ℕ))
     (before after after' : Output) (s : List ℕ) (es : List (ℕ × Event))
     → After old s es → old.refusal ≡ None → new.rules ≡ old.rules → new'.rules ≡ old.rules → EndsAlike o o' left left'
     → RendersTo form turns o old new xs left before after → RendersTo form turns o' old new' xs left' before after'
@@ -101,8 +103,8 @@ EndAlike ending.WriteFault ending.WriteFault left left' = Unit {0}
 EndAlike ending.NoMemory ending.NoMemory left left' = Unit {0}
 EndAlike e e' left left' = ⊥
 
--- Two commands that show the same bytes within the same limits, and end alike: one ending, one status, and one text on each
--- output.
+-- Two commands that show the same bytes within the same limits, and end alike: one ending, one status, and one text on
+-- each output.
 abbrev pub IsShownOnce : TextForm → Type 0
 IsShownOnce form = (limits : Limits) (turns : ℕ) (xs : List ℕ) (left left' : Option (List ℕ))
     (reads reads' reads'' : ℕ) (out err : Output) (status status' : ℕ) (out' err' out'' err'' : Output)

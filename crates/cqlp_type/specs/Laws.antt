@@ -30,17 +30,22 @@ TypesOfOwnPreorder = (ts : Types) → types_of (preorder ts) ≡ ts
 
 -- What spells a type that is within the limits is read as its items, each where its bytes are, and adds its nodes.
 abbrev pub SpelledIsRead : Type 0
-SpelledIsRead = (l : Rules) (t : Trees) (depth at stop : ℕ) (ns : List Node) (b : List ℕ)
-    → trees_in t ≡ 1 → AreTrees t → Shallow l depth t → AreShort l (trees_items false t) → length ns + options_in t ≤ l.entries → TreeSpells t b → at + length b ≤ stop
+SpelledIsRead =
+    (l : Rules) (t : Trees) (depth at stop : ℕ) (ns : List Node) (b : List ℕ)
+    → trees_in t ≡ 1 → AreTrees t → Shallow l depth t → AreShort l (trees_items false t)
+    → length ns + options_in t ≤ l.entries → TreeSpells t b → at + length b ≤ stop
     → let before : TypePlace = record { offset = at; stop = stop; symbols = Option_at depth ∷ []; nodes = ns } in
-    let after : TypePlace = record { offset = at + length b; stop = stop; symbols = []; nodes = ns ++ preorder (types_in t) } in
+    let all = ns ++ preorder (types_in t) in
+    let after : TypePlace = record { offset = at + length b; stop = stop; symbols = []; nodes = all } in
     Runs (type_step l) before b (placed at (trees_items false t)) after []
 
 -- What is read of an option, up to its end, is a type that its bytes spell, with its items and its nodes, and no inner
 -- type is deeper than the limit.
 abbrev pub ReadIsSpelled : Type 0
-ReadIsSpelled = (l : Rules) (depth : ℕ) (before after : TypePlace) (b : List ℕ) (es : List (ℕ × TypeEvent))
-    → before.symbols ≡ Option_at depth ∷ [] → after.symbols ≡ [] → Runs (type_step l) before b es after [] → IsWhole l depth before.offset before.nodes b es after.nodes
+ReadIsSpelled =
+    (l : Rules) (depth : ℕ) (before after : TypePlace) (b : List ℕ) (es : List (ℕ × TypeEvent))
+    → before.symbols ≡ Option_at depth ∷ [] → after.symbols ≡ [] → Runs (type_step l) before b es after []
+    → IsWhole l depth before.offset before.nodes b es after.nodes
 
 -- The bytes that spell a type are as many as its size says.
 abbrev pub SpelledIsLong : Type 0
@@ -55,7 +60,9 @@ IsOptionOf t b = AreTrees (tree_of t) × TreeSpells (tree_of t) b
 pub record HasLenOfOption (t : TypeTree) : Type 0 where
   pub spelled : (n : ℕ) → spelled_len t ≡ Some n → (b : List ℕ) × IsOptionOf t b
   pub long : (n : ℕ) → spelled_len t ≡ Some n → (n ≤ 268435456) × ((b : List ℕ) → IsOptionOf t b → length b ≡ n)
-  pub some : (b : List ℕ) → All (λ x. x < 256) b → IsOptionOf t b → length b ≤ 268435456 → spelled_len t ≡ Some (length b)
+  pub some :
+      (b : List ℕ) → All (λ x. x < 256) b → IsOptionOf t b → length b ≤ 268435456
+      → spelled_len t ≡ Some (length b)
 
 abbrev pub LenIsOfOption : Type 0
 LenIsOfOption = (t : TypeTree) → HasLenOfOption t
@@ -67,21 +74,29 @@ abbrev pub first_nodes : (number : ℕ) → Types → List ℕ
 first_nodes number NoMore = []
 first_nodes number (Type_and k inner others) = number ∷ first_nodes (number + suc (length (preorder inner))) others
 
--- Types that stand side by side begin where their nodes do, and behind them whatever follows; as many as there are.
+-- Types that stand side by side begin where their nodes do, and after them whatever follows; as many as there are.
 abbrev pub RootsAreTypes : Type 0
-RootsAreTypes = (ts : Types) (number : ℕ) (ns : List Node)
-    → (beginnings number 0 (preorder ts ++ ns) ≡ first_nodes number ts ++ beginnings (number + length (preorder ts)) 0 ns) × (length (first_nodes number ts) ≡ how_many ts)
+RootsAreTypes =
+    (ts : Types) (number : ℕ) (ns : List Node)
+    → let rest = beginnings (number + length (preorder ts)) 0 ns in
+    (beginnings number 0 (preorder ts ++ ns) ≡ first_nodes number ts ++ rest)
+    × (length (first_nodes number ts) ≡ how_many ts)
 
 -- The inner types of a whole type begin where their nodes do.
 abbrev pub ChildrenOfWhole : Type 0
-ChildrenOfWhole = (before after : List Node) (k : Kind) (inner : Types) (i : ℕ)
-    → child (before ++ (preorder (Type_and k inner NoMore) ++ after)) (length before) i ≡ slice_get (first_nodes (length before + 1) inner) i
+ChildrenOfWhole =
+    (before after : List Node) (k : Kind) (inner : Types) (i : ℕ)
+    → child (before ++ (preorder (Type_and k inner NoMore) ++ after)) (length before) i
+    ≡ slice_get (first_nodes (length before + 1) inner) i
 
 -- Of a type that is under way, the inner types that are whole begin where their nodes do, and then the one that is
 -- under way itself, if its node is there.
 abbrev pub ChildrenOfOpen : Type 0
-ChildrenOfOpen = (before : List Node) (x : Node) (inner : Types) (rest : List Node) (i : ℕ) → x.span ≡ 0
-    → child (before ++ (x ∷ (preorder inner ++ rest))) (length before) i ≡ slice_get (first_nodes (length before + 1) inner ++ beginnings (length before + 1 + length (preorder inner)) 0 rest) i
+ChildrenOfOpen =
+    (before : List Node) (x : Node) (inner : Types) (rest : List Node) (i : ℕ) → x.span ≡ 0
+    → let first = length before + 1 in
+    child (before ++ (x ∷ (preorder inner ++ rest))) (length before) i
+    ≡ slice_get (first_nodes first inner ++ beginnings (first + length (preorder inner)) 0 rest) i
 
 -- a type that is under way, last of all, is one
 abbrev pub OpenIsLast : Type 0
@@ -181,14 +196,16 @@ LeaveAlike c d = seen c.reader' c.partial' c.table' ≡ seen d.reader' d.partial
 
 -- After the same bytes and items of an option, the same input has one answer: what `push` says, and what it leaves.
 abbrev pub OneAnswerOfPush : Type 0
-OneAnswerOfPush = (start : TypePlace) (depth : ℕ) → start.symbols ≡ Option_at depth ∷ []
+OneAnswerOfPush =
+    (start : TypePlace) (depth : ℕ) → start.symbols ≡ Option_at depth ∷ []
     → (s : List ℕ) (es : List (ℕ × TypeEvent)) (input : List ℕ) (c d : Call TypePush)
     → AreAlike start s es c d → IsPush input c → IsPush input d
     → (push_answer c.answer ≡ push_answer d.answer) × LeaveAlike c d
 
 -- The same of `advance`.
 abbrev pub OneAnswerOfAdvance : Type 0
-OneAnswerOfAdvance = (start : TypePlace)
-    → (s : List ℕ) (es : List (ℕ × TypeEvent)) (input : List ℕ) (c d : Call TypeAdvance)
+OneAnswerOfAdvance =
+    (start : TypePlace) (s : List ℕ) (es : List (ℕ × TypeEvent)) (input : List ℕ) (c d : Call TypeAdvance)
     → AreAlike start s es c d → IsAdvance input c → IsAdvance input d
-    → (advance_answer input c.partial'.content c.answer ≡ advance_answer input d.partial'.content d.answer) × LeaveAlike c d
+    → (advance_answer input c.partial'.content c.answer ≡ advance_answer input d.partial'.content d.answer)
+    × LeaveAlike c d

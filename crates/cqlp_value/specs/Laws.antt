@@ -23,13 +23,16 @@ use Rattle.cqlp_value.specs.Pushing.{After, Continues, Pushes, Uses, is_done}
 
 -- What is read of a cell, up to its end, is a value of its type that its bytes spell, with just its items.
 abbrev pub ReadIsSpelled : Type 0
-ReadIsSpelled = (l : Rules) (k : Kind) (inner : Types) (stop : ℕ) (before after : CellPlace) (b : List ℕ) (es : List (ℕ × CellEvent))
+ReadIsSpelled =
+    (l : Rules) (k : Kind) (inner : Types) (stop : ℕ)
+    (before after : CellPlace) (b : List ℕ) (es : List (ℕ × CellEvent))
     → before.symbols ≡ Value_of k inner 0 stop ∷ [] → after.symbols ≡ [] → Runs (cell_step l) before b es after []
     → (v : Values) × ValueSpells k inner v b × (es ≡ values_items l 0 before.offset v)
 
 -- What spells a value whose scalars are within the limits is read as its items, each where its bytes are.
 abbrev pub SpelledIsRead : Type 0
-SpelledIsRead = (l : Rules) (k : Kind) (inner : Types) (v : Values) (at stop : ℕ) (b : List ℕ)
+SpelledIsRead =
+    (l : Rules) (k : Kind) (inner : Types) (v : Values) (at stop : ℕ) (b : List ℕ)
     → ValueSpells k inner v b → AreWithin l v → at + length b ≤ stop
     → let before : CellPlace = record { offset = at; symbols = Value_of k inner 0 stop ∷ [] } in
     let after : CellPlace = record { offset = at + length b; symbols = [] } in
@@ -37,11 +40,14 @@ SpelledIsRead = (l : Rules) (k : Kind) (inner : Types) (v : Values) (at stop : �
 
 -- The bytes that spell a value are as many as its size says.
 abbrev pub SpelledIsLong : Type 0
-SpelledIsLong = (k : Kind) (inner : Types) (v : Values) (b : List ℕ) → ValueSpells k inner v b → length b ≡ values_size v
+SpelledIsLong =
+    (k : Kind) (inner : Types) (v : Values) (b : List ℕ) → ValueSpells k inner v b → length b ≡ values_size v
 
 -- Bytes spell at most one value of a type.
 abbrev pub OneSpelled : Type 0
-OneSpelled = (k : Kind) (inner : Types) (v w : Values) (b : List ℕ) → ValueSpells k inner v b → ValueSpells k inner w b → v ≡ w
+OneSpelled =
+    (k : Kind) (inner : Types) (v w : Values) (b : List ℕ)
+    → ValueSpells k inner v b → ValueSpells k inner w b → v ≡ w
 
 -- ---- one answer
 
@@ -130,9 +136,11 @@ module _ (nodes : List Node) where
       × Answers c.reader input c.answer
       × Empties c.answer c.partial'
 
-  -- Two calls are made by readers with the same limits, each with a `Partial` that has the same room and holds the same,
-  -- after the same bytes and events of a cell that began at `start`.
-  pub record AreAlike {X : Type 0} (start : CellPlace) (s : List ℕ) (es : List (ℕ × CellEvent)) (c d : Call X) : Type 0 where
+  -- Two calls are made by readers with the same limits, each with a `Partial` that has the same room and holds the
+  -- same, after the same bytes and events of a cell that began at `start`.
+  pub record AreAlike
+      {X : Type 0} (start : CellPlace) (s : List ℕ) (es : List (ℕ × CellEvent)) (c d : Call X)
+      : Type 0 where
     pub rules : c.reader.rules ≡ d.reader.rules
     pub room : c.partial.room ≡ d.partial.room
     pub buffer : c.partial.content ≡ d.partial.content
@@ -141,15 +149,20 @@ module _ (nodes : List Node) where
 
 -- After the same bytes and events of a cell, the same input has one answer: what `push` says, and what it leaves.
 abbrev pub OneAnswerOfPush : Type 0
-OneAnswerOfPush = (nodes : List Node) (start : CellPlace) (s : List ℕ) (es : List (ℕ × CellEvent)) (input : List ℕ) (c d : Call CellPush)
+OneAnswerOfPush =
+    (nodes : List Node) (start : CellPlace) (s : List ℕ) (es : List (ℕ × CellEvent)) (input : List ℕ)
+    (c d : Call CellPush)
     → AreAlike nodes start s es c d → IsPush nodes input c → IsPush nodes input d
     → (push_answer c.answer ≡ push_answer d.answer) × LeaveAlike nodes c d
 
 -- The same of `advance`.
 abbrev pub OneAnswerOfAdvance : Type 0
-OneAnswerOfAdvance = (nodes : List Node) (start : CellPlace) (s : List ℕ) (es : List (ℕ × CellEvent)) (input : List ℕ) (c d : Call CellAdvance)
+OneAnswerOfAdvance =
+    (nodes : List Node) (start : CellPlace) (s : List ℕ) (es : List (ℕ × CellEvent)) (input : List ℕ)
+    (c d : Call CellAdvance)
     → AreAlike nodes start s es c d → IsAdvance nodes input c → IsAdvance nodes input d
-    → (advance_answer input c.partial'.content c.answer ≡ advance_answer input d.partial'.content d.answer) × LeaveAlike nodes c d
+    → (advance_answer input c.partial'.content c.answer ≡ advance_answer input d.partial'.content d.answer)
+    × LeaveAlike nodes c d
 
 -- the same bytes used, and the same scalar
 abbrev pub AreSameFront : Option FrontScalar → Option FrontScalar → Type 0
@@ -159,4 +172,6 @@ AreSameFront a b = ⊥
 
 -- Of the same input `front_scalar` gives the same scalar, or none.
 abbrev pub OneAnswerOfFrontScalar : Type 0
-OneAnswerOfFrontScalar = (l : Rules) (k : Kind) (room : ℕ) (input : List ℕ) (a b : Option FrontScalar) → IsFront l k room input a → IsFront l k room input b → AreSameFront a b
+OneAnswerOfFrontScalar =
+    (l : Rules) (k : Kind) (room : ℕ) (input : List ℕ) (a b : Option FrontScalar)
+    → IsFront l k room input a → IsFront l k room input b → AreSameFront a b
