@@ -40,7 +40,7 @@ use Rattle.cqlp_decode.specs.Reading as reading
 use Rattle.cqlp_decode.specs.Reading.{Place, step, cell_event, cells_left, place_of_cells}
 use Rattle.cqlp_decode.specs.Pages.{cell_symbol, page_symbols, cells_behind, types_left, node_by}
 use Rattle.cqlp_decode.specs.declared.advance.EventAdvance.{EventAdvance}
-use Rattle.cqlp_decode.specs.Standing.{StreamState, IsPending, Parts, parts, state_of, place_at, offset_at, symbols_at, rest_of, told, Waits, Hands, Moves, IsLent, due_after, frame_after, ends_due, IsCell, IsConsistent, StageHolds, Starts}
+use Rattle.cqlp_decode.specs.Standing.{StreamState, IsPending, PartsState, parts, state_of, place_at, offset_at, symbols_at, rest_of, told, Waits, Hands, Moves, IsLent, due_after, frame_after, ends_due, IsCell, IsConsistent, StageHolds, Starts}
 use Rattle.cqlp_decode.proofs.Steps.{begun, one_due, offset_is}
 use Rattle.cqlp_decode.proofs.FieldSteps.{goes_on_lawful}
 use Rattle.cqlp_decode.proofs.Columns.{FirstColumn, first_column, page_begun, page_due}
@@ -100,7 +100,7 @@ under_way_still : (nodes : List Node) (depth : ℕ) (d : CellState) (p : CellCur
     → page_symbols nodes d p ++ rest ≡ cells_left p.row p.column (place nodes d).symbols ++ (cells_behind nodes p ++ rest)
 under_way_still nodes depth d p f behind some rest = rw f.is (still_by d.next p.row p.column f.first f.inner (place nodes d).symbols _ behind some)
 
-module _ (s : StreamStanding) (q : Parts) (p : CellCursor) (here : s.stage ≡ stage.InCell p) (c : IsCell s q p) (rules : q.cells.rules ≡ rules_of s.limits) where
+module _ (s : StreamStanding) (q : PartsState) (p : CellCursor) (here : s.stage ≡ stage.InCell p) (c : IsCell s q p) (rules : q.cells.rules ≡ rules_of s.limits) where
   abbrev rest : List Symbol
   rest = cells_behind q.table.nodes p ++ rest_of s.upcoming
 
@@ -153,7 +153,7 @@ module _ (s : StreamStanding) (q : Parts) (p : CellCursor) (here : s.stage ≡ s
     one b come = m b come
 
     -- the place that the decoder stands at then
-    module _ (e : StreamStanding) (q' : Parts) (content : q'.partial.content ≡ p'.content) (nodes : q'.table.nodes ≡ q.table.nodes) (offset : offset_at e.stage e.offset q' ≡ d.offset) (stop : e.stop ≡ s.stop) (frame : e.frame ≡ s.frame)
+    module _ (e : StreamStanding) (q' : PartsState) (content : q'.partial.content ≡ p'.content) (nodes : q'.table.nodes ≡ q.table.nodes) (offset : offset_at e.stage e.offset q' ≡ d.offset) (stop : e.stop ≡ s.stop) (frame : e.frame ≡ s.frame)
         (symbols : symbols_at e.stage q' e.upcoming ≡ cells_left p.row p.column (place q.table.nodes d).symbols ++ rest) (fresh : IsPending (state_of e q').pending []) (due : ends_due (symbols_at e.stage q' e.upcoming) ≡ 1)
         (open_values : length q'.cells.open_values ≤ length d.open_values) where
       pub cell_hands : Moves (state_of s q) input (advance.Event at used (what.Cell p.row p.column i)) (state_of e q')
@@ -196,7 +196,7 @@ module _ (s : StreamStanding) (q : Parts) (p : CellCursor) (here : s.stage ≡ s
       pub ended_hands : Moves (state_of s q) input (advance.Event at used (what.Cell p.row p.column i)) (state_of e (parts p' q.types d' q.table))
       ended_hands =
           let h = one came.0 came.1 in
-          let z : Parts = parts p' q.types d' q.table in
+          let z : PartsState = parts p' q.types d' q.table in
           cell_hands e z refl refl (offset_is e e.stage z starts ∙ offset) stop frame (rw (left_none q.table.nodes d whole) symbols) (begun e e.stage e.header e.came z starts zero h.idle) (one_due e e.stage z starts) (rw none (omega arith))
 
   -- ---- what holds of the decoder then
@@ -204,7 +204,7 @@ module _ (s : StreamStanding) (q : Parts) (p : CellCursor) (here : s.stage ≡ s
   cell_goes : (d : CellState) (p' : FieldState) → taking.Joined q.table.nodes d p' → value.Stands q.table.nodes d → is_under_way d ≡ true → is_done d ≡ false → ((n : Option ℕ) → d.next ≡ next.Cell n → n ≡ node_by p.columns p.index) → d.stop ≡ s.stop → s.offset ≤ d.offset → IsCell s (parts p' q.types d q.table) p
   cell_goes d p' joined stands under_way some is stop behind = record { under_way = under_way; stands = stands; joined = joined; some = some; is = is; page = c.page; stop = stop; behind = behind; came = c.came }
 
-  stage_there : (z : Parts) → StageHolds s z (stage.InCell p) → StageHolds s z s.stage
+  stage_there : (z : PartsState) → StageHolds s z (stage.InCell p) → StageHolds s z s.stage
   stage_there z h = subst (λ (t : StreamStage). StageHolds s z t) (sym here) h
 
   pub cell_more_lawful : (input : List ℕ) (used : ℕ) (d : CellState) (p' : FieldState) → taking.Moves q.table.nodes q.cells q.partial input (cell_advance.More used) d p' → IsConsistent s q → IsConsistent s (parts p' q.types d q.table)
@@ -283,11 +283,11 @@ begun_moves d d' input new rules place frame pending fewer (advance.Refused r) m
 
 -- ---- a cell begins
 
-module _ (s : StreamStanding) (q : Parts) (p : CellCursor) (here : s.stage ≡ stage.BeforeCell p) where
+module _ (s : StreamStanding) (q : PartsState) (p : CellCursor) (here : s.stage ≡ stage.BeforeCell p) where
   abbrev begins : StreamStanding
   begins = record s { stage = stage.InCell p }
 
-  abbrev beside : Parts
+  abbrev beside : PartsState
   beside = parts q.partial q.types (begun_at q.cells (node_by p.columns p.index) s.offset s.stop) q.table
 
   pub cell_begun_lawful : IsConsistent s q → s.refusal ≡ None → IsConsistent begins beside
@@ -334,7 +334,7 @@ nothing_held (x ∷ xs) le = absurd (omega (arith, le))
 
 -- ---- a scalar that is a cell, whose bytes are all there
 
-module _ (s : StreamStanding) (q : Parts) (p : CellCursor) (here : s.stage ≡ stage.BeforeCell p) (law : IsConsistent s q) (unrefused : s.refusal ≡ None) (input : List ℕ) (used : ℕ) (k : Kind) (inner others : Types) (v : ScalarValue) (is : types_left q.table.nodes p ≡ Type_and k inner others)
+module _ (s : StreamStanding) (q : PartsState) (p : CellCursor) (here : s.stage ≡ stage.BeforeCell p) (law : IsConsistent s q) (unrefused : s.refusal ≡ None) (input : List ℕ) (used : ℕ) (k : Kind) (inner others : Types) (v : ScalarValue) (is : types_left q.table.nodes p ≡ Type_and k inner others)
     (front : SaysScalar (rules_of s.limits) k (s.stop - s.offset) input used v) (empty : q.partial.content ≡ []) (e : StreamStanding) (symbols : symbols_at e.stage q e.upcoming ≡ cells_behind q.table.nodes p ++ rest_of s.upcoming)
     (starts : Starts e q.table.nodes e.stage) (offset : e.offset ≡ s.offset + used) (stop : e.stop ≡ s.stop) (frame : e.frame ≡ s.frame) (came : e.came ≡ s.came) where
   abbrev there : List Symbol

@@ -35,7 +35,7 @@ use Rattle.cqlp_decode.specs.declared.advance.EventOutline.TheVariants as what
 use Rattle.cqlp_decode.specs.Upcoming.{wanted}
 use Rattle.cqlp_decode.specs.Reading as reading
 use Rattle.cqlp_decode.specs.Reading.{Place, value_step, types_for, nodes_after, given_after, Nothing}
-use Rattle.cqlp_decode.specs.Standing.{IsPending, Parts, parts, state_of, place_at, offset_at, symbols_at, rest_of, came_of, told, Gives, Waits, Moves, IsAsked, IsWanted, IsBounded, IsQuiet, HasParts, IsConsistent, asked, Starts}
+use Rattle.cqlp_decode.specs.Standing.{IsPending, PartsState, parts, state_of, place_at, offset_at, symbols_at, rest_of, came_of, told, Gives, Waits, Moves, IsAsked, IsWanted, IsBounded, IsQuiet, HasParts, IsConsistent, asked, Starts}
 use Rattle.cqlp_decode.proofs.Steps.{begun, one_due, offset_is, fresh_stage, fresh_table}
 
 -- ---- fields
@@ -83,7 +83,7 @@ given_none (role.PageRows flags columns) = refl
 given_none r = refl
 
 -- what is read of a field that is wanted
-module _ (s : StreamStanding) (q : Parts) (w : Want) (here : s.stage ≡ stage.Field w) (bytes : List ℕ) where
+module _ (s : StreamStanding) (q : PartsState) (w : Want) (here : s.stage ≡ stage.Field w) (bytes : List ℕ) where
   abbrev rest : List Symbol
   rest = rest_of s.upcoming
 
@@ -115,7 +115,7 @@ module _ (s : StreamStanding) (q : Parts) (w : Want) (here : s.stage ≡ stage.F
 
 -- what a piece of input makes of a field that is wanted, and was begun
 module _ (s : StreamStanding) (old p : FieldState) (r : type.TypeState) (d : value.CellState) (t : Table) (w : Want) (input : List ℕ) (here : s.stage ≡ stage.Field w) (a : IsAsked s old p w) where
-  abbrev before : Parts
+  abbrev before : PartsState
   before = parts old r d t
 
   pending_is : (b : List ℕ) → IsPending (state_of s before).pending b → b ≡ p.seen
@@ -143,7 +143,7 @@ module _ (s : StreamStanding) (old p : FieldState) (r : type.TypeState) (d : val
         → symbols_at e.stage (parts new r d t') e.upcoming ≡ following (types_for s.limits.types w.role t.nodes Nothing) w.role v ++ rest_of s.upcoming
         → Moves (state_of s before) input (advance.Event s.offset used (what.Holds w.field i)) (state_of e (parts new r d t'))
     piece_hands e t' i is there fine law at stop frame none start nodes symbols =
-        let q : Parts = parts new r d t' in
+        let q : PartsState = parts new r d t' in
         let offset : offset_at e.stage e.offset q ≡ s.offset + (length p.seen + used) = offset_is e e.stage q start ∙ at in (
           there,
           record {
@@ -190,11 +190,11 @@ pub following_there : (r : Role) (v : FieldValue) (types : Bool) (nodes after : 
 following_there (role.PageRows flags columns) v types nodes after rest e = rw e refl
 following_there r v types nodes after rest e = refl
 
-module _ (s e : StreamStanding) (q : Parts) (p : FieldState) (r : type.TypeState) (d : value.CellState) (t : Table) (n : ℕ) (law : IsConsistent s q) (offset : e.offset ≡ s.offset + n) (inside : s.offset + n ≤ s.stop) (stop : e.stop ≡ s.stop) (limits : e.limits ≡ s.limits) (header : e.header ≡ s.header) (came : e.came ≡ 0)
+module _ (s e : StreamStanding) (q : PartsState) (p : FieldState) (r : type.TypeState) (d : value.CellState) (t : Table) (n : ℕ) (law : IsConsistent s q) (offset : e.offset ≡ s.offset + n) (inside : s.offset + n ≤ s.stop) (stop : e.stop ≡ s.stop) (limits : e.limits ≡ s.limits) (header : e.header ≡ s.header) (came : e.came ≡ 0)
     (room : p.room ≡ q.partial.room) (idle : p.under_way ≡ false) (rules : r.rules ≡ q.types.rules) (types : r.under_way ≡ false) (cells : d.rules ≡ q.cells.rules) (idle_cells : is_under_way d ≡ false) (table : t.room ≡ q.table.room) (forest : Forest t.nodes 0 s.limits.depth) (starts : Starts e t.nodes e.stage) (quiet : IsQuiet (parts p r d t)) where
   pub goes_on_lawful : IsConsistent e (parts p r d t)
   goes_on_lawful =
-      let z : Parts = parts p r d t in
+      let z : PartsState = parts p r d t in
       let bounded : IsBounded e = record { long = ap (λ (h : List ℕ). length h) header ∙ law.bounded.long; inside = omega (arith, law.bounded.inside); size = omega (arith, law.bounded.size); bound = omega (arith, law.bounded.bound) } in
       let parts : HasParts e z = rw limits (record { room = room ∙ law.parts.room; rules = rules ∙ law.parts.rules; cells = cells ∙ law.parts.cells; table = table ∙ law.parts.table }) in
       record {

@@ -33,7 +33,7 @@ use Rattle.cqlp_decode.specs.declared.standing.StreamStanding.{StreamStanding}
 use Rattle.cqlp_decode.specs.declared.advance.EventAdvance.TheVariants as advance
 use Rattle.cqlp_decode.specs.declared.advance.EventOutline.TheVariants as what
 use Rattle.cqlp_decode.specs.Reading.{Place, type_event, types_left, place_of_types}
-use Rattle.cqlp_decode.specs.Standing.{IsPending, Parts, parts, state_of, place_at, offset_at, symbols_at, rest_of, told, Gives, Waits, Moves, IsLent, due_after, frame_after, ends_due, HasRoom, IsOption, OptionWaits, OptionRuns, IsConsistent, StageHolds, TableHolds}
+use Rattle.cqlp_decode.specs.Standing.{IsPending, PartsState, parts, state_of, place_at, offset_at, symbols_at, rest_of, told, Gives, Waits, Moves, IsLent, due_after, frame_after, ends_due, HasRoom, IsOption, OptionWaits, OptionRuns, IsConsistent, StageHolds, TableHolds}
 use Rattle.cqlp_decode.specs.declared.standing.StreamStage.{StreamStage}
 use Rattle.cqlp_decode.proofs.Steps.{starts_bare, begun_bare, one_due_bare, offset_is_bare}
 use Rattle.cqlp_decode.proofs.FieldSteps.{used_some, goes_on_lawful}
@@ -54,7 +54,7 @@ types_formed : (ts : Types) → AreTypes ts → AreFormed ts
 types_formed NoMore h = tt
 types_formed (Type_and k inner others) h = (inner_formed k (how_many inner) h.0, types_formed inner h.1, types_formed others h.2)
 
-pub option_reads : (l : Rules) (q : Parts) → OptionRuns l q → ReadsInto q.types q.partial q.table
+pub option_reads : (l : Rules) (q : PartsState) → OptionRuns l q → ReadsInto q.types q.partial q.table
 option_reads l q r = record {
   start = r.begun;
   first = r.first;
@@ -118,7 +118,7 @@ is_lent : (e : TypeEvent) (used : ℕ) (content : List ℕ) → (type.text_lengt
 is_lent (IsNode k) used content h = tt
 is_lent (IsField f v) used content h = h
 
-module _ (s : StreamStanding) (q : Parts) (here : s.stage ≡ stage.InType) (o : IsOption s q.partial q.types) (rules : q.types.rules ≡ rules_of s.limits) where
+module _ (s : StreamStanding) (q : PartsState) (here : s.stage ≡ stage.InType) (o : IsOption s q.partial q.types) (rules : q.types.rules ≡ rules_of s.limits) where
   abbrev rest : List Symbol
   rest = rest_of s.upcoming
 
@@ -173,7 +173,7 @@ module _ (s : StreamStanding) (q : Parts) (here : s.stage ≡ stage.InType) (o :
     )
 
     -- the place that the decoder stands at then
-    module _ (e : StreamStanding) (q' : Parts) (content : q'.partial.content ≡ p'.content) (nodes : q'.table.nodes ≡ t'.nodes) (offset : offset_at e.stage e.offset q' ≡ r'.offset) (stop : e.stop ≡ s.stop) (frame : e.frame ≡ s.frame)
+    module _ (e : StreamStanding) (q' : PartsState) (content : q'.partial.content ≡ p'.content) (nodes : q'.table.nodes ≡ t'.nodes) (offset : offset_at e.stage e.offset q' ≡ r'.offset) (stop : e.stop ≡ s.stop) (frame : e.frame ≡ s.frame)
         (symbols : symbols_at e.stage q' e.upcoming ≡ types_left r'.symbols ++ rest) (fresh : IsPending (state_of e q').pending []) (one : ends_due (symbols_at e.stage q' e.upcoming) ≡ 1) (cells : q'.cells ≡ q.cells) where
       pub option_hands : Moves (state_of s q) input (advance.Event at used (what.Option x)) (state_of e q')
       option_hands = (
@@ -205,19 +205,19 @@ module _ (s : StreamStanding) (q : Parts) (here : s.stage ≡ stage.InType) (o :
     still_hands more = option_hands s (parts p' r' q.cells t') refl refl (rw here refl) refl refl (rw here (sym (left_some r'.symbols rest more))) (rw (here, none_pending) refl) (rw here refl) refl
 
     -- the option is whole
-    module _ (whole : r'.symbols ≡ []) (e : StreamStanding) (r'' : type.TypeState) (offset : e.offset ≡ r'.offset) (stop : e.stop ≡ s.stop) (frame : e.frame ≡ s.frame) (came : e.came ≡ 0) (symbols : (z : Parts) → symbols_at e.stage z e.upcoming ≡ rest)
+    module _ (whole : r'.symbols ≡ []) (e : StreamStanding) (r'' : type.TypeState) (offset : e.offset ≡ r'.offset) (stop : e.stop ≡ s.stop) (frame : e.frame ≡ s.frame) (came : e.came ≡ 0) (symbols : (z : PartsState) → symbols_at e.stage z e.upcoming ≡ rest)
         (room : HasRoom e.stage e.upcoming) where
       pub ended_hands : Moves (state_of s q) input (advance.Event at used (what.Option x)) (state_of e (parts p' r'' q.cells t'))
       ended_hands =
-          let z : Parts = parts p' r'' q.cells t' in
+          let z : PartsState = parts p' r'' q.cells t' in
           option_hands e z refl refl (offset_is_bare e.stage e.offset z e.upcoming room ∙ offset) stop frame (rw whole (symbols z)) (begun_bare e.stage e.upcoming e.header e.came z room came (m.shared.same ∙ began)) (one_due_bare e.stage z e.upcoming room) refl
 
   -- ---- what holds of the decoder then
 
-  stage_there : (z : Parts) → StageHolds s z stage.InType → StageHolds s z s.stage
+  stage_there : (z : PartsState) → StageHolds s z stage.InType → StageHolds s z s.stage
   stage_there z h = subst (λ (t : StreamStage). StageHolds s z t) (sym here) h
 
-  table_there : (z : Parts) → OptionRuns (rules_of s.limits) z → TableHolds (rules_of s.limits) z s.stage
+  table_there : (z : PartsState) → OptionRuns (rules_of s.limits) z → TableHolds (rules_of s.limits) z s.stage
   table_there z h = subst (λ (t : StreamStage). TableHolds (rules_of s.limits) z t) (sym here) h
 
   module _ (law : IsConsistent s q) (unrefused : s.refusal ≡ None) where
@@ -229,7 +229,7 @@ module _ (s : StreamStanding) (q : Parts) (here : s.stage ≡ stage.InType) (o :
 
     pub option_more_lawful : (input : List ℕ) (used : ℕ) (r' : type.TypeState) (p' : FieldState) (t' : Table) → type.Waits q.types q.partial q.table input used r' p' t' → IsConsistent s (parts p' r' q.cells t')
     option_more_lawful input used r' p' t' m =
-        let z : Parts = parts p' r' q.cells t' in
+        let z : PartsState = parts p' r' q.cells t' in
         let same = m.reader in
         let rules : r'.rules ≡ q.types.rules = ap (λ (x : type.TypeState). x.rules) same in
         let place : place_of r' t'.nodes ≡ place_of q.types q.table.nodes = rw (same, m.table) refl in
@@ -256,7 +256,7 @@ module _ (s : StreamStanding) (q : Parts) (here : s.stage ≡ stage.InType) (o :
     module _ (input : List ℕ) (at used : ℕ) (x : TypeOutline) (r' : type.TypeState) (p' : FieldState) (t' : Table) (m : type.Ends q.types q.partial q.table input at used x r' p' t') (inside : r'.offset ≤ s.stop) where
       pub option_still_lawful : (r'.symbols ≡ [] → ⊥) → IsConsistent s (parts p' r' q.cells t')
       option_still_lawful some =
-          let z : Parts = parts p' r' q.cells t' in
+          let z : PartsState = parts p' r' q.cells t' in
           let same = m.reader in
           let begun : r'.begun ≡ false = ap (λ (y : type.TypeState). y.begun) same in
           record {
@@ -290,7 +290,7 @@ module _ (s : StreamStanding) (q : Parts) (here : s.stage ≡ stage.InType) (o :
 
 -- ---- an option begins
 
-module _ (s : StreamStanding) (q : Parts) (here : s.stage ≡ stage.BeforeType) where
+module _ (s : StreamStanding) (q : PartsState) (here : s.stage ≡ stage.BeforeType) where
   pub option_begun_same : state_of (record s { stage = stage.InType }) (parts q.partial (type.started q.types s.offset s.stop) q.cells q.table) ≡ state_of s q
   option_begun_same = rw here refl
 

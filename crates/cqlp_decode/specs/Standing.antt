@@ -38,6 +38,7 @@ use Rattle.cqlp_decode.specs.declared.advance.EventOutline.TheVariants as what
 use Rattle.cqlp_decode.specs.declared.advance.EventAdvance.{EventAdvance}
 use Rattle.cqlp_decode.specs.declared.advance.EventAdvance.TheVariants as advance
 use Rattle.cqlp_decode.specs.declared.standing.StreamStanding.{StreamStanding}
+use Rattle.cqlp_decode.specs.declared.parts.Parts.{Parts}
 use Rattle.cqlp_decode.specs.declared.advance.ScalarCell.{ScalarCell}
 use Rattle.cqlp_value.specs.Contents.{value_of as scalar_value}
 use Rattle.cqlp_decode.specs.declared.page.CellCursor.{CellCursor}
@@ -169,24 +170,27 @@ Takes old input (Some t) new =
 
 -- The parts of a decoder that own memory: the field under way, the type option under way, the cell under way, and the
 -- types of the metadata begun last.
-pub record Parts : Type 0 where
+pub record PartsState : Type 0 where
   pub partial : FieldState
   pub types : type.TypeState
   pub cells : value.CellState
   pub table : Table
 
-abbrev pub parts : FieldState → type.TypeState → value.CellState → Table → Parts
+abbrev pub parts : FieldState → type.TypeState → value.CellState → Table → PartsState
 parts p r c t = record { partial = p; types = r; cells = c; table = t }
 
+abbrev pub parts_state : {A : Type 0} → Parts A → PartsState
+parts_state p = parts p.partial p.types p.cells p.table
+
 -- the types and the values around the one that is read
-abbrev pub levels_of : Parts → ℕ
+abbrev pub levels_of : PartsState → ℕ
 levels_of q = q.types.height + length q.cells.open_values
 
 -- behind what is read now
 abbrev pub rest_of : List Slot → List Symbol
 rest_of upcoming = symbols_in upcoming ++ Extra ∷ []
 
-abbrev pub symbols_at : StreamStage → Parts → List Slot → List Symbol
+abbrev pub symbols_at : StreamStage → PartsState → List Slot → List Symbol
 symbols_at stage.Header q upcoming = Stream ∷ []
 symbols_at (stage.Field w) q upcoming = wanted (due.Field w) ∷ rest_of upcoming
 symbols_at stage.BeforeType q upcoming = In_type (Option_at 1 ∷ []) ∷ rest_of upcoming
@@ -195,7 +199,7 @@ symbols_at (stage.BeforeCell p) q upcoming = cells_from q.table.nodes p ++ rest_
 symbols_at (stage.InCell p) q upcoming = page_symbols q.table.nodes q.cells p ++ rest_of upcoming
 symbols_at stage.Extra q upcoming = Extra ∷ []
 
-abbrev pub offset_at : StreamStage → (offset : ℕ) → Parts → ℕ
+abbrev pub offset_at : StreamStage → (offset : ℕ) → PartsState → ℕ
 offset_at stage.Header offset q = offset
 offset_at (stage.Field w) offset q = offset
 offset_at stage.BeforeType offset q = offset
@@ -211,7 +215,7 @@ place_at offset stop symbols nodes = record { offset = offset; stop = stop; symb
 abbrev pub came_of : FieldState → List ℕ
 came_of p = if p.under_way then p.seen else []
 
-abbrev pub pending_at : StreamStage → (header : List ℕ) → (came : ℕ) → Parts → Pending
+abbrev pub pending_at : StreamStage → (header : List ℕ) → (came : ℕ) → PartsState → Pending
 pending_at stage.Header header came q = Kept (take came header)
 pending_at (stage.Field w) header came q = Kept (came_of q.partial)
 pending_at stage.BeforeType header came q = Kept []
@@ -220,7 +224,7 @@ pending_at (stage.BeforeCell p) header came q = Valued under.Nothing q.partial.s
 pending_at (stage.InCell p) header came q = Valued q.cells.under q.partial.seen
 pending_at stage.Extra header came q = Skipped came
 
-abbrev pub state_of : StreamStanding → Parts → StreamState
+abbrev pub state_of : StreamStanding → PartsState → StreamState
 state_of s q = record {
   rules = rules_of s.limits;
   place = place_at (offset_at s.stage s.offset q) s.stop (symbols_at s.stage q s.upcoming) q.table.nodes;
@@ -232,13 +236,13 @@ state_of s q = record {
 }
 
 -- no field, no type option and no cell is under way
-pub record IsIdle (q : Parts) : Type 0 where
+pub record IsIdle (q : PartsState) : Type 0 where
   pub field : q.partial.under_way ≡ false
   pub types : q.types.under_way ≡ false
   pub cells : is_under_way q.cells ≡ false
 
 -- A reader with nothing under way keeps no level, so that of the two at most one keeps any.
-pub record IsQuiet (q : Parts) : Type 0 where
+pub record IsQuiet (q : PartsState) : Type 0 where
   pub types : q.types.under_way ≡ false → q.types.height ≡ 0
   pub cells : is_under_way q.cells ≡ false → q.cells.open_values ≡ []
 
@@ -265,11 +269,11 @@ pub record IsOption (s : StreamStanding) (p : FieldState) (r : type.TypeState) :
   pub came : s.came ≡ 0
 
 -- what has come of the type option under way, wants more
-abbrev pub OptionWaits : Parts → Type 0
+abbrev pub OptionWaits : PartsState → Type 0
 OptionWaits q = 0 < length (type.pending q.types q.partial) → type.told q.types q.table.nodes (type.pending q.types q.partial) ≡ More
 
 -- The type option under way began behind whole types, and of it these bytes have come.
-pub record OptionRuns (l : Rules) (q : Parts) : Type 0 where
+pub record OptionRuns (l : Rules) (q : PartsState) : Type 0 where
   pub begun : TypePlace
   pub first : begun.symbols ≡ Option_at 1 ∷ []
   pub before : Forest begun.nodes 0 l.depth
@@ -278,7 +282,7 @@ pub record OptionRuns (l : Rules) (q : Parts) : Type 0 where
   pub runs : option.After begun q.types q.partial q.table bytes items
 
 -- The cell under way is in this frame, and its type stands in the table.
-pub record IsCell (s : StreamStanding) (q : Parts) (p : CellCursor) : Type 0 where
+pub record IsCell (s : StreamStanding) (q : PartsState) (p : CellCursor) : Type 0 where
   pub under_way : is_under_way q.cells ≡ true
   pub stands : value.Stands q.table.nodes q.cells
   pub joined : taking.Joined q.table.nodes q.cells q.partial
@@ -289,7 +293,7 @@ pub record IsCell (s : StreamStanding) (q : Parts) (p : CellCursor) : Type 0 whe
   pub behind : s.offset ≤ q.cells.offset
   pub came : s.came ≡ 0
 
-abbrev pub StageHolds : StreamStanding → Parts → StreamStage → Type 0
+abbrev pub StageHolds : StreamStanding → PartsState → StreamStage → Type 0
 StageHolds s q stage.Header = (s.came < 9) × IsIdle q × (s.frame ≡ s.offset)
 StageHolds s q (stage.Field w) = IsWanted s q.partial w × (q.types.under_way ≡ false) × (is_under_way q.cells ≡ false)
 StageHolds s q stage.BeforeType = IsIdle q × (s.came ≡ 0)
@@ -299,12 +303,12 @@ StageHolds s q (stage.InCell p) = IsCell s q p × (q.types.under_way ≡ false)
 StageHolds s q stage.Extra = (s.came ≤ s.stop - s.offset) × IsIdle q
 
 -- what stands in the table: whole types, and one that is under way
-abbrev pub TableHolds : Rules → Parts → StreamStage → Type 0
+abbrev pub TableHolds : Rules → PartsState → StreamStage → Type 0
 TableHolds l q stage.InType = OptionRuns l q
 TableHolds l q t = Forest q.table.nodes 0 l.depth
 
 -- the same, as far as the number of bytes goes
-abbrev pub IsPlaced : StreamStanding → Parts → StreamStage → Type 0
+abbrev pub IsPlaced : StreamStanding → PartsState → StreamStage → Type 0
 IsPlaced s q stage.Header = (s.came < 9) × (s.frame ≡ s.offset)
 IsPlaced s q stage.InType = IsOption s q.partial q.types
 IsPlaced s q (stage.BeforeCell p) = IsPage q.table.nodes s.limits.depth p
@@ -320,18 +324,26 @@ pub record IsBounded (s : StreamStanding) : Type 0 where
   pub bound : s.stop ≤ 2 ^ 63 + 268435465
 
 -- The parts have just the room that the limits ask for.
-pub record HasParts (s : StreamStanding) (q : Parts) : Type 0 where
+pub record HasParts (s : StreamStanding) (q : PartsState) : Type 0 where
   pub room : q.partial.room ≡ max s.limits.text s.limits.cell
   pub rules : q.types.rules ≡ rules_of s.limits
   pub cells : q.cells.rules ≡ rules_of s.limits
   pub table : q.table.room ≡ s.limits.entries
 
-pub record IsConsistent (s : StreamStanding) (q : Parts) : Type 0 where
+pub record IsConsistent (s : StreamStanding) (q : PartsState) : Type 0 where
   pub bounded : IsBounded s
   pub parts : HasParts s q
   pub stage : StageHolds s q s.stage
   pub quiet : IsQuiet q
   pub table : s.refusal ≡ None → TableHolds (rules_of s.limits) q s.stage
+
+-- ---- the same of the code's parts
+
+abbrev pub stream_state : {A : Type 0} → StreamStanding → Parts A → StreamState
+stream_state s p = state_of s (parts_state p)
+
+abbrev pub IsSound : {A : Type 0} → StreamStanding → Parts A → Type 0
+IsSound s p = IsConsistent s (parts_state p)
 
 -- the field that is wanted has begun, and as much of it has come as before
 pub record IsAsked (s : StreamStanding) (old p : FieldState) (w : Want) : Type 0 where

@@ -11,12 +11,12 @@ use Rattle.cqlp_note.specs.Reader.{says, Bad}
 use Rattle.cqlp_decode.specs.Reading.{Event, Place, start, Reads, Says, Waits, Refused}
 use Rattle.cqlp_decode.specs.Reading.{step as step_of}
 use Rattle.cqlp_decode.specs.Events.{event_of}
-use Rattle.cqlp_decode.specs.Standing.{StreamState, Parts, IsPending, IsLent, state_of, frame_after, ends_due}
+use Rattle.cqlp_decode.specs.Standing.{StreamState, PartsState, IsPending, IsLent, state_of, frame_after, ends_due}
 
 -- What contracts see of a decoder: where it stands, and its parts that own memory.
 pub record Decoding : Type 0 where
   pub standing : StreamStanding
-  pub parts : Parts
+  pub parts : PartsState
 
 -- what it knows of its stream
 abbrev pub state : Decoding → StreamState

@@ -14,6 +14,7 @@ ghost use Rattle.cqlp_note.specs.declared.refusal.Refusal.{Refusal};
 
 use crate::advance::{EventAdvance, EventOutline, ScalarCell};
 use crate::event::{Event, Finish, Held, Step};
+use crate::parts::Parts;
 use crate::standing::StreamStanding;
 use cqlp_note::{BadLimits, Field, Limits, NoMemory, Partial, Prim};
 use cqlp_type::{TypeItem, TypeReader, TypeTable};
@@ -36,21 +37,18 @@ pub enum NewError {
 #[derive(Drop)]
 pub struct Decoder<A: Allocator = Global> {
     standing: StreamStanding,
-    partial: Partial<A>,
-    types: TypeReader<A>,
-    cells: CellReader<A>,
-    table: TypeTable<A>,
+    parts: Parts<A>,
 }
 
 impl<A: Allocator> Model for Decoder<A> {
-    ghost use Rattle.cqlp_decode.specs.Standing.{IsConsistent, parts};
+    ghost use Rattle.cqlp_decode.specs.Standing.{IsSound, parts_state};
     ghost use Rattle.cqlp_decode.specs.Streams.{Decoding};
 
     ghost Value = { Decoding };
 
-    ghost view = { λ d. record { standing = d.standing; parts = parts d.partial d.types d.cells d.table } };
+    ghost view = { λ d. record { standing = d.standing; parts = parts_state d.parts } };
 
-    ghost invariant = { λ d. IsConsistent d.standing (parts d.partial d.types d.cells d.table) };
+    ghost invariant = { λ d. IsSound d.standing d.parts };
 }
 
 impl<A: Allocator + Clone> Decoder<A> {
@@ -87,13 +85,13 @@ impl<A: Allocator + Clone> Decoder<A> {
         let types = TypeReader::new(alloc.clone()?, &limits)?;
         let cells = CellReader::new(alloc, &limits)?;
         let standing = StreamStanding::new(limits);
-        Ok(Decoder {
-            standing,
+        let parts = Parts {
             partial,
             types,
             cells,
             table,
-        })
+        };
+        Ok(Decoder { standing, parts })
     }
 }
 
@@ -136,8 +134,7 @@ impl<A: Allocator> Decoder<A> {
         ensures refused { (r : Refusal) → (state self.now).refusal ≡ Some r → result ≡ Finish.Refused r }
         ensures ends { (s : List ℕ) (es : List (ℕ × reading.Event)) → After (state self.now) s es → Finishes (state self.now) s es result }
     {
-        self.standing
-            .finish(&self.partial, &self.types, &self.cells)
+        self.standing.finish(&self.parts)
     }
 
     /// What is held of the stream: at most as many bytes as the greater of the limits on a text and on a cell, as many
@@ -150,9 +147,9 @@ impl<A: Allocator> Decoder<A> {
     {
         let _standing = &self.standing;
         Held {
-            bytes: self.partial.held(),
-            entries: self.table.len(),
-            levels: self.types.held() + self.cells.levels(),
+            bytes: self.parts.partial.held(),
+            entries: self.parts.table.len(),
+            levels: self.parts.types.held() + self.parts.cells.levels(),
         }
     }
 
@@ -160,7 +157,7 @@ impl<A: Allocator> Decoder<A> {
     pub fn table(&self) -> &TypeTable<A>
         ensures { result.now.nodes ≡ (state self.now).place.nodes }
     {
-        &self.table
+        &self.parts.table
     }
 
     /// Takes the cell that is due, where it is a scalar and all its bytes lie in the input.
@@ -168,7 +165,7 @@ impl<A: Allocator> Decoder<A> {
     fn take_scalar<'a>(&mut self, input: &'a [u8]) -> Option<ScalarCell<'a>>
         ensures { Takes (state self.old) input.now result (state self.new) }
     {
-        self.standing.take_scalar(&self.partial, &self.table, input)
+        self.standing.take_scalar(&self.parts, input)
     }
 
     /// The work of a call, with nothing borrowed in its result.
@@ -176,13 +173,7 @@ impl<A: Allocator> Decoder<A> {
         ensures advances { Advances (state self.old) input.now result (state self.new) }
         ensures table { LeavesTypes result (state self.old).place.nodes (state self.new).place.nodes }
     {
-        self.standing.advance(
-            &mut self.partial,
-            &mut self.types,
-            &mut self.cells,
-            &mut self.table,
-            input,
-        )
+        self.standing.advance(&mut self.parts, input)
     }
 
     /// The event that `advance` made of this input.
@@ -192,8 +183,11 @@ impl<A: Allocator> Decoder<A> {
     {
         match what {
             EventOutline::Frame(header) => Event::Frame(header),
-            EventOutline::Holds(field, item) => event_with(field, self.partial.lend(input, item)),
-            EventOutline::Option(part) => match part.lend(&self.partial, input) {
+            EventOutline::Holds(field, item) => event_with(
+                field,
+                self.parts.partial.lend(input, item),
+            ),
+            EventOutline::Option(part) => match part.lend(&self.parts.partial, input) {
                 TypeItem::Node(kind) => Event::TypeNode(kind),
                 TypeItem::Text(field, text) => Event::Text { field, text },
                 TypeItem::Count(count) => Event::Count {
@@ -204,7 +198,7 @@ impl<A: Allocator> Decoder<A> {
             EventOutline::Cell(row, column, part) => event_in(
                 row,
                 column,
-                part.lend(&self.partial, input),
+                part.lend(&self.parts.partial, input),
             ),
             EventOutline::End(extra) => Event::End { extra },
         }

@@ -7,6 +7,7 @@ mod event;
 mod following;
 pub mod laws;
 mod page;
+mod parts;
 mod running;
 mod sink;
 mod standing;
