@@ -35,7 +35,7 @@ use Rattle.cqlp_decode.specs.declared.advance.EventOutline.TheVariants as what
 use Rattle.cqlp_decode.specs.Upcoming.{wanted}
 use Rattle.cqlp_decode.specs.Reading as reading
 use Rattle.cqlp_decode.specs.Reading.{Place, value_step, types_for, nodes_after, given_after, Nothing}
-use Rattle.cqlp_decode.specs.Standing.{IsPending, PartsState, parts, state_of, place_at, offset_at, symbols_at, rest_of, came_of, told, Gives, Waits, Moves, IsAsked, IsWanted, IsBounded, IsQuiet, HasParts, IsConsistent, asked, Starts}
+use Rattle.cqlp_decode.specs.Standing.{IsPending, PartsState, parts, state_of, place_at, offset_at, symbols_at, rest_of, came_of, said, Gives, Waits, Moves, IsAsked, IsWanted, IsBounded, IsQuiet, HasParts, IsConsistent, asked, Starts}
 use Rattle.cqlp_decode.proofs.Steps.{begun, one_due, offset_is, fresh_stage, fresh_table}
 
 -- ---- fields
@@ -93,16 +93,16 @@ module _ (s : StreamStanding) (q : PartsState) (w : Want) (here : s.stage ≡ st
   abbrev next_step : FieldValue → Reader (Emitted reading.Event Place) (ℕ × Reason)
   next_step v = value_step s.limits.types (place_at s.offset s.stop (wanted (due.Field w) ∷ rest) q.table.nodes) w.field w.role rest v (fault_in w.role v)
 
-  told_is : told (state_of s q) bytes ≡ says (after_field s.offset (reader_of (asked s w)) next_step) 0 bytes
+  told_is : said (state_of s q) bytes ≡ says (after_field s.offset (reader_of (asked s w)) next_step) 0 bytes
   told_is = rw here refl
 
-  field_waits : says (reader_of (asked s w)) 0 bytes ≡ More → told (state_of s q) bytes ≡ More
+  field_waits : says (reader_of (asked s w)) 0 bytes ≡ More → said (state_of s q) bytes ≡ More
   field_waits m = told_is ∙ after_more s.offset _ next_step 0 bytes m
 
-  field_fails : (why : Reason) → says (reader_of (asked s w)) 0 bytes ≡ Bad why → told (state_of s q) bytes ≡ Bad (s.offset, why)
+  field_fails : (why : Reason) → says (reader_of (asked s w)) 0 bytes ≡ Bad why → said (state_of s q) bytes ≡ Bad (s.offset, why)
   field_fails why m = told_is ∙ after_bad s.offset _ next_step 0 bytes why m
 
-  field_faults : (v : FieldValue) (k : ℕ) (why : Reason) → says (reader_of (asked s w)) 0 bytes ≡ Got v k → fault_in w.role v ≡ Some why → told (state_of s q) bytes ≡ Bad (s.offset, why)
+  field_faults : (v : FieldValue) (k : ℕ) (why : Reason) → says (reader_of (asked s w)) 0 bytes ≡ Got v k → fault_in w.role v ≡ Some why → said (state_of s q) bytes ≡ Bad (s.offset, why)
   field_faults v k why m fault = told_is ∙ (after_got s.offset (reader_of (asked s w)) next_step 0 bytes v k m).1 ∙ rw fault refl
 
   abbrev behind_field : ℕ → FieldValue → Place
@@ -131,11 +131,11 @@ module _ (s : StreamStanding) (old p : FieldState) (r : type.TypeState) (d : val
         (rw (pending_is b is) (field_waits s before w here (p.seen ++ input) (rw a.field at m.is)), rw (here, seen) (ap (λ (x : List ℕ). x ++ input) (pending_is b is)));
   }
 
-  pub piece_fails : (why : Reason) → says (reader_of p.field) 0 (p.seen ++ input) ≡ Bad why → (b : List ℕ) → IsPending (state_of s before).pending b → told (state_of s before) (b ++ input) ≡ Bad (s.offset, why)
+  pub piece_fails : (why : Reason) → says (reader_of p.field) 0 (p.seen ++ input) ≡ Bad why → (b : List ℕ) → IsPending (state_of s before).pending b → said (state_of s before) (b ++ input) ≡ Bad (s.offset, why)
   piece_fails why m b is = rw (pending_is b is) (field_fails s before w here (p.seen ++ input) why (rw a.field at m))
 
   module _ (new : FieldState) (used : ℕ) (v : FieldValue) (m : Ends p input used v new) where
-    pub piece_faults : (why : Reason) → fault_in w.role v ≡ Some why → (b : List ℕ) → IsPending (state_of s before).pending b → told (state_of s before) (b ++ input) ≡ Bad (s.offset, why)
+    pub piece_faults : (why : Reason) → fault_in w.role v ≡ Some why → (b : List ℕ) → IsPending (state_of s before).pending b → said (state_of s before) (b ++ input) ≡ Bad (s.offset, why)
     piece_faults why fault b is = rw (pending_is b is) (field_faults s before w here (p.seen ++ input) v (length p.seen + used) why (rw a.field at m.is) fault)
 
     pub piece_hands : (e : StreamStanding) (t' : Table) (i : FieldOutline) → v ≡ item_value i input new.content → CanLend i input new.content → fault_in w.role v ≡ None → IsWanted s old w

@@ -1,21 +1,26 @@
 -- From one history and one input there is one answer.
-use Rattle.std.proofs.Common.{◌≡◌, ℕ, ◌+◌, ◌-◌, ◌≤◌, List, [], ◌∷◌, ◌++◌, length, take, drop, refl, sym, ap, subst, ◌∙◌, append_assoc, inl, inr, arith}
-use Rattle.std.specs.Prelude.{Option, Some, None}
+use Rattle.std.proofs.Common.{◌≡◌, ℕ, ◌+◌, ◌-◌, ◌<◌, ◌≤◌, Bool, true, false, List, [], ◌∷◌, ◌++◌, length, take, drop, refl, sym, ap, subst, ◌∙◌, append_assoc, inl, inr, arith}
+use Rattle.std.specs.Prelude.{Option, Some, None, ◌⊎◌, if◌then◌else◌}
 use Rattle.std.proofs.lemmas.Bool.{cases_lt}
 use Rattle.std.proofs.lemmas.List.{append-nil, append_cancel_left, length-append, length-drop, length-take-le, take-append-drop, nil_from_length}
+use Rattle.cqlp_note.specs.declared.limits.Limits.{Limits}
+use Rattle.cqlp_note.specs.declared.refusal.Reason.{Reason}
 use Rattle.cqlp_note.specs.declared.refusal.Refusal.{Refusal}
-use Rattle.cqlp_note.specs.Limits.{Rules}
+use Rattle.cqlp_note.specs.Limits.{Rules, rules_of}
+use Rattle.cqlp_note.specs.Reader.{says}
 use Rattle.cqlp_note.proofs.Runs.{runs_compare, runs_stay}
+use Rattle.cqlp_value.specs.declared.standing.Under.{Under}
 use Rattle.cqlp_value.specs.Reading as cells
 use Rattle.cqlp_decode.specs.declared.event.Step.{Step}
 use Rattle.cqlp_decode.specs.declared.event.Step.TheVariants as steps
 use Rattle.cqlp_decode.specs.declared.event.Event as events
 use Rattle.cqlp_decode.specs.declared.event.Finish.{Finish}
 use Rattle.cqlp_decode.specs.declared.event.Finish.TheVariants as finish
+use Rattle.cqlp_decode.specs.declared.event.Held.{Held}
 use Rattle.cqlp_decode.specs.Reading.{Event, Place, Verdict, Waits, Refused, Reads, Says, start, step}
 use Rattle.cqlp_decode.specs.Events.{event_of}
 use Rattle.cqlp_decode.specs.Standing.{StreamState, Pending, Kept, Skipped, Valued, IsPending}
-use Rattle.cqlp_decode.specs.Streams.{state, After, AfterBy, Stands, Leads, Goes, Answers, FinishesBy}
+use Rattle.cqlp_decode.specs.Streams.{Decoding, state, After, AfterBy, Stands, HasRefusedAt, Refuses, Leads, Goes, Answers, Finishes, FinishesBy, frame_of, is_open}
 use Rattle.cqlp_decode.specs.OneAnswer as one
 use Rattle.cqlp_decode.specs.OneAnswer.{answer_of, AreAlike, IsNew, IsHeld, IsOneAnswerOfNew, IsOneAnswerOfNext, IsOneAnswerOfFinish, IsOneAnswerOfHeld}
 use Rattle.cqlp_decode.proofs.Whole.{no_step, says_once}

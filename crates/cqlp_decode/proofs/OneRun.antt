@@ -1,10 +1,11 @@
 -- From one decoder over one reader's bytes there is one run.
-use Rattle.std.proofs.Common.{◌≡◌, ℕ, List, [], ◌∷◌, ◌++◌, length, refl, sym, ap, subst, ◌∙◌, append_assoc, inl, inr, arith}
-use Rattle.std.specs.Prelude.{Option, Some, None}
+use Rattle.std.proofs.Common.{◌≡◌, ℕ, ◌+◌, ◌≤◌, List, [], ◌∷◌, ◌++◌, length, refl, sym, ap, subst, ◌∙◌, append_assoc, inl, inr, arith}
+use Rattle.std.specs.Prelude.{Option, Some, None, ◌⊎◌}
 use Rattle.std.proofs.lemmas.Bool.{cases_lt}
 use Rattle.std.proofs.lemmas.List.{append-nil, append_cancel_left, append_cancel_right}
+use Rattle.cqlp_note.specs.declared.limits.Limits.{Limits}
 use Rattle.cqlp_note.specs.declared.refusal.Refusal.{Refusal}
-use Rattle.cqlp_note.specs.Limits.{Rules}
+use Rattle.cqlp_note.specs.Limits.{Rules, rules_of}
 use Rattle.cqlp_note.specs.declared.refusal.Reason.{Reason}
 use Rattle.cqlp_note.specs.Reader.{says}
 use Rattle.cqlp_note.proofs.Readers.{says_stays}
@@ -15,9 +16,9 @@ use Rattle.cqlp_decode.specs.declared.running.Outcome.{Outcome}
 use Rattle.cqlp_decode.specs.declared.running.Outcome.TheVariants as outcome
 use Rattle.cqlp_decode.specs.Reading.{Event, Place, Verdict, Waits, Refused, Reads, Says, start, step}
 use Rattle.cqlp_decode.specs.Standing.{StreamState}
-use Rattle.cqlp_decode.specs.Streams.{state, After, AfterBy, FinishesBy}
-use Rattle.cqlp_decode.specs.Draining.{Feeds, HasAll, RunsTo, fold_events, verdict_of}
-use Rattle.cqlp_decode.specs.OneAnswer.{IsFrontEitherWay, IsSound, Ran, handed, AreOneRun, IsOneAnswerOfRun, RunsRight, EndsBy}
+use Rattle.cqlp_decode.specs.Streams.{Decoding, state, After, AfterBy, Stands, HasRefusedAt, Finishes, FinishesBy}
+use Rattle.cqlp_decode.specs.Draining.{Feeds, HasAll, HasRefused, RunsTo, fold_events, verdict_of}
+use Rattle.cqlp_decode.specs.OneAnswer.{IsFrontEitherWay, IsNew, IsSound, Ran, handed, AreOneRun, IsOneAnswerOfRun, RunsRight, EndsBy}
 use Rattle.cqlp_decode.proofs.Whole.{is_bad, says_once}
 use Rattle.cqlp_decode.proofs.OneAnswer.{finish_by}
 

@@ -33,7 +33,7 @@ use Rattle.cqlp_decode.specs.declared.standing.StreamStanding.{StreamStanding}
 use Rattle.cqlp_decode.specs.declared.advance.EventAdvance.TheVariants as advance
 use Rattle.cqlp_decode.specs.declared.advance.EventOutline.TheVariants as what
 use Rattle.cqlp_decode.specs.Reading.{Place, type_event, types_left, place_of_types}
-use Rattle.cqlp_decode.specs.Standing.{IsPending, PartsState, parts, state_of, place_at, offset_at, symbols_at, rest_of, told, Gives, Waits, Moves, IsLent, due_after, frame_after, ends_due, HasRoom, IsOption, OptionWaits, OptionRuns, IsConsistent, StageHolds, TableHolds}
+use Rattle.cqlp_decode.specs.Standing.{IsPending, PartsState, parts, state_of, place_at, offset_at, symbols_at, rest_of, said, Gives, Waits, Moves, IsLent, due_after, frame_after, ends_due, HasRoom, IsOption, OptionWaits, OptionRuns, IsConsistent, StageHolds, TableHolds}
 use Rattle.cqlp_decode.specs.declared.standing.StreamStage.{StreamStage}
 use Rattle.cqlp_decode.proofs.Steps.{starts_bare, begun_bare, one_due_bare, offset_is_bare}
 use Rattle.cqlp_decode.proofs.FieldSteps.{used_some, goes_on_lawful}
@@ -125,7 +125,7 @@ module _ (s : StreamStanding) (q : PartsState) (here : s.stage ≡ stage.InType)
   abbrev stands : Place
   stands = place_at q.types.offset s.stop (In_type q.types.symbols ∷ rest) q.table.nodes
 
-  told_is : (bytes : List ℕ) → told (state_of s q) bytes ≡ map_said type_event (place_of_types stands rest) (type.told q.types q.table.nodes bytes)
+  told_is : (bytes : List ℕ) → said (state_of s q) bytes ≡ map_said type_event (place_of_types stands rest) (type.told q.types q.table.nodes bytes)
   told_is bytes = rw (here, ← rules, ← o.stop) (says_map type_event (place_of_types (place_at q.types.offset q.types.stop (In_type q.types.symbols ∷ rest) q.table.nodes) rest) (type_step q.types.rules (place_of q.types q.table.nodes)) 0 bytes)
 
   pending_is : (b : List ℕ) → IsPending (state_of s q).pending b → b ≡ pending q.types q.partial
@@ -142,7 +142,7 @@ module _ (s : StreamStanding) (q : PartsState) (here : s.stage ≡ stage.InType)
         waits = λ b is. (rw (pending_is b is) (told_is (pending q.types q.partial ++ input) ∙ ap (λ z. map_said type_event (place_of_types stands rest) z) m.is), rw (here, pending_is b is) (sym m.pending));
       }
 
-  pub option_fails : (input : List ℕ) (at : ℕ) (why : Reason) → type.told q.types q.table.nodes (pending q.types q.partial ++ input) ≡ Bad (at, why) → (b : List ℕ) → IsPending (state_of s q).pending b → told (state_of s q) (b ++ input) ≡ Bad (at, why)
+  pub option_fails : (input : List ℕ) (at : ℕ) (why : Reason) → type.told q.types q.table.nodes (pending q.types q.partial ++ input) ≡ Bad (at, why) → (b : List ℕ) → IsPending (state_of s q).pending b → said (state_of s q) (b ++ input) ≡ Bad (at, why)
   option_fails input at why m b is = rw (pending_is b is) (told_is (pending q.types q.partial ++ input) ∙ ap (λ z. map_said type_event (place_of_types stands rest) z) m)
 
   module _ (input : List ℕ) (at used : ℕ) (x : TypeOutline) (r' : type.TypeState) (p' : FieldState) (t' : Table) (m : type.Ends q.types q.partial q.table input at used x r' p' t') (waits : OptionWaits q) where
@@ -242,7 +242,7 @@ module _ (s : StreamStanding) (q : PartsState) (here : s.stage ≡ stage.InType)
               some = λ none. o.some (sym (ap (λ (x : type.TypeState). x.symbols) same) ∙ none);
               shared = m.shared;
               stop = ap (λ (x : type.TypeState). x.stop) same ∙ o.stop;
-              behind = omega (arith, o.behind, ap (λ (x : type.TypeState). x.offset) same);
+              after = omega (arith, o.after, ap (λ (x : type.TypeState). x.offset) same);
               inside = omega (arith, o.inside, ap (λ (x : type.TypeState). x.offset) same);
               came = o.came;
             },
@@ -263,7 +263,7 @@ module _ (s : StreamStanding) (q : PartsState) (here : s.stage ≡ stage.InType)
             bounded = law.bounded;
             parts = record { room = m.room ∙ law.parts.room; rules = ap (λ (y : type.TypeState). y.rules) same ∙ law.parts.rules; cells = law.parts.cells; table = m.table ∙ law.parts.table };
             stage = stage_there z (
-              record { under_way = ap (λ (y : type.TypeState). y.under_way) same; some = some; shared = m.shared; stop = ap (λ (y : type.TypeState). y.stop) same ∙ o.stop; behind = omega (arith, o.behind, m.forward); inside = inside; came = o.came },
+              record { under_way = ap (λ (y : type.TypeState). y.under_way) same; some = some; shared = m.shared; stop = ap (λ (y : type.TypeState). y.stop) same ∙ o.stop; after = omega (arith, o.after, m.forward); inside = inside; came = o.came },
               λ long. let none : length (pending r' p') ≡ 0 = rw begun refl in absurd (omega arith),
               idle_cells,
             );
@@ -285,7 +285,7 @@ module _ (s : StreamStanding) (q : PartsState) (here : s.stage ≡ stage.InType)
           let begun : r'.begun ≡ false = ap (λ (y : type.TypeState). y.begun) same in
           let is = option_over run.begun 1 r' p' t' (run.bytes ++ take used input) (run.items ++ (at, part.event_at x input p'.content) ∷ []) run.first (option_handed q.types q.partial q.table input r' p' t' at used x m run.begun run.bytes run.items run.runs) whole begun in
           let forest : Forest t'.nodes 0 s.limits.depth = forest_more (rules_of s.limits) run.begun.offset run.begun.nodes (run.bytes ++ take used input) (run.items ++ (at, part.event_at x input p'.content) ∷ []) t'.nodes run.before (rw rules at is) in
-          goes_on_lawful s e q p' r'' q.cells t' (r'.offset - s.offset) law (omega (arith, offset, o.behind, m.forward)) (omega (arith, inside, o.behind, m.forward)) stop limits header (came ∙ o.came)
+          goes_on_lawful s e q p' r'' q.cells t' (r'.offset - s.offset) law (omega (arith, offset, o.after, m.forward)) (omega (arith, inside, o.after, m.forward)) stop limits header (came ∙ o.came)
           m.room (m.shared.same ∙ begun) (rw over (ap (λ (y : type.TypeState). y.rules) same)) (rw over refl) refl idle_cells m.table forest (starts_bare e t'.nodes e.stage room) (record { types = λ idle. rw over refl; cells = law.quiet.cells })
 
 -- ---- an option begins
@@ -307,7 +307,7 @@ module _ (s : StreamStanding) (q : PartsState) (here : s.stage ≡ stage.BeforeT
             some = λ none. cc;
             shared = record { room = rw (law.parts.rules, law.parts.room) (omega arith); same = idle.0.field; item = λ begun. absurd cc; taken = λ begun. absurd cc };
             stop = refl;
-            behind = omega arith;
+            after = omega arith;
             inside = law.bounded.inside;
             came = idle.1;
           },

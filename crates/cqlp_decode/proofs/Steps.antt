@@ -25,7 +25,7 @@ use Rattle.cqlp_decode.specs.declared.advance.EventOutline.TheVariants as what
 use Rattle.cqlp_decode.specs.Upcoming.{Pops}
 use Rattle.cqlp_decode.specs.Reading as reading
 use Rattle.cqlp_decode.specs.Reading.{Place}
-use Rattle.cqlp_decode.specs.Standing.{IsPending, state_of, place_at, offset_at, pending_at, symbols_at, rest_of, stage_with, came_of, told, Gives, Waits, Moves, PartsState, IsIdle, ends_due, HasRoom, Starts, StageHolds, TableHolds, IsPlaced, IsConsistent}
+use Rattle.cqlp_decode.specs.Standing.{IsPending, state_of, place_at, offset_at, pending_at, symbols_at, rest_of, stage_with, came_of, said, Gives, Waits, Moves, PartsState, IsIdle, ends_due, HasRoom, Starts, StageHolds, TableHolds, IsPlaced, IsConsistent}
 use Rattle.cqlp_decode.proofs.Columns.{cells_due}
 
 -- ---- what is skipped
@@ -186,9 +186,9 @@ stage_refused : (s : StreamStanding) (q : PartsState) (r : Option Refusal) (t : 
 stage_refused s q r stage.Header h = h
 stage_refused s q r (stage.Field w) h = (record { room = h.0.room; read = h.0.read; field = h.0.field; waits = h.0.waits; came = h.0.came }, h.1, h.2)
 stage_refused s q r stage.BeforeType h = h
-stage_refused s q r stage.InType h = (record { under_way = h.0.under_way; some = h.0.some; shared = h.0.shared; stop = h.0.stop; behind = h.0.behind; inside = h.0.inside; came = h.0.came }, h.1, h.2)
+stage_refused s q r stage.InType h = (record { under_way = h.0.under_way; some = h.0.some; shared = h.0.shared; stop = h.0.stop; after = h.0.after; inside = h.0.inside; came = h.0.came }, h.1, h.2)
 stage_refused s q r (stage.BeforeCell p) h = h
-stage_refused s q r (stage.InCell p) h = (record { under_way = h.0.under_way; stands = h.0.stands; joined = h.0.joined; some = h.0.some; is = h.0.is; page = h.0.page; stop = h.0.stop; behind = h.0.behind; came = h.0.came }, h.1)
+stage_refused s q r (stage.InCell p) h = (record { under_way = h.0.under_way; stands = h.0.stands; joined = h.0.joined; some = h.0.some; is = h.0.is; page = h.0.page; stop = h.0.stop; after = h.0.after; came = h.0.came }, h.1)
 stage_refused s q r stage.Extra h = h
 
 pub refused_lawful : (s : StreamStanding) (q : PartsState) (r : Refusal) → IsConsistent s q → IsConsistent (record s { refusal = Some r }) q
@@ -230,7 +230,7 @@ module _ (s : StreamStanding) (q : PartsState) (input : List ℕ) (here : s.stag
     whole : (b : List ℕ) → b ≡ take s.came s.header → 9 ≤ length (b ++ input)
     whole b is = rw is (omega (arith, length-append (take s.came s.header) input, kept_long))
 
-    pub header_fails : (e : ℕ × Reason) → heading nine ≡ Err e → (b : List ℕ) → IsPending (state_of s q).pending b → told (state_of s q) (b ++ input) ≡ Bad (s.offset + e.0, e.1)
+    pub header_fails : (e : ℕ × Reason) → heading nine ≡ Err e → (b : List ℕ) → IsPending (state_of s q).pending b → said (state_of s q) (b ++ input) ≡ Bad (s.offset + e.0, e.1)
     header_fails e h b is =
         let came : b ≡ take s.came s.header = rw here at is in
         rw (here, le-ltb _ _ early, le-ltb _ _ (whole b came), front b came, h) refl

@@ -11,10 +11,10 @@ use Rattle.cqlp_decode.specs.declared.event.Finish.TheVariants as finish
 use Rattle.cqlp_decode.specs.declared.event.Held.{Held}
 use Rattle.cqlp_decode.specs.declared.running.Outcome.{Outcome}
 use Rattle.cqlp_decode.specs.declared.running.Outcome.TheVariants as outcome
-use Rattle.cqlp_decode.specs.Reading.{Event, Verdict, Waits, Refused, Says, start}
+use Rattle.cqlp_decode.specs.Reading.{Event, Place, Verdict, Waits, Refused, Says, start}
 use Rattle.cqlp_decode.specs.Events.{event_of}
 use Rattle.cqlp_decode.specs.Standing.{StreamState, levels_of}
-use Rattle.cqlp_decode.specs.Streams.{Decoding, state, After, Answers, Finishes, FinishesBy}
+use Rattle.cqlp_decode.specs.Streams.{Decoding, state, After, Uses, Answers, Finishes, FinishesBy}
 use Rattle.cqlp_decode.specs.Draining.{RunsTo, WaitsAt, fold_events}
 
 -- ---- the decoder

@@ -7,6 +7,8 @@ use Rattle.cqlp_note.specs.Head.{reader_of}
 use Rattle.cqlp_note.specs.Reader.{Said, More, Bad, Got, says}
 use Rattle.cqlp_note.specs.Step.{Emitted}
 use Rattle.cqlp_note.specs.Limits.{Rules, rules_of, limit_of}
+use Rattle.cqlp_note.specs.declared.limits.Limits.{Limits}
+use Rattle.cqlp_note.specs.Field.{FieldValue}
 use Rattle.cqlp_note.specs.Partial.{FieldState, item_value, CanLend, content_length}
 use Rattle.cqlp_type.specs.TypeStep.{Option_at, TypeEvent, TypePlace}
 use Rattle.cqlp_type.specs.declared.node.Node.{Node}
@@ -26,6 +28,7 @@ use Rattle.cqlp_value.specs.Standing as value
 use Rattle.cqlp_value.specs.Standing.{is_under_way}
 use Rattle.cqlp_value.specs.Reading as taking
 use Rattle.cqlp_value.specs.Pushing.{is_done}
+use Rattle.cqlp_message.specs.declared.grammar.Role.{Role}
 use Rattle.cqlp_message.specs.Productions.{Symbol, Stream, Extra, In_type}
 use Rattle.cqlp_decode.specs.declared.table.Want.{Want}
 use Rattle.cqlp_decode.specs.declared.table.Expected.{Expected}
@@ -43,11 +46,11 @@ use Rattle.cqlp_decode.specs.declared.advance.ScalarCell.{ScalarCell}
 use Rattle.cqlp_value.specs.Contents.{value_of as scalar_value}
 use Rattle.cqlp_decode.specs.declared.page.CellCursor.{CellCursor}
 use Rattle.cqlp_decode.specs.Upcoming.{symbols_in, wanted, behind, IsRead}
-use Rattle.cqlp_decode.specs.Pages.{cells_from, page_symbols, node_by, IsPage}
+use Rattle.cqlp_decode.specs.Pages.{cells_from, page_symbols, node_by, symbols_after, IsPage}
 use Rattle.cqlp_decode.specs.Reading as reading
-use Rattle.cqlp_decode.specs.Reading.{Place, Event, step}
+use Rattle.cqlp_decode.specs.Reading.{Place, Event, start, step}
 
--- The bytes of what is under way that have come: they are kept, or so many were skipped, or they are those of a value
+-- The bytes of what is under way that have come: they are kept, or this many were skipped, or they are those of a value
 -- whose length may have come before them.
 pub data Pending : Type 0 where
   Kept : List ℕ → Pending
@@ -112,19 +115,28 @@ due_after (reading.End n) = 0
 due_after e = 1
 
 -- what the step at this place says of these bytes
-abbrev pub told : StreamState → List ℕ → Said (Emitted Event Place) (ℕ × Reason)
-told d bytes = says (step d.rules d.place) 0 bytes
+abbrev pub said : StreamState → List ℕ → Said (Emitted Event Place) (ℕ × Reason)
+said d bytes = says (step d.rules d.place) 0 bytes
 
 -- the step gives this event, takes k bytes, and leads there
 abbrev pub Gives : StreamState → (bytes : List ℕ) → (at : ℕ) → Event → (k : ℕ) → Place → Type 0
-Gives d bytes at e k after = (x : Emitted Event Place) × (told d bytes ≡ Got x k) × (x.at ≡ at) × (x.event ≡ e) × (x.after k ≡ after)
+Gives d bytes at e k after =
+    (x : Emitted Event Place) × (said d bytes ≡ Got x k) × (x.at ≡ at) × (x.event ≡ e) × (x.after k ≡ after)
+
+-- of what is under way more is wanted also with the input
+abbrev pub WantsMore : StreamState → List ℕ → StreamState → List ℕ → Type 0
+WantsMore old input new b = (said old (b ++ input) ≡ More) × IsPending new.pending (b ++ input)
+
+-- the input is refused, whatever the bytes under way are
+abbrev pub IsRefused : StreamState → List ℕ → Refusal → Type 0
+IsRefused old input r = (b : List ℕ) → IsPending old.pending b → said old (b ++ input) ≡ Bad (r.at, r.why)
 
 -- All of the input belongs to what is under way.
 pub record Waits (old : StreamState) (input : List ℕ) (used : ℕ) (new : StreamState) : Type 0 where
   pub all : used ≡ length input
   pub place : new.place ≡ old.place
   pub frame : new.frame ≡ old.frame
-  pub waits : (b : List ℕ) → IsPending old.pending b → (told old (b ++ input) ≡ More) × IsPending new.pending (b ++ input)
+  pub waits : (b : List ℕ) → IsPending old.pending b → WantsMore old input new b
 
 -- The first `used` bytes of the input end what is under way, which is this event.
 pub record Hands (old : StreamState) (input : List ℕ) (at used : ℕ) (e : Event) (new : StreamState) : Type 0 where
@@ -140,8 +152,9 @@ pub record Hands (old : StreamState) (input : List ℕ) (at used : ℕ) (e : Eve
 -- What one call does, from a state without a refusal.
 abbrev pub Moves : StreamState → List ℕ → EventAdvance → StreamState → Type 0
 Moves old input (advance.More used) new = Waits old input used new
-Moves old input (advance.Event at used w) new = WhatThere new.held input w × Hands old input at used (event_at new.held input w) new
-Moves old input (advance.Refused r) new = (b : List ℕ) → IsPending old.pending b → told old (b ++ input) ≡ Bad (r.at, r.why)
+Moves old input (advance.Event at used w) new =
+    WhatThere new.held input w × Hands old input at used (event_at new.held input w) new
+Moves old input (advance.Refused r) new = IsRefused old input r
 
 abbrev pub refusal_in : EventAdvance → Option Refusal
 refusal_in (advance.Refused r) = Some r
@@ -160,11 +173,20 @@ AdvancesFrom None old input a new = Moves old input a new × (new.refusal ≡ re
 abbrev pub Advances : StreamState → List ℕ → EventAdvance → StreamState → Type 0
 Advances old input a new = AdvancesFrom old.refusal old input a new
 
+-- a scalar is the whole cell
+abbrev pub scalar_event : ScalarCell → Event
+scalar_event t = reading.Cell_at t.row t.column (cell.Leaf 0 (scalar_value t.scalar))
+
 -- Where a scalar is the cell that is due, and its bytes are all there, it is taken; else nothing is done.
 abbrev pub Takes : StreamState → List ℕ → Option ScalarCell → StreamState → Type 0
 Takes old input None new = new ≡ old
 Takes old input (Some t) new =
-    (old.refusal ≡ None) × (new.refusal ≡ None) × (new.rules ≡ old.rules) × Hands old input t.at t.used (reading.Cell_at t.row t.column (cell.Leaf 0 (scalar_value t.scalar))) new
+    (old.refusal ≡ None) × (new.refusal ≡ None) × (new.rules ≡ old.rules)
+    × Hands old input t.at t.used (scalar_event t) new
+
+-- this many bytes of the stream have come: those before what is under way, and those of it
+abbrev pub HasCome : StreamState → ℕ → Type 0
+HasCome d n = (b : List ℕ) → IsPending d.pending b → n ≡ d.place.offset + length b
 
 -- ---- what is inside
 
@@ -186,7 +208,7 @@ parts_state p = parts p.partial p.types p.cells p.table
 abbrev pub levels_of : PartsState → ℕ
 levels_of q = q.types.height + length q.cells.open_values
 
--- behind what is read now
+-- what comes after what is read now
 abbrev pub rest_of : List Slot → List Symbol
 rest_of upcoming = symbols_in upcoming ++ Extra ∷ []
 
@@ -209,7 +231,8 @@ offset_at (stage.InCell p) offset q = q.cells.offset
 offset_at stage.Extra offset q = offset
 
 abbrev pub place_at : (offset stop : ℕ) → List Symbol → List Node → Place
-place_at offset stop symbols nodes = record { offset = offset; stop = stop; symbols = symbols; nodes = nodes; given = reading.Nothing }
+place_at offset stop symbols nodes =
+    record { offset = offset; stop = stop; symbols = symbols; nodes = nodes; given = reading.Nothing }
 
 -- the bytes of the field under way that have come
 abbrev pub came_of : FieldState → List ℕ
@@ -248,7 +271,12 @@ pub record IsQuiet (q : PartsState) : Type 0 where
 
 -- the field that is asked for
 abbrev pub asked : StreamStanding → Want → Wanted
-asked s w = record { notation = w.notation; limit = limit_of (rules_of s.limits) w.notation; at = s.offset; room = s.stop - s.offset }
+asked s w = record {
+  notation = w.notation;
+  limit = limit_of (rules_of s.limits) w.notation;
+  at = s.offset;
+  room = s.stop - s.offset;
+}
 
 -- The field under way is the one that is wanted, as far as it has begun; what follows it has room.
 pub record IsWanted (s : StreamStanding) (p : FieldState) (w : Want) : Type 0 where
@@ -264,15 +292,19 @@ pub record IsOption (s : StreamStanding) (p : FieldState) (r : type.TypeState) :
   pub some : r.symbols ≡ [] → ⊥
   pub shared : IsShared r p
   pub stop : r.stop ≡ s.stop
-  pub behind : s.offset ≤ r.offset
+  pub after : s.offset ≤ r.offset
   pub inside : r.offset ≤ s.stop
   pub came : s.came ≡ 0
 
--- what has come of the type option under way, wants more
-abbrev pub OptionWaits : PartsState → Type 0
-OptionWaits q = 0 < length (type.pending q.types q.partial) → type.told q.types q.table.nodes (type.pending q.types q.partial) ≡ More
+-- the bytes of the type option under way that have come
+abbrev pub option_bytes : PartsState → List ℕ
+option_bytes q = type.pending q.types q.partial
 
--- The type option under way began behind whole types, and of it these bytes have come.
+-- they want more
+abbrev pub OptionWaits : PartsState → Type 0
+OptionWaits q = 0 < length (option_bytes q) → type.told q.types q.table.nodes (option_bytes q) ≡ More
+
+-- The type option under way began after whole types, and of it these bytes have come.
 pub record OptionRuns (l : Rules) (q : PartsState) : Type 0 where
   pub begun : TypePlace
   pub first : begun.symbols ≡ Option_at 1 ∷ []
@@ -290,7 +322,7 @@ pub record IsCell (s : StreamStanding) (q : PartsState) (p : CellCursor) : Type 
   pub is : (n : Option ℕ) → q.cells.next ≡ next.Cell n → n ≡ node_by p.columns p.index
   pub page : IsPage q.table.nodes s.limits.depth p
   pub stop : q.cells.stop ≡ s.stop
-  pub behind : s.offset ≤ q.cells.offset
+  pub after : s.offset ≤ q.cells.offset
   pub came : s.came ≡ 0
 
 abbrev pub StageHolds : StreamStanding → PartsState → StreamStage → Type 0
@@ -337,13 +369,34 @@ pub record IsConsistent (s : StreamStanding) (q : PartsState) : Type 0 where
   pub quiet : IsQuiet q
   pub table : s.refusal ≡ None → TableHolds (rules_of s.limits) q s.stage
 
--- ---- the same of the code's parts
+-- ---- the same of the parts as the code has them
 
 abbrev pub stream_state : {A : Type 0} → StreamStanding → Parts A → StreamState
 stream_state s p = state_of s (parts_state p)
 
-abbrev pub IsSound : {A : Type 0} → StreamStanding → Parts A → Type 0
-IsSound s p = IsConsistent s (parts_state p)
+abbrev pub IsLawful : {A : Type 0} → StreamStanding → Parts A → Type 0
+IsLawful s p = IsConsistent s (parts_state p)
+
+-- ---- at the start of a stream
+
+-- parts that were made just now
+pub record IsFresh (q : PartsState) : Type 0 where
+  pub idle : IsIdle q
+  pub quiet : IsQuiet q
+  pub types : q.table.nodes ≡ []
+
+abbrev pub first_state : Limits → PartsState → StreamState
+first_state limits q = record {
+  rules = rules_of limits;
+  place = start;
+  pending = Kept [];
+  frame = 0;
+  refusal = None;
+  held = q.partial.content;
+  open_values = length q.cells.open_values;
+}
+
+-- ---- from one thing to the next
 
 -- the field that is wanted has begun, and as much of it has come as before
 pub record IsAsked (s : StreamStanding) (old p : FieldState) (w : Want) : Type 0 where
@@ -367,6 +420,19 @@ HasRoom stage.InType upcoming = ⊥
 HasRoom (stage.BeforeCell p) upcoming = ⊥
 HasRoom (stage.InCell p) upcoming = ⊥
 HasRoom stage.Extra upcoming = ⊤
+
+-- the reading stands at this offset, and nothing else changed but what is read next
+abbrev pub IsAt : StreamStanding → (offset : ℕ) → StreamStanding → Type 0
+IsAt new offset old = new ≡ record old { offset = offset; stage = new.stage; upcoming = new.upcoming }
+
+-- The message goes on with these symbols, and then with what came after what was read. In the table are these nodes.
+abbrev pub GoesOn : (old new : StreamStanding) → List Node → List Symbol → Type 0
+GoesOn old new nodes symbols =
+    (q : PartsState) → q.table.nodes ≡ nodes → symbols_at new.stage q new.upcoming ≡ symbols ++ rest_of old.upcoming
+
+-- The message goes on with what follows from the value of a field.
+abbrev pub GoesOnAfter : (old new : StreamStanding) → List Node → Role → FieldValue → Type 0
+GoesOnAfter old new nodes r v = GoesOn old new nodes (symbols_after old.limits.types nodes r v)
 
 -- a message goes on here, with nothing under way, and perhaps with the cells of a page
 abbrev pub Starts : StreamStanding → List Node → StreamStage → Type 0

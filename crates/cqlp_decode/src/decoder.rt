@@ -41,18 +41,18 @@ pub struct Decoder<A: Allocator = Global> {
 }
 
 impl<A: Allocator> Model for Decoder<A> {
-    ghost use Rattle.cqlp_decode.specs.Standing.{IsSound, parts_state};
+    ghost use Rattle.cqlp_decode.specs.Standing.{IsLawful, parts_state};
     ghost use Rattle.cqlp_decode.specs.Streams.{Decoding};
 
     ghost Value = { Decoding };
 
     ghost view = { λ d. record { standing = d.standing; parts = parts_state d.parts } };
 
-    ghost invariant = { λ d. IsSound d.standing d.parts };
+    ghost invariant = { λ d. IsLawful d.standing d.parts };
 }
 
 impl<A: Allocator + Clone> Decoder<A> {
-    ghost use Rattle.cqlp_decode.specs.Streams.{After, state};
+    ghost use Rattle.cqlp_decode.specs.Streams.{After, HoldsNothing, state};
 
     /// A decoder at the start of a stream, with room for one content of the greatest length that the limits allow, for
     /// the types of one metadata, for their nesting, and for that of a cell's values: four requests for memory, and the
@@ -62,7 +62,7 @@ impl<A: Allocator + Clone> Decoder<A> {
         ensures fresh { IfOk result (λ d. After (state d) [] []) }
         ensures unrefused { IfOk result (λ d. (state d).refusal ≡ None) }
         ensures rules { IfOk result (λ d. (state d).rules ≡ rules_of limits) }
-        ensures nothing_held { IfOk result (λ d. ((state d).held ≡ []) × ((state d).place.nodes ≡ []) × (levels_of d.parts ≡ 0)) }
+        ensures nothing_held { IfOk result (λ d. HoldsNothing d) }
     {
         if let Err(bad) = limits.check() {
             return Err(NewError::BadLimits(bad));
@@ -78,7 +78,7 @@ impl<A: Allocator + Clone> Decoder<A> {
         ensures fresh { IfOk result (λ d. After (state d) [] []) }
         ensures unrefused { IfOk result (λ d. (state d).refusal ≡ None) }
         ensures rules { IfOk result (λ d. (state d).rules ≡ rules_of limits) }
-        ensures nothing_held { IfOk result (λ d. ((state d).held ≡ []) × ((state d).place.nodes ≡ []) × (levels_of d.parts ≡ 0)) }
+        ensures nothing_held { IfOk result (λ d. HoldsNothing d) }
     {
         let partial = Partial::new(alloc.clone()?, limits.text.max(limits.cell))?;
         let table = TypeTable::new(alloc.clone()?, limits.entries)?;
@@ -98,7 +98,7 @@ impl<A: Allocator + Clone> Decoder<A> {
 impl<A: Allocator> Decoder<A> {
     ghost use Rattle.cqlp_decode.specs.Lending.{LeavesDecoder};
     ghost use Rattle.cqlp_decode.specs.Standing.{Advances, LeavesTypes, Takes, WhatThere, event_at};
-    ghost use Rattle.cqlp_decode.specs.Streams.{After, Answers, Finishes, Uses, state};
+    ghost use Rattle.cqlp_decode.specs.Streams.{Answers, EndsAs, IsWithin, Uses, state};
 
     /// The next event that the input leads to. The caller hands in the bytes after those that were used, and goes on
     /// until more are wanted. A refusal is final: each later call says it again.
@@ -132,7 +132,7 @@ impl<A: Allocator> Decoder<A> {
     /// How the stream ends, if it ends after the bytes that were used.
     pub fn finish(&self) -> Finish
         ensures refused { (r : Refusal) → (state self.now).refusal ≡ Some r → result ≡ Finish.Refused r }
-        ensures ends { (s : List ℕ) (es : List (ℕ × reading.Event)) → After (state self.now) s es → Finishes (state self.now) s es result }
+        ensures ends { EndsAs (state self.now) result }
     {
         self.standing.finish(&self.parts)
     }
@@ -143,7 +143,7 @@ impl<A: Allocator> Decoder<A> {
         ensures bytes { result.bytes ≡ length (state self.now).held }
         ensures entries { result.entries ≡ length (state self.now).place.nodes }
         ensures levels { result.levels ≡ levels_of self.now.parts }
-        ensures bounded { let rules = (state self.now).rules in (result.bytes ≤ max rules.text rules.cell) × (result.entries ≤ rules.entries) × (result.levels ≤ rules.depth) }
+        ensures bounded { IsWithin result (state self.now).rules }
     {
         let _standing = &self.standing;
         Held {

@@ -20,7 +20,7 @@ pub enum Outcome {
     ReadFault,
     /// The sink failed. The rest of the piece is lost.
     SinkFault,
-    /// So many reads were made. The run may be called again.
+    /// As many reads were made as the run may make. The run may be called again.
     Turns,
 }
 

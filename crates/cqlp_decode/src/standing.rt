@@ -8,7 +8,7 @@ ghost use Rattle.cqlp_decode.specs.Standing.{came_of, stage_with};
 use crate::advance::{EventAdvance, EventOutline, ScalarCell};
 use crate::event::Finish;
 use crate::following::{begin_metadata, fault_in};
-use crate::page::{CellCursor, page_behind};
+use crate::page::{CellCursor, find_page};
 use crate::parts::Parts;
 use crate::table::{Expected, Want};
 use crate::upcoming::Upcoming;
@@ -50,7 +50,7 @@ pub struct StreamStanding {
     pub stage: StreamStage,
     pub upcoming: Upcoming,
     pub header: [u8; 9],
-    /// How many bytes of the header, or behind the last field, have come.
+    /// How many bytes of the header, or after the last field, have come.
     pub came: u64,
     pub refusal: Option<Refusal>,
 }
@@ -68,11 +68,11 @@ impl StreamStanding {
     ghost use Rattle.cqlp_message.specs.Productions.{Extra, following, message};
     ghost use Rattle.cqlp_decode.specs.Reading as reading;
     ghost use Rattle.cqlp_decode.specs.Reading.{start};
-    ghost use Rattle.cqlp_decode.specs.Streams.{After, Finishes};
+    ghost use Rattle.cqlp_decode.specs.Streams.{EndsAs};
     ghost use Rattle.cqlp_decode.specs.Upcoming.{behind, symbols_in};
     ghost use Rattle.cqlp_decode.specs.declared.standing.StreamStage.TheVariants as stage;
-    ghost use Rattle.cqlp_decode.specs.Standing.{Advances, HasParts, HasRoom, IsAsked, IsBounded, IsIdle, IsConsistent, IsPending, IsPlaced, IsQuiet, IsWanted, Kept, LeavesTypes, IsSound, Moves, PartsState, Starts, Takes, asked, parts_state, refusal_in, rest_of, state_of, stream_state, symbols_at};
-    ghost use Rattle.cqlp_decode.specs.Pages.{IsPage, cells_behind, node_by};
+    ghost use Rattle.cqlp_decode.specs.Standing.{Advances, HasParts, HasRoom, IsAsked, IsAt, IsBounded, IsIdle, IsConsistent, IsPending, IsPlaced, IsQuiet, IsWanted, Kept, LeavesTypes, GoesOn, GoesOnAfter, HasCome, IsFresh, IsLawful, Moves, PartsState, Starts, Takes, asked, first_state, parts_state, refusal_in, rest_of, state_of, stream_state, symbols_at};
+    ghost use Rattle.cqlp_decode.specs.Pages.{IsPage, cells_after, node_by};
     ghost use Rattle.cqlp_decode.specs.Reading.{types_for};
     ghost use Rattle.cqlp_value.specs.Inner.{Forest};
     ghost use Rattle.cqlp_value.specs.Pushing.{begun};
@@ -80,8 +80,9 @@ impl StreamStanding {
     /// At the start of a stream.
     pub fn new(limits: Limits) -> Self
         ensures limits { result.limits ≡ limits }
-        ensures lawful { (q : PartsState) → IsIdle q → IsQuiet q → HasParts result q → q.table.nodes ≡ [] → IsConsistent result q }
-        ensures start { (q : PartsState) → q.table.nodes ≡ [] → state_of result q ≡ record { rules = rules_of limits; place = start; pending = Kept []; frame = 0; refusal = None; held = q.partial.content; open_values = length q.cells.open_values } }
+        ensures unrefused { result.refusal ≡ None }
+        ensures lawful { (q : PartsState) → IsFresh q → HasParts result q → IsConsistent result q }
+        ensures start { (q : PartsState) → IsFresh q → state_of result q ≡ first_state limits q }
     {
         StreamStanding {
             limits,
@@ -98,8 +99,8 @@ impl StreamStanding {
 
     /// Takes the next step, as far as the input goes.
     pub fn advance<A: Allocator>(&mut self, parts: &mut Parts<A>, input: &[u8]) -> EventAdvance
-        requires { IsSound self.old parts.old }
-        ensures lawful { IsSound self.new parts.new }
+        requires { IsLawful self.old parts.old }
+        ensures lawful { IsLawful self.new parts.new }
         ensures advances { Advances (stream_state self.old parts.old) input.now result (stream_state self.new parts.new) }
         ensures table { LeavesTypes result parts.old.table.nodes parts.new.table.nodes }
     {
@@ -118,7 +119,7 @@ impl StreamStanding {
         requires bounded { IsBounded self.now }
         requires placed { IsPlaced self.now (parts_state parts.now) self.now.stage }
         ensures refused { (r : Refusing) → self.now.refusal ≡ Some r → result ≡ Finish.Refused r }
-        ensures ends { (s : List ℕ) (es : List (ℕ × reading.Event)) → After (stream_state self.now parts.now) s es → Finishes (stream_state self.now parts.now) s es result }
+        ensures ends { EndsAs (stream_state self.now parts.now) result }
     {
         if let Some(refusal) = self.refusal {
             return Finish::Refused(refusal);
@@ -136,13 +137,13 @@ impl StreamStanding {
     fn bytes_used<A: Allocator>(&self, parts: &Parts<A>) -> u64
         requires bounded { IsBounded self.now }
         requires placed { IsPlaced self.now (parts_state parts.now) self.now.stage }
-        ensures { (b : List ℕ) → IsPending (stream_state self.now parts.now).pending b → result ≡ (stream_state self.now parts.now).place.offset + length b }
+        ensures { HasCome (stream_state self.now parts.now) result }
     {
         match self.stage {
             StreamStage::Header | StreamStage::Extra => self.offset + self.came,
             StreamStage::BeforeType | StreamStage::BeforeCell(_) => self.offset,
-            StreamStage::Field(_) => self.offset + came_of_field(&parts.partial),
-            StreamStage::InType => parts.types.offset() + came_of_field(&parts.partial),
+            StreamStage::Field(_) => self.offset + count_field_bytes(&parts.partial),
+            StreamStage::InType => parts.types.offset() + count_field_bytes(&parts.partial),
             StreamStage::InCell(_) => parts.cells.bytes_used(&parts.partial),
         }
     }
@@ -156,9 +157,9 @@ impl StreamStanding {
 
     /// The next step, where there was no refusal.
     fn step<A: Allocator>(&mut self, parts: &mut Parts<A>, input: &[u8]) -> EventAdvance
-        requires lawful { IsSound self.old parts.old }
+        requires lawful { IsLawful self.old parts.old }
         requires unrefused { self.old.refusal ≡ None }
-        ensures lawful { IsSound self.new parts.new }
+        ensures lawful { IsLawful self.new parts.new }
         ensures moves { Moves (stream_state self.old parts.old) input.now result (stream_state self.new parts.new) }
         ensures limits { self.new.limits ≡ self.old.limits }
         ensures refusal { refusal_in result ≡ None → self.new.refusal ≡ None }
@@ -201,7 +202,7 @@ impl StreamStanding {
             self.keep_header(input);
             return EventAdvance::More { used: input.len() };
         }
-        match Header::read(&self.whole_header(input), self.offset) {
+        match Header::read(&self.complete_header(input), self.offset) {
             Err(refusal) => EventAdvance::Refused(refusal),
             Ok(header) => {
                 let at = self.offset;
@@ -230,7 +231,7 @@ impl StreamStanding {
     }
 
     /// The nine bytes of a header, of which the input has the last.
-    fn whole_header(&self, input: &[u8]) -> [u8; 9]
+    fn complete_header(&self, input: &[u8]) -> [u8; 9]
         requires came { self.now.came ≤ 9 }
         requires rest { 9 ≤ self.now.came + length input.now }
         requires long { length self.now.header ≡ 9 }
@@ -242,7 +243,7 @@ impl StreamStanding {
         header
     }
 
-    /// Goes on behind a header.
+    /// Goes on after a header.
     fn enter(&mut self, header: &Header)
         requires bounded { IsBounded self.old }
         requires here { self.old.stage ≡ stage.Header }
@@ -250,10 +251,12 @@ impl StreamStanding {
         requires length { header.now.length ≤ 268435456 }
         requires unrefused { self.old.refusal ≡ None }
         ensures bounded { IsBounded self.new }
-        ensures offsets { (self.new.offset ≡ self.old.offset + 9) × (self.new.stop ≡ self.old.offset + 9 + header.now.length) }
+        ensures offset { self.new.offset ≡ self.old.offset + 9 }
+        ensures stop { self.new.stop ≡ self.old.offset + 9 + header.now.length }
         ensures symbols { (q : PartsState) → symbols_at self.new.stage q self.new.upcoming ≡ message header.now }
         ensures room { HasRoom self.new.stage self.new.upcoming }
-        ensures rest { (self.new.refusal ≡ None) × (self.new.limits ≡ self.old.limits) × (self.new.frame ≡ self.old.frame) × (self.new.came ≡ 0) }
+        ensures frame { (self.new.frame ≡ self.old.frame) × (self.new.came ≡ 0) }
+        ensures rest { (self.new.refusal ≡ None) × (self.new.limits ≡ self.old.limits) }
     {
         self.offset += 9;
         self.stop = self.offset + u64::from(header.length);
@@ -284,7 +287,7 @@ impl StreamStanding {
         requires room { parts.old.partial.room ≡ max self.old.limits.text self.old.limits.cell }
         requires forest { Forest parts.old.table.nodes 0 self.old.limits.depth }
         requires unrefused { self.old.refusal ≡ None }
-        ensures lawful { IsSound self.old parts.old → IsSound self.new parts.new }
+        ensures lawful { IsLawful self.old parts.old → IsLawful self.new parts.new }
         ensures moves { Moves (stream_state self.old parts.old) input.now result (stream_state self.new parts.new) }
         ensures rest { (self.new.refusal ≡ None) × (self.new.limits ≡ self.old.limits) }
         ensures table { LeavesTypes result parts.old.table.nodes parts.new.table.nodes }
@@ -328,15 +331,15 @@ impl StreamStanding {
         }
     }
 
-    /// Goes on behind a field: with the cells of a page, or with what is due next in the message.
+    /// Goes on after a field: with the cells of a page, or with what is due next in the message.
     fn follow<A: Allocator>(&mut self, role: Role, value: Prim<'_>, table: &TypeTable<A>)
         requires room { length self.old.upcoming + behind role ≤ 16 }
         requires forest { Forest table.now.nodes 0 self.old.limits.depth }
-        ensures symbols { (q : PartsState) → q.table.nodes ≡ table.now.nodes → symbols_at self.new.stage q self.new.upcoming ≡ following (types_for self.old.limits.types role table.now.nodes reading.Nothing) role (value_of value.entry) ++ rest_of self.old.upcoming }
+        ensures symbols { GoesOnAfter self.old self.new table.now.nodes role (value_of value.entry) }
         ensures rest { self.new ≡ record self.old { stage = self.new.stage; upcoming = self.new.upcoming } }
         ensures starts { Starts self.new table.now.nodes self.new.stage }
     {
-        if let Some(page) = page_behind(&self.limits, role, value, table) {
+        if let Some(page) = find_page(&self.limits, role, value, table) {
             self.stage = StreamStage::BeforeCell(page);
             return;
         }
@@ -351,8 +354,8 @@ impl StreamStanding {
         parts: &Parts<A>,
         input: &'a [u8],
     ) -> Option<ScalarCell<'a>>
-        requires lawful { IsSound self.old parts.now }
-        ensures lawful { IsSound self.new parts.now }
+        requires lawful { IsLawful self.old parts.now }
+        ensures lawful { IsLawful self.new parts.now }
         ensures takes { Takes (stream_state self.old parts.now) input.now result (stream_state self.new parts.now) }
     {
         let StreamStage::BeforeCell(page) = self.stage else {
@@ -381,10 +384,10 @@ impl StreamStanding {
         Some(taken)
     }
 
-    /// Goes on behind a cell: with the next cell of its page, or with what is due next in the message.
+    /// Goes on after a cell: with the next cell of its page, or with what is due next in the message.
     fn turn<A: Allocator>(&mut self, page: CellCursor, table: &TypeTable<A>)
         requires page { IsPage table.now.nodes self.old.limits.depth page }
-        ensures symbols { (q : PartsState) → q.table.nodes ≡ table.now.nodes → symbols_at self.new.stage q self.new.upcoming ≡ cells_behind table.now.nodes page ++ rest_of self.old.upcoming }
+        ensures symbols { GoesOn self.old self.new table.now.nodes (cells_after table.now.nodes page) }
         ensures rest { self.new ≡ record self.old { stage = self.new.stage; upcoming = self.new.upcoming } }
         ensures starts { Starts self.new table.now.nodes self.new.stage }
     {
@@ -418,10 +421,10 @@ impl StreamStanding {
     }
 
     fn advance_option<A: Allocator>(&mut self, parts: &mut Parts<A>, input: &[u8]) -> EventAdvance
-        requires lawful { IsSound self.old parts.old }
+        requires lawful { IsLawful self.old parts.old }
         requires here { self.old.stage ≡ stage.InType }
         requires unrefused { self.old.refusal ≡ None }
-        ensures lawful { IsSound self.new parts.new }
+        ensures lawful { IsLawful self.new parts.new }
         ensures moves { Moves (stream_state self.old parts.old) input.now result (stream_state self.new parts.new) }
         ensures limits { self.new.limits ≡ self.old.limits }
         ensures refusal { refusal_in result ≡ None → self.new.refusal ≡ None }
@@ -449,17 +452,17 @@ impl StreamStanding {
                     return event;
                 }
                 parts.types.stop();
-                self.go_behind(offset);
+                self.end_option(offset);
                 event
             }
         }
     }
 
-    /// Goes on behind a type option that ends at an offset.
-    fn go_behind(&mut self, offset: u64)
+    /// Goes on after a type option that ends at an offset.
+    fn end_option(&mut self, offset: u64)
         ensures symbols { (q : PartsState) → symbols_at self.new.stage q self.new.upcoming ≡ rest_of self.old.upcoming }
         ensures room { HasRoom self.new.stage self.new.upcoming }
-        ensures rest { self.new ≡ record self.old { offset = offset; stage = self.new.stage; upcoming = self.new.upcoming } }
+        ensures rest { IsAt self.new offset self.old }
     {
         self.offset = offset;
         self.go_on();
@@ -471,10 +474,10 @@ impl StreamStanding {
         page: CellCursor,
         input: &[u8],
     ) -> EventAdvance
-        requires lawful { IsSound self.old parts.old }
+        requires lawful { IsLawful self.old parts.old }
         requires here { self.old.stage ≡ stage.InCell page }
         requires unrefused { self.old.refusal ≡ None }
-        ensures lawful { IsSound self.new parts.new }
+        ensures lawful { IsLawful self.new parts.new }
         ensures moves { Moves (stream_state self.old parts.old) input.now result (stream_state self.new parts.new) }
         ensures table { parts.new.table ≡ parts.old.table }
         ensures rest { (self.new.refusal ≡ None) × (self.new.limits ≡ self.old.limits) }
@@ -501,7 +504,7 @@ impl StreamStanding {
         }
     }
 
-    /// Goes on behind a cell that is whole.
+    /// Goes on after a cell that is whole.
     fn end_cell<A: Allocator>(
         &mut self,
         page: CellCursor,
@@ -509,8 +512,8 @@ impl StreamStanding {
         table: &TypeTable<A>,
     )
         requires page { IsPage table.now.nodes self.old.limits.depth page }
-        ensures symbols { (q : PartsState) → q.table.nodes ≡ table.now.nodes → symbols_at self.new.stage q self.new.upcoming ≡ cells_behind table.now.nodes page ++ rest_of self.old.upcoming }
-        ensures rest { self.new ≡ record self.old { offset = cells.old.offset; stage = self.new.stage; upcoming = self.new.upcoming } }
+        ensures symbols { GoesOn self.old self.new table.now.nodes (cells_after table.now.nodes page) }
+        ensures rest { IsAt self.new cells.old.offset self.old }
         ensures starts { Starts self.new table.now.nodes self.new.stage }
         ensures cells_are { cells.new ≡ ended cells.old }
     {
@@ -549,7 +552,7 @@ impl StreamStanding {
 }
 
 /// How many bytes of the field under way have come.
-fn came_of_field<A: Allocator>(partial: &Partial<A>) -> u64
+fn count_field_bytes<A: Allocator>(partial: &Partial<A>) -> u64
     ensures is { result ≡ length (came_of partial.now) }
     ensures small { result < 2 ^ 33 }
 {

@@ -40,10 +40,10 @@ pub returns-else-not-done-clause-moves : goal.returns-else-not-done-clause-moves
 returns-else-not-done-clause-moves g c =
     let stage = rw c.requires.here at c.requires.lawful.stage in
     let ends = c.in-Item.ensures.is in
-    let rest = c.go_behind.ensures.rest in
+    let rest = c.end_option.ensures.rest in
     ended_hands c.args.self.now (parts_state c.args.parts.now) c.requires.here stage.0 c.requires.lawful.parts.rules c.args.input.now c.in-Item.at c.in-Item.used c.in-Item.item c.advance.new.self c.advance.new.partial c.advance.new.table ends stage.1
-    (c.if-not-done.ensures.0 refl).1 c.go_behind.new.self c.stop.new.self (ap (λ (z : StreamStanding). z.offset) rest ∙ c.offset-offset.ensures.is) (ap (λ (z : StreamStanding). z.stop) rest) (ap (λ (z : StreamStanding). z.frame) rest)
-    (ap (λ (z : StreamStanding). z.came) rest ∙ stage.0.came) c.go_behind.ensures.symbols c.go_behind.ensures.room
+    (c.if-not-done.ensures.0 refl).1 c.end_option.new.self c.stop.new.self (ap (λ (z : StreamStanding). z.offset) rest ∙ c.offset-offset.ensures.is) (ap (λ (z : StreamStanding). z.stop) rest) (ap (λ (z : StreamStanding). z.frame) rest)
+    (ap (λ (z : StreamStanding). z.came) rest ∙ stage.0.came) c.end_option.ensures.symbols c.end_option.ensures.room
 
 pub returns-in-More-clause-lawful : goal.returns-in-More-clause-lawful
 returns-in-More-clause-lawful g c =
@@ -65,7 +65,7 @@ returns-else-not-done-clause-lawful g c =
     let q = parts_state c.args.parts.now in
     let stage = rw c.requires.here at c.requires.lawful.stage in
     let ends = c.in-Item.ensures.is in
-    let rest = c.go_behind.ensures.rest in
+    let rest = c.end_option.ensures.rest in
     option_ended_lawful c.args.self.now q c.requires.here stage.0 c.requires.lawful.parts.rules c.requires.lawful c.requires.unrefused c.args.input.now c.in-Item.at c.in-Item.used c.in-Item.item c.advance.new.self c.advance.new.partial c.advance.new.table ends
-    (omega (arith, c.offset-offset.ensures.inside, c.offset-offset.ensures.is, ap (λ (z : type.TypeState). z.stop) ends.reader, stage.0.stop)) (c.if-not-done.ensures.0 refl).1 c.go_behind.new.self c.stop.new.self c.stop.ensures
-    (ap (λ (z : StreamStanding). z.offset) rest ∙ c.offset-offset.ensures.is) (ap (λ (z : StreamStanding). z.stop) rest) (ap (λ (z : StreamStanding). z.limits) rest) (ap (λ (z : StreamStanding). z.header) rest) (ap (λ (z : StreamStanding). z.came) rest) c.go_behind.ensures.room
+    (omega (arith, c.offset-offset.ensures.inside, c.offset-offset.ensures.is, ap (λ (z : type.TypeState). z.stop) ends.reader, stage.0.stop)) (c.if-not-done.ensures.0 refl).1 c.end_option.new.self c.stop.new.self c.stop.ensures
+    (ap (λ (z : StreamStanding). z.offset) rest ∙ c.offset-offset.ensures.is) (ap (λ (z : StreamStanding). z.stop) rest) (ap (λ (z : StreamStanding). z.limits) rest) (ap (λ (z : StreamStanding). z.header) rest) (ap (λ (z : StreamStanding). z.came) rest) c.end_option.ensures.room
