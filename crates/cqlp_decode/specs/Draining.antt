@@ -33,14 +33,16 @@ DrainsBy drained.Fault new = ⊤
 module _ {V : Type 0} (f : V → ℕ → Event → V) where
   -- After the bytes s and the events es, these bytes were used and their events handed out, and the sink has got just
   -- them.
-  pub record Drains (new : StreamState) (s : List ℕ) (es : List (ℕ × Event)) (bytes : List ℕ) (before after : V) : Type 0 where
+  pub record Drains (new : StreamState) (s : List ℕ) (es : List (ℕ × Event)) (bytes : List ℕ)
+      (before after : V) : Type 0 where
     pub more : List (ℕ × Event)
     pub stands : After new (s ++ bytes) (es ++ more)
     pub got : after ≡ fold_events f before more
 
   -- Of a piece the decoder used these bytes, and the sink has got just their events. They are all events that the piece
   -- says, with this verdict, if nothing was refused before it.
-  pub record DrainsAll (old new : StreamState) (s : List ℕ) (es : List (ℕ × Event)) (piece bytes : List ℕ) (before after : V) : Type 0 where
+  pub record DrainsAll (old new : StreamState) (s : List ℕ) (es : List (ℕ × Event)) (piece bytes : List ℕ)
+      (before after : V) : Type 0 where
     pub drains : Drains new s es bytes before after
     pub says : old.refusal ≡ None → Says new.rules start (s ++ piece) (es ++ drains.more) (verdict_of new.refusal)
 
@@ -58,14 +60,16 @@ module _ {V : Type 0} (f : V → ℕ → Event → V) where
     pub drained : (s : List ℕ) (es : List (ℕ × Event)) → After old s es → Drains new s es bytes before after
 
   -- what was handed out is all that the bytes used and those looked at say, and the refusal, or none, is their verdict
-  abbrev pub SaysAll : (old new : StreamState) (xs : List ℕ) (before after : V) → Feeds old new xs before after → (looked : List ℕ) → Type 0
+  abbrev pub SaysAll : (old new : StreamState) (xs : List ℕ) (before after : V) → Feeds old new xs before after
+      → (looked : List ℕ) → Type 0
   SaysAll old new xs before after d looked =
       (s : List ℕ) (es : List (ℕ × Event)) (a : After old s es)
       → Says new.rules start (s ++ d.bytes ++ looked) (es ++ (d.drained s es a).more) (verdict_of new.refusal)
 
-  -- Of the bytes that were not used, the first were looked at, where they are refused, and the others are left. What was
-  -- handed out is all that they say, if nothing was refused before.
-  pub record HasAll (old new : StreamState) (xs : List ℕ) (left : Option (List ℕ)) (before after : V) (d : Feeds old new xs before after) : Type 0 where
+  -- Of the bytes that were not used, the first were looked at, where they are refused, and the others are left. What
+  -- was handed out is all that they say, if nothing was refused before.
+  pub record HasAll (old new : StreamState) (xs : List ℕ) (left : Option (List ℕ)) (before after : V)
+      (d : Feeds old new xs before after) : Type 0 where
     pub looked : List ℕ
     pub unread : List ℕ
     pub parts : d.rest ≡ looked ++ unread
@@ -76,7 +80,8 @@ module _ {V : Type 0} (f : V → ℕ → Event → V) where
   -- Which faults an event may lead to.
   module _ (faulted : V → ℕ → Event → V → Type 0) where
     -- The same as `Drains`, but at the last of the events the sink failed.
-    pub record Fails (new : StreamState) (s : List ℕ) (es : List (ℕ × Event)) (bytes : List ℕ) (before after : V) : Type 0 where
+    pub record Fails (new : StreamState) (s : List ℕ) (es : List (ℕ × Event)) (bytes : List ℕ)
+        (before after : V) : Type 0 where
       pub more : List (ℕ × Event)
       pub at : ℕ
       pub event : Event
@@ -106,7 +111,8 @@ module _ {V : Type 0} (f : V → ℕ → Event → V) where
     -- What a run leaves, by how it ends; the reader had the bytes xs. It finishes at the end of the input or at a
     -- refusal, with what the end of the stream says there; and each turn has read some byte. But at a sink's fault, all
     -- events were handed out.
-    abbrev pub RunsTo : (turns : ℕ) → Outcome → (old new : StreamState) → (xs : List ℕ) → Option (List ℕ) → (before after : V) → Type 0
+    abbrev pub RunsTo : (turns : ℕ) → Outcome → (old new : StreamState) → (xs : List ℕ) → Option (List ℕ)
+        → (before after : V) → Type 0
     RunsTo turns (outcome.Finished end) old new xs left before after =
         (d : Feeds old new xs before after) × ((d.rest ≡ []) ⊎ HasRefused new) × EndsAs new end
         × HasAll old new xs left before after d

@@ -126,7 +126,8 @@ abbrev pub header_step : Place → Heading → Step Event Place
 header_step p (Err e) = Refuses (p.offset + e.0, e.1)
 header_step p (Ok h) = Emit p.offset (Frame h) (place_in_frame p h)
 
-abbrev pub value_step : (types : Bool) → Place → Field → Role → List Symbol → FieldValue → Option Reason → Step Event Place
+abbrev pub value_step : (types : Bool) → Place → Field → Role → List Symbol → FieldValue → Option Reason
+    → Step Event Place
 value_step types p f r rest v (Some why) = Refuses (p.offset, why)
 value_step types p f r rest v None = Emit p.offset (Holds f v) (place_after types p r rest v)
 

@@ -269,6 +269,10 @@ pub record IsQuiet (q : PartsState) : Type 0 where
   pub types : q.types.under_way ≡ false → q.types.height ≡ 0
   pub cells : is_under_way q.cells ≡ false → q.cells.open_values ≡ []
 
+-- What a call does that leaves parts alone of which none is at work.
+abbrev pub MovesIdle : StreamStanding → List ℕ → EventAdvance → StreamStanding → Type 0
+MovesIdle old input a new = (q : PartsState) → IsIdle q → Moves (state_of old q) input a (state_of new q)
+
 -- the field that is asked for
 abbrev pub asked : StreamStanding → Want → Wanted
 asked s w = record {
@@ -371,8 +375,8 @@ pub record IsConsistent (s : StreamStanding) (q : PartsState) : Type 0 where
 
 -- ---- the same of the parts as the code has them
 
-abbrev pub stream_state : {A : Type 0} → StreamStanding → Parts A → StreamState
-stream_state s p = state_of s (parts_state p)
+abbrev pub state_with : {A : Type 0} → StreamStanding → Parts A → StreamState
+state_with s p = state_of s (parts_state p)
 
 abbrev pub IsLawful : {A : Type 0} → StreamStanding → Parts A → Type 0
 IsLawful s p = IsConsistent s (parts_state p)

@@ -96,14 +96,14 @@ impl<A: Allocator + Clone> Decoder<A> {
 }
 
 impl<A: Allocator> Decoder<A> {
-    ghost use Rattle.cqlp_decode.specs.Lending.{LeavesDecoder};
+    ghost use Rattle.cqlp_decode.specs.Lending.{LeavesAnswer};
     ghost use Rattle.cqlp_decode.specs.Standing.{Advances, LeavesTypes, Takes, WhatThere, event_at};
-    ghost use Rattle.cqlp_decode.specs.Streams.{Answers, EndsAs, IsWithin, Uses, state};
+    ghost use Rattle.cqlp_decode.specs.Streams.{EndsAs, IsWithin, Uses, state};
 
     /// The next event that the input leads to. The caller hands in the bytes after those that were used, and goes on
     /// until more are wanted. A refusal is final: each later call says it again.
     pub fn next<'a>(&'a mut self, input: &'a [u8]) -> Step<'a>
-        ensures* next { sem 𝓛 (LeavesDecoder A.row A.Allocator self.entry (λ after. Answers (state self.old) input.now result (state after))) }
+        ensures* next { sem 𝓛 (LeavesAnswer A.row A.Allocator self.entry self.old input.now result) }
         ensures uses { Uses input.now result }
     {
         if let Some(taken) = self.take_scalar(input) {
@@ -145,7 +145,6 @@ impl<A: Allocator> Decoder<A> {
         ensures levels { result.levels ≡ levels_of self.now.parts }
         ensures bounded { IsWithin result (state self.now).rules }
     {
-        let _standing = &self.standing;
         Held {
             bytes: self.parts.partial.held(),
             entries: self.parts.table.len(),

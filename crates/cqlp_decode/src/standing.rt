@@ -71,7 +71,10 @@ impl StreamStanding {
     ghost use Rattle.cqlp_decode.specs.Streams.{EndsAs};
     ghost use Rattle.cqlp_decode.specs.Upcoming.{behind, symbols_in};
     ghost use Rattle.cqlp_decode.specs.declared.standing.StreamStage.TheVariants as stage;
-    ghost use Rattle.cqlp_decode.specs.Standing.{Advances, HasParts, HasRoom, IsAsked, IsAt, IsBounded, IsIdle, IsConsistent, IsPending, IsPlaced, IsQuiet, IsWanted, Kept, LeavesTypes, GoesOn, GoesOnAfter, HasCome, IsFresh, IsLawful, Moves, PartsState, Starts, Takes, asked, first_state, parts_state, refusal_in, rest_of, state_of, stream_state, symbols_at};
+    ghost use Rattle.cqlp_decode.specs.Standing.{Advances, GoesOn, GoesOnAfter, HasCome, LeavesTypes, Moves, MovesIdle, Takes};
+    ghost use Rattle.cqlp_decode.specs.Standing.{HasParts, HasRoom, IsConsistent, IsFresh, IsLawful, IsPlaced, PartsState};
+    ghost use Rattle.cqlp_decode.specs.Standing.{IsAsked, IsAt, IsBounded, IsWanted, Starts, asked};
+    ghost use Rattle.cqlp_decode.specs.Standing.{first_state, parts_state, refusal_in, rest_of, state_of, state_with, symbols_at};
     ghost use Rattle.cqlp_decode.specs.Pages.{IsPage, cells_after, node_by};
     ghost use Rattle.cqlp_decode.specs.Reading.{types_for};
     ghost use Rattle.cqlp_value.specs.Inner.{Forest};
@@ -101,7 +104,7 @@ impl StreamStanding {
     pub fn advance<A: Allocator>(&mut self, parts: &mut Parts<A>, input: &[u8]) -> EventAdvance
         requires { IsLawful self.old parts.old }
         ensures lawful { IsLawful self.new parts.new }
-        ensures advances { Advances (stream_state self.old parts.old) input.now result (stream_state self.new parts.new) }
+        ensures advances { Advances (state_with self.old parts.old) input.now result (state_with self.new parts.new) }
         ensures table { LeavesTypes result parts.old.table.nodes parts.new.table.nodes }
     {
         if let Some(refusal) = self.refusal {
@@ -119,7 +122,7 @@ impl StreamStanding {
         requires bounded { IsBounded self.now }
         requires placed { IsPlaced self.now (parts_state parts.now) self.now.stage }
         ensures refused { (r : Refusing) → self.now.refusal ≡ Some r → result ≡ Finish.Refused r }
-        ensures ends { EndsAs (stream_state self.now parts.now) result }
+        ensures ends { EndsAs (state_with self.now parts.now) result }
     {
         if let Some(refusal) = self.refusal {
             return Finish::Refused(refusal);
@@ -137,7 +140,7 @@ impl StreamStanding {
     fn bytes_used<A: Allocator>(&self, parts: &Parts<A>) -> u64
         requires bounded { IsBounded self.now }
         requires placed { IsPlaced self.now (parts_state parts.now) self.now.stage }
-        ensures { HasCome (stream_state self.now parts.now) result }
+        ensures { HasCome (state_with self.now parts.now) result }
     {
         match self.stage {
             StreamStage::Header | StreamStage::Extra => self.offset + self.came,
@@ -160,7 +163,7 @@ impl StreamStanding {
         requires lawful { IsLawful self.old parts.old }
         requires unrefused { self.old.refusal ≡ None }
         ensures lawful { IsLawful self.new parts.new }
-        ensures moves { Moves (stream_state self.old parts.old) input.now result (stream_state self.new parts.new) }
+        ensures moves { Moves (state_with self.old parts.old) input.now result (state_with self.new parts.new) }
         ensures limits { self.new.limits ≡ self.old.limits }
         ensures refusal { refusal_in result ≡ None → self.new.refusal ≡ None }
         ensures table { LeavesTypes result parts.old.table.nodes parts.new.table.nodes }
@@ -188,7 +191,7 @@ impl StreamStanding {
         requires came { self.old.came < 9 }
         requires unrefused { self.old.refusal ≡ None }
         ensures lawful { (q : PartsState) → IsConsistent self.old q → IsConsistent self.new q }
-        ensures moves { (q : PartsState) → IsIdle q → Moves (state_of self.old q) input.now result (state_of self.new q) }
+        ensures moves { MovesIdle self.old input.now result self.new }
         ensures rest { (self.new.refusal ≡ None) × (self.new.limits ≡ self.old.limits) }
     {
         if self.offset > 1 << 63 {
@@ -288,7 +291,7 @@ impl StreamStanding {
         requires forest { Forest parts.old.table.nodes 0 self.old.limits.depth }
         requires unrefused { self.old.refusal ≡ None }
         ensures lawful { IsLawful self.old parts.old → IsLawful self.new parts.new }
-        ensures moves { Moves (stream_state self.old parts.old) input.now result (stream_state self.new parts.new) }
+        ensures moves { Moves (state_with self.old parts.old) input.now result (state_with self.new parts.new) }
         ensures rest { (self.new.refusal ≡ None) × (self.new.limits ≡ self.old.limits) }
         ensures table { LeavesTypes result parts.old.table.nodes parts.new.table.nodes }
     {
@@ -356,7 +359,7 @@ impl StreamStanding {
     ) -> Option<ScalarCell<'a>>
         requires lawful { IsLawful self.old parts.now }
         ensures lawful { IsLawful self.new parts.now }
-        ensures takes { Takes (stream_state self.old parts.now) input.now result (stream_state self.new parts.now) }
+        ensures takes { Takes (state_with self.old parts.now) input.now result (state_with self.new parts.now) }
     {
         let StreamStage::BeforeCell(page) = self.stage else {
             return None;
@@ -401,8 +404,8 @@ impl StreamStanding {
     fn begin_cell<A: Allocator>(&mut self, page: CellCursor, cells: &mut CellReader<A>)
         requires idle { is_under_way cells.old ≡ false }
         requires inside { self.old.offset ≤ self.old.stop }
-        ensures self_is { self.new ≡ record self.old { stage = stage.InCell page } }
-        ensures cells_are { cells.new ≡ begun cells.old (node_by page.columns page.index) self.old.offset self.old.stop }
+        ensures stage { self.new ≡ record self.old { stage = stage.InCell page } }
+        ensures cells { cells.new ≡ begun cells.old (node_by page.columns page.index) self.old.offset self.old.stop }
     {
         cells.begin(page.node(), self.offset, self.stop);
         self.stage = StreamStage::InCell(page);
@@ -413,8 +416,8 @@ impl StreamStanding {
         requires here { self.old.stage ≡ stage.BeforeType }
         requires idle { types.old.under_way ≡ false }
         requires inside { self.old.offset ≤ self.old.stop }
-        ensures self_is { self.new ≡ record self.old { stage = stage.InType } }
-        ensures types_are { types.new ≡ started types.old self.old.offset self.old.stop }
+        ensures stage { self.new ≡ record self.old { stage = stage.InType } }
+        ensures types { types.new ≡ started types.old self.old.offset self.old.stop }
     {
         types.begin(self.offset, self.stop);
         self.stage = StreamStage::InType;
@@ -425,7 +428,7 @@ impl StreamStanding {
         requires here { self.old.stage ≡ stage.InType }
         requires unrefused { self.old.refusal ≡ None }
         ensures lawful { IsLawful self.new parts.new }
-        ensures moves { Moves (stream_state self.old parts.old) input.now result (stream_state self.new parts.new) }
+        ensures moves { Moves (state_with self.old parts.old) input.now result (state_with self.new parts.new) }
         ensures limits { self.new.limits ≡ self.old.limits }
         ensures refusal { refusal_in result ≡ None → self.new.refusal ≡ None }
         ensures table { LeavesTypes result parts.old.table.nodes parts.new.table.nodes }
@@ -478,7 +481,7 @@ impl StreamStanding {
         requires here { self.old.stage ≡ stage.InCell page }
         requires unrefused { self.old.refusal ≡ None }
         ensures lawful { IsLawful self.new parts.new }
-        ensures moves { Moves (stream_state self.old parts.old) input.now result (stream_state self.new parts.new) }
+        ensures moves { Moves (state_with self.old parts.old) input.now result (state_with self.new parts.new) }
         ensures table { parts.new.table ≡ parts.old.table }
         ensures rest { (self.new.refusal ≡ None) × (self.new.limits ≡ self.old.limits) }
     {
@@ -515,7 +518,7 @@ impl StreamStanding {
         ensures symbols { GoesOn self.old self.new table.now.nodes (cells_after table.now.nodes page) }
         ensures rest { IsAt self.new cells.old.offset self.old }
         ensures starts { Starts self.new table.now.nodes self.new.stage }
-        ensures cells_are { cells.new ≡ ended cells.old }
+        ensures cells { cells.new ≡ ended cells.old }
     {
         self.offset = cells.offset();
         cells.stop();
@@ -528,7 +531,7 @@ impl StreamStanding {
         requires came { self.old.came ≤ self.old.stop - self.old.offset }
         requires unrefused { self.old.refusal ≡ None }
         ensures lawful { (q : PartsState) → IsConsistent self.old q → IsConsistent self.new q }
-        ensures moves { (q : PartsState) → IsIdle q → Moves (state_of self.old q) input.now result (state_of self.new q) }
+        ensures moves { MovesIdle self.old input.now result self.new }
         ensures rest { (self.new.refusal ≡ None) × (self.new.limits ≡ self.old.limits) }
     {
         let extra = self.stop - self.offset;

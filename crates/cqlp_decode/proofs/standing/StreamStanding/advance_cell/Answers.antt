@@ -62,7 +62,7 @@ returns-else-not-done-clause-lawful g c =
     let stage = rw c.requires.here at law.stage in
     let rest = c.end_cell.ensures.rest in
     cell_ended_lawful c.args.self.now q c.args.page c.requires.here stage.0 law.parts.cells c.args.input.now c.in-Item.at c.in-Item.used c.in-Item.item c.advance.new.self c.advance.new.partial c.in-Item.ensures.moves law c.end_cell.new.self c.end_cell.new.cells (ap (λ (z : StreamStanding). z.offset) rest) (ap (λ (z : StreamStanding). z.stop) rest) (ap (λ (z : StreamStanding). z.limits) rest) (ap (λ (z : StreamStanding). z.header) rest)
-    (ap (λ (z : StreamStanding). z.came) rest) (ap (λ (z : CellState). z.rules) c.end_cell.ensures.cells_are) (rw c.requires.here at (law.table c.requires.unrefused)) (ap is_under_way c.end_cell.ensures.cells_are) (ap (λ (z : CellState). z.open_values) c.end_cell.ensures.cells_are) c.end_cell.ensures.starts
+    (ap (λ (z : StreamStanding). z.came) rest) (ap (λ (z : CellState). z.rules) c.end_cell.ensures.cells) (rw c.requires.here at (law.table c.requires.unrefused)) (ap is_under_way c.end_cell.ensures.cells) (ap (λ (z : CellState). z.open_values) c.end_cell.ensures.cells) c.end_cell.ensures.starts
 
 pub returns-else-not-done-clause-moves : goal.returns-else-not-done-clause-moves
 returns-else-not-done-clause-moves g c =
@@ -71,4 +71,4 @@ returns-else-not-done-clause-moves g c =
     let stage = rw c.requires.here at law.stage in
     let rest = c.end_cell.ensures.rest in
     ended_hands c.args.self.now q c.args.page c.requires.here stage.0 law.parts.cells c.args.input.now c.in-Item.at c.in-Item.used c.in-Item.item c.advance.new.self c.advance.new.partial c.in-Item.ensures.moves (sym c.done.ensures ∙ c.if-not-done.false) c.end_cell.new.self c.end_cell.new.cells (ap (λ (z : StreamStanding). z.offset) rest) (ap (λ (z : StreamStanding). z.stop) rest) (ap (λ (z : StreamStanding). z.frame) rest)
-    (ap (λ (z : StreamStanding). z.came) rest ∙ stage.0.came) (c.end_cell.ensures.symbols (parts c.advance.new.partial c.args.parts.now.types c.end_cell.new.cells c.args.parts.now.table) refl) c.end_cell.ensures.starts (ap (λ (z : CellState). z.open_values) c.end_cell.ensures.cells_are)
+    (ap (λ (z : StreamStanding). z.came) rest ∙ stage.0.came) (c.end_cell.ensures.symbols (parts c.advance.new.partial c.args.parts.now.types c.end_cell.new.cells c.args.parts.now.table) refl) c.end_cell.ensures.starts (ap (λ (z : CellState). z.open_values) c.end_cell.ensures.cells)
