@@ -38,9 +38,9 @@ use Rattle.cqlp_decode.specs.declared.advance.EventAdvance.TheVariants as advanc
 use Rattle.cqlp_decode.specs.declared.advance.EventOutline.TheVariants as what
 use Rattle.cqlp_decode.specs.Reading as reading
 use Rattle.cqlp_decode.specs.Reading.{Place, step, cell_event, cells_left, place_of_cells}
-use Rattle.cqlp_decode.specs.Pages.{cell_symbol, page_symbols, cells_behind, types_left, node_by}
+use Rattle.cqlp_decode.specs.Pages.{cell_symbol, page_symbols, cells_after, types_left, node_by}
 use Rattle.cqlp_decode.specs.declared.advance.EventAdvance.{EventAdvance}
-use Rattle.cqlp_decode.specs.Standing.{StreamState, IsPending, Parts, parts, state_of, place_at, offset_at, symbols_at, rest_of, told, Waits, Hands, Moves, IsLent, due_after, frame_after, ends_due, IsCell, IsConsistent, StageHolds, Starts}
+use Rattle.cqlp_decode.specs.Standing.{StreamState, IsPending, PartsState, parts, state_of, place_at, offset_at, symbols_at, rest_of, said, Waits, Hands, Moves, IsLent, due_after, frame_after, ends_due, IsCell, IsConsistent, StageHolds, Starts}
 use Rattle.cqlp_decode.proofs.Steps.{begun, one_due, offset_is}
 use Rattle.cqlp_decode.proofs.FieldSteps.{goes_on_lawful}
 use Rattle.cqlp_decode.proofs.Columns.{FirstColumn, first_column, page_begun, page_due}
@@ -97,12 +97,12 @@ still_by (next.Part offset total) row column k inner ss rest behind some = sym (
 
 -- what is left of a page, where a part of the cell was handed out
 under_way_still : (nodes : List Node) (depth : ℕ) (d : CellState) (p : CellCursor) → FirstColumn nodes depth p.columns p.column p.index → IsBehind d.next → ((place nodes d).symbols ≡ [] → ⊥) → (rest : List Symbol)
-    → page_symbols nodes d p ++ rest ≡ cells_left p.row p.column (place nodes d).symbols ++ (cells_behind nodes p ++ rest)
+    → page_symbols nodes d p ++ rest ≡ cells_left p.row p.column (place nodes d).symbols ++ (cells_after nodes p ++ rest)
 under_way_still nodes depth d p f behind some rest = rw f.is (still_by d.next p.row p.column f.first f.inner (place nodes d).symbols _ behind some)
 
-module _ (s : StreamStanding) (q : Parts) (p : CellCursor) (here : s.stage ≡ stage.InCell p) (c : IsCell s q p) (rules : q.cells.rules ≡ rules_of s.limits) where
+module _ (s : StreamStanding) (q : PartsState) (p : CellCursor) (here : s.stage ≡ stage.InCell p) (c : IsCell s q p) (rules : q.cells.rules ≡ rules_of s.limits) where
   abbrev rest : List Symbol
-  rest = cells_behind q.table.nodes p ++ rest_of s.upcoming
+  rest = cells_after q.table.nodes p ++ rest_of s.upcoming
 
   abbrev column : FirstColumn q.table.nodes s.limits.depth p.columns p.column p.index
   column = first_column q.table.nodes s.limits.depth p.columns p.column p.index c.page.0
@@ -116,7 +116,7 @@ module _ (s : StreamStanding) (q : Parts) (p : CellCursor) (here : s.stage ≡ s
   place_is : (state_of s q).place ≡ stands
   place_is = rw (here, column.is) refl
 
-  told_is : (bytes : List ℕ) → told (state_of s q) bytes ≡ map_said (cell_event p.row p.column) (place_of_cells p.row p.column stands rest) (taking.told q.table.nodes q.cells bytes)
+  told_is : (bytes : List ℕ) → said (state_of s q) bytes ≡ map_said (cell_event p.row p.column) (place_of_cells p.row p.column stands rest) (taking.told q.table.nodes q.cells bytes)
   told_is bytes =
       ap (λ (z : Place). says (step (rules_of s.limits) z) 0 bytes) place_is
       ∙ ap (λ z. says z 0 bytes) (alike (rules_of s.limits) q.table.nodes q.cells q.cells.next p.row p.column s.stop column.first column.inner rest due_now)
@@ -142,7 +142,7 @@ module _ (s : StreamStanding) (q : Parts) (p : CellCursor) (here : s.stage ≡ s
       }
 
   pub cell_fails : (input : List ℕ) (r : Refusal) (d : CellState) (p' : FieldState) → taking.Moves q.table.nodes q.cells q.partial input (cell_advance.Refused r) d p'
-      → (b : List ℕ) → IsPending (state_of s q).pending b → told (state_of s q) (b ++ input) ≡ Bad (r.at, r.why)
+      → (b : List ℕ) → IsPending (state_of s q).pending b → said (state_of s q) (b ++ input) ≡ Bad (r.at, r.why)
   cell_fails input r d p' m b is = told_is (b ++ input) ∙ ap (λ z. map_said (cell_event p.row p.column) (place_of_cells p.row p.column stands rest) z) (m b (come_is b is)).is
 
   module _ (input : List ℕ) (at used : ℕ) (i : CellOutline) (d : CellState) (p' : FieldState) (m : taking.Moves q.table.nodes q.cells q.partial input (cell_advance.Item at used i) d p') where
@@ -153,7 +153,7 @@ module _ (s : StreamStanding) (q : Parts) (p : CellCursor) (here : s.stage ≡ s
     one b come = m b come
 
     -- the place that the decoder stands at then
-    module _ (e : StreamStanding) (q' : Parts) (content : q'.partial.content ≡ p'.content) (nodes : q'.table.nodes ≡ q.table.nodes) (offset : offset_at e.stage e.offset q' ≡ d.offset) (stop : e.stop ≡ s.stop) (frame : e.frame ≡ s.frame)
+    module _ (e : StreamStanding) (q' : PartsState) (content : q'.partial.content ≡ p'.content) (nodes : q'.table.nodes ≡ q.table.nodes) (offset : offset_at e.stage e.offset q' ≡ d.offset) (stop : e.stop ≡ s.stop) (frame : e.frame ≡ s.frame)
         (symbols : symbols_at e.stage q' e.upcoming ≡ cells_left p.row p.column (place q.table.nodes d).symbols ++ rest) (fresh : IsPending (state_of e q').pending []) (due : ends_due (symbols_at e.stage q' e.upcoming) ≡ 1)
         (open_values : length q'.cells.open_values ≤ length d.open_values) where
       pub cell_hands : Moves (state_of s q) input (advance.Event at used (what.Cell p.row p.column i)) (state_of e q')
@@ -196,15 +196,15 @@ module _ (s : StreamStanding) (q : Parts) (p : CellCursor) (here : s.stage ≡ s
       pub ended_hands : Moves (state_of s q) input (advance.Event at used (what.Cell p.row p.column i)) (state_of e (parts p' q.types d' q.table))
       ended_hands =
           let h = one came.0 came.1 in
-          let z : Parts = parts p' q.types d' q.table in
+          let z : PartsState = parts p' q.types d' q.table in
           cell_hands e z refl refl (offset_is e e.stage z starts ∙ offset) stop frame (rw (left_none q.table.nodes d whole) symbols) (begun e e.stage e.header e.came z starts zero h.idle) (one_due e e.stage z starts) (rw none (omega arith))
 
   -- ---- what holds of the decoder then
 
   cell_goes : (d : CellState) (p' : FieldState) → taking.Joined q.table.nodes d p' → value.Stands q.table.nodes d → is_under_way d ≡ true → is_done d ≡ false → ((n : Option ℕ) → d.next ≡ next.Cell n → n ≡ node_by p.columns p.index) → d.stop ≡ s.stop → s.offset ≤ d.offset → IsCell s (parts p' q.types d q.table) p
-  cell_goes d p' joined stands under_way some is stop behind = record { under_way = under_way; stands = stands; joined = joined; some = some; is = is; page = c.page; stop = stop; behind = behind; came = c.came }
+  cell_goes d p' joined stands under_way some is stop after = record { under_way = under_way; stands = stands; joined = joined; some = some; is = is; page = c.page; stop = stop; after = after; came = c.came }
 
-  stage_there : (z : Parts) → StageHolds s z (stage.InCell p) → StageHolds s z s.stage
+  stage_there : (z : PartsState) → StageHolds s z (stage.InCell p) → StageHolds s z s.stage
   stage_there z h = subst (λ (t : StreamStage). StageHolds s z t) (sym here) h
 
   pub cell_more_lawful : (input : List ℕ) (used : ℕ) (d : CellState) (p' : FieldState) → taking.Moves q.table.nodes q.cells q.partial input (cell_advance.More used) d p' → IsConsistent s q → IsConsistent s (parts p' q.types d q.table)
@@ -213,7 +213,7 @@ module _ (s : StreamStanding) (q : Parts) (p : CellCursor) (here : s.stage ≡ s
       record {
         bounded = law.bounded;
         parts = record { room = h.longest ∙ law.parts.room; rules = law.parts.rules; cells = ap (λ (z : CellState). z.rules) h.same ∙ law.parts.cells; table = law.parts.table };
-        stage = let stage = rw here at law.stage in stage_there (parts p' q.types d q.table) (cell_goes d p' h.joined (rw h.same (stands_under q.table.nodes q.cells d.under c.stands)) (ap (λ (z : CellState). is_under_way z) h.same ∙ c.under_way) (ap (λ (z : CellState). is_done z) h.same ∙ c.some) (λ n is. c.is n (sym (ap (λ (z : CellState). z.next) h.same) ∙ is)) (ap (λ (z : CellState). z.stop) h.same ∙ c.stop) (omega (arith, c.behind, ap (λ (z : CellState). z.offset) h.same)), stage.1);
+        stage = let stage = rw here at law.stage in stage_there (parts p' q.types d q.table) (cell_goes d p' h.joined (rw h.same (stands_under q.table.nodes q.cells d.under c.stands)) (ap (λ (z : CellState). is_under_way z) h.same ∙ c.under_way) (ap (λ (z : CellState). is_done z) h.same ∙ c.some) (λ n is. c.is n (sym (ap (λ (z : CellState). z.next) h.same) ∙ is)) (ap (λ (z : CellState). z.stop) h.same ∙ c.stop) (omega (arith, c.after, ap (λ (z : CellState). z.offset) h.same)), stage.1);
         quiet = record { types = law.quiet.types; cells = λ idle. let busy = ap (λ (z : CellState). is_under_way z) h.same ∙ c.under_way in cc };
         table = λ none. rw here (rw here at (law.table none));
       }
@@ -244,7 +244,7 @@ module _ (s : StreamStanding) (q : Parts) (p : CellCursor) (here : s.stage ≡ s
     cell_going_lawful more = record {
       bounded = law.bounded;
       parts = record { room = this.longest ∙ law.parts.room; rules = law.parts.rules; cells = this.rules ∙ law.parts.cells; table = law.parts.table };
-      stage = let stage = rw here at law.stage in stage_there (parts p' q.types d q.table) (cell_goes d p' (record { longest = rw (this.rules, this.longest) c.joined.longest; under_way = rw this.fresh this.idle }) this.stands this.goes_on more not_due (this.stop ∙ c.stop) (omega (arith, c.behind, this.onward)), stage.1);
+      stage = let stage = rw here at law.stage in stage_there (parts p' q.types d q.table) (cell_goes d p' (record { longest = rw (this.rules, this.longest) c.joined.longest; under_way = rw this.fresh this.idle }) this.stands this.goes_on more not_due (this.stop ∙ c.stop) (omega (arith, c.after, this.onward)), stage.1);
       quiet = record { types = law.quiet.types; cells = λ idle. let busy = this.goes_on in cc };
       table = λ none. rw here (rw here at (law.table none));
     }
@@ -253,9 +253,9 @@ module _ (s : StreamStanding) (q : Parts) (p : CellCursor) (here : s.stage ≡ s
         → IsConsistent e (parts p' q.types d' q.table)
     cell_ended_lawful e d' offset stop limits header same rules_are forest idle none starts =
         let n : ℕ = d.offset - s.offset in
-        let behind : s.offset ≤ d.offset = omega (arith, c.behind, this.onward) in
+        let after : s.offset ≤ d.offset = omega (arith, c.after, this.onward) in
         let stage = rw here at law.stage in
-        goes_on_lawful s e q p' q.types d' q.table n law (omega (arith, offset, behind)) (omega (arith, behind, cell_inside)) stop limits header (same ∙ c.came) this.longest this.idle refl stage.1 (rules_are ∙ this.rules) idle refl forest starts (record { types = law.quiet.types; cells = λ _. none })
+        goes_on_lawful s e q p' q.types d' q.table n law (omega (arith, offset, after)) (omega (arith, after, cell_inside)) stop limits header (same ∙ c.came) this.longest this.idle refl stage.1 (rules_are ∙ this.rules) idle refl forest starts (record { types = law.quiet.types; cells = λ _. none })
 
 -- the moves from a state are those from one of the same place
 begun_moves : (d d' : StreamState) (input : List ℕ) (new : StreamState) → d'.rules ≡ d.rules → d.place ≡ d'.place → d'.frame ≡ d.frame → ((b : List ℕ) → IsPending d'.pending b → IsPending d.pending b) → d.open_values ≤ d'.open_values → (a : EventAdvance) → Moves d input a new → Moves d' input a new
@@ -283,11 +283,11 @@ begun_moves d d' input new rules place frame pending fewer (advance.Refused r) m
 
 -- ---- a cell begins
 
-module _ (s : StreamStanding) (q : Parts) (p : CellCursor) (here : s.stage ≡ stage.BeforeCell p) where
+module _ (s : StreamStanding) (q : PartsState) (p : CellCursor) (here : s.stage ≡ stage.BeforeCell p) where
   abbrev begins : StreamStanding
   begins = record s { stage = stage.InCell p }
 
-  abbrev beside : Parts
+  abbrev beside : PartsState
   beside = parts q.partial q.types (begun_at q.cells (node_by p.columns p.index) s.offset s.stop) q.table
 
   pub cell_begun_lawful : IsConsistent s q → s.refusal ≡ None → IsConsistent begins beside
@@ -311,7 +311,7 @@ module _ (s : StreamStanding) (q : Parts) (p : CellCursor) (here : s.stage ≡ s
             is = λ n same. let e : node_by p.columns p.index ≡ n = cc in sym e;
             page = stage.0;
             stop = refl;
-            behind = omega arith;
+            after = omega arith;
             came = stage.2;
           },
           stage.1.types,
@@ -334,11 +334,11 @@ nothing_held (x ∷ xs) le = absurd (omega (arith, le))
 
 -- ---- a scalar that is a cell, whose bytes are all there
 
-module _ (s : StreamStanding) (q : Parts) (p : CellCursor) (here : s.stage ≡ stage.BeforeCell p) (law : IsConsistent s q) (unrefused : s.refusal ≡ None) (input : List ℕ) (used : ℕ) (k : Kind) (inner others : Types) (v : ScalarValue) (is : types_left q.table.nodes p ≡ Type_and k inner others)
-    (front : SaysScalar (rules_of s.limits) k (s.stop - s.offset) input used v) (empty : q.partial.content ≡ []) (e : StreamStanding) (symbols : symbols_at e.stage q e.upcoming ≡ cells_behind q.table.nodes p ++ rest_of s.upcoming)
+module _ (s : StreamStanding) (q : PartsState) (p : CellCursor) (here : s.stage ≡ stage.BeforeCell p) (law : IsConsistent s q) (unrefused : s.refusal ≡ None) (input : List ℕ) (used : ℕ) (k : Kind) (inner others : Types) (v : ScalarValue) (is : types_left q.table.nodes p ≡ Type_and k inner others)
+    (front : SaysScalar (rules_of s.limits) k (s.stop - s.offset) input used v) (empty : q.partial.content ≡ []) (e : StreamStanding) (symbols : symbols_at e.stage q e.upcoming ≡ cells_after q.table.nodes p ++ rest_of s.upcoming)
     (starts : Starts e q.table.nodes e.stage) (offset : e.offset ≡ s.offset + used) (stop : e.stop ≡ s.stop) (frame : e.frame ≡ s.frame) (came : e.came ≡ s.came) where
   abbrev there : List Symbol
-  there = cells_behind q.table.nodes p ++ rest_of s.upcoming
+  there = cells_after q.table.nodes p ++ rest_of s.upcoming
 
   abbrev due_place : Place
   due_place = place_at s.offset s.stop (Cell_due p.row p.column k inner ∷ there) q.table.nodes
@@ -349,8 +349,8 @@ module _ (s : StreamStanding) (q : Parts) (p : CellCursor) (here : s.stage ≡ s
   stage_due : StageHolds s q (stage.BeforeCell p)
   stage_due = rw here at law.stage
 
-  scalar_told : (b : List ℕ) → told (state_of s q) b ≡ map_said (cell_event p.row p.column) (place_of_cells p.row p.column due_place there) (says (cell_step (rules_of s.limits) (record { offset = s.offset; symbols = Value_of k inner 0 s.stop ∷ [] })) 0 b)
-  scalar_told b =
+  scalar_said : (b : List ℕ) → said (state_of s q) b ≡ map_said (cell_event p.row p.column) (place_of_cells p.row p.column due_place there) (says (cell_step (rules_of s.limits) (record { offset = s.offset; symbols = Value_of k inner 0 s.stop ∷ [] })) 0 b)
+  scalar_said b =
       ap (λ (z : Place). says (step (rules_of s.limits) z) 0 b) place_due
       ∙ says_map (cell_event p.row p.column) (place_of_cells p.row p.column due_place there) (cell_step (rules_of s.limits) (record { offset = s.offset; symbols = Value_of k inner 0 s.stop ∷ [] })) 0 b
 
@@ -368,7 +368,7 @@ module _ (s : StreamStanding) (q : Parts) (p : CellCursor) (here : s.stage ≡ s
             let x : Emitted CellEvent CellPlace = record { at = s.offset; event = cell.Leaf 0 v; after = cell.place_after (record { offset = s.offset; symbols = Value_of k inner 0 s.stop ∷ [] }) [] [] } in
             rw (none, count) (
               record { at = s.offset; event = reading.Cell_at p.row p.column (cell.Leaf 0 v); after = λ u. place_of_cells p.row p.column due_place there (x.after u) },
-              scalar_told input ∙ ap (λ z. map_said (cell_event p.row p.column) (place_of_cells p.row p.column due_place there) z) (front.is (record { offset = s.offset; symbols = Value_of k inner 0 s.stop ∷ [] }) [] inner 0),
+              scalar_said input ∙ ap (λ z. map_said (cell_event p.row p.column) (place_of_cells p.row p.column due_place there) z) (front.is (record { offset = s.offset; symbols = Value_of k inner 0 s.stop ∷ [] }) [] inner 0),
               refl,
               refl,
               λ j. place_at (sym at j) (sym stop j) (sym symbols j) q.table.nodes,

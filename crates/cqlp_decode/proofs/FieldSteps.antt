@@ -35,7 +35,7 @@ use Rattle.cqlp_decode.specs.declared.advance.EventOutline.TheVariants as what
 use Rattle.cqlp_message.specs.Upcoming.{wanted}
 use Rattle.cqlp_decode.specs.Reading as reading
 use Rattle.cqlp_decode.specs.Reading.{Place, value_step, types_for, nodes_after, given_after, Nothing}
-use Rattle.cqlp_decode.specs.Standing.{IsPending, Parts, parts, state_of, place_at, offset_at, symbols_at, rest_of, came_of, told, Gives, Waits, Moves, IsAsked, IsWanted, IsBounded, IsQuiet, HasParts, IsConsistent, asked, Starts}
+use Rattle.cqlp_decode.specs.Standing.{IsPending, PartsState, parts, state_of, place_at, offset_at, symbols_at, rest_of, came_of, said, Gives, Waits, Moves, IsAsked, IsWanted, IsBounded, IsQuiet, HasParts, IsConsistent, asked, Starts}
 use Rattle.cqlp_decode.proofs.Steps.{begun, one_due, offset_is, fresh_stage, fresh_table}
 
 -- ---- fields
@@ -83,7 +83,7 @@ given_none (role.PageRows flags columns) = refl
 given_none r = refl
 
 -- what is read of a field that is wanted
-module _ (s : StreamStanding) (q : Parts) (w : Want) (here : s.stage ≡ stage.Field w) (bytes : List ℕ) where
+module _ (s : StreamStanding) (q : PartsState) (w : Want) (here : s.stage ≡ stage.Field w) (bytes : List ℕ) where
   abbrev rest : List Symbol
   rest = rest_of s.upcoming
 
@@ -93,16 +93,16 @@ module _ (s : StreamStanding) (q : Parts) (w : Want) (here : s.stage ≡ stage.F
   abbrev next_step : FieldValue → Reader (Emitted reading.Event Place) (ℕ × Reason)
   next_step v = value_step s.limits.types (place_at s.offset s.stop (wanted (due.Field w) ∷ rest) q.table.nodes) w.field w.role rest v (fault_in w.role v)
 
-  told_is : told (state_of s q) bytes ≡ says (after_field s.offset (reader_of (asked s w)) next_step) 0 bytes
+  told_is : said (state_of s q) bytes ≡ says (after_field s.offset (reader_of (asked s w)) next_step) 0 bytes
   told_is = rw here refl
 
-  field_waits : says (reader_of (asked s w)) 0 bytes ≡ More → told (state_of s q) bytes ≡ More
+  field_waits : says (reader_of (asked s w)) 0 bytes ≡ More → said (state_of s q) bytes ≡ More
   field_waits m = told_is ∙ after_more s.offset _ next_step 0 bytes m
 
-  field_fails : (why : Reason) → says (reader_of (asked s w)) 0 bytes ≡ Bad why → told (state_of s q) bytes ≡ Bad (s.offset, why)
+  field_fails : (why : Reason) → says (reader_of (asked s w)) 0 bytes ≡ Bad why → said (state_of s q) bytes ≡ Bad (s.offset, why)
   field_fails why m = told_is ∙ after_bad s.offset _ next_step 0 bytes why m
 
-  field_faults : (v : FieldValue) (k : ℕ) (why : Reason) → says (reader_of (asked s w)) 0 bytes ≡ Got v k → fault_in w.role v ≡ Some why → told (state_of s q) bytes ≡ Bad (s.offset, why)
+  field_faults : (v : FieldValue) (k : ℕ) (why : Reason) → says (reader_of (asked s w)) 0 bytes ≡ Got v k → fault_in w.role v ≡ Some why → said (state_of s q) bytes ≡ Bad (s.offset, why)
   field_faults v k why m fault = told_is ∙ (after_got s.offset (reader_of (asked s w)) next_step 0 bytes v k m).1 ∙ rw fault refl
 
   abbrev behind_field : ℕ → FieldValue → Place
@@ -115,7 +115,7 @@ module _ (s : StreamStanding) (q : Parts) (w : Want) (here : s.stage ≡ stage.F
 
 -- what a piece of input makes of a field that is wanted, and was begun
 module _ (s : StreamStanding) (old p : FieldState) (r : type.TypeState) (d : value.CellState) (t : Table) (w : Want) (input : List ℕ) (here : s.stage ≡ stage.Field w) (a : IsAsked s old p w) where
-  abbrev before : Parts
+  abbrev before : PartsState
   before = parts old r d t
 
   pending_is : (b : List ℕ) → IsPending (state_of s before).pending b → b ≡ p.seen
@@ -131,11 +131,11 @@ module _ (s : StreamStanding) (old p : FieldState) (r : type.TypeState) (d : val
         (rw (pending_is b is) (field_waits s before w here (p.seen ++ input) (rw a.field at m.is)), rw (here, seen) (ap (λ (x : List ℕ). x ++ input) (pending_is b is)));
   }
 
-  pub piece_fails : (why : Reason) → says (reader_of p.field) 0 (p.seen ++ input) ≡ Bad why → (b : List ℕ) → IsPending (state_of s before).pending b → told (state_of s before) (b ++ input) ≡ Bad (s.offset, why)
+  pub piece_fails : (why : Reason) → says (reader_of p.field) 0 (p.seen ++ input) ≡ Bad why → (b : List ℕ) → IsPending (state_of s before).pending b → said (state_of s before) (b ++ input) ≡ Bad (s.offset, why)
   piece_fails why m b is = rw (pending_is b is) (field_fails s before w here (p.seen ++ input) why (rw a.field at m))
 
   module _ (new : FieldState) (used : ℕ) (v : FieldValue) (m : Ends p input used v new) where
-    pub piece_faults : (why : Reason) → fault_in w.role v ≡ Some why → (b : List ℕ) → IsPending (state_of s before).pending b → told (state_of s before) (b ++ input) ≡ Bad (s.offset, why)
+    pub piece_faults : (why : Reason) → fault_in w.role v ≡ Some why → (b : List ℕ) → IsPending (state_of s before).pending b → said (state_of s before) (b ++ input) ≡ Bad (s.offset, why)
     piece_faults why fault b is = rw (pending_is b is) (field_faults s before w here (p.seen ++ input) v (length p.seen + used) why (rw a.field at m.is) fault)
 
     pub piece_hands : (e : StreamStanding) (t' : Table) (i : FieldOutline) → v ≡ item_value i input new.content → CanLend i input new.content → fault_in w.role v ≡ None → IsWanted s old w
@@ -143,7 +143,7 @@ module _ (s : StreamStanding) (old p : FieldState) (r : type.TypeState) (d : val
         → symbols_at e.stage (parts new r d t') e.upcoming ≡ following (types_for s.limits.types w.role t.nodes Nothing) w.role v ++ rest_of s.upcoming
         → Moves (state_of s before) input (advance.Event s.offset used (what.Holds w.field i)) (state_of e (parts new r d t'))
     piece_hands e t' i is there fine law at stop frame none start nodes symbols =
-        let q : Parts = parts new r d t' in
+        let q : PartsState = parts new r d t' in
         let offset : offset_at e.stage e.offset q ≡ s.offset + (length p.seen + used) = offset_is e e.stage q start ∙ at in (
           there,
           record {
@@ -190,11 +190,11 @@ pub following_there : (r : Role) (v : FieldValue) (types : Bool) (nodes after : 
 following_there (role.PageRows flags columns) v types nodes after rest e = rw e refl
 following_there r v types nodes after rest e = refl
 
-module _ (s e : StreamStanding) (q : Parts) (p : FieldState) (r : type.TypeState) (d : value.CellState) (t : Table) (n : ℕ) (law : IsConsistent s q) (offset : e.offset ≡ s.offset + n) (inside : s.offset + n ≤ s.stop) (stop : e.stop ≡ s.stop) (limits : e.limits ≡ s.limits) (header : e.header ≡ s.header) (came : e.came ≡ 0)
+module _ (s e : StreamStanding) (q : PartsState) (p : FieldState) (r : type.TypeState) (d : value.CellState) (t : Table) (n : ℕ) (law : IsConsistent s q) (offset : e.offset ≡ s.offset + n) (inside : s.offset + n ≤ s.stop) (stop : e.stop ≡ s.stop) (limits : e.limits ≡ s.limits) (header : e.header ≡ s.header) (came : e.came ≡ 0)
     (room : p.room ≡ q.partial.room) (idle : p.under_way ≡ false) (rules : r.rules ≡ q.types.rules) (types : r.under_way ≡ false) (cells : d.rules ≡ q.cells.rules) (idle_cells : is_under_way d ≡ false) (table : t.room ≡ q.table.room) (forest : Forest t.nodes 0 s.limits.depth) (starts : Starts e t.nodes e.stage) (quiet : IsQuiet (parts p r d t)) where
   pub goes_on_lawful : IsConsistent e (parts p r d t)
   goes_on_lawful =
-      let z : Parts = parts p r d t in
+      let z : PartsState = parts p r d t in
       let bounded : IsBounded e = record { long = ap (λ (h : List ℕ). length h) header ∙ law.bounded.long; inside = omega (arith, law.bounded.inside); size = omega (arith, law.bounded.size); bound = omega (arith, law.bounded.bound) } in
       let parts : HasParts e z = rw limits (record { room = room ∙ law.parts.room; rules = rules ∙ law.parts.rules; cells = cells ∙ law.parts.cells; table = table ∙ law.parts.table }) in
       record {

@@ -17,7 +17,7 @@ use Rattle.cqlp_decode.specs.Reading as reading
 use Rattle.cqlp_decode.specs.Reading.{Place, step, start, Reads}
 use Rattle.cqlp_message.specs.Events.{event_of}
 use Rattle.cqlp_decode.specs.Standing.{StreamState, AdvancesFrom, Hands, event_at, frame_after, due_after}
-use Rattle.cqlp_decode.specs.Streams.{After, AfterBy, Leads, Goes, Refuses, Repeats, HasRefusedAt, frame_from, open_after, open_from}
+use Rattle.cqlp_decode.specs.Streams.{After, AfterBy, Leads, Goes, Refuses, Repeats, frame_from, open_after, open_from}
 
 -- ---- one more event
 

@@ -33,7 +33,7 @@ use Rattle.cqlp_decode.specs.declared.standing.StreamStanding.{StreamStanding}
 use Rattle.cqlp_decode.specs.declared.advance.EventAdvance.TheVariants as advance
 use Rattle.cqlp_decode.specs.declared.advance.EventOutline.TheVariants as what
 use Rattle.cqlp_decode.specs.Reading.{Place, type_event, types_left, place_of_types}
-use Rattle.cqlp_decode.specs.Standing.{IsPending, Parts, parts, state_of, place_at, offset_at, symbols_at, rest_of, told, Gives, Waits, Moves, IsLent, due_after, frame_after, ends_due, HasRoom, IsOption, OptionWaits, OptionRuns, IsConsistent, StageHolds, TableHolds}
+use Rattle.cqlp_decode.specs.Standing.{IsPending, PartsState, parts, state_of, place_at, offset_at, symbols_at, rest_of, said, Gives, Waits, Moves, IsLent, due_after, frame_after, ends_due, HasRoom, IsOption, OptionWaits, OptionRuns, IsConsistent, StageHolds, TableHolds}
 use Rattle.cqlp_decode.specs.declared.standing.StreamStage.{StreamStage}
 use Rattle.cqlp_decode.proofs.Steps.{starts_bare, begun_bare, one_due_bare, offset_is_bare}
 use Rattle.cqlp_decode.proofs.FieldSteps.{used_some, goes_on_lawful}
@@ -54,7 +54,7 @@ types_formed : (ts : Types) → AreTypes ts → AreFormed ts
 types_formed NoMore h = tt
 types_formed (Type_and k inner others) h = (inner_formed k (how_many inner) h.0, types_formed inner h.1, types_formed others h.2)
 
-pub option_reads : (l : Rules) (q : Parts) → OptionRuns l q → ReadsInto q.types q.partial q.table
+pub option_reads : (l : Rules) (q : PartsState) → OptionRuns l q → ReadsInto q.types q.partial q.table
 option_reads l q r = record {
   start = r.begun;
   first = r.first;
@@ -118,14 +118,14 @@ is_lent : (e : TypeEvent) (used : ℕ) (content : List ℕ) → (type.text_lengt
 is_lent (IsNode k) used content h = tt
 is_lent (IsField f v) used content h = h
 
-module _ (s : StreamStanding) (q : Parts) (here : s.stage ≡ stage.InType) (o : IsOption s q.partial q.types) (rules : q.types.rules ≡ rules_of s.limits) where
+module _ (s : StreamStanding) (q : PartsState) (here : s.stage ≡ stage.InType) (o : IsOption s q.partial q.types) (rules : q.types.rules ≡ rules_of s.limits) where
   abbrev rest : List Symbol
   rest = rest_of s.upcoming
 
   abbrev stands : Place
   stands = place_at q.types.offset s.stop (In_type q.types.symbols ∷ rest) q.table.nodes
 
-  told_is : (bytes : List ℕ) → told (state_of s q) bytes ≡ map_said type_event (place_of_types stands rest) (type.told q.types q.table.nodes bytes)
+  told_is : (bytes : List ℕ) → said (state_of s q) bytes ≡ map_said type_event (place_of_types stands rest) (type.told q.types q.table.nodes bytes)
   told_is bytes = rw (here, ← rules, ← o.stop) (says_map type_event (place_of_types (place_at q.types.offset q.types.stop (In_type q.types.symbols ∷ rest) q.table.nodes) rest) (type_step q.types.rules (place_of q.types q.table.nodes)) 0 bytes)
 
   pending_is : (b : List ℕ) → IsPending (state_of s q).pending b → b ≡ pending q.types q.partial
@@ -142,7 +142,7 @@ module _ (s : StreamStanding) (q : Parts) (here : s.stage ≡ stage.InType) (o :
         waits = λ b is. (rw (pending_is b is) (told_is (pending q.types q.partial ++ input) ∙ ap (λ z. map_said type_event (place_of_types stands rest) z) m.is), rw (here, pending_is b is) (sym m.pending));
       }
 
-  pub option_fails : (input : List ℕ) (at : ℕ) (why : Reason) → type.told q.types q.table.nodes (pending q.types q.partial ++ input) ≡ Bad (at, why) → (b : List ℕ) → IsPending (state_of s q).pending b → told (state_of s q) (b ++ input) ≡ Bad (at, why)
+  pub option_fails : (input : List ℕ) (at : ℕ) (why : Reason) → type.told q.types q.table.nodes (pending q.types q.partial ++ input) ≡ Bad (at, why) → (b : List ℕ) → IsPending (state_of s q).pending b → said (state_of s q) (b ++ input) ≡ Bad (at, why)
   option_fails input at why m b is = rw (pending_is b is) (told_is (pending q.types q.partial ++ input) ∙ ap (λ z. map_said type_event (place_of_types stands rest) z) m)
 
   module _ (input : List ℕ) (at used : ℕ) (x : TypeOutline) (r' : type.TypeState) (p' : FieldState) (t' : Table) (m : type.Ends q.types q.partial q.table input at used x r' p' t') (waits : OptionWaits q) where
@@ -173,7 +173,7 @@ module _ (s : StreamStanding) (q : Parts) (here : s.stage ≡ stage.InType) (o :
     )
 
     -- the place that the decoder stands at then
-    module _ (e : StreamStanding) (q' : Parts) (content : q'.partial.content ≡ p'.content) (nodes : q'.table.nodes ≡ t'.nodes) (offset : offset_at e.stage e.offset q' ≡ r'.offset) (stop : e.stop ≡ s.stop) (frame : e.frame ≡ s.frame)
+    module _ (e : StreamStanding) (q' : PartsState) (content : q'.partial.content ≡ p'.content) (nodes : q'.table.nodes ≡ t'.nodes) (offset : offset_at e.stage e.offset q' ≡ r'.offset) (stop : e.stop ≡ s.stop) (frame : e.frame ≡ s.frame)
         (symbols : symbols_at e.stage q' e.upcoming ≡ types_left r'.symbols ++ rest) (fresh : IsPending (state_of e q').pending []) (one : ends_due (symbols_at e.stage q' e.upcoming) ≡ 1) (cells : q'.cells ≡ q.cells) where
       pub option_hands : Moves (state_of s q) input (advance.Event at used (what.Option x)) (state_of e q')
       option_hands = (
@@ -205,19 +205,19 @@ module _ (s : StreamStanding) (q : Parts) (here : s.stage ≡ stage.InType) (o :
     still_hands more = option_hands s (parts p' r' q.cells t') refl refl (rw here refl) refl refl (rw here (sym (left_some r'.symbols rest more))) (rw (here, none_pending) refl) (rw here refl) refl
 
     -- the option is whole
-    module _ (whole : r'.symbols ≡ []) (e : StreamStanding) (r'' : type.TypeState) (offset : e.offset ≡ r'.offset) (stop : e.stop ≡ s.stop) (frame : e.frame ≡ s.frame) (came : e.came ≡ 0) (symbols : (z : Parts) → symbols_at e.stage z e.upcoming ≡ rest)
+    module _ (whole : r'.symbols ≡ []) (e : StreamStanding) (r'' : type.TypeState) (offset : e.offset ≡ r'.offset) (stop : e.stop ≡ s.stop) (frame : e.frame ≡ s.frame) (came : e.came ≡ 0) (symbols : (z : PartsState) → symbols_at e.stage z e.upcoming ≡ rest)
         (room : HasRoom e.stage e.upcoming) where
       pub ended_hands : Moves (state_of s q) input (advance.Event at used (what.Option x)) (state_of e (parts p' r'' q.cells t'))
       ended_hands =
-          let z : Parts = parts p' r'' q.cells t' in
+          let z : PartsState = parts p' r'' q.cells t' in
           option_hands e z refl refl (offset_is_bare e.stage e.offset z e.upcoming room ∙ offset) stop frame (rw whole (symbols z)) (begun_bare e.stage e.upcoming e.header e.came z room came (m.shared.same ∙ began)) (one_due_bare e.stage z e.upcoming room) refl
 
   -- ---- what holds of the decoder then
 
-  stage_there : (z : Parts) → StageHolds s z stage.InType → StageHolds s z s.stage
+  stage_there : (z : PartsState) → StageHolds s z stage.InType → StageHolds s z s.stage
   stage_there z h = subst (λ (t : StreamStage). StageHolds s z t) (sym here) h
 
-  table_there : (z : Parts) → OptionRuns (rules_of s.limits) z → TableHolds (rules_of s.limits) z s.stage
+  table_there : (z : PartsState) → OptionRuns (rules_of s.limits) z → TableHolds (rules_of s.limits) z s.stage
   table_there z h = subst (λ (t : StreamStage). TableHolds (rules_of s.limits) z t) (sym here) h
 
   module _ (law : IsConsistent s q) (unrefused : s.refusal ≡ None) where
@@ -229,7 +229,7 @@ module _ (s : StreamStanding) (q : Parts) (here : s.stage ≡ stage.InType) (o :
 
     pub option_more_lawful : (input : List ℕ) (used : ℕ) (r' : type.TypeState) (p' : FieldState) (t' : Table) → type.Waits q.types q.partial q.table input used r' p' t' → IsConsistent s (parts p' r' q.cells t')
     option_more_lawful input used r' p' t' m =
-        let z : Parts = parts p' r' q.cells t' in
+        let z : PartsState = parts p' r' q.cells t' in
         let same = m.reader in
         let rules : r'.rules ≡ q.types.rules = ap (λ (x : type.TypeState). x.rules) same in
         let place : place_of r' t'.nodes ≡ place_of q.types q.table.nodes = rw (same, m.table) refl in
@@ -242,7 +242,7 @@ module _ (s : StreamStanding) (q : Parts) (here : s.stage ≡ stage.InType) (o :
               some = λ none. o.some (sym (ap (λ (x : type.TypeState). x.symbols) same) ∙ none);
               shared = m.shared;
               stop = ap (λ (x : type.TypeState). x.stop) same ∙ o.stop;
-              behind = omega (arith, o.behind, ap (λ (x : type.TypeState). x.offset) same);
+              after = omega (arith, o.after, ap (λ (x : type.TypeState). x.offset) same);
               inside = omega (arith, o.inside, ap (λ (x : type.TypeState). x.offset) same);
               came = o.came;
             },
@@ -256,14 +256,14 @@ module _ (s : StreamStanding) (q : Parts) (here : s.stage ≡ stage.InType) (o :
     module _ (input : List ℕ) (at used : ℕ) (x : TypeOutline) (r' : type.TypeState) (p' : FieldState) (t' : Table) (m : type.Ends q.types q.partial q.table input at used x r' p' t') (inside : r'.offset ≤ s.stop) where
       pub option_still_lawful : (r'.symbols ≡ [] → ⊥) → IsConsistent s (parts p' r' q.cells t')
       option_still_lawful some =
-          let z : Parts = parts p' r' q.cells t' in
+          let z : PartsState = parts p' r' q.cells t' in
           let same = m.reader in
           let begun : r'.begun ≡ false = ap (λ (y : type.TypeState). y.begun) same in
           record {
             bounded = law.bounded;
             parts = record { room = m.room ∙ law.parts.room; rules = ap (λ (y : type.TypeState). y.rules) same ∙ law.parts.rules; cells = law.parts.cells; table = m.table ∙ law.parts.table };
             stage = stage_there z (
-              record { under_way = ap (λ (y : type.TypeState). y.under_way) same; some = some; shared = m.shared; stop = ap (λ (y : type.TypeState). y.stop) same ∙ o.stop; behind = omega (arith, o.behind, m.forward); inside = inside; came = o.came },
+              record { under_way = ap (λ (y : type.TypeState). y.under_way) same; some = some; shared = m.shared; stop = ap (λ (y : type.TypeState). y.stop) same ∙ o.stop; after = omega (arith, o.after, m.forward); inside = inside; came = o.came },
               λ long. let none : length (pending r' p') ≡ 0 = rw begun refl in absurd (omega arith),
               idle_cells,
             );
@@ -285,12 +285,12 @@ module _ (s : StreamStanding) (q : Parts) (here : s.stage ≡ stage.InType) (o :
           let begun : r'.begun ≡ false = ap (λ (y : type.TypeState). y.begun) same in
           let is = option_over run.begun 1 r' p' t' (run.bytes ++ take used input) (run.items ++ (at, part.event_at x input p'.content) ∷ []) run.first (option_handed q.types q.partial q.table input r' p' t' at used x m run.begun run.bytes run.items run.runs) whole begun in
           let forest : Forest t'.nodes 0 s.limits.depth = forest_more (rules_of s.limits) run.begun.offset run.begun.nodes (run.bytes ++ take used input) (run.items ++ (at, part.event_at x input p'.content) ∷ []) t'.nodes run.before (rw rules at is) in
-          goes_on_lawful s e q p' r'' q.cells t' (r'.offset - s.offset) law (omega (arith, offset, o.behind, m.forward)) (omega (arith, inside, o.behind, m.forward)) stop limits header (came ∙ o.came)
+          goes_on_lawful s e q p' r'' q.cells t' (r'.offset - s.offset) law (omega (arith, offset, o.after, m.forward)) (omega (arith, inside, o.after, m.forward)) stop limits header (came ∙ o.came)
           m.room (m.shared.same ∙ begun) (rw over (ap (λ (y : type.TypeState). y.rules) same)) (rw over refl) refl idle_cells m.table forest (starts_bare e t'.nodes e.stage room) (record { types = λ idle. rw over refl; cells = law.quiet.cells })
 
 -- ---- an option begins
 
-module _ (s : StreamStanding) (q : Parts) (here : s.stage ≡ stage.BeforeType) where
+module _ (s : StreamStanding) (q : PartsState) (here : s.stage ≡ stage.BeforeType) where
   pub option_begun_same : state_of (record s { stage = stage.InType }) (parts q.partial (type.started q.types s.offset s.stop) q.cells q.table) ≡ state_of s q
   option_begun_same = rw here refl
 
@@ -307,7 +307,7 @@ module _ (s : StreamStanding) (q : Parts) (here : s.stage ≡ stage.BeforeType) 
             some = λ none. cc;
             shared = record { room = rw (law.parts.rules, law.parts.room) (omega arith); same = idle.0.field; item = λ begun. absurd cc; taken = λ begun. absurd cc };
             stop = refl;
-            behind = omega arith;
+            after = omega arith;
             inside = law.bounded.inside;
             came = idle.1;
           },

@@ -25,12 +25,12 @@ use Rattle.cqlp_decode.specs.declared.advance.EventOutline.TheVariants as what
 use Rattle.cqlp_message.specs.Upcoming.{Pops}
 use Rattle.cqlp_decode.specs.Reading as reading
 use Rattle.cqlp_decode.specs.Reading.{Place}
-use Rattle.cqlp_decode.specs.Standing.{IsPending, state_of, place_at, offset_at, pending_at, symbols_at, rest_of, stage_with, came_of, told, Gives, Waits, Moves, Parts, IsIdle, ends_due, HasRoom, Starts, StageHolds, TableHolds, IsPlaced, IsConsistent}
+use Rattle.cqlp_decode.specs.Standing.{IsPending, state_of, place_at, offset_at, pending_at, symbols_at, rest_of, stage_with, came_of, said, Gives, Waits, Moves, PartsState, IsIdle, ends_due, HasRoom, Starts, StageHolds, TableHolds, IsPlaced, IsConsistent}
 use Rattle.cqlp_decode.proofs.Columns.{cells_due}
 
 -- ---- what is skipped
 
-pub extra_waits : (s new : StreamStanding) (q : Parts) (input : List ℕ) (used : ℕ) → s.stage ≡ stage.Extra → s.came ≤ s.stop - s.offset → used ≡ min (s.stop - s.offset - s.came) (length input) → s.came + used < s.stop - s.offset
+pub extra_waits : (s new : StreamStanding) (q : PartsState) (input : List ℕ) (used : ℕ) → s.stage ≡ stage.Extra → s.came ≤ s.stop - s.offset → used ≡ min (s.stop - s.offset - s.came) (length input) → s.came + used < s.stop - s.offset
     → new ≡ record s { came = s.came + used } → Waits (state_of s q) input used (state_of new q)
 extra_waits s new q input used here le is less same = rw same (record {
   all = omega arith;
@@ -42,7 +42,7 @@ extra_waits s new q input used here le is less same = rw same (record {
       (rw (here, lt-ltb _ _ short) refl, rw here (omega (arith, length-append b input)));
 })
 
-pub extra_hands : (s : StreamStanding) (q : Parts) (input : List ℕ) (used : ℕ) → s.stage ≡ stage.Extra → s.offset ≤ s.stop → s.came ≤ s.stop - s.offset → used ≡ min (s.stop - s.offset - s.came) (length input) → s.stop - s.offset ≤ s.came + used
+pub extra_hands : (s : StreamStanding) (q : PartsState) (input : List ℕ) (used : ℕ) → s.stage ≡ stage.Extra → s.offset ≤ s.stop → s.came ≤ s.stop - s.offset → used ≡ min (s.stop - s.offset - s.came) (length input) → s.stop - s.offset ≤ s.came + used
     → Moves (state_of s q) input (advance.Event s.stop used (what.End (s.stop - s.offset))) (state_of (record s { frame = s.stop; offset = s.stop; stage = stage.Header; came = 0 }) q)
 extra_hands s q input used here inside le is all = (
   tt,
@@ -66,7 +66,7 @@ extra_hands s q input used here inside le is all = (
 -- ---- a message goes on
 
 -- nothing has come of what is read now
-pub begun_bare : (t : StreamStage) (upcoming : List Slot) (header : List ℕ) (came : ℕ) (q : Parts) → HasRoom t upcoming → came ≡ 0 → q.partial.under_way ≡ false → IsPending (pending_at t header came q) []
+pub begun_bare : (t : StreamStage) (upcoming : List Slot) (header : List ℕ) (came : ℕ) (q : PartsState) → HasRoom t upcoming → came ≡ 0 → q.partial.under_way ≡ false → IsPending (pending_at t header came q) []
 begun_bare stage.Header upcoming header came q room none idle = absurd room
 begun_bare (stage.Field w) upcoming header came q room none idle = rw idle refl
 begun_bare stage.BeforeType upcoming header came q room none idle = refl
@@ -75,7 +75,7 @@ begun_bare (stage.BeforeCell p) upcoming header came q room none idle = absurd r
 begun_bare (stage.InCell p) upcoming header came q room none idle = absurd room
 begun_bare stage.Extra upcoming header came q room none idle = sym none
 
-pub begun : (s : StreamStanding) (t : StreamStage) (header : List ℕ) (came : ℕ) (q : Parts) → Starts s q.table.nodes t → came ≡ 0 → q.partial.under_way ≡ false → IsPending (pending_at t header came q) []
+pub begun : (s : StreamStanding) (t : StreamStage) (header : List ℕ) (came : ℕ) (q : PartsState) → Starts s q.table.nodes t → came ≡ 0 → q.partial.under_way ≡ false → IsPending (pending_at t header came q) []
 begun s stage.Header header came q start none idle = absurd start
 begun s (stage.Field w) header came q start none idle = rw idle refl
 begun s stage.BeforeType header came q start none idle = refl
@@ -85,7 +85,7 @@ begun s (stage.InCell p) header came q start none idle = absurd start
 begun s stage.Extra header came q start none idle = sym none
 
 -- its end is still to come
-pub one_due_bare : (t : StreamStage) (q : Parts) (upcoming : List Slot) → HasRoom t upcoming → ends_due (symbols_at t q upcoming) ≡ 1
+pub one_due_bare : (t : StreamStage) (q : PartsState) (upcoming : List Slot) → HasRoom t upcoming → ends_due (symbols_at t q upcoming) ≡ 1
 one_due_bare stage.Header q upcoming room = absurd room
 one_due_bare (stage.Field w) q upcoming room = refl
 one_due_bare stage.BeforeType q upcoming room = refl
@@ -94,7 +94,7 @@ one_due_bare (stage.BeforeCell p) q upcoming room = absurd room
 one_due_bare (stage.InCell p) q upcoming room = absurd room
 one_due_bare stage.Extra q upcoming room = refl
 
-pub one_due : (s : StreamStanding) (t : StreamStage) (q : Parts) → Starts s q.table.nodes t → ends_due (symbols_at t q s.upcoming) ≡ 1
+pub one_due : (s : StreamStanding) (t : StreamStage) (q : PartsState) → Starts s q.table.nodes t → ends_due (symbols_at t q s.upcoming) ≡ 1
 one_due s stage.Header q start = absurd start
 one_due s (stage.Field w) q start = refl
 one_due s stage.BeforeType q start = refl
@@ -104,7 +104,7 @@ one_due s (stage.InCell p) q start = absurd start
 one_due s stage.Extra q start = refl
 
 -- it begins at the offset
-pub offset_is_bare : (t : StreamStage) (offset : ℕ) (q : Parts) (upcoming : List Slot) → HasRoom t upcoming → offset_at t offset q ≡ offset
+pub offset_is_bare : (t : StreamStage) (offset : ℕ) (q : PartsState) (upcoming : List Slot) → HasRoom t upcoming → offset_at t offset q ≡ offset
 offset_is_bare stage.Header offset q upcoming room = absurd room
 offset_is_bare (stage.Field w) offset q upcoming room = refl
 offset_is_bare stage.BeforeType offset q upcoming room = refl
@@ -113,7 +113,7 @@ offset_is_bare (stage.BeforeCell p) offset q upcoming room = absurd room
 offset_is_bare (stage.InCell p) offset q upcoming room = absurd room
 offset_is_bare stage.Extra offset q upcoming room = refl
 
-pub offset_is : (s : StreamStanding) (t : StreamStage) (q : Parts) → Starts s q.table.nodes t → offset_at t s.offset q ≡ s.offset
+pub offset_is : (s : StreamStanding) (t : StreamStage) (q : PartsState) → Starts s q.table.nodes t → offset_at t s.offset q ≡ s.offset
 offset_is s stage.Header q start = absurd start
 offset_is s (stage.Field w) q start = refl
 offset_is s stage.BeforeType q start = refl
@@ -123,7 +123,7 @@ offset_is s (stage.InCell p) q start = absurd start
 offset_is s stage.Extra q start = refl
 
 -- what holds of the next stage, of which nothing has come
-pub fresh_stage : (e : StreamStanding) (q : Parts) (t : StreamStage) → Starts e q.table.nodes t → IsIdle q → e.came ≡ 0 → StageHolds e q t
+pub fresh_stage : (e : StreamStanding) (q : PartsState) (t : StreamStage) → Starts e q.table.nodes t → IsIdle q → e.came ≡ 0 → StageHolds e q t
 fresh_stage e q stage.Header start idle none = absurd start
 fresh_stage e q (stage.Field w) start idle none = (
   record {
@@ -143,7 +143,7 @@ fresh_stage e q (stage.InCell p) start idle none = absurd start
 fresh_stage e q stage.Extra start idle none = (omega arith, idle)
 
 -- the table then holds whole types alone
-pub fresh_table : (e : StreamStanding) (q : Parts) (t : StreamStage) → Starts e q.table.nodes t → Forest q.table.nodes 0 e.limits.depth → TableHolds (rules_of e.limits) q t
+pub fresh_table : (e : StreamStanding) (q : PartsState) (t : StreamStage) → Starts e q.table.nodes t → Forest q.table.nodes 0 e.limits.depth → TableHolds (rules_of e.limits) q t
 fresh_table e q stage.Header start f = f
 fresh_table e q (stage.Field w) start f = f
 fresh_table e q stage.BeforeType start f = f
@@ -162,7 +162,7 @@ starts_bare s nodes (stage.BeforeCell p) room = absurd room
 starts_bare s nodes (stage.InCell p) room = room
 starts_bare s nodes stage.Extra room = room
 
-pub next_symbols : (old new : List Slot) (o : Option Expected) → Pops old o new → (q : Parts) → symbols_at (stage_with o) q new ≡ rest_of old
+pub next_symbols : (old new : List Slot) (o : Option Expected) → Pops old o new → (q : PartsState) → symbols_at (stage_with o) q new ≡ rest_of old
 next_symbols old new None n q = rw n.0 refl
 next_symbols old new (Some (due.Field w)) n q = rw n.0 refl
 next_symbols old new (Some due.Option) n q = rw n.0 refl
@@ -172,7 +172,7 @@ next_room old new None n = tt
 next_room old new (Some (due.Field w)) n = (n.1, n.2)
 next_room old new (Some due.Option) n = tt
 
-pub placed : (s : StreamStanding) (q : Parts) (t : StreamStage) → StageHolds s q t → IsPlaced s q t
+pub placed : (s : StreamStanding) (q : PartsState) (t : StreamStage) → StageHolds s q t → IsPlaced s q t
 placed s q stage.Header h = (h.0, h.2)
 placed s q (stage.Field w) h = tt
 placed s q stage.BeforeType h = tt
@@ -182,16 +182,16 @@ placed s q (stage.InCell p) h = h.0
 placed s q stage.Extra h = h.0
 
 -- a refusal changes nothing of the rest
-stage_refused : (s : StreamStanding) (q : Parts) (r : Option Refusal) (t : StreamStage) → StageHolds s q t → StageHolds (record s { refusal = r }) q t
+stage_refused : (s : StreamStanding) (q : PartsState) (r : Option Refusal) (t : StreamStage) → StageHolds s q t → StageHolds (record s { refusal = r }) q t
 stage_refused s q r stage.Header h = h
 stage_refused s q r (stage.Field w) h = (record { room = h.0.room; read = h.0.read; field = h.0.field; waits = h.0.waits; came = h.0.came }, h.1, h.2)
 stage_refused s q r stage.BeforeType h = h
-stage_refused s q r stage.InType h = (record { under_way = h.0.under_way; some = h.0.some; shared = h.0.shared; stop = h.0.stop; behind = h.0.behind; inside = h.0.inside; came = h.0.came }, h.1, h.2)
+stage_refused s q r stage.InType h = (record { under_way = h.0.under_way; some = h.0.some; shared = h.0.shared; stop = h.0.stop; after = h.0.after; inside = h.0.inside; came = h.0.came }, h.1, h.2)
 stage_refused s q r (stage.BeforeCell p) h = h
-stage_refused s q r (stage.InCell p) h = (record { under_way = h.0.under_way; stands = h.0.stands; joined = h.0.joined; some = h.0.some; is = h.0.is; page = h.0.page; stop = h.0.stop; behind = h.0.behind; came = h.0.came }, h.1)
+stage_refused s q r (stage.InCell p) h = (record { under_way = h.0.under_way; stands = h.0.stands; joined = h.0.joined; some = h.0.some; is = h.0.is; page = h.0.page; stop = h.0.stop; after = h.0.after; came = h.0.came }, h.1)
 stage_refused s q r stage.Extra h = h
 
-pub refused_lawful : (s : StreamStanding) (q : Parts) (r : Refusal) → IsConsistent s q → IsConsistent (record s { refusal = Some r }) q
+pub refused_lawful : (s : StreamStanding) (q : PartsState) (r : Refusal) → IsConsistent s q → IsConsistent (record s { refusal = Some r }) q
 refused_lawful s q r h = record {
   bounded = record { long = h.bounded.long; inside = h.bounded.inside; size = h.bounded.size; bound = h.bounded.bound };
   parts = record { room = h.parts.room; rules = h.parts.rules; cells = h.parts.cells; table = h.parts.table };
@@ -202,7 +202,7 @@ refused_lawful s q r h = record {
 
 -- ---- headers
 
-module _ (s : StreamStanding) (q : Parts) (input : List ℕ) (here : s.stage ≡ stage.Header) (early : s.offset ≤ 2 ^ 63) (long : length s.header ≡ 9) (some : s.came < 9) where
+module _ (s : StreamStanding) (q : PartsState) (input : List ℕ) (here : s.stage ≡ stage.Header) (early : s.offset ≤ 2 ^ 63) (long : length s.header ≡ 9) (some : s.came < 9) where
   kept_long : length (take s.came s.header) ≡ s.came
   kept_long = length-take-le s.came s.header (omega arith)
 
@@ -230,7 +230,7 @@ module _ (s : StreamStanding) (q : Parts) (input : List ℕ) (here : s.stage ≡
     whole : (b : List ℕ) → b ≡ take s.came s.header → 9 ≤ length (b ++ input)
     whole b is = rw is (omega (arith, length-append (take s.came s.header) input, kept_long))
 
-    pub header_fails : (e : ℕ × Reason) → heading nine ≡ Err e → (b : List ℕ) → IsPending (state_of s q).pending b → told (state_of s q) (b ++ input) ≡ Bad (s.offset + e.0, e.1)
+    pub header_fails : (e : ℕ × Reason) → heading nine ≡ Err e → (b : List ℕ) → IsPending (state_of s q).pending b → said (state_of s q) (b ++ input) ≡ Bad (s.offset + e.0, e.1)
     header_fails e h b is =
         let came : b ≡ take s.came s.header = rw here at is in
         rw (here, le-ltb _ _ early, le-ltb _ _ (whole b came), front b came, h) refl

@@ -8,27 +8,12 @@ use Rattle.cqlp_decode.specs.declared.running.Outcome.{Outcome}
 use Rattle.cqlp_decode.specs.declared.running.Outcome.TheVariants as outcome
 use Rattle.cqlp_decode.specs.Reading.{Event, Verdict, start, Says, Waits, Refused}
 use Rattle.cqlp_decode.specs.Standing.{StreamState}
-use Rattle.cqlp_decode.specs.Streams.{After, Finishes}
+use Rattle.cqlp_decode.specs.Streams.{After, EndsAs}
 
 -- the view after these events, in order
 abbrev pub fold_events : {V : Type 0} → (V → ℕ → Event → V) → V → List (ℕ × Event) → V
 fold_events f v [] = v
 fold_events f v (e ∷ es) = fold_events f (f v e.0 e.1) es
-
--- Behind the bytes s and the events es, these bytes were used and their events handed out, and the sink has got just
--- them.
-pub record Drains {V : Type 0} (f : V → ℕ → Event → V) (new : StreamState) (s : List ℕ) (es : List (ℕ × Event)) (bytes : List ℕ) (before after : V) : Type 0 where
-  pub more : List (ℕ × Event)
-  pub stands : After new (s ++ bytes) (es ++ more)
-  pub got : after ≡ fold_events f before more
-
--- The same, but at the last of the events the sink failed.
-pub record Fails {V : Type 0} (f : V → ℕ → Event → V) (faulted : V → ℕ → Event → V → Type 0) (new : StreamState) (s : List ℕ) (es : List (ℕ × Event)) (bytes : List ℕ) (before after : V) : Type 0 where
-  pub more : List (ℕ × Event)
-  pub at : ℕ
-  pub event : Event
-  pub stands : After new (s ++ bytes) (es ++ more ++ (at, event) ∷ [])
-  pub fault : faulted (fold_events f before more) at event after
 
 abbrev pub HasRefused : StreamState → Type 0
 HasRefused d = (r : Refusal) × (d.refusal ≡ Some r)
@@ -38,62 +23,105 @@ abbrev pub verdict_of : Option Refusal → Verdict
 verdict_of None = Waits
 verdict_of (Some r) = Refused r.at r.why
 
--- Of a piece the decoder used these bytes, and the sink has got just their events. They are all events that the piece
--- says, with this verdict, if nothing was refused before it.
-pub record DrainsAll {V : Type 0} (f : V → ℕ → Event → V) (old new : StreamState) (s : List ℕ) (es : List (ℕ × Event)) (piece bytes : List ℕ) (before after : V) : Type 0 where
-  pub drains : Drains f new s es bytes before after
-  pub says : old.refusal ≡ None → Says new.rules start (s ++ piece) (es ++ drains.more) (verdict_of new.refusal)
-
--- What draining a piece leaves, by how it ends: all of its events, those before a refusal, or those up to a fault.
-abbrev pub DrainsTo : {V : Type 0} → (V → ℕ → Event → V) → (V → ℕ → Event → V → Type 0) → StreamState → List ℕ → Drained → StreamState → (before after : V) → Type 0
-DrainsTo f faulted old input drained.More new before after =
-    (s : List ℕ) (es : List (ℕ × Event)) → After old s es → DrainsAll f old new s es input input before after
-DrainsTo f faulted old input drained.Refused new before after =
-    (used : ℕ) × ((s : List ℕ) (es : List (ℕ × Event)) → After old s es → DrainsAll f old new s es input (take used input) before after)
-DrainsTo f faulted old input drained.Fault new before after =
-    (used : ℕ) × ((s : List ℕ) (es : List (ℕ × Event)) → After old s es → Fails f faulted new s es (take used input) before after)
-
 -- a piece that was drained to its end was refused nothing, and one that ends early was
 abbrev pub DrainsBy : Drained → StreamState → Type 0
 DrainsBy drained.More new = new.refusal ≡ None
 DrainsBy drained.Refused new = HasRefused new
 DrainsBy drained.Fault new = ⊤
 
--- Of the bytes xs of a reader, `rest` is left or was not used; the others the decoder used, and the sink has got
--- their events.
-pub record Feeds {V : Type 0} (f : V → ℕ → Event → V) (old new : StreamState) (xs : List ℕ) (before after : V) : Type 0 where
-  pub bytes : List ℕ
-  pub rest : List ℕ
-  pub parts : xs ≡ bytes ++ rest
-  pub drained : (s : List ℕ) (es : List (ℕ × Event)) → After old s es → Drains f new s es bytes before after
+-- What a sink has got: f is what it makes of an event, and V is what is seen of it.
+module _ {V : Type 0} (f : V → ℕ → Event → V) where
+  -- After the bytes s and the events es, these bytes were used and their events handed out, and the sink has got just
+  -- them.
+  pub record Drains (new : StreamState) (s : List ℕ) (es : List (ℕ × Event)) (bytes : List ℕ)
+      (before after : V) : Type 0 where
+    pub more : List (ℕ × Event)
+    pub stands : After new (s ++ bytes) (es ++ more)
+    pub got : after ≡ fold_events f before more
 
--- Of the bytes that were not used, the first were looked at, where they are refused, and the others are left. What was
--- handed out is all that the bytes read say, and the decoder's refusal, or none, is their verdict, if it had refused nothing
--- before.
-pub record HasAll {V : Type 0} (f : V → ℕ → Event → V) (old new : StreamState) (xs : List ℕ) (left : Option (List ℕ)) (before after : V) (d : Feeds f old new xs before after) : Type 0 where
-  pub looked : List ℕ
-  pub unread : List ℕ
-  pub parts : d.rest ≡ looked ++ unread
-  pub others : left ≡ Some unread
-  pub none : new.refusal ≡ None → looked ≡ []
-  pub says : old.refusal ≡ None → (s : List ℕ) (es : List (ℕ × Event)) (a : After old s es) → Says new.rules start (s ++ d.bytes ++ looked) (es ++ (d.drained s es a).more) (verdict_of new.refusal)
+  -- Of a piece the decoder used these bytes, and the sink has got just their events. They are all events that the piece
+  -- says, with this verdict, if nothing was refused before it.
+  pub record DrainsAll (old new : StreamState) (s : List ℕ) (es : List (ℕ × Event)) (piece bytes : List ℕ)
+      (before after : V) : Type 0 where
+    pub drains : Drains new s es bytes before after
+    pub says : old.refusal ≡ None → Says new.rules start (s ++ piece) (es ++ drains.more) (verdict_of new.refusal)
 
--- The same as `Feeds`, but at the last of the events the sink failed.
-pub record FeedsInto {V : Type 0} (f : V → ℕ → Event → V) (faulted : V → ℕ → Event → V → Type 0) (old new : StreamState) (xs : List ℕ) (before after : V) : Type 0 where
-  pub bytes : List ℕ
-  pub rest : List ℕ
-  pub parts : xs ≡ bytes ++ rest
-  pub failed : (s : List ℕ) (es : List (ℕ × Event)) → After old s es → Fails f faulted new s es bytes before after
+  -- the same of any stream that led here
+  abbrev pub DrainsPiece : (old new : StreamState) → (piece bytes : List ℕ) → (before after : V) → Type 0
+  DrainsPiece old new piece bytes before after =
+      (s : List ℕ) (es : List (ℕ × Event)) → After old s es → DrainsAll old new s es piece bytes before after
 
--- What a run leaves, by how it ends; the reader had the bytes xs. It finishes at the end of the input or at a
--- refusal, with what the end of the stream says there; and each turn has read some byte. But at a sink's fault, all
--- events were handed out.
-abbrev pub RunsTo : {V : Type 0} → (V → ℕ → Event → V) → (V → ℕ → Event → V → Type 0) → (turns : ℕ) → Outcome → (old new : StreamState) → (xs : List ℕ) → Option (List ℕ) → (before after : V) → Type 0
-RunsTo f faulted turns (outcome.Finished end) old new xs left before after =
-    (d : Feeds f old new xs before after) × ((d.rest ≡ []) ⊎ HasRefused new) × ((s : List ℕ) (es : List (ℕ × Event)) → After new s es → Finishes new s es end) × HasAll f old new xs left before after d
-RunsTo f faulted turns outcome.ReadFault old new xs left before after = (d : Feeds f old new xs before after) × (left ≡ Some d.rest) × HasAll f old new xs left before after d
-RunsTo f faulted turns outcome.Turns old new xs left before after = (d : Feeds f old new xs before after) × (left ≡ Some d.rest) × (turns ≤ length d.bytes) × HasAll f old new xs left before after d
-RunsTo f faulted turns outcome.SinkFault old new xs left before after = FeedsInto f faulted old new xs before after
+  -- Of the bytes xs of a reader, `rest` is left or was not used; the others the decoder used, and the sink has got
+  -- their events.
+  pub record Feeds (old new : StreamState) (xs : List ℕ) (before after : V) : Type 0 where
+    pub bytes : List ℕ
+    pub rest : List ℕ
+    pub parts : xs ≡ bytes ++ rest
+    pub drained : (s : List ℕ) (es : List (ℕ × Event)) → After old s es → Drains new s es bytes before after
+
+  -- what was handed out is all that the bytes used and those looked at say, and the refusal, or none, is their verdict
+  abbrev pub SaysAll : (old new : StreamState) (xs : List ℕ) (before after : V) → Feeds old new xs before after
+      → (looked : List ℕ) → Type 0
+  SaysAll old new xs before after d looked =
+      (s : List ℕ) (es : List (ℕ × Event)) (a : After old s es)
+      → Says new.rules start (s ++ d.bytes ++ looked) (es ++ (d.drained s es a).more) (verdict_of new.refusal)
+
+  -- Of the bytes that were not used, the first were looked at, where they are refused, and the others are left. What
+  -- was handed out is all that they say, if nothing was refused before.
+  pub record HasAll (old new : StreamState) (xs : List ℕ) (left : Option (List ℕ)) (before after : V)
+      (d : Feeds old new xs before after) : Type 0 where
+    pub looked : List ℕ
+    pub unread : List ℕ
+    pub parts : d.rest ≡ looked ++ unread
+    pub others : left ≡ Some unread
+    pub none : new.refusal ≡ None → looked ≡ []
+    pub says : old.refusal ≡ None → SaysAll old new xs before after d looked
+
+  -- Which faults an event may lead to.
+  module _ (faulted : V → ℕ → Event → V → Type 0) where
+    -- The same as `Drains`, but at the last of the events the sink failed.
+    pub record Fails (new : StreamState) (s : List ℕ) (es : List (ℕ × Event)) (bytes : List ℕ)
+        (before after : V) : Type 0 where
+      pub more : List (ℕ × Event)
+      pub at : ℕ
+      pub event : Event
+      pub stands : After new (s ++ bytes) (es ++ more ++ (at, event) ∷ [])
+      pub fault : faulted (fold_events f before more) at event after
+
+    -- the same of any stream that led here
+    abbrev pub FailsWithin : (old new : StreamState) → (bytes : List ℕ) → (before after : V) → Type 0
+    FailsWithin old new bytes before after =
+        (s : List ℕ) (es : List (ℕ × Event)) → After old s es → Fails new s es bytes before after
+
+    -- What draining a piece leaves, by how it ends: all of its events, those before a refusal, or those up to a fault.
+    abbrev pub DrainsTo : StreamState → List ℕ → Drained → StreamState → (before after : V) → Type 0
+    DrainsTo old input drained.More new before after = DrainsPiece old new input input before after
+    DrainsTo old input drained.Refused new before after =
+        (used : ℕ) × DrainsPiece old new input (take used input) before after
+    DrainsTo old input drained.Fault new before after =
+        (used : ℕ) × FailsWithin old new (take used input) before after
+
+    -- The same as `Feeds`, but at the last of the events the sink failed.
+    pub record FeedsInto (old new : StreamState) (xs : List ℕ) (before after : V) : Type 0 where
+      pub bytes : List ℕ
+      pub rest : List ℕ
+      pub parts : xs ≡ bytes ++ rest
+      pub failed : FailsWithin old new bytes before after
+
+    -- What a run leaves, by how it ends; the reader had the bytes xs. It finishes at the end of the input or at a
+    -- refusal, with what the end of the stream says there; and each turn has read some byte. But at a sink's fault, all
+    -- events were handed out.
+    abbrev pub RunsTo : (turns : ℕ) → Outcome → (old new : StreamState) → (xs : List ℕ) → Option (List ℕ)
+        → (before after : V) → Type 0
+    RunsTo turns (outcome.Finished end) old new xs left before after =
+        (d : Feeds old new xs before after) × ((d.rest ≡ []) ⊎ HasRefused new) × EndsAs new end
+        × HasAll old new xs left before after d
+    RunsTo turns outcome.ReadFault old new xs left before after =
+        (d : Feeds old new xs before after) × (left ≡ Some d.rest) × HasAll old new xs left before after d
+    RunsTo turns outcome.Turns old new xs left before after =
+        (d : Feeds old new xs before after) × (left ≡ Some d.rest) × (turns ≤ length d.bytes)
+        × HasAll old new xs left before after d
+    RunsTo turns outcome.SinkFault old new xs left before after = FeedsInto old new xs before after
 
 -- after a run that its reader or its turns end nothing was refused, and it may be called again
 abbrev pub WaitsAt : Outcome → StreamState → Type 0

@@ -16,7 +16,7 @@ use Rattle.cqlp_decode.specs.declared.page.Columns.{Columns}
 use Rattle.cqlp_decode.specs.declared.page.Columns.TheVariants as columns
 use Rattle.cqlp_decode.specs.declared.page.CellCursor.{CellCursor}
 use Rattle.cqlp_decode.specs.Reading as reading
-use Rattle.cqlp_decode.specs.Reading.{types_for}
+use Rattle.cqlp_decode.specs.Reading.{page_types, types_for}
 
 abbrev pub column_types : List Node → Columns → Types
 column_types nodes columns.Typed = types_of nodes
@@ -35,17 +35,17 @@ abbrev pub node_by : Columns → (index : ℕ) → Option ℕ
 node_by columns.Typed index = Some index
 node_by (columns.Raw n) index = None
 
--- the rows behind this one
-abbrev pub rows_behind : List Node → CellCursor → List Symbol
-rows_behind nodes p = rows_from (p.row + 1) (column_types nodes p.columns) p.left
+-- the rows after this one
+abbrev pub rows_after : List Node → CellCursor → List Symbol
+rows_after nodes p = rows_from (p.row + 1) (column_types nodes p.columns) p.left
 
--- the cells behind this one
-abbrev pub cells_behind : List Node → CellCursor → List Symbol
-cells_behind nodes p = row_from p.row (p.column + 1) (other_types 1 (types_left nodes p)) ++ rows_behind nodes p
+-- the cells after this one
+abbrev pub cells_after : List Node → CellCursor → List Symbol
+cells_after nodes p = row_from p.row (p.column + 1) (other_types 1 (types_left nodes p)) ++ rows_after nodes p
 
--- this cell and those behind it, none of which has begun
+-- this cell and those after it, none of which has begun
 abbrev pub cells_from : List Node → CellCursor → List Symbol
-cells_from nodes p = row_from p.row p.column (types_left nodes p) ++ rows_behind nodes p
+cells_from nodes p = row_from p.row p.column (types_left nodes p) ++ rows_after nodes p
 
 -- the cell under way, of which nothing was handed out, or something
 abbrev pub cell_symbol : NextInCell → (row column : ℕ) → Kind → Types → List CellSymbol → Symbol
@@ -56,15 +56,17 @@ abbrev pub first_cell : NextInCell → (row column : ℕ) → Types → List Cel
 first_cell n row column NoMore symbols = []
 first_cell n row column (Type_and k inner others) symbols = cell_symbol n row column k inner symbols ∷ []
 
--- what is left of the cell under way, and those behind it
+-- what is left of the cell under way, and those after it
 abbrev pub page_symbols : List Node → cell.CellState → CellCursor → List Symbol
-page_symbols nodes d p = first_cell d.next p.row p.column (types_left nodes p) (place nodes d).symbols ++ cells_behind nodes p
+page_symbols nodes d p =
+    first_cell d.next p.row p.column (types_left nodes p) (place nodes d).symbols ++ cells_after nodes p
 
 -- ---- where a cell stands
 
 -- a column's type stands in the table as one of the types side by side
 abbrev pub IsColumn : List Node → (depth : ℕ) → Columns → (column index : ℕ) → Type 0
-IsColumn nodes depth columns.Typed column index = (index < length nodes) × (column ≤ index) × Forest nodes index depth × Forest nodes 0 depth
+IsColumn nodes depth columns.Typed column index =
+    (index < length nodes) × (column ≤ index) × Forest nodes index depth × Forest nodes 0 depth
 IsColumn nodes depth (columns.Raw n) column index = column < n
 
 abbrev pub IsPage : List Node → (depth : ℕ) → CellCursor → Type 0
@@ -82,19 +84,38 @@ IsSomePage nodes p = (depth : ℕ) × IsPage nodes depth p
 -- where the type of the next column stands, if there is one
 abbrev pub NextColumn : List Node → (depth : ℕ) → CellCursor → Option ℕ → Type 0
 NextColumn nodes depth p None = other_types 1 (types_left nodes p) ≡ NoMore
-NextColumn nodes depth p (Some i) = (other_types 1 (types_left nodes p) ≡ types_from nodes p.columns (p.column + 1) i) × IsColumn nodes depth p.columns (p.column + 1) i
+NextColumn nodes depth p (Some i) =
+    (other_types 1 (types_left nodes p) ≡ types_from nodes p.columns (p.column + 1) i)
+    × IsColumn nodes depth p.columns (p.column + 1) i
+
+-- the same at each depth of nesting that the types keep to
+abbrev pub FindsColumn : List Node → CellCursor → Option ℕ → Type 0
+FindsColumn nodes p o = (depth : ℕ) → IsPage nodes depth p → NextColumn nodes depth p o
 
 -- the next cell, if there is one
 abbrev pub Turns : List Node → (depth : ℕ) → CellCursor → Option CellCursor → Type 0
-Turns nodes depth p None = cells_behind nodes p ≡ []
-Turns nodes depth p (Some q) = (cells_behind nodes p ≡ cells_from nodes q) × IsPage nodes depth q
+Turns nodes depth p None = cells_after nodes p ≡ []
+Turns nodes depth p (Some q) = (cells_after nodes p ≡ cells_from nodes q) × IsPage nodes depth q
 
--- the first cell of so many rows, if there is one
+-- the first cell of this many rows, if there is one
 abbrev pub Begins : List Node → (depth : ℕ) → Columns → (rows : ℕ) → Option CellCursor → Type 0
 Begins nodes depth c rows None = rows_from 0 (column_types nodes c) rows ≡ []
-Begins nodes depth c rows (Some p) = (rows_from 0 (column_types nodes c) rows ≡ cells_from nodes p) × IsPage nodes depth p
+Begins nodes depth c rows (Some p) =
+    (rows_from 0 (column_types nodes c) rows ≡ cells_from nodes p) × IsPage nodes depth p
 
--- the page behind a field, if it has a cell
+-- what follows from the value of a field
+abbrev pub symbols_after : (types : Bool) → List Node → Role → FieldValue → List Symbol
+symbols_after types nodes r v = following (types_for types r nodes reading.Nothing) r v
+
+-- the page after a field, if it has a cell
 abbrev pub Follows : List Node → (depth : ℕ) → (types : Bool) → Role → FieldValue → Option CellCursor → Type 0
-Follows nodes depth types r v None = following (types_for types r nodes reading.Nothing) r v ≡ following NoMore r v
-Follows nodes depth types r v (Some p) = (following (types_for types r nodes reading.Nothing) r v ≡ cells_from nodes p) × IsPage nodes depth p
+Follows nodes depth types r v None = symbols_after types nodes r v ≡ following NoMore r v
+Follows nodes depth types r v (Some p) = (symbols_after types nodes r v ≡ cells_from nodes p) × IsPage nodes depth p
+
+abbrev pub FindsPage : List Node → (types : Bool) → Role → FieldValue → Option CellCursor → Type 0
+FindsPage nodes types r v o = (depth : ℕ) → Forest nodes 0 depth → Follows nodes depth types r v o
+
+-- the columns of a page whose metadata has these flags and this many columns
+abbrev pub AreColumns : (types : Bool) → (flags columns : ℕ) → Columns → Type 0
+AreColumns types flags n c =
+    (nodes : List Node) → page_types types flags n nodes reading.Nothing ≡ column_types nodes c

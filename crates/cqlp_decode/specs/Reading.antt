@@ -8,6 +8,7 @@ use Rattle.cqlp_note.specs.Reader as reader
 use Rattle.cqlp_note.specs.Field.{FieldValue, field_of}
 use Rattle.cqlp_note.specs.Step.{Emitted, Step, Emit, after_field, map_step, Runs}
 use Rattle.cqlp_note.specs.Limits.{Rules, limit_of}
+use Rattle.cqlp_note.specs.declared.header.Header.{Header}
 use Rattle.cqlp_note.specs.Heading.{Heading, heading, has}
 use Rattle.cqlp_type.specs.declared.node.Node.{Node}
 use Rattle.cqlp_type.specs.Types.{Types, types_of, how_many}
@@ -59,11 +60,15 @@ given_types (InUse ts) = ts
 given_types (Used ts) = ts
 given_types Nothing = raw_types 0
 
+-- the types that the metadata of a page has, or cells as they are where it has none
+abbrev pub metadata_types : (flags columns : ℕ) → List Node → Types
+metadata_types flags columns nodes = if has flags 0x04 then raw_types columns else types_of nodes
+
 -- the types of a page's cells
 abbrev pub page_types : (types : Bool) → (flags columns : ℕ) → List Node → Given → Types
 page_types types flags columns nodes given =
     if types
-    then (if serves flags columns given then given_types given else if has flags 0x04 then raw_types columns else types_of nodes)
+    then (if serves flags columns given then given_types given else metadata_types flags columns nodes)
     else raw_types columns
 
 abbrev pub types_for : (types : Bool) → Role → List Node → Given → Types
@@ -71,7 +76,8 @@ types_for types (role.PageRows flags columns) nodes given = page_types types fla
 types_for types r nodes given = raw_types 0
 
 abbrev pub given_after : Role → Given → Given
-given_after (role.PageRows flags columns) given = if serves flags columns given then InUse (given_types given) else given
+given_after (role.PageRows flags columns) given =
+    if serves flags columns given then InUse (given_types given) else given
 given_after r given = given
 
 abbrev pub retired : Given → Given
@@ -86,14 +92,44 @@ nodes_after r ns = ns
 
 -- ---- steps
 
+-- the place after a header of this many bytes
+abbrev pub place_in_frame : Place → Header → (used : ℕ) → Place
+place_in_frame p h used = record {
+  offset = p.offset + used;
+  stop = p.offset + used + h.length;
+  symbols = message h;
+  nodes = p.nodes;
+  given = p.given;
+}
+
+-- the place after a field of this role and value, before what comes after it
+abbrev pub place_after : (types : Bool) → Place → Role → List Symbol → FieldValue → (used : ℕ) → Place
+place_after types p r rest v used = record {
+  offset = p.offset + used;
+  stop = p.stop;
+  symbols = following (types_for types r p.nodes p.given) r v ++ rest;
+  nodes = nodes_after r p.nodes;
+  given = given_after r p.given;
+}
+
+-- the place at a frame's end
+abbrev pub place_at_end : Place → (used : ℕ) → Place
+place_at_end p used = record {
+  offset = p.stop;
+  stop = p.stop;
+  symbols = Stream ∷ [];
+  nodes = p.nodes;
+  given = retired p.given;
+}
+
 abbrev pub header_step : Place → Heading → Step Event Place
 header_step p (Err e) = Refuses (p.offset + e.0, e.1)
-header_step p (Ok h) = Emit p.offset (Frame h) (λ used. record { offset = p.offset + used; stop = p.offset + used + h.length; symbols = message h; nodes = p.nodes; given = p.given })
+header_step p (Ok h) = Emit p.offset (Frame h) (place_in_frame p h)
 
-abbrev pub value_step : (types : Bool) → Place → Field → Role → List Symbol → FieldValue → Option Reason → Step Event Place
+abbrev pub value_step : (types : Bool) → Place → Field → Role → List Symbol → FieldValue → Option Reason
+    → Step Event Place
 value_step types p f r rest v (Some why) = Refuses (p.offset, why)
-value_step types p f r rest v None =
-    Emit p.offset (Holds f v) (λ used. record { offset = p.offset + used; stop = p.stop; symbols = following (types_for types r p.nodes p.given) r v ++ rest; nodes = nodes_after r p.nodes; given = given_after r p.given })
+value_step types p f r rest v None = Emit p.offset (Holds f v) (place_after types p r rest v)
 
 -- what is left of a type option or of a cell, if anything is
 abbrev pub types_left : List TypeSymbol → List Symbol
@@ -105,21 +141,49 @@ cells_left row column [] = []
 cells_left row column (c ∷ cs) = In_cell row column (c ∷ cs) ∷ []
 
 abbrev pub place_of_types : Place → List Symbol → TypePlace → Place
-place_of_types p rest q = record { offset = q.offset; stop = q.stop; symbols = types_left q.symbols ++ rest; nodes = q.nodes; given = p.given }
+place_of_types p rest q = record {
+  offset = q.offset;
+  stop = q.stop;
+  symbols = types_left q.symbols ++ rest;
+  nodes = q.nodes;
+  given = p.given;
+}
 
 abbrev pub place_of_cells : (row column : ℕ) → Place → List Symbol → CellPlace → Place
-place_of_cells row column p rest q = record { offset = q.offset; stop = p.stop; symbols = cells_left row column q.symbols ++ rest; nodes = p.nodes; given = p.given }
+place_of_cells row column p rest q = record {
+  offset = q.offset;
+  stop = p.stop;
+  symbols = cells_left row column q.symbols ++ rest;
+  nodes = p.nodes;
+  given = p.given;
+}
 
 module _ (l : Rules) (p : Place) where
+  -- a step of a type option, and of a cell of this row and this column
+  abbrev pub option_step : List TypeSymbol → List Symbol → Step Event Place
+  option_step ts rest =
+      map_step type_event (place_of_types p rest)
+      (type_step l (record { offset = p.offset; stop = p.stop; symbols = ts; nodes = p.nodes }))
+
+  abbrev pub page_step : (row column : ℕ) → List CellSymbol → List Symbol → Step Event Place
+  page_step row column cs rest =
+      map_step (cell_event row column) (place_of_cells row column p rest)
+      (cell_step l (record { offset = p.offset; symbols = cs }))
+
   abbrev pub step_at : List Symbol → Step Event Place
   step_at [] = reader.Idles
-  step_at (Stream ∷ rest) = if nat_lt (2 ^ 63) p.offset then Refuses (p.offset, StreamTooLong) else Takes 9 (λ b. header_step p (heading b))
-  step_at (In f n r ∷ rest) = after_field p.offset (field_of n (limit_of l n) (p.stop - p.offset)) (λ v. value_step l.types p f r rest v (fault_in r v))
-  step_at (In_type ts ∷ rest) = map_step type_event (place_of_types p rest) (type_step l (record { offset = p.offset; stop = p.stop; symbols = ts; nodes = p.nodes }))
-  step_at (Cell_due row column k inner ∷ rest) = map_step (cell_event row column) (place_of_cells row column p rest) (cell_step l (record { offset = p.offset; symbols = Value_of k inner 0 p.stop ∷ [] }))
-  step_at (In_cell row column cs ∷ rest) = map_step (cell_event row column) (place_of_cells row column p rest) (cell_step l (record { offset = p.offset; symbols = cs }))
+  step_at (Stream ∷ rest) =
+      if nat_lt (2 ^ 63) p.offset
+      then Refuses (p.offset, StreamTooLong)
+      else Takes 9 (λ b. header_step p (heading b))
+  step_at (In f n r ∷ rest) =
+      after_field p.offset (field_of n (limit_of l n) (p.stop - p.offset))
+      (λ v. value_step l.types p f r rest v (fault_in r v))
+  step_at (In_type ts ∷ rest) = option_step ts rest
+  step_at (Cell_due row column k inner ∷ rest) = page_step row column (Value_of k inner 0 p.stop ∷ []) rest
+  step_at (In_cell row column cs ∷ rest) = page_step row column cs rest
   step_at (Extra ∷ rest) =
-      Takes (p.stop - p.offset) (λ skipped. Emit p.stop (End (p.stop - p.offset)) (λ used. record { offset = p.stop; stop = p.stop; symbols = Stream ∷ []; nodes = p.nodes; given = retired p.given }))
+      Takes (p.stop - p.offset) (λ skipped. Emit p.stop (End (p.stop - p.offset)) (place_at_end p))
 
 abbrev pub step : Rules → Place → Step Event Place
 step l p = step_at l p p.symbols
@@ -142,12 +206,16 @@ Ends d v = ⊥
 abbrev pub Says : Rules → Place → List ℕ → List (ℕ × Event) → Verdict → Type 0
 Says l p bytes es v = (q : Place) × (rest : List ℕ) × Reads l p bytes es q rest × Ends (says (step l q) 0 rest) v
 
--- the first n events, and what is said where they end before
-abbrev pub then_read : (Place → List ℕ → List (ℕ × Event) × Verdict) → List ℕ → Said (Emitted Event Place) (ℕ × Reason) → List (ℕ × Event) × Verdict
+-- events, and the verdict where they end
+abbrev pub Read : Type 0
+Read = List (ℕ × Event) × Verdict
+
+abbrev pub then_read : (Place → List ℕ → Read) → List ℕ → Said (Emitted Event Place) (ℕ × Reason) → Read
 then_read next bytes More = ([], Waits)
 then_read next bytes (Bad fault) = ([], Refused fault.0 fault.1)
 then_read next bytes (Got x used) = let r = next (x.after used) (drop used bytes) in ((x.at, x.event) ∷ r.0, r.1)
 
-abbrev pub reading : Rules → (n : ℕ) → Place → List ℕ → List (ℕ × Event) × Verdict
+-- the first n events, and what is said where they end before
+abbrev pub reading : Rules → (n : ℕ) → Place → List ℕ → Read
 reading l zero p bytes = ([], Waits)
 reading l (suc n) p bytes = then_read (reading l n) bytes (says (step l p) 0 bytes)

@@ -7,6 +7,8 @@ use Rattle.cqlp_note.specs.Head.{reader_of}
 use Rattle.cqlp_note.specs.Reader.{Said, More, Bad, Got, says}
 use Rattle.cqlp_note.specs.Step.{Emitted}
 use Rattle.cqlp_note.specs.Limits.{Rules, rules_of, limit_of}
+use Rattle.cqlp_note.specs.declared.limits.Limits.{Limits}
+use Rattle.cqlp_note.specs.Field.{FieldValue}
 use Rattle.cqlp_note.specs.Partial.{FieldState, item_value, CanLend, content_length}
 use Rattle.cqlp_type.specs.TypeStep.{Option_at, TypeEvent, TypePlace}
 use Rattle.cqlp_type.specs.declared.node.Node.{Node}
@@ -26,6 +28,7 @@ use Rattle.cqlp_value.specs.Standing as value
 use Rattle.cqlp_value.specs.Standing.{is_under_way}
 use Rattle.cqlp_value.specs.Reading as taking
 use Rattle.cqlp_value.specs.Pushing.{is_done}
+use Rattle.cqlp_message.specs.declared.grammar.Role.{Role}
 use Rattle.cqlp_message.specs.Productions.{Symbol, Stream, Extra, In_type}
 use Rattle.cqlp_message.specs.declared.table.Want.{Want}
 use Rattle.cqlp_message.specs.declared.table.Expected.{Expected}
@@ -38,15 +41,16 @@ use Rattle.cqlp_decode.specs.declared.advance.EventOutline.TheVariants as what
 use Rattle.cqlp_decode.specs.declared.advance.EventAdvance.{EventAdvance}
 use Rattle.cqlp_decode.specs.declared.advance.EventAdvance.TheVariants as advance
 use Rattle.cqlp_decode.specs.declared.standing.StreamStanding.{StreamStanding}
+use Rattle.cqlp_decode.specs.declared.parts.Parts.{Parts}
 use Rattle.cqlp_decode.specs.declared.advance.ScalarCell.{ScalarCell}
 use Rattle.cqlp_value.specs.Contents.{value_of as scalar_value}
 use Rattle.cqlp_decode.specs.declared.page.CellCursor.{CellCursor}
 use Rattle.cqlp_message.specs.Upcoming.{symbols_in, wanted, behind, IsRead}
-use Rattle.cqlp_decode.specs.Pages.{cells_from, page_symbols, node_by, IsPage}
+use Rattle.cqlp_decode.specs.Pages.{cells_from, page_symbols, node_by, symbols_after, IsPage}
 use Rattle.cqlp_decode.specs.Reading as reading
-use Rattle.cqlp_decode.specs.Reading.{Place, Event, step}
+use Rattle.cqlp_decode.specs.Reading.{Place, Event, start, step}
 
--- The bytes of what is under way that have come: they are kept, or so many were skipped, or they are those of a value
+-- The bytes of what is under way that have come: they are kept, or this many were skipped, or they are those of a value
 -- whose length may have come before them.
 pub data Pending : Type 0 where
   Kept : List ℕ → Pending
@@ -111,19 +115,28 @@ due_after (reading.End n) = 0
 due_after e = 1
 
 -- what the step at this place says of these bytes
-abbrev pub told : StreamState → List ℕ → Said (Emitted Event Place) (ℕ × Reason)
-told d bytes = says (step d.rules d.place) 0 bytes
+abbrev pub said : StreamState → List ℕ → Said (Emitted Event Place) (ℕ × Reason)
+said d bytes = says (step d.rules d.place) 0 bytes
 
 -- the step gives this event, takes k bytes, and leads there
 abbrev pub Gives : StreamState → (bytes : List ℕ) → (at : ℕ) → Event → (k : ℕ) → Place → Type 0
-Gives d bytes at e k after = (x : Emitted Event Place) × (told d bytes ≡ Got x k) × (x.at ≡ at) × (x.event ≡ e) × (x.after k ≡ after)
+Gives d bytes at e k after =
+    (x : Emitted Event Place) × (said d bytes ≡ Got x k) × (x.at ≡ at) × (x.event ≡ e) × (x.after k ≡ after)
+
+-- of what is under way more is wanted also with the input
+abbrev pub WantsMore : StreamState → List ℕ → StreamState → List ℕ → Type 0
+WantsMore old input new b = (said old (b ++ input) ≡ More) × IsPending new.pending (b ++ input)
+
+-- the input is refused, whatever the bytes under way are
+abbrev pub IsRefused : StreamState → List ℕ → Refusal → Type 0
+IsRefused old input r = (b : List ℕ) → IsPending old.pending b → said old (b ++ input) ≡ Bad (r.at, r.why)
 
 -- All of the input belongs to what is under way.
 pub record Waits (old : StreamState) (input : List ℕ) (used : ℕ) (new : StreamState) : Type 0 where
   pub all : used ≡ length input
   pub place : new.place ≡ old.place
   pub frame : new.frame ≡ old.frame
-  pub waits : (b : List ℕ) → IsPending old.pending b → (told old (b ++ input) ≡ More) × IsPending new.pending (b ++ input)
+  pub waits : (b : List ℕ) → IsPending old.pending b → WantsMore old input new b
 
 -- The first `used` bytes of the input end what is under way, which is this event.
 pub record Hands (old : StreamState) (input : List ℕ) (at used : ℕ) (e : Event) (new : StreamState) : Type 0 where
@@ -139,8 +152,9 @@ pub record Hands (old : StreamState) (input : List ℕ) (at used : ℕ) (e : Eve
 -- What one call does, from a state without a refusal.
 abbrev pub Moves : StreamState → List ℕ → EventAdvance → StreamState → Type 0
 Moves old input (advance.More used) new = Waits old input used new
-Moves old input (advance.Event at used w) new = WhatThere new.held input w × Hands old input at used (event_at new.held input w) new
-Moves old input (advance.Refused r) new = (b : List ℕ) → IsPending old.pending b → told old (b ++ input) ≡ Bad (r.at, r.why)
+Moves old input (advance.Event at used w) new =
+    WhatThere new.held input w × Hands old input at used (event_at new.held input w) new
+Moves old input (advance.Refused r) new = IsRefused old input r
 
 abbrev pub refusal_in : EventAdvance → Option Refusal
 refusal_in (advance.Refused r) = Some r
@@ -159,34 +173,46 @@ AdvancesFrom None old input a new = Moves old input a new × (new.refusal ≡ re
 abbrev pub Advances : StreamState → List ℕ → EventAdvance → StreamState → Type 0
 Advances old input a new = AdvancesFrom old.refusal old input a new
 
+-- a scalar is the whole cell
+abbrev pub scalar_event : ScalarCell → Event
+scalar_event t = reading.Cell_at t.row t.column (cell.Leaf 0 (scalar_value t.scalar))
+
 -- Where a scalar is the cell that is due, and its bytes are all there, it is taken; else nothing is done.
 abbrev pub Takes : StreamState → List ℕ → Option ScalarCell → StreamState → Type 0
 Takes old input None new = new ≡ old
 Takes old input (Some t) new =
-    (old.refusal ≡ None) × (new.refusal ≡ None) × (new.rules ≡ old.rules) × Hands old input t.at t.used (reading.Cell_at t.row t.column (cell.Leaf 0 (scalar_value t.scalar))) new
+    (old.refusal ≡ None) × (new.refusal ≡ None) × (new.rules ≡ old.rules)
+    × Hands old input t.at t.used (scalar_event t) new
+
+-- this many bytes of the stream have come: those before what is under way, and those of it
+abbrev pub HasCome : StreamState → ℕ → Type 0
+HasCome d n = (b : List ℕ) → IsPending d.pending b → n ≡ d.place.offset + length b
 
 -- ---- what is inside
 
 -- The parts of a decoder that own memory: the field under way, the type option under way, the cell under way, and the
 -- types of the metadata begun last.
-pub record Parts : Type 0 where
+pub record PartsState : Type 0 where
   pub partial : FieldState
   pub types : type.TypeState
   pub cells : value.CellState
   pub table : Table
 
-abbrev pub parts : FieldState → type.TypeState → value.CellState → Table → Parts
+abbrev pub parts : FieldState → type.TypeState → value.CellState → Table → PartsState
 parts p r c t = record { partial = p; types = r; cells = c; table = t }
 
+abbrev pub parts_state : {A : Type 0} → Parts A → PartsState
+parts_state p = parts p.partial p.types p.cells p.table
+
 -- the types and the values around the one that is read
-abbrev pub levels_of : Parts → ℕ
+abbrev pub levels_of : PartsState → ℕ
 levels_of q = q.types.height + length q.cells.open_values
 
--- behind what is read now
+-- what comes after what is read now
 abbrev pub rest_of : List Slot → List Symbol
 rest_of upcoming = symbols_in upcoming ++ Extra ∷ []
 
-abbrev pub symbols_at : StreamStage → Parts → List Slot → List Symbol
+abbrev pub symbols_at : StreamStage → PartsState → List Slot → List Symbol
 symbols_at stage.Header q upcoming = Stream ∷ []
 symbols_at (stage.Field w) q upcoming = wanted (due.Field w) ∷ rest_of upcoming
 symbols_at stage.BeforeType q upcoming = In_type (Option_at 1 ∷ []) ∷ rest_of upcoming
@@ -195,7 +221,7 @@ symbols_at (stage.BeforeCell p) q upcoming = cells_from q.table.nodes p ++ rest_
 symbols_at (stage.InCell p) q upcoming = page_symbols q.table.nodes q.cells p ++ rest_of upcoming
 symbols_at stage.Extra q upcoming = Extra ∷ []
 
-abbrev pub offset_at : StreamStage → (offset : ℕ) → Parts → ℕ
+abbrev pub offset_at : StreamStage → (offset : ℕ) → PartsState → ℕ
 offset_at stage.Header offset q = offset
 offset_at (stage.Field w) offset q = offset
 offset_at stage.BeforeType offset q = offset
@@ -205,13 +231,14 @@ offset_at (stage.InCell p) offset q = q.cells.offset
 offset_at stage.Extra offset q = offset
 
 abbrev pub place_at : (offset stop : ℕ) → List Symbol → List Node → Place
-place_at offset stop symbols nodes = record { offset = offset; stop = stop; symbols = symbols; nodes = nodes; given = reading.Nothing }
+place_at offset stop symbols nodes =
+    record { offset = offset; stop = stop; symbols = symbols; nodes = nodes; given = reading.Nothing }
 
 -- the bytes of the field under way that have come
 abbrev pub came_of : FieldState → List ℕ
 came_of p = if p.under_way then p.seen else []
 
-abbrev pub pending_at : StreamStage → (header : List ℕ) → (came : ℕ) → Parts → Pending
+abbrev pub pending_at : StreamStage → (header : List ℕ) → (came : ℕ) → PartsState → Pending
 pending_at stage.Header header came q = Kept (take came header)
 pending_at (stage.Field w) header came q = Kept (came_of q.partial)
 pending_at stage.BeforeType header came q = Kept []
@@ -220,7 +247,7 @@ pending_at (stage.BeforeCell p) header came q = Valued under.Nothing q.partial.s
 pending_at (stage.InCell p) header came q = Valued q.cells.under q.partial.seen
 pending_at stage.Extra header came q = Skipped came
 
-abbrev pub state_of : StreamStanding → Parts → StreamState
+abbrev pub state_of : StreamStanding → PartsState → StreamState
 state_of s q = record {
   rules = rules_of s.limits;
   place = place_at (offset_at s.stage s.offset q) s.stop (symbols_at s.stage q s.upcoming) q.table.nodes;
@@ -232,19 +259,28 @@ state_of s q = record {
 }
 
 -- no field, no type option and no cell is under way
-pub record IsIdle (q : Parts) : Type 0 where
+pub record IsIdle (q : PartsState) : Type 0 where
   pub field : q.partial.under_way ≡ false
   pub types : q.types.under_way ≡ false
   pub cells : is_under_way q.cells ≡ false
 
 -- A reader with nothing under way keeps no level, so that of the two at most one keeps any.
-pub record IsQuiet (q : Parts) : Type 0 where
+pub record IsQuiet (q : PartsState) : Type 0 where
   pub types : q.types.under_way ≡ false → q.types.height ≡ 0
   pub cells : is_under_way q.cells ≡ false → q.cells.open_values ≡ []
 
+-- What a call does that leaves parts alone of which none is at work.
+abbrev pub MovesIdle : StreamStanding → List ℕ → EventAdvance → StreamStanding → Type 0
+MovesIdle old input a new = (q : PartsState) → IsIdle q → Moves (state_of old q) input a (state_of new q)
+
 -- the field that is asked for
 abbrev pub asked : StreamStanding → Want → Wanted
-asked s w = record { notation = w.notation; limit = limit_of (rules_of s.limits) w.notation; at = s.offset; room = s.stop - s.offset }
+asked s w = record {
+  notation = w.notation;
+  limit = limit_of (rules_of s.limits) w.notation;
+  at = s.offset;
+  room = s.stop - s.offset;
+}
 
 -- The field under way is the one that is wanted, as far as it has begun; what follows it has room.
 pub record IsWanted (s : StreamStanding) (p : FieldState) (w : Want) : Type 0 where
@@ -260,16 +296,20 @@ pub record IsOption (s : StreamStanding) (p : FieldState) (r : type.TypeState) :
   pub some : r.symbols ≡ [] → ⊥
   pub shared : IsShared r p
   pub stop : r.stop ≡ s.stop
-  pub behind : s.offset ≤ r.offset
+  pub after : s.offset ≤ r.offset
   pub inside : r.offset ≤ s.stop
   pub came : s.came ≡ 0
 
--- what has come of the type option under way, wants more
-abbrev pub OptionWaits : Parts → Type 0
-OptionWaits q = 0 < length (type.pending q.types q.partial) → type.told q.types q.table.nodes (type.pending q.types q.partial) ≡ More
+-- the bytes of the type option under way that have come
+abbrev pub option_bytes : PartsState → List ℕ
+option_bytes q = type.pending q.types q.partial
 
--- The type option under way began behind whole types, and of it these bytes have come.
-pub record OptionRuns (l : Rules) (q : Parts) : Type 0 where
+-- they want more
+abbrev pub OptionWaits : PartsState → Type 0
+OptionWaits q = 0 < length (option_bytes q) → type.told q.types q.table.nodes (option_bytes q) ≡ More
+
+-- The type option under way began after whole types, and of it these bytes have come.
+pub record OptionRuns (l : Rules) (q : PartsState) : Type 0 where
   pub begun : TypePlace
   pub first : begun.symbols ≡ Option_at 1 ∷ []
   pub before : Forest begun.nodes 0 l.depth
@@ -278,7 +318,7 @@ pub record OptionRuns (l : Rules) (q : Parts) : Type 0 where
   pub runs : option.After begun q.types q.partial q.table bytes items
 
 -- The cell under way is in this frame, and its type stands in the table.
-pub record IsCell (s : StreamStanding) (q : Parts) (p : CellCursor) : Type 0 where
+pub record IsCell (s : StreamStanding) (q : PartsState) (p : CellCursor) : Type 0 where
   pub under_way : is_under_way q.cells ≡ true
   pub stands : value.Stands q.table.nodes q.cells
   pub joined : taking.Joined q.table.nodes q.cells q.partial
@@ -286,10 +326,10 @@ pub record IsCell (s : StreamStanding) (q : Parts) (p : CellCursor) : Type 0 whe
   pub is : (n : Option ℕ) → q.cells.next ≡ next.Cell n → n ≡ node_by p.columns p.index
   pub page : IsPage q.table.nodes s.limits.depth p
   pub stop : q.cells.stop ≡ s.stop
-  pub behind : s.offset ≤ q.cells.offset
+  pub after : s.offset ≤ q.cells.offset
   pub came : s.came ≡ 0
 
-abbrev pub StageHolds : StreamStanding → Parts → StreamStage → Type 0
+abbrev pub StageHolds : StreamStanding → PartsState → StreamStage → Type 0
 StageHolds s q stage.Header = (s.came < 9) × IsIdle q × (s.frame ≡ s.offset)
 StageHolds s q (stage.Field w) = IsWanted s q.partial w × (q.types.under_way ≡ false) × (is_under_way q.cells ≡ false)
 StageHolds s q stage.BeforeType = IsIdle q × (s.came ≡ 0)
@@ -299,12 +339,12 @@ StageHolds s q (stage.InCell p) = IsCell s q p × (q.types.under_way ≡ false)
 StageHolds s q stage.Extra = (s.came ≤ s.stop - s.offset) × IsIdle q
 
 -- what stands in the table: whole types, and one that is under way
-abbrev pub TableHolds : Rules → Parts → StreamStage → Type 0
+abbrev pub TableHolds : Rules → PartsState → StreamStage → Type 0
 TableHolds l q stage.InType = OptionRuns l q
 TableHolds l q t = Forest q.table.nodes 0 l.depth
 
 -- the same, as far as the number of bytes goes
-abbrev pub IsPlaced : StreamStanding → Parts → StreamStage → Type 0
+abbrev pub IsPlaced : StreamStanding → PartsState → StreamStage → Type 0
 IsPlaced s q stage.Header = (s.came < 9) × (s.frame ≡ s.offset)
 IsPlaced s q stage.InType = IsOption s q.partial q.types
 IsPlaced s q (stage.BeforeCell p) = IsPage q.table.nodes s.limits.depth p
@@ -320,18 +360,47 @@ pub record IsBounded (s : StreamStanding) : Type 0 where
   pub bound : s.stop ≤ 2 ^ 63 + 268435465
 
 -- The parts have just the room that the limits ask for.
-pub record HasParts (s : StreamStanding) (q : Parts) : Type 0 where
+pub record HasParts (s : StreamStanding) (q : PartsState) : Type 0 where
   pub room : q.partial.room ≡ max s.limits.text s.limits.cell
   pub rules : q.types.rules ≡ rules_of s.limits
   pub cells : q.cells.rules ≡ rules_of s.limits
   pub table : q.table.room ≡ s.limits.entries
 
-pub record IsConsistent (s : StreamStanding) (q : Parts) : Type 0 where
+pub record IsConsistent (s : StreamStanding) (q : PartsState) : Type 0 where
   pub bounded : IsBounded s
   pub parts : HasParts s q
   pub stage : StageHolds s q s.stage
   pub quiet : IsQuiet q
   pub table : s.refusal ≡ None → TableHolds (rules_of s.limits) q s.stage
+
+-- ---- the same of the parts as the code has them
+
+abbrev pub state_with : {A : Type 0} → StreamStanding → Parts A → StreamState
+state_with s p = state_of s (parts_state p)
+
+abbrev pub IsLawful : {A : Type 0} → StreamStanding → Parts A → Type 0
+IsLawful s p = IsConsistent s (parts_state p)
+
+-- ---- at the start of a stream
+
+-- parts that were made just now
+pub record IsFresh (q : PartsState) : Type 0 where
+  pub idle : IsIdle q
+  pub quiet : IsQuiet q
+  pub types : q.table.nodes ≡ []
+
+abbrev pub first_state : Limits → PartsState → StreamState
+first_state limits q = record {
+  rules = rules_of limits;
+  place = start;
+  pending = Kept [];
+  frame = 0;
+  refusal = None;
+  held = q.partial.content;
+  open_values = length q.cells.open_values;
+}
+
+-- ---- from one thing to the next
 
 -- the field that is wanted has begun, and as much of it has come as before
 pub record IsAsked (s : StreamStanding) (old p : FieldState) (w : Want) : Type 0 where
@@ -355,6 +424,19 @@ HasRoom stage.InType upcoming = ⊥
 HasRoom (stage.BeforeCell p) upcoming = ⊥
 HasRoom (stage.InCell p) upcoming = ⊥
 HasRoom stage.Extra upcoming = ⊤
+
+-- the reading stands at this offset, and nothing else changed but what is read next
+abbrev pub IsAt : StreamStanding → (offset : ℕ) → StreamStanding → Type 0
+IsAt new offset old = new ≡ record old { offset = offset; stage = new.stage; upcoming = new.upcoming }
+
+-- The message goes on with these symbols, and then with what came after what was read. In the table are these nodes.
+abbrev pub GoesOn : (old new : StreamStanding) → List Node → List Symbol → Type 0
+GoesOn old new nodes symbols =
+    (q : PartsState) → q.table.nodes ≡ nodes → symbols_at new.stage q new.upcoming ≡ symbols ++ rest_of old.upcoming
+
+-- The message goes on with what follows from the value of a field.
+abbrev pub GoesOnAfter : (old new : StreamStanding) → List Node → Role → FieldValue → Type 0
+GoesOnAfter old new nodes r v = GoesOn old new nodes (symbols_after old.limits.types nodes r v)
 
 -- a message goes on here, with nothing under way, and perhaps with the cells of a page
 abbrev pub Starts : StreamStanding → List Node → StreamStage → Type 0

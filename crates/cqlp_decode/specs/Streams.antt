@@ -1,22 +1,24 @@
 -- What calls hand out of a stream.
-use Rattle.std.specs.Prelude.{◌≡◌, ℕ, ◌+◌, ◌*◌, ◌<◌, ◌≤◌, ◌++◌, Bool, true, false, List, [], ◌∷◌, length, take, Option, Some, None, if◌then◌else◌, ⊤}
+use Rattle.std.specs.Prelude.{◌≡◌, ℕ, ◌+◌, ◌*◌, ◌<◌, ◌≤◌, ◌++◌, Bool, true, false, List, [], ◌∷◌, length, take, max, Option, Some, None, if◌then◌else◌, ⊤}
 use Rattle.cqlp_note.specs.declared.refusal.Refusal.{Refusal}
 use Rattle.cqlp_decode.specs.declared.step.Step.{Step}
 use Rattle.cqlp_decode.specs.declared.step.Step.TheVariants as step
 use Rattle.cqlp_message.specs.declared.event.Finish.{Finish}
 use Rattle.cqlp_message.specs.declared.event.Finish.TheVariants as finish
+use Rattle.cqlp_decode.specs.declared.step.Held.{Held}
+use Rattle.cqlp_note.specs.Limits.{Rules}
 use Rattle.cqlp_decode.specs.declared.standing.StreamStanding.{StreamStanding}
 use Rattle.cqlp_decode.specs.Reading as reading
 use Rattle.cqlp_note.specs.Reader.{says, Bad}
 use Rattle.cqlp_decode.specs.Reading.{Event, Place, start, Reads, Says, Waits, Refused}
 use Rattle.cqlp_decode.specs.Reading.{step as step_of}
 use Rattle.cqlp_message.specs.Events.{event_of}
-use Rattle.cqlp_decode.specs.Standing.{StreamState, Parts, IsPending, IsLent, state_of, frame_after, ends_due}
+use Rattle.cqlp_decode.specs.Standing.{StreamState, PartsState, IsPending, IsLent, state_of, levels_of, frame_after, ends_due}
 
 -- What contracts see of a decoder: where it stands, and its parts that own memory.
 pub record Decoding : Type 0 where
   pub standing : StreamStanding
-  pub parts : Parts
+  pub parts : PartsState
 
 -- what it knows of its stream
 abbrev pub state : Decoding → StreamState
@@ -56,8 +58,9 @@ pub record Stands (d : StreamState) (s : List ℕ) (es : List (ℕ × Event)) : 
   pub frame : d.frame ≡ frame_of es
   pub due : ends_due d.place.symbols ≡ (if is_open es then 1 else 0)
 
--- A decoder that has refused used these bytes and handed out these events: the reading of the bytes says the events, and
--- where it stands it refuses so, with bytes that were looked at but not used. The types of the metadata are those there.
+-- A decoder that has refused used these bytes and handed out these events: the reading of the bytes says the events,
+-- and where it stands it refuses so, with bytes that were looked at but not used. The types of the metadata are those
+-- there.
 pub record HasRefusedAt (r : Refusal) (d : StreamState) (s : List ℕ) (es : List (ℕ × Event)) : Type 0 where
   pub place : Place
   pub bytes : List ℕ
@@ -82,9 +85,11 @@ Refuses (Some before) old s es input r = r ≡ before
 -- What a call leads to that was made after these bytes and events.
 abbrev pub Leads : StreamState → List ℕ → List (ℕ × Event) → List ℕ → Step → StreamState → Type 0
 Leads old s es input (step.Event at used e) new =
-    (used ≤ length input) × (new.refusal ≡ None) × IsPending new.pending [] × After new (s ++ take used input) (es ++ (at, event_of e) ∷ [])
+    (used ≤ length input) × (new.refusal ≡ None) × IsPending new.pending []
+    × After new (s ++ take used input) (es ++ (at, event_of e) ∷ [])
 Leads old s es input (step.More used) new =
-    (used ≡ length input) × (new.refusal ≡ None) × After new (s ++ input) es × Says new.rules start (s ++ input) es Waits
+    (used ≡ length input) × (new.refusal ≡ None) × After new (s ++ input) es
+    × Says new.rules start (s ++ input) es Waits
 Leads old s es input (step.Refused r) new =
     (new.refusal ≡ Some r) × After new s es × Refuses old.refusal old s es input r
 
@@ -108,19 +113,38 @@ abbrev pub Repeats : Option Refusal → StreamState → Step → StreamState →
 Repeats (Some r) old x new = (x ≡ step.Refused r) × (new ≡ old)
 Repeats None old x new = ⊤
 
--- What a call answers, of any stream that led here.
+-- the same of any stream that led here
+abbrev pub LeadsOn : StreamState → List ℕ → Step → StreamState → Type 0
+LeadsOn old input x new = (s : List ℕ) (es : List (ℕ × Event)) → After old s es → Leads old s es input x new
+
+-- What a call answers.
 abbrev pub Answers : StreamState → List ℕ → Step → StreamState → Type 0
 Answers old input x new =
-    Goes old x new × ((s : List ℕ) (es : List (ℕ × Event)) → After old s es → Leads old s es input x new) × Repeats old.refusal old x new
+    Goes old x new × LeadsOn old input x new × Repeats old.refusal old x new
 
 -- ---- the end of the stream
 
--- The stream ends at a frame's end, or within a frame, after so many bytes.
+-- The stream ends at a frame's end, or within a frame, after this many bytes.
 abbrev pub FinishesBy : Option Refusal → List ℕ → List (ℕ × Event) → Finish → Type 0
 FinishesBy (Some r) s es f = f ≡ finish.Refused r
 FinishesBy None s es (finish.Whole bytes) = (bytes ≡ length s) × (is_open es ≡ false) × (length s ≡ frame_of es)
-FinishesBy None s es (finish.Cut frame_at bytes) = (bytes ≡ length s) × (frame_at ≡ frame_of es) × (is_open es ≡ false → frame_of es < length s)
+FinishesBy None s es (finish.Cut frame_at bytes) =
+    (bytes ≡ length s) × (frame_at ≡ frame_of es) × (is_open es ≡ false → frame_of es < length s)
 FinishesBy None s es (finish.Refused r) = ⊥
 
 abbrev pub Finishes : StreamState → List ℕ → List (ℕ × Event) → Finish → Type 0
 Finishes d s es f = FinishesBy d.refusal s es f
+
+-- any stream that led here ends so
+abbrev pub EndsAs : StreamState → Finish → Type 0
+EndsAs d f = (s : List ℕ) (es : List (ℕ × Event)) → After d s es → Finishes d s es f
+
+-- ---- what is held
+
+-- no content, no type and no level
+abbrev pub HoldsNothing : Decoding → Type 0
+HoldsNothing d = ((state d).held ≡ []) × ((state d).place.nodes ≡ []) × (levels_of d.parts ≡ 0)
+
+-- no more than the rules allow
+abbrev pub IsWithin : Held → Rules → Type 0
+IsWithin h l = (h.bytes ≤ max l.text l.cell) × (h.entries ≤ l.entries) × (h.levels ≤ l.depth)

@@ -15,7 +15,7 @@ pub enum EventOutline {
     End(u32),
 }
 
-/// A scalar that is a cell, whose bytes are so many of the input.
+/// A scalar that is a whole cell, and how many bytes of the input it takes.
 #[derive(Clone, Copy)]
 pub struct ScalarCell<'a> {
     pub at: u64,
@@ -32,7 +32,7 @@ pub enum EventAdvance {
     More {
         used: usize,
     },
-    /// An event at an offset, which so many bytes of the input end.
+    /// An event at an offset, which ends after this many bytes of the input.
     Event {
         at: u64,
         used: usize,

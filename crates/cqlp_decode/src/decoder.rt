@@ -13,6 +13,7 @@ ghost use Rattle.cqlp_note.specs.declared.limits.BadLimits.{BadLimits as Bad};
 ghost use Rattle.cqlp_note.specs.declared.refusal.Refusal.{Refusal};
 
 use crate::advance::{EventAdvance, EventOutline, ScalarCell};
+use crate::parts::Parts;
 use crate::standing::StreamStanding;
 use crate::step::{Held, Step};
 use cqlp_message::{Event, Finish};
@@ -37,25 +38,22 @@ pub enum NewError {
 #[derive(Drop)]
 pub struct Decoder<A: Allocator = Global> {
     standing: StreamStanding,
-    partial: Partial<A>,
-    types: TypeReader<A>,
-    cells: CellReader<A>,
-    table: TypeTable<A>,
+    parts: Parts<A>,
 }
 
 impl<A: Allocator> Model for Decoder<A> {
-    ghost use Rattle.cqlp_decode.specs.Standing.{IsConsistent, parts};
+    ghost use Rattle.cqlp_decode.specs.Standing.{IsLawful, parts_state};
     ghost use Rattle.cqlp_decode.specs.Streams.{Decoding};
 
     ghost Value = { Decoding };
 
-    ghost view = { λ d. record { standing = d.standing; parts = parts d.partial d.types d.cells d.table } };
+    ghost view = { λ d. record { standing = d.standing; parts = parts_state d.parts } };
 
-    ghost invariant = { λ d. IsConsistent d.standing (parts d.partial d.types d.cells d.table) };
+    ghost invariant = { λ d. IsLawful d.standing d.parts };
 }
 
 impl<A: Allocator + Clone> Decoder<A> {
-    ghost use Rattle.cqlp_decode.specs.Streams.{After, state};
+    ghost use Rattle.cqlp_decode.specs.Streams.{After, HoldsNothing, state};
 
     /// A decoder at the start of a stream, with room for one content of the greatest length that the limits allow, for
     /// the types of one metadata, for their nesting, and for that of a cell's values: four requests for memory, and the
@@ -65,7 +63,7 @@ impl<A: Allocator + Clone> Decoder<A> {
         ensures fresh { IfOk result (λ d. After (state d) [] []) }
         ensures unrefused { IfOk result (λ d. (state d).refusal ≡ None) }
         ensures rules { IfOk result (λ d. (state d).rules ≡ rules_of limits) }
-        ensures nothing_held { IfOk result (λ d. ((state d).held ≡ []) × ((state d).place.nodes ≡ []) × (levels_of d.parts ≡ 0)) }
+        ensures nothing_held { IfOk result (λ d. HoldsNothing d) }
     {
         if let Err(bad) = limits.check() {
             return Err(NewError::BadLimits(bad));
@@ -81,32 +79,32 @@ impl<A: Allocator + Clone> Decoder<A> {
         ensures fresh { IfOk result (λ d. After (state d) [] []) }
         ensures unrefused { IfOk result (λ d. (state d).refusal ≡ None) }
         ensures rules { IfOk result (λ d. (state d).rules ≡ rules_of limits) }
-        ensures nothing_held { IfOk result (λ d. ((state d).held ≡ []) × ((state d).place.nodes ≡ []) × (levels_of d.parts ≡ 0)) }
+        ensures nothing_held { IfOk result (λ d. HoldsNothing d) }
     {
         let partial = Partial::new(alloc.clone()?, limits.text.max(limits.cell))?;
         let table = TypeTable::new(alloc.clone()?, limits.entries)?;
         let types = TypeReader::new(alloc.clone()?, &limits)?;
         let cells = CellReader::new(alloc, &limits)?;
         let standing = StreamStanding::new(limits);
-        Ok(Decoder {
-            standing,
+        let parts = Parts {
             partial,
             types,
             cells,
             table,
-        })
+        };
+        Ok(Decoder { standing, parts })
     }
 }
 
 impl<A: Allocator> Decoder<A> {
-    ghost use Rattle.cqlp_decode.specs.Lending.{LeavesDecoder};
+    ghost use Rattle.cqlp_decode.specs.Lending.{LeavesAnswer};
     ghost use Rattle.cqlp_decode.specs.Standing.{Advances, LeavesTypes, Takes, WhatThere, event_at};
-    ghost use Rattle.cqlp_decode.specs.Streams.{After, Answers, Finishes, Uses, state};
+    ghost use Rattle.cqlp_decode.specs.Streams.{EndsAs, IsWithin, Uses, state};
 
     /// The next event that the input leads to. The caller hands in the bytes after those that were used, and goes on
     /// until more are wanted. A refusal is final: each later call says it again.
     pub fn next<'a>(&'a mut self, input: &'a [u8]) -> Step<'a>
-        ensures* next { sem 𝓛 (LeavesDecoder A.row A.Allocator self.entry (λ after. Answers (state self.old) input.now result (state after))) }
+        ensures* next { sem 𝓛 (LeavesAnswer A.row A.Allocator self.entry self.old input.now result) }
         ensures uses { Uses input.now result }
     {
         if let Some(taken) = self.take_scalar(input) {
@@ -135,10 +133,9 @@ impl<A: Allocator> Decoder<A> {
     /// How the stream ends, if it ends after the bytes that were used.
     pub fn finish(&self) -> Finish
         ensures refused { (r : Refusal) → (state self.now).refusal ≡ Some r → result ≡ Finish.Refused r }
-        ensures ends { (s : List ℕ) (es : List (ℕ × reading.Event)) → After (state self.now) s es → Finishes (state self.now) s es result }
+        ensures ends { EndsAs (state self.now) result }
     {
-        self.standing
-            .finish(&self.partial, &self.types, &self.cells)
+        self.standing.finish(&self.parts)
     }
 
     /// What is held of the stream: at most as many bytes as the greater of the limits on a text and on a cell, as many
@@ -147,13 +144,12 @@ impl<A: Allocator> Decoder<A> {
         ensures bytes { result.bytes ≡ length (state self.now).held }
         ensures entries { result.entries ≡ length (state self.now).place.nodes }
         ensures levels { result.levels ≡ levels_of self.now.parts }
-        ensures bounded { let rules = (state self.now).rules in (result.bytes ≤ max rules.text rules.cell) × (result.entries ≤ rules.entries) × (result.levels ≤ rules.depth) }
+        ensures bounded { IsWithin result (state self.now).rules }
     {
-        let _standing = &self.standing;
         Held {
-            bytes: self.partial.held(),
-            entries: self.table.len(),
-            levels: self.types.held() + self.cells.levels(),
+            bytes: self.parts.partial.held(),
+            entries: self.parts.table.len(),
+            levels: self.parts.types.held() + self.parts.cells.levels(),
         }
     }
 
@@ -161,7 +157,7 @@ impl<A: Allocator> Decoder<A> {
     pub fn table(&self) -> &TypeTable<A>
         ensures { result.now.nodes ≡ (state self.now).place.nodes }
     {
-        &self.table
+        &self.parts.table
     }
 
     /// Takes the cell that is due, where it is a scalar and all its bytes lie in the input.
@@ -169,7 +165,7 @@ impl<A: Allocator> Decoder<A> {
     fn take_scalar<'a>(&mut self, input: &'a [u8]) -> Option<ScalarCell<'a>>
         ensures { Takes (state self.old) input.now result (state self.new) }
     {
-        self.standing.take_scalar(&self.partial, &self.table, input)
+        self.standing.take_scalar(&self.parts, input)
     }
 
     /// The work of a call, with nothing borrowed in its result.
@@ -177,13 +173,7 @@ impl<A: Allocator> Decoder<A> {
         ensures advances { Advances (state self.old) input.now result (state self.new) }
         ensures table { LeavesTypes result (state self.old).place.nodes (state self.new).place.nodes }
     {
-        self.standing.advance(
-            &mut self.partial,
-            &mut self.types,
-            &mut self.cells,
-            &mut self.table,
-            input,
-        )
+        self.standing.advance(&mut self.parts, input)
     }
 
     /// The event that `advance` made of this input.
@@ -193,8 +183,11 @@ impl<A: Allocator> Decoder<A> {
     {
         match what {
             EventOutline::Frame(header) => Event::Frame(header),
-            EventOutline::Holds(field, item) => event_with(field, self.partial.lend(input, item)),
-            EventOutline::Option(part) => match part.lend(&self.partial, input) {
+            EventOutline::Holds(field, item) => event_with(
+                field,
+                self.parts.partial.lend(input, item),
+            ),
+            EventOutline::Option(part) => match part.lend(&self.parts.partial, input) {
                 TypeItem::Node(kind) => Event::TypeNode(kind),
                 TypeItem::Text(field, text) => Event::Text { field, text },
                 TypeItem::Count(count) => Event::Count {
@@ -205,7 +198,7 @@ impl<A: Allocator> Decoder<A> {
             EventOutline::Cell(row, column, part) => event_in(
                 row,
                 column,
-                part.lend(&self.partial, input),
+                part.lend(&self.parts.partial, input),
             ),
             EventOutline::End(extra) => Event::End { extra },
         }

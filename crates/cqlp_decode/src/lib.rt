@@ -6,6 +6,7 @@ mod decoder;
 pub mod laws;
 mod metadata;
 mod page;
+mod parts;
 mod running;
 mod standing;
 mod step;

@@ -8,7 +8,7 @@ ghost use Rattle.cqlp_type.specs.Types.{NoMore};
 ghost use Rattle.cqlp_type.specs.declared.node.Node.{Node};
 ghost use Rattle.cqlp_decode.specs.Reading as reading;
 ghost use Rattle.cqlp_decode.specs.Reading.{page_types};
-ghost use Rattle.cqlp_decode.specs.Pages.{Begins, Follows, IsKind, IsPage, IsSomePage, NextColumn, Turns, column_types, node_by};
+ghost use Rattle.cqlp_decode.specs.Pages.{AreColumns, Begins, FindsColumn, FindsPage, IsKind, IsPage, IsSomePage, Turns, column_types, node_by};
 
 use cqlp_message::{Role, has, number};
 use cqlp_note::{Limits, Prim};
@@ -20,11 +20,11 @@ use std::alloc::Allocator;
 pub enum Columns {
     /// Those of the table.
     Typed,
-    /// So many columns, whose types are not known.
+    /// This many columns, whose types are not known.
     Raw(u32),
 }
 
-/// A cell of a page, and how many rows there are behind its own.
+/// A cell of a page, and how many rows there are after its own.
 #[derive(Clone, Copy, Debug, PartialEq, Eq)]
 pub struct CellCursor {
     pub columns: Columns,
@@ -47,7 +47,7 @@ impl Columns {
 }
 
 impl CellCursor {
-    /// The first cell of so many rows, if there is one.
+    /// The first cell of this many rows, if there is one.
     pub fn first<A: Allocator>(columns: Columns, rows: u32, table: &TypeTable<A>) -> Option<Self>
         ensures { (depth : ℕ) → Forest table.now.nodes 0 depth → Begins table.now.nodes depth columns rows result }
     {
@@ -84,7 +84,7 @@ impl CellCursor {
         }
     }
 
-    /// The cell behind this one, if there is one.
+    /// The cell after this one, if there is one.
     pub fn next<A: Allocator>(self, table: &TypeTable<A>) -> Option<Self>
         requires { IsSomePage table.now.nodes self }
         ensures { (depth : ℕ) → IsPage table.now.nodes depth self → Turns table.now.nodes depth self result }
@@ -111,7 +111,7 @@ impl CellCursor {
     /// Where the type of the next column stands, if this row has one.
     fn next_column<A: Allocator>(&self, table: &TypeTable<A>) -> Option<u32>
         requires { IsSomePage table.now.nodes self.now }
-        ensures { (depth : ℕ) → IsPage table.now.nodes depth self.now → NextColumn table.now.nodes depth self.now result }
+        ensures { FindsColumn table.now.nodes self.now result }
     {
         match self.columns {
             Columns::Typed => {
@@ -124,14 +124,14 @@ impl CellCursor {
     }
 }
 
-/// The page that begins behind a field of this role that has this value, if it has a cell.
-pub fn page_behind<A: Allocator>(
+/// The page that begins after a field of this role that has this value, if it has a cell.
+pub fn find_page<A: Allocator>(
     limits: &Limits,
     role: Role,
     value: Prim<'_>,
     table: &TypeTable<A>,
 ) -> Option<CellCursor>
-    ensures { (depth : ℕ) → Forest table.now.nodes 0 depth → Follows table.now.nodes depth limits.now.types role (value_of value.entry) result }
+    ensures { FindsPage table.now.nodes limits.now.types role (value_of value.entry) result }
 {
     let Role::PageRows { flags, columns } = role else {
         return None;
@@ -139,9 +139,9 @@ pub fn page_behind<A: Allocator>(
     CellCursor::first(columns_of(limits, flags, columns), number(value), table)
 }
 
-/// The types of so many columns, whose metadata has these flags.
+/// The types of this many columns, whose metadata has these flags.
 fn columns_of(limits: &Limits, flags: u32, columns: u32) -> Columns
-    ensures { (nodes : List Node) → page_types limits.now.types flags columns nodes reading.Nothing ≡ column_types nodes result }
+    ensures { AreColumns limits.now.types flags columns result }
 {
     match (limits.types, has(flags, 0x04)) {
         (true, false) => Columns::Typed,

@@ -20,7 +20,7 @@ pub enum Outcome {
     ReadFault,
     /// The sink failed. The rest of the piece is lost.
     SinkFault,
-    /// So many reads were made. The run may be called again.
+    /// As many reads were made as the run may make. The run may be called again.
     Turns,
 }
 
@@ -40,10 +40,13 @@ pub fn run<R: Source, S: Sink, A: Allocator>(
     sink: &mut S,
     turns: u64,
 ) -> Outcome
-    ensures runs { (xs : List ℕ) → R.left reader.old ≡ Some xs → S.tells sink.old → RunsTo S.after S.faulted turns result (state decoder.old) (state decoder.new) xs (R.left reader.new) (S.view sink.old) (S.view sink.new) }
+    ensures runs { (xs : List ℕ) → R.left reader.old ≡ Some xs → S.tells sink.old →
+        RunsTo S.after S.faulted turns result (state decoder.old) (state decoder.new)
+        xs (R.left reader.new) (S.view sink.old) (S.view sink.new) }
     ensures waits { WaitsAt result (state decoder.new) }
     ensures refused { (r : Refusal) → (state decoder.old).refusal ≡ Some r →
-        (result ≡ Outcome.Finished (Finish.Refused r)) × (state decoder.new ≡ state decoder.old) × (reader.new ≡ reader.old) × (sink.new ≡ sink.old) }
+        (result ≡ Outcome.Finished (Finish.Refused r)) × (state decoder.new ≡ state decoder.old)
+        × (reader.new ≡ reader.old) × (sink.new ≡ sink.old) }
     ensures reads { (xs : List ℕ) → R.left reader.old ≡ Some xs → ReadsAtMost (4096 * turns) xs (R.left reader.new) }
     ensures failures { Counts result (R.failures reader.old) (R.failures reader.new) }
     ensures rules { (state decoder.new).rules ≡ (state decoder.old).rules }
@@ -77,7 +80,9 @@ fn drain<S: Sink, A: Allocator>(decoder: &mut Decoder<A>, input: &[u8], sink: &m
     ensures refusal { DrainsBy result (state decoder.new) }
     ensures refused { (r : Refusal) → (state decoder.old).refusal ≡ Some r →
         (result ≡ Drained.Refused) × (state decoder.new ≡ state decoder.old) × (sink.new ≡ sink.old) }
-    ensures drains { S.tells sink.old → DrainsTo S.after S.faulted (state decoder.old) input.now result (state decoder.new) (S.view sink.old) (S.view sink.new) }
+    ensures drains { S.tells sink.old →
+        DrainsTo S.after S.faulted (state decoder.old) input.now result (state decoder.new)
+        (S.view sink.old) (S.view sink.new) }
     ensures rules { (state decoder.new).rules ≡ (state decoder.old).rules }
 {
     let mut used = 0;

@@ -7,7 +7,8 @@ ghost use Rattle.cqlp_decode.specs.Standing.{came_of, stage_with};
 
 use crate::advance::{EventAdvance, EventOutline, ScalarCell};
 use crate::metadata::begin_metadata;
-use crate::page::{CellCursor, page_behind};
+use crate::page::{CellCursor, find_page};
+use crate::parts::Parts;
 use cqlp_message::{Expected, Finish, Role, Upcoming, Want, fault_in};
 use cqlp_note::{
     self as note, Field, FieldOutline, Header, Limits, Notation, Partial, Prim, Reason, Refusal,
@@ -46,7 +47,7 @@ pub struct StreamStanding {
     pub stage: StreamStage,
     pub upcoming: Upcoming,
     pub header: [u8; 9],
-    /// How many bytes of the header, or behind the last field, have come.
+    /// How many bytes of the header, or after the last field, have come.
     pub came: u64,
     pub refusal: Option<Refusal>,
 }
@@ -64,11 +65,14 @@ impl StreamStanding {
     ghost use Rattle.cqlp_message.specs.Productions.{Extra, following, message};
     ghost use Rattle.cqlp_decode.specs.Reading as reading;
     ghost use Rattle.cqlp_decode.specs.Reading.{start};
-    ghost use Rattle.cqlp_decode.specs.Streams.{After, Finishes};
+    ghost use Rattle.cqlp_decode.specs.Streams.{EndsAs};
     ghost use Rattle.cqlp_message.specs.Upcoming.{behind, symbols_in};
     ghost use Rattle.cqlp_decode.specs.declared.standing.StreamStage.TheVariants as stage;
-    ghost use Rattle.cqlp_decode.specs.Standing.{Advances, HasParts, HasRoom, IsAsked, IsBounded, IsIdle, IsConsistent, IsPending, IsPlaced, IsQuiet, IsWanted, Kept, LeavesTypes, Moves, Parts, Starts, Takes, asked, parts, refusal_in, rest_of, state_of, symbols_at};
-    ghost use Rattle.cqlp_decode.specs.Pages.{IsPage, cells_behind, node_by};
+    ghost use Rattle.cqlp_decode.specs.Standing.{Advances, GoesOn, GoesOnAfter, HasCome, LeavesTypes, Moves, MovesIdle, Takes};
+    ghost use Rattle.cqlp_decode.specs.Standing.{HasParts, HasRoom, IsConsistent, IsFresh, IsLawful, IsPlaced, PartsState};
+    ghost use Rattle.cqlp_decode.specs.Standing.{IsAsked, IsAt, IsBounded, IsWanted, Starts, asked};
+    ghost use Rattle.cqlp_decode.specs.Standing.{first_state, parts_state, refusal_in, rest_of, state_of, state_with, symbols_at};
+    ghost use Rattle.cqlp_decode.specs.Pages.{IsPage, cells_after, node_by};
     ghost use Rattle.cqlp_decode.specs.Reading.{types_for};
     ghost use Rattle.cqlp_value.specs.Inner.{Forest};
     ghost use Rattle.cqlp_value.specs.Pushing.{begun};
@@ -76,8 +80,9 @@ impl StreamStanding {
     /// At the start of a stream.
     pub fn new(limits: Limits) -> Self
         ensures limits { result.limits ≡ limits }
-        ensures lawful { (q : Parts) → IsIdle q → IsQuiet q → HasParts result q → q.table.nodes ≡ [] → IsConsistent result q }
-        ensures start { (q : Parts) → q.table.nodes ≡ [] → state_of result q ≡ record { rules = rules_of limits; place = start; pending = Kept []; frame = 0; refusal = None; held = q.partial.content; open_values = length q.cells.open_values } }
+        ensures unrefused { result.refusal ≡ None }
+        ensures lawful { (q : PartsState) → IsFresh q → HasParts result q → IsConsistent result q }
+        ensures start { (q : PartsState) → IsFresh q → state_of result q ≡ first_state limits q }
     {
         StreamStanding {
             limits,
@@ -93,23 +98,16 @@ impl StreamStanding {
     }
 
     /// Takes the next step, as far as the input goes.
-    pub fn advance<A: Allocator>(
-        &mut self,
-        partial: &mut Partial<A>,
-        types: &mut TypeReader<A>,
-        cells: &mut CellReader<A>,
-        table: &mut TypeTable<A>,
-        input: &[u8],
-    ) -> EventAdvance
-        requires { IsConsistent self.old (parts partial.old types.old cells.old table.old) }
-        ensures lawful { IsConsistent self.new (parts partial.new types.new cells.new table.new) }
-        ensures advances { Advances (state_of self.old (parts partial.old types.old cells.old table.old)) input.now result (state_of self.new (parts partial.new types.new cells.new table.new)) }
-        ensures table { LeavesTypes result table.old.nodes table.new.nodes }
+    pub fn advance<A: Allocator>(&mut self, parts: &mut Parts<A>, input: &[u8]) -> EventAdvance
+        requires { IsLawful self.old parts.old }
+        ensures lawful { IsLawful self.new parts.new }
+        ensures advances { Advances (state_with self.old parts.old) input.now result (state_with self.new parts.new) }
+        ensures table { LeavesTypes result parts.old.table.nodes parts.new.table.nodes }
     {
         if let Some(refusal) = self.refusal {
             return EventAdvance::Refused(refusal);
         }
-        let advance = self.step(partial, types, cells, table, input);
+        let advance = self.step(parts, input);
         if let EventAdvance::Refused(refusal) = advance {
             self.refusal = Some(refusal);
         }
@@ -117,16 +115,11 @@ impl StreamStanding {
     }
 
     /// How the stream ends, if it ends here.
-    pub fn finish<A: Allocator>(
-        &self,
-        partial: &Partial<A>,
-        types: &TypeReader<A>,
-        cells: &CellReader<A>,
-    ) -> Finish
+    pub fn finish<A: Allocator>(&self, parts: &Parts<A>) -> Finish
         requires bounded { IsBounded self.now }
-        requires placed { (t : Table) × IsPlaced self.now (parts partial.now types.now cells.now t) self.now.stage }
+        requires placed { IsPlaced self.now (parts_state parts.now) self.now.stage }
         ensures refused { (r : Refusing) → self.now.refusal ≡ Some r → result ≡ Finish.Refused r }
-        ensures ends { (t : Table) → IsPlaced self.now (parts partial.now types.now cells.now t) self.now.stage → (s : List ℕ) (es : List (ℕ × reading.Event)) → After (state_of self.now (parts partial.now types.now cells.now t)) s es → Finishes (state_of self.now (parts partial.now types.now cells.now t)) s es result }
+        ensures ends { EndsAs (state_with self.now parts.now) result }
     {
         if let Some(refusal) = self.refusal {
             return Finish::Refused(refusal);
@@ -136,27 +129,22 @@ impl StreamStanding {
         }
         Finish::Cut {
             frame_at: self.frame,
-            bytes: self.bytes_used(partial, types, cells),
+            bytes: self.bytes_used(parts),
         }
     }
 
     /// How many bytes of the stream have come.
-    fn bytes_used<A: Allocator>(
-        &self,
-        partial: &Partial<A>,
-        types: &TypeReader<A>,
-        cells: &CellReader<A>,
-    ) -> u64
+    fn bytes_used<A: Allocator>(&self, parts: &Parts<A>) -> u64
         requires bounded { IsBounded self.now }
-        requires placed { (t : Table) × IsPlaced self.now (parts partial.now types.now cells.now t) self.now.stage }
-        ensures { (t : Table) (b : List ℕ) → IsPending (state_of self.now (parts partial.now types.now cells.now t)).pending b → result ≡ (state_of self.now (parts partial.now types.now cells.now t)).place.offset + length b }
+        requires placed { IsPlaced self.now (parts_state parts.now) self.now.stage }
+        ensures { HasCome (state_with self.now parts.now) result }
     {
         match self.stage {
             StreamStage::Header | StreamStage::Extra => self.offset + self.came,
             StreamStage::BeforeType | StreamStage::BeforeCell(_) => self.offset,
-            StreamStage::Field(_) => self.offset + came_of_field(partial),
-            StreamStage::InType => types.offset() + came_of_field(partial),
-            StreamStage::InCell(_) => cells.bytes_used(partial),
+            StreamStage::Field(_) => self.offset + count_field_bytes(&parts.partial),
+            StreamStage::InType => parts.types.offset() + count_field_bytes(&parts.partial),
+            StreamStage::InCell(_) => parts.cells.bytes_used(&parts.partial),
         }
     }
 
@@ -168,35 +156,28 @@ impl StreamStanding {
     }
 
     /// The next step, where there was no refusal.
-    fn step<A: Allocator>(
-        &mut self,
-        partial: &mut Partial<A>,
-        types: &mut TypeReader<A>,
-        cells: &mut CellReader<A>,
-        table: &mut TypeTable<A>,
-        input: &[u8],
-    ) -> EventAdvance
-        requires lawful { IsConsistent self.old (parts partial.old types.old cells.old table.old) }
+    fn step<A: Allocator>(&mut self, parts: &mut Parts<A>, input: &[u8]) -> EventAdvance
+        requires lawful { IsLawful self.old parts.old }
         requires unrefused { self.old.refusal ≡ None }
-        ensures lawful { IsConsistent self.new (parts partial.new types.new cells.new table.new) }
-        ensures moves { Moves (state_of self.old (parts partial.old types.old cells.old table.old)) input.now result (state_of self.new (parts partial.new types.new cells.new table.new)) }
+        ensures lawful { IsLawful self.new parts.new }
+        ensures moves { Moves (state_with self.old parts.old) input.now result (state_with self.new parts.new) }
         ensures limits { self.new.limits ≡ self.old.limits }
         ensures refusal { refusal_in result ≡ None → self.new.refusal ≡ None }
-        ensures table { LeavesTypes result table.old.nodes table.new.nodes }
+        ensures table { LeavesTypes result parts.old.table.nodes parts.new.table.nodes }
     {
         match self.stage {
             StreamStage::Header => self.advance_header(input),
-            StreamStage::Field(want) => self.advance_field(partial, table, want, input),
+            StreamStage::Field(want) => self.advance_field(parts, want, input),
             StreamStage::BeforeType => {
-                self.begin_option(types);
-                self.advance_option(partial, types, table, input)
+                self.begin_option(&mut parts.types);
+                self.advance_option(parts, input)
             }
-            StreamStage::InType => self.advance_option(partial, types, table, input),
+            StreamStage::InType => self.advance_option(parts, input),
             StreamStage::BeforeCell(page) => {
-                self.begin_cell(page, cells);
-                self.advance_cell(partial, cells, table, page, input)
+                self.begin_cell(page, &mut parts.cells);
+                self.advance_cell(parts, page, input)
             }
-            StreamStage::InCell(page) => self.advance_cell(partial, cells, table, page, input),
+            StreamStage::InCell(page) => self.advance_cell(parts, page, input),
             StreamStage::Extra => self.advance_extra(input),
         }
     }
@@ -206,8 +187,8 @@ impl StreamStanding {
         requires here { self.old.stage ≡ stage.Header }
         requires came { self.old.came < 9 }
         requires unrefused { self.old.refusal ≡ None }
-        ensures lawful { (q : Parts) → IsConsistent self.old q → IsConsistent self.new q }
-        ensures moves { (q : Parts) → IsIdle q → Moves (state_of self.old q) input.now result (state_of self.new q) }
+        ensures lawful { (q : PartsState) → IsConsistent self.old q → IsConsistent self.new q }
+        ensures moves { MovesIdle self.old input.now result self.new }
         ensures rest { (self.new.refusal ≡ None) × (self.new.limits ≡ self.old.limits) }
     {
         if self.offset > 1 << 63 {
@@ -221,7 +202,7 @@ impl StreamStanding {
             self.keep_header(input);
             return EventAdvance::More { used: input.len() };
         }
-        match Header::read(&self.whole_header(input), self.offset) {
+        match Header::read(&self.complete_header(input), self.offset) {
             Err(refusal) => EventAdvance::Refused(refusal),
             Ok(header) => {
                 let at = self.offset;
@@ -250,7 +231,7 @@ impl StreamStanding {
     }
 
     /// The nine bytes of a header, of which the input has the last.
-    fn whole_header(&self, input: &[u8]) -> [u8; 9]
+    fn complete_header(&self, input: &[u8]) -> [u8; 9]
         requires came { self.now.came ≤ 9 }
         requires rest { 9 ≤ self.now.came + length input.now }
         requires long { length self.now.header ≡ 9 }
@@ -262,7 +243,7 @@ impl StreamStanding {
         header
     }
 
-    /// Goes on behind a header.
+    /// Goes on after a header.
     fn enter(&mut self, header: &Header)
         requires bounded { IsBounded self.old }
         requires here { self.old.stage ≡ stage.Header }
@@ -270,10 +251,12 @@ impl StreamStanding {
         requires length { header.now.length ≤ 268435456 }
         requires unrefused { self.old.refusal ≡ None }
         ensures bounded { IsBounded self.new }
-        ensures offsets { (self.new.offset ≡ self.old.offset + 9) × (self.new.stop ≡ self.old.offset + 9 + header.now.length) }
-        ensures symbols { (q : Parts) → symbols_at self.new.stage q self.new.upcoming ≡ message header.now }
+        ensures offset { self.new.offset ≡ self.old.offset + 9 }
+        ensures stop { self.new.stop ≡ self.old.offset + 9 + header.now.length }
+        ensures symbols { (q : PartsState) → symbols_at self.new.stage q self.new.upcoming ≡ message header.now }
         ensures room { HasRoom self.new.stage self.new.upcoming }
-        ensures rest { (self.new.refusal ≡ None) × (self.new.limits ≡ self.old.limits) × (self.new.frame ≡ self.old.frame) × (self.new.came ≡ 0) }
+        ensures frame { (self.new.frame ≡ self.old.frame) × (self.new.came ≡ 0) }
+        ensures rest { (self.new.refusal ≡ None) × (self.new.limits ≡ self.old.limits) }
     {
         self.offset += 9;
         self.stop = self.offset + u64::from(header.length);
@@ -285,7 +268,7 @@ impl StreamStanding {
     /// Goes on to what is due next in the message.
     #[tactic(auto, using(crate::proofs::Steps::next_symbols, crate::proofs::Steps::next_room))]
     fn go_on(&mut self)
-        ensures symbols { (q : Parts) → symbols_at self.new.stage q self.new.upcoming ≡ rest_of self.old.upcoming }
+        ensures symbols { (q : PartsState) → symbols_at self.new.stage q self.new.upcoming ≡ rest_of self.old.upcoming }
         ensures room { HasRoom self.new.stage self.new.upcoming }
         ensures rest { self.new ≡ record self.old { stage = self.new.stage; upcoming = self.new.upcoming } }
     {
@@ -294,29 +277,28 @@ impl StreamStanding {
 
     fn advance_field<A: Allocator>(
         &mut self,
-        partial: &mut Partial<A>,
-        table: &mut TypeTable<A>,
+        parts: &mut Parts<A>,
         want: Want,
         input: &[u8],
     ) -> EventAdvance
         requires bounded { IsBounded self.old }
         requires here { self.old.stage ≡ stage.Field want }
-        requires wanted { IsWanted self.old partial.old want }
-        requires room { partial.old.room ≡ max self.old.limits.text self.old.limits.cell }
-        requires forest { Forest table.old.nodes 0 self.old.limits.depth }
+        requires wanted { IsWanted self.old parts.old.partial want }
+        requires room { parts.old.partial.room ≡ max self.old.limits.text self.old.limits.cell }
+        requires forest { Forest parts.old.table.nodes 0 self.old.limits.depth }
         requires unrefused { self.old.refusal ≡ None }
-        ensures lawful { (r : type.TypeState) (c : value.CellState) → IsConsistent self.old (parts partial.old r c table.old) → IsConsistent self.new (parts partial.new r c table.new) }
-        ensures moves { (r : type.TypeState) (c : value.CellState) → Moves (state_of self.old (parts partial.old r c table.old)) input.now result (state_of self.new (parts partial.new r c table.new)) }
+        ensures lawful { IsLawful self.old parts.old → IsLawful self.new parts.new }
+        ensures moves { Moves (state_with self.old parts.old) input.now result (state_with self.new parts.new) }
         ensures rest { (self.new.refusal ≡ None) × (self.new.limits ≡ self.old.limits) }
-        ensures table { LeavesTypes result table.old.nodes table.new.nodes }
+        ensures table { LeavesTypes result parts.old.table.nodes parts.new.table.nodes }
     {
-        self.ask(partial, want);
-        let came = partial.came();
-        match partial.advance(input) {
+        self.ask(&mut parts.partial, want);
+        let came = parts.partial.came();
+        match parts.partial.advance(input) {
             note::FieldAdvance::More { used } => EventAdvance::More { used },
             note::FieldAdvance::Refused(refusal) => EventAdvance::Refused(refusal),
             note::FieldAdvance::Got { used, item } => {
-                let value = partial.lend(input, item);
+                let value = parts.partial.lend(input, item);
                 if let Some(why) = fault_in(want.role, value) {
                     return EventAdvance::Refused(Refusal {
                         at: self.offset,
@@ -325,8 +307,8 @@ impl StreamStanding {
                 }
                 let at = self.offset;
                 self.offset += came + used as u64;
-                begin_metadata(want.role, table);
-                self.follow(want.role, value, table);
+                begin_metadata(want.role, &mut parts.table);
+                self.follow(want.role, value, &parts.table);
                 EventAdvance::Event {
                     at,
                     used,
@@ -349,15 +331,15 @@ impl StreamStanding {
         }
     }
 
-    /// Goes on behind a field: with the cells of a page, or with what is due next in the message.
+    /// Goes on after a field: with the cells of a page, or with what is due next in the message.
     fn follow<A: Allocator>(&mut self, role: Role, value: Prim<'_>, table: &TypeTable<A>)
         requires room { length self.old.upcoming + behind role ≤ 16 }
         requires forest { Forest table.now.nodes 0 self.old.limits.depth }
-        ensures symbols { (q : Parts) → q.table.nodes ≡ table.now.nodes → symbols_at self.new.stage q self.new.upcoming ≡ following (types_for self.old.limits.types role table.now.nodes reading.Nothing) role (value_of value.entry) ++ rest_of self.old.upcoming }
+        ensures symbols { GoesOnAfter self.old self.new table.now.nodes role (value_of value.entry) }
         ensures rest { self.new ≡ record self.old { stage = self.new.stage; upcoming = self.new.upcoming } }
         ensures starts { Starts self.new table.now.nodes self.new.stage }
     {
-        if let Some(page) = page_behind(&self.limits, role, value, table) {
+        if let Some(page) = find_page(&self.limits, role, value, table) {
             self.stage = StreamStage::BeforeCell(page);
             return;
         }
@@ -369,24 +351,23 @@ impl StreamStanding {
     #[inline]
     pub fn take_scalar<'a, A: Allocator>(
         &mut self,
-        partial: &Partial<A>,
-        table: &TypeTable<A>,
+        parts: &Parts<A>,
         input: &'a [u8],
     ) -> Option<ScalarCell<'a>>
-        requires lawful { (r : type.TypeState) × (c : value.CellState) × IsConsistent self.old (parts partial.now r c table.now) }
-        ensures lawful { (r : type.TypeState) (c : value.CellState) → IsConsistent self.old (parts partial.now r c table.now) → IsConsistent self.new (parts partial.now r c table.now) }
-        ensures takes { (r : type.TypeState) (c : value.CellState) → IsConsistent self.old (parts partial.now r c table.now) → Takes (state_of self.old (parts partial.now r c table.now)) input.now result (state_of self.new (parts partial.now r c table.now)) }
+        requires lawful { IsLawful self.old parts.now }
+        ensures lawful { IsLawful self.new parts.now }
+        ensures takes { Takes (state_with self.old parts.now) input.now result (state_with self.new parts.now) }
     {
         let StreamStage::BeforeCell(page) = self.stage else {
             return None;
         };
-        if partial.held() > 0 {
+        if parts.partial.held() > 0 {
             return None;
         }
         if let Some(_) = self.refusal {
             return None;
         }
-        let kind = page.kind(table);
+        let kind = page.kind(&parts.table);
         let room = self.stop - self.offset;
         let Some(front) = front_scalar(&self.limits, kind, room, input) else {
             return None;
@@ -399,14 +380,14 @@ impl StreamStanding {
             scalar: front.scalar,
         };
         self.offset += front.used as u64;
-        self.turn(page, table);
+        self.turn(page, &parts.table);
         Some(taken)
     }
 
-    /// Goes on behind a cell: with the next cell of its page, or with what is due next in the message.
+    /// Goes on after a cell: with the next cell of its page, or with what is due next in the message.
     fn turn<A: Allocator>(&mut self, page: CellCursor, table: &TypeTable<A>)
         requires page { IsPage table.now.nodes self.old.limits.depth page }
-        ensures symbols { (q : Parts) → q.table.nodes ≡ table.now.nodes → symbols_at self.new.stage q self.new.upcoming ≡ cells_behind table.now.nodes page ++ rest_of self.old.upcoming }
+        ensures symbols { GoesOn self.old self.new table.now.nodes (cells_after table.now.nodes page) }
         ensures rest { self.new ≡ record self.old { stage = self.new.stage; upcoming = self.new.upcoming } }
         ensures starts { Starts self.new table.now.nodes self.new.stage }
     {
@@ -420,8 +401,8 @@ impl StreamStanding {
     fn begin_cell<A: Allocator>(&mut self, page: CellCursor, cells: &mut CellReader<A>)
         requires idle { is_under_way cells.old ≡ false }
         requires inside { self.old.offset ≤ self.old.stop }
-        ensures self_is { self.new ≡ record self.old { stage = stage.InCell page } }
-        ensures cells_are { cells.new ≡ begun cells.old (node_by page.columns page.index) self.old.offset self.old.stop }
+        ensures stage { self.new ≡ record self.old { stage = stage.InCell page } }
+        ensures cells { cells.new ≡ begun cells.old (node_by page.columns page.index) self.old.offset self.old.stop }
     {
         cells.begin(page.node(), self.offset, self.stop);
         self.stage = StreamStage::InCell(page);
@@ -432,30 +413,27 @@ impl StreamStanding {
         requires here { self.old.stage ≡ stage.BeforeType }
         requires idle { types.old.under_way ≡ false }
         requires inside { self.old.offset ≤ self.old.stop }
-        ensures self_is { self.new ≡ record self.old { stage = stage.InType } }
-        ensures types_are { types.new ≡ started types.old self.old.offset self.old.stop }
+        ensures stage { self.new ≡ record self.old { stage = stage.InType } }
+        ensures types { types.new ≡ started types.old self.old.offset self.old.stop }
     {
         types.begin(self.offset, self.stop);
         self.stage = StreamStage::InType;
     }
 
-    fn advance_option<A: Allocator>(
-        &mut self,
-        partial: &mut Partial<A>,
-        types: &mut TypeReader<A>,
-        table: &mut TypeTable<A>,
-        input: &[u8],
-    ) -> EventAdvance
-        requires lawful { (c : value.CellState) × IsConsistent self.old (parts partial.old types.old c table.old) }
+    fn advance_option<A: Allocator>(&mut self, parts: &mut Parts<A>, input: &[u8]) -> EventAdvance
+        requires lawful { IsLawful self.old parts.old }
         requires here { self.old.stage ≡ stage.InType }
         requires unrefused { self.old.refusal ≡ None }
-        ensures lawful { (c : value.CellState) → IsConsistent self.old (parts partial.old types.old c table.old) → IsConsistent self.new (parts partial.new types.new c table.new) }
-        ensures moves { (c : value.CellState) → IsConsistent self.old (parts partial.old types.old c table.old) → Moves (state_of self.old (parts partial.old types.old c table.old)) input.now result (state_of self.new (parts partial.new types.new c table.new)) }
+        ensures lawful { IsLawful self.new parts.new }
+        ensures moves { Moves (state_with self.old parts.old) input.now result (state_with self.new parts.new) }
         ensures limits { self.new.limits ≡ self.old.limits }
         ensures refusal { refusal_in result ≡ None → self.new.refusal ≡ None }
-        ensures table { LeavesTypes result table.old.nodes table.new.nodes }
+        ensures table { LeavesTypes result parts.old.table.nodes parts.new.table.nodes }
     {
-        match types.advance(partial, table, input) {
+        match parts
+            .types
+            .advance(&mut parts.partial, &mut parts.table, input)
+        {
             TypeAdvance::More { used } => EventAdvance::More { used },
             TypeAdvance::Refused(refusal) => {
                 self.stage = StreamStage::Extra;
@@ -469,22 +447,22 @@ impl StreamStanding {
                     used,
                     what: EventOutline::Option(item),
                 };
-                let offset = types.offset();
-                if !types.done() {
+                let offset = parts.types.offset();
+                if !parts.types.done() {
                     return event;
                 }
-                types.stop();
-                self.go_behind(offset);
+                parts.types.stop();
+                self.end_option(offset);
                 event
             }
         }
     }
 
-    /// Goes on behind a type option that ends at an offset.
-    fn go_behind(&mut self, offset: u64)
-        ensures symbols { (q : Parts) → symbols_at self.new.stage q self.new.upcoming ≡ rest_of self.old.upcoming }
+    /// Goes on after a type option that ends at an offset.
+    fn end_option(&mut self, offset: u64)
+        ensures symbols { (q : PartsState) → symbols_at self.new.stage q self.new.upcoming ≡ rest_of self.old.upcoming }
         ensures room { HasRoom self.new.stage self.new.upcoming }
-        ensures rest { self.new ≡ record self.old { offset = offset; stage = self.new.stage; upcoming = self.new.upcoming } }
+        ensures rest { IsAt self.new offset self.old }
     {
         self.offset = offset;
         self.go_on();
@@ -492,20 +470,19 @@ impl StreamStanding {
 
     fn advance_cell<A: Allocator>(
         &mut self,
-        partial: &mut Partial<A>,
-        cells: &mut CellReader<A>,
-        table: &TypeTable<A>,
+        parts: &mut Parts<A>,
         page: CellCursor,
         input: &[u8],
     ) -> EventAdvance
-        requires lawful { (r : type.TypeState) × IsConsistent self.old (parts partial.old r cells.old table.now) }
+        requires lawful { IsLawful self.old parts.old }
         requires here { self.old.stage ≡ stage.InCell page }
         requires unrefused { self.old.refusal ≡ None }
-        ensures lawful { (r : type.TypeState) → IsConsistent self.old (parts partial.old r cells.old table.now) → IsConsistent self.new (parts partial.new r cells.new table.now) }
-        ensures moves { (r : type.TypeState) → IsConsistent self.old (parts partial.old r cells.old table.now) → Moves (state_of self.old (parts partial.old r cells.old table.now)) input.now result (state_of self.new (parts partial.new r cells.new table.now)) }
+        ensures lawful { IsLawful self.new parts.new }
+        ensures moves { Moves (state_with self.old parts.old) input.now result (state_with self.new parts.new) }
+        ensures table { parts.new.table ≡ parts.old.table }
         ensures rest { (self.new.refusal ≡ None) × (self.new.limits ≡ self.old.limits) }
     {
-        match cells.advance(partial, table, input) {
+        match parts.cells.advance(&mut parts.partial, &parts.table, input) {
             CellAdvance::More { used } => EventAdvance::More { used },
             CellAdvance::Refused(refusal) => {
                 self.stage = StreamStage::Extra;
@@ -518,16 +495,16 @@ impl StreamStanding {
                     used,
                     what: EventOutline::Cell(page.row, page.column, item),
                 };
-                if !cells.done() {
+                if !parts.cells.done() {
                     return event;
                 }
-                self.end_cell(page, cells, table);
+                self.end_cell(page, &mut parts.cells, &parts.table);
                 event
             }
         }
     }
 
-    /// Goes on behind a cell that is whole.
+    /// Goes on after a cell that is whole.
     fn end_cell<A: Allocator>(
         &mut self,
         page: CellCursor,
@@ -535,10 +512,10 @@ impl StreamStanding {
         table: &TypeTable<A>,
     )
         requires page { IsPage table.now.nodes self.old.limits.depth page }
-        ensures symbols { (q : Parts) → q.table.nodes ≡ table.now.nodes → symbols_at self.new.stage q self.new.upcoming ≡ cells_behind table.now.nodes page ++ rest_of self.old.upcoming }
-        ensures rest { self.new ≡ record self.old { offset = cells.old.offset; stage = self.new.stage; upcoming = self.new.upcoming } }
+        ensures symbols { GoesOn self.old self.new table.now.nodes (cells_after table.now.nodes page) }
+        ensures rest { IsAt self.new cells.old.offset self.old }
         ensures starts { Starts self.new table.now.nodes self.new.stage }
-        ensures cells_are { cells.new ≡ ended cells.old }
+        ensures cells { cells.new ≡ ended cells.old }
     {
         self.offset = cells.offset();
         cells.stop();
@@ -550,8 +527,8 @@ impl StreamStanding {
         requires here { self.old.stage ≡ stage.Extra }
         requires came { self.old.came ≤ self.old.stop - self.old.offset }
         requires unrefused { self.old.refusal ≡ None }
-        ensures lawful { (q : Parts) → IsConsistent self.old q → IsConsistent self.new q }
-        ensures moves { (q : Parts) → IsIdle q → Moves (state_of self.old q) input.now result (state_of self.new q) }
+        ensures lawful { (q : PartsState) → IsConsistent self.old q → IsConsistent self.new q }
+        ensures moves { MovesIdle self.old input.now result self.new }
         ensures rest { (self.new.refusal ≡ None) × (self.new.limits ≡ self.old.limits) }
     {
         let extra = self.stop - self.offset;
@@ -575,7 +552,7 @@ impl StreamStanding {
 }
 
 /// How many bytes of the field under way have come.
-fn came_of_field<A: Allocator>(partial: &Partial<A>) -> u64
+fn count_field_bytes<A: Allocator>(partial: &Partial<A>) -> u64
     ensures is { result ≡ length (came_of partial.now) }
     ensures small { result < 2 ^ 33 }
 {

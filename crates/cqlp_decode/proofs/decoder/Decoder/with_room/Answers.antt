@@ -2,7 +2,7 @@ use Rattle.std.proofs.Common.{refl, ap, ◌∙◌}
 use Rattle.cqlp_type.specs.Table.{Table}
 use Rattle.cqlp_type.specs.Standing as type
 use Rattle.cqlp_value.specs.Standing as value
-use Rattle.cqlp_decode.specs.Standing.{StreamState, parts}
+use Rattle.cqlp_decode.specs.Standing.{IsFresh, parts}
 use Rattle.cqlp_decode.proofs.decoder.Decoder.with_room.Goals as goal
 
 pub invariant_of-result : goal.invariant_of-result
@@ -12,9 +12,11 @@ invariant_of-result g c =
     let cells = c.in_ok-cells.ensures in
     let table = c.in_ok-table.ensures in
     let limits = c.new-standing.ensures.limits in
-    c.new-standing.ensures.lawful (parts c.in_ok-partial.partial c.in_ok-types.types c.in_ok-cells.cells c.in_ok-table.table) (record { field = field.idle; types = rw types refl; cells = rw cells refl }) (record { types = λ _. rw types refl; cells = λ _. rw cells refl })
-    (rw limits (record { room = field.room ∙ c.max.ensures; rules = ap (λ (r : type.TypeState). r.rules) types; cells = ap (λ (z : value.CellState). z.rules) cells; table = ap (λ (t : Table). t.room) table })) (ap (λ (t : Table). t.nodes) table)
-
-pub returns-clause-unrefused : goal.returns-clause-unrefused
-returns-clause-unrefused g c =
-    ap (λ (z : StreamState). z.refusal) (c.new-standing.ensures.start (parts c.in_ok-partial.partial c.in_ok-types.types c.in_ok-cells.cells c.in_ok-table.table) (ap (λ (t : Table). t.nodes) c.in_ok-table.ensures))
+    let q = parts c.in_ok-partial.partial c.in_ok-types.types c.in_ok-cells.cells c.in_ok-table.table in
+    let fresh : IsFresh q = record {
+      idle = record { field = field.idle; types = rw types refl; cells = rw cells refl };
+      quiet = record { types = λ _. rw types refl; cells = λ _. rw cells refl };
+      types = ap (λ (t : Table). t.nodes) table;
+    } in
+    c.new-standing.ensures.lawful q fresh
+    (rw limits (record { room = field.room ∙ c.max.ensures; rules = ap (λ (r : type.TypeState). r.rules) types; cells = ap (λ (z : value.CellState). z.rules) cells; table = ap (λ (t : Table). t.room) table }))

@@ -2,65 +2,73 @@ use Rattle.std.proofs.Common.{◌≡◌, Bool, true, false, refl, sym, ap, ◌�
 use Rattle.cqlp_value.specs.Standing.{CellState, is_under_way}
 use Rattle.cqlp_value.proofs.Leading.{is_over_done}
 use Rattle.cqlp_decode.specs.declared.standing.StreamStanding.{StreamStanding}
-use Rattle.cqlp_decode.specs.Standing.{parts}
+use Rattle.cqlp_decode.specs.Standing.{parts, parts_state}
 use Rattle.cqlp_decode.proofs.CellSteps.{cell_waits, cell_fails, going_hands, ended_hands, cell_more_lawful, cell_refused_lawful, cell_going_lawful, cell_ended_lawful}
 use Rattle.cqlp_decode.proofs.standing.StreamStanding.advance_cell.Goals as goal
 
 pub unreachable-requires : goal.unreachable-requires
 unreachable-requires g c =
-    let stage = rw c.requires.here at c.requires.lawful.1.stage in
-    let done = is_over_done c.args.cells.now stage.0.under_way (c.in-Done.ensures.moves.0) in
+    let stage = rw c.requires.here at c.requires.lawful.stage in
+    let done = is_over_done c.args.parts.now.cells stage.0.under_way (c.in-Done.ensures.moves.0) in
     let shut : ◌≡◌ {A = Bool} false true = sym stage.0.some ∙ done in
     cc
 
 pub returns-in-More-clause-lawful : goal.returns-in-More-clause-lawful
-returns-in-More-clause-lawful g c = λ r law.
-    let q = parts c.args.partial.now r c.args.cells.now c.args.table.now in
+returns-in-More-clause-lawful g c =
+    let q = parts_state c.args.parts.now in
+    let law = c.requires.lawful in
     let stage = rw c.requires.here at law.stage in
     cell_more_lawful c.args.self.now q c.args.page c.requires.here stage.0 law.parts.cells c.args.input.now c.in-More.used c.advance.new.self c.advance.new.partial c.in-More.ensures.moves law
 
 pub returns-in-More-clause-moves : goal.returns-in-More-clause-moves
-returns-in-More-clause-moves g c = λ r law.
-    let q = parts c.args.partial.now r c.args.cells.now c.args.table.now in
+returns-in-More-clause-moves g c =
+    let q = parts_state c.args.parts.now in
+    let law = c.requires.lawful in
     let stage = rw c.requires.here at law.stage in
     cell_waits c.args.self.now q c.args.page c.requires.here stage.0 law.parts.cells c.args.input.now c.in-More.used c.advance.new.self c.advance.new.partial c.in-More.ensures.moves
 
 pub returns-in-Refused-clause-lawful : goal.returns-in-Refused-clause-lawful
-returns-in-Refused-clause-lawful g c = λ r law.
-    let q = parts c.args.partial.now r c.args.cells.now c.args.table.now in
+returns-in-Refused-clause-lawful g c =
+    let q = parts_state c.args.parts.now in
+    let law = c.requires.lawful in
     let stage = rw c.requires.here at law.stage in
     cell_refused_lawful c.args.self.now q c.args.page c.requires.here stage.0 law.parts.cells c.args.input.now c.in-Refused.refusal c.advance.new.self c.advance.new.partial c.in-Refused.ensures.moves law
 
 pub returns-in-Refused-clause-moves : goal.returns-in-Refused-clause-moves
-returns-in-Refused-clause-moves g c = λ r law.
-    let q = parts c.args.partial.now r c.args.cells.now c.args.table.now in
+returns-in-Refused-clause-moves g c =
+    let q = parts_state c.args.parts.now in
+    let law = c.requires.lawful in
     let stage = rw c.requires.here at law.stage in
     cell_fails c.args.self.now q c.args.page c.requires.here stage.0 law.parts.cells c.args.input.now c.in-Refused.refusal c.advance.new.self c.advance.new.partial c.in-Refused.ensures.moves
 
 pub returns-then-not-done-clause-lawful : goal.returns-then-not-done-clause-lawful
-returns-then-not-done-clause-lawful g c = λ r law.
-    let q = parts c.args.partial.now r c.args.cells.now c.args.table.now in
+returns-then-not-done-clause-lawful g c =
+    let q = parts_state c.args.parts.now in
+    let law = c.requires.lawful in
     let stage = rw c.requires.here at law.stage in
     cell_going_lawful c.args.self.now q c.args.page c.requires.here stage.0 law.parts.cells c.args.input.now c.in-Item.at c.in-Item.used c.in-Item.item c.advance.new.self c.advance.new.partial c.in-Item.ensures.moves law (sym c.done.ensures ∙ c.if-not-done.true)
 
 pub returns-then-not-done-clause-moves : goal.returns-then-not-done-clause-moves
-returns-then-not-done-clause-moves g c = λ r law.
-    let q = parts c.args.partial.now r c.args.cells.now c.args.table.now in
+returns-then-not-done-clause-moves g c =
+    let q = parts_state c.args.parts.now in
+    let law = c.requires.lawful in
     let stage = rw c.requires.here at law.stage in
     going_hands c.args.self.now q c.args.page c.requires.here stage.0 law.parts.cells c.args.input.now c.in-Item.at c.in-Item.used c.in-Item.item c.advance.new.self c.advance.new.partial c.in-Item.ensures.moves (sym c.done.ensures ∙ c.if-not-done.true)
 
 pub returns-else-not-done-clause-lawful : goal.returns-else-not-done-clause-lawful
-returns-else-not-done-clause-lawful g c = λ r law.
-    let q = parts c.args.partial.now r c.args.cells.now c.args.table.now in
+returns-else-not-done-clause-lawful g c =
+    let q = parts_state c.args.parts.now in
+    let law = c.requires.lawful in
     let stage = rw c.requires.here at law.stage in
     let rest = c.end_cell.ensures.rest in
     cell_ended_lawful c.args.self.now q c.args.page c.requires.here stage.0 law.parts.cells c.args.input.now c.in-Item.at c.in-Item.used c.in-Item.item c.advance.new.self c.advance.new.partial c.in-Item.ensures.moves law c.end_cell.new.self c.end_cell.new.cells (ap (λ (z : StreamStanding). z.offset) rest) (ap (λ (z : StreamStanding). z.stop) rest) (ap (λ (z : StreamStanding). z.limits) rest) (ap (λ (z : StreamStanding). z.header) rest)
-    (ap (λ (z : StreamStanding). z.came) rest) (ap (λ (z : CellState). z.rules) c.end_cell.ensures.cells_are) (rw c.requires.here at (law.table c.requires.unrefused)) (ap is_under_way c.end_cell.ensures.cells_are) (ap (λ (z : CellState). z.open_values) c.end_cell.ensures.cells_are) c.end_cell.ensures.starts
+    (ap (λ (z : StreamStanding). z.came) rest) (ap (λ (z : CellState). z.rules) c.end_cell.ensures.cells) (rw c.requires.here at (law.table c.requires.unrefused)) (ap is_under_way c.end_cell.ensures.cells) (ap (λ (z : CellState). z.open_values) c.end_cell.ensures.cells) c.end_cell.ensures.starts
 
 pub returns-else-not-done-clause-moves : goal.returns-else-not-done-clause-moves
-returns-else-not-done-clause-moves g c = λ r law.
-    let q = parts c.args.partial.now r c.args.cells.now c.args.table.now in
+returns-else-not-done-clause-moves g c =
+    let q = parts_state c.args.parts.now in
+    let law = c.requires.lawful in
     let stage = rw c.requires.here at law.stage in
     let rest = c.end_cell.ensures.rest in
     ended_hands c.args.self.now q c.args.page c.requires.here stage.0 law.parts.cells c.args.input.now c.in-Item.at c.in-Item.used c.in-Item.item c.advance.new.self c.advance.new.partial c.in-Item.ensures.moves (sym c.done.ensures ∙ c.if-not-done.false) c.end_cell.new.self c.end_cell.new.cells (ap (λ (z : StreamStanding). z.offset) rest) (ap (λ (z : StreamStanding). z.stop) rest) (ap (λ (z : StreamStanding). z.frame) rest)
-    (ap (λ (z : StreamStanding). z.came) rest ∙ stage.0.came) (c.end_cell.ensures.symbols (parts c.advance.new.partial r c.end_cell.new.cells c.args.table.now) refl) c.end_cell.ensures.starts (ap (λ (z : CellState). z.open_values) c.end_cell.ensures.cells_are)
+    (ap (λ (z : StreamStanding). z.came) rest ∙ stage.0.came) (c.end_cell.ensures.symbols (parts c.advance.new.partial c.args.parts.now.types c.end_cell.new.cells c.args.parts.now.table) refl) c.end_cell.ensures.starts (ap (λ (z : CellState). z.open_values) c.end_cell.ensures.cells)

@@ -5,11 +5,11 @@ use Rattle.cqlp_decode.proofs.standing.StreamStanding.advance_header.Goals as go
 
 pub returns-in-Err-clause-moves : goal.returns-in-Err-clause-moves
 returns-in-Err-clause-moves c = λ q idle b is.
-    let r = rw c.whole_header.ensures at c.in-Err.ensures in
+    let r = rw c.complete_header.ensures at c.in-Err.ensures in
     header_fails c.args.self.now q c.args.input.now c.requires.here c.if-self.false c.requires.bounded.long c.requires.came (omega arith) r.0 r.1 b is ∙ (λ i. Bad (sym r.2 i, sym r.3 i))
 
 pub returns-in-Ok-clause-moves : goal.returns-in-Ok-clause-moves
 returns-in-Ok-clause-moves c = λ q idle.
-    let r = rw c.whole_header.ensures at c.in-Ok.ensures in
+    let r = rw c.complete_header.ensures at c.in-Ok.ensures in
     let e = c.enter.ensures in
-    header_hands c.args.self.now q c.args.input.now c.requires.here c.if-self.false c.requires.bounded.long c.requires.came (omega arith) c.enter.new.self c.in-Ok.header r.0 e.offsets.0 e.offsets.1 (e.symbols q) e.room e.rest.2 e.rest.3 idle
+    header_hands c.args.self.now q c.args.input.now c.requires.here c.if-self.false c.requires.bounded.long c.requires.came (omega arith) c.enter.new.self c.in-Ok.header r.0 e.offset e.stop (e.symbols q) e.room e.frame.0 e.frame.1 idle

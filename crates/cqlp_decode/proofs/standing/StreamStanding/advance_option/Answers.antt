@@ -2,16 +2,15 @@ use Rattle.std.proofs.Common.{rules, ◌≡◌, Bool, true, false, refl, ap, ◌
 use Rattle.cqlp_note.specs.Limits.{rules_of}
 use Rattle.cqlp_type.specs.Standing as type
 use Rattle.cqlp_decode.specs.declared.standing.StreamStanding.{StreamStanding}
-use Rattle.cqlp_decode.specs.Standing.{parts}
+use Rattle.cqlp_decode.specs.Standing.{parts_state}
 use Rattle.cqlp_decode.proofs.OptionSteps.{option_reads, option_waits, option_fails, still_hands, ended_hands, option_more_lawful, option_still_lawful, option_ended_lawful}
 use Rattle.cqlp_decode.proofs.standing.StreamStanding.advance_option.Goals as goal
 
 pub advance-requires : goal.advance-requires
 advance-requires g c =
-    let q = parts c.args.partial.now c.args.types.now c.requires.lawful.0 c.args.table.now in
-    let law = c.requires.lawful.1 in
-    let stage = rw c.requires.here at law.stage in
-    let runs = rw c.requires.here at (law.table c.requires.unrefused) in
+    let q = parts_state c.args.parts.now in
+    let stage = rw c.requires.here at c.requires.lawful.stage in
+    let runs = rw c.requires.here at (c.requires.lawful.table c.requires.unrefused) in
     record {
       under_way = stage.0.under_way;
       shared = stage.0.shared;
@@ -20,53 +19,53 @@ advance-requires g c =
     }
 
 pub returns-in-More-clause-moves : goal.returns-in-More-clause-moves
-returns-in-More-clause-moves g c = λ d law.
-    let stage = rw c.requires.here at law.stage in
-    option_waits c.args.self.now (parts c.args.partial.now c.args.types.now d c.args.table.now) c.requires.here stage.0 law.parts.rules c.args.input.now c.in-More.used c.advance.new.self c.advance.new.partial c.advance.new.table c.in-More.ensures.is
+returns-in-More-clause-moves g c =
+    let stage = rw c.requires.here at c.requires.lawful.stage in
+    option_waits c.args.self.now (parts_state c.args.parts.now) c.requires.here stage.0 c.requires.lawful.parts.rules c.args.input.now c.in-More.used c.advance.new.self c.advance.new.partial c.advance.new.table c.in-More.ensures.is
 
 pub returns-in-Refused-clause-moves : goal.returns-in-Refused-clause-moves
-returns-in-Refused-clause-moves g c = λ d law.
-    let stage = rw c.requires.here at law.stage in
-    option_fails c.args.self.now (parts c.args.partial.now c.args.types.now d c.args.table.now) c.requires.here stage.0 law.parts.rules c.args.input.now c.in-Refused.refusal.at c.in-Refused.refusal.why c.in-Refused.ensures.is.0
+returns-in-Refused-clause-moves g c =
+    let stage = rw c.requires.here at c.requires.lawful.stage in
+    option_fails c.args.self.now (parts_state c.args.parts.now) c.requires.here stage.0 c.requires.lawful.parts.rules c.args.input.now c.in-Refused.refusal.at c.in-Refused.refusal.why c.in-Refused.ensures.is.0
 
 pub returns-then-not-done-clause-moves : goal.returns-then-not-done-clause-moves
-returns-then-not-done-clause-moves g c = λ d law.
-    let stage = rw c.requires.here at law.stage in
+returns-then-not-done-clause-moves g c =
+    let stage = rw c.requires.here at c.requires.lawful.stage in
     let ends = c.in-Item.ensures.is in
     let under_way = ap (λ (z : type.TypeState). z.under_way) ends.reader in
-    still_hands c.args.self.now (parts c.args.partial.now c.args.types.now d c.args.table.now) c.requires.here stage.0 law.parts.rules c.args.input.now c.in-Item.at c.in-Item.used c.in-Item.item c.advance.new.self c.advance.new.partial c.advance.new.table ends stage.1
+    still_hands c.args.self.now (parts_state c.args.parts.now) c.requires.here stage.0 c.requires.lawful.parts.rules c.args.input.now c.in-Item.at c.in-Item.used c.in-Item.item c.advance.new.self c.advance.new.partial c.advance.new.table ends stage.1
     (λ none. let shut : ◌≡◌ {A = Bool} false true = c.if-not-done.ensures.1 (under_way, none) in cc)
 
 pub returns-else-not-done-clause-moves : goal.returns-else-not-done-clause-moves
-returns-else-not-done-clause-moves g c = λ d law.
-    let stage = rw c.requires.here at law.stage in
+returns-else-not-done-clause-moves g c =
+    let stage = rw c.requires.here at c.requires.lawful.stage in
     let ends = c.in-Item.ensures.is in
-    let rest = c.go_behind.ensures.rest in
-    ended_hands c.args.self.now (parts c.args.partial.now c.args.types.now d c.args.table.now) c.requires.here stage.0 law.parts.rules c.args.input.now c.in-Item.at c.in-Item.used c.in-Item.item c.advance.new.self c.advance.new.partial c.advance.new.table ends stage.1
-    (c.if-not-done.ensures.0 refl).1 c.go_behind.new.self c.stop.new.self (ap (λ (z : StreamStanding). z.offset) rest ∙ c.offset-offset.ensures.is) (ap (λ (z : StreamStanding). z.stop) rest) (ap (λ (z : StreamStanding). z.frame) rest)
-    (ap (λ (z : StreamStanding). z.came) rest ∙ stage.0.came) c.go_behind.ensures.symbols c.go_behind.ensures.room
+    let rest = c.end_option.ensures.rest in
+    ended_hands c.args.self.now (parts_state c.args.parts.now) c.requires.here stage.0 c.requires.lawful.parts.rules c.args.input.now c.in-Item.at c.in-Item.used c.in-Item.item c.advance.new.self c.advance.new.partial c.advance.new.table ends stage.1
+    (c.if-not-done.ensures.0 refl).1 c.end_option.new.self c.stop.new.self (ap (λ (z : StreamStanding). z.offset) rest ∙ c.offset-offset.ensures.is) (ap (λ (z : StreamStanding). z.stop) rest) (ap (λ (z : StreamStanding). z.frame) rest)
+    (ap (λ (z : StreamStanding). z.came) rest ∙ stage.0.came) c.end_option.ensures.symbols c.end_option.ensures.room
 
 pub returns-in-More-clause-lawful : goal.returns-in-More-clause-lawful
-returns-in-More-clause-lawful g c = λ d law.
-    let q = parts c.args.partial.now c.args.types.now d c.args.table.now in
-    let stage = rw c.requires.here at law.stage in
-    option_more_lawful c.args.self.now q c.requires.here stage.0 law.parts.rules law c.requires.unrefused c.args.input.now c.in-More.used c.advance.new.self c.advance.new.partial c.advance.new.table c.in-More.ensures.is
+returns-in-More-clause-lawful g c =
+    let q = parts_state c.args.parts.now in
+    let stage = rw c.requires.here at c.requires.lawful.stage in
+    option_more_lawful c.args.self.now q c.requires.here stage.0 c.requires.lawful.parts.rules c.requires.lawful c.requires.unrefused c.args.input.now c.in-More.used c.advance.new.self c.advance.new.partial c.advance.new.table c.in-More.ensures.is
 
 pub returns-then-not-done-clause-lawful : goal.returns-then-not-done-clause-lawful
-returns-then-not-done-clause-lawful g c = λ d law.
-    let q = parts c.args.partial.now c.args.types.now d c.args.table.now in
-    let stage = rw c.requires.here at law.stage in
+returns-then-not-done-clause-lawful g c =
+    let q = parts_state c.args.parts.now in
+    let stage = rw c.requires.here at c.requires.lawful.stage in
     let ends = c.in-Item.ensures.is in
     let under_way = ap (λ (z : type.TypeState). z.under_way) ends.reader in
-    option_still_lawful c.args.self.now q c.requires.here stage.0 law.parts.rules law c.requires.unrefused c.args.input.now c.in-Item.at c.in-Item.used c.in-Item.item c.advance.new.self c.advance.new.partial c.advance.new.table ends
+    option_still_lawful c.args.self.now q c.requires.here stage.0 c.requires.lawful.parts.rules c.requires.lawful c.requires.unrefused c.args.input.now c.in-Item.at c.in-Item.used c.in-Item.item c.advance.new.self c.advance.new.partial c.advance.new.table ends
     (omega (arith, c.offset-offset.ensures.inside, c.offset-offset.ensures.is, ap (λ (z : type.TypeState). z.stop) ends.reader, stage.0.stop)) (λ none. let shut : ◌≡◌ {A = Bool} false true = c.if-not-done.ensures.1 (under_way, none) in cc)
 
 pub returns-else-not-done-clause-lawful : goal.returns-else-not-done-clause-lawful
-returns-else-not-done-clause-lawful g c = λ d law.
-    let q = parts c.args.partial.now c.args.types.now d c.args.table.now in
-    let stage = rw c.requires.here at law.stage in
+returns-else-not-done-clause-lawful g c =
+    let q = parts_state c.args.parts.now in
+    let stage = rw c.requires.here at c.requires.lawful.stage in
     let ends = c.in-Item.ensures.is in
-    let rest = c.go_behind.ensures.rest in
-    option_ended_lawful c.args.self.now q c.requires.here stage.0 law.parts.rules law c.requires.unrefused c.args.input.now c.in-Item.at c.in-Item.used c.in-Item.item c.advance.new.self c.advance.new.partial c.advance.new.table ends
-    (omega (arith, c.offset-offset.ensures.inside, c.offset-offset.ensures.is, ap (λ (z : type.TypeState). z.stop) ends.reader, stage.0.stop)) (c.if-not-done.ensures.0 refl).1 c.go_behind.new.self c.stop.new.self c.stop.ensures
-    (ap (λ (z : StreamStanding). z.offset) rest ∙ c.offset-offset.ensures.is) (ap (λ (z : StreamStanding). z.stop) rest) (ap (λ (z : StreamStanding). z.limits) rest) (ap (λ (z : StreamStanding). z.header) rest) (ap (λ (z : StreamStanding). z.came) rest) c.go_behind.ensures.room
+    let rest = c.end_option.ensures.rest in
+    option_ended_lawful c.args.self.now q c.requires.here stage.0 c.requires.lawful.parts.rules c.requires.lawful c.requires.unrefused c.args.input.now c.in-Item.at c.in-Item.used c.in-Item.item c.advance.new.self c.advance.new.partial c.advance.new.table ends
+    (omega (arith, c.offset-offset.ensures.inside, c.offset-offset.ensures.is, ap (λ (z : type.TypeState). z.stop) ends.reader, stage.0.stop)) (c.if-not-done.ensures.0 refl).1 c.end_option.new.self c.stop.new.self c.stop.ensures
+    (ap (λ (z : StreamStanding). z.offset) rest ∙ c.offset-offset.ensures.is) (ap (λ (z : StreamStanding). z.stop) rest) (ap (λ (z : StreamStanding). z.limits) rest) (ap (λ (z : StreamStanding). z.header) rest) (ap (λ (z : StreamStanding). z.came) rest) c.end_option.ensures.room

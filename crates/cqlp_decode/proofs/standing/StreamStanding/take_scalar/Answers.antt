@@ -2,19 +2,20 @@ use Rattle.std.proofs.Common.{refl, ap, ◌∙◌, arith}
 use Rattle.cqlp_note.specs.Limits.{rules_of}
 use Rattle.cqlp_value.specs.Contents.{value_of}
 use Rattle.cqlp_decode.specs.declared.standing.StreamStanding.{StreamStanding}
-use Rattle.cqlp_decode.specs.Standing.{parts}
+use Rattle.cqlp_decode.specs.Standing.{parts_state}
 use Rattle.cqlp_decode.proofs.CellSteps.{nothing_held, scalar_hands, scalar_lawful}
 use Rattle.cqlp_decode.proofs.standing.StreamStanding.take_scalar.Goals as goal
 
 pub returns-clause-takes : goal.returns-clause-takes
-returns-clause-takes g c = λ r d law.
-    let q = parts c.args.partial.now r d c.args.table.now in
+returns-clause-takes g c =
+    let q = parts_state c.args.parts.now in
+    let law = c.requires.lawful in
     let page = c.in-BeforeCell.page in
     let stage = rw c.in-BeforeCell.is at law.stage in
     let kind = c.kind-kind.ensures c.args.self.now.limits.depth stage.0 in
     let rest = c.turn.ensures.rest in
     let front = c.in-Some-front_scalar.ensures in
-    let empty = nothing_held c.args.partial.now.content (omega (arith, c.if-held-gt0.false, c.held.ensures.is)) in (
+    let empty = nothing_held c.args.parts.now.partial.content (omega (arith, c.if-held-gt0.false, c.held.ensures.is)) in (
       c.in_default-refusal.is,
       ap (λ (z : StreamStanding). z.refusal) rest ∙ c.in_default-refusal.is,
       ap (λ (z : StreamStanding). rules_of z.limits) rest,
@@ -23,13 +24,14 @@ returns-clause-takes g c = λ r d law.
     )
 
 pub returns-clause-lawful : goal.returns-clause-lawful
-returns-clause-lawful g c = λ r d law.
-    let q = parts c.args.partial.now r d c.args.table.now in
+returns-clause-lawful g c =
+    let q = parts_state c.args.parts.now in
+    let law = c.requires.lawful in
     let page = c.in-BeforeCell.page in
     let stage = rw c.in-BeforeCell.is at law.stage in
     let kind = c.kind-kind.ensures c.args.self.now.limits.depth stage.0 in
     let rest = c.turn.ensures.rest in
     let front = c.in-Some-front_scalar.ensures in
-    let empty = nothing_held c.args.partial.now.content (omega (arith, c.if-held-gt0.false, c.held.ensures.is)) in
+    let empty = nothing_held c.args.parts.now.partial.content (omega (arith, c.if-held-gt0.false, c.held.ensures.is)) in
     scalar_lawful c.args.self.now q page c.in-BeforeCell.is law c.in_default-refusal.is c.args.input.now c.in-Some-front_scalar.front.used c.kind-kind.result kind.0 kind.1 (value_of c.in-Some-front_scalar.front.scalar) kind.2 front empty
     c.turn.new.self (c.turn.ensures.symbols q refl) c.turn.ensures.starts (ap (λ (z : StreamStanding). z.offset) rest) (ap (λ (z : StreamStanding). z.stop) rest) (ap (λ (z : StreamStanding). z.frame) rest) (ap (λ (z : StreamStanding). z.came) rest) (ap (λ (z : StreamStanding). z.limits) rest) (ap (λ (z : StreamStanding). z.header) rest)
