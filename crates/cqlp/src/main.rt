@@ -1,46 +1,39 @@
 //! Reads streams of the CQL native protocol v4, as its words say, and tells what is in them.
 #![tactic(auto)]
 
+mod words;
+
 use cqlp_note::OfStd;
+use cqlp_text::cannot_open_line;
 use cqlp_tool::command;
+use std::alloc::AllocError;
 use std::process::ExitCode;
-use std::{env, io};
+use words::{read_words, redirect, texts};
 
-/// The exit status where the words are no text.
-const BAD_COMMAND_LINE: u8 = 2;
-
-/// The exit status where there is no memory for the words, or the standard error fails.
+/// The exit status where there is no memory for the words, or a file cannot be opened.
 const FAULT: u8 = 3;
 
 fn main(rt: HostRuntime) -> ExitCode {
     match run(&rt) {
         Ok(status) => ExitCode::from(status),
-        Err(error) => ExitCode::from(complain(&rt, error.kind())),
+        Err(AllocError) => {
+            let _ = eprintln!(rt; "cqlp: no memory");
+            ExitCode::from(FAULT)
+        }
     }
 }
 
 /// Does what the words after the program's name say. Answers the exit status.
-fn run(rt: &HostRuntime) -> io::Result<u8> {
-    let args: Vec<String> = env::args(rt)?.collect(rt.alloc())?;
-    let mut words = Vec::new(rt.alloc());
-    for word in args.iter().skip(1) {
-        words.push(word.as_str())?;
+fn run(rt: &HostRuntime) -> Result<u8, AllocError> {
+    let words = read_words(rt)?;
+    let mut texts = texts(rt.alloc(), &words)?;
+    if let Err(name) = redirect(rt.alloc(), &words, &mut texts) {
+        let _ = cannot_open_line(name, &mut OfStd::new(rt.stderr()));
+        return Ok(FAULT);
     }
     let mut input = OfStd::new(rt.stdin());
     let out = OfStd::new(rt.stdout());
     let err = OfStd::new(rt.stderr());
-    let (status, _, _) = command(rt, words.as_slice(), &mut input, out, err);
+    let (status, _, _) = command(rt, texts.as_slice(), &mut input, out, err);
     Ok(status)
-}
-
-/// Writes why the words cannot be read. Answers the exit status.
-fn complain(rt: &HostRuntime, why: io::ErrorKind) -> u8 {
-    let io::ErrorKind::InvalidData = why else {
-        let _ = eprintln!(rt; "cqlp: no memory");
-        return FAULT;
-    };
-    match eprintln!(rt; "error: invalid UTF-8 was detected in one or more arguments") {
-        Ok(()) => BAD_COMMAND_LINE,
-        Err(_) => FAULT,
-    }
 }

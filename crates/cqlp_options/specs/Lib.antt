@@ -1,1 +1,2 @@
 pub mod NoTasks
+pub mod Reported

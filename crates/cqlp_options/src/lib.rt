@@ -3,6 +3,7 @@
 
 mod no_task;
 mod options;
+mod reported;
 
 pub use no_task::NoTask;
 pub use options::{DEFAULT_LIMITS, Options, Task};

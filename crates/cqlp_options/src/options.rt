@@ -4,10 +4,12 @@ ghost use Rattle.std.specs.Prelude.{◌≡◌, IfOk, IfSome, Ok};
 ghost use Rattle.cqlp_note.specs.Limits.{first_bad};
 
 use crate::no_task::{NoTask, no_task_of};
+use crate::reported::report_all;
 use clap::error::ErrorKind;
 use clap::{Arg, ArgAction, ArgMatches, Command, Error, value_parser};
 use cqlp_note::Limits;
 use std::alloc::{AllocError, Global};
+use std::convert::AsStr;
 
 /// What the program does with a stream.
 #[derive(Clone, Copy, Debug, PartialEq, Eq)]
@@ -59,12 +61,24 @@ impl<'a> Options<'a> {
     {
         match parsed(alloc, words) {
             Ok(options) => Ok(options),
-            Err(error) => Err(no_task_of(alloc, &error)),
+            Err(error) => Err(no_task(alloc, words, &error)),
         }
     }
 }
 
-fn parsed<'a>(alloc: Global, words: &'a [&'a str]) -> Result<Options<'a>, Error>
+/// What there is in place of options. The parser reports words as they are, so for its text they are read once more,
+/// each in one line.
+fn no_task(alloc: Global, words: &[&str], error: &Error) -> NoTask {
+    let Ok(texts) = report_all(alloc, words) else {
+        return NoTask::NoMemory;
+    };
+    match parsed(alloc, &texts) {
+        Ok(_) => no_task_of(alloc, error),
+        Err(error) => no_task_of(alloc, &error),
+    }
+}
+
+fn parsed<'a, S: AsStr>(alloc: Global, words: &'a [S]) -> Result<Options<'a>, Error>
     ensures { IfOk result (λ options. first_bad options.limits ≡ Ok tt) }
 {
     let mut program = program(alloc)?;

@@ -12,7 +12,7 @@ use Rattle.std.proofs.lemmas.Bool.{cases_lt, lt-ltb, le-ltb}
 use Rattle.std.specs.List.{join_with_byte, flat_map, position, prefix_len}
 use Rattle.std.proofs.lemmas.List.Sums.{prefix_len-le-length}
 use Rattle.hex.specs.Hex.{encode_lower, encode_with, lower_digits}
-use Rattle.cqlp_text.specs.Text.{pairs, is_plain, escaped}
+use Rattle.cqlp_text.specs.Text.{pairs, is_plain, escaped, printed, in_one_line}
 
 -- the bytes two by two, as four digits behind a colon
 abbrev pub colon_groups : List ℕ → List ℕ
@@ -123,3 +123,6 @@ plain_front xs found n is_first is_n =
 
 pub words_at : (words : List Word) (i : ℕ) (none : Word) → i < length words → spaced (map word_text (drop i words)) ≡ codes " " ++ (word_text (get_or words i none) ++ spaced (map word_text (drop (i + 1) words)))
 words_at words i none within = rw (drop-cons words i none within, add-one)
+
+pub bytes_at : (bytes : List ℕ) (i : ℕ) → i < length bytes → in_one_line (drop i bytes) ≡ printed (slice_index bytes i) ++ in_one_line (drop (i + 1) bytes)
+bytes_at bytes i within = rw (drop-cons bytes i 0 within, add-one) refl

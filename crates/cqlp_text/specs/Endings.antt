@@ -6,6 +6,7 @@ use Rattle.cqlp_text.specs.declared.ending.Ending.{Ending}
 use Rattle.cqlp_text.specs.declared.ending.Ending.TheVariants as ending
 use Rattle.cqlp_text.specs.Lines.{spaced}
 use Rattle.cqlp_text.specs.Names.{reason_name}
+use Rattle.cqlp_text.specs.Text.{in_one_line}
 
 abbrev pub verdict : Finish → List ℕ
 verdict (finish.Whole bytes) = codes "whole" ++ spaced (decimal bytes ∷ [])
@@ -24,7 +25,7 @@ ending_line e = ending_text e ++ codes "\n"
 
 -- the line of a file that cannot be opened
 abbrev pub cannot_open_line : (file : List ℕ) → List ℕ
-cannot_open_line file = codes "cqlp: cannot open" ++ spaced (file ∷ []) ++ codes "\n"
+cannot_open_line file = codes "cqlp: cannot open" ++ spaced (in_one_line file ∷ []) ++ codes "\n"
 
 abbrev pub finish_status : Finish → ℕ
 finish_status (finish.Whole bytes) = 0

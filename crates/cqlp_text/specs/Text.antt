@@ -23,6 +23,18 @@ escaped b =
 abbrev pub quoted : List ℕ → List ℕ
 quoted text = codes "\"" ++ flat_map escaped text ++ codes "\""
 
+-- a byte that prints: 127 and those below 32 do not
+abbrev pub prints : ℕ → Bool
+prints b = nat_le 32 b && not (b == 127)
+
+-- a byte as it stands in a line: one that does not print is escaped as between quotes
+abbrev pub printed : ℕ → List ℕ
+printed b = if prints b then b ∷ [] else escaped b
+
+-- a text that someone else wrote, in one line; where all its bytes print it stands as it is
+abbrev pub in_one_line : List ℕ → List ℕ
+in_one_line text = flat_map printed text
+
 -- the bytes two by two
 abbrev pub pairs : List ℕ → List (List ℕ)
 pairs (a ∷ b ∷ rest) = (a ∷ b ∷ []) ∷ pairs rest

@@ -7,10 +7,11 @@ use Rattle.cqlp_value.specs.Contents.{value_of}
 use Rattle.cqlp_text.specs.declared.word.Word.{Word}
 use Rattle.cqlp_text.specs.declared.word.Word.TheVariants as word
 use Rattle.cqlp_text.specs.CellText.{cell_text}
-use Rattle.cqlp_text.specs.Text.{hex_text, quoted, address_text}
+use Rattle.cqlp_text.specs.Text.{hex_text, in_one_line, quoted, address_text}
 
 abbrev pub word_text : Word → List ℕ
 word_text (word.Name name) = name.now
+word_text (word.Foreign text) = in_one_line text.now
 word_text (word.Number n) = decimal n
 word_text (word.Signed z) = signed_decimal z
 word_text (word.Digits byte) = encode_lower (byte ∷ [])

@@ -106,7 +106,7 @@ impl<W: Target> TextWriter<'_, W> {
         ensures line { Writes self.old (cannot_open_line file.now) result self.new }
         ensures passed { self.new.waiting ≡ [] }
     {
-        self.put_line("cqlp: cannot open", &[Word::Name(file)])
+        self.put_line("cqlp: cannot open", &[Word::Foreign(file)])
     }
 
     /// Takes a line of words, and passes all on.

@@ -5,7 +5,7 @@ ghost use Rattle.std.specs.Fmt.{signed_decimal};
 ghost use Rattle.std.specs.List.{flat_map};
 ghost use Rattle.hex.specs.Hex.{encode_lower};
 ghost use Rattle.uuid.specs.Text.{hyphenated_text, lower};
-ghost use Rattle.cqlp_text.specs.Text.{hex_text, quoted, escaped, is_plain, address_text};
+ghost use Rattle.cqlp_text.specs.Text.{hex_text, quoted, escaped, is_plain, prints, printed, in_one_line, address_text};
 ghost use Rattle.cqlp_note.specs.declared.prim.Address.TheVariants.{V4, V6};
 ghost use Rattle.cqlp_text.specs.Written.{Writes};
 
@@ -111,6 +111,27 @@ impl<W: Target> TextWriter<'_, W> {
         }
     }
 
+    /// Takes the bytes of a text in one line, where each that does not print is escaped.
+    pub fn put_in_one_line(&mut self, bytes: &[u8]) -> Result<(), SinkFault>
+        ensures { Writes self.old (in_one_line bytes.now) result self.new }
+    {
+        for byte in bytes {
+            self.put_printed(*byte)?;
+        }
+        Ok(())
+    }
+
+    /// Takes a byte as it stands in a line.
+    fn put_printed(&mut self, byte: u8) -> Result<(), SinkFault>
+        ensures { Writes self.old (printed byte) result self.new }
+    {
+        if prints(byte) {
+            self.put(&[byte])
+        } else {
+            self.put_byte(byte)
+        }
+    }
+
     /// Takes an address: four decimal numbers with dots, or eight groups of four hexadecimal digits with colons.
     pub fn put_address(&mut self, address: Address) -> Result<(), SinkFault>
         ensures { Writes self.old (address_text address) result self.new }
@@ -162,4 +183,11 @@ fn is_plain(byte: u8) -> bool
     ensures { result ≡ is_plain byte }
 {
     byte >= 32 && byte != b'"' && byte != b'\\' && byte != 127
+}
+
+/// Whether a byte stands as itself in a line.
+fn prints(byte: u8) -> bool
+    ensures { result ≡ prints byte }
+{
+    byte >= 32 && byte != 127
 }

@@ -11,6 +11,8 @@ use cqlp_value::Scalar;
 #[derive(Clone, Copy, Debug, PartialEq, Eq)]
 pub enum Word<'a> {
     Name(&'a str),
+    /// A text that someone else wrote, in one line.
+    Foreign(&'a str),
     Number(u64),
     Signed(i64),
     /// Two hexadecimal digits.
@@ -46,6 +48,7 @@ impl<W: Target> TextWriter<'_, W> {
     {
         match word {
             Word::Name(name) => self.put(name.as_bytes()),
+            Word::Foreign(text) => self.put_in_one_line(text.as_bytes()),
             Word::Number(number) => self.put_number(number),
             Word::Signed(number) => self.put_signed(number),
             Word::Digits(byte) => self.put_hex(&[byte]),

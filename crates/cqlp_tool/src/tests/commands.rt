@@ -111,6 +111,13 @@ fn bad_command_lines(rt: HostRuntime) {
 }
 
 #[test]
+fn mistakes_report_a_word_in_one_line(rt: HostRuntime) {
+    let done = execute(&rt, &["show", "-", "a\nb\u{7f}\u{e9}"], OPTIONS);
+    let line = "error: unexpected argument 'a\\x0ab\\x7f\u{e9}' found\n";
+    assert!(rt; done.err.text.as_slice().starts_with(line.as_bytes()));
+}
+
+#[test]
 fn help_that_was_asked_for(rt: HostRuntime) {
     let lines: [(&[&str], &[u8]); 6] = [
         (&["--help"], b"Reads streams"),
@@ -130,10 +137,15 @@ fn help_that_was_asked_for(rt: HostRuntime) {
 
 #[test]
 fn files(rt: HostRuntime) {
-    let rows: [(&str, u8, &[u8]); 4] = [
+    let rows: [(&str, u8, &[u8]); 5] = [
         ("/dev/null", 0, b"whole 0\n"),
         ("/dev/zero", 1, b"refused 0 BadVersion\n"),
         ("no/such/file", 3, b"cqlp: cannot open no/such/file\n"),
+        (
+            "no\n\"\\\x1bfile",
+            3,
+            b"cqlp: cannot open no\\x0a\"\\\\x1bfile\n",
+        ),
         (".", 3, b"cqlp: read fault\n"),
     ];
     for (file, status, err) in rows {
