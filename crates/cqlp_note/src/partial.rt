@@ -149,8 +149,8 @@ impl<A: Allocator> Partial<A> {
                     let item = FieldOutline::Plain(prim);
                     FieldAdvance::Got { used, item }
                 }
-                Ok(Head::Content { behind, len, form }) => {
-                    let start = behind - self.front.len();
+                Ok(Head::Content { after, len, form }) => {
+                    let start = after - self.front.len();
                     self.take_content(start, len, form, input)
                 }
                 Err(Stop::Wanting) => {
