@@ -7,8 +7,8 @@ use Rattle.cqlp_note.specs.declared.field.Notation.{Notation}
 use Rattle.cqlp_note.specs.declared.field.Notation.TheVariants as notation
 use Rattle.cqlp_note.specs.declared.refusal.Reason.TheVariants.{Overrun}
 use Rattle.cqlp_note.specs.Reader.{Takes, More, Bad, Got, says, fits, number_of}
-use Rattle.cqlp_note.specs.Field.{Inet, field_of, content_of, is_negative, signed, address_of}
-use Rattle.cqlp_note.specs.Head.{fixed_of, after_fixed, front_of, inet_of, made, reader_of, Tells}
+use Rattle.cqlp_note.specs.Field.{Inet, field_of, content_of, inet_of, is_negative, signed, address_of}
+use Rattle.cqlp_note.specs.Head.{fixed_of, after_fixed, front_of, made, reader_of, Tells}
 use Rattle.cqlp_note.specs.declared.head.Wanted.{Wanted}
 use Rattle.cqlp_note.specs.declared.head.ContentForm.TheVariants as form
 use Rattle.cqlp_note.specs.declared.head.Head.{Head}

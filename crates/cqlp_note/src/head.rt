@@ -3,8 +3,8 @@
 ghost use Rattle.std.specs.Prelude.{◌≡◌, ◌≤◌, ◌==◌, ◌||◌, ℕ, List, IsTrue, length, take};
 ghost use Rattle.std.specs.Prelude.{if◌then◌else◌};
 ghost use Rattle.std.specs.Int.{w16, w32, from_be_bytes};
-ghost use Rattle.cqlp_note.specs.Field.{address_of, content_of, is_negative};
-ghost use Rattle.cqlp_note.specs.Head.{Tells, TellsAfterFixed, fixed_of, front_of, inet_of, made, reader_of};
+ghost use Rattle.cqlp_note.specs.Field.{address_of, content_of, inet_of, is_negative};
+ghost use Rattle.cqlp_note.specs.Head.{Tells, TellsAfterFixed, fixed_of, front_of, made, reader_of};
 
 use crate::field::Notation;
 use crate::prim::{Address, BoundValue, Primitive};
@@ -183,7 +183,8 @@ fn inet(wanted: Wanted, bytes: &[u8]) -> Result<Head, Stop>
 fn content(wanted: Wanted, after: usize, len: u32, form: ContentForm) -> Result<Head, Stop>
     requires few { after ≤ 4 }
     requires front { front_of wanted.notation ≡ after }
-    ensures { (rest : List ℕ) → Tells wanted (content_of after len wanted.limit wanted.room (made form)) after rest result }
+    ensures { (rest : List ℕ) →
+        Tells wanted (content_of after len wanted.limit wanted.room (made form)) after rest result }
 {
     if wanted.room < after as u64 + u64::from(len) {
         Err(Stop::Refused(Reason::Overrun))

@@ -2,8 +2,7 @@
 
 ghost use Rattle.std.specs.Prelude.{◌≡◌, ◌+◌, ◌-◌, ◌<◌, ◌≤◌, ◌^◌, ◌++◌, List, [], ℕ, true, false, length, drop, IfOk};
 ghost use Rattle.std.specs.Borrow.{sem};
-ghost use Rattle.cqlp_note.specs.Reader.{says, Takes};
-ghost use Rattle.cqlp_note.specs.Head.{Tells, front_of, reader_of, value_of, made};
+ghost use Rattle.cqlp_note.specs.Head.{Tells, front_of, reader_of, value_of};
 
 use crate::advance::{ContentPlace, FieldAdvance, FieldOutline, FieldStage, Push};
 use crate::field::Notation;
@@ -33,12 +32,13 @@ impl<A: Allocator> Model for Partial<A> {
 
     ghost view = { λ p. progress p.stage p.wanted p.front p.content.items p.room };
 
-    ghost invariant = { λ p. (p.room ≤ vec_capacity p.content) × (length p.content.items ≤ p.room) × IsUnderWay p.stage p.wanted p.front p.content.items p.room };
+    ghost invariant = { λ p. (p.room ≤ vec_capacity p.content) × (length p.content.items ≤ p.room)
+        × IsUnderWay p.stage p.wanted p.front p.content.items p.room };
 }
 
 impl<A: Allocator> Partial<A> {
     ghost use Rattle.cqlp_note.specs.Lending.{LeavesField};
-    ghost use Rattle.cqlp_note.specs.Partial.{Advances, CanLend, IsNew, Pushes, Uses, begun, ended, item_value};
+    ghost use Rattle.cqlp_note.specs.Partial.{Advances, CanLend, IsContentAfter, IsNew, Pushes, Uses, begun, ended, item_value};
 
     /// With room for contents of up to `room` bytes, and no field under way. This is the one call that takes memory;
     /// the error is that it was refused.
@@ -79,11 +79,12 @@ impl<A: Allocator> Partial<A> {
     }
 
     /// Takes the next bytes of the field that is under way. A content that lies whole in them is lent from them. No
-    /// byte behind the field is used; a field that is made or refused has ended.
+    /// byte after the field is used; a field that is made or refused has ended.
     pub fn push<'a>(&'a mut self, input: &'a [u8]) -> Push<'a>
         requires { self.old.under_way ≡ true }
         ensures uses { Uses input.now result }
-        ensures* next { sem 𝓛 (LeavesField A.row A.Allocator self.entry (λ after. Pushes self.old input.now result after)) }
+        ensures* next { sem 𝓛 (LeavesField A.row A.Allocator self.entry
+            (λ after. Pushes self.old input.now result after)) }
     {
         match self.advance(input) {
             FieldAdvance::More { used } => Push::More { used },
@@ -142,7 +143,7 @@ impl<A: Allocator> Partial<A> {
                 }
             }
             FieldStage::Idle => unreachable!(),
-            FieldStage::Front => match told(self.wanted, &self.front, input) {
+            FieldStage::Front => match head_of_pieces(self.wanted, &self.front, input) {
                 Ok(Head::Whole { used, prim }) => {
                     self.stage = FieldStage::Idle;
                     let used = used - self.front.len();
@@ -176,7 +177,8 @@ impl<A: Allocator> Partial<A> {
         requires fits { len ≤ self.old.room }
         requires within { start ≤ length input.now }
         requires front { length self.old.seen + start ≡ front_of self.old.field.notation }
-        requires told { (t : List ℕ) → says (reader_of self.old.field) 0 ((self.old.seen ++ input.now) ++ t) ≡ says (Takes len (made form)) (length self.old.seen + start) (drop start input.now ++ t) }
+        requires comes { IsContentAfter self.old.field (self.old.seen ++ input.now) len form
+            (length self.old.seen + start) (drop start input.now) }
         ensures { Advances self.old input.now result self.new }
     {
         let rest = &input[start..];
@@ -273,9 +275,9 @@ impl ContentForm {
     }
 }
 
-/// What the front of a field tells, of which the first bytes came before.
+/// Reads the front of a field of which the first bytes came before.
 #[tactic(auto, using(crate::proofs::Pieces::tells_pieces))]
-fn told(wanted: Wanted, front: &FieldFront, input: &[u8]) -> Result<Head, Stop>
+fn head_of_pieces(wanted: Wanted, front: &FieldFront, input: &[u8]) -> Result<Head, Stop>
     ensures { Tells wanted (reader_of wanted) 0 (front.now ++ input.now) result }
 {
     if front.as_slice().is_empty() {
