@@ -78,7 +78,7 @@ impl Notation {
 
 /// Reads the front of a field in its first bytes, which may be too few or go on after it.
 #[tactic(auto, using(crate::proofs::Fronts::fixed_overruns, crate::proofs::Fronts::fixed_wanting, crate::proofs::Fronts::fixed_short, crate::proofs::Fronts::fixed_tells))]
-pub(crate) fn head_of(wanted: Wanted, bytes: &[u8]) -> Result<Head, Stop>
+pub(crate) fn read_head(wanted: Wanted, bytes: &[u8]) -> Result<Head, Stop>
     ensures { Tells wanted (reader_of wanted) 0 bytes.now result }
 {
     let fixed = wanted.notation.fixed();
@@ -97,90 +97,90 @@ fn read_after_fixed(wanted: Wanted, bytes: &[u8]) -> Result<Head, Stop>
     ensures { TellsAfterFixed wanted wanted.notation bytes.now result }
 {
     match wanted.notation {
-        Notation::Byte => whole(1, Primitive::Byte(u8::from_be_bytes(first(bytes)))),
-        Notation::Short => whole(2, Primitive::Short(u16::from_be_bytes(first(bytes)))),
-        Notation::Int => whole(4, Primitive::Int(i32::from_be_bytes(first(bytes)))),
-        Notation::Long => whole(8, Primitive::Long(i64::from_be_bytes(first(bytes)))),
-        Notation::Uuid => whole(16, Primitive::Uuid(first(bytes))),
-        Notation::Count16 => whole(2, Primitive::Count(short(bytes))),
-        Notation::Count32 => count(wanted, bytes),
-        Notation::Text16 => content(wanted, 2, short(bytes), ContentForm::Text),
-        Notation::Text32 => long_text(wanted, bytes),
-        Notation::Bytes16 => content(wanted, 2, short(bytes), ContentForm::Bytes),
-        Notation::Bytes32 => nullable_bytes(wanted, bytes),
-        Notation::Bound => bound_value(wanted, bytes),
-        Notation::Inet => inet(wanted, bytes),
-        Notation::Content(len) => content(wanted, 0, len, ContentForm::Bytes),
+        Notation::Byte => end_field(1, Primitive::Byte(u8::from_be_bytes(read_first(bytes)))),
+        Notation::Short => end_field(2, Primitive::Short(u16::from_be_bytes(read_first(bytes)))),
+        Notation::Int => end_field(4, Primitive::Int(i32::from_be_bytes(read_first(bytes)))),
+        Notation::Long => end_field(8, Primitive::Long(i64::from_be_bytes(read_first(bytes)))),
+        Notation::Uuid => end_field(16, Primitive::Uuid(read_first(bytes))),
+        Notation::Count16 => end_field(2, Primitive::Count(read_short(bytes))),
+        Notation::Count32 => read_count(bytes),
+        Notation::Text16 => admit_content(wanted, 2, read_short(bytes), ContentForm::Text),
+        Notation::Text32 => read_long_text(wanted, bytes),
+        Notation::Bytes16 => admit_content(wanted, 2, read_short(bytes), ContentForm::Bytes),
+        Notation::Bytes32 => read_bytes(wanted, bytes),
+        Notation::Bound => read_value(wanted, bytes),
+        Notation::Inet => read_inet(wanted, bytes),
+        Notation::Content(len) => admit_content(wanted, 0, len, ContentForm::Bytes),
     }
 }
 
-/// A count of four bytes.
-fn count(wanted: Wanted, bytes: &[u8]) -> Result<Head, Stop>
+/// Reads a count of four bytes.
+fn read_count(bytes: &[u8]) -> Result<Head, Stop>
     requires { 4 ≤ length bytes.now }
-    ensures { TellsAfterFixed wanted Notation.Count32 bytes.now result }
+    ensures { (wanted : _) → TellsAfterFixed wanted Notation.Count32 bytes.now result }
 {
-    match natural(bytes) {
-        Some(count) => whole(4, Primitive::Count(count)),
+    match read_natural(bytes) {
+        Some(count) => end_field(4, Primitive::Count(count)),
         None => Err(Stop::Refused(Reason::BadCount)),
     }
 }
 
-/// A \[long string\].
-fn long_text(wanted: Wanted, bytes: &[u8]) -> Result<Head, Stop>
+/// Reads the length of a \[long string\].
+fn read_long_text(wanted: Wanted, bytes: &[u8]) -> Result<Head, Stop>
     requires enough { 4 ≤ length bytes.now }
     requires notation { wanted.notation ≡ Notation.Text32 }
     ensures { TellsAfterFixed wanted Notation.Text32 bytes.now result }
 {
-    match natural(bytes) {
-        Some(len) => content(wanted, 4, len, ContentForm::Text),
+    match read_natural(bytes) {
+        Some(len) => admit_content(wanted, 4, len, ContentForm::Text),
         None => Err(Stop::Refused(Reason::BadCount)),
     }
 }
 
-/// \[bytes\].
-fn nullable_bytes(wanted: Wanted, bytes: &[u8]) -> Result<Head, Stop>
+/// Reads the length of \[bytes\].
+fn read_bytes(wanted: Wanted, bytes: &[u8]) -> Result<Head, Stop>
     requires enough { 4 ≤ length bytes.now }
     requires notation { wanted.notation ≡ Notation.Bytes32 }
     ensures { TellsAfterFixed wanted Notation.Bytes32 bytes.now result }
 {
-    match natural(bytes) {
-        Some(len) => content(wanted, 4, len, ContentForm::Bytes),
-        None => whole(4, Primitive::Bytes(None)),
+    match read_natural(bytes) {
+        Some(len) => admit_content(wanted, 4, len, ContentForm::Bytes),
+        None => end_field(4, Primitive::Bytes(None)),
     }
 }
 
-/// A \[value\].
-fn bound_value(wanted: Wanted, bytes: &[u8]) -> Result<Head, Stop>
+/// Reads the length of a \[value\].
+fn read_value(wanted: Wanted, bytes: &[u8]) -> Result<Head, Stop>
     requires enough { 4 ≤ length bytes.now }
     requires notation { wanted.notation ≡ Notation.Bound }
     ensures { TellsAfterFixed wanted Notation.Bound bytes.now result }
 {
-    match natural(bytes) {
-        Some(len) => content(wanted, 4, len, ContentForm::Bound),
-        None => match i32::from_be_bytes(first(bytes)) {
-            -1 => whole(4, Primitive::Bound(BoundValue::Null)),
-            -2 => whole(4, Primitive::Bound(BoundValue::Unset)),
+    match read_natural(bytes) {
+        Some(len) => admit_content(wanted, 4, len, ContentForm::Bound),
+        None => match i32::from_be_bytes(read_first(bytes)) {
+            -1 => end_field(4, Primitive::Bound(BoundValue::Null)),
+            -2 => end_field(4, Primitive::Bound(BoundValue::Unset)),
             _ => Err(Stop::Refused(Reason::BadValueLength)),
         },
     }
 }
 
-/// An \[inet\].
-fn inet(wanted: Wanted, bytes: &[u8]) -> Result<Head, Stop>
+/// Reads an \[inet\].
+fn read_inet(wanted: Wanted, bytes: &[u8]) -> Result<Head, Stop>
     requires enough { 1 ≤ length bytes.now }
     requires notation { wanted.notation ≡ Notation.Inet }
     ensures { TellsAfterFixed wanted Notation.Inet bytes.now result }
 {
-    match u8::from_be_bytes(first(bytes)) {
-        4 => address_and_port(wanted, 4, &bytes[1..]),
-        16 => address_and_port(wanted, 16, &bytes[1..]),
+    match u8::from_be_bytes(read_first(bytes)) {
+        4 => read_address_and_port(wanted, 4, &bytes[1..]),
+        16 => read_address_and_port(wanted, 16, &bytes[1..]),
         _ => Err(Stop::Refused(Reason::BadInet)),
     }
 }
 
-/// A content of this length, after this many bytes.
+/// Goes on to a content of this length after this many bytes, if the room and the limit admit it.
 #[tactic(auto, unfolding(crate::specs::Field::content_of))]
-fn content(wanted: Wanted, after: usize, len: u32, form: ContentForm) -> Result<Head, Stop>
+fn admit_content(wanted: Wanted, after: usize, len: u32, form: ContentForm) -> Result<Head, Stop>
     requires few { after ≤ 4 }
     requires front { front_of wanted.notation ≡ after }
     ensures { (rest : List ℕ) →
@@ -195,9 +195,9 @@ fn content(wanted: Wanted, after: usize, len: u32, form: ContentForm) -> Result<
     }
 }
 
-/// An address of this many bytes and a port, after the number of the address's bytes.
+/// Reads an address of this many bytes and a port, after the number of the address's bytes.
 #[tactic(auto, using(crate::proofs::Fronts::inet_taken))]
-fn address_and_port(wanted: Wanted, size: usize, rest: &[u8]) -> Result<Head, Stop>
+fn read_address_and_port(wanted: Wanted, size: usize, rest: &[u8]) -> Result<Head, Stop>
     requires sizes { IsTrue ((size == 4) || (size == 16)) }
     requires notation { wanted.notation ≡ Notation.Inet }
     ensures { Tells wanted (inet_of size wanted.room) 1 rest.now result }
@@ -208,29 +208,29 @@ fn address_and_port(wanted: Wanted, size: usize, rest: &[u8]) -> Result<Head, St
     if rest.len() < size + 4 {
         return Err(Stop::Wanting);
     }
-    let port = i32::from_be_bytes(first(&rest[size..]));
-    whole(size + 5, Primitive::Inet(address(size, rest), port))
+    let port = i32::from_be_bytes(read_first(&rest[size..]));
+    end_field(size + 5, Primitive::Inet(read_address(size, rest), port))
 }
 
-/// The address in the first bytes, which are 4 or 16.
-fn address(size: usize, bytes: &[u8]) -> Address
+/// Reads an address in the first 4 or 16 bytes.
+fn read_address(size: usize, bytes: &[u8]) -> Address
     requires sizes { IsTrue ((size == 4) || (size == 16)) }
     requires enough { size ≤ length bytes.now }
     ensures { result ≡ address_of size (take size bytes.now) }
 {
     if size == 4 {
-        Address::V4(first(bytes))
+        Address::V4(read_first(bytes))
     } else {
-        Address::V6(first(bytes))
+        Address::V6(read_first(bytes))
     }
 }
 
-/// The number in the first four bytes, where it is not negative.
-fn natural(bytes: &[u8]) -> Option<u32>
+/// Reads the number in the first four bytes, where it is not negative.
+fn read_natural(bytes: &[u8]) -> Option<u32>
     requires { 4 ≤ length bytes.now }
     ensures { let n = from_be_bytes w32 (take 4 bytes.now) in result ≡ (if is_negative n then None else Some n) }
 {
-    let number = u32::from_be_bytes(first(bytes));
+    let number = u32::from_be_bytes(read_first(bytes));
     if number > i32::MAX as u32 {
         None
     } else {
@@ -238,23 +238,23 @@ fn natural(bytes: &[u8]) -> Option<u32>
     }
 }
 
-/// The number in the first two bytes.
-fn short(bytes: &[u8]) -> u32
+/// Reads the number in the first two bytes.
+fn read_short(bytes: &[u8]) -> u32
     requires { 2 ≤ length bytes.now }
     ensures { result ≡ from_be_bytes w16 (take 2 bytes.now) }
 {
-    u16::from_be_bytes(first(bytes)).into()
+    u16::from_be_bytes(read_first(bytes)).into()
 }
 
-/// The whole field, of this many bytes.
-fn whole(used: usize, prim: Primitive<'static>) -> Result<Head, Stop>
+/// Ends the field, which has this many bytes.
+fn end_field(used: usize, prim: Primitive<'static>) -> Result<Head, Stop>
     ensures { result ≡ Ok (Head.Whole used prim.entry) }
 {
     Ok(Head::Whole { used, prim })
 }
 
-/// The first N bytes.
-fn first<const N: usize>(bytes: &[u8]) -> [u8; N]
+/// Reads the first N bytes.
+fn read_first<const N: usize>(bytes: &[u8]) -> [u8; N]
     requires { N ≤ length bytes.now }
     ensures { result ≡ take N bytes.now }
 {

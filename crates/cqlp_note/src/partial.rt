@@ -3,11 +3,12 @@
 ghost use Rattle.std.specs.Prelude.{◌≡◌, ◌+◌, ◌-◌, ◌<◌, ◌≤◌, ◌^◌, ◌++◌, List, [], ℕ, true, false, length, drop, IfOk};
 ghost use Rattle.std.specs.Borrow.{sem};
 ghost use Rattle.cqlp_note.specs.Head.{Tells, front_of, reader_of, value_of};
+ghost use Rattle.cqlp_note.specs.Reader.{More, says};
 
 use crate::advance::{ContentPlace, FieldAdvance, FieldOutline, FieldStage, Push};
 use crate::field::Notation;
 use crate::front::FieldFront;
-use crate::head::{ContentForm, Head, Stop, Wanted, head_of};
+use crate::head::{ContentForm, Head, Stop, Wanted, read_head};
 use crate::prim::{BoundValue, Primitive};
 use crate::refusal::{NoMemory, Reason, Refusal};
 use std::alloc::{Allocator, Global};
@@ -115,12 +116,14 @@ impl<A: Allocator> Partial<A> {
 
     /// Does what `push` does, but tells where a content lies in place of lending it, so that a reader around this one
     /// can go on before it lends.
-    #[tactic(auto, using(crate::proofs::Pieces::content_front, crate::proofs::Pieces::gathered_bad, crate::proofs::Fronts::fixed_short))]
+    #[tactic(auto, using(crate::proofs::Pieces::gathered_bad))]
     pub fn advance(&mut self, input: &[u8]) -> FieldAdvance
         requires { self.old.under_way ≡ true }
         ensures { Advances self.old input.now result self.new }
     {
         match self.stage {
+            FieldStage::Idle => unreachable!(),
+            FieldStage::Front => self.read_front(input),
             FieldStage::Content { len, form } if self.content.is_empty() => {
                 self.take_content(0, len, form, input)
             }
@@ -142,24 +145,36 @@ impl<A: Allocator> Partial<A> {
                     item,
                 }
             }
-            FieldStage::Idle => unreachable!(),
-            FieldStage::Front => match head_of_pieces(self.wanted, &self.front, input) {
-                Ok(Head::Whole { used, prim }) => {
-                    self.stage = FieldStage::Idle;
-                    let used = used - self.front.len();
-                    let item = FieldOutline::Plain(prim);
-                    FieldAdvance::Got { used, item }
-                }
-                Ok(Head::Content { after, len, form }) => {
-                    let start = after - self.front.len();
-                    self.take_content(start, len, form, input)
-                }
-                Err(Stop::Wanting) => {
-                    self.front = self.front.with(input);
-                    FieldAdvance::More { used: input.len() }
-                }
-                Err(Stop::Refused(why)) => self.refuse(why),
-            },
+        }
+    }
+
+    /// Reads the front of the field, of which some bytes may have come.
+    #[tactic(auto, using(crate::proofs::Pieces::seen_is_front, crate::proofs::Fronts::fixed_short))]
+    fn read_front(&mut self, input: &[u8]) -> FieldAdvance
+        requires under_way { self.old.under_way ≡ true }
+        requires empty { self.old.content ≡ [] }
+        requires fits { self.old.field.limit ≤ self.old.room }
+        requires front { length self.old.seen ≤ front_of self.old.field.notation }
+        requires more { 0 < length self.old.seen → says (reader_of self.old.field) 0 self.old.seen ≡ More }
+        ensures { Advances self.old input.now result self.new }
+    {
+        match read_head_of_pieces(self.wanted, &self.front, input) {
+            Ok(Head::Whole { used, prim }) => {
+                self.stage = FieldStage::Idle;
+                let used = used - self.front.len();
+                let item = FieldOutline::Plain(prim);
+                FieldAdvance::Got { used, item }
+            }
+            Ok(Head::Content { after, len, form }) => {
+                let start = after - self.front.len();
+                self.take_content(start, len, form, input)
+            }
+            Err(Stop::Wanting) => {
+                self.stage = FieldStage::Front;
+                self.front = self.front.with(input);
+                FieldAdvance::More { used: input.len() }
+            }
+            Err(Stop::Refused(why)) => self.refuse(why),
         }
     }
 
@@ -277,13 +292,13 @@ impl ContentForm {
 
 /// Reads the front of a field of which the first bytes came before.
 #[tactic(auto, using(crate::proofs::Pieces::tells_pieces))]
-fn head_of_pieces(wanted: Wanted, front: &FieldFront, input: &[u8]) -> Result<Head, Stop>
+fn read_head_of_pieces(wanted: Wanted, front: &FieldFront, input: &[u8]) -> Result<Head, Stop>
     ensures { Tells wanted (reader_of wanted) 0 (front.now ++ input.now) result }
 {
     if front.as_slice().is_empty() {
-        head_of(wanted, input)
+        read_head(wanted, input)
     } else {
-        head_of(wanted, front.with(input).as_slice())
+        read_head(wanted, front.with(input).as_slice())
     }
 }
 
