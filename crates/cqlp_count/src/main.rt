@@ -6,16 +6,6 @@ use cqlp_decode::{Decoder, Event, Outcome, Sink, SinkFault, run};
 use cqlp_note::{Limits, OfStd};
 use std::process::ExitCode;
 
-/// Those of a program that is given no others.
-const LIMITS: Limits = Limits {
-    text: 1_048_576,
-    cell: 1_048_576,
-    entries: 4_096,
-    depth: 16,
-    types: true,
-    parts: false,
-};
-
 const TURNS: u64 = 4_294_967_296;
 
 /// Counts events.
@@ -40,7 +30,7 @@ impl Sink for Counter {
 }
 
 fn main(rt: HostRuntime) -> ExitCode {
-    let Ok(mut decoder) = Decoder::new(rt.alloc(), LIMITS) else {
+    let Ok(mut decoder) = Decoder::new(rt.alloc(), Limits::DEFAULT) else {
         return ExitCode::FAILURE;
     };
     let mut input = OfStd::new(rt.stdin());

@@ -9,7 +9,7 @@ use Rattle.cqlp_note.specs.declared.advance.FieldOutline.{FieldOutline}
 use Rattle.cqlp_note.specs.Reader.{Said, Reader, More, Bad, Got, Gives as GivesNow, Refuses, Takes, Idles, says}
 use Rattle.cqlp_note.specs.Field.{FieldValue, field_of}
 use Rattle.cqlp_note.specs.Step.{Emitted, after_field}
-use Rattle.cqlp_note.specs.Head.{reader_of, fixed_of, behind_fixed}
+use Rattle.cqlp_note.specs.Head.{reader_of, fixed_of, after_fixed}
 use Rattle.cqlp_note.specs.Limits.{rules_of, limit_of}
 use Rattle.cqlp_note.specs.Partial.{FieldState, item_value, CanLend, Ends}
 use Rattle.cqlp_note.specs.Partial as partial
@@ -65,7 +65,7 @@ module _ (n : Notation) (limit room : ℕ) (bytes : List ℕ) (v : FieldValue) (
 
   -- a field takes its fixed part
   fixed_got : fixed_of n ≤ k
-  fixed_got = got_from (behind_fixed n limit room (take (fixed_of n) bytes)) (fixed_of n) (drop (fixed_of n) bytes ++ []) v k (sym (rw (append-nil bytes) at (fixed_taken n limit room bytes has_room has_fixed [])) ∙ got)
+  fixed_got = got_from (after_fixed n limit room (take (fixed_of n) bytes)) (fixed_of n) (drop (fixed_of n) bytes ++ []) v k (sym (rw (append-nil bytes) at (fixed_taken n limit room bytes has_room has_fixed [])) ∙ got)
 
 -- bytes that were not enough are more with those that end the field
 pub used_some : {A F : Type 0} (r : Reader A F) (seen input : List ℕ) (v : A) (used : ℕ) → says r 0 seen ≡ More → says r 0 (seen ++ input) ≡ Got v (length seen + used) → 0 < used

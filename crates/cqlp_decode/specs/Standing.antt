@@ -1,5 +1,6 @@
 -- Where a decoder stands, and what a call makes of it.
 use Rattle.std.specs.Prelude.{◌≡◌, ℕ, ◌+◌, ◌-◌, ◌*◌, ◌<◌, ◌≤◌, ◌^◌, ◌++◌, true, false, List, [], ◌∷◌, length, take, Option, Some, None, max, ⊤, if◌then◌else◌}
+use Rattle.cqlp_note.specs.declared.header.TheConstants.Header.{LONGEST_BODY}
 use Rattle.cqlp_note.specs.declared.refusal.Reason.{Reason}
 use Rattle.cqlp_note.specs.declared.refusal.Refusal.{Refusal}
 use Rattle.cqlp_note.specs.declared.head.Wanted.{Wanted}
@@ -356,8 +357,8 @@ IsPlaced s q t = ⊤
 pub record IsBounded (s : StreamStanding) : Type 0 where
   pub long : length s.header ≡ 9
   pub inside : s.offset ≤ s.stop
-  pub size : s.stop ≤ s.offset + 268435456
-  pub bound : s.stop ≤ 2 ^ 63 + 268435465
+  pub size : s.stop ≤ s.offset + LONGEST_BODY
+  pub bound : s.stop ≤ 2 ^ 63 + 9 + LONGEST_BODY
 
 -- The parts have just the room that the limits ask for.
 pub record HasParts (s : StreamStanding) (q : PartsState) : Type 0 where

@@ -248,7 +248,7 @@ impl StreamStanding {
         requires bounded { IsBounded self.old }
         requires here { self.old.stage ≡ stage.Header }
         requires early { self.old.offset ≤ 2 ^ 63 }
-        requires length { header.now.length ≤ 268435456 }
+        requires length { header.now.length ≤ Header.LONGEST_BODY }
         requires unrefused { self.old.refusal ≡ None }
         ensures bounded { IsBounded self.new }
         ensures offset { self.new.offset ≡ self.old.offset + 9 }

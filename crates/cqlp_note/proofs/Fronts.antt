@@ -1,5 +1,5 @@
 -- Every field begins with its fixed part.
-use Rattle.std.proofs.Common.{◌≡◌, ℕ, ◌+◌, ◌-◌, ◌^◌, ◌<◌, ◌≤◌, false, List, [], ◌++◌, length, take, drop, zero-add, add_comm, Result, Ok, Err, refl, ◌∙◌, lit≤, lit<, arith}
+use Rattle.std.proofs.Common.{◌≡◌, ℕ, ◌+◌, ◌-◌, ◌^◌, ◌<◌, ◌≤◌, ◌==◌, ◌||◌, true, false, if◌then◌else◌, List, [], ◌++◌, Option, Some, None, length, take, drop, zero-add, add_comm, Result, Ok, Err, refl, ◌∙◌, lit≤, lit<, arith}
 use Rattle.std.specs.Int.{w32, from_be_bytes}
 use Rattle.std.proofs.lemmas.Bool.{lt-ltb, le-ltb, ltb-false, ne_eqb}
 use Rattle.std.proofs.lemmas.List.{take-append-le, drop-append-le, length-append, length-drop, drop-drop, append-nil}
@@ -7,8 +7,8 @@ use Rattle.cqlp_note.specs.declared.field.Notation.{Notation}
 use Rattle.cqlp_note.specs.declared.field.Notation.TheVariants as notation
 use Rattle.cqlp_note.specs.declared.refusal.Reason.TheVariants.{Overrun}
 use Rattle.cqlp_note.specs.Reader.{Takes, More, Bad, Got, says, fits, number_of}
-use Rattle.cqlp_note.specs.Field.{Inet, field_of, content_of, is_negative, signed, address_of}
-use Rattle.cqlp_note.specs.Head.{fixed_of, behind_fixed, front_of, inet_of, made, reader_of, Tells}
+use Rattle.cqlp_note.specs.Field.{Inet, field_of, content_of, inet_of, is_negative, signed, address_of}
+use Rattle.cqlp_note.specs.Head.{fixed_of, after_fixed, front_of, made, reader_of, Tells}
 use Rattle.cqlp_note.specs.declared.head.Wanted.{Wanted}
 use Rattle.cqlp_note.specs.declared.head.ContentForm.TheVariants as form
 use Rattle.cqlp_note.specs.declared.head.Head.{Head}
@@ -17,7 +17,7 @@ use Rattle.cqlp_note.specs.declared.head.Stop.{Stop}
 use Rattle.cqlp_note.specs.declared.head.Stop.TheVariants as stop
 
 fixed_first : (n : Notation) (limit room : ℕ) (bytes : List ℕ)
-    → says (field_of n limit room) 0 bytes ≡ says (fits Overrun room (fixed_of n) (Takes (fixed_of n) (behind_fixed n limit room))) 0 bytes
+    → says (field_of n limit room) 0 bytes ≡ says (fits Overrun room (fixed_of n) (Takes (fixed_of n) (after_fixed n limit room))) 0 bytes
 unfolding field_of number_of
 fixed_first notation.Byte limit room bytes = refl
 fixed_first notation.Short limit room bytes = refl
@@ -42,14 +42,14 @@ module _ (n : Notation) (limit room : ℕ) (bytes : List ℕ) where
   fixed_wanting le lt = rw (fixed_first n limit room bytes, le-ltb _ _ le, lt-ltb _ _ lt)
 
   pub fixed_taken : fixed_of n ≤ room → fixed_of n ≤ length bytes → (t : List ℕ)
-      → says (field_of n limit room) 0 (bytes ++ t) ≡ says (behind_fixed n limit room (take (fixed_of n) bytes)) (fixed_of n) (drop (fixed_of n) bytes ++ t)
+      → says (field_of n limit room) 0 (bytes ++ t) ≡ says (after_fixed n limit room (take (fixed_of n) bytes)) (fixed_of n) (drop (fixed_of n) bytes ++ t)
   fixed_taken le long t =
       let enough : fixed_of n ≤ length (bytes ++ t) = omega (arith, length-append bytes t) in
       rw (fixed_first n limit room (bytes ++ t), le-ltb _ _ le, le-ltb _ _ enough, take-append-le _ bytes t long, drop-append-le _ bytes t long, zero-add)
 
 -- what is told behind the fixed part is told of the field
 pub fixed_tells : (w : Wanted) (bytes : List ℕ) (r : Result Head Stop) → fixed_of w.notation ≤ w.room → fixed_of w.notation ≤ length bytes
-    → Tells w (behind_fixed w.notation w.limit w.room (take (fixed_of w.notation) bytes)) (fixed_of w.notation) (drop (fixed_of w.notation) bytes) r → Tells w (reader_of w) 0 bytes r
+    → Tells w (after_fixed w.notation w.limit w.room (take (fixed_of w.notation) bytes)) (fixed_of w.notation) (drop (fixed_of w.notation) bytes) r → Tells w (reader_of w) 0 bytes r
 fixed_tells w bytes (Ok (head.Whole used v)) le long h =
     (omega (arith, length-drop (fixed_of w.notation) bytes, h.0), λ t. fixed_taken w.notation w.limit w.room bytes le long t ∙ h.1 t, h.2)
 fixed_tells w bytes (Ok (head.Content behind len f)) le long h =
@@ -92,7 +92,14 @@ inet_taken n room rest t fit long =
     rw (le-ltb room (n + 5) fit, le-ltb _ _ first, take-append-le n rest t short, drop-append-le n rest t short, le-ltb _ _ second, take-append-le 4 (drop n rest) t left, count) refl
 
 -- a length that is not negative is neither null nor not set
-pub bound_known : (limit room : ℕ) (c : List ℕ) → is_negative (from_be_bytes w32 c) ≡ false → behind_fixed notation.Bound limit room c ≡ content_of 4 (from_be_bytes w32 c) limit room (made form.Bound)
+pub bound_known : (limit room : ℕ) (c : List ℕ) → is_negative (from_be_bytes w32 c) ≡ false → after_fixed notation.Bound limit room c ≡ content_of 4 (from_be_bytes w32 c) limit room (made form.Bound)
 bound_known limit room c t =
     let low : from_be_bytes w32 c < 2 ^ 31 = omega (arith, ltb-false _ _ t) in
     rw (ne_eqb (from_be_bytes w32 c) (2 ^ 32 - 1) (omega arith), ne_eqb (from_be_bytes w32 c) (2 ^ 32 - 2) (omega arith), t) refl
+
+-- a length that is not negative
+pub natural_some : (n m : ℕ) → Some m ≡ (if is_negative n then None else Some n) → (is_negative n ≡ false) × (n ≡ m)
+natural_some n m e = elim (is_negative n) as (λ t. is_negative n ≡ t → (t ≡ false) × (n ≡ m)) [
+  | true ↦ λ is. let no : ◌≡◌ {A = Option ℕ} (Some m) None = rw is at e in absurd cc
+  | false ↦ λ is. let some : ◌≡◌ {A = Option ℕ} (Some m) (Some n) = rw is at e in (refl, cc)
+] refl

@@ -1,5 +1,5 @@
--- What is told of a field by its front.
-use Rattle.std.specs.Prelude.{◌≡◌, ℕ, ◌+◌, ◌-◌, ◌^◌, ◌++◌, ◌<◌, ◌≤◌, ◌==◌, ◌||◌, List, length, drop, Some, None, Result, Ok, Err, if◌then◌else◌, ⊤}
+-- What the front of a field tells of it.
+use Rattle.std.specs.Prelude.{◌≡◌, ℕ, ◌+◌, ◌-◌, ◌^◌, ◌++◌, ◌<◌, ◌≤◌, ◌==◌, ◌||◌, List, length, take, drop, Some, None, Result, Ok, Err, if◌then◌else◌, ⊤}
 use Rattle.std.specs.Int.{w8, w16, w32, w64, from_be_bytes, cast_signed}
 use Rattle.cqlp_note.specs.declared.field.Notation.{Notation}
 use Rattle.cqlp_note.specs.declared.field.Notation.TheVariants as notation
@@ -14,8 +14,8 @@ use Rattle.cqlp_note.specs.declared.head.Head.{Head}
 use Rattle.cqlp_note.specs.declared.head.Head.TheVariants as head
 use Rattle.cqlp_note.specs.declared.head.Stop.{Stop}
 use Rattle.cqlp_note.specs.declared.head.Stop.TheVariants as stop
-use Rattle.cqlp_note.specs.Reader.{More, Bad, Got, Gives, Refuses, Takes, says, fits}
-use Rattle.cqlp_note.specs.Field.{FieldValue, Byte, Short, Int, Long, Uuid, Count, Text, Bytes, Bound, Inet, Null, Unset, Known, FieldReader, text_of, field_of, content_of, is_negative, signed, address_of}
+use Rattle.cqlp_note.specs.Reader.{More, Bad, Got, Gives, Refuses, Takes, says}
+use Rattle.cqlp_note.specs.Field.{FieldValue, Byte, Short, Int, Long, Uuid, Count, Text, Bytes, Bound, Inet, Null, Unset, Known, FieldReader, text_of, field_of, content_of, inet_of, is_negative, signed}
 
 abbrev pub value_of : Primitive → FieldValue
 value_of (prim.Byte n) = Byte n
@@ -67,55 +67,52 @@ fixed_of notation.Bound = 4
 fixed_of notation.Inet = 1
 fixed_of (notation.Content n) = 0
 
--- an address of n bytes and a port, behind the number of the address's bytes
-abbrev pub inet_of : (n room : ℕ) → FieldReader
-inet_of n room = fits Overrun room (n + 5) (Takes n (λ a. Takes 4 (λ b. Gives (Inet (address_of n a) (signed (from_be_bytes w32 b))))))
-
 -- what goes by that part
-abbrev pub behind_fixed : Notation → (limit room : ℕ) → List ℕ → FieldReader
-behind_fixed notation.Byte limit room c = Gives (Byte (from_be_bytes w8 c))
-behind_fixed notation.Short limit room c = Gives (Short (from_be_bytes w16 c))
-behind_fixed notation.Int limit room c = Gives (Int (signed (from_be_bytes w32 c)))
-behind_fixed notation.Long limit room c = Gives (Long (cast_signed w64 (from_be_bytes w64 c)))
-behind_fixed notation.Uuid limit room c = Gives (Uuid c)
-behind_fixed notation.Count16 limit room c = Gives (Count (from_be_bytes w16 c))
-behind_fixed notation.Count32 limit room c = if is_negative (from_be_bytes w32 c) then Refuses BadCount else Gives (Count (from_be_bytes w32 c))
-behind_fixed notation.Text16 limit room c = content_of 2 (from_be_bytes w16 c) limit room (made form.Text)
-behind_fixed notation.Text32 limit room c = if is_negative (from_be_bytes w32 c) then Refuses BadCount else content_of 4 (from_be_bytes w32 c) limit room (made form.Text)
-behind_fixed notation.Bytes16 limit room c = content_of 2 (from_be_bytes w16 c) limit room (made form.Bytes)
-behind_fixed notation.Bytes32 limit room c = if is_negative (from_be_bytes w32 c) then Gives (Bytes None) else content_of 4 (from_be_bytes w32 c) limit room (made form.Bytes)
-behind_fixed notation.Bound limit room c =
+abbrev pub after_fixed : Notation → (limit room : ℕ) → List ℕ → FieldReader
+after_fixed notation.Byte limit room c = Gives (Byte (from_be_bytes w8 c))
+after_fixed notation.Short limit room c = Gives (Short (from_be_bytes w16 c))
+after_fixed notation.Int limit room c = Gives (Int (signed (from_be_bytes w32 c)))
+after_fixed notation.Long limit room c = Gives (Long (cast_signed w64 (from_be_bytes w64 c)))
+after_fixed notation.Uuid limit room c = Gives (Uuid c)
+after_fixed notation.Count16 limit room c = Gives (Count (from_be_bytes w16 c))
+after_fixed notation.Count32 limit room c =
+    if is_negative (from_be_bytes w32 c) then Refuses BadCount else Gives (Count (from_be_bytes w32 c))
+after_fixed notation.Text16 limit room c = content_of 2 (from_be_bytes w16 c) limit room (made form.Text)
+after_fixed notation.Text32 limit room c =
+    if is_negative (from_be_bytes w32 c) then Refuses BadCount
+    else content_of 4 (from_be_bytes w32 c) limit room (made form.Text)
+after_fixed notation.Bytes16 limit room c = content_of 2 (from_be_bytes w16 c) limit room (made form.Bytes)
+after_fixed notation.Bytes32 limit room c =
+    if is_negative (from_be_bytes w32 c) then Gives (Bytes None)
+    else content_of 4 (from_be_bytes w32 c) limit room (made form.Bytes)
+after_fixed notation.Bound limit room c =
     if from_be_bytes w32 c == (2 ^ 32 - 1) then Gives (Bound Null)
     else if from_be_bytes w32 c == (2 ^ 32 - 2) then Gives (Bound Unset)
     else if is_negative (from_be_bytes w32 c) then Refuses BadValueLength
     else content_of 4 (from_be_bytes w32 c) limit room (made form.Bound)
-behind_fixed notation.Inet limit room c = if (from_be_bytes w8 c == 4) || (from_be_bytes w8 c == 16) then inet_of (from_be_bytes w8 c) room else Refuses BadInet
-behind_fixed (notation.Content n) limit room c = content_of 0 n limit room (made form.Bytes)
+after_fixed notation.Inet limit room c =
+    if (from_be_bytes w8 c == 4) || (from_be_bytes w8 c == 16) then inet_of (from_be_bytes w8 c) room
+    else Refuses BadInet
+after_fixed (notation.Content n) limit room c = content_of 0 n limit room (made form.Bytes)
 
 -- what goes before a content, at most
 abbrev pub front_of : Notation → ℕ
 front_of notation.Inet = 21
 front_of n = fixed_of n
 
--- ---- what is told
+-- ---- what a front tells
 
--- What the reader of a field says behind k bytes, of the rest and of whatever follows, is told by this.
+-- What the reader of a field says after k bytes, of the rest and of whatever follows, is what this tells.
 abbrev pub Tells : Wanted → FieldReader → (k : ℕ) → (rest : List ℕ) → Result Head Stop → Type 0
-Tells w r k rest (Ok (head.Whole used v)) = (used ≤ k + length rest) × ((t : List ℕ) → says r k (rest ++ t) ≡ Got (value_of v) used) × HasNoContent v
-Tells w r k rest (Ok (head.Content behind len f)) =
-    (behind ≡ front_of w.notation) × (k ≤ behind) × (behind ≤ k + length rest) × (len ≤ w.limit) × ((t : List ℕ) → says r k (rest ++ t) ≡ says (Takes len (made f)) behind (drop (behind - k) rest ++ t))
+Tells w r k rest (Ok (head.Whole used v)) =
+    (used ≤ k + length rest) × ((t : List ℕ) → says r k (rest ++ t) ≡ Got (value_of v) used) × HasNoContent v
+Tells w r k rest (Ok (head.Content after len f)) =
+    (after ≡ front_of w.notation) × (k ≤ after) × (after ≤ k + length rest) × (len ≤ w.limit)
+    × ((t : List ℕ) → says r k (rest ++ t) ≡ says (Takes len (made f)) after (drop (after - k) rest ++ t))
 Tells w r k rest (Err stop.Wanting) = (k + length rest < front_of w.notation) × (says r k rest ≡ More)
 Tells w r k rest (Err (stop.Refused why)) = (t : List ℕ) → says r k (rest ++ t) ≡ Bad why
 
--- the same of a content of len bytes, of which k bytes tell, whatever they lie in
-abbrev pub TellsContent : Wanted → (k len : ℕ) → ContentForm → Result Head Stop → Type 0
-TellsContent w k len f (Ok (head.Whole used v)) = ⊥
-TellsContent w k len f (Ok (head.Content behind n g)) = (behind ≡ k) × (n ≡ len) × (g ≡ f) × (len ≤ w.limit) × (content_of k len w.limit w.room (made f) ≡ Takes len (made f))
-TellsContent w k len f (Err stop.Wanting) = ⊥
-TellsContent w k len f (Err (stop.Refused why)) = content_of k len w.limit w.room (made f) ≡ Refuses why
-
--- the same of an address of n bytes and a port
-abbrev pub TellsInet : (n room : ℕ) → (rest : List ℕ) → Result (List ℕ × List ℕ) Stop → Type 0
-TellsInet n room rest (Ok (a, b)) = (n + 4 ≤ length rest) × ((t : List ℕ) → says (inet_of n room) 1 (rest ++ t) ≡ Got (Inet (address_of n a) (signed (from_be_bytes w32 b))) (n + 5))
-TellsInet n room rest (Err stop.Wanting) = (length rest < n + 4) × (says (inet_of n room) 1 rest ≡ More)
-TellsInet n room rest (Err (stop.Refused why)) = (t : List ℕ) → says (inet_of n room) 1 (rest ++ t) ≡ Bad why
+-- what the bytes after its fixed part tell of a field in this notation
+abbrev pub TellsAfterFixed : Wanted → Notation → (bytes : List ℕ) → Result Head Stop → Type 0
+TellsAfterFixed w n bytes r =
+    Tells w (after_fixed n w.limit w.room (take (fixed_of n) bytes)) (fixed_of n) (drop (fixed_of n) bytes) r

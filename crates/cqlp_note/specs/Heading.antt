@@ -4,6 +4,7 @@ use Rattle.std.specs.Int.{w16, w32, from_be_bytes, to_be_bytes, cast_signed, cas
 use Rattle.cqlp_note.specs.declared.opcode.Opcode.{Opcode}
 use Rattle.cqlp_note.specs.declared.opcode.Opcode.TheVariants as opcode
 use Rattle.cqlp_note.specs.declared.header.Header.{Header}
+use Rattle.cqlp_note.specs.declared.header.TheConstants.Header.{LONGEST_BODY}
 use Rattle.cqlp_note.specs.declared.refusal.Reason.{Reason}
 use Rattle.cqlp_note.specs.declared.refusal.Reason.TheVariants.{BadVersion, Compressed, BadOpcode, BadDirection, BadLength}
 use Rattle.cqlp_note.specs.declared.refusal.Refusal.{Refusal}
@@ -23,7 +24,8 @@ opcodes =
     (0x00, opcode.Error) ∷ (0x01, opcode.Startup) ∷ (0x02, opcode.Ready) ∷ (0x03, opcode.Authenticate)
     ∷ (0x05, opcode.Options) ∷ (0x06, opcode.Supported) ∷ (0x07, opcode.Query) ∷ (0x08, opcode.Result)
     ∷ (0x09, opcode.Prepare) ∷ (0x0A, opcode.Execute) ∷ (0x0B, opcode.Register) ∷ (0x0C, opcode.Event)
-    ∷ (0x0D, opcode.Batch) ∷ (0x0E, opcode.AuthChallenge) ∷ (0x0F, opcode.AuthResponse) ∷ (0x10, opcode.AuthSuccess) ∷ []
+    ∷ (0x0D, opcode.Batch) ∷ (0x0E, opcode.AuthChallenge) ∷ (0x0F, opcode.AuthResponse) ∷ (0x10, opcode.AuthSuccess)
+    ∷ []
 
 -- an opcode's number
 abbrev pub code_of : Opcode → ℕ
@@ -67,12 +69,14 @@ answers opcode.AuthSuccess = true
 pub record IsLawful (h : Header) : Type 0 where
   pub plain : has h.flags 0x01 ≡ false
   pub direction : answers h.opcode ≡ h.response
-  pub bounded : h.length ≤ 268435456
+  pub bounded : h.length ≤ LONGEST_BODY
 
 -- Section 2: the nine bytes of a header are the version with the direction, the flags, the stream id, the opcode and
 -- the length of the body.
 abbrev pub header_bytes : Header → List ℕ
-header_bytes h = (if h.response then 0x84 else 0x04) ∷ h.flags ∷ to_be_bytes w16 (cast_unsigned w16 h.stream) ++ code_of h.opcode ∷ to_be_bytes w32 h.length
+header_bytes h =
+    (if h.response then 0x84 else 0x04) ∷ h.flags ∷ to_be_bytes w16 (cast_unsigned w16 h.stream)
+    ++ code_of h.opcode ∷ to_be_bytes w32 h.length
 
 -- nine bytes as a header, or which byte is at fault and why
 abbrev pub Heading : Type 0
@@ -87,18 +91,26 @@ heading_of response b None = Err (4, BadOpcode)
 heading_of response b (Some o) =
     let length = from_be_bytes w32 (take 4 (drop 5 b)) in
     if same (answers o) response
-    then (if nat_lt 268435456 length then Err (5, BadLength)
-    else Ok (record { response = response; flags = slice_index b 1; stream = cast_signed w16 (from_be_bytes w16 (take 2 (drop 2 b))); opcode = o; length = length }))
+    then (if nat_lt LONGEST_BODY length then Err (5, BadLength)
+    else Ok (record {
+      response = response;
+      flags = slice_index b 1;
+      stream = cast_signed w16 (from_be_bytes w16 (take 2 (drop 2 b)));
+      opcode = o;
+      length = length;
+    }))
     else Err (4, BadDirection)
 
 unfoldable pub heading : List ℕ → Heading
 heading b =
     if (slice_index b 0 == 0x04) || (slice_index b 0 == 0x84)
-    then (if has (slice_index b 1) 0x01 then Err (1, Compressed) else heading_of (slice_index b 0 == 0x84) b (beside_number (slice_index b 4) opcodes))
+    then (if has (slice_index b 1) 0x01
+    then Err (1, Compressed)
+    else heading_of (slice_index b 0 == 0x84) b (beside_number (slice_index b 4) opcodes))
     else Err (0, BadVersion)
 
 -- a header is the one that the bytes are, lawful, and has those bytes; or the refusal is theirs in a frame that begins
 -- at an offset
 abbrev pub Headed : (at : ℕ) → List ℕ → Result Header Refusal → Type 0
-Headed at bytes (Ok h) = (heading bytes ≡ Ok h) × (h.length ≤ 268435456) × IsLawful h × (header_bytes h ≡ bytes)
+Headed at bytes (Ok h) = (heading bytes ≡ Ok h) × (h.length ≤ LONGEST_BODY) × IsLawful h × (header_bytes h ≡ bytes)
 Headed at bytes (Err r) = (e : ℕ × Reason) × (heading bytes ≡ Err e) × (r.at ≡ at + e.0) × (r.why ≡ e.1)

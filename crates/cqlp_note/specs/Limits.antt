@@ -1,21 +1,23 @@
 -- The caller's limits.
 use Rattle.std.specs.Prelude.{ℕ, Bool, ◌&&◌, nat_le, if◌then◌else◌, Result, Ok, Err}
 use Rattle.cqlp_note.specs.declared.limits.Limits.{Limits}
+use Rattle.cqlp_note.specs.declared.limits.LimitRange.{LimitRange}
+use Rattle.cqlp_note.specs.declared.limits.TheConstants.Limits.{TEXT, CELL, ENTRIES, DEPTH}
 use Rattle.cqlp_note.specs.declared.limits.BadLimits.{BadLimits}
 use Rattle.cqlp_note.specs.declared.limits.BadLimits.TheVariants as bad
 use Rattle.cqlp_note.specs.declared.field.Notation.{Notation}
 use Rattle.cqlp_note.specs.declared.field.Notation.TheVariants as notation
 
-abbrev pub is_between : (least greatest n : ℕ) → Bool
-is_between least greatest n = nat_le least n && nat_le n greatest
+abbrev pub is_in : LimitRange → ℕ → Bool
+is_in range n = nat_le range.least n && nat_le n range.greatest
 
 -- the first limit that is out of its range
 abbrev pub first_bad : Limits → Result Unit BadLimits
 first_bad l =
-    if is_between 32 16777216 l.text
-    then (if is_between 32 16777216 l.cell
-    then (if is_between 1 65536 l.entries
-    then (if is_between 1 64 l.depth then Ok tt else Err bad.Depth)
+    if is_in TEXT l.text
+    then (if is_in CELL l.cell
+    then (if is_in ENTRIES l.entries
+    then (if is_in DEPTH l.depth then Ok tt else Err bad.Depth)
     else Err bad.Entries)
     else Err bad.Cell)
     else Err bad.Text
@@ -31,7 +33,15 @@ pub record Rules : Type 0 where
   pub parts : Bool
 
 abbrev pub rules_of : Limits → Rules
-rules_of l = record { text = l.text; cell = l.cell; entries = l.entries; depth = l.depth; part = l.cell; types = l.types; parts = l.parts }
+rules_of l = record {
+  text = l.text;
+  cell = l.cell;
+  entries = l.entries;
+  depth = l.depth;
+  part = l.cell;
+  types = l.types;
+  parts = l.parts;
+}
 
 -- the caller's limit on the content of a field in this notation
 abbrev pub limit_of : Rules → Notation → ℕ

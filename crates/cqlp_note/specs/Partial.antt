@@ -58,14 +58,29 @@ seen_of stage.Front front content = front
 seen_of (stage.Content len f) front content = front ++ content
 
 abbrev pub progress : FieldStage → Wanted → (front content : List ℕ) → (room : ℕ) → FieldState
-progress s w front content room = record { room = room; under_way = is_under_way s; field = w; seen = seen_of s front content; content = content }
+progress s w front content room = record {
+  room = room;
+  under_way = is_under_way s;
+  field = w;
+  seen = seen_of s front content;
+  content = content;
+}
 
--- A front goes on, or is empty. A content of len bytes goes on behind its front.
+-- Whatever follows these bytes of a field, after `taken` of them comes a content of len bytes, which begins with `rest`.
+abbrev pub IsContentAfter : Wanted → (bytes : List ℕ) → (len : ℕ) → ContentForm → (taken : ℕ) → (rest : List ℕ) → Type 0
+IsContentAfter w bytes len f taken rest =
+    (t : List ℕ) → says (reader_of w) 0 (bytes ++ t) ≡ says (Takes len (made f)) taken (rest ++ t)
+
+-- A front goes on, or is empty. A content of len bytes goes on after its front.
 abbrev pub IsUnderWay : FieldStage → Wanted → (front content : List ℕ) → (room : ℕ) → Type 0
 IsUnderWay stage.Idle w front content room = ⊤
-IsUnderWay stage.Front w front content room = (content ≡ []) × (w.limit ≤ room) × (length front ≤ front_of w.notation) × (0 < length front → says (reader_of w) 0 front ≡ More)
+IsUnderWay stage.Front w front content room =
+    (content ≡ []) × (w.limit ≤ room) × (length front ≤ front_of w.notation)
+    × (0 < length front → says (reader_of w) 0 front ≡ More)
 IsUnderWay (stage.Content len f) w front content room =
-    (length front ≤ 24) × (length content < len) × (len ≤ room) × ((t : List ℕ) → says (reader_of w) 0 ((front ++ content) ++ t) ≡ says (Takes len (made f)) (length front) (content ++ t)) × (length front ≡ front_of w.notation)
+    (length front ≤ 24) × (length content < len) × (len ≤ room)
+    × IsContentAfter w (front ++ content) len f (length front) content
+    × (length front ≡ front_of w.notation)
 
 -- ---- what is handed out
 
@@ -120,7 +135,7 @@ pub record Ends (old : FieldState) (input : List ℕ) (used : ℕ) (v : FieldVal
   pub kept : used < content_length v → new.content ≡ content_bytes v
   pub fits : length new.content ≤ old.room
 
--- All of the input belongs to the field, which goes on. The buffer holds what has come of its content, all behind the
+-- All of the input belongs to the field, which goes on. The buffer holds what has come of its content, all after the
 -- bytes that go before one, and has room for it.
 pub record Waits (old : FieldState) (input : List ℕ) (used : ℕ) (new : FieldState) : Type 0 where
   pub all : used ≡ length input
@@ -132,13 +147,16 @@ pub record Waits (old : FieldState) (input : List ℕ) (used : ℕ) (new : Field
 -- What the input adds to the bytes before it makes of a field.
 abbrev pub Advances : FieldState → List ℕ → FieldAdvance → FieldState → Type 0
 Advances old input (taken.More used) new = Waits old input used new
-Advances old input (taken.Got used i) new = Ends old input used (item_value i input new.content) new × CanLend i input new.content
-Advances old input (taken.Refused r) new = (r.at ≡ old.field.at) × (says (reader_of old.field) 0 (old.seen ++ input) ≡ Bad r.why) × (new ≡ ended old [])
+Advances old input (taken.Got used i) new =
+    Ends old input used (item_value i input new.content) new × CanLend i input new.content
+Advances old input (taken.Refused r) new =
+    (r.at ≡ old.field.at) × (says (reader_of old.field) 0 (old.seen ++ input) ≡ Bad r.why) × (new ≡ ended old [])
 
 abbrev pub Pushes : FieldState → List ℕ → Push → FieldState → Type 0
 Pushes old input (push.More used) new = Waits old input used new
 Pushes old input (push.Got used v) new = Ends old input used (value_of v) new
-Pushes old input (push.Refused r) new = (r.at ≡ old.field.at) × (says (reader_of old.field) 0 (old.seen ++ input) ≡ Bad r.why) × (new ≡ ended old [])
+Pushes old input (push.Refused r) new =
+    (r.at ≡ old.field.at) × (says (reader_of old.field) 0 (old.seen ++ input) ≡ Bad r.why) × (new ≡ ended old [])
 
 -- How much of the input is used: all of it while the field goes on, and no more than it where the field ends.
 abbrev pub Uses : List ℕ → Push → Type 0

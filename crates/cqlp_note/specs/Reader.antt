@@ -16,14 +16,15 @@ pub data Reader (A F : Type 0) : Type 0 where
   Takes : (n : ℕ) → (List ℕ → Reader A F) → Reader A F
   Idles : Reader A F
 
--- what a reader that has taken so many bytes says of those behind them
+-- what a reader that has taken this many bytes says of those after them
 abbrev pub says : {A F : Type 0} → Reader A F → (taken : ℕ) → List ℕ → Said A F
 says (Gives v) taken bytes = Got v taken
 says (Refuses why) taken bytes = Bad why
 says Idles taken bytes = More
-says (Takes n next) taken bytes = if nat_lt (length bytes) n then More else says (next (take n bytes)) (taken + n) (drop n bytes)
+says (Takes n next) taken bytes =
+    if nat_lt (length bytes) n then More else says (next (take n bytes)) (taken + n) (drop n bytes)
 
--- n bytes that a container with so much room has to hold
+-- n bytes that a container with this much room has to hold
 abbrev pub fits : {A F : Type 0} → F → (room n : ℕ) → Reader A F → Reader A F
 fits fault room n next = if nat_lt room n then Refuses fault else next
 

@@ -18,7 +18,7 @@ pub record Counted (n : ℕ) (w : Width) (content bytes : List ℕ) : Type 0 whe
   pub counts : IsNumber n w (length content) head
   pub parts : bytes ≡ head ++ content
 
--- an address behind the number of its bytes, and a port
+-- an address after the number of its bytes, and a port
 pub record IsInet (address bytes : List ℕ) (port : ℕ) : Type 0 where
   pub head : List ℕ
   pub tail : List ℕ

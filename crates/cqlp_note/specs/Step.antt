@@ -34,4 +34,6 @@ map_step f g (Takes n next) = Takes n (λ c. map_step f g (next c))
 -- These steps, from p over these bytes, say these events and lead to q, before the bytes that are left.
 abbrev pub Runs : {E P : Type 0} → (P → Step E P) → P → List ℕ → List (ℕ × E) → P → List ℕ → Type 0
 Runs step p bytes [] q rest = (q ≡ p) × (rest ≡ bytes)
-Runs step p bytes (e ∷ es) q rest = (used : ℕ) × (after : _) × (says (step p) 0 bytes ≡ Got (record { at = e.0; event = e.1; after = after }) used) × Runs step (after used) (drop used bytes) es q rest
+Runs step p bytes (e ∷ es) q rest =
+    (used : ℕ) × (after : _) × (says (step p) 0 bytes ≡ Got (record { at = e.0; event = e.1; after = after }) used)
+    × Runs step (after used) (drop used bytes) es q rest

@@ -18,7 +18,7 @@ pub(crate) enum FieldStage {
 /// Where a content lies.
 #[derive(Clone, Copy)]
 pub enum ContentPlace {
-    /// So many bytes of the input, from an index on.
+    /// This many bytes of the input, from an index on.
     InInput { start: usize, len: usize },
     /// All that the buffer holds.
     InBuffer,
@@ -41,7 +41,7 @@ pub enum FieldOutline {
 pub enum FieldAdvance {
     /// All of it was used, and the field goes on.
     More { used: usize },
-    /// So many of its bytes end the field.
+    /// This many of its bytes end the field.
     Got { used: usize, item: FieldOutline },
     /// The field ends, since it is refused.
     Refused(Refusal),
@@ -52,7 +52,7 @@ pub enum FieldAdvance {
 pub enum Push<'a> {
     /// All of it was used, and the field goes on.
     More { used: usize },
-    /// So many of its bytes end the field.
+    /// This many of its bytes end the field.
     Got { used: usize, prim: Primitive<'a> },
     /// The field ends, since it is refused.
     Refused(Refusal),

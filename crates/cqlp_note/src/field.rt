@@ -29,7 +29,7 @@ pub enum Notation {
     Bound,
     /// \[inet\]: a \[byte\] n, 4 or 16, n bytes of address, and the port, an \[int\].
     Inet,
-    /// So many bytes, with no length before them.
+    /// This many bytes, with no length before them.
     Content(u32),
 }
 
@@ -74,13 +74,13 @@ pub enum Field {
     EntryKind,
     /// A level of consistency, a \[short\]. Section 3.
     Consistency,
-    /// What a batch has behind its consistency, a \[byte\]: 10 a serial consistency, 20 a timestamp.
+    /// What a batch has after its consistency, a \[byte\]: 10 a serial consistency, 20 a timestamp.
     BatchFlags,
     /// The level of consistency of the serial phase, a \[short\].
     SerialConsistency,
     /// The time that the statements have by default, in microseconds from 1970, a \[long\].
     Timestamp,
-    /// What a query has behind its consistency, a \[byte\]. Section 4.1.4.
+    /// What a query has after its consistency, a \[byte\]. Section 4.1.4.
     QueryFlags,
     /// How many values are bound, a \[short\].
     Values,

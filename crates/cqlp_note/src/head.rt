@@ -1,10 +1,10 @@
 //! What the front of a field tells of it.
 
-ghost use Rattle.std.specs.Prelude.{◌≡◌, ◌≤◌, length, take, drop};
+ghost use Rattle.std.specs.Prelude.{◌≡◌, ◌≤◌, ◌==◌, ◌||◌, ℕ, List, IsTrue, length, take};
 ghost use Rattle.std.specs.Prelude.{if◌then◌else◌};
-ghost use Rattle.std.specs.Int.{w32, from_be_bytes};
-ghost use Rattle.cqlp_note.specs.Field.{is_negative};
-ghost use Rattle.cqlp_note.specs.Head.{Tells, TellsContent, TellsInet, behind_fixed, fixed_of, reader_of};
+ghost use Rattle.std.specs.Int.{w16, w32, from_be_bytes};
+ghost use Rattle.cqlp_note.specs.Field.{address_of, content_of, inet_of, is_negative};
+ghost use Rattle.cqlp_note.specs.Head.{Tells, TellsAfterFixed, fixed_of, front_of, made, reader_of};
 
 use crate::field::Notation;
 use crate::prim::{Address, BoundValue, Primitive};
@@ -34,14 +34,14 @@ pub enum ContentForm {
 /// What the front of a field tells.
 #[derive(Clone, Copy)]
 pub(crate) enum Head {
-    /// The whole field, of so many bytes.
+    /// The whole field, of this many bytes.
     Whole {
         used: usize,
         prim: Primitive<'static>,
     },
-    /// Behind so many bytes comes a content of this length.
+    /// After this many bytes comes a content of this length.
     Content {
-        behind: usize,
+        after: usize,
         len: u32,
         form: ContentForm,
     },
@@ -76,9 +76,9 @@ impl Notation {
     }
 }
 
-/// Reads the front of a field in its first bytes, which may be too few or go on behind it.
+/// Reads the front of a field in its first bytes, which may be too few or go on after it.
 #[tactic(auto, using(crate::proofs::Fronts::fixed_overruns, crate::proofs::Fronts::fixed_wanting, crate::proofs::Fronts::fixed_short, crate::proofs::Fronts::fixed_tells))]
-pub(crate) fn head_of(wanted: Wanted, bytes: &[u8]) -> Result<Head, Stop>
+pub(crate) fn read_head(wanted: Wanted, bytes: &[u8]) -> Result<Head, Stop>
     ensures { Tells wanted (reader_of wanted) 0 bytes.now result }
 {
     let fixed = wanted.notation.fixed();
@@ -87,114 +87,150 @@ pub(crate) fn head_of(wanted: Wanted, bytes: &[u8]) -> Result<Head, Stop>
     } else if bytes.len() < fixed {
         Err(Stop::Wanting)
     } else {
-        behind(wanted, bytes)
+        read_after_fixed(wanted, bytes)
     }
 }
 
-/// Reads on behind the fixed part.
-#[tactic(auto, using(crate::proofs::Fronts::bound_known), unfolding(crate::specs::Field::content_of))]
-fn behind(wanted: Wanted, bytes: &[u8]) -> Result<Head, Stop>
+/// Reads on after the fixed part.
+fn read_after_fixed(wanted: Wanted, bytes: &[u8]) -> Result<Head, Stop>
     requires { fixed_of wanted.notation ≤ length bytes.now }
-    ensures { let fixed = fixed_of wanted.notation in Tells wanted (behind_fixed wanted.notation wanted.limit wanted.room (take fixed bytes.now)) fixed (drop fixed bytes.now) result }
+    ensures { TellsAfterFixed wanted wanted.notation bytes.now result }
 {
     match wanted.notation {
-        Notation::Byte => whole(1, Primitive::Byte(u8::from_be_bytes(first(bytes)))),
-        Notation::Short => whole(2, Primitive::Short(u16::from_be_bytes(first(bytes)))),
-        Notation::Int => whole(4, Primitive::Int(i32::from_be_bytes(first(bytes)))),
-        Notation::Long => whole(8, Primitive::Long(i64::from_be_bytes(first(bytes)))),
-        Notation::Uuid => whole(16, Primitive::Uuid(first(bytes))),
-        Notation::Count16 => whole(2, Primitive::Count(u16::from_be_bytes(first(bytes)).into())),
-        Notation::Count32 => match natural(bytes) {
-            Some(count) => whole(4, Primitive::Count(count)),
-            None => Err(Stop::Refused(Reason::BadCount)),
-        },
-        Notation::Text16 => content(
-            wanted,
-            2,
-            u16::from_be_bytes(first(bytes)).into(),
-            ContentForm::Text,
-        ),
-        Notation::Text32 => match natural(bytes) {
-            Some(len) => content(wanted, 4, len, ContentForm::Text),
-            None => Err(Stop::Refused(Reason::BadCount)),
-        },
-        Notation::Bytes16 => {
-            content(
-                wanted,
-                2,
-                u16::from_be_bytes(first(bytes)).into(),
-                ContentForm::Bytes,
-            )
-        }
-        Notation::Bytes32 => match natural(bytes) {
-            Some(len) => content(wanted, 4, len, ContentForm::Bytes),
-            None => whole(4, Primitive::Bytes(None)),
-        },
-        Notation::Bound => match natural(bytes) {
-            Some(len) => content(wanted, 4, len, ContentForm::Bound),
-            None => match i32::from_be_bytes(first(bytes)) {
-                -1 => whole(4, Primitive::Bound(BoundValue::Null)),
-                -2 => whole(4, Primitive::Bound(BoundValue::Unset)),
-                _ => Err(Stop::Refused(Reason::BadValueLength)),
-            },
-        },
-        Notation::Inet => match u8::from_be_bytes(first(bytes)) {
-            4 => {
-                let (address, port) = inet(wanted.room, &bytes[1..])?;
-                whole(
-                    9,
-                    Primitive::Inet(Address::V4(address), i32::from_be_bytes(port)),
-                )
-            }
-            16 => {
-                let (address, port) = inet(wanted.room, &bytes[1..])?;
-                whole(
-                    21,
-                    Primitive::Inet(Address::V6(address), i32::from_be_bytes(port)),
-                )
-            }
-            _ => Err(Stop::Refused(Reason::BadInet)),
-        },
-        Notation::Content(len) => content(wanted, 0, len, ContentForm::Bytes),
+        Notation::Byte => end_field(1, Primitive::Byte(u8::from_be_bytes(read_first(bytes)))),
+        Notation::Short => end_field(2, Primitive::Short(u16::from_be_bytes(read_first(bytes)))),
+        Notation::Int => end_field(4, Primitive::Int(i32::from_be_bytes(read_first(bytes)))),
+        Notation::Long => end_field(8, Primitive::Long(i64::from_be_bytes(read_first(bytes)))),
+        Notation::Uuid => end_field(16, Primitive::Uuid(read_first(bytes))),
+        Notation::Count16 => end_field(2, Primitive::Count(read_short(bytes))),
+        Notation::Count32 => read_count(bytes),
+        Notation::Text16 => admit_content(wanted, 2, read_short(bytes), ContentForm::Text),
+        Notation::Text32 => read_long_text(wanted, bytes),
+        Notation::Bytes16 => admit_content(wanted, 2, read_short(bytes), ContentForm::Bytes),
+        Notation::Bytes32 => read_bytes(wanted, bytes),
+        Notation::Bound => read_value(wanted, bytes),
+        Notation::Inet => read_inet(wanted, bytes),
+        Notation::Content(len) => admit_content(wanted, 0, len, ContentForm::Bytes),
     }
 }
 
-/// A content of this length, behind so many bytes.
-#[tactic(auto, unfolding(crate::specs::Field::content_of))]
-fn content(wanted: Wanted, behind: usize, len: u32, form: ContentForm) -> Result<Head, Stop>
-    requires { behind ≤ 4 }
-    ensures { TellsContent wanted behind len form result }
+/// Reads a count of four bytes.
+fn read_count(bytes: &[u8]) -> Result<Head, Stop>
+    requires { 4 ≤ length bytes.now }
+    ensures { (wanted : _) → TellsAfterFixed wanted Notation.Count32 bytes.now result }
 {
-    if wanted.room < behind as u64 + u64::from(len) {
+    match read_natural(bytes) {
+        Some(count) => end_field(4, Primitive::Count(count)),
+        None => Err(Stop::Refused(Reason::BadCount)),
+    }
+}
+
+/// Reads the length of a \[long string\].
+fn read_long_text(wanted: Wanted, bytes: &[u8]) -> Result<Head, Stop>
+    requires enough { 4 ≤ length bytes.now }
+    requires notation { wanted.notation ≡ Notation.Text32 }
+    ensures { TellsAfterFixed wanted Notation.Text32 bytes.now result }
+{
+    match read_natural(bytes) {
+        Some(len) => admit_content(wanted, 4, len, ContentForm::Text),
+        None => Err(Stop::Refused(Reason::BadCount)),
+    }
+}
+
+/// Reads the length of \[bytes\].
+fn read_bytes(wanted: Wanted, bytes: &[u8]) -> Result<Head, Stop>
+    requires enough { 4 ≤ length bytes.now }
+    requires notation { wanted.notation ≡ Notation.Bytes32 }
+    ensures { TellsAfterFixed wanted Notation.Bytes32 bytes.now result }
+{
+    match read_natural(bytes) {
+        Some(len) => admit_content(wanted, 4, len, ContentForm::Bytes),
+        None => end_field(4, Primitive::Bytes(None)),
+    }
+}
+
+/// Reads the length of a \[value\].
+fn read_value(wanted: Wanted, bytes: &[u8]) -> Result<Head, Stop>
+    requires enough { 4 ≤ length bytes.now }
+    requires notation { wanted.notation ≡ Notation.Bound }
+    ensures { TellsAfterFixed wanted Notation.Bound bytes.now result }
+{
+    match read_natural(bytes) {
+        Some(len) => admit_content(wanted, 4, len, ContentForm::Bound),
+        None => match i32::from_be_bytes(read_first(bytes)) {
+            -1 => end_field(4, Primitive::Bound(BoundValue::Null)),
+            -2 => end_field(4, Primitive::Bound(BoundValue::Unset)),
+            _ => Err(Stop::Refused(Reason::BadValueLength)),
+        },
+    }
+}
+
+/// Reads an \[inet\].
+fn read_inet(wanted: Wanted, bytes: &[u8]) -> Result<Head, Stop>
+    requires enough { 1 ≤ length bytes.now }
+    requires notation { wanted.notation ≡ Notation.Inet }
+    ensures { TellsAfterFixed wanted Notation.Inet bytes.now result }
+{
+    match u8::from_be_bytes(read_first(bytes)) {
+        4 => read_address_and_port(wanted, 4, &bytes[1..]),
+        16 => read_address_and_port(wanted, 16, &bytes[1..]),
+        _ => Err(Stop::Refused(Reason::BadInet)),
+    }
+}
+
+/// Goes on to a content of this length after this many bytes, if the room and the limit admit it.
+#[tactic(auto, unfolding(crate::specs::Field::content_of))]
+fn admit_content(wanted: Wanted, after: usize, len: u32, form: ContentForm) -> Result<Head, Stop>
+    requires few { after ≤ 4 }
+    requires front { front_of wanted.notation ≡ after }
+    ensures { (rest : List ℕ) →
+        Tells wanted (content_of after len wanted.limit wanted.room (made form)) after rest result }
+{
+    if wanted.room < after as u64 + u64::from(len) {
         Err(Stop::Refused(Reason::Overrun))
     } else if wanted.limit < len {
         Err(Stop::Refused(Reason::TooLong))
     } else {
-        Ok(Head::Content { behind, len, form })
+        Ok(Head::Content { after, len, form })
     }
 }
 
-/// An address of N bytes and the bytes of a port, in those behind the first of a container with this much room.
+/// Reads an address of this many bytes and a port, after the number of the address's bytes.
 #[tactic(auto, using(crate::proofs::Fronts::inet_taken))]
-fn inet<const N: usize>(room: u64, rest: &[u8]) -> Result<([u8; N], [u8; 4]), Stop>
-    requires { N ≤ 16 }
-    ensures { TellsInet N room rest.now result }
+fn read_address_and_port(wanted: Wanted, size: usize, rest: &[u8]) -> Result<Head, Stop>
+    requires sizes { IsTrue ((size == 4) || (size == 16)) }
+    requires notation { wanted.notation ≡ Notation.Inet }
+    ensures { Tells wanted (inet_of size wanted.room) 1 rest.now result }
 {
-    if room < N as u64 + 5 {
-        Err(Stop::Refused(Reason::Overrun))
-    } else if rest.len() < N + 4 {
-        Err(Stop::Wanting)
+    if wanted.room < size as u64 + 5 {
+        return Err(Stop::Refused(Reason::Overrun));
+    }
+    if rest.len() < size + 4 {
+        return Err(Stop::Wanting);
+    }
+    let port = i32::from_be_bytes(read_first(&rest[size..]));
+    end_field(size + 5, Primitive::Inet(read_address(size, rest), port))
+}
+
+/// Reads an address in the first 4 or 16 bytes.
+fn read_address(size: usize, bytes: &[u8]) -> Address
+    requires sizes { IsTrue ((size == 4) || (size == 16)) }
+    requires enough { size ≤ length bytes.now }
+    ensures { result ≡ address_of size (take size bytes.now) }
+{
+    if size == 4 {
+        Address::V4(read_first(bytes))
     } else {
-        Ok((first(rest), first(&rest[N..])))
+        Address::V6(read_first(bytes))
     }
 }
 
-/// The number in the first four bytes, where it is not negative.
-fn natural(bytes: &[u8]) -> Option<u32>
+/// Reads the number in the first four bytes, where it is not negative.
+fn read_natural(bytes: &[u8]) -> Option<u32>
     requires { 4 ≤ length bytes.now }
     ensures { let n = from_be_bytes w32 (take 4 bytes.now) in result ≡ (if is_negative n then None else Some n) }
 {
-    let number = u32::from_be_bytes(first(bytes));
+    let number = u32::from_be_bytes(read_first(bytes));
     if number > i32::MAX as u32 {
         None
     } else {
@@ -202,15 +238,23 @@ fn natural(bytes: &[u8]) -> Option<u32>
     }
 }
 
-/// The whole field, of so many bytes.
-fn whole(used: usize, prim: Primitive<'static>) -> Result<Head, Stop>
+/// Reads the number in the first two bytes.
+fn read_short(bytes: &[u8]) -> u32
+    requires { 2 ≤ length bytes.now }
+    ensures { result ≡ from_be_bytes w16 (take 2 bytes.now) }
+{
+    u16::from_be_bytes(read_first(bytes)).into()
+}
+
+/// Ends the field, which has this many bytes.
+fn end_field(used: usize, prim: Primitive<'static>) -> Result<Head, Stop>
     ensures { result ≡ Ok (Head.Whole used prim.entry) }
 {
     Ok(Head::Whole { used, prim })
 }
 
-/// The first N bytes.
-fn first<const N: usize>(bytes: &[u8]) -> [u8; N]
+/// Reads the first N bytes.
+fn read_first<const N: usize>(bytes: &[u8]) -> [u8; N]
     requires { N ≤ length bytes.now }
     ensures { result ≡ take N bytes.now }
 {

@@ -6,9 +6,6 @@ ghost use Rattle.cqlp_note.specs.Heading.{has as has_bit};
 use crate::opcode::Opcode;
 use crate::refusal::{Reason, Refusal};
 
-/// The greatest length of a body, in bytes. Section 2.5 of `native_protocol_v4.spec`.
-const LONGEST_BODY: u32 = 268_435_456;
-
 /// The header of a frame. Section 2 of `native_protocol_v4.spec`.
 #[derive(Clone, Copy, Debug, PartialEq, Eq)]
 pub struct Header {
@@ -20,22 +17,25 @@ pub struct Header {
     pub stream: i16,
     /// The kind of the message.
     pub opcode: Opcode,
-    /// The bytes of the body, at most 268,435,456.
+    /// The bytes of the body, at most [`Header::LONGEST_BODY`].
     pub length: u32,
 }
 
 impl Header {
     ghost use Rattle.cqlp_note.specs.Heading.{Headed, IsLawful, header_bytes, heading};
 
+    /// The bytes of a body at most, 256 MB. Section 2.5 of `native_protocol_v4.spec`.
+    pub const LONGEST_BODY: u32 = 268_435_456;
+
     /// Whether the header may stand before a frame: the flag 01 is off, the opcode goes in this direction, and the
-    /// body is no longer than 268,435,456 bytes.
+    /// body is no longer than [`Header::LONGEST_BODY`].
     #[must_use]
     pub fn lawful(&self) -> bool
         ensures { IsTrue result ↔ IsLawful self.now }
     {
         !has(self.flags, 0x01)
             && self.opcode.is_response() == self.response
-            && self.length <= LONGEST_BODY
+            && self.length <= Header::LONGEST_BODY
     }
 
     /// The header that nine bytes are, in a frame that begins at `at`, or the first fault of them in this order: the
@@ -59,7 +59,7 @@ impl Header {
             return fault(at + 4, Reason::BadDirection);
         }
         let length = u32::from_be_bytes([bytes[5], bytes[6], bytes[7], bytes[8]]);
-        if length > LONGEST_BODY {
+        if length > Header::LONGEST_BODY {
             return fault(at + 5, Reason::BadLength);
         }
         Ok(Header {

@@ -20,7 +20,7 @@ pub use advance::{ContentPlace, FieldAdvance, FieldOutline, Push};
 pub use field::{Field, Notation};
 pub use head::ContentForm;
 pub use header::Header;
-pub use limits::{BadLimits, Limits};
+pub use limits::{BadLimits, LimitRange, Limits};
 pub use opcode::Opcode;
 pub use partial::Partial;
 // antt has a module `Prim`, so that a crate above could not be checked over an enum whose own name this is.

@@ -21,6 +21,13 @@ pub struct Limits {
     pub parts: bool,
 }
 
+/// The numbers that a limit may be.
+#[derive(Clone, Copy)]
+pub struct LimitRange {
+    pub least: u32,
+    pub greatest: u32,
+}
+
 /// The first of the limits that is out of its range.
 #[derive(Clone, Copy, Debug, PartialEq, Eq, Error)]
 pub enum BadLimits {
@@ -37,21 +44,66 @@ pub enum BadLimits {
 impl Limits {
     ghost use Rattle.cqlp_note.specs.Limits.{first_bad};
 
+    /// The range of `text`.
+    pub const TEXT: LimitRange = LimitRange {
+        least: 32,
+        greatest: 16_777_216,
+    };
+
+    /// The range of `cell`.
+    pub const CELL: LimitRange = LimitRange {
+        least: 32,
+        greatest: 16_777_216,
+    };
+
+    /// The range of `entries`.
+    pub const ENTRIES: LimitRange = LimitRange {
+        least: 1,
+        greatest: 65_536,
+    };
+
+    /// The range of `depth`.
+    pub const DEPTH: LimitRange = LimitRange {
+        least: 1,
+        greatest: 64,
+    };
+
+    /// Those where none are given.
+    pub const DEFAULT: Limits = Limits {
+        text: 1_048_576,
+        cell: 1_048_576,
+        entries: 4_096,
+        depth: 16,
+        types: true,
+        parts: false,
+    };
+
     /// Whether the four numbers are in their ranges; else the first that is not, in the order of the fields.
     pub fn check(&self) -> Result<(), BadLimits>
         ensures { result ≡ first_bad self.now }
     {
-        if !(32..=16_777_216).contains(&self.text) {
+        if !Limits::TEXT.contains(self.text) {
             Err(BadLimits::Text)
-        } else if !(32..=16_777_216).contains(&self.cell) {
+        } else if !Limits::CELL.contains(self.cell) {
             Err(BadLimits::Cell)
-        } else if !(1..=65_536).contains(&self.entries) {
+        } else if !Limits::ENTRIES.contains(self.entries) {
             Err(BadLimits::Entries)
-        } else if !(1..=64).contains(&self.depth) {
+        } else if !Limits::DEPTH.contains(self.depth) {
             Err(BadLimits::Depth)
         } else {
             Ok(())
         }
+    }
+}
+
+impl LimitRange {
+    ghost use Rattle.cqlp_note.specs.Limits.{is_in};
+
+    /// Whether a limit may be this number.
+    pub fn contains(self, number: u32) -> bool
+        ensures { result ≡ is_in self number }
+    {
+        self.least <= number && number <= self.greatest
     }
 }
 

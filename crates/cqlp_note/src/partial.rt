@@ -2,13 +2,13 @@
 
 ghost use Rattle.std.specs.Prelude.{◌≡◌, ◌+◌, ◌-◌, ◌<◌, ◌≤◌, ◌^◌, ◌++◌, List, [], ℕ, true, false, length, drop, IfOk};
 ghost use Rattle.std.specs.Borrow.{sem};
-ghost use Rattle.cqlp_note.specs.Reader.{says, Takes};
-ghost use Rattle.cqlp_note.specs.Head.{Tells, front_of, reader_of, value_of, made};
+ghost use Rattle.cqlp_note.specs.Head.{Tells, front_of, reader_of, value_of};
+ghost use Rattle.cqlp_note.specs.Reader.{More, says};
 
 use crate::advance::{ContentPlace, FieldAdvance, FieldOutline, FieldStage, Push};
 use crate::field::Notation;
 use crate::front::FieldFront;
-use crate::head::{ContentForm, Head, Stop, Wanted, head_of};
+use crate::head::{ContentForm, Head, Stop, Wanted, read_head};
 use crate::prim::{BoundValue, Primitive};
 use crate::refusal::{NoMemory, Reason, Refusal};
 use std::alloc::{Allocator, Global};
@@ -33,12 +33,13 @@ impl<A: Allocator> Model for Partial<A> {
 
     ghost view = { λ p. progress p.stage p.wanted p.front p.content.items p.room };
 
-    ghost invariant = { λ p. (p.room ≤ vec_capacity p.content) × (length p.content.items ≤ p.room) × IsUnderWay p.stage p.wanted p.front p.content.items p.room };
+    ghost invariant = { λ p. (p.room ≤ vec_capacity p.content) × (length p.content.items ≤ p.room)
+        × IsUnderWay p.stage p.wanted p.front p.content.items p.room };
 }
 
 impl<A: Allocator> Partial<A> {
     ghost use Rattle.cqlp_note.specs.Lending.{LeavesField};
-    ghost use Rattle.cqlp_note.specs.Partial.{Advances, CanLend, IsNew, Pushes, Uses, begun, ended, item_value};
+    ghost use Rattle.cqlp_note.specs.Partial.{Advances, CanLend, IsContentAfter, IsNew, Pushes, Uses, begun, ended, item_value};
 
     /// With room for contents of up to `room` bytes, and no field under way. This is the one call that takes memory;
     /// the error is that it was refused.
@@ -79,11 +80,12 @@ impl<A: Allocator> Partial<A> {
     }
 
     /// Takes the next bytes of the field that is under way. A content that lies whole in them is lent from them. No
-    /// byte behind the field is used; a field that is made or refused has ended.
+    /// byte after the field is used; a field that is made or refused has ended.
     pub fn push<'a>(&'a mut self, input: &'a [u8]) -> Push<'a>
         requires { self.old.under_way ≡ true }
         ensures uses { Uses input.now result }
-        ensures* next { sem 𝓛 (LeavesField A.row A.Allocator self.entry (λ after. Pushes self.old input.now result after)) }
+        ensures* next { sem 𝓛 (LeavesField A.row A.Allocator self.entry
+            (λ after. Pushes self.old input.now result after)) }
     {
         match self.advance(input) {
             FieldAdvance::More { used } => Push::More { used },
@@ -114,12 +116,14 @@ impl<A: Allocator> Partial<A> {
 
     /// Does what `push` does, but tells where a content lies in place of lending it, so that a reader around this one
     /// can go on before it lends.
-    #[tactic(auto, using(crate::proofs::Pieces::content_front, crate::proofs::Pieces::gathered_bad, crate::proofs::Fronts::fixed_short))]
+    #[tactic(auto, using(crate::proofs::Pieces::gathered_bad))]
     pub fn advance(&mut self, input: &[u8]) -> FieldAdvance
         requires { self.old.under_way ≡ true }
         ensures { Advances self.old input.now result self.new }
     {
         match self.stage {
+            FieldStage::Idle => unreachable!(),
+            FieldStage::Front => self.read_front(input),
             FieldStage::Content { len, form } if self.content.is_empty() => {
                 self.take_content(0, len, form, input)
             }
@@ -141,24 +145,36 @@ impl<A: Allocator> Partial<A> {
                     item,
                 }
             }
-            FieldStage::Idle => unreachable!(),
-            FieldStage::Front => match told(self.wanted, &self.front, input) {
-                Ok(Head::Whole { used, prim }) => {
-                    self.stage = FieldStage::Idle;
-                    let used = used - self.front.len();
-                    let item = FieldOutline::Plain(prim);
-                    FieldAdvance::Got { used, item }
-                }
-                Ok(Head::Content { behind, len, form }) => {
-                    let start = behind - self.front.len();
-                    self.take_content(start, len, form, input)
-                }
-                Err(Stop::Wanting) => {
-                    self.front = self.front.with(input);
-                    FieldAdvance::More { used: input.len() }
-                }
-                Err(Stop::Refused(why)) => self.refuse(why),
-            },
+        }
+    }
+
+    /// Reads the front of the field, of which some bytes may have come.
+    #[tactic(auto, using(crate::proofs::Pieces::seen_is_front, crate::proofs::Fronts::fixed_short))]
+    fn read_front(&mut self, input: &[u8]) -> FieldAdvance
+        requires under_way { self.old.under_way ≡ true }
+        requires empty { self.old.content ≡ [] }
+        requires fits { self.old.field.limit ≤ self.old.room }
+        requires front { length self.old.seen ≤ front_of self.old.field.notation }
+        requires more { 0 < length self.old.seen → says (reader_of self.old.field) 0 self.old.seen ≡ More }
+        ensures { Advances self.old input.now result self.new }
+    {
+        match read_head_of_pieces(self.wanted, &self.front, input) {
+            Ok(Head::Whole { used, prim }) => {
+                self.stage = FieldStage::Idle;
+                let used = used - self.front.len();
+                let item = FieldOutline::Plain(prim);
+                FieldAdvance::Got { used, item }
+            }
+            Ok(Head::Content { after, len, form }) => {
+                let start = after - self.front.len();
+                self.take_content(start, len, form, input)
+            }
+            Err(Stop::Wanting) => {
+                self.stage = FieldStage::Front;
+                self.front = self.front.with(input);
+                FieldAdvance::More { used: input.len() }
+            }
+            Err(Stop::Refused(why)) => self.refuse(why),
         }
     }
 
@@ -176,7 +192,8 @@ impl<A: Allocator> Partial<A> {
         requires fits { len ≤ self.old.room }
         requires within { start ≤ length input.now }
         requires front { length self.old.seen + start ≡ front_of self.old.field.notation }
-        requires told { (t : List ℕ) → says (reader_of self.old.field) 0 ((self.old.seen ++ input.now) ++ t) ≡ says (Takes len (made form)) (length self.old.seen + start) (drop start input.now ++ t) }
+        requires comes { IsContentAfter self.old.field (self.old.seen ++ input.now) len form
+            (length self.old.seen + start) (drop start input.now) }
         ensures { Advances self.old input.now result self.new }
     {
         let rest = &input[start..];
@@ -273,15 +290,15 @@ impl ContentForm {
     }
 }
 
-/// What the front of a field tells, of which the first bytes came before.
+/// Reads the front of a field of which the first bytes came before.
 #[tactic(auto, using(crate::proofs::Pieces::tells_pieces))]
-fn told(wanted: Wanted, front: &FieldFront, input: &[u8]) -> Result<Head, Stop>
+fn read_head_of_pieces(wanted: Wanted, front: &FieldFront, input: &[u8]) -> Result<Head, Stop>
     ensures { Tells wanted (reader_of wanted) 0 (front.now ++ input.now) result }
 {
     if front.as_slice().is_empty() {
-        head_of(wanted, input)
+        read_head(wanted, input)
     } else {
-        head_of(wanted, front.with(input).as_slice())
+        read_head(wanted, front.with(input).as_slice())
     }
 }
 

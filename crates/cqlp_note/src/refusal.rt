@@ -42,7 +42,7 @@ pub enum Reason {
     BadSize,
     /// A cell's content that its type does not have.
     BadScalar,
-    /// Bytes of a value behind its last item.
+    /// Bytes of a value after its last item.
     ExtraInValue,
     /// A frame that would begin past offset 2^63.
     StreamTooLong,

@@ -7,7 +7,7 @@ use crate::no_task::{NoTask, no_task_of};
 use crate::reported::report_all;
 use clap::error::ErrorKind;
 use clap::{Arg, ArgAction, ArgMatches, Command, Error, value_parser};
-use cqlp_note::Limits;
+use cqlp_note::{LimitRange, Limits};
 use std::alloc::{AllocError, Global};
 use std::convert::AsStr;
 
@@ -35,14 +35,7 @@ impl Task {
 }
 
 /// The limits of the program where none are given.
-pub const DEFAULT_LIMITS: Limits = Limits {
-    text: 1_048_576,
-    cell: 1_048_576,
-    entries: 4_096,
-    depth: 16,
-    types: true,
-    parts: false,
-};
+pub const DEFAULT_LIMITS: Limits = Limits::DEFAULT;
 
 /// What a command line asks for.
 #[derive(Clone, Copy, Debug, PartialEq, Eq)]
@@ -157,16 +150,16 @@ fn with_arguments<'a>(alloc: Global, task: Command<'a>) -> Result<Command<'a>, A
             .required(true)
             .help("The file with the stream; - is standard input"),
     )?;
-    let task = task.arg(limit(alloc, "text", 32, 16_777_216, "1048576").help(
+    let task = task.arg(limit(alloc, "text", Limits::TEXT, "1048576").help(
         "Bytes of one [string] or [long string] at most, from 32 to 16777216",
     ))?;
-    let task = task.arg(limit(alloc, "cell", 32, 16_777_216, "1048576").help(
+    let task = task.arg(limit(alloc, "cell", Limits::CELL, "1048576").help(
         "Bytes of one [bytes], [short bytes], [value] or scalar cell at most, from 32 to 16777216",
     ))?;
-    let task = task.arg(limit(alloc, "entries", 1, 65_536, "4096").help(
+    let task = task.arg(limit(alloc, "entries", Limits::ENTRIES, "4096").help(
         "Type options of one metadata at most, nested ones counted, from 1 to 65536",
     ))?;
-    let task = task.arg(limit(alloc, "depth", 1, 64, "16").help(
+    let task = task.arg(limit(alloc, "depth", Limits::DEPTH, "16").help(
         "Nesting of one type at most, from 1 to 64; a column's own type has depth 1",
     ))?;
     let task = task.arg(flag(alloc, "raw").help(
@@ -178,7 +171,8 @@ fn with_arguments<'a>(alloc: Global, task: Command<'a>) -> Result<Command<'a>, A
 }
 
 /// An option for a number in a range.
-fn limit<'a>(alloc: Global, name: &'a str, least: i64, greatest: i64, default: &'a str) -> Arg<'a> {
+fn limit<'a>(alloc: Global, name: &'a str, range: LimitRange, default: &'a str) -> Arg<'a> {
+    let (least, greatest) = (i64::from(range.least), i64::from(range.greatest));
     Arg::new(alloc, name)
         .long(name)
         .value_name("N")

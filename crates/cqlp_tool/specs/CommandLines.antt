@@ -1,13 +1,14 @@
 -- What is written where a command line starts no task.
 use Rattle.std.specs.Prelude.{◌≡◌, ℕ, true, false, List, ◌⊎◌}
 use Rattle.cqlp_note.specs.declared.limits.Limits.{Limits}
+use Rattle.cqlp_note.specs.declared.limits.TheConstants.Limits.{DEFAULT}
 use Rattle.cqlp_text.specs.declared.ending.Ending.TheVariants as ending
 use Rattle.cqlp_text.specs.Outputs.{Output, with_text, StopsWithin}
 use Rattle.cqlp_tool.specs.Showing.{Concludes}
 
 -- the limits where none are given
 abbrev pub default_limits : Limits
-default_limits = record { text = 1048576; cell = 1048576; entries = 4096; depth = 16; types = true; parts = false }
+default_limits = DEFAULT
 
 -- The line was written, and the status is 3; it is 3 too where the target failed within it.
 abbrev pub TellsFault : (line : List ℕ) → (before : Output) → (status : ℕ) → (after : Output) → Type 0

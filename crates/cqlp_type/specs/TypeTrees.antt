@@ -1,5 +1,6 @@
 -- The types of a caller as trees, and how many bytes spell them.
 use Rattle.std.specs.Prelude.{ℕ, ◌+◌, List, [], length, Bool, true, false, ◌&&◌, nat_le, if◌then◌else◌, Option, Some, None, string_bytes}
+use Rattle.cqlp_note.specs.declared.header.TheConstants.Header.{LONGEST_BODY}
 use Rattle.cqlp_type.specs.declared.tree.TypeTree.{TypeTree, Plain, Custom, List', Set', Map', Udt', Tuple', Row_of-TypeTree, end_of-TypeTree, more_of-TypeTree, Row_of-TypeTree-Udt-2-2, end_of-TypeTree-Udt-2-2, more_of-TypeTree-Udt-2-2}
 use Rattle.cqlp_type.specs.Trees as tree
 use Rattle.cqlp_type.specs.Trees.{Head, Trees, NoTree, Tree_and, trees_in, has_names, is_plain}
@@ -74,7 +75,7 @@ trees_fit named (Tree_and name h inner others) = (name_fits named name && (head_
 
 -- a length, where there is one and it is not too great
 abbrev pub len_if : Bool → ℕ → Option ℕ
-len_if fits n = if fits && nat_le n 268435456 then Some n else None
+len_if fits n = if fits && nat_le n LONGEST_BODY then Some n else None
 
 -- how many bytes spell the option of a type
 abbrev pub spelled_len : TypeTree → Option ℕ

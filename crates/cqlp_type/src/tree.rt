@@ -6,9 +6,10 @@ ghost use Rattle.cqlp_type.specs.TypeTrees.{spelled_len, len_if, is_counted, tre
 ghost use Rattle.cqlp_type.specs.TypeLists.{listed_types, listed_fields};
 
 use crate::kind::Kind;
+use cqlp_note::Header;
 
 /// The longest option, which is also the longest body of a frame.
-const LONGEST: u32 = 268_435_456;
+const LONGEST: u32 = Header::LONGEST_BODY;
 
 /// A type, with the texts of its option. Section 4.2.5.2 of `native_protocol_v4.spec`.
 #[derive(Debug, PartialEq, Eq, Drop)]

@@ -1,0 +1,10 @@
+use Rattle.std.specs.Int.{w32, from_be_bytes}
+use Rattle.std.proofs.Common.{take}
+use Rattle.cqlp_note.proofs.Fronts.{bound_known, natural_some}
+use Rattle.cqlp_note.proofs.head.read_value.Goals as goal
+
+pub returns-in-Some : goal.returns-in-Some
+returns-in-Some c =
+    let bytes = take 4 c.args.bytes.now in
+    let natural = natural_some (from_be_bytes w32 bytes) c.in-Some.len c.in-Some.ensures in
+    rw (bound_known c.args.wanted.limit c.args.wanted.room bytes natural.0, natural.1) (c.admit_content.ensures _)
