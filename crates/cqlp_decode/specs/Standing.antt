@@ -266,7 +266,7 @@ pub record IsOption (s : StreamStanding) (p : FieldState) (r : type.TypeState) :
 
 -- what has come of the type option under way, wants more
 abbrev pub OptionWaits : Parts → Type 0
-OptionWaits q = 0 < length (type.pending q.types q.partial) → type.told q.types q.table.nodes (type.pending q.types q.partial) ≡ More
+OptionWaits q = 0 < length (type.pending q.types q.partial) → type.step_says q.types q.table.nodes (type.pending q.types q.partial) ≡ More
 
 -- The type option under way began behind whole types, and of it these bytes have come.
 pub record OptionRuns (l : Rules) (q : Parts) : Type 0 where
