@@ -22,7 +22,7 @@ use Rattle.cqlp_value.specs.Items.{event_at as cell_event_at, leaf_event, conten
 use Rattle.cqlp_value.specs.Inner.{Forest}
 use Rattle.cqlp_value.specs.Standing as value
 use Rattle.cqlp_value.specs.Standing.{CellState, place, cell_symbols, is_under_way}
-use Rattle.cqlp_value.specs.Reading.{HaveCome, IsBehind}
+use Rattle.cqlp_value.specs.Reading.{HaveCome, IsAfterItem}
 use Rattle.cqlp_value.specs.Reading as taking
 use Rattle.cqlp_value.specs.Pushing.{is_done, begun as begun_at}
 use Rattle.cqlp_value.specs.Fronts.{SaysScalar}
@@ -89,14 +89,14 @@ lent_is nodes row column used (outline.Enter level k n) input buffer can h = tt
 lent_is nodes row column used (outline.Leave level n) input buffer can h = tt
 lent_is nodes row column used (outline.Part level offset c last) input buffer can h = h
 
-still_by : (n : NextInCell) (row column : ℕ) (k : Kind) (inner : Types) (ss : List CellSymbol) (rest : List Symbol) → IsBehind n → (ss ≡ [] → ⊥) → cell_symbol n row column k inner ss ∷ rest ≡ cells_left row column ss ++ rest
+still_by : (n : NextInCell) (row column : ℕ) (k : Kind) (inner : Types) (ss : List CellSymbol) (rest : List Symbol) → IsAfterItem n → (ss ≡ [] → ⊥) → cell_symbol n row column k inner ss ∷ rest ≡ cells_left row column ss ++ rest
 still_by next.Nothing row column k inner ss rest behind some = absurd behind
 still_by (next.Cell i) row column k inner ss rest behind some = absurd behind
 still_by next.Items row column k inner ss rest behind some = sym (still_left row column ss rest some)
 still_by (next.Part offset total) row column k inner ss rest behind some = sym (still_left row column ss rest some)
 
 -- what is left of a page, where a part of the cell was handed out
-under_way_still : (nodes : List Node) (depth : ℕ) (d : CellState) (p : CellCursor) → FirstColumn nodes depth p.columns p.column p.index → IsBehind d.next → ((place nodes d).symbols ≡ [] → ⊥) → (rest : List Symbol)
+under_way_still : (nodes : List Node) (depth : ℕ) (d : CellState) (p : CellCursor) → FirstColumn nodes depth p.columns p.column p.index → IsAfterItem d.next → ((place nodes d).symbols ≡ [] → ⊥) → (rest : List Symbol)
     → page_symbols nodes d p ++ rest ≡ cells_left p.row p.column (place nodes d).symbols ++ (cells_after nodes p ++ rest)
 under_way_still nodes depth d p f behind some rest = rw f.is (still_by d.next p.row p.column f.first f.inner (place nodes d).symbols _ behind some)
 
@@ -116,7 +116,7 @@ module _ (s : StreamStanding) (q : PartsState) (p : CellCursor) (here : s.stage 
   place_is : (state_of s q).place ≡ stands
   place_is = rw (here, column.is) refl
 
-  told_is : (bytes : List ℕ) → said (state_of s q) bytes ≡ map_said (cell_event p.row p.column) (place_of_cells p.row p.column stands rest) (taking.told q.table.nodes q.cells bytes)
+  told_is : (bytes : List ℕ) → said (state_of s q) bytes ≡ map_said (cell_event p.row p.column) (place_of_cells p.row p.column stands rest) (taking.step_says q.table.nodes q.cells bytes)
   told_is bytes =
       ap (λ (z : Place). says (step (rules_of s.limits) z) 0 bytes) place_is
       ∙ ap (λ z. says z 0 bytes) (alike (rules_of s.limits) q.table.nodes q.cells q.cells.next p.row p.column s.stop column.first column.inner rest due_now)
@@ -149,7 +149,7 @@ module _ (s : StreamStanding) (q : PartsState) (p : CellCursor) (here : s.stage 
     abbrev event : (held : List ℕ) → reading.Event
     event held = cell_event p.row p.column (cell_event_at i input held)
 
-    abbrev one : (b : List ℕ) → HaveCome b q.cells.under q.partial.seen → taking.Hands q.table.nodes q.cells q.partial input (taking.told q.table.nodes q.cells (b ++ input)) (length b) at used i d p'
+    abbrev one : (b : List ℕ) → HaveCome b q.cells.under q.partial.seen → taking.Hands q.table.nodes q.cells q.partial input (taking.step_says q.table.nodes q.cells (b ++ input)) (length b) at used i d p'
     one b come = m b come
 
     -- the place that the decoder stands at then
@@ -187,7 +187,7 @@ module _ (s : StreamStanding) (q : PartsState) (p : CellCursor) (here : s.stage 
       pub going_hands : Moves (state_of s q) input (advance.Event at used (what.Cell p.row p.column i)) (state_of s (parts p' q.types d q.table))
       going_hands =
           let h = one came.0 came.1 in
-          let left : page_symbols q.table.nodes d p ++ rest_of s.upcoming ≡ cells_left p.row p.column (place q.table.nodes d).symbols ++ rest = under_way_still q.table.nodes s.limits.depth d p column h.behind (left_some q.table.nodes d h.stands h.behind more) (rest_of s.upcoming) in
+          let left : page_symbols q.table.nodes d p ++ rest_of s.upcoming ≡ cells_left p.row p.column (place q.table.nodes d).symbols ++ rest = under_way_still q.table.nodes s.limits.depth d p column h.goes_after (left_some q.table.nodes d h.stands h.goes_after more) (rest_of s.upcoming) in
           cell_hands s (parts p' q.types d q.table) refl refl (rw here refl) refl refl (rw here left) (rw (here, h.fresh) refl) (rw here (page_due q.table.nodes s.limits.depth d p (rest_of s.upcoming) c.page.0)) (omega arith)
 
     -- the cell is whole, and this is next
@@ -231,11 +231,11 @@ module _ (s : StreamStanding) (q : PartsState) (p : CellCursor) (here : s.stage 
       }
 
   module _ (input : List ℕ) (at used : ℕ) (i : CellOutline) (d : CellState) (p' : FieldState) (m : taking.Moves q.table.nodes q.cells q.partial input (cell_advance.Item at used i) d p') (law : IsConsistent s q) where
-    abbrev this : taking.Hands q.table.nodes q.cells q.partial input (taking.told q.table.nodes q.cells (came.0 ++ input)) (length came.0) at used i d p'
+    abbrev this : taking.Hands q.table.nodes q.cells q.partial input (taking.step_says q.table.nodes q.cells (came.0 ++ input)) (length came.0) at used i d p'
     this = m came.0 came.1
 
     not_due : (n : Option ℕ) → d.next ≡ next.Cell n → n ≡ node_by p.columns p.index
-    not_due n is = absurd (rw is at this.behind)
+    not_due n is = absurd (rw is at this.goes_after)
 
     pub cell_inside : d.offset ≤ s.stop
     cell_inside = omega (arith, stop_is q.table.nodes d this.stands, this.stop, c.stop)

@@ -38,27 +38,17 @@ use Rattle.cqlp_decode.specs.declared.standing.StreamStage.{StreamStage}
 use Rattle.cqlp_decode.proofs.Steps.{starts_bare, begun_bare, one_due_bare, offset_is_bare}
 use Rattle.cqlp_decode.proofs.FieldSteps.{used_some, goes_on_lawful}
 use Rattle.cqlp_type.proofs.Pushes.{option_begun, option_waited, option_handed, option_over}
-use Rattle.cqlp_value.specs.Inner.{HasInner, AreTypes, Forest}
+use Rattle.cqlp_value.specs.Inner.{Forest}
 use Rattle.cqlp_value.specs.Standing.{is_under_way}
 use Rattle.cqlp_value.proofs.Columns.{forest_more}
 
 -- ---- the table that an option is read into
 
-inner_formed : (k : Kind) (n : ℕ) → HasInner k n → types.HasInner k n
-inner_formed kind.List n h = h
-inner_formed kind.Set n h = h
-inner_formed kind.Map n h = h
-inner_formed k n h = tt
-
-types_formed : (ts : Types) → AreTypes ts → AreFormed ts
-types_formed NoMore h = tt
-types_formed (Type_and k inner others) h = (inner_formed k (how_many inner) h.0, types_formed inner h.1, types_formed others h.2)
-
 pub option_reads : (l : Rules) (q : PartsState) → OptionRuns l q → ReadsInto q.types q.partial q.table
 option_reads l q r = record {
   start = r.begun;
   first = r.first;
-  before = record { types = r.before.types; formed = types_formed r.before.types r.before.formed; are = r.before.are };
+  before = record { types = r.before.types; formed = r.before.formed; are = r.before.are };
   bytes = r.bytes;
   items = r.items;
   after = r.runs;
@@ -125,7 +115,7 @@ module _ (s : StreamStanding) (q : PartsState) (here : s.stage ≡ stage.InType)
   abbrev stands : Place
   stands = place_at q.types.offset s.stop (In_type q.types.symbols ∷ rest) q.table.nodes
 
-  told_is : (bytes : List ℕ) → said (state_of s q) bytes ≡ map_said type_event (place_of_types stands rest) (type.told q.types q.table.nodes bytes)
+  told_is : (bytes : List ℕ) → said (state_of s q) bytes ≡ map_said type_event (place_of_types stands rest) (type.step_says q.types q.table.nodes bytes)
   told_is bytes = rw (here, ← rules, ← o.stop) (says_map type_event (place_of_types (place_at q.types.offset q.types.stop (In_type q.types.symbols ∷ rest) q.table.nodes) rest) (type_step q.types.rules (place_of q.types q.table.nodes)) 0 bytes)
 
   pending_is : (b : List ℕ) → IsPending (state_of s q).pending b → b ≡ pending q.types q.partial
@@ -142,7 +132,7 @@ module _ (s : StreamStanding) (q : PartsState) (here : s.stage ≡ stage.InType)
         waits = λ b is. (rw (pending_is b is) (told_is (pending q.types q.partial ++ input) ∙ ap (λ z. map_said type_event (place_of_types stands rest) z) m.is), rw (here, pending_is b is) (sym m.pending));
       }
 
-  pub option_fails : (input : List ℕ) (at : ℕ) (why : Reason) → type.told q.types q.table.nodes (pending q.types q.partial ++ input) ≡ Bad (at, why) → (b : List ℕ) → IsPending (state_of s q).pending b → said (state_of s q) (b ++ input) ≡ Bad (at, why)
+  pub option_fails : (input : List ℕ) (at : ℕ) (why : Reason) → type.step_says q.types q.table.nodes (pending q.types q.partial ++ input) ≡ Bad (at, why) → (b : List ℕ) → IsPending (state_of s q).pending b → said (state_of s q) (b ++ input) ≡ Bad (at, why)
   option_fails input at why m b is = rw (pending_is b is) (told_is (pending q.types q.partial ++ input) ∙ ap (λ z. map_said type_event (place_of_types stands rest) z) m)
 
   module _ (input : List ℕ) (at used : ℕ) (x : TypeOutline) (r' : type.TypeState) (p' : FieldState) (t' : Table) (m : type.Ends q.types q.partial q.table input at used x r' p' t') (waits : OptionWaits q) where

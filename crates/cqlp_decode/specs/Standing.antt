@@ -307,7 +307,7 @@ option_bytes q = type.pending q.types q.partial
 
 -- they want more
 abbrev pub OptionWaits : PartsState → Type 0
-OptionWaits q = 0 < length (option_bytes q) → type.told q.types q.table.nodes (option_bytes q) ≡ More
+OptionWaits q = 0 < length (option_bytes q) → type.step_says q.types q.table.nodes (option_bytes q) ≡ More
 
 -- The type option under way began after whole types, and of it these bytes have come.
 pub record OptionRuns (l : Rules) (q : PartsState) : Type 0 where

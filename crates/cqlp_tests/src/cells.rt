@@ -4,7 +4,8 @@ ghost use Rattle.std.specs.Prelude.{◌≡◌, ◌+◌, ◌≤◌, ◌<◌, ◌^
 ghost use Rattle.cqlp_note.specs.Limits.{rules_of};
 ghost use Rattle.cqlp_type.specs.Standing.{IsShared};
 ghost use Rattle.cqlp_type.specs.Pushing.{ReadsInto};
-ghost use Rattle.cqlp_value.specs.Inner.{HasInner, StandTo};
+ghost use Rattle.cqlp_type.specs.Types.{HasInner};
+ghost use Rattle.cqlp_value.specs.Inner.{StandTo};
 ghost use Rattle.cqlp_value.specs.Standing.{CellStands, Stands, is_under_way};
 ghost use Rattle.cqlp_value.specs.Reading.{Joined};
 

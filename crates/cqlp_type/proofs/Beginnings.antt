@@ -15,7 +15,7 @@ skipped_is number (suc skipped) [] = refl
 skipped_is number zero (x ∷ xs) = let e : number + 0 ≡ number = omega arith in rw e refl
 skipped_is number (suc skipped) (x ∷ xs) = let e : suc number + skipped ≡ number + suc skipped = omega arith in rw (← e) (skipped_is (suc number) skipped xs)
 
--- a type begins at node `at`, and the next one behind it
+-- a type begins at node `at`, and the next one after it
 module _ (number at : ℕ) (xs : List Node) (x : Node) (here : get_or xs at x ≡ x) (within : at < length xs) where
   there : beginnings (number + at) 0 (drop at xs) ≡ (number + at) ∷ (cond (eqb x.span 0) [] (beginnings (suc (number + at)) (x.span - 1) (drop (suc at) xs)))
   there = rw (drop-cons xs at x within, here) refl

@@ -24,7 +24,7 @@ use Rattle.cqlp_type.specs.declared.advance.TypeOutline.{TypeOutline}
 use Rattle.cqlp_type.specs.TypeStep.{TypeSymbol, Option_at, Text_of, Fields_of, Whole, TypeEvent, TypePlace, type_place}
 use Rattle.cqlp_type.specs.Table.{Table}
 use Rattle.cqlp_type.specs.Remaining.{event_at, item_step, Keeps, IsPart, number_of, short_in}
-use Rattle.cqlp_type.specs.Standing.{TypeState, stopped, place_of, notation_of, IsFor, IsShared, pending, told, CanLendPart, text_length, Waits, Ends}
+use Rattle.cqlp_type.specs.Standing.{TypeState, stopped, place_of, notation_of, IsFor, IsShared, pending, step_says, CanLendPart, text_length, Waits, Ends}
 use Rattle.cqlp_type.specs.Pushing.{ReadsInto}
 use Rattle.cqlp_type.proofs.OpenTypes.{keeps}
 use Rattle.cqlp_type.proofs.ReadBack.{text_is}
@@ -59,19 +59,19 @@ module _ (r : TypeState) (nodes : List Node) (w : Wanted) (bytes : List ℕ) whe
       (item_size s (limit_of r.rules (notation_of s)) (r.stop - r.offset) bytes v k g, got_inside (notation_of s) (limit_of r.rules (notation_of s)) (r.stop - r.offset) bytes v k g le)
 
   module _ (f : IsFor r.rules r.offset r.stop r.symbols w) where
-    pub told_waits : says (reader_of w) 0 bytes ≡ More → (told r nodes bytes ≡ More) × (length bytes ≤ r.stop - r.offset)
-    told_waits m =
+    pub step_waits : says (reader_of w) 0 bytes ≡ More → (step_says r nodes bytes ≡ More) × (length bytes ≤ r.stop - r.offset)
+    step_waits m =
         let h = sym (for_says r.symbols f) ∙ m in
         (item_waits r.rules (place_of r nodes) bytes r.symbols (for_read r.symbols f) h, waiting r.symbols f h)
 
-    pub told_fails : (why : Reason) → says (reader_of w) 0 bytes ≡ Bad why → told r nodes bytes ≡ Bad (r.offset, why)
-    told_fails why m = item_fails r.rules (place_of r nodes) bytes r.symbols why (for_read r.symbols f) (sym (for_says r.symbols f) ∙ m)
+    pub step_fails : (why : Reason) → says (reader_of w) 0 bytes ≡ Bad why → step_says r nodes bytes ≡ Bad (r.offset, why)
+    step_fails why m = item_fails r.rules (place_of r nodes) bytes r.symbols why (for_read r.symbols f) (sym (for_says r.symbols f) ∙ m)
 
-    pub told_gives : (v : FieldValue) (k : ℕ) → says (reader_of w) 0 bytes ≡ Got v k → told r nodes bytes ≡ says (item_step r.rules (place_of r nodes) r.symbols v) k (drop k bytes)
-    told_gives v k m = item_gives r.rules (place_of r nodes) bytes r.symbols v k (for_read r.symbols f) (sym (for_says r.symbols f) ∙ m)
+    pub step_gives : (v : FieldValue) (k : ℕ) → says (reader_of w) 0 bytes ≡ Got v k → step_says r nodes bytes ≡ says (item_step r.rules (place_of r nodes) r.symbols v) k (drop k bytes)
+    step_gives v k m = item_gives r.rules (place_of r nodes) bytes r.symbols v k (for_read r.symbols f) (sym (for_says r.symbols f) ∙ m)
 
-    pub told_size : (v : FieldValue) (k : ℕ) → says (reader_of w) 0 bytes ≡ Got v k → k ≤ length bytes → (2 ≤ k) × (k ≤ r.stop - r.offset)
-    told_size v k m le = given r.symbols v k f (sym (for_says r.symbols f) ∙ m) le
+    pub step_size : (v : FieldValue) (k : ℕ) → says (reader_of w) 0 bytes ≡ Got v k → k ≤ length bytes → (2 ≤ k) × (k ≤ r.stop - r.offset)
+    step_size v k m le = given r.symbols v k f (sym (for_says r.symbols f) ∙ m) le
 
 -- ---- what the value of an item is
 
@@ -126,8 +126,8 @@ module _ (old r : TypeState) (p q : FieldState) (t : Table) (input : List ℕ) (
   pub asked : IsFor r.rules r.offset r.stop r.symbols q.field
   asked = shared.item begun
 
-  told_same : (bytes : List ℕ) → told old t.nodes bytes ≡ told r t.nodes bytes
-  told_same bytes = ap (λ (z : TypeState). told z t.nodes bytes) (sym reader)
+  step_same : (bytes : List ℕ) → step_says old t.nodes bytes ≡ step_says r t.nodes bytes
+  step_same bytes = ap (λ (z : TypeState). step_says z t.nodes bytes) (sym reader)
 
   module _ (used : ℕ) (q' : FieldState) (w : partial.Waits q input used q') where
     now : says (reader_of q.field) 0 (q.seen ++ input) ≡ More
@@ -135,7 +135,7 @@ module _ (old r : TypeState) (p q : FieldState) (t : Table) (input : List ℕ) (
 
     pub waits_fits : r.taken + used ≤ r.stop - r.offset
     waits_fits =
-        let le = (told_waits r t.nodes q.field (q.seen ++ input) asked now).1 in
+        let le = (step_waits r t.nodes q.field (q.seen ++ input) asked now).1 in
         omega (arith, taken_is, w.all, length-append q.seen input, le)
 
     progress : q' ≡ going_on q (q.seen ++ input) q'.content
@@ -152,7 +152,7 @@ module _ (old r : TypeState) (p q : FieldState) (t : Table) (input : List ℕ) (
     pub waits_on : Waits old p t input used (record r { taken = r.taken + used }) q' t
     waits_on = record {
       all = w.all;
-      is = told_same (pending old p ++ input) ∙ rw (← seen) (told_waits r t.nodes q.field (q.seen ++ input) asked now).0;
+      is = step_same (pending old p ++ input) ∙ rw (← seen) (step_waits r t.nodes q.field (q.seen ++ input) asked now).0;
       pending = rw begun (ap (λ (z : FieldState). z.seen) progress ∙ ap (λ (x : List ℕ). x ++ input) seen);
       reader = ap (λ (z : TypeState). record z { taken = r.taken + used }) reader;
       shared = waits_shared;
@@ -174,8 +174,8 @@ module _ (old r : TypeState) (p q : FieldState) (t : Table) (input : List ℕ) (
   stopped_is = ap stopped reader
 
   -- the field is refused
-  pub refused_told : (why : Reason) → says (reader_of q.field) 0 (q.seen ++ input) ≡ Bad why → told old t.nodes (pending old p ++ input) ≡ Bad (r.offset, why)
-  refused_told why m = told_same (pending old p ++ input) ∙ rw (← seen) (told_fails r t.nodes q.field (q.seen ++ input) asked why m)
+  pub refused_says : (why : Reason) → says (reader_of q.field) 0 (q.seen ++ input) ≡ Bad why → step_says old t.nodes (pending old p ++ input) ≡ Bad (r.offset, why)
+  refused_says why m = step_same (pending old p ++ input) ∙ rw (← seen) (step_fails r t.nodes q.field (q.seen ++ input) asked why m)
 
   module _ (used : ℕ) (i : FieldOutline) (q' : FieldState) (can : CanLend i input q'.content) (e : partial.Ends q input used (item_value i input q'.content) q') where
     abbrev value : FieldValue
@@ -192,11 +192,11 @@ module _ (old r : TypeState) (p q : FieldState) (t : Table) (input : List ℕ) (
 
     pub ends_fits : (2 ≤ r.taken + used) × (r.taken + used ≤ r.stop - r.offset)
     ends_fits =
-        let s = told_size r t.nodes q.field (q.seen ++ input) asked value (length q.seen + used) got within in
+        let s = step_size r t.nodes q.field (q.seen ++ input) asked value (length q.seen + used) got within in
         (omega (arith, taken_is, s.0), omega (arith, taken_is, s.1))
 
-    goes : told old t.nodes (pending old p ++ input) ≡ says (item_step r.rules (place_of r t.nodes) r.symbols value) (length (pending old p) + used) (drop (length (pending old p) + used) (pending old p ++ input))
-    goes = told_same (pending old p ++ input) ∙ rw (← seen) (told_gives r t.nodes q.field (q.seen ++ input) asked value (length q.seen + used) got)
+    goes : step_says old t.nodes (pending old p ++ input) ≡ says (item_step r.rules (place_of r t.nodes) r.symbols value) (length (pending old p) + used) (drop (length (pending old p) + used) (pending old p ++ input))
+    goes = step_same (pending old p ++ input) ∙ rw (← seen) (step_gives r t.nodes q.field (q.seen ++ input) asked value (length q.seen + used) got)
 
     idle : q' ≡ ended q q'.content
     idle = e.idle
@@ -218,7 +218,7 @@ module _ (old r : TypeState) (p q : FieldState) (t : Table) (input : List ℕ) (
         subst P same here
 
     -- an item that is no text has no content
-    pub failed : (why : Reason) → item_step r.rules (place_of r t.nodes) r.symbols value ≡ Refuses (r.offset, why) → (told old t.nodes (pending old p ++ input) ≡ Bad (r.offset, why)) × (q'.content ≡ [])
+    pub failed : (why : Reason) → item_step r.rules (place_of r t.nodes) r.symbols value ≡ Refuses (r.offset, why) → (step_says old t.nodes (pending old p ++ input) ≡ Bad (r.offset, why)) × (q'.content ≡ [])
     failed why f = (
       goes ∙ ap (λ (s : Step TypeEvent TypePlace). says s (length (pending old p) + used) (drop (length (pending old p) + used) (pending old p ++ input))) f,
       e.lent (rw (failed_plain r.rules (place_of r t.nodes) q.field (q.seen ++ input) value (length q.seen + used) (r.offset, why) r.symbols asked got f) (omega arith)),

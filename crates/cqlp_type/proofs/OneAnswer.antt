@@ -16,7 +16,7 @@ use Rattle.cqlp_type.specs.declared.advance.TypeAdvance.{TypeAdvance}
 use Rattle.cqlp_type.specs.declared.advance.TypeAdvance.TheVariants as advance
 use Rattle.cqlp_type.specs.TypeStep.{TypeSymbol, Option_at, TypeEvent, TypePlace, type_step}
 use Rattle.cqlp_type.specs.Table.{Table}
-use Rattle.cqlp_type.specs.Standing.{TypeState, place_of, pending, told, stopped, Advances}
+use Rattle.cqlp_type.specs.Standing.{TypeState, place_of, pending, step_says, stopped, Advances}
 use Rattle.cqlp_type.specs.Pushing.{After, Uses, Continues, Fills, Pushes, event_of}
 use Rattle.cqlp_type.specs.Laws.{Answer, More, FieldOutline, Done, Refused, push_answer, advance_answer, Call, IsPush, IsAdvance, AreAlike, LeaveAlike}
 use Rattle.cqlp_type.proofs.Pushes.{waits_some, told_some}
@@ -104,12 +104,12 @@ module _ (start : TypePlace) (old : TypeState) (p : FieldState) (t : Table) (s :
   ends_alike : new ≡ stopped old → t' ≡ t → p'.under_way ≡ false → (a : Answer) → outcome a new p' t' ≡ record { answer = a; under_way = false; place = ended_at here; pending = []; field = false }
   ends_alike r e f a = rw (r, e, f) refl
 
-  more_decided : new.rules ≡ old.rules → new.under_way ≡ true → p'.under_way ≡ true → After start new p' t' (s ++ input) es → told new t'.nodes (pending new p') ≡ reader.More → (old.symbols ≡ [] → ⊥)
+  more_decided : new.rules ≡ old.rules → new.under_way ≡ true → p'.under_way ≡ true → After start new p' t' (s ++ input) es → step_says new t'.nodes (pending new p') ≡ reader.More → (old.symbols ≡ [] → ⊥)
       → outcome (More (length input)) new p' t' ≡ result
   more_decided rules under field later said some =
       let same = run_same (type_step old.rules) start here (place_of new t'.nodes) (s ++ input) all (pending new p') es stays (rw rules at later) in
-      let told_here : told old t.nodes all ≡ reader.More = (λ i. says (type_step (sym rules i) (sym same.0 i)) 0 (sym same.1 i)) ∙ said in
-      (λ i. record { answer = More (length input); under_way = under i; place = same.0 i; pending = same.1 i; field = field i }) ∙ sym (waits_decided old.symbols (told old t.nodes all) here came input some told_here)
+      let told_here : step_says old t.nodes all ≡ reader.More = (λ i. says (type_step (sym rules i) (sym same.0 i)) 0 (sym same.1 i)) ∙ said in
+      (λ i. record { answer = More (length input); under_way = under i; place = same.0 i; pending = same.1 i; field = field i }) ∙ sym (waits_decided old.symbols (step_says old t.nodes all) here came input some told_here)
 
   item_decided : (at used : ℕ) (e : TypeEvent) → new.rules ≡ old.rules → new.under_way ≡ true → p'.under_way ≡ false → used ≤ length input → pending new p' ≡ [] → After start new p' t' (s ++ take used input) (es ++ (at, e) ∷ []) → (old.symbols ≡ [] → ⊥)
       → outcome (FieldOutline at used e) new p' t' ≡ result
@@ -122,9 +122,9 @@ module _ (start : TypePlace) (old : TypeState) (p : FieldState) (t : Table) (s :
       let inside = (stays_got x n.0 (says_stays (type_step old.rules here) 0 all []) n.2).1 in
       let left : length rest ≡ length (drop n.0 all) = ap (length {A = ℕ}) n.3.1 in
       let taken : n.0 ≡ length came + used = omega (arith, inside, left, within, length-append came input, length-drop used input, length-drop n.0 all) in
-      let said : told old t.nodes all ≡ Got x (length came + used) = rw taken at n.2 in
+      let said : step_says old t.nodes all ≡ Got x (length came + used) = rw taken at n.2 in
       let there : place_of new t'.nodes ≡ n.1 (length came + used) = n.3.0 ∙ ap n.1 taken in
-      (λ i. record { answer = FieldOutline at used e; under_way = under i; place = there i; pending = none i; field = field i }) ∙ sym (gives_decided old.symbols (told old t.nodes all) here came input x used some said)
+      (λ i. record { answer = FieldOutline at used e; under_way = under i; place = there i; pending = none i; field = field i }) ∙ sym (gives_decided old.symbols (step_says old t.nodes all) here came input x used some said)
 
   pub push_decided : (depth : ℕ) (x : TypePush) → start.symbols ≡ Option_at depth ∷ [] → old.under_way ≡ true → Uses old input x → Continues old x new → Fills old t x t' → Pushes old p t input x new p' t'
       → (outcome (push_answer x) new p' t' ≡ result) × (new.rules ≡ old.rules) × (t'.room ≡ t.room)
@@ -135,11 +135,11 @@ module _ (start : TypePlace) (old : TypeState) (p : FieldState) (t : Table) (s :
       let l = next.leads start depth first s es run in
       (item_decided at used (event_of e) goes.1 goes.0 next.serves.1 uses.0 l.0 l.1 uses.1, goes.1, fills.0)
   push_decided depth push.Done first under uses goes fills next =
-      (ends_alike goes fills next.serves.1 Done ∙ sym (over_decided old.symbols (told old t.nodes all) here came input uses), rw goes refl, rw fills refl)
+      (ends_alike goes fills next.serves.1 Done ∙ sym (over_decided old.symbols (step_says old t.nodes all) here came input uses), rw goes refl, rw fills refl)
   push_decided depth (push.Refused r) first under uses goes fills next =
       let l = next.leads start depth first s es run in
       let same = run_same (type_step old.rules) start here here (s ++ input) all all es stays l.0 in
-      (ends_alike goes fills next.serves.0 (Refused r) ∙ sym (fails_decided old.symbols (told old t.nodes all) here came input r uses l.1), rw goes refl, rw fills refl)
+      (ends_alike goes fills next.serves.0 (Refused r) ∙ sym (fails_decided old.symbols (step_says old t.nodes all) here came input r uses l.1), rw goes refl, rw fills refl)
 
 -- ---- what `advance` says and leaves
 
@@ -151,7 +151,7 @@ module _ (old : TypeState) (p : FieldState) (t : Table) (input : List ℕ) (new 
       let goes : new.under_way ≡ true = ap (λ (z : TypeState). z.under_way) w.reader ∙ under in
       let field : p'.under_way ≡ true = w.shared.same ∙ ap (λ (z : TypeState). z.begun) w.reader in (
         (λ i. record { answer = More (w.all i); under_way = goes i; place = place i; pending = w.pending i; field = field i })
-            ∙ sym (waits_decided old.symbols (told old t.nodes (pending old p ++ input)) (place_of old t.nodes) (pending old p) input (waits_some old p t input new p' t' used w) w.is),
+            ∙ sym (waits_decided old.symbols (step_says old t.nodes (pending old p ++ input)) (place_of old t.nodes) (pending old p) input (waits_some old p t input new p' t' used w) w.is),
         ap (λ (z : TypeState). z.rules) w.reader,
         rw w.table refl,
       )
@@ -162,21 +162,21 @@ module _ (old : TypeState) (p : FieldState) (t : Table) (input : List ℕ) (new 
       let none : pending new p' ≡ [] = rw begun refl in
       let some = told_some old p t input new p' t' (pending old p ++ input) (λ more. let no = sym more ∙ w.is in absurd cc) in (
         (λ i. record { answer = FieldOutline (sym w.place i) used (sym w.event i); under_way = goes i; place = sym w.after i; pending = none i; field = field i })
-            ∙ sym (gives_decided old.symbols (told old t.nodes (pending old p ++ input)) (place_of old t.nodes) (pending old p) input w.step used some w.is),
+            ∙ sym (gives_decided old.symbols (step_says old t.nodes (pending old p ++ input)) (place_of old t.nodes) (pending old p) input w.step used some w.is),
         ap (λ (z : TypeState). z.rules) w.reader,
         w.table,
       )
   advance_decided advance.Done under d =
       let idle : p'.under_way ≡ false = rw d.2 d.3 in (
         (λ i. outcome Done (d.1 i) p' (d.4 i)) ∙ (λ i. record { answer = Done; under_way = false; place = ended_at (place_of old t.nodes); pending = []; field = idle i })
-            ∙ sym (over_decided old.symbols (told old t.nodes (pending old p ++ input)) (place_of old t.nodes) (pending old p) input d.0),
+            ∙ sym (over_decided old.symbols (step_says old t.nodes (pending old p ++ input)) (place_of old t.nodes) (pending old p) input d.0),
         rw d.1 refl,
         rw d.4 refl,
       )
   advance_decided (advance.Refused r) under d =
       let some = told_some old p t input new p' t' (pending old p ++ input) (λ more. let no = sym more ∙ d.0 in absurd cc) in (
         (λ i. outcome (Refused r) (d.1 i) p' (d.5 i)) ∙ (λ i. record { answer = Refused r; under_way = false; place = ended_at (place_of old t.nodes); pending = []; field = d.2 i })
-            ∙ sym (fails_decided old.symbols (told old t.nodes (pending old p ++ input)) (place_of old t.nodes) (pending old p) input r some d.0),
+            ∙ sym (fails_decided old.symbols (step_says old t.nodes (pending old p ++ input)) (place_of old t.nodes) (pending old p) input r some d.0),
         rw d.1 refl,
         rw d.5 refl,
       )

@@ -25,7 +25,7 @@ use Rattle.cqlp_type.specs.Types.{Types, NoMore, Type_and, how_many, HasInner, A
 use Rattle.cqlp_type.specs.TypeStep.{TypeSymbol, Option_at, Text_of, Fields_of, Whole, TypeEvent, IsNode, IsField, TypePlace, parameters_of, arity_of, inner_symbols, symbol_copies, with_arity, with_span, settled, type_place, option_step, count_in, type_step_at, type_step}
 use Rattle.cqlp_type.specs.Table.{Table, HoldsTypes}
 use Rattle.cqlp_type.specs.Remaining.{Closes, Keeps, item_step, short_in, event_at}
-use Rattle.cqlp_type.specs.Standing.{TypeState, IsShared, place_of, pending, told, started, Waits, Ends}
+use Rattle.cqlp_type.specs.Standing.{TypeState, IsShared, place_of, pending, step_says, started, Waits, Ends}
 use Rattle.cqlp_type.specs.Pushing.{ReadsInto, IsWhole}
 use Rattle.cqlp_type.specs.Trees.{Head, Plain, Custom, ListOf, SetOf, MapOf, TupleOf, UdtOf, Trees, NoTree, Tree_and, kind_in, types_in, is_plain, IsHead, AreTrees}
 use Rattle.cqlp_type.proofs.Forests.{many_types}
@@ -34,7 +34,7 @@ use Rattle.cqlp_type.proofs.Pushes.{run_more, option_begun, option_waited, optio
 
 -- ---- an open type
 
--- the ends among these symbols are those of types behind this node
+-- the ends among these symbols are those of types after this node
 abbrev Above : (n : ℕ) → List TypeSymbol → Type 0
 Above n [] = Unit {0}
 Above n (Whole i ∷ ss) = (n < i) × Above n ss
@@ -139,7 +139,7 @@ copies_above : (n k : ℕ) (named : Bool) (depth : ℕ) → Above n (symbol_copi
 copies_above n zero named depth = tt
 copies_above n (suc k) named depth = above_append n (inner_symbols named depth) (symbol_copies k (inner_symbols named depth)) (inner_above n named depth) (copies_above n k named depth)
 
--- what is behind the first symbol
+-- what is after the first symbol
 behind_first : (base : List Node) (s : TypeSymbol) (rest : List TypeSymbol) (front : List TypeSymbol) → s ∷ rest ≡ front ++ Whole (length base) ∷ [] → ((i : ℕ) → s ≡ Whole i → ⊥) → Above (length base) front
     → (tail : List TypeSymbol) × (rest ≡ tail ++ Whole (length base) ∷ []) × Above (length base) tail
 behind_first base s rest [] e other above = let is : s ≡ Whole (length base) = cc in absurd (other (length base) is)
@@ -286,7 +286,7 @@ module _ (r : TypeState) (p : FieldState) (t : Table) (input : List ℕ) (reads 
 
   -- where nothing is left after an item, the types are whole
   ended : (used : ℕ) (e : TypeEvent) (ss : List TypeSymbol) (nodes : List Node) → used ≤ length input
-      → told r t.nodes (pending r p ++ input) ≡ Got (record { at = r.offset; event = e; after = type_place (place_of r t.nodes) (settled ss nodes) }) (length (pending r p) + used)
+      → step_says r t.nodes (pending r p ++ input) ≡ Got (record { at = r.offset; event = e; after = type_place (place_of r t.nodes) (settled ss nodes) }) (length (pending r p) + used)
       → (settled ss nodes).0 ≡ [] → IsPreorder (settled ss nodes).1
   ended used e ss nodes within said none =
       let place = place_of r t.nodes in
@@ -303,7 +303,7 @@ module _ (r : TypeState) (p : FieldState) (t : Table) (input : List ℕ) (reads 
 
   -- what an item does to the table, it does to one that holds types
   pub keeps : (used : ℕ) (v : FieldValue) (ss : List TypeSymbol) → ss ≡ r.symbols → used ≤ length input
-      → told r t.nodes all ≡ says (item_step r.rules (place_of r t.nodes) ss v) (length (pending r p) + used) (drop (length (pending r p) + used) all)
+      → step_says r t.nodes all ≡ says (item_step r.rules (place_of r t.nodes) ss v) (length (pending r p) + used) (drop (length (pending r p) + used) all)
       → Keeps r.rules ss t.nodes (short_in v)
   keeps used v [] same within said = tt
   keeps used v (Option_at depth ∷ rest) same within said = λ k is deep room.

@@ -18,7 +18,7 @@ use Rattle.cqlp_type.specs.Types.{IsPreorder}
 use Rattle.cqlp_type.specs.TypeStep.{TypeSymbol, Option_at, TypeEvent, TypePlace, type_step}
 use Rattle.cqlp_type.specs.Table.{Table}
 use Rattle.cqlp_type.specs.Remaining.{event_at}
-use Rattle.cqlp_type.specs.Standing.{TypeState, IsShared, IsFor, place_of, pending, told, started, stopped, Waits, Ends, Advances}
+use Rattle.cqlp_type.specs.Standing.{TypeState, IsShared, IsFor, place_of, pending, step_says, started, stopped, Waits, Ends, Advances}
 use Rattle.cqlp_type.specs.Pushing.{After, ReadsInto, IsWhole, Pushes, event_of}
 use Rattle.cqlp_type.proofs.ReadBack.{option_read}
 
@@ -80,7 +80,7 @@ module _ (old : TypeState) (p : FieldState) (t : Table) (input : List ℕ) (new 
       let over : new.begun ≡ false = nothing_begun new p' w.shared same in
       absurd cc
 
-  pub told_some : (bytes : List ℕ) → (told old t.nodes bytes ≡ More → ⊥) → old.symbols ≡ [] → ⊥
+  pub told_some : (bytes : List ℕ) → (step_says old t.nodes bytes ≡ More → ⊥) → old.symbols ≡ [] → ⊥
   told_some bytes said none = said (rw none refl)
 
   pub waits_pushes : (used : ℕ) → old.under_way ≡ true → ReadsInto new p' t' → Waits old p t input used new p' t'

@@ -51,7 +51,7 @@ settled_comes l (Option_at d ∷ rest) ns es final h = h
 settled_comes l (Text_of f ∷ rest) ns es final h = h
 settled_comes l (Fields_of named d ∷ rest) ns es final h = h
 
--- inner types, and what comes behind them
+-- inner types, and what comes after them
 pub record Inner (l : Rules) (depth n : ℕ) (named : Bool) (rest : List TypeSymbol) (ns : List Node) (es : List TypeEvent) (final : List Node) : Type 0 where
   pub trees : Trees
   pub more : List TypeEvent
@@ -157,7 +157,7 @@ after_field_always F P at (Refuses why) f b h g = tt
 after_field_always F P at Idles f b h g = tt
 after_field_always F P at (Takes n r) f b h g = λ c long. after_field_always F P at (r c) f (b ++ c) (h c long) g
 
--- An item is at the place, its bytes spell it, and what comes behind it comes behind its symbols.
+-- An item is at the place, its bytes spell it, and what comes after it comes after its symbols.
 pub record Came (l : Rules) (p : TypePlace) (ss : List TypeSymbol) (x : Emitted TypeEvent TypePlace) (b : List ℕ) : Type 0 where
   pub at : x.at ≡ p.offset
   pub spelled : ItemSpells x.event b

@@ -82,7 +82,7 @@ short_head : (l : Rules) (e : TypeEvent) (es : List TypeEvent) → AreShort l (e
 short_head l (IsNode k) es h = (tt, h)
 short_head l (IsField f v) es h = ((h.0, tt), h.1)
 
--- an item in front, and a run over what is behind it
+-- an item in front, and a run over what is after it
 onward : (l : Rules) (p q : TypePlace) (e : TypeEvent) (s : List TypeSymbol × List Node) (front back b : List ℕ) (es : List TypeEvent) → Yields (type_step l p) (emitted p e s) front → b ≡ front ++ back → length front ≡ item_size e
     → Runs (type_step l) (type_place p s (length front)) back (placed (p.offset + length front) es) q [] → Runs (type_step l) p b (placed p.offset (e ∷ es)) q []
 onward l p q e s front back b es y whole size later =
@@ -127,7 +127,7 @@ module _ (l : Rules) (final : List Node) where
   abbrev pub At : List TypeEvent → List TypeSymbol → List Node → Type 0
   At es ss ns = Derives l final es (settled ss ns).0 (settled ss ns).1
 
-  -- an option is whole behind its inner types
+  -- an option is whole after its inner types
   whole_at : (k : Kind) (types : Types) (inner : Trees) (tail : List TypeSymbol) (ns : List Node) (es : List TypeEvent) (n : ℕ) → types ≡ types_in inner → trees_in inner ≡ n → At es tail (ns ++ preorder (Type_and k types NoMore)) → At es (Whole (length ns) ∷ tail) ((ns ++ node k n ∷ []) ++ preorder types)
   whole_at k types inner tail ns es n same is h =
       let spanned : with_span (length ns) ((ns ++ node k n ∷ []) ++ preorder types) ≡ ns ++ preorder (Type_and k types NoMore) = rw (append_assoc ns (node k n ∷ []) (preorder types), span_at ns (node k n) (preorder types), append-nil (preorder types), same, many_types inner, is) refl in

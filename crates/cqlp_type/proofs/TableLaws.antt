@@ -6,7 +6,7 @@ use Rattle.std.proofs.lemmas.Bool.{ne_eqb}
 use Rattle.cqlp_type.specs.declared.kind.Kind.{Kind}
 use Rattle.cqlp_type.specs.declared.node.Node.{Node}
 use Rattle.cqlp_type.specs.Types.{Types, NoMore, Type_and, how_many, preorder}
-use Rattle.cqlp_type.specs.Table.{beginnings, behind, child}
+use Rattle.cqlp_type.specs.Table.{beginnings, inner_nodes, child}
 use Rattle.cqlp_type.specs.Laws.{first_nodes}
 use Rattle.cqlp_type.proofs.Beginnings.{skipped_is}
 
@@ -36,7 +36,7 @@ pub roots_count : (ts : Types) (number : ℕ) → length (first_nodes number ts)
 roots_count NoMore number = refl
 roots_count (Type_and k inner others) number = ap suc (roots_count others (number + suc (length (preorder inner))))
 
--- a node behind others
+-- a node after others
 there : (before : List Node) (x : Node) (xs : List Node) → slice_get (before ++ x ∷ xs) (length before) ≡ Some x
 there [] x xs = refl
 there (y ∷ before) x xs = there before x xs
@@ -45,7 +45,7 @@ after : (before : List Node) (x : Node) (xs : List Node) → drop (length before
 after [] x xs = refl
 after (y ∷ before) x xs = let e : suc (length before) + 1 ≡ suc (length before + 1) = omega arith in rw e (after before x xs)
 
-child_is : (before : List Node) (x : Node) (xs : List Node) (i : ℕ) → child (before ++ x ∷ xs) (length before) i ≡ slice_get (beginnings (length before + 1) 0 (behind x xs)) i
+child_is : (before : List Node) (x : Node) (xs : List Node) (i : ℕ) → child (before ++ x ∷ xs) (length before) i ≡ slice_get (beginnings (length before + 1) 0 (inner_nodes x xs)) i
 child_is before x xs i = rw (there before x xs, after before x xs) refl
 
 pub whole_children : (before after : List Node) (k : Kind) (inner : Types) (i : ℕ) → child (before ++ (preorder (Type_and k inner NoMore) ++ after)) (length before) i ≡ slice_get (first_nodes (length before + 1) inner) i
@@ -55,12 +55,12 @@ whole_children before after k inner i =
     let less : suc n - 1 ≡ n = omega arith in
     let all : (preorder inner ++ []) ++ after ≡ preorder inner ++ after = ap (λ (m : List Node). m ++ after) (append-nil (preorder inner)) in
     let own : take n (preorder inner ++ after) ≡ preorder inner = take_at (preorder inner) after n refl in
-    let is : behind x ((preorder inner ++ []) ++ after) ≡ preorder inner = rw (ne_eqb (suc n) 0 (some_span n), less, all) own in
+    let is : inner_nodes x ((preorder inner ++ []) ++ after) ≡ preorder inner = rw (ne_eqb (suc n) 0 (some_span n), less, all) own in
     let begin : beginnings (length before + 1) 0 (preorder inner) ≡ first_nodes (length before + 1) inner = ap (beginnings (length before + 1) 0) (sym (append-nil (preorder inner))) ∙ roots_begin inner (length before + 1) [] ∙ append-nil (first_nodes (length before + 1) inner) in
     child_is before x ((preorder inner ++ []) ++ after) i ∙ ap (λ (m : List Node). slice_get (beginnings (length before + 1) 0 m) i) is ∙ ap (λ (m : List ℕ). slice_get m i) begin
 
 pub open_children : (before : List Node) (x : Node) (inner : Types) (rest : List Node) (i : ℕ) → x.span ≡ 0
     → child (before ++ (x ∷ (preorder inner ++ rest))) (length before) i ≡ slice_get (first_nodes (length before + 1) inner ++ beginnings (length before + 1 + length (preorder inner)) 0 rest) i
 open_children before x inner rest i e =
-    let is : behind x (preorder inner ++ rest) ≡ preorder inner ++ rest = rw e refl in
+    let is : inner_nodes x (preorder inner ++ rest) ≡ preorder inner ++ rest = rw e refl in
     child_is before x (preorder inner ++ rest) i ∙ ap (λ (m : List Node). slice_get (beginnings (length before + 1) 0 m) i) is ∙ ap (λ (m : List ℕ). slice_get m i) (roots_begin inner (length before + 1) rest)

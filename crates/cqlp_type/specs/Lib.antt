@@ -1,7 +1,7 @@
 pub mod Types
 pub mod TypeStep
 pub mod Table
-pub mod Levels
+pub mod OpenOptions
 pub mod Remaining
 pub mod Standing
 pub mod Trees

@@ -17,7 +17,7 @@ use Rattle.cqlp_type.specs.Types.{IsPreorder, preorder}
 use Rattle.cqlp_type.specs.TypeStep.{TypeEvent, IsNode, IsField, TypePlace, type_step, Option_at}
 use Rattle.cqlp_type.specs.Table.{Table}
 use Rattle.cqlp_type.specs.Trees.{Trees, trees_in, types_in, AreTrees, Shallow, trees_items, placed, TreeSpells}
-use Rattle.cqlp_type.specs.Standing.{TypeState, IsShared, place_of, pending, told, stopped, text_length}
+use Rattle.cqlp_type.specs.Standing.{TypeState, IsShared, place_of, pending, step_says, stopped, text_length}
 
 abbrev pub event_of : TypeItem → TypeEvent
 event_of (item.Node k) = IsNode k
@@ -29,7 +29,7 @@ abbrev pub After : (start : TypePlace) → TypeState → FieldState → Table �
 After start r p t s es = Runs (type_step r.rules) start s es (place_of r t.nodes) (pending r p)
 
 -- The option under way is read into this table: it began where the table was whole types, and what was read of it since
--- stands in the table behind them.
+-- stands in the table after them.
 pub record ReadsInto (r : TypeState) (p : FieldState) (t : Table) : Type 0 where
   pub start : TypePlace
   pub first : start.symbols ≡ Option_at 1 ∷ []
@@ -53,8 +53,9 @@ AdvanceLeaves advance.Done r p t = IsPreorder t.nodes
 AdvanceLeaves (advance.Refused x) r p t = Unit {0}
 
 -- These bytes spell the option of a type at this depth, none of whose inner types is too deep; these are its items,
--- the first at `at`; and its nodes in preorder stand behind the ones before.
-pub record IsWhole (l : Rules) (depth at : ℕ) (before : List Node) (s : List ℕ) (es : List (ℕ × TypeEvent)) (nodes : List Node) : Type 0 where
+-- the first at `at`; and its nodes in preorder stand after the ones before.
+pub record IsWhole (l : Rules) (depth at : ℕ) (before : List Node) (s : List ℕ) (es : List (ℕ × TypeEvent))
+    (nodes : List Node) : Type 0 where
   pub tree : Trees
   pub one : trees_in tree ≡ 1
   pub are : AreTrees tree
@@ -64,15 +65,17 @@ pub record IsWhole (l : Rules) (depth at : ℕ) (before : List Node) (s : List �
   pub table : nodes ≡ before ++ preorder (types_in tree)
 
 -- What a call leads to that was made after these bytes and items of an option at this depth.
-abbrev pub Leads : (depth : ℕ) (start : TypePlace) → TypeState → FieldState → Table → List ℕ → List (ℕ × TypeEvent) → List ℕ → TypePush → TypeState → FieldState → Table → Type 0
+abbrev pub Leads : (depth : ℕ) (start : TypePlace) → TypeState → FieldState → Table → List ℕ → List (ℕ × TypeEvent)
+    → List ℕ → TypePush → TypeState → FieldState → Table → Type 0
 Leads depth start old p t s es input (push.More used) new p' t' =
-    After start new p' t' (s ++ input) es × (told new t'.nodes (pending new p') ≡ More)
+    After start new p' t' (s ++ input) es × (step_says new t'.nodes (pending new p') ≡ More)
 Leads depth start old p t s es input (push.Item at used e) new p' t' =
     (pending new p' ≡ []) × After start new p' t' (s ++ take used input) (es ++ (at, event_of e) ∷ [])
 Leads depth start old p t s es input push.Done new p' t' =
     IsWhole old.rules depth start.offset start.nodes s es t'.nodes
 Leads depth start old p t s es input (push.Refused r) new p' t' =
-    Runs (type_step old.rules) start (s ++ input) es (place_of old t.nodes) (pending old p ++ input) × (told old t.nodes (pending old p ++ input) ≡ Bad (r.at, r.why))
+    Runs (type_step old.rules) start (s ++ input) es (place_of old t.nodes) (pending old p ++ input)
+    × (step_says old t.nodes (pending old p ++ input) ≡ Bad (r.at, r.why))
 
 -- A call ends the option by Done where nothing is left of it, and only there; else it uses no more than the input, and
 -- all of it while an item goes on.
@@ -91,12 +94,13 @@ Continues old (push.Refused r) new = new ≡ stopped old
 
 -- The table stays, but for the nodes that an item adds or fills in.
 abbrev pub Fills : TypeState → Table → TypePush → Table → Type 0
-Fills old t (push.Item at used e) t' = (t'.room ≡ t.room) × (length t.nodes ≤ old.rules.entries → length t'.nodes ≤ old.rules.entries)
+Fills old t (push.Item at used e) t' =
+    (t'.room ≡ t.room) × (length t.nodes ≤ old.rules.entries → length t'.nodes ≤ old.rules.entries)
 Fills old t x t' = t' ≡ t
 
--- The `Partial` reads the item that goes on, and has no field under way where an item or the option has ended. Where the
--- content of a text lies whole in the bytes that are used, its buffer is empty; so it is after a refusal, and Done leaves
--- the `Partial` as it was.
+-- The `Partial` reads the item that goes on, and has no field under way where an item or the option has ended. Where
+-- the content of a text lies whole in the bytes that are used, its buffer is empty; so it is after a refusal, and Done
+-- leaves the `Partial` as it was.
 abbrev pub Serves : FieldState → TypePush → TypeState → FieldState → Type 0
 Serves p (push.More used) new p' = IsShared new p' × (p'.under_way ≡ true)
 Serves p (push.Item at used e) new p' =
@@ -104,8 +108,11 @@ Serves p (push.Item at used e) new p' =
 Serves p push.Done new p' = (p' ≡ p) × (p'.under_way ≡ false)
 Serves p (push.Refused r) new p' = (p'.under_way ≡ false) × (p'.content ≡ [])
 
-pub record Pushes (old : TypeState) (p : FieldState) (t : Table) (input : List ℕ) (x : TypePush) (new : TypeState) (p' : FieldState) (t' : Table) : Type 0 where
-  pub leads : (start : TypePlace) (depth : ℕ) → start.symbols ≡ Option_at depth ∷ [] → (s : List ℕ) (es : List (ℕ × TypeEvent)) → After start old p t s es → Leads depth start old p t s es input x new p' t'
+pub record Pushes (old : TypeState) (p : FieldState) (t : Table) (input : List ℕ) (x : TypePush)
+    (new : TypeState) (p' : FieldState) (t' : Table) : Type 0 where
+  pub leads : (start : TypePlace) (depth : ℕ) → start.symbols ≡ Option_at depth ∷ []
+      → (s : List ℕ) (es : List (ℕ × TypeEvent)) → After start old p t s es
+      → Leads depth start old p t s es input x new p' t'
   pub serves : Serves p x new p'
   pub table : PushLeaves x new p' t'
   pub room : p'.room ≡ p.room

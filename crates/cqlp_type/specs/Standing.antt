@@ -18,11 +18,11 @@ use Rattle.cqlp_type.specs.declared.advance.TypeAdvance.{TypeAdvance}
 use Rattle.cqlp_type.specs.declared.advance.TypeAdvance.TheVariants as advance
 use Rattle.cqlp_type.specs.TypeStep.{TypeSymbol, Option_at, Text_of, Whole, TypeEvent, IsNode, IsField, TypePlace, type_step}
 use Rattle.cqlp_type.specs.Table.{Table}
-use Rattle.cqlp_type.specs.Levels.{Nest}
+use Rattle.cqlp_type.specs.OpenOptions.{Nest}
 use Rattle.cqlp_type.specs.Remaining.{is_under_way, stage_symbols, event_at}
 
 -- What a caller knows of a `TypeReader`: the limits; whether an option is under way, and where its frame ends; the
--- offset of the item that is read now, what is still to be read, and how many levels of nesting are kept; whether the
+-- offset of the item that is read now, what is still to be read, and how many options are open around it; whether the
 -- item has been begun in the caller's `Partial`, and how many of its bytes have come.
 pub record TypeState : Type 0 where
   pub rules : Rules
@@ -36,19 +36,47 @@ pub record TypeState : Type 0 where
 
 abbrev pub standing : Limits → (offset stop : ℕ) → OptionStage → Nest → (begun : Bool) → (taken : ℕ) → TypeState
 standing l offset stop s n begun taken =
-    record { rules = rules_of l; under_way = is_under_way s; offset = offset; stop = stop; symbols = stage_symbols s n; height = n.height; begun = begun; taken = taken }
+    record {
+      rules = rules_of l;
+      under_way = is_under_way s;
+      offset = offset;
+      stop = stop;
+      symbols = stage_symbols s n;
+      height = n.height;
+      begun = begun;
+      taken = taken;
+    }
 
 -- a reader that has read nothing
-abbrev pub made : Rules → TypeState
-made l = record { rules = l; under_way = false; offset = 0; stop = 0; symbols = []; height = 0; begun = false; taken = 0 }
+abbrev pub new_reader : Rules → TypeState
+new_reader l =
+    record {
+      rules = l;
+      under_way = false;
+      offset = 0;
+      stop = 0;
+      symbols = [];
+      height = 0;
+      begun = false;
+      taken = 0;
+    }
 
 -- an option that begins here
 abbrev pub started : TypeState → (offset stop : ℕ) → TypeState
-started r offset stop = record { rules = r.rules; under_way = true; offset = offset; stop = stop; symbols = Option_at 1 ∷ []; height = 0; begun = false; taken = 0 }
+started r offset stop =
+    record r {
+      under_way = true;
+      offset = offset;
+      stop = stop;
+      symbols = Option_at 1 ∷ [];
+      height = 0;
+      begun = false;
+      taken = 0;
+    }
 
 -- no option is under way any more
 abbrev pub stopped : TypeState → TypeState
-stopped r = record { rules = r.rules; under_way = false; offset = r.offset; stop = r.stop; symbols = []; height = 0; begun = false; taken = 0 }
+stopped r = record r { under_way = false; symbols = []; height = 0; begun = false; taken = 0 }
 
 abbrev pub place_of : TypeState → List Node → TypePlace
 place_of r nodes = record { offset = r.offset; stop = r.stop; symbols = r.symbols; nodes = nodes }
@@ -63,7 +91,8 @@ notation_of _ = notation.Short
 abbrev pub IsFor : Rules → (offset stop : ℕ) → List TypeSymbol → Wanted → Type 0
 IsFor l offset stop [] w = ⊥
 IsFor l offset stop (Whole i ∷ ss) w = ⊥
-IsFor l offset stop (s ∷ ss) w = w ≡ record { notation = notation_of s; limit = limit_of l (notation_of s); at = offset; room = stop - offset }
+IsFor l offset stop (s ∷ ss) w =
+    w ≡ record { notation = notation_of s; limit = limit_of l (notation_of s); at = offset; room = stop - offset }
 
 -- The `Partial` has room for the texts, and reads the item if that has begun.
 pub record IsShared (r : TypeState) (p : FieldState) : Type 0 where
@@ -78,13 +107,19 @@ pending r p = if r.begun then p.seen else []
 
 -- ---- one call
 
+-- an option that goes on after an item, here and with this still to be read
+abbrev pub after_item : TypeState → (offset : ℕ) → List TypeSymbol → (height : ℕ) → TypeState
+after_item r offset symbols height =
+    record r { under_way = true; offset = offset; symbols = symbols; height = height; begun = false; taken = 0 }
+
 -- what the step at this place says of these bytes
-abbrev pub told : TypeState → List Node → List ℕ → Said (Emitted TypeEvent TypePlace) (ℕ × Reason)
-told r nodes bytes = says (type_step r.rules (place_of r nodes)) 0 bytes
+abbrev pub step_says : TypeState → List Node → List ℕ → Said (Emitted TypeEvent TypePlace) (ℕ × Reason)
+step_says r nodes bytes = says (type_step r.rules (place_of r nodes)) 0 bytes
 
 -- a text that can be lent
 abbrev pub CanLendPart : TypeOutline → (input buffer : List ℕ) → Type 0
-CanLendPart (part.Text f i) input buffer = CanLend i input buffer × ((s : List ℕ) × (item_value i input buffer ≡ Text s))
+CanLendPart (part.Text f i) input buffer =
+    CanLend i input buffer × ((s : List ℕ) × (item_value i input buffer ≡ Text s))
 CanLendPart q input buffer = Unit {0}
 
 -- the bytes of an event that a limit counts
@@ -93,9 +128,10 @@ text_length (IsNode k) = 0
 text_length (IsField f v) = content_length v
 
 -- All of the input belongs to the item, which goes on.
-pub record Waits (old : TypeState) (p : FieldState) (t : Table) (input : List ℕ) (used : ℕ) (new : TypeState) (p' : FieldState) (t' : Table) : Type 0 where
+pub record Waits (old : TypeState) (p : FieldState) (t : Table) (input : List ℕ) (used : ℕ)
+    (new : TypeState) (p' : FieldState) (t' : Table) : Type 0 where
   pub all : used ≡ length input
-  pub is : told old t.nodes (pending old p ++ input) ≡ More
+  pub is : step_says old t.nodes (pending old p ++ input) ≡ More
   pub pending : pending new p' ≡ pending old p ++ input
   pub reader : new ≡ record old { begun = true; taken = new.taken }
   pub shared : IsShared new p'
@@ -104,15 +140,16 @@ pub record Waits (old : TypeState) (p : FieldState) (t : Table) (input : List �
 
 -- The first `used` bytes of the input end an item, and none of the next has come. Where the content of a text lies
 -- whole in them, the buffer is empty.
-pub record Ends (old : TypeState) (p : FieldState) (t : Table) (input : List ℕ) (at used : ℕ) (q : TypeOutline) (new : TypeState) (p' : FieldState) (t' : Table) : Type 0 where
+pub record Ends (old : TypeState) (p : FieldState) (t : Table) (input : List ℕ) (at used : ℕ) (q : TypeOutline)
+    (new : TypeState) (p' : FieldState) (t' : Table) : Type 0 where
   pub within : used ≤ length input
   pub step : Emitted TypeEvent TypePlace
-  pub is : told old t.nodes (pending old p ++ input) ≡ Got step (length (pending old p) + used)
+  pub is : step_says old t.nodes (pending old p ++ input) ≡ Got step (length (pending old p) + used)
   pub place : step.at ≡ at
   pub event : step.event ≡ event_at q input p'.content
   pub after : step.after (length (pending old p) + used) ≡ place_of new t'.nodes
   pub forward : old.offset < new.offset
-  pub reader : new ≡ record { rules = old.rules; under_way = true; offset = new.offset; stop = old.stop; symbols = new.symbols; height = new.height; begun = false; taken = 0 }
+  pub reader : new ≡ after_item old new.offset new.symbols new.height
   pub shared : IsShared new p'
   pub room : p'.room ≡ p.room
   pub can_lend : CanLendPart q input p'.content
@@ -124,6 +161,12 @@ pub record Ends (old : TypeState) (p : FieldState) (t : Table) (input : List ℕ
 abbrev pub Advances : TypeState → FieldState → Table → List ℕ → TypeAdvance → TypeState → FieldState → Table → Type 0
 Advances old p t input (advance.More used) new p' t' = Waits old p t input used new p' t'
 Advances old p t input (advance.Item at used q) new p' t' = Ends old p t input at used q new p' t'
-Advances old p t input advance.Done new p' t' = (old.symbols ≡ []) × (new ≡ stopped old) × (p' ≡ p) × (p.under_way ≡ false) × (t' ≡ t)
+Advances old p t input advance.Done new p' t' =
+    (old.symbols ≡ []) × (new ≡ stopped old) × (p' ≡ p) × (p.under_way ≡ false) × (t' ≡ t)
 Advances old p t input (advance.Refused r) new p' t' =
-    (told old t.nodes (pending old p ++ input) ≡ Bad (r.at, r.why)) × (new ≡ stopped old) × (p'.under_way ≡ false) × (p'.content ≡ []) × (p'.room ≡ p.room) × (t' ≡ t)
+    (step_says old t.nodes (pending old p ++ input) ≡ Bad (r.at, r.why))
+    × (new ≡ stopped old)
+    × (p'.under_way ≡ false)
+    × (p'.content ≡ [])
+    × (p'.room ≡ p.room)
+    × (t' ≡ t)

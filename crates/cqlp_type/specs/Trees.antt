@@ -65,7 +65,7 @@ is_plain kind.Tuple = false
 is_plain kind.Raw = false
 is_plain _ = true
 
--- a head with so many inner types
+-- a head with this many inner types
 abbrev pub IsHead : Head → (n : ℕ) → Type 0
 IsHead (Plain k) n = (is_plain k ≡ true) × (n ≡ 0)
 IsHead (Custom class) n = n ≡ 0
@@ -82,7 +82,8 @@ AreTrees (Tree_and name h inner others) = IsHead h (trees_in inner) × AreTrees 
 -- types at this depth, no inner type too deep
 abbrev pub Shallow : Rules → (depth : ℕ) → Trees → Type 0
 Shallow l depth NoTree = Unit {0}
-Shallow l depth (Tree_and name h inner others) = (depth ≤ l.depth) × Shallow l (depth + 1) inner × Shallow l depth others
+Shallow l depth (Tree_and name h inner others) =
+    (depth ≤ l.depth) × Shallow l (depth + 1) inner × Shallow l depth others
 
 -- ---- spelling
 
@@ -90,7 +91,11 @@ Shallow l depth (Tree_and name h inner others) = (depth ≤ l.depth) × Shallow 
 abbrev pub head_items : Head → (n : ℕ) → List TypeEvent
 head_items (Custom class) n = IsField field.Class (Text class) ∷ []
 head_items TupleOf n = IsField field.Fields (Count n) ∷ []
-head_items (UdtOf keyspace name) n = IsField field.Keyspace (Text keyspace) ∷ IsField field.TypeName (Text name) ∷ IsField field.Fields (Count n) ∷ []
+head_items (UdtOf keyspace name) n =
+    IsField field.Keyspace (Text keyspace)
+    ∷ IsField field.TypeName (Text name)
+    ∷ IsField field.Fields (Count n)
+    ∷ []
 head_items h n = []
 
 abbrev pub name_items : Bool → List ℕ → List TypeEvent
@@ -101,7 +106,9 @@ name_items false name = []
 abbrev pub trees_items : (named : Bool) → Trees → List TypeEvent
 trees_items named NoTree = []
 trees_items named (Tree_and name h inner others) =
-    name_items named name ++ (IsNode (kind_in h) ∷ (head_items h (trees_in inner) ++ (trees_items (has_names h) inner ++ trees_items named others)))
+    name_items named name
+    ++ (IsNode (kind_in h)
+    ∷ (head_items h (trees_in inner) ++ (trees_items (has_names h) inner ++ trees_items named others)))
 
 -- the notation of an item that is a text or a number
 abbrev pub notation_for : FieldValue → Notation

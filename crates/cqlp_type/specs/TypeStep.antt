@@ -61,6 +61,10 @@ arity_of kind.Set = 1
 arity_of kind.Map = 2
 arity_of _ = 0
 
+-- the node of a type that begins
+abbrev pub begun_node : Kind → Node
+begun_node k = record { kind = k; arity = arity_of k; span = 0 }
+
 -- one inner option, with its name before it or with none
 abbrev pub inner_symbols : Bool → ℕ → List TypeSymbol
 inner_symbols true depth = Text_of field.FieldName ∷ Option_at depth ∷ []
@@ -86,7 +90,7 @@ settled (Option_at d ∷ rest) nodes = (Option_at d ∷ rest, nodes)
 settled (Text_of f ∷ rest) nodes = (Text_of f ∷ rest, nodes)
 settled (Fields_of named d ∷ rest) nodes = (Fields_of named d ∷ rest, nodes)
 
--- the place after an item of so many bytes
+-- the place after an item of this many bytes
 abbrev pub type_place : TypePlace → List TypeSymbol × List Node → (used : ℕ) → TypePlace
 type_place p s used = record { offset = p.offset + used; stop = p.stop; symbols = s.0; nodes = s.1 }
 
@@ -97,19 +101,30 @@ option_step l depth rest p None = Refuses (p.offset, BadType)
 option_step l depth rest p (Some k) =
     if nat_lt l.depth depth then Refuses (p.offset, TooDeep)
     else if nat_le l.entries (length p.nodes) then Refuses (p.offset, TooMany)
-    else Emit p.offset (IsNode k) (type_place p (settled (parameters_of k depth ++ Whole (length p.nodes) ∷ rest) (p.nodes ++ record { kind = k; arity = arity_of k; span = 0 } ∷ [])))
+    else Emit p.offset (IsNode k)
+    (type_place p (settled (parameters_of k depth ++ Whole (length p.nodes) ∷ rest) (p.nodes ++ begun_node k ∷ [])))
 
 abbrev pub count_in : FieldValue → ℕ
 count_in (Count n) = n
 count_in _ = 0
 
+-- what is left after the number of inner types, and the nodes then
+abbrev pub fields_settled : (named : Bool) → (depth count : ℕ) → List TypeSymbol → List Node
+    → List TypeSymbol × List Node
+fields_settled named depth count rest nodes =
+    settled (symbol_copies count (inner_symbols named depth) ++ rest) (with_arity count nodes)
+
 module _ (l : Rules) (p : TypePlace) where
   abbrev pub type_step_at : List TypeSymbol → Step TypeEvent TypePlace
   type_step_at [] = Idles
-  type_step_at (Option_at depth ∷ rest) = number_of (p.offset, Overrun) 2 w16 (p.stop - p.offset) (λ n. option_step l depth rest p (beside_number n kinds))
-  type_step_at (Text_of f ∷ rest) = after_field p.offset (field_of notation.Text16 l.text (p.stop - p.offset)) (λ v. Emit p.offset (IsField f v) (type_place p (settled rest p.nodes)))
-  type_step_at (Fields_of named depth ∷ rest) = after_field p.offset (field_of notation.Count16 0 (p.stop - p.offset)) (λ v.
-      Emit p.offset (IsField field.Fields v) (type_place p (settled (symbol_copies (count_in v) (inner_symbols named depth) ++ rest) (with_arity (count_in v) p.nodes))))
+  type_step_at (Option_at depth ∷ rest) =
+      number_of (p.offset, Overrun) 2 w16 (p.stop - p.offset) (λ n. option_step l depth rest p (beside_number n kinds))
+  type_step_at (Text_of f ∷ rest) =
+      after_field p.offset (field_of notation.Text16 l.text (p.stop - p.offset)) (λ v.
+      Emit p.offset (IsField f v) (type_place p (settled rest p.nodes)))
+  type_step_at (Fields_of named depth ∷ rest) =
+      after_field p.offset (field_of notation.Count16 0 (p.stop - p.offset)) (λ v.
+      Emit p.offset (IsField field.Fields v) (type_place p (fields_settled named depth (count_in v) rest p.nodes)))
   type_step_at (Whole i ∷ rest) = Idles
 
 -- one step of reading type options

@@ -30,7 +30,8 @@ abbrev mutual
 
   pub fields_in_row : {m : _} → Row_of-TypeTree-Udt-2-2 m → Trees
   fields_in_row end_of-TypeTree-Udt-2-2 = NoTree
-  fields_in_row (more_of-TypeTree-Udt-2-2 name t rest) = Tree_and (string_bytes name) (head_of t) (inner_of t) (fields_in_row rest)
+  fields_in_row (more_of-TypeTree-Udt-2-2 name t rest) =
+      Tree_and (string_bytes name) (head_of t) (inner_of t) (fields_in_row rest)
 
 -- a caller's type as a tree
 abbrev pub tree_of : TypeTree → Trees
@@ -51,7 +52,8 @@ head_size h = 0
 -- how many bytes spell the options of these types
 abbrev pub trees_size : (named : Bool) → Trees → ℕ
 trees_size named NoTree = 0
-trees_size named (Tree_and name h inner others) = (name_size named name + (2 + head_size h + trees_size (has_names h) inner)) + trees_size named others
+trees_size named (Tree_and name h inner others) =
+    (name_size named name + (2 + head_size h + trees_size (has_names h) inner)) + trees_size named others
 
 -- a text or a count that a [short] can count
 abbrev pub is_counted : ℕ → Bool
@@ -71,7 +73,8 @@ head_fits h n = true
 -- the options of these types can be spelled
 abbrev pub trees_fit : (named : Bool) → Trees → Bool
 trees_fit named NoTree = true
-trees_fit named (Tree_and name h inner others) = (name_fits named name && (head_fits h (trees_in inner) && trees_fit (has_names h) inner)) && trees_fit named others
+trees_fit named (Tree_and name h inner others) =
+    (name_fits named name && (head_fits h (trees_in inner) && trees_fit (has_names h) inner)) && trees_fit named others
 
 -- a length, where there is one and it is not too great
 abbrev pub len_if : Bool → ℕ → Option ℕ

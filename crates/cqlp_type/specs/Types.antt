@@ -54,7 +54,9 @@ types_of (n ∷ ns) = Type_and n.kind (first_types n.arity (types_of ns)) (other
 -- the nodes of types in preorder
 abbrev pub preorder : Types → List Node
 preorder NoMore = []
-preorder (Type_and k inner others) = record { kind = k; arity = how_many inner; span = suc (length (preorder inner)) } ∷ preorder inner ++ preorder others
+preorder (Type_and k inner others) =
+    record { kind = k; arity = how_many inner; span = suc (length (preorder inner)) }
+    ∷ preorder inner ++ preorder others
 
 abbrev pub followed_by : Types → Types → Types
 followed_by NoMore us = us

@@ -22,7 +22,7 @@ pub enum TypeAdvance {
     More {
         used: usize,
     },
-    /// So many of its bytes end a part, which began at this offset.
+    /// This many of its bytes end a part, which began at this offset.
     Item {
         at: u64,
         used: usize,

@@ -30,19 +30,19 @@ pub struct TypeReader<A: Allocator = Global> {
 }
 
 impl<A: Allocator> Model for TypeReader<A> {
-    ghost use Rattle.std.specs.Prelude.{◌≡◌, ◌≤◌};
+    ghost use Rattle.std.specs.Prelude.{◌≤◌};
     ghost use Rattle.cqlp_type.specs.Standing.{TypeState, standing};
-    ghost use Rattle.cqlp_type.specs.Remaining.{HasRoom};
+    ghost use Rattle.cqlp_type.specs.Remaining.{Fits};
 
     ghost Value = { TypeState };
 
-    ghost view = { λ r. standing r.limits r.at r.end r.remaining.stage r.remaining.levels r.begun r.taken };
+    ghost view = { λ r. standing r.limits r.at r.end r.remaining.stage r.remaining.open_options r.begun r.taken };
 
-    ghost invariant = { λ r. (r.at ≤ r.end) × HasRoom r.remaining.stage r.remaining.levels × (r.remaining.levels.room ≡ r.limits.depth) };
+    ghost invariant = { λ r. (r.at ≤ r.end) × Fits r.limits r.remaining };
 }
 
 impl<A: Allocator> TypeReader<A> {
-    ghost use Rattle.cqlp_type.specs.Standing.{IsShared, Advances, IsFor, made, pending, started, stopped};
+    ghost use Rattle.cqlp_type.specs.Standing.{IsShared, Advances, IsFor, new_reader, pending, started, stopped};
     ghost use Rattle.cqlp_note.specs.Lending.{LeavesField};
     ghost use Rattle.cqlp_type.specs.Pushing.{Uses, Continues, Fills, Pushes, ReadsInto, AdvanceLeaves};
     ghost use Rattle.cqlp_type.specs.Table.{Table};
@@ -51,7 +51,7 @@ impl<A: Allocator> TypeReader<A> {
 
     /// With room for the nesting that the limits allow.
     pub fn new(alloc: A, limits: &Limits) -> Result<Self, NoMemory>
-        ensures { IfOk result (λ reader. reader ≡ made (rules_of limits.now)) }
+        ensures { IfOk result (λ reader. reader ≡ new_reader (rules_of limits.now)) }
     {
         Ok(TypeReader {
             limits: *limits,
@@ -61,7 +61,7 @@ impl<A: Allocator> TypeReader<A> {
             taken: 0,
             remaining: Remaining {
                 stage: OptionStage::Idle,
-                levels: OpenOptions::new(alloc, limits.depth)?,
+                open_options: OpenOptions::new(alloc, limits.depth)?,
             },
         })
     }
@@ -77,7 +77,7 @@ impl<A: Allocator> TypeReader<A> {
         self.end = end;
         self.begun = false;
         self.taken = 0;
-        self.remaining.levels.clear();
+        self.remaining.open_options.clear();
         self.remaining.stage = OptionStage::Id;
     }
 
@@ -88,12 +88,12 @@ impl<A: Allocator> TypeReader<A> {
         matches!(self.remaining.stage, OptionStage::Done)
     }
 
-    /// How many levels of nesting are kept.
+    /// How many options are open around the one that is read.
     pub fn held(&self) -> u32
         ensures is { result ≡ self.now.height }
         ensures bound { result ≤ self.now.rules.depth }
     {
-        self.remaining.levels.len()
+        self.remaining.open_options.len()
     }
 
     /// The offset of the first byte of what is read now.
@@ -122,7 +122,7 @@ impl<A: Allocator> TypeReader<A> {
             self.stop();
             return TypeAdvance::Done;
         }
-        self.ready(partial);
+        self.begin_item(partial);
         match partial.advance(input) {
             FieldAdvance::More { used } => {
                 self.taken += used as u64;
@@ -181,8 +181,8 @@ impl<A: Allocator> TypeReader<A> {
         }
     }
 
-    /// Sees that the item has begun.
-    fn ready<B: Allocator>(&mut self, partial: &mut Partial<B>)
+    /// Begins the item, unless it has begun.
+    fn begin_item<B: Allocator>(&mut self, partial: &mut Partial<B>)
         requires wanted { (self.old.symbols ≡ []) → ⊥ }
         requires shared { IsShared self.old partial.old }
         ensures reader { self.new ≡ record self.old { begun = true; taken = self.new.taken } }
@@ -208,7 +208,7 @@ impl<A: Allocator> TypeReader<A> {
     {
         self.begun = false;
         self.taken = 0;
-        self.remaining.levels.clear();
+        self.remaining.open_options.clear();
         self.remaining.stage = OptionStage::Idle;
     }
 }

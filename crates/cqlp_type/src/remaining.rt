@@ -3,10 +3,9 @@
 ghost use Rattle.std.specs.Prelude.{◌≡◌, ◌+◌, ◌<◌, ◌≤◌, ◌++◌, ◌∷◌, List, ℕ, true, length, IfOk};
 ghost use Rattle.cqlp_note.specs.Partial.{item_value};
 ghost use Rattle.cqlp_note.specs.Limits.{rules_of};
-ghost use Rattle.cqlp_note.specs.Field.{FieldValue};
-ghost use Rattle.cqlp_type.specs.TypeStep.{Whole, symbol_copies, inner_symbols};
+ghost use Rattle.cqlp_type.specs.OpenOptions.{entered, entered_symbols};
 ghost use Rattle.cqlp_type.specs.declared.remaining.OptionStage.TheVariants as stage;
-ghost use Rattle.cqlp_type.specs.Remaining.{stage_symbols, is_under_way, is_wanted, HasRoom, Closes, Keeps, Follows, IsPart, Settles, number_of, short_in};
+ghost use Rattle.cqlp_type.specs.Remaining.{symbols_of, is_under_way, is_wanted, HasRoom, Closes, Keeps, FollowsItem, FollowsId, IsPart, Settles, number_of, short_in};
 ghost use Rattle.cqlp_type.specs.declared.kind.Kind.{Kind};
 
 use crate::advance::TypeOutline;
@@ -42,12 +41,11 @@ pub(crate) enum OptionStage {
 #[derive(Drop)]
 pub(crate) struct Remaining<A: Allocator> {
     pub(crate) stage: OptionStage,
-    pub(crate) levels: OpenOptions<A>,
+    pub(crate) open_options: OpenOptions<A>,
 }
 
 impl<A: Allocator> Remaining<A> {
-    /// Goes on behind an item: what part of the option it is, or why its type is refused.
-    #[tactic(auto, using(crate::proofs::Nodes::length_with_arity))]
+    /// Goes on after an item: what part of the option it is, or why its type is refused.
     pub(crate) fn follow<C: Allocator>(
         &mut self,
         limits: &Limits,
@@ -55,25 +53,25 @@ impl<A: Allocator> Remaining<A> {
         table: &mut TypeTable<C>,
     ) -> Result<TypeOutline, Reason>
         requires wanted { is_wanted self.old.stage ≡ true }
-        requires lawful { HasRoom self.old.stage self.old.levels }
-        requires depth { self.old.levels.room ≡ limits.now.depth }
+        requires lawful { HasRoom self.old.stage self.old.open_options }
+        requires depth { self.old.open_options.room ≡ limits.now.depth }
         requires entries { limits.now.entries ≤ table.old.room }
-        requires types { Keeps (rules_of limits.now) (stage_symbols self.old.stage self.old.levels) table.old.nodes (number_of item) }
-        ensures lawful { HasRoom self.new.stage self.new.levels }
-        ensures depth { self.new.levels.room ≡ limits.now.depth }
+        requires types { Keeps (rules_of limits.now) (symbols_of self.old) table.old.nodes (number_of item) }
+        ensures lawful { HasRoom self.new.stage self.new.open_options }
+        ensures depth { self.new.open_options.room ≡ limits.now.depth }
         ensures under_way { is_under_way self.new.stage ≡ true }
         ensures table { table.new.room ≡ table.old.room }
         ensures entries { length table.old.nodes ≤ limits.now.entries → length table.new.nodes ≤ limits.now.entries }
-        ensures part { IfOk result (λ q. IsPart (stage_symbols self.old.stage self.old.levels) item q) }
-        ensures follows { (at stop : ℕ) (input buffer : List ℕ) → Follows (rules_of limits.now) at stop (stage_symbols self.old.stage self.old.levels) table.old.nodes (item_value item input buffer) input buffer result (stage_symbols self.new.stage self.new.levels) table.new.nodes }
+        ensures part { IfOk result (λ q. IsPart (symbols_of self.old) item q) }
+        ensures follows { FollowsItem (rules_of limits.now) self.old table.old item result self.new table.new }
     {
         match self.stage {
             OptionStage::Idle | OptionStage::Done => unreachable!(),
-            OptionStage::Id => self.option(limits, number_in(item), table),
+            OptionStage::Id => self.take_id(limits, number_in(item), table),
             OptionStage::Fields { node, named } => {
                 let count = number_in(item);
                 table.set_arity(count);
-                self.stage = inside(&mut self.levels, node, named, count, table);
+                self.stage = enter_option(&mut self.open_options, node, named, count, table);
                 Ok(TypeOutline::Count(count.into()))
             }
             OptionStage::Name => {
@@ -81,7 +79,7 @@ impl<A: Allocator> Remaining<A> {
                 Ok(TypeOutline::Text(Field::FieldName, item))
             }
             OptionStage::Class { node } => {
-                self.stage = inside(&mut self.levels, node, false, 0, table);
+                self.stage = enter_option(&mut self.open_options, node, false, 0, table);
                 Ok(TypeOutline::Text(Field::Class, item))
             }
             OptionStage::Keyspace { node } => {
@@ -95,30 +93,30 @@ impl<A: Allocator> Remaining<A> {
         }
     }
 
-    /// Goes on behind the id of an option, whose node is added to the table.
-    fn option<C: Allocator>(
+    /// Goes on after the id of an option, whose node is added to the table.
+    fn take_id<C: Allocator>(
         &mut self,
         limits: &Limits,
         id: u16,
         table: &mut TypeTable<C>,
     ) -> Result<TypeOutline, Reason>
         requires here { self.old.stage ≡ stage.Id }
-        requires lawful { HasRoom self.old.stage self.old.levels }
-        requires depth { self.old.levels.room ≡ limits.now.depth }
+        requires lawful { HasRoom self.old.stage self.old.open_options }
+        requires depth { self.old.open_options.room ≡ limits.now.depth }
         requires entries { limits.now.entries ≤ table.old.room }
-        requires types { Keeps (rules_of limits.now) (stage_symbols self.old.stage self.old.levels) table.old.nodes id }
-        ensures lawful { HasRoom self.new.stage self.new.levels }
-        ensures depth { self.new.levels.room ≡ limits.now.depth }
+        requires types { Keeps (rules_of limits.now) (symbols_of self.old) table.old.nodes id }
+        ensures lawful { HasRoom self.new.stage self.new.open_options }
+        ensures depth { self.new.open_options.room ≡ limits.now.depth }
         ensures under_way { is_under_way self.new.stage ≡ true }
         ensures table { table.new.room ≡ table.old.room }
         ensures entries { length table.old.nodes ≤ limits.now.entries → length table.new.nodes ≤ limits.now.entries }
         ensures part { IfOk result (λ q. (k : Kind) × (q ≡ TypeOutline.Node k)) }
-        ensures follows { (at stop : ℕ) (v : FieldValue) (input buffer : List ℕ) → short_in v ≡ id → Follows (rules_of limits.now) at stop (stage_symbols self.old.stage self.old.levels) table.old.nodes v input buffer result (stage_symbols self.new.stage self.new.levels) table.new.nodes }
+        ensures follows { FollowsId (rules_of limits.now) self.old table.old id result self.new table.new }
     {
         let Some(kind) = Kind::from_id(id) else {
             return Err(Reason::BadType);
         };
-        if self.levels.len() >= limits.depth {
+        if self.open_options.len() >= limits.depth {
             return Err(Reason::TooDeep);
         }
         if table.len() >= limits.entries {
@@ -135,7 +133,7 @@ impl<A: Allocator> Remaining<A> {
             Kind::Custom => OptionStage::Class { node },
             Kind::Udt => OptionStage::Keyspace { node },
             Kind::Tuple => OptionStage::Fields { node, named: false },
-            _ => inside(&mut self.levels, node, false, arity, table),
+            _ => enter_option(&mut self.open_options, node, false, arity, table),
         };
         Ok(TypeOutline::Node(kind))
     }
@@ -153,32 +151,32 @@ fn number_in(item: FieldOutline) -> u16
 }
 
 /// Goes on to the inner options of the option that begins at this node.
-fn inside<A: Allocator, C: Allocator>(
-    levels: &mut OpenOptions<A>,
+fn enter_option<A: Allocator, C: Allocator>(
+    around: &mut OpenOptions<A>,
     node: u32,
     named: bool,
     count: u16,
     table: &mut TypeTable<C>,
 ) -> OptionStage
-    requires room { levels.old.height < levels.old.room }
-    requires types { Closes (symbol_copies count (inner_symbols named (levels.old.height + 1 + 1)) ++ Whole node ∷ levels.old.symbols) table.old.nodes }
-    ensures { Settles (symbol_copies count (inner_symbols named (levels.old.height + 1 + 1)) ++ Whole node ∷ levels.old.symbols) table.old levels.old.room result levels.new table.new }
+    requires room { around.old.height < around.old.room }
+    requires types { Closes (entered_symbols around.old node named count) table.old.nodes }
+    ensures { Settles (entered around.old node named count) table.old result around.new table.new }
 {
-    levels.push(node, named, count);
-    settle(levels, table)
+    around.push(node, named, count);
+    settle(around, table)
 }
 
 /// Goes on to what comes next. Each type that is whole before it gets its span.
 fn settle<A: Allocator, C: Allocator>(
-    levels: &mut OpenOptions<A>,
+    around: &mut OpenOptions<A>,
     table: &mut TypeTable<C>,
 ) -> OptionStage
-    requires room { levels.old.height ≤ levels.old.room }
-    requires types { Closes levels.old.symbols table.old.nodes }
-    ensures { Settles levels.old.symbols table.old levels.old.room result levels.new table.new }
+    requires room { around.old.height ≤ around.old.room }
+    requires types { Closes around.old.symbols table.old.nodes }
+    ensures { Settles around.old table.old result around.new table.new }
 {
     loop {
-        match levels.next() {
+        match around.next() {
             NextOption::Inner { named: true } => return OptionStage::Name,
             NextOption::Inner { named: false } => return OptionStage::Id,
             NextOption::Whole(node) => table.close(node),

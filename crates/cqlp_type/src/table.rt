@@ -17,14 +17,14 @@ pub struct TypeTable<A: Allocator = Global> {
 }
 
 impl<A: Allocator> Model for TypeTable<A> {
-    ghost use Rattle.std.specs.Prelude.{◌≤◌, length, vec_capacity};
-    ghost use Rattle.cqlp_type.specs.Table.{Table, HoldsTypes};
+    ghost use Rattle.std.specs.Prelude.{◌≤◌, ◌<◌, ◌^◌, vec_capacity};
+    ghost use Rattle.cqlp_type.specs.Table.{Table, HoldsUpTo};
 
     ghost Value = { Table };
 
     ghost view = { λ t. record { nodes = t.nodes.items; room = t.room } };
 
-    ghost invariant = { λ t. (t.room ≤ vec_capacity t.nodes) × (length t.nodes.items ≤ t.room) × HoldsTypes t.nodes.items };
+    ghost invariant = { λ t. (t.room ≤ vec_capacity t.nodes) × (t.room < 2 ^ 32) × HoldsUpTo t.room t.nodes.items };
 }
 
 impl<A: Allocator> TypeTable<A> {
@@ -48,7 +48,6 @@ impl<A: Allocator> TypeTable<A> {
         ensures is { result ≡ length self.now.nodes }
         ensures bound { result ≤ self.now.room }
     {
-        let _room = self.room;
         self.nodes.len() as u32
     }
 
@@ -78,7 +77,6 @@ impl<A: Allocator> TypeTable<A> {
     pub fn roots(&self) -> u32
         ensures { result ≡ length (beginnings 0 0 self.now.nodes) }
     {
-        let _room = self.room;
         count_beginnings(&self.nodes)
     }
 
@@ -86,7 +84,6 @@ impl<A: Allocator> TypeTable<A> {
     pub fn root(&self, i: u32) -> Option<u32>
         ensures { result ≡ root self.now.nodes i }
     {
-        let _room = self.room;
         beginning(&self.nodes, 0, i)
     }
 
@@ -94,7 +91,6 @@ impl<A: Allocator> TypeTable<A> {
     pub fn child(&self, node: u32, i: u32) -> Option<u32>
         ensures { result ≡ child self.now.nodes node i }
     {
-        let _room = self.room;
         let span = self.node(node)?.span as usize;
         let inner = &self.nodes[node as usize + 1..];
         if span == 0 || span > inner.len() {
@@ -145,7 +141,6 @@ impl<A: Allocator> TypeTable<A> {
         requires { HoldsTypes (with_span i self.old.nodes) }
         ensures { self.new ≡ record { nodes = with_span i self.old.nodes; room = self.old.room } }
     {
-        let _room = self.room;
         let first = i as usize;
         if first < self.nodes.len() {
             self.nodes[first].span = (self.nodes.len() - first) as u32;

@@ -17,10 +17,10 @@ use Rattle.cqlp_value.specs.declared.standing.Under.TheVariants as under
 use Rattle.cqlp_value.specs.declared.standing.CellDue.{CellDue}
 use Rattle.cqlp_value.specs.declared.standing.CellDue.TheVariants as due
 use Rattle.cqlp_value.specs.CellStep.{Leave, place_after}
-use Rattle.cqlp_value.specs.Levels.{but_last}
-use Rattle.cqlp_value.specs.Standing.{CellState, ended, is_some_next, levels_symbols, place, is_over, due_of, AreOpen, last_stop, Stands}
+use Rattle.cqlp_value.specs.OpenValues.{but_last}
+use Rattle.cqlp_value.specs.Standing.{CellState, ended, is_some_next, all_open_symbols, place, is_over, due_of, AreOpen, last_stop, Stands}
 use Rattle.cqlp_value.specs.Coming.{room_of}
-use Rattle.cqlp_value.specs.Reading.{Saying, told, sized_of, Hands, Fails, Settles, Moves, Answers, Behind, AreBytes, HaveCome}
+use Rattle.cqlp_value.specs.Reading.{Saying, step_says, sized_of, Hands, Fails, Settles, Moves, Answers, LengthCame, AreBytes, HaveCome}
 use Rattle.cqlp_value.proofs.Nesting.{but_last_is}
 use Rattle.cqlp_value.proofs.Opened.{Inmost, close_next}
 use Rattle.cqlp_value.proofs.Coming.{value_due, close_is}
@@ -39,7 +39,7 @@ module _ (nodes : List Node) (d : CellState) (front : List OpenValue) (items : d
   fewer_stand : AreOpen nodes d.rules 0 d.stop front → d.offset ≤ last_stop d.stop front → d.stop < 2 ^ 64 → Stands nodes (record d { open_values = front })
   fewer_stand a le bounded = record { open_stand = a; within = rw items (omega arith); next_stands = rw items tt; bounded = bounded }
 
-  fewer_place : record { offset = d.offset + 0; symbols = levels_symbols nodes 0 front } ≡ place nodes (record d { open_values = front })
+  fewer_place : record { offset = d.offset + 0; symbols = all_open_symbols nodes 0 front } ≡ place nodes (record d { open_values = front })
   fewer_place = let zero : d.offset + 0 ≡ d.offset = omega arith in rw (items, zero) refl
 
 module _ (nodes : List Node) (d : CellState) (o : OpenValue) (p : FieldState) (input : List ℕ) (stands : Stands nodes d) (v : due_of d ≡ due.Close o) (idle : p.under_way ≡ false) where
@@ -49,8 +49,8 @@ module _ (nodes : List Node) (d : CellState) (o : OpenValue) (p : FieldState) (i
   closing : Inmost nodes d o × (is_over o d.offset ≡ true)
   closing = close_next nodes d stands close_items o v
 
-  pub close_fails : (new : CellState) → d.offset < o.stop → new ≡ ended d → Fails nodes d p (told nodes d input) (record { at = d.offset; why = ExtraInValue }) new p
-  unfolding told
+  pub close_fails : (new : CellState) → d.offset < o.stop → new ≡ ended d → Fails nodes d p (step_says nodes d input) (record { at = d.offset; why = ExtraInValue }) new p
+  unfolding step_says
   close_fails new lt goes = record {
     is = rw (close_is nodes d close_items o closing.0 closing.1, lt-ltb d.offset o.stop lt) refl;
     ends = goes;
@@ -59,8 +59,8 @@ module _ (nodes : List Node) (d : CellState) (o : OpenValue) (p : FieldState) (i
   }
 
   pub close_hands : (new : CellState) (level : ℕ) → d.under ≡ under.Nothing → o.stop ≤ d.offset → new ≡ record d { open_values = but_last d.open_values } → level ≡ length (but_last d.open_values)
-      → Hands nodes d p input (told nodes d input) 0 d.offset 0 (outline.Leave level o.items) new p
-  unfolding told
+      → Hands nodes d p input (step_says nodes d input) 0 d.offset 0 (outline.Leave level o.items) new p
+  unfolding step_says
   close_hands new level fresh le goes at =
       let m = closing.0 in
       let long : length d.open_values ≡ length m.front + 1 = ap length m.is ∙ length-append m.front (o ∷ []) in
@@ -68,7 +68,7 @@ module _ (nodes : List Node) (d : CellState) (o : OpenValue) (p : FieldState) (i
       rw (goes, at, front) (record {
         within = omega arith;
         emits = record {
-          x = record { at = d.offset; event = Leave (length m.front) o.items; after = place_after (place nodes d) (levels_symbols nodes 0 m.front) [] };
+          x = record { at = d.offset; event = Leave (length m.front) o.items; after = place_after (place nodes d) (all_open_symbols nodes 0 m.front) [] };
           is = rw (close_is nodes d close_items o m closing.1, le-ltb d.offset o.stop le) refl;
           offset = refl;
           event = refl;
@@ -80,7 +80,7 @@ module _ (nodes : List Node) (d : CellState) (o : OpenValue) (p : FieldState) (i
         rules = refl;
         stop = refl;
         onward = omega arith;
-        behind = rw close_items tt;
+        goes_after = rw close_items tt;
         pays = omega (arith, long);
         stands = fewer_stand nodes d m.front close_items m.innermost.around (omega (arith, m.inside, m.innermost.within)) stands.bounded;
         goes_on = ap is_some_next close_items;
@@ -92,10 +92,10 @@ module _ (nodes : List Node) (d : CellState) (o : OpenValue) (p : FieldState) (i
 -- ---- what goes on
 
 module _ (nodes : List Node) (old : CellState) (p : FieldState) (input : List ℕ) (n : ℕ) (stands : Stands nodes old) (v : due_of old ≡ due.Value) (room : 4 ≤ room_of nodes old) where
-  -- behind a length that came before
+  -- after a length that came before
   pub resumed : (b : List ℕ) (a : CellAdvance) (new : CellState) (q : FieldState) → AreBytes (Some n) p.seen b
-      → Settles nodes old p input (says (sized_of nodes old n) 4 (p.seen ++ input)) (4 + length p.seen) (Behind n (p.seen ++ input)) a new q
-      → Settles nodes old p input (told nodes old (b ++ input)) (length b) (HaveCome (b ++ input)) a new q
+      → Settles nodes old p input (says (sized_of nodes old n) 4 (p.seen ++ input)) (4 + length p.seen) (LengthCame n (p.seen ++ input)) a new q
+      → Settles nodes old p input (step_says nodes old (b ++ input)) (length b) (HaveCome (b ++ input)) a new q
   resumed b a new q h s =
       let due = value_due nodes old stands v in
       let all : b ++ input ≡ h.0 ++ (p.seen ++ input) = rw h.3 (append_assoc h.0 p.seen input) in
@@ -103,20 +103,20 @@ module _ (nodes : List Node) (old : CellState) (p : FieldState) (input : List �
       let behind : drop 4 (b ++ input) ≡ p.seen ++ input = rw all (drop_at h.0 (p.seen ++ input) 4 h.1) in
       let long : 4 ≤ length (b ++ input) = rw all (omega (arith, length-append h.0 (p.seen ++ input), h.1)) in
       let number : from_be_bytes w32 (take 4 (b ++ input)) ≡ n = rw front h.2 in
-      let said : says (sized_of nodes old n) 4 (p.seen ++ input) ≡ told nodes old (b ++ input) = sym (length_whole nodes old due (b ++ input) room long ∙ rw (number, behind) refl) in
+      let said : says (sized_of nodes old n) 4 (p.seen ++ input) ≡ step_says nodes old (b ++ input) = sym (length_whole nodes old due (b ++ input) room long ∙ rw (number, behind) refl) in
       let base : 4 + length p.seen ≡ length b = rw h.3 (omega (arith, length-append h.0 p.seen, h.1)) in
       settles_as nodes old p input _ _ _ _ _ _ a new q said base (λ u seen w. come_behind n (b ++ input) (p.seen ++ input) u seen (h.0, h.1, h.2, all) w) s
 
 -- a call that settles does not end the cell
 pub moves_by : (nodes : List Node) (old : CellState) (p : FieldState) (input : List ℕ) (said : Saying) (base : ℕ) (W : Under → List ℕ → Type 0) (a : CellAdvance) (new : CellState) (q : FieldState) → Settles nodes old p input said base W a new q
-    → ((b : List ℕ) → HaveCome b old.under p.seen → Settles nodes old p input (told nodes old (b ++ input)) (length b) (HaveCome (b ++ input)) a new q) → Moves nodes old p input a new q
+    → ((b : List ℕ) → HaveCome b old.under p.seen → Settles nodes old p input (step_says nodes old (b ++ input)) (length b) (HaveCome (b ++ input)) a new q) → Moves nodes old p input a new q
 moves_by nodes old p input said base W (advance.More used) new q h f = f
 moves_by nodes old p input said base W (advance.Item at used i) new q h f = f
 moves_by nodes old p input said base W advance.Done new q h f = absurd h
 moves_by nodes old p input said base W (advance.Refused r) new q h f = f
 
 -- where nothing had come
-pub moves_afresh : (nodes : List Node) (old : CellState) (p : FieldState) (input : List ℕ) (a : CellAdvance) (new : CellState) (q : FieldState) → old.under ≡ under.Nothing → Settles nodes old p input (told nodes old input) 0 (HaveCome input) a new q → Moves nodes old p input a new q
+pub moves_afresh : (nodes : List Node) (old : CellState) (p : FieldState) (input : List ℕ) (a : CellAdvance) (new : CellState) (q : FieldState) → old.under ≡ under.Nothing → Settles nodes old p input (step_says nodes old input) 0 (HaveCome input) a new q → Moves nodes old p input a new q
 moves_afresh nodes old p input a new q fresh h = moves_by nodes old p input _ _ _ a new q h (λ b come. let none : b ≡ [] = rw fresh at come in rw none h)
 
 -- such a call has not been asked to end it

@@ -6,12 +6,12 @@ use Rattle.cqlp_note.specs.Limits.{Rules}
 use Rattle.cqlp_type.specs.declared.kind.Kind.{Kind}
 use Rattle.cqlp_type.specs.declared.kind.Kind.TheVariants as kind
 use Rattle.cqlp_type.specs.declared.node.Node.{Node}
-use Rattle.cqlp_type.specs.Types.{Types, NoMore, Type_and, how_many, types_of, preorder, followed_by}
+use Rattle.cqlp_type.specs.Types.{Types, NoMore, Type_and, how_many, types_of, preorder, followed_by, HasInner, AreFormed}
 use Rattle.cqlp_type.specs.TypeStep.{TypeEvent}
 use Rattle.cqlp_type.specs.Trees.{Head, Plain, Custom, ListOf, SetOf, MapOf, TupleOf, UdtOf, Trees, NoTree, Tree_and, kind_in, types_in, is_plain, IsHead, AreTrees, Shallow}
 use Rattle.cqlp_type.specs.Pushing.{IsWhole}
 use Rattle.cqlp_type.proofs.Forests.{many_types, types_of_own_preorder}
-use Rattle.cqlp_value.specs.Inner.{types_at, HasInner, AreTypes, depth_of, Forest, Stand}
+use Rattle.cqlp_value.specs.Inner.{types_at, depth_of, Forest, Stand}
 use Rattle.cqlp_value.proofs.Inside.{first_read, stand_there, preorder-followed, formed-followed, depth-followed}
 
 -- ---- the types of trees
@@ -31,7 +31,7 @@ has_inner MapOf n h = h
 has_inner TupleOf n h = tt
 has_inner (UdtOf keyspace name) n h = tt
 
-pub are_types : (t : Trees) → AreTrees t → AreTypes (types_in t)
+pub are_types : (t : Trees) → AreTrees t → AreFormed (types_in t)
 are_types NoTree a = tt
 are_types (Tree_and name h inner others) a = (has_inner h (how_many (types_in inner)) (rw (many_types inner) a.0), are_types inner a.1, are_types others a.2)
 
@@ -74,7 +74,7 @@ pub record Column (nodes : List Node) (i depth : ℕ) : Type 0 where
   pub some : 0 < x.span
 
 module _ (nodes : List Node) (i depth : ℕ) where
-  first_column : (k : Kind) (inner others : Types) → drop i nodes ≡ preorder (Type_and k inner others) → AreTypes (Type_and k inner others) → depth_of (Type_and k inner others) ≤ depth → Column nodes i depth
+  first_column : (k : Kind) (inner others : Types) → drop i nodes ≡ preorder (Type_and k inner others) → AreFormed (Type_and k inner others) → depth_of (Type_and k inner others) ≤ depth → Column nodes i depth
   unfolding types_at
   first_column k inner others are formed shallow =
       let x : Node = record { kind = k; arity = how_many inner; span = suc (length (preorder inner)) } in
@@ -98,7 +98,7 @@ module _ (nodes : List Node) (i depth : ℕ) where
         some = omega arith;
       }
 
-  first_of : (ts : Types) → drop i nodes ≡ preorder ts → AreTypes ts → depth_of ts ≤ depth → i < length nodes → Column nodes i depth
+  first_of : (ts : Types) → drop i nodes ≡ preorder ts → AreFormed ts → depth_of ts ≤ depth → i < length nodes → Column nodes i depth
   first_of NoMore are formed shallow lt =
       let none : length (drop i nodes) ≡ 0 = ap (length {A = Node}) are in
       absurd (omega (arith, length-drop i nodes, none, lt))

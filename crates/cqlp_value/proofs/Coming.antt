@@ -5,7 +5,7 @@ use Rattle.std.proofs.lemmas.List.{length-append}
 use Rattle.cqlp_note.specs.Limits.{Rules}
 use Rattle.cqlp_type.specs.declared.kind.Kind.{Kind}
 use Rattle.cqlp_type.specs.declared.node.Node.{Node}
-use Rattle.cqlp_type.specs.Types.{Types, NoMore, Type_and}
+use Rattle.cqlp_type.specs.Types.{Types, NoMore, Type_and, HasInner}
 use Rattle.cqlp_value.specs.declared.open_values.OpenValue.{OpenValue}
 use Rattle.cqlp_value.specs.declared.open_values.Order.{Order}
 use Rattle.cqlp_value.specs.declared.open_values.Order.TheVariants as order
@@ -15,8 +15,8 @@ use Rattle.cqlp_value.specs.declared.standing.CellDue.{CellDue}
 use Rattle.cqlp_value.specs.declared.standing.CellDue.TheVariants as due
 use Rattle.cqlp_value.specs.declared.standing.DueValue.{DueValue}
 use Rattle.cqlp_value.specs.CellStep.{CellSymbol, Value_of, Items_of, Close_of, CellPlace, cell_copies, cell_step, cell_step_at, value_step, close_step, part_step}
-use Rattle.cqlp_value.specs.Inner.{types_at, node_at, HasInner, Stand}
-use Rattle.cqlp_value.specs.Standing.{CellState, value_symbols, left_of, open_symbols, levels_symbols, symbols_for, place, value_at, due_value, open_after, rest_of, passed_by, passed, is_over, over_by, due_of, TypesStand, Stands, HasNext}
+use Rattle.cqlp_value.specs.Inner.{types_at, node_at, Stand}
+use Rattle.cqlp_value.specs.Standing.{CellState, value_symbols, left_of, open_symbols, all_open_symbols, symbols_for, place, value_at, due_value, open_after, rest_of, after_item_by, after_item, is_over, over_by, due_of, TypesStand, Stands, HasNext}
 use Rattle.cqlp_value.specs.Coming.{ValueDue}
 use Rattle.cqlp_value.proofs.Nesting.{last_is, with_last_is}
 use Rattle.cqlp_value.proofs.Inside.{first_stands}
@@ -28,7 +28,7 @@ no_types nodes i = refl
 
 -- ---- the first type
 
--- What is known of a value's type: its node, the types in it, and what stands behind it.
+-- What is known of a value's type: its node, the types in it, and what stands after it.
 pub record FirstType (nodes : List Node) (i n depth : ℕ) : Type 0 where
   pub types : types_at nodes i (suc n) ≡ Type_and (node_at nodes i).kind (types_at nodes (i + 1) (node_at nodes i).arity) (types_at nodes (i + (node_at nodes i).span) n)
   pub formed : HasInner (node_at nodes i).kind (node_at nodes i).arity
@@ -51,7 +51,7 @@ one_value nodes node depth level stop s =
     let f = first_type nodes node 0 depth s in
     rw (f.types, no_types nodes (node + (node_at nodes node).span)) refl
 
--- ---- the symbols of an open value, and behind its next item
+-- ---- the symbols of an open value, and after its next item
 
 copies_more : (n : ℕ) (symbols rest : List CellSymbol) → 0 < n → cell_copies n symbols ++ rest ≡ symbols ++ (cell_copies (n - 1) symbols ++ rest)
 copies_more zero symbols rest lt = absurd (omega arith)
@@ -69,7 +69,7 @@ module _ (nodes : List Node) (l : Rules) (level : ℕ) (o : OpenValue) where
   closing = Close_of level o.stop o.items ∷ []
 
   -- all but fields
-  symbols_by : (k : Order) → ((k ≡ order.Fields) → ⊥) → o.order ≡ k → TypesStand nodes l level o k → HasNext nodes o k → left_of nodes level o k ≡ item ∷ left_of nodes level (passed_by nodes o k) ((passed_by nodes o k).order)
+  symbols_by : (k : Order) → ((k ≡ order.Fields) → ⊥) → o.order ≡ k → TypesStand nodes l level o k → HasNext nodes o k → left_of nodes level o k ≡ item ∷ left_of nodes level (after_item_by nodes o k) ((after_item_by nodes o k).order)
   symbols_by order.Elements ne e t h =
       let one = one_value nodes o.node _ (level + 1) o.stop t in
       let these = value_symbols nodes o.node (level + 1) o.stop in
@@ -120,14 +120,14 @@ module _ (nodes : List Node) (d : CellState) (items : d.next ≡ next.Items) (o 
   abbrev level : ℕ
   level = length m.front
 
-  now_symbols : (place nodes d).symbols ≡ open_symbols nodes level o ++ levels_symbols nodes 0 m.front
+  now_symbols : (place nodes d).symbols ≡ open_symbols nodes level o ++ all_open_symbols nodes 0 m.front
   now_symbols = let e : 0 + level ≡ level = omega arith in rw (items, m.is, levels_symbols_is nodes 0 m.front o, e) refl
 
-  after_is : open_after nodes d ≡ m.front ++ passed nodes o ∷ []
-  after_is = rw (items, m.is, last_is m.front o) (with_last_is m.front o (passed nodes o))
+  after_is : open_after nodes d ≡ m.front ++ after_item nodes o ∷ []
+  after_is = rw (items, m.is, last_is m.front o) (with_last_is m.front o (after_item nodes o))
 
-  rest_symbols : rest_of nodes d ≡ open_symbols nodes level (passed nodes o) ++ levels_symbols nodes 0 m.front
-  rest_symbols = let e : 0 + level ≡ level = omega arith in rw (after_is, levels_symbols_is nodes 0 m.front (passed nodes o), e) refl
+  rest_symbols : rest_of nodes d ≡ open_symbols nodes level (after_item nodes o) ++ all_open_symbols nodes 0 m.front
+  rest_symbols = let e : 0 + level ≡ level = omega arith in rw (after_is, levels_symbols_is nodes 0 m.front (after_item nodes o), e) refl
 
   types : TypesStand nodes d.rules level o o.order
   types = let e : 0 + level ≡ level = omega arith in rw e at m.innermost.types
@@ -139,7 +139,7 @@ module _ (nodes : List Node) (d : CellState) (items : d.next ≡ next.Items) (o 
   level_is = rw m.is (length-append m.front (o ∷ []))
 
   abbrev outer : List CellSymbol
-  outer = levels_symbols nodes 0 m.front
+  outer = all_open_symbols nodes 0 m.front
 
   abbrev Steps : Type 0
   Steps = cell_step d.rules (place nodes d) ≡ value_step d.rules (place nodes d) (rest_of nodes d) (node_at nodes o.node).kind (types_at nodes (o.node + 1) (node_at nodes o.node).arity) (level + 1) (o.stop - d.offset)
@@ -148,8 +148,8 @@ module _ (nodes : List Node) (d : CellState) (items : d.next ≡ next.Items) (o 
   item_step k ne e =
       let h = has_next nodes d.rules level d.offset o types more in
       let s = symbols_by nodes d.rules level o k ne e (rw e at types) (rw e at h) in
-      let now : open_symbols nodes level o ≡ item nodes d.rules level o ∷ open_symbols nodes level (passed nodes o) =
-      ap (left_of nodes level o) e ∙ s ∙ ap (λ (j : Order). item nodes d.rules level o ∷ left_of nodes level (passed_by nodes o j) (passed_by nodes o j).order) (sym e) in
+      let now : open_symbols nodes level o ≡ item nodes d.rules level o ∷ open_symbols nodes level (after_item nodes o) =
+      ap (left_of nodes level o) e ∙ s ∙ ap (λ (j : Order). item nodes d.rules level o ∷ left_of nodes level (after_item_by nodes o j) (after_item_by nodes o j).order) (sym e) in
       let all : (place nodes d).symbols ≡ item nodes d.rules level o ∷ rest_of nodes d =
       now_symbols ∙ ap (λ (x : List CellSymbol). x ++ outer) now ∙ ap (λ (x : List CellSymbol). item nodes d.rules level o ∷ x) (sym rest_symbols) in
       value_first d.rules (place nodes d) (rest_of nodes d) _ _ (level + 1) o.stop all
@@ -165,7 +165,7 @@ module _ (nodes : List Node) (d : CellState) (items : d.next ≡ next.Items) (o 
       let now : (place nodes d).symbols ≡ Items_of (Type_and (node_at nodes o.node).kind (types_at nodes (o.node + 1) (node_at nodes o.node).arity) others) level o.stop o.items ∷ outer =
       now_symbols ∙ ap (λ (j : Order). left_of nodes level o j ++ outer) e ∙ ap (λ (x : Types). Items_of x level o.stop o.items ∷ outer) (ap (types_at nodes o.node) one ∙ f.types) in
       let rest : rest_of nodes d ≡ Items_of others level o.stop (o.items + 1) ∷ outer =
-      rest_symbols ∙ ap (λ (j : Order). left_of nodes level (passed_by nodes o j) (passed_by nodes o j).order ++ outer) e ∙ ap (λ (j : Order). left_of nodes level (passed_by nodes o order.Fields) j ++ outer) e in
+      rest_symbols ∙ ap (λ (j : Order). left_of nodes level (after_item_by nodes o j) (after_item_by nodes o j).order ++ outer) e ∙ ap (λ (j : Order). left_of nodes level (after_item_by nodes o order.Fields) j ++ outer) e in
       rw rest (field_first d.rules (place nodes d) outer _ _ others level o.stop o.items (or_right _ _ over) now)
 
   step_by : (k : Order) → o.order ≡ k → Steps
@@ -197,15 +197,15 @@ module _ (nodes : List Node) (d : CellState) (items : d.next ≡ next.Items) (o 
   item_first : first_kind (place nodes d).symbols ≡ Some (due_value nodes d).kind
   item_first = first_by o.order refl ∙ sym (ap (λ (v : DueValue). Some v.kind) value_is)
 
-  -- ---- what stands behind it
+  -- ---- what stands after it
 
-  passed_stop : (k : Order) → (passed_by nodes o k).stop ≡ o.stop
+  passed_stop : (k : Order) → (after_item_by nodes o k).stop ≡ o.stop
   passed_stop order.Elements = refl
   passed_stop order.Keys = refl
   passed_stop order.Values = refl
   passed_stop order.Fields = refl
 
-  passed_types : (k : Order) → o.order ≡ k → TypesStand nodes d.rules level o k → HasNext nodes o k → TypesStand nodes d.rules level (passed_by nodes o k) (passed_by nodes o k).order
+  passed_types : (k : Order) → o.order ≡ k → TypesStand nodes d.rules level o k → HasNext nodes o k → TypesStand nodes d.rules level (after_item_by nodes o k) (after_item_by nodes o k).order
   passed_types order.Elements e t h = rw e t
   passed_types order.Keys e t h = (t.1, t.0)
   passed_types order.Values e t h = (t.1, t.0)
@@ -235,9 +235,9 @@ module _ (nodes : List Node) (d : CellState) (items : d.next ≡ next.Items) (o 
         inside = rw value_is (omega (arith, m.inside));
         inner = λ _. record { formed = rw value_is f.formed; stands = rw (value_is, level_is) (rw depth at f.inner); deep = rw level_is (omega (arith, f.deep)); there = rw value_is (omega (arith, f.within, f.some)) };
         bounded = rw value_is (omega (arith, m.innermost.within, last_stop_le nodes d.rules 0 d.stop m.front m.innermost.around, bounded));
-        after = rw after_is (open_join nodes d.rules 0 d.stop m.front (passed nodes o) (record { around = m.innermost.around; within = rw stop m.innermost.within; deep = m.innermost.deep; types = rw start after }));
-        ends = rw (after_is, value_is) (last_stop_is d.stop m.front (passed nodes o) ∙ stop);
-        level = rw (after_is, m.is) (length-append m.front (passed nodes o ∷ []) ∙ sym (length-append m.front (o ∷ [])));
+        after = rw after_is (open_join nodes d.rules 0 d.stop m.front (after_item nodes o) (record { around = m.innermost.around; within = rw stop m.innermost.within; deep = m.innermost.deep; types = rw start after }));
+        ends = rw (after_is, value_is) (last_stop_is d.stop m.front (after_item nodes o) ∙ stop);
+        level = rw (after_is, m.is) (length-append m.front (after_item nodes o ∷ []) ∙ sym (length-append m.front (o ∷ [])));
       }
 
 -- the cell comes next
@@ -306,8 +306,8 @@ module _ (nodes : List Node) (d : CellState) (stands : Stands nodes d) where
 -- ---- the end of the innermost value
 
 module _ (nodes : List Node) (d : CellState) (items : d.next ≡ next.Items) (o : OpenValue) (m : Inmost nodes d o) (over : is_over o d.offset ≡ true) where
-  close_by : (k : Order) → o.order ≡ k → over_by o d.offset k ≡ true → (place nodes d).symbols ≡ left_of nodes (length m.front) o k ++ levels_symbols nodes 0 m.front
-      → cell_step d.rules (place nodes d) ≡ close_step (place nodes d) (levels_symbols nodes 0 m.front) (length m.front) o.stop o.items
+  close_by : (k : Order) → o.order ≡ k → over_by o d.offset k ≡ true → (place nodes d).symbols ≡ left_of nodes (length m.front) o k ++ all_open_symbols nodes 0 m.front
+      → cell_step d.rules (place nodes d) ≡ close_step (place nodes d) (all_open_symbols nodes 0 m.front) (length m.front) o.stop o.items
   close_by order.Elements e t now = close_first d.rules (place nodes d) _ _ o.stop o.items (now ∙ rw (eqb-true o.left 0 t) refl)
   close_by order.Keys e t now = close_first d.rules (place nodes d) _ _ o.stop o.items (now ∙ rw (eqb-true o.left 0 t) refl)
   close_by order.Values e t now = absurd cc
@@ -316,10 +316,10 @@ module _ (nodes : List Node) (d : CellState) (items : d.next ≡ next.Items) (o 
     | inr past ↦ over_first d.rules (place nodes d) _ (types_at nodes o.node o.left) _ o.stop o.items past now
   ]
 
-  pub close_is : cell_step d.rules (place nodes d) ≡ close_step (place nodes d) (levels_symbols nodes 0 m.front) (length m.front) o.stop o.items
+  pub close_is : cell_step d.rules (place nodes d) ≡ close_step (place nodes d) (all_open_symbols nodes 0 m.front) (length m.front) o.stop o.items
   close_is =
       let e : 0 + length m.front ≡ length m.front = omega arith in
       close_by o.order refl over (rw (items, m.is, levels_symbols_is nodes 0 m.front o, e) refl)
 
-pub part_is : (nodes : List Node) (d : CellState) (offset total : ℕ) → d.next ≡ next.Part offset total → cell_step d.rules (place nodes d) ≡ part_step d.rules (place nodes d) (levels_symbols nodes 0 d.open_values) (length d.open_values) 0 offset total
+pub part_is : (nodes : List Node) (d : CellState) (offset total : ℕ) → d.next ≡ next.Part offset total → cell_step d.rules (place nodes d) ≡ part_step d.rules (place nodes d) (all_open_symbols nodes 0 d.open_values) (length d.open_values) 0 offset total
 part_is nodes d offset total e = ap (λ (n : NextInCell). cell_step_at d.rules (place nodes d) (symbols_for nodes d.stop d.open_values n)) e

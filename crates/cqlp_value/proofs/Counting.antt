@@ -13,9 +13,9 @@ use Rattle.cqlp_value.specs.declared.standing.Under.TheVariants as under
 use Rattle.cqlp_value.specs.declared.standing.CellDue.TheVariants as due
 use Rattle.cqlp_value.specs.CellStep.{CellSymbol, Close_of, Enter, cell_copies, values_of, place_after}
 use Rattle.cqlp_value.specs.Numbers.{WantsNumber, IsCounted}
-use Rattle.cqlp_value.specs.Standing.{CellState, ended, place, due_value, open_after, moved, rest_of, due_of, Stands}
+use Rattle.cqlp_value.specs.Standing.{CellState, ended, place, due_value, open_after, state_after, rest_of, due_of, Stands}
 use Rattle.cqlp_value.specs.Coming.{inner_of}
-use Rattle.cqlp_value.specs.Reading.{counted_open, entered, sized_of, Decided, Emits, Hands, Waits, Fails, Behind, EntersCounted}
+use Rattle.cqlp_value.specs.Reading.{counted_open, entered, sized_of, Decided, Emits, Hands, Waits, Fails, LengthCame, EntersCounted}
 use Rattle.cqlp_value.proofs.Coming.{value_due}
 use Rattle.cqlp_value.proofs.Handing.{same_decided}
 use Rattle.cqlp_value.proofs.Entering.{counted_due, counted_inner, counted_symbols, entered_symbols}
@@ -38,7 +38,7 @@ module _ (nodes : List Node) (d : CellState) (n : ℕ) (decided : Decided nodes 
   counted_negative le long high = rw (decided.is, le-ltb n 4 le, le-ltb (length x) 4 long, lt-ltb (2 ^ 31 - 1) (count_in x) (omega arith)) refl
 
   pub counted_got : Stands nodes d → due_of d ≡ due.Value → 4 ≤ n → 4 ≤ length x → count_in x < 2 ^ 31
-      → Emits nodes (says (sized_of nodes d n) 4 x) d.offset 8 (Enter (length d.open_values) (due_value nodes d).kind (count_in x)) (entered (moved nodes d 8) (counted_open nodes (due_value nodes d) (d.offset + 4 + n) (count_in x)))
+      → Emits nodes (says (sized_of nodes d n) 4 x) d.offset 8 (Enter (length d.open_values) (due_value nodes d).kind (count_in x)) (entered (state_after nodes d 8) (counted_open nodes (due_value nodes d) (d.offset + 4 + n) (count_in x)))
   unfolding number_of
   counted_got s v le long low =
       let due = counted_due nodes d n (count_in x) s v decided in
@@ -54,7 +54,7 @@ module _ (nodes : List Node) (d : CellState) (n : ℕ) (decided : Decided nodes 
 
 -- the count goes on
 pub count_waits : (nodes : List Node) (old : CellState) (n : ℕ) (p q : FieldState) (input bytes : List ℕ) → due_of old ≡ due.Value → Decided nodes old n (size.Counted n) → old.rules.cell ≤ p.room → WantsNumber (old.offset + 4) n bytes p q
-    → Waits nodes old p input (says (sized_of nodes old n) 4 bytes) (length input) (record old { under = under.Counted n }) q × Behind n bytes (under.Counted n) q.seen
+    → Waits nodes old p input (says (sized_of nodes old n) 4 bytes) (length input) (record old { under = under.Counted n }) q × LengthCame n bytes (under.Counted n) q.seen
 count_waits nodes old n p q input bytes v decided longest wants = (
   record {
     all = refl;
@@ -104,7 +104,7 @@ module _ (nodes : List Node) (old new : CellState) (n start used count : ℕ) (p
         stop = rw enters.0 refl;
         stands = enters.1;
         onward = rw (enters.0, total) refl;
-        behind = rw enters.0 tt;
+        goes_after = rw enters.0 tt;
         pays = rw enters.0 (omega (arith, due.level, length-append (open_after nodes old) (o ∷ []), found.count, found.after, some));
         goes_on = rw enters.0 refl;
         fresh = rw enters.0 refl;

@@ -8,19 +8,19 @@ use Rattle.cqlp_value.specs.declared.advance.CellAdvance.{CellAdvance}
 use Rattle.cqlp_value.specs.declared.advance.CellAdvance.TheVariants as advance
 use Rattle.cqlp_value.specs.Items.{CanLend, event_at}
 use Rattle.cqlp_value.specs.Standing.{CellState}
-use Rattle.cqlp_value.specs.Reading.{Saying, told, Joined, IsLent, IsKept, Hands, Moves, has_content, has_none}
+use Rattle.cqlp_value.specs.Reading.{Saying, step_says, Joined, IsLent, IsKept, Hands, Moves, has_content, is_bare}
 use Rattle.cqlp_value.proofs.Leading.{some_come}
 
 module _ (nodes : List Node) (old : CellState) (p : FieldState) (input : List ℕ) (new : CellState) (mid : FieldState) (joined : Joined nodes old p) where
-  none_idle : (a : CellAdvance) → Moves nodes old p input a new mid → has_none a ≡ true → mid.under_way ≡ false
+  none_idle : (a : CellAdvance) → Moves nodes old p input a new mid → is_bare a ≡ true → mid.under_way ≡ false
   none_idle (advance.More used) m e = absurd cc
   none_idle (advance.Item at used i) m e = (m (some_come nodes old p joined).0 (some_come nodes old p joined).1).idle
   none_idle advance.Done m e = absurd cc
   none_idle (advance.Refused r) m e = (m (some_come nodes old p joined).0 (some_come nodes old p joined).1).idle
 
   -- no field is under way then
-  pub has_none_idle : (a : CellAdvance) (b : Bool) → b ≡ has_none a → b ≡ true → Moves nodes old p input a new mid → mid.under_way ≡ false
-  has_none_idle a b is e m = none_idle a m (sym is ∙ e)
+  pub bare_idle : (a : CellAdvance) (b : Bool) → b ≡ is_bare a → b ≡ true → Moves nodes old p input a new mid → mid.under_way ≡ false
+  bare_idle a b is e m = none_idle a m (sym is ∙ e)
 
 -- an item without a content is the same event, whatever the buffer holds
 bare_event : (i : CellOutline) (input b c : List ℕ) → not (has_content i) ≡ true → event_at i input b ≡ event_at i input c
@@ -54,7 +54,7 @@ module _ (nodes : List Node) (old : CellState) (p : FieldState) (input : List �
         stop = h.stop;
         stands = h.stands;
         onward = h.onward;
-        behind = h.behind;
+        goes_after = h.goes_after;
         pays = h.pays;
         goes_on = h.goes_on;
         fresh = h.fresh;
@@ -62,12 +62,12 @@ module _ (nodes : List Node) (old : CellState) (p : FieldState) (input : List �
         longest = room ∙ h.longest;
       }
 
-  bare_moves : (a : CellAdvance) → has_none a ≡ true → Moves nodes old p input a new mid → Moves nodes old p input a new q
+  bare_moves : (a : CellAdvance) → is_bare a ≡ true → Moves nodes old p input a new mid → Moves nodes old p input a new q
   bare_moves (advance.More used) e m = absurd cc
-  bare_moves (advance.Item at used i) e m = λ b come. bare_hands (told nodes old (b ++ input)) (length b) at used i e (m b come)
+  bare_moves (advance.Item at used i) e m = λ b come. bare_hands (step_says nodes old (b ++ input)) (length b) at used i e (m b come)
   bare_moves advance.Done e m = absurd cc
   bare_moves (advance.Refused r) e m = λ b come. let f = m b come in record { is = f.is; ends = f.ends; idle = idle; longest = room ∙ f.longest }
 
   -- what a call does stays so where the buffer is emptied after it
-  pub emptied_moves : (a : CellAdvance) (b : Bool) → b ≡ has_none a → b ≡ true → Moves nodes old p input a new mid → Moves nodes old p input a new q
+  pub emptied_moves : (a : CellAdvance) (b : Bool) → b ≡ is_bare a → b ≡ true → Moves nodes old p input a new mid → Moves nodes old p input a new q
   emptied_moves a b is e m = bare_moves a (sym is ∙ e) m

@@ -5,15 +5,15 @@ use Rattle.cqlp_note.specs.Limits.{Rules}
 use Rattle.cqlp_type.specs.declared.kind.Kind.{Kind}
 use Rattle.cqlp_type.specs.declared.kind.Kind.TheVariants as kind
 use Rattle.cqlp_type.specs.declared.node.Node.{Node}
-use Rattle.cqlp_type.specs.Types.{has_no_items}
+use Rattle.cqlp_type.specs.Types.{has_no_items, HasInner}
 use Rattle.cqlp_value.specs.declared.open_values.OpenValue.{OpenValue}
 use Rattle.cqlp_value.specs.declared.size.Sized.TheVariants as size
 use Rattle.cqlp_value.specs.declared.standing.CellDue.TheVariants as due
 use Rattle.cqlp_value.specs.declared.standing.DueValue.{DueValue}
 use Rattle.cqlp_value.specs.CellStep.{Close_of, cell_copies, values_of}
 use Rattle.cqlp_value.specs.Sizes.{is_counted}
-use Rattle.cqlp_value.specs.Inner.{types_at, node_at, HasInner, Stand}
-use Rattle.cqlp_value.specs.Standing.{CellState, open_symbols, place, due_value, open_after, moved, rest_of, due_of, TypesStand, Stands}
+use Rattle.cqlp_value.specs.Inner.{types_at, node_at, Stand}
+use Rattle.cqlp_value.specs.Standing.{CellState, open_symbols, place, due_value, open_after, state_after, rest_of, due_of, TypesStand, Stands}
 use Rattle.cqlp_value.specs.Coming.{InnerDue, ValueDue}
 use Rattle.cqlp_value.specs.Reading.{order_by, counted_open, fields_open, entered, Decided, InnerStands}
 use Rattle.cqlp_value.proofs.Opened.{last_stop_is, levels_symbols_is, open_join, first_there}
@@ -67,7 +67,7 @@ counted_symbols nodes l level v stop count k t h s = absurd cc
 
 module _ (nodes : List Node) (d : CellState) (size : ℕ) (o : OpenValue) (s : Stands nodes d) (v : ValueDue nodes d) (deep : length d.open_values < d.rules.depth) (types : TypesStand nodes d.rules (length d.open_values) o o.order)
     (front : d.offset + size ≤ o.stop) (within : o.stop ≤ (due_value nodes d).stop) where
-  pub entered_stands : Stands nodes (entered (moved nodes d size) o)
+  pub entered_stands : Stands nodes (entered (state_after nodes d size) o)
   entered_stands =
       let e : 0 + length (open_after nodes d) ≡ length d.open_values = omega (arith, v.level) in
       record {
@@ -77,7 +77,7 @@ module _ (nodes : List Node) (d : CellState) (size : ℕ) (o : OpenValue) (s : S
         bounded = s.bounded;
       }
 
-pub entered_symbols : (nodes : List Node) (d : CellState) (size : ℕ) (o : OpenValue) → ValueDue nodes d → (place nodes (entered (moved nodes d size) o)).symbols ≡ open_symbols nodes (length d.open_values) o ++ rest_of nodes d
+pub entered_symbols : (nodes : List Node) (d : CellState) (size : ℕ) (o : OpenValue) → ValueDue nodes d → (place nodes (entered (state_after nodes d size) o)).symbols ≡ open_symbols nodes (length d.open_values) o ++ rest_of nodes d
 entered_symbols nodes d size o v =
     let e : 0 + length (open_after nodes d) ≡ length d.open_values = omega (arith, v.level) in
     rw (levels_symbols_is nodes 0 (open_after nodes d) o, e) refl
@@ -93,7 +93,7 @@ module _ (nodes : List Node) (d : CellState) (len count : ℕ) (s : Stands nodes
   abbrev counted : OpenValue
   counted = counted_open nodes (due_value nodes d) (d.offset + 4 + len) count
 
-  pub counted_stands : 4 ≤ len → Stands nodes (entered (moved nodes d 8) counted)
+  pub counted_stands : 4 ≤ len → Stands nodes (entered (state_after nodes d 8) counted)
   counted_stands le =
       entered_stands nodes d 8 counted s counted_due counted_inner.deep (counted_types nodes d.rules (length d.open_values) (due_value nodes d) (d.offset + 4 + len) count _ decided.can.1 counted_inner.formed counted_inner.stands) (omega arith) (omega (arith, decided.fits.0, counted_due.inside))
 
@@ -119,7 +119,7 @@ module _ (nodes : List Node) (d : CellState) (len : ℕ) (s : Stands nodes d) (d
   abbrev fielded : OpenValue
   fielded = fields_open (due_value nodes d) (d.offset + 4 + len)
 
-  pub fields_stands : Stands nodes (entered (moved nodes d 4) fielded)
+  pub fields_stands : Stands nodes (entered (state_after nodes d 4) fielded)
   fields_stands = entered_stands nodes d 4 fielded s fields_due fields_inner.deep (fields_inner.stands, omega arith) (omega arith) (omega (arith, decided.fits.0, fields_due.inside))
 
   pub fields_there : (due_value nodes d).node < length nodes

@@ -17,13 +17,13 @@ use Rattle.cqlp_value.specs.Scalars.{ScalarValue, scalar_of}
 use Rattle.cqlp_value.specs.CellStep.{CellSymbol, CellEvent, CellPlace, leaf_step}
 use Rattle.cqlp_value.specs.Items.{content_at, leaf_event}
 use Rattle.cqlp_value.specs.Gathering.{Wants, Finds}
-use Rattle.cqlp_value.specs.Standing.{CellState, place, due_value, moved, rest_of, due_of, Stands}
+use Rattle.cqlp_value.specs.Standing.{CellState, place, due_value, state_after, rest_of, due_of, Stands}
 use Rattle.cqlp_value.specs.Coming.{ValueDue}
-use Rattle.cqlp_value.specs.Reading.{sized_of, Decided, Emits, Hands, Waits, Behind}
+use Rattle.cqlp_value.specs.Reading.{sized_of, Decided, Emits, Hands, Waits, LengthCame}
 use Rattle.cqlp_value.proofs.Coming.{value_due}
 
--- behind the value that comes next, as far as the one around it goes
-pub moved_stands : (nodes : List Node) (d : CellState) (size : ℕ) → Stands nodes d → ValueDue nodes d → d.offset + size ≤ (due_value nodes d).stop → Stands nodes (moved nodes d size)
+-- after the value that comes next, as far as the one around it goes
+pub moved_stands : (nodes : List Node) (d : CellState) (size : ℕ) → Stands nodes d → ValueDue nodes d → d.offset + size ≤ (due_value nodes d).stop → Stands nodes (state_after nodes d size)
 moved_stands nodes d size s v le = record { open_stand = v.after; within = rw v.ends (omega arith); next_stands = tt; bounded = s.bounded }
 
 -- ---- scalars
@@ -49,7 +49,7 @@ module _ (nodes : List Node) (d : CellState) (n : ℕ) (decided : Decided nodes 
   pub scalar_short : length x < n → says (sized_of nodes d n) 4 x ≡ More
   scalar_short lt = rw (decided.is, lt-ltb (length x) n lt) refl
 
-  pub scalar_got : n ≤ length x → is_some (scalar_of its_kind (take n x)) ≡ true → Emits nodes (says (sized_of nodes d n) 4 x) d.offset (4 + n) (leaf_event (length d.open_values) (scalar_of its_kind (take n x))) (moved nodes d (4 + n))
+  pub scalar_got : n ≤ length x → is_some (scalar_of its_kind (take n x)) ≡ true → Emits nodes (says (sized_of nodes d n) 4 x) d.offset (4 + n) (leaf_event (length d.open_values) (scalar_of its_kind (take n x))) (state_after nodes d (4 + n))
   scalar_got le t =
       let k = leaf_known (place nodes d) (rest_of nodes d) (length d.open_values) its_kind (scalar_of its_kind (take n x)) (4 + n) (drop n x) t in
       record {
@@ -72,7 +72,7 @@ module _ (nodes : List Node) (old new : CellState) (n start : ℕ) (p q : FieldS
   content_is : content_at f.content input q.content ≡ take n bytes
   content_is = rw found.is refl
 
-  pub leaf_hands : (k : Kind) (level : ℕ) → k ≡ kind → level ≡ length old.open_values → is_some (scalar_of k (content_at f.content input q.content)) ≡ true → new ≡ moved nodes old (4 + n)
+  pub leaf_hands : (k : Kind) (level : ℕ) → k ≡ kind → level ≡ length old.open_values → is_some (scalar_of k (content_at f.content input q.content)) ≡ true → new ≡ state_after nodes old (4 + n)
       → Hands nodes old p input (says (sized_of nodes old n) 4 bytes) ((4 - start) + length seen) old.offset f.used (outline.Leaf level k f.content) new q
   leaf_hands k level is at known goes =
       let got = scalar_got nodes old n decided bytes found.enough (rw (is, content_is) at known) in
@@ -89,7 +89,7 @@ module _ (nodes : List Node) (old new : CellState) (n start : ℕ) (p q : FieldS
         stop = refl;
         stands = moved_stands nodes old (4 + n) stands due (omega (arith, decided.fits.0, due.inside));
         onward = rw count refl;
-        behind = tt;
+        goes_after = tt;
         pays = omega (arith, due.level, found.count, found.after, some);
         goes_on = refl;
         fresh = refl;
@@ -99,7 +99,7 @@ module _ (nodes : List Node) (old new : CellState) (n start : ℕ) (p q : FieldS
 
 -- a scalar that goes on
 pub scalar_waits : (nodes : List Node) (old : CellState) (n : ℕ) (p q : FieldState) (input bytes : List ℕ) → due_of old ≡ due.Value → Decided nodes old n (size.Scalar n) → old.rules.cell ≤ p.room → Wants n (old.offset + 4) bytes p q
-    → Waits nodes old p input (says (sized_of nodes old n) 4 bytes) (length input) (record old { under = under.Scalar n }) q × Behind n bytes (under.Scalar n) q.seen
+    → Waits nodes old p input (says (sized_of nodes old n) 4 bytes) (length input) (record old { under = under.Scalar n }) q × LengthCame n bytes (under.Scalar n) q.seen
 scalar_waits nodes old n p q input bytes v decided longest wants = (
   record {
     all = refl;

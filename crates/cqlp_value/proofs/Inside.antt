@@ -4,8 +4,8 @@ use Rattle.std.specs.Prelude.{slice_get}
 use Rattle.std.proofs.lemmas.List.{append-nil, drop-drop, length-append, length-drop, drop_at}
 use Rattle.cqlp_type.specs.declared.kind.Kind.{Kind}
 use Rattle.cqlp_type.specs.declared.node.Node.{Node}
-use Rattle.cqlp_type.specs.Types.{Types, NoMore, Type_and, how_many, first_types, other_types, types_of, preorder, followed_by}
-use Rattle.cqlp_value.specs.Inner.{types_at, node_at, HasInner, AreTypes, depth_of, Stand, StandTo}
+use Rattle.cqlp_type.specs.Types.{Types, NoMore, Type_and, how_many, first_types, other_types, types_of, preorder, followed_by, HasInner, AreFormed}
+use Rattle.cqlp_value.specs.Inner.{types_at, node_at, depth_of, Stand, StandTo}
 
 first-followed : (ts us : Types) → first_types (how_many ts) (followed_by ts us) ≡ ts
 first-followed NoMore us = refl
@@ -26,7 +26,7 @@ module _ (nodes : List Node) (i : ℕ) (ts : Types) (others : List Node) (are : 
   unfolding types_at
   types_there n many = rw (are, types_of-preorder ts others, ← many) (first-followed ts (types_of others))
 
-  pub stand_there : (n depth : ℕ) → how_many ts ≡ n → AreTypes ts → depth_of ts ≤ depth → Stand nodes i n depth
+  pub stand_there : (n depth : ℕ) → how_many ts ≡ n → AreFormed ts → depth_of ts ≤ depth → Stand nodes i n depth
   stand_there n depth many formed shallow =
       let same = types_there n many in
       record { others = others; are = rw same are; many = rw same many; formed = rw same formed; shallow = rw same shallow }
@@ -53,7 +53,7 @@ pub record First (nodes : List Node) (i n depth : ℕ) (x : Node) : Type 0 where
 
 module _ (nodes : List Node) (i n depth : ℕ) where
   first_types_are : (k : Kind) (inner others : Types) (more : List Node) → drop i nodes ≡ preorder (Type_and k inner others) ++ more → suc (how_many others) ≡ suc n
-      → AreTypes (Type_and k inner others) → depth_of (Type_and k inner others) ≤ depth → (x : Node) × First nodes i n depth x
+      → AreFormed (Type_and k inner others) → depth_of (Type_and k inner others) ≤ depth → (x : Node) × First nodes i n depth x
   unfolding node_at
   first_types_are k inner others more are many formed shallow =
       let x : Node = record { kind = k; arity = how_many inner; span = suc (length (preorder inner)) } in
@@ -83,7 +83,7 @@ module _ (nodes : List Node) (i n depth : ℕ) where
         },
       )
 
-  first_of : (ts : Types) (more : List Node) → drop i nodes ≡ preorder ts ++ more → how_many ts ≡ suc n → AreTypes ts → depth_of ts ≤ depth → (x : Node) × First nodes i n depth x
+  first_of : (ts : Types) (more : List Node) → drop i nodes ≡ preorder ts ++ more → how_many ts ≡ suc n → AreFormed ts → depth_of ts ≤ depth → (x : Node) × First nodes i n depth x
   first_of NoMore more are many formed shallow = absurd (omega (arith, many))
   first_of (Type_and k inner others) more are many formed shallow = first_types_are k inner others more are many formed shallow
 
@@ -103,7 +103,7 @@ many-followed : (ts us : Types) → how_many (followed_by ts us) ≡ how_many ts
 many-followed NoMore us = omega arith
 many-followed (Type_and k inner others) us = omega (arith, many-followed others us)
 
-pub formed-followed : (ts us : Types) → AreTypes ts → AreTypes us → AreTypes (followed_by ts us)
+pub formed-followed : (ts us : Types) → AreFormed ts → AreFormed us → AreFormed (followed_by ts us)
 formed-followed NoMore us a b = b
 formed-followed (Type_and k inner others) us a b = (a.0, a.1, formed-followed others us a.2 b)
 

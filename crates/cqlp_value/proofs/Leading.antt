@@ -26,9 +26,9 @@ use Rattle.cqlp_value.specs.declared.standing.CellDue.TheVariants as due
 use Rattle.cqlp_value.specs.CellStep.{CellEvent, Null, Empty, Enter, Leave, CellPlace, cell_step}
 use Rattle.cqlp_value.specs.Scalars.{ScalarValue, allows_size, scalar_of}
 use Rattle.cqlp_value.specs.Items.{CanLend, content_at, content_length, event_at, event_of, leaf_event}
-use Rattle.cqlp_value.specs.Levels.{last_open}
+use Rattle.cqlp_value.specs.OpenValues.{last_open}
 use Rattle.cqlp_value.specs.Standing.{CellState, ended, is_some_next, is_under_way, symbols_for, place, close_if, is_over, due_in, due_for, due_of, Stands}
-use Rattle.cqlp_value.specs.Reading.{Saying, told, Joined, UnderBy, AreBytes, HaveCome, IsLent, IsKept, Moves, Empties, has_content}
+use Rattle.cqlp_value.specs.Reading.{Saying, step_says, Joined, UnderBy, AreBytes, HaveCome, IsLent, IsKept, Moves, Empties, has_content}
 use Rattle.cqlp_value.specs.Pushing.{is_done, done_by, Continues, Keeps, Pushes}
 use Rattle.cqlp_value.proofs.ScalarSizes.{scalar_sized}
 
@@ -48,8 +48,8 @@ pub some_come : (nodes : List Node) (d : CellState) (p : FieldState) → Joined 
 some_come nodes d p j = come_by nodes d p d.under j.under_way
 
 -- only one list of bytes has come, or the step says the same of each
-pub told_is : (nodes : List Node) (d : CellState) (bytes : List ℕ) → told nodes d bytes ≡ says (cell_step d.rules (place nodes d)) 0 bytes
-unfolding told
+pub told_is : (nodes : List Node) (d : CellState) (bytes : List ℕ) → step_says nodes d bytes ≡ says (cell_step d.rules (place nodes d)) 0 bytes
+unfolding step_says
 told_is nodes d bytes = refl
 
 abbrev saying : Rules → CellPlace → List ℕ → Saying

@@ -14,8 +14,8 @@ use Rattle.cqlp_value.specs.declared.standing.Under.{Under}
 use Rattle.cqlp_value.specs.declared.standing.Under.TheVariants as under
 use Rattle.cqlp_value.specs.CellStep.{CellSymbol, Value_of}
 use Rattle.cqlp_value.specs.Inner.{types_at}
-use Rattle.cqlp_value.specs.Standing.{CellState, left_of, open_symbols, levels_symbols, symbols_for, place, Stands}
-use Rattle.cqlp_value.specs.Reading.{IsBehind, UnderBy, PartUnder, Joined, HaveCome}
+use Rattle.cqlp_value.specs.Standing.{CellState, left_of, open_symbols, all_open_symbols, symbols_for, place, Stands}
+use Rattle.cqlp_value.specs.Reading.{IsAfterItem, UnderBy, PartUnder, Joined, HaveCome}
 use Rattle.cqlp_value.specs.Pushing.{is_done, done_by}
 use Rattle.cqlp_value.proofs.Opened.{last_stop_le}
 use Rattle.cqlp_value.proofs.Coming.{value_due}
@@ -88,15 +88,15 @@ open_left nodes level o order.Keys e = some_closing _ _ e
 open_left nodes level o order.Values e = some_closing _ _ (some_behind _ _ e)
 open_left nodes level o order.Fields e = absurd cc
 
-some_by : (nodes : List Node) (stop : ℕ) (os : List OpenValue) (n : NextInCell) → IsBehind n → done_by n os ≡ false → symbols_for nodes stop os n ≡ [] → ⊥
+some_by : (nodes : List Node) (stop : ℕ) (os : List OpenValue) (n : NextInCell) → IsAfterItem n → done_by n os ≡ false → symbols_for nodes stop os n ≡ [] → ⊥
 some_by nodes stop [] next.Items b f e = absurd cc
-some_by nodes stop (o ∷ os) next.Items b f e = open_left nodes 0 o o.order (some_behind (levels_symbols nodes 1 os) (open_symbols nodes 0 o) e)
+some_by nodes stop (o ∷ os) next.Items b f e = open_left nodes 0 o o.order (some_behind (all_open_symbols nodes 1 os) (open_symbols nodes 0 o) e)
 some_by nodes stop os next.Nothing b f e = absurd b
 some_by nodes stop os (next.Cell _) b f e = absurd b
 some_by nodes stop os (next.Part offset total) b f e = absurd cc
 
 -- and something of one that is not whole
-pub left_some : (nodes : List Node) (d : CellState) → Stands nodes d → IsBehind d.next → is_done d ≡ false → (place nodes d).symbols ≡ [] → ⊥
+pub left_some : (nodes : List Node) (d : CellState) → Stands nodes d → IsAfterItem d.next → is_done d ≡ false → (place nodes d).symbols ≡ [] → ⊥
 left_some nodes d s b f e = some_by nodes d.stop d.open_values d.next b f e
 
 -- all of a cell is left where it begins

@@ -18,7 +18,7 @@ use Rattle.cqlp_value.specs.declared.standing.CellDue.TheVariants as due
 use Rattle.cqlp_value.specs.Numbers.{IsUnsigned, WantsNumber, IsCounted}
 use Rattle.cqlp_value.specs.Standing.{CellState, ended, due_of, Stands}
 use Rattle.cqlp_value.specs.Coming.{room_of, ValueDue}
-use Rattle.cqlp_value.specs.Reading.{Saying, told, sized_of, IsKept, Waits, Fails, Settles, Behind, AreBytes, HaveCome}
+use Rattle.cqlp_value.specs.Reading.{Saying, step_says, sized_of, IsKept, Waits, Fails, Settles, LengthCame, AreBytes, HaveCome}
 use Rattle.cqlp_value.proofs.Coming.{value_due}
 
 -- what a call does, it does where the same is said in other words
@@ -34,16 +34,16 @@ abbrev first_number : List ℕ → ℕ
 first_number x = from_be_bytes w32 (take 4 x)
 
 module _ (nodes : List Node) (d : CellState) (due : ValueDue nodes d) (x : List ℕ) where
-  pub length_overrun : room_of nodes d < 4 → told nodes d x ≡ Bad (d.offset, Overrun)
-  unfolding told number_of
+  pub length_overrun : room_of nodes d < 4 → step_says nodes d x ≡ Bad (d.offset, Overrun)
+  unfolding step_says number_of
   length_overrun lt = rw (due.step, lt-ltb (room_of nodes d) 4 lt) refl
 
-  pub length_short : 4 ≤ room_of nodes d → length x < 4 → told nodes d x ≡ More
-  unfolding told number_of
+  pub length_short : 4 ≤ room_of nodes d → length x < 4 → step_says nodes d x ≡ More
+  unfolding step_says number_of
   length_short le lt = rw (due.step, le-ltb (room_of nodes d) 4 le, lt-ltb (length x) 4 lt) refl
 
-  pub length_whole : 4 ≤ room_of nodes d → 4 ≤ length x → told nodes d x ≡ says (sized_of nodes d (first_number x)) 4 (drop 4 x)
-  unfolding told sized_of number_of
+  pub length_whole : 4 ≤ room_of nodes d → 4 ≤ length x → step_says nodes d x ≡ says (sized_of nodes d (first_number x)) 4 (drop 4 x)
+  unfolding step_says sized_of number_of
   length_whole le long = rw (due.step, le-ltb (room_of nodes d) 4 le, le-ltb (length x) 4 long) refl
 
 -- a length with its sign bit is null, whichever it is
@@ -54,8 +54,8 @@ same_number nodes d m n h = elim (cases_lt m (2 ^ 31)) [
   | inr le ↦ rw (lt-ltb (2 ^ 31 - 1) m (omega arith), lt-ltb (2 ^ 31 - 1) n (omega (arith, h.1 le))) refl
 ]
 
--- the bytes of a length, and those behind it
-pub come_behind : (n : ℕ) (bytes rest : List ℕ) (u : Under) (seen : List ℕ) → AreBytes (Some n) rest bytes → Behind n rest u seen → HaveCome bytes u seen
+-- the bytes of a length, and those after it
+pub come_behind : (n : ℕ) (bytes rest : List ℕ) (u : Under) (seen : List ℕ) → AreBytes (Some n) rest bytes → LengthCame n rest u seen → HaveCome bytes u seen
 come_behind n bytes rest under.Nothing seen h b = absurd cc
 come_behind n bytes rest under.Length seen h b = absurd cc
 come_behind n bytes rest (under.Scalar m) seen h b = let e : m ≡ n = cc in rw (e, b.1) h
@@ -82,17 +82,17 @@ module _ (nodes : List Node) (old : CellState) (p mid : FieldState) (seen input 
   whole_bytes : n < 2 ^ 31 → AreBytes (Some n) (drop used input) (seen ++ input)
   whole_bytes lt = (take 4 (seen ++ input), length-take-le 4 (seen ++ input) found.whole, number_low lt, rw behind_is at (sym (take-append-drop 4 (seen ++ input))))
 
-  pub length_settles : (a : CellAdvance) (new : CellState) (q : FieldState) → Settles nodes old mid input (says (sized_of nodes old n) 4 (drop used input)) ((4 - used) + 0) (Behind n (drop used input)) a new q
-      → Settles nodes old mid input (told nodes old (seen ++ input)) (length seen) (HaveCome (seen ++ input)) a new q
+  pub length_settles : (a : CellAdvance) (new : CellState) (q : FieldState) → Settles nodes old mid input (says (sized_of nodes old n) 4 (drop used input)) ((4 - used) + 0) (LengthCame n (drop used input)) a new q
+      → Settles nodes old mid input (step_says nodes old (seen ++ input)) (length seen) (HaveCome (seen ++ input)) a new q
   length_settles a new q h =
       let due = value_due nodes old stands v in
-      let said : says (sized_of nodes old n) 4 (drop used input) ≡ told nodes old (seen ++ input) = sym (length_whole nodes old due (seen ++ input) found.enough found.whole ∙ rw (same_number nodes old m n found.is, behind_is) refl) in
+      let said : says (sized_of nodes old n) 4 (drop used input) ≡ step_says nodes old (seen ++ input) = sym (length_whole nodes old due (seen ++ input) found.enough found.whole ∙ rw (same_number nodes old m n found.is, behind_is) refl) in
       let base : (4 - used) + 0 ≡ length seen = omega (arith, found.count) in
       settles_as nodes old mid input _ _ _ _ _ _ a new q said base (λ u s b. come_behind n (seen ++ input) (drop used input) u s (whole_bytes b.2) b) h
 
 -- a length that goes on
 pub length_waits : (nodes : List Node) (old : CellState) (p q : FieldState) (input bytes : List ℕ) → Stands nodes old → due_of old ≡ due.Value → old.rules.cell ≤ p.room → WantsNumber old.offset (room_of nodes old) bytes p q
-    → Waits nodes old p input (told nodes old bytes) (length input) (record old { under = under.Length }) q × HaveCome bytes under.Length q.seen
+    → Waits nodes old p input (step_says nodes old bytes) (length input) (record old { under = under.Length }) q × HaveCome bytes under.Length q.seen
 length_waits nodes old p q input bytes stands v longest wants = (
   record {
     all = refl;
@@ -107,7 +107,7 @@ length_waits nodes old p q input bytes stands v longest wants = (
 )
 
 pub length_fails : (nodes : List Node) (old new : CellState) (p q : FieldState) (bytes : List ℕ) → Stands nodes old → due_of old ≡ due.Value → room_of nodes old < 4 → new ≡ ended old → q.under_way ≡ false → q.room ≡ p.room
-    → Fails nodes old p (told nodes old bytes) (record { at = old.offset; why = Overrun }) new q
+    → Fails nodes old p (step_says nodes old bytes) (record { at = old.offset; why = Overrun }) new q
 length_fails nodes old new p q bytes stands v lt goes idle room = record { is = length_overrun nodes old (value_due nodes old stands v) bytes lt; ends = goes; idle = idle; longest = room }
 
 still_kept : (nodes : List Node) (i : CellOutline) (p mid : FieldState) (input buffer : List ℕ) (used : ℕ) → mid.under_way ≡ false → IsKept nodes i mid input buffer used → IsKept nodes i p input buffer used
@@ -132,7 +132,7 @@ settles_from nodes old p mid input said base W (advance.Item at used i) new q e 
   stop = h.stop;
   stands = h.stands;
   onward = h.onward;
-  behind = h.behind;
+  goes_after = h.goes_after;
   pays = h.pays;
   goes_on = h.goes_on;
   fresh = h.fresh;

@@ -2,7 +2,7 @@
 use Rattle.std.proofs.Common.{◌≡◌, suc, ◌-◌, List, [], ◌∷◌, ◌++◌, length, take, Some, refl, ap, inl, inr, ◌⊎◌, arith}
 use Rattle.std.specs.Prelude.{slice_get}
 use Rattle.cqlp_value.specs.declared.open_values.OpenValue.{OpenValue}
-use Rattle.cqlp_value.specs.Levels.{last_open, but_last, with_last}
+use Rattle.cqlp_value.specs.OpenValues.{last_open, but_last, with_last}
 
 pub last_is : (os : List OpenValue) (o : OpenValue) → last_open (os ++ o ∷ []) ≡ Some o
 last_is [] o = refl

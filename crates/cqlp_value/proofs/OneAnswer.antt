@@ -30,7 +30,7 @@ use Rattle.cqlp_value.specs.CellStep.{CellSymbol, Value_of, Items_of, Close_of, 
 use Rattle.cqlp_value.specs.Items.{content_length, event_at, event_of}
 use Rattle.cqlp_value.specs.Sizes.{is_counted}
 use Rattle.cqlp_value.specs.Inner.{types_at}
-use Rattle.cqlp_value.specs.Standing.{CellState, value_symbols, left_of, open_symbols, levels_symbols, symbols_for, cell_symbols, place, due_value, is_under_way, is_some_next, ended, NextStands, Stands}
+use Rattle.cqlp_value.specs.Standing.{CellState, value_symbols, left_of, open_symbols, all_open_symbols, symbols_for, cell_symbols, place, due_value, is_under_way, is_some_next, ended, NextStands, Stands}
 use Rattle.cqlp_value.specs.Reading.{gathered, Joined, UnderBy, PartUnder, HaveCome, Answers, Empties, Moves}
 use Rattle.cqlp_value.specs.Pushing.{After, Continues, Keeps, Pushes, Uses, is_done, done_by}
 use Rattle.cqlp_value.specs.Laws.{Answer, More, FieldOutline, Done, Refused, push_answer, advance_answer, Call, Seen, seen, LeaveAlike, IsPush, IsAdvance, AreAlike}
@@ -107,9 +107,9 @@ module _ (nodes : List Node) where
       omega (arith, endings-append one (cell_copies o.left these ++ Close_of level o.stop o.items ∷ []), endings_values (types_at nodes o.node 1) (level + 1) o.stop, endings-append (cell_copies o.left these) (Close_of level o.stop o.items ∷ []), endings_copies o.left these (two_values o.other o.node (level + 1) o.stop))
   endings_open level o order.Fields = refl
 
-  endings_levels : (level : ℕ) (os : List OpenValue) → endings (levels_symbols nodes level os) ≡ length os
+  endings_levels : (level : ℕ) (os : List OpenValue) → endings (all_open_symbols nodes level os) ≡ length os
   endings_levels level [] = refl
-  endings_levels level (o ∷ os) = omega (arith, endings-append (levels_symbols nodes (level + 1) os) (open_symbols nodes level o), endings_levels (level + 1) os, endings_open level o o.order)
+  endings_levels level (o ∷ os) = omega (arith, endings-append (all_open_symbols nodes (level + 1) os) (open_symbols nodes level o), endings_levels (level + 1) os, endings_open level o o.order)
 
   endings_cell : (node : Option ℕ) (stop : ℕ) → endings (cell_symbols nodes node stop) ≡ 0
   endings_cell None stop = refl
@@ -135,7 +135,7 @@ module _ (nodes : List Node) where
     done_in (next.Cell None) os h = refl
     done_in (next.Cell (Some node)) os h = rw (one_value nodes node l.depth 0 stop h.1) refl
     done_in next.Items [] h = refl
-    done_in next.Items (o ∷ os) h = sym (none_behind (levels_symbols nodes 1 os) (open_symbols nodes 0 o) (some_open 0 o o.order))
+    done_in next.Items (o ∷ os) h = sym (none_behind (all_open_symbols nodes 1 os) (open_symbols nodes 0 o) (some_open 0 o o.order))
     done_in (next.Part offset total) os h = refl
 
   levels_are : (d : CellState) → Stands nodes d → length d.open_values ≡ endings (place nodes d).symbols

@@ -11,9 +11,9 @@ use Rattle.cqlp_value.specs.declared.open_values.Order.TheVariants as order
 use Rattle.cqlp_value.specs.declared.standing.NextInCell.TheVariants as next
 use Rattle.cqlp_value.specs.declared.standing.CellDue.{CellDue}
 use Rattle.cqlp_value.specs.declared.standing.CellDue.TheVariants as due
-use Rattle.cqlp_value.specs.Levels.{last_open}
+use Rattle.cqlp_value.specs.OpenValues.{last_open}
 use Rattle.cqlp_value.specs.Inner.{node_at, Stand}
-use Rattle.cqlp_value.specs.Standing.{CellState, open_symbols, levels_symbols, is_over, over_by, close_if, due_of, TypesStand, AreOpen, last_stop, CellStands, CellThere, Stands, HasNext}
+use Rattle.cqlp_value.specs.Standing.{CellState, open_symbols, all_open_symbols, is_over, over_by, close_if, due_of, TypesStand, AreOpen, last_stop, CellStands, CellThere, Stands, HasNext}
 use Rattle.cqlp_value.proofs.Nesting.{last_is, cases_open}
 use Rattle.cqlp_value.proofs.Inside.{First, first_stands}
 
@@ -21,11 +21,11 @@ pub last_stop_is : (stop : ℕ) (os : List OpenValue) (o : OpenValue) → last_s
 last_stop_is stop [] o = refl
 last_stop_is stop (x ∷ os) o = last_stop_is x.stop os o
 
-pub levels_symbols_is : (nodes : List Node) (level : ℕ) (os : List OpenValue) (o : OpenValue) → levels_symbols nodes level (os ++ o ∷ []) ≡ open_symbols nodes (level + length os) o ++ levels_symbols nodes level os
+pub levels_symbols_is : (nodes : List Node) (level : ℕ) (os : List OpenValue) (o : OpenValue) → all_open_symbols nodes level (os ++ o ∷ []) ≡ open_symbols nodes (level + length os) o ++ all_open_symbols nodes level os
 levels_symbols_is nodes level [] o = let e : level + 0 ≡ level = omega arith in rw e (sym (append-nil (open_symbols nodes level o)))
 levels_symbols_is nodes level (x ∷ os) o =
     let e : (level + 1) + length os ≡ level + suc (length os) = omega arith in
-    rw (levels_symbols_is nodes (level + 1) os o, e) (append_assoc (open_symbols nodes (level + suc (length os)) o) (levels_symbols nodes (level + 1) os) (open_symbols nodes level x))
+    rw (levels_symbols_is nodes (level + 1) os o, e) (append_assoc (open_symbols nodes (level + suc (length os)) o) (all_open_symbols nodes (level + 1) os) (open_symbols nodes level x))
 
 module _ (nodes : List Node) (l : Rules) where
   -- the innermost of open values

@@ -14,8 +14,8 @@ use Rattle.cqlp_value.specs.declared.standing.CellDue.TheVariants as due
 use Rattle.cqlp_value.specs.CellStep.{Content_from, Part, place_after}
 use Rattle.cqlp_value.specs.Items.{content_at}
 use Rattle.cqlp_value.specs.Gathering.{IsGathering, seen_before, Wants, Finds}
-use Rattle.cqlp_value.specs.Standing.{CellState, is_some_next, levels_symbols, place, moved, rest_of, due_of, last_stop, Stands}
-use Rattle.cqlp_value.specs.Reading.{told, sized_of, Decided, part_size, next_behind, IsBehind, Emits, Hands, Waits, Behind, HaveCome}
+use Rattle.cqlp_value.specs.Standing.{CellState, is_some_next, all_open_symbols, place, state_after, rest_of, due_of, last_stop, Stands}
+use Rattle.cqlp_value.specs.Reading.{step_says, sized_of, Decided, part_size, next_after, IsAfterItem, Emits, Hands, Waits, LengthCame, HaveCome}
 use Rattle.cqlp_value.proofs.Opened.{last_stop_le}
 use Rattle.cqlp_value.proofs.Coming.{value_due, part_is}
 use Rattle.cqlp_value.proofs.Handing.{same_decided}
@@ -35,10 +35,10 @@ module _ (nodes : List Node) (d : CellState) (same : d.rules.part ≡ d.rules.ce
   pub first_short : (x : List ℕ) → length x < d.rules.cell → says (sized_of nodes d total) 4 x ≡ More
   first_short x lt = rw (decided.is, same, first_size, lt-ltb (length x) d.rules.cell lt) refl
 
-  abbrev first_behind : CellState
-  first_behind = record (moved nodes d (4 + d.rules.cell)) { next = next.Part d.rules.cell total }
+  abbrev first_read : CellState
+  first_read = record (state_after nodes d (4 + d.rules.cell)) { next = next.Part d.rules.cell total }
 
-  first_got : (x : List ℕ) → Stands nodes d → due_of d ≡ due.Value → d.rules.cell ≤ length x → Emits nodes (says (sized_of nodes d total) 4 x) (d.offset + 4) (4 + d.rules.cell) (Part (length d.open_values) 0 (take d.rules.cell x) false) first_behind
+  first_got : (x : List ℕ) → Stands nodes d → due_of d ≡ due.Value → d.rules.cell ≤ length x → Emits nodes (says (sized_of nodes d total) 4 x) (d.offset + 4) (4 + d.rules.cell) (Part (length d.open_values) 0 (take d.rules.cell x) false) first_read
   first_got x s v le =
       let due = value_due nodes d s v in
       let start : 0 + d.rules.cell ≡ d.rules.cell = omega arith in
@@ -50,13 +50,13 @@ module _ (nodes : List Node) (d : CellState) (same : d.rules.part ≡ d.rules.ce
         after = rw due.level refl;
       }
 
-  first_stands : Stands nodes d → due_of d ≡ due.Value → 0 < d.rules.cell → Stands nodes first_behind
+  first_stands : Stands nodes d → due_of d ≡ due.Value → 0 < d.rules.cell → Stands nodes first_read
   first_stands s v some =
       let due = value_due nodes d s v in
       record { open_stand = due.after; within = rw due.ends (omega (arith, decided.fits.0, due.inside, decided.can.1)); next_stands = (decided.can.1, some); bounded = s.bounded }
 
   pub first_waits : (p q : FieldState) (input bytes : List ℕ) → due_of d ≡ due.Value → d.rules.cell ≤ p.room → Wants d.rules.cell (d.offset + 4) bytes p q
-      → Waits nodes d p input (says (sized_of nodes d total) 4 bytes) (length input) (record d { under = under.First total }) q × Behind total bytes (under.First total) q.seen
+      → Waits nodes d p input (says (sized_of nodes d total) 4 bytes) (length input) (record d { under = under.First total }) q × LengthCame total bytes (under.First total) q.seen
   first_waits p q input bytes v longest wants = (
     record {
       all = refl;
@@ -71,7 +71,7 @@ module _ (nodes : List Node) (d : CellState) (same : d.rules.part ≡ d.rules.ce
   )
 
   pub first_hands : (start : ℕ) (p q : FieldState) (seen input : List ℕ) (f : Found) (new : CellState) (level : ℕ) → Stands nodes d → due_of d ≡ due.Value → 0 < d.rules.cell → start ≤ 4 → length seen < start + d.rules.cell → Finds d.rules.cell start seen (seen ++ drop start input) input f p q
-      → (f.used < d.rules.cell → (p.under_way ≡ true) × (q.content ≡ p.seen ++ take f.used input)) → new ≡ first_behind → level ≡ length d.open_values
+      → (f.used < d.rules.cell → (p.under_way ≡ true) × (q.content ≡ p.seen ++ take f.used input)) → new ≡ first_read → level ≡ length d.open_values
       → Hands nodes d p input (says (sized_of nodes d total) 4 (seen ++ drop start input)) ((4 - start) + length seen) (d.offset + 4) f.used (outline.Part level 0 f.content false) new q
   first_hands start p q seen input f new level s v some front more found kept goes at =
       let got = first_got (seen ++ drop start input) s v found.enough in
@@ -89,7 +89,7 @@ module _ (nodes : List Node) (d : CellState) (same : d.rules.part ≡ d.rules.ce
         stop = refl;
         stands = first_stands s v some;
         onward = rw count refl;
-        behind = tt;
+        goes_after = tt;
         pays = omega (arith, due.level, found.count, found.after, more);
         goes_on = refl;
         fresh = refl;
@@ -115,40 +115,40 @@ module _ (nodes : List Node) (d : CellState) (same : d.rules.part ≡ d.rules.ce
   abbrev is_last : Bool
   is_last = leb (total - offset) d.rules.cell
 
-  abbrev behind : CellState
-  behind = record d { offset = d.offset + its_size; next = next_behind is_last (offset + its_size) total; under = under.Nothing }
+  abbrev part_read : CellState
+  part_read = record d { offset = d.offset + its_size; next = next_after is_last (offset + its_size) total; under = under.Nothing }
 
-  later_short : (x : List ℕ) → length x < its_size → told nodes d x ≡ More
-  unfolding told
+  later_short : (x : List ℕ) → length x < its_size → step_says nodes d x ≡ More
+  unfolding step_says
   later_short x lt = rw (part_is nodes d offset total here, same, lt-ltb (length x) its_size lt) refl
 
-  place_behind : (last : Bool) → record { offset = d.offset + its_size; symbols = (cond last [] (Content_from (length d.open_values) (offset + its_size) total ∷ [])) ++ levels_symbols nodes 0 d.open_values }
-      ≡ place nodes (record d { offset = d.offset + its_size; next = next_behind last (offset + its_size) total; under = under.Nothing })
-  place_behind true = refl
-  place_behind false = refl
+  place_next : (last : Bool) → record { offset = d.offset + its_size; symbols = (cond last [] (Content_from (length d.open_values) (offset + its_size) total ∷ [])) ++ all_open_symbols nodes 0 d.open_values }
+      ≡ place nodes (record d { offset = d.offset + its_size; next = next_after last (offset + its_size) total; under = under.Nothing })
+  place_next true = refl
+  place_next false = refl
 
-  later_got : (x : List ℕ) → its_size ≤ length x → Emits nodes (told nodes d x) d.offset its_size (Part (length d.open_values) offset (take its_size x) is_last) behind
-  unfolding told
+  later_got : (x : List ℕ) → its_size ≤ length x → Emits nodes (step_says nodes d x) d.offset its_size (Part (length d.open_values) offset (take its_size x) is_last) part_read
+  unfolding step_says
   later_got x le =
       let zero : 0 + its_size ≡ its_size = omega arith in
       record {
-        x = record { at = d.offset + 0; event = Part (length d.open_values) offset (take its_size x) is_last; after = place_after (place nodes d) (levels_symbols nodes 0 d.open_values) (cond is_last [] (Content_from (length d.open_values) (offset + its_size) total ∷ [])) };
+        x = record { at = d.offset + 0; event = Part (length d.open_values) offset (take its_size x) is_last; after = place_after (place nodes d) (all_open_symbols nodes 0 d.open_values) (cond is_last [] (Content_from (length d.open_values) (offset + its_size) total ∷ [])) };
         is = rw (part_is nodes d offset total here, same, le-ltb (length x) its_size le, zero) refl;
         offset = omega arith;
         event = refl;
-        after = place_behind is_last;
+        after = place_next is_last;
       }
 
-  behind_stands : (last : Bool) → is_last ≡ last → Stands nodes (record d { offset = d.offset + its_size; next = next_behind last (offset + its_size) total; under = under.Nothing })
-  behind_stands true e =
+  next_stand : (last : Bool) → is_last ≡ last → Stands nodes (record d { offset = d.offset + its_size; next = next_after last (offset + its_size) total; under = under.Nothing })
+  next_stand true e =
       let le : total - offset ≤ d.rules.cell = leb-true _ _ e in
       record { open_stand = stands.open_stand; within = omega (arith, part_within); next_stands = tt; bounded = stands.bounded }
-  behind_stands false e =
+  next_stand false e =
       let lt : d.rules.cell < total - offset = leb-false _ _ e in
       record { open_stand = stands.open_stand; within = omega (arith, part_within); next_stands = (omega (arith, part_stands.0), part_stands.1); bounded = stands.bounded }
 
   pub later_waits : (p q : FieldState) (input bytes : List ℕ) → d.rules.cell ≤ p.room → Wants its_size d.offset bytes p q
-      → Waits nodes d p input (told nodes d bytes) (length input) (record d { under = under.Later }) q × HaveCome bytes under.Later q.seen
+      → Waits nodes d p input (step_says nodes d bytes) (length input) (record d { under = under.Later }) q × HaveCome bytes under.Later q.seen
   later_waits p q input bytes longest wants = (
     record {
       all = refl;
@@ -162,22 +162,22 @@ module _ (nodes : List Node) (d : CellState) (same : d.rules.part ≡ d.rules.ce
     sym wants.seen,
   )
 
-  is_behind : (last : Bool) → IsBehind (next_behind last (offset + its_size) total)
-  is_behind true = tt
-  is_behind false = tt
+  is_next : (last : Bool) → IsAfterItem (next_after last (offset + its_size) total)
+  is_next true = tt
+  is_next false = tt
 
   -- some bytes of it are still wanted
   pub still_wanted : (begun : Bool) (p : FieldState) → IsGathering begun its_size d.offset 0 p → length (seen_before begun p) < its_size
   still_wanted true p h = h.3
   still_wanted false p h = omega (arith, part_stands)
 
-  goes_on_behind : (last : Bool) → is_some_next (next_behind last (offset + its_size) total) ≡ true
-  goes_on_behind true = refl
-  goes_on_behind false = refl
+  goes_on_next : (last : Bool) → is_some_next (next_after last (offset + its_size) total) ≡ true
+  goes_on_next true = refl
+  goes_on_next false = refl
 
   pub later_hands : (p q : FieldState) (seen input : List ℕ) (f : Found) (new : CellState) (level : ℕ) (last : Bool) → length seen < its_size → Finds its_size 0 seen (seen ++ input) input f p q
-      → (f.used < its_size → (p.under_way ≡ true) × (q.content ≡ p.seen ++ take f.used input)) → last ≡ is_last → new ≡ record d { offset = d.offset + its_size; next = next_behind last (offset + its_size) total; under = under.Nothing } → level ≡ length d.open_values
-      → Hands nodes d p input (told nodes d (seen ++ input)) (length seen) d.offset f.used (outline.Part level offset f.content last) new q
+      → (f.used < its_size → (p.under_way ≡ true) × (q.content ≡ p.seen ++ take f.used input)) → last ≡ is_last → new ≡ record d { offset = d.offset + its_size; next = next_after last (offset + its_size) total; under = under.Nothing } → level ≡ length d.open_values
+      → Hands nodes d p input (step_says nodes d (seen ++ input)) (length seen) d.offset f.used (outline.Part level offset f.content last) new q
   later_hands p q seen input f new level last more found kept ends goes at =
       let got = later_got (seen ++ input) found.enough in
       let there : content_at f.content input q.content ≡ take its_size (seen ++ input) = rw found.is refl in
@@ -191,11 +191,11 @@ module _ (nodes : List Node) (d : CellState) (same : d.rules.part ≡ d.rules.ce
         kept = λ lt. kept (rw (there, size) at lt);
         rules = refl;
         stop = refl;
-        stands = behind_stands is_last refl;
+        stands = next_stand is_last refl;
         onward = rw count refl;
-        behind = is_behind is_last;
+        goes_after = is_next is_last;
         pays = omega (arith, found.count, more);
-        goes_on = goes_on_behind is_last;
+        goes_on = goes_on_next is_last;
         fresh = refl;
         idle = found.idle;
         longest = found.room;

@@ -121,7 +121,7 @@ module _ (l : Rules) (level : ℕ) where
     | false ↦ λ e. rw e (ap (λ (x : List (ℕ × CellEvent)). (at, Part level offset (take l.part c) false) ∷ x) (part_enough m n (at + l.part) (offset + l.part) (drop l.part c) some (omega (arith, length-drop l.part c)) (omega (arith, length-drop l.part c))))
   ] refl
 
-  -- a part, and those behind it
+  -- a part, and those after it
   pub part_first : (at offset : ℕ) (c d : List ℕ) → 0 < l.part → length c ≡ l.part → 0 < length d
       → part_items l (length (c ++ d)) level at offset (c ++ d) ≡ (at, Part level offset c false) ∷ part_items l (length d) level (at + l.part) (offset + l.part) d
   part_first at offset c d some long more =
@@ -147,7 +147,7 @@ abbrev pub Later : Type 1
 Later = (at : ℕ) → Events → List ℕ → Type 0
 
 module _ (l : Rules) where
-  -- These items and bytes are those of one value of each of these types, and of what comes behind them.
+  -- These items and bytes are those of one value of each of these types, and of what comes after them.
   pub record ReadsValues (ts : Types) (level stop : ℕ) (K : Later) (at : ℕ) (es : Events) (b : List ℕ) : Type 0 where
     pub values : Values
     pub front : List ℕ
@@ -159,7 +159,7 @@ module _ (l : Rules) where
     pub within : at ≤ stop → at + length front ≤ stop
     pub later : K (at + length front) more back
 
-  -- They are those of the fields of a value, from after so many on, of its end, and of what comes behind it.
+  -- They are those of the fields of a value, from after this many on, of its end, and of what comes after it.
   pub record ReadsFields (ts : Types) (level stop taken : ℕ) (K : Later) (at : ℕ) (es : Events) (b : List ℕ) : Type 0 where
     pub values : Values
     pub front : List ℕ
@@ -172,7 +172,7 @@ module _ (l : Rules) where
     pub ends : stop ≤ at + length front
     pub later : K (at + length front) more back
 
-  -- They are those of the last bytes of a content, and of what comes behind it.
+  -- They are those of the last bytes of a content, and of what comes after it.
   pub record ReadsContent (level offset left : ℕ) (K : Later) (at : ℕ) (es : Events) (b : List ℕ) : Type 0 where
     pub content : List ℕ
     pub back : List ℕ
@@ -235,7 +235,7 @@ module _ (l : Rules) where
       (reads_as ts level stop (Comes these) (ReadsValues (type_copies n ts) level stop (Comes rest)) at es b (copies_come n ts level stop rest)
       (values_come ts level stop these at es b (rw (append_assoc (values_of ts level stop) (cell_copies n (values_of ts level stop)) rest) at h)))
 
-  -- the first field, and those behind it
+  -- the first field, and those after it
   fields_then : (k : Kind) (inner others : Types) (level stop taken : ℕ) (K : Later) (at : ℕ) (es : Events) (b : List ℕ) → ReadsValues (Type_and k inner NoMore) (level + 1) stop (ReadsFields others level stop (taken + 1) K) at es b
       → ReadsFields (Type_and k inner others) level stop taken K at es b
   fields_then k inner others level stop taken K at es b h =
@@ -282,7 +282,7 @@ all_true true false c e = absurd cc
 all_true false b c e = absurd cc
 
 module _ (l : Rules) where
-  -- What comes behind a step comes, with its item and its bytes, of the symbols before it.
+  -- What comes after a step comes, with its item and its bytes, of the symbols before it.
   abbrev pub Came : (at : ℕ) → List CellSymbol → Emitted CellEvent CellPlace → List ℕ → Type 0
   Came at ss x b = (es : Events) (c : List ℕ) → Comes l (x.after (length b)).symbols (x.after (length b)).offset es c → Comes l ss at ((x.at, x.event) ∷ es) (b ++ c)
 
@@ -470,7 +470,7 @@ module _ (l : Rules) where
         let none : p.offset + 0 ≡ p.offset = omega arith in
         (es, refl, ltb-false _ _ f, rw none at h))
 
-    -- the end of a value behind its fields
+    -- the end of a value after its fields
     last_came : (ts : Types) (level stop taken : ℕ) → Always (Came p.offset (Items_of ts level stop taken ∷ rest)) (close_step p rest level stop taken) []
     last_came ts level stop taken = either_always (Came p.offset (Items_of ts level stop taken ∷ rest)) [] (ltb p.offset stop) _ _ (λ _. tt) (λ f es b h.
         let none : p.offset + 0 ≡ p.offset = omega arith in

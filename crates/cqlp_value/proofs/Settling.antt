@@ -12,7 +12,7 @@ use Rattle.cqlp_value.specs.declared.standing.CellDue.TheVariants as due
 use Rattle.cqlp_value.specs.declared.standing.DueValue.{DueValue}
 use Rattle.cqlp_value.specs.CellStep.{CellSymbol, Null, Empty, Enter, Items_of, place_after}
 use Rattle.cqlp_value.specs.Sizes.{IsSized}
-use Rattle.cqlp_value.specs.Standing.{CellState, ended, place, due_value, open_after, moved, rest_of, due_of, Stands}
+use Rattle.cqlp_value.specs.Standing.{CellState, ended, place, due_value, open_after, state_after, rest_of, due_of, Stands}
 use Rattle.cqlp_value.specs.Coming.{inner_of, room_of}
 use Rattle.cqlp_value.specs.Reading.{fields_open, sized_of, Decided, Emits, Hands, Fails, EntersFields}
 use Rattle.cqlp_value.proofs.Coming.{value_due}
@@ -33,7 +33,7 @@ module _ (nodes : List Node) (d : CellState) (n : ℕ) (x : List ℕ) where
   pub refused_fails : (why : Reason) (p q : FieldState) (new : CellState) → Decided nodes d n (size.Refused why) → new ≡ ended d → q.under_way ≡ false → q.room ≡ p.room → Fails nodes d p (says (sized_of nodes d n) 4 x) (record { at = d.offset; why = why }) new q
   refused_fails why p q new h goes idle room = record { is = rw h.is refl; ends = goes; idle = idle; longest = room }
 
-  null_got : Decided nodes d n size.Null → Emits nodes (says (sized_of nodes d n) 4 x) d.offset 4 (Null (length d.open_values)) (moved nodes d 4)
+  null_got : Decided nodes d n size.Null → Emits nodes (says (sized_of nodes d n) 4 x) d.offset 4 (Null (length d.open_values)) (state_after nodes d 4)
   null_got h = record {
     x = record { at = d.offset; event = Null (length d.open_values); after = place_after (place nodes d) (rest_of nodes d) [] };
     is = rw h.is refl;
@@ -42,7 +42,7 @@ module _ (nodes : List Node) (d : CellState) (n : ℕ) (x : List ℕ) where
     after = refl;
   }
 
-  empty_got : Decided nodes d n size.Empty → Emits nodes (says (sized_of nodes d n) 4 x) d.offset 4 (Empty (length d.open_values)) (moved nodes d 4)
+  empty_got : Decided nodes d n size.Empty → Emits nodes (says (sized_of nodes d n) 4 x) d.offset 4 (Empty (length d.open_values)) (state_after nodes d 4)
   empty_got h = record {
     x = record { at = d.offset; event = Empty (length d.open_values); after = place_after (place nodes d) (rest_of nodes d) [] };
     is = rw h.is refl;
@@ -65,10 +65,10 @@ module _ (nodes : List Node) (d new : CellState) (n start : ℕ) (p q : FieldSta
   pays : length (open_after nodes d) < length d.open_values + 2 * start
   pays = let due = value_due nodes d s v in omega (arith, due.level, some)
 
-  stays : Stands nodes (moved nodes d 4)
+  stays : Stands nodes (state_after nodes d 4)
   stays = let due = value_due nodes d s v in moved_stands nodes d 4 s due (omega (arith, due.inside))
 
-  pub null_hands : (level : ℕ) → Decided nodes d n size.Null → level ≡ length d.open_values → new ≡ moved nodes d 4 → Hands nodes d p input (says (sized_of nodes d n) 4 said_of) base d.offset start (outline.Null level) new q
+  pub null_hands : (level : ℕ) → Decided nodes d n size.Null → level ≡ length d.open_values → new ≡ state_after nodes d 4 → Hands nodes d p input (says (sized_of nodes d n) 4 said_of) base d.offset start (outline.Null level) new q
   null_hands level h at goes = rw (goes, at) (record {
     within = within;
     emits = rw count (null_got nodes d n said_of h);
@@ -79,7 +79,7 @@ module _ (nodes : List Node) (d new : CellState) (n start : ℕ) (p q : FieldSta
     stop = refl;
     stands = stays;
     onward = rw count refl;
-    behind = tt;
+    goes_after = tt;
     pays = pays;
     goes_on = refl;
     fresh = refl;
@@ -87,7 +87,7 @@ module _ (nodes : List Node) (d new : CellState) (n start : ℕ) (p q : FieldSta
     longest = longest;
   })
 
-  pub empty_hands : (level : ℕ) → Decided nodes d n size.Empty → level ≡ length d.open_values → new ≡ moved nodes d 4 → Hands nodes d p input (says (sized_of nodes d n) 4 said_of) base d.offset start (outline.Empty level) new q
+  pub empty_hands : (level : ℕ) → Decided nodes d n size.Empty → level ≡ length d.open_values → new ≡ state_after nodes d 4 → Hands nodes d p input (says (sized_of nodes d n) 4 said_of) base d.offset start (outline.Empty level) new q
   empty_hands level h at goes = rw (goes, at) (record {
     within = within;
     emits = rw count (empty_got nodes d n said_of h);
@@ -98,7 +98,7 @@ module _ (nodes : List Node) (d new : CellState) (n start : ℕ) (p q : FieldSta
     stop = refl;
     stands = stays;
     onward = rw count refl;
-    behind = tt;
+    goes_after = tt;
     pays = pays;
     goes_on = refl;
     fresh = refl;
@@ -127,7 +127,7 @@ module _ (nodes : List Node) (d new : CellState) (n start : ℕ) (p q : FieldSta
         stop = refl;
         stands = rw enters.0 at enters.1;
         onward = rw count refl;
-        behind = tt;
+        goes_after = tt;
         pays = omega (arith, length-append (open_after nodes d) (o ∷ []), pays);
         goes_on = refl;
         fresh = refl;

@@ -115,12 +115,12 @@ module _ (l : Rules) where
 
   -- ---- one value
 
-  -- This value alone is read, whatever stands behind it.
+  -- This value alone is read, whatever stands after it.
   abbrev Reads_one : Values → Type 0
   Reads_one one = (k : Kind) (inner : Types) (front : List ℕ) → ValueSpells k inner one front → (p : CellPlace) (rest : List CellSymbol) (level stop : ℕ) → cell_step l p ≡ value_step l p rest k inner level (stop - p.offset) → p.offset + length front ≤ stop
       → Reads p front (values_items l level p.offset one) (place (p.offset + length front) rest)
 
-  -- the length of a value, and what is behind it
+  -- the length of a value, and what is after it
   module _ (p : CellPlace) (rest : List CellSymbol) (k : Kind) (inner : Types) (level stop : ℕ) (step : cell_step l p ≡ value_step l p rest k inner level (stop - p.offset)) where
     sized_yields : (n : ℕ) (head more : List ℕ) (x : Emitted CellEvent CellPlace) → IsNumber 4 w32 n head → p.offset + 4 ≤ stop → Yields (sized_step l p rest k inner level (stop - p.offset) n) x more → Yields (cell_step l p) x (head ++ more)
     sized_yields n head more x is le y = rw step (number_yields (p.offset, Overrun) 4 w32 (stop - p.offset) n _ x head more is (omega arith) y)

@@ -16,11 +16,11 @@ use Rattle.cqlp_value.specs.Scalars.{ScalarValue, allows_size, scalar_of, fault_
 pub data CellSymbol : Type 0 where
   -- a value of this type
   Value_of : Kind → (inner : Types) → (level stop : ℕ) → CellSymbol
-  -- the items of a tuple or udt that are left, after so many
+  -- the items of a tuple or udt that are left, after this many
   Items_of : Types → (level stop taken : ℕ) → CellSymbol
-  -- the end of a value, after so many items
+  -- the end of a value, after this many items
   Close_of : (level stop taken : ℕ) → CellSymbol
-  -- the content of a long scalar from this offset in it, of so many bytes in all
+  -- the content of a long scalar from this offset in it, of this many bytes in all
   Content_from : (level offset total : ℕ) → CellSymbol
 
 pub data CellEvent : Type 0 where
@@ -61,10 +61,14 @@ module _ (p : CellPlace) (rest : List CellSymbol) where
 
   -- a tuple or a udt of n bytes
   abbrev pub fielded_step : (level : ℕ) → Kind → Types → (n : ℕ) → Step CellEvent CellPlace
-  fielded_step level k inner n = Emit p.offset (Enter level k (how_many inner)) (place_after p rest (Items_of inner level (p.offset + 4 + n) 0 ∷ []))
+  fielded_step level k inner n =
+      Emit p.offset (Enter level k (how_many inner))
+      (place_after p rest (Items_of inner level (p.offset + 4 + n) 0 ∷ []))
 
   abbrev pub close_step : (level stop taken : ℕ) → Step CellEvent CellPlace
-  close_step level stop taken = if nat_lt p.offset stop then Refuses (p.offset, ExtraInValue) else Emit p.offset (Leave level taken) (place_after p rest [])
+  close_step level stop taken =
+      if nat_lt p.offset stop then Refuses (p.offset, ExtraInValue)
+      else Emit p.offset (Leave level taken) (place_after p rest [])
 
   -- a list, a set or a map: its count is a field in the value of n bytes
   abbrev pub counted_step : (level : ℕ) → Kind → Types → (n : ℕ) → Step CellEvent CellPlace
@@ -72,15 +76,17 @@ module _ (p : CellPlace) (rest : List CellSymbol) where
       let stop = p.offset + 4 + n in
       number_of (p.offset + 4, Overrun) 4 w32 n (λ count.
       if is_negative count then Refuses (p.offset + 4, BadCount)
-      else Emit p.offset (Enter level k count) (place_after p rest (cell_copies count (values_of inner (level + 1) stop) ++ Close_of level stop count ∷ [])))
+      else Emit p.offset (Enter level k count)
+      (place_after p rest (cell_copies count (values_of inner (level + 1) stop) ++ Close_of level stop count ∷ [])))
 
 module _ (l : Rules) (p : CellPlace) (rest : List CellSymbol) where
-  -- the next part of a content, behind k bytes of length
+  -- the next part of a content, after k bytes of length
   abbrev pub part_step : (level k offset total : ℕ) → Step CellEvent CellPlace
   part_step level k offset total =
       let size = min l.part (total - offset) in
       let last = nat_le (total - offset) l.part in
-      Takes size (λ c. Emit (p.offset + k) (Part level offset c last) (place_after p rest (if last then [] else Content_from level (offset + size) total ∷ [])))
+      Takes size (λ c. Emit (p.offset + k) (Part level offset c last)
+      (place_after p rest (if last then [] else Content_from level (offset + size) total ∷ [])))
 
   abbrev pub scalar_step : (level : ℕ) → Kind → (n : ℕ) → Step CellEvent CellPlace
   scalar_step level k n =
@@ -98,7 +104,7 @@ module _ (l : Rules) (p : CellPlace) (rest : List CellSymbol) where
   content_step level kind.Tuple inner n = fielded_step p rest level kind.Tuple inner n
   content_step level k inner n = scalar_step level k n
 
-  -- a value of n bytes behind its length, in a container with so much room
+  -- a value of n bytes after its length, in a container with this much room
   abbrev pub sized_step : Kind → Types → (level room n : ℕ) → Step CellEvent CellPlace
   sized_step k inner level room n =
       if is_negative n then Emit p.offset (Null level) (place_after p rest [])

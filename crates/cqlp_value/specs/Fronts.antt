@@ -9,9 +9,11 @@ use Rattle.cqlp_value.specs.Scalars.{ScalarValue}
 use Rattle.cqlp_value.specs.Contents.{value_of}
 use Rattle.cqlp_value.specs.CellStep.{CellSymbol, CellPlace, Leaf, place_after, value_step}
 
--- Wherever a value of this kind is read, in a container with so much room: these bytes say that it is this scalar.
+-- Wherever a value of this kind is read, in a container with this much room: these bytes say that it is this scalar.
 pub record SaysScalar (l : Rules) (k : Kind) (room : ℕ) (input : List ℕ) (used : ℕ) (v : ScalarValue) : Type 0 where
-  pub is : (p : CellPlace) (rest : List CellSymbol) (inner : Types) (level : ℕ) → says (value_step l p rest k inner level room) 0 input ≡ Got (record { at = p.offset; event = Leaf level v; after = place_after p rest [] }) used
+  pub is : (p : CellPlace) (rest : List CellSymbol) (inner : Types) (level : ℕ)
+      → says (value_step l p rest k inner level room) 0 input
+      ≡ Got (record { at = p.offset; event = Leaf level v; after = place_after p rest [] }) used
   pub within : used ≤ length input
   pub inside : used ≤ room
   pub some : 0 < used

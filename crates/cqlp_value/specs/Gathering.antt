@@ -6,13 +6,15 @@ use Rattle.cqlp_note.specs.Field.{Bytes}
 use Rattle.cqlp_note.specs.Partial.{FieldState, CanLend, item_value}
 use Rattle.cqlp_value.specs.declared.gather.Found.{Found}
 
--- a content of so many bytes at this offset, which has exactly the room that it needs
+-- a content of this many bytes at this offset, which has exactly the room that it needs
 abbrev pub content_wanted : (len at : ℕ) → Wanted
 content_wanted len at = record { notation = notation.Content len; limit = len; at = at; room = len }
 
--- The content is under way and wants more bytes, from where the input begins; or it is not begun, and no other field is.
+-- The content is under way and wants more bytes, from where the input begins; or it is not begun, and no other field
+-- is.
 abbrev pub IsGathering : Bool → (len at start : ℕ) → FieldState → Type 0
-IsGathering true len at start p = (p.under_way ≡ true) × (p.field ≡ content_wanted len at) × (start ≡ 0) × (length p.seen < len)
+IsGathering true len at start p =
+    (p.under_way ≡ true) × (p.field ≡ content_wanted len at) × (start ≡ 0) × (length p.seen < len)
 IsGathering false len at start p = p.under_way ≡ false
 
 -- what has come of it
@@ -29,7 +31,8 @@ pub record Wants (len at : ℕ) (bytes : List ℕ) (old new : FieldState) : Type
   pub kept : new.content ≡ bytes
   pub room : new.room ≡ old.room
 
--- The content is whole, and lies there. Where it is whole in the input, nothing is in the buffer, and else the content is.
+-- The content is whole, and lies there. Where it is whole in the input, nothing is in the buffer, and else the content
+-- is.
 pub record Finds (len start : ℕ) (seen bytes input : List ℕ) (f : Found) (old new : FieldState) : Type 0 where
   pub after : start ≤ f.used
   pub within : f.used ≤ length input
@@ -45,4 +48,5 @@ pub record Finds (len start : ℕ) (seen bytes input : List ℕ) (f : Found) (ol
 -- What the bytes from start in the input on make of a content.
 abbrev pub Gathers : Bool → (len at start : ℕ) → FieldState → List ℕ → Option Found → FieldState → Type 0
 Gathers begun len at start old input None new = Wants len at (seen_before begun old ++ drop start input) old new
-Gathers begun len at start old input (Some f) new = Finds len start (seen_before begun old) (seen_before begun old ++ drop start input) input f old new
+Gathers begun len at start old input (Some f) new =
+    Finds len start (seen_before begun old) (seen_before begun old ++ drop start input) input f old new

@@ -1,9 +1,8 @@
 -- The types of the values in a cell, as they stand in a table.
 use Rattle.std.specs.Prelude.{◌≡◌, ℕ, suc, ◌≤◌, ◌++◌, List, length, drop, max, slice_get, unwrap_or}
-use Rattle.cqlp_type.specs.declared.kind.Kind.{Kind}
 use Rattle.cqlp_type.specs.declared.kind.Kind.TheVariants as kind
 use Rattle.cqlp_type.specs.declared.node.Node.{Node}
-use Rattle.cqlp_type.specs.Types.{Types, NoMore, Type_and, how_many, first_types, types_of, preorder}
+use Rattle.cqlp_type.specs.Types.{Types, NoMore, Type_and, AreFormed, how_many, first_types, types_of, preorder}
 
 -- n types that stand side by side from node i on
 unfoldable pub types_at : List Node → (i n : ℕ) → Types
@@ -12,17 +11,6 @@ types_at nodes i n = first_types n (types_of (drop i nodes))
 -- the node with this number
 unfoldable pub node_at : List Node → (i : ℕ) → Node
 node_at nodes i = unwrap_or (slice_get nodes i) (record { kind = kind.Raw; arity = 0; span = 0 })
-
--- a list and a set have one inner type, and a map has two
-abbrev pub HasInner : Kind → ℕ → Type 0
-HasInner kind.List n = n ≡ 1
-HasInner kind.Set n = n ≡ 1
-HasInner kind.Map n = n ≡ 2
-HasInner _ n = Unit {0}
-
-abbrev pub AreTypes : Types → Type 0
-AreTypes NoMore = Unit {0}
-AreTypes (Type_and k inner others) = HasInner k (how_many inner) × AreTypes inner × AreTypes others
 
 -- the nesting of the deepest of these types
 abbrev pub depth_of : Types → ℕ
@@ -33,7 +21,7 @@ depth_of (Type_and k inner others) = max (suc (depth_of inner)) (depth_of others
 pub record Forest (nodes : List Node) (i depth : ℕ) : Type 0 where
   pub types : Types
   pub are : drop i nodes ≡ preorder types
-  pub formed : AreTypes types
+  pub formed : AreFormed types
   pub shallow : depth_of types ≤ depth
 
 -- From node i on, n whole types stand side by side, none nested deeper than this.
@@ -41,7 +29,7 @@ pub record Stand (nodes : List Node) (i n depth : ℕ) : Type 0 where
   pub others : List Node
   pub are : drop i nodes ≡ preorder (types_at nodes i n) ++ others
   pub many : how_many (types_at nodes i n) ≡ n
-  pub formed : AreTypes (types_at nodes i n)
+  pub formed : AreFormed (types_at nodes i n)
   pub shallow : depth_of (types_at nodes i n) ≤ depth
 
 -- From node i on, before node e, n whole types stand side by side, none nested deeper than this.
@@ -49,6 +37,6 @@ pub record StandTo (nodes : List Node) (i e n depth : ℕ) : Type 0 where
   pub types : Types
   pub are : drop i nodes ≡ preorder types ++ drop e nodes
   pub many : how_many types ≡ n
-  pub formed : AreTypes types
+  pub formed : AreFormed types
   pub shallow : depth_of types ≤ depth
   pub within : (i ≤ e) × (e ≤ length nodes)

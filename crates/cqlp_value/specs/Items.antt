@@ -19,7 +19,8 @@ bytes_in _ = []
 
 -- these bytes lie there
 abbrev pub LieAt : FieldOutline → (input buffer : List ℕ) → Type 0
-LieAt i input buffer = partial.CanLend i input buffer × (item_value i input buffer ≡ Bytes (Some (bytes_in (item_value i input buffer))))
+LieAt i input buffer =
+    partial.CanLend i input buffer × (item_value i input buffer ≡ Bytes (Some (bytes_in (item_value i input buffer))))
 
 -- the bytes that lie there
 abbrev pub content_at : FieldOutline → (input buffer : List ℕ) → List ℕ
@@ -39,9 +40,12 @@ event_at (outline.Enter level k n) input buffer = Enter level k n
 event_at (outline.Leave level n) input buffer = Leave level n
 event_at (outline.Part level offset i last) input buffer = Part level offset (content_at i input buffer) last
 
--- an item that can be lent from this input and this buffer: a content that lies there, and is a scalar if one is told
+-- an item that can be lent from this input and this buffer: its content lies there, and spells a scalar if it is one
 abbrev pub CanLend : CellOutline → (input buffer : List ℕ) → Type 0
-CanLend (outline.Leaf level k i) input buffer = LieAt i input buffer × (allows_size k (length (content_at i input buffer)) ≡ true) × (is_some (scalar_of k (content_at i input buffer)) ≡ true)
+CanLend (outline.Leaf level k i) input buffer =
+    LieAt i input buffer
+    × (allows_size k (length (content_at i input buffer)) ≡ true)
+    × (is_some (scalar_of k (content_at i input buffer)) ≡ true)
 CanLend (outline.Part level offset i last) input buffer = LieAt i input buffer
 CanLend _ input buffer = ⊤
 

@@ -10,7 +10,7 @@ pub mod Reading
 pub mod Pushing
 pub mod Standing
 pub mod Inner
-pub mod Levels
+pub mod OpenValues
 pub mod Values
 pub mod Laws
 pub mod Fronts

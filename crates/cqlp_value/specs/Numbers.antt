@@ -10,13 +10,14 @@ use Rattle.cqlp_value.specs.declared.number.Number.{Number}
 use Rattle.cqlp_value.specs.declared.number.Number.TheVariants as number
 use Rattle.cqlp_value.specs.Gathering.{seen_before}
 
--- an [int] at this offset, in a container with so much room
+-- an [int] at this offset, in a container with this much room
 abbrev pub int_wanted : (at room : ℕ) → Wanted
 int_wanted at room = record { notation = notation.Int; limit = 0; at = at; room = room }
 
 -- The [int] is under way and wants more bytes, from where the input begins; or it is not begun, and no other field is.
 abbrev pub IsCounting : Bool → (at room start : ℕ) → FieldState → Type 0
-IsCounting true at room start p = (p.under_way ≡ true) × (p.field ≡ int_wanted at room) × (4 ≤ room) × (start ≡ 0) × (length p.seen < 4)
+IsCounting true at room start p =
+    (p.under_way ≡ true) × (p.field ≡ int_wanted at room) × (4 ≤ room) × (start ≡ 0) × (length p.seen < 4)
 IsCounting false at room start p = p.under_way ≡ false
 
 -- More bytes of the [int] are wanted.
@@ -46,8 +47,10 @@ pub record IsCounted (room start : ℕ) (seen bytes input : List ℕ) (used n : 
 
 -- What the bytes from start in the input on make of an [int].
 abbrev pub Counts : Bool → (at room start : ℕ) → FieldState → List ℕ → Number → FieldState → Type 0
-Counts begun at room start old input number.More new = WantsNumber at room (seen_before begun old ++ drop start input) old new
-Counts begun at room start old input (number.Got used n) new = IsCounted room start (seen_before begun old) (seen_before begun old ++ drop start input) input used n old new
+Counts begun at room start old input number.More new =
+    WantsNumber at room (seen_before begun old ++ drop start input) old new
+Counts begun at room start old input (number.Got used n) new =
+    IsCounted room start (seen_before begun old) (seen_before begun old ++ drop start input) input used n old new
 Counts begun at room start old input number.Overrun new = (room < 4) × (new.under_way ≡ false) × (new.room ≡ old.room)
 
 abbrev pub int_in : FieldValue → ℤ
@@ -56,4 +59,5 @@ int_in _ = pos 0
 
 -- an [int] lies there
 abbrev pub IsNumberAt : FieldOutline → (input buffer : List ℕ) → Type 0
-IsNumberAt i input buffer = CanLend i input buffer × (item_value i input buffer ≡ Int (int_in (item_value i input buffer)))
+IsNumberAt i input buffer =
+    CanLend i input buffer × (item_value i input buffer ≡ Int (int_in (item_value i input buffer)))

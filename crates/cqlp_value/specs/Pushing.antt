@@ -16,12 +16,14 @@ use Rattle.cqlp_value.specs.Items.{content_length, event_of}
 use Rattle.cqlp_value.specs.Standing.{CellState, ended, is_under_way, place, Stands}
 use Rattle.cqlp_value.specs.Reading.{Joined, HaveCome, gathered}
 
-abbrev pub made : Rules → CellState
-made l = record { rules = l; offset = 0; stop = 0; next = next.Nothing; under = under.Nothing; open_values = [] }
+-- a reader that has read nothing
+abbrev pub new_reader : Rules → CellState
+new_reader l = record { rules = l; offset = 0; stop = 0; next = next.Nothing; under = under.Nothing; open_values = [] }
 
 -- a cell of the type at this node, or of none, begins here
 abbrev pub begun : CellState → Option ℕ → (at end : ℕ) → CellState
-begun d node at end = record { rules = d.rules; offset = at; stop = end; next = next.Cell node; under = under.Nothing; open_values = [] }
+begun d node at end =
+    record d { offset = at; stop = end; next = next.Cell node; under = under.Nothing; open_values = [] }
 
 abbrev pub done_by : NextInCell → List OpenValue → Bool
 done_by next.Items [] = true
@@ -39,37 +41,49 @@ pub record Keeps (p : FieldState) (input : List ℕ) (used : ℕ) (e : CellEvent
 
 module _ (nodes : List Node) where
   -- A cell began at `start`, and of it these bytes were used and these events handed out.
-  pub record After (start : CellPlace) (d : CellState) (p : FieldState) (s : List ℕ) (es : List (ℕ × CellEvent)) : Type 0 where
+  pub record After (start : CellPlace) (d : CellState) (p : FieldState) (s : List ℕ) (es : List (ℕ × CellEvent))
+      : Type 0 where
     pub pending : List ℕ
     pub runs : Runs (cell_step d.rules) start s es (place nodes d) pending
     pub come : HaveCome pending d.under p.seen
 
   -- What a call leads to that was made after these bytes and events.
-  abbrev pub Leads : (start : CellPlace) → CellState → List ℕ → List (ℕ × CellEvent) → List ℕ → CellPush → CellState → FieldState → Type 0
+  abbrev pub Leads : (start : CellPlace) → CellState → List ℕ → List (ℕ × CellEvent) → List ℕ
+      → CellPush → CellState → FieldState → Type 0
   Leads start old s es input (push.More used) new q =
-      (after : After start new q (s ++ input) es) × (says (cell_step new.rules (place nodes new)) 0 after.pending ≡ More)
-  Leads start old s es input (push.Item at used e) new q = After start new q (s ++ take used input) (es ++ (at, event_of e) ∷ [])
-  Leads start old s es input push.Done new q = Runs (cell_step old.rules) start s es (place nodes old) [] × ((place nodes old).symbols ≡ [])
+      (after : After start new q (s ++ input) es)
+      × (says (cell_step new.rules (place nodes new)) 0 after.pending ≡ More)
+  Leads start old s es input (push.Item at used e) new q =
+      After start new q (s ++ take used input) (es ++ (at, event_of e) ∷ [])
+  Leads start old s es input push.Done new q =
+      Runs (cell_step old.rules) start s es (place nodes old) [] × ((place nodes old).symbols ≡ [])
   Leads start old s es input (push.Refused r) new q =
-      (rest : List ℕ) × Runs (cell_step old.rules) start (s ++ input) es (place nodes old) rest × (says (cell_step old.rules (place nodes old)) 0 rest ≡ Bad (r.at, r.why))
+      (rest : List ℕ) × Runs (cell_step old.rules) start (s ++ input) es (place nodes old) rest
+      × (says (cell_step old.rules (place nodes old)) 0 rest ≡ Bad (r.at, r.why))
 
-  -- The cell is still under way, as its types stand in the table; or it has ended. An item takes some byte, or it ends a
-  -- value that is open.
+  -- The cell is still under way, as its types stand in the table; or it has ended. An item takes some byte, or it ends
+  -- a value that is open.
   abbrev pub Continues : CellState → CellPush → CellState → Type 0
   Continues old (push.More used) new = (is_under_way new ≡ true) × (new.rules ≡ old.rules) × Stands nodes new
-  Continues old (push.Item at used e) new = (is_under_way new ≡ true) × (new.rules ≡ old.rules) × Stands nodes new × (length new.open_values < length old.open_values + 2 * used)
+  Continues old (push.Item at used e) new =
+      (is_under_way new ≡ true) × (new.rules ≡ old.rules) × Stands nodes new
+      × (length new.open_values < length old.open_values + 2 * used)
   Continues old push.Done new = new ≡ ended old
   Continues old (push.Refused r) new = new ≡ ended old
 
   -- The `Partial` still serves the cell, or has no field under way. At an item nothing has come of what is read next.
   abbrev pub Serves : FieldState → (input : List ℕ) → CellPush → CellState → FieldState → Type 0
-  Serves p input (push.More used) new q = Joined nodes new q × (q.under_way ≡ true) × (q.content ≡ gathered new.under q.seen)
-  Serves p input (push.Item at used e) new q = Joined nodes new q × (new.under ≡ under.Nothing) × Keeps p input used (event_of e) q
+  Serves p input (push.More used) new q =
+      Joined nodes new q × (q.under_way ≡ true) × (q.content ≡ gathered new.under q.seen)
+  Serves p input (push.Item at used e) new q =
+      Joined nodes new q × (new.under ≡ under.Nothing) × Keeps p input used (event_of e) q
   Serves p input push.Done new q = (q ≡ p) × (q.under_way ≡ false)
   Serves p input (push.Refused r) new q = (q.under_way ≡ false) × (q.content ≡ [])
 
-  pub record Pushes (old : CellState) (p : FieldState) (input : List ℕ) (x : CellPush) (new : CellState) (q : FieldState) : Type 0 where
-    pub leads : (start : CellPlace) (s : List ℕ) (es : List (ℕ × CellEvent)) → After start old p s es → Leads start old s es input x new q
+  pub record Pushes (old : CellState) (p : FieldState) (input : List ℕ) (x : CellPush)
+      (new : CellState) (q : FieldState) : Type 0 where
+    pub leads : (start : CellPlace) (s : List ℕ) (es : List (ℕ × CellEvent)) → After start old p s es
+        → Leads start old s es input x new q
     pub serves : Serves p input x new q
     pub longest : q.room ≡ p.room
 

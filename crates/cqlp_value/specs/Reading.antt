@@ -1,5 +1,5 @@
 -- What one call makes of a cell.
-use Rattle.std.specs.Prelude.{◌≡◌, ◌≢◌, ℕ, ◌+◌, ◌-◌, ◌*◌, ◌^◌, ◌<◌, ◌≤◌, ◌++◌, Bool, false, List, [], ◌∷◌, length, take, min, not, true, Option, Some, None, ⊤}
+use Rattle.std.specs.Prelude.{◌≡◌, ◌≢◌, ℕ, ◌+◌, ◌-◌, ◌*◌, ◌^◌, ◌<◌, ◌≤◌, ◌++◌, Bool, false, List, [], ◌∷◌, length, take, drop, min, not, true, Option, Some, None, ⊤}
 use Rattle.std.specs.Int.{w32, from_be_bytes}
 use Rattle.cqlp_note.specs.declared.refusal.Reason.{Reason}
 use Rattle.cqlp_note.specs.declared.refusal.Refusal.{Refusal}
@@ -24,13 +24,15 @@ use Rattle.cqlp_value.specs.declared.standing.Under.{Under}
 use Rattle.cqlp_value.specs.declared.standing.Under.TheVariants as under
 use Rattle.cqlp_value.specs.declared.standing.CellDue.TheVariants as due
 use Rattle.cqlp_value.specs.declared.standing.DueValue.{DueValue}
+use Rattle.cqlp_value.specs.declared.standing.CellStanding.{CellStanding}
+use Rattle.cqlp_type.specs.Table.{Table}
 use Rattle.cqlp_value.specs.Inner.{node_at, Stand}
 use Rattle.cqlp_value.specs.CellStep.{CellEvent, CellPlace, cell_step, sized_step}
 use Rattle.cqlp_value.specs.Items.{content_at, event_at, CanLend}
-use Rattle.cqlp_value.specs.Gathering.{IsGathering}
+use Rattle.cqlp_value.specs.Gathering.{IsGathering, seen_before}
 use Rattle.cqlp_value.specs.Numbers.{IsCounting}
 use Rattle.cqlp_value.specs.Sizes.{sized_as, CanBe, HasRoom}
-use Rattle.cqlp_value.specs.Standing.{CellState, ended, is_under_way, place, due_value, moved, rest_of, due_of, Stands}
+use Rattle.cqlp_value.specs.Standing.{CellState, state_of, ended, is_under_way, place, due_value, state_after, rest_of, due_of, Stands}
 use Rattle.cqlp_value.specs.Coming.{inner_of, room_of}
 
 -- what a step says
@@ -41,17 +43,17 @@ Saying = Said (Emitted CellEvent CellPlace) (ℕ × Reason)
 abbrev pub part_size : CellState → (offset total : ℕ) → ℕ
 part_size d offset total = min d.rules.cell (total - offset)
 
--- what is read behind a part
-abbrev pub next_behind : (last : Bool) → (offset total : ℕ) → NextInCell
-next_behind true offset total = next.Items
-next_behind false offset total = next.Part offset total
+-- what is read after a part
+abbrev pub next_after : (last : Bool) → (offset total : ℕ) → NextInCell
+next_after true offset total = next.Items
+next_after false offset total = next.Part offset total
 
--- behind an item: the open values are gone on with, or a long scalar is
-abbrev pub IsBehind : NextInCell → Type 0
-IsBehind next.Nothing = ⊥
-IsBehind (next.Cell _) = ⊥
-IsBehind next.Items = ⊤
-IsBehind (next.Part offset total) = ⊤
+-- after an item: the open values are gone on with, or a long scalar is
+abbrev pub IsAfterItem : NextInCell → Type 0
+IsAfterItem next.Nothing = ⊥
+IsAfterItem (next.Cell _) = ⊥
+IsAfterItem next.Items = ⊤
+IsAfterItem (next.Part offset total) = ⊤
 
 -- what the buffer holds of an item that goes on: what has come of its content
 abbrev pub gathered : Under → (seen : List ℕ) → List ℕ
@@ -64,16 +66,25 @@ gathered under.Later seen = seen
 
 module _ (nodes : List Node) where
   -- what the next step says of these bytes
-  unfoldable pub told : CellState → List ℕ → Saying
-  told d bytes = says (cell_step d.rules (place nodes d)) 0 bytes
+  unfoldable pub step_says : CellState → List ℕ → Saying
+  step_says d bytes = says (cell_step d.rules (place nodes d)) 0 bytes
 
-  -- how it goes on behind the length of the value that comes next, the number n
+  -- how it goes on after the length of the value that comes next, the number n
   unfoldable pub sized_of : CellState → (n : ℕ) → Step CellEvent CellPlace
-  sized_of d n = sized_step d.rules (place nodes d) (rest_of nodes d) (due_value nodes d).kind (inner_of nodes (due_value nodes d)) (length d.open_values) (room_of nodes d) n
+  sized_of d n =
+      let v = due_value nodes d in
+      sized_step d.rules (place nodes d) (rest_of nodes d) v.kind (inner_of nodes v) (length d.open_values)
+      (room_of nodes d) n
+
+  -- the same where the value is this by its length
+  abbrev pub sized_by : CellState → Sized → Step CellEvent CellPlace
+  sized_by d s =
+      let v = due_value nodes d in
+      sized_as d.rules (place nodes d) (rest_of nodes d) v.kind (inner_of nodes v) (length d.open_values) s
 
   -- The value that comes next is this by its length.
   pub record Decided (d : CellState) (n : ℕ) (s : Sized) : Type 0 where
-    pub is : sized_of d n ≡ sized_as d.rules (place nodes d) (rest_of nodes d) (due_value nodes d).kind (inner_of nodes (due_value nodes d)) (length d.open_values) s
+    pub is : sized_of d n ≡ sized_by d s
     pub can : CanBe d.rules (due_value nodes d).kind n s
     pub fits : HasRoom (room_of nodes d) n s
 
@@ -86,9 +97,12 @@ module _ (nodes : List Node) where
   abbrev pub UnderBy : CellState → FieldState → Under → Type 0
   UnderBy d p under.Nothing = p.under_way ≡ false
   UnderBy d p under.Length = (due_of d ≡ due.Value) × IsCounting true d.offset (room_of nodes d) 0 p
-  UnderBy d p (under.Scalar n) = (due_of d ≡ due.Value) × IsGathering true n (d.offset + 4) 0 p × Decided d n (size.Scalar n)
-  UnderBy d p (under.Counted n) = (due_of d ≡ due.Value) × IsCounting true (d.offset + 4) n 0 p × Decided d n (size.Counted n)
-  UnderBy d p (under.First n) = (due_of d ≡ due.Value) × IsGathering true d.rules.cell (d.offset + 4) 0 p × Decided d n (size.Parts n)
+  UnderBy d p (under.Scalar n) =
+      (due_of d ≡ due.Value) × IsGathering true n (d.offset + 4) 0 p × Decided d n (size.Scalar n)
+  UnderBy d p (under.Counted n) =
+      (due_of d ≡ due.Value) × IsCounting true (d.offset + 4) n 0 p × Decided d n (size.Counted n)
+  UnderBy d p (under.First n) =
+      (due_of d ≡ due.Value) × IsGathering true d.rules.cell (d.offset + 4) 0 p × Decided d n (size.Parts n)
   UnderBy d p under.Later = PartUnder d p d.next
 
   -- A `Partial` is what it is where the reader stands: it reads what the reader wants, or nothing.
@@ -114,13 +128,16 @@ module _ (nodes : List Node) where
 
   -- where it does not, the buffer holds the content, which is what had come of it and the bytes used
   abbrev pub IsKept : CellOutline → FieldState → (input buffer : List ℕ) → (used : ℕ) → Type 0
-  IsKept (outline.Leaf level k i) p input buffer used = used < length (content_at i input buffer) → (p.under_way ≡ true) × (buffer ≡ p.seen ++ take used input)
-  IsKept (outline.Part level offset i last) p input buffer used = used < length (content_at i input buffer) → (p.under_way ≡ true) × (buffer ≡ p.seen ++ take used input)
+  IsKept (outline.Leaf level k i) p input buffer used =
+      used < length (content_at i input buffer) → (p.under_way ≡ true) × (buffer ≡ p.seen ++ take used input)
+  IsKept (outline.Part level offset i last) p input buffer used =
+      used < length (content_at i input buffer) → (p.under_way ≡ true) × (buffer ≡ p.seen ++ take used input)
   IsKept i p input buffer used = ⊤
 
-  -- The first `used` bytes of the input, with `base` bytes before it, end this item. It takes some of them, or it is the
-  -- end of an open value.
-  pub record Hands (old : CellState) (p : FieldState) (input : List ℕ) (said : Saying) (base at used : ℕ) (i : CellOutline) (new : CellState) (q : FieldState) : Type 0 where
+  -- The first `used` bytes of the input, with `base` bytes before it, end this item. It takes some of them, or it is
+  -- the end of an open value.
+  pub record Hands (old : CellState) (p : FieldState) (input : List ℕ) (said : Saying) (base at used : ℕ)
+      (i : CellOutline) (new : CellState) (q : FieldState) : Type 0 where
     pub within : used ≤ length input
     pub emits : Emits said at (base + used) (event_at i input q.content) new
     pub can_lend : CanLend i input q.content
@@ -130,7 +147,7 @@ module _ (nodes : List Node) where
     pub stop : new.stop ≡ old.stop
     pub stands : Stands nodes new
     pub onward : new.offset ≡ old.offset + (base + used)
-    pub behind : IsBehind new.next
+    pub goes_after : IsAfterItem new.next
     pub pays : length new.open_values < length old.open_values + 2 * used
     pub goes_on : is_under_way new ≡ true
     pub fresh : new.under ≡ under.Nothing
@@ -138,7 +155,8 @@ module _ (nodes : List Node) where
     pub longest : q.room ≡ p.room
 
   -- All of the input belongs to an item that goes on, in the `Partial`.
-  pub record Waits (old : CellState) (p : FieldState) (input : List ℕ) (said : Saying) (used : ℕ) (new : CellState) (q : FieldState) : Type 0 where
+  pub record Waits (old : CellState) (p : FieldState) (input : List ℕ) (said : Saying) (used : ℕ)
+      (new : CellState) (q : FieldState) : Type 0 where
     pub all : used ≡ length input
     pub is : said ≡ More
     pub same : new ≡ record old { under = new.under }
@@ -148,14 +166,16 @@ module _ (nodes : List Node) where
     pub longest : q.room ≡ p.room
 
   -- The cell ends by this refusal.
-  pub record Fails (old : CellState) (p : FieldState) (said : Saying) (r : Refusal) (new : CellState) (q : FieldState) : Type 0 where
+  pub record Fails (old : CellState) (p : FieldState) (said : Saying) (r : Refusal)
+      (new : CellState) (q : FieldState) : Type 0 where
     pub is : said ≡ Bad (r.at, r.why)
     pub ends : new ≡ ended old
     pub idle : q.under_way ≡ false
     pub longest : q.room ≡ p.room
 
   -- What a call does where a step says this, with W of what waits.
-  abbrev pub Settles : CellState → FieldState → List ℕ → Saying → (base : ℕ) → (W : Under → List ℕ → Type 0) → CellAdvance → CellState → FieldState → Type 0
+  abbrev pub Settles : CellState → FieldState → List ℕ → Saying → (base : ℕ) → (W : Under → List ℕ → Type 0)
+      → CellAdvance → CellState → FieldState → Type 0
   Settles old p input said base W (advance.More used) new q = Waits old p input said used new q × W new.under q.seen
   Settles old p input said base W (advance.Item at used i) new q = Hands old p input said base at used i new q
   Settles old p input said base W advance.Done new q = ⊥
@@ -172,22 +192,35 @@ abbrev pub inner_order : List Node → DueValue → Order × ℕ
 inner_order nodes v = order_by v.kind (v.node + 1 + (node_at nodes (v.node + 1)).span)
 
 abbrev pub counted_open : List Node → DueValue → (stop count : ℕ) → OpenValue
-counted_open nodes v stop count = record { order = (inner_order nodes v).0; node = v.node + 1; other = (inner_order nodes v).1; left = count; items = count; stop = stop }
+counted_open nodes v stop count =
+    record {
+      order = (inner_order nodes v).0;
+      node = v.node + 1;
+      other = (inner_order nodes v).1;
+      left = count;
+      items = count;
+      stop = stop;
+    }
 
 abbrev pub fields_open : DueValue → (stop : ℕ) → OpenValue
-fields_open v stop = record { order = order.Fields; node = v.node + 1; other = 0; left = v.arity; items = 0; stop = stop }
+fields_open v stop =
+    record { order = order.Fields; node = v.node + 1; other = 0; left = v.arity; items = 0; stop = stop }
 
 -- the same with one more value open
 abbrev pub entered : CellState → OpenValue → CellState
 entered d o = record d { open_values = d.open_values ++ o ∷ [] }
 
--- A list, a set or a map of so many bytes is open, with so many elements or pairs.
+-- A list, a set or a map of this many bytes is open, with this many elements or pairs.
 abbrev pub EntersCounted : List Node → CellState → (len count : ℕ) → CellState → Type 0
-EntersCounted nodes old len count new = (new ≡ entered (moved nodes old 8) (counted_open nodes (due_value nodes old) (old.offset + 4 + len) count)) × Stands nodes new
+EntersCounted nodes old len count new =
+    (new ≡ entered (state_after nodes old 8) (counted_open nodes (due_value nodes old) (old.offset + 4 + len) count))
+    × Stands nodes new
 
--- A tuple or a user-defined type of so many bytes is open.
+-- A tuple or a user-defined type of this many bytes is open.
 abbrev pub EntersFields : List Node → CellState → (len : ℕ) → CellState → Type 0
-EntersFields nodes old len new = (new ≡ entered (moved nodes old 4) (fields_open (due_value nodes old) (old.offset + 4 + len))) × Stands nodes new
+EntersFields nodes old len new =
+    (new ≡ entered (state_after nodes old 4) (fields_open (due_value nodes old) (old.offset + 4 + len)))
+    × Stands nodes new
 
 -- the first inner type of a map stands in the table
 abbrev pub InnerStands : List Node → DueValue → Type 0
@@ -200,14 +233,15 @@ length_under (under.Counted n) = Some n
 length_under (under.First n) = Some n
 length_under _ = None
 
--- The length n has come, and these bytes behind it.
-abbrev pub Behind : (n : ℕ) → (bytes : List ℕ) → Under → (seen : List ℕ) → Type 0
-Behind n bytes u seen = (length_under u ≡ Some n) × (seen ≡ bytes) × (n < 2 ^ 31)
+-- The length n has come, and these bytes after it.
+abbrev pub LengthCame : (n : ℕ) → (bytes : List ℕ) → Under → (seen : List ℕ) → Type 0
+LengthCame n bytes u seen = (length_under u ≡ Some n) × (seen ≡ bytes) × (n < 2 ^ 31)
 
--- these may be the bytes of the item under way: those of its length, if that has come, and those behind it
+-- these may be the bytes of the item under way: those of its length, if that has come, and those after it
 abbrev pub AreBytes : Option ℕ → (seen bytes : List ℕ) → Type 0
 AreBytes None seen bytes = bytes ≡ seen
-AreBytes (Some n) seen bytes = (head : List ℕ) × (length head ≡ 4) × (from_be_bytes w32 head ≡ n) × (bytes ≡ head ++ seen)
+AreBytes (Some n) seen bytes =
+    (head : List ℕ) × (length head ≡ 4) × (from_be_bytes w32 head ≡ n) × (bytes ≡ head ++ seen)
 
 -- what a `Partial` has seen of it
 abbrev pub seen_under : Under → (seen : List ℕ) → List ℕ
@@ -220,12 +254,47 @@ HaveCome bytes u seen = AreBytes (length_under u) (seen_under u seen) bytes
 
 -- What the end of the innermost value does, whatever table and `Partial` there are.
 abbrev pub Closes : CellState → CellAdvance → CellState → Type 0
-Closes old a new = (nodes : List Node) (p : FieldState) (input : List ℕ) → Stands nodes old → p.under_way ≡ false → Settles nodes old p input (told nodes old input) 0 (HaveCome input) a new p
+Closes old a new = (nodes : List Node) (p : FieldState) (input : List ℕ) → Stands nodes old → p.under_way ≡ false
+    → Settles nodes old p input (step_says nodes old input) 0 (HaveCome input) a new p
 
 -- A call ends a cell that is whole, or it does what the step says of the bytes that have come and the input.
 abbrev pub Moves : List Node → CellState → FieldState → List ℕ → CellAdvance → CellState → FieldState → Type 0
-Moves nodes old p input advance.Done new q = (due_of old ≡ due.Nothing) × (old.under ≡ under.Nothing) × (new ≡ ended old) × (q ≡ p)
-Moves nodes old p input a new q = (b : List ℕ) → HaveCome b old.under p.seen → Settles nodes old p input (told nodes old (b ++ input)) (length b) (HaveCome (b ++ input)) a new q
+Moves nodes old p input advance.Done new q =
+    (due_of old ≡ due.Nothing) × (old.under ≡ under.Nothing) × (new ≡ ended old) × (q ≡ p)
+Moves nodes old p input a new q = (b : List ℕ) → HaveCome b old.under p.seen
+    → Settles nodes old p input (step_says nodes old (b ++ input)) (length b) (HaveCome (b ++ input)) a new q
+
+-- ---- the parts of a call
+
+-- the length of the value that comes next is under way, or it is not begun
+abbrev pub IsLengthUnder : List Node → (begun : Bool) → CellState → FieldState → Type 0
+IsLengthUnder nodes begun d p = IsCounting begun d.offset (room_of nodes d) 0 p
+
+-- so is a later part, from this offset in a scalar of `total` bytes
+abbrev pub IsPartUnder : (begun : Bool) → (offset total : ℕ) → CellState → FieldState → Type 0
+IsPartUnder begun offset total d p = IsGathering begun (part_size d offset total) d.offset 0 p
+
+-- A call does what the step says of the bytes that have come and the input.
+abbrev pub Reads : {A : Type 0} → Table → (begun : Bool) → CellStanding A → FieldState → List ℕ
+    → CellAdvance → CellStanding A → FieldState → Type 0
+Reads t begun old p input a new q =
+    let bytes = seen_before begun p ++ input in
+    Settles t.nodes (state_of old) p input (step_says t.nodes (state_of old) bytes) (length (seen_before begun p))
+    (HaveCome bytes) a (state_of new) q
+
+-- The same after the length n, which has come, and which ends `start` bytes into the input or before it.
+abbrev pub Sizes : {A : Type 0} → Table → (begun : Bool) → (n start : ℕ) → CellStanding A → FieldState → List ℕ
+    → CellAdvance → CellStanding A → FieldState → Type 0
+Sizes t begun n start old p input a new q =
+    let seen = seen_before begun p in
+    let bytes = seen ++ drop start input in
+    Settles t.nodes (state_of old) p input (says (sized_of t.nodes (state_of old) n) 4 bytes)
+    ((4 - start) + length seen) (LengthCame n bytes) a (state_of new) q
+
+-- a whole call
+abbrev pub Steps : {A : Type 0} → Table → CellStanding A → FieldState → List ℕ
+    → CellAdvance → CellStanding A → FieldState → Type 0
+Steps t old p input a new q = Moves t.nodes (state_of old) p input a (state_of new) q
 
 -- an item that has a content
 abbrev pub has_content : CellOutline → Bool
@@ -234,14 +303,14 @@ has_content (outline.Part level offset i last) = true
 has_content i = false
 
 -- an item without a content, or a refusal
-abbrev pub has_none : CellAdvance → Bool
-has_none (advance.Item at used i) = not (has_content i)
-has_none (advance.Refused r) = true
-has_none a = false
+abbrev pub is_bare : CellAdvance → Bool
+is_bare (advance.Item at used i) = not (has_content i)
+is_bare (advance.Refused r) = true
+is_bare a = false
 
 -- After an item without a content, and after a refusal, the buffer is empty.
 abbrev pub Empties : CellAdvance → FieldState → Type 0
-Empties a q = has_none a ≡ true → q.content ≡ []
+Empties a q = is_bare a ≡ true → q.content ≡ []
 
 -- A call ends the cell where nothing is left of it, and only there; else it uses no more than the input, and all of it
 -- while an item goes on.

@@ -17,8 +17,9 @@ is_counted kind.Set = true
 is_counted kind.Map = true
 is_counted _ = false
 
--- how the step goes on behind the length
-abbrev pub sized_as : Rules → CellPlace → List CellSymbol → Kind → Types → (level : ℕ) → Sized → Step CellEvent CellPlace
+-- how the step goes on after the length
+abbrev pub sized_as : Rules → CellPlace → List CellSymbol → Kind → Types → (level : ℕ) → Sized
+    → Step CellEvent CellPlace
 sized_as l p rest k inner level size.Null = Emit p.offset (Null level) (place_after p rest [])
 sized_as l p rest k inner level size.Empty = Emit p.offset (Empty level) (place_after p rest [])
 sized_as l p rest k inner level (size.Scalar n) = Takes n (λ c. leaf_step p rest level k (scalar_of k c))
@@ -35,9 +36,10 @@ CanBe l k n (size.Counted m) = (m ≡ n) × (is_counted k ≡ true)
 CanBe l k n (size.Fields m) = (m ≡ n) × (is_counted k ≡ false) × (has_no_items k ≡ false)
 CanBe l k n s = Unit {0}
 
--- what a value of n bytes is, behind its length
+-- what a value of n bytes is, after its length
 pub record IsContent (l : Rules) (k : Kind) (n : ℕ) (s : Sized) : Type 0 where
-  pub is : (p : CellPlace) (rest : List CellSymbol) (inner : Types) (level : ℕ) → content_step l p rest level k inner n ≡ sized_as l p rest k inner level s
+  pub is : (p : CellPlace) (rest : List CellSymbol) (inner : Types) (level : ℕ)
+      → content_step l p rest level k inner n ≡ sized_as l p rest k inner level s
   pub can : CanBe l k n s
 
 -- a value that has bytes has room for them, and a length that is not negative
@@ -47,8 +49,9 @@ HasRoom room n size.Empty = Unit {0}
 HasRoom room n (size.Refused why) = Unit {0}
 HasRoom room n s = (4 + n ≤ room) × (n < 2 ^ 31)
 
--- what a value is by its length, the number n, in a container with so much room
+-- what a value is by its length, the number n, in a container with this much room
 pub record IsSized (l : Rules) (k : Kind) (room n : ℕ) (s : Sized) : Type 0 where
-  pub is : (p : CellPlace) (rest : List CellSymbol) (inner : Types) (level : ℕ) → sized_step l p rest k inner level room n ≡ sized_as l p rest k inner level s
+  pub is : (p : CellPlace) (rest : List CellSymbol) (inner : Types) (level : ℕ)
+      → sized_step l p rest k inner level room n ≡ sized_as l p rest k inner level s
   pub can : CanBe l k n s
   pub fits : HasRoom room n s

@@ -16,7 +16,7 @@ use Rattle.cqlp_value.specs.declared.standing.CellDue.TheVariants as due
 use Rattle.cqlp_value.specs.declared.standing.DueValue.{DueValue}
 use Rattle.cqlp_value.specs.declared.standing.CellStanding.{CellStanding}
 use Rattle.cqlp_value.specs.CellStep.{CellSymbol, Value_of, Items_of, Close_of, Content_from, CellPlace, cell_copies, values_of}
-use Rattle.cqlp_value.specs.Levels.{last_open, with_last}
+use Rattle.cqlp_value.specs.OpenValues.{last_open, with_last}
 use Rattle.cqlp_value.specs.Inner.{types_at, node_at, Stand}
 
 -- What contracts see of a reader: the caller's rules, the offset of what is read next and the end of the cell's
@@ -30,7 +30,19 @@ pub record CellState : Type 0 where
   pub open_values : List OpenValue
 
 abbrev pub state_of : {A : Type 0} → CellStanding A → CellState
-state_of s = record { rules = rules_of s.limits; offset = s.offset; stop = s.stop; next = s.next; under = s.under; open_values = s.levels.open_values }
+state_of s =
+    record {
+      rules = rules_of s.limits;
+      offset = s.offset;
+      stop = s.stop;
+      next = s.next;
+      under = s.under;
+      open_values = s.open_values.open_values;
+    }
+
+-- As many values can be open as the limits allow, and parts have some byte.
+abbrev pub IsLawful : {A : Type 0} → CellStanding A → Type 0
+IsLawful s = (s.open_values.room ≡ s.limits.depth) × (s.limits.parts ≡ true → 0 < s.limits.cell)
 
 abbrev pub is_some_next : NextInCell → Bool
 is_some_next next.Nothing = false
@@ -51,20 +63,27 @@ module _ (nodes : List Node) where
   abbrev pub value_symbols : (node level stop : ℕ) → List CellSymbol
   value_symbols node level stop = values_of (types_at nodes node 1) level stop
 
+  -- a key and a value
+  abbrev pub pair_symbols : (key value level stop : ℕ) → List CellSymbol
+  pair_symbols key value level stop = value_symbols key level stop ++ value_symbols value level stop
+
   -- what is left of an open value
   abbrev pub left_of : (level : ℕ) → OpenValue → Order → List CellSymbol
-  left_of level o order.Elements = cell_copies o.left (value_symbols o.node (level + 1) o.stop) ++ Close_of level o.stop o.items ∷ []
-  left_of level o order.Keys = cell_copies o.left (value_symbols o.node (level + 1) o.stop ++ value_symbols o.other (level + 1) o.stop) ++ Close_of level o.stop o.items ∷ []
+  left_of level o order.Elements =
+      cell_copies o.left (value_symbols o.node (level + 1) o.stop) ++ Close_of level o.stop o.items ∷ []
+  left_of level o order.Keys =
+      cell_copies o.left (pair_symbols o.node o.other (level + 1) o.stop) ++ Close_of level o.stop o.items ∷ []
   left_of level o order.Values =
-      value_symbols o.node (level + 1) o.stop ++ (cell_copies o.left (value_symbols o.other (level + 1) o.stop ++ value_symbols o.node (level + 1) o.stop) ++ Close_of level o.stop o.items ∷ [])
+      value_symbols o.node (level + 1) o.stop
+      ++ (cell_copies o.left (pair_symbols o.other o.node (level + 1) o.stop) ++ Close_of level o.stop o.items ∷ [])
   left_of level o order.Fields = Items_of (types_at nodes o.node o.left) level o.stop o.items ∷ []
 
   abbrev pub open_symbols : (level : ℕ) → OpenValue → List CellSymbol
   open_symbols level o = left_of level o o.order
 
-  abbrev pub levels_symbols : (level : ℕ) → List OpenValue → List CellSymbol
-  levels_symbols level [] = []
-  levels_symbols level (o ∷ os) = levels_symbols (level + 1) os ++ open_symbols level o
+  abbrev pub all_open_symbols : (level : ℕ) → List OpenValue → List CellSymbol
+  all_open_symbols level [] = []
+  all_open_symbols level (o ∷ os) = all_open_symbols (level + 1) os ++ open_symbols level o
 
   abbrev pub cell_symbols : Option ℕ → (stop : ℕ) → List CellSymbol
   cell_symbols None stop = Value_of kind.Raw NoMore 0 stop ∷ []
@@ -73,8 +92,8 @@ module _ (nodes : List Node) where
   abbrev pub symbols_for : (stop : ℕ) → List OpenValue → NextInCell → List CellSymbol
   symbols_for stop os next.Nothing = []
   symbols_for stop os (next.Cell node) = cell_symbols node stop
-  symbols_for stop os next.Items = levels_symbols 0 os
-  symbols_for stop os (next.Part offset total) = Content_from (length os) offset total ∷ levels_symbols 0 os
+  symbols_for stop os next.Items = all_open_symbols 0 os
+  symbols_for stop os (next.Part offset total) = Content_from (length os) offset total ∷ all_open_symbols 0 os
 
   -- where the reader stands
   abbrev pub place : CellState → CellPlace
@@ -83,7 +102,8 @@ module _ (nodes : List Node) where
   -- ---- the value that is read next
 
   abbrev pub value_at : (node stop : ℕ) → DueValue
-  value_at node stop = record { kind = (node_at nodes node).kind; arity = (node_at nodes node).arity; node = node; stop = stop }
+  value_at node stop =
+      record { kind = (node_at nodes node).kind; arity = (node_at nodes node).arity; node = node; stop = stop }
 
   abbrev pub raw_value : (stop : ℕ) → DueValue
   raw_value stop = record { kind = kind.Raw; arity = 0; node = 0; stop = stop }
@@ -103,34 +123,36 @@ module _ (nodes : List Node) where
   abbrev pub due_value : CellState → DueValue
   due_value d = value_for d.stop d.open_values d.next
 
-  -- an open value behind its next item
-  abbrev pub passed_by : OpenValue → Order → OpenValue
-  passed_by o order.Elements = record o { left = o.left - 1 }
-  passed_by o order.Keys = record o { order = order.Values; node = o.other; other = o.node; left = o.left - 1 }
-  passed_by o order.Values = record o { order = order.Keys; node = o.other; other = o.node }
-  passed_by o order.Fields = record o { node = o.node + (node_at nodes o.node).span; left = o.left - 1; items = o.items + 1 }
+  -- an open value after its next item
+  abbrev pub after_item_by : OpenValue → Order → OpenValue
+  after_item_by o order.Elements = record o { left = o.left - 1 }
+  after_item_by o order.Keys = record o { order = order.Values; node = o.other; other = o.node; left = o.left - 1 }
+  after_item_by o order.Values = record o { order = order.Keys; node = o.other; other = o.node }
+  after_item_by o order.Fields =
+      record o { node = o.node + (node_at nodes o.node).span; left = o.left - 1; items = o.items + 1 }
 
-  abbrev pub passed : OpenValue → OpenValue
-  passed o = passed_by o o.order
+  abbrev pub after_item : OpenValue → OpenValue
+  after_item o = after_item_by o o.order
 
-  abbrev pub passed_in : List OpenValue → Option OpenValue → List OpenValue
-  passed_in os None = os
-  passed_in os (Some o) = with_last (passed o) os
+  abbrev pub after_item_in : List OpenValue → Option OpenValue → List OpenValue
+  after_item_in os None = os
+  after_item_in os (Some o) = with_last (after_item o) os
 
-  -- the open values behind the value that is read next
+  -- the open values after the value that is read next
   abbrev pub after_for : List OpenValue → NextInCell → List OpenValue
-  after_for os next.Items = passed_in os (last_open os)
+  after_for os next.Items = after_item_in os (last_open os)
   after_for os _ = os
 
   abbrev pub open_after : CellState → List OpenValue
   open_after d = after_for d.open_values d.next
 
-  -- so many bytes further, behind that value
-  abbrev pub moved : CellState → (size : ℕ) → CellState
-  moved d size = record d { offset = d.offset + size; next = next.Items; under = under.Nothing; open_values = open_after d }
+  -- this many bytes further, after that value
+  abbrev pub state_after : CellState → (size : ℕ) → CellState
+  state_after d size =
+      record d { offset = d.offset + size; next = next.Items; under = under.Nothing; open_values = open_after d }
 
   abbrev pub rest_of : CellState → List CellSymbol
-  rest_of d = levels_symbols 0 (open_after d)
+  rest_of d = all_open_symbols 0 (open_after d)
 
 -- ---- what comes next
 
@@ -168,13 +190,16 @@ module _ (nodes : List Node) (l : Rules) where
   abbrev pub TypesStand : (level : ℕ) → OpenValue → Order → Type 0
   TypesStand level o order.Fields = Stand nodes o.node o.left (l.depth - (level + 1)) × (o.items + o.left < 2 ^ 16)
   TypesStand level o order.Elements = Stand nodes o.node 1 (l.depth - (level + 1))
-  TypesStand level o order.Keys = Stand nodes o.node 1 (l.depth - (level + 1)) × Stand nodes o.other 1 (l.depth - (level + 1))
-  TypesStand level o order.Values = Stand nodes o.node 1 (l.depth - (level + 1)) × Stand nodes o.other 1 (l.depth - (level + 1))
+  TypesStand level o order.Keys =
+      Stand nodes o.node 1 (l.depth - (level + 1)) × Stand nodes o.other 1 (l.depth - (level + 1))
+  TypesStand level o order.Values =
+      Stand nodes o.node 1 (l.depth - (level + 1)) × Stand nodes o.other 1 (l.depth - (level + 1))
 
   -- values that are open, one in the other, from this level on in a container that ends at stop
   abbrev pub AreOpen : (level stop : ℕ) → List OpenValue → Type 0
   AreOpen level stop [] = Unit {0}
-  AreOpen level stop (o ∷ os) = (o.stop ≤ stop) × (level < l.depth) × TypesStand level o o.order × AreOpen (level + 1) o.stop os
+  AreOpen level stop (o ∷ os) =
+      (o.stop ≤ stop) × (level < l.depth) × TypesStand level o o.order × AreOpen (level + 1) o.stop os
 
   -- the cell's type stands in the table, and is not nested too deep
   abbrev pub CellStands : Option ℕ → Type 0
@@ -209,7 +234,8 @@ abbrev pub HasNext : List Node → OpenValue → Order → Type 0
 HasNext nodes o order.Elements = 0 < o.left
 HasNext nodes o order.Keys = 0 < o.left
 HasNext nodes o order.Values = Unit {0}
-HasNext nodes o order.Fields = (depth : ℕ) × (0 < o.left) × (o.items + o.left < 2 ^ 16) × Stand nodes o.node o.left depth
+HasNext nodes o order.Fields =
+    (depth : ℕ) × (0 < o.left) × (o.items + o.left < 2 ^ 16) × Stand nodes o.node o.left depth
 
 -- the node of a cell's type, if it has one, is there
 abbrev pub CellThere : List Node → Option ℕ → Type 0

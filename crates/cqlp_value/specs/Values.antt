@@ -19,9 +19,9 @@ pub data Values : Type 0 where
   Empty_and : (others : Values) → Values
   -- a scalar, and the bytes that it is
   Scalar_and : Kind → (content : List ℕ) → ScalarValue → (others : Values) → Values
-  -- a list, a set or a map of so many elements or pairs; a key comes before its value
+  -- a list, a set or a map of this many elements or pairs; a key comes before its value
   Counted_and : Kind → (count : ℕ) → (items others : Values) → Values
-  -- a tuple or a user-defined type with so many fields, of which these are there
+  -- a tuple or a user-defined type with this many fields, of which these are there
   Fields_and : Kind → (fields : ℕ) → (items others : Values) → Values
 
 abbrev pub values_in : Values → ℕ
@@ -34,7 +34,7 @@ values_in (Fields_and k n items vs) = suc (values_in vs)
 
 -- ---- spelling
 
--- these types so many times over
+-- these types this many times over
 abbrev pub type_copies : ℕ → Types → Types
 type_copies zero ts = NoMore
 type_copies (suc n) ts = followed_by ts (type_copies n ts)
@@ -55,11 +55,16 @@ ValuesSpell NoMore NoValue b = b ≡ []
 ValuesSpell (Type_and k inner ts) (Null_and vs) b = Joined (IsBytes None) (ValuesSpell ts vs) b
 ValuesSpell (Type_and k inner ts) (Empty_and vs) b = Joined (IsBytes (Some [])) (ValuesSpell ts vs) b
 ValuesSpell (Type_and k inner ts) (Scalar_and j c v vs) b =
-    (j ≡ k) × (c ≢ []) × (allows_size k (length c) ≡ true) × (scalar_of k c ≡ Some v) × Joined (IsBytes (Some c)) (ValuesSpell ts vs) b
+    (j ≡ k) × (c ≢ []) × (allows_size k (length c) ≡ true) × (scalar_of k c ≡ Some v)
+    × Joined (IsBytes (Some c)) (ValuesSpell ts vs) b
 ValuesSpell (Type_and k inner ts) (Counted_and j n items vs) b =
-    (j ≡ k) × (is_counted k ≡ true) × (c : List ℕ) × Joined (Spells notation.Count32 (Count n)) (ValuesSpell (type_copies n inner) items) c × Joined (IsBytes (Some c)) (ValuesSpell ts vs) b
+    (j ≡ k) × (is_counted k ≡ true) × (c : List ℕ)
+    × Joined (Spells notation.Count32 (Count n)) (ValuesSpell (type_copies n inner) items) c
+    × Joined (IsBytes (Some c)) (ValuesSpell ts vs) b
 ValuesSpell (Type_and k inner ts) (Fields_and j n items vs) b =
-    (j ≡ k) × (has_fields k ≡ true) × (n ≡ how_many inner) × (c : List ℕ) × (c ≢ []) × ValuesSpell (first_types (values_in items) inner) items c × Joined (IsBytes (Some c)) (ValuesSpell ts vs) b
+    (j ≡ k) × (has_fields k ≡ true) × (n ≡ how_many inner) × (c : List ℕ) × (c ≢ [])
+    × ValuesSpell (first_types (values_in items) inner) items c
+    × Joined (IsBytes (Some c)) (ValuesSpell ts vs) b
 ValuesSpell ts vs b = ⊥
 
 -- These bytes spell this value, of this type.
@@ -78,20 +83,22 @@ values_size (Counted_and k n items vs) = 8 + values_size items + values_size vs
 values_size (Fields_and k n items vs) = 4 + values_size items + values_size vs
 
 module _ (l : Rules) where
-  -- the parts of a content from this offset in it, at most so many before the last
+  -- the parts of a content from this offset in it, at most this many before the last
   abbrev pub part_items : (most level at offset : ℕ) → List ℕ → List (ℕ × CellEvent)
   part_items zero level at offset c = (at, Part level offset c true) ∷ []
   part_items (suc n) level at offset c =
       if nat_le (length c) l.part then (at, Part level offset c true) ∷ []
-      else (at, Part level offset (take l.part c) false) ∷ part_items n level (at + l.part) (offset + l.part) (drop l.part c)
+      else (at, Part level offset (take l.part c) false)
+      ∷ part_items n level (at + l.part) (offset + l.part) (drop l.part c)
 
   -- a long scalar comes in parts, if the caller asks for parts
   abbrev pub in_parts : Kind → List ℕ → Bool
   in_parts k c = l.parts && is_opaque k && nat_lt l.part (length c)
 
-  -- a scalar comes whole, or in parts behind its length
+  -- a scalar comes whole, or in parts after its length
   abbrev pub scalar_items : (level at : ℕ) → Kind → List ℕ → ScalarValue → List (ℕ × CellEvent)
-  scalar_items level at k c v = if in_parts k c then part_items (length c) level (at + 4) 0 c else (at, Leaf level v) ∷ []
+  scalar_items level at k c v =
+      if in_parts k c then part_items (length c) level (at + 4) 0 c else (at, Leaf level v) ∷ []
 
   -- the items of values at this level, the first of which begins at this offset
   abbrev pub values_items : (level at : ℕ) → Values → List (ℕ × CellEvent)
@@ -101,16 +108,20 @@ module _ (l : Rules) where
   values_items level at (Scalar_and k c v vs) = scalar_items level at k c v ++ values_items level (at + 4 + length c) vs
   values_items level at (Counted_and k n items vs) =
       let stop = at + 8 + values_size items in
-      (at, Enter level k n) ∷ (values_items (level + 1) (at + 8) items ++ ((stop, Leave level n) ∷ values_items level stop vs))
+      (at, Enter level k n)
+      ∷ (values_items (level + 1) (at + 8) items ++ ((stop, Leave level n) ∷ values_items level stop vs))
   values_items level at (Fields_and k n items vs) =
       let stop = at + 4 + values_size items in
-      (at, Enter level k n) ∷ (values_items (level + 1) (at + 4) items ++ ((stop, Leave level (values_in items)) ∷ values_items level stop vs))
+      (at, Enter level k n)
+      ∷ (values_items (level + 1) (at + 4) items
+      ++ ((stop, Leave level (values_in items)) ∷ values_items level stop vs))
 
   -- each scalar fits into a cell, or into parts
   abbrev pub AreWithin : Values → Type 0
   AreWithin NoValue = Unit {0}
   AreWithin (Null_and vs) = AreWithin vs
   AreWithin (Empty_and vs) = AreWithin vs
-  AreWithin (Scalar_and k c v vs) = (in_parts k c ≡ false → length c ≤ l.cell) × (in_parts k c ≡ true → 0 < l.part) × AreWithin vs
+  AreWithin (Scalar_and k c v vs) =
+      (in_parts k c ≡ false → length c ≤ l.cell) × (in_parts k c ≡ true → 0 < l.part) × AreWithin vs
   AreWithin (Counted_and k n items vs) = AreWithin items × AreWithin vs
   AreWithin (Fields_and k n items vs) = AreWithin items × AreWithin vs

@@ -2,10 +2,10 @@
 
 ghost use Rattle.std.specs.Prelude.{◌≡◌};
 ghost use Rattle.cqlp_value.specs.Items.{CanLend, event_at, event_of};
-ghost use Rattle.cqlp_value.specs.Reading.{has_none};
+ghost use Rattle.cqlp_value.specs.Reading.{is_bare};
 
-use crate::content::made;
-use crate::gather::lent;
+use crate::content::make_scalar;
+use crate::gather::lend_bytes;
 use crate::item::CellItem;
 use cqlp_note::{FieldOutline, Partial, Refusal};
 use cqlp_type::Kind;
@@ -55,7 +55,7 @@ pub enum CellAdvance {
     More {
         used: usize,
     },
-    /// So many of its bytes end a part, which began at this offset.
+    /// This many of its bytes end a part, which began at this offset.
     Item {
         at: u64,
         used: usize,
@@ -70,8 +70,8 @@ pub enum CellAdvance {
 impl CellAdvance {
     /// Whether it is an item without a content, or a refusal.
     #[inline]
-    pub(crate) fn has_none(&self) -> bool
-        ensures { result ≡ has_none self.now }
+    pub(crate) fn is_bare(&self) -> bool
+        ensures { result ≡ is_bare self.now }
     {
         match self {
             CellAdvance::More { .. } | CellAdvance::Done => false,
@@ -97,7 +97,7 @@ impl CellOutline {
                 content,
             } => CellItem::Leaf {
                 level,
-                scalar: made(kind, lent(partial, input, content)),
+                scalar: make_scalar(kind, lend_bytes(partial, input, content)),
             },
             CellOutline::Null { level } => CellItem::Null { level },
             CellOutline::Empty { level } => CellItem::Empty { level },
@@ -111,7 +111,7 @@ impl CellOutline {
             } => CellItem::Part {
                 level,
                 offset,
-                bytes: lent(partial, input, content),
+                bytes: lend_bytes(partial, input, content),
                 last,
             },
         }

@@ -16,7 +16,7 @@ const DAY: u64 = 86_400_000_000_000;
 
 /// The scalar of this kind that these bytes spell, all of them. Section 6 of `native_protocol_v4.spec`.
 ///
-/// `BadSize` where no scalar of the kind has so many bytes; else `BadUtf8` for a varchar that is not UTF-8, and
+/// `BadSize` where no scalar of the kind has this many bytes; else `BadUtf8` for a varchar that is not UTF-8, and
 /// `BadScalar` for an ascii with a byte above 7F, a time past the end of a day or a timeuuid that is not of version 1.
 #[inline]
 #[tactic(auto, using(crate::proofs::Texts::varchar_is, crate::proofs::Texts::varchar_is_not), unfolding(crate::specs::Scalars::scalar_of))]
@@ -84,7 +84,7 @@ fn rare_scalar(kind: Kind, bytes: &[u8]) -> Result<Scalar<'_>, Reason>
     if !allows(kind, bytes.len()) {
         Err(Reason::BadSize)
     } else if accepts(kind, bytes) {
-        Ok(made(kind, bytes))
+        Ok(make_scalar(kind, bytes))
     } else {
         Err(fault(kind))
     }
@@ -102,7 +102,7 @@ fn whole<const N: usize>(bytes: &[u8]) -> Option<[u8; N]>
     }
 }
 
-/// Whether a content of a scalar kind may have so many bytes, which are not none.
+/// Whether a content of a scalar kind may have this many bytes, which are not none.
 #[inline]
 pub fn allows(kind: Kind, len: usize) -> bool
     ensures { result ≡ allows_size kind len }
@@ -119,8 +119,8 @@ pub fn allows(kind: Kind, len: usize) -> bool
     }
 }
 
-#[tactic(auto, unfolding(crate::specs::Scalars::scalar_of))]
 /// Whether a content of an allowed length is a scalar of this kind.
+#[tactic(auto, unfolding(crate::specs::Scalars::scalar_of))]
 #[inline]
 pub fn accepts(kind: Kind, bytes: &[u8]) -> bool
     requires scalar { has_no_items kind ≡ true }
@@ -156,10 +156,10 @@ pub fn fault(kind: Kind) -> Reason
     }
 }
 
-#[tactic(auto, using(crate::proofs::Texts::ascii_known, crate::proofs::Texts::varchar_known), unfolding(crate::specs::Scalars::scalar_of))]
 /// The scalar that these bytes are.
+#[tactic(auto, using(crate::proofs::Texts::ascii_known, crate::proofs::Texts::varchar_known), unfolding(crate::specs::Scalars::scalar_of))]
 #[inline]
-pub fn made(kind: Kind, bytes: &[u8]) -> Scalar<'_>
+pub fn make_scalar(kind: Kind, bytes: &[u8]) -> Scalar<'_>
     requires size { allows_size kind (length bytes.now) ≡ true }
     requires accepted { is_some (scalar_of kind bytes.now) ≡ true }
     ensures { scalar_of kind bytes.now ≡ Some (value_of result) }

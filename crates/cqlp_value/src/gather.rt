@@ -9,7 +9,7 @@ ghost use Rattle.cqlp_value.specs.Gathering.{Gathers, IsGathering, Wants};
 use cqlp_note::{ContentForm, ContentPlace, FieldAdvance, FieldOutline, Notation, Partial, Prim};
 use std::alloc::Allocator;
 
-/// A content that is whole, behind so many bytes of the input.
+/// A content that is whole after this many bytes of the input.
 #[derive(Clone, Copy)]
 pub(crate) struct Found {
     pub used: usize,
@@ -69,7 +69,7 @@ fn resume<A: Allocator>(partial: &mut Partial<A>, len: u32, input: &[u8]) -> Opt
     }
 }
 
-/// Begins a content that goes on behind the input.
+/// Begins a content that goes on after the input.
 #[tactic(auto, using(crate::proofs::Gathered::content_short))]
 fn begin<A: Allocator>(partial: &mut Partial<A>, len: u32, at: u64, input: &[u8])
     requires idle { partial.old.under_way ≡ false }
@@ -117,7 +117,7 @@ fn clear<A: Allocator>(partial: &mut Partial<A>)
 
 /// The bytes that lie there.
 #[inline]
-pub(crate) fn lent<'a, A: Allocator>(
+pub(crate) fn lend_bytes<'a, A: Allocator>(
     partial: &'a Partial<A>,
     input: &'a [u8],
     content: FieldOutline,

@@ -49,7 +49,7 @@ pub enum CellPush<'a> {
     More {
         used: usize,
     },
-    /// So many of its bytes end a part, which began at this offset.
+    /// This many of its bytes end a part, which began at this offset.
     Item {
         at: u64,
         used: usize,

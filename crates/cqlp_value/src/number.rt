@@ -11,9 +11,9 @@ use std::alloc::Allocator;
 /// What a piece of input makes of an \[int\].
 #[derive(Clone, Copy)]
 pub(crate) enum Number {
-    /// It goes on behind the input.
+    /// It goes on after the input.
     More,
-    /// It is whole behind so many bytes of the input; the number is what its bytes are without a sign.
+    /// It is whole after this many bytes of the input; the number is what its bytes are without a sign.
     Got { used: usize, number: u32 },
     /// Its container ends before it does.
     Overrun,
@@ -65,7 +65,7 @@ fn resume<A: Allocator>(partial: &mut Partial<A>, input: &[u8]) -> Number
     }
 }
 
-/// Begins an \[int\] that goes on behind the input.
+/// Begins an \[int\] that goes on after the input.
 fn begin<A: Allocator>(partial: &mut Partial<A>, at: u64, end: u64, input: &[u8])
     requires idle { partial.old.under_way ≡ false }
     requires place { at + 4 ≤ end }

@@ -38,30 +38,30 @@ pub(crate) struct OpenValue {
 /// The open values, the outermost first.
 #[derive(Drop)]
 pub(crate) struct OpenValues<A: Allocator> {
-    levels: Vec<OpenValue, A>,
+    values: Vec<OpenValue, A>,
     room: u32,
 }
 
 impl<A: Allocator> Model for OpenValues<A> {
-    ghost use Rattle.std.specs.Prelude.{◌≤◌, length, vec_capacity};
-    ghost use Rattle.cqlp_value.specs.Levels.{Nest};
+    ghost use Rattle.std.specs.Prelude.{◌≤◌, vec_capacity};
+    ghost use Rattle.cqlp_value.specs.OpenValues.{Nest, FitIn};
 
     ghost Value = { Nest };
 
-    ghost view = { λ t. record { open_values = t.levels.items; room = t.room } };
+    ghost view = { λ t. record { open_values = t.values.items; room = t.room } };
 
-    ghost invariant = { λ t. (t.room ≤ vec_capacity t.levels) × (length t.levels.items ≤ t.room) };
+    ghost invariant = { λ t. (t.room ≤ vec_capacity t.values) × FitIn t.room t.values.items };
 }
 
 impl<A: Allocator> OpenValues<A> {
-    ghost use Rattle.cqlp_value.specs.Levels.{last_open, but_last, with_last};
+    ghost use Rattle.cqlp_value.specs.OpenValues.{last_open, but_last, with_last};
 
-    /// With room for `room` levels.
+    /// With room for this many.
     pub(crate) fn new(alloc: A, room: u32) -> Result<Self, NoMemory>
-        ensures { IfOk result (λ levels. levels ≡ record { open_values = []; room = room }) }
+        ensures { IfOk result (λ values. values ≡ record { open_values = []; room = room }) }
     {
         Ok(OpenValues {
-            levels: Vec::with_capacity(alloc, room as usize)?,
+            values: Vec::with_capacity(alloc, room as usize)?,
             room,
         })
     }
@@ -71,14 +71,13 @@ impl<A: Allocator> OpenValues<A> {
         ensures is { result ≡ length self.now.open_values }
         ensures bound { result ≤ self.now.room }
     {
-        let _room = self.room;
-        self.levels.len() as u32
+        self.values.len() as u32
     }
 
     pub(crate) fn clear(&mut self)
         ensures { self.new ≡ record { open_values = []; room = self.old.room } }
     {
-        self.levels.clear();
+        self.values.clear();
     }
 
     /// The innermost value.
@@ -87,7 +86,7 @@ impl<A: Allocator> OpenValues<A> {
     pub(crate) fn last(&self) -> Option<OpenValue>
         ensures { result ≡ last_open self.now.open_values }
     {
-        self.levels.last().copied()
+        self.values.last().copied()
     }
 
     #[inline]
@@ -95,7 +94,7 @@ impl<A: Allocator> OpenValues<A> {
         requires { length self.old.open_values < self.old.room }
         ensures { self.new ≡ record { open_values = self.old.open_values ++ value ∷ []; room = self.old.room } }
     {
-        self.levels.push_reserved(value);
+        self.values.push_reserved(value);
     }
 
     /// Closes the innermost value.
@@ -103,7 +102,7 @@ impl<A: Allocator> OpenValues<A> {
     pub(crate) fn pop(&mut self)
         ensures { self.new ≡ record { open_values = but_last self.old.open_values; room = self.old.room } }
     {
-        self.levels.pop();
+        self.values.pop();
     }
 
     /// Puts another in the place of the innermost value.
@@ -111,8 +110,8 @@ impl<A: Allocator> OpenValues<A> {
     pub(crate) fn set_last(&mut self, value: OpenValue)
         ensures { self.new ≡ record { open_values = with_last value self.old.open_values; room = self.old.room } }
     {
-        if let Some(_) = self.levels.pop() {
-            self.levels.push_reserved(value);
+        if let Some(_) = self.values.pop() {
+            self.values.push_reserved(value);
         }
     }
 }

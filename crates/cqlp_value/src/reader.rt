@@ -13,22 +13,21 @@ use cqlp_type::TypeTable;
 use std::alloc::{Allocator, Global};
 use std::marker::Model;
 
-/// Reads cells, one at a time, as events. Their contents are read in the caller's `Partial`, and their types stand in the
-/// caller's table. Section 6 of `native_protocol_v4.spec`.
+/// Reads cells, one at a time, as events. Their contents are read in the caller's `Partial`, and their types stand in
+/// the caller's table. Section 6 of `native_protocol_v4.spec`.
 #[derive(Drop)]
 pub struct CellReader<A: Allocator = Global> {
     standing: CellStanding<A>,
 }
 
 impl<A: Allocator> Model for CellReader<A> {
-    ghost use Rattle.std.specs.Prelude.{◌≡◌, ◌<◌, true};
-    ghost use Rattle.cqlp_value.specs.Standing.{CellState, state_of};
+    ghost use Rattle.cqlp_value.specs.Standing.{CellState, IsLawful, state_of};
 
     ghost Value = { CellState };
 
     ghost view = { λ r. state_of r.standing };
 
-    ghost invariant = { λ r. (r.standing.levels.room ≡ r.standing.limits.depth) × (r.standing.limits.parts ≡ true → 0 < r.standing.limits.cell) };
+    ghost invariant = { λ r. IsLawful r.standing };
 }
 
 impl<A: Allocator> CellReader<A> {
@@ -36,12 +35,12 @@ impl<A: Allocator> CellReader<A> {
     ghost use Rattle.cqlp_value.specs.Standing.{Stands, ended, is_under_way};
     ghost use Rattle.cqlp_type.specs.declared.node.Node.{Node};
     ghost use Rattle.cqlp_value.specs.Reading.{Answers, Empties, HaveCome, Joined, Moves};
-    ghost use Rattle.cqlp_value.specs.Pushing.{Continues, Pushes, Uses, begun, is_done, made};
+    ghost use Rattle.cqlp_value.specs.Pushing.{Continues, Pushes, Uses, begun, is_done, new_reader};
 
     /// With room for the nesting that the limits allow. Parts have at least one byte.
     pub fn new(alloc: A, limits: &Limits) -> Result<Self, NoMemory>
         requires { limits.now.parts ≡ true → 1 ≤ limits.now.cell }
-        ensures { IfOk result (λ reader. reader ≡ made (rules_of limits.now)) }
+        ensures { IfOk result (λ reader. reader ≡ new_reader (rules_of limits.now)) }
     {
         Ok(CellReader {
             standing: CellStanding {
@@ -50,7 +49,7 @@ impl<A: Allocator> CellReader<A> {
                 stop: 0,
                 next: NextInCell::Nothing,
                 under: Under::Nothing,
-                levels: OpenValues::new(alloc, limits.depth)?,
+                open_values: OpenValues::new(alloc, limits.depth)?,
             },
         })
     }
@@ -65,14 +64,14 @@ impl<A: Allocator> CellReader<A> {
         self.standing.stop = end;
         self.standing.next = NextInCell::Cell(node);
         self.standing.under = Under::Nothing;
-        self.standing.levels.clear();
+        self.standing.open_values.clear();
     }
 
     /// Whether a cell is under way and whole, so that the next push says so.
     pub fn done(&self) -> bool
         ensures { result ≡ is_done self.now }
     {
-        matches!(self.standing.next, NextInCell::Items) && self.standing.levels.len() == 0
+        matches!(self.standing.next, NextInCell::Items) && self.standing.open_values.len() == 0
     }
 
     /// How many values are open.
@@ -80,7 +79,7 @@ impl<A: Allocator> CellReader<A> {
         ensures is { result ≡ length self.now.open_values }
         ensures bound { result ≤ self.now.rules.depth }
     {
-        self.standing.levels.len()
+        self.standing.open_values.len()
     }
 
     /// The offset of what is read next.

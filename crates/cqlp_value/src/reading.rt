@@ -1,7 +1,6 @@
 //! The steps of reading a cell.
 
 ghost use Rattle.std.specs.Prelude.{◌≡◌, ◌≢◌, ◌+◌, ◌-◌, ◌<◌, ◌≤◌, ◌^◌, ◌++◌, List, [], length, drop, true, false};
-ghost use Rattle.cqlp_note.specs.Reader.{says};
 ghost use Rattle.cqlp_note.specs.Limits.{rules_of};
 ghost use Rattle.cqlp_value.specs.declared.size.Sized.TheVariants as size;
 ghost use Rattle.cqlp_value.specs.declared.standing.CellDue.TheVariants as due;
@@ -10,13 +9,13 @@ ghost use Rattle.cqlp_value.specs.declared.standing.Under.TheVariants as under;
 ghost use Rattle.cqlp_value.specs.Gathering.{IsGathering, seen_before};
 ghost use Rattle.cqlp_value.specs.Numbers.{IsCounting};
 ghost use Rattle.cqlp_value.specs.Sizes.{is_counted};
-ghost use Rattle.cqlp_value.specs.Standing.{Stands, due_of, due_value, ended, moved, state_of};
+ghost use Rattle.cqlp_value.specs.Standing.{Stands, due_of, due_value, ended, state_after, state_of};
 ghost use Rattle.cqlp_value.specs.Coming.{room_of};
-ghost use Rattle.cqlp_value.specs.Reading.{Answers, Behind, Closes, Decided, Empties, EntersCounted, EntersFields, HaveCome, InnerStands, Joined, Moves, Settles, inner_order as order_inside, next_behind, part_size, sized_of, told};
+ghost use Rattle.cqlp_value.specs.Reading.{Answers, Closes, Decided, Empties, EntersCounted, EntersFields, InnerStands, IsLengthUnder, IsPartUnder, Joined, Reads, Sizes, Steps, inner_order as order_inside, next_after};
 
 use crate::advance::{CellAdvance, CellOutline};
 use crate::content::{accepts, fault};
-use crate::gather::{empty, gather, lent};
+use crate::gather::{empty, gather, lend_bytes};
 use crate::number::{Number, take_number};
 use crate::open_values::{OpenValue, Order};
 use crate::size::{Sized, size_up};
@@ -36,16 +35,16 @@ impl<A: Allocator> CellStanding<A> {
     ) -> CellAdvance
         requires stands { Stands table.now.nodes (state_of self.old) }
         requires joined { Joined table.now.nodes (state_of self.old) partial.old }
-        requires levels { self.old.levels.room ≡ self.old.limits.depth }
+        requires levels { self.old.open_values.room ≡ self.old.limits.depth }
         requires parts { self.old.limits.parts ≡ true → 0 < self.old.limits.cell }
-        ensures moves { Moves table.now.nodes (state_of self.old) partial.old input.now result (state_of self.new) partial.new }
+        ensures moves { Steps table.now self.old partial.old input.now result self.new partial.new }
         ensures answers { Answers (state_of self.old) input.now result }
         ensures empties { Empties result partial.new }
-        ensures room { self.new.levels.room ≡ self.old.levels.room }
+        ensures room { self.new.open_values.room ≡ self.old.open_values.room }
         ensures limits { self.new.limits ≡ self.old.limits }
     {
         let answer = self.step(partial, table, input);
-        if answer.has_none() {
+        if answer.is_bare() {
             empty(partial);
         }
         answer
@@ -55,11 +54,11 @@ impl<A: Allocator> CellStanding<A> {
     fn step(&mut self, partial: &mut Partial<A>, table: &TypeTable<A>, input: &[u8]) -> CellAdvance
         requires stands { Stands table.now.nodes (state_of self.old) }
         requires joined { Joined table.now.nodes (state_of self.old) partial.old }
-        requires levels { self.old.levels.room ≡ self.old.limits.depth }
+        requires levels { self.old.open_values.room ≡ self.old.limits.depth }
         requires parts { self.old.limits.parts ≡ true → 0 < self.old.limits.cell }
-        ensures moves { Moves table.now.nodes (state_of self.old) partial.old input.now result (state_of self.new) partial.new }
+        ensures moves { Steps table.now self.old partial.old input.now result self.new partial.new }
         ensures answers { Answers (state_of self.old) input.now result }
-        ensures room { self.new.levels.room ≡ self.old.levels.room }
+        ensures room { self.new.open_values.room ≡ self.old.open_values.room }
         ensures limits { self.new.limits ≡ self.old.limits }
     {
         match self.under {
@@ -95,7 +94,7 @@ impl<A: Allocator> CellStanding<A> {
         }
     }
 
-    /// Takes the next bytes of a scalar of so many bytes, whose length is read.
+    /// Takes the next bytes of a scalar of this many bytes, whose length is read.
     fn advance_scalar(
         &mut self,
         begun: bool,
@@ -115,19 +114,19 @@ impl<A: Allocator> CellStanding<A> {
         requires within { start ≤ length input.now }
         requires front { start ≤ 4 }
         requires some { length (seen_before begun partial.old) < start + len }
-        ensures settles { let seen = seen_before begun partial.old in let bytes = seen ++ drop start input.now in Settles table.now.nodes (state_of self.old) partial.old input.now (says (sized_of table.now.nodes (state_of self.old) len) 4 bytes) ((4 - start) + length seen) (Behind len bytes) result (state_of self.new) partial.new }
-        ensures room { self.new.levels.room ≡ self.old.levels.room }
+        ensures settles { Sizes table.now begun len start self.old partial.old input.now result self.new partial.new }
+        ensures room { self.new.open_values.room ≡ self.old.open_values.room }
         ensures limits { self.new.limits ≡ self.old.limits }
     {
         let Some(found) = gather(partial, begun, len, self.offset + 4, start, input) else {
             self.under = Under::Scalar(len);
             return CellAdvance::More { used: input.len() };
         };
-        if !accepts(value.kind, lent(partial, input, found.content)) {
+        if !accepts(value.kind, lend_bytes(partial, input, found.content)) {
             return self.refuse(self.offset, fault(value.kind));
         }
         let at = self.offset;
-        let level = self.levels.len();
+        let level = self.open_values.len();
         self.pass(4 + u64::from(len), table);
         CellAdvance::Item {
             at,
@@ -140,7 +139,7 @@ impl<A: Allocator> CellStanding<A> {
         }
     }
 
-    /// Takes the next bytes of a list, a set or a map of so many bytes, whose length is read.
+    /// Takes the next bytes of a list, a set or a map of this many bytes, whose length is read.
     fn advance_count(
         &mut self,
         begun: bool,
@@ -157,12 +156,12 @@ impl<A: Allocator> CellStanding<A> {
         requires decided { Decided table.now.nodes (state_of self.old) len (size.Counted len) }
         requires under_way { IsCounting begun (self.old.offset + 4) len start partial.old }
         requires longest { self.old.limits.cell ≤ partial.old.room }
-        requires levels { self.old.levels.room ≡ self.old.limits.depth }
+        requires levels { self.old.open_values.room ≡ self.old.limits.depth }
         requires within { start ≤ length input.now }
         requires front { start ≤ 4 }
         requires some { length (seen_before begun partial.old) < start + 4 }
-        ensures settles { let seen = seen_before begun partial.old in let bytes = seen ++ drop start input.now in Settles table.now.nodes (state_of self.old) partial.old input.now (says (sized_of table.now.nodes (state_of self.old) len) 4 bytes) ((4 - start) + length seen) (Behind len bytes) result (state_of self.new) partial.new }
-        ensures room { self.new.levels.room ≡ self.old.levels.room }
+        ensures settles { Sizes table.now begun len start self.old partial.old input.now result self.new partial.new }
+        ensures room { self.new.open_values.room ≡ self.old.open_values.room }
         ensures limits { self.new.limits ≡ self.old.limits }
     {
         let at = self.offset + 4;
@@ -183,7 +182,7 @@ impl<A: Allocator> CellStanding<A> {
         }
     }
 
-    /// Goes on inside a list, a set or a map of so many bytes, which has so many elements or pairs.
+    /// Goes on inside a list, a set or a map of this many bytes, which has this many elements or pairs.
     fn enter_counted(
         &mut self,
         value: DueValue,
@@ -195,19 +194,20 @@ impl<A: Allocator> CellStanding<A> {
         requires due { due_of (state_of self.old) ≡ due.Value }
         requires value { value ≡ due_value table.now.nodes (state_of self.old) }
         requires decided { Decided table.now.nodes (state_of self.old) len (size.Counted len) }
-        requires levels { self.old.levels.room ≡ self.old.limits.depth }
+        requires levels { self.old.open_values.room ≡ self.old.limits.depth }
         requires count { 4 ≤ len }
-        ensures item { result ≡ CellOutline.Enter (length self.old.levels.open_values) value.kind count }
+        ensures item { result ≡ CellOutline.Enter (length self.old.open_values.open_values) value.kind count }
         ensures enters { EntersCounted table.now.nodes (state_of self.old) len count (state_of self.new) }
-        ensures room { self.new.levels.room ≡ self.old.levels.room }
+        ensures room { self.new.open_values.room ≡ self.old.open_values.room }
         ensures limits { self.new.limits ≡ self.old.limits }
     {
+        // The proof reads that the number of nodes fits in 32 bits.
         let _nodes = table.len();
-        let level = self.levels.len();
+        let level = self.open_values.len();
         let stop = self.offset + 4 + u64::from(len);
         let (order, other) = inner_order(value, table);
         self.pass(8, table);
-        self.levels.push(OpenValue {
+        self.open_values.push(OpenValue {
             order,
             node: value.node + 1,
             other,
@@ -222,24 +222,25 @@ impl<A: Allocator> CellStanding<A> {
         }
     }
 
-    /// Goes on inside a tuple or a user-defined type of so many bytes.
+    /// Goes on inside a tuple or a user-defined type of this many bytes.
     fn enter_fields(&mut self, value: DueValue, len: u32, table: &TypeTable<A>) -> CellOutline
         requires stands { Stands table.now.nodes (state_of self.old) }
         requires due { due_of (state_of self.old) ≡ due.Value }
         requires value { value ≡ due_value table.now.nodes (state_of self.old) }
         requires decided { Decided table.now.nodes (state_of self.old) len (size.Fields len) }
-        requires levels { self.old.levels.room ≡ self.old.limits.depth }
-        ensures item { result ≡ CellOutline.Enter (length self.old.levels.open_values) value.kind value.arity }
+        requires levels { self.old.open_values.room ≡ self.old.limits.depth }
+        ensures item { result ≡ CellOutline.Enter (length self.old.open_values.open_values) value.kind value.arity }
         ensures enters { EntersFields table.now.nodes (state_of self.old) len (state_of self.new) }
-        ensures room { self.new.levels.room ≡ self.old.levels.room }
+        ensures room { self.new.open_values.room ≡ self.old.open_values.room }
         ensures limits { self.new.limits ≡ self.old.limits }
     {
+        // The proof reads that the number of nodes fits in 32 bits.
         let _nodes = table.len();
-        let level = self.levels.len();
+        let level = self.open_values.len();
         let stop = self.offset + 4 + u64::from(len);
         let arity = u32::from(value.arity);
         self.pass(4, table);
-        self.levels.push(OpenValue {
+        self.open_values.push(OpenValue {
             order: Order::Fields,
             node: value.node + 1,
             other: 0,
@@ -254,7 +255,7 @@ impl<A: Allocator> CellStanding<A> {
         }
     }
 
-    /// Takes the next bytes of the first part of a scalar of so many bytes, whose length is read.
+    /// Takes the next bytes of the first part of a scalar of this many bytes, whose length is read.
     fn advance_first(
         &mut self,
         begun: bool,
@@ -273,8 +274,8 @@ impl<A: Allocator> CellStanding<A> {
         requires within { start ≤ length input.now }
         requires front { start ≤ 4 }
         requires some { length (seen_before begun partial.old) < start + self.old.limits.cell }
-        ensures settles { let seen = seen_before begun partial.old in let bytes = seen ++ drop start input.now in Settles table.now.nodes (state_of self.old) partial.old input.now (says (sized_of table.now.nodes (state_of self.old) total) 4 bytes) ((4 - start) + length seen) (Behind total bytes) result (state_of self.new) partial.new }
-        ensures room { self.new.levels.room ≡ self.old.levels.room }
+        ensures settles { Sizes table.now begun total start self.old partial.old input.now result self.new partial.new }
+        ensures room { self.new.open_values.room ≡ self.old.open_values.room }
         ensures limits { self.new.limits ≡ self.old.limits }
     {
         let at = self.offset + 4;
@@ -283,7 +284,7 @@ impl<A: Allocator> CellStanding<A> {
             self.under = Under::First(total);
             return CellAdvance::More { used: input.len() };
         };
-        let level = self.levels.len();
+        let level = self.open_values.len();
         self.pass(4 + u64::from(size), table);
         self.next = NextInCell::Part {
             offset: size,
@@ -313,10 +314,10 @@ impl<A: Allocator> CellStanding<A> {
     ) -> CellAdvance
         requires stands { Stands table.now.nodes (state_of self.old) }
         requires next { self.old.next ≡ next.Part offset total }
-        requires under_way { IsGathering begun (part_size (state_of self.old) offset total) self.old.offset 0 partial.old }
+        requires under_way { IsPartUnder begun offset total (state_of self.old) partial.old }
         requires longest { self.old.limits.cell ≤ partial.old.room }
-        ensures settles { let bytes = seen_before begun partial.old ++ input.now in Settles table.now.nodes (state_of self.old) partial.old input.now (told table.now.nodes (state_of self.old) bytes) (length (seen_before begun partial.old)) (HaveCome bytes) result (state_of self.new) partial.new }
-        ensures room { self.new.levels.room ≡ self.old.levels.room }
+        ensures settles { Reads table.now begun self.old partial.old input.now result self.new partial.new }
+        ensures room { self.new.open_values.room ≡ self.old.open_values.room }
         ensures limits { self.new.limits ≡ self.old.limits }
     {
         let left = total - offset;
@@ -334,7 +335,7 @@ impl<A: Allocator> CellStanding<A> {
             at,
             used: found.used,
             item: CellOutline::Part {
-                level: self.levels.len(),
+                level: self.open_values.len(),
                 offset,
                 content: found.content,
                 last,
@@ -342,11 +343,11 @@ impl<A: Allocator> CellStanding<A> {
         }
     }
 
-    /// Goes on behind the length of a value, which ends behind so many bytes of the input.
+    /// Goes on after the length of a value, which ends after this many bytes of the input.
     fn settle(
         &mut self,
         value: DueValue,
-        number: u32,
+        len: u32,
         start: usize,
         partial: &mut Partial<A>,
         table: &TypeTable<A>,
@@ -358,18 +359,18 @@ impl<A: Allocator> CellStanding<A> {
         requires room { 4 ≤ room_of table.now.nodes (state_of self.old) }
         requires idle { partial.old.under_way ≡ false }
         requires longest { self.old.limits.cell ≤ partial.old.room }
-        requires levels { self.old.levels.room ≡ self.old.limits.depth }
+        requires levels { self.old.open_values.room ≡ self.old.limits.depth }
         requires parts { self.old.limits.parts ≡ true → 0 < self.old.limits.cell }
         requires within { start ≤ length input.now }
         requires front { start ≤ 4 }
         requires some { 0 < start }
-        ensures settles { let bytes = seen_before false partial.old ++ drop start input.now in Settles table.now.nodes (state_of self.old) partial.old input.now (says (sized_of table.now.nodes (state_of self.old) number) 4 bytes) ((4 - start) + length (seen_before false partial.old)) (Behind number bytes) result (state_of self.new) partial.new }
-        ensures room { self.new.levels.room ≡ self.old.levels.room }
+        ensures settles { Sizes table.now false len start self.old partial.old input.now result self.new partial.new }
+        ensures room { self.new.open_values.room ≡ self.old.open_values.room }
         ensures limits { self.new.limits ≡ self.old.limits }
     {
         let at = self.offset;
-        let level = self.levels.len();
-        match size_up(&self.limits, value.kind, value.stop - at, number) {
+        let level = self.open_values.len();
+        match size_up(&self.limits, value.kind, value.stop - at, len) {
             Sized::Null => self.pass_length(CellOutline::Null { level }, start, table),
             Sized::Empty => self.pass_length(CellOutline::Empty { level }, start, table),
             Sized::Scalar(len) => {
@@ -391,15 +392,15 @@ impl<A: Allocator> CellStanding<A> {
         }
     }
 
-    /// Goes on behind a value that has a length alone.
+    /// Goes on after a value that has a length alone.
     #[inline]
     fn pass_length(&mut self, item: CellOutline, used: usize, table: &TypeTable<A>) -> CellAdvance
         requires stands { Stands table.now.nodes (state_of self.old) }
         requires due { due_of (state_of self.old) ≡ due.Value }
         requires place { self.old.offset + 4 < 2 ^ 64 }
         ensures answer { result ≡ CellAdvance.Item self.old.offset used item }
-        ensures state { state_of self.new ≡ moved table.now.nodes (state_of self.old) 4 }
-        ensures room { self.new.levels.room ≡ self.old.levels.room }
+        ensures state { state_of self.new ≡ state_after table.now.nodes (state_of self.old) 4 }
+        ensures room { self.new.open_values.room ≡ self.old.open_values.room }
         ensures limits { self.new.limits ≡ self.old.limits }
     {
         let at = self.offset;
@@ -417,12 +418,12 @@ impl<A: Allocator> CellStanding<A> {
     ) -> CellAdvance
         requires stands { Stands table.now.nodes (state_of self.old) }
         requires due { due_of (state_of self.old) ≡ due.Value }
-        requires under_way { IsCounting begun self.old.offset (room_of table.now.nodes (state_of self.old)) 0 partial.old }
+        requires under_way { IsLengthUnder table.now.nodes begun (state_of self.old) partial.old }
         requires longest { self.old.limits.cell ≤ partial.old.room }
-        requires levels { self.old.levels.room ≡ self.old.limits.depth }
+        requires levels { self.old.open_values.room ≡ self.old.limits.depth }
         requires parts { self.old.limits.parts ≡ true → 0 < self.old.limits.cell }
-        ensures settles { let bytes = seen_before begun partial.old ++ input.now in Settles table.now.nodes (state_of self.old) partial.old input.now (told table.now.nodes (state_of self.old) bytes) (length (seen_before begun partial.old)) (HaveCome bytes) result (state_of self.new) partial.new }
-        ensures room { self.new.levels.room ≡ self.old.levels.room }
+        ensures settles { Reads table.now begun self.old partial.old input.now result self.new partial.new }
+        ensures room { self.new.open_values.room ≡ self.old.open_values.room }
         ensures limits { self.new.limits ≡ self.old.limits }
     {
         let value = self.value(table);
@@ -443,19 +444,19 @@ impl<A: Allocator> CellStanding<A> {
         requires due { due_of (state_of self.old) ≡ due.Close value }
         requires fresh { self.old.under ≡ under.Nothing }
         ensures closes { Closes (state_of self.old) result (state_of self.new) }
-        ensures room { self.new.levels.room ≡ self.old.levels.room }
+        ensures room { self.new.open_values.room ≡ self.old.open_values.room }
         ensures limits { self.new.limits ≡ self.old.limits }
     {
         let at = self.offset;
         if at < value.stop {
             return self.refuse(at, Reason::ExtraInValue);
         }
-        self.levels.pop();
+        self.open_values.pop();
         CellAdvance::Item {
             at,
             used: 0,
             item: CellOutline::Leave {
-                level: self.levels.len(),
+                level: self.open_values.len(),
                 items: value.items,
             },
         }
@@ -465,7 +466,7 @@ impl<A: Allocator> CellStanding<A> {
     fn refuse(&mut self, at: u64, why: Reason) -> CellAdvance
         ensures answer { result ≡ CellAdvance.Refused (record { at = at; why = why }) }
         ensures state { state_of self.new ≡ ended (state_of self.old) }
-        ensures room { self.new.levels.room ≡ self.old.levels.room }
+        ensures room { self.new.open_values.room ≡ self.old.open_values.room }
         ensures limits { self.new.limits ≡ self.old.limits }
     {
         self.end();
@@ -473,9 +474,9 @@ impl<A: Allocator> CellStanding<A> {
     }
 }
 
-/// What is read behind a part.
+/// What is read after a part.
 fn next_part(last: bool, offset: u32, total: u32) -> NextInCell
-    ensures { result ≡ next_behind last offset total }
+    ensures { result ≡ next_after last offset total }
 {
     if last {
         NextInCell::Items
@@ -491,6 +492,7 @@ fn inner_order<A: Allocator>(value: DueValue, table: &TypeTable<A>) -> (Order, u
 {
     match value.kind {
         Kind::Map => {
+            // The proof reads that the number of nodes fits in 32 bits.
             let _nodes = table.len();
             let key = value.node + 1;
             (Order::Keys, key + table.node(key).unwrap().span)

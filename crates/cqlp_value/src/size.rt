@@ -15,19 +15,19 @@ use cqlp_type::Kind;
 pub(crate) enum Sized {
     Null,
     Empty,
-    /// A scalar of so many bytes.
+    /// A scalar of this many bytes.
     Scalar(u32),
-    /// A scalar of so many bytes that comes in parts.
+    /// A scalar of this many bytes that comes in parts.
     Parts(u32),
-    /// A list, a set or a map of so many bytes.
+    /// A list, a set or a map of this many bytes.
     Counted(u32),
-    /// A tuple or a user-defined type of so many bytes.
+    /// A tuple or a user-defined type of this many bytes.
     Fields(u32),
     Refused(Reason),
 }
 
-/// What a value of this kind is by the four bytes of its length, in a container with room for so many bytes from there
-/// on.
+/// What a value of this kind is by the four bytes of its length, in a container with room for this many bytes from
+/// there on.
 #[tactic(auto, using(crate::proofs::Sizing::null_sized, crate::proofs::Sizing::empty_sized, crate::proofs::Sizing::overrun_sized, crate::proofs::Sizing::fitting_sized))]
 #[inline]
 pub(crate) fn size_up(limits: &Limits, kind: Kind, room: u64, len: u32) -> Sized

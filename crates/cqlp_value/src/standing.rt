@@ -21,7 +21,7 @@ pub(crate) enum NextInCell {
     Cell(Option<u32>),
     /// What the open values say.
     Items,
-    /// The bytes of a long scalar from this offset on, of so many in all.
+    /// The bytes of a long scalar from this offset on, of this many in all.
     Part { offset: u32, total: u32 },
 }
 
@@ -69,12 +69,12 @@ pub(crate) struct CellStanding<A: Allocator> {
     pub stop: u64,
     pub next: NextInCell,
     pub under: Under,
-    pub levels: OpenValues<A>,
+    pub open_values: OpenValues<A>,
 }
 
 impl<A: Allocator> CellStanding<A> {
     ghost use Rattle.cqlp_note.specs.Limits.{rules_of};
-    ghost use Rattle.cqlp_value.specs.Standing.{state_of, due_of, due_value, moved, ended, Stands};
+    ghost use Rattle.cqlp_value.specs.Standing.{state_of, due_of, due_value, state_after, ended, Stands};
 
     /// What comes next, where nothing of it has come.
     #[inline]
@@ -85,7 +85,7 @@ impl<A: Allocator> CellStanding<A> {
             NextInCell::Nothing => CellDue::Nothing,
             NextInCell::Cell(_) => CellDue::Value,
             NextInCell::Part { offset, total } => CellDue::Part { offset, total },
-            NextInCell::Items => match self.levels.last() {
+            NextInCell::Items => match self.open_values.last() {
                 None => CellDue::Nothing,
                 Some(value) => {
                     if value.is_over(self.offset) {
@@ -108,7 +108,7 @@ impl<A: Allocator> CellStanding<A> {
         match self.next {
             NextInCell::Cell(node) => cell_value(table, node, self.stop),
             NextInCell::Items => {
-                let value = self.levels.last().unwrap();
+                let value = self.open_values.last().unwrap();
                 value_at(table, value.node, value.stop)
             }
             NextInCell::Nothing => unreachable!(),
@@ -116,19 +116,19 @@ impl<A: Allocator> CellStanding<A> {
         }
     }
 
-    /// Goes on behind so many bytes of the value that was read, or of what is known of it.
+    /// Goes on after this many bytes of the value that was read, or of what is known of it.
     #[inline]
     pub(crate) fn pass(&mut self, size: u64, table: &TypeTable<A>)
         requires stands { Stands table.now.nodes (state_of self.old) }
         requires due { due_of (state_of self.old) ≡ due.Value }
         requires place { self.old.offset + size < 2 ^ 64 }
-        ensures state { state_of self.new ≡ moved table.now.nodes (state_of self.old) size }
-        ensures room { self.new.levels.room ≡ self.old.levels.room }
+        ensures state { state_of self.new ≡ state_after table.now.nodes (state_of self.old) size }
+        ensures room { self.new.open_values.room ≡ self.old.open_values.room }
         ensures limits { self.new.limits ≡ self.old.limits }
     {
         if let NextInCell::Items = self.next {
-            let value = self.levels.last().unwrap();
-            self.levels.set_last(value.passed(table));
+            let value = self.open_values.last().unwrap();
+            self.open_values.set_last(value.pass_item(table));
         }
         self.offset += size;
         self.next = NextInCell::Items;
@@ -138,12 +138,12 @@ impl<A: Allocator> CellStanding<A> {
     /// Ends the cell.
     pub(crate) fn end(&mut self)
         ensures state { state_of self.new ≡ ended (state_of self.old) }
-        ensures room { self.new.levels.room ≡ self.old.levels.room }
+        ensures room { self.new.open_values.room ≡ self.old.open_values.room }
         ensures limits { self.new.limits ≡ self.old.limits }
     {
         self.next = NextInCell::Nothing;
         self.under = Under::Nothing;
-        self.levels.clear();
+        self.open_values.clear();
     }
 }
 
@@ -181,7 +181,7 @@ fn value_at<A: Allocator>(table: &TypeTable<A>, node: u32, stop: u64) -> DueValu
 }
 
 impl OpenValue {
-    ghost use Rattle.cqlp_value.specs.Standing.{HasNext, is_over, passed};
+    ghost use Rattle.cqlp_value.specs.Standing.{HasNext, is_over, after_item};
 
     /// Whether no further item begins at this offset.
     #[inline]
@@ -195,12 +195,13 @@ impl OpenValue {
         }
     }
 
-    /// What it is behind its next item.
+    /// What it is after its next item.
     #[inline]
-    fn passed<A: Allocator>(self, table: &TypeTable<A>) -> OpenValue
+    fn pass_item<A: Allocator>(self, table: &TypeTable<A>) -> OpenValue
         requires { HasNext table.now.nodes self self.order }
-        ensures { result ≡ passed table.now.nodes self }
+        ensures { result ≡ after_item table.now.nodes self }
     {
+        // The proof reads that the number of nodes fits in 32 bits.
         let _nodes = table.len();
         match self.order {
             Order::Elements => OpenValue {

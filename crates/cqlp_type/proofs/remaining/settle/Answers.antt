@@ -14,7 +14,7 @@ loop-node-preserved g c =
     record {
       settled = rw nodes (sym (ap (λ (x : List TypeSymbol). settled x before) n.0) ∙ i.settled);
       height = omega (arith, n.1, i.height);
-      levels = n.2 ∙ i.levels;
+      around = n.2 ∙ i.around;
       table = room ∙ i.table;
       types = rw nodes (rw n.0 at i.types).1;
       same = rw nodes (length_with_span c.in-Whole.node before ∙ i.same);

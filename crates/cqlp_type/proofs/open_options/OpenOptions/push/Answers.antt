@@ -7,7 +7,7 @@ use Rattle.cqlp_type.proofs.open_options.OpenOptions.push.Goals as goal
 
 pub returns : goal.returns
 returns g c =
-    let items = c.self.inside.levels.items in
-    let level : OpenOption = record { node = c.args.node; named = c.args.named; left = c.args.left } in
-    let size : length (items ++ level ∷ []) ≡ length items + 1 = length-append items (level ∷ []) in
-    rw (c.push_reserved.ensures.items, ← c.self.view_is, size) (ap (λ (x : List TypeSymbol). record { symbols = x; height = length items + 1; room = c.self.inside.room }) (pushed items level))
+    let items = c.self.inside.options.items in
+    let option : OpenOption = record { node = c.args.node; named = c.args.named; left = c.args.left } in
+    let size : length (items ++ option ∷ []) ≡ length items + 1 = length-append items (option ∷ []) in
+    rw (c.push_reserved.ensures.items, ← c.self.view_is, size) (ap (λ (x : List TypeSymbol). record { symbols = x; height = length items + 1; room = c.self.inside.room }) (pushed items option))

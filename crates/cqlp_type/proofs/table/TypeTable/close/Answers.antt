@@ -24,4 +24,4 @@ invariant_of-self g c =
     let size : c.len-then-first-len.result ≡ length items = omega arith in
     let within : c.args.i < length items = omega arith in
     let is = span_set items c.args.i c.index_mut.result.now c.index_mut.ensures.value within in
-    rw (size, is) (c.self.invariant.0, rw length_with_span c.self.invariant.1, rw (← c.self.view_is) at c.requires)
+    rw (size, is) (c.self.invariant.0, c.self.invariant.1, (rw length_with_span c.self.invariant.2.0, rw (← c.self.view_is) at c.requires))

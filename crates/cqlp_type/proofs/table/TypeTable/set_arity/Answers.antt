@@ -21,4 +21,4 @@ invariant_of-self g c =
     let some = eqb-false _ _ (sym c.if-not-is_empty.ensures) in
     let within : 0 < length items = omega (arith, some) in
     let is = arity_set items c.args.arity c.index_mut.result.now (rw size at c.index_mut.ensures.value) within in
-    rw (size, is) (c.self.invariant.0, rw length_with_arity c.self.invariant.1, rw (← c.self.view_is) at c.requires)
+    rw (size, is) (c.self.invariant.0, c.self.invariant.1, (rw length_with_arity c.self.invariant.2.0, rw (← c.self.view_is) at c.requires))

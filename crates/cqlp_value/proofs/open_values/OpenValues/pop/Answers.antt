@@ -6,5 +6,5 @@ use Rattle.cqlp_value.proofs.open_values.OpenValues.pop.Goals as goal
 pub returns : goal.returns
 returns g c =
     let inside = c.self.inside in
-    let size : vec_len inside.levels ≡ length inside.levels.items = omega arith in
-    rw (← c.self.view_is, c.pop.ensures.rest, size) (ap (λ (x : List OpenValue). record { open_values = x; room = inside.room }) (front_is inside.levels.items))
+    let size : vec_len inside.values ≡ length inside.values.items = omega arith in
+    rw (← c.self.view_is, c.pop.ensures.rest, size) (ap (λ (x : List OpenValue). record { open_values = x; room = inside.room }) (front_is inside.values.items))

@@ -20,6 +20,6 @@ returns-clause-settles g c =
     let nodes = c.args.table.now.nodes in
     let old = state_of c.args.self.now in
     let found = c.in-Some.found in
-    let there : content_at found.content c.args.input.now c.gather.new.partial.content ≡ c.lent.result.now = ap bytes_in c.lent.ensures in
+    let there : content_at found.content c.args.input.now c.gather.new.partial.content ≡ c.lend_bytes.result.now = ap bytes_in c.lend_bytes.ensures in
     let some : is_some (scalar_of c.args.value.kind (content_at found.content c.args.input.now c.gather.new.partial.content)) ≡ true = rw (there, ← c.accepts.ensures) c.if-not-accepts.false in
     leaf_hands nodes old (state_of c.pass.new.self) c.args.len c.args.start c.args.partial.now c.gather.new.partial seen c.args.input.now found r.stands r.due r.decided r.front r.some c.in-Some.ensures (gathered_is c.args.begun c.args.len (c.args.self.now.offset + 4) c.args.start c.args.partial.now c.gather.new.partial c.args.input.now found r.under_way c.in-Some.ensures) c.args.value.kind c.len-level.result (ap (λ v. v.kind) r.value) c.len-level.ensures.is some (rw c.from.ensures at c.pass.ensures.state)

@@ -1,6 +1,6 @@
 use Rattle.std.proofs.Common.{◌≡◌, ◌+◌, ◌++◌, ◌∷◌, [], length, List, ap, sym, subst, ◌∙◌, refl, arith}
 use Rattle.cqlp_value.specs.declared.open_values.OpenValue.{OpenValue}
-use Rattle.cqlp_value.specs.Standing.{CellState, state_of, due_value, moved, Stands}
+use Rattle.cqlp_value.specs.Standing.{CellState, state_of, due_value, state_after, Stands}
 use Rattle.cqlp_value.specs.Reading.{counted_open, entered}
 use Rattle.cqlp_value.proofs.Entering.{counted_keys, counted_there, counted_deep, counted_stands}
 use Rattle.cqlp_value.proofs.standing.CellStanding.enter_counted.Goals as goal
@@ -32,6 +32,6 @@ returns-clause-enters g c =
     let stop = c.args.self.now.offset + 4 + c.args.len in
     let inside = counted_open nodes (due_value nodes old) stop c.args.count in
     let opened : c.push.new.self.open_values ≡ mid.open_values ++ inside ∷ [] = ap (λ n. n.open_values) c.push.ensures ∙ rw (c.inner_order-order.ensures, c.from.ensures, r.value) refl in
-    let is : record mid { open_values = c.push.new.self.open_values } ≡ entered (moved nodes old 8) inside = ap (λ (os : List OpenValue). record mid { open_values = os }) opened ∙ ap (λ (d : CellState). entered d inside) c.pass.ensures.state in
+    let is : record mid { open_values = c.push.new.self.open_values } ≡ entered (state_after nodes old 8) inside = ap (λ (os : List OpenValue). record mid { open_values = os }) opened ∙ ap (λ (d : CellState). entered d inside) c.pass.ensures.state in
     let stands = counted_stands nodes old c.args.len c.args.count r.stands r.due r.decided r.count in
     (is, subst (Stands nodes) (sym is) stands)

@@ -1,6 +1,6 @@
 use Rattle.std.proofs.Common.{◌≡◌, ◌+◌, ◌^◌, ◌<◌, ◌++◌, ◌∷◌, [], length, List, ap, sym, subst, ◌∙◌, refl, arith}
 use Rattle.cqlp_value.specs.declared.open_values.OpenValue.{OpenValue}
-use Rattle.cqlp_value.specs.Standing.{CellState, state_of, due_value, moved, Stands}
+use Rattle.cqlp_value.specs.Standing.{CellState, state_of, due_value, state_after, Stands}
 use Rattle.cqlp_value.specs.Reading.{fields_open, entered}
 use Rattle.cqlp_value.proofs.Entering.{fields_there, fields_deep, fields_stands}
 use Rattle.cqlp_value.proofs.standing.CellStanding.enter_fields.Goals as goal
@@ -30,6 +30,6 @@ returns-clause-enters g c =
     let stop = c.args.self.now.offset + 4 + c.args.len in
     let inside = fields_open (due_value nodes old) stop in
     let opened : c.push.new.self.open_values ≡ mid.open_values ++ inside ∷ [] = ap (λ n. n.open_values) c.push.ensures ∙ rw (c.from.ensures, c.from-arity.ensures, r.value) refl in
-    let is : record mid { open_values = c.push.new.self.open_values } ≡ entered (moved nodes old 4) inside = ap (λ (os : List OpenValue). record mid { open_values = os }) opened ∙ ap (λ (d : CellState). entered d inside) c.pass.ensures.state in
+    let is : record mid { open_values = c.push.new.self.open_values } ≡ entered (state_after nodes old 4) inside = ap (λ (os : List OpenValue). record mid { open_values = os }) opened ∙ ap (λ (d : CellState). entered d inside) c.pass.ensures.state in
     let stands = fields_stands nodes old c.args.len r.stands r.due r.decided low in
     (is, subst (Stands nodes) (sym is) stands)

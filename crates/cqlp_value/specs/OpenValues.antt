@@ -1,11 +1,15 @@
 -- The values around the one that is read.
-use Rattle.std.specs.Prelude.{ℕ, List, [], ◌∷◌, Option, Some, None}
+use Rattle.std.specs.Prelude.{ℕ, ◌^◌, ◌<◌, ◌≤◌, List, [], ◌∷◌, length, Option, Some, None}
 use Rattle.cqlp_value.specs.declared.open_values.OpenValue.{OpenValue}
 
 -- The open values, the outermost first, and how many there can be.
 pub record Nest : Type 0 where
   pub open_values : List OpenValue
   pub room : ℕ
+
+-- no more of them than there is room for, whose number has 32 bits
+abbrev pub FitIn : (room : ℕ) → List OpenValue → Type 0
+FitIn room values = (length values ≤ room) × (room < 2 ^ 32)
 
 -- the innermost
 abbrev pub last_open : List OpenValue → Option OpenValue

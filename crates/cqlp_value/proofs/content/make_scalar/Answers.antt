@@ -2,7 +2,7 @@ use Rattle.std.proofs.Common.{◌≡◌, take, length, arith}
 use Rattle.std.proofs.lemmas.Bool.{eqb-true}
 use Rattle.std.proofs.lemmas.List.{take_all}
 use Rattle.cqlp_value.proofs.Texts.{timeuuid_known}
-use Rattle.cqlp_value.proofs.content.made.Goals as goal
+use Rattle.cqlp_value.proofs.content.make_scalar.Goals as goal
 
 pub returns-in-Timeuuid : goal.returns-in-Timeuuid
 returns-in-Timeuuid c =

@@ -1,6 +1,6 @@
 use Rattle.std.proofs.Common.{sym, ◌∙◌, refl, arith}
 use Rattle.cqlp_value.proofs.Opened.{field_there, field_read}
-use Rattle.cqlp_value.proofs.open_values.OpenValue.passed.Goals as goal
+use Rattle.cqlp_value.proofs.open_values.OpenValue.pass_item.Goals as goal
 
 pub unwrap-requires : goal.unwrap-requires
 unwrap-requires g c = rw c.node.ensures (field_there c.args.table.now.nodes c.args.self (rw c.in-Fields.is at c.requires))
