@@ -3,7 +3,7 @@
 ghost use Rattle.std.specs.Prelude.{◌≡◌, IsSome, []};
 ghost use Rattle.cqlp_decode.specs.Events.{bound_of, event_of};
 ghost use Rattle.cqlp_text.specs.Lines.{line as line_of};
-ghost use Rattle.cqlp_text.specs.Outputs.{WritesText, output};
+ghost use Rattle.cqlp_text.specs.Outputs.{AppendsText, written};
 
 use crate::names::{field_name, kind_name, opcode_name};
 use crate::text_writer::TextWriter;
@@ -13,7 +13,7 @@ use cqlp_note::{BoundValue, Field, Header, Target};
 
 /// Appends the line of an event at an offset. A fault is the writer's own.
 pub fn event_line<W: Target>(at: u64, event: &Event<'_>, w: &mut W) -> Result<(), SinkFault>
-    ensures { IsSome (W.contents w.old) → WritesText (output (W.contents w.old) (W.failures w.old)) (line_of at (event_of event.now)) result (output (W.contents w.new) (W.failures w.new)) }
+    ensures { AppendsText (written W.Target w.old) (line_of at (event_of event.now)) result (written W.Target w.new) }
 {
     let mut writer = TextWriter::new(w);
     let written = writer.put_event(at, event);
@@ -165,7 +165,8 @@ impl<W: Target> TextWriter<'_, W> {
         field: Field,
         value: Word<'_>,
     ) -> Result<(), SinkFault>
-        ensures { Writes self.old (spaced (notation.now ∷ field_name field ∷ word_text value.entry ∷ [])) result self.new }
+        ensures { Writes self.old (spaced (notation.now ∷ field_name field ∷ word_text value.entry ∷ []))
+            result self.new }
     {
         self.put_words(&[Word::Name(notation), Word::Name(field_name(field)), value])
     }
