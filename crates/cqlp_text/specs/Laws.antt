@@ -10,8 +10,8 @@ use Rattle.cqlp_text.specs.Lines.{line}
 use Rattle.cqlp_text.specs.Outputs.{Offered, Output, with_text, WritesText}
 use Rattle.cqlp_text.specs.PageText.{PagePlace, page_part}
 
--- The target failed in both of two calls or in neither: it counts as many failures, and had not counted all that it
--- can.
+-- The target failed in both of two calls or in neither: it counts as many failures, and had not counted all
+-- that it can.
 abbrev pub FailsAlike : (old new new' : Output) → Type 0
 FailsAlike old new new' = (old.failures < 2 ^ 64 - 1) × (new'.failures ≡ new.failures)
 
@@ -48,8 +48,8 @@ CannotOpenLineIsWrittenOnce = (file : List ℕ) → WritesOnce (cannot_open_line
 abbrev pub TextIsWrittenOnce : Type 0
 TextIsWrittenOnce = (text : List ℕ) → WritesOnce text
 
--- Two calls that offer the same bytes, to a target that fails alike: it took all of them, or of both calls only a
--- front.
+-- Two calls that offer the same bytes, to a target that fails alike: it took all of them, or of both calls
+-- only a front.
 abbrev pub BytesAreOfferedOnce : Type 0
 BytesAreOfferedOnce =
     (old new new' : Output) (bytes : List ℕ) (n n' : ℕ) → IsSome old.given → FailsAlike old new new'

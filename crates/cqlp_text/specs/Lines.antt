@@ -44,16 +44,24 @@ abbrev pub part_place : (last : Bool) → List ℕ
 part_place true = codes "last"
 part_place false = codes "more"
 
+-- the words of a value at a level of a cell
+abbrev value_words : (name : List ℕ) → (row column level : ℕ) → Words → Words
+value_words name row column level more = name ∷ decimal row ∷ decimal column ∷ decimal level ∷ more
+
 abbrev pub cell_words : (row column : ℕ) → CellEvent → Words
-cell_words row column (cell.Leaf level v) = codes "Leaf" ∷ decimal row ∷ decimal column ∷ decimal level ∷ cell_text v ∷ []
-cell_words row column (cell.Null level) = codes "Null" ∷ decimal row ∷ decimal column ∷ decimal level ∷ []
-cell_words row column (cell.Empty level) = codes "Empty" ∷ decimal row ∷ decimal column ∷ decimal level ∷ []
-cell_words row column (cell.Enter level k items) = codes "Enter" ∷ decimal row ∷ decimal column ∷ decimal level ∷ kind_name k ∷ decimal items ∷ []
+cell_words row column (cell.Leaf level v) = value_words (codes "Leaf") row column level (cell_text v ∷ [])
+cell_words row column (cell.Null level) = value_words (codes "Null") row column level []
+cell_words row column (cell.Empty level) = value_words (codes "Empty") row column level []
+cell_words row column (cell.Enter level k items) =
+    value_words (codes "Enter") row column level (kind_name k ∷ decimal items ∷ [])
 cell_words row column (cell.Leave level items) = codes "Leave" ∷ decimal level ∷ decimal items ∷ []
-cell_words row column (cell.Part level offset bytes last) = codes "Part" ∷ decimal row ∷ decimal column ∷ decimal level ∷ decimal offset ∷ part_place last ∷ hex_text bytes ∷ []
+cell_words row column (cell.Part level offset bytes last) =
+    value_words (codes "Part") row column level (decimal offset ∷ part_place last ∷ hex_text bytes ∷ [])
 
 abbrev pub words : Event → Words
-words (reading.Frame h) = codes "Frame" ∷ direction h.response ∷ encode_lower (h.flags ∷ []) ∷ signed_decimal h.stream ∷ opcode_name h.opcode ∷ decimal h.length ∷ []
+words (reading.Frame h) =
+    codes "Frame" ∷ direction h.response ∷ encode_lower (h.flags ∷ []) ∷ signed_decimal h.stream
+    ∷ opcode_name h.opcode ∷ decimal h.length ∷ []
 words (reading.Holds f v) = field_words f v
 words (reading.Node_of k) = codes "TypeNode" ∷ kind_name k ∷ []
 words (reading.Cell_at row column e) = cell_words row column e

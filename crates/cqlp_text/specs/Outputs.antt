@@ -1,6 +1,7 @@
 -- What a target was given of a text.
-use Rattle.std.specs.Prelude.{◌≡◌, ◌≤◌, ℕ, true, nat_lt, List, ◌∷◌, ◌++◌, length, take, Option, Result, Ok, Err}
+use Rattle.std.specs.Prelude.{◌≡◌, ◌≤◌, ℕ, true, nat_lt, List, ◌∷◌, ◌++◌, length, take, Option, IsSome, Result, Ok, Err}
 use Rattle.std.specs.Io.KnownBytes.{Appends, append_known}
+use Rattle.cqlp_note.specs.declared.streams.Target.{Ghosts}
 use Rattle.cqlp_note.specs.Streams.{counted}
 use Rattle.cqlp_message.specs.declared.sink.SinkFault.{SinkFault}
 
@@ -11,6 +12,9 @@ pub record Output : Type 0 where
 
 abbrev pub output : Option (List ℕ) → ℕ → Output
 output given failures = record { given = given; failures = failures }
+
+abbrev pub written : {W : Type 0} → Ghosts W → W → Output
+written members target = output (members.contents target) (members.failures target)
 
 -- with more text
 abbrev pub with_text : Output → List ℕ → Output
@@ -29,6 +33,10 @@ pub record StopsWithin (old : Output) (text : List ℕ) (new : Output) : Type 0 
 abbrev pub WritesText : (old : Output) → List ℕ → Result (Unit {0}) SinkFault → (new : Output) → Type 0
 WritesText old text (Ok u) new = new ≡ with_text old text
 WritesText old text (Err e) new = StopsWithin old text new
+
+-- The same of a target of which it is known what it was given.
+abbrev pub AppendsText : (old : Output) → List ℕ → Result (Unit {0}) SinkFault → (new : Output) → Type 0
+AppendsText old text r new = IsSome old.given → WritesText old text r new
 
 -- One call of the target failed.
 abbrev pub HasFailed : (before after : Output) → Type 0

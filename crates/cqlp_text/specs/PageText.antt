@@ -72,6 +72,9 @@ abbrev pub with_item : List WrittenValue → List WrittenValue
 with_item [] = []
 with_item (o ∷ os) = record o { turn = turn_after o.kind o.turn } ∷ os
 
+abbrev pub with_item_if : (ends : Bool) → List WrittenValue → List WrittenValue
+with_item_if ends values = if ends then with_item values else values
+
 -- one more open value; no type is deeper than 64, the greatest depth that limits allow
 abbrev pub with_open : Kind → List WrittenValue → List WrittenValue
 with_open k os = if length os == 64 then os else record { kind = k; turn = First } ∷ os
@@ -80,8 +83,15 @@ with_open k os = if length os == 64 then os else record { kind = k; turn = First
 
 module _ (p : PagePlace) (column : ℕ) where
   -- a value of this text, with what stands before and behind it
-  abbrev whole_value : List ℕ → List ℕ
+  abbrev pub whole_value : List ℕ → List ℕ
   whole_value text = before column p.open_values ++ (text ++ behind p.columns column p.open_values)
+
+  -- what stands before a part of a long content, and after it
+  abbrev pub part_start : (offset : ℕ) → List ℕ
+  part_start offset = if offset == 0 then before column p.open_values ++ codes "0x" else []
+
+  abbrev pub part_end : (last : Bool) → List ℕ
+  part_end last = if last then behind p.columns column p.open_values else []
 
   abbrev pub value_part : CellEvent → List ℕ
   value_part (cell.Leaf level v) = whole_value (cell_text v)
@@ -89,13 +99,11 @@ module _ (p : PagePlace) (column : ℕ) where
   value_part (cell.Empty level) = whole_value (codes "empty")
   value_part (cell.Enter level k items) = before column p.open_values ++ opening k
   value_part (cell.Leave level items) = []
-  value_part (cell.Part level offset bytes last) =
-      (if offset == 0 then before column p.open_values ++ codes "0x" else [])
-      ++ (encode_lower bytes ++ (if last then behind p.columns column p.open_values else []))
+  value_part (cell.Part level offset bytes last) = part_start offset ++ (encode_lower bytes ++ part_end last)
 
   abbrev pub open_after : CellEvent → List WrittenValue
   open_after (cell.Enter level k items) = with_open k (with_item p.open_values)
-  open_after (cell.Part level offset bytes false) = p.open_values
+  open_after (cell.Part level offset bytes last) = with_item_if last p.open_values
   open_after e = with_item p.open_values
 
 -- the innermost open value ends

@@ -1,6 +1,7 @@
 -- What a writer of lines has taken, and what it passed on.
 use Rattle.std.specs.Prelude.{◌≡◌, ℕ, true, List, [], ◌∷◌, ◌++◌, Option, Some, Result, Ok, Err}
 use Rattle.std.specs.Io.KnownBytes.{append_known}
+use Rattle.cqlp_note.specs.declared.streams.Target.{Ghosts}
 use Rattle.cqlp_note.specs.Streams.{counted}
 use Rattle.cqlp_message.specs.declared.sink.SinkFault.{SinkFault}
 
@@ -15,7 +16,8 @@ pub record Written : Type 0 where
 -- Some of the waiting bytes and of these, in order, were passed on, and the others are left.
 abbrev pub PassesOn : (old : Written) → List ℕ → (left : List ℕ) → (given : Option (List ℕ)) → Type 0
 PassesOn old bytes left given =
-    (text : List ℕ) → old.given ≡ Some text → (sent : List ℕ) × (given ≡ Some (text ++ sent)) × (sent ++ left ≡ old.waiting ++ bytes)
+    (text : List ℕ) → old.given ≡ Some text
+    → (sent : List ℕ) × (given ≡ Some (text ++ sent)) × (sent ++ left ≡ old.waiting ++ bytes)
 
 -- All of the bytes were taken.
 pub record Receives (old : Written) (bytes : List ℕ) (new : Written) : Type 0 where
@@ -40,6 +42,13 @@ Writes old bytes (Err e) new = BreaksOff old bytes new
 -- a target that is owned, with nothing that waits
 abbrev pub bare : (given : Option (List ℕ)) → (failures : ℕ) → Written
 bare given failures = record { given = given; failures = failures; waiting = []; lender = 0 }
+
+abbrev pub buffered : {W : Type 0} → Ghosts W → W → (waiting : List ℕ) → (lender : ℕ) → Written
+buffered members target waiting lender =
+    record { given = members.contents target; failures = members.failures target; waiting = waiting; lender = lender }
+
+abbrev pub unbuffered : {W : Type 0} → Ghosts W → W → Written
+unbuffered members target = bare (members.contents target) (members.failures target)
 
 -- what was given and what waits
 abbrev pub taken : Written → Option (List ℕ)

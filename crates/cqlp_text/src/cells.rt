@@ -2,7 +2,7 @@
 
 ghost use Rattle.std.specs.Prelude.{◌≡◌, ◌≤◌, IsSome, length};
 ghost use Rattle.cqlp_text.specs.CellText.{boolean_text, cell_text as text_of, extended as extended_bytes, sign_byte};
-ghost use Rattle.cqlp_text.specs.Outputs.{WritesText, output};
+ghost use Rattle.cqlp_text.specs.Outputs.{AppendsText, written};
 ghost use Rattle.cqlp_value.specs.Contents.{value_of};
 
 use crate::text_writer::TextWriter;
@@ -16,7 +16,7 @@ const WIDE: usize = 16;
 /// Appends the text of a cell: a number in decimal digits, a text in quotes, bytes as hex text, and so on. A fault is
 /// the writer's own.
 pub fn cell_text<W: Target>(scalar: &Scalar<'_>, w: &mut W) -> Result<(), SinkFault>
-    ensures { IsSome (W.contents w.old) → WritesText (output (W.contents w.old) (W.failures w.old)) (text_of (value_of scalar.now)) result (output (W.contents w.new) (W.failures w.new)) }
+    ensures { AppendsText (written W.Target w.old) (text_of (value_of scalar.now)) result (written W.Target w.new) }
 {
     let mut writer = TextWriter::new(w);
     let written = writer.put_whole_cell(scalar);

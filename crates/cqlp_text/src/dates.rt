@@ -23,7 +23,8 @@ impl<W: Target> TextWriter<'_, W> {
     ghost use Rattle.cqlp_text.specs.CellText.{civil_text, date_text};
     ghost use Rattle.cqlp_text.specs.Written.{Writes};
 
-    /// Takes the date of a day: of the years 0 to 9999 as year, month and day, and else as the number of days from 1970.
+    /// Takes the date of a day: of the years 0 to 9999 as year, month and day, and else as the number
+    /// of days from 1970.
     pub fn put_date(&mut self, number: u32) -> Result<(), SinkFault>
         ensures { Writes self.old (date_text number) result self.new }
     {

@@ -2,7 +2,7 @@
 
 ghost use Rattle.std.specs.Prelude.{◌≡◌, IsSome};
 ghost use Rattle.cqlp_text.specs.Endings.{cannot_open_line as cannot_open_line_of, ending_line as line_of};
-ghost use Rattle.cqlp_text.specs.Outputs.{WritesText, output};
+ghost use Rattle.cqlp_text.specs.Outputs.{AppendsText, written};
 
 use crate::names::reason_name;
 use crate::text_writer::TextWriter;
@@ -46,7 +46,7 @@ impl Ending {
 
 /// Appends the verdict line or the fault line of an ending. A fault is the writer's own.
 pub fn ending_line<W: Target>(ending: Ending, w: &mut W) -> Result<(), SinkFault>
-    ensures { IsSome (W.contents w.old) → WritesText (output (W.contents w.old) (W.failures w.old)) (line_of ending) result (output (W.contents w.new) (W.failures w.new)) }
+    ensures { AppendsText (written W.Target w.old) (line_of ending) result (written W.Target w.new) }
 {
     let mut writer = TextWriter::new(w);
     let written = writer.put_ending(ending);
@@ -56,7 +56,7 @@ pub fn ending_line<W: Target>(ending: Ending, w: &mut W) -> Result<(), SinkFault
 
 /// Appends the line of a file that cannot be opened. A fault is the writer's own.
 pub fn cannot_open_line<W: Target>(file: &str, w: &mut W) -> Result<(), SinkFault>
-    ensures { IsSome (W.contents w.old) → WritesText (output (W.contents w.old) (W.failures w.old)) (cannot_open_line_of file.now) result (output (W.contents w.new) (W.failures w.new)) }
+    ensures { AppendsText (written W.Target w.old) (cannot_open_line_of file.now) result (written W.Target w.new) }
 {
     let mut writer = TextWriter::new(w);
     let written = writer.put_cannot_open(file);

@@ -3,17 +3,17 @@
 ghost use Rattle.std.specs.Prelude.{◌≡◌, IsSome, []};
 ghost use Rattle.cqlp_message.specs.Events.{bound_of, event_of};
 ghost use Rattle.cqlp_text.specs.Lines.{line as line_of};
-ghost use Rattle.cqlp_text.specs.Outputs.{WritesText, output};
+ghost use Rattle.cqlp_text.specs.Outputs.{AppendsText, written};
 
 use crate::names::{field_name, kind_name, opcode_name};
 use crate::text_writer::TextWriter;
 use crate::word::Word;
 use cqlp_message::{Event, SinkFault};
-use cqlp_note::{BoundValue, Header, Target};
+use cqlp_note::{BoundValue, Field, Header, Target};
 
 /// Appends the line of an event at an offset. A fault is the writer's own.
 pub fn event_line<W: Target>(at: u64, event: &Event<'_>, w: &mut W) -> Result<(), SinkFault>
-    ensures { IsSome (W.contents w.old) → WritesText (output (W.contents w.old) (W.failures w.old)) (line_of at (event_of event.now)) result (output (W.contents w.new) (W.failures w.new)) }
+    ensures { AppendsText (written W.Target w.old) (line_of at (event_of event.now)) result (written W.Target w.new) }
 {
     let mut writer = TextWriter::new(w);
     let written = writer.put_event(at, event);
@@ -23,7 +23,9 @@ pub fn event_line<W: Target>(at: u64, event: &Event<'_>, w: &mut W) -> Result<()
 
 impl<W: Target> TextWriter<'_, W> {
     ghost use Rattle.cqlp_message.specs.Events as reading;
+    ghost use Rattle.std.specs.Prelude.{◌∷◌};
     ghost use Rattle.cqlp_text.specs.Lines.{line, spaced, words};
+    ghost use Rattle.cqlp_text.specs.Names.{field_name};
     ghost use Rattle.cqlp_text.specs.Written.{Writes};
 
     /// Takes the line of an event at an offset, and passes all on.
@@ -42,51 +44,43 @@ impl<W: Target> TextWriter<'_, W> {
     {
         match *event {
             Event::Frame(header) => self.put_header_words(header),
-            Event::Byte { field, value } => self.put_words(&[
-                Word::Name("Byte"),
-                Word::Name(field_name(field)),
+            Event::Byte { field, value } => self.put_field_words(
+                "Byte",
+                field,
                 Word::Number(u64::from(value)),
-            ]),
-            Event::Short { field, value } => self.put_words(&[
-                Word::Name("Short"),
-                Word::Name(field_name(field)),
+            ),
+            Event::Short { field, value } => self.put_field_words(
+                "Short",
+                field,
                 Word::Number(u64::from(value)),
-            ]),
-            Event::Int { field, value } => self.put_words(&[
-                Word::Name("Int"),
-                Word::Name(field_name(field)),
+            ),
+            Event::Int { field, value } => self.put_field_words(
+                "Int",
+                field,
                 Word::Signed(i64::from(value)),
-            ]),
-            Event::Long { field, value } => self.put_words(&[
-                Word::Name("Long"),
-                Word::Name(field_name(field)),
+            ),
+            Event::Long { field, value } => self.put_field_words(
+                "Long",
+                field,
                 Word::Signed(value),
-            ]),
-            Event::Uuid { field, value } => self.put_words(&[
-                Word::Name("Uuid"),
-                Word::Name(field_name(field)),
-                Word::Uuid(value),
-            ]),
-            Event::Count { field, count } => self.put_words(&[
-                Word::Name("Count"),
-                Word::Name(field_name(field)),
+            ),
+            Event::Uuid { field, value } => self.put_field_words("Uuid", field, Word::Uuid(value)),
+            Event::Count { field, count } => self.put_field_words(
+                "Count",
+                field,
                 Word::Number(u64::from(count)),
-            ]),
-            Event::Text { field, text } => self.put_words(&[
-                Word::Name("Text"),
-                Word::Name(field_name(field)),
-                Word::Quoted(text),
-            ]),
-            Event::Bytes { field, bytes } => self.put_words(&[
-                Word::Name("Bytes"),
-                Word::Name(field_name(field)),
+            ),
+            Event::Text { field, text } => self.put_field_words("Text", field, Word::Quoted(text)),
+            Event::Bytes { field, bytes } => self.put_field_words(
+                "Bytes",
+                field,
                 bytes.map_or(Word::Name("null"), Word::Hex),
-            ]),
-            Event::Bound { field, value } => self.put_words(&[
-                Word::Name("Bound"),
-                Word::Name(field_name(field)),
+            ),
+            Event::Bound { field, value } => self.put_field_words(
+                "Bound",
+                field,
                 bound_word(value),
-            ]),
+            ),
             Event::Inet {
                 field,
                 address,
@@ -162,6 +156,19 @@ impl<W: Target> TextWriter<'_, W> {
                 Word::Number(u64::from(extra)),
             ]),
         }
+    }
+
+    /// Takes the words of a field: how it is written, its name, and its value.
+    fn put_field_words(
+        &mut self,
+        notation: &str,
+        field: Field,
+        value: Word<'_>,
+    ) -> Result<(), SinkFault>
+        ensures { Writes self.old (spaced (notation.now ∷ field_name field ∷ word_text value.entry ∷ []))
+            result self.new }
+    {
+        self.put_words(&[Word::Name(notation), Word::Name(field_name(field)), value])
     }
 
     fn put_header_words(&mut self, header: Header) -> Result<(), SinkFault>

@@ -3,7 +3,7 @@
 ghost use Rattle.std.specs.Prelude.{◌≡◌, ◌++◌, IsSome, []};
 ghost use Rattle.cqlp_message.specs.Events.{event_of};
 ghost use Rattle.cqlp_text.specs.PageText.{page_part as text_of, place_behind};
-ghost use Rattle.cqlp_text.specs.Outputs.{WritesText, output};
+ghost use Rattle.cqlp_text.specs.Outputs.{AppendsText, written};
 
 use crate::text_writer::TextWriter;
 use crate::word::Word;
@@ -25,7 +25,8 @@ pub fn page_part<W: Target>(
     event: &Event<'_>,
     w: &mut W,
 ) -> Result<(), SinkFault>
-    ensures part { IsSome (W.contents w.old) → WritesText (output (W.contents w.old) (W.failures w.old)) (text_of place.old (event_of event.now)) result (output (W.contents w.new) (W.failures w.new)) }
+    ensures part { AppendsText (written W.Target w.old) (text_of place.old (event_of event.now)) result
+        (written W.Target w.new) }
     ensures place { place.new ≡ place_behind place.old (event_of event.now) }
 {
     if !place.shows(event) {
@@ -73,7 +74,12 @@ impl Model for PagePlace {
 
     ghost Value = { PagePlace };
 
-    ghost view = { λ p. record { is_page = p.is_page; columns = p.columns; column = p.column; open_values = drop p.free p.open_values } };
+    ghost view = { λ p. record {
+      is_page = p.is_page;
+      columns = p.columns;
+      column = p.column;
+      open_values = drop p.free p.open_values;
+    } };
 
     ghost invariant = { λ p. (p.free ≤ 64) × (length p.open_values ≡ 64) };
 }
@@ -81,7 +87,7 @@ impl Model for PagePlace {
 impl PagePlace {
     ghost use Rattle.std.specs.Prelude.{false};
     ghost use Rattle.cqlp_note.specs.Field.{Count as CountValue, Int as IntValue};
-    ghost use Rattle.cqlp_text.specs.PageText.{no_page, before, behind, innermost, with_item, with_open, without_open, place_behind_field};
+    ghost use Rattle.cqlp_text.specs.PageText.{no_page, before, behind, innermost, with_item, with_item_if, with_open, without_open, place_behind_field};
 
     /// Before any frame.
     pub fn new() -> Self
@@ -222,7 +228,7 @@ impl PagePlace {
     }
 
     fn pass_part(&mut self, column: u32, last: bool)
-        ensures { self.new ≡ record self.old { column = column; open_values = (if last then with_item self.old.open_values else self.old.open_values) } }
+        ensures { self.new ≡ record self.old { column = column; open_values = with_item_if last self.old.open_values } }
     {
         self.column = column;
         if last {
@@ -245,7 +251,8 @@ impl PagePlace {
 
     /// Goes into a value of this kind, an item of the one that was open.
     fn enter(&mut self, column: u32, kind: Kind)
-        ensures { self.new ≡ record self.old { column = column; open_values = with_open kind (with_item self.old.open_values) } }
+        ensures { self.new ≡
+            record self.old { column = column; open_values = with_open kind (with_item self.old.open_values) } }
     {
         self.pass_item(column);
         self.push(kind);
@@ -276,7 +283,7 @@ impl PagePlace {
 impl<W: Target> TextWriter<'_, W> {
     ghost use Rattle.cqlp_note.specs.Field.{Count as CountValue, Text as TextValue};
     ghost use Rattle.cqlp_value.specs.CellStep as cell;
-    ghost use Rattle.cqlp_text.specs.PageText.{before, behind, column_line, page_line, event_part, field_part, value_part, end_part, opening};
+    ghost use Rattle.cqlp_text.specs.PageText.{before, behind, column_line, page_line, event_part, field_part, value_part, whole_value, part_start, part_end, end_part, opening};
     ghost use Rattle.cqlp_text.specs.Words.{word_text};
     ghost use Rattle.cqlp_text.specs.Written.{Writes};
 
@@ -372,7 +379,7 @@ impl<W: Target> TextWriter<'_, W> {
 
     /// Takes a value without items, with what stands before and behind it.
     fn put_value(&mut self, place: &PagePlace, column: u32, word: Word<'_>) -> Result<(), SinkFault>
-        ensures { Writes self.old (before column place.now.open_values ++ (word_text word.entry ++ behind place.now.columns column place.now.open_values)) result self.new }
+        ensures { Writes self.old (whole_value place.now column (word_text word.entry)) result self.new }
     {
         self.put(place.before(column).as_bytes())?;
         self.put_word(word)?;
@@ -418,7 +425,7 @@ impl<W: Target> TextWriter<'_, W> {
         column: u32,
         offset: u32,
     ) -> Result<(), SinkFault>
-        ensures { Writes self.old (if offset == 0 then before column place.now.open_values ++ codes "0x" else []) result self.new }
+        ensures { Writes self.old (part_start place.now column offset) result self.new }
     {
         if offset > 0 {
             return Ok(());
@@ -433,7 +440,7 @@ impl<W: Target> TextWriter<'_, W> {
         column: u32,
         last: bool,
     ) -> Result<(), SinkFault>
-        ensures { Writes self.old (if last then behind place.now.columns column place.now.open_values else []) result self.new }
+        ensures { Writes self.old (part_end place.now column last) result self.new }
     {
         if last {
             self.put(place.behind(column).as_bytes())

@@ -1,13 +1,13 @@
 //! Bytes on their way to a target.
 
-ghost use Rattle.cqlp_text.specs.Outputs.{Offered, output};
+ghost use Rattle.cqlp_text.specs.Outputs.{Offered, written};
 
 use cqlp_note::Target;
 
 /// Passes bytes on until the target fails, and answers how many it took. A call that takes only some of the bytes is
 /// followed by one with the others.
 pub fn offer<W: Target>(target: &mut W, bytes: &[u8]) -> usize
-    ensures { Offered (output (W.contents target.old) (W.failures target.old)) bytes.now result (output (W.contents target.new) (W.failures target.new)) }
+    ensures { Offered (written W.Target target.old) bytes.now result (written W.Target target.new) }
 {
     let mut sent = 0;
     while sent < bytes.len() {

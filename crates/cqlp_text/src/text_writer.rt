@@ -1,8 +1,8 @@
 //! Text on its way to a target.
 
 ghost use Rattle.std.specs.Prelude.{◌≡◌, ◌+◌, ◌≤◌, ◌++◌, [], length, IsSome, OnOk};
-ghost use Rattle.cqlp_text.specs.Outputs.{WritesText, output};
-ghost use Rattle.cqlp_text.specs.Written.{Writes, bare};
+ghost use Rattle.cqlp_text.specs.Outputs.{AppendsText, written};
+ghost use Rattle.cqlp_text.specs.Written.{Writes, unbuffered};
 
 use crate::targets::offer;
 use cqlp_message::SinkFault;
@@ -22,11 +22,11 @@ pub struct TextWriter<'a, W: Target> {
 
 impl<'a, W: Target> Model for TextWriter<'a, W> {
     ghost use Rattle.std.specs.Prelude.{◌≡◌, ◌≤◌, length, take};
-    ghost use Rattle.cqlp_text.specs.Written.{Written};
+    ghost use Rattle.cqlp_text.specs.Written.{Written, buffered};
 
     ghost Value = { Written };
 
-    ghost view = { λ w. record { given = W.contents w.target.now; failures = W.failures w.target.now; waiting = take w.len w.buffer; lender = w.target.ghost_name } };
+    ghost view = { λ w. buffered W.Target w.target.now (take w.len w.buffer) w.target.ghost_name };
 
     ghost invariant = { λ w. (w.len ≤ 128) × (length w.buffer ≡ 128) };
 }
@@ -34,7 +34,7 @@ impl<'a, W: Target> Model for TextWriter<'a, W> {
 impl<'a, W: Target> TextWriter<'a, W> {
     /// With nothing that waits.
     pub fn new(target: &'a mut W) -> Self
-        ensures { result ≡ record (bare (W.contents target.old) (W.failures target.old)) { lender = target.entry.ghost_name } }
+        ensures { result ≡ record (unbuffered W.Target target.old) { lender = target.entry.ghost_name } }
     {
         TextWriter {
             target,
@@ -46,7 +46,7 @@ impl<'a, W: Target> TextWriter<'a, W> {
     /// The target, which did not get what waits.
     pub fn into_inner(self) -> &'a mut W
         ensures lender { result.ghost_name ≡ self.entry.lender }
-        ensures given { bare (W.contents result.now) (W.failures result.now) ≡ record self.entry { waiting = []; lender = 0 } }
+        ensures given { unbuffered W.Target result.now ≡ record self.entry { waiting = []; lender = 0 } }
     {
         let TextWriter {
             target,
@@ -104,15 +104,14 @@ impl<'a, W: Target> TextWriter<'a, W> {
 
 /// Appends a text as it is. A fault is the writer's own.
 pub fn put_text<W: Target>(text: &str, w: &mut W) -> Result<(), SinkFault>
-    ensures { IsSome (W.contents w.old) →
-        WritesText (output (W.contents w.old) (W.failures w.old)) text.now result (output (W.contents w.new) (W.failures w.new)) }
+    ensures { AppendsText (written W.Target w.old) text.now result (written W.Target w.new) }
 {
     send(w, text.as_bytes())
 }
 
 /// Passes on all of the bytes.
 fn send<W: Target>(target: &mut W, bytes: &[u8]) -> Result<(), SinkFault>
-    ensures { Writes (bare (W.contents target.old) (W.failures target.old)) bytes.now result (bare (W.contents target.new) (W.failures target.new)) }
+    ensures { Writes (unbuffered W.Target target.old) bytes.now result (unbuffered W.Target target.new) }
 {
     if offer(target, bytes) < bytes.len() {
         Err(SinkFault)

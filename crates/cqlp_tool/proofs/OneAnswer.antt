@@ -30,6 +30,7 @@ use Rattle.cqlp_tool.specs.Forms.{text, form_behind}
 use Rattle.cqlp_tool.specs.Rendering.{Renders, RendersAll, RendersFront, RendersTo}
 use Rattle.cqlp_tool.specs.Showing.{ShowsTo, CountsReads, Concludes, ConcludesCheck}
 use Rattle.cqlp_tool.specs.Laws.{EndsAs, EndsAlike, EndAlike, IsGranted, IsOneOutput, IsRenderedWhole, IsRenderedOnce, IsShownRightly, IsShownOnce, IsCheckedRightly, IsCheckedOnce}
+use Rattle.cqlp_tool.specs.Streams.{Streams}
 use Rattle.cqlp_tool.proofs.Renders.{known_nothing, text-append}
 use Rattle.cqlp_tool.proofs.Shows.{part_is_front}
 
@@ -236,10 +237,10 @@ concludes_once e before after after' status status' alike (inr a) (inl b) = absu
 concludes_once e before after after' status status' alike (inr a) (inr b) = (b.0 ∙ sym a.0, inr (a.1.failures, b.1.failures, stops_once before after after' (ending_line e) a.1 b.1))
 
 pub shown_once : (form : TextForm) → IsShownOnce form
-shown_once form limits turns xs left left' reads reads' reads'' out err status status' out' err' out'' err'' a b alike fails =
-    let one = shows_once form limits turns xs left left' out out' out'' a.0 b.0 alike a.1 b.1 in
-    let told = concludes_once a.0 err err' err'' status status' fails a.3 (subst (λ (e : Ending). Concludes e err status' err'') one.0 b.3) in
-    (one.0, told.0, one.1, told.1)
+shown_once form limits turns xs before status status' after after' a b alike fails =
+    let one = shows_once form limits turns xs after.input.left after'.input.left before.out after.out after'.out a.0 b.0 alike a.1 b.1 in
+    let reported = concludes_once a.0 before.err after.err after'.err status status' fails a.3 (subst (λ (e : Ending). Concludes e before.err status' after'.err) one.0 b.3) in
+    (one.0, reported.0, one.1, reported.1)
 
 -- nothing is written of a stream that is checked
 nothing_written : (limits : Limits) (turns : ℕ) (f : Finish) (xs : List ℕ) (left : Option (List ℕ)) (out read : Output) → ShowsTo forms.Nothing limits turns (ending.Finished f) xs left out read → read ≡ out
@@ -269,12 +270,13 @@ module _ (out err : Output) (status status' : ℕ) (out' err' out'' err'' : Outp
   check_once limits turns xs left left' read read' ending.TooManyTurns one shows shows' a b = fault_once ending.TooManyTurns read read' one a b
 
 pub checked_once : IsCheckedOnce
-checked_once limits turns xs left left' reads reads' reads'' out err status status' out' err' out'' err'' a b alike fails fails_err =
-    let one = shows_once forms.Nothing limits turns xs left left' out a.1 b.1 a.0 b.0 alike a.2 b.2 in
-    let shows : ShowsTo forms.Nothing limits turns a.0 xs left' out b.1 = subst (λ (e : Ending). ShowsTo forms.Nothing limits turns e xs left' out b.1) one.0 b.2 in
-    let ends : ConcludesCheck a.0 b.1 err status' out'' err'' = subst (λ (e : Ending). ConcludesCheck e b.1 err status' out'' err'') one.0 b.4 in
-    let told = check_once out err status status' out' err' out'' err'' fails fails_err limits turns xs left left' a.1 b.1 a.0 one.1 a.2 shows a.4 ends in
-    (one.0, told.0, told.1, told.2)
+checked_once limits turns xs before status status' after after' a b alike fails fails_err =
+    let left' = after'.input.left in
+    let one = shows_once forms.Nothing limits turns xs after.input.left left' before.out a.1 b.1 a.0 b.0 alike a.2 b.2 in
+    let shows : ShowsTo forms.Nothing limits turns a.0 xs left' before.out b.1 = subst (λ (e : Ending). ShowsTo forms.Nothing limits turns e xs left' before.out b.1) one.0 b.2 in
+    let ends : ConcludesCheck a.0 b.1 before.err status' after'.out after'.err = subst (λ (e : Ending). ConcludesCheck e b.1 before.err status' after'.out after'.err) one.0 b.4 in
+    let reported = check_once before.out before.err status status' after.out after.err after'.out after'.err fails fails_err limits turns xs after.input.left left' a.1 b.1 a.0 one.1 a.2 shows a.4 ends in
+    (one.0, reported.0, reported.1, reported.2)
 
 -- ---- the right answer
 
@@ -288,29 +290,29 @@ three_of : (e : Ending) (before after : Output) (status : ℕ) → status_of e �
 three_of e before after status three (inl a) = a.0 ∙ three
 three_of e before after status three (inr a) = a.0
 
-module _ (form : TextForm) (limits : Limits) (turns : ℕ) (xs : List ℕ) (left : Option (List ℕ)) (reads reads' : ℕ) (out err : Output) (status : ℕ) (out' err' : Output) where
-  no_fault : (e : Ending) → status_of e ≡ 3 → ShowsTo form limits turns e xs left out out' → CountsReads e reads reads' → Concludes e err status err' → IsGranted turns xs reads reads' out err out' err' ⊎ (status ≢ 3) → ⊥
-  no_fault e three shows counts ends (inr not) = not (three_of e err err' status three ends)
+module _ (form : TextForm) (limits : Limits) (turns : ℕ) (xs : List ℕ) (before : Streams) (status : ℕ) (after : Streams) where
+  no_fault : (e : Ending) → status_of e ≡ 3 → ShowsTo form limits turns e xs after.input.left before.out after.out → CountsReads e before.input.failures after.input.failures → Concludes e before.err status after.err → IsGranted turns xs before after ⊎ (status ≢ 3) → ⊥
+  no_fault e three shows counts ends (inr not) = not (three_of e before.err after.err status three ends)
   no_fault (ending.Finished f) three shows counts ends (inl g) = no_finish f three
-  no_fault ending.ReadFault three shows counts ends (inl g) = counts_up reads g.reader.0 (sym counts ∙ g.reader.1)
-  no_fault ending.WriteFault three shows counts ends (inl g) = counts_up out.failures g.output.0 (sym (shows.renders.events [] [] shows.fresh).failures ∙ g.output.1)
+  no_fault ending.ReadFault three shows counts ends (inl g) = counts_up before.input.failures g.reader.0 (sym counts ∙ g.reader.1)
+  no_fault ending.WriteFault three shows counts ends (inl g) = counts_up before.out.failures g.output.0 (sym (shows.renders.events [] [] shows.fresh).failures ∙ g.output.1)
   no_fault ending.NoMemory three shows counts (inl told) (inl g) = g.memory told.1
-  no_fault ending.NoMemory three shows counts (inr told) (inl g) = counts_up err.failures g.error_output.0 (sym told.1.failures ∙ g.error_output.1)
+  no_fault ending.NoMemory three shows counts (inr told) (inl g) = counts_up before.err.failures g.error_output.0 (sym told.1.failures ∙ g.error_output.1)
   no_fault ending.TooManyTurns three shows counts ends (inl g) =
       let d = shows.renders.0 in
       absurd (omega (arith, g.time, shows.renders.2, ap length d.parts, length-append d.bytes d.rest))
 
   -- a verdict line that fails is the error output's fault
-  told_right : (f : Finish) → Concludes (ending.Finished f) err status err' → IsGranted turns xs reads reads' out err out' err' ⊎ (status ≢ 3) → (status ≡ finish_status f) × (err' ≡ with_text err (ending_line (ending.Finished f)))
+  told_right : (f : Finish) → Concludes (ending.Finished f) before.err status after.err → IsGranted turns xs before after ⊎ (status ≢ 3) → (status ≡ finish_status f) × (after.err ≡ with_text before.err (ending_line (ending.Finished f)))
   told_right f (inl told) g = (told.0, told.1)
-  told_right f (inr told) (inl g) = absurd (counts_up err.failures g.error_output.0 (sym told.1.failures ∙ g.error_output.1))
+  told_right f (inr told) (inl g) = absurd (counts_up before.err.failures g.error_output.0 (sym told.1.failures ∙ g.error_output.1))
   told_right f (inr told) (inr not) = absurd (not told.0)
 
-  module _ (es : List (ℕ × Event)) (v : Verdict) (says : Says (rules_of limits) start xs es v) (granted : IsGranted turns xs reads reads' out err out' err' ⊎ (status ≢ 3)) where
-    pub shown_right : (e : Ending) → ShowsTo form limits turns e xs left out out' → CountsReads e reads reads' → Concludes e err status err'
-        → (f : Finish) × EndsAs xs es v f × (status ≡ finish_status f) × (out' ≡ with_text out (text form es)) × (err' ≡ with_text err (ending_line (ending.Finished f)))
+  module _ (es : List (ℕ × Event)) (v : Verdict) (says : Says (rules_of limits) start xs es v) (granted : IsGranted turns xs before after ⊎ (status ≢ 3)) where
+    pub shown_right : (e : Ending) → ShowsTo form limits turns e xs after.input.left before.out after.out → CountsReads e before.input.failures after.input.failures → Concludes e before.err status after.err
+        → (f : Finish) × EndsAs xs es v f × (status ≡ finish_status f) × (after.out ≡ with_text before.out (text form es)) × (after.err ≡ with_text before.err (ending_line (ending.Finished f)))
     shown_right (ending.Finished f) shows counts ends =
-        let whole = whole_by form turns f shows.old shows.new xs left out out' shows.renders (rules_of limits) [] [] shows.fresh shows.unrefused (shows.same_rules ∙ shows.rules) es v says in
+        let whole = whole_by form turns f shows.old shows.new xs after.input.left before.out after.out shows.renders (rules_of limits) [] [] shows.fresh shows.unrefused (shows.same_rules ∙ shows.rules) es v says in
         let told = told_right f ends granted in
         (f, whole.1, told.0, whole.0, told.1)
     shown_right ending.ReadFault shows counts ends = absurd (no_fault ending.ReadFault refl shows counts ends granted)
@@ -319,28 +321,28 @@ module _ (form : TextForm) (limits : Limits) (turns : ℕ) (xs : List ℕ) (left
     shown_right ending.TooManyTurns shows counts ends = absurd (no_fault ending.TooManyTurns refl shows counts ends granted)
 
 pub shown_rightly : (form : TextForm) → IsShownRightly form
-shown_rightly form limits turns xs left reads reads' out err status out' err' es v says granted a = shown_right form limits turns xs left reads reads' out err status out' err' es v says granted a.0 a.1 a.2 a.3
+shown_rightly form limits turns xs before status after es v says granted a = shown_right form limits turns xs before status after es v says granted a.0 a.1 a.2 a.3
 
-module _ (limits : Limits) (turns : ℕ) (xs : List ℕ) (left : Option (List ℕ)) (reads reads' : ℕ) (out err : Output) (status : ℕ) (out' err' : Output) (es : List (ℕ × Event)) (v : Verdict) (says : Says (rules_of limits) start xs es v) where
-  verdict_right : (f : Finish) → EndsAs xs es v f → ConcludesCheck (ending.Finished f) out err status out' err' → IsGranted turns xs reads reads' out err out' err' ⊎ (status ≢ 3)
-      → (f : Finish) × EndsAs xs es v f × (status ≡ finish_status f) × (out' ≡ with_text out (ending_line (ending.Finished f))) × (err' ≡ err)
+module _ (limits : Limits) (turns : ℕ) (xs : List ℕ) (before : Streams) (status : ℕ) (after : Streams) (es : List (ℕ × Event)) (v : Verdict) (says : Says (rules_of limits) start xs es v) where
+  verdict_right : (f : Finish) → EndsAs xs es v f → ConcludesCheck (ending.Finished f) before.out before.err status after.out after.err → IsGranted turns xs before after ⊎ (status ≢ 3)
+      → (f : Finish) × EndsAs xs es v f × (status ≡ finish_status f) × (after.out ≡ with_text before.out (ending_line (ending.Finished f))) × (after.err ≡ before.err)
   verdict_right f is (inl told) granted = (f, is, told.0, told.1, told.2)
-  verdict_right f is (inr told) (inl g) = absurd (counts_up out.failures g.output.0 (sym told.0.failures ∙ g.output.1))
-  verdict_right f is (inr told) (inr not) = absurd (not (three_of ending.WriteFault err err' status refl told.1))
+  verdict_right f is (inr told) (inl g) = absurd (counts_up before.out.failures g.output.0 (sym told.0.failures ∙ g.output.1))
+  verdict_right f is (inr told) (inr not) = absurd (not (three_of ending.WriteFault before.err after.err status refl told.1))
 
-  fault_right : (read : Output) (e : Ending) → status_of e ≡ 3 → ShowsTo forms.Nothing limits turns e xs left out read → CountsReads e reads reads' → (out' ≡ read) × Concludes e err status err' → IsGranted turns xs reads reads' out err out' err' ⊎ (status ≢ 3) → ⊥
+  fault_right : (read : Output) (e : Ending) → status_of e ≡ 3 → ShowsTo forms.Nothing limits turns e xs after.input.left before.out read → CountsReads e before.input.failures after.input.failures → (after.out ≡ read) × Concludes e before.err status after.err → IsGranted turns xs before after ⊎ (status ≢ 3) → ⊥
   fault_right read e three shows counts ends granted =
-      no_fault forms.Nothing limits turns xs left reads reads' out err status read err' e three shows counts ends.1 (subst (λ (o : Output). IsGranted turns xs reads reads' out err o err' ⊎ (status ≢ 3)) ends.0 granted)
+      no_fault forms.Nothing limits turns xs before status (record after { out = read }) e three shows counts ends.1 (subst (λ (o : Output). IsGranted turns xs before (record after { out = o }) ⊎ (status ≢ 3)) ends.0 granted)
 
-  pub checked_right : (read : Output) (e : Ending) → ShowsTo forms.Nothing limits turns e xs left out read → CountsReads e reads reads' → ConcludesCheck e read err status out' err' → IsGranted turns xs reads reads' out err out' err' ⊎ (status ≢ 3)
-      → (f : Finish) × EndsAs xs es v f × (status ≡ finish_status f) × (out' ≡ with_text out (ending_line (ending.Finished f))) × (err' ≡ err)
+  pub checked_right : (read : Output) (e : Ending) → ShowsTo forms.Nothing limits turns e xs after.input.left before.out read → CountsReads e before.input.failures after.input.failures → ConcludesCheck e read before.err status after.out after.err → IsGranted turns xs before after ⊎ (status ≢ 3)
+      → (f : Finish) × EndsAs xs es v f × (status ≡ finish_status f) × (after.out ≡ with_text before.out (ending_line (ending.Finished f))) × (after.err ≡ before.err)
   checked_right read (ending.Finished f) shows counts ends granted =
-      let whole = whole_by forms.Nothing turns f shows.old shows.new xs left out read shows.renders (rules_of limits) [] [] shows.fresh shows.unrefused (shows.same_rules ∙ shows.rules) es v says in
-      verdict_right f whole.1 (subst (λ (o : Output). ConcludesCheck (ending.Finished f) o err status out' err') (nothing_written limits turns f xs left out read shows) ends) granted
+      let whole = whole_by forms.Nothing turns f shows.old shows.new xs after.input.left before.out read shows.renders (rules_of limits) [] [] shows.fresh shows.unrefused (shows.same_rules ∙ shows.rules) es v says in
+      verdict_right f whole.1 (subst (λ (o : Output). ConcludesCheck (ending.Finished f) o before.err status after.out after.err) (nothing_written limits turns f xs after.input.left before.out read shows) ends) granted
   checked_right read ending.ReadFault shows counts ends granted = absurd (fault_right read ending.ReadFault refl shows counts ends granted)
   checked_right read ending.WriteFault shows counts ends granted = absurd (fault_right read ending.WriteFault refl shows counts ends granted)
   checked_right read ending.NoMemory shows counts ends granted = absurd (fault_right read ending.NoMemory refl shows counts ends granted)
   checked_right read ending.TooManyTurns shows counts ends granted = absurd (fault_right read ending.TooManyTurns refl shows counts ends granted)
 
 pub checked_rightly : IsCheckedRightly
-checked_rightly limits turns xs left reads reads' out err status out' err' es v says granted a = checked_right limits turns xs left reads reads' out err status out' err' es v says a.1 a.0 a.2 a.3 a.4 granted
+checked_rightly limits turns xs before status after es v says granted a = checked_right limits turns xs before status after es v says a.1 a.0 a.2 a.3 a.4 granted

@@ -18,7 +18,8 @@ use Rattle.cqlp_text.specs.Outputs.{Output, with_text, HasFailed}
 use Rattle.cqlp_tool.specs.declared.text_form.TextForm.{TextForm}
 use Rattle.cqlp_tool.specs.Forms.{text}
 use Rattle.cqlp_tool.specs.Rendering.{RendersTo}
-use Rattle.cqlp_tool.specs.Showing.{ShowsAndTells, ChecksAndTells}
+use Rattle.cqlp_tool.specs.Showing.{ShowsBytes, ChecksBytes}
+use Rattle.cqlp_tool.specs.Streams.{Streams}
 
 -- ---- the right answer
 
@@ -39,34 +40,35 @@ IsRenderedWhole form = (turns : ℕ) (f : Finish) (old new : StreamState) (xs : 
 abbrev pub IsSound : (before after : ℕ) → Type 0
 IsSound before after = (before < 2 ^ 64 - 1) × (after ≡ before)
 
--- The outside granted all: no target and no reader failed, the stream has fewer bytes than there are turns, and the
--- line of no memory was not written.
-pub record IsGranted (turns : ℕ) (xs : List ℕ) (reads reads' : ℕ) (out err out' err' : Output) : Type 0 where
-  pub reader : IsSound reads reads'
-  pub output : IsSound out.failures out'.failures
-  pub error_output : IsSound err.failures err'.failures
+-- The outside granted all: no target and no reader failed, the stream has fewer bytes than there are turns, and the line
+-- of no memory was not written.
+pub record IsGranted (turns : ℕ) (xs : List ℕ) (before after : Streams) : Type 0 where
+  pub reader : IsSound before.input.failures after.input.failures
+  pub output : IsSound before.out.failures after.out.failures
+  pub error_output : IsSound before.err.failures after.err.failures
   pub time : length xs < turns
-  pub memory : err' ≢ with_text err (ending_line ending.NoMemory)
+  pub memory : after.err ≢ with_text before.err (ending_line ending.NoMemory)
 
 -- A stream that says these events and this verdict is shown: where the outside granted all, or the status is not that
 -- of a fault, just the text of the events was written, the verdict line is that of the stream, and the status is its
 -- own.
 abbrev pub IsShownRightly : TextForm → Type 0
-IsShownRightly form = (limits : Limits) (turns : ℕ) (xs : List ℕ) (left : Option (List ℕ))
-    (reads reads' : ℕ) (out err : Output) (status : ℕ) (out' err' : Output) (es : List (ℕ × Event)) (v : Verdict)
-    → Says (rules_of limits) start xs es v → IsGranted turns xs reads reads' out err out' err' ⊎ (status ≢ 3)
-    → ShowsAndTells form limits turns xs left reads reads' out err status out' err'
+IsShownRightly form = (limits : Limits) (turns : ℕ) (xs : List ℕ) (before : Streams) (status : ℕ) (after : Streams)
+    (es : List (ℕ × Event)) (v : Verdict)
+    → Says (rules_of limits) start xs es v → IsGranted turns xs before after ⊎ (status ≢ 3)
+    → ShowsBytes form limits turns xs before status after
     → (f : Finish) × EndsAs xs es v f × (status ≡ finish_status f)
-    × (out' ≡ with_text out (text form es)) × (err' ≡ with_text err (ending_line (ending.Finished f)))
+    × (after.out ≡ with_text before.out (text form es))
+    × (after.err ≡ with_text before.err (ending_line (ending.Finished f)))
 
 -- The same of a stream that is checked: the verdict line is all that was written.
 abbrev pub IsCheckedRightly : Type 0
-IsCheckedRightly = (limits : Limits) (turns : ℕ) (xs : List ℕ) (left : Option (List ℕ))
-    (reads reads' : ℕ) (out err : Output) (status : ℕ) (out' err' : Output) (es : List (ℕ × Event)) (v : Verdict)
-    → Says (rules_of limits) start xs es v → IsGranted turns xs reads reads' out err out' err' ⊎ (status ≢ 3)
-    → ChecksAndTells limits turns xs left reads reads' out err status out' err'
+IsCheckedRightly = (limits : Limits) (turns : ℕ) (xs : List ℕ) (before : Streams) (status : ℕ) (after : Streams)
+    (es : List (ℕ × Event)) (v : Verdict)
+    → Says (rules_of limits) start xs es v → IsGranted turns xs before after ⊎ (status ≢ 3)
+    → ChecksBytes limits turns xs before status after
     → (f : Finish) × EndsAs xs es v f × (status ≡ finish_status f)
-    × (out' ≡ with_text out (ending_line (ending.Finished f))) × (err' ≡ err)
+    × (after.out ≡ with_text before.out (ending_line (ending.Finished f))) × (after.err ≡ before.err)
 
 -- ---- one answer
 
@@ -106,17 +108,20 @@ EndAlike e e' left left' = ⊥
 -- Two commands that show the same bytes within the same limits, and end alike: one ending, one status, and one text on
 -- each output.
 abbrev pub IsShownOnce : TextForm → Type 0
-IsShownOnce form = (limits : Limits) (turns : ℕ) (xs : List ℕ) (left left' : Option (List ℕ))
-    (reads reads' reads'' : ℕ) (out err : Output) (status status' : ℕ) (out' err' out'' err'' : Output)
-    → (shows : ShowsAndTells form limits turns xs left reads reads' out err status out' err')
-    (shows' : ShowsAndTells form limits turns xs left' reads reads'' out err status' out'' err'')
-    → EndAlike shows.0 shows'.0 left left' → FailsAlike err err' err''
-    → (shows'.0 ≡ shows.0) × (status' ≡ status) × IsOneOutput out out' out'' × IsOneOutput err err' err''
+IsShownOnce form = (limits : Limits) (turns : ℕ) (xs : List ℕ) (before : Streams) (status status' : ℕ)
+    (after after' : Streams)
+    → (shows : ShowsBytes form limits turns xs before status after)
+    (shows' : ShowsBytes form limits turns xs before status' after')
+    → EndAlike shows.0 shows'.0 after.input.left after'.input.left → FailsAlike before.err after.err after'.err
+    → (shows'.0 ≡ shows.0) × (status' ≡ status)
+    × IsOneOutput before.out after.out after'.out × IsOneOutput before.err after.err after'.err
 
 abbrev pub IsCheckedOnce : Type 0
-IsCheckedOnce = (limits : Limits) (turns : ℕ) (xs : List ℕ) (left left' : Option (List ℕ))
-    (reads reads' reads'' : ℕ) (out err : Output) (status status' : ℕ) (out' err' out'' err'' : Output)
-    → (checks : ChecksAndTells limits turns xs left reads reads' out err status out' err')
-    (checks' : ChecksAndTells limits turns xs left' reads reads'' out err status' out'' err'')
-    → EndAlike checks.0 checks'.0 left left' → FailsAlike out out' out'' → FailsAlike err err' err''
-    → (checks'.0 ≡ checks.0) × (status' ≡ status) × IsOneOutput out out' out'' × IsOneOutput err err' err''
+IsCheckedOnce = (limits : Limits) (turns : ℕ) (xs : List ℕ) (before : Streams) (status status' : ℕ)
+    (after after' : Streams)
+    → (checks : ChecksBytes limits turns xs before status after)
+    (checks' : ChecksBytes limits turns xs before status' after')
+    → EndAlike checks.0 checks'.0 after.input.left after'.input.left
+    → FailsAlike before.out after.out after'.out → FailsAlike before.err after.err after'.err
+    → (checks'.0 ≡ checks.0) × (status' ≡ status)
+    × IsOneOutput before.out after.out after'.out × IsOneOutput before.err after.err after'.err

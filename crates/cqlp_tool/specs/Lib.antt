@@ -3,3 +3,4 @@ pub mod Forms
 pub mod Laws
 pub mod Rendering
 pub mod Showing
+pub mod Streams

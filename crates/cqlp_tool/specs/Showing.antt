@@ -1,5 +1,5 @@
 -- What a command that shows a stream writes.
-use Rattle.std.specs.Prelude.{◌≡◌, ℕ, true, List, [], Option, None, ◌⊎◌}
+use Rattle.std.specs.Prelude.{◌≡◌, ℕ, true, List, [], Option, None, IsSome, ◌⊎◌}
 use Rattle.cqlp_note.specs.declared.limits.Limits.{Limits}
 use Rattle.cqlp_note.specs.Limits.{rules_of}
 use Rattle.cqlp_note.specs.Streams.{counted}
@@ -14,6 +14,7 @@ use Rattle.cqlp_tool.specs.declared.text_form.TextForm.{TextForm}
 use Rattle.cqlp_tool.specs.declared.text_form.TextForm.TheVariants as forms
 use Rattle.cqlp_text.specs.Outputs.{Output, with_text, StopsWithin}
 use Rattle.cqlp_tool.specs.Rendering.{RendersFront, RendersTo}
+use Rattle.cqlp_tool.specs.Streams.{Streams, IfKnown}
 
 -- how the command ends where a run does
 abbrev pub ending_of : Outcome → Ending
@@ -57,7 +58,7 @@ ShowsTo form limits turns ending.TooManyTurns xs left before after = RendersNew 
 ShowsTo form limits turns ending.WriteFault xs left before after = RendersFrontNew form limits xs before after
 ShowsTo form limits turns ending.NoMemory xs left before after = after ≡ before
 
--- A read fault that is told is one more failed call of the reader; and none failed where the stream was read.
+-- A read fault that is reported is one more failed call of the reader; and none failed where the stream was read.
 abbrev pub CountsReads : Ending → (old new : ℕ) → Type 0
 CountsReads ending.ReadFault old new = new ≡ counted true old
 CountsReads ending.WriteFault old new = Unit {0}
@@ -68,6 +69,10 @@ abbrev pub Concludes : Ending → (before : Output) → (status : ℕ) → (afte
 Concludes e before status after =
     ((status ≡ status_of e) × (after ≡ with_text before (ending_line e))) ⊎ ((status ≡ 3) × StopsWithin before (ending_line e) after)
 
+-- the same of a target of which it is known what it was given
+abbrev pub ConcludesIfKnown : Ending → (before : Output) → (status : ℕ) → (after : Output) → Type 0
+ConcludesIfKnown e before status after = IsSome before.given → Concludes e before status after
+
 -- The verdict line of a stream that was read went to the output. The fault line of any other ending, also of an output
 -- that failed there, went to the error output.
 abbrev pub ConcludesCheck : Ending → (out err : Output) → (status : ℕ) → (out' err' : Output) → Type 0
@@ -76,12 +81,26 @@ ConcludesCheck (ending.Finished f) out err status out' err' =
     ⊎ (StopsWithin out (ending_line (ending.Finished f)) out' × Concludes ending.WriteFault err status err')
 ConcludesCheck e out err status out' err' = (out' ≡ out) × Concludes e err status err'
 
--- A stream was shown: what was written of it, which calls of the reader failed, and the line that tells how it ended.
-abbrev pub ShowsAndTells : TextForm → Limits → (turns : ℕ) → (xs : List ℕ) → (left : Option (List ℕ)) → (reads reads' : ℕ) → (out err : Output) → (status : ℕ) → (out' err' : Output) → Type 0
-ShowsAndTells form limits turns xs left reads reads' out err status out' err' =
-    (e : Ending) × ShowsTo form limits turns e xs left out out' × CountsReads e reads reads' × Concludes e err status err'
+-- The bytes xs of the input were shown: what was written of them, which calls of the reader failed, and the line that
+-- reports how it ended.
+abbrev pub ShowsBytes : TextForm → Limits → (turns : ℕ) → List ℕ → (before : Streams) → (status : ℕ) → (after : Streams) → Type 0
+ShowsBytes form limits turns xs before status after =
+    (e : Ending) × ShowsTo form limits turns e xs after.input.left before.out after.out
+    × CountsReads e before.input.failures after.input.failures × Concludes e before.err status after.err
 
--- A stream was read and nothing of it written, and how it ended was told.
-abbrev pub ChecksAndTells : Limits → (turns : ℕ) → (xs : List ℕ) → (left : Option (List ℕ)) → (reads reads' : ℕ) → (out err : Output) → (status : ℕ) → (out' err' : Output) → Type 0
-ChecksAndTells limits turns xs left reads reads' out err status out' err' =
-    (e : Ending) × (read : Output) × ShowsTo forms.Nothing limits turns e xs left out read × CountsReads e reads reads' × ConcludesCheck e read err status out' err'
+-- The bytes xs of the input were read and nothing of them written, and how it ended was reported.
+abbrev pub ChecksBytes : Limits → (turns : ℕ) → List ℕ → (before : Streams) → (status : ℕ) → (after : Streams) → Type 0
+ChecksBytes limits turns xs before status after =
+    (e : Ending) × (read : Output) × ShowsTo forms.Nothing limits turns e xs after.input.left before.out read
+    × CountsReads e before.input.failures after.input.failures
+    × ConcludesCheck e read before.err status after.out after.err
+
+-- A stream was shown, and how it ended was reported.
+abbrev pub ShowsAndReports : TextForm → Limits → (turns : ℕ) → (before : Streams) → (status : ℕ) → (after : Streams) → Type 0
+ShowsAndReports form limits turns before status after =
+    IfKnown before.input before.out (λ xs. IsSome before.err.given → ShowsBytes form limits turns xs before status after)
+
+-- A stream was checked, and how it ended was reported.
+abbrev pub ChecksAndReports : Limits → (turns : ℕ) → (before : Streams) → (status : ℕ) → (after : Streams) → Type 0
+ChecksAndReports limits turns before status after =
+    IfKnown before.input before.out (λ xs. IsSome before.err.given → ChecksBytes limits turns xs before status after)

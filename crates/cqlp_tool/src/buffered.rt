@@ -3,8 +3,8 @@
 ghost use Rattle.std.specs.Prelude.{◌≡◌, ◌≤◌, [], length, IfOk, OnOk, OnErr, true};
 ghost use Rattle.std.specs.Io.KnownBytes.{Keeps, WriteAppends};
 ghost use Rattle.cqlp_note.specs.Streams.{counted, took_none};
-ghost use Rattle.cqlp_text.specs.Outputs.{output};
-ghost use Rattle.cqlp_text.specs.Written.{bare, taken};
+ghost use Rattle.cqlp_text.specs.Outputs.{output, written};
+ghost use Rattle.cqlp_text.specs.Written.{taken, unbuffered};
 
 use cqlp_note::{IoFault, Target};
 use cqlp_text::offer;
@@ -22,11 +22,11 @@ pub struct Buffered<W: Target, A: Allocator = Global> {
 
 impl<W: Target, A: Allocator> Model for Buffered<W, A> {
     ghost use Rattle.std.specs.Prelude.{◌≡◌, ◌≤◌, drop, vec_len};
-    ghost use Rattle.cqlp_text.specs.Written.{Written};
+    ghost use Rattle.cqlp_text.specs.Written.{Written, buffered};
 
     ghost Value = { Written };
 
-    ghost view = { λ b. record { given = W.contents b.target; failures = W.failures b.target; waiting = drop b.passed b.buffer.items; lender = 0 } };
+    ghost view = { λ b. buffered W.Target b.target (drop b.passed b.buffer.items) 0 };
 
     ghost invariant = { λ b. b.passed ≤ vec_len b.buffer };
 }
@@ -34,7 +34,7 @@ impl<W: Target, A: Allocator> Model for Buffered<W, A> {
 impl<W: Target, A: Allocator> Buffered<W, A> {
     /// With nothing that waits. As much may wait as the buffer has room for; what it holds is dropped.
     pub fn new(target: W, mut buffer: Vec<u8, A>) -> Self
-        ensures { result ≡ bare (W.contents target) (W.failures target) }
+        ensures { result ≡ unbuffered W.Target target }
     {
         buffer.clear();
         Buffered {
@@ -77,7 +77,7 @@ impl<W: Target, A: Allocator> Buffered<W, A> {
 
     /// The target, which did not get what waits.
     pub fn into_inner(self) -> W
-        ensures { output (W.contents result) (W.failures result) ≡ output self.given self.failures }
+        ensures { written W.Target result ≡ output self.given self.failures }
     {
         let Buffered {
             target,

@@ -1,15 +1,14 @@
 //! The command line, from its words to the exit status.
 
-ghost use Rattle.std.specs.Prelude.{◌≡◌, ◌≤◌, List, ℕ, [], Some, IsSome};
+ghost use Rattle.std.specs.Prelude.{◌≡◌, ◌≤◌, IsSome};
 ghost use Rattle.cqlp_note.specs.Limits.{first_bad};
-ghost use Rattle.cqlp_tool.specs.CommandLines.{Complains, Helps, TellsFault, TellsMistake, TellsNoMemory, TellsWrong, default_limits};
+ghost use Rattle.cqlp_tool.specs.CommandLines.{Complains, Helps, Performs, ReportsFault, ReportsMistake, ReportsNoMemory, ReportsWrong};
 ghost use Rattle.cqlp_text.specs.Endings.{IsStatusOfStream, cannot_open_line as cannot_open_line_of};
-ghost use Rattle.cqlp_text.specs.Outputs.{WritesText, output, with_text};
-ghost use Rattle.cqlp_tool.specs.Showing.{Concludes, ShowsAndTells};
+ghost use Rattle.cqlp_text.specs.Outputs.{written};
+ghost use Rattle.cqlp_tool.specs.Streams.{streams};
 ghost use Rattle.cqlp_text.specs.declared.ending.Ending.{Ending};
 ghost use Rattle.cqlp_options.specs.NoTasks.{IfHelp, IfMistake};
 ghost use Rattle.cqlp_options.specs.declared.no_task.NoTask.TheVariants as no_tasks;
-ghost use Rattle.cqlp_tool.specs.declared.text_form.TextForm.TheVariants as forms;
 
 use crate::showing::{TURNS, check, conclude, rows, show};
 use cqlp_decode::SinkFault;
@@ -37,15 +36,9 @@ pub fn command<R: Files + AllocGlobal, I: Source, O: Target, E: Target>(
     out: O,
     err: E,
 ) -> (u8, O, E)
-    ensures no_words { words.now ≡ [] → (xs : List ℕ) → I.left input.old ≡ Some xs → IsSome (O.contents out) → IsSome (E.contents err) →
-        ShowsAndTells forms.Lines default_limits TURNS xs (I.left input.new) (I.failures input.old) (I.failures input.new)
-        (output (O.contents out) (O.failures out)) (output (E.contents err) (E.failures err)) result.0
-        (output (O.contents result.1) (O.failures result.1)) (output (E.contents result.2) (E.failures result.2)) }
-    ensures status { result.0 ≤ 3 }
-    ensures bad_command_line { result.0 ≡ 2 → IsSome (O.contents out) → IsSome (E.contents err) →
-        (input.new ≡ input.old)
-        × TellsWrong (output (O.contents out) (O.failures out)) (output (E.contents err) (E.failures err))
-        (output (O.contents result.1) (O.failures result.1)) (output (E.contents result.2) (E.failures result.2)) }
+    ensures performs { let view = streams I.Source O.Target E.Target in
+        Performs words.now TURNS (view input.old out err) result.0 (view input.new result.1 result.2) }
+    ensures untouched { result.0 ≡ 2 → input.new ≡ input.old }
 {
     command_within(rt, &rt.alloc(), words, input, out, err)
 }
@@ -59,15 +52,9 @@ pub(crate) fn command_within<R: Files + AllocGlobal, A: Allocator, I: Source, O:
     out: O,
     err: E,
 ) -> (u8, O, E)
-    ensures no_words { words.now ≡ [] → (xs : List ℕ) → I.left input.old ≡ Some xs → IsSome (O.contents out) → IsSome (E.contents err) →
-        ShowsAndTells forms.Lines default_limits TURNS xs (I.left input.new) (I.failures input.old) (I.failures input.new)
-        (output (O.contents out) (O.failures out)) (output (E.contents err) (E.failures err)) result.0
-        (output (O.contents result.1) (O.failures result.1)) (output (E.contents result.2) (E.failures result.2)) }
-    ensures status { result.0 ≤ 3 }
-    ensures bad_command_line { result.0 ≡ 2 → IsSome (O.contents out) → IsSome (E.contents err) →
-        (input.new ≡ input.old)
-        × TellsWrong (output (O.contents out) (O.failures out)) (output (E.contents err) (E.failures err))
-        (output (O.contents result.1) (O.failures result.1)) (output (E.contents result.2) (E.failures result.2)) }
+    ensures performs { let view = streams I.Source O.Target E.Target in
+        Performs words.now TURNS (view input.old out err) result.0 (view input.new result.1 result.2) }
+    ensures untouched { result.0 ≡ 2 → input.new ≡ input.old }
 {
     if words.is_empty() {
         return show(heap, DEFAULT_LIMITS, input, out, err);
@@ -110,7 +97,7 @@ fn perform<A: Allocator, I: Source, O: Target, E: Target>(
 fn cannot_open<E: Target>(file: &str, mut err: E) -> (u8, E)
     ensures status { result.0 ≡ 3 }
     ensures line { IsSome (E.contents err) →
-        TellsFault (cannot_open_line_of file.now) (output (E.contents err) (E.failures err)) result.0 (output (E.contents result.1) (E.failures result.1)) }
+        ReportsFault (cannot_open_line_of file.now) (written E.Target err) result.0 (written E.Target result.1) }
 {
     match cannot_open_line(file, &mut err) {
         Ok(()) | Err(SinkFault) => (FAULT, err),
@@ -120,18 +107,18 @@ fn cannot_open<E: Target>(file: &str, mut err: E) -> (u8, E)
 /// Tells what there is in place of options: help or the version on `out`, and a mistake on `err`.
 fn tell<O: Target, E: Target>(no_task: NoTask, out: O, err: E) -> (u8, O, E)
     ensures help { IfHelp no_task (λ text. IsSome (O.contents out) → IsSome (E.contents err) →
-        Helps text (output (O.contents out) (O.failures out)) (output (E.contents err) (E.failures err)) result.0
-        (output (O.contents result.1) (O.failures result.1)) (output (E.contents result.2) (E.failures result.2))) }
+        Helps text (written O.Target out) (written E.Target err) result.0
+        (written O.Target result.1) (written E.Target result.2)) }
     ensures mistake { IfMistake no_task (λ text. IsSome (E.contents err) →
-        TellsMistake text (output (O.contents out) (O.failures out)) (output (E.contents err) (E.failures err)) result.0
-        (output (O.contents result.1) (O.failures result.1)) (output (E.contents result.2) (E.failures result.2))) }
+        ReportsMistake text (written O.Target out) (written E.Target err) result.0
+        (written O.Target result.1) (written E.Target result.2)) }
     ensures no_memory { no_task ≡ no_tasks.NoMemory → IsSome (E.contents err) →
-        TellsNoMemory (output (O.contents out) (O.failures out)) (output (E.contents err) (E.failures err)) result.0
-        (output (O.contents result.1) (O.failures result.1)) (output (E.contents result.2) (E.failures result.2)) }
+        ReportsNoMemory (written O.Target out) (written E.Target err) result.0
+        (written O.Target result.1) (written E.Target result.2) }
     ensures status { result.0 ≤ 3 }
     ensures bad_command_line { result.0 ≡ 2 → IsSome (O.contents out) → IsSome (E.contents err) →
-        TellsWrong (output (O.contents out) (O.failures out)) (output (E.contents err) (E.failures err))
-        (output (O.contents result.1) (O.failures result.1)) (output (E.contents result.2) (E.failures result.2)) }
+        ReportsWrong (written O.Target out) (written E.Target err)
+        (written O.Target result.1) (written E.Target result.2) }
 {
     match no_task {
         NoTask::Help(text) => help(text.as_str(), out, err),
@@ -150,8 +137,8 @@ fn tell<O: Target, E: Target>(no_task: NoTask, out: O, err: E) -> (u8, O, E)
 fn help<O: Target, E: Target>(text: &str, mut out: O, err: E) -> (u8, O, E)
     ensures status { IsStatusOfStream result.0 }
     ensures help { IsSome (O.contents out) → IsSome (E.contents err) →
-        Helps text.now (output (O.contents out) (O.failures out)) (output (E.contents err) (E.failures err)) result.0
-        (output (O.contents result.1) (O.failures result.1)) (output (E.contents result.2) (E.failures result.2)) }
+        Helps text.now (written O.Target out) (written E.Target err) result.0
+        (written O.Target result.1) (written E.Target result.2) }
 {
     match put_text(text, &mut out) {
         Ok(()) => (0, out, err),
@@ -166,7 +153,7 @@ fn help<O: Target, E: Target>(text: &str, mut out: O, err: E) -> (u8, O, E)
 fn complain<E: Target>(text: &str, mut err: E) -> (u8, E)
     ensures status { result.0 ≤ 3 }
     ensures complaint { IsSome (E.contents err) →
-        Complains text.now (output (E.contents err) (E.failures err)) result.0 (output (E.contents result.1) (E.failures result.1)) }
+        Complains text.now (written E.Target err) result.0 (written E.Target result.1) }
 {
     match put_text(text, &mut err) {
         Ok(()) => (BAD_COMMAND_LINE, err),

@@ -22,28 +22,28 @@ pub(crate) struct TextSink<W: Target> {
 
 impl<W: Target> Model for TextSink<W> {
     ghost use Rattle.std.specs.Prelude.{◌≡◌, []};
-    ghost use Rattle.cqlp_text.specs.Outputs.{output};
+    ghost use Rattle.cqlp_text.specs.Outputs.{written};
     ghost use Rattle.cqlp_tool.specs.Rendering.{Rendering, rendering};
 
     ghost Value = { Rendering };
 
-    ghost view = { λ s. rendering (output (W.contents s.target) (W.failures s.target)) s.form };
+    ghost view = { λ s. rendering (written W.Target s.target) s.form };
 }
 
 impl<W: Target> TextSink<W> {
-    ghost use Rattle.cqlp_text.specs.Outputs.{output};
+    ghost use Rattle.cqlp_text.specs.Outputs.{written};
     ghost use Rattle.cqlp_tool.specs.Rendering.{rendering};
 
     /// Over a target, in a form.
     pub fn new(target: W, form: TextForm) -> Self
-        ensures { result ≡ rendering (output (W.contents target) (W.failures target)) form }
+        ensures { result ≡ rendering (written W.Target target) form }
     {
         TextSink { target, form }
     }
 
     /// The target.
     pub fn into_inner(self) -> W
-        ensures { output (W.contents result) (W.failures result) ≡ self.output }
+        ensures { written W.Target result ≡ self.output }
     {
         let TextSink { target, form: _ } = self;
         target
@@ -87,8 +87,9 @@ impl<W: Target> Sink for TextSink<W> {
 }
 
 ghost use Rattle.cqlp_text.specs.PageText.{no_page};
-ghost use Rattle.cqlp_text.specs.Outputs.{output};
+ghost use Rattle.cqlp_text.specs.Outputs.{written};
 ghost use Rattle.cqlp_tool.specs.Rendering.{RendersTo};
+ghost use Rattle.cqlp_tool.specs.Streams.{IfKnown, unread};
 ghost use Rattle.cqlp_tool.specs.Showing.{RendersOrFails};
 ghost use Rattle.cqlp_tool.specs.declared.text_form.TextForm.TheVariants as forms;
 
@@ -100,11 +101,13 @@ pub fn render_events<R: Source, W: Target, A: Allocator>(
     w: W,
     turns: u64,
 ) -> (Outcome, W)
-    ensures lines { (xs : List ℕ) → R.left reader.old ≡ Some xs → IsSome (W.contents w) → RendersTo forms.Lines turns result.0 (state decoder.old) (state decoder.new) xs (R.left reader.new) (output (W.contents w) (W.failures w)) (output (W.contents result.1) (W.failures result.1)) }
+    ensures lines { IfKnown (unread R.Source reader.old) (written W.Target w) (λ xs.
+        RendersTo forms.Lines turns result.0 (state decoder.old) (state decoder.new) xs (R.left reader.new)
+        (written W.Target w) (written W.Target result.1)) }
     ensures waits { WaitsAt result.0 (state decoder.new) }
     ensures refused { (r : Refusal) → (state decoder.old).refusal ≡ Some r →
-        (result.0 ≡ Outcome.Finished (Finish.Refused r)) × (state decoder.new ≡ state decoder.old) × (reader.new ≡ reader.old)
-        × (output (W.contents result.1) (W.failures result.1) ≡ output (W.contents w) (W.failures w)) }
+        (result.0 ≡ Outcome.Finished (Finish.Refused r)) × (state decoder.new ≡ state decoder.old)
+        × (reader.new ≡ reader.old) × (written W.Target result.1 ≡ written W.Target w) }
     ensures reads { (xs : List ℕ) → R.left reader.old ≡ Some xs → ReadsAtMost (4096 * turns) xs (R.left reader.new) }
     ensures failures { Counts result.0 (R.failures reader.old) (R.failures reader.new) }
     ensures rules { (state decoder.new).rules ≡ (state decoder.old).rules }
@@ -123,11 +126,13 @@ pub fn render_rows<R: Source, W: Target, A: Allocator>(
     w: W,
     turns: u64,
 ) -> (Outcome, W)
-    ensures text { (xs : List ℕ) → R.left reader.old ≡ Some xs → IsSome (W.contents w) → RendersTo (forms.Pages no_page) turns result.0 (state decoder.old) (state decoder.new) xs (R.left reader.new) (output (W.contents w) (W.failures w)) (output (W.contents result.1) (W.failures result.1)) }
+    ensures text { IfKnown (unread R.Source reader.old) (written W.Target w) (λ xs.
+        RendersTo (forms.Pages no_page) turns result.0 (state decoder.old) (state decoder.new) xs (R.left reader.new)
+        (written W.Target w) (written W.Target result.1)) }
     ensures waits { WaitsAt result.0 (state decoder.new) }
     ensures refused { (r : Refusal) → (state decoder.old).refusal ≡ Some r →
-        (result.0 ≡ Outcome.Finished (Finish.Refused r)) × (state decoder.new ≡ state decoder.old) × (reader.new ≡ reader.old)
-        × (output (W.contents result.1) (W.failures result.1) ≡ output (W.contents w) (W.failures w)) }
+        (result.0 ≡ Outcome.Finished (Finish.Refused r)) × (state decoder.new ≡ state decoder.old)
+        × (reader.new ≡ reader.old) × (written W.Target result.1 ≡ written W.Target w) }
     ensures reads { (xs : List ℕ) → R.left reader.old ≡ Some xs → ReadsAtMost (4096 * turns) xs (R.left reader.new) }
     ensures failures { Counts result.0 (R.failures reader.old) (R.failures reader.new) }
     ensures rules { (state decoder.new).rules ≡ (state decoder.old).rules }
@@ -145,7 +150,9 @@ pub(crate) fn run_flushing<R: Source, W: Target, A: Allocator, B: Allocator>(
     sink: &mut TextSink<Buffered<W, B>>,
     turns: u64,
 ) -> Outcome
-    ensures renders { (xs : List ℕ) → R.left reader.old ≡ Some xs → IsSome sink.old.output.given → After (state decoder.old) [] [] → RendersOrFails sink.old.form turns result (state decoder.old) (state decoder.new) xs (R.left reader.new) sink.old.output sink.new.output }
+    ensures renders { IfKnown (unread R.Source reader.old) sink.old.output (λ xs. After (state decoder.old) [] [] →
+        RendersOrFails sink.old.form turns result (state decoder.old) (state decoder.new) xs (R.left reader.new)
+        sink.old.output sink.new.output) }
     ensures failures { Counts result (R.failures reader.old) (R.failures reader.new) }
     ensures rules { (state decoder.new).rules ≡ (state decoder.old).rules }
 {

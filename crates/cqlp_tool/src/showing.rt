@@ -1,12 +1,13 @@
 //! A whole stream, shown or checked.
 
-ghost use Rattle.std.specs.Prelude.{◌≡◌, List, ℕ, Some, IsSome, []};
+ghost use Rattle.std.specs.Prelude.{◌≡◌, []};
 ghost use Rattle.cqlp_decode.specs.Streams.{After, state};
 ghost use Rattle.cqlp_note.specs.Limits.{first_bad};
 ghost use Rattle.cqlp_text.specs.Endings.{IsStatusOfStream};
 ghost use Rattle.cqlp_text.specs.PageText.{no_page};
-ghost use Rattle.cqlp_text.specs.Outputs.{Output, output};
-ghost use Rattle.cqlp_tool.specs.Showing.{ending_of, ChecksAndTells, Concludes, CountsReads, RendersOrFails, ShowsAndTells, ShowsTo};
+ghost use Rattle.cqlp_text.specs.Outputs.{Output, written};
+ghost use Rattle.cqlp_tool.specs.Streams.{IfKnown, streams, unread};
+ghost use Rattle.cqlp_tool.specs.Showing.{ending_of, ChecksAndReports, ConcludesIfKnown, CountsReads, RendersOrFails, ShowsAndReports, ShowsTo};
 ghost use Rattle.cqlp_text.specs.declared.ending.Ending.{Ending};
 ghost use Rattle.cqlp_tool.specs.declared.text_form.TextForm.TheVariants as forms;
 
@@ -35,10 +36,8 @@ pub fn show<R: Source, O: Target, E: Target, A: Allocator>(
 ) -> (u8, O, E)
     requires { first_bad limits ≡ Ok tt }
     ensures status { IsStatusOfStream result.0 }
-    ensures shows { (xs : List ℕ) → R.left input.old ≡ Some xs → IsSome (O.contents out) → IsSome (E.contents err) →
-        ShowsAndTells forms.Lines limits TURNS xs (R.left input.new) (R.failures input.old) (R.failures input.new)
-        (output (O.contents out) (O.failures out)) (output (E.contents err) (E.failures err)) result.0
-        (output (O.contents result.1) (O.failures result.1)) (output (E.contents result.2) (E.failures result.2)) }
+    ensures shows { let view = streams R.Source O.Target E.Target in
+        ShowsAndReports forms.Lines limits TURNS (view input.old out err) result.0 (view input.new result.1 result.2) }
 {
     let (ending, out) = shown(alloc, limits, TextForm::Lines, input, out);
     let (status, err) = conclude(ending, err);
@@ -56,10 +55,8 @@ pub fn rows<R: Source, O: Target, E: Target, A: Allocator>(
 ) -> (u8, O, E)
     requires { first_bad limits ≡ Ok tt }
     ensures status { IsStatusOfStream result.0 }
-    ensures shows { (xs : List ℕ) → R.left input.old ≡ Some xs → IsSome (O.contents out) → IsSome (E.contents err) →
-        ShowsAndTells (forms.Pages no_page) limits TURNS xs (R.left input.new) (R.failures input.old) (R.failures input.new)
-        (output (O.contents out) (O.failures out)) (output (E.contents err) (E.failures err)) result.0
-        (output (O.contents result.1) (O.failures result.1)) (output (E.contents result.2) (E.failures result.2)) }
+    ensures shows { let view = streams R.Source O.Target E.Target in
+        ShowsAndReports (forms.Pages no_page) limits TURNS (view input.old out err) result.0 (view input.new result.1 result.2) }
 {
     let (ending, out) = shown(alloc, limits, TextForm::Pages(PagePlace::new()), input, out);
     let (status, err) = conclude(ending, err);
@@ -77,10 +74,8 @@ pub fn check<R: Source, O: Target, E: Target, A: Allocator>(
 ) -> (u8, O, E)
     requires { first_bad limits ≡ Ok tt }
     ensures status { IsStatusOfStream result.0 }
-    ensures checks { (xs : List ℕ) → R.left input.old ≡ Some xs → IsSome (O.contents out) → IsSome (E.contents err) →
-        ChecksAndTells limits TURNS xs (R.left input.new) (R.failures input.old) (R.failures input.new)
-        (output (O.contents out) (O.failures out)) (output (E.contents err) (E.failures err)) result.0
-        (output (O.contents result.1) (O.failures result.1)) (output (E.contents result.2) (E.failures result.2)) }
+    ensures checks { let view = streams R.Source O.Target E.Target in
+        ChecksAndReports limits TURNS (view input.old out err) result.0 (view input.new result.1 result.2) }
 {
     let (ending, mut out) = shown(alloc, limits, TextForm::Nothing, input, out);
     let Ending::Finished(_) = ending else {
@@ -103,9 +98,8 @@ fn shown<R: Source, O: Target, A: Allocator>(
     out: O,
 ) -> (Ending, O)
     requires { first_bad limits ≡ Ok tt }
-    ensures shows { (xs : List ℕ) → R.left input.old ≡ Some xs → IsSome (O.contents out) →
-        ShowsTo form limits TURNS result.0 xs (R.left input.new)
-        (output (O.contents out) (O.failures out)) (output (O.contents result.1) (O.failures result.1)) }
+    ensures shows { IfKnown (unread R.Source input.old) (written O.Target out) (λ xs.
+        ShowsTo form limits TURNS result.0 xs (R.left input.new) (written O.Target out) (written O.Target result.1)) }
     ensures failures { CountsReads result.0 (R.failures input.old) (R.failures input.new) }
 {
     let mut decoder = match Decoder::new(alloc, limits) {
@@ -140,9 +134,9 @@ fn render_buffered<R: Source, O: Target, A: Allocator, B: Allocator>(
     form: TextForm,
     buffer: Vec<u8, B>,
 ) -> (Outcome, O)
-    ensures renders { (xs : List ℕ) → R.left input.old ≡ Some xs → IsSome (O.contents out) → After (state decoder.old) [] [] →
+    ensures renders { IfKnown (unread R.Source input.old) (written O.Target out) (λ xs. After (state decoder.old) [] [] →
         RendersOrFails form TURNS result.0 (state decoder.old) (state decoder.new) xs (R.left input.new)
-        (output (O.contents out) (O.failures out)) (output (O.contents result.1) (O.failures result.1)) }
+        (written O.Target out) (written O.Target result.1)) }
     ensures failures { CountsReads (ending_of result.0) (R.failures input.old) (R.failures input.new) }
     ensures rules { (state decoder.new).rules ≡ (state decoder.old).rules }
 {
@@ -161,7 +155,7 @@ fn render_buffered<R: Source, O: Target, A: Allocator, B: Allocator>(
 /// Writes the verdict line or fault line. Answers the exit status, which is 3 where that fails.
 pub(crate) fn conclude<E: Target>(ending: Ending, mut err: E) -> (u8, E)
     ensures status { IsStatusOfStream result.0 }
-    ensures concludes { IsSome (E.contents err) → Concludes ending (output (E.contents err) (E.failures err)) result.0 (output (E.contents result.1) (E.failures result.1)) }
+    ensures concludes { ConcludesIfKnown ending (written E.Target err) result.0 (written E.Target result.1) }
 {
     match ending_line(ending, &mut err) {
         Ok(()) => (ending.status(), err),
