@@ -69,7 +69,7 @@ impl StreamStanding {
     ghost use Rattle.cqlp_message.specs.Upcoming.{behind, symbols_in};
     ghost use Rattle.cqlp_decode.specs.declared.standing.StreamStage.TheVariants as stage;
     ghost use Rattle.cqlp_decode.specs.Standing.{Advances, GoesOn, GoesOnAfter, HasCome, LeavesTypes, Moves, MovesIdle, Takes};
-    ghost use Rattle.cqlp_decode.specs.Standing.{HasParts, HasRoom, IsConsistent, IsFresh, IsLawful, IsPlaced, PartsState};
+    ghost use Rattle.cqlp_decode.specs.Standing.{HasParts, HasRoom, IsConsistent, IsFresh, IsLawful, PartsState};
     ghost use Rattle.cqlp_decode.specs.Standing.{IsAsked, IsAt, IsBounded, IsWanted, Starts, asked};
     ghost use Rattle.cqlp_decode.specs.Standing.{first_state, parts_state, refusal_in, rest_of, state_of, state_with, symbols_at};
     ghost use Rattle.cqlp_decode.specs.Pages.{IsPage, cells_after, node_by};
@@ -116,8 +116,7 @@ impl StreamStanding {
 
     /// How the stream ends, if it ends here.
     pub fn finish<A: Allocator>(&self, parts: &Parts<A>) -> Finish
-        requires bounded { IsBounded self.now }
-        requires placed { IsPlaced self.now (parts_state parts.now) self.now.stage }
+        requires { IsLawful self.now parts.now }
         ensures refused { (r : Refusing) → self.now.refusal ≡ Some r → result ≡ Finish.Refused r }
         ensures ends { EndsAs (state_with self.now parts.now) result }
     {
@@ -135,8 +134,7 @@ impl StreamStanding {
 
     /// How many bytes of the stream have come.
     fn bytes_used<A: Allocator>(&self, parts: &Parts<A>) -> u64
-        requires bounded { IsBounded self.now }
-        requires placed { IsPlaced self.now (parts_state parts.now) self.now.stage }
+        requires { IsLawful self.now parts.now }
         ensures { HasCome (state_with self.now parts.now) result }
     {
         match self.stage {

@@ -1,4 +1,4 @@
-use Rattle.std.proofs.Common.{◌≡◌, ◌+◌, ◌-◌, Some, sym, ◌∙◌}
+use Rattle.std.proofs.Common.{◌≡◌, ◌+◌, ◌-◌, Some, refl, sym, ◌∙◌}
 use Rattle.cqlp_type.specs.Types.{NoMore}
 use Rattle.cqlp_message.specs.Productions.{raw_types}
 use Rattle.cqlp_decode.proofs.Columns.{column_there, raw_left}
@@ -16,3 +16,9 @@ pub returns-in-Raw : goal.returns-in-Raw
 returns-in-Raw g c = λ depth page.
     let lt = rw c.in-Raw.is at page.0 in
     (NoMore, raw_types (c.in-Raw.field-0 - (c.args.self.now.column + 1)), rw c.in-Raw.is (raw_left c.in-Raw.field-0 c.args.self.now.column lt))
+
+pub unwrap-requires : goal.unwrap-requires
+unwrap-requires g c =
+    let h = rw c.in-Typed.is at c.requires.1.0 in
+    let there = column_there c.args.table.now.nodes c.requires.0 c.args.self.now.index c.args.self.now.column h in
+    rw (c.node.ensures ∙ there.get) refl

@@ -34,3 +34,9 @@ returns-in-Raw g c = λ depth page.
       | inl few ↦ rw (lt-ltb _ _ few) (others_raw n column lt, few)
       | inr le ↦ rw (le-ltb _ _ le) (last_raw n column lt le)
     ])
+
+pub unwrap-requires : goal.unwrap-requires
+unwrap-requires g c =
+    let h = rw c.in-Typed.is at c.requires.1.0 in
+    let there = column_there c.args.table.now.nodes c.requires.0 c.args.self.now.index c.args.self.now.column h in
+    rw (c.node.ensures ∙ there.get) refl
