@@ -1,16 +1,11 @@
-//! Reads streams of the CQL native protocol v4, as its words say, and tells what is in them.
+//! Reads streams of the CQL native protocol v4, as its words say, and writes what is in them.
 #![tactic(auto)]
 
 use cqlp_note::OfStd;
+use cqlp_text::status::{BAD_COMMAND_LINE, FAULT};
 use cqlp_tool::command;
 use std::process::ExitCode;
 use std::{env, io};
-
-/// The exit status where the words are no text.
-const BAD_COMMAND_LINE: u8 = 2;
-
-/// The exit status where there is no memory for the words, or the standard error fails.
-const FAULT: u8 = 3;
 
 fn main(rt: HostRuntime) -> ExitCode {
     match run(&rt) {
@@ -33,7 +28,7 @@ fn run(rt: &HostRuntime) -> io::Result<u8> {
     Ok(status)
 }
 
-/// Writes why the words cannot be read. Answers the exit status.
+/// Writes why the words cannot be read: they are no text, or there is no memory for them. Answers the exit status.
 fn complain(rt: &HostRuntime, why: io::ErrorKind) -> u8 {
     let io::ErrorKind::InvalidData = why else {
         let _ = eprintln!(rt; "cqlp: no memory");

@@ -12,6 +12,7 @@ use Rattle.cqlp_decode.specs.Standing.{StreamState}
 use Rattle.cqlp_decode.specs.Streams.{After, FinishesBy}
 use Rattle.cqlp_text.specs.declared.ending.Ending.{Ending}
 use Rattle.cqlp_text.specs.declared.ending.Ending.TheVariants as ending
+use Rattle.cqlp_text.specs.declared.status.TheConstants.{FAULT}
 use Rattle.cqlp_text.specs.Endings.{ending_line, finish_status}
 use Rattle.cqlp_text.specs.Laws.{FailsAlike, GoesOnFromOther}
 use Rattle.cqlp_text.specs.Outputs.{Output, with_text, HasFailed}
@@ -40,8 +41,8 @@ IsRenderedWhole form = (turns : ℕ) (f : Finish) (old new : StreamState) (xs : 
 abbrev pub IsSound : (before after : ℕ) → Type 0
 IsSound before after = (before < 2 ^ 64 - 1) × (after ≡ before)
 
--- The outside granted all: no target and no reader failed, the stream has fewer bytes than there are turns, and the line
--- of no memory was not written.
+-- The outside granted all: no target and no reader failed, the stream has fewer bytes than there are turns, and the
+-- line of no memory was not written.
 pub record IsGranted (turns : ℕ) (xs : List ℕ) (before after : Streams) : Type 0 where
   pub reader : IsSound before.input.failures after.input.failures
   pub output : IsSound before.out.failures after.out.failures
@@ -49,12 +50,13 @@ pub record IsGranted (turns : ℕ) (xs : List ℕ) (before after : Streams) : Ty
   pub time : length xs < turns
   pub memory : after.err ≢ with_text before.err (ending_line ending.NoMemory)
 
--- A stream that says these events and this verdict is shown: where the outside granted all, or the status is not that of
--- a fault, just the text of the events was written, the verdict line is that of the stream, and the status is its own.
+-- A stream that says these events and this verdict is shown: where the outside granted all, or the status is not that
+-- of a fault, just the text of the events was written, the verdict line is that of the stream, and the status is its
+-- own.
 abbrev pub IsShownRightly : TextForm → Type 0
 IsShownRightly form = (limits : Limits) (turns : ℕ) (xs : List ℕ) (before : Streams) (status : ℕ) (after : Streams)
     (es : List (ℕ × Event)) (v : Verdict)
-    → Says (rules_of limits) start xs es v → IsGranted turns xs before after ⊎ (status ≢ 3)
+    → Says (rules_of limits) start xs es v → IsGranted turns xs before after ⊎ (status ≢ FAULT)
     → ShowsBytes form limits turns xs before status after
     → (f : Finish) × EndsAs xs es v f × (status ≡ finish_status f)
     × (after.out ≡ with_text before.out (text form es))
@@ -64,7 +66,7 @@ IsShownRightly form = (limits : Limits) (turns : ℕ) (xs : List ℕ) (before : 
 abbrev pub IsCheckedRightly : Type 0
 IsCheckedRightly = (limits : Limits) (turns : ℕ) (xs : List ℕ) (before : Streams) (status : ℕ) (after : Streams)
     (es : List (ℕ × Event)) (v : Verdict)
-    → Says (rules_of limits) start xs es v → IsGranted turns xs before after ⊎ (status ≢ 3)
+    → Says (rules_of limits) start xs es v → IsGranted turns xs before after ⊎ (status ≢ FAULT)
     → ChecksBytes limits turns xs before status after
     → (f : Finish) × EndsAs xs es v f × (status ≡ finish_status f)
     × (after.out ≡ with_text before.out (ending_line (ending.Finished f))) × (after.err ≡ before.err)
@@ -77,8 +79,8 @@ abbrev pub IsOneOutput : (before after after' : Output) → Type 0
 IsOneOutput before after after' =
     (after' ≡ after) ⊎ (HasFailed before after × HasFailed before after' × GoesOnFromOther after after')
 
--- What only the outside decides is the same of two runs: how they end, and what a reader has left that failed or was not
--- at its end.
+-- What only the outside decides is the same of two runs: how they end, and what a reader has left that failed or was
+-- not at its end.
 abbrev pub EndsAlike : Outcome → Outcome → (left left' : Option (List ℕ)) → Type 0
 EndsAlike (outcome.Finished f) (outcome.Finished f') left left' = Unit {0}
 EndsAlike outcome.ReadFault outcome.ReadFault left left' = left' ≡ left
@@ -103,8 +105,8 @@ EndAlike ending.WriteFault ending.WriteFault left left' = Unit {0}
 EndAlike ending.NoMemory ending.NoMemory left left' = Unit {0}
 EndAlike e e' left left' = ⊥
 
--- Two commands that show the same bytes within the same limits, and end alike: one ending, one status, and one text on each
--- output.
+-- Two commands that show the same bytes within the same limits, and end alike: one ending, one status, and one text on
+-- each output.
 abbrev pub IsShownOnce : TextForm → Type 0
 IsShownOnce form = (limits : Limits) (turns : ℕ) (xs : List ℕ) (before : Streams) (status status' : ℕ)
     (after after' : Streams)
