@@ -8,6 +8,7 @@ mod events;
 pub mod laws;
 mod names;
 mod page_text;
+pub mod status;
 mod targets;
 mod text;
 mod text_writer;

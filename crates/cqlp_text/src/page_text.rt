@@ -87,7 +87,8 @@ impl Model for PagePlace {
 impl PagePlace {
     ghost use Rattle.std.specs.Prelude.{false};
     ghost use Rattle.cqlp_note.specs.Field.{Count as CountValue, Int as IntValue};
-    ghost use Rattle.cqlp_text.specs.PageText.{no_page, before, behind, innermost, with_item, with_item_if, with_open, without_open, place_behind_field};
+    ghost use Rattle.cqlp_text.specs.PageText.{no_page, before, behind, innermost, with_item, with_item_if};
+    ghost use Rattle.cqlp_text.specs.PageText.{with_open, without_open, place_behind_field};
 
     /// Before any frame.
     pub fn new() -> Self
@@ -283,7 +284,8 @@ impl PagePlace {
 impl<W: Target> TextWriter<'_, W> {
     ghost use Rattle.cqlp_note.specs.Field.{Count as CountValue, Text as TextValue};
     ghost use Rattle.cqlp_value.specs.CellStep as cell;
-    ghost use Rattle.cqlp_text.specs.PageText.{before, behind, column_line, page_line, event_part, field_part, value_part, whole_value, part_start, part_end, end_part, opening};
+    ghost use Rattle.cqlp_text.specs.PageText.{before, behind, column_line, page_line, event_part, field_part};
+    ghost use Rattle.cqlp_text.specs.PageText.{value_part, whole_value, part_start, part_end, end_part, opening};
     ghost use Rattle.cqlp_text.specs.Words.{word_text};
     ghost use Rattle.cqlp_text.specs.Written.{Writes};
 
@@ -451,7 +453,8 @@ impl<W: Target> TextWriter<'_, W> {
 }
 
 ghost use Rattle.std.specs.Prelude.{◌==◌, if◌then◌else◌, codes};
-ghost use Rattle.cqlp_text.specs.PageText.{behind as text_behind, closing as text_closing, opening as text_opening, separator as text_between, turn_after as next_turn};
+ghost use Rattle.cqlp_text.specs.PageText.{behind as text_behind, closing as text_closing, opening as text_opening};
+ghost use Rattle.cqlp_text.specs.PageText.{separator as text_between, turn_after as next_turn};
 
 /// What stands before an item of an open value.
 fn separator(turn: Turn) -> &'static str

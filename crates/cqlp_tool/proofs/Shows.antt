@@ -13,7 +13,7 @@ use Rattle.cqlp_tool.specs.Forms.{text, text_of, form_behind}
 use Rattle.cqlp_text.specs.Written.{Written, bare, taken}
 use Rattle.cqlp_text.specs.Outputs.{Output, output, with_text, HasFailed, StopsWithin}
 use Rattle.cqlp_text.proofs.OneAnswer.{known_then}
-use Rattle.cqlp_tool.specs.Rendering.{Rendering, with_event, StopsWithinEvent, Renders, RendersFront, RendersPart, WritesFront}
+use Rattle.cqlp_tool.specs.Rendering.{Rendering, with_event, StopsWithinEvent, RendersFront, WritesFront}
 use Rattle.cqlp_tool.specs.Showing.{RendersOrFails, ShowsTo, Concludes, ConcludesCheck, ending_of}
 use Rattle.cqlp_text.specs.declared.ending.Ending.{Ending}
 use Rattle.cqlp_text.specs.declared.ending.Ending.TheVariants as ending
@@ -21,7 +21,7 @@ use Rattle.cqlp_text.specs.Endings.{ending_line, status_of}
 use Rattle.cqlp_message.specs.declared.event.Finish.{Finish}
 use Rattle.cqlp_note.specs.declared.limits.Limits.{Limits}
 use Rattle.cqlp_note.specs.Limits.{rules_of}
-use Rattle.cqlp_tool.proofs.Renders.{known_nothing, known_still, text-last, renders_to}
+use Rattle.cqlp_tool.proofs.Renders.{known_nothing, known_still, text-last, renders_to, texts_to, Renders, RendersPart}
 use Rattle.cqlp_tool.proofs.Turns.{runs_on}
 
 -- known bytes that are kept are the same
@@ -92,9 +92,9 @@ module _ (old new : StreamState) (xs : List ℕ) (left : Option (List ℕ)) (bef
 
   -- a run of some turns, as one of at most so many
   pub renders_or_fails : (turns : ℕ) (o : Outcome) → RunsTo with_event StopsWithinEvent turns o old new xs left before after → RendersOrFails before.form turns o old new xs left before.output after.output
-  renders_or_fails turns (outcome.Finished f) ran = renders_to turns (outcome.Finished f) old new xs left before after ran
-  renders_or_fails turns outcome.ReadFault ran = renders_to turns outcome.ReadFault old new xs left before after ran
-  renders_or_fails turns outcome.Turns ran = renders_to turns outcome.Turns old new xs left before after ran
+  renders_or_fails turns (outcome.Finished f) ran = (after.form, ran)
+  renders_or_fails turns outcome.ReadFault ran = (after.form, ran)
+  renders_or_fails turns outcome.Turns ran = (after.form, ran)
   renders_or_fails turns outcome.SinkFault ran = part_is_front before.form old new xs before.output after.output (renders_to turns outcome.SinkFault old new xs left before after ran)
 
   pub ends_early : (turn turns : ℕ) (o : Outcome) → o ≢ outcome.Turns → RunsTo with_event StopsWithinEvent turn o old new xs left before after → RendersOrFails before.form turns o old new xs left before.output after.output
@@ -117,9 +117,9 @@ goes_on old mid new xs left left' first before flushed after turn o fresh waits 
 
 -- where no target failed, all events were written
 all_events : (form : TextForm) (turns : ℕ) (o : Outcome) (old new : StreamState) (xs : List ℕ) (left : Option (List ℕ)) (before after : Output) → o ≢ outcome.SinkFault → RendersOrFails form turns o old new xs left before after → Renders form old new xs before after
-all_events form turns (outcome.Finished f) old new xs left before after sound ran = ran.0
-all_events form turns outcome.ReadFault old new xs left before after sound ran = ran.0
-all_events form turns outcome.Turns old new xs left before after sound ran = ran.0
+all_events form turns (outcome.Finished f) old new xs left before after sound ran = (texts_to form turns (outcome.Finished f) old new xs left before after ran).0
+all_events form turns outcome.ReadFault old new xs left before after sound ran = (texts_to form turns outcome.ReadFault old new xs left before after ran).0
+all_events form turns outcome.Turns old new xs left before after sound ran = (texts_to form turns outcome.Turns old new xs left before after ran).0
 all_events form turns outcome.SinkFault old new xs left before after sound ran = absurd (sound refl)
 
 -- nothing is left in a buffer that was flushed
@@ -172,7 +172,7 @@ shows_by form limits turns outcome.SinkFault old new xs left before after fresh 
 -- the output of a stream that was read tells what it got
 pub tells_read : (form : TextForm) (limits : Limits) (turns : ℕ) (f : Finish) (xs : List ℕ) (left : Option (List ℕ)) (before after : Output) → IsSome before.given → ShowsTo form limits turns (ending.Finished f) xs left before after → IsSome after.given
 tells_read form limits turns f xs left before after known shows =
-    let wrote = shows.renders.0.events [] [] shows.fresh in
+    let wrote = (texts_to form turns (outcome.Finished f) shows.old shows.new xs left before after shows.renders).0.events [] [] shows.fresh in
     subst (λ (g : Option (List ℕ)). IsSome g) (sym (ap (λ o. o.given) wrote.written)) (known_still before.given (text form wrote.more) known)
 
 module _ (e : Ending) (f : Finish) (is : e ≡ ending.Finished f) (out out' err : Output) (status : ℕ) where

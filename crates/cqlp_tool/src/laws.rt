@@ -2,7 +2,8 @@
 //! outside decides.
 
 ghost use Rattle.cqlp_text.specs.PageText.{no_page};
-ghost use Rattle.cqlp_tool.specs.Laws.{IsCheckedOnce, IsCheckedRightly, IsRenderedOnce, IsRenderedWhole, IsShownOnce, IsShownRightly};
+ghost use Rattle.cqlp_tool.specs.Laws.{IsCheckedOnce, IsCheckedRightly, IsRenderedOnce, IsRenderedWhole, IsShownOnce};
+ghost use Rattle.cqlp_tool.specs.Laws.{IsShownRightly};
 ghost use Rattle.cqlp_tool.specs.declared.text_form.TextForm.TheVariants as forms;
 
 /// Finished, all lines of the stream were written, and its end is told; and two runs that end alike wrote the same.
