@@ -6,6 +6,3 @@ mod options;
 
 pub use no_task::NoTask;
 pub use options::{DEFAULT_LIMITS, Options, Task};
-
-#[cfg(test)]
-mod tests;

@@ -4,13 +4,13 @@
 //! heading. Each decoder is made in memory of just the size that it takes when it is made.
 #![tactic(auto)]
 
-mod digits;
 mod memory;
 mod reading;
 mod script;
 mod ways;
 
 use cqlp_decode::Decoder;
+use cqlp_fakes::bytes_of;
 use linked_list_allocator::LocalHeap;
 use reading::{Said, take};
 use script::{Script, Shows};
@@ -43,7 +43,7 @@ fn print_pieces(rt: &HostRuntime, script: &Script, pieces: &str) -> io::Result<(
     let mut decoder = reading::decoder(&heap, script.limits)?;
     let mut said = Said::new(rt.alloc(), script.shows);
     for piece in pieces.split('|') {
-        let bytes = digits::bytes_of(rt.alloc(), piece)?;
+        let bytes = bytes_of(rt.alloc(), piece)?;
         take(&mut decoder, &bytes, &mut said)?;
         print_said(rt, &mut said, &decoder)?;
         if bytes.len() > 1 && !pieces.contains('|') {

@@ -1,6 +1,6 @@
 //! What the words of a line ask for.
 
-use crate::digits::number;
+use cqlp_fakes::number_of;
 use cqlp_note::Limits;
 
 /// The limits of a line that names no others.
@@ -44,7 +44,7 @@ impl Script {
         };
         for word in words.split_whitespace() {
             match word.split_once('=') {
-                Some((name, digits)) => script.limit(name, number(digits)),
+                Some((name, digits)) => script.limit(name, number_of(digits)),
                 None => script.ask(word),
             }
         }

@@ -9,7 +9,7 @@ pub fn bytes_of(alloc: Global, words: &str) -> io::Result<Vec<u8>> {
     let mut bytes = Vec::new(alloc);
     for word in words.split_whitespace() {
         let (times, digits) = match word.split_once('x') {
-            Some((times, digits)) => (number(times), digits),
+            Some((times, digits)) => (number_of(times), digits),
             None => (1, word),
         };
         let Ok(once) = hex::decode(alloc, digits.as_bytes()) else {
@@ -23,7 +23,7 @@ pub fn bytes_of(alloc: Global, words: &str) -> io::Result<Vec<u8>> {
 }
 
 /// The number that decimal digits spell.
-pub fn number(digits: &str) -> u32 {
+pub fn number_of(digits: &str) -> u32 {
     let mut number = 0u32;
     for digit in digits.as_bytes() {
         number = number
