@@ -236,7 +236,10 @@ const BOUNDS: [Bound; 4] = [
 ];
 
 fn limit<'a>(alloc: Global, bound: &Bound) -> Arg<'a> {
-    let (least, greatest) = (i64::from(bound.range.least), i64::from(bound.range.greatest));
+    let (least, greatest) = (
+        i64::from(bound.range.least),
+        i64::from(bound.range.greatest),
+    );
     Arg::new(alloc, bound.name)
         .long(bound.name)
         .value_name("N")

@@ -1,16 +1,16 @@
-//! Tests of the libraries up to the decoder, by their public calls alone.
+//! Tests of the libraries up to the decoder, by public calls that a script of cqlp_probe does not make.
 #![tactic(auto)]
 
 #[cfg(test)]
 mod cells;
 #[cfg(test)]
-mod decoder;
+mod fields;
 #[cfg(test)]
 mod fronts;
 #[cfg(test)]
-mod heaps;
+mod memory;
 #[cfg(test)]
-mod scalars;
+mod runs;
 #[cfg(test)]
 mod trees;
 #[cfg(test)]
