@@ -30,7 +30,7 @@ varint_text bytes = if nat_le (length bytes) 16 then signed_decimal (complement_
 abbrev pub decimal_text : (scale : ℤ) → (unscaled : List ℕ) → List ℕ
 decimal_text scale unscaled = varint_text unscaled ++ (codes "e" ++ signed_decimal (pos 0 -ℤ scale))
 
--- so many digits of a number, with leading zeros
+-- this many digits of a number, with leading zeros
 abbrev pub digits : ℕ → ℕ → List ℕ
 digits zero n = []
 digits (suc k) n = digits k (n / 10) ++ (48 + n % 10) ∷ []

@@ -10,8 +10,8 @@ mod names;
 mod page_text;
 pub mod status;
 mod targets;
-mod text;
 mod text_writer;
+mod values;
 mod word;
 
 pub use cells::cell_text;

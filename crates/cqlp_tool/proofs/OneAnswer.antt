@@ -26,7 +26,7 @@ use Rattle.cqlp_text.specs.Outputs.{Output, output, with_text, HasFailed, StopsW
 use Rattle.cqlp_text.proofs.OneAnswer.{fronts, known_then, known_fronts, counts_up, stops_once}
 use Rattle.cqlp_tool.specs.declared.text_form.TextForm.{TextForm}
 use Rattle.cqlp_tool.specs.declared.text_form.TextForm.TheVariants as forms
-use Rattle.cqlp_tool.specs.Forms.{text, form_behind}
+use Rattle.cqlp_tool.specs.Forms.{text, form_after_all}
 use Rattle.cqlp_tool.specs.Rendering.{RendersFront}
 use Rattle.cqlp_tool.specs.Showing.{ShowsTo, CountsReads, Concludes, ConcludesCheck}
 use Rattle.cqlp_tool.specs.Laws.{EndsAs, EndsAlike, EndAlike, IsGranted, IsOneOutput, IsRenderedWhole, IsRenderedOnce, IsShownRightly, IsShownOnce, IsCheckedRightly, IsCheckedOnce}
@@ -179,7 +179,7 @@ module _ (form : TextForm) (turns : ℕ) (old new old' new' : StreamState) (xs :
   more_text : (given given' : Option (List ℕ)) (f f' : ℕ) (lost lost' : List ℕ) (fs gs c : List (ℕ × Event)) → es ++ gs ≡ (es ++ fs) ++ c → append_known given lost ≡ append_known before.given (text form fs) → append_known given' lost' ≡ append_known before.given (text form gs) → f' ≡ f → GoesOnFromOther (output given f) (output given' f')
   more_text given given' f f' lost lost' fs gs c longer is is' same =
       let goes : gs ≡ fs ++ c = append_cancel_left es gs (fs ++ c) (longer ∙ append_assoc es fs c) in
-      let t = text (form_behind form fs) c in
+      let t = text (form_after_all form fs) c in
       let other : text form gs ≡ text form fs ++ t = ap (text form) goes ∙ text-append form fs c in
       known_fronts given given' f f' (lost ++ t) lost' (sym (known_then given lost t) ∙ ap (λ k. append_known k t) is ∙ known_then before.given (text form fs) t ∙ ap (append_known before.given) (sym other) ∙ sym is') same
 
@@ -252,13 +252,13 @@ module _ (out err : Output) (status status' : ℕ) (out' err' out'' err'' : Outp
   verdict_once f (inl a) (inr b) = absurd (counts_up out.failures fails.0 (sym b.0.failures ∙ fails.1 ∙ ap (λ o. o.failures) a.1))
   verdict_once f (inr a) (inl b) = absurd (counts_up out.failures fails.0 (sym a.0.failures ∙ sym fails.1 ∙ ap (λ o. o.failures) b.1))
   verdict_once f (inr a) (inr b) =
-      let told = concludes_once ending.WriteFault err err' err'' status status' fails_err a.1 b.1 in
-      (told.0, inr (a.0.failures, b.0.failures, stops_once out out' out'' (ending_line (ending.Finished f)) a.0 b.0), told.1)
+      let reported = concludes_once ending.WriteFault err err' err'' status status' fails_err a.1 b.1 in
+      (reported.0, inr (a.0.failures, b.0.failures, stops_once out out' out'' (ending_line (ending.Finished f)) a.0 b.0), reported.1)
 
   fault_once : (e : Ending) (read read' : Output) → IsOneOutput out read read' → (out' ≡ read) × Concludes e err status err' → (out'' ≡ read') × Concludes e err status' err'' → (status' ≡ status) × IsOneOutput out out' out'' × IsOneOutput err err' err''
   fault_once e read read' one a b =
-      let told = concludes_once e err err' err'' status status' fails_err a.1 b.1 in
-      (told.0, subst (λ (o : Output). IsOneOutput out o out'') (sym a.0) (subst (λ (o : Output). IsOneOutput out read o) (sym b.0) one), told.1)
+      let reported = concludes_once e err err' err'' status status' fails_err a.1 b.1 in
+      (reported.0, subst (λ (o : Output). IsOneOutput out o out'') (sym a.0) (subst (λ (o : Output). IsOneOutput out read o) (sym b.0) one), reported.1)
 
   check_once : (limits : Limits) (turns : ℕ) (xs : List ℕ) (left left' : Option (List ℕ)) (read read' : Output) (e : Ending) → IsOneOutput out read read' → ShowsTo forms.Nothing limits turns e xs left out read → ShowsTo forms.Nothing limits turns e xs left' out read' → ConcludesCheck e read err status out' err' → ConcludesCheck e read' err status' out'' err''
       → (status' ≡ status) × IsOneOutput out out' out'' × IsOneOutput err err' err''
@@ -280,7 +280,7 @@ checked_once limits turns xs before status status' after after' a b alike fails 
 
 -- ---- the right answer
 
--- a fault is told only where the outside fails
+-- a fault is reported only where the outside fails
 no_finish : (f : Finish) → finish_status f ≡ 3 → ⊥
 no_finish (finish.Whole n) h = absurd (omega arith)
 no_finish (finish.Cut at n) h = absurd (omega arith)
@@ -296,8 +296,8 @@ module _ (form : TextForm) (limits : Limits) (turns : ℕ) (xs : List ℕ) (befo
   no_fault (ending.Finished f) three shows counts ends (inl g) = no_finish f three
   no_fault ending.ReadFault three shows counts ends (inl g) = counts_up before.input.failures g.reader.0 (sym counts ∙ g.reader.1)
   no_fault ending.WriteFault three shows counts ends (inl g) = counts_up before.out.failures g.output.0 (sym (shows.renders.events [] [] shows.fresh).failures ∙ g.output.1)
-  no_fault ending.NoMemory three shows counts (inl told) (inl g) = g.memory told.1
-  no_fault ending.NoMemory three shows counts (inr told) (inl g) = counts_up before.err.failures g.error_output.0 (sym told.1.failures ∙ g.error_output.1)
+  no_fault ending.NoMemory three shows counts (inl reported) (inl g) = g.memory reported.1
+  no_fault ending.NoMemory three shows counts (inr reported) (inl g) = counts_up before.err.failures g.error_output.0 (sym reported.1.failures ∙ g.error_output.1)
   no_fault ending.TooManyTurns three shows counts ends (inl g) =
       let ran = texts_to form turns outcome.Turns shows.old shows.new xs after.input.left before.out after.out shows.renders in
       let d = ran.0 in
@@ -305,17 +305,17 @@ module _ (form : TextForm) (limits : Limits) (turns : ℕ) (xs : List ℕ) (befo
 
   -- a verdict line that fails is the error output's fault
   told_right : (f : Finish) → Concludes (ending.Finished f) before.err status after.err → IsGranted turns xs before after ⊎ (status ≢ 3) → (status ≡ finish_status f) × (after.err ≡ with_text before.err (ending_line (ending.Finished f)))
-  told_right f (inl told) g = (told.0, told.1)
-  told_right f (inr told) (inl g) = absurd (counts_up before.err.failures g.error_output.0 (sym told.1.failures ∙ g.error_output.1))
-  told_right f (inr told) (inr not) = absurd (not told.0)
+  told_right f (inl reported) g = (reported.0, reported.1)
+  told_right f (inr reported) (inl g) = absurd (counts_up before.err.failures g.error_output.0 (sym reported.1.failures ∙ g.error_output.1))
+  told_right f (inr reported) (inr not) = absurd (not reported.0)
 
   module _ (es : List (ℕ × Event)) (v : Verdict) (says : Says (rules_of limits) start xs es v) (granted : IsGranted turns xs before after ⊎ (status ≢ 3)) where
     pub shown_right : (e : Ending) → ShowsTo form limits turns e xs after.input.left before.out after.out → CountsReads e before.input.failures after.input.failures → Concludes e before.err status after.err
         → (f : Finish) × EndsAs xs es v f × (status ≡ finish_status f) × (after.out ≡ with_text before.out (text form es)) × (after.err ≡ with_text before.err (ending_line (ending.Finished f)))
     shown_right (ending.Finished f) shows counts ends =
         let whole = whole_by form turns f shows.old shows.new xs after.input.left before.out after.out (texts_to form turns (outcome.Finished f) shows.old shows.new xs after.input.left before.out after.out shows.renders) (rules_of limits) [] [] shows.fresh shows.unrefused (shows.same_rules ∙ shows.rules) es v says in
-        let told = told_right f ends granted in
-        (f, whole.1, told.0, whole.0, told.1)
+        let reported = told_right f ends granted in
+        (f, whole.1, reported.0, whole.0, reported.1)
     shown_right ending.ReadFault shows counts ends = absurd (no_fault ending.ReadFault refl shows counts ends granted)
     shown_right ending.WriteFault shows counts ends = absurd (no_fault ending.WriteFault refl shows counts ends granted)
     shown_right ending.NoMemory shows counts ends = absurd (no_fault ending.NoMemory refl shows counts ends granted)
@@ -327,9 +327,9 @@ shown_rightly form limits turns xs before status after es v says granted a = sho
 module _ (limits : Limits) (turns : ℕ) (xs : List ℕ) (before : Streams) (status : ℕ) (after : Streams) (es : List (ℕ × Event)) (v : Verdict) (says : Says (rules_of limits) start xs es v) where
   verdict_right : (f : Finish) → EndsAs xs es v f → ConcludesCheck (ending.Finished f) before.out before.err status after.out after.err → IsGranted turns xs before after ⊎ (status ≢ 3)
       → (f : Finish) × EndsAs xs es v f × (status ≡ finish_status f) × (after.out ≡ with_text before.out (ending_line (ending.Finished f))) × (after.err ≡ before.err)
-  verdict_right f is (inl told) granted = (f, is, told.0, told.1, told.2)
-  verdict_right f is (inr told) (inl g) = absurd (counts_up before.out.failures g.output.0 (sym told.0.failures ∙ g.output.1))
-  verdict_right f is (inr told) (inr not) = absurd (not (three_of ending.WriteFault before.err after.err status refl told.1))
+  verdict_right f is (inl reported) granted = (f, is, reported.0, reported.1, reported.2)
+  verdict_right f is (inr reported) (inl g) = absurd (counts_up before.out.failures g.output.0 (sym reported.0.failures ∙ g.output.1))
+  verdict_right f is (inr reported) (inr not) = absurd (not (three_of ending.WriteFault before.err after.err status refl reported.1))
 
   fault_right : (read : Output) (e : Ending) → status_of e ≡ 3 → ShowsTo forms.Nothing limits turns e xs after.input.left before.out read → CountsReads e before.input.failures after.input.failures → (after.out ≡ read) × Concludes e before.err status after.err → IsGranted turns xs before after ⊎ (status ≢ 3) → ⊥
   fault_right read e three shows counts ends granted =

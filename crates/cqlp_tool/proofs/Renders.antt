@@ -9,7 +9,7 @@ use Rattle.cqlp_decode.specs.Streams.{After, Finishes}
 use Rattle.cqlp_decode.specs.Draining.{fold_events, Drains, Fails, Feeds, FeedsInto, HasAll, HasRefused, RunsTo, verdict_of}
 use Rattle.cqlp_tool.specs.declared.text_form.TextForm.{TextForm}
 use Rattle.cqlp_tool.specs.declared.text_form.TextForm.TheVariants as forms
-use Rattle.cqlp_tool.specs.Forms.{text, text_of, form_after, form_behind}
+use Rattle.cqlp_tool.specs.Forms.{text, text_of, form_after, form_after_all}
 use Rattle.cqlp_text.specs.Outputs.{Output, output, with_text, StopsWithin}
 use Rattle.cqlp_text.proofs.OneAnswer.{known_then}
 use Rattle.cqlp_tool.specs.Rendering.{Rendering, rendering, with_event, StopsWithinEvent, RendersTo}
@@ -34,25 +34,25 @@ text-cons (forms.Pages place) at e es = refl
 text-cons forms.Nothing at e es = refl
 
 -- the text of events, and of others after them
-pub text-append : (form : TextForm) (es fs : List (ℕ × Event)) → text form (es ++ fs) ≡ text form es ++ text (form_behind form es) fs
+pub text-append : (form : TextForm) (es fs : List (ℕ × Event)) → text form (es ++ fs) ≡ text form es ++ text (form_after_all form es) fs
 text-append form [] fs = sym (ap (λ k. k ++ text form fs) (text-nil form))
 text-append form (e ∷ es) fs =
     sym (text-cons form e.0 e.1 (es ++ fs)) ∙ ap (λ k. text_of form e.0 e.1 ++ k) (text-append (form_after form e.1) es fs)
-    ∙ sym (append_assoc (text_of form e.0 e.1) (text (form_after form e.1) es) (text (form_behind form (e ∷ es)) fs))
-    ∙ ap (λ k. k ++ text (form_behind form (e ∷ es)) fs) (text-cons form e.0 e.1 es)
+    ∙ sym (append_assoc (text_of form e.0 e.1) (text (form_after form e.1) es) (text (form_after_all form (e ∷ es)) fs))
+    ∙ ap (λ k. k ++ text (form_after_all form (e ∷ es)) fs) (text-cons form e.0 e.1 es)
 
 -- and of one more
-pub text-last : (form : TextForm) (es : List (ℕ × Event)) (at : ℕ) (e : Event) → text form (es ++ (at, e) ∷ []) ≡ text form es ++ text_of (form_behind form es) at e
+pub text-last : (form : TextForm) (es : List (ℕ × Event)) (at : ℕ) (e : Event) → text form (es ++ (at, e) ∷ []) ≡ text form es ++ text_of (form_after_all form es) at e
 text-last form es at e =
-    text-append form es ((at, e) ∷ []) ∙ ap (λ k. text form es ++ k) (sym (text-cons (form_behind form es) at e [])
-    ∙ ap (λ k. text_of (form_behind form es) at e ++ k) (text-nil (form_after (form_behind form es) e)) ∙ append-nil (text_of (form_behind form es) at e))
+    text-append form es ((at, e) ∷ []) ∙ ap (λ k. text form es ++ k) (sym (text-cons (form_after_all form es) at e [])
+    ∙ ap (λ k. text_of (form_after_all form es) at e ++ k) (text-nil (form_after (form_after_all form es) e)) ∙ append-nil (text_of (form_after_all form es) at e))
 
 -- the text of events, one after the other, is their text
-pub fold-text : (o : Output) (form : TextForm) (es : List (ℕ × Event)) → fold_events with_event (rendering o form) es ≡ rendering (with_text o (text form es)) (form_behind form es)
+pub fold-text : (o : Output) (form : TextForm) (es : List (ℕ × Event)) → fold_events with_event (rendering o form) es ≡ rendering (with_text o (text form es)) (form_after_all form es)
 fold-text o form [] = ap (λ g. rendering (output g o.failures) form) (sym (known_nothing o.given) ∙ ap (append_known o.given) (sym (text-nil form)))
 fold-text o form (e ∷ es) =
     fold-text (with_text o (text_of form e.0 e.1)) (form_after form e.1) es
-    ∙ ap (λ g. rendering (output g o.failures) (form_behind form (e ∷ es))) (known_then o.given (text_of form e.0 e.1) (text (form_after form e.1) es) ∙ ap (append_known o.given) (text-cons form e.0 e.1 es))
+    ∙ ap (λ g. rendering (output g o.failures) (form_after_all form (e ∷ es))) (known_then o.given (text_of form e.0 e.1) (text (form_after form e.1) es) ∙ ap (append_known o.given) (text-cons form e.0 e.1 es))
 
 -- ---- a run over a sink of text, in the words of its text
 
@@ -68,7 +68,7 @@ pub record StopsInEvents (form : TextForm) (new : StreamState) (s : List ℕ) (e
   pub at : ℕ
   pub event : Event
   pub stands : After new (s ++ bytes) (es ++ more ++ (at, event) ∷ [])
-  pub written : StopsWithin (with_text before (text form more)) (text_of (form_behind form more) at event) after
+  pub written : StopsWithin (with_text before (text form more)) (text_of (form_after_all form more) at event) after
 
 -- Of the bytes xs of a reader, `rest` is left or was not used; the text of the events of the others was written.
 pub record Renders (form : TextForm) (old new : StreamState) (xs : List ℕ) (before after : Output) : Type 0 where
@@ -96,7 +96,7 @@ pub record RendersPart (form : TextForm) (old new : StreamState) (xs : List ℕ)
   pub events : (s : List ℕ) (es : List (ℕ × Event)) → After old s es → StopsInEvents form new s es bytes before after
 
 -- What was written of the bytes xs of a reader, by how it ends: at the end of the input or at a refusal, with what the
--- end of the stream says there; at a reader's fault; after so many reads, each of some byte; or at a target's fault.
+-- end of the stream says there; at a reader's fault; after this many reads, each of some byte; or at a target's fault.
 -- But for that, all events were written.
 abbrev pub TextsTo : TextForm → (turns : ℕ) → Outcome → (old new : StreamState) → (xs : List ℕ) → Option (List ℕ) → (before after : Output) → Type 0
 TextsTo form turns (outcome.Finished end) old new xs left before after =

@@ -29,7 +29,7 @@ abbrev pub EndsAs : List ℕ → List (ℕ × Event) → Verdict → Finish → 
 EndsAs xs es Waits f = FinishesBy None xs es f
 EndsAs xs es (Refused at why) f = f ≡ finish.Refused (record { at = at; why = why })
 
--- A renderer that is Finished wrote the text of all events that the stream says, and tells its end.
+-- A renderer that is Finished wrote the text of all events that the stream says, and reports its end.
 abbrev pub IsRenderedWhole : TextForm → Type 0
 IsRenderedWhole form = (turns : ℕ) (f : Finish) (old new : StreamState) (xs : List ℕ) (left : Option (List ℕ))
     (before after : Output) (s : List ℕ) (es more : List (ℕ × Event)) (v : Verdict)

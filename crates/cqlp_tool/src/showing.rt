@@ -41,7 +41,7 @@ pub fn show<R: Source, O: Target, E: Target, A: Allocator>(
     ensures shows { let view = streams R.Source O.Target E.Target in
         ShowsAndReports forms.Lines limits TURNS (view input.old out err) result.0 (view input.new result.1 result.2) }
 {
-    let (ending, out) = shown(alloc, limits, TextForm::Lines, input, out);
+    let (ending, out) = write_text(alloc, limits, TextForm::Lines, input, out);
     let (status, err) = conclude(ending, err);
     (status, out, err)
 }
@@ -61,7 +61,7 @@ pub fn rows<R: Source, O: Target, E: Target, A: Allocator>(
         ShowsAndReports (forms.Pages no_page) limits TURNS
         (view input.old out err) result.0 (view input.new result.1 result.2) }
 {
-    let (ending, out) = shown(alloc, limits, TextForm::Pages(PagePlace::new()), input, out);
+    let (ending, out) = write_text(alloc, limits, TextForm::Pages(PagePlace::new()), input, out);
     let (status, err) = conclude(ending, err);
     (status, out, err)
 }
@@ -80,7 +80,7 @@ pub fn check<R: Source, O: Target, E: Target, A: Allocator>(
     ensures checks { let view = streams R.Source O.Target E.Target in
         ChecksAndReports limits TURNS (view input.old out err) result.0 (view input.new result.1 result.2) }
 {
-    let (ending, mut out) = shown(alloc, limits, TextForm::Nothing, input, out);
+    let (ending, mut out) = write_text(alloc, limits, TextForm::Nothing, input, out);
     let Ending::Finished(_) = ending else {
         let (status, err) = conclude(ending, err);
         return (status, out, err);
@@ -93,7 +93,7 @@ pub fn check<R: Source, O: Target, E: Target, A: Allocator>(
 }
 
 /// Writes the text of the events of a stream within these limits, in a form.
-fn shown<R: Source, O: Target, A: Allocator>(
+fn write_text<R: Source, O: Target, A: Allocator>(
     alloc: &A,
     limits: Limits,
     form: TextForm,

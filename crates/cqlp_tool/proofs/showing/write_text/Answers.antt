@@ -1,7 +1,7 @@
 use Rattle.std.proofs.Common.{ap, ◌≡◌, Err}
 use Rattle.cqlp_note.specs.Limits.{first_bad}
 use Rattle.cqlp_tool.proofs.Shows.{shows_by}
-use Rattle.cqlp_tool.proofs.showing.shown.Goals as goal
+use Rattle.cqlp_tool.proofs.showing.write_text.Goals as goal
 
 pub unreachable-requires : goal.unreachable-requires
 unreachable-requires g c =

@@ -26,7 +26,7 @@ impl<W: Target> TextWriter<'_, W> {
         self.put(buffer.format(number).as_bytes())
     }
 
-    /// Takes a number as decimal digits, behind a `-` where it is negative.
+    /// Takes a number as decimal digits, after a `-` where it is negative.
     pub fn put_signed(&mut self, number: i64) -> Result<(), SinkFault>
         ensures { Writes self.old (signed_decimal number) result self.new }
     {
