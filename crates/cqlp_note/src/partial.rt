@@ -284,6 +284,3 @@ fn told(wanted: Wanted, front: &FieldFront, input: &[u8]) -> Result<Head, Stop>
         head_of(wanted, front.with(input).as_slice())
     }
 }
-
-#[cfg(test)]
-mod tests;
