@@ -8,9 +8,13 @@ mod fields;
 #[cfg(test)]
 mod fronts;
 #[cfg(test)]
+mod headers;
+#[cfg(test)]
 mod memory;
 #[cfg(test)]
 mod runs;
+#[cfg(test)]
+mod streams;
 #[cfg(test)]
 mod trees;
 #[cfg(test)]
