@@ -1,17 +1,15 @@
-//! Reads streams of the CQL native protocol v4, as its words say, and tells what is in them.
+//! Reads streams of the CQL native protocol v4, as its words say, and writes what is in them.
 #![tactic(auto)]
 
 mod words;
 
 use cqlp_note::OfStd;
 use cqlp_text::cannot_open_line;
+use cqlp_text::status::FAULT;
 use cqlp_tool::command;
 use std::alloc::AllocError;
 use std::process::ExitCode;
 use words::{read_words, redirect, texts};
-
-/// The exit status where there is no memory for the words, or a file cannot be opened.
-const FAULT: u8 = 3;
 
 fn main(rt: HostRuntime) -> ExitCode {
     match run(&rt) {

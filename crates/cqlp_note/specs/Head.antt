@@ -3,7 +3,7 @@ use Rattle.std.specs.Prelude.{◌≡◌, ℕ, ◌+◌, ◌-◌, ◌^◌, ◌++�
 use Rattle.std.specs.Int.{w8, w16, w32, w64, from_be_bytes, cast_signed}
 use Rattle.cqlp_note.specs.declared.field.Notation.{Notation}
 use Rattle.cqlp_note.specs.declared.field.Notation.TheVariants as notation
-use Rattle.cqlp_note.specs.declared.refusal.Reason.TheVariants.{Overrun, BadCount, BadInet, BadValueLength}
+use Rattle.cqlp_note.specs.declared.refusal.Reason.TheVariants.{BadCount, BadInet, BadValueLength}
 use Rattle.cqlp_note.specs.declared.prim.BoundValue.TheVariants as bound
 use Rattle.cqlp_note.specs.declared.prim.Primitive.{Primitive}
 use Rattle.cqlp_note.specs.declared.prim.Primitive.TheVariants as prim

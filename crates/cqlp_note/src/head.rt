@@ -196,7 +196,6 @@ fn admit_content(wanted: Wanted, after: usize, len: u32, form: ContentForm) -> R
 }
 
 /// Reads an address of this many bytes and a port, after the number of the address's bytes.
-#[tactic(auto, using(crate::proofs::Fronts::inet_taken))]
 fn read_address_and_port(wanted: Wanted, size: usize, rest: &[u8]) -> Result<Head, Stop>
     requires sizes { IsTrue ((size == 4) || (size == 16)) }
     requires notation { wanted.notation ≡ Notation.Inet }

@@ -6,8 +6,6 @@ mod field;
 mod front;
 mod head;
 mod header;
-#[cfg(test)]
-mod heaps;
 pub mod laws;
 mod limits;
 mod opcode;

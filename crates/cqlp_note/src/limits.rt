@@ -106,37 +106,3 @@ impl LimitRange {
         self.least <= number && number <= self.greatest
     }
 }
-
-#[cfg(test)]
-mod tests {
-    use super::*;
-
-    #[test]
-    fn the_first_limit_out_of_range_is_told(rt: HostRuntime) {
-        let rows = [
-            (32, 32, 1, 1, Ok(())),
-            (16_777_216, 16_777_216, 65_536, 64, Ok(())),
-            (1_048_576, 1_048_576, 4_096, 16, Ok(())),
-            (31, 31, 0, 0, Err(BadLimits::Text)),
-            (16_777_217, 32, 1, 1, Err(BadLimits::Text)),
-            (32, 31, 0, 0, Err(BadLimits::Cell)),
-            (32, 16_777_217, 1, 1, Err(BadLimits::Cell)),
-            (32, 32, 0, 0, Err(BadLimits::Entries)),
-            (32, 32, 65_537, 65, Err(BadLimits::Entries)),
-            (32, 32, 1, 0, Err(BadLimits::Depth)),
-            (32, 32, 1, 65, Err(BadLimits::Depth)),
-            (0, u32::MAX, u32::MAX, u32::MAX, Err(BadLimits::Text)),
-        ];
-        for (text, cell, entries, depth, expected) in rows {
-            let limits = Limits {
-                text,
-                cell,
-                entries,
-                depth,
-                types: true,
-                parts: false,
-            };
-            assert_eq!(rt; limits.check(), expected, "{limits:?}");
-        }
-    }
-}

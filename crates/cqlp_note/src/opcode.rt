@@ -115,24 +115,3 @@ impl Opcode {
         }
     }
 }
-
-#[cfg(test)]
-mod tests {
-    use super::*;
-
-    #[test]
-    fn each_opcode_has_its_number(rt: HostRuntime) {
-        let mut responses = 0u32;
-        for number in 0..=255u8 {
-            match Opcode::from_number(number) {
-                Some(opcode) => {
-                    assert!(rt; number < 17 && number != 4, "{number}");
-                    assert_eq!(rt; opcode.number(), number);
-                    responses |= if opcode.is_response() { 1 << number } else { 0 };
-                }
-                None => assert!(rt; number == 4 || number > 16, "{number}"),
-            }
-        }
-        assert_eq!(rt; responses, 0b1_0101_0001_0100_1101);
-    }
-}

@@ -301,6 +301,3 @@ fn read_head_of_pieces(wanted: Wanted, front: &FieldFront, input: &[u8]) -> Resu
         read_head(wanted, front.with(input).as_slice())
     }
 }
-
-#[cfg(test)]
-mod tests;

@@ -7,6 +7,3 @@ mod reported;
 
 pub use no_task::NoTask;
 pub use options::{DEFAULT_LIMITS, Options, Task};
-
-#[cfg(test)]
-mod tests;

@@ -78,7 +78,14 @@ fn parsed<'a, S: AsStr>(alloc: Global, words: &'a [S]) -> Result<Options<'a>, Er
     let matches = program.try_get_matches_from_mut(words)?;
     match options_of(&matches) {
         Some(options) => Ok(options),
-        None => Err(program.error(ErrorKind::ValueValidation, "a limit is out of its range")?),
+        None => Err(out_of_range(&mut program)),
+    }
+}
+
+fn out_of_range(program: &mut Command<'_>) -> Error {
+    match program.error(ErrorKind::ValueValidation, "a limit is out of its range") {
+        Ok(error) => error,
+        Err(error) => Error::from(error),
     }
 }
 
@@ -119,68 +126,140 @@ const HELP: &str = "Each of the three takes a FILE, where - is standard input, a
     Without words it does what `cqlp show -` does.\n\
     Example: cqlp rows capture.bin";
 
-/// The program's command line.
+/// The program's command line. Each task is handed on as it is made, so that no other is alive at a `?`.
 fn program<'a>(alloc: Global) -> Result<Command<'a>, AllocError> {
-    let show = Command::new(alloc, "show")
-        .about("Write a line for each event of a stream, and a verdict to standard error")
-        .after_help("Example: cqlp show --text 4096 capture.bin");
-    let rows = Command::new(alloc, "rows")
-        .about("Write the pages of a stream as text, and a verdict to standard error")
-        .after_help("Example: cqlp rows --parts capture.bin");
-    let check = Command::new(alloc, "check")
-        .about("Write the verdict on a stream alone")
-        .after_help("Example: cqlp check - < capture.bin");
-    Command::new(alloc, "cqlp")
-        .about("Reads streams of the CQL native protocol v4")
-        .after_help(HELP)
-        .version("0.1.0")
-        .bin_name("cqlp")?
-        .no_binary_name(true)
-        .subcommand_required(true)
-        .subcommand(with_arguments(alloc, show)?)?
-        .subcommand(with_arguments(alloc, rows)?)?
-        .subcommand(with_arguments(alloc, check)?)
+    let program = with_task(
+        alloc,
+        without_tasks(alloc)?,
+        "show",
+        "Write a line for each event of a stream, and a verdict to standard error",
+        "Example: cqlp show --text 4096 capture.bin",
+    )?;
+    let program = with_task(
+        alloc,
+        program,
+        "rows",
+        "Write the pages of a stream as text, and a verdict to standard error",
+        "Example: cqlp rows --parts capture.bin",
+    )?;
+    with_task(
+        alloc,
+        program,
+        "check",
+        "Write the verdict on a stream alone",
+        "Example: cqlp check - < capture.bin",
+    )
 }
 
-/// The arguments that each task takes. Each is handed on as it is made, so that no other is alive at a `?`.
-fn with_arguments<'a>(alloc: Global, task: Command<'a>) -> Result<Command<'a>, AllocError> {
-    let task = task.arg(
-        Arg::new(alloc, "file")
-            .value_name("FILE")
-            .required(true)
-            .help("The file with the stream; - is standard input"),
-    )?;
-    let task = task.arg(limit(alloc, "text", Limits::TEXT, "1048576").help(
-        "Bytes of one [string] or [long string] at most, from 32 to 16777216",
-    ))?;
-    let task = task.arg(limit(alloc, "cell", Limits::CELL, "1048576").help(
-        "Bytes of one [bytes], [short bytes], [value] or scalar cell at most, from 32 to 16777216",
-    ))?;
-    let task = task.arg(limit(alloc, "entries", Limits::ENTRIES, "4096").help(
-        "Type options of one metadata at most, nested ones counted, from 1 to 65536",
-    ))?;
-    let task = task.arg(limit(alloc, "depth", Limits::DEPTH, "16").help(
-        "Nesting of one type at most, from 1 to 64; a column's own type has depth 1",
-    ))?;
-    let task = task.arg(flag(alloc, "raw").help(
-        "Read each cell as raw bytes, without its column's type",
-    ))?;
-    task.arg(flag(alloc, "parts").help(
-        "Give longer blob, custom and raw cells in parts of the size of --cell",
-    ))
+fn without_tasks<'a>(alloc: Global) -> Result<Command<'a>, AllocError> {
+    let program = Command::new(alloc, "cqlp").bin_name("cqlp")?;
+    Ok(
+        program
+            .about("Reads streams of the CQL native protocol v4")
+            .after_help(HELP)
+            .version("0.1.0")
+            .no_binary_name(true)
+            .subcommand_required(true),
+    )
+}
+
+fn with_task<'a>(
+    alloc: Global,
+    program: Command<'a>,
+    name: &'a str,
+    about: &'a str,
+    example: &'a str,
+) -> Result<Command<'a>, AllocError> {
+    program.subcommand(subcommand(alloc, name, about, example)?)
+}
+
+/// A task with the arguments that each takes.
+fn subcommand<'a>(
+    alloc: Global,
+    name: &'a str,
+    about: &'a str,
+    example: &'a str,
+) -> Result<Command<'a>, AllocError> {
+    let mut task = Command::new(alloc, name)
+        .about(about)
+        .after_help(example)
+        .arg(file(alloc))?;
+    for bound in &BOUNDS {
+        task = task.arg(limit(alloc, bound))?;
+    }
+    for (name, help) in FLAGS {
+        task = task.arg(flag(alloc, name).help(help))?;
+    }
+    Ok(task)
+}
+
+fn file<'a>(alloc: Global) -> Arg<'a> {
+    Arg::new(alloc, "file")
+        .value_name("FILE")
+        .required(true)
+        .help("The file with the stream; - is standard input")
 }
 
 /// An option for a number in a range.
-fn limit<'a>(alloc: Global, name: &'a str, range: LimitRange, default: &'a str) -> Arg<'a> {
-    let (least, greatest) = (i64::from(range.least), i64::from(range.greatest));
-    Arg::new(alloc, name)
-        .long(name)
-        .value_name("N")
-        .value_parser(value_parser!(u32).range(least..=greatest))
-        .default_value(default)
+struct Bound {
+    name: &'static str,
+    range: LimitRange,
+    default: &'static str,
+    help: &'static str,
 }
 
-/// An option without a value.
+const BOUNDS: [Bound; 4] = [
+    Bound {
+        name: "text",
+        range: Limits::TEXT,
+        default: "1048576",
+        help: "Bytes of one [string] or [long string] at most, from 32 to 16777216",
+    },
+    Bound {
+        name: "cell",
+        range: Limits::CELL,
+        default: "1048576",
+        help: "Bytes of one [bytes], [short bytes], [value] or scalar cell at most, from 32 to 16777216",
+    },
+    Bound {
+        name: "entries",
+        range: Limits::ENTRIES,
+        default: "4096",
+        help: "Type options of one metadata at most, nested ones counted, from 1 to 65536",
+    },
+    Bound {
+        name: "depth",
+        range: Limits::DEPTH,
+        default: "16",
+        help: "Nesting of one type at most, from 1 to 64; a column's own type has depth 1",
+    },
+];
+
+fn limit<'a>(alloc: Global, bound: &Bound) -> Arg<'a> {
+    let (least, greatest) = (
+        i64::from(bound.range.least),
+        i64::from(bound.range.greatest),
+    );
+    Arg::new(alloc, bound.name)
+        .long(bound.name)
+        .value_name("N")
+        .value_parser(value_parser!(u32).range(least..=greatest))
+        .default_value(bound.default)
+        .help(bound.help)
+}
+
+/// The options without a value, and their help.
+const FLAGS: [(&str, &str); 2] = [
+    (
+        "raw",
+        "Read each cell as raw bytes, without its column's type",
+    ),
+    (
+        "parts",
+        "Give longer blob, custom and raw cells in parts of the size of --cell",
+    ),
+];
+
 fn flag<'a>(alloc: Global, name: &'a str) -> Arg<'a> {
     Arg::new(alloc, name).long(name).action(ArgAction::SetTrue)
 }

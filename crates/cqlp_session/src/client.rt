@@ -164,25 +164,3 @@ impl<A: Allocator> Client<A> {
         true
     }
 }
-
-#[cfg(test)]
-mod tests {
-    use super::*;
-    use std::test::Fail;
-
-    #[test]
-    fn no_number_is_left(rt: HostRuntime) -> Result<(), Fail> {
-        let mut client = Client {
-            phase: Phase::Ready,
-            begun: u64::MAX - 1,
-            streams: Streams::new(rt.alloc(), 2)?,
-        };
-        let last = Ticket {
-            id: 0,
-            number: u64::MAX,
-        };
-        assert_eq!(rt; client.begin(RequestKind::Query), Ok(last));
-        assert_eq!(rt; client.begin(RequestKind::Query), Err(BeginError::Spent));
-        Ok(())
-    }
-}

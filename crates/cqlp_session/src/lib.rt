@@ -19,6 +19,3 @@ pub use phase::Phase;
 pub use refusal::SlotsOrMemory;
 pub use server::{AnswerError, Server, ServerRefusal};
 pub use ticket::{BeginError, Reply, Stray, Ticket};
-
-#[cfg(test)]
-mod tests;

@@ -2,7 +2,9 @@
 
 use cqlp_note::Limits;
 use cqlp_type::Kind;
-use cqlp_value::{Scalar, front_scalar};
+use cqlp_value::front_scalar;
+use std::alloc::Global;
+use std::test::Fail;
 
 const LIMITS: Limits = Limits {
     text: 64,
@@ -13,41 +15,46 @@ const LIMITS: Limits = Limits {
     parts: true,
 };
 
-/// How many bytes of these are a scalar of this kind, 0 where there is none.
-fn used_of(kind: Kind, room: u64, input: &[u8]) -> usize {
+const SEVEN: [u8; 9] = [0, 0, 0, 4, 0, 0, 0, 7, 9];
+
+/// A length of 65, and as many bytes.
+const LONG: &[u8; 69] =
+    b"\0\0\0\x41xxxxxxxxxxxxxxxxxxxxxxxxxxxxxxxxxxxxxxxxxxxxxxxxxxxxxxxxxxxxxxxxx";
+
+/// A kind, the room in the frame, the input, and what is found.
+type Row = (Kind, u64, &'static [u8], &'static str);
+
+const NONE: &str = "None";
+
+static ROWS: [Row; 9] = [
+    (Kind::Int, 8, &SEVEN, "Int(7) 8"),
+    (Kind::Int, 7, &SEVEN, NONE),
+    (Kind::Int, 8, &[0xff, 0xff, 0xff, 0xff, 0], NONE),
+    (Kind::Int, 8, &[0, 0, 0, 0, 0], NONE),
+    (Kind::Int, 8, &[0, 0, 0, 3, 0, 0, 0], NONE),
+    (Kind::Int, 8, &[0, 0, 0, 4, 0, 0, 0], NONE),
+    (Kind::Blob, 69, LONG, NONE),
+    (Kind::List, 8, &[0, 0, 0, 4, 0, 0, 0, 0], NONE),
+    (Kind::Varchar, 6, &[0, 0, 0, 2, 0xc3, 0x28], NONE),
+];
+
+/// The scalar at the front and how many bytes it takes.
+fn found(alloc: Global, row: &Row) -> Result<String, Fail> {
+    let (kind, room, input, _) = *row;
     match front_scalar(&LIMITS, kind, room, input) {
-        Some(front) => front.used,
-        None => 0,
-    }
-}
-
-fn is_seven(input: &[u8]) -> bool {
-    match front_scalar(&LIMITS, Kind::Int, 8, input) {
-        Some(front) => front.scalar == Scalar::Int(7),
-        None => false,
+        Some(front) => Ok(format!(in alloc; "{:?} {}", front.scalar, front.used)?),
+        None => Ok(String::from_str(alloc, NONE)?),
     }
 }
 
 #[test]
-fn a_scalar_whose_bytes_are_all_there(rt: HostRuntime) {
-    let input = [0, 0, 0, 4, 0, 0, 0, 7, 9];
-    assert!(rt; is_seven(&input));
-    assert_eq!(rt; used_of(Kind::Int, 8, &input), 8);
-    assert_eq!(rt; used_of(Kind::Int, 7, &input), 0);
-    for len in 0..8usize {
-        assert_eq!(rt; used_of(Kind::Int, 8, &input[..len]), 0);
+fn scalars_at_the_front(rt: HostRuntime) -> Result<(), Fail> {
+    let mut wrong = 0u32;
+    for row in &ROWS {
+        if found(rt.alloc(), row)?.as_str() != row.3 {
+            wrong = wrong.saturating_add(1);
+        }
     }
-}
-
-#[test]
-fn all_else_is_left_to_a_reader(rt: HostRuntime) {
-    assert_eq!(rt; used_of(Kind::Int, 8, &[0xff, 0xff, 0xff, 0xff, 0]), 0);
-    assert_eq!(rt; used_of(Kind::Int, 8, &[0, 0, 0, 0, 0]), 0);
-    assert_eq!(rt; used_of(Kind::Int, 8, &[0, 0, 0, 3, 0, 0, 0]), 0);
-    let mut long = [b'x'; 69];
-    long[..4].copy_from_slice(&[0, 0, 0, 65]);
-    assert_eq!(rt; used_of(Kind::Blob, 69, &long), 0);
-    let list = [0, 0, 0, 4, 0, 0, 0, 0];
-    assert_eq!(rt; used_of(Kind::List, 8, &list), 0);
-    assert_eq!(rt; used_of(Kind::Varchar, 6, &[0, 0, 0, 2, 0xc3, 0x28]), 0);
+    assert_eq!(rt; wrong, 0);
+    Ok(())
 }

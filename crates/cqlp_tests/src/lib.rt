@@ -1,16 +1,20 @@
-//! Tests of the libraries up to the decoder, by their public calls alone.
+//! Tests of the libraries up to the decoder, by public calls that a script of cqlp_probe does not make.
 #![tactic(auto)]
 
 #[cfg(test)]
 mod cells;
 #[cfg(test)]
-mod decoder;
+mod fields;
 #[cfg(test)]
 mod fronts;
 #[cfg(test)]
-mod heaps;
+mod headers;
 #[cfg(test)]
-mod scalars;
+mod memory;
+#[cfg(test)]
+mod runs;
+#[cfg(test)]
+mod streams;
 #[cfg(test)]
 mod trees;
 #[cfg(test)]

@@ -4,39 +4,31 @@ use cqlp_type::{Kind, TypeTree, type_len};
 use std::alloc::Global;
 use std::test::Fail;
 
-fn text(alloc: Global, text: &str) -> Result<String, Fail> {
-    Ok(String::from_str(alloc, text)?)
+/// A set of maps from lists of ints to a class.
+fn set(alloc: Global) -> Result<TypeTree, Fail> {
+    let int = Box::new(alloc, TypeTree::Plain(Kind::Int))?;
+    let list = Box::new(alloc, TypeTree::List(int))?;
+    let class = String::from_str(alloc, "abc")?;
+    let custom = Box::new(alloc, TypeTree::Custom(class))?;
+    let map = Box::new(alloc, TypeTree::Map(list, custom))?;
+    Ok(TypeTree::Set(map))
 }
 
-fn boxed(alloc: Global, tree: TypeTree) -> Result<Box<TypeTree>, Fail> {
-    Ok(Box::new(alloc, tree)?)
-}
-
-#[test]
-fn lengths_of_options(rt: HostRuntime) -> Result<(), Fail> {
-    let alloc = rt.alloc();
-    assert_eq!(rt; type_len(&TypeTree::Plain(Kind::Int)), Some(2));
-    assert_eq!(rt; type_len(&TypeTree::Plain(Kind::List)), None);
-    assert_eq!(rt; type_len(&TypeTree::Plain(Kind::Raw)), None);
-    let list = TypeTree::List(boxed(alloc, TypeTree::Plain(Kind::Int))?);
-    assert_eq!(rt; type_len(&list), Some(4));
-    let custom = TypeTree::Custom(text(alloc, "abc")?);
-    let map = TypeTree::Map(boxed(alloc, list)?, boxed(alloc, custom)?);
-    assert_eq!(rt; type_len(&TypeTree::Set(boxed(alloc, map)?)), Some(15));
+/// A user-defined type of two ints and a text.
+fn udt(alloc: Global) -> Result<TypeTree, Fail> {
     let mut fields = Vec::new(alloc);
-    fields.push((text(alloc, "a")?, TypeTree::Plain(Kind::Int)))?;
-    fields.push((text(alloc, "b")?, TypeTree::Plain(Kind::Int)))?;
-    fields.push((text(alloc, "c")?, TypeTree::Plain(Kind::Varchar)))?;
-    let udt = TypeTree::Udt {
-        keyspace: text(alloc, "k")?,
-        name: text(alloc, "u")?,
+    for (name, kind) in [("a", Kind::Int), ("b", Kind::Int), ("c", Kind::Varchar)] {
+        let name = String::from_str(alloc, name)?;
+        fields.push((name, TypeTree::Plain(kind)))?;
+    }
+    Ok(TypeTree::Udt {
+        keyspace: String::from_str(alloc, "k")?,
+        name: String::from_str(alloc, "u")?,
         fields,
-    };
-    assert_eq!(rt; type_len(&udt), Some(25));
-    Ok(())
+    })
 }
 
-/// A tuple of so many ints.
+/// A tuple of this many ints.
 fn tuple(alloc: Global, ints: u32) -> Result<TypeTree, Fail> {
     let mut types = Vec::new(alloc);
     for _ in 0..ints {
@@ -45,18 +37,42 @@ fn tuple(alloc: Global, ints: u32) -> Result<TypeTree, Fail> {
     Ok(TypeTree::Tuple(types))
 }
 
-#[test]
-fn counts_and_texts_are_limited(rt: HostRuntime) -> Result<(), Fail> {
-    let alloc = rt.alloc();
-    assert_eq!(rt; type_len(&tuple(alloc, 8)?), Some(20));
-    assert_eq!(rt; type_len(&tuple(alloc, 65_535)?), Some(131_074));
-    assert_eq!(rt; type_len(&tuple(alloc, 65_536)?), None);
+/// A class whose name has this many letters.
+fn class(alloc: Global, letters: u32) -> Result<TypeTree, Fail> {
     let mut class = String::new(alloc);
-    for _ in 0..65_535 {
+    for _ in 0..letters {
         class.push('x')?;
     }
-    assert_eq!(rt; type_len(&TypeTree::Custom(class.clone()?)), Some(65_539));
-    class.push('x')?;
-    assert_eq!(rt; type_len(&TypeTree::Custom(class)), None);
+    Ok(TypeTree::Custom(class))
+}
+
+#[test]
+fn lengths_of_options(rt: HostRuntime) -> Result<(), Fail> {
+    let alloc = rt.alloc();
+    let lengths = [
+        type_len(&TypeTree::Plain(Kind::Int)),
+        type_len(&TypeTree::Plain(Kind::List)),
+        type_len(&TypeTree::Plain(Kind::Raw)),
+        type_len(&set(alloc)?),
+        type_len(&udt(alloc)?),
+        type_len(&tuple(alloc, 8)?),
+        type_len(&tuple(alloc, 65_535)?),
+        type_len(&tuple(alloc, 65_536)?),
+        type_len(&class(alloc, 65_535)?),
+        type_len(&class(alloc, 65_536)?),
+    ];
+    let expected = [
+        Some(2),
+        None,
+        None,
+        Some(15),
+        Some(25),
+        Some(20),
+        Some(131_074),
+        None,
+        Some(65_539),
+        None,
+    ];
+    assert!(rt; lengths == expected);
     Ok(())
 }

@@ -8,7 +8,7 @@ pub digits_last : (count number : ℕ) → count ≢ 0 → digits count number �
 digits_last zero number some = absurd (some refl)
 digits_last (suc k) number some = let e : k ≡ suc k - 1 = omega arith in ap (λ j. digits j (number / 10) ++ (48 + number % 10) ∷ []) e
 
--- bytes behind copies of one before them
+-- bytes after copies of one before them
 pub filled : (bytes wide given : List ℕ) (fill sign : ℕ) → length bytes ≤ 16 → wide ≡ replicate 16 fill → fill ≡ sign → given ≡ bytes → put_mid (16 - length bytes) (16 - (16 - length bytes)) wide given ≡ replicate (16 - length bytes) sign ++ bytes
 filled bytes wide given fill sign short all same copied =
     let front : take (16 - length bytes) wide ≡ replicate (16 - length bytes) sign = ap (take (16 - length bytes)) (all ∙ ap (replicate 16) same) ∙ take-replicate (16 - length bytes) 16 sign (omega arith) in

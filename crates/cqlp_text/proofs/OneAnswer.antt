@@ -54,7 +54,7 @@ counts_up n small same = omega arith
 -- two targets that failed within one text
 pub stops_once : (old new new' : Output) (text : List ℕ) → StopsWithin old text new → StopsWithin old text new' → GoesOnFromOther new new'
 stops_once old new new' text a b =
-    fronts_given old new new' a.sent (a.lost ∷ a.behind) b.sent (b.lost ∷ b.behind) (a.split ∙ sym b.split) a.given b.given (b.failures ∙ sym a.failures)
+    fronts_given old new new' a.sent (a.lost ∷ a.later) b.sent (b.lost ∷ b.later) (a.split ∙ sym b.split) a.given b.given (b.failures ∙ sym a.failures)
 
 pub writes_once : (text : List ℕ) → WritesOnce text
 writes_once text old new new' (Ok u) (Ok u') alike a b = (refl, b ∙ sym a)

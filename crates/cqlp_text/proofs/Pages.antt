@@ -8,7 +8,7 @@ use Rattle.cqlp_type.specs.declared.kind.Kind.{Kind}
 use Rattle.cqlp_text.specs.declared.page_text.WrittenValue.{WrittenValue}
 use Rattle.cqlp_text.specs.declared.page_text.Turn.{Turn}
 use Rattle.cqlp_text.specs.declared.page_text.Turn.TheVariants.{First}
-use Rattle.cqlp_text.specs.PageText.{PagePlace, behind, closing, end_part, innermost, turn_after, with_item, with_open, without_open}
+use Rattle.cqlp_text.specs.PageText.{PagePlace, after, closing, end_part, innermost, turn_after, with_item, with_open, without_open}
 use Rattle.cqlp_text.specs.Written.{Written, Writes}
 use Rattle.cqlp_text.proofs.Writing.{Progress, progress_writes}
 
@@ -25,11 +25,11 @@ next (suc n) (x ∷ xs) = next n xs
 pub drop_next : (n : ℕ) (xs : List WrittenValue) → drop (n + 1) xs ≡ without_open (drop n xs)
 drop_next n xs = ap (λ k. drop k xs) (add-one n) ∙ next n xs
 
--- nothing stands behind an item
-pub behind_item : (columns column n : ℕ) (xs : List WrittenValue) → n < length xs → behind columns column (drop n xs) ≡ []
-behind_item columns column n [] lt = absurd (omega arith)
-behind_item columns column zero (x ∷ xs) lt = refl
-behind_item columns column (suc n) (x ∷ xs) lt = behind_item columns column n xs (omega arith)
+-- nothing stands after an item
+pub after_item : (columns column n : ℕ) (xs : List WrittenValue) → n < length xs → after columns column (drop n xs) ≡ []
+after_item columns column n [] lt = absurd (omega arith)
+after_item columns column zero (x ∷ xs) lt = refl
+after_item columns column (suc n) (x ∷ xs) lt = after_item columns column n xs (omega arith)
 
 pub item_counted : (n : ℕ) (xs : List WrittenValue) (d : WrittenValue) (t : Turn) → n < length xs → t ≡ turn_after (get_or xs n d).kind (get_or xs n d).turn
     → drop n (set xs n (record { kind = (get_or xs n d).kind; turn = t })) ≡ with_item (drop n xs)
@@ -45,9 +45,9 @@ pushed n xs k some within long =
     drop-set xs (n - 1) o (omega arith) ∙ ap (λ m. o ∷ drop m xs) end ∙ ap (λ (b : Bool). if b then drop n xs else o ∷ drop n xs) (sym free)
 
 -- the end of the innermost open value
-pub closed : (columns column : ℕ) (os : List WrittenValue) (o : WrittenValue) → Some o ≡ innermost os → end_part columns column os ≡ closing o.kind ++ behind columns column (without_open os)
+pub closed : (columns column : ℕ) (os : List WrittenValue) (o : WrittenValue) → Some o ≡ innermost os → end_part columns column os ≡ closing o.kind ++ after columns column (without_open os)
 closed columns column [] o e = cc
-closed columns column (x ∷ os) o e = ap (λ (p : WrittenValue). closing p.kind ++ behind columns column os) (same_Some x o (sym e))
+closed columns column (x ∷ os) o e = ap (λ (p : WrittenValue). closing p.kind ++ after columns column os) (same_Some x o (sym e))
 
 pub content_starts : (offset : ℕ) (text : List ℕ) → offset ≤ 0 → (if offset == 0 then text else []) ≡ text
 content_starts zero text le = refl

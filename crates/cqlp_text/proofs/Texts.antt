@@ -6,7 +6,7 @@ use Rattle.cqlp_text.specs.Lines.{spaced}
 use Rattle.cqlp_text.specs.Words.{word_text}
 use Rattle.std.proofs.Math.Seq.{drop-cons}
 use Rattle.std.proofs.Common.{get_or, add-one}
-use Rattle.cqlp_text.proofs.Writing.{rest_behind}
+use Rattle.cqlp_text.proofs.Writing.{rest_after}
 use Rattle.std.proofs.lemmas.Grind.{common_steps}
 use Rattle.std.proofs.lemmas.Bool.{cases_lt, lt-ltb, le-ltb}
 use Rattle.std.specs.List.{join_with_byte, flat_map, position, prefix_len}
@@ -14,12 +14,12 @@ use Rattle.std.proofs.lemmas.List.Sums.{prefix_len-le-length}
 use Rattle.hex.specs.Hex.{encode_lower, encode_with, lower_digits}
 use Rattle.cqlp_text.specs.Text.{pairs, is_plain, escaped, printed, in_one_line}
 
--- the bytes two by two, as four digits behind a colon
+-- the bytes two by two, as four digits after a colon
 abbrev pub colon_groups : List ℕ → List ℕ
 colon_groups (a ∷ b ∷ rest) = codes ":" ++ encode_lower (a ∷ b ∷ []) ++ colon_groups rest
 colon_groups _ = []
 
--- the numbers, each behind a dot
+-- the numbers, each after a dot
 abbrev pub dotted : List ℕ → List ℕ
 dotted [] = []
 dotted (b ∷ rest) = codes "." ++ decimal b ++ dotted rest
@@ -28,17 +28,17 @@ four_decimals : (first : ℕ) (rest : List ℕ) → join_with_byte 46 (map decim
 four_decimals first [] = sym (append-nil (decimal first))
 four_decimals first (b ∷ rest) = ap (λ t. decimal first ++ 46 ∷ t) (four_decimals b rest)
 
--- what is behind the first n of some bytes
-all_behind : (xs : List ℕ) (n : ℕ) → n ≡ length xs → take n xs ≡ xs
-all_behind xs n all = grind (arith, common_steps)
+-- what is after the first n of some bytes
+all_after : (xs : List ℕ) (n : ℕ) → n ≡ length xs → take n xs ≡ xs
+all_after xs n all = grind (arith, common_steps)
 
 pub dotted_text : (bytes : List ℕ) (k n : ℕ) → length bytes ≡ k + 1 → n ≡ slice_index bytes 0 → join_with_byte 46 (map decimal bytes) ≡ decimal n ++ dotted (take k (drop 1 bytes))
 dotted_text [] k n some first = absurd (omega arith)
-dotted_text (b ∷ rest) k n some first = rw first (four_decimals b rest ∙ ap (λ t. decimal b ++ dotted t) (sym (all_behind rest k (omega arith))))
+dotted_text (b ∷ rest) k n some first = rw first (four_decimals b rest ∙ ap (λ t. decimal b ++ dotted t) (sym (all_after rest k (omega arith))))
 
 pub dotted_rest : (bytes : List ℕ) (n : ℕ) → 0 < length bytes → n ≡ slice_index bytes 0 → dotted bytes ≡ codes "." ++ (decimal n ++ dotted (take (length bytes - 1) (drop 1 bytes)))
 dotted_rest [] n some first = absurd (omega arith)
-dotted_rest (b ∷ rest) n some first = rw first (ap (λ t. 46 ∷ (decimal b ++ dotted t)) (sym (all_behind rest (length (b ∷ rest) - 1) (omega arith))))
+dotted_rest (b ∷ rest) n some first = rw first (ap (λ t. 46 ∷ (decimal b ++ dotted t)) (sym (all_after rest (length (b ∷ rest) - 1) (omega arith))))
 
 groups_in_a_row : (a b : ℕ) (rest : List ℕ) → join_with_byte 58 (map encode_lower (pairs (a ∷ b ∷ rest))) ≡ encode_lower (a ∷ b ∷ []) ++ colon_groups rest
 groups_in_a_row a b [] = sym (append-nil (encode_lower (a ∷ b ∷ [])))
@@ -48,12 +48,12 @@ groups_in_a_row a b (c ∷ d ∷ rest) = ap (λ t. encode_lower (a ∷ b ∷ [])
 pub colons_text : (bytes : List ℕ) (k : ℕ) → length bytes ≡ k + 2 → join_with_byte 58 (map encode_lower (pairs bytes)) ≡ encode_lower (take 2 bytes) ++ colon_groups (take k (drop 2 bytes))
 colons_text [] k some = absurd (omega arith)
 colons_text (a ∷ []) k some = absurd (omega arith)
-colons_text (a ∷ b ∷ rest) k some = groups_in_a_row a b rest ∙ ap (λ t. encode_lower (a ∷ b ∷ []) ++ colon_groups t) (sym (all_behind rest k (omega arith)))
+colons_text (a ∷ b ∷ rest) k some = groups_in_a_row a b rest ∙ ap (λ t. encode_lower (a ∷ b ∷ []) ++ colon_groups t) (sym (all_after rest k (omega arith)))
 
 pub colons_rest : (bytes : List ℕ) → 2 ≤ length bytes → colon_groups bytes ≡ codes ":" ++ (encode_lower (slice_index bytes 0 ∷ slice_index bytes 1 ∷ []) ++ colon_groups (take (length bytes - 2) (drop 2 bytes)))
 colons_rest [] some = absurd (omega arith)
 colons_rest (a ∷ []) some = absurd (omega arith)
-colons_rest (a ∷ b ∷ rest) some = ap (λ t. 58 ∷ (encode_lower (a ∷ b ∷ []) ++ colon_groups t)) (sym (all_behind rest (length (a ∷ b ∷ rest) - 2) (omega arith)))
+colons_rest (a ∷ b ∷ rest) some = ap (λ t. 58 ∷ (encode_lower (a ∷ b ∷ []) ++ colon_groups t)) (sym (all_after rest (length (a ∷ b ∷ rest) - 2) (omega arith)))
 
 -- no groups are left where fewer than two bytes are
 pub colons_none : (bytes : List ℕ) → length bytes < 2 → colon_groups bytes ≡ []
@@ -67,11 +67,11 @@ encode_lower-append [] ys = refl
 encode_lower-append (x ∷ xs) ys = ap (λ t. encode_lower (x ∷ []) ++ t) (encode_lower-append xs ys)
 
 -- the digits of the first n bytes stand at the front of a buffer
-pub hex_chunk : (rest out behind : List ℕ) (n : ℕ) → out ≡ encode_lower (take n rest) → length (take n rest) ≡ n → encode_lower rest ≡ take (2 * n) (out ++ behind) ++ encode_lower (take (length rest - n) (drop n rest))
-hex_chunk rest out behind n same size =
+pub hex_chunk : (rest out later : List ℕ) (n : ℕ) → out ≡ encode_lower (take n rest) → length (take n rest) ≡ n → encode_lower rest ≡ take (2 * n) (out ++ later) ++ encode_lower (take (length rest - n) (drop n rest))
+hex_chunk rest out later n same size =
     let long : length out ≡ 2 * n = omega (arith, ap length same, length-encode_with lower_digits (take n rest)) in
-    let front : take (2 * n) (out ++ behind) ≡ out = grind (arith, common_steps) in
-    ap encode_lower (rest_behind rest n) ∙ encode_lower-append _ _ ∙ ap (λ t. t ++ encode_lower (take (length rest - n) (drop n rest))) (sym (front ∙ same))
+    let front : take (2 * n) (out ++ later) ≡ out = grind (arith, common_steps) in
+    ap encode_lower (rest_after rest n) ∙ encode_lower-append _ _ ∙ ap (λ t. t ++ encode_lower (take (length rest - n) (drop n rest))) (sym (front ∙ same))
 
 pub hex_room : (out digits chunk : List ℕ) (n : ℕ) → out ≡ encode_lower chunk → length chunk ≡ n → n ≤ 64 → length digits ≡ 128 → length (out ++ drop (2 * n) digits) ≡ 128
 hex_room out digits chunk n same size small room =
@@ -116,8 +116,8 @@ pub plain_front : (xs : List ℕ) (found : Option ℕ) (n : ℕ) → found ≡ p
 plain_front xs found n is_first is_n =
     let p = prefix_len (λ b. not (not (is_plain b))) xs in
     let count : n ≡ plain_count xs = is_n ∙ ap (λ o. unwrap_or o (length xs)) is_first ∙ first_or_all p (length xs) (prefix_len-le-length _ xs) ∙ prefix_is_count xs in
-    let behind : take (length xs - n) (drop n xs) ≡ drop n xs = grind (arith, common_steps) in
-    plain_prefix xs ∙ ap (λ k. take k xs ++ flat_map escaped (drop k xs)) (sym count) ∙ ap (λ t. take n xs ++ flat_map escaped t) (sym behind)
+    let later : take (length xs - n) (drop n xs) ≡ drop n xs = grind (arith, common_steps) in
+    plain_prefix xs ∙ ap (λ k. take k xs ++ flat_map escaped (drop k xs)) (sym count) ∙ ap (λ t. take n xs ++ flat_map escaped t) (sym later)
 
 -- ---- words
 

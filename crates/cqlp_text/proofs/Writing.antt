@@ -35,8 +35,8 @@ takes_then_takes a b c x y first second = record {
 pub takes_then_breaks : (a b c : Written) (x y : List ℕ) → Receives a x b → BreaksOff b y c → BreaksOff a (x ++ y) c
 takes_then_breaks a b c x y first second = record {
   lost = second.lost;
-  behind = second.behind;
-  passed = passed_then a b c x y (second.lost ∷ second.behind) first.passed second.passed;
+  later = second.later;
+  passed = passed_then a b c x y (second.lost ∷ second.later) first.passed second.passed;
   failures = second.failures ∙ ap (counted true) first.failures;
   waiting = second.waiting;
   lender = second.lender ∙ first.lender;
@@ -46,8 +46,8 @@ takes_then_breaks a b c x y first second = record {
 pub breaks_in_more : (a b : Written) (x y : List ℕ) → BreaksOff a x b → BreaksOff a (x ++ y) b
 breaks_in_more a b x y broken = record {
   lost = broken.lost;
-  behind = broken.behind ++ y;
-  passed = λ text given. let p = broken.passed text given in (p.0, p.1, sym (append_assoc p.0 (broken.lost ∷ broken.behind) y) ∙ ap (λ t. t ++ y) p.2 ∙ append_assoc a.waiting x y);
+  later = broken.later ++ y;
+  passed = λ text given. let p = broken.passed text given in (p.0, p.1, sym (append_assoc p.0 (broken.lost ∷ broken.later) y) ∙ ap (λ t. t ++ y) p.2 ∙ append_assoc a.waiting x y);
   failures = broken.failures;
   waiting = broken.waiting;
   lender = broken.lender;
@@ -69,15 +69,15 @@ known_grown (Some xs) (Some ys) text more grows known = let e : xs ≡ text = cc
 -- the first i and n more
 pub take_more : (i n : ℕ) (bytes : List ℕ) → i ≤ length bytes → take (i + n) bytes ≡ take i bytes ++ take n (take (length bytes - i) (drop i bytes))
 take_more i n bytes within =
-    let behind : take (length bytes - i) (drop i bytes) ≡ drop i bytes = grind (arith, common_steps) in
-    take-add i n bytes ∙ ap (λ t. take i bytes ++ take n t) (sym behind)
+    let later : take (length bytes - i) (drop i bytes) ≡ drop i bytes = grind (arith, common_steps) in
+    take-add i n bytes ∙ ap (λ t. take i bytes ++ take n t) (sym later)
 
 took_some_at : (n len : ℕ) → n ≢ 0 → ((n == 0) && nat_lt 0 len) ≡ false
 took_some_at n len some = grind (arith, nat_tests)
 
 -- a call that took some bytes is no failure
 pub took_some : (n len f f' : ℕ) → n ≢ 0 → f' ≡ counted ((n == 0) && nat_lt 0 len) f → f' ≡ f
-took_some n len f f' some told = told ∙ ap (λ (t : Bool). counted t f) (took_some_at n len some)
+took_some n len f f' some reported = reported ∙ ap (λ (t : Bool). counted t f) (took_some_at n len some)
 
 first_and_rest : (xs : List ℕ) → 0 < length xs → (x : ℕ) × (rest : List ℕ) × (xs ≡ x ∷ rest)
 first_and_rest [] some = absurd (omega arith)
@@ -89,7 +89,7 @@ breaks_at old new f f' n bytes short grows failed =
     let left = first_and_rest (drop n bytes) (simp length-drop (omega arith)) in
     record {
       lost = left.0;
-      behind = left.1;
+      later = left.1;
       passed = λ text known. (take n bytes, known_grown old new text (take n bytes) grows known, ap (λ t. take n bytes ++ t) (sym left.2) ∙ take-append-drop n bytes);
       failures = failed ∙ ap (λ (t : Bool). counted t f) (lt-ltb n (length bytes) short);
       waiting = refl;
@@ -143,11 +143,11 @@ pub progress_writes : {a b : Written} (c : Written) {text left : List ℕ} (r : 
 progress_writes {a} {b} c {text} {left} (Ok u) here writes = progress_ends (progress_goes_on [] here (sym (append-nil left)) writes) refl
 progress_writes {a} {b} c {text} {left} (Err e) here writes = progress_breaks [] here (sym (append-nil left)) writes
 
--- what is left behind the first n
-pub rest_behind : (rest : List ℕ) (n : ℕ) → rest ≡ take n rest ++ take (length rest - n) (drop n rest)
-rest_behind rest n =
-    let behind : take (length rest - n) (drop n rest) ≡ drop n rest = grind (arith, common_steps) in
-    sym (ap (λ t. take n rest ++ t) behind ∙ take-append-drop n rest)
+-- what is left after the first n
+pub rest_after : (rest : List ℕ) (n : ℕ) → rest ≡ take n rest ++ take (length rest - n) (drop n rest)
+rest_after rest n =
+    let later : take (length rest - n) (drop n rest) ≡ drop n rest = grind (arith, common_steps) in
+    sym (ap (λ t. take n rest ++ t) later ∙ take-append-drop n rest)
 
 -- what waited is passed on, and nothing waits
 pub passes_waiting : (given given' : Option (List ℕ)) (f f' lender : ℕ) (waiting none : List ℕ) (r : Result (Unit {0}) SinkFault) → none ≡ [] → Writes (bare given f) waiting r (bare given' f') → Writes (record { given = given; failures = f; waiting = waiting; lender = lender }) [] r (record { given = given'; failures = f'; waiting = none; lender = lender })
@@ -158,7 +158,7 @@ passes_waiting given given' f f' lender waiting none (Ok u) empty takes = record
 }
 passes_waiting given given' f f' lender waiting none (Err e) empty breaks = record {
   lost = breaks.lost;
-  behind = breaks.behind;
+  later = breaks.later;
   passed = λ text known. let p = breaks.passed text known in (p.0, p.1, p.2 ∙ sym (append-nil waiting));
   failures = breaks.failures;
   waiting = empty;
@@ -174,7 +174,7 @@ passes_direct given given' f f' lender none bytes (Ok u) empty takes = record {
 }
 passes_direct given given' f f' lender none bytes (Err e) empty breaks = record {
   lost = breaks.lost;
-  behind = breaks.behind;
+  later = breaks.later;
   passed = λ text known. let p = breaks.passed text known in (p.0, p.1, p.2 ∙ ap (λ t. t ++ bytes) (sym empty));
   failures = breaks.failures;
   waiting = empty;
@@ -198,7 +198,7 @@ known_text a b (Some t) given' f f' lender text (Err e) starts ends empty breaks
     record {
       sent = p.0;
       lost = breaks.lost;
-      behind = breaks.behind;
+      later = breaks.later;
       split = p.2 ∙ ap (λ w. w.waiting ++ text) starts;
       given = ap (λ w. w.given) ends ∙ p.1;
       failures = ap (λ w. w.failures) ends ∙ breaks.failures ∙ ap (λ w. counted true w.failures) starts;

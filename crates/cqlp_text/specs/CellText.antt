@@ -1,5 +1,7 @@
 -- The text of a scalar cell.
-use Rattle.std.specs.Prelude.{ℕ, zero, suc, ◌+◌, ◌-◌, ◌*◌, ◌/◌, ◌%◌, ◌^◌, ◌==◌, ℤ, pos, negsuc, ◌-ℤ◌, Bool, true, false, ◌&&◌, ◌||◌, not, nat_lt, nat_le, if◌then◌else◌, List, [], ◌∷◌, ◌++◌, length, take, codes, slice_index, replicate, sum, count_by}
+use Rattle.std.specs.Prelude.{ℕ, zero, suc, ◌+◌, ◌-◌, ◌*◌, ◌/◌, ◌%◌, ◌^◌, ◌==◌, ℤ, pos, negsuc, ◌-ℤ◌, Bool, true}
+use Rattle.std.specs.Prelude.{false, ◌&&◌, ◌||◌, not, nat_lt, nat_le, if◌then◌else◌, List, [], ◌∷◌, ◌++◌, length}
+use Rattle.std.specs.Prelude.{take, codes, slice_index, replicate, sum, count_by}
 use Rattle.std.specs.Fmt.{signed_decimal}
 use Rattle.std.specs.Int.{w128, from_be_bytes, cast_signed}
 use Rattle.std.specs.List.{range_with_len}
@@ -28,7 +30,7 @@ varint_text bytes = if nat_le (length bytes) 16 then signed_decimal (complement_
 abbrev pub decimal_text : (scale : ℤ) → (unscaled : List ℕ) → List ℕ
 decimal_text scale unscaled = varint_text unscaled ++ (codes "e" ++ signed_decimal (pos 0 -ℤ scale))
 
--- so many digits of a number, with leading zeros
+-- this many digits of a number, with leading zeros
 abbrev pub digits : ℕ → ℕ → List ℕ
 digits zero n = []
 digits (suc k) n = digits k (n / 10) ++ (48 + n % 10) ∷ []

@@ -4,6 +4,7 @@ use Rattle.cqlp_message.specs.declared.event.Finish.{Finish}
 use Rattle.cqlp_message.specs.declared.event.Finish.TheVariants as finish
 use Rattle.cqlp_text.specs.declared.ending.Ending.{Ending}
 use Rattle.cqlp_text.specs.declared.ending.Ending.TheVariants as ending
+use Rattle.cqlp_text.specs.declared.status.TheConstants.{DONE, NOT_WHOLE, BAD_COMMAND_LINE, FAULT}
 use Rattle.cqlp_text.specs.Lines.{spaced}
 use Rattle.cqlp_text.specs.Names.{reason_name}
 use Rattle.cqlp_text.specs.Text.{in_one_line}
@@ -28,17 +29,17 @@ abbrev pub cannot_open_line : (file : List ℕ) → List ℕ
 cannot_open_line file = codes "cqlp: cannot open" ++ spaced (in_one_line file ∷ []) ++ codes "\n"
 
 abbrev pub finish_status : Finish → ℕ
-finish_status (finish.Whole bytes) = 0
-finish_status (finish.Cut frame_at bytes) = 1
-finish_status (finish.Refused r) = 1
+finish_status (finish.Whole bytes) = DONE
+finish_status (finish.Cut frame_at bytes) = NOT_WHOLE
+finish_status (finish.Refused r) = NOT_WHOLE
 
 abbrev pub status_of : Ending → ℕ
 status_of (ending.Finished f) = finish_status f
-status_of ending.ReadFault = 3
-status_of ending.WriteFault = 3
-status_of ending.NoMemory = 3
-status_of ending.TooManyTurns = 3
+status_of ending.ReadFault = FAULT
+status_of ending.WriteFault = FAULT
+status_of ending.NoMemory = FAULT
+status_of ending.TooManyTurns = FAULT
 
--- what a status can be where a stream was read: 2 is that of a bad command line alone
+-- what a status can be where a stream was read
 abbrev pub IsStatusOfStream : (status : ℕ) → Type 0
-IsStatusOfStream status = (status ≤ 3) × (status ≢ 2)
+IsStatusOfStream status = (status ≤ FAULT) × (status ≢ BAD_COMMAND_LINE)

@@ -24,8 +24,8 @@ with_text o text = output (append_known o.given text) o.failures
 pub record StopsWithin (old : Output) (text : List ℕ) (new : Output) : Type 0 where
   pub sent : List ℕ
   pub lost : ℕ
-  pub behind : List ℕ
-  pub split : sent ++ lost ∷ behind ≡ text
+  pub later : List ℕ
+  pub split : sent ++ lost ∷ later ≡ text
   pub given : new.given ≡ append_known old.given sent
   pub failures : new.failures ≡ counted true old.failures
 

@@ -1,6 +1,7 @@
 -- The text of pages (results of kind 2, section 4.2.5.2 of native_protocol_v4.spec): a line for each column's name, one
 -- for the numbers of columns and rows, and one for each row.
-use Rattle.std.specs.Prelude.{ℕ, ◌+◌, ◌==◌, ℤ, pos, negsuc, Bool, true, false, if◌then◌else◌, List, [], ◌∷◌, ◌++◌, length, Option, Some, None, codes, decimal}
+use Rattle.std.specs.Prelude.{ℕ, ◌+◌, ◌==◌, ℤ, pos, negsuc, Bool, true, false, if◌then◌else◌, List, [], ◌∷◌, ◌++◌}
+use Rattle.std.specs.Prelude.{length, Option, Some, None, codes, decimal}
 use Rattle.cqlp_note.specs.declared.field.Field.{Field}
 use Rattle.cqlp_note.specs.declared.field.Field.TheVariants as field
 use Rattle.cqlp_note.specs.Field.{FieldValue}
@@ -53,16 +54,16 @@ abbrev pub before : (column : ℕ) → List WrittenValue → List ℕ
 before column [] = if column == 0 then [] else codes " | "
 before column (o ∷ os) = separator o.turn
 
--- behind the last cell of a row
-abbrev pub behind : (columns column : ℕ) → List WrittenValue → List ℕ
-behind columns column [] = if column + 1 == columns then codes "\n" else []
-behind columns column (o ∷ os) = []
+-- after the last cell of a row
+abbrev pub after : (columns column : ℕ) → List WrittenValue → List ℕ
+after columns column [] = if column + 1 == columns then codes "\n" else []
+after columns column (o ∷ os) = []
 
 abbrev pub innermost : List WrittenValue → Option WrittenValue
 innermost [] = None
 innermost (o ∷ os) = Some o
 
--- what comes behind an item
+-- what comes after an item
 abbrev pub turn_after : Kind → Turn → Turn
 turn_after kind.Map First = Paired
 turn_after kind.Map Another = Paired
@@ -82,16 +83,16 @@ with_open k os = if length os == 64 then os else record { kind = k; turn = First
 -- ---- the text of an event on a page
 
 module _ (p : PagePlace) (column : ℕ) where
-  -- a value of this text, with what stands before and behind it
+  -- a value of this text, with what stands before and after it
   abbrev pub whole_value : List ℕ → List ℕ
-  whole_value text = before column p.open_values ++ (text ++ behind p.columns column p.open_values)
+  whole_value text = before column p.open_values ++ (text ++ after p.columns column p.open_values)
 
   -- what stands before a part of a long content, and after it
   abbrev pub part_start : (offset : ℕ) → List ℕ
   part_start offset = if offset == 0 then before column p.open_values ++ codes "0x" else []
 
   abbrev pub part_end : (last : Bool) → List ℕ
-  part_end last = if last then behind p.columns column p.open_values else []
+  part_end last = if last then after p.columns column p.open_values else []
 
   abbrev pub value_part : CellEvent → List ℕ
   value_part (cell.Leaf level v) = whole_value (cell_text v)
@@ -109,7 +110,7 @@ module _ (p : PagePlace) (column : ℕ) where
 -- the innermost open value ends
 abbrev pub end_part : (columns column : ℕ) → List WrittenValue → List ℕ
 end_part columns column [] = []
-end_part columns column (o ∷ os) = closing o.kind ++ behind columns column os
+end_part columns column (o ∷ os) = closing o.kind ++ after columns column os
 
 abbrev pub without_open : List WrittenValue → List WrittenValue
 without_open [] = []
@@ -136,26 +137,26 @@ event_part p e = []
 abbrev pub page_part : PagePlace → Event → List ℕ
 page_part p e = if p.is_page then event_part p e else []
 
--- ---- behind an event
+-- ---- after an event
 
 -- the kind of a result that is a page
 abbrev pub is_rows : ℤ → Bool
 is_rows (pos n) = n == 2
 is_rows (negsuc n) = false
 
-abbrev pub place_behind_field : PagePlace → Field → FieldValue → PagePlace
-place_behind_field p field.ResultKind (value.Int z) = if is_rows z then record no_page { is_page = true } else p
-place_behind_field p field.Columns (value.Count columns) = record p { columns = columns }
-place_behind_field p f v = p
+abbrev pub place_after_field : PagePlace → Field → FieldValue → PagePlace
+place_after_field p field.ResultKind (value.Int z) = if is_rows z then record no_page { is_page = true } else p
+place_after_field p field.Columns (value.Count columns) = record p { columns = columns }
+place_after_field p f v = p
 
-abbrev pub place_behind : PagePlace → Event → PagePlace
-place_behind p (reading.Holds f v) = place_behind_field p f v
-place_behind p (reading.Cell_at row column e) = record p { column = column; open_values = open_after p column e }
-place_behind p (reading.Leave level items) = record p { open_values = without_open p.open_values }
-place_behind p (reading.End extra) = no_page
-place_behind p e = p
+abbrev pub place_after : PagePlace → Event → PagePlace
+place_after p (reading.Holds f v) = place_after_field p f v
+place_after p (reading.Cell_at row column e) = record p { column = column; open_values = open_after p column e }
+place_after p (reading.Leave level items) = record p { open_values = without_open p.open_values }
+place_after p (reading.End extra) = no_page
+place_after p e = p
 
 -- what is written of events, one after the other
 abbrev pub page_text : PagePlace → List (ℕ × Event) → List ℕ
 page_text p [] = []
-page_text p (e ∷ es) = page_part p e.1 ++ page_text (place_behind p e.1) es
+page_text p (e ∷ es) = page_part p e.1 ++ page_text (place_after p e.1) es

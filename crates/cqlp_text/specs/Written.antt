@@ -28,8 +28,8 @@ pub record Receives (old : Written) (bytes : List ℕ) (new : Written) : Type 0 
 -- One call of the target failed before all of the waiting bytes and of these were passed on, and the others are lost.
 pub record BreaksOff (old : Written) (bytes : List ℕ) (new : Written) : Type 0 where
   pub lost : ℕ
-  pub behind : List ℕ
-  pub passed : PassesOn old bytes (lost ∷ behind) new.given
+  pub later : List ℕ
+  pub passed : PassesOn old bytes (lost ∷ later) new.given
   pub failures : new.failures ≡ counted true old.failures
   pub waiting : new.waiting ≡ []
   pub lender : new.lender ≡ old.lender

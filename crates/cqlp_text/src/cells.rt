@@ -126,7 +126,7 @@ impl<W: Target> TextWriter<'_, W> {
         self.put_digits(9, nanoseconds % 1_000_000_000)
     }
 
-    /// Takes so many digits of a number, with leading zeros.
+    /// Takes this many digits of a number, with leading zeros.
     pub fn put_digits(&mut self, count: u32, number: u64) -> Result<(), SinkFault>
         ensures { Writes self.old (digits count number) result self.new }
     {

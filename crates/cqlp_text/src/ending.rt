@@ -5,6 +5,7 @@ ghost use Rattle.cqlp_text.specs.Endings.{cannot_open_line as cannot_open_line_o
 ghost use Rattle.cqlp_text.specs.Outputs.{AppendsText, written};
 
 use crate::names::reason_name;
+use crate::status::{DONE, FAULT, NOT_WHOLE};
 use crate::text_writer::TextWriter;
 use crate::word::Word;
 use cqlp_message::{Finish, SinkFault};
@@ -27,19 +28,19 @@ pub enum Ending {
 impl Ending {
     ghost use Rattle.cqlp_text.specs.Endings.{IsStatusOfStream, status_of};
 
-    /// The exit status: 0 for a whole stream, 1 for one that is cut or refused, 3 for a fault.
+    /// The exit status.
     pub fn status(self) -> u8
         ensures value { result ≡ status_of self }
         ensures stream { IsStatusOfStream result }
     {
         match self {
-            Ending::Finished(Finish::Whole { .. }) => 0,
-            Ending::Finished(Finish::Cut { .. }) => 1,
-            Ending::Finished(Finish::Refused(_)) => 1,
-            Ending::ReadFault => 3,
-            Ending::WriteFault => 3,
-            Ending::NoMemory => 3,
-            Ending::TooManyTurns => 3,
+            Ending::Finished(Finish::Whole { .. }) => DONE,
+            Ending::Finished(Finish::Cut { .. }) => NOT_WHOLE,
+            Ending::Finished(Finish::Refused(_)) => NOT_WHOLE,
+            Ending::ReadFault => FAULT,
+            Ending::WriteFault => FAULT,
+            Ending::NoMemory => FAULT,
+            Ending::TooManyTurns => FAULT,
         }
     }
 }

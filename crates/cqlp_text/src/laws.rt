@@ -1,6 +1,8 @@
 //! Laws of one answer: what a call writes is decided by its arguments, but for whether its target failed.
 
-ghost use Rattle.cqlp_text.specs.Laws.{BytesAreOfferedOnce, CannotOpenLineIsWrittenOnce, CellTextIsWrittenOnce, EndingLineIsWrittenOnce, EventLineIsWrittenOnce, PagePartIsWrittenOnce, TextIsWrittenOnce};
+ghost use Rattle.cqlp_text.specs.Laws.{BytesAreOfferedOnce, CannotOpenLineIsWrittenOnce, CellTextIsWrittenOnce};
+ghost use Rattle.cqlp_text.specs.Laws.{EndingLineIsWrittenOnce, EventLineIsWrittenOnce, PagePartIsWrittenOnce};
+ghost use Rattle.cqlp_text.specs.Laws.{TextIsWrittenOnce};
 
 /// Of a cell there is one text; at a fault of the target, a front of it was written.
 pub fn one_answer_of_cell_text()

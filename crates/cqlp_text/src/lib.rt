@@ -8,9 +8,10 @@ mod events;
 pub mod laws;
 mod names;
 mod page_text;
+pub mod status;
 mod targets;
-mod text;
 mod text_writer;
+mod values;
 mod word;
 
 pub use cells::cell_text;

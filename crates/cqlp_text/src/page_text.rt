@@ -2,7 +2,7 @@
 
 ghost use Rattle.std.specs.Prelude.{◌≡◌, ◌++◌, IsSome, []};
 ghost use Rattle.cqlp_message.specs.Events.{event_of};
-ghost use Rattle.cqlp_text.specs.PageText.{page_part as text_of, place_behind};
+ghost use Rattle.cqlp_text.specs.PageText.{page_part as text_of, place_after};
 ghost use Rattle.cqlp_text.specs.Outputs.{AppendsText, written};
 
 use crate::text_writer::TextWriter;
@@ -27,7 +27,7 @@ pub fn page_part<W: Target>(
 ) -> Result<(), SinkFault>
     ensures part { AppendsText (written W.Target w.old) (text_of place.old (event_of event.now)) result
         (written W.Target w.new) }
-    ensures place { place.new ≡ place_behind place.old (event_of event.now) }
+    ensures place { place.new ≡ place_after place.old (event_of event.now) }
 {
     if !place.shows(event) {
         place.pass(event);
@@ -44,7 +44,7 @@ pub fn page_part<W: Target>(
 pub(crate) enum Turn {
     /// Its first item.
     First,
-    /// A map's value, behind its key.
+    /// A map's value, after its key.
     Paired,
     /// One more item.
     Another,
@@ -87,7 +87,8 @@ impl Model for PagePlace {
 impl PagePlace {
     ghost use Rattle.std.specs.Prelude.{false};
     ghost use Rattle.cqlp_note.specs.Field.{Count as CountValue, Int as IntValue};
-    ghost use Rattle.cqlp_text.specs.PageText.{no_page, before, behind, innermost, with_item, with_item_if, with_open, without_open, place_behind_field};
+    ghost use Rattle.cqlp_text.specs.PageText.{no_page, before, after, innermost, with_item, with_item_if};
+    ghost use Rattle.cqlp_text.specs.PageText.{with_open, without_open, place_after_field};
 
     /// Before any frame.
     pub fn new() -> Self
@@ -152,9 +153,9 @@ impl PagePlace {
         }
     }
 
-    /// What stands behind a cell of this column, or behind an item of the open value.
-    fn behind(&self, column: u32) -> &'static str
-        ensures { result.now ≡ behind self.now.columns column self.now.open_values }
+    /// What stands after a cell of this column, or after an item of the open value.
+    fn after(&self, column: u32) -> &'static str
+        ensures { result.now ≡ after self.now.columns column self.now.open_values }
     {
         if self.free < ROOM {
             ""
@@ -163,9 +164,9 @@ impl PagePlace {
         }
     }
 
-    /// What stands behind the innermost open value.
-    fn behind_innermost(&self) -> &'static str
-        ensures { result.now ≡ behind self.now.columns self.now.column (without_open self.now.open_values) }
+    /// What stands after the innermost open value.
+    fn after_innermost(&self) -> &'static str
+        ensures { result.now ≡ after self.now.columns self.now.column (without_open self.now.open_values) }
     {
         if self.free + 1 < ROOM {
             ""
@@ -174,9 +175,9 @@ impl PagePlace {
         }
     }
 
-    /// Goes behind an event.
+    /// Goes to the place after an event.
     fn pass(&mut self, event: &Event<'_>)
-        ensures { self.new ≡ place_behind self.old (event_of event.now) }
+        ensures { self.new ≡ place_after self.old (event_of event.now) }
     {
         match *event {
             Event::Int { field, value } => self.pass_int(field, value),
@@ -202,7 +203,7 @@ impl PagePlace {
     }
 
     fn pass_int(&mut self, field: Field, value: i32)
-        ensures { self.new ≡ place_behind_field self.old field (IntValue value) }
+        ensures { self.new ≡ place_after_field self.old field (IntValue value) }
     {
         if let Field::ResultKind = field {
             if value == ROWS {
@@ -212,14 +213,14 @@ impl PagePlace {
     }
 
     fn pass_count(&mut self, field: Field, count: u32)
-        ensures { self.new ≡ place_behind_field self.old field (CountValue count) }
+        ensures { self.new ≡ place_after_field self.old field (CountValue count) }
     {
         if let Field::Columns = field {
             self.columns = count;
         }
     }
 
-    /// Goes behind a cell of this column, or an item of the open value.
+    /// Goes to the place after a cell of this column, or after an item of the open value.
     fn pass_item(&mut self, column: u32)
         ensures { self.new ≡ record self.old { column = column; open_values = with_item self.old.open_values } }
     {
@@ -236,7 +237,7 @@ impl PagePlace {
         }
     }
 
-    /// Goes behind an item of the open value, if there is one.
+    /// Goes to the place after an item of the open value, if there is one.
     fn count_item(&mut self)
         ensures { self.new ≡ record self.old { open_values = with_item self.old.open_values } }
     {
@@ -283,7 +284,8 @@ impl PagePlace {
 impl<W: Target> TextWriter<'_, W> {
     ghost use Rattle.cqlp_note.specs.Field.{Count as CountValue, Text as TextValue};
     ghost use Rattle.cqlp_value.specs.CellStep as cell;
-    ghost use Rattle.cqlp_text.specs.PageText.{before, behind, column_line, page_line, event_part, field_part, value_part, whole_value, part_start, part_end, end_part, opening};
+    ghost use Rattle.cqlp_text.specs.PageText.{before, after, column_line, page_line, event_part, field_part};
+    ghost use Rattle.cqlp_text.specs.PageText.{value_part, whole_value, part_start, part_end, end_part, opening};
     ghost use Rattle.cqlp_text.specs.Words.{word_text};
     ghost use Rattle.cqlp_text.specs.Written.{Writes};
 
@@ -295,7 +297,7 @@ impl<W: Target> TextWriter<'_, W> {
     ) -> Result<(), SinkFault>
         ensures part { Writes self.old (text_of place.old (event_of event.now)) result self.new }
         ensures passed { self.new.waiting ≡ [] }
-        ensures place { place.new ≡ place_behind place.old (event_of event.now) }
+        ensures place { place.new ≡ place_after place.old (event_of event.now) }
     {
         if !place.is_page() {
             place.pass(event);
@@ -377,13 +379,13 @@ impl<W: Target> TextWriter<'_, W> {
         self.put(b" rows\n")
     }
 
-    /// Takes a value without items, with what stands before and behind it.
+    /// Takes a value without items, with what stands before and after it.
     fn put_value(&mut self, place: &PagePlace, column: u32, word: Word<'_>) -> Result<(), SinkFault>
         ensures { Writes self.old (whole_value place.now column (word_text word.entry)) result self.new }
     {
         self.put(place.before(column).as_bytes())?;
         self.put_word(word)?;
-        self.put(place.behind(column).as_bytes())
+        self.put(place.after(column).as_bytes())
     }
 
     fn put_opening(&mut self, place: &PagePlace, column: u32, kind: Kind) -> Result<(), SinkFault>
@@ -400,7 +402,7 @@ impl<W: Target> TextWriter<'_, W> {
             return Ok(());
         };
         self.put(closing(open.kind).as_bytes())?;
-        self.put(place.behind_innermost().as_bytes())
+        self.put(place.after_innermost().as_bytes())
     }
 
     /// Takes a part of a long content, which begins with `0x`.
@@ -443,7 +445,7 @@ impl<W: Target> TextWriter<'_, W> {
         ensures { Writes self.old (part_end place.now column last) result self.new }
     {
         if last {
-            self.put(place.behind(column).as_bytes())
+            self.put(place.after(column).as_bytes())
         } else {
             Ok(())
         }
@@ -451,7 +453,8 @@ impl<W: Target> TextWriter<'_, W> {
 }
 
 ghost use Rattle.std.specs.Prelude.{◌==◌, if◌then◌else◌, codes};
-ghost use Rattle.cqlp_text.specs.PageText.{behind as text_behind, closing as text_closing, opening as text_opening, separator as text_between, turn_after as next_turn};
+ghost use Rattle.cqlp_text.specs.PageText.{after as text_after, closing as text_closing, opening as text_opening};
+ghost use Rattle.cqlp_text.specs.PageText.{separator as text_between, turn_after as next_turn};
 
 /// What stands before an item of an open value.
 fn separator(turn: Turn) -> &'static str
@@ -464,9 +467,9 @@ fn separator(turn: Turn) -> &'static str
     }
 }
 
-/// What stands behind a cell of this column.
+/// What stands after a cell of this column.
 fn row_end(columns: u32, column: u32) -> &'static str
-    ensures { result.now ≡ text_behind columns column [] }
+    ensures { result.now ≡ text_after columns column [] }
 {
     if u64::from(column) + 1 == u64::from(columns) {
         "\n"
@@ -495,7 +498,7 @@ fn closing(kind: Kind) -> &'static str
     }
 }
 
-/// What comes next behind an item of a value of this kind.
+/// What comes next after an item of a value of this kind.
 fn turn_after(kind: Kind, turn: Turn) -> Turn
     ensures { result ≡ next_turn kind turn }
 {

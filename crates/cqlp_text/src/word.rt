@@ -31,7 +31,7 @@ impl<W: Target> TextWriter<'_, W> {
     ghost use Rattle.cqlp_text.specs.Words.{word_text};
     ghost use Rattle.cqlp_text.specs.Written.{Writes};
 
-    /// Takes words, each behind a space.
+    /// Takes words, each after a space.
     pub fn put_words(&mut self, words: &[Word<'_>]) -> Result<(), SinkFault>
         ensures { Writes self.old (spaced (map word_text words.now)) result self.new }
     {

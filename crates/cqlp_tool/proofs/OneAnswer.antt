@@ -26,12 +26,12 @@ use Rattle.cqlp_text.specs.Outputs.{Output, output, with_text, HasFailed, StopsW
 use Rattle.cqlp_text.proofs.OneAnswer.{fronts, known_then, known_fronts, counts_up, stops_once}
 use Rattle.cqlp_tool.specs.declared.text_form.TextForm.{TextForm}
 use Rattle.cqlp_tool.specs.declared.text_form.TextForm.TheVariants as forms
-use Rattle.cqlp_tool.specs.Forms.{text, form_behind}
-use Rattle.cqlp_tool.specs.Rendering.{Renders, RendersAll, RendersFront, RendersTo}
+use Rattle.cqlp_tool.specs.Forms.{text, form_after_all}
+use Rattle.cqlp_tool.specs.Rendering.{RendersFront}
 use Rattle.cqlp_tool.specs.Showing.{ShowsTo, CountsReads, Concludes, ConcludesCheck}
 use Rattle.cqlp_tool.specs.Laws.{EndsAs, EndsAlike, EndAlike, IsGranted, IsOneOutput, IsRenderedWhole, IsRenderedOnce, IsShownRightly, IsShownOnce, IsCheckedRightly, IsCheckedOnce}
 use Rattle.cqlp_tool.specs.Streams.{Streams}
-use Rattle.cqlp_tool.proofs.Renders.{known_nothing, text-append}
+use Rattle.cqlp_tool.proofs.Renders.{known_nothing, text-append, texts_to, Renders, RendersAll, TextsTo}
 use Rattle.cqlp_tool.proofs.Shows.{part_is_front}
 
 -- ---- the end of a stream
@@ -91,7 +91,7 @@ ended_says l stream es es' f v a says =
     (same.0, subst (λ (x : List (ℕ × Event)). EndsAs stream x v f) (sym same.0) (subst (λ (w : Verdict). EndsAs stream es w f) (sym same.1) a.ends))
 
 -- a run that is Finished
-module _ (form : TextForm) (turns : ℕ) (f : Finish) (old new : StreamState) (xs : List ℕ) (left : Option (List ℕ)) (before after : Output) (ran : RendersTo form turns (outcome.Finished f) old new xs left before after) (l : Rules) (s : List ℕ) (es : List (ℕ × Event)) (a : After old s es) (free : old.refusal ≡ None) (rules : new.rules ≡ l) where
+module _ (form : TextForm) (turns : ℕ) (f : Finish) (old new : StreamState) (xs : List ℕ) (left : Option (List ℕ)) (before after : Output) (ran : TextsTo form turns (outcome.Finished f) old new xs left before after) (l : Rules) (s : List ℕ) (es : List (ℕ × Event)) (a : After old s es) (free : old.refusal ≡ None) (rules : new.rules ≡ l) where
   said_by : (all : RendersAll form old new xs left before after ran.0) → Says l start (s ++ ran.0.bytes ++ all.looked) (es ++ (ran.0.events s es a).more) (verdict_of new.refusal)
   said_by all = subst (λ (r : Rules). Says r start (s ++ ran.0.bytes ++ all.looked) (es ++ (ran.0.events s es a).more) (verdict_of new.refusal)) rules (all.says free s es a)
 
@@ -131,7 +131,7 @@ module _ (form : TextForm) (turns : ℕ) (f : Finish) (old new : StreamState) (x
       (w.written ∙ ap (λ m. with_text before (text form m)) (sym (append_cancel_left es more w.more said.0)), said.1)
 
 pub rendered_whole : (form : TextForm) → IsRenderedWhole form
-rendered_whole form turns f old new xs left before after s es more v a free rules says ran = whole_by form turns f old new xs left before after ran old.rules s es a free rules more v says
+rendered_whole form turns f old new xs left before after s es more v a free rules says ran = whole_by form turns f old new xs left before after (texts_to form turns (outcome.Finished f) old new xs left before after ran) old.rules s es a free rules more v says
 
 -- ---- two answers
 
@@ -142,7 +142,7 @@ all_used form old new xs left before after d all is =
     no_bytes all.looked (omega (arith, ap length all.parts, length-append all.looked all.unread, ap length unread))
 
 module _ (form : TextForm) (turns : ℕ) (old new old' new' : StreamState) (xs : List ℕ) (left left' : Option (List ℕ)) (before after after' : Output) (l : Rules) (s : List ℕ) (es : List (ℕ × Event)) (a : After old s es) (a' : After old' s es) (free : old.refusal ≡ None) (free' : old'.refusal ≡ None) (rules : new.rules ≡ l) (rules' : new'.rules ≡ l) where
-  finished_once : (f f' : Finish) → RendersTo form turns (outcome.Finished f) old new xs left before after → RendersTo form turns (outcome.Finished f') old' new' xs left' before after' → (f' ≡ f) × IsOneOutput before after after'
+  finished_once : (f f' : Finish) → TextsTo form turns (outcome.Finished f) old new xs left before after → TextsTo form turns (outcome.Finished f') old' new' xs left' before after' → (f' ≡ f) × IsOneOutput before after after'
   finished_once f f' ran ran' =
       let w = ran.0.events s es a in
       let w' = ran'.0.events s es a' in
@@ -179,7 +179,7 @@ module _ (form : TextForm) (turns : ℕ) (old new old' new' : StreamState) (xs :
   more_text : (given given' : Option (List ℕ)) (f f' : ℕ) (lost lost' : List ℕ) (fs gs c : List (ℕ × Event)) → es ++ gs ≡ (es ++ fs) ++ c → append_known given lost ≡ append_known before.given (text form fs) → append_known given' lost' ≡ append_known before.given (text form gs) → f' ≡ f → GoesOnFromOther (output given f) (output given' f')
   more_text given given' f f' lost lost' fs gs c longer is is' same =
       let goes : gs ≡ fs ++ c = append_cancel_left es gs (fs ++ c) (longer ∙ append_assoc es fs c) in
-      let t = text (form_behind form fs) c in
+      let t = text (form_after_all form fs) c in
       let other : text form gs ≡ text form fs ++ t = ap (text form) goes ∙ text-append form fs c in
       known_fronts given given' f f' (lost ++ t) lost' (sym (known_then given lost t) ∙ ap (λ k. append_known k t) is ∙ known_then before.given (text form fs) t ∙ ap (append_known before.given) (sym other) ∙ sym is') same
 
@@ -203,7 +203,7 @@ module _ (form : TextForm) (turns : ℕ) (old new old' new' : StreamState) (xs :
         ],
       )
 
-  pub runs_once : (o o' : Outcome) → EndsAlike o o' left left' → RendersTo form turns o old new xs left before after → RendersTo form turns o' old' new' xs left' before after' → (o' ≡ o) × IsOneOutput before after after'
+  pub runs_once : (o o' : Outcome) → EndsAlike o o' left left' → TextsTo form turns o old new xs left before after → TextsTo form turns o' old' new' xs left' before after' → (o' ≡ o) × IsOneOutput before after after'
   runs_once (outcome.Finished f) (outcome.Finished f') alike ran ran' = let one = finished_once f f' ran ran' in (ap (λ k. outcome.Finished k) one.0, one.1)
   runs_once outcome.ReadFault outcome.ReadFault alike ran ran' = (refl, inl (read_once ran.0 ran'.0 alike ran.1 ran'.1 ran.2 ran'.2))
   runs_once outcome.Turns outcome.Turns alike ran ran' = (refl, inl (read_once ran.0 ran'.0 alike ran.1 ran'.1 ran.3 ran'.3))
@@ -212,19 +212,19 @@ module _ (form : TextForm) (turns : ℕ) (old new old' new' : StreamState) (xs :
 
 pub rendered_once : (form : TextForm) → IsRenderedOnce form
 rendered_once form turns o o' old new new' xs left left' before after after' s es a free rules rules' alike ran ran' =
-    runs_once form turns old new old new' xs left left' before after after' old.rules s es a a free free rules rules' o o' alike ran ran'
+    runs_once form turns old new old new' xs left left' before after after' old.rules s es a a free free rules rules' o o' alike (texts_to form turns o old new xs left before after ran) (texts_to form turns o' old new' xs left' before after' ran')
 
 -- ---- commands
 
 pub shows_once : (form : TextForm) (limits : Limits) (turns : ℕ) (xs : List ℕ) (left left' : Option (List ℕ)) (before after after' : Output) (e e' : Ending) → EndAlike e e' left left' → ShowsTo form limits turns e xs left before after → ShowsTo form limits turns e' xs left' before after' → (e' ≡ e) × IsOneOutput before after after'
 shows_once form limits turns xs left left' before after after' (ending.Finished f) (ending.Finished f') alike a b =
-    let one = runs_once form turns a.old a.new b.old b.new xs left left' before after after' (rules_of limits) [] [] a.fresh b.fresh a.unrefused b.unrefused (a.same_rules ∙ a.rules) (b.same_rules ∙ b.rules) (outcome.Finished f) (outcome.Finished f') tt a.renders b.renders in
+    let one = runs_once form turns a.old a.new b.old b.new xs left left' before after after' (rules_of limits) [] [] a.fresh b.fresh a.unrefused b.unrefused (a.same_rules ∙ a.rules) (b.same_rules ∙ b.rules) (outcome.Finished f) (outcome.Finished f') tt (texts_to form turns (outcome.Finished f) a.old a.new xs left before after a.renders) (texts_to form turns (outcome.Finished f') b.old b.new xs left' before after' b.renders) in
     let same : outcome.Finished f' ≡ outcome.Finished f = one.0 in
     (cc, one.1)
 shows_once form limits turns xs left left' before after after' ending.ReadFault ending.ReadFault alike a b =
-    (refl, (runs_once form turns a.old a.new b.old b.new xs left left' before after after' (rules_of limits) [] [] a.fresh b.fresh a.unrefused b.unrefused (a.same_rules ∙ a.rules) (b.same_rules ∙ b.rules) outcome.ReadFault outcome.ReadFault alike a.renders b.renders).1)
+    (refl, (runs_once form turns a.old a.new b.old b.new xs left left' before after after' (rules_of limits) [] [] a.fresh b.fresh a.unrefused b.unrefused (a.same_rules ∙ a.rules) (b.same_rules ∙ b.rules) outcome.ReadFault outcome.ReadFault alike (texts_to form turns outcome.ReadFault a.old a.new xs left before after a.renders) (texts_to form turns outcome.ReadFault b.old b.new xs left' before after' b.renders)).1)
 shows_once form limits turns xs left left' before after after' ending.TooManyTurns ending.TooManyTurns alike a b =
-    (refl, (runs_once form turns a.old a.new b.old b.new xs left left' before after after' (rules_of limits) [] [] a.fresh b.fresh a.unrefused b.unrefused (a.same_rules ∙ a.rules) (b.same_rules ∙ b.rules) outcome.Turns outcome.Turns alike a.renders b.renders).1)
+    (refl, (runs_once form turns a.old a.new b.old b.new xs left left' before after after' (rules_of limits) [] [] a.fresh b.fresh a.unrefused b.unrefused (a.same_rules ∙ a.rules) (b.same_rules ∙ b.rules) outcome.Turns outcome.Turns alike (texts_to form turns outcome.Turns a.old a.new xs left before after a.renders) (texts_to form turns outcome.Turns b.old b.new xs left' before after' b.renders)).1)
 shows_once form limits turns xs left left' before after after' ending.WriteFault ending.WriteFault alike a b =
     (refl, front_once form turns a.old a.new b.old b.new xs left left' before after after' (rules_of limits) [] [] a.fresh b.fresh a.unrefused b.unrefused (a.same_rules ∙ a.rules) (b.same_rules ∙ b.rules) a.renders b.renders)
 shows_once form limits turns xs left left' before after after' ending.NoMemory ending.NoMemory alike a b = (refl, inl (b ∙ sym a))
@@ -244,7 +244,7 @@ shown_once form limits turns xs before status status' after after' a b alike fai
 
 -- nothing is written of a stream that is checked
 nothing_written : (limits : Limits) (turns : ℕ) (f : Finish) (xs : List ℕ) (left : Option (List ℕ)) (out read : Output) → ShowsTo forms.Nothing limits turns (ending.Finished f) xs left out read → read ≡ out
-nothing_written limits turns f xs left out read shows = (shows.renders.0.events [] [] shows.fresh).written ∙ ap (λ g. output g out.failures) (known_nothing out.given)
+nothing_written limits turns f xs left out read shows = ((texts_to forms.Nothing turns (outcome.Finished f) shows.old shows.new xs left out read shows.renders).0.events [] [] shows.fresh).written ∙ ap (λ g. output g out.failures) (known_nothing out.given)
 
 module _ (out err : Output) (status status' : ℕ) (out' err' out'' err'' : Output) (fails : FailsAlike out out' out'') (fails_err : FailsAlike err err' err'') where
   verdict_once : (f : Finish) → ConcludesCheck (ending.Finished f) out err status out' err' → ConcludesCheck (ending.Finished f) out err status' out'' err'' → (status' ≡ status) × IsOneOutput out out' out'' × IsOneOutput err err' err''
@@ -252,13 +252,13 @@ module _ (out err : Output) (status status' : ℕ) (out' err' out'' err'' : Outp
   verdict_once f (inl a) (inr b) = absurd (counts_up out.failures fails.0 (sym b.0.failures ∙ fails.1 ∙ ap (λ o. o.failures) a.1))
   verdict_once f (inr a) (inl b) = absurd (counts_up out.failures fails.0 (sym a.0.failures ∙ sym fails.1 ∙ ap (λ o. o.failures) b.1))
   verdict_once f (inr a) (inr b) =
-      let told = concludes_once ending.WriteFault err err' err'' status status' fails_err a.1 b.1 in
-      (told.0, inr (a.0.failures, b.0.failures, stops_once out out' out'' (ending_line (ending.Finished f)) a.0 b.0), told.1)
+      let reported = concludes_once ending.WriteFault err err' err'' status status' fails_err a.1 b.1 in
+      (reported.0, inr (a.0.failures, b.0.failures, stops_once out out' out'' (ending_line (ending.Finished f)) a.0 b.0), reported.1)
 
   fault_once : (e : Ending) (read read' : Output) → IsOneOutput out read read' → (out' ≡ read) × Concludes e err status err' → (out'' ≡ read') × Concludes e err status' err'' → (status' ≡ status) × IsOneOutput out out' out'' × IsOneOutput err err' err''
   fault_once e read read' one a b =
-      let told = concludes_once e err err' err'' status status' fails_err a.1 b.1 in
-      (told.0, subst (λ (o : Output). IsOneOutput out o out'') (sym a.0) (subst (λ (o : Output). IsOneOutput out read o) (sym b.0) one), told.1)
+      let reported = concludes_once e err err' err'' status status' fails_err a.1 b.1 in
+      (reported.0, subst (λ (o : Output). IsOneOutput out o out'') (sym a.0) (subst (λ (o : Output). IsOneOutput out read o) (sym b.0) one), reported.1)
 
   check_once : (limits : Limits) (turns : ℕ) (xs : List ℕ) (left left' : Option (List ℕ)) (read read' : Output) (e : Ending) → IsOneOutput out read read' → ShowsTo forms.Nothing limits turns e xs left out read → ShowsTo forms.Nothing limits turns e xs left' out read' → ConcludesCheck e read err status out' err' → ConcludesCheck e read' err status' out'' err''
       → (status' ≡ status) × IsOneOutput out out' out'' × IsOneOutput err err' err''
@@ -280,7 +280,7 @@ checked_once limits turns xs before status status' after after' a b alike fails 
 
 -- ---- the right answer
 
--- a fault is told only where the outside fails
+-- a fault is reported only where the outside fails
 no_finish : (f : Finish) → finish_status f ≡ 3 → ⊥
 no_finish (finish.Whole n) h = absurd (omega arith)
 no_finish (finish.Cut at n) h = absurd (omega arith)
@@ -296,25 +296,26 @@ module _ (form : TextForm) (limits : Limits) (turns : ℕ) (xs : List ℕ) (befo
   no_fault (ending.Finished f) three shows counts ends (inl g) = no_finish f three
   no_fault ending.ReadFault three shows counts ends (inl g) = counts_up before.input.failures g.reader.0 (sym counts ∙ g.reader.1)
   no_fault ending.WriteFault three shows counts ends (inl g) = counts_up before.out.failures g.output.0 (sym (shows.renders.events [] [] shows.fresh).failures ∙ g.output.1)
-  no_fault ending.NoMemory three shows counts (inl told) (inl g) = g.memory told.1
-  no_fault ending.NoMemory three shows counts (inr told) (inl g) = counts_up before.err.failures g.error_output.0 (sym told.1.failures ∙ g.error_output.1)
+  no_fault ending.NoMemory three shows counts (inl reported) (inl g) = g.memory reported.1
+  no_fault ending.NoMemory three shows counts (inr reported) (inl g) = counts_up before.err.failures g.error_output.0 (sym reported.1.failures ∙ g.error_output.1)
   no_fault ending.TooManyTurns three shows counts ends (inl g) =
-      let d = shows.renders.0 in
-      absurd (omega (arith, g.time, shows.renders.2, ap length d.parts, length-append d.bytes d.rest))
+      let ran = texts_to form turns outcome.Turns shows.old shows.new xs after.input.left before.out after.out shows.renders in
+      let d = ran.0 in
+      absurd (omega (arith, g.time, ran.2, ap length d.parts, length-append d.bytes d.rest))
 
   -- a verdict line that fails is the error output's fault
   told_right : (f : Finish) → Concludes (ending.Finished f) before.err status after.err → IsGranted turns xs before after ⊎ (status ≢ 3) → (status ≡ finish_status f) × (after.err ≡ with_text before.err (ending_line (ending.Finished f)))
-  told_right f (inl told) g = (told.0, told.1)
-  told_right f (inr told) (inl g) = absurd (counts_up before.err.failures g.error_output.0 (sym told.1.failures ∙ g.error_output.1))
-  told_right f (inr told) (inr not) = absurd (not told.0)
+  told_right f (inl reported) g = (reported.0, reported.1)
+  told_right f (inr reported) (inl g) = absurd (counts_up before.err.failures g.error_output.0 (sym reported.1.failures ∙ g.error_output.1))
+  told_right f (inr reported) (inr not) = absurd (not reported.0)
 
   module _ (es : List (ℕ × Event)) (v : Verdict) (says : Says (rules_of limits) start xs es v) (granted : IsGranted turns xs before after ⊎ (status ≢ 3)) where
     pub shown_right : (e : Ending) → ShowsTo form limits turns e xs after.input.left before.out after.out → CountsReads e before.input.failures after.input.failures → Concludes e before.err status after.err
         → (f : Finish) × EndsAs xs es v f × (status ≡ finish_status f) × (after.out ≡ with_text before.out (text form es)) × (after.err ≡ with_text before.err (ending_line (ending.Finished f)))
     shown_right (ending.Finished f) shows counts ends =
-        let whole = whole_by form turns f shows.old shows.new xs after.input.left before.out after.out shows.renders (rules_of limits) [] [] shows.fresh shows.unrefused (shows.same_rules ∙ shows.rules) es v says in
-        let told = told_right f ends granted in
-        (f, whole.1, told.0, whole.0, told.1)
+        let whole = whole_by form turns f shows.old shows.new xs after.input.left before.out after.out (texts_to form turns (outcome.Finished f) shows.old shows.new xs after.input.left before.out after.out shows.renders) (rules_of limits) [] [] shows.fresh shows.unrefused (shows.same_rules ∙ shows.rules) es v says in
+        let reported = told_right f ends granted in
+        (f, whole.1, reported.0, whole.0, reported.1)
     shown_right ending.ReadFault shows counts ends = absurd (no_fault ending.ReadFault refl shows counts ends granted)
     shown_right ending.WriteFault shows counts ends = absurd (no_fault ending.WriteFault refl shows counts ends granted)
     shown_right ending.NoMemory shows counts ends = absurd (no_fault ending.NoMemory refl shows counts ends granted)
@@ -326,9 +327,9 @@ shown_rightly form limits turns xs before status after es v says granted a = sho
 module _ (limits : Limits) (turns : ℕ) (xs : List ℕ) (before : Streams) (status : ℕ) (after : Streams) (es : List (ℕ × Event)) (v : Verdict) (says : Says (rules_of limits) start xs es v) where
   verdict_right : (f : Finish) → EndsAs xs es v f → ConcludesCheck (ending.Finished f) before.out before.err status after.out after.err → IsGranted turns xs before after ⊎ (status ≢ 3)
       → (f : Finish) × EndsAs xs es v f × (status ≡ finish_status f) × (after.out ≡ with_text before.out (ending_line (ending.Finished f))) × (after.err ≡ before.err)
-  verdict_right f is (inl told) granted = (f, is, told.0, told.1, told.2)
-  verdict_right f is (inr told) (inl g) = absurd (counts_up before.out.failures g.output.0 (sym told.0.failures ∙ g.output.1))
-  verdict_right f is (inr told) (inr not) = absurd (not (three_of ending.WriteFault before.err after.err status refl told.1))
+  verdict_right f is (inl reported) granted = (f, is, reported.0, reported.1, reported.2)
+  verdict_right f is (inr reported) (inl g) = absurd (counts_up before.out.failures g.output.0 (sym reported.0.failures ∙ g.output.1))
+  verdict_right f is (inr reported) (inr not) = absurd (not (three_of ending.WriteFault before.err after.err status refl reported.1))
 
   fault_right : (read : Output) (e : Ending) → status_of e ≡ 3 → ShowsTo forms.Nothing limits turns e xs after.input.left before.out read → CountsReads e before.input.failures after.input.failures → (after.out ≡ read) × Concludes e before.err status after.err → IsGranted turns xs before after ⊎ (status ≢ 3) → ⊥
   fault_right read e three shows counts ends granted =
@@ -337,7 +338,7 @@ module _ (limits : Limits) (turns : ℕ) (xs : List ℕ) (before : Streams) (sta
   pub checked_right : (read : Output) (e : Ending) → ShowsTo forms.Nothing limits turns e xs after.input.left before.out read → CountsReads e before.input.failures after.input.failures → ConcludesCheck e read before.err status after.out after.err → IsGranted turns xs before after ⊎ (status ≢ 3)
       → (f : Finish) × EndsAs xs es v f × (status ≡ finish_status f) × (after.out ≡ with_text before.out (ending_line (ending.Finished f))) × (after.err ≡ before.err)
   checked_right read (ending.Finished f) shows counts ends granted =
-      let whole = whole_by forms.Nothing turns f shows.old shows.new xs after.input.left before.out read shows.renders (rules_of limits) [] [] shows.fresh shows.unrefused (shows.same_rules ∙ shows.rules) es v says in
+      let whole = whole_by forms.Nothing turns f shows.old shows.new xs after.input.left before.out read (texts_to forms.Nothing turns (outcome.Finished f) shows.old shows.new xs after.input.left before.out read shows.renders) (rules_of limits) [] [] shows.fresh shows.unrefused (shows.same_rules ∙ shows.rules) es v says in
       verdict_right f whole.1 (subst (λ (o : Output). ConcludesCheck (ending.Finished f) o before.err status after.out after.err) (nothing_written limits turns f xs after.input.left before.out read shows) ends) granted
   checked_right read ending.ReadFault shows counts ends granted = absurd (fault_right read ending.ReadFault refl shows counts ends granted)
   checked_right read ending.WriteFault shows counts ends granted = absurd (fault_right read ending.WriteFault refl shows counts ends granted)

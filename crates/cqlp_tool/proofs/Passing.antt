@@ -9,6 +9,6 @@ pub passing_keeps : (given given' : Option (List ℕ)) (buffer : List ℕ) (p n 
 passing_keeps None given' buffer p n grows = tt
 passing_keeps (Some t) None buffer p n grows = absurd grows
 passing_keeps (Some t) (Some u) buffer p n grows =
-    let behind : take (length buffer - p) (drop p buffer) ≡ drop p buffer = grind (arith, common_steps) in
-    ap (λ k. k ++ drop (p + n) buffer) (grows ∙ ap (λ k. t ++ take n k) behind) ∙ append_assoc t (take n (drop p buffer)) (drop (p + n) buffer)
+    let later : take (length buffer - p) (drop p buffer) ≡ drop p buffer = grind (arith, common_steps) in
+    ap (λ k. k ++ drop (p + n) buffer) (grows ∙ ap (λ k. t ++ take n k) later) ∙ append_assoc t (take n (drop p buffer)) (drop (p + n) buffer)
     ∙ ap (λ k. t ++ k) (ap (λ k. take n (drop p buffer) ++ k) (sym (drop-drop n p buffer)) ∙ take-append-drop n (drop p buffer))

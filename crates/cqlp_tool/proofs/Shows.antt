@@ -9,11 +9,11 @@ use Rattle.cqlp_decode.specs.Reading.{Event}
 use Rattle.cqlp_decode.specs.Streams.{After}
 use Rattle.cqlp_decode.specs.Draining.{RunsTo}
 use Rattle.cqlp_tool.specs.declared.text_form.TextForm.{TextForm}
-use Rattle.cqlp_tool.specs.Forms.{text, text_of, form_behind}
+use Rattle.cqlp_tool.specs.Forms.{text, text_of, form_after_all}
 use Rattle.cqlp_text.specs.Written.{Written, bare, taken}
 use Rattle.cqlp_text.specs.Outputs.{Output, output, with_text, HasFailed, StopsWithin}
 use Rattle.cqlp_text.proofs.OneAnswer.{known_then}
-use Rattle.cqlp_tool.specs.Rendering.{Rendering, with_event, StopsWithinEvent, Renders, RendersFront, RendersPart, WritesFront}
+use Rattle.cqlp_tool.specs.Rendering.{Rendering, with_event, StopsWithinEvent, RendersFront, WritesFront}
 use Rattle.cqlp_tool.specs.Showing.{RendersOrFails, ShowsTo, Concludes, ConcludesCheck, ending_of}
 use Rattle.cqlp_text.specs.declared.ending.Ending.{Ending}
 use Rattle.cqlp_text.specs.declared.ending.Ending.TheVariants as ending
@@ -21,7 +21,7 @@ use Rattle.cqlp_text.specs.Endings.{ending_line, status_of}
 use Rattle.cqlp_message.specs.declared.event.Finish.{Finish}
 use Rattle.cqlp_note.specs.declared.limits.Limits.{Limits}
 use Rattle.cqlp_note.specs.Limits.{rules_of}
-use Rattle.cqlp_tool.proofs.Renders.{known_nothing, known_still, text-last, renders_to}
+use Rattle.cqlp_tool.proofs.Renders.{known_nothing, known_still, text-last, renders_to, texts_to, Renders, RendersPart}
 use Rattle.cqlp_tool.proofs.Turns.{runs_on}
 
 -- known bytes that are kept are the same
@@ -45,10 +45,10 @@ module _ (form : TextForm) (old new : StreamState) (xs : List ℕ) (before : Out
         record {
           more = w.more ++ (w.at, w.event) ∷ [];
           stands = rw (← (append_assoc es w.more ((w.at, w.event) ∷ []))) w.stands;
-          lost = w.written.lost ∷ w.written.behind;
+          lost = w.written.lost ∷ w.written.later;
           front =
-              ap (λ g. append_known g (w.written.lost ∷ w.written.behind)) w.written.given ∙ known_then (append_known before.given t) w.written.sent (w.written.lost ∷ w.written.behind)
-              ∙ ap (append_known (append_known before.given t)) w.written.split ∙ known_then before.given t (text_of (form_behind form w.more) w.at w.event)
+              ap (λ g. append_known g (w.written.lost ∷ w.written.later)) w.written.given ∙ known_then (append_known before.given t) w.written.sent (w.written.lost ∷ w.written.later)
+              ∙ ap (append_known (append_known before.given t)) w.written.split ∙ known_then before.given t (text_of (form_after_all form w.more) w.at w.event)
               ∙ ap (append_known before.given) (sym (text-last form w.more w.at w.event));
           failures = w.written.failures;
         };
@@ -90,11 +90,11 @@ module _ (old new : StreamState) (xs : List ℕ) (left : Option (List ℕ)) (bef
     front_between known end same failed =
         all_is_front before.form old new xs before.output after.output end [] (known_nothing end.given ∙ same (tells_on known)) failed (renders_to turns outcome.Turns old new xs left before after ran).0
 
-  -- a run of some turns, as one of at most so many
+  -- a run of some turns, as one of at most this many
   pub renders_or_fails : (turns : ℕ) (o : Outcome) → RunsTo with_event StopsWithinEvent turns o old new xs left before after → RendersOrFails before.form turns o old new xs left before.output after.output
-  renders_or_fails turns (outcome.Finished f) ran = renders_to turns (outcome.Finished f) old new xs left before after ran
-  renders_or_fails turns outcome.ReadFault ran = renders_to turns outcome.ReadFault old new xs left before after ran
-  renders_or_fails turns outcome.Turns ran = renders_to turns outcome.Turns old new xs left before after ran
+  renders_or_fails turns (outcome.Finished f) ran = (after.form, ran)
+  renders_or_fails turns outcome.ReadFault ran = (after.form, ran)
+  renders_or_fails turns outcome.Turns ran = (after.form, ran)
   renders_or_fails turns outcome.SinkFault ran = part_is_front before.form old new xs before.output after.output (renders_to turns outcome.SinkFault old new xs left before after ran)
 
   pub ends_early : (turn turns : ℕ) (o : Outcome) → o ≢ outcome.Turns → RunsTo with_event StopsWithinEvent turn o old new xs left before after → RendersOrFails before.form turns o old new xs left before.output after.output
@@ -103,23 +103,23 @@ module _ (old new : StreamState) (xs : List ℕ) (left : Option (List ℕ)) (bef
   ends_early turn turns outcome.Turns early ran = absurd (early refl)
   ends_early turn turns outcome.SinkFault early ran = renders_or_fails turns outcome.SinkFault ran
 
--- one more read, behind a flush
+-- one more read, after a flush
 pub goes_on : (old mid new : StreamState) (xs : List ℕ) (left left' : Option (List ℕ)) (first before flushed after : Rendering) (turn : ℕ) (o : Outcome) → After old [] [] → mid.refusal ≡ None → IsSome first.output.given → RunsTo with_event StopsWithinEvent turn outcome.Turns old mid xs left first before
     → (IsSome before.output.given → flushed ≡ before) → ((rest : List ℕ) → left ≡ Some rest → IsSome flushed.output.given → RunsTo with_event StopsWithinEvent 1 o mid new rest left' flushed after)
     → RunsTo with_event StopsWithinEvent (turn + 1) o old new xs left' first after
 goes_on old mid new xs left left' first before flushed after turn o fresh waits known ran same next =
-    let told = tells_on old mid xs left first before fresh turn ran known in
-    let is : flushed ≡ before = same told in
-    let more = next ran.0.rest ran.1 (subst (λ (r : Rendering). IsSome r.output.given) (sym is) told) in
+    let reported = tells_on old mid xs left first before fresh turn ran known in
+    let is : flushed ≡ before = same reported in
+    let more = next ran.0.rest ran.1 (subst (λ (r : Rendering). IsSome r.output.given) (sym is) reported) in
     runs_on with_event old mid new xs first before after ran.0 StopsWithinEvent (λ free. waits) turn 1 o left' ran.2 (subst (λ (r : Rendering). RunsTo with_event StopsWithinEvent 1 o mid new ran.0.rest left' r after) is more)
 
--- ---- what goes to the output behind the buffer
+-- ---- what goes to the output after the buffer
 
 -- where no target failed, all events were written
 all_events : (form : TextForm) (turns : ℕ) (o : Outcome) (old new : StreamState) (xs : List ℕ) (left : Option (List ℕ)) (before after : Output) → o ≢ outcome.SinkFault → RendersOrFails form turns o old new xs left before after → Renders form old new xs before after
-all_events form turns (outcome.Finished f) old new xs left before after sound ran = ran.0
-all_events form turns outcome.ReadFault old new xs left before after sound ran = ran.0
-all_events form turns outcome.Turns old new xs left before after sound ran = ran.0
+all_events form turns (outcome.Finished f) old new xs left before after sound ran = (texts_to form turns (outcome.Finished f) old new xs left before after ran).0
+all_events form turns outcome.ReadFault old new xs left before after sound ran = (texts_to form turns outcome.ReadFault old new xs left before after ran).0
+all_events form turns outcome.Turns old new xs left before after sound ran = (texts_to form turns outcome.Turns old new xs left before after ran).0
 all_events form turns outcome.SinkFault old new xs left before after sound ran = absurd (sound refl)
 
 -- nothing is left in a buffer that was flushed
@@ -172,7 +172,7 @@ shows_by form limits turns outcome.SinkFault old new xs left before after fresh 
 -- the output of a stream that was read tells what it got
 pub tells_read : (form : TextForm) (limits : Limits) (turns : ℕ) (f : Finish) (xs : List ℕ) (left : Option (List ℕ)) (before after : Output) → IsSome before.given → ShowsTo form limits turns (ending.Finished f) xs left before after → IsSome after.given
 tells_read form limits turns f xs left before after known shows =
-    let wrote = shows.renders.0.events [] [] shows.fresh in
+    let wrote = (texts_to form turns (outcome.Finished f) shows.old shows.new xs left before after shows.renders).0.events [] [] shows.fresh in
     subst (λ (g : Option (List ℕ)). IsSome g) (sym (ap (λ o. o.given) wrote.written)) (known_still before.given (text form wrote.more) known)
 
 module _ (e : Ending) (f : Finish) (is : e ≡ ending.Finished f) (out out' err : Output) (status : ℕ) where

@@ -12,6 +12,7 @@ use Rattle.cqlp_decode.specs.Standing.{StreamState}
 use Rattle.cqlp_decode.specs.Streams.{After, FinishesBy}
 use Rattle.cqlp_text.specs.declared.ending.Ending.{Ending}
 use Rattle.cqlp_text.specs.declared.ending.Ending.TheVariants as ending
+use Rattle.cqlp_text.specs.declared.status.TheConstants.{FAULT}
 use Rattle.cqlp_text.specs.Endings.{ending_line, finish_status}
 use Rattle.cqlp_text.specs.Laws.{FailsAlike, GoesOnFromOther}
 use Rattle.cqlp_text.specs.Outputs.{Output, with_text, HasFailed}
@@ -28,7 +29,7 @@ abbrev pub EndsAs : List ℕ → List (ℕ × Event) → Verdict → Finish → 
 EndsAs xs es Waits f = FinishesBy None xs es f
 EndsAs xs es (Refused at why) f = f ≡ finish.Refused (record { at = at; why = why })
 
--- A renderer that is Finished wrote the text of all events that the stream says, and tells its end.
+-- A renderer that is Finished wrote the text of all events that the stream says, and reports its end.
 abbrev pub IsRenderedWhole : TextForm → Type 0
 IsRenderedWhole form = (turns : ℕ) (f : Finish) (old new : StreamState) (xs : List ℕ) (left : Option (List ℕ))
     (before after : Output) (s : List ℕ) (es more : List (ℕ × Event)) (v : Verdict)
@@ -40,8 +41,8 @@ IsRenderedWhole form = (turns : ℕ) (f : Finish) (old new : StreamState) (xs : 
 abbrev pub IsSound : (before after : ℕ) → Type 0
 IsSound before after = (before < 2 ^ 64 - 1) × (after ≡ before)
 
--- The outside granted all: no target and no reader failed, the stream has fewer bytes than there are turns, and the line
--- of no memory was not written.
+-- The outside granted all: no target and no reader failed, the stream has fewer bytes than there are turns, and the
+-- line of no memory was not written.
 pub record IsGranted (turns : ℕ) (xs : List ℕ) (before after : Streams) : Type 0 where
   pub reader : IsSound before.input.failures after.input.failures
   pub output : IsSound before.out.failures after.out.failures
@@ -55,7 +56,7 @@ pub record IsGranted (turns : ℕ) (xs : List ℕ) (before after : Streams) : Ty
 abbrev pub IsShownRightly : TextForm → Type 0
 IsShownRightly form = (limits : Limits) (turns : ℕ) (xs : List ℕ) (before : Streams) (status : ℕ) (after : Streams)
     (es : List (ℕ × Event)) (v : Verdict)
-    → Says (rules_of limits) start xs es v → IsGranted turns xs before after ⊎ (status ≢ 3)
+    → Says (rules_of limits) start xs es v → IsGranted turns xs before after ⊎ (status ≢ FAULT)
     → ShowsBytes form limits turns xs before status after
     → (f : Finish) × EndsAs xs es v f × (status ≡ finish_status f)
     × (after.out ≡ with_text before.out (text form es))
@@ -65,7 +66,7 @@ IsShownRightly form = (limits : Limits) (turns : ℕ) (xs : List ℕ) (before : 
 abbrev pub IsCheckedRightly : Type 0
 IsCheckedRightly = (limits : Limits) (turns : ℕ) (xs : List ℕ) (before : Streams) (status : ℕ) (after : Streams)
     (es : List (ℕ × Event)) (v : Verdict)
-    → Says (rules_of limits) start xs es v → IsGranted turns xs before after ⊎ (status ≢ 3)
+    → Says (rules_of limits) start xs es v → IsGranted turns xs before after ⊎ (status ≢ FAULT)
     → ChecksBytes limits turns xs before status after
     → (f : Finish) × EndsAs xs es v f × (status ≡ finish_status f)
     × (after.out ≡ with_text before.out (ending_line (ending.Finished f))) × (after.err ≡ before.err)

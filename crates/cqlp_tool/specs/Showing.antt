@@ -9,6 +9,7 @@ use Rattle.cqlp_decode.specs.Standing.{StreamState}
 use Rattle.cqlp_decode.specs.Streams.{After}
 use Rattle.cqlp_text.specs.declared.ending.Ending.{Ending}
 use Rattle.cqlp_text.specs.declared.ending.Ending.TheVariants as ending
+use Rattle.cqlp_text.specs.declared.status.TheConstants.{FAULT}
 use Rattle.cqlp_text.specs.Endings.{ending_line, finish_status, status_of}
 use Rattle.cqlp_tool.specs.declared.text_form.TextForm.{TextForm}
 use Rattle.cqlp_tool.specs.declared.text_form.TextForm.TheVariants as forms
@@ -23,40 +24,31 @@ ending_of outcome.ReadFault = ending.ReadFault
 ending_of outcome.SinkFault = ending.WriteFault
 ending_of outcome.Turns = ending.TooManyTurns
 
--- A decoder that was just made with these limits, and has refused nothing, rendered the bytes xs of a reader.
-pub record RendersNew (form : TextForm) (limits : Limits) (turns : ℕ) (o : Outcome) (xs : List ℕ) (left : Option (List ℕ)) (before after : Output) : Type 0 where
-  pub old : StreamState
-  pub new : StreamState
-  pub fresh : After old [] []
-  pub unrefused : old.refusal ≡ None
-  pub rules : old.rules ≡ rules_of limits
-  pub same_rules : new.rules ≡ old.rules
-  pub renders : RendersTo form turns o old new xs left before after
-
--- The same, but the target failed.
-pub record RendersFrontNew (form : TextForm) (limits : Limits) (xs : List ℕ) (before after : Output) : Type 0 where
-  pub old : StreamState
-  pub new : StreamState
-  pub fresh : After old [] []
-  pub unrefused : old.refusal ≡ None
-  pub rules : old.rules ≡ rules_of limits
-  pub same_rules : new.rules ≡ old.rules
-  pub renders : RendersFront form old new xs before after
-
 -- What a decoder rendered through a buffer; where the target failed, it was given a front of that.
-abbrev pub RendersOrFails : TextForm → (turns : ℕ) → Outcome → (old new : StreamState) → (xs : List ℕ) → Option (List ℕ) → (before after : Output) → Type 0
-RendersOrFails form turns (outcome.Finished f) old new xs left before after = RendersTo form turns (outcome.Finished f) old new xs left before after
-RendersOrFails form turns outcome.ReadFault old new xs left before after = RendersTo form turns outcome.ReadFault old new xs left before after
-RendersOrFails form turns outcome.Turns old new xs left before after = RendersTo form turns outcome.Turns old new xs left before after
+abbrev pub RendersOrFails : TextForm → (turns : ℕ) → Outcome → (old new : StreamState) → (xs : List ℕ)
+    → (left : Option (List ℕ)) → (before after : Output) → Type 0
 RendersOrFails form turns outcome.SinkFault old new xs left before after = RendersFront form old new xs before after
+RendersOrFails form turns o old new xs left before after = RendersTo form turns o old new xs left before after
+
+-- A decoder that was just made with these limits, and has refused nothing, rendered the bytes xs of a reader.
+pub record RendersNew (form : TextForm) (limits : Limits) (turns : ℕ) (o : Outcome) (xs : List ℕ)
+    (left : Option (List ℕ)) (before after : Output) : Type 0 where
+  pub old : StreamState
+  pub new : StreamState
+  pub fresh : After old [] []
+  pub unrefused : old.refusal ≡ None
+  pub rules : old.rules ≡ rules_of limits
+  pub same_rules : new.rules ≡ old.rules
+  pub renders : RendersOrFails form turns o old new xs left before after
 
 -- What was written of the bytes xs of a reader, by how the command ends.
-abbrev pub ShowsTo : TextForm → Limits → (turns : ℕ) → Ending → (xs : List ℕ) → Option (List ℕ) → (before after : Output) → Type 0
-ShowsTo form limits turns (ending.Finished f) xs left before after = RendersNew form limits turns (outcome.Finished f) xs left before after
-ShowsTo form limits turns ending.ReadFault xs left before after = RendersNew form limits turns outcome.ReadFault xs left before after
-ShowsTo form limits turns ending.TooManyTurns xs left before after = RendersNew form limits turns outcome.Turns xs left before after
-ShowsTo form limits turns ending.WriteFault xs left before after = RendersFrontNew form limits xs before after
-ShowsTo form limits turns ending.NoMemory xs left before after = after ≡ before
+module _ (form : TextForm) (limits : Limits) (turns : ℕ) where
+  abbrev pub ShowsTo : Ending → (xs : List ℕ) → (left : Option (List ℕ)) → (before after : Output) → Type 0
+  ShowsTo (ending.Finished f) = RendersNew form limits turns (outcome.Finished f)
+  ShowsTo ending.ReadFault = RendersNew form limits turns outcome.ReadFault
+  ShowsTo ending.TooManyTurns = RendersNew form limits turns outcome.Turns
+  ShowsTo ending.WriteFault = RendersNew form limits turns outcome.SinkFault
+  ShowsTo ending.NoMemory = λ xs left before after. after ≡ before
 
 -- A read fault that is reported is one more failed call of the reader; and none failed where the stream was read.
 abbrev pub CountsReads : Ending → (old new : ℕ) → Type 0
@@ -64,10 +56,12 @@ CountsReads ending.ReadFault old new = new ≡ counted true old
 CountsReads ending.WriteFault old new = Unit {0}
 CountsReads e old new = new ≡ old
 
--- The line of the ending was written, and the status is its own; or the target failed within it, and the status is 3.
+-- The line of the ending was written, and the status is its own; or the target failed within it, and the status is
+-- that of a fault.
 abbrev pub Concludes : Ending → (before : Output) → (status : ℕ) → (after : Output) → Type 0
 Concludes e before status after =
-    ((status ≡ status_of e) × (after ≡ with_text before (ending_line e))) ⊎ ((status ≡ 3) × StopsWithin before (ending_line e) after)
+    ((status ≡ status_of e) × (after ≡ with_text before (ending_line e)))
+    ⊎ ((status ≡ FAULT) × StopsWithin before (ending_line e) after)
 
 -- the same of a target of which it is known what it was given
 abbrev pub ConcludesIfKnown : Ending → (before : Output) → (status : ℕ) → (after : Output) → Type 0
@@ -83,7 +77,8 @@ ConcludesCheck e out err status out' err' = (out' ≡ out) × Concludes e err st
 
 -- The bytes xs of the input were shown: what was written of them, which calls of the reader failed, and the line that
 -- reports how it ended.
-abbrev pub ShowsBytes : TextForm → Limits → (turns : ℕ) → List ℕ → (before : Streams) → (status : ℕ) → (after : Streams) → Type 0
+abbrev pub ShowsBytes : TextForm → Limits → (turns : ℕ) → List ℕ
+    → (before : Streams) → (status : ℕ) → (after : Streams) → Type 0
 ShowsBytes form limits turns xs before status after =
     (e : Ending) × ShowsTo form limits turns e xs after.input.left before.out after.out
     × CountsReads e before.input.failures after.input.failures × Concludes e before.err status after.err
@@ -96,9 +91,11 @@ ChecksBytes limits turns xs before status after =
     × ConcludesCheck e read before.err status after.out after.err
 
 -- A stream was shown, and how it ended was reported.
-abbrev pub ShowsAndReports : TextForm → Limits → (turns : ℕ) → (before : Streams) → (status : ℕ) → (after : Streams) → Type 0
+abbrev pub ShowsAndReports : TextForm → Limits → (turns : ℕ)
+    → (before : Streams) → (status : ℕ) → (after : Streams) → Type 0
 ShowsAndReports form limits turns before status after =
-    IfKnown before.input before.out (λ xs. IsSome before.err.given → ShowsBytes form limits turns xs before status after)
+    IfKnown before.input before.out (λ xs.
+    IsSome before.err.given → ShowsBytes form limits turns xs before status after)
 
 -- A stream was checked, and how it ended was reported.
 abbrev pub ChecksAndReports : Limits → (turns : ℕ) → (before : Streams) → (status : ℕ) → (after : Streams) → Type 0

@@ -2,7 +2,8 @@
 
 ghost use Rattle.std.specs.Prelude.{◌≡◌, ◌≤◌, IsSome};
 ghost use Rattle.cqlp_note.specs.Limits.{first_bad};
-ghost use Rattle.cqlp_tool.specs.CommandLines.{Complains, Helps, Performs, ReportsFault, ReportsMistake, ReportsNoMemory, ReportsWrong};
+ghost use Rattle.cqlp_tool.specs.CommandLines.{Complains, Helps, Performs, ReportsFault, ReportsMistake};
+ghost use Rattle.cqlp_tool.specs.CommandLines.{ReportsNoMemory, ReportsWrong};
 ghost use Rattle.cqlp_text.specs.Endings.{IsStatusOfStream, cannot_open_line as cannot_open_line_of};
 ghost use Rattle.cqlp_text.specs.Outputs.{written};
 ghost use Rattle.cqlp_tool.specs.Streams.{streams};
@@ -14,21 +15,16 @@ use crate::showing::{TURNS, check, conclude, rows, show};
 use cqlp_decode::SinkFault;
 use cqlp_note::{OfStd, Source, Target};
 use cqlp_options::{DEFAULT_LIMITS, NoTask, Options, Task};
+use cqlp_text::status::{BAD_COMMAND_LINE, DONE, FAULT};
 use cqlp_text::{Ending, cannot_open_line, put_text};
 use std::alloc::Allocator;
 use std::fs::File;
 use std::rt::Files;
 
-/// The status of a bad command line.
-const BAD_COMMAND_LINE: u8 = 2;
-
-/// The status of a fault.
-const FAULT: u8 = 3;
-
 /// What the program does: `words` are those after its name, and `input` is standard input. Without words that is what
 /// `show -` does. Answers the exit status, and the two outputs.
 ///
-/// A bad command line is told on `err`, with status 2, and help that was asked for on `out`, with status 0.
+/// What is wrong with a command line is written to `err`, and help that was asked for to `out`.
 pub fn command<R: Files + AllocGlobal, I: Source, O: Target, E: Target>(
     rt: &R,
     words: &[&str],
@@ -38,7 +34,7 @@ pub fn command<R: Files + AllocGlobal, I: Source, O: Target, E: Target>(
 ) -> (u8, O, E)
     ensures performs { let view = streams I.Source O.Target E.Target in
         Performs words.now TURNS (view input.old out err) result.0 (view input.new result.1 result.2) }
-    ensures untouched { result.0 ≡ 2 → input.new ≡ input.old }
+    ensures untouched { result.0 ≡ BAD_COMMAND_LINE → input.new ≡ input.old }
 {
     command_within(rt, &rt.alloc(), words, input, out, err)
 }
@@ -54,7 +50,7 @@ pub(crate) fn command_within<R: Files + AllocGlobal, A: Allocator, I: Source, O:
 ) -> (u8, O, E)
     ensures performs { let view = streams I.Source O.Target E.Target in
         Performs words.now TURNS (view input.old out err) result.0 (view input.new result.1 result.2) }
-    ensures untouched { result.0 ≡ 2 → input.new ≡ input.old }
+    ensures untouched { result.0 ≡ BAD_COMMAND_LINE → input.new ≡ input.old }
 {
     if words.is_empty() {
         return show(heap, DEFAULT_LIMITS, input, out, err);
@@ -93,9 +89,9 @@ fn perform<A: Allocator, I: Source, O: Target, E: Target>(
     }
 }
 
-/// Tells that a file cannot be opened. Answers the exit status.
+/// Reports that a file cannot be opened. Answers the exit status.
 fn cannot_open<E: Target>(file: &str, mut err: E) -> (u8, E)
-    ensures status { result.0 ≡ 3 }
+    ensures status { result.0 ≡ FAULT }
     ensures line { IsSome (E.contents err) →
         ReportsFault (cannot_open_line_of file.now) (written E.Target err) result.0 (written E.Target result.1) }
 {
@@ -104,7 +100,7 @@ fn cannot_open<E: Target>(file: &str, mut err: E) -> (u8, E)
     }
 }
 
-/// Tells what there is in place of options: help or the version on `out`, and a mistake on `err`.
+/// Writes what there is in place of options: help or the version to `out`, and a mistake to `err`.
 fn tell<O: Target, E: Target>(no_task: NoTask, out: O, err: E) -> (u8, O, E)
     ensures help { IfHelp no_task (λ text. IsSome (O.contents out) → IsSome (E.contents err) →
         Helps text (written O.Target out) (written E.Target err) result.0
@@ -115,8 +111,8 @@ fn tell<O: Target, E: Target>(no_task: NoTask, out: O, err: E) -> (u8, O, E)
     ensures no_memory { no_task ≡ no_tasks.NoMemory → IsSome (E.contents err) →
         ReportsNoMemory (written O.Target out) (written E.Target err) result.0
         (written O.Target result.1) (written E.Target result.2) }
-    ensures status { result.0 ≤ 3 }
-    ensures bad_command_line { result.0 ≡ 2 → IsSome (O.contents out) → IsSome (E.contents err) →
+    ensures status { result.0 ≤ FAULT }
+    ensures bad_command_line { result.0 ≡ BAD_COMMAND_LINE → IsSome (O.contents out) → IsSome (E.contents err) →
         ReportsWrong (written O.Target out) (written E.Target err)
         (written O.Target result.1) (written E.Target result.2) }
 {
@@ -141,7 +137,7 @@ fn help<O: Target, E: Target>(text: &str, mut out: O, err: E) -> (u8, O, E)
         (written O.Target result.1) (written E.Target result.2) }
 {
     match put_text(text, &mut out) {
-        Ok(()) => (0, out, err),
+        Ok(()) => (DONE, out, err),
         Err(SinkFault) => {
             let (status, err) = conclude(Ending::WriteFault, err);
             (status, out, err)
@@ -151,7 +147,7 @@ fn help<O: Target, E: Target>(text: &str, mut out: O, err: E) -> (u8, O, E)
 
 /// Writes what is wrong with a command line. Answers the exit status.
 fn complain<E: Target>(text: &str, mut err: E) -> (u8, E)
-    ensures status { result.0 ≤ 3 }
+    ensures status { result.0 ≤ FAULT }
     ensures complaint { IsSome (E.contents err) →
         Complains text.now (written E.Target err) result.0 (written E.Target result.1) }
 {

@@ -2,16 +2,17 @@
 //! outside decides.
 
 ghost use Rattle.cqlp_text.specs.PageText.{no_page};
-ghost use Rattle.cqlp_tool.specs.Laws.{IsCheckedOnce, IsCheckedRightly, IsRenderedOnce, IsRenderedWhole, IsShownOnce, IsShownRightly};
+ghost use Rattle.cqlp_tool.specs.Laws.{IsCheckedOnce, IsCheckedRightly, IsRenderedOnce, IsRenderedWhole, IsShownOnce};
+ghost use Rattle.cqlp_tool.specs.Laws.{IsShownRightly};
 ghost use Rattle.cqlp_tool.specs.declared.text_form.TextForm.TheVariants as forms;
 
-/// Finished, all lines of the stream were written, and its end is told; and two runs that end alike wrote the same.
+/// Finished, all lines of the stream were written, and its end is reported; and two runs that end alike wrote the same.
 pub fn one_answer_of_render_events()
     ensures whole { IsRenderedWhole forms.Lines }
     ensures once { IsRenderedOnce forms.Lines }
 {}
 
-/// Finished, all pages of the stream were written, and its end is told; and two runs that end alike wrote the same.
+/// Finished, all pages of the stream were written, and its end is reported; and two runs that end alike wrote the same.
 pub fn one_answer_of_render_rows()
     ensures whole { IsRenderedWhole (forms.Pages no_page) }
     ensures once { IsRenderedOnce (forms.Pages no_page) }

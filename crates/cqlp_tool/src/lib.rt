@@ -3,8 +3,6 @@
 
 mod buffered;
 mod command_line;
-#[cfg(test)]
-mod heaps;
 pub mod laws;
 mod render;
 mod showing;
@@ -15,6 +13,3 @@ pub use cqlp_options::{DEFAULT_LIMITS, NoTask, Options, Task};
 pub use cqlp_text::{Ending, cell_text};
 pub use render::{render_events, render_rows};
 pub use showing::{check, rows, show};
-
-#[cfg(test)]
-mod tests;

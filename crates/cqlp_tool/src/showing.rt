@@ -7,7 +7,8 @@ ghost use Rattle.cqlp_text.specs.Endings.{IsStatusOfStream};
 ghost use Rattle.cqlp_text.specs.PageText.{no_page};
 ghost use Rattle.cqlp_text.specs.Outputs.{Output, written};
 ghost use Rattle.cqlp_tool.specs.Streams.{IfKnown, streams, unread};
-ghost use Rattle.cqlp_tool.specs.Showing.{ending_of, ChecksAndReports, ConcludesIfKnown, CountsReads, RendersOrFails, ShowsAndReports, ShowsTo};
+ghost use Rattle.cqlp_tool.specs.Showing.{ending_of, ChecksAndReports, ConcludesIfKnown, CountsReads, RendersOrFails};
+ghost use Rattle.cqlp_tool.specs.Showing.{ShowsAndReports, ShowsTo};
 ghost use Rattle.cqlp_text.specs.declared.ending.Ending.{Ending};
 ghost use Rattle.cqlp_tool.specs.declared.text_form.TextForm.TheVariants as forms;
 
@@ -16,6 +17,7 @@ use crate::render::{TextSink, run_flushing};
 use crate::text_form::TextForm;
 use cqlp_decode::{Decoder, NewError, Outcome, SinkFault};
 use cqlp_note::{IoFault, Limits, Source, Target};
+use cqlp_text::status::FAULT;
 use cqlp_text::{Ending, PagePlace, ending_line};
 use std::alloc::Allocator;
 
@@ -39,7 +41,7 @@ pub fn show<R: Source, O: Target, E: Target, A: Allocator>(
     ensures shows { let view = streams R.Source O.Target E.Target in
         ShowsAndReports forms.Lines limits TURNS (view input.old out err) result.0 (view input.new result.1 result.2) }
 {
-    let (ending, out) = shown(alloc, limits, TextForm::Lines, input, out);
+    let (ending, out) = write_text(alloc, limits, TextForm::Lines, input, out);
     let (status, err) = conclude(ending, err);
     (status, out, err)
 }
@@ -56,15 +58,16 @@ pub fn rows<R: Source, O: Target, E: Target, A: Allocator>(
     requires { first_bad limits ≡ Ok tt }
     ensures status { IsStatusOfStream result.0 }
     ensures shows { let view = streams R.Source O.Target E.Target in
-        ShowsAndReports (forms.Pages no_page) limits TURNS (view input.old out err) result.0 (view input.new result.1 result.2) }
+        ShowsAndReports (forms.Pages no_page) limits TURNS
+        (view input.old out err) result.0 (view input.new result.1 result.2) }
 {
-    let (ending, out) = shown(alloc, limits, TextForm::Pages(PagePlace::new()), input, out);
+    let (ending, out) = write_text(alloc, limits, TextForm::Pages(PagePlace::new()), input, out);
     let (status, err) = conclude(ending, err);
     (status, out, err)
 }
 
-/// Reads a stream, and writes the verdict line to `out` or the fault line to `err`. Answers the exit status, and the two
-/// outputs.
+/// Reads a stream, and writes the verdict line to `out` or the fault line to `err`. Answers the exit status, and the
+/// two outputs.
 pub fn check<R: Source, O: Target, E: Target, A: Allocator>(
     alloc: &A,
     limits: Limits,
@@ -77,7 +80,7 @@ pub fn check<R: Source, O: Target, E: Target, A: Allocator>(
     ensures checks { let view = streams R.Source O.Target E.Target in
         ChecksAndReports limits TURNS (view input.old out err) result.0 (view input.new result.1 result.2) }
 {
-    let (ending, mut out) = shown(alloc, limits, TextForm::Nothing, input, out);
+    let (ending, mut out) = write_text(alloc, limits, TextForm::Nothing, input, out);
     let Ending::Finished(_) = ending else {
         let (status, err) = conclude(ending, err);
         return (status, out, err);
@@ -90,7 +93,7 @@ pub fn check<R: Source, O: Target, E: Target, A: Allocator>(
 }
 
 /// Writes the text of the events of a stream within these limits, in a form.
-fn shown<R: Source, O: Target, A: Allocator>(
+fn write_text<R: Source, O: Target, A: Allocator>(
     alloc: &A,
     limits: Limits,
     form: TextForm,
@@ -134,9 +137,9 @@ fn render_buffered<R: Source, O: Target, A: Allocator, B: Allocator>(
     form: TextForm,
     buffer: Vec<u8, B>,
 ) -> (Outcome, O)
-    ensures renders { IfKnown (unread R.Source input.old) (written O.Target out) (λ xs. After (state decoder.old) [] [] →
-        RendersOrFails form TURNS result.0 (state decoder.old) (state decoder.new) xs (R.left input.new)
-        (written O.Target out) (written O.Target result.1)) }
+    ensures renders { IfKnown (unread R.Source input.old) (written O.Target out) (λ xs.
+        After (state decoder.old) [] [] → RendersOrFails form TURNS result.0 (state decoder.old) (state decoder.new) xs
+        (R.left input.new) (written O.Target out) (written O.Target result.1)) }
     ensures failures { CountsReads (ending_of result.0) (R.failures input.old) (R.failures input.new) }
     ensures rules { (state decoder.new).rules ≡ (state decoder.old).rules }
 {
@@ -152,13 +155,13 @@ fn render_buffered<R: Source, O: Target, A: Allocator, B: Allocator>(
     }
 }
 
-/// Writes the verdict line or fault line. Answers the exit status, which is 3 where that fails.
+/// Writes the verdict line or fault line. Answers the exit status, which is that of a fault where the target fails.
 pub(crate) fn conclude<E: Target>(ending: Ending, mut err: E) -> (u8, E)
     ensures status { IsStatusOfStream result.0 }
     ensures concludes { ConcludesIfKnown ending (written E.Target err) result.0 (written E.Target result.1) }
 {
     match ending_line(ending, &mut err) {
         Ok(()) => (ending.status(), err),
-        Err(SinkFault) => (3, err),
+        Err(SinkFault) => (FAULT, err),
     }
 }

@@ -8,7 +8,9 @@ use Rattle.std.proofs.lemmas.List.Elements.{All-weaker}
 use Rattle.std.proofs.lemmas.List.Sums.{AllPass-from_list_all, list_all-from_AllPass}
 use Rattle.std.proofs.lemmas.Str.{IsUtf8-from_ascii, IsUtf8-from_is_utf8, is_utf8-from_IsUtf8}
 use Rattle.std.proofs.lemmas.Str.Ascii.{All-from_ascii, IsAscii-from_all}
+use Rattle.cqlp_type.specs.declared.kind.Kind.{Kind}
 use Rattle.cqlp_type.specs.declared.kind.Kind.TheVariants as kind
+use Rattle.cqlp_type.specs.Types.{has_no_items}
 use Rattle.cqlp_value.specs.Scalars.{ScalarValue, Varchar, Timeuuid, is_version_1, only_if, scalar_of}
 
 only_if_some : (b : Bool) (v : ScalarValue) → is_some (only_if b v) ≡ b
@@ -47,6 +49,25 @@ varchar_undecided c n = only_if_some (is_utf8 c) _ ∙ false_from_ne_true (is_ut
 pub varchar_known : (c : List ℕ) → is_some (scalar_of kind.Varchar c) ≡ true → IsUtf8 c
 unfolding scalar_of
 varchar_known c t = IsUtf8-from_is_utf8 c (sym (only_if_some (is_utf8 c) _) ∙ t)
+
+pub timeuuid_decided : (c : List ℕ) → is_version_1 c ≡ is_some (scalar_of kind.Timeuuid c)
+unfolding scalar_of
+timeuuid_decided c = sym (only_if_some (is_version_1 c) (Timeuuid c))
+
+-- a scalar of any other kind may be any bytes
+pub others_accepted : (k : Kind) (c : List ℕ) → has_no_items k ≡ true → (k ≡ kind.Ascii → ⊥) → (k ≡ kind.Varchar → ⊥) → (k ≡ kind.Time → ⊥) → (k ≡ kind.Timeuuid → ⊥)
+    → true ≡ is_some (scalar_of k c)
+unfolding scalar_of
+others_accepted kind.Ascii c s a v t u = absurd (a refl)
+others_accepted kind.Varchar c s a v t u = absurd (v refl)
+others_accepted kind.Time c s a v t u = absurd (t refl)
+others_accepted kind.Timeuuid c s a v t u = absurd (u refl)
+others_accepted kind.List c s a v t u = absurd cc
+others_accepted kind.Map c s a v t u = absurd cc
+others_accepted kind.Set c s a v t u = absurd cc
+others_accepted kind.Udt c s a v t u = absurd cc
+others_accepted kind.Tuple c s a v t u = absurd cc
+others_accepted k c s a v t u = refl
 
 only_if_known : (b : Bool) (v : ScalarValue) → is_some (only_if b v) ≡ true → only_if b v ≡ Some v
 only_if_known true v t = refl

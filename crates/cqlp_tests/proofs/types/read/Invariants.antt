@@ -4,8 +4,8 @@ use Rattle.cqlp_type.specs.Pushing.{ReadsInto}
 use Rattle.cqlp_tests.proofs.types.read.Given as goal
 
 abbrev pub invariant-loop : goal.invariant-loop
-invariant-loop g l = record {
-  within : l.start ≤ length l.bytes;
+invariant-loop l = record {
+  within : l.start ≤ length l.option;
   under_way : l.reader.under_way ≡ true;
   shared : IsShared l.reader l.partial;
   table : ReadsInto l.reader l.partial l.table;

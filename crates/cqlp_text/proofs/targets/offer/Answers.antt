@@ -8,9 +8,9 @@ use Rattle.cqlp_text.proofs.targets.offer.Goals as goal
 pub loop-sent-preserved : goal.loop-sent-preserved
 loop-sent-preserved g c =
     let before = c.loop-sent.invariant in
-    let told = c.in-Ok.ensures in
-    let within : c.loop-sent.sent + c.in-Ok.count ≤ length c.args.bytes.now = grind (arith, common_steps, told.bound) in (
+    let reported = c.in-Ok.ensures in
+    let within : c.loop-sent.sent + c.in-Ok.count ≤ length c.args.bytes.now = grind (arith, common_steps, reported.bound) in (
       within,
-      subst (λ (t : List ℕ). Appends (g.W.Target.contents c.args.target.now) (g.W.Target.contents c.write.new.self) t) (sym (take_more _ _ _ before.0)) (appends_then _ _ _ _ _ before.1 told.bytes),
-      took_some _ _ _ _ c.if-count-eq0.false told.failures ∙ before.2,
+      subst (λ (t : List ℕ). Appends (g.W.Target.contents c.args.target.now) (g.W.Target.contents c.write.new.self) t) (sym (take_more _ _ _ before.0)) (appends_then _ _ _ _ _ before.1 reported.bytes),
+      took_some _ _ _ _ c.if-count-eq0.false reported.failures ∙ before.2,
     )

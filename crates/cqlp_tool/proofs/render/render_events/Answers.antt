@@ -1,5 +1,4 @@
-use Rattle.cqlp_tool.proofs.Renders.{renders_to}
 use Rattle.cqlp_tool.proofs.render.render_events.Goals as goal
 
 pub returns-clause-lines : goal.returns-clause-lines
-returns-clause-lines g c = λ xs left tells. rw c.into_inner.ensures (renders_to _ _ _ _ _ _ _ _ (rw c.new-sink.ensures at c.run-outcome.ensures.runs xs left tells))
+returns-clause-lines g c = λ xs left tells. rw c.into_inner.ensures (_, rw c.new-sink.ensures at c.run-outcome.ensures.runs xs left tells)

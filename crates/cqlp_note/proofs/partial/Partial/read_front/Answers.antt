@@ -1,4 +1,4 @@
-use Rattle.std.proofs.Common.{◌≡◌, ◌-◌, ◌++◌, ◌≤◌, ◌<◌, length, [], refl, sym, arith}
+use Rattle.std.proofs.Common.{◌≡◌, ◌++◌, ◌≤◌, length, [], refl, arith}
 use Rattle.std.proofs.lemmas.List.{length-append, append-nil}
 use Rattle.cqlp_note.specs.Head.{front_of}
 use Rattle.cqlp_note.specs.Partial.{seen_of}

@@ -1,27 +1,97 @@
-use Rattle.std.proofs.Common.{◌^◌, ◌<◌, drop, refl, arith}
+use Rattle.std.proofs.Common.{◌^◌, ◌<◌, ℕ, drop, refl, sym, subst, arith}
+use Rattle.cqlp_value.specs.declared.size.Sized.TheVariants as size
 use Rattle.cqlp_value.specs.Standing.{state_of, due_value}
+use Rattle.cqlp_value.specs.Reading.{Decided}
 use Rattle.cqlp_value.proofs.Settling.{value_decided, refused_fails, null_hands, empty_hands, fields_hands}
 use Rattle.cqlp_value.proofs.standing.CellStanding.settle.Goals as goal
 
-pub advance_scalar-requires-clause-decided : goal.advance_scalar-requires-clause-decided
-advance_scalar-requires-clause-decided g c =
+pub advance_scalar-requires : goal.advance_scalar-requires
+advance_scalar-requires g c =
+    let r = c.requires in
+    let nodes = c.args.table.now.nodes in
+    let old = state_of c.args.self.now in
     let h = c.in-Scalar.ensures in
-    rw h.can.0 (rw h.can.0 at (value_decided c.args.table.now.nodes (state_of c.args.self.now) c.args.value c.args.len _ c.requires.value h))
+    let s = size.Scalar c.in-Scalar.len in
+    record {
+      stands = r.stands;
+      due = r.due;
+      value = r.value;
+      decided = subst (λ (n : ℕ). Decided nodes old n s) (sym h.can.0) (value_decided nodes old c.args.value c.args.len s r.value h);
+      under_way = r.idle;
+      longest = r.longest;
+      within = r.within;
+      front = r.front;
+      some = omega (arith, r.some);
+    }
 
-pub advance_first-requires-clause-decided : goal.advance_first-requires-clause-decided
-advance_first-requires-clause-decided g c =
+pub advance_first-requires : goal.advance_first-requires
+advance_first-requires g c =
+    let r = c.requires in
+    let nodes = c.args.table.now.nodes in
+    let old = state_of c.args.self.now in
     let h = c.in-Parts.ensures in
-    rw h.can.0 (rw h.can.0 at (value_decided c.args.table.now.nodes (state_of c.args.self.now) c.args.value c.args.len _ c.requires.value h))
+    let s = size.Parts c.in-Parts.len in
+    record {
+      stands = r.stands;
+      due = r.due;
+      decided = subst (λ (n : ℕ). Decided nodes old n s) (sym h.can.0) (value_decided nodes old c.args.value c.args.len s r.value h);
+      under_way = r.idle;
+      longest = r.longest;
+      parts = r.parts h.can.2;
+      within = r.within;
+      front = r.front;
+      some = omega (arith, r.some);
+    }
 
-pub advance_count-requires-clause-decided : goal.advance_count-requires-clause-decided
-advance_count-requires-clause-decided g c =
+pub advance_count-requires : goal.advance_count-requires
+advance_count-requires g c =
+    let r = c.requires in
+    let nodes = c.args.table.now.nodes in
+    let old = state_of c.args.self.now in
     let h = c.in-Counted.ensures in
-    rw h.can.0 (rw h.can.0 at (value_decided c.args.table.now.nodes (state_of c.args.self.now) c.args.value c.args.len _ c.requires.value h))
+    let s = size.Counted c.in-Counted.len in
+    record {
+      stands = r.stands;
+      due = r.due;
+      value = r.value;
+      decided = subst (λ (n : ℕ). Decided nodes old n s) (sym h.can.0) (value_decided nodes old c.args.value c.args.len s r.value h);
+      under_way = r.idle;
+      longest = r.longest;
+      levels = r.levels;
+      within = r.within;
+      front = r.front;
+      some = omega (arith, r.some);
+    }
 
-pub enter_fields-item-requires-clause-decided : goal.enter_fields-item-requires-clause-decided
-enter_fields-item-requires-clause-decided g c =
+pub enter_fields-item-requires : goal.enter_fields-item-requires
+enter_fields-item-requires g c =
+    let r = c.requires in
+    let nodes = c.args.table.now.nodes in
+    let old = state_of c.args.self.now in
     let h = c.in-Fields.ensures in
-    rw h.can.0 (rw h.can.0 at (value_decided c.args.table.now.nodes (state_of c.args.self.now) c.args.value c.args.len _ c.requires.value h))
+    let s = size.Fields c.in-Fields.len in
+    record {
+      stands = r.stands;
+      due = r.due;
+      value = r.value;
+      decided = subst (λ (n : ℕ). Decided nodes old n s) (sym h.can.0) (value_decided nodes old c.args.value c.args.len s r.value h);
+      levels = r.levels;
+    }
+
+pub returns-in-Scalar : goal.returns-in-Scalar
+returns-in-Scalar g c =
+    let e = c.advance_scalar.ensures in
+    record { settles = rw c.in-Scalar.ensures.can.0 at e.settles; room = e.room; limits = e.limits }
+
+pub returns-in-Parts : goal.returns-in-Parts
+returns-in-Parts g c =
+    let e = c.advance_first.ensures in
+    record { settles = rw c.in-Parts.ensures.can.0 at e.settles; room = e.room; limits = e.limits }
+
+pub returns-in-Counted : goal.returns-in-Counted
+returns-in-Counted g c =
+    let e = c.advance_count.ensures in
+    record { settles = rw c.in-Counted.ensures.can.0 at e.settles; room = e.room; limits = e.limits }
 
 pub returns-in-Null-clause-settles : goal.returns-in-Null-clause-settles
 returns-in-Null-clause-settles g c =

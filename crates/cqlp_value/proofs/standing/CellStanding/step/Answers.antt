@@ -47,3 +47,77 @@ returns-in-Close-clause-answers g c =
     let idle = rw c.in-Nothing.is at r.joined.under_way in
     settles_answers nodes (state_of c.args.self.now) c.args.partial.now c.args.input.now _ _ _ c.close.result (state_of c.close.new.self) c.args.partial.now (c.close.ensures.closes nodes c.args.partial.now c.args.input.now r.stands idle)
     (close_some (state_of c.args.self.now) _ (sym c.due.ensures ∙ c.in-Close.is))
+
+pub advance_length-requires : goal.advance_length-requires
+advance_length-requires g c =
+    let r = c.requires in
+    record {
+      stands = r.stands;
+      due = sym c.due.ensures ∙ c.in-Value.is;
+      under_way = rw c.in-Nothing.is at r.joined.under_way;
+      longest = r.joined.longest;
+      levels = r.levels;
+      parts = r.parts;
+    }
+
+pub advance_length-requires-in-Length : goal.advance_length-requires-in-Length
+advance_length-requires-in-Length g c =
+    let r = c.requires in
+    let under = rw c.in-Length.is at r.joined.under_way in
+    record {
+      stands = r.stands;
+      due = under.0;
+      under_way = under.1;
+      longest = r.joined.longest;
+      levels = r.levels;
+      parts = r.parts;
+    }
+
+pub advance_scalar-requires : goal.advance_scalar-requires
+advance_scalar-requires g c =
+    let r = c.requires in
+    let under = rw c.in-Scalar.is at r.joined.under_way in
+    record {
+      stands = r.stands;
+      due = under.0;
+      value = c.value-value.ensures;
+      decided = under.2;
+      under_way = under.1;
+      longest = r.joined.longest;
+      within = omega arith;
+      front = omega arith;
+      some = omega (arith, under.1.3);
+    }
+
+pub advance_count-requires : goal.advance_count-requires
+advance_count-requires g c =
+    let r = c.requires in
+    let under = rw c.in-Counted.is at r.joined.under_way in
+    record {
+      stands = r.stands;
+      due = under.0;
+      value = c.value-value-in-Counted.ensures;
+      decided = under.2;
+      under_way = under.1;
+      longest = r.joined.longest;
+      levels = r.levels;
+      within = omega arith;
+      front = omega arith;
+      some = omega (arith, under.1.4);
+    }
+
+pub advance_first-requires : goal.advance_first-requires
+advance_first-requires g c =
+    let r = c.requires in
+    let under = rw c.in-First.is at r.joined.under_way in
+    record {
+      stands = r.stands;
+      due = under.0;
+      decided = under.2;
+      under_way = under.1;
+      longest = r.joined.longest;
+      parts = r.parts under.2.can.2;
+      within = omega arith;
+      front = omega arith;
+      some = omega (arith, under.1.3);
+    }

@@ -1,0 +1,51 @@
+//! Tasks in little memory, and how often they write.
+
+use crate::done::Done;
+use cqlp_fakes::{Calls, Narrow, Pieces};
+use cqlp_note::Limits;
+use cqlp_tool::{check, rows, show};
+use linked_list_allocator::LocalHeap;
+use std::io;
+
+const LIMITS: Limits = Limits {
+    text: 64,
+    cell: 64,
+    entries: 8,
+    depth: 3,
+    types: true,
+    parts: false,
+};
+
+/// What a task does in this memory.
+fn done_in(rt: &HostRuntime, heap: &LocalHeap, task: &str, bytes: &[u8]) -> Done {
+    let mut input = Pieces::new(bytes, [9; 3]);
+    let out = Narrow::new(rt.alloc(), usize::MAX, 7);
+    let err = Narrow::new(rt.alloc(), usize::MAX, 7);
+    let (status, out, err) = match task {
+        "show" => show(heap, LIMITS, &mut input, out, err),
+        "rows" => rows(heap, LIMITS, &mut input, out, err),
+        _ => check(heap, LIMITS, &mut input, out, err),
+    };
+    Done { status, out, err }
+}
+
+/// Prints what a task does in memory of 0 bytes, of 16 more, and so on; where that is as before, nothing. Then how often
+/// `show` writes where each read gives nine bytes.
+pub fn print_answers(rt: &HostRuntime, task: &str, bytes: &[u8]) -> io::Result<()> {
+    let mut before = Done {
+        status: 255,
+        out: Narrow::new(rt.alloc(), 0, 0),
+        err: Narrow::new(rt.alloc(), 0, 0),
+    };
+    for blocks in 0..4_400usize {
+        let heap = LocalHeap::new(rt.alloc(), 16 * blocks)?;
+        let done = done_in(rt, &heap, task, bytes);
+        if !done.is_like(&before) {
+            done.print(rt)?;
+        }
+        before = done;
+    }
+    let mut input = Pieces::new(bytes, [9; 3]);
+    let (_, out, _) = show(&rt.alloc(), LIMITS, &mut input, Calls::new(), Calls::new());
+    println!(rt; "{} writes", out.count())
+}

@@ -1,0 +1,12 @@
+//! Readers, writers and sinks that give or take little, or fail, and bytes in digits, for tests.
+#![tactic(auto)]
+
+mod digits;
+mod sinks;
+mod sources;
+mod targets;
+
+pub use digits::{bytes_of, number_of};
+pub use sinks::{Ends, Takes};
+pub use sources::{FailsOnce, Pieces};
+pub use targets::{Calls, Narrow};

@@ -1,0 +1,81 @@
+//! Sinks.
+
+use cqlp_decode::{Event, Sink, SinkFault};
+use std::alloc::Global;
+
+/// Takes this many events, and then fails.
+#[derive(Drop)]
+pub struct Takes {
+    room: usize,
+    taken: usize,
+}
+
+impl Takes {
+    /// With room for `room` events.
+    pub fn new(room: usize) -> Takes {
+        Takes { room, taken: 0 }
+    }
+
+    /// How many it took.
+    pub fn taken(&self) -> usize {
+        self.taken
+    }
+}
+
+impl Sink for Takes {
+    ghost View = { Unit {0} };
+
+    ghost view = { λ _. tt };
+
+    ghost after = { λ _ _ _. tt };
+
+    ghost faulted = { λ _ _ _ _. Unit {0} };
+
+    fn take(&mut self, _: u64, _: &Event<'_>) -> Result<(), SinkFault> {
+        if self.taken >= self.room {
+            return Err(SinkFault);
+        }
+        self.taken += 1;
+        Ok(())
+    }
+}
+
+/// Keeps where frames end.
+#[derive(Drop)]
+pub struct Ends {
+    places: Vec<u64>,
+}
+
+impl Ends {
+    /// Before the first end.
+    pub fn new(alloc: Global) -> Ends {
+        Ends {
+            places: Vec::new(alloc),
+        }
+    }
+
+    /// The offsets of the ends.
+    pub fn places(&self) -> &[u64] {
+        &self.places
+    }
+}
+
+impl Sink for Ends {
+    ghost View = { Unit {0} };
+
+    ghost view = { λ _. tt };
+
+    ghost after = { λ _ _ _. tt };
+
+    ghost faulted = { λ _ _ _ _. Unit {0} };
+
+    fn take(&mut self, at: u64, event: &Event<'_>) -> Result<(), SinkFault> {
+        let Event::End { .. } = event else {
+            return Ok(());
+        };
+        match self.places.push(at) {
+            Ok(()) => Ok(()),
+            Err(_) => Err(SinkFault),
+        }
+    }
+}

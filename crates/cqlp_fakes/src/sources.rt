@@ -1,0 +1,80 @@
+//! Readers.
+
+use cqlp_note::{IoFault, Source};
+
+/// Gives pieces of these sizes, and then pieces of the last size.
+#[derive(Drop)]
+pub struct Pieces<'a> {
+    bytes: &'a [u8],
+    sizes: [usize; 3],
+}
+
+impl<'a> Pieces<'a> {
+    /// Of these bytes.
+    pub fn new(bytes: &'a [u8], sizes: [usize; 3]) -> Pieces<'a> {
+        Pieces { bytes, sizes }
+    }
+
+    /// How many bytes it has still to give.
+    pub fn left(&self) -> usize {
+        self.bytes.len()
+    }
+}
+
+impl Source for Pieces<'_> {
+    ghost failures = { λ _. 0 };
+
+    fn read(&mut self, buffer: &mut [u8]) -> Result<usize, IoFault> {
+        let [first, second, last] = self.sizes;
+        let count = first.min(self.bytes.len()).min(buffer.len());
+        buffer[..count].copy_from_slice(&self.bytes[..count]);
+        self.bytes = &self.bytes[count..];
+        self.sizes = [second, last, last];
+        Ok(count)
+    }
+}
+
+/// Fails once, after this many other calls.
+#[derive(Drop)]
+pub struct FailsOnce<'a> {
+    pieces: Pieces<'a>,
+    before: Option<usize>,
+    failures: u64,
+}
+
+impl<'a> FailsOnce<'a> {
+    /// Gives these pieces, and fails after `before` of them.
+    pub fn new(pieces: Pieces<'a>, before: usize) -> FailsOnce<'a> {
+        FailsOnce {
+            pieces,
+            before: Some(before),
+            failures: 0,
+        }
+    }
+
+    /// Whether it has failed.
+    pub fn has_failed(&self) -> bool {
+        self.failures != 0
+    }
+
+    /// How many bytes it has still to give.
+    pub fn left(&self) -> usize {
+        self.pieces.left()
+    }
+}
+
+impl Source for FailsOnce<'_> {
+    ghost failures = { λ source. source.failures };
+
+    fn read(&mut self, buffer: &mut [u8]) -> Result<usize, IoFault> {
+        if self.before == Some(0) {
+            self.before = None;
+            self.failures = self.failures.saturating_add(1);
+            return Err(IoFault);
+        }
+        if let Some(before) = self.before {
+            self.before = Some(before.saturating_sub(1));
+        }
+        self.pieces.read(buffer)
+    }
+}

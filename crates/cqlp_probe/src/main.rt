@@ -1,0 +1,65 @@
+//! Gives scripts of pieces to decoders, and prints what each decoder says.
+//!
+//! A line of the input has a name, words on how the stream is read, and its pieces, each after `|`. A line without `|` is a
+//! heading. Each decoder is made in memory of just the size that it takes when it is made.
+#![tactic(auto)]
+
+mod memory;
+mod reading;
+mod script;
+mod ways;
+
+use cqlp_decode::Decoder;
+use cqlp_fakes::bytes_of;
+use linked_list_allocator::LocalHeap;
+use reading::{Said, take};
+use script::{Script, Shows};
+use std::io;
+
+fn main(rt: HostRuntime) -> io::Result<()> {
+    for line in rt.lines(rt.alloc()) {
+        execute(&rt, line?.as_str())?;
+    }
+    Ok(())
+}
+
+/// Does what one line asks for.
+fn execute(rt: &HostRuntime, line: &str) -> io::Result<()> {
+    let Some((words, pieces)) = line.split_once('|') else {
+        return println!(rt; "{line}");
+    };
+    println!(rt; "== {}", words.trim_end())?;
+    let mut script = Script::read(words);
+    if script.shows == Shows::Memory {
+        return memory::print_answers(rt, script.limits);
+    }
+    script.room = memory::taken(rt.alloc(), script.limits)?;
+    print_pieces(rt, &script, pieces)
+}
+
+/// Prints what a decoder says of the pieces, and where a single piece would say something else if it came in several.
+fn print_pieces(rt: &HostRuntime, script: &Script, pieces: &str) -> io::Result<()> {
+    let heap = LocalHeap::new(rt.alloc(), script.room)?;
+    let mut decoder = reading::decoder(&heap, script.limits)?;
+    let mut said = Said::new(rt.alloc(), script.shows);
+    for piece in pieces.split('|') {
+        let bytes = bytes_of(rt.alloc(), piece)?;
+        take(&mut decoder, &bytes, &mut said)?;
+        print_said(rt, &mut said, &decoder)?;
+        if bytes.len() > 1 && !pieces.contains('|') {
+            ways::in_pieces(rt, script, &bytes)?;
+        }
+    }
+    Ok(())
+}
+
+/// Prints what a decoder has said since the last time, and then how the stream ends here.
+fn print_said(rt: &HostRuntime, said: &mut Said, decoder: &Decoder<&LocalHeap>) -> io::Result<()> {
+    print!(rt; "{}", said.lines)?;
+    said.lines.clear();
+    match said.shows {
+        Shows::Calls => println!(rt; "{:?} {:?}", decoder.finish(), decoder.held()),
+        Shows::Counts => println!(rt; "{} events\n{:?}", said.events, decoder.finish()),
+        Shows::Events | Shows::Memory => println!(rt; "{:?}", decoder.finish()),
+    }
+}

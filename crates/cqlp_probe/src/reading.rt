@@ -1,0 +1,113 @@
+//! What a decoder says of pieces.
+
+use crate::script::{Script, Shows};
+use cqlp_decode::{Decoder, Event, Step};
+use cqlp_note::{Limits, Refusal};
+use linked_list_allocator::LocalHeap;
+use std::alloc::Global;
+use std::io;
+
+/// What a decoder has said: a line for each event, with the offsets where it begins and where the bytes used end.
+#[derive(Drop)]
+pub struct Said {
+    pub lines: String,
+    pub events: u64,
+    pub shows: Shows,
+    bytes: u64,
+}
+
+impl Said {
+    pub fn new(alloc: Global, shows: Shows) -> Said {
+        Said {
+            lines: String::new(alloc),
+            events: 0,
+            shows,
+            bytes: 0,
+        }
+    }
+
+    pub fn is(&self, other: &Said) -> bool {
+        self.events == other.events
+            && self.bytes == other.bytes
+            && self.lines.as_str() == other.lines.as_str()
+    }
+
+    fn put_event(&mut self, at: u64, used: usize, event: &Event<'_>) -> io::Result<()> {
+        self.events = self.events.wrapping_add(1);
+        self.bytes = self.bytes.wrapping_add(used as u64);
+        if self.shows == Shows::Counts {
+            return Ok(());
+        }
+        let end = self.bytes;
+        write!(self.lines, "{at}..{end} {event:?}\n")?;
+        Ok(())
+    }
+
+    fn put_refusal(&mut self, refusal: Refusal) -> io::Result<()> {
+        self.bytes = refusal.at;
+        write!(self.lines, "{} {:?}\n", refusal.at, refusal.why)?;
+        Ok(())
+    }
+
+    fn put_state(&mut self, decoder: &Decoder<&LocalHeap>) -> io::Result<()> {
+        if self.shows == Shows::Calls {
+            write!(self.lines, "{:?} {:?}\n", decoder.finish(), decoder.held())?;
+        }
+        Ok(())
+    }
+}
+
+/// A decoder in this memory.
+pub fn decoder(heap: &LocalHeap, limits: Limits) -> io::Result<Decoder<&LocalHeap>> {
+    match Decoder::new(heap, limits) {
+        Ok(decoder) => Ok(decoder),
+        Err(_) => Err(io::Error::from(io::ErrorKind::OutOfMemory)),
+    }
+}
+
+/// Writes down what a decoder says of one more piece; whether it goes on.
+pub fn take(decoder: &mut Decoder<&LocalHeap>, piece: &[u8], said: &mut Said) -> io::Result<bool> {
+    let mut rest = piece;
+    for _ in 0..1_000_000u32 {
+        match decoder.next(rest) {
+            Step::Event { at, used, event } => {
+                said.put_event(at, used, &event)?;
+                rest = rest.get(used..).unwrap_or(&[]);
+            }
+            Step::More { used } => {
+                said.bytes = said.bytes.wrapping_add(used as u64);
+                return Ok(true);
+            }
+            Step::Refused(refusal) => {
+                said.put_refusal(refusal)?;
+                return Ok(false);
+            }
+        }
+        said.put_state(decoder)?;
+    }
+    Ok(true)
+}
+
+/// What is said of a stream that comes in pieces: a first of this size, and all others of another.
+pub fn said_in_pieces(
+    alloc: Global,
+    script: &Script,
+    stream: &[u8],
+    first: usize,
+    other: usize,
+) -> io::Result<Said> {
+    let heap = LocalHeap::new(alloc, script.room)?;
+    let mut decoder = decoder(&heap, script.limits)?;
+    let mut said = Said::new(alloc, script.shows);
+    let mut rest = stream;
+    let mut size = first;
+    for _ in 0..=stream.len() {
+        let (piece, after) = rest.split_at(size.min(rest.len()));
+        if !take(&mut decoder, piece, &mut said)? || after.is_empty() {
+            break;
+        }
+        rest = after;
+        size = other;
+    }
+    Ok(said)
+}

@@ -1,0 +1,132 @@
+//! Worked sessions of a client.
+
+use cqlp_note::{Header, Opcode};
+use cqlp_session::{Client, RequestKind, Ticket};
+use std::alloc::Global;
+use std::test::Fail;
+
+/// A call of a client with one slot.
+#[derive(Clone, Copy)]
+enum Call {
+    Begin(RequestKind),
+    /// Of the request with this number.
+    Cancel(u64),
+    /// A response on this stream.
+    Reply(i16, Opcode),
+    /// A request in place of a response.
+    Request(Opcode),
+}
+
+/// From OPTIONS to a QUERY: calls, what each answers, and the phase then.
+static SESSION: [(Call, &str); 17] = [
+    (
+        Call::Begin(RequestKind::Options),
+        "Ok(Ticket { id: 0, number: 1 }) Fresh",
+    ),
+    (Call::Cancel(1), "true Fresh"),
+    (Call::Cancel(1), "false Fresh"),
+    (Call::Begin(RequestKind::Query), "Err(Phase(Fresh)) Fresh"),
+    (Call::Begin(RequestKind::Options), "Err(Full) Fresh"),
+    (
+        Call::Reply(0, Opcode::Supported),
+        "Ok(Dropped { ticket: Ticket { id: 0, number: 1 } }) Fresh",
+    ),
+    (
+        Call::Begin(RequestKind::Options),
+        "Ok(Ticket { id: 0, number: 2 }) Fresh",
+    ),
+    (Call::Reply(0, Opcode::Ready), "Err(WrongOpcode) Fresh"),
+    (Call::Reply(1, Opcode::Supported), "Err(NoSuchStream) Fresh"),
+    (
+        Call::Reply(0, Opcode::Supported),
+        "Ok(Answer { ticket: Ticket { id: 0, number: 2 }, kind: Options }) Fresh",
+    ),
+    (
+        Call::Begin(RequestKind::Startup),
+        "Ok(Ticket { id: 0, number: 3 }) Opening",
+    ),
+    (Call::Cancel(3), "false Opening"),
+    (
+        Call::Begin(RequestKind::Query),
+        "Err(Phase(Opening)) Opening",
+    ),
+    (
+        Call::Reply(0, Opcode::Authenticate),
+        "Ok(Answer { ticket: Ticket { id: 0, number: 3 }, kind: Startup }) Challenged",
+    ),
+    (
+        Call::Begin(RequestKind::AuthResponse),
+        "Ok(Ticket { id: 0, number: 4 }) Opening",
+    ),
+    (
+        Call::Reply(0, Opcode::AuthSuccess),
+        "Ok(Answer { ticket: Ticket { id: 0, number: 4 }, kind: AuthResponse }) Ready",
+    ),
+    (
+        Call::Begin(RequestKind::Query),
+        "Ok(Ticket { id: 0, number: 5 }) Ready",
+    ),
+];
+
+/// Responses that answer no request.
+static STRAYS: [(Call, &str); 6] = [
+    (Call::Reply(-1, Opcode::Event), "Ok(ServerEvent) Fresh"),
+    (Call::Reply(0, Opcode::Event), "Err(NoSuchStream) Fresh"),
+    (Call::Reply(-1, Opcode::Error), "Err(NoSuchStream) Fresh"),
+    (Call::Request(Opcode::Options), "Err(NotResponse) Fresh"),
+    (
+        Call::Begin(RequestKind::Options),
+        "Ok(Ticket { id: 0, number: 1 }) Fresh",
+    ),
+    (Call::Reply(0, Opcode::Event), "Err(WrongOpcode) Fresh"),
+];
+
+fn header(response: bool, stream: i16, opcode: Opcode) -> Header {
+    Header {
+        response,
+        flags: 0,
+        stream,
+        opcode,
+        length: 0,
+    }
+}
+
+/// What a call answers.
+fn answer(alloc: Global, client: &mut Client, call: Call) -> Result<String, Fail> {
+    Ok(match call {
+        Call::Begin(kind) => format!(in alloc; "{:?}", client.begin(kind))?,
+        Call::Cancel(number) => format!(in alloc; "{:?}", client.cancel(Ticket { id: 0, number }))?,
+        Call::Reply(stream, opcode) => {
+            format!(in alloc; "{:?}", client.reply(&header(true, stream, opcode)))?
+        }
+        Call::Request(opcode) => {
+            format!(in alloc; "{:?}", client.reply(&header(false, 0, opcode)))?
+        }
+    })
+}
+
+/// What the calls of a session answer otherwise than is expected.
+fn wrong_in(alloc: Global, session: &[(Call, &str)]) -> Result<String, Fail> {
+    let mut client = Client::new(alloc, 1)?;
+    let mut wrong = String::new(alloc);
+    for (call, expected) in session {
+        let mut said = answer(alloc, &mut client, *call)?;
+        write!(said, " {:?}", client.phase())?;
+        if said.as_str() != *expected {
+            write!(wrong, "{said}, ")?;
+        }
+    }
+    Ok(wrong)
+}
+
+#[test]
+fn client_with_one_slot(rt: HostRuntime) -> Result<(), Fail> {
+    assert_eq!(rt; wrong_in(rt.alloc(), &SESSION)?.as_str(), "");
+    Ok(())
+}
+
+#[test]
+fn strays_of_a_client(rt: HostRuntime) -> Result<(), Fail> {
+    assert_eq!(rt; wrong_in(rt.alloc(), &STRAYS)?.as_str(), "");
+    Ok(())
+}

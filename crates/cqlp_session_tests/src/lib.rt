@@ -1,0 +1,11 @@
+//! Tests of the client and the server core, by their public calls alone.
+#![tactic(auto)]
+
+#[cfg(test)]
+mod client;
+#[cfg(test)]
+mod many;
+#[cfg(test)]
+mod memory;
+#[cfg(test)]
+mod server;

@@ -1,0 +1,58 @@
+//! A worked session of a server.
+
+use cqlp_note::{Header, Opcode};
+use cqlp_session::Server;
+use std::alloc::Global;
+use std::test::Fail;
+
+/// A call of a server, for a stream id.
+#[derive(Clone, Copy)]
+enum Call {
+    Accept(i16, Opcode),
+    Answer(i16, Opcode),
+}
+
+/// Calls of a server with two slots, and what each answers.
+static SESSION: [(Call, &str); 7] = [
+    (Call::Accept(0, Opcode::Query), "Err(Phase(Fresh))"),
+    (Call::Accept(2, Opcode::Options), "Err(BadId)"),
+    (Call::Accept(0, Opcode::Options), "Ok(Options)"),
+    (Call::Accept(0, Opcode::Options), "Err(IdTaken)"),
+    (Call::Answer(0, Opcode::Ready), "Err(WrongOpcode)"),
+    (Call::Answer(1, Opcode::Supported), "Err(NotTaken)"),
+    (Call::Answer(0, Opcode::Supported), "Ok(Options)"),
+];
+
+fn request(stream: i16, opcode: Opcode) -> Header {
+    Header {
+        response: false,
+        flags: 0,
+        stream,
+        opcode,
+        length: 0,
+    }
+}
+
+/// What a call answers.
+fn answer(alloc: Global, server: &mut Server, call: Call) -> Result<String, Fail> {
+    Ok(match call {
+        Call::Accept(id, opcode) => {
+            format!(in alloc; "{:?}", server.accept(&request(id, opcode)))?
+        }
+        Call::Answer(id, opcode) => format!(in alloc; "{:?}", server.answer(id, opcode))?,
+    })
+}
+
+#[test]
+fn server_with_two_slots(rt: HostRuntime) -> Result<(), Fail> {
+    let mut server = Server::new(rt.alloc(), 2)?;
+    let mut wrong = format!(in rt.alloc(); "{:?}", server.phase())?;
+    for (call, expected) in SESSION {
+        let said = answer(rt.alloc(), &mut server, call)?;
+        if said.as_str() != expected {
+            write!(wrong, ", {said}")?;
+        }
+    }
+    assert_eq!(rt; wrong.as_str(), "Fresh");
+    Ok(())
+}

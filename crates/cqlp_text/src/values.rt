@@ -1,0 +1,193 @@
+//! Values as text.
+
+ghost use Rattle.std.specs.Prelude.{◌≡◌, not, length, decimal, position};
+ghost use Rattle.std.specs.Fmt.{signed_decimal};
+ghost use Rattle.std.specs.List.{flat_map};
+ghost use Rattle.hex.specs.Hex.{encode_lower};
+ghost use Rattle.uuid.specs.Text.{hyphenated_text, lower};
+ghost use Rattle.cqlp_text.specs.Text.{hex_text, quoted, escaped, is_plain, prints, printed, in_one_line, address_text};
+ghost use Rattle.cqlp_note.specs.declared.prim.Address.TheVariants.{V4, V6};
+ghost use Rattle.cqlp_text.specs.Written.{Writes};
+
+use crate::text_writer::TextWriter;
+use cqlp_message::SinkFault;
+use cqlp_note::{Address, Target};
+use uuid::Uuid;
+
+/// How many bytes become hex digits at once.
+const CHUNK: usize = 64;
+
+impl<W: Target> TextWriter<'_, W> {
+    /// Takes a number as decimal digits.
+    pub fn put_number(&mut self, number: u64) -> Result<(), SinkFault>
+        ensures { Writes self.old (decimal number) result self.new }
+    {
+        let mut buffer = itoa::Buffer::new();
+        self.put(buffer.format(number).as_bytes())
+    }
+
+    /// Takes a number as decimal digits, after a `-` where it is negative.
+    pub fn put_signed(&mut self, number: i64) -> Result<(), SinkFault>
+        ensures { Writes self.old (signed_decimal number) result self.new }
+    {
+        let mut digits = itoa::Buffer::new();
+        self.put(digits.format(number).as_bytes())
+    }
+
+    /// Takes bytes as two lower case hexadecimal digits each.
+    pub fn put_hex(&mut self, bytes: &[u8]) -> Result<(), SinkFault>
+        ensures { Writes self.old (encode_lower bytes.now) result self.new }
+    {
+        let mut digits = [0; 2 * CHUNK];
+        let mut rest = bytes;
+        while !rest.is_empty() {
+            let len = rest.len().min(CHUNK);
+            hex::encode_to_slice(&rest[..len], &mut digits[..2 * len]).unwrap();
+            self.put(&digits[..2 * len])?;
+            rest = &rest[len..];
+        }
+        Ok(())
+    }
+
+    /// Takes bytes as `0x` and two lower case hexadecimal digits each.
+    pub fn put_hex_text(&mut self, bytes: &[u8]) -> Result<(), SinkFault>
+        ensures { Writes self.old (hex_text bytes.now) result self.new }
+    {
+        self.put(b"0x")?;
+        self.put_hex(bytes)
+    }
+
+    /// Takes a uuid as lower case hexadecimal digits with hyphens.
+    pub fn put_uuid(&mut self, bytes: [u8; 16]) -> Result<(), SinkFault>
+        ensures { Writes self.old (hyphenated_text lower bytes) result self.new }
+    {
+        let mut buffer = Uuid::encode_buffer();
+        let text = Uuid::from_bytes(bytes)
+            .hyphenated()
+            .encode_lower(&mut buffer);
+        self.put(text.as_bytes())
+    }
+
+    /// Takes a text in quotes, where a quote, a backslash and each byte that does not print is escaped.
+    pub fn put_quoted(&mut self, text: &str) -> Result<(), SinkFault>
+        ensures { Writes self.old (quoted text.now) result self.new }
+    {
+        self.put(b"\"")?;
+        self.put_escaped(text.as_bytes())?;
+        self.put(b"\"")
+    }
+
+    /// Takes bytes as they stand between quotes; those that need no escape are taken as they are, many at once.
+    fn put_escaped(&mut self, bytes: &[u8]) -> Result<(), SinkFault>
+        ensures { Writes self.old (flat_map escaped bytes.now) result self.new }
+    {
+        let mut rest = bytes;
+        while !rest.is_empty() {
+            let plain = first_escape(rest).unwrap_or(rest.len());
+            self.put(&rest[..plain])?;
+            let Some((byte, after)) = rest[plain..].split_first() else {
+                return Ok(());
+            };
+            self.put_byte(*byte)?;
+            rest = after;
+        }
+        Ok(())
+    }
+
+    /// Takes a byte as it stands between quotes.
+    fn put_byte(&mut self, byte: u8) -> Result<(), SinkFault>
+        ensures { Writes self.old (escaped byte) result self.new }
+    {
+        if is_plain(byte) {
+            return self.put(&[byte]);
+        }
+        match byte {
+            b'"' => self.put(b"\\\""),
+            b'\\' => self.put(b"\\\\"),
+            _ => {
+                self.put(b"\\x")?;
+                self.put_hex(&[byte])
+            }
+        }
+    }
+
+    /// Takes the bytes of a text in one line, where each that does not print is escaped.
+    pub fn put_in_one_line(&mut self, bytes: &[u8]) -> Result<(), SinkFault>
+        ensures { Writes self.old (in_one_line bytes.now) result self.new }
+    {
+        for byte in bytes {
+            self.put_printed(*byte)?;
+        }
+        Ok(())
+    }
+
+    /// Takes a byte as it stands in a line.
+    fn put_printed(&mut self, byte: u8) -> Result<(), SinkFault>
+        ensures { Writes self.old (printed byte) result self.new }
+    {
+        if prints(byte) {
+            self.put(&[byte])
+        } else {
+            self.put_byte(byte)
+        }
+    }
+
+    /// Takes an address: four decimal numbers with dots, or eight groups of four hexadecimal digits with colons.
+    pub fn put_address(&mut self, address: Address) -> Result<(), SinkFault>
+        ensures { Writes self.old (address_text address) result self.new }
+    {
+        match address {
+            Address::V4(bytes) => self.put_dotted(bytes),
+            Address::V6(bytes) => self.put_groups(bytes),
+        }
+    }
+
+    /// Takes four bytes as decimal numbers with dots.
+    fn put_dotted(&mut self, bytes: [u8; 4]) -> Result<(), SinkFault>
+        ensures { Writes self.old (address_text (V4 bytes)) result self.new }
+    {
+        self.put_number(u64::from(bytes[0]))?;
+        let mut rest = &bytes[1..];
+        while let [byte, after @ ..] = rest {
+            self.put(b".")?;
+            self.put_number(u64::from(*byte))?;
+            rest = after;
+        }
+        Ok(())
+    }
+
+    /// Takes sixteen bytes as groups of four hexadecimal digits with colons.
+    fn put_groups(&mut self, bytes: [u8; 16]) -> Result<(), SinkFault>
+        ensures { Writes self.old (address_text (V6 bytes)) result self.new }
+    {
+        self.put_hex(&bytes[..2])?;
+        let mut rest = &bytes[2..];
+        while let [high, low, after @ ..] = rest {
+            self.put(b":")?;
+            self.put_hex(&[*high, *low])?;
+            rest = after;
+        }
+        Ok(())
+    }
+}
+
+/// Where the first byte stands that needs an escape.
+fn first_escape(bytes: &[u8]) -> Option<usize>
+    ensures { result ≡ position (λ b. not (is_plain b)) bytes.now }
+{
+    bytes.iter().position(|byte| !is_plain(*byte))
+}
+
+/// Whether a byte stands as itself between quotes.
+fn is_plain(byte: u8) -> bool
+    ensures { result ≡ is_plain byte }
+{
+    byte >= 32 && byte != b'"' && byte != b'\\' && byte != 127
+}
+
+/// Whether a byte stands as itself in a line.
+fn prints(byte: u8) -> bool
+    ensures { result ≡ prints byte }
+{
+    byte >= 32 && byte != 127
+}
