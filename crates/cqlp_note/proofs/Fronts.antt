@@ -47,7 +47,7 @@ module _ (n : Notation) (limit room : ℕ) (bytes : List ℕ) where
       let enough : fixed_of n ≤ length (bytes ++ t) = omega (arith, length-append bytes t) in
       rw (fixed_first n limit room (bytes ++ t), le-ltb _ _ le, le-ltb _ _ enough, take-append-le _ bytes t long, drop-append-le _ bytes t long, zero-add)
 
--- what is told behind the fixed part is told of the field
+-- what the bytes after the fixed part tell, they tell of the field
 pub fixed_tells : (w : Wanted) (bytes : List ℕ) (r : Result Head Stop) → fixed_of w.notation ≤ w.room → fixed_of w.notation ≤ length bytes
     → Tells w (after_fixed w.notation w.limit w.room (take (fixed_of w.notation) bytes)) (fixed_of w.notation) (drop (fixed_of w.notation) bytes) r → Tells w (reader_of w) 0 bytes r
 fixed_tells w bytes (Ok (head.Whole used v)) le long h =

@@ -50,7 +50,7 @@ tells_pieces w front input told h =
     let all : (front ++ take n input) ++ drop n input ≡ front ++ input = append_assoc front (take n input) (drop n input) ∙ ap (λ (x : List ℕ). front ++ x) (take-append-drop n input) in
     rw all at (tells_on w (front ++ take n input) (drop n input) told none h)
 
--- a value is given behind the bytes taken
+-- a value is given after the bytes taken
 got_from : {A F : Type 0} (r : Reader A F) (taken : ℕ) (bytes : List ℕ) (v : A) (k : ℕ) → says r taken bytes ≡ Got v k → taken ≤ k
 got_from (Gives w) taken bytes v k g = let e : taken ≡ k = cc in omega arith
 got_from (Refuses why) taken bytes v k g = absurd cc
@@ -60,7 +60,7 @@ got_from (Takes n next) taken bytes v k g = elim (cases_lt (length bytes) n) [
   | inr le ↦ omega (arith, got_from (next (take n bytes)) (taken + n) (drop n bytes) v k (rw (le-ltb _ _ le) at g))
 ]
 
--- a value is given behind all bytes that did not make one
+-- a value is given after all bytes that did not make one
 pub got_beyond : {A F : Type 0} (r : Reader A F) (taken : ℕ) (bytes t : List ℕ) (v : A) (k : ℕ) → says r taken bytes ≡ More → says r taken (bytes ++ t) ≡ Got v k → taken + length bytes ≤ k
 got_beyond (Gives w) taken bytes t v k m g = absurd cc
 got_beyond (Refuses why) taken bytes t v k m g = absurd cc
@@ -98,7 +98,7 @@ module _ (f : ContentForm) (len k : ℕ) (rest : List ℕ) where
   pub content_bad : len ≤ length rest → accepts f (take len rest) ≡ false → says (Takes len (made f)) k rest ≡ Bad BadUtf8
   content_bad le t = rw (le-ltb _ _ le) (refuses f (take len rest) _ _ t)
 
--- what is said behind a front, where a content of len bytes comes
+-- what is said after a front, where a content of len bytes comes
 module _ (w : Wanted) (seen input : List ℕ) (start len : ℕ) (f : ContentForm) (told : (t : List ℕ) → says (reader_of w) 0 ((seen ++ input) ++ t) ≡ says (Takes len (made f)) (length seen + start) (drop start input ++ t)) where
   told_now : says (reader_of w) 0 (seen ++ input) ≡ says (Takes len (made f)) (length seen + start) (drop start input)
   told_now = rw (append-nil (seen ++ input), append-nil (drop start input)) at (told [])
@@ -126,7 +126,7 @@ split_all front input start le short =
     let all : take (24 - length front) (take start input) ≡ take start input = take_all (24 - length front) (take start input) (omega arith) in
     rw (all, append_assoc front (take start input) (drop start input), take-append-drop start input) refl
 
--- so the content goes on behind that front
+-- so the content goes on after that front
 pub split_goes_on : (w : Wanted) (seen input : List ℕ) (start len : ℕ) (f : ContentForm) (front content : List ℕ)
     → ((t : List ℕ) → says (reader_of w) 0 ((seen ++ input) ++ t) ≡ says (Takes len (made f)) (length seen + start) (drop start input ++ t))
     → start ≤ length input → length seen + start ≤ 24 → front ≡ seen ++ take (24 - length seen) (take start input) → content ≡ drop start input
@@ -170,7 +170,7 @@ same_content form.Text c = refl
 same_content form.Bytes c = refl
 same_content form.Bound c = refl
 
--- ---- behind a front that came before
+-- ---- after a front that came before
 
 module _ (w : Wanted) (front input : List ℕ) where
   pub whole_beyond : (v : FieldValue) (k : ℕ) → (0 < length front → says (reader_of w) 0 front ≡ More) → ((t : List ℕ) → says (reader_of w) 0 ((front ++ input) ++ t) ≡ Got v k) → length front ≤ k

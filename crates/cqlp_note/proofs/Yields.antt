@@ -62,7 +62,7 @@ says_map f g (Takes n next) taken bytes = elim (cases_lt (length bytes) n) [
   | inr le ↦ rw (le-ltb _ _ le) (says_map f g (next (take n bytes)) (taken + n) (drop n bytes))
 ]
 
--- Once a field is got, what follows it goes by what is behind it.
+-- Once a field is got, what follows it goes by what is after it.
 pub after_got : {E P : Type 0} (at : ℕ) (r : FieldReader) (next : FieldValue → Step E P) (taken : ℕ) (bytes : List ℕ) (v : FieldValue) (k : ℕ) → says r taken bytes ≡ Got v k
     → (taken ≤ k) × (says (after_field at r next) taken bytes ≡ says (next v) k (drop (k - taken) bytes))
 after_got at (Gives w) next taken bytes v k s =

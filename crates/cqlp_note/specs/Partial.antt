@@ -66,7 +66,8 @@ progress s w front content room = record {
   content = content;
 }
 
--- Whatever follows these bytes of a field, after `taken` of them comes a content of len bytes, which begins with `rest`.
+-- Whatever follows these bytes of a field, after `taken` of them comes a content of len bytes, which begins with
+-- `rest`.
 abbrev pub IsContentAfter : Wanted → (bytes : List ℕ) → (len : ℕ) → ContentForm → (taken : ℕ) → (rest : List ℕ) → Type 0
 IsContentAfter w bytes len f taken rest =
     (t : List ℕ) → says (reader_of w) 0 (bytes ++ t) ≡ says (Takes len (made f)) taken (rest ++ t)

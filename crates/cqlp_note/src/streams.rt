@@ -48,8 +48,8 @@ pub trait Target {
 }
 
 /// A reader or a writer of std's as a [`Source`] or a [`Target`]. A call is one call of the inner reader or writer,
-/// with the whole buffer, and is not tried again. No contract of std's `Read` and `Write` counts calls, so that is tested;
-/// which bytes came or went, and how many calls failed, is in the contracts.
+/// with the whole buffer, and is not tried again. No contract of std's `Read` and `Write` counts calls, so that is
+/// tested; which bytes came or went, and how many calls failed, is in the contracts.
 #[derive(Drop)]
 pub struct OfStd<X> {
     /// The reader or writer.
