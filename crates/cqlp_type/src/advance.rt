@@ -39,7 +39,7 @@ impl TypeOutline {
     ghost use Rattle.cqlp_type.specs.Remaining.{event_at};
     ghost use Rattle.cqlp_type.specs.Pushing.{event_of};
 
-    /// What `advance` made of this input.
+    /// The part, with its text lent from where it lies.
     pub fn lend<'a, B: Allocator>(self, partial: &'a Partial<B>, input: &'a [u8]) -> TypeItem<'a>
         requires { CanLendPart self input.now partial.now.content }
         ensures { event_of result ≡ event_at self input.now partial.now.content }

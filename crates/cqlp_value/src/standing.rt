@@ -1,4 +1,4 @@
-//! Where the reading of a cell stands.
+//! What is read next of a cell.
 
 ghost use Rattle.std.specs.Prelude.{◌≡◌, ◌+◌, ◌-◌, ◌<◌, ◌≤◌, ◌^◌, ◌++◌, ◌∷◌, [], length, true, false, None, Some};
 ghost use Rattle.std.specs.Prelude.{IsSome, slice_get};
@@ -60,6 +60,7 @@ pub(crate) struct DueValue {
     pub stop: u64,
 }
 
+/// Where the reading of a cell stands.
 #[derive(Drop)]
 pub(crate) struct CellStanding<A: Allocator> {
     pub limits: Limits,
