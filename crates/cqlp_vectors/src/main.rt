@@ -6,14 +6,13 @@
 //! `stdout`, and holds for all ways. A line without `|` is a heading.
 #![tactic(auto)]
 
-mod endpoints;
 mod stream;
 mod ways;
 
 use cqlp_decode::Outcome;
+use cqlp_fakes::bytes_of;
 use cqlp_note::{Limits, OfStd};
 use cqlp_text::{Ending, ending_line};
-use std::alloc::Global;
 use std::io;
 use stream::{Said, Stream};
 
@@ -65,20 +64,6 @@ fn limits_of(words: &str) -> Limits {
         }
     }
     limits
-}
-
-/// The bytes that hexadecimal digits spell, with spaces between some.
-fn bytes_of(alloc: Global, digits: &str) -> io::Result<Vec<u8>> {
-    let mut packed = Vec::new(alloc);
-    for digit in digits.as_bytes() {
-        if *digit != b' ' {
-            packed.push(*digit)?;
-        }
-    }
-    match hex::decode(alloc, packed.as_slice()) {
-        Ok(bytes) => Ok(bytes),
-        Err(_) => Err(io::Error::from(io::ErrorKind::InvalidData)),
-    }
 }
 
 /// Prints the lines of the events, and then the verdict.

@@ -1,7 +1,7 @@
 //! A stream, and what is said of it.
 
-use crate::endpoints::Pieces;
 use cqlp_decode::{Decoder, Outcome};
+use cqlp_fakes::Pieces;
 use cqlp_note::{Limits, OfStd, Source};
 use cqlp_tool::render_events;
 use std::alloc::Global;

@@ -1,8 +1,8 @@
 //! The ways in which a stream is read. Each prints where it says something else than the whole stream does.
 
-use crate::endpoints::{Ends, FailsOnce, Narrow, Takes};
 use crate::stream::{Said, Stream};
 use cqlp_decode::{Finish, Outcome, run};
+use cqlp_fakes::{Ends, FailsOnce, Narrow, Takes};
 use cqlp_tool::render_events;
 use std::alloc::Global;
 use std::io;
@@ -42,7 +42,7 @@ fn in_these_pieces(
 pub fn fronts(rt: &HostRuntime, stream: &Stream<'_>, whole: &Said) -> io::Result<()> {
     let ends = ends_of(rt.alloc(), stream)?;
     for count in 0..stream.bytes.len() {
-        let finish = finish_after(&ends, count as u64);
+        let finish = finish_after(ends.places(), count as u64);
         if !is_front(&stream.front(count).whole(rt.alloc())?, whole, finish) {
             println!(rt; "differs where it ends after {count} bytes")?;
         }
@@ -51,14 +51,12 @@ pub fn fronts(rt: &HostRuntime, stream: &Stream<'_>, whole: &Said) -> io::Result
 }
 
 /// Where the frames of a stream end.
-fn ends_of(alloc: Global, stream: &Stream<'_>) -> io::Result<Vec<u64>> {
+fn ends_of(alloc: Global, stream: &Stream<'_>) -> io::Result<Ends> {
     let mut decoder = stream.decoder(alloc)?;
-    let mut ends = Ends {
-        places: Vec::new(alloc),
-    };
+    let mut ends = Ends::new(alloc);
     let mut reader = stream.pieces([usize::MAX; 3]);
     let _ = run(&mut decoder, &mut reader, &mut ends, u64::MAX);
-    Ok(ends.places)
+    Ok(ends)
 }
 
 fn is_front(said: &Said, whole: &Said, finish: Finish) -> bool {
@@ -139,9 +137,9 @@ pub fn with_room_for_text(rt: &HostRuntime, stream: &Stream<'_>, whole: &Said) -
 fn fills_text(alloc: Global, stream: &Stream<'_>, whole: &Said, room: usize) -> io::Result<bool> {
     let mut decoder = stream.decoder(alloc)?;
     let mut reader = stream.pieces([usize::MAX; 3]);
-    let writer = Narrow::new(alloc, room);
+    let writer = Narrow::new(alloc, room, 7);
     let (outcome, writer) = render_events(&mut decoder, &mut reader, writer, u64::MAX);
-    let is_written = whole.lines.starts_with(&writer.text) && writer.text.len() == room;
+    let is_written = whole.lines.starts_with(writer.text()) && writer.text().len() == room;
     Ok(is_written && outcome == with_room(room, whole.lines.len(), whole))
 }
 
@@ -161,9 +159,9 @@ pub fn with_room_for_events(rt: &HostRuntime, stream: &Stream<'_>, whole: &Said)
 fn taken_of(alloc: Global, stream: &Stream<'_>, room: usize) -> io::Result<(usize, Outcome)> {
     let mut decoder = stream.decoder(alloc)?;
     let mut reader = stream.pieces([3, 5, 5]);
-    let mut sink = Takes { room, taken: 0 };
+    let mut sink = Takes::new(room);
     let outcome = run(&mut decoder, &mut reader, &mut sink, u64::MAX);
-    Ok((sink.taken, outcome))
+    Ok((sink.taken(), outcome))
 }
 
 /// How a run ends where there is room for a part of what is said, or for all.
