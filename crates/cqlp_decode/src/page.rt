@@ -1,13 +1,9 @@
 //! The cells of a page, in their order.
 
-ghost use Rattle.std.specs.Prelude.{◌≡◌, ◌↔◌, ℕ, IsTrue, List};
+ghost use Rattle.std.specs.Prelude.{◌≡◌, ◌↔◌, ℕ, IsTrue};
 ghost use Rattle.cqlp_note.specs.Head.{value_of};
-ghost use Rattle.cqlp_message.specs.Productions.{number_in};
 ghost use Rattle.cqlp_value.specs.Inner.{Forest};
 ghost use Rattle.cqlp_type.specs.Types.{NoMore};
-ghost use Rattle.cqlp_type.specs.declared.node.Node.{Node};
-ghost use Rattle.cqlp_decode.specs.Reading as reading;
-ghost use Rattle.cqlp_decode.specs.Reading.{page_types};
 ghost use Rattle.cqlp_decode.specs.Pages.{AreColumns, Begins, FindsColumn, FindsPage, IsKind, IsPage, IsSomePage, Turns, column_types, node_by};
 
 use cqlp_message::{Role, has, number};

@@ -1,6 +1,6 @@
 //! Where the reading of a stream stands, and one step of it.
 
-ghost use Rattle.std.specs.Prelude.{◌≡◌, ◌+◌, ◌-◌, ◌<◌, ◌≤◌, ◌^◌, ◌++◌, ◌∷◌, List, [], ℕ, length, take, None, Some, IsTrue, ◌↔◌, true, false};
+ghost use Rattle.std.specs.Prelude.{◌≡◌, ◌+◌, ◌-◌, ◌<◌, ◌≤◌, ◌^◌, ◌++◌, [], length, take, None, Some, IsTrue, ◌↔◌, true, false};
 ghost use Rattle.cqlp_note.specs.Limits.{limit_of, rules_of};
 ghost use Rattle.cqlp_note.specs.declared.refusal.Refusal.{Refusal as Refusing};
 ghost use Rattle.cqlp_decode.specs.Standing.{came_of, stage_with};
@@ -55,25 +55,19 @@ pub struct StreamStanding {
 impl StreamStanding {
     ghost use Rattle.std.specs.Prelude.{max};
     ghost use Rattle.cqlp_note.specs.Head.{value_of};
-    ghost use Rattle.cqlp_note.specs.Partial.{FieldState};
-    ghost use Rattle.cqlp_type.specs.Types.{Types};
-    ghost use Rattle.cqlp_type.specs.Table.{Table};
-    ghost use Rattle.cqlp_type.specs.Standing as type;
     ghost use Rattle.cqlp_type.specs.Standing.{started};
     ghost use Rattle.cqlp_value.specs.Standing.{ended, is_under_way};
     ghost use Rattle.cqlp_value.specs.Standing as value;
     ghost use Rattle.cqlp_message.specs.Productions.{Extra, following, message};
-    ghost use Rattle.cqlp_decode.specs.Reading as reading;
     ghost use Rattle.cqlp_decode.specs.Reading.{start};
     ghost use Rattle.cqlp_decode.specs.Streams.{EndsAs};
-    ghost use Rattle.cqlp_message.specs.Upcoming.{behind, symbols_in};
+    ghost use Rattle.cqlp_message.specs.Upcoming.{behind};
     ghost use Rattle.cqlp_decode.specs.declared.standing.StreamStage.TheVariants as stage;
     ghost use Rattle.cqlp_decode.specs.Standing.{Advances, GoesOn, GoesOnAfter, HasCome, LeavesTypes, Moves, MovesIdle, Takes};
     ghost use Rattle.cqlp_decode.specs.Standing.{HasParts, HasRoom, IsConsistent, IsFresh, IsLawful, PartsState};
     ghost use Rattle.cqlp_decode.specs.Standing.{IsAsked, IsAt, IsBounded, IsWanted, Starts, asked};
-    ghost use Rattle.cqlp_decode.specs.Standing.{first_state, parts_state, refusal_in, rest_of, state_of, state_with, symbols_at};
+    ghost use Rattle.cqlp_decode.specs.Standing.{first_state, refusal_in, rest_of, state_of, state_with, symbols_at};
     ghost use Rattle.cqlp_decode.specs.Pages.{IsPage, cells_after, node_by};
-    ghost use Rattle.cqlp_decode.specs.Reading.{types_for};
     ghost use Rattle.cqlp_value.specs.Inner.{Forest};
     ghost use Rattle.cqlp_value.specs.Pushing.{begun};
 
