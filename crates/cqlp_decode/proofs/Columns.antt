@@ -59,7 +59,7 @@ first_column nodes depth (columns.Raw n) column index h = record {
   symbols = λ stop. refl;
 }
 
--- a cell that has just begun, and those behind it
+-- a cell that has just begun, and those after it
 pub page_begun : (nodes : List Node) (depth : ℕ) (d : CellState) (p : CellCursor) (i : Option ℕ) → d.next ≡ next.Cell i → IsColumn nodes depth p.columns p.column p.index → page_symbols nodes d p ≡ cells_from nodes p
 page_begun nodes depth d p i here h =
     let f = first_column nodes depth p.columns p.column p.index h in

@@ -59,7 +59,7 @@ map_always f g P (Refuses why) before h = tt
 map_always f g P Idles before h = tt
 map_always f g P (Takes n next) before h = λ c long. map_always f g P (next c) (before ++ c) (h c long)
 
--- so many, and the bytes taken, are at least one
+-- this many, and the bytes taken, are at least one
 abbrev Some_taken : {A : Type 0} → (k : ℕ) → A → List ℕ → Type 0
 Some_taken k v b = 1 ≤ k + length b
 
@@ -300,7 +300,7 @@ module _ (l : Rules) (some : 1 ≤ l.part) (p : CellPlace) where
     close_pays : (level stop taken due : ℕ) → suc (cell_dues rest) ≤ due → Always (CellPays due) (close_step p rest level stop taken) []
     close_pays level stop taken due paid = either_always (CellPays due) [] (ltb p.offset stop) _ _ (λ _. tt) (λ _. omega (arith, paid))
 
-    -- behind the length of a value
+    -- after the length of a value
     module _ (b : List ℕ) (long : 4 ≤ length b) where
       abbrev Pays : Emitted CellEvent CellPlace → List ℕ → Type 0
       Pays = CellPays (cell_dues rest)

@@ -176,7 +176,7 @@ module _ (s : StreamStanding) (old p : FieldState) (w : Want) (input : List ℕ)
       let r = got_inside w.notation (limit_of (rules_of s.limits) w.notation) (s.stop - s.offset) (p.seen ++ input) v (length p.seen + used) (rw a.field at m.is) (omega (arith, m.within, length-append p.seen input)) in
       omega (arith, r)
 
--- ---- where a message goes on behind a field
+-- ---- where a message goes on after a field
 
 -- metadata begins with no types; else they stay
 pub metadata_forest : (r : Role) (nodes : List Node) (depth : ℕ) → Forest nodes 0 depth → Forest (nodes_after r nodes) 0 depth

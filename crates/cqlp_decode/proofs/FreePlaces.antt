@@ -1,4 +1,4 @@
--- Read freely, no place is reached where a limit is exceeded: a frame has at most 2 ^ 28 bytes behind its header, and each
+-- Read freely, no place is reached where a limit is exceeded: a frame has at most 2 ^ 28 bytes after its header, and each
 -- type option takes some.
 use Rattle.std.proofs.Common.{◌≡◌, ℕ, zero, suc, ◌+◌, ◌-◌, ◌<◌, ◌≤◌, ◌^◌, Bool, true, false, ◌&&◌, eqb, ltb, leb, cond, max, bytes_eq, List, [], ◌∷◌, ◌++◌, length, take, drop, Option, Some, None, Ok, Err, refl, ap, ◌∙◌, subst, arith}
 use Rattle.std.specs.Prelude.{Result}

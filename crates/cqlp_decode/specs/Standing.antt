@@ -46,7 +46,7 @@ use Rattle.cqlp_decode.specs.declared.parts.Parts.{Parts}
 use Rattle.cqlp_decode.specs.declared.advance.ScalarCell.{ScalarCell}
 use Rattle.cqlp_value.specs.Contents.{value_of as scalar_value}
 use Rattle.cqlp_decode.specs.declared.page.CellCursor.{CellCursor}
-use Rattle.cqlp_message.specs.Upcoming.{symbols_in, wanted, behind, IsRead}
+use Rattle.cqlp_message.specs.Upcoming.{symbols_in, wanted, room_after, IsRead}
 use Rattle.cqlp_decode.specs.Pages.{cells_from, page_symbols, node_by, symbols_after, IsPage}
 use Rattle.cqlp_decode.specs.Reading as reading
 use Rattle.cqlp_decode.specs.Reading.{Place, Event, start, step}
@@ -285,7 +285,7 @@ asked s w = record {
 
 -- The field under way is the one that is wanted, as far as it has begun; what follows it has room.
 pub record IsWanted (s : StreamStanding) (p : FieldState) (w : Want) : Type 0 where
-  pub room : length s.upcoming + behind w.role ≤ 16
+  pub room : length s.upcoming + room_after w.role ≤ 16
   pub read : IsRead (due.Field w)
   pub field : p.under_way ≡ true → p.field ≡ asked s w
   pub waits : 0 < length (came_of p) → says (reader_of (asked s w)) 0 (came_of p) ≡ More
@@ -419,7 +419,7 @@ stage_with None = stage.Extra
 -- a message goes on here, with nothing under way, and what follows has room
 abbrev pub HasRoom : StreamStage → List Slot → Type 0
 HasRoom stage.Header upcoming = ⊥
-HasRoom (stage.Field w) upcoming = (length upcoming + behind w.role ≤ 16) × IsRead (due.Field w)
+HasRoom (stage.Field w) upcoming = (length upcoming + room_after w.role ≤ 16) × IsRead (due.Field w)
 HasRoom stage.BeforeType upcoming = ⊤
 HasRoom stage.InType upcoming = ⊥
 HasRoom (stage.BeforeCell p) upcoming = ⊥

@@ -61,7 +61,7 @@ impl StreamStanding {
     ghost use Rattle.cqlp_message.specs.Productions.{Extra, following, message};
     ghost use Rattle.cqlp_decode.specs.Reading.{start};
     ghost use Rattle.cqlp_decode.specs.Streams.{EndsAs};
-    ghost use Rattle.cqlp_message.specs.Upcoming.{behind};
+    ghost use Rattle.cqlp_message.specs.Upcoming.{room_after};
     ghost use Rattle.cqlp_decode.specs.declared.standing.StreamStage.TheVariants as stage;
     ghost use Rattle.cqlp_decode.specs.Standing.{Advances, GoesOn, GoesOnAfter, HasCome, LeavesTypes, Moves, MovesIdle, Takes};
     ghost use Rattle.cqlp_decode.specs.Standing.{HasParts, HasRoom, IsConsistent, IsFresh, IsLawful, PartsState};
@@ -325,7 +325,7 @@ impl StreamStanding {
 
     /// Goes on after a field: with the cells of a page, or with what is due next in the message.
     fn follow<A: Allocator>(&mut self, role: Role, value: Prim<'_>, table: &TypeTable<A>)
-        requires room { length self.old.upcoming + behind role ≤ 16 }
+        requires room { length self.old.upcoming + room_after role ≤ 16 }
         requires forest { Forest table.now.nodes 0 self.old.limits.depth }
         ensures symbols { GoesOnAfter self.old self.new table.now.nodes role (value_of value.entry) }
         ensures rest { self.new ≡ record self.old { stage = self.new.stage; upcoming = self.new.upcoming } }

@@ -6,7 +6,7 @@ use cqlp_note::Refusal;
 /// What one call makes of the input.
 #[derive(Clone, Copy, Debug, PartialEq, Eq)]
 pub enum Step<'a> {
-    /// An event, whose field begins at this offset of the stream; an end's offset is the frame's end. So many bytes of
+    /// An event, whose field begins at this offset of the stream; an end's offset is the frame's end. This many bytes of
     /// the input were used.
     Event {
         at: u64,

@@ -54,7 +54,7 @@ no_result n (inl e) = rw e refl
 no_result n (inr h) = rw (ne_eqb n 2 (λ e. omega arith), ne_eqb n 3 (λ e. omega arith), ne_eqb n 4 (λ e. omega arith), ne_eqb n 5 (λ e. omega arith)) refl
 
 module _ (l : Rules) (S : Type 0) (types : S → Role → Types) (after : S → Role → S) (grown : S → Trees → S) (count : S → ℕ) (c : Counts S after grown count) where
-  -- the state behind n fields that nothing follows
+  -- the state after n fields that nothing follows
   abbrev alone : (n : ℕ) → S → S
   alone zero s = s
   alone (suc n) s = after (alone n s) role.Alone
@@ -175,7 +175,7 @@ module _ (l : Rules) (S : Type 0) (types : S → Role → Types) (after : S → 
 
   -- ---- metadata
 
-  -- from every state that counts so many type options
+  -- from every state that counts this many type options
   abbrev DAt : ℕ → List Part → List Symbol → Type 0
   DAt n ps rest = (s : S) → count s ≡ n → Derives l S types after grown count ps rest s
 

@@ -51,11 +51,11 @@ parts_join [] qs b c s t = rw s t
 parts_join (part ∷ ps) qs b c s t =
     record { front = s.front; back = s.back ++ c; whole = ap (λ (x : List ℕ). x ++ c) s.whole ∙ append_assoc s.front s.back c; this = s.this; that = parts_join ps qs s.back c s.that t }
 
--- The bytes between a frame's header and what is behind its message spell all of its parts.
+-- The bytes between a frame's header and what is after its message spell all of its parts.
 pub frame_spelled : (f : FrameValue) (x : ℕ) (b : List ℕ) (s : FrameSpells f x b) → PartsSpell (frame_parts f) (s.announced ++ s.body)
 frame_spelled f x b s = parts_join (announced_parts f) (message_parts f.message) s.announced s.body s.parts s.message
 
--- A frame has as many bytes as its header, its parts and what is behind them.
+-- A frame has as many bytes as its header, its parts and what is after them.
 pub frame_long : (f : FrameValue) (x : ℕ) (b : List ℕ) → FrameSpells f x b → length b ≡ frame_size f x
 frame_long f x b s =
     let head : List ℕ = header_bytes (header_of f (length (s.announced ++ s.body ++ s.extra))) in

@@ -10,7 +10,7 @@ use Rattle.std.specs.Prelude.{Some}
 use Rattle.cqlp_message.specs.declared.table.Expected.{Expected}
 use Rattle.cqlp_message.specs.declared.upcoming.Slot.{Slot}
 use Rattle.cqlp_message.specs.declared.upcoming.Slot.TheVariants.{One, Many}
-use Rattle.cqlp_message.specs.Upcoming.{symbols_of, symbols_in, need, behind_due, room_for, wanted, wants, IsSlot, IsRead, AreRead, Fits, Popped, Pops}
+use Rattle.cqlp_message.specs.Upcoming.{symbols_of, symbols_in, need, room_after_due, room_for, wanted, wants, IsSlot, IsRead, AreRead, Fits, Popped, Pops}
 
 pub symbols_pushed : (ss : List Slot) (s : Slot) → symbols_in (ss ++ s ∷ []) ≡ symbols_of s ++ symbols_in ss
 symbols_pushed [] s = sym (append-nil (symbols_of s))
@@ -53,7 +53,7 @@ read_at [] k d f lt = absurd (omega arith)
 read_at (w ∷ ws) zero d f lt = f.0
 read_at (w ∷ ws) (suc k) d f lt = read_at ws k d f.1 (omega arith)
 
-pub room_at : (ws : List Expected) (k : ℕ) (d : Expected) → k < length ws → (length ws - (k + 1)) + max 1 (behind_due (get_or ws k d)) ≤ room_for ws
+pub room_at : (ws : List Expected) (k : ℕ) (d : Expected) → k < length ws → (length ws - (k + 1)) + max 1 (room_after_due (get_or ws k d)) ≤ room_for ws
 room_at [] k d lt = absurd (omega arith)
 room_at (w ∷ ws) zero d lt = omega arith
 room_at (w ∷ ws) (suc k) d lt = omega (arith, room_at ws k d (omega arith))
@@ -73,7 +73,7 @@ pub next_one : (old new : List Slot) (w : Expected) → Popped old (Some (One w)
 next_one old new w p = (ap symbols_in p.0 ∙ symbols_pushed new (One w), omega (arith, p.1), p.2)
 
 pub next_many : (old mid rest new : List Slot) (g : Group) (n : ℕ) (w : Expected) → Popped old (Some (Many g n)) mid → symbols_in rest ≡ copies (n - 1) (group g) ++ symbols_in mid
-    → wanted w ∷ symbols_in new ≡ group g ++ symbols_in rest → length new + behind_due w ≤ 16 → IsRead w → Pops old (Some w) new
+    → wanted w ∷ symbols_in new ≡ group g ++ symbols_in rest → length new + room_after_due w ≤ 16 → IsRead w → Pops old (Some w) new
 next_many old mid rest new g n w p others first room followed =
     let more : n ≡ suc (n - 1) = omega (arith, p.2) in (
       ap symbols_in p.0 ∙ symbols_pushed mid (Many g n) ∙ ap (λ (k : ℕ). copies k (group g) ++ symbols_in mid) more

@@ -30,7 +30,7 @@ pub record BatchAgrees (flags : ℕ) (serial : Option ℕ) (timestamp : Option �
 
 -- ---- responses
 
--- Section 9: what stands behind an error's message is what its code announces.
+-- Section 9: what stands after an error's message is what its code announces.
 abbrev pub ExtraAgrees : (code : ℤ) → ErrorExtra → Type 0
 ExtraAgrees code Plain = beside_number (cast_unsigned w32 code) errors ≡ None
 ExtraAgrees code (Unavailable c r a) = code ≡ pos 0x1000

@@ -64,7 +64,7 @@ texts list item ts = counted list (λ t. text item t ∷ []) ts
 
 -- ---- parts of requests
 
--- a value, behind its name if it has one
+-- a value, after its name if it has one
 abbrev pub value_parts : Option Octets × BoundValue → List Part
 value_parts v = where_some (λ name. text field.ValueName name ∷ []) v.0 ++ bound v.1 ∷ []
 
@@ -94,7 +94,7 @@ entry_parts (Id id vs) = byte field.EntryKind 1 ∷ statement id ∷ counted fie
 
 -- ---- parts of responses
 
--- Section 9: what stands behind the message of an error.
+-- Section 9: what stands after the message of an error.
 abbrev pub extra_parts : ErrorExtra → List Part
 extra_parts Plain = []
 extra_parts (Unavailable consistency required alive) = short field.Consistency consistency ∷ int field.Required required ∷ int field.Alive alive ∷ []

@@ -20,7 +20,7 @@ announced_parts f =
     ++ where_some (texts field.Warnings field.Warning) f.warnings
     ++ where_some (counted field.PayloadItems (λ i. text field.PayloadKey i.0 ∷ bytes field.PayloadValue i.1 ∷ [])) f.payload
 
--- The parts of a frame behind its header, in order.
+-- The parts of a frame after its header, in order.
 abbrev pub frame_parts : FrameValue → List Part
 frame_parts f = announced_parts f ++ message_parts f.message
 
@@ -31,7 +31,7 @@ header_of f n = record { response = is_response f.message; flags = f.flags; stre
 -- ---- spelling
 
 -- The bytes are the header of a frame, the parts that its flags announce, the body of its message, and x bytes more.
--- The header is lawful, and its length is that of all behind it.
+-- The header is lawful, and its length is that of all after it.
 pub record FrameSpells (f : FrameValue) (x : ℕ) (bytes : List ℕ) : Type 0 where
   pub announced : List ℕ
   pub body : List ℕ
@@ -43,7 +43,7 @@ pub record FrameSpells (f : FrameValue) (x : ℕ) (bytes : List ℕ) : Type 0 wh
   pub lawful : IsLawful (header_of f (length (announced ++ body ++ extra)))
   pub whole : bytes ≡ header_bytes (header_of f (length (announced ++ body ++ extra))) ++ announced ++ body ++ extra
 
--- The bytes are frames one after the other, each with so many bytes more.
+-- The bytes are frames one after the other, each with this many bytes more.
 abbrev pub AllSpell : List (FrameValue × ℕ) → List ℕ → Type 0
 AllSpell [] b = b ≡ []
 AllSpell (f ∷ fs) b = Joined (FrameSpells f.0 f.1) (AllSpell fs) b
@@ -61,7 +61,7 @@ Flat at f x =
     ++ parts_events (at + 9) (frame_parts f)
     ++ (at + frame_size f x, End x) ∷ []
 
--- The events of frames one after the other, each with so many bytes more.
+-- The events of frames one after the other, each with this many bytes more.
 abbrev pub FlatAll : (offset : ℕ) → List (FrameValue × ℕ) → List (ℕ × Event)
 FlatAll at [] = []
 FlatAll at (f ∷ fs) = Flat at f.0 f.1 ++ FlatAll (at + frame_size f.0 f.1) fs

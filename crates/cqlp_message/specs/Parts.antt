@@ -13,7 +13,7 @@ use Rattle.cqlp_type.specs.Trees.{Trees, trees_in, AreTrees, Shallow, AreShort, 
 use Rattle.cqlp_type.specs.TypeTrees.{trees_size}
 use Rattle.cqlp_message.specs.Events.{Event, Holds, Node_of}
 
--- A part of a frame behind its header.
+-- A part of a frame after its header.
 pub data Part : Type 0 where
   -- a field in a notation
   Field_is : Field → Notation → FieldValue → Part
@@ -48,7 +48,7 @@ PartsSpell (part ∷ parts) b = Joined (PartSpells part) (PartsSpell parts) b
 
 -- ---- sizes
 
--- what a field has behind its number, length or count: an address and a port, or a content
+-- what a field has after its number, length or count: an address and a port, or a content
 abbrev pub size_behind : FieldValue → ℕ
 size_behind (Inet (address.V4 a) port) = 8
 size_behind (Inet (address.V6 a) port) = 20

@@ -103,7 +103,7 @@ announced h =
     (if h.response then where_set h.flags 0x02 (plain field.TraceId Uuid ∷ []) ++ where_set h.flags 0x08 (counted field.Warnings group_of.Warnings ∷ []) else [])
     ++ where_set h.flags 0x04 payload
 
--- what a frame with this header has behind it
+-- what a frame with this header has after it
 abbrev pub message : Header → List Symbol
 message h = announced h ++ body h.opcode ++ Extra ∷ []
 
@@ -123,7 +123,7 @@ batch_parts flags = where_set flags 0x10 (plain field.SerialConsistency Short �
 abbrev pub entry_parts : ℕ → List Symbol
 entry_parts kind = (if kind == 0 then plain field.Query Text32 ∷ [] else plain field.StatementId Bytes16 ∷ []) ++ counted field.Values group_of.BatchValues ∷ []
 
--- the fields behind an error's message, by its code
+-- the fields after an error's message, by its code
 abbrev pub errors : List (ℕ × List Symbol)
 errors =
     (0x1000, plain field.Consistency Short ∷ plain field.Required Int ∷ plain field.Alive Int ∷ [])

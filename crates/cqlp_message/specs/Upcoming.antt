@@ -58,40 +58,40 @@ opened group_of.KeyIndexes = 0
 opened (group_of.Columns one_table) = 3
 
 -- the slots that what follows a field of this role can come to take
-abbrev pub behind : Role → ℕ
-behind role.Alone = 0
-behind (role.Counts g) = opened g + 1
-behind role.QueryFlags = 6
-behind role.EntryKind = 2
-behind role.BatchFlags = 2
-behind role.ErrorCode = 6
-behind role.ResultKind = 5
-behind role.ChangeTarget = 3
-behind role.EventType = 3
-behind (role.MetaFlags rows) = 5
-behind (role.MetaColumns rows flags) = 5
-behind role.PreparedFlags = 5
-behind (role.PreparedColumns flags) = 5
-behind (role.PreparedKeys flags columns) = 5
-behind (role.PageRows flags columns) = 0
+abbrev pub room_after : Role → ℕ
+room_after role.Alone = 0
+room_after (role.Counts g) = opened g + 1
+room_after role.QueryFlags = 6
+room_after role.EntryKind = 2
+room_after role.BatchFlags = 2
+room_after role.ErrorCode = 6
+room_after role.ResultKind = 5
+room_after role.ChangeTarget = 3
+room_after role.EventType = 3
+room_after (role.MetaFlags rows) = 5
+room_after (role.MetaColumns rows flags) = 5
+room_after role.PreparedFlags = 5
+room_after (role.PreparedColumns flags) = 5
+room_after (role.PreparedKeys flags columns) = 5
+room_after (role.PageRows flags columns) = 0
 
-abbrev pub behind_due : Expected → ℕ
-behind_due (due.Field w) = behind w.role
-behind_due due.Option = 0
+abbrev pub room_after_due : Expected → ℕ
+room_after_due (due.Field w) = room_after w.role
+room_after_due due.Option = 0
 
 -- the slots that a slot can come to take
 abbrev pub need : Slot → ℕ
-need (One w) = max 1 (behind_due w)
+need (One w) = max 1 (room_after_due w)
 need (Many g n) = opened g + 1
 
 -- the slots that these fields, the first of them on top, can come to take
 abbrev pub room_for : List Expected → ℕ
 room_for [] = 0
-room_for (w ∷ ws) = max (room_for ws) (length ws + max 1 (behind_due w))
+room_for (w ∷ ws) = max (room_for ws) (length ws + max 1 (room_after_due w))
 
 -- beside the other fields, what follows the first takes no more slots than these
 abbrev pub FirstFits : List Expected → (most : ℕ) → Type 0
-FirstFits ws most = (d : Expected) → (length ws - 1) + behind_due (slice_index_or ws 0 d) ≤ most
+FirstFits ws most = (d : Expected) → (length ws - 1) + room_after_due (slice_index_or ws 0 d) ≤ most
 
 -- no slot stands for nothing
 abbrev pub IsSlot : Slot → Type 0
@@ -117,4 +117,4 @@ PutsFollowing r number old new =
 -- the next field, and room for what follows it
 abbrev pub Pops : List Slot → Option Expected → List Slot → Type 0
 Pops old None new = (symbols_in old ≡ []) × (new ≡ [])
-Pops old (Some w) new = (symbols_in old ≡ wanted w ∷ symbols_in new) × (length new + behind_due w ≤ 16) × IsRead w
+Pops old (Some w) new = (symbols_in old ≡ wanted w ∷ symbols_in new) × (length new + room_after_due w ≤ 16) × IsRead w

@@ -95,7 +95,7 @@ pub enum Event<'a> {
         kind: Kind,
         items: u32,
     },
-    /// Such a value ends, after so many items; a map's are pairs. Its offset is where the value ends.
+    /// Such a value ends, after this many items; a map's are pairs. Its offset is where the value ends.
     Leave {
         level: u32,
         items: u32,
@@ -109,7 +109,7 @@ pub enum Event<'a> {
         bytes: &'a [u8],
         last: bool,
     },
-    /// The frame ends, with so many bytes behind its last field.
+    /// The frame ends, with this many bytes after its last field.
     End {
         extra: u32,
     },
@@ -118,9 +118,9 @@ pub enum Event<'a> {
 /// How a stream ends, if it ends after the bytes that were used.
 #[derive(Clone, Copy, Debug, PartialEq, Eq)]
 pub enum Finish {
-    /// At a frame's end, after so many bytes.
+    /// At a frame's end, after this many bytes.
     Whole { bytes: u64 },
-    /// Within the frame that begins at an offset, after so many bytes.
+    /// Within the frame that begins at an offset, after this many bytes.
     Cut { frame_at: u64, bytes: u64 },
     /// It was refused.
     Refused(Refusal),

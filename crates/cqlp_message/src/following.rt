@@ -15,7 +15,7 @@ use crate::upcoming::Upcoming;
 use cqlp_note::{Field, Header, Notation, Prim, Reason};
 
 impl Upcoming {
-    ghost use Rattle.cqlp_message.specs.Upcoming.{PutsFollowing, behind, symbols_in};
+    ghost use Rattle.cqlp_message.specs.Upcoming.{PutsFollowing, room_after, symbols_in};
 
     /// Begins a message: the parts that its header announces, and its fields.
     pub fn begin(&mut self, header: &Header)
@@ -39,7 +39,7 @@ impl Upcoming {
 
     /// Puts what follows a field of this role, that has this value, before all else, but for the cells of a page.
     pub fn follow(&mut self, role: Role, value: Prim<'_>)
-        requires { length self.old + behind role ≤ 16 }
+        requires { length self.old + room_after role ≤ 16 }
         ensures { symbols_in self.new ≡ following NoMore role (value_of value.entry) ++ symbols_in self.old }
     {
         let number = number(value);
@@ -77,7 +77,7 @@ impl Upcoming {
 
     /// A count that is an \[int\].
     fn push_count(&mut self, field: Field, role: Role)
-        requires { length self.old + 5 ≤ 16 × behind role ≤ 5 }
+        requires { length self.old + 5 ≤ 16 × room_after role ≤ 5 }
         ensures symbols { symbols_in self.new ≡ In field Notation.Count32 role ∷ symbols_in self.old }
     {
         let notation = Notation::Count32;
@@ -88,7 +88,7 @@ impl Upcoming {
         }));
     }
 
-    /// The rest of metadata behind the number of its columns, and the number of rows where they follow.
+    /// The rest of metadata after the number of its columns, and the number of rows where they follow.
     fn push_metadata(&mut self, rows: bool, flags: u32, columns: u32)
         requires { length self.old + 5 ≤ 16 }
         ensures { PutsFollowing (Role.MetaColumns rows flags) columns self.old self.new }

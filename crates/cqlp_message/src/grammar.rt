@@ -30,7 +30,7 @@ pub enum Group {
 pub enum Role {
     /// Nothing.
     Alone,
-    /// So many of these groups.
+    /// This many of these groups.
     Counts(Group),
     /// The parts of a query's parameters that these flags announce.
     QueryFlags,
@@ -54,8 +54,8 @@ pub enum Role {
     PreparedFlags,
     /// Its partition key.
     PreparedColumns { flags: u32 },
-    /// The rest of its metadata, of so many columns.
+    /// The rest of its metadata, of this many columns.
     PreparedKeys { flags: u32, columns: u32 },
-    /// The rows of a page of so many columns, whose metadata has these flags.
+    /// The rows of a page of this many columns, whose metadata has these flags.
     PageRows { flags: u32, columns: u32 },
 }

@@ -130,7 +130,7 @@ pub fn group_fields(group: Group) -> &'static [Expected]
     }
 }
 
-/// The fields behind an error's message.
+/// The fields after an error's message.
 pub fn error_fields(code: u32) -> &'static [Expected]
     ensures fields { wants result.now ≡ or_nothing (beside_number code errors) }
     ensures read { AreRead result.now }

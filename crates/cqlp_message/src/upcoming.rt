@@ -34,7 +34,7 @@ impl Model for Upcoming {
 }
 
 impl Upcoming {
-    ghost use Rattle.cqlp_message.specs.Upcoming.{Popped, Pops, IsSlot, IsRead, AreRead, need, opened, behind_due, room_for, symbols_in, wanted, wants};
+    ghost use Rattle.cqlp_message.specs.Upcoming.{Popped, Pops, IsSlot, IsRead, AreRead, need, opened, room_after_due, room_for, symbols_in, wanted, wants};
     ghost use Rattle.cqlp_message.specs.Productions.{copies, group as symbols_of_group};
 
     pub fn new() -> Self
@@ -82,7 +82,7 @@ impl Upcoming {
     #[tactic(auto, using(crate::proofs::Stack::symbols_pushed))]
     pub(crate) fn push(&mut self, due: Expected)
         requires read { IsRead due }
-        requires room { length self.old + max 1 (behind_due due) ≤ 16 }
+        requires room { length self.old + max 1 (room_after_due due) ≤ 16 }
         ensures symbols { symbols_in self.new ≡ wanted due ∷ symbols_in self.old }
         ensures height { length self.new ≡ length self.old + 1 }
     {
@@ -92,7 +92,7 @@ impl Upcoming {
     /// Puts a field before all else, where it stands.
     pub(crate) fn push_if(&mut self, stands: bool, due: Expected)
         requires read { IsRead due }
-        requires room { length self.old + max 1 (behind_due due) ≤ 16 }
+        requires room { length self.old + max 1 (room_after_due due) ≤ 16 }
         ensures symbols { symbols_in self.new ≡ (if stands then wanted due ∷ [] else []) ++ symbols_in self.old }
         ensures height { length self.new ≤ length self.old + 1 }
     {
@@ -120,7 +120,7 @@ impl Upcoming {
     fn open(&mut self, group: Group) -> Expected
         requires { length self.old + opened group ≤ 16 }
         ensures symbols { wanted result ∷ symbols_in self.new ≡ symbols_of_group group ++ symbols_in self.old }
-        ensures room { length self.new + behind_due result ≤ 16 }
+        ensures room { length self.new + room_after_due result ≤ 16 }
         ensures read { IsRead result }
     {
         let fields = group_fields(group);

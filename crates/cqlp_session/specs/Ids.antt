@@ -6,7 +6,7 @@ use Rattle.std.specs.Int.{bit_at}
 abbrev pub bit_under : List ℕ → ℕ → ℕ
 bit_under words place = bit_at (slice_index words (place / 64)) (place % 64)
 
--- words of ones, with a bit for each of so many ids
+-- words of ones, with a bit for each of this many ids
 abbrev pub all_ones : ℕ → List ℕ
 all_ones len = replicate ((len + 63) / 64) (2 ^ 64 - 1)
 

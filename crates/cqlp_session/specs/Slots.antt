@@ -33,7 +33,7 @@ pub record IsLeastFree {A : Type 0} (slots : List (Option A)) (id : ℤ) : Type 
   pub free : under slots id ≡ None
   pub least : (i : ℕ) → pos i <ℤ id → IsSome (under slots (pos i))
 
--- a core may have so many slots
+-- a core may have this many slots
 abbrev pub IsSlotCount : ℕ → Type 0
 IsSlotCount n = (1 ≤ n) × (n ≤ 32768)
 

@@ -45,7 +45,7 @@ pub(crate) fn put<T: Copy>(slots: &mut [Option<T>], id: i16, what: Option<T>)
     }
 }
 
-/// So many slots, all empty.
+/// This many slots, all empty.
 pub(crate) fn empty<T: Copy, A: Allocator>(
     alloc: A,
     len: usize,
