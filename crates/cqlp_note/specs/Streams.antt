@@ -1,5 +1,5 @@
 -- Readers and writers of bytes, and how often they failed.
-use Rattle.std.specs.Prelude.{ℕ, ◌+◌, ◌-◌, ◌^◌, Bool, true, ◌&&◌, ◌==◌, nat_lt, List, length, Option, Result, Ok, Err, min, if◌then◌else◌}
+use Rattle.std.specs.Prelude.{ℕ, ◌+◌, ◌-◌, ◌^◌, Bool, true, ◌&&◌, ◌==◌, nat_lt, List, length, Result, Ok, Err, min, if◌then◌else◌}
 
 -- how many calls failed, of which one more may be: the count stops at 2^64 - 1
 abbrev pub counted : (failed : Bool) → ℕ → ℕ
@@ -9,19 +9,3 @@ counted failed n = if failed then min (n + 1) (2 ^ 64 - 1) else n
 abbrev pub took_none : {E : Type 0} → Result ℕ E → List ℕ → Bool
 took_none (Ok n) bytes = (n == 0) && nat_lt 0 (length bytes)
 took_none (Err e) bytes = true
-
--- what is left of a source, where that is known, and how many of its calls failed
-pub record Input : Type 0 where
-  pub left : Option (List ℕ)
-  pub failures : ℕ
-
-abbrev pub input : Option (List ℕ) → ℕ → Input
-input left failures = record { left = left; failures = failures }
-
--- what a target was given, where that is known, and how many of its calls failed
-pub record Output : Type 0 where
-  pub given : Option (List ℕ)
-  pub failures : ℕ
-
-abbrev pub output : Option (List ℕ) → ℕ → Output
-output given failures = record { given = given; failures = failures }
