@@ -1,4 +1,5 @@
--- Where flags, codes and names agree with the parts that they announce (sections 2.2, 4 and 9 of native_protocol_v4.spec).
+-- Where flags, codes and names agree with the parts that they announce (sections 2.2, 4 and 9 of
+-- native_protocol_v4.spec).
 use Rattle.std.specs.Prelude.{◌≡◌, ℕ, ◌<◌, ℤ, pos, Bool, true, false, ◌&&◌, not, List, [], length, Option, Some, None, is_some, IfSome, All, codes, ◌⊎◌}
 use Rattle.std.specs.Int.{w32, cast_unsigned}
 use Rattle.cqlp_note.specs.declared.opcode.Opcode.{Opcode}
@@ -84,7 +85,8 @@ MessageAgrees (Query text q) = ParamsAgree q
 MessageAgrees (Execute id q) = ParamsAgree q
 MessageAgrees (Batch kind entries consistency flags serial timestamp) = BatchAgrees flags serial timestamp
 MessageAgrees (Error code message extra) = ExtraAgrees code extra
-MessageAgrees (Prepared id flags columns keys table specs result) = SpecsAgree (cast_unsigned w32 flags) columns table specs × MetadataAgrees result
+MessageAgrees (Prepared id flags columns keys table specs result) =
+    SpecsAgree (cast_unsigned w32 flags) columns table specs × MetadataAgrees result
 MessageAgrees (Change c) = ChangeAgrees c
 MessageAgrees (UnknownResult kind) = IsNoResult (cast_unsigned w32 kind)
 MessageAgrees (Event event told) = EventAgrees event told

@@ -97,16 +97,22 @@ entry_parts (Id id vs) = byte field.EntryKind 1 ∷ statement id ∷ counted fie
 -- Section 9: what stands after the message of an error.
 abbrev pub extra_parts : ErrorExtra → List Part
 extra_parts Plain = []
-extra_parts (Unavailable consistency required alive) = short field.Consistency consistency ∷ int field.Required required ∷ int field.Alive alive ∷ []
+extra_parts (Unavailable consistency required alive) =
+    short field.Consistency consistency ∷ int field.Required required ∷ int field.Alive alive ∷ []
 extra_parts (WriteTimeout consistency received block_for type) =
-    short field.Consistency consistency ∷ int field.Received received ∷ int field.BlockFor block_for ∷ text field.WriteType type ∷ []
+    short field.Consistency consistency ∷ int field.Received received ∷ int field.BlockFor block_for
+    ∷ text field.WriteType type ∷ []
 extra_parts (ReadTimeout consistency received block_for data_present) =
-    short field.Consistency consistency ∷ int field.Received received ∷ int field.BlockFor block_for ∷ byte field.DataPresent data_present ∷ []
+    short field.Consistency consistency ∷ int field.Received received ∷ int field.BlockFor block_for
+    ∷ byte field.DataPresent data_present ∷ []
 extra_parts (ReadFailure consistency received block_for failures data_present) =
-    short field.Consistency consistency ∷ int field.Received received ∷ int field.BlockFor block_for ∷ int field.Failures failures ∷ byte field.DataPresent data_present ∷ []
-extra_parts (FunctionFailure keyspace name arguments) = text field.Keyspace keyspace ∷ text field.Name name ∷ texts field.Arguments field.Argument arguments
+    short field.Consistency consistency ∷ int field.Received received ∷ int field.BlockFor block_for
+    ∷ int field.Failures failures ∷ byte field.DataPresent data_present ∷ []
+extra_parts (FunctionFailure keyspace name arguments) =
+    text field.Keyspace keyspace ∷ text field.Name name ∷ texts field.Arguments field.Argument arguments
 extra_parts (WriteFailure consistency received block_for failures type) =
-    short field.Consistency consistency ∷ int field.Received received ∷ int field.BlockFor block_for ∷ int field.Failures failures ∷ text field.WriteType type ∷ []
+    short field.Consistency consistency ∷ int field.Received received ∷ int field.BlockFor block_for
+    ∷ int field.Failures failures ∷ text field.WriteType type ∷ []
 extra_parts (AlreadyExists keyspace table) = text field.Keyspace keyspace ∷ text field.Table table ∷ []
 extra_parts (Unprepared id) = statement id ∷ []
 
@@ -133,7 +139,8 @@ metadata_parts m =
 abbrev pub options_parts : SchemaOptions → List Part
 options_parts (Keyspace keyspace) = text field.Keyspace keyspace ∷ []
 options_parts (Named keyspace name) = text field.Keyspace keyspace ∷ text field.Name name ∷ []
-options_parts (Callable keyspace name arguments) = text field.Keyspace keyspace ∷ text field.Name name ∷ texts field.Arguments field.Argument arguments
+options_parts (Callable keyspace name arguments) =
+    text field.Keyspace keyspace ∷ text field.Name name ∷ texts field.Arguments field.Argument arguments
 options_parts UnknownTarget = []
 
 abbrev pub change_parts : SchemaChange → List Part
@@ -141,7 +148,8 @@ change_parts c = text field.Change c.change ∷ text field.Target c.target ∷ o
 
 -- Section 4.2.6: what an event tells.
 abbrev pub event_parts : ServerEvent → List Part
-event_parts (Node change address port) = text field.Change change ∷ Field_is field.Address notation.Inet (note.Inet address port) ∷ []
+event_parts (Node change address port) =
+    text field.Change change ∷ Field_is field.Address notation.Inet (note.Inet address port) ∷ []
 event_parts (Schema c) = change_parts c
 event_parts UnknownEvent = []
 
@@ -165,11 +173,13 @@ message_parts (AuthResponse token) = bytes field.Token token ∷ []
 message_parts (Error code message extra) = int field.ErrorCode code ∷ text field.Message message ∷ extra_parts extra
 message_parts Ready = []
 message_parts (Authenticate class) = text field.Class class ∷ []
-message_parts (Supported os) = counted field.Options (λ o. text field.OptionKey o.0 ∷ texts field.OptionValues field.OptionValue o.1) os
+message_parts (Supported os) =
+    counted field.Options (λ o. text field.OptionKey o.0 ∷ texts field.OptionValues field.OptionValue o.1) os
 message_parts Void = int field.ResultKind (pos 1) ∷ []
 message_parts (SetKeyspace keyspace) = int field.ResultKind (pos 3) ∷ text field.Keyspace keyspace ∷ []
 message_parts (Prepared id flags columns keys table specs result) =
-    int field.ResultKind (pos 4) ∷ statement id ∷ int field.MetaFlags flags ∷ count field.Columns columns ∷ count field.Keys (length keys) ∷ []
+    int field.ResultKind (pos 4) ∷ statement id ∷ int field.MetaFlags flags ∷ count field.Columns columns
+    ∷ count field.Keys (length keys) ∷ []
     ++ flat_map (λ k. short field.KeyIndex k ∷ []) keys
     ++ specs_parts table specs
     ++ metadata_parts result

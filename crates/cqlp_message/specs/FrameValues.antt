@@ -83,7 +83,8 @@ pub data Message : Type 0 where
   Query : (text : Octets) → QueryParams → Message
   Prepare : (text : Octets) → Message
   Execute : (id : Octets) → QueryParams → Message
-  Batch : (kind : ℕ) → List BatchEntry → (consistency flags : ℕ) → (serial : Option ℕ) → (timestamp : Option ℤ) → Message
+  Batch : (kind : ℕ) → List BatchEntry → (consistency flags : ℕ) → (serial : Option ℕ) → (timestamp : Option ℤ)
+      → Message
   Register : List Octets → Message
   AuthResponse : (token : Option Octets) → Message
   Error : (code : ℤ) → (message : Octets) → ErrorExtra → Message
@@ -92,7 +93,8 @@ pub data Message : Type 0 where
   Supported : List (Octets × List Octets) → Message
   Void : Message
   SetKeyspace : (keyspace : Octets) → Message
-  Prepared : (id : Octets) → (flags : ℤ) → (columns : ℕ) → (keys : List ℕ) → (table : Option TableName) → List Spec → (result : Metadata) → Message
+  Prepared : (id : Octets) → (flags : ℤ) → (columns : ℕ) → (keys : List ℕ) → (table : Option TableName) → List Spec
+      → (result : Metadata) → Message
   Change : SchemaChange → Message
   UnknownResult : (kind : ℤ) → Message
   Event : (event : Octets) → ServerEvent → Message

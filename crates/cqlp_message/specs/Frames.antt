@@ -18,7 +18,8 @@ abbrev pub announced_parts : FrameValue → List Part
 announced_parts f =
     where_some (λ id. Field_is field.TraceId notation.Uuid (note.Uuid id) ∷ []) f.tracing
     ++ where_some (texts field.Warnings field.Warning) f.warnings
-    ++ where_some (counted field.PayloadItems (λ i. text field.PayloadKey i.0 ∷ bytes field.PayloadValue i.1 ∷ [])) f.payload
+    ++ where_some
+        (counted field.PayloadItems (λ i. text field.PayloadKey i.0 ∷ bytes field.PayloadValue i.1 ∷ [])) f.payload
 
 -- The parts of a frame after its header, in order.
 abbrev pub frame_parts : FrameValue → List Part
@@ -26,7 +27,14 @@ frame_parts f = announced_parts f ++ message_parts f.message
 
 -- the header of a frame whose body, with all that is announced, has this length
 abbrev pub header_of : FrameValue → (length : ℕ) → Header
-header_of f n = record { response = is_response f.message; flags = f.flags; stream = f.stream; opcode = opcode_of f.message; length = n }
+header_of f n =
+    record {
+      response = is_response f.message;
+      flags = f.flags;
+      stream = f.stream;
+      opcode = opcode_of f.message;
+      length = n;
+    }
 
 -- ---- spelling
 
@@ -79,7 +87,8 @@ options_told (Some specs) = options_among specs
 
 -- the type options of one metadata are no more than the caller's limit
 abbrev pub TypesWithin : Rules → Message → Type 0
-TypesWithin l (Prepared id flags columns keys table specs result) = (options_among specs ≤ l.entries) × (options_told result.specs ≤ l.entries)
+TypesWithin l (Prepared id flags columns keys table specs result) =
+    (options_among specs ≤ l.entries) × (options_told result.specs ≤ l.entries)
 TypesWithin l m = Unit {0}
 
 -- A frame is within the caller's limits.

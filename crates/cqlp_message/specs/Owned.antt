@@ -116,7 +116,8 @@ message_of (message.Authenticate c) = value.Authenticate (string_bytes c)
 message_of (message.Supported os) = value.Supported (map (λ o. (string_bytes o.0, texts_of o.1)) os.items)
 message_of message.Void = value.Void
 message_of (message.SetKeyspace k) = value.SetKeyspace (string_bytes k)
-message_of (message.Prepared i f c ks t cs r) = value.Prepared i.items f c ks.items (table_of t) (map spec_of cs.items) (metadata_of r)
+message_of (message.Prepared i f c ks t cs r) =
+    value.Prepared i.items f c ks.items (table_of t) (map spec_of cs.items) (metadata_of r)
 message_of (message.Change c) = value.Change (change_of c)
 message_of (message.UnknownResult k) = value.UnknownResult k
 message_of (message.Event e d) = value.Event (string_bytes e) (event_of d)

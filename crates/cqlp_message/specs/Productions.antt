@@ -89,7 +89,9 @@ body opcode.Prepare = plain field.Query Text32 ∷ []
 body opcode.Execute = plain field.StatementId Bytes16 ∷ parameters
 body opcode.Register = counted field.EventTypes group_of.EventTypes ∷ []
 body opcode.Event = In field.EventType Text16 role.EventType ∷ []
-body opcode.Batch = plain field.BatchType Byte ∷ counted field.Entries group_of.BatchEntries ∷ plain field.Consistency Short ∷ In field.BatchFlags Byte role.BatchFlags ∷ []
+body opcode.Batch =
+    plain field.BatchType Byte ∷ counted field.Entries group_of.BatchEntries ∷ plain field.Consistency Short
+    ∷ In field.BatchFlags Byte role.BatchFlags ∷ []
 body opcode.AuthChallenge = plain field.Token Bytes32 ∷ []
 body opcode.AuthResponse = plain field.Token Bytes32 ∷ []
 body opcode.AuthSuccess = plain field.Token Bytes32 ∷ []
@@ -100,7 +102,8 @@ payload = counted field.PayloadItems group_of.PayloadItems ∷ []
 -- the parts that a header's flags announce
 abbrev pub announced : Header → List Symbol
 announced h =
-    (if h.response then where_set h.flags 0x02 (plain field.TraceId Uuid ∷ []) ++ where_set h.flags 0x08 (counted field.Warnings group_of.Warnings ∷ []) else [])
+    (if h.response then where_set h.flags 0x02 (plain field.TraceId Uuid ∷ [])
+        ++ where_set h.flags 0x08 (counted field.Warnings group_of.Warnings ∷ []) else [])
     ++ where_set h.flags 0x04 payload
 
 -- what a frame with this header has after it
@@ -118,20 +121,28 @@ query_parts flags =
     ++ where_set flags 0x20 (plain field.Timestamp Long ∷ [])
 
 abbrev pub batch_parts : ℕ → List Symbol
-batch_parts flags = where_set flags 0x10 (plain field.SerialConsistency Short ∷ []) ++ where_set flags 0x20 (plain field.Timestamp Long ∷ [])
+batch_parts flags =
+    where_set flags 0x10 (plain field.SerialConsistency Short ∷ [])
+    ++ where_set flags 0x20 (plain field.Timestamp Long ∷ [])
 
 abbrev pub entry_parts : ℕ → List Symbol
-entry_parts kind = (if kind == 0 then plain field.Query Text32 ∷ [] else plain field.StatementId Bytes16 ∷ []) ++ counted field.Values group_of.BatchValues ∷ []
+entry_parts kind =
+    (if kind == 0 then plain field.Query Text32 ∷ [] else plain field.StatementId Bytes16 ∷ [])
+    ++ counted field.Values group_of.BatchValues ∷ []
 
 -- the fields after an error's message, by its code
 abbrev pub errors : List (ℕ × List Symbol)
 errors =
     (0x1000, plain field.Consistency Short ∷ plain field.Required Int ∷ plain field.Alive Int ∷ [])
-    ∷ (0x1100, plain field.Consistency Short ∷ plain field.Received Int ∷ plain field.BlockFor Int ∷ plain field.WriteType Text16 ∷ [])
-    ∷ (0x1200, plain field.Consistency Short ∷ plain field.Received Int ∷ plain field.BlockFor Int ∷ plain field.DataPresent Byte ∷ [])
-    ∷ (0x1300, plain field.Consistency Short ∷ plain field.Received Int ∷ plain field.BlockFor Int ∷ plain field.Failures Int ∷ plain field.DataPresent Byte ∷ [])
+    ∷ (0x1100, plain field.Consistency Short ∷ plain field.Received Int ∷ plain field.BlockFor Int
+        ∷ plain field.WriteType Text16 ∷ [])
+    ∷ (0x1200, plain field.Consistency Short ∷ plain field.Received Int ∷ plain field.BlockFor Int
+        ∷ plain field.DataPresent Byte ∷ [])
+    ∷ (0x1300, plain field.Consistency Short ∷ plain field.Received Int ∷ plain field.BlockFor Int
+        ∷ plain field.Failures Int ∷ plain field.DataPresent Byte ∷ [])
     ∷ (0x1400, plain field.Keyspace Text16 ∷ plain field.Name Text16 ∷ counted field.Arguments group_of.Arguments ∷ [])
-    ∷ (0x1500, plain field.Consistency Short ∷ plain field.Received Int ∷ plain field.BlockFor Int ∷ plain field.Failures Int ∷ plain field.WriteType Text16 ∷ [])
+    ∷ (0x1500, plain field.Consistency Short ∷ plain field.Received Int ∷ plain field.BlockFor Int
+        ∷ plain field.Failures Int ∷ plain field.WriteType Text16 ∷ [])
     ∷ (0x2400, table_name)
     ∷ (0x2500, plain field.StatementId Bytes16 ∷ [])
     ∷ []
@@ -156,8 +167,10 @@ targets =
     (codes "KEYSPACE", plain field.Keyspace Text16 ∷ [])
     ∷ (codes "TABLE", plain field.Keyspace Text16 ∷ plain field.Name Text16 ∷ [])
     ∷ (codes "TYPE", plain field.Keyspace Text16 ∷ plain field.Name Text16 ∷ [])
-    ∷ (codes "FUNCTION", plain field.Keyspace Text16 ∷ plain field.Name Text16 ∷ counted field.Arguments group_of.Arguments ∷ [])
-    ∷ (codes "AGGREGATE", plain field.Keyspace Text16 ∷ plain field.Name Text16 ∷ counted field.Arguments group_of.Arguments ∷ [])
+    ∷ (codes "FUNCTION", plain field.Keyspace Text16 ∷ plain field.Name Text16
+        ∷ counted field.Arguments group_of.Arguments ∷ [])
+    ∷ (codes "AGGREGATE", plain field.Keyspace Text16 ∷ plain field.Name Text16
+        ∷ counted field.Arguments group_of.Arguments ∷ [])
     ∷ []
 
 abbrev pub events : List (List ℕ × List Symbol)
@@ -217,7 +230,9 @@ following types (role.MetaColumns rows flags) v =
     ++ (if rows then In field.Rows Count32 (role.PageRows flags (number_in v)) ∷ [] else [])
 following types role.PreparedFlags v = In field.Columns Count32 (role.PreparedColumns (number_in v)) ∷ []
 following types (role.PreparedColumns flags) v = In field.Keys Count32 (role.PreparedKeys flags (number_in v)) ∷ []
-following types (role.PreparedKeys flags columns) v = copies (number_in v) (group group_of.KeyIndexes) ++ specs flags columns ++ In field.MetaFlags Int (role.MetaFlags false) ∷ []
+following types (role.PreparedKeys flags columns) v =
+    copies (number_in v) (group group_of.KeyIndexes) ++ specs flags columns
+    ++ In field.MetaFlags Int (role.MetaFlags false) ∷ []
 following types (role.PageRows flags columns) v = rows_from 0 types (number_in v)
 
 -- a kind or flags that no batch has

@@ -68,7 +68,8 @@ reply_to c s =
 -- the core once the request that is open under this id is answered
 abbrev pub closed : ClientCore → Signal → Option OpenRequest → ClientCore
 closed c s None = c
-closed c s (Some o) = record { phase = phase_answered c.phase o.kind s.opcode; begun = c.begun; slots = put c.slots s.stream None }
+closed c s (Some o) =
+    record { phase = phase_answered c.phase o.kind s.opcode; begun = c.begun; slots = put c.slots s.stream None }
 
 -- the core after this answer to `reply`
 abbrev pub replied : ClientCore → Signal → Result Reply Stray → ClientCore
@@ -95,5 +96,6 @@ marked o = record { number = o.number; kind = o.kind; cancelled = true }
 
 -- the core after this answer to `cancel`
 abbrev pub cancelled : ClientCore → Ticket → Bool → ClientCore
-cancelled c t true = record { phase = c.phase; begun = c.begun; slots = put c.slots t.id (option_map marked (under c.slots t.id)) }
+cancelled c t true =
+    record { phase = c.phase; begun = c.begun; slots = put c.slots t.id (option_map marked (under c.slots t.id)) }
 cancelled c t false = c

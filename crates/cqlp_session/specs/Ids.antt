@@ -29,4 +29,5 @@ pub record WithBit (old : List ℕ) (place bit : ℕ) (new : List ℕ) : Type 0 
 -- A bit is set for each id under which nothing stands, and for those past the last.
 pub record Marks {A : Type 0} (words : List ℕ) (slots : List (Option A)) : Type 0 where
   pub size : length words ≡ (length slots + 63) / 64
-  pub bits : (i : ℕ) → i < 64 * length words → bit_under words i ≡ (if is_none (slice_index_or slots i None) then 1 else 0)
+  pub bits : (i : ℕ) → i < 64 * length words
+      → bit_under words i ≡ (if is_none (slice_index_or slots i None) then 1 else 0)
