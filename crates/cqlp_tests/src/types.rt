@@ -5,8 +5,10 @@ ghost use Rattle.cqlp_type.specs.Standing.{IsShared};
 ghost use Rattle.cqlp_type.specs.Types.{IsPreorder};
 ghost use Rattle.cqlp_type.specs.Pushing.{ReadsInto};
 
+use cqlp_decode::{Decoder, run};
+use cqlp_fakes::{Pieces, Takes};
 use cqlp_note::{Limits, Partial};
-use cqlp_type::{TypePush, TypeReader, TypeTable};
+use cqlp_type::{Kind, TypePush, TypeReader, TypeTable};
 use std::alloc::Global;
 use std::test::Fail;
 
@@ -145,5 +147,33 @@ fn options_in_one_table(rt: HostRuntime) -> Result<(), Fail> {
         }
     }
     assert_eq!(rt; wrong.as_str(), "");
+    Ok(())
+}
+
+/// A page of no rows and two columns, a list of ints and a text.
+static PAGE: [u8; 41] =
+    *b"\x84\0\0\0\x08\0\0\0\x20\0\0\0\x02\0\0\0\x01\0\0\0\x02\0\0\0\0\0\x01c\0\x20\0\x09\0\x01d\0\x0d\0\0\0\0";
+
+#[test]
+fn a_decoder_shows_the_types_of_a_page(rt: HostRuntime) -> Result<(), Fail> {
+    let mut decoder = Decoder::new(rt.alloc(), LIMITS)?;
+    let mut reader = Pieces::new(&PAGE, [usize::MAX; 3]);
+    let _ = run(&mut decoder, &mut reader, &mut Takes::new(usize::MAX), 2);
+    let walked = walk(rt.alloc(), decoder.table())?;
+    let types = "3 of 8, 2, true, List 1 2 -> 1 root 0, Int 0 1 root 2, Varchar 0 1";
+    assert_eq!(rt; walked.as_str(), types);
+    Ok(())
+}
+
+#[test]
+fn a_kind_has_the_id_that_it_is_read_from(rt: HostRuntime) -> Result<(), Fail> {
+    let mut ids = String::new(rt.alloc());
+    for id in 0..64u16 {
+        if let Some(kind) = Kind::from_id(id) {
+            write!(ids, "{} ", kind.id())?;
+        }
+    }
+    let known = "0 1 2 3 4 5 6 7 8 9 11 12 13 14 15 16 17 18 19 20 32 33 34 48 49 ";
+    assert_eq!(rt; ids.as_str(), known);
     Ok(())
 }

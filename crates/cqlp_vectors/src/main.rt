@@ -46,6 +46,7 @@ fn execute(rt: &HostRuntime, line: &str) -> io::Result<()> {
     let whole = stream.whole(rt.alloc())?;
     print_said(rt, &whole)?;
     ways::in_pieces(rt, &stream, &whole)?;
+    ways::as_pages(rt, &stream)?;
     ways::fronts(rt, &stream, &whole)?;
     ways::after_read_faults(rt, &stream, &whole)?;
     ways::after_turns(rt, &stream, &whole)?;

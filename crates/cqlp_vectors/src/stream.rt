@@ -3,7 +3,7 @@
 use cqlp_decode::{Decoder, Outcome};
 use cqlp_fakes::Pieces;
 use cqlp_note::{Limits, OfStd, Source};
-use cqlp_tool::render_events;
+use cqlp_tool::{render_events, render_rows};
 use std::alloc::Global;
 use std::io;
 
@@ -59,6 +59,17 @@ impl<'a> Stream<'a> {
         let mut decoder = self.decoder(alloc)?;
         let text = OfStd::new(Vec::new(alloc));
         let (outcome, text) = render_events(&mut decoder, reader, text, u64::MAX);
+        Ok(Said {
+            lines: text.into_inner(),
+            outcome,
+        })
+    }
+
+    /// The text of its pages, where it is read in pieces of these sizes.
+    pub fn pages(&self, alloc: Global, sizes: [usize; 3]) -> io::Result<Said> {
+        let mut decoder = self.decoder(alloc)?;
+        let text = OfStd::new(Vec::new(alloc));
+        let (outcome, text) = render_rows(&mut decoder, &mut self.pieces(sizes), text, u64::MAX);
         Ok(Said {
             lines: text.into_inner(),
             outcome,

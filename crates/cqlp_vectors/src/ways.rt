@@ -37,6 +37,15 @@ fn in_these_pieces(
     Ok(())
 }
 
+/// The text of its pages, byte by byte.
+pub fn as_pages(rt: &HostRuntime, stream: &Stream<'_>) -> io::Result<()> {
+    let whole = stream.pages(rt.alloc(), [usize::MAX; 3])?;
+    if !stream.pages(rt.alloc(), [1; 3])?.is(&whole) {
+        println!(rt; "its pages differ byte by byte")?;
+    }
+    Ok(())
+}
+
 /// Each front: one that is refused says all that the stream does; any other says a front of its lines, and is whole at
 /// the end of a frame, and cut elsewhere.
 pub fn fronts(rt: &HostRuntime, stream: &Stream<'_>, whole: &Said) -> io::Result<()> {
