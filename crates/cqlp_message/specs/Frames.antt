@@ -19,7 +19,7 @@ announced_parts f =
     where_some (λ id. Field_is field.TraceId notation.Uuid (note.Uuid id) ∷ []) f.tracing
     ++ where_some (texts field.Warnings field.Warning) f.warnings
     ++ where_some
-        (counted field.PayloadItems (λ i. text field.PayloadKey i.0 ∷ bytes field.PayloadValue i.1 ∷ [])) f.payload
+    (counted field.PayloadItems (λ i. text field.PayloadKey i.0 ∷ bytes field.PayloadValue i.1 ∷ [])) f.payload
 
 -- The parts of a frame after its header, in order.
 abbrev pub frame_parts : FrameValue → List Part

@@ -103,7 +103,7 @@ payload = counted field.PayloadItems group_of.PayloadItems ∷ []
 abbrev pub announced : Header → List Symbol
 announced h =
     (if h.response then where_set h.flags 0x02 (plain field.TraceId Uuid ∷ [])
-        ++ where_set h.flags 0x08 (counted field.Warnings group_of.Warnings ∷ []) else [])
+    ++ where_set h.flags 0x08 (counted field.Warnings group_of.Warnings ∷ []) else [])
     ++ where_set h.flags 0x04 payload
 
 -- what a frame with this header has after it
@@ -134,15 +134,27 @@ entry_parts kind =
 abbrev pub errors : List (ℕ × List Symbol)
 errors =
     (0x1000, plain field.Consistency Short ∷ plain field.Required Int ∷ plain field.Alive Int ∷ [])
-    ∷ (0x1100, plain field.Consistency Short ∷ plain field.Received Int ∷ plain field.BlockFor Int
-        ∷ plain field.WriteType Text16 ∷ [])
-    ∷ (0x1200, plain field.Consistency Short ∷ plain field.Received Int ∷ plain field.BlockFor Int
-        ∷ plain field.DataPresent Byte ∷ [])
-    ∷ (0x1300, plain field.Consistency Short ∷ plain field.Received Int ∷ plain field.BlockFor Int
-        ∷ plain field.Failures Int ∷ plain field.DataPresent Byte ∷ [])
+    ∷ (
+      0x1100,
+      plain field.Consistency Short ∷ plain field.Received Int ∷ plain field.BlockFor Int
+          ∷ plain field.WriteType Text16 ∷ [],
+    )
+    ∷ (
+      0x1200,
+      plain field.Consistency Short ∷ plain field.Received Int ∷ plain field.BlockFor Int
+          ∷ plain field.DataPresent Byte ∷ [],
+    )
+    ∷ (
+      0x1300,
+      plain field.Consistency Short ∷ plain field.Received Int ∷ plain field.BlockFor Int
+          ∷ plain field.Failures Int ∷ plain field.DataPresent Byte ∷ [],
+    )
     ∷ (0x1400, plain field.Keyspace Text16 ∷ plain field.Name Text16 ∷ counted field.Arguments group_of.Arguments ∷ [])
-    ∷ (0x1500, plain field.Consistency Short ∷ plain field.Received Int ∷ plain field.BlockFor Int
-        ∷ plain field.Failures Int ∷ plain field.WriteType Text16 ∷ [])
+    ∷ (
+      0x1500,
+      plain field.Consistency Short ∷ plain field.Received Int ∷ plain field.BlockFor Int
+          ∷ plain field.Failures Int ∷ plain field.WriteType Text16 ∷ [],
+    )
     ∷ (0x2400, table_name)
     ∷ (0x2500, plain field.StatementId Bytes16 ∷ [])
     ∷ []
@@ -167,10 +179,16 @@ targets =
     (codes "KEYSPACE", plain field.Keyspace Text16 ∷ [])
     ∷ (codes "TABLE", plain field.Keyspace Text16 ∷ plain field.Name Text16 ∷ [])
     ∷ (codes "TYPE", plain field.Keyspace Text16 ∷ plain field.Name Text16 ∷ [])
-    ∷ (codes "FUNCTION", plain field.Keyspace Text16 ∷ plain field.Name Text16
-        ∷ counted field.Arguments group_of.Arguments ∷ [])
-    ∷ (codes "AGGREGATE", plain field.Keyspace Text16 ∷ plain field.Name Text16
-        ∷ counted field.Arguments group_of.Arguments ∷ [])
+    ∷ (
+      codes "FUNCTION",
+      plain field.Keyspace Text16 ∷ plain field.Name Text16
+          ∷ counted field.Arguments group_of.Arguments ∷ [],
+    )
+    ∷ (
+      codes "AGGREGATE",
+      plain field.Keyspace Text16 ∷ plain field.Name Text16
+          ∷ counted field.Arguments group_of.Arguments ∷ [],
+    )
     ∷ []
 
 abbrev pub events : List (List ℕ × List Symbol)
