@@ -10,37 +10,37 @@ use std::fmt::Write;
 
 /// A word after the program's name.
 #[derive(Drop)]
-pub(crate) struct Word {
+pub(crate) struct Argument {
     /// The word, where each byte that is no text is written as its two hexadecimal digits.
     pub(crate) text: String,
     /// Its own bytes, where they are no text.
     pub(crate) raw: Option<Vec<u8>>,
 }
 
-impl Word {
-    fn new(alloc: Global, bytes: Vec<u8>) -> Result<Word, AllocError>
+impl Argument {
+    fn new(alloc: Global, bytes: Vec<u8>) -> Result<Argument, AllocError>
         ensures { IfOk result (λ word. IsUtf8 bytes.items → (string_bytes word.text ≡ bytes.items) × (word.raw ≡ None)) }
     {
         match String::from_utf8(bytes) {
-            Ok(text) => Ok(Word { text, raw: None }),
+            Ok(text) => Ok(Argument { text, raw: None }),
             Err(error) => {
                 let raw = error.into_bytes();
                 let text = escaped(alloc, &raw)?;
                 let raw = Some(raw);
-                Ok(Word { text, raw })
+                Ok(Argument { text, raw })
             }
         }
     }
 }
 
 /// All words after the program's name.
-pub(crate) fn read_words<R: Env + AllocGlobal>(rt: &R) -> Result<Vec<Word>, AllocError> {
+pub(crate) fn read_words<R: Env + AllocGlobal>(rt: &R) -> Result<Vec<Argument>, AllocError> {
     let mut words = Vec::new(rt.alloc());
     for place in 1..usize::MAX {
         let Some(bytes) = read_word(rt, place)? else {
             break;
         };
-        words.push(Word::new(rt.alloc(), bytes)?)?;
+        words.push(Argument::new(rt.alloc(), bytes)?)?;
     }
     Ok(words)
 }
@@ -75,7 +75,7 @@ fn escaped(alloc: Global, bytes: &[u8]) -> Result<String, AllocError> {
 }
 
 /// The texts of the words.
-pub(crate) fn texts(alloc: Global, words: &[Word]) -> Result<Vec<&str>, AllocError> {
+pub(crate) fn texts(alloc: Global, words: &[Argument]) -> Result<Vec<&str>, AllocError> {
     let mut texts = Vec::new(alloc);
     for word in words {
         texts.push(word.text.as_str())?;
@@ -87,7 +87,7 @@ pub(crate) fn texts(alloc: Global, words: &[Word]) -> Result<Vec<&str>, AllocErr
 /// texts. An error is the text of a name that cannot be opened.
 pub(crate) fn redirect<'a>(
     alloc: Global,
-    words: &'a [Word],
+    words: &'a [Argument],
     texts: &mut [&'a str],
 ) -> Result<(), &'a str> {
     let Some((place, name)) = raw_file(alloc, words, texts) else {
@@ -104,7 +104,7 @@ pub(crate) fn redirect<'a>(
 }
 
 /// The place and the bytes of the word that names the stream's file, if they are no text.
-fn raw_file<'a>(alloc: Global, words: &'a [Word], texts: &[&str]) -> Option<(usize, &'a [u8])> {
+fn raw_file<'a>(alloc: Global, words: &'a [Argument], texts: &[&str]) -> Option<(usize, &'a [u8])> {
     for (place, word) in words.iter().enumerate() {
         match &word.raw {
             Some(raw) if is_file(alloc, texts, word.text.as_str()) => return Some((place, raw)),

@@ -7,7 +7,7 @@ use std::io;
 
 /// A command line, and the bytes of its standard input.
 #[derive(Clone, Copy)]
-pub struct Call<'a> {
+pub struct Invocation<'a> {
     pub words: &'a [&'a str],
     pub bytes: &'a [u8],
 }
@@ -20,7 +20,7 @@ pub struct Done {
     pub err: Narrow,
 }
 
-impl Call<'_> {
+impl Invocation<'_> {
     /// With standard input in one piece, and room for all that is written.
     pub fn whole(&self, rt: &HostRuntime) -> Done {
         self.done(rt, &mut self.pieces(usize::MAX), usize::MAX, usize::MAX)

@@ -9,7 +9,7 @@ mod memory;
 mod ways;
 
 use cqlp_fakes::bytes_of;
-use done::{Call, Done};
+use done::{Invocation, Done};
 use std::alloc::Global;
 use std::io;
 
@@ -48,7 +48,7 @@ fn words_of<'a>(alloc: Global, line: &'a str) -> io::Result<Vec<&'a str>> {
 /// Prints what a command line writes, and between the two outputs its status.
 fn print_done(rt: &HostRuntime, line: &str, bytes: &[u8]) -> io::Result<()> {
     let words = words_of(rt.alloc(), line)?;
-    let call = Call {
+    let call = Invocation {
         words: &words,
         bytes,
     };
@@ -60,7 +60,7 @@ fn print_done(rt: &HostRuntime, line: &str, bytes: &[u8]) -> io::Result<()> {
 /// Prints whether a command line writes to one output alone, a text with this start, and its status.
 fn print_start(rt: &HostRuntime, line: &str, start: &str) -> io::Result<()> {
     let words = words_of(rt.alloc(), line)?;
-    let call = Call {
+    let call = Invocation {
         words: &words,
         bytes: &[],
     };

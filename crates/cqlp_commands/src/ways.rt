@@ -1,6 +1,6 @@
 //! Standard input and outputs of other kinds. Each prints where something else is written than is to be.
 
-use crate::done::{Call, Done};
+use crate::done::{Invocation, Done};
 use cqlp_fakes::FailsOnce;
 use std::io;
 
@@ -13,7 +13,7 @@ const PIECE: usize = 4;
 /// For how many parts of a long text there is room in turn; of a short text for each number of its bytes.
 const SHARES: usize = 64;
 
-pub fn all(rt: &HostRuntime, call: &Call<'_>, whole: &Done) -> io::Result<()> {
+pub fn all(rt: &HostRuntime, call: &Invocation<'_>, whole: &Done) -> io::Result<()> {
     in_bytes(rt, call, whole)?;
     after_read_faults(rt, call, whole)?;
     with_room_for_output(rt, call, whole)?;
@@ -21,7 +21,7 @@ pub fn all(rt: &HostRuntime, call: &Call<'_>, whole: &Done) -> io::Result<()> {
 }
 
 /// Byte by byte.
-fn in_bytes(rt: &HostRuntime, call: &Call<'_>, whole: &Done) -> io::Result<()> {
+fn in_bytes(rt: &HostRuntime, call: &Invocation<'_>, whole: &Done) -> io::Result<()> {
     let done = call.done(rt, &mut call.pieces(1), usize::MAX, usize::MAX);
     if !done.is_like(whole) {
         println!(rt; "differs byte by byte")?;
@@ -30,7 +30,7 @@ fn in_bytes(rt: &HostRuntime, call: &Call<'_>, whole: &Done) -> io::Result<()> {
 }
 
 /// With a read that fails after each number of others: a front of the output, and the fault.
-fn after_read_faults(rt: &HostRuntime, call: &Call<'_>, whole: &Done) -> io::Result<()> {
+fn after_read_faults(rt: &HostRuntime, call: &Invocation<'_>, whole: &Done) -> io::Result<()> {
     for before in 0..=call.bytes.len().div_ceil(PIECE) {
         if !is_read_fault(rt, call, whole, before) {
             println!(rt; "differs with a read that fails after {before}")?;
@@ -39,7 +39,7 @@ fn after_read_faults(rt: &HostRuntime, call: &Call<'_>, whole: &Done) -> io::Res
     Ok(())
 }
 
-fn is_read_fault(rt: &HostRuntime, call: &Call<'_>, whole: &Done, before: usize) -> bool {
+fn is_read_fault(rt: &HostRuntime, call: &Invocation<'_>, whole: &Done, before: usize) -> bool {
     let mut input = FailsOnce::new(call.pieces(PIECE), before);
     let done = call.done(rt, &mut input, usize::MAX, usize::MAX);
     if !input.has_failed() {
@@ -50,7 +50,7 @@ fn is_read_fault(rt: &HostRuntime, call: &Call<'_>, whole: &Done, before: usize)
 }
 
 /// With room for a part of standard output: that much of the text, and the fault.
-fn with_room_for_output(rt: &HostRuntime, call: &Call<'_>, whole: &Done) -> io::Result<()> {
+fn with_room_for_output(rt: &HostRuntime, call: &Invocation<'_>, whole: &Done) -> io::Result<()> {
     let len = whole.out.text().len();
     for share in 0..SHARES.min(len) {
         let room = room_of(share, len);
@@ -69,7 +69,7 @@ fn room_of(share: usize, len: usize) -> usize {
 }
 
 /// With room for a part of standard error: that much of the text.
-fn with_room_for_error(rt: &HostRuntime, call: &Call<'_>, whole: &Done) -> io::Result<()> {
+fn with_room_for_error(rt: &HostRuntime, call: &Invocation<'_>, whole: &Done) -> io::Result<()> {
     let len = whole.err.text().len();
     for share in 0..SHARES.min(len) {
         let room = room_of(share, len);

@@ -12,7 +12,7 @@ mod ways;
 use cqlp_decode::Decoder;
 use cqlp_fakes::bytes_of;
 use linked_list_allocator::LocalHeap;
-use reading::{Said, take};
+use reading::{Report, take};
 use script::{Script, Shows};
 use std::io;
 
@@ -41,7 +41,7 @@ fn execute(rt: &HostRuntime, line: &str) -> io::Result<()> {
 fn print_pieces(rt: &HostRuntime, script: &Script, pieces: &str) -> io::Result<()> {
     let heap = LocalHeap::new(rt.alloc(), script.room)?;
     let mut decoder = reading::decoder(&heap, script.limits)?;
-    let mut said = Said::new(rt.alloc(), script.shows);
+    let mut said = Report::new(rt.alloc(), script.shows);
     for piece in pieces.split('|') {
         let bytes = bytes_of(rt.alloc(), piece)?;
         take(&mut decoder, &bytes, &mut said)?;
@@ -54,7 +54,7 @@ fn print_pieces(rt: &HostRuntime, script: &Script, pieces: &str) -> io::Result<(
 }
 
 /// Prints what a decoder has said since the last time, and then how the stream ends here.
-fn print_said(rt: &HostRuntime, said: &mut Said, decoder: &Decoder<&LocalHeap>) -> io::Result<()> {
+fn print_said(rt: &HostRuntime, said: &mut Report, decoder: &Decoder<&LocalHeap>) -> io::Result<()> {
     print!(rt; "{}", said.lines)?;
     said.lines.clear();
     match said.shows {

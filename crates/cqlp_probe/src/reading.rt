@@ -9,16 +9,16 @@ use std::io;
 
 /// What a decoder has said: a line for each event, with the offsets where it begins and where the bytes used end.
 #[derive(Drop)]
-pub struct Said {
+pub struct Report {
     pub lines: String,
     pub events: u64,
     pub shows: Shows,
     bytes: u64,
 }
 
-impl Said {
-    pub fn new(alloc: Global, shows: Shows) -> Said {
-        Said {
+impl Report {
+    pub fn new(alloc: Global, shows: Shows) -> Report {
+        Report {
             lines: String::new(alloc),
             events: 0,
             shows,
@@ -26,7 +26,7 @@ impl Said {
         }
     }
 
-    pub fn is(&self, other: &Said) -> bool {
+    pub fn is(&self, other: &Report) -> bool {
         self.events == other.events
             && self.bytes == other.bytes
             && self.lines.as_str() == other.lines.as_str()
@@ -66,7 +66,7 @@ pub fn decoder(heap: &LocalHeap, limits: Limits) -> io::Result<Decoder<&LocalHea
 }
 
 /// Writes down what a decoder says of one more piece; whether it goes on.
-pub fn take(decoder: &mut Decoder<&LocalHeap>, piece: &[u8], said: &mut Said) -> io::Result<bool> {
+pub fn take(decoder: &mut Decoder<&LocalHeap>, piece: &[u8], said: &mut Report) -> io::Result<bool> {
     let mut rest = piece;
     for _ in 0..1_000_000u32 {
         match decoder.next(rest) {
@@ -95,10 +95,10 @@ pub fn said_in_pieces(
     stream: &[u8],
     first: usize,
     other: usize,
-) -> io::Result<Said> {
+) -> io::Result<Report> {
     let heap = LocalHeap::new(alloc, script.room)?;
     let mut decoder = decoder(&heap, script.limits)?;
-    let mut said = Said::new(alloc, script.shows);
+    let mut said = Report::new(alloc, script.shows);
     let mut rest = stream;
     let mut size = first;
     for _ in 0..=stream.len() {

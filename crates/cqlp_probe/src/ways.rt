@@ -1,6 +1,6 @@
 //! Streams in pieces. Prints where they say something else than in one.
 
-use crate::reading::{Said, said_in_pieces};
+use crate::reading::{Report, said_in_pieces};
 use crate::script::{Script, Shows};
 use std::io;
 
@@ -24,7 +24,7 @@ fn in_these_pieces(
     rt: &HostRuntime,
     script: &Script,
     stream: &[u8],
-    whole: &Said,
+    whole: &Report,
     sizes: (usize, usize),
 ) -> io::Result<()> {
     let said = said_in_pieces(rt.alloc(), script, stream, sizes.0, sizes.1)?;

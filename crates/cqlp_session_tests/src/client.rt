@@ -7,7 +7,7 @@ use std::test::Fail;
 
 /// A call of a client with one slot.
 #[derive(Clone, Copy)]
-enum Call {
+enum ClientCall {
     Begin(RequestKind),
     /// Of the request with this number.
     Cancel(u64),
@@ -18,67 +18,67 @@ enum Call {
 }
 
 /// From OPTIONS to a QUERY: calls, what each answers, and the phase then.
-static SESSION: [(Call, &str); 17] = [
+static SESSION: [(ClientCall, &str); 17] = [
     (
-        Call::Begin(RequestKind::Options),
+        ClientCall::Begin(RequestKind::Options),
         "Ok(Ticket { id: 0, number: 1 }) Fresh",
     ),
-    (Call::Cancel(1), "true Fresh"),
-    (Call::Cancel(1), "false Fresh"),
-    (Call::Begin(RequestKind::Query), "Err(Phase(Fresh)) Fresh"),
-    (Call::Begin(RequestKind::Options), "Err(Full) Fresh"),
+    (ClientCall::Cancel(1), "true Fresh"),
+    (ClientCall::Cancel(1), "false Fresh"),
+    (ClientCall::Begin(RequestKind::Query), "Err(Phase(Fresh)) Fresh"),
+    (ClientCall::Begin(RequestKind::Options), "Err(Full) Fresh"),
     (
-        Call::Reply(0, Opcode::Supported),
+        ClientCall::Reply(0, Opcode::Supported),
         "Ok(Dropped { ticket: Ticket { id: 0, number: 1 } }) Fresh",
     ),
     (
-        Call::Begin(RequestKind::Options),
+        ClientCall::Begin(RequestKind::Options),
         "Ok(Ticket { id: 0, number: 2 }) Fresh",
     ),
-    (Call::Reply(0, Opcode::Ready), "Err(WrongOpcode) Fresh"),
-    (Call::Reply(1, Opcode::Supported), "Err(NoSuchStream) Fresh"),
+    (ClientCall::Reply(0, Opcode::Ready), "Err(WrongOpcode) Fresh"),
+    (ClientCall::Reply(1, Opcode::Supported), "Err(NoSuchStream) Fresh"),
     (
-        Call::Reply(0, Opcode::Supported),
+        ClientCall::Reply(0, Opcode::Supported),
         "Ok(Answer { ticket: Ticket { id: 0, number: 2 }, kind: Options }) Fresh",
     ),
     (
-        Call::Begin(RequestKind::Startup),
+        ClientCall::Begin(RequestKind::Startup),
         "Ok(Ticket { id: 0, number: 3 }) Opening",
     ),
-    (Call::Cancel(3), "false Opening"),
+    (ClientCall::Cancel(3), "false Opening"),
     (
-        Call::Begin(RequestKind::Query),
+        ClientCall::Begin(RequestKind::Query),
         "Err(Phase(Opening)) Opening",
     ),
     (
-        Call::Reply(0, Opcode::Authenticate),
+        ClientCall::Reply(0, Opcode::Authenticate),
         "Ok(Answer { ticket: Ticket { id: 0, number: 3 }, kind: Startup }) Challenged",
     ),
     (
-        Call::Begin(RequestKind::AuthResponse),
+        ClientCall::Begin(RequestKind::AuthResponse),
         "Ok(Ticket { id: 0, number: 4 }) Opening",
     ),
     (
-        Call::Reply(0, Opcode::AuthSuccess),
+        ClientCall::Reply(0, Opcode::AuthSuccess),
         "Ok(Answer { ticket: Ticket { id: 0, number: 4 }, kind: AuthResponse }) Ready",
     ),
     (
-        Call::Begin(RequestKind::Query),
+        ClientCall::Begin(RequestKind::Query),
         "Ok(Ticket { id: 0, number: 5 }) Ready",
     ),
 ];
 
 /// Responses that answer no request.
-static STRAYS: [(Call, &str); 6] = [
-    (Call::Reply(-1, Opcode::Event), "Ok(ServerEvent) Fresh"),
-    (Call::Reply(0, Opcode::Event), "Err(NoSuchStream) Fresh"),
-    (Call::Reply(-1, Opcode::Error), "Err(NoSuchStream) Fresh"),
-    (Call::Request(Opcode::Options), "Err(NotResponse) Fresh"),
+static STRAYS: [(ClientCall, &str); 6] = [
+    (ClientCall::Reply(-1, Opcode::Event), "Ok(ServerEvent) Fresh"),
+    (ClientCall::Reply(0, Opcode::Event), "Err(NoSuchStream) Fresh"),
+    (ClientCall::Reply(-1, Opcode::Error), "Err(NoSuchStream) Fresh"),
+    (ClientCall::Request(Opcode::Options), "Err(NotResponse) Fresh"),
     (
-        Call::Begin(RequestKind::Options),
+        ClientCall::Begin(RequestKind::Options),
         "Ok(Ticket { id: 0, number: 1 }) Fresh",
     ),
-    (Call::Reply(0, Opcode::Event), "Err(WrongOpcode) Fresh"),
+    (ClientCall::Reply(0, Opcode::Event), "Err(WrongOpcode) Fresh"),
 ];
 
 fn header(response: bool, stream: i16, opcode: Opcode) -> Header {
@@ -92,21 +92,21 @@ fn header(response: bool, stream: i16, opcode: Opcode) -> Header {
 }
 
 /// What a call answers.
-fn answer(alloc: Global, client: &mut Client, call: Call) -> Result<String, Fail> {
+fn answer(alloc: Global, client: &mut Client, call: ClientCall) -> Result<String, Fail> {
     Ok(match call {
-        Call::Begin(kind) => format!(in alloc; "{:?}", client.begin(kind))?,
-        Call::Cancel(number) => format!(in alloc; "{:?}", client.cancel(Ticket { id: 0, number }))?,
-        Call::Reply(stream, opcode) => {
+        ClientCall::Begin(kind) => format!(in alloc; "{:?}", client.begin(kind))?,
+        ClientCall::Cancel(number) => format!(in alloc; "{:?}", client.cancel(Ticket { id: 0, number }))?,
+        ClientCall::Reply(stream, opcode) => {
             format!(in alloc; "{:?}", client.reply(&header(true, stream, opcode)))?
         }
-        Call::Request(opcode) => {
+        ClientCall::Request(opcode) => {
             format!(in alloc; "{:?}", client.reply(&header(false, 0, opcode)))?
         }
     })
 }
 
 /// What the calls of a session answer otherwise than is expected.
-fn wrong_in(alloc: Global, session: &[(Call, &str)]) -> Result<String, Fail> {
+fn wrong_in(alloc: Global, session: &[(ClientCall, &str)]) -> Result<String, Fail> {
     let mut client = Client::new(alloc, 1)?;
     let mut wrong = String::new(alloc);
     for (call, expected) in session {

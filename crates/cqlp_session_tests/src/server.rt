@@ -7,20 +7,20 @@ use std::test::Fail;
 
 /// A call of a server, for a stream id.
 #[derive(Clone, Copy)]
-enum Call {
+enum ServerCall {
     Accept(i16, Opcode),
     Answer(i16, Opcode),
 }
 
 /// Calls of a server with two slots, and what each answers.
-static SESSION: [(Call, &str); 7] = [
-    (Call::Accept(0, Opcode::Query), "Err(Phase(Fresh))"),
-    (Call::Accept(2, Opcode::Options), "Err(BadId)"),
-    (Call::Accept(0, Opcode::Options), "Ok(Options)"),
-    (Call::Accept(0, Opcode::Options), "Err(IdTaken)"),
-    (Call::Answer(0, Opcode::Ready), "Err(WrongOpcode)"),
-    (Call::Answer(1, Opcode::Supported), "Err(NotTaken)"),
-    (Call::Answer(0, Opcode::Supported), "Ok(Options)"),
+static SESSION: [(ServerCall, &str); 7] = [
+    (ServerCall::Accept(0, Opcode::Query), "Err(Phase(Fresh))"),
+    (ServerCall::Accept(2, Opcode::Options), "Err(BadId)"),
+    (ServerCall::Accept(0, Opcode::Options), "Ok(Options)"),
+    (ServerCall::Accept(0, Opcode::Options), "Err(IdTaken)"),
+    (ServerCall::Answer(0, Opcode::Ready), "Err(WrongOpcode)"),
+    (ServerCall::Answer(1, Opcode::Supported), "Err(NotTaken)"),
+    (ServerCall::Answer(0, Opcode::Supported), "Ok(Options)"),
 ];
 
 fn request(stream: i16, opcode: Opcode) -> Header {
@@ -34,12 +34,12 @@ fn request(stream: i16, opcode: Opcode) -> Header {
 }
 
 /// What a call answers.
-fn answer(alloc: Global, server: &mut Server, call: Call) -> Result<String, Fail> {
+fn answer(alloc: Global, server: &mut Server, call: ServerCall) -> Result<String, Fail> {
     Ok(match call {
-        Call::Accept(id, opcode) => {
+        ServerCall::Accept(id, opcode) => {
             format!(in alloc; "{:?}", server.accept(&request(id, opcode)))?
         }
-        Call::Answer(id, opcode) => format!(in alloc; "{:?}", server.answer(id, opcode))?,
+        ServerCall::Answer(id, opcode) => format!(in alloc; "{:?}", server.answer(id, opcode))?,
     })
 }
 

@@ -10,7 +10,7 @@ use std::test::Fail;
 
 /// What a reader or a writer makes of one call.
 #[derive(Clone, Copy)]
-enum Outcome {
+enum Scripted {
     /// At most this many bytes.
     Bytes(usize),
     /// An error.
@@ -20,7 +20,7 @@ enum Outcome {
 /// Gives each of its calls one outcome, counts them, and keeps the length of the last one's buffer.
 #[derive(Drop)]
 struct Recorder {
-    outcome: Outcome,
+    outcome: Scripted,
     calls: u32,
     asked: usize,
 }
@@ -32,8 +32,8 @@ impl Recorder {
         self.calls = self.calls.saturating_add(1);
         self.asked = len;
         match self.outcome {
-            Outcome::Bytes(most) => Ok(most.min(len)),
-            Outcome::Fault(kind) => Err(io::Error::from(kind)),
+            Scripted::Bytes(most) => Ok(most.min(len)),
+            Scripted::Fault(kind) => Err(io::Error::from(kind)),
         }
     }
 }
@@ -55,7 +55,7 @@ impl Write for Recorder {
     }
 }
 
-fn recording(outcome: Outcome) -> OfStd<Recorder> {
+fn recording(outcome: Scripted) -> OfStd<Recorder> {
     OfStd::new(Recorder {
         outcome,
         calls: 0,
@@ -65,33 +65,33 @@ fn recording(outcome: Outcome) -> OfStd<Recorder> {
 
 /// A length of up to eight bytes, an outcome, and what a read and a write answer, with the failures counted, the calls and
 /// the bytes asked for.
-static ROWS: [(usize, Outcome, &str, &str); 8] = [
-    (8, Outcome::Bytes(8), "Ok(8) 0 1 8", "Ok(8) 0 1 8"),
-    (8, Outcome::Bytes(3), "Ok(3) 0 1 8", "Ok(3) 0 1 8"),
-    (0, Outcome::Bytes(8), "Ok(0) 0 1 0", "Ok(0) 0 1 0"),
+static ROWS: [(usize, Scripted, &str, &str); 8] = [
+    (8, Scripted::Bytes(8), "Ok(8) 0 1 8", "Ok(8) 0 1 8"),
+    (8, Scripted::Bytes(3), "Ok(3) 0 1 8", "Ok(3) 0 1 8"),
+    (0, Scripted::Bytes(8), "Ok(0) 0 1 0", "Ok(0) 0 1 0"),
     (
         8,
-        Outcome::Fault(io::ErrorKind::TimedOut),
+        Scripted::Fault(io::ErrorKind::TimedOut),
         "Err(IoFault) 1 1 8",
         "Err(IoFault) 1 1 8",
     ),
     (
         5,
-        Outcome::Fault(io::ErrorKind::Interrupted),
+        Scripted::Fault(io::ErrorKind::Interrupted),
         "Err(IoFault) 1 1 5",
         "Err(IoFault) 1 1 5",
     ),
-    (5, Outcome::Bytes(1), "Ok(1) 0 1 5", "Ok(1) 0 1 5"),
-    (8, Outcome::Bytes(0), "Ok(0) 0 1 8", "Ok(0) 1 1 8"),
+    (5, Scripted::Bytes(1), "Ok(1) 0 1 5", "Ok(1) 0 1 5"),
+    (8, Scripted::Bytes(0), "Ok(0) 0 1 8", "Ok(0) 1 1 8"),
     (
         0,
-        Outcome::Fault(io::ErrorKind::BrokenPipe),
+        Scripted::Fault(io::ErrorKind::BrokenPipe),
         "Err(IoFault) 1 1 0",
         "Err(IoFault) 1 1 0",
     ),
 ];
 
-fn read(alloc: Global, len: usize, outcome: Outcome) -> Result<String, Fail> {
+fn read(alloc: Global, len: usize, outcome: Scripted) -> Result<String, Fail> {
     let mut reader = recording(outcome);
     let mut buffer = [0u8; 8];
     let answer = Source::read(&mut reader, &mut buffer[..len.min(8)]);
@@ -100,7 +100,7 @@ fn read(alloc: Global, len: usize, outcome: Outcome) -> Result<String, Fail> {
     Ok(format!(in alloc; "{answer:?} {failures} {calls} {asked}")?)
 }
 
-fn written(alloc: Global, len: usize, outcome: Outcome) -> Result<String, Fail> {
+fn written(alloc: Global, len: usize, outcome: Scripted) -> Result<String, Fail> {
     let mut writer = recording(outcome);
     let answer = Target::write(&mut writer, &b"abcdefgh"[..len.min(8)]);
     let failures = writer.failures;
