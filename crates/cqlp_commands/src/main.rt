@@ -9,7 +9,7 @@ mod memory;
 mod ways;
 
 use cqlp_fakes::bytes_of;
-use done::{Invocation, Done};
+use done::{Done, Invocation};
 use std::alloc::Global;
 use std::io;
 

@@ -1,6 +1,6 @@
 //! Standard input and outputs of other kinds. Each prints where something else is written than is to be.
 
-use crate::done::{Invocation, Done};
+use crate::done::{Done, Invocation};
 use cqlp_fakes::FailsOnce;
 use std::io;
 

@@ -54,7 +54,11 @@ fn print_pieces(rt: &HostRuntime, script: &Script, pieces: &str) -> io::Result<(
 }
 
 /// Prints what a decoder has said since the last time, and then how the stream ends here.
-fn print_said(rt: &HostRuntime, said: &mut Report, decoder: &Decoder<&LocalHeap>) -> io::Result<()> {
+fn print_said(
+    rt: &HostRuntime,
+    said: &mut Report,
+    decoder: &Decoder<&LocalHeap>,
+) -> io::Result<()> {
     print!(rt; "{}", said.lines)?;
     said.lines.clear();
     match said.shows {

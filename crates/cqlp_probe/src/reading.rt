@@ -66,7 +66,11 @@ pub fn decoder(heap: &LocalHeap, limits: Limits) -> io::Result<Decoder<&LocalHea
 }
 
 /// Writes down what a decoder says of one more piece; whether it goes on.
-pub fn take(decoder: &mut Decoder<&LocalHeap>, piece: &[u8], said: &mut Report) -> io::Result<bool> {
+pub fn take(
+    decoder: &mut Decoder<&LocalHeap>,
+    piece: &[u8],
+    said: &mut Report,
+) -> io::Result<bool> {
     let mut rest = piece;
     for _ in 0..1_000_000u32 {
         match decoder.next(rest) {

@@ -25,7 +25,10 @@ static SESSION: [(ClientCall, &str); 17] = [
     ),
     (ClientCall::Cancel(1), "true Fresh"),
     (ClientCall::Cancel(1), "false Fresh"),
-    (ClientCall::Begin(RequestKind::Query), "Err(Phase(Fresh)) Fresh"),
+    (
+        ClientCall::Begin(RequestKind::Query),
+        "Err(Phase(Fresh)) Fresh",
+    ),
     (ClientCall::Begin(RequestKind::Options), "Err(Full) Fresh"),
     (
         ClientCall::Reply(0, Opcode::Supported),
@@ -35,8 +38,14 @@ static SESSION: [(ClientCall, &str); 17] = [
         ClientCall::Begin(RequestKind::Options),
         "Ok(Ticket { id: 0, number: 2 }) Fresh",
     ),
-    (ClientCall::Reply(0, Opcode::Ready), "Err(WrongOpcode) Fresh"),
-    (ClientCall::Reply(1, Opcode::Supported), "Err(NoSuchStream) Fresh"),
+    (
+        ClientCall::Reply(0, Opcode::Ready),
+        "Err(WrongOpcode) Fresh",
+    ),
+    (
+        ClientCall::Reply(1, Opcode::Supported),
+        "Err(NoSuchStream) Fresh",
+    ),
     (
         ClientCall::Reply(0, Opcode::Supported),
         "Ok(Answer { ticket: Ticket { id: 0, number: 2 }, kind: Options }) Fresh",
@@ -70,15 +79,30 @@ static SESSION: [(ClientCall, &str); 17] = [
 
 /// Responses that answer no request.
 static STRAYS: [(ClientCall, &str); 6] = [
-    (ClientCall::Reply(-1, Opcode::Event), "Ok(ServerEvent) Fresh"),
-    (ClientCall::Reply(0, Opcode::Event), "Err(NoSuchStream) Fresh"),
-    (ClientCall::Reply(-1, Opcode::Error), "Err(NoSuchStream) Fresh"),
-    (ClientCall::Request(Opcode::Options), "Err(NotResponse) Fresh"),
+    (
+        ClientCall::Reply(-1, Opcode::Event),
+        "Ok(ServerEvent) Fresh",
+    ),
+    (
+        ClientCall::Reply(0, Opcode::Event),
+        "Err(NoSuchStream) Fresh",
+    ),
+    (
+        ClientCall::Reply(-1, Opcode::Error),
+        "Err(NoSuchStream) Fresh",
+    ),
+    (
+        ClientCall::Request(Opcode::Options),
+        "Err(NotResponse) Fresh",
+    ),
     (
         ClientCall::Begin(RequestKind::Options),
         "Ok(Ticket { id: 0, number: 1 }) Fresh",
     ),
-    (ClientCall::Reply(0, Opcode::Event), "Err(WrongOpcode) Fresh"),
+    (
+        ClientCall::Reply(0, Opcode::Event),
+        "Err(WrongOpcode) Fresh",
+    ),
 ];
 
 fn header(response: bool, stream: i16, opcode: Opcode) -> Header {
@@ -95,7 +119,10 @@ fn header(response: bool, stream: i16, opcode: Opcode) -> Header {
 fn answer(alloc: Global, client: &mut Client, call: ClientCall) -> Result<String, Fail> {
     Ok(match call {
         ClientCall::Begin(kind) => format!(in alloc; "{:?}", client.begin(kind))?,
-        ClientCall::Cancel(number) => format!(in alloc; "{:?}", client.cancel(Ticket { id: 0, number }))?,
+        ClientCall::Cancel(number) => format!(in alloc;
+            "{:?}",
+            client.cancel(Ticket { id: 0, number })
+        )?,
         ClientCall::Reply(stream, opcode) => {
             format!(in alloc; "{:?}", client.reply(&header(true, stream, opcode)))?
         }
