@@ -1,7 +1,6 @@
 //! How runs end, and what is held then.
 
-ghost use Rattle.std.specs.Prelude.{◌≤◌, max};
-ghost use Rattle.cqlp_decode.specs.Streams.{state};
+ghost use Rattle.cqlp_decode.specs.Streams.{IsWithin, state};
 
 use cqlp_decode::{Decoder, Held, Outcome, Sink, run};
 use cqlp_fakes::{FailsOnce, Pieces, Takes};
@@ -28,7 +27,7 @@ fn held_after<R: Source, S: Sink>(
     sink: &mut S,
     turns: u64,
 ) -> (Outcome, Held)
-    ensures { let rules = (state decoder.old).rules in (result.1.bytes ≤ max rules.text rules.cell) × (result.1.entries ≤ rules.entries) × (result.1.levels ≤ rules.depth) }
+    ensures { IsWithin result.1 (state decoder.old).rules }
 {
     let outcome = run(decoder, reader, sink, turns);
     (outcome, decoder.held())

@@ -36,34 +36,19 @@ pub fn command<R: Files + AllocGlobal, I: Source, O: Target, E: Target>(
         Performs words.now TURNS (view input.old out err) result.0 (view input.new result.1 result.2) }
     ensures untouched { result.0 ≡ BAD_COMMAND_LINE → input.new ≡ input.old }
 {
-    command_within(rt, &rt.alloc(), words, input, out, err)
-}
-
-/// The same, with all memory for the stream from `heap`.
-pub(crate) fn command_within<R: Files + AllocGlobal, A: Allocator, I: Source, O: Target, E: Target>(
-    rt: &R,
-    heap: &A,
-    words: &[&str],
-    input: &mut I,
-    out: O,
-    err: E,
-) -> (u8, O, E)
-    ensures performs { let view = streams I.Source O.Target E.Target in
-        Performs words.now TURNS (view input.old out err) result.0 (view input.new result.1 result.2) }
-    ensures untouched { result.0 ≡ BAD_COMMAND_LINE → input.new ≡ input.old }
-{
+    let heap = rt.alloc();
     if words.is_empty() {
-        return show(heap, DEFAULT_LIMITS, input, out, err);
+        return show(&heap, DEFAULT_LIMITS, input, out, err);
     }
     let options = match Options::parse(rt.alloc(), words) {
         Ok(options) => options,
         Err(no_task) => return tell(no_task, out, err),
     };
     if options.file == "-" {
-        return perform(heap, options, input, out, err);
+        return perform(&heap, options, input, out, err);
     }
     match File::open(rt, options.file) {
-        Ok(file) => perform(heap, options, &mut OfStd::new(file), out, err),
+        Ok(file) => perform(&heap, options, &mut OfStd::new(file), out, err),
         Err(_) => {
             let (status, err) = cannot_open(options.file, err);
             (status, out, err)

@@ -1,6 +1,8 @@
 //! Laws of the definitions.
 
-ghost use Rattle.cqlp_type.specs.Laws.{TypesOfPreorder, TypesOfOwnPreorder, SpelledIsRead, ReadIsSpelled, SpelledIsLong, RootsAreTypes, ChildrenOfWhole, ChildrenOfOpen, OpenIsLast, LenIsOfOption, OneAnswerOfId, OneAnswerOfPush, OneAnswerOfAdvance};
+ghost use Rattle.cqlp_type.specs.Laws.{TypesOfPreorder, TypesOfOwnPreorder, RootsAreTypes, ChildrenOfWhole, ChildrenOfOpen};
+ghost use Rattle.cqlp_type.specs.Laws.{SpelledIsRead, ReadIsSpelled, SpelledIsLong, OpenIsLast, LenIsOfOption};
+ghost use Rattle.cqlp_type.specs.Laws.{OneAnswerOfId, OneAnswerOfPush, OneAnswerOfAdvance};
 
 /// The types of nodes in preorder are those that the nodes were made of.
 #[tactic(auto, using(crate::proofs::Forests::types_of_preorder, crate::proofs::Forests::types_of_own_preorder))]

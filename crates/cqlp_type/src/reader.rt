@@ -167,7 +167,8 @@ impl<A: Allocator> TypeReader<A> {
         ensures uses { Uses reader.old input.now result }
         ensures reader { Continues reader.old result reader.new }
         ensures table { Fills reader.old table.old result table.new }
-        ensures* next { sem 𝓛 (LeavesField B.row B.Allocator partial.entry (λ after. Pushes reader.old partial.old table.old input.now result reader.new after table.new)) }
+        ensures* next { sem 𝓛 (LeavesField B.row B.Allocator partial.entry
+            (λ after. Pushes reader.old partial.old table.old input.now result reader.new after table.new)) }
     {
         match reader.advance(partial, table, input) {
             TypeAdvance::More { used } => TypePush::More { used },

@@ -5,7 +5,8 @@ ghost use Rattle.cqlp_note.specs.Partial.{item_value};
 ghost use Rattle.cqlp_note.specs.Limits.{rules_of};
 ghost use Rattle.cqlp_type.specs.OpenOptions.{entered, entered_symbols};
 ghost use Rattle.cqlp_type.specs.declared.remaining.OptionStage.TheVariants as stage;
-ghost use Rattle.cqlp_type.specs.Remaining.{symbols_of, is_under_way, is_wanted, HasRoom, Closes, Keeps, FollowsItem, FollowsId, IsPart, Settles, number_of, short_in};
+ghost use Rattle.cqlp_type.specs.Remaining.{Closes, FollowsId, FollowsItem, HasRoom, IsPart, Keeps, Settles};
+ghost use Rattle.cqlp_type.specs.Remaining.{is_under_way, is_wanted, number_of, short_in, symbols_of};
 ghost use Rattle.cqlp_type.specs.declared.kind.Kind.{Kind};
 
 use crate::advance::TypeOutline;

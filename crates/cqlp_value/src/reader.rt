@@ -31,7 +31,7 @@ impl<A: Allocator> Model for CellReader<A> {
 }
 
 impl<A: Allocator> CellReader<A> {
-    ghost use Rattle.cqlp_note.specs.Lending.{LeavesField as Rest};
+    ghost use Rattle.cqlp_note.specs.Lending.{LeavesField};
     ghost use Rattle.cqlp_value.specs.Standing.{Stands, ended, is_under_way};
     ghost use Rattle.cqlp_type.specs.declared.node.Node.{Node};
     ghost use Rattle.cqlp_value.specs.Reading.{Answers, Empties, HaveCome, Joined, Moves};
@@ -143,7 +143,8 @@ impl<A: Allocator> CellReader<A> {
         requires joined { Joined table.now.nodes reader.old partial.old }
         ensures uses { Uses reader.old input.now result }
         ensures reader { Continues table.now.nodes reader.old result reader.new }
-        ensures* next { sem 𝓛 (Rest A.row A.Allocator partial.entry (λ after. Pushes table.now.nodes reader.old partial.old input.now result reader.new after)) }
+        ensures* next { sem 𝓛 (LeavesField A.row A.Allocator partial.entry
+            (λ after. Pushes table.now.nodes reader.old partial.old input.now result reader.new after)) }
     {
         match reader.advance(partial, table, input) {
             CellAdvance::More { used } => CellPush::More { used },

@@ -11,7 +11,9 @@ ghost use Rattle.cqlp_value.specs.Numbers.{IsCounting};
 ghost use Rattle.cqlp_value.specs.Sizes.{is_counted};
 ghost use Rattle.cqlp_value.specs.Standing.{Stands, due_of, due_value, ended, state_after, state_of};
 ghost use Rattle.cqlp_value.specs.Coming.{room_of};
-ghost use Rattle.cqlp_value.specs.Reading.{Answers, Closes, Decided, Empties, EntersCounted, EntersFields, InnerStands, IsLengthUnder, IsPartUnder, Joined, Reads, Sizes, Steps, inner_order as order_inside, next_after};
+ghost use Rattle.cqlp_value.specs.Reading.{Answers, Closes, Decided, Empties, EntersCounted, EntersFields, InnerStands};
+ghost use Rattle.cqlp_value.specs.Reading.{IsLengthUnder, IsPartUnder, Joined, Reads, Sizes, Steps};
+ghost use Rattle.cqlp_value.specs.Reading.{inner_order as order_inside, next_after};
 
 use crate::advance::{CellAdvance, CellOutline};
 use crate::content::{accepts, fault};
