@@ -1,13 +1,11 @@
 -- One text and one verdict of a stream.
-use Rattle.std.proofs.Common.{◌≡◌, ◌≢◌, ℕ, ◌≤◌, ◌<◌, false, true, List, [], ◌∷◌, ◌++◌, length, Option, Some, None, ◌⊎◌, refl, sym, ap, ◌∙◌, inl, inr, subst, append_assoc, append-nil, arith}
+use Rattle.std.proofs.Common.{◌≡◌, ◌≢◌, ℕ, List, [], ◌∷◌, ◌++◌, length, Option, Some, None, ◌⊎◌, refl, sym, ap, ◌∙◌, inl, inr, subst, append_assoc, append-nil, arith}
 use Rattle.std.proofs.lemmas.List.{append_cancel_left, append_cancel_right, length-append}
 use Rattle.std.proofs.lemmas.Bool.{cases_lt}
 use Rattle.std.specs.Io.KnownBytes.{append_known}
 use Rattle.cqlp_note.specs.declared.limits.Limits.{Limits}
-use Rattle.cqlp_note.specs.declared.refusal.Reason.{Reason}
 use Rattle.cqlp_note.specs.declared.refusal.Refusal.{Refusal}
 use Rattle.cqlp_note.specs.Limits.{Rules, rules_of}
-use Rattle.cqlp_note.specs.Streams.{counted}
 use Rattle.cqlp_note.proofs.Runs.{runs_stay, runs_compare}
 use Rattle.cqlp_message.specs.declared.event.Finish.{Finish}
 use Rattle.cqlp_message.specs.declared.event.Finish.TheVariants as finish
@@ -22,7 +20,7 @@ use Rattle.cqlp_text.specs.declared.ending.Ending.{Ending}
 use Rattle.cqlp_text.specs.declared.ending.Ending.TheVariants as ending
 use Rattle.cqlp_text.specs.Endings.{ending_line, finish_status, status_of}
 use Rattle.cqlp_text.specs.Laws.{FailsAlike, GoesOnFromOther}
-use Rattle.cqlp_text.specs.Outputs.{Output, output, with_text, HasFailed, StopsWithin}
+use Rattle.cqlp_text.specs.Outputs.{Output, output, with_text}
 use Rattle.cqlp_text.proofs.OneAnswer.{fronts, known_then, known_fronts, counts_up, stops_once}
 use Rattle.cqlp_tool.specs.declared.text_form.TextForm.{TextForm}
 use Rattle.cqlp_tool.specs.declared.text_form.TextForm.TheVariants as forms

@@ -5,7 +5,6 @@ use Rattle.cqlp_note.specs.Streams.{counted}
 use Rattle.cqlp_decode.specs.declared.running.Outcome.{Outcome}
 use Rattle.cqlp_decode.specs.declared.running.Outcome.TheVariants as outcome
 use Rattle.cqlp_decode.specs.Standing.{StreamState}
-use Rattle.cqlp_decode.specs.Reading.{Event}
 use Rattle.cqlp_decode.specs.Streams.{After}
 use Rattle.cqlp_decode.specs.Draining.{RunsTo}
 use Rattle.cqlp_tool.specs.declared.text_form.TextForm.{TextForm}
@@ -13,7 +12,7 @@ use Rattle.cqlp_tool.specs.Forms.{text, text_of, form_after_all}
 use Rattle.cqlp_text.specs.Written.{Written, bare, taken}
 use Rattle.cqlp_text.specs.Outputs.{Output, output, with_text, HasFailed, StopsWithin}
 use Rattle.cqlp_text.proofs.OneAnswer.{known_then}
-use Rattle.cqlp_tool.specs.Rendering.{Rendering, with_event, StopsWithinEvent, RendersFront, WritesFront}
+use Rattle.cqlp_tool.specs.Rendering.{Rendering, with_event, StopsWithinEvent, RendersFront}
 use Rattle.cqlp_tool.specs.Showing.{RendersOrFails, ShowsTo, Concludes, ConcludesCheck, ending_of}
 use Rattle.cqlp_text.specs.declared.ending.Ending.{Ending}
 use Rattle.cqlp_text.specs.declared.ending.Ending.TheVariants as ending

@@ -1,5 +1,5 @@
 -- What a command line does, and what is written where it starts no task.
-use Rattle.std.specs.Prelude.{◌≡◌, ◌≤◌, ℕ, true, false, List, [], IsSome, ◌⊎◌}
+use Rattle.std.specs.Prelude.{◌≡◌, ◌≤◌, ℕ, List, [], IsSome, ◌⊎◌}
 use Rattle.cqlp_note.specs.declared.limits.Limits.{Limits}
 use Rattle.cqlp_note.specs.declared.limits.TheConstants.Limits.{DEFAULT}
 use Rattle.cqlp_text.specs.declared.ending.Ending.TheVariants as ending

@@ -1,6 +1,6 @@
 -- Laws of one answer: what is written of a stream, and how that ends, is decided by its bytes, but for what only the
 -- outside decides: whether a target or the reader fails, whether there is memory, and whether the turns run out.
-use Rattle.std.specs.Prelude.{◌≡◌, ◌≢◌, ℕ, ◌-◌, ◌^◌, ◌<◌, List, [], ◌++◌, length, Option, None, ◌⊎◌}
+use Rattle.std.specs.Prelude.{◌≡◌, ◌≢◌, ℕ, ◌-◌, ◌^◌, ◌<◌, List, ◌++◌, length, Option, None, ◌⊎◌}
 use Rattle.cqlp_note.specs.declared.limits.Limits.{Limits}
 use Rattle.cqlp_note.specs.Limits.{rules_of}
 use Rattle.cqlp_message.specs.declared.event.Finish.{Finish}
