@@ -29,7 +29,7 @@ use Rattle.cqlp_value.specs.Fronts.{SaysScalar}
 use Rattle.cqlp_value.proofs.Leading.{some_come, stands_under, told_is as cell_told_is}
 use Rattle.cqlp_value.proofs.ScalarSizes.{scalar_sized}
 use Rattle.cqlp_value.proofs.Leavings.{left_none, left_some, stop_is}
-use Rattle.cqlp_message.specs.Productions.{Symbol, Cell_due, In_cell}
+use Rattle.cqlp_grammar.specs.Productions.{Symbol, Cell_due, In_cell}
 use Rattle.cqlp_decode.specs.declared.page.CellCursor.{CellCursor}
 use Rattle.cqlp_decode.specs.declared.standing.StreamStage.{StreamStage}
 use Rattle.cqlp_decode.specs.declared.standing.StreamStage.TheVariants as stage

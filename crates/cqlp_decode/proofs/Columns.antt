@@ -13,10 +13,10 @@ use Rattle.cqlp_value.specs.CellStep.{CellSymbol, Value_of, values_of}
 use Rattle.cqlp_value.specs.Inner.{Forest}
 use Rattle.cqlp_value.specs.Standing.{CellState, place, cell_symbols, CellStands}
 use Rattle.cqlp_value.proofs.Columns.{Column, forest_first, forest_end}
-use Rattle.cqlp_message.specs.declared.grammar.Role.{Role}
-use Rattle.cqlp_message.specs.declared.grammar.Role.TheVariants as role
-use Rattle.cqlp_message.specs.Productions.{Symbol, rows_from, raw_types, number_in}
-use Rattle.cqlp_message.proofs.Stack.{rows_none}
+use Rattle.cqlp_grammar.specs.declared.grammar.Role.{Role}
+use Rattle.cqlp_grammar.specs.declared.grammar.Role.TheVariants as role
+use Rattle.cqlp_grammar.specs.Productions.{Symbol, rows_from, raw_types, number_in}
+use Rattle.cqlp_grammar.proofs.Stack.{rows_none}
 use Rattle.cqlp_decode.specs.declared.page.Columns.{Columns}
 use Rattle.cqlp_decode.specs.declared.page.Columns.TheVariants as columns
 use Rattle.cqlp_decode.specs.declared.page.CellCursor.{CellCursor}

@@ -2,7 +2,7 @@
 use Rattle.std.proofs.Common.{◌≡◌, ℕ, Bool, true, false, ◌+◌, ◌<◌, List, length, refl, sym, ap, ◌∙◌, arith}
 use Rattle.std.specs.Prelude.{Option, Some, None, if◌then◌else◌}
 use Rattle.cqlp_note.specs.declared.refusal.Refusal.{Refusal}
-use Rattle.cqlp_message.specs.declared.event.Finish.TheVariants as finish
+use Rattle.cqlp_grammar.specs.declared.event.Finish.TheVariants as finish
 use Rattle.std.proofs.lemmas.List.{length-take-le}
 use Rattle.cqlp_decode.specs.declared.standing.StreamStage.{StreamStage}
 use Rattle.cqlp_decode.specs.declared.standing.StreamStage.TheVariants as stage

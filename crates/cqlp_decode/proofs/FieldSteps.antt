@@ -23,16 +23,16 @@ use Rattle.cqlp_value.specs.Standing as value
 use Rattle.cqlp_value.specs.Standing.{is_under_way}
 use Rattle.cqlp_value.specs.Inner.{Forest}
 use Rattle.cqlp_value.proofs.Columns.{forest_none}
-use Rattle.cqlp_message.specs.declared.grammar.Role.{Role}
-use Rattle.cqlp_message.specs.declared.grammar.Role.TheVariants as role
-use Rattle.cqlp_message.specs.Productions.{Symbol, following, fault_in}
-use Rattle.cqlp_message.specs.declared.table.Want.{Want}
-use Rattle.cqlp_message.specs.declared.table.Expected.TheVariants as due
+use Rattle.cqlp_grammar.specs.declared.grammar.Role.{Role}
+use Rattle.cqlp_grammar.specs.declared.grammar.Role.TheVariants as role
+use Rattle.cqlp_grammar.specs.Productions.{Symbol, following, fault_in}
+use Rattle.cqlp_grammar.specs.declared.table.Want.{Want}
+use Rattle.cqlp_grammar.specs.declared.table.Expected.TheVariants as due
 use Rattle.cqlp_decode.specs.declared.standing.StreamStage.TheVariants as stage
 use Rattle.cqlp_decode.specs.declared.standing.StreamStanding.{StreamStanding}
 use Rattle.cqlp_decode.specs.declared.advance.EventAdvance.TheVariants as advance
 use Rattle.cqlp_decode.specs.declared.advance.EventOutline.TheVariants as what
-use Rattle.cqlp_message.specs.Upcoming.{wanted}
+use Rattle.cqlp_grammar.specs.Upcoming.{wanted}
 use Rattle.cqlp_decode.specs.Reading as reading
 use Rattle.cqlp_decode.specs.Reading.{Place, value_step, types_for, nodes_after, given_after, Nothing}
 use Rattle.cqlp_decode.specs.Standing.{IsPending, PartsState, parts, state_of, place_at, offset_at, symbols_at, rest_of, came_of, said, Gives, Waits, Moves, IsAsked, IsWanted, IsBounded, IsQuiet, HasParts, IsConsistent, asked, Starts}

@@ -4,11 +4,11 @@ use Rattle.std.specs.Prelude.{Option, Some, None}
 use Rattle.std.specs.Io.KnownBytes.{Consumes, Keeps, IsAtEnd}
 use Rattle.std.proofs.lemmas.List.{append-nil, take-append-drop, take_all, take-take, drop-take, length-append, length-drop, length-take-le}
 use Rattle.cqlp_note.specs.declared.refusal.Refusal.{Refusal}
-use Rattle.cqlp_message.specs.declared.event.Event.{Event}
+use Rattle.cqlp_grammar.specs.declared.event.Event.{Event}
 use Rattle.cqlp_decode.specs.declared.step.Step.TheVariants as steps
 use Rattle.cqlp_decode.specs.Reading as reading
 use Rattle.cqlp_decode.specs.Reading.{Says, Waits}
-use Rattle.cqlp_message.specs.Events.{event_of}
+use Rattle.cqlp_grammar.specs.Events.{event_of}
 use Rattle.cqlp_decode.specs.Standing.{StreamState}
 use Rattle.cqlp_decode.specs.Streams.{After, Leads, Goes, Refuses}
 use Rattle.cqlp_decode.specs.Draining.{Drains, DrainsAll, Fails, Feeds, FeedsInto, HasAll, ReadsAtMost, fold_events}

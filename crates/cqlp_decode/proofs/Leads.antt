@@ -10,12 +10,12 @@ use Rattle.cqlp_note.proofs.Yields.{says_exact, emitted_is}
 use Rattle.cqlp_note.proofs.Runs.{runs_then, runs_stay}
 use Rattle.cqlp_decode.specs.declared.advance.EventAdvance.TheVariants as advance
 use Rattle.cqlp_decode.specs.declared.advance.EventOutline.{EventOutline}
-use Rattle.cqlp_message.specs.declared.event.Event.{Event}
+use Rattle.cqlp_grammar.specs.declared.event.Event.{Event}
 use Rattle.cqlp_decode.specs.declared.step.Step.{Step}
 use Rattle.cqlp_decode.specs.declared.step.Step.TheVariants as steps
 use Rattle.cqlp_decode.specs.Reading as reading
 use Rattle.cqlp_decode.specs.Reading.{Place, step, start, Reads}
-use Rattle.cqlp_message.specs.Events.{event_of}
+use Rattle.cqlp_grammar.specs.Events.{event_of}
 use Rattle.cqlp_decode.specs.Standing.{StreamState, AdvancesFrom, Hands, event_at, frame_after, due_after}
 use Rattle.cqlp_decode.specs.Streams.{After, AfterBy, Leads, Goes, Refuses, Repeats, frame_from, open_after, open_from}
 

@@ -13,16 +13,16 @@ use Rattle.cqlp_note.specs.Heading.{heading}
 use Rattle.cqlp_note.specs.Limits.{rules_of}
 use Rattle.cqlp_type.specs.declared.node.Node.{Node}
 use Rattle.cqlp_value.specs.Inner.{Forest}
-use Rattle.cqlp_message.specs.Productions.{Stream, message}
-use Rattle.cqlp_message.specs.declared.table.Expected.{Expected}
-use Rattle.cqlp_message.specs.declared.table.Expected.TheVariants as due
-use Rattle.cqlp_message.specs.declared.upcoming.Slot.{Slot}
+use Rattle.cqlp_grammar.specs.Productions.{Stream, message}
+use Rattle.cqlp_grammar.specs.declared.table.Expected.{Expected}
+use Rattle.cqlp_grammar.specs.declared.table.Expected.TheVariants as due
+use Rattle.cqlp_grammar.specs.declared.upcoming.Slot.{Slot}
 use Rattle.cqlp_decode.specs.declared.standing.StreamStage.{StreamStage}
 use Rattle.cqlp_decode.specs.declared.standing.StreamStage.TheVariants as stage
 use Rattle.cqlp_decode.specs.declared.standing.StreamStanding.{StreamStanding}
 use Rattle.cqlp_decode.specs.declared.advance.EventAdvance.TheVariants as advance
 use Rattle.cqlp_decode.specs.declared.advance.EventOutline.TheVariants as what
-use Rattle.cqlp_message.specs.Upcoming.{Pops}
+use Rattle.cqlp_grammar.specs.Upcoming.{Pops}
 use Rattle.cqlp_decode.specs.Reading as reading
 use Rattle.cqlp_decode.specs.Reading.{Place}
 use Rattle.cqlp_decode.specs.Standing.{IsPending, state_of, place_at, offset_at, pending_at, symbols_at, rest_of, stage_with, came_of, said, Gives, Waits, Moves, PartsState, IsIdle, ends_due, HasRoom, Starts, StageHolds, TableHolds, IsPlaced, IsConsistent}

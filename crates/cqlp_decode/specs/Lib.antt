@@ -4,6 +4,3 @@ pub mod Standing
 pub mod Streams
 pub mod Lending
 pub mod Draining
-pub mod Excess
-pub mod Laws
-pub mod OneAnswer

@@ -10,8 +10,8 @@ use Rattle.cqlp_value.specs.CellStep.{CellSymbol}
 use Rattle.cqlp_value.specs.Inner.{Forest}
 use Rattle.cqlp_value.specs.Standing as cell
 use Rattle.cqlp_value.specs.Standing.{place}
-use Rattle.cqlp_message.specs.declared.grammar.Role.{Role}
-use Rattle.cqlp_message.specs.Productions.{Symbol, Cell_due, In_cell, row_from, rows_from, raw_types, following}
+use Rattle.cqlp_grammar.specs.declared.grammar.Role.{Role}
+use Rattle.cqlp_grammar.specs.Productions.{Symbol, Cell_due, In_cell, row_from, rows_from, raw_types, following}
 use Rattle.cqlp_decode.specs.declared.page.Columns.{Columns}
 use Rattle.cqlp_decode.specs.declared.page.Columns.TheVariants as columns
 use Rattle.cqlp_decode.specs.declared.page.CellCursor.{CellCursor}

@@ -12,23 +12,12 @@ use Rattle.cqlp_note.specs.declared.header.Header.{Header}
 use Rattle.cqlp_note.specs.Heading.{Heading, heading, has}
 use Rattle.cqlp_type.specs.declared.node.Node.{Node}
 use Rattle.cqlp_type.specs.Types.{Types, types_of, how_many}
-use Rattle.cqlp_type.specs.TypeStep.{TypeSymbol, TypeEvent, IsNode, IsField, TypePlace, type_step}
-use Rattle.cqlp_value.specs.CellStep.{CellSymbol, Value_of, CellEvent, CellPlace, cell_step}
-use Rattle.cqlp_value.specs.CellStep as cell
-pub use Rattle.cqlp_message.specs.Events.{Event, Frame, Holds, Node_of, Cell_at, Leave, End}
-use Rattle.cqlp_message.specs.declared.grammar.Role.{Role}
-use Rattle.cqlp_message.specs.declared.grammar.Role.TheVariants as role
-use Rattle.cqlp_message.specs.Productions.{Symbol, Stream, In, In_type, Cell_due, In_cell, Extra, message, following, fault_in, raw_types}
-
--- an event in a type option
-abbrev pub type_event : TypeEvent → Event
-type_event (IsNode k) = Node_of k
-type_event (IsField f v) = Holds f v
-
--- an event in the cell of a row and a column, which the end of a value does not name
-abbrev pub cell_event : (row column : ℕ) → CellEvent → Event
-cell_event row column (cell.Leave level items) = Leave level items
-cell_event row column e = Cell_at row column e
+use Rattle.cqlp_type.specs.TypeStep.{TypeSymbol, TypePlace, type_step}
+use Rattle.cqlp_value.specs.CellStep.{CellSymbol, Value_of, CellPlace, cell_step}
+pub use Rattle.cqlp_grammar.specs.Events.{Event, Frame, Holds, Node_of, Cell_at, Leave, End, type_event, cell_event}
+use Rattle.cqlp_grammar.specs.declared.grammar.Role.{Role}
+use Rattle.cqlp_grammar.specs.declared.grammar.Role.TheVariants as role
+use Rattle.cqlp_grammar.specs.Productions.{Symbol, Stream, In, In_type, Cell_due, In_cell, Extra, message, following, fault_in, raw_types}
 
 -- The types that the caller gave for a page without metadata: they wait, are in use, or were used.
 pub data Given : Type 0 where

@@ -10,7 +10,8 @@ use Rattle.cqlp_note.specs.Step.{Emitted}
 use Rattle.cqlp_note.specs.Limits.{Rules, rules_of, limit_of}
 use Rattle.cqlp_note.specs.declared.limits.Limits.{Limits}
 use Rattle.cqlp_note.specs.Field.{FieldValue}
-use Rattle.cqlp_note.specs.Partial.{FieldState, item_value, CanLend, content_length}
+use Rattle.cqlp_note.specs.Partial.{FieldState, item_value, CanLend}
+use Rattle.cqlp_note.specs.Field.{content_length}
 use Rattle.cqlp_type.specs.TypeStep.{Option_at, TypeEvent, TypePlace}
 use Rattle.cqlp_type.specs.declared.node.Node.{Node}
 use Rattle.cqlp_type.specs.Table.{Table}
@@ -29,12 +30,12 @@ use Rattle.cqlp_value.specs.Standing as value
 use Rattle.cqlp_value.specs.Standing.{is_under_way}
 use Rattle.cqlp_value.specs.Reading as taking
 use Rattle.cqlp_value.specs.Pushing.{is_done}
-use Rattle.cqlp_message.specs.declared.grammar.Role.{Role}
-use Rattle.cqlp_message.specs.Productions.{Symbol, Stream, Extra, In_type}
-use Rattle.cqlp_message.specs.declared.table.Want.{Want}
-use Rattle.cqlp_message.specs.declared.table.Expected.{Expected}
-use Rattle.cqlp_message.specs.declared.table.Expected.TheVariants as due
-use Rattle.cqlp_message.specs.declared.upcoming.Slot.{Slot}
+use Rattle.cqlp_grammar.specs.declared.grammar.Role.{Role}
+use Rattle.cqlp_grammar.specs.Productions.{Symbol, Stream, Extra, In_type}
+use Rattle.cqlp_grammar.specs.declared.table.Want.{Want}
+use Rattle.cqlp_grammar.specs.declared.table.Expected.{Expected}
+use Rattle.cqlp_grammar.specs.declared.table.Expected.TheVariants as due
+use Rattle.cqlp_grammar.specs.declared.upcoming.Slot.{Slot}
 use Rattle.cqlp_decode.specs.declared.standing.StreamStage.{StreamStage}
 use Rattle.cqlp_decode.specs.declared.standing.StreamStage.TheVariants as stage
 use Rattle.cqlp_decode.specs.declared.advance.EventOutline.{EventOutline}
@@ -46,7 +47,7 @@ use Rattle.cqlp_decode.specs.declared.parts.Parts.{Parts}
 use Rattle.cqlp_decode.specs.declared.advance.ScalarCell.{ScalarCell}
 use Rattle.cqlp_value.specs.Contents.{value_of as scalar_value}
 use Rattle.cqlp_decode.specs.declared.page.CellCursor.{CellCursor}
-use Rattle.cqlp_message.specs.Upcoming.{symbols_in, wanted, room_after, IsRead}
+use Rattle.cqlp_grammar.specs.Upcoming.{symbols_in, wanted, room_after, IsRead}
 use Rattle.cqlp_decode.specs.Pages.{cells_from, page_symbols, node_by, symbols_after, IsPage}
 use Rattle.cqlp_decode.specs.Reading as reading
 use Rattle.cqlp_decode.specs.Reading.{Place, Event, start, step}

@@ -3,8 +3,8 @@ use Rattle.std.specs.Prelude.{◌≡◌, ℕ, ◌+◌, ◌*◌, ◌<◌, ◌≤�
 use Rattle.cqlp_note.specs.declared.refusal.Refusal.{Refusal}
 use Rattle.cqlp_decode.specs.declared.step.Step.{Step}
 use Rattle.cqlp_decode.specs.declared.step.Step.TheVariants as step
-use Rattle.cqlp_message.specs.declared.event.Finish.{Finish}
-use Rattle.cqlp_message.specs.declared.event.Finish.TheVariants as finish
+use Rattle.cqlp_grammar.specs.declared.event.Finish.{Finish}
+use Rattle.cqlp_grammar.specs.declared.event.Finish.TheVariants as finish
 use Rattle.cqlp_decode.specs.declared.step.Held.{Held}
 use Rattle.cqlp_note.specs.Limits.{Rules}
 use Rattle.cqlp_decode.specs.declared.standing.StreamStanding.{StreamStanding}
@@ -12,7 +12,7 @@ use Rattle.cqlp_decode.specs.Reading as reading
 use Rattle.cqlp_note.specs.Reader.{says, Bad}
 use Rattle.cqlp_decode.specs.Reading.{Event, Place, start, Reads, Says, Waits, Refused}
 use Rattle.cqlp_decode.specs.Reading.{step as step_of}
-use Rattle.cqlp_message.specs.Events.{event_of}
+use Rattle.cqlp_grammar.specs.Events.{event_of}
 use Rattle.cqlp_decode.specs.Standing.{StreamState, PartsState, IsPending, IsLent, state_of, levels_of, frame_after, ends_due}
 
 -- What contracts see of a decoder: where it stands, and its parts that own memory.

@@ -3,7 +3,6 @@
 
 mod advance;
 mod decoder;
-pub mod laws;
 mod metadata;
 mod page;
 mod parts;
@@ -11,7 +10,7 @@ mod running;
 mod standing;
 mod step;
 
-pub use cqlp_message::{Event, Finish, Sink, SinkFault};
+pub use cqlp_grammar::{Event, Finish, Sink, SinkFault};
 pub use decoder::{Decoder, NewError};
 pub use running::{Outcome, run};
 pub use step::{Held, Step};

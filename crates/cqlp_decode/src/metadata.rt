@@ -3,7 +3,7 @@
 ghost use Rattle.std.specs.Prelude.{◌≡◌};
 ghost use Rattle.cqlp_decode.specs.Reading.{nodes_after};
 
-use cqlp_message::Role;
+use cqlp_grammar::Role;
 use cqlp_type::TypeTable;
 use std::alloc::Allocator;
 

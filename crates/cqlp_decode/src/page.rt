@@ -6,7 +6,7 @@ ghost use Rattle.cqlp_value.specs.Inner.{Forest};
 ghost use Rattle.cqlp_type.specs.Types.{NoMore};
 ghost use Rattle.cqlp_decode.specs.Pages.{AreColumns, Begins, FindsColumn, FindsPage, IsKind, IsPage, IsSomePage, Turns, column_types, node_by};
 
-use cqlp_message::{Role, has, number};
+use cqlp_grammar::{Role, has, number};
 use cqlp_note::{Limits, Prim};
 use cqlp_type::{Kind, TypeTable};
 use std::alloc::Allocator;

@@ -7,7 +7,7 @@ ghost use Rattle.cqlp_note.specs.declared.refusal.Refusal.{Refusal};
 
 use crate::decoder::Decoder;
 use crate::step::Step;
-use cqlp_message::{Finish, Sink, SinkFault};
+use cqlp_grammar::{Finish, Sink, SinkFault};
 use cqlp_note::{IoFault, Source};
 use std::alloc::Allocator;
 

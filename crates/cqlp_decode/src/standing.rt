@@ -9,7 +9,7 @@ use crate::advance::{EventAdvance, EventOutline, ScalarCell};
 use crate::metadata::begin_metadata;
 use crate::page::{CellCursor, find_page};
 use crate::parts::Parts;
-use cqlp_message::{Expected, Finish, Role, Upcoming, Want, fault_in};
+use cqlp_grammar::{Expected, Finish, Role, Upcoming, Want, fault_in};
 use cqlp_note::{
     self as note, Field, FieldOutline, Header, Limits, Notation, Partial, Prim, Reason, Refusal,
 };
@@ -58,10 +58,10 @@ impl StreamStanding {
     ghost use Rattle.cqlp_type.specs.Standing.{started};
     ghost use Rattle.cqlp_value.specs.Standing.{ended, is_under_way};
     ghost use Rattle.cqlp_value.specs.Standing as value;
-    ghost use Rattle.cqlp_message.specs.Productions.{Extra, following, message};
+    ghost use Rattle.cqlp_grammar.specs.Productions.{Extra, following, message};
     ghost use Rattle.cqlp_decode.specs.Reading.{start};
     ghost use Rattle.cqlp_decode.specs.Streams.{EndsAs};
-    ghost use Rattle.cqlp_message.specs.Upcoming.{room_after};
+    ghost use Rattle.cqlp_grammar.specs.Upcoming.{room_after};
     ghost use Rattle.cqlp_decode.specs.declared.standing.StreamStage.TheVariants as stage;
     ghost use Rattle.cqlp_decode.specs.Standing.{Advances, GoesOn, GoesOnAfter, HasCome, LeavesTypes, Moves, MovesIdle, Takes};
     ghost use Rattle.cqlp_decode.specs.Standing.{HasParts, HasRoom, IsConsistent, IsFresh, IsLawful, PartsState};

@@ -1,6 +1,6 @@
 //! What calls of a decoder tell.
 
-use cqlp_message::Event;
+use cqlp_grammar::Event;
 use cqlp_note::Refusal;
 
 /// What one call makes of the input.

@@ -1,7 +1,7 @@
 use Rattle.std.proofs.Common.{◌≡◌, refl, [], ap, ◌∙◌, subst}
 use Rattle.std.specs.Prelude.{Option}
 use Rattle.cqlp_note.specs.declared.refusal.Refusal.{Refusal}
-use Rattle.cqlp_message.specs.declared.event.Event.TheVariants as event
+use Rattle.cqlp_grammar.specs.declared.event.Event.TheVariants as event
 use Rattle.cqlp_decode.specs.declared.step.Step.TheVariants as steps
 use Rattle.cqlp_decode.specs.declared.advance.EventAdvance.TheVariants as advance
 use Rattle.cqlp_decode.specs.Standing.{StreamState, Advances}

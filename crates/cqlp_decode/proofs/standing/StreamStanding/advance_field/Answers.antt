@@ -5,7 +5,7 @@ use Rattle.cqlp_note.specs.Field.{FieldValue}
 use Rattle.cqlp_note.specs.Head.{value_of}
 use Rattle.cqlp_note.specs.Partial.{FieldState}
 use Rattle.cqlp_type.specs.Table.{Table}
-use Rattle.cqlp_message.specs.Productions.{fault_in, following}
+use Rattle.cqlp_grammar.specs.Productions.{fault_in, following}
 use Rattle.cqlp_decode.specs.declared.standing.StreamStanding.{StreamStanding}
 use Rattle.cqlp_decode.specs.Reading.{types_for, Nothing}
 use Rattle.cqlp_decode.specs.Standing.{parts, parts_state, rest_of}

@@ -1,5 +1,0 @@
-use Rattle.cqlp_decode.proofs.Cuts.{says_cut, cut_says}
-use Rattle.cqlp_decode.proofs.laws.limits_cut_at_first_excess.Goals as goal
-
-pub returns : goal.returns
-returns c = λ l bytes es v. (says_cut l bytes es v, cut_says l bytes es v)

@@ -1,8 +1,0 @@
-use Rattle.cqlp_decode.proofs.EventCounts.{no_more_events, no_more_handed_out}
-use Rattle.cqlp_decode.proofs.laws.no_more_events_than_bytes.Goals as goal
-
-pub returns-clause-stream : goal.returns-clause-stream
-returns-clause-stream c = no_more_events
-
-pub returns-clause-decoder : goal.returns-clause-decoder
-returns-clause-decoder c = no_more_handed_out

@@ -1,5 +1,0 @@
-use Rattle.cqlp_decode.proofs.OneRun.{one_run}
-use Rattle.cqlp_decode.proofs.laws.one_answer_of_run.Goals as goal
-
-pub returns : goal.returns
-returns g c = one_run g.S.Sink.after g.S.Sink.faulted

@@ -1,5 +1,0 @@
-use Rattle.cqlp_decode.proofs.OneRun.{runs_right}
-use Rattle.cqlp_decode.proofs.laws.run_says_what_the_stream_says.Goals as goal
-
-pub returns : goal.returns
-returns g c = runs_right g.S.Sink.after g.S.Sink.faulted

@@ -1,9 +1,0 @@
-use Rattle.cqlp_decode.proofs.EventCounts.{always_said}
-use Rattle.cqlp_decode.proofs.Whole.{says_once}
-use Rattle.cqlp_decode.proofs.laws.said_once.Goals as goal
-
-pub returns-clause-some : goal.returns-clause-some
-returns-clause-some c = always_said
-
-pub returns-clause-once : goal.returns-clause-once
-returns-clause-once c = says_once

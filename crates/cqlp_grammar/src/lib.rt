@@ -1,0 +1,16 @@
+//! What follows what in a stream of the CQL native protocol v4, its events, and what takes them.
+#![tactic(auto)]
+
+mod event;
+mod following;
+mod grammar;
+mod sink;
+mod table;
+mod upcoming;
+
+pub use event::{Event, Finish};
+pub use following::{fault_in, has, number};
+pub use grammar::{Group, Role};
+pub use sink::{Sink, SinkFault};
+pub use table::{Expected, Want, event_fields, target_fields};
+pub use upcoming::Upcoming;

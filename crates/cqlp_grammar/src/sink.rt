@@ -1,0 +1,36 @@
+//! What takes events.
+
+ghost use Rattle.std.specs.Prelude.{◌≡◌, ℕ, OnOk, OnErr};
+
+use crate::event::Event;
+use thiserror::Error;
+
+/// A sink that gives up.
+#[derive(Clone, Copy, Debug, PartialEq, Eq, Error)]
+#[error("the sink gave up")]
+pub struct SinkFault;
+
+/// What takes the events of a stream, one after the other.
+pub trait Sink {
+    ghost use Rattle.cqlp_grammar.specs.Events.{event_of};
+    ghost use Rattle.cqlp_grammar.specs.Events as told;
+
+    /// What contracts see of it.
+    ghost View: { Type 0 };
+
+    ghost view: { Self → View };
+
+    /// It tells what it has got, as one over a writer that tells its bytes.
+    ghost tells: { Self → Type 0 } = { λ _. Unit {0} };
+
+    /// The view after an event at an offset, from the view before it.
+    ghost after: { View → ℕ → told.Event → View };
+
+    /// What a fault at an event may leave.
+    ghost faulted: { View → ℕ → told.Event → View → Type 0 };
+
+    /// Takes the event at an offset.
+    fn take(&mut self, at: u64, event: &Event<'_>) -> Result<(), SinkFault>
+        ensures ok { OnOk result (tells self.old → tells self.new × (view self.new ≡ after (view self.old) at (event_of event.now))) }
+        ensures err { OnErr result (tells self.old → faulted (view self.old) at (event_of event.now) (view self.new)) };
+}

@@ -1,0 +1,149 @@
+//! What is still to be read of a message.
+
+ghost use Rattle.std.specs.Prelude.{◌≡◌, ◌+◌, ◌≤◌, ◌++◌, ◌∷◌, [], length, max, if◌then◌else◌};
+
+use crate::grammar::Group;
+use crate::table::{Expected, group_fields};
+use std::marker::Model;
+
+/// Fields that are still to be read.
+#[derive(Clone, Copy, Debug, PartialEq, Eq)]
+pub enum Slot {
+    One(Expected),
+    /// This many of a group.
+    Many(Group, u32),
+}
+
+/// The fields that are still to be read, the next ones last. No message ever needs more room than there is.
+#[derive(Drop)]
+pub struct Upcoming {
+    slots: [Slot; 16],
+    len: usize,
+}
+
+impl Model for Upcoming {
+    ghost use Rattle.std.specs.Prelude.{List, ◌≤◌, take};
+    ghost use Rattle.cqlp_grammar.specs.declared.upcoming.Slot.{Slot};
+    ghost use Rattle.cqlp_grammar.specs.Upcoming.{Fits};
+
+    ghost Value = { List Slot };
+
+    ghost view = { λ t. take t.len t.slots };
+
+    ghost invariant = { λ t. (t.len ≤ 16) × Fits 0 (take t.len t.slots) };
+}
+
+impl Upcoming {
+    ghost use Rattle.cqlp_grammar.specs.Upcoming.{Popped, Pops, IsSlot, IsRead, AreRead, need, opened, room_after_due, room_for, symbols_in, wanted, wants};
+    ghost use Rattle.cqlp_grammar.specs.Productions.{copies, group as symbols_of_group};
+
+    pub fn new() -> Self
+        ensures { result ≡ [] }
+    {
+        Upcoming {
+            slots: [Slot::Many(Group::Warnings, 1); 16],
+            len: 0,
+        }
+    }
+
+    pub(crate) fn clear(&mut self)
+        ensures { self.new ≡ [] }
+    {
+        self.len = 0;
+    }
+
+    /// The next field.
+    #[tactic(auto, using(crate::proofs::Stack::next_one, crate::proofs::Stack::next_many))]
+    pub fn pop(&mut self) -> Option<Expected>
+        ensures { Pops self.old result self.new }
+    {
+        match self.pop_slot()? {
+            Slot::One(due) => Some(due),
+            Slot::Many(group, left) => {
+                self.push_many(group, left - 1);
+                Some(self.open(group))
+            }
+        }
+    }
+
+    /// Puts this many groups before all else.
+    #[tactic(auto, using(crate::proofs::Stack::symbols_pushed))]
+    pub(crate) fn push_many(&mut self, group: Group, count: u32)
+        requires { length self.old + (opened group + 1) ≤ 16 }
+        ensures symbols { symbols_in self.new ≡ copies count (symbols_of_group group) ++ symbols_in self.old }
+        ensures height { length self.new ≤ length self.old + 1 }
+    {
+        if count > 0 {
+            self.push_slot(Slot::Many(group, count));
+        }
+    }
+
+    /// Puts a field before all else.
+    #[tactic(auto, using(crate::proofs::Stack::symbols_pushed))]
+    pub(crate) fn push(&mut self, due: Expected)
+        requires read { IsRead due }
+        requires room { length self.old + max 1 (room_after_due due) ≤ 16 }
+        ensures symbols { symbols_in self.new ≡ wanted due ∷ symbols_in self.old }
+        ensures height { length self.new ≡ length self.old + 1 }
+    {
+        self.push_slot(Slot::One(due));
+    }
+
+    /// Puts a field before all else, where it stands.
+    pub(crate) fn push_if(&mut self, stands: bool, due: Expected)
+        requires read { IsRead due }
+        requires room { length self.old + max 1 (room_after_due due) ≤ 16 }
+        ensures symbols { symbols_in self.new ≡ (if stands then wanted due ∷ [] else []) ++ symbols_in self.old }
+        ensures height { length self.new ≤ length self.old + 1 }
+    {
+        if stands {
+            self.push(due);
+        }
+    }
+
+    /// Puts these fields before all else.
+    #[tactic(auto, using(crate::proofs::Stack::read_at, crate::proofs::Stack::room_at, crate::proofs::Stack::fields_pushed, crate::proofs::Stack::fields_none))]
+    pub(crate) fn push_fields(&mut self, fields: &[Expected])
+        requires read { AreRead fields.now }
+        requires room { length self.old + room_for fields.now ≤ 16 }
+        ensures symbols { symbols_in self.new ≡ wants fields.now ++ symbols_in self.old }
+        ensures height { length self.new ≡ length self.old + length fields.now }
+    {
+        let mut left = fields.len();
+        while left > 0 {
+            left -= 1;
+            self.push_slot(Slot::One(fields[left]));
+        }
+    }
+
+    /// The first field of a group; the others come next.
+    fn open(&mut self, group: Group) -> Expected
+        requires { length self.old + opened group ≤ 16 }
+        ensures symbols { wanted result ∷ symbols_in self.new ≡ symbols_of_group group ++ symbols_in self.old }
+        ensures room { length self.new + room_after_due result ≤ 16 }
+        ensures read { IsRead result }
+    {
+        let fields = group_fields(group);
+        self.push_fields(&fields[1..]);
+        fields[0]
+    }
+
+    fn push_slot(&mut self, slot: Slot)
+        requires lawful { IsSlot slot }
+        requires room { length self.old + need slot ≤ 16 }
+        ensures { self.new ≡ self.old ++ slot ∷ [] }
+    {
+        self.slots[self.len] = slot;
+        self.len += 1;
+    }
+
+    fn pop_slot(&mut self) -> Option<Slot>
+        ensures { Popped self.old result self.new }
+    {
+        if self.len == 0 {
+            return None;
+        }
+        self.len -= 1;
+        Some(self.slots[self.len])
+    }
+}
