@@ -103,3 +103,6 @@ natural_some n m e = elim (is_negative n) as (λ t. is_negative n ≡ t → (t �
   | true ↦ λ is. let no : ◌≡◌ {A = Option ℕ} (Some m) None = rw is at e in absurd cc
   | false ↦ λ is. let some : ◌≡◌ {A = Option ℕ} (Some m) (Some n) = rw is at e in (refl, cc)
 ] refl
+
+-- what the front of a field tells by its first bytes
+pub ruleset of_first_bytes = (fixed_overruns, fixed_wanting, fixed_short, fixed_tells)

@@ -7,4 +7,7 @@ pub mod Runs
 pub mod Yields
 pub mod Written
 pub mod Spelled
+pub mod Small
+pub mod WrittenFields
 pub mod OneAnswer
+pub mod Appended

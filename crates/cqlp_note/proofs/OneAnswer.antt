@@ -1,5 +1,5 @@
 -- Two answers of one call are the same, and so are the states that they leave.
-use Rattle.std.proofs.Common.{◌≡◌, ℕ, ◌+◌, ◌<◌, ◌≤◌, Bool, true, false, List, [], ◌++◌, length, take, drop, Result, Ok, Err, refl, sym, ap, ◌∙◌, inl, inr, arith}
+use Rattle.std.proofs.Common.{◌≡◌, ℕ, ◌+◌, ◌≤◌, Bool, true, false, List, [], ◌++◌, length, take, drop, Result, Ok, Err, refl, sym, ap, ◌∙◌, inl, inr, arith}
 use Rattle.std.specs.Prelude.{◌↔◌, IsTrue, Option, Some, None, IfOk}
 use Rattle.std.specs.Io.KnownBytes.{ReadConsumes, WriteAppends}
 use Rattle.std.proofs.lemmas.List.{take_at, drop_at, length-take-le}
@@ -14,9 +14,10 @@ use Rattle.cqlp_note.specs.declared.advance.FieldAdvance.{FieldAdvance}
 use Rattle.cqlp_note.specs.declared.advance.FieldAdvance.TheVariants as taken
 use Rattle.cqlp_note.specs.Reader.{Said, More, Bad, Got, says}
 use Rattle.cqlp_note.specs.Field.{FieldValue}
-use Rattle.cqlp_note.specs.Head.{reader_of, front_of}
-use Rattle.cqlp_note.specs.Partial.{FieldState, Ends, Waits, Advances, Pushes, going_on, ended, content_length, content_bytes, item_value}
-use Rattle.cqlp_note.specs.Heading.{Headed, heading}
+use Rattle.cqlp_note.specs.Head.{reader_of}
+use Rattle.cqlp_note.specs.Partial.{FieldState, Ends, Waits, Advances, Pushes, going_on, ended, content_bytes}
+use Rattle.cqlp_note.specs.Field.{content_length}
+use Rattle.cqlp_note.specs.Heading.{Headed}
 use Rattle.cqlp_note.specs.Laws.{IsSameField, IsSamePush, IsSameTaken, AfterCall, IsRead, IsWritten}
 use Rattle.cqlp_note.proofs.Runs.{same_got}
 

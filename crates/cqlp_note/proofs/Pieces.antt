@@ -21,7 +21,8 @@ use Rattle.cqlp_note.specs.declared.prim.BoundValue.TheVariants as bound
 use Rattle.cqlp_note.specs.Head.{made, reader_of, value_of, HasNoContent, Tells}
 use Rattle.cqlp_note.specs.declared.advance.FieldStage.{FieldStage}
 use Rattle.cqlp_note.specs.declared.advance.FieldStage.TheVariants as stage
-use Rattle.cqlp_note.specs.Partial.{accepts, content_value, content_length, content_bytes, is_under_way, seen_of}
+use Rattle.cqlp_note.specs.Partial.{accepts, content_value, content_bytes, is_under_way, seen_of}
+use Rattle.cqlp_note.specs.Field.{content_length}
 use Rattle.cqlp_note.proofs.Fronts.{fixed_short}
 
 -- what a front tells, it tells whatever follows, if nothing follows one that is wanting
@@ -244,3 +245,6 @@ utf8_false c u = is_false (is_utf8 c) (λ t. u (IsUtf8-from_is_utf8 c t))
 
 pub utf8_known : (c : List ℕ) → is_utf8 c ≡ true → IsUtf8 c
 utf8_known c t = IsUtf8-from_is_utf8 c t
+
+-- what the reading of a content out of pieces rests on
+pub ruleset of_contents = (whole_bad, seen_is_front, split_goes_on, rest_is, front_fits)

@@ -10,7 +10,7 @@ use Rattle.cqlp_note.specs.declared.prim.Address.{Address}
 use Rattle.cqlp_note.specs.declared.refusal.Reason.TheVariants.{Overrun}
 use Rattle.cqlp_note.specs.Reader.{Reader, Gives, number_of}
 use Rattle.cqlp_note.specs.Field.{FieldValue, Byte, Short, Int, Long, Uuid, Count, Text, Bytes, Bound, Inet, Null, Unset, Known, FieldReader, content_of, field_of, text_of, address_of, signed}
-use Rattle.cqlp_note.specs.Partial.{content_length}
+use Rattle.cqlp_note.specs.Field.{content_length}
 use Rattle.cqlp_note.specs.Spelling.{IsNumber, Counted, IsInet, Spells}
 use Rattle.cqlp_note.proofs.Fields.{inet_of}
 use Rattle.cqlp_note.proofs.Yields.{Yields}

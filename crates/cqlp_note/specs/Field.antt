@@ -1,5 +1,5 @@
 -- Fields: their values, and how much the bytes so far say of one.
-use Rattle.std.specs.Prelude.{ℕ, ◌+◌, ◌-◌, ◌^◌, ℤ, Bool, List, Option, Some, None, nat_lt, ◌==◌, ◌||◌, if◌then◌else◌}
+use Rattle.std.specs.Prelude.{ℕ, ◌+◌, ◌-◌, ◌^◌, ℤ, Bool, List, length, Option, Some, None, nat_lt, ◌==◌, ◌||◌, if◌then◌else◌}
 use Rattle.std.specs.Int.{w8, w16, w32, w64, from_be_bytes, cast_signed}
 use Rattle.std.specs.Str.{is_utf8}
 use Rattle.cqlp_note.specs.declared.field.Notation.{Notation}
@@ -28,6 +28,13 @@ pub data FieldValue : Type 0 where
   Bytes : Option (List ℕ) → FieldValue
   Bound : BoundValue → FieldValue
   Inet : Address → ℤ → FieldValue
+
+-- the bytes of a field that its limit counts
+abbrev pub content_length : FieldValue → ℕ
+content_length (Text s) = length s
+content_length (Bytes (Some c)) = length c
+content_length (Bound (Known c)) = length c
+content_length v = 0
 
 abbrev pub signed : ℕ → ℤ
 signed n = cast_signed w32 n

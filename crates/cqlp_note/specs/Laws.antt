@@ -1,5 +1,5 @@
 -- Laws of fields and of headers.
-use Rattle.std.specs.Prelude.{◌≡◌, ℕ, ◌<◌, ◌≤◌, ◌↔◌, ◌++◌, Bool, IsTrue, List, All, length, take, FitsSigned, Option, Some, Result, Ok, IfOk, is_err}
+use Rattle.std.specs.Prelude.{◌≡◌, ℕ, ◌<◌, ◌≤◌, ◌↔◌, ◌++◌, Bool, true, IsTrue, List, All, length, take, FitsSigned, Option, Some, Result, Ok, IfOk, is_err}
 use Rattle.std.specs.Int.{w16}
 use Rattle.std.specs.Io.KnownBytes.{ReadConsumes, WriteAppends}
 use Rattle.cqlp_note.specs.declared.advance.Push.{Push}
@@ -15,8 +15,9 @@ use Rattle.cqlp_note.specs.Streams.{counted, took_none}
 use Rattle.cqlp_note.specs.Reader.{Bad, Got, says}
 use Rattle.cqlp_note.specs.Field.{FieldValue, field_of}
 use Rattle.cqlp_note.specs.Head.{value_of}
-use Rattle.cqlp_note.specs.Partial.{FieldState, IsNew, Advances, Pushes, content_length, item_value}
-use Rattle.cqlp_note.specs.Spelling.{Spells}
+use Rattle.cqlp_note.specs.Partial.{FieldState, IsNew, Advances, Pushes, item_value}
+use Rattle.cqlp_note.specs.Field.{content_length}
+use Rattle.cqlp_note.specs.Spelling.{Spells, field_bytes, counts_no_more, is_short_enough, IsInRange}
 use Rattle.cqlp_note.specs.Heading.{Headed, IsLawful, header_bytes, heading}
 
 -- What is got of a field, its bytes spell.
@@ -43,6 +44,19 @@ pub record SaidStays (n : Notation) (limit room : ℕ) (bytes t : List ℕ) : Ty
 
 abbrev pub FieldsStay : Type 0
 FieldsStay = (n : Notation) (limit room : ℕ) (bytes t : List ℕ) → SaidStays n limit room bytes t
+
+-- A field that fits is spelled by the bytes that are written of it.
+abbrev pub WrittenFieldIsSpelled : Type 0
+WrittenFieldIsSpelled =
+    (n : Notation) (v : FieldValue)
+    → IsInRange n v → counts_no_more n v ≡ true → is_short_enough n v ≡ true → Spells n v (field_bytes n v)
+
+-- A field that bytes spell fits.
+abbrev pub SpelledFieldFits : Type 0
+SpelledFieldFits =
+    (n : Notation) (v : FieldValue) (b : List ℕ)
+    → Spells n v b → All (λ x. x < 256) b
+    → IsInRange n v × (counts_no_more n v ≡ true) × (is_short_enough n v ≡ true)
 
 -- A lawful header, whose stream id has 16 bits, is read from its bytes.
 abbrev pub WrittenIsRead : Type 0

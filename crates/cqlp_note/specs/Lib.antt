@@ -8,4 +8,5 @@ pub mod Head
 pub mod Partial
 pub mod Lending
 pub mod Streams
+pub mod Outputs
 pub mod Laws

@@ -15,7 +15,7 @@ use Rattle.cqlp_note.specs.declared.advance.Push.TheVariants as push
 use Rattle.cqlp_note.specs.declared.advance.FieldStage.{FieldStage}
 use Rattle.cqlp_note.specs.declared.advance.FieldStage.TheVariants as stage
 use Rattle.cqlp_note.specs.Reader.{More, Bad, Got, Takes, says}
-use Rattle.cqlp_note.specs.Field.{FieldValue, Text, Bytes, Bound, Known}
+use Rattle.cqlp_note.specs.Field.{FieldValue, Text, Bytes, Bound, Known, content_length}
 use Rattle.cqlp_note.specs.Head.{reader_of, value_of, made, front_of}
 
 -- What a caller knows of a `Partial`: the room for a content; whether a field is under way, which was asked for
@@ -111,13 +111,6 @@ LiesThere lies.InBuffer input = ⊤
 abbrev pub CanLend : FieldOutline → (input buffer : List ℕ) → Type 0
 CanLend (item.Plain v) input buffer = ⊤
 CanLend (item.Content f l) input buffer = LiesThere l input × (accepts f (content_at l input buffer) ≡ true)
-
--- the bytes of a field that its limit counts
-abbrev pub content_length : FieldValue → ℕ
-content_length (Text s) = length s
-content_length (Bytes (Some c)) = length c
-content_length (Bound (Known c)) = length c
-content_length v = 0
 
 -- the content itself
 abbrev pub content_bytes : FieldValue → List ℕ

@@ -77,7 +77,7 @@ impl Notation {
 }
 
 /// Reads the front of a field in its first bytes, which may be too few or go on after it.
-#[tactic(auto, using(crate::proofs::Fronts::fixed_overruns, crate::proofs::Fronts::fixed_wanting, crate::proofs::Fronts::fixed_short, crate::proofs::Fronts::fixed_tells))]
+#[tactic(auto, using(crate::proofs::Fronts::of_first_bytes))]
 pub(crate) fn read_head(wanted: Wanted, bytes: &[u8]) -> Result<Head, Stop>
     ensures { Tells wanted (reader_of wanted) 0 bytes.now result }
 {

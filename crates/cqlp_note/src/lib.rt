@@ -8,6 +8,7 @@ mod head;
 mod header;
 pub mod laws;
 mod limits;
+mod offering;
 mod opcode;
 mod partial;
 mod prim;
@@ -19,6 +20,7 @@ pub use field::{Field, Notation};
 pub use head::ContentForm;
 pub use header::Header;
 pub use limits::{BadLimits, LimitRange, Limits};
+pub use offering::offer;
 pub use opcode::Opcode;
 pub use partial::Partial;
 // antt has a module `Prim`, so that a crate above could not be checked over an enum whose own name this is.

@@ -179,7 +179,7 @@ impl<A: Allocator> Partial<A> {
     }
 
     /// Takes a content, of which nothing came before `start` in the input.
-    #[tactic(auto, using(crate::proofs::Pieces::whole_bad, crate::proofs::Pieces::seen_is_front, crate::proofs::Pieces::split_goes_on, crate::proofs::Pieces::rest_is, crate::proofs::Pieces::front_fits))]
+    #[tactic(auto, using(crate::proofs::Pieces::of_contents))]
     fn take_content(
         &mut self,
         start: usize,

@@ -1,0 +1,23 @@
+//! Bytes on their way to a target.
+
+ghost use Rattle.cqlp_note.specs.Outputs.{Offered, written};
+
+use crate::streams::Target;
+
+/// Passes bytes on until the target fails, and answers how many it took. A call that takes only some of the bytes is
+/// followed by one with the others.
+pub fn offer<W: Target>(target: &mut W, bytes: &[u8]) -> usize
+    ensures { Offered (written W.Target target.old) bytes.now result (written W.Target target.new) }
+{
+    let mut sent = 0;
+    while sent < bytes.len() {
+        let Ok(count) = target.write(&bytes[sent..]) else {
+            break;
+        };
+        if count == 0 {
+            break;
+        }
+        sent += count;
+    }
+    sent
+}
