@@ -14,7 +14,8 @@ use Rattle.cqlp_note.specs.Field.{FieldValue, Short, Text, field_of}
 use Rattle.cqlp_note.specs.Limits.{Rules, limit_of}
 use Rattle.cqlp_note.specs.Head.{reader_of}
 use Rattle.cqlp_note.specs.Spelling.{Spells}
-use Rattle.cqlp_note.specs.Partial.{FieldState, item_value, content_length, CanLend, going_on, ended}
+use Rattle.cqlp_note.specs.Partial.{FieldState, item_value, CanLend, going_on, ended}
+use Rattle.cqlp_note.specs.Field.{content_length}
 use Rattle.cqlp_note.specs.Partial as partial
 use Rattle.cqlp_note.proofs.Readers.{says_always}
 use Rattle.cqlp_note.proofs.Fields.{field_spells}

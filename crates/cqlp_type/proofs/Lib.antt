@@ -11,6 +11,9 @@ pub mod TableLaws
 pub mod TreeLengths
 pub mod Lengths
 pub mod OneAnswer
+pub mod WrittenTrees
 pub mod OptionLengths
+pub mod TreeChecks
+pub mod TreeSizes
 pub mod OpenTypes
 pub mod Ids

@@ -1,30 +1,27 @@
 -- A type has a length just where some bytes spell its option.
-use Rattle.std.proofs.Common.{◌≡◌, ℕ, ◌<◌, ◌≤◌, ◌^◌, Bool, true, false, ◌&&◌, List, [], ◌∷◌, ◌++◌, length, Option, Some, None, refl, ◌∙◌, arith}
-use Rattle.std.specs.Prelude.{All, string_bytes, nat_le}
-use Rattle.std.specs.Int.{w16, to_be_bytes}
+use Rattle.std.proofs.Common.{◌≡◌, ℕ, ◌≤◌, ◌^◌, Bool, true, false, ◌&&◌, List, [], ◌∷◌, ◌++◌, length, ltb, Option, Some, None, refl, ◌∙◌, arith}
+use Rattle.std.specs.Prelude.{string_bytes, nat_le}
 use Rattle.std.specs.Str.{is_utf8}
 use Rattle.std.specs.declared.string.String.{String}
 use Rattle.std.specs.declared.alloc.Global.{Global}
-use Rattle.std.proofs.lemmas.Bool.{le-leb, leb-true}
-use Rattle.std.proofs.lemmas.List.Elements.{All-head, All-tail}
-use Rattle.std.proofs.lemmas.Nat.{from_be_bytes-to_be_bytes_2}
+use Rattle.std.proofs.lemmas.Bool.{le-leb, leb-true, lt-ltb, ltb-true}
 use Rattle.std.proofs.lemmas.Str.{IsUtf8-string_bytes, is_utf8-from_IsUtf8}
 use Rattle.cqlp_note.specs.declared.field.Field.{Field}
 use Rattle.cqlp_note.specs.declared.field.Field.TheVariants as field
 use Rattle.cqlp_note.specs.Field.{Text, Count}
-use Rattle.cqlp_note.specs.Heading.{beside_number}
-use Rattle.cqlp_note.specs.Spelling.{IsNumber, Spells}
 use Rattle.cqlp_type.specs.declared.kind.Kind.{Kind}
 use Rattle.cqlp_type.specs.declared.kind.Kind.TheVariants as kind
 use Rattle.cqlp_type.specs.declared.tree.TypeTree.{TypeTree, List', Set', Map', Udt', Tuple', Row_of-TypeTree, end_of-TypeTree, more_of-TypeTree, Row_of-TypeTree-Udt-2-2, end_of-TypeTree-Udt-2-2, more_of-TypeTree-Udt-2-2}
 use Rattle.cqlp_type.specs.declared.tree.TypeTree as type
-use Rattle.cqlp_type.specs.Types.{has_id, kinds}
+use Rattle.cqlp_type.specs.Types.{has_id}
 use Rattle.cqlp_type.specs.TypeStep.{TypeEvent, IsNode, IsField}
 use Rattle.cqlp_type.specs.Trees.{Head, Plain, Custom, ListOf, SetOf, MapOf, TupleOf, UdtOf, Trees, NoTree, Tree_and, kind_in, trees_in, has_names, is_plain, IsHead, AreTrees, head_items, name_items, trees_items, ItemSpells, ItemsSpell}
 use Rattle.cqlp_type.specs.TypeTrees.{head_of, inner_of, types_in_row, fields_in_row, tree_of, is_counted, name_fits, head_fits, trees_fit, trees_size, len_if}
 use Rattle.cqlp_type.specs.Laws.{HasLenOfOption}
 use Rattle.cqlp_type.proofs.Lengths.{spelled_long}
 use Rattle.cqlp_type.proofs.TreeLengths.{own_fit}
+use Rattle.cqlp_note.proofs.Small.{Small, small_front, small_back}
+use Rattle.cqlp_type.proofs.WrittenTrees.{both, and_of, plain_id, item_written, item_fits}
 
 -- ---- what can be spelled
 
@@ -45,65 +42,20 @@ can_append : (es fs : List TypeEvent) → AllCan es → AllCan fs → AllCan (es
 can_append [] fs a b = b
 can_append (e ∷ es) fs a b = (a.0, can_append es fs a.1 b)
 
--- a number of two bytes
-number_bytes : (n : ℕ) → n < 2 ^ 16 → IsNumber 2 w16 n (to_be_bytes w16 n)
-number_bytes n lt = record { long = refl; is = from_be_bytes-to_be_bytes_2 n lt }
+below : (n : ℕ) → is_counted n ≡ true → ltb n (2 ^ 16) ≡ true
+below n c = lt-ltb n (2 ^ 16) (omega (arith, leb-true n 65535 c))
 
-counted_small : (n : ℕ) → is_counted n ≡ true → n < 2 ^ 16
-counted_small n c = omega (arith, leb-true n 65535 c)
+counts : (n : ℕ) → ltb n (2 ^ 16) ≡ true → is_counted n ≡ true
+counts n t = le-leb n 65535 (omega (arith, ltb-true n (2 ^ 16) t))
 
 can_text : (f : Field) (s : List ℕ) → is_utf8 s ≡ true → is_counted (length s) ≡ true → CanSpell (IsField f (Text s))
-unfolding Spells
-can_text f s utf8 short =
-    let head = to_be_bytes w16 (length s) in
-    (head ++ s, (record { head = head; counts = number_bytes (length s) (counted_small (length s) short); parts = refl }, utf8))
+can_text f s utf8 short = (_, item_written (IsField f (Text s)) tt utf8 refl (below (length s) short))
 
 can_count : (n : ℕ) → is_counted n ≡ true → CanSpell (IsField field.Fields (Count n))
-unfolding Spells
-can_count n short = (to_be_bytes w16 n, number_bytes n (counted_small n short))
-
-can_id : (k : Kind) (id : ℕ) → beside_number id kinds ≡ Some k → id < 2 ^ 16 → CanSpell (IsNode k)
-unfolding Spells
-can_id k id is lt = (to_be_bytes w16 id, (id, is, number_bytes id lt))
+can_count n short = (_, item_written (IsField field.Fields (Count n)) tt tt (below n short) refl)
 
 can_node : (k : Kind) → has_id k ≡ true → CanSpell (IsNode k)
-can_node kind.Custom h = can_id kind.Custom 0x00 refl (omega arith)
-can_node kind.Ascii h = can_id kind.Ascii 0x01 refl (omega arith)
-can_node kind.Bigint h = can_id kind.Bigint 0x02 refl (omega arith)
-can_node kind.Blob h = can_id kind.Blob 0x03 refl (omega arith)
-can_node kind.Boolean h = can_id kind.Boolean 0x04 refl (omega arith)
-can_node kind.Counter h = can_id kind.Counter 0x05 refl (omega arith)
-can_node kind.Decimal h = can_id kind.Decimal 0x06 refl (omega arith)
-can_node kind.Double h = can_id kind.Double 0x07 refl (omega arith)
-can_node kind.Float h = can_id kind.Float 0x08 refl (omega arith)
-can_node kind.Int h = can_id kind.Int 0x09 refl (omega arith)
-can_node kind.Timestamp h = can_id kind.Timestamp 0x0B refl (omega arith)
-can_node kind.Uuid h = can_id kind.Uuid 0x0C refl (omega arith)
-can_node kind.Varchar h = can_id kind.Varchar 0x0D refl (omega arith)
-can_node kind.Varint h = can_id kind.Varint 0x0E refl (omega arith)
-can_node kind.Timeuuid h = can_id kind.Timeuuid 0x0F refl (omega arith)
-can_node kind.Inet h = can_id kind.Inet 0x10 refl (omega arith)
-can_node kind.Date h = can_id kind.Date 0x11 refl (omega arith)
-can_node kind.Time h = can_id kind.Time 0x12 refl (omega arith)
-can_node kind.Smallint h = can_id kind.Smallint 0x13 refl (omega arith)
-can_node kind.Tinyint h = can_id kind.Tinyint 0x14 refl (omega arith)
-can_node kind.List h = can_id kind.List 0x20 refl (omega arith)
-can_node kind.Map h = can_id kind.Map 0x21 refl (omega arith)
-can_node kind.Set h = can_id kind.Set 0x22 refl (omega arith)
-can_node kind.Udt h = can_id kind.Udt 0x30 refl (omega arith)
-can_node kind.Tuple h = can_id kind.Tuple 0x31 refl (omega arith)
-can_node kind.Raw h = absurd cc
-
-plain_id : (k : Kind) → is_plain k ≡ true → has_id k ≡ true
-plain_id kind.Raw h = absurd cc
-plain_id k h = refl
-
-both : (p q : Bool) → (p && q) ≡ true → (p ≡ true) × (q ≡ true)
-both true q e = (refl, e)
-both false q e = absurd cc
-
-and_of : (p q : Bool) → p ≡ true → q ≡ true → (p && q) ≡ true
-and_of p q e f = rw (e, f) refl
+can_node k h = (_, item_written (IsNode k) h tt refl refl)
 
 -- the texts of types are UTF-8
 abbrev IsTextual : Head → Type 0
@@ -158,22 +110,6 @@ can_trees named (Tree_and name h inner others) utf8 fits =
 
 -- ---- what bytes spell fits
 
-abbrev Small : List ℕ → Type 0
-Small [] = Unit {0}
-Small (x ∷ xs) = (x < 256) × Small xs
-
-small_all : (b : List ℕ) → All (λ x. x < 256) b → Small b
-small_all [] a = tt
-small_all (x ∷ xs) a = (All-head (λ x. x < 256) x xs a, small_all xs (All-tail (λ x. x < 256) x xs a))
-
-small_front : (a b : List ℕ) → Small (a ++ b) → Small a
-small_front [] b s = tt
-small_front (x ∷ a) b s = (s.0, small_front a b s.1)
-
-small_back : (a b : List ℕ) → Small (a ++ b) → Small b
-small_back [] b s = s
-small_back (x ∷ a) b s = small_back a b s.1
-
 abbrev Spelled : TypeEvent → Type 0
 Spelled e = (b : List ℕ) × Small b × ItemSpells e b
 
@@ -183,9 +119,7 @@ AllSpelled (e ∷ es) = Spelled e × AllSpelled es
 
 all_spelled : (es : List TypeEvent) (b : List ℕ) → Small b → ItemsSpell es b → AllSpelled es
 all_spelled [] b small s = tt
-all_spelled (e ∷ es) b small s =
-    let parts : Small (s.front ++ s.back) = rw s.whole at small in
-    ((s.front, small_front s.front s.back parts, s.this), all_spelled es s.back (small_back s.front s.back parts) s.that)
+all_spelled (e ∷ es) b small s = ((s.front, small_front b s.front s.back s.whole small, s.this), all_spelled es s.back (small_back b s.front s.back s.whole small) s.that)
 
 spelled_front : (es fs : List TypeEvent) → AllSpelled (es ++ fs) → AllSpelled es
 spelled_front [] fs a = tt
@@ -195,22 +129,11 @@ spelled_back : (es fs : List TypeEvent) → AllSpelled (es ++ fs) → AllSpelled
 spelled_back [] fs a = a
 spelled_back (e ∷ es) fs a = spelled_back es fs a.1
 
-number_counted : (n : ℕ) (b : List ℕ) → Small b → IsNumber 2 w16 n b → is_counted n ≡ true
-number_counted n [] small s = absurd (omega (arith, s.long))
-number_counted n (x ∷ []) small s = absurd (omega (arith, s.long))
-number_counted n (x ∷ y ∷ []) small s = le-leb n 65535 (omega (arith, s.is, small.0, small.1.0))
-number_counted n (x ∷ y ∷ z ∷ b) small s = absurd (omega (arith, s.long))
-
 text_counted : (f : Field) (s : List ℕ) → Spelled (IsField f (Text s)) → is_counted (length s) ≡ true
-unfolding Spells
-text_counted f s t =
-    let c = t.2.0 in
-    let parts : Small (c.head ++ s) = rw c.parts at t.1 in
-    number_counted (length s) c.head (small_front c.head s parts) c.counts
+text_counted f s t = counts (length s) (item_fits (IsField f (Text s)) t.0 t.2 t.1).2
 
 count_counted : (n : ℕ) → Spelled (IsField field.Fields (Count n)) → is_counted n ≡ true
-unfolding Spells
-count_counted n t = number_counted n t.0 t.1 t.2
+count_counted n t = counts n (item_fits (IsField field.Fields (Count n)) t.0 t.2 t.1).1
 
 name_fit : (named : Bool) (name : List ℕ) → AllSpelled (name_items named name) → name_fits named name ≡ true
 name_fit true name a = text_counted field.FieldName name a.0
@@ -339,6 +262,6 @@ len_of_option t = record {
       let s = len_some (trees_fit false (tree_of t)) (trees_size false (tree_of t)) n e in
       (omega (arith, s.1, s.2), λ b is. spelled_long false (tree_of t) b is.1 ∙ s.1);
   some = λ b bytes is le.
-      let fits = trees_fit_all false (tree_of t) is.0 (all_spelled (trees_items false (tree_of t)) b (small_all b bytes) is.1) in
+      let fits = trees_fit_all false (tree_of t) is.0 (all_spelled (trees_items false (tree_of t)) b bytes is.1) in
       len_is (trees_fit false (tree_of t)) (trees_size false (tree_of t)) (length b) fits (spelled_long false (tree_of t) b is.1) le;
 }

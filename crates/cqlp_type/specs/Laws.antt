@@ -1,5 +1,6 @@
 -- Laws of types, of their tables and of how they are read.
 use Rattle.std.specs.Prelude.{◌≡◌, ℕ, suc, ◌+◌, ◌++◌, ◌<◌, ◌≤◌, Bool, true, false, List, [], ◌∷◌, All, length, slice_get, Some}
+use Rattle.std.specs.List.{list_all}
 use Rattle.cqlp_note.specs.declared.refusal.Refusal.{Refusal}
 use Rattle.cqlp_note.specs.Step.{Runs}
 use Rattle.cqlp_note.specs.Limits.{Rules}
@@ -16,7 +17,7 @@ use Rattle.cqlp_type.specs.declared.item.TypePush.TheVariants as push
 use Rattle.cqlp_type.specs.Table.{Table, beginnings, child}
 use Rattle.cqlp_type.specs.Remaining.{event_at}
 use Rattle.cqlp_type.specs.Standing.{TypeState, IsShared, place_of, pending, Advances}
-use Rattle.cqlp_type.specs.Trees.{Trees, trees_in, options_in, types_in, AreTrees, Shallow, AreShort, trees_items, placed, TreeSpells}
+use Rattle.cqlp_type.specs.Trees.{Trees, trees_in, options_in, types_in, AreTrees, is_tree, Shallow, AreShort, trees_items, placed, TreeSpells, item_counts, item_is_short, ItemIsInRange, tree_bytes}
 use Rattle.cqlp_type.specs.declared.tree.TypeTree.{TypeTree}
 use Rattle.cqlp_type.specs.TypeTrees.{tree_of, trees_size, spelled_len}
 use Rattle.cqlp_type.specs.Pushing.{After, ReadsInto, AdvanceLeaves, IsWhole, Uses, Continues, Fills, Pushes, event_of}
@@ -50,6 +51,24 @@ ReadIsSpelled =
 -- The bytes that spell a type are as many as its size says.
 abbrev pub SpelledIsLong : Type 0
 SpelledIsLong = (t : Trees) (b : List ℕ) → TreeSpells t b → length b ≡ trees_size false t
+
+-- Each text of a type is UTF-8, and each text and each number of fields is one that a [short] can count.
+pub record TreeFits (t : Trees) : Type 0 where
+  pub texts : All ItemIsInRange (trees_items false t)
+  pub counts : list_all item_counts (trees_items false t) ≡ true
+  pub short : list_all item_is_short (trees_items false t) ≡ true
+
+-- A type that fits is spelled by the bytes that are written of it, which are as many as its size says.
+abbrev pub FittingIsSpelled : Type 0
+FittingIsSpelled =
+    (t : Trees) → is_tree t ≡ true → TreeFits t
+    → (trees_in t ≡ 1) × AreTrees t × TreeSpells t (tree_bytes t) × (length (tree_bytes t) ≡ trees_size false t)
+
+-- A type that bytes spell fits.
+abbrev pub SpelledFits : Type 0
+SpelledFits =
+    (t : Trees) (b : List ℕ) → trees_in t ≡ 1 → AreTrees t → TreeSpells t b → All (λ x. x < 256) b
+    → (is_tree t ≡ true) × TreeFits t
 
 -- These bytes are the option of a caller's type.
 abbrev pub IsOptionOf : TypeTree → List ℕ → Type 0

@@ -9,3 +9,4 @@ pub mod Pushing
 pub mod Laws
 pub mod TypeTrees
 pub mod TypeLists
+pub mod TreeChecks

@@ -9,7 +9,8 @@ use Rattle.cqlp_note.specs.Reader.{Said, More, Bad, Got, says}
 use Rattle.cqlp_note.specs.Field.{Text}
 use Rattle.cqlp_note.specs.Step.{Emitted}
 use Rattle.cqlp_note.specs.Limits.{Rules, rules_of, limit_of}
-use Rattle.cqlp_note.specs.Partial.{FieldState, item_value, content_length, CanLend}
+use Rattle.cqlp_note.specs.Partial.{FieldState, item_value, CanLend}
+use Rattle.cqlp_note.specs.Field.{content_length}
 use Rattle.cqlp_type.specs.declared.node.Node.{Node}
 use Rattle.cqlp_type.specs.declared.remaining.OptionStage.{OptionStage}
 use Rattle.cqlp_type.specs.declared.advance.TypeOutline.{TypeOutline}

@@ -1,16 +1,17 @@
 -- Types with the texts of their options, and what spells them (section 4.2.5.2 of native_protocol_v4.spec).
-use Rattle.std.specs.Prelude.{◌≡◌, ℕ, suc, ◌+◌, ◌++◌, ◌≤◌, Bool, true, false, List, [], ◌∷◌, Some}
+use Rattle.std.specs.Prelude.{◌≡◌, ℕ, suc, ◌+◌, ◌++◌, ◌≤◌, Bool, true, false, ◌&&◌, ◌==◌, List, [], ◌∷◌, Some}
+use Rattle.std.specs.List.{flat_map}
 use Rattle.cqlp_note.specs.declared.field.Field.TheVariants as field
 use Rattle.cqlp_note.specs.declared.field.Notation.{Notation}
 use Rattle.cqlp_note.specs.declared.field.Notation.TheVariants as notation
 use Rattle.cqlp_note.specs.Field.{FieldValue, Short, Text, Count}
 use Rattle.cqlp_note.specs.Limits.{Rules}
 use Rattle.cqlp_note.specs.Heading.{beside_number}
-use Rattle.cqlp_note.specs.Spelling.{Spells}
-use Rattle.cqlp_note.specs.Partial.{content_length}
+use Rattle.cqlp_note.specs.Spelling.{Spells, field_bytes, counts_no_more, is_short_enough, IsInRange}
+use Rattle.cqlp_note.specs.Field.{content_length}
 use Rattle.cqlp_type.specs.declared.kind.Kind.{Kind}
 use Rattle.cqlp_type.specs.declared.kind.Kind.TheVariants as kind
-use Rattle.cqlp_type.specs.Types.{Types, NoMore, Type_and, kinds}
+use Rattle.cqlp_type.specs.Types.{Types, NoMore, Type_and, kinds, id_of}
 use Rattle.cqlp_type.specs.TypeStep.{TypeEvent, IsNode, IsField}
 
 -- What a type option is, apart from its inner options.
@@ -79,6 +80,24 @@ abbrev pub AreTrees : Trees → Type 0
 AreTrees NoTree = Unit {0}
 AreTrees (Tree_and name h inner others) = IsHead h (trees_in inner) × AreTrees inner × AreTrees others
 
+-- the same as a test
+abbrev pub is_head : Head → (n : ℕ) → Bool
+is_head (Plain k) n = is_plain k && (n == 0)
+is_head (Custom class) n = n == 0
+is_head ListOf n = n == 1
+is_head SetOf n = n == 1
+is_head MapOf n = n == 2
+is_head TupleOf n = true
+is_head (UdtOf keyspace name) n = true
+
+abbrev pub are_trees : Trees → Bool
+are_trees NoTree = true
+are_trees (Tree_and name h inner others) = is_head h (trees_in inner) && are_trees inner && are_trees others
+
+-- one type, and all in it
+abbrev pub is_tree : Trees → Bool
+is_tree t = (trees_in t == 1) && are_trees t
+
 -- types at this depth, no inner type too deep
 abbrev pub Shallow : Rules → (depth : ℕ) → Trees → Type 0
 Shallow l depth NoTree = Unit {0}
@@ -135,6 +154,32 @@ ItemsSpell (e ∷ es) b = Joined (ItemSpells e) (ItemsSpell es) b
 -- These bytes spell a type's option.
 abbrev pub TreeSpells : Trees → List ℕ → Type 0
 TreeSpells t b = ItemsSpell (trees_items false t) b
+
+-- a [short] can count the fields that an item counts, and the bytes of its text
+abbrev pub item_counts : TypeEvent → Bool
+item_counts (IsNode k) = true
+item_counts (IsField f v) = counts_no_more (notation_for v) v
+
+abbrev pub item_is_short : TypeEvent → Bool
+item_is_short (IsNode k) = true
+item_is_short (IsField f v) = is_short_enough (notation_for v) v
+
+-- a text of a type option is UTF-8
+abbrev pub ItemIsInRange : TypeEvent → Type 0
+ItemIsInRange (IsNode k) = Unit {0}
+ItemIsInRange (IsField f v) = IsInRange (notation_for v) v
+
+-- ---- the spelling that is written
+
+abbrev pub item_bytes : TypeEvent → List ℕ
+item_bytes (IsNode k) = field_bytes notation.Short (Short (id_of k))
+item_bytes (IsField f v) = field_bytes (notation_for v) v
+
+-- the bytes of a type's option
+abbrev pub tree_bytes : Trees → List ℕ
+tree_bytes t = flat_map item_bytes (trees_items false t)
+
+-- ---- sizes and places
 
 -- how many bytes spell an item
 abbrev pub item_size : TypeEvent → ℕ

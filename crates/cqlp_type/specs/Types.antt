@@ -1,5 +1,5 @@
 -- Types as trees, and their nodes in preorder.
-use Rattle.std.specs.Prelude.{◌≡◌, ℕ, zero, suc, ◌++◌, Bool, true, false, List, [], ◌∷◌, length}
+use Rattle.std.specs.Prelude.{◌≡◌, ℕ, zero, suc, ◌++◌, ◌==◌, Bool, true, false, List, [], ◌∷◌, length}
 use Rattle.cqlp_type.specs.declared.kind.Kind.{Kind}
 use Rattle.cqlp_type.specs.declared.kind.Kind.TheVariants as kind
 use Rattle.cqlp_type.specs.declared.node.Node.{Node}
@@ -26,6 +26,38 @@ kinds =
     ∷ (0x0B, kind.Timestamp) ∷ (0x0C, kind.Uuid) ∷ (0x0D, kind.Varchar) ∷ (0x0E, kind.Varint) ∷ (0x0F, kind.Timeuuid)
     ∷ (0x10, kind.Inet) ∷ (0x11, kind.Date) ∷ (0x12, kind.Time) ∷ (0x13, kind.Smallint) ∷ (0x14, kind.Tinyint)
     ∷ (0x20, kind.List) ∷ (0x21, kind.Map) ∷ (0x22, kind.Set) ∷ (0x30, kind.Udt) ∷ (0x31, kind.Tuple) ∷ []
+
+-- the id of a kind; that of a cell whose type is not known has none, and a number that is no [short]
+abbrev pub id_of : Kind → ℕ
+id_of kind.Custom = 0x00
+id_of kind.Ascii = 0x01
+id_of kind.Bigint = 0x02
+id_of kind.Blob = 0x03
+id_of kind.Boolean = 0x04
+id_of kind.Counter = 0x05
+id_of kind.Decimal = 0x06
+id_of kind.Double = 0x07
+id_of kind.Float = 0x08
+id_of kind.Int = 0x09
+id_of kind.Timestamp = 0x0B
+id_of kind.Uuid = 0x0C
+id_of kind.Varchar = 0x0D
+id_of kind.Varint = 0x0E
+id_of kind.Timeuuid = 0x0F
+id_of kind.Inet = 0x10
+id_of kind.Date = 0x11
+id_of kind.Time = 0x12
+id_of kind.Smallint = 0x13
+id_of kind.Tinyint = 0x14
+id_of kind.List = 0x20
+id_of kind.Map = 0x21
+id_of kind.Set = 0x22
+id_of kind.Udt = 0x30
+id_of kind.Tuple = 0x31
+id_of kind.Raw = 0x10000
+
+abbrev pub is_kind : Kind → Kind → Bool
+is_kind j k = id_of j == id_of k
 
 -- The types of columns, or the inner types of one type: a type has a kind and inner types, and types after it.
 pub data Types : Type 0 where

@@ -36,7 +36,7 @@ pub enum Kind {
 
 impl Kind {
     ghost use Rattle.cqlp_note.specs.Heading.{beside_number};
-    ghost use Rattle.cqlp_type.specs.Types.{has_id, has_no_items, kinds};
+    ghost use Rattle.cqlp_type.specs.Types.{has_id, has_no_items, id_of, kinds};
     ghost use Rattle.cqlp_type.specs.TypeStep.{arity_of};
     ghost use Rattle.cqlp_type.specs.Trees.{is_plain};
 
@@ -87,7 +87,8 @@ impl Kind {
     /// The id of its type option, which the kind of an unknown type has not.
     pub fn id(self) -> u16
         requires { has_id self ≡ true }
-        ensures { beside_number result kinds ≡ Some self }
+        ensures table { beside_number result kinds ≡ Some self }
+        ensures number { result ≡ id_of self }
     {
         match self {
             Kind::Custom => 0x00,

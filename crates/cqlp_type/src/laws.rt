@@ -1,7 +1,7 @@
 //! Laws of the definitions.
 
 ghost use Rattle.cqlp_type.specs.Laws.{TypesOfPreorder, TypesOfOwnPreorder, RootsAreTypes, ChildrenOfWhole, ChildrenOfOpen};
-ghost use Rattle.cqlp_type.specs.Laws.{SpelledIsRead, ReadIsSpelled, SpelledIsLong, OpenIsLast, LenIsOfOption};
+ghost use Rattle.cqlp_type.specs.Laws.{SpelledIsRead, ReadIsSpelled, SpelledIsLong, FittingIsSpelled, SpelledFits, OpenIsLast, LenIsOfOption};
 ghost use Rattle.cqlp_type.specs.Laws.{OneAnswerOfId, OneAnswerOfPush, OneAnswerOfAdvance};
 
 /// The types of nodes in preorder are those that the nodes were made of.
@@ -24,6 +24,16 @@ pub fn read_is_spelled()
 /// The bytes that spell a type are as many as `type_len` counts.
 pub fn spelled_is_long()
     ensures { SpelledIsLong }
+{}
+
+/// A type that fits is spelled by the bytes that are written of it.
+pub fn fitting_is_spelled()
+    ensures { FittingIsSpelled }
+{}
+
+/// A type that bytes spell fits.
+pub fn spelled_fits()
+    ensures { SpelledFits }
 {}
 
 /// `type_len` is the length of the bytes that are a type's option, where there are any and they are not too many.

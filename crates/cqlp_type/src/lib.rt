@@ -2,6 +2,7 @@
 #![tactic(auto)]
 
 mod advance;
+mod check;
 mod item;
 mod kind;
 pub mod laws;
@@ -9,13 +10,16 @@ mod node;
 mod open_options;
 mod reader;
 mod remaining;
+mod size;
 mod table;
 mod tree;
 
 pub use advance::{TypeAdvance, TypeOutline};
+pub use check::{TreeCheck, check_type};
 pub use item::{TypeItem, TypePush};
 pub use kind::Kind;
 pub use node::Node;
 pub use reader::TypeReader;
+pub use size::type_size;
 pub use table::TypeTable;
 pub use tree::{TypeTree, type_len};
