@@ -20,6 +20,12 @@ pub mod Parting
 pub mod Leavings
 pub mod ReadBack
 pub mod SpelledRead
+pub mod ScalarFits
+pub mod OwnedLists
+pub mod ValueFits
+pub mod ValueSizes
 pub mod Fronts
 pub mod OneValue
 pub mod OneAnswer
+pub mod ScalarsWritten
+pub mod ValuesWritten

@@ -7,7 +7,7 @@ use Rattle.cqlp_note.specs.Field.{Count}
 use Rattle.cqlp_note.specs.Spelling.{Spells}
 use Rattle.cqlp_type.specs.declared.kind.Kind.{Kind}
 use Rattle.cqlp_type.specs.declared.kind.Kind.TheVariants as kind
-use Rattle.cqlp_type.specs.Types.{Types, NoMore, Type_and, how_many, first_types}
+use Rattle.cqlp_type.specs.Types.{Types, NoMore, Type_and, first_types}
 use Rattle.cqlp_type.specs.Trees.{Joined}
 use Rattle.cqlp_value.specs.Scalars.{ScalarValue, scalar_of}
 use Rattle.cqlp_value.specs.Sizes.{is_counted}
@@ -58,9 +58,9 @@ abbrev shape : Values → Shape
 shape NoValue = Nothing_there
 shape (Null_and vs) = Is_null
 shape (Empty_and vs) = Is_empty
-shape (Scalar_and k c v vs) = Is_scalar
+shape (Scalar_and v vs) = Is_scalar
 shape (Counted_and k n items vs) = Is_counted
-shape (Fields_and k n items vs) = Is_fielded
+shape (Fields_and k items vs) = Is_fielded
 
 abbrev kind_shape : Kind → Shape
 kind_shape kind.List = Is_counted
@@ -114,9 +114,9 @@ first_of : (k : Kind) (inner ts : Types) (vs : Values) (b : List ℕ) → Values
 first_of k inner ts NoValue b h = absurd h
 first_of k inner ts (Null_and vs) b h = record { content = None; front = h.front; back = h.back; whole = h.whole; bytes = h.this; is = refl }
 first_of k inner ts (Empty_and vs) b h = record { content = Some []; front = h.front; back = h.back; whole = h.whole; bytes = h.this; is = refl }
-first_of k inner ts (Scalar_and j c v vs) b h = record { content = Some c; front = h.4.front; back = h.4.back; whole = h.4.whole; bytes = h.4.this; is = sym (some_shape k c h.1 ∙ scalar_shape k c v h.3) }
+first_of k inner ts (Scalar_and v vs) b h = record { content = Some h.0; front = h.2.front; back = h.2.back; whole = h.2.whole; bytes = h.2.this; is = sym (some_shape k h.0 h.1.some ∙ scalar_shape k h.0 v h.1.is) }
 first_of k inner ts (Counted_and j n items vs) b h = record { content = Some h.2; front = h.4.front; back = h.4.back; whole = h.4.whole; bytes = h.4.this; is = sym (some_shape k h.2 (some_count _ n h.2 h.3) ∙ counted_shape k h.1) }
-first_of k inner ts (Fields_and j n items vs) b h = record { content = Some h.3; front = h.6.front; back = h.6.back; whole = h.6.whole; bytes = h.6.this; is = sym (some_shape k h.3 h.4 ∙ fielded_shape k h.1) }
+first_of k inner ts (Fields_and j items vs) b h = record { content = Some h.2; front = h.5.front; back = h.5.back; whole = h.5.whole; bytes = h.5.this; is = sym (some_shape k h.2 h.3 ∙ fielded_shape k h.1) }
 
 -- ---- types of which some begin the others
 
@@ -142,9 +142,9 @@ nothing_is : (ts : Types) (vs : Values) (b : List ℕ) → ValuesSpell ts vs b �
 nothing_is ts NoValue b h e = refl
 nothing_is ts (Null_and vs) b h e = absurd (omega (arith, spelled_size ts (Null_and vs) b h))
 nothing_is ts (Empty_and vs) b h e = absurd (omega (arith, spelled_size ts (Empty_and vs) b h))
-nothing_is ts (Scalar_and j c v vs) b h e = absurd (omega (arith, spelled_size ts (Scalar_and j c v vs) b h))
+nothing_is ts (Scalar_and v vs) b h e = absurd (omega (arith, spelled_size ts (Scalar_and v vs) b h))
 nothing_is ts (Counted_and j n items vs) b h e = absurd (omega (arith, spelled_size ts (Counted_and j n items vs) b h))
-nothing_is ts (Fields_and j n items vs) b h e = absurd (omega (arith, spelled_size ts (Fields_and j n items vs) b h))
+nothing_is ts (Fields_and j items vs) b h e = absurd (omega (arith, spelled_size ts (Fields_and j items vs) b h))
 
 no_bytes : (vs : Values) (b : List ℕ) → ValuesSpell NoMore vs b → length b ≡ 0
 no_bytes NoValue b h = rw h refl
@@ -175,15 +175,14 @@ ones (Null_and vs) (Null_and ws) (Type_and k inner ts) (Type_and j these us) b c
 ones (Empty_and vs) (Empty_and ws) (Type_and k inner ts) (Type_and j these us) b c is a h g e =
     let r = bytes_same (Some []) (Some []) h.front g.front h.back g.back h.this g.this (sym h.whole ∙ is ∙ g.whole) in
     ap Empty_and (ones vs ws ts us h.back g.back r.1 a.2 h.that g.that (same_shape ts us vs ws h.back g.back r.1 a.2 h.that g.that))
-ones (Scalar_and x d v vs) (Scalar_and y f w ws) (Type_and k inner ts) (Type_and j these us) b c is a h g e =
-    let m = h.4 in
-    let n = g.4 in
-    let r = bytes_same (Some d) (Some f) m.front n.front m.back n.back m.this n.this (sym m.whole ∙ is ∙ n.whole) in
-    let kinds : x ≡ y = h.0 ∙ a.0 ∙ sym g.0 in
-    let contents = same_some d f r.0 in
-    let scalars = same_some v w (sym h.3 ∙ (λ i. scalar_of (a.0 i) (contents i)) ∙ g.3) in
+ones (Scalar_and v vs) (Scalar_and w ws) (Type_and k inner ts) (Type_and j these us) b c is a h g e =
+    let m = h.2 in
+    let n = g.2 in
+    let r = bytes_same (Some h.0) (Some g.0) m.front n.front m.back n.back m.this n.this (sym m.whole ∙ is ∙ n.whole) in
+    let contents = same_some h.0 g.0 r.0 in
+    let scalars = same_some v w (sym h.1.is ∙ (λ i. scalar_of (a.0 i) (contents i)) ∙ g.1.is) in
     let rest = ones vs ws ts us m.back n.back r.1 a.2 m.that n.that (same_shape ts us vs ws m.back n.back r.1 a.2 m.that n.that) in
-    λ i. Scalar_and (kinds i) (contents i) (scalars i) (rest i)
+    λ i. Scalar_and (scalars i) (rest i)
 ones (Counted_and x p items vs) (Counted_and y q others ws) (Type_and k inner ts) (Type_and j these us) b c is a h g e =
     let m = h.4 in
     let n = g.4 in
@@ -196,19 +195,18 @@ ones (Counted_and x p items vs) (Counted_and y q others ws) (Type_and k inner ts
     let inside = ones items others (type_copies p inner) (type_copies q these) d.back f.back counts.1 alike d.that f.that (same_shape (type_copies p inner) (type_copies q these) items others d.back f.back counts.1 alike d.that f.that) in
     let rest = ones vs ws ts us m.back n.back r.1 a.2 m.that n.that (same_shape ts us vs ws m.back n.back r.1 a.2 m.that n.that) in
     λ i. Counted_and (kinds i) (counts.0 i) (inside i) (rest i)
-ones (Fields_and x p items vs) (Fields_and y q others ws) (Type_and k inner ts) (Type_and j these us) b c is a h g e =
-    let m = h.6 in
-    let n = g.6 in
-    let r = bytes_same (Some h.3) (Some g.3) m.front n.front m.back n.back m.this n.this (sym m.whole ∙ is ∙ n.whole) in
+ones (Fields_and x items vs) (Fields_and y others ws) (Type_and k inner ts) (Type_and j these us) b c is a h g e =
+    let m = h.5 in
+    let n = g.5 in
+    let r = bytes_same (Some h.2) (Some g.2) m.front n.front m.back n.back m.this n.this (sym m.whole ∙ is ∙ n.whole) in
     let kinds : x ≡ y = h.0 ∙ a.0 ∙ sym g.0 in
-    let contents = same_some h.3 g.3 r.0 in
-    let counts : p ≡ q = h.2 ∙ ap how_many a.1 ∙ sym g.2 in
+    let contents = same_some h.2 g.2 r.0 in
     let some = first_types (values_in items) inner in
     let more = first_types (values_in others) these in
     let alike : Alike some more = subst (λ (t : Types). Alike some (first_types (values_in others) t)) a.1 (alike_firsts (values_in items) (values_in others) inner) in
-    let inside = ones items others some more h.3 g.3 contents alike h.5 g.5 (same_shape some more items others h.3 g.3 contents alike h.5 g.5) in
+    let inside = ones items others some more h.2 g.2 contents alike h.4 g.4 (same_shape some more items others h.2 g.2 contents alike h.4 g.4) in
     let rest = ones vs ws ts us m.back n.back r.1 a.2 m.that n.that (same_shape ts us vs ws m.back n.back r.1 a.2 m.that n.that) in
-    λ i. Fields_and (kinds i) (counts i) (inside i) (rest i)
+    λ i. Fields_and (kinds i) (inside i) (rest i)
 ones vs ws (Type_and k inner ts) (Type_and j these us) b c is a h g e = absurd cc
 
 pub one_spelled : (k : Kind) (inner : Types) (v w : Values) (b : List ℕ) → ValueSpells k inner v b → ValueSpells k inner w b → v ≡ w

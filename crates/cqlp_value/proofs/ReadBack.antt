@@ -17,10 +17,11 @@ use Rattle.cqlp_type.specs.declared.kind.Kind.{Kind}
 use Rattle.cqlp_type.specs.declared.kind.Kind.TheVariants as kind
 use Rattle.cqlp_type.specs.Types.{Types, NoMore, Type_and, how_many, first_types, followed_by}
 use Rattle.cqlp_type.specs.Trees.{Joined}
-use Rattle.cqlp_value.specs.Scalars.{ScalarValue, allows_size, scalar_of}
+use Rattle.cqlp_value.specs.Scalars.{ScalarValue, allows_size, scalar_of, content_size}
 use Rattle.cqlp_value.specs.CellStep.{CellSymbol, Value_of, Items_of, Close_of, Content_from, CellEvent, Null, Empty, Enter, Leave, Part, CellPlace, cell_copies, values_of, is_opaque, place_after, leaf_step, fielded_step, close_step, counted_step, part_step, scalar_step, content_step, sized_step, value_step, items_step, cell_step_at, cell_step}
 use Rattle.cqlp_value.specs.Sizes.{is_counted}
-use Rattle.cqlp_value.specs.Values.{Values, NoValue, Null_and, Empty_and, Scalar_and, Counted_and, Fields_and, values_in, type_copies, has_fields, IsBytes, ValuesSpell, ValueSpells, values_size, part_items, scalar_items, values_items}
+use Rattle.cqlp_value.specs.Values.{Values, NoValue, Null_and, Empty_and, Scalar_and, Counted_and, Fields_and, values_in, type_copies, has_fields, IsBytes, IsScalar, ValuesSpell, ValueSpells, values_size, part_items, scalar_items, values_items, value_items}
+use Rattle.cqlp_value.proofs.ScalarSizes.{is_own, opaque_scalar, opaque_content, whole_items, parted_items}
 
 -- ---- values one after the other
 
@@ -28,9 +29,9 @@ abbrev pub with_others : Values → Values → Values
 with_others NoValue ws = ws
 with_others (Null_and vs) ws = Null_and (with_others vs ws)
 with_others (Empty_and vs) ws = Empty_and (with_others vs ws)
-with_others (Scalar_and k c v vs) ws = Scalar_and k c v (with_others vs ws)
+with_others (Scalar_and v vs) ws = Scalar_and v (with_others vs ws)
 with_others (Counted_and k n items vs) ws = Counted_and k n items (with_others vs ws)
-with_others (Fields_and k n items vs) ws = Fields_and k n items (with_others vs ws)
+with_others (Fields_and k items vs) ws = Fields_and k items (with_others vs ws)
 
 joined_after : (P Q R : List ℕ → Type 0) (b c : List ℕ) (h : Joined P Q b) → R (h.back ++ c) → Joined P R (b ++ c)
 joined_after P Q R b c h r = record { front = h.front; back = h.back ++ c; whole = ap (λ (x : List ℕ). x ++ c) h.whole ∙ append_assoc h.front h.back c; this = h.this; that = r }
@@ -39,27 +40,27 @@ pub spelled_after : (ts us : Types) (vs ws : Values) (b c : List ℕ) → Values
 spelled_after NoMore us NoValue ws b c h g = rw h g
 spelled_after (Type_and k inner ts) us (Null_and vs) ws b c h g = joined_after _ _ _ b c h (spelled_after ts us vs ws h.back c h.that g)
 spelled_after (Type_and k inner ts) us (Empty_and vs) ws b c h g = joined_after _ _ _ b c h (spelled_after ts us vs ws h.back c h.that g)
-spelled_after (Type_and k inner ts) us (Scalar_and j d v vs) ws b c h g = (h.0, h.1, h.2, h.3, joined_after _ _ _ b c h.4 (spelled_after ts us vs ws h.4.back c h.4.that g))
+spelled_after (Type_and k inner ts) us (Scalar_and v vs) ws b c h g = (h.0, h.1, joined_after _ _ _ b c h.2 (spelled_after ts us vs ws h.2.back c h.2.that g))
 spelled_after (Type_and k inner ts) us (Counted_and j n items vs) ws b c h g = (h.0, h.1, h.2, h.3, joined_after _ _ _ b c h.4 (spelled_after ts us vs ws h.4.back c h.4.that g))
-spelled_after (Type_and k inner ts) us (Fields_and j n items vs) ws b c h g = (h.0, h.1, h.2, h.3, h.4, h.5, joined_after _ _ _ b c h.6 (spelled_after ts us vs ws h.6.back c h.6.that g))
+spelled_after (Type_and k inner ts) us (Fields_and j items vs) ws b c h g = (h.0, h.1, h.2, h.3, h.4, joined_after _ _ _ b c h.5 (spelled_after ts us vs ws h.5.back c h.5.that g))
 spelled_after ts us vs ws b c h g = absurd h
 
 pub values_in_after : (vs ws : Values) → values_in (with_others vs ws) ≡ values_in vs + values_in ws
 values_in_after NoValue ws = omega arith
 values_in_after (Null_and vs) ws = omega (arith, values_in_after vs ws)
 values_in_after (Empty_and vs) ws = omega (arith, values_in_after vs ws)
-values_in_after (Scalar_and k c v vs) ws = omega (arith, values_in_after vs ws)
+values_in_after (Scalar_and v vs) ws = omega (arith, values_in_after vs ws)
 values_in_after (Counted_and k n items vs) ws = omega (arith, values_in_after vs ws)
-values_in_after (Fields_and k n items vs) ws = omega (arith, values_in_after vs ws)
+values_in_after (Fields_and k items vs) ws = omega (arith, values_in_after vs ws)
 
 -- one value of each type
 pub spelled_many : (ts : Types) (vs : Values) (b : List ℕ) → ValuesSpell ts vs b → values_in vs ≡ how_many ts
 spelled_many NoMore NoValue b h = refl
 spelled_many (Type_and k inner ts) (Null_and vs) b h = ap suc (spelled_many ts vs h.back h.that)
 spelled_many (Type_and k inner ts) (Empty_and vs) b h = ap suc (spelled_many ts vs h.back h.that)
-spelled_many (Type_and k inner ts) (Scalar_and j d v vs) b h = ap suc (spelled_many ts vs h.4.back h.4.that)
+spelled_many (Type_and k inner ts) (Scalar_and v vs) b h = ap suc (spelled_many ts vs h.2.back h.2.that)
 spelled_many (Type_and k inner ts) (Counted_and j n items vs) b h = ap suc (spelled_many ts vs h.4.back h.4.that)
-spelled_many (Type_and k inner ts) (Fields_and j n items vs) b h = ap suc (spelled_many ts vs h.6.back h.6.that)
+spelled_many (Type_and k inner ts) (Fields_and j items vs) b h = ap suc (spelled_many ts vs h.5.back h.5.that)
 spelled_many ts vs b h = absurd h
 
 pub null_size : (b : List ℕ) → IsBytes None b → length b ≡ 4
@@ -82,28 +83,32 @@ pub spelled_size : (ts : Types) (vs : Values) (b : List ℕ) → ValuesSpell ts 
 spelled_size NoMore NoValue b h = rw h refl
 spelled_size (Type_and k inner ts) (Null_and vs) b h = omega (arith, joined_size _ _ b h, null_size h.front h.this, spelled_size ts vs h.back h.that)
 spelled_size (Type_and k inner ts) (Empty_and vs) b h = omega (arith, joined_size _ _ b h, bytes_size [] h.front h.this, spelled_size ts vs h.back h.that)
-spelled_size (Type_and k inner ts) (Scalar_and j d v vs) b h = omega (arith, joined_size _ _ b h.4, bytes_size d h.4.front h.4.this, spelled_size ts vs h.4.back h.4.that)
+spelled_size (Type_and k inner ts) (Scalar_and v vs) b h = omega (arith, joined_size _ _ b h.2, bytes_size h.0 h.2.front h.2.this, (is_own k v h.0 h.1).1, spelled_size ts vs h.2.back h.2.that)
 spelled_size (Type_and k inner ts) (Counted_and j n items vs) b h =
     omega (arith, joined_size _ _ b h.4, bytes_size h.2 h.4.front h.4.this, joined_size _ _ h.2 h.3, count_size n h.3.front h.3.this, spelled_size (type_copies n inner) items h.3.back h.3.that, spelled_size ts vs h.4.back h.4.that)
-spelled_size (Type_and k inner ts) (Fields_and j n items vs) b h =
-    omega (arith, joined_size _ _ b h.6, bytes_size h.3 h.6.front h.6.this, spelled_size (first_types (values_in items) inner) items h.3 h.5, spelled_size ts vs h.6.back h.6.that)
+spelled_size (Type_and k inner ts) (Fields_and j items vs) b h =
+    omega (arith, joined_size _ _ b h.5, bytes_size h.2 h.5.front h.5.this, spelled_size (first_types (values_in items) inner) items h.2 h.4, spelled_size ts vs h.5.back h.5.that)
 spelled_size ts vs b h = absurd h
 
-pub items_after : (l : Rules) (level at : ℕ) (vs ws : Values) → values_items l level at (with_others vs ws) ≡ values_items l level at vs ++ values_items l level (at + values_size vs) ws
-items_after l level at NoValue ws = let e : at + 0 ≡ at = omega arith in rw e refl
-items_after l level at (Null_and vs) ws = let e : at + 4 + values_size vs ≡ at + (4 + values_size vs) = omega arith in rw (items_after l level (at + 4) vs ws, e) refl
-items_after l level at (Empty_and vs) ws = let e : at + 4 + values_size vs ≡ at + (4 + values_size vs) = omega arith in rw (items_after l level (at + 4) vs ws, e) refl
-items_after l level at (Scalar_and k c v vs) ws =
-    let e : at + 4 + length c + values_size vs ≡ at + (4 + length c + values_size vs) = omega arith in
-    rw (items_after l level (at + 4 + length c) vs ws, e) (sym (append_assoc (scalar_items l level at k c v) (values_items l level (at + 4 + length c) vs) _))
-items_after l level at (Counted_and k n items vs) ws =
+-- the items of values, one of each type, and then of others
+pub items_after : (l : Rules) (level at : ℕ) (ts us : Types) (vs ws : Values) → values_in vs ≡ how_many ts
+    → values_items l level at (followed_by ts us) (with_others vs ws) ≡ values_items l level at ts vs ++ values_items l level (at + values_size vs) us ws
+items_after l level at NoMore us NoValue ws m = let e : at + 0 ≡ at = omega arith in rw e refl
+items_after l level at (Type_and k inner ts) us (Null_and vs) ws m = let e : at + 4 + values_size vs ≡ at + (4 + values_size vs) = omega arith in rw (items_after l level (at + 4) ts us vs ws (omega arith), e) refl
+items_after l level at (Type_and k inner ts) us (Empty_and vs) ws m = let e : at + 4 + values_size vs ≡ at + (4 + values_size vs) = omega arith in rw (items_after l level (at + 4) ts us vs ws (omega arith), e) refl
+items_after l level at (Type_and k inner ts) us (Scalar_and v vs) ws m =
+    let n = content_size v in
+    let e : at + 4 + n + values_size vs ≡ at + (4 + n + values_size vs) = omega arith in
+    rw (items_after l level (at + 4 + n) ts us vs ws (omega arith), e) (sym (append_assoc (scalar_items l level at v) (values_items l level (at + 4 + n) ts vs) _))
+items_after l level at (Type_and k inner ts) us (Counted_and j n items vs) ws m =
     let stop = at + 8 + values_size items in
     let e : at + 8 + values_size items + values_size vs ≡ at + (8 + values_size items + values_size vs) = omega arith in
-    rw (items_after l level stop vs ws, e) (ap (λ (x : List (ℕ × CellEvent)). (at, Enter level k n) ∷ x) (sym (append_assoc (values_items l (level + 1) (at + 8) items) ((stop, Leave level n) ∷ values_items l level stop vs) _)))
-items_after l level at (Fields_and k n items vs) ws =
+    rw (items_after l level stop ts us vs ws (omega arith), e) (ap (λ (x : List (ℕ × CellEvent)). (at, Enter level k n) ∷ x) (sym (append_assoc (values_items l (level + 1) (at + 8) (type_copies n inner) items) ((stop, Leave level n) ∷ values_items l level stop ts vs) _)))
+items_after l level at (Type_and k inner ts) us (Fields_and j items vs) ws m =
     let stop = at + 4 + values_size items in
     let e : at + 4 + values_size items + values_size vs ≡ at + (4 + values_size items + values_size vs) = omega arith in
-    rw (items_after l level stop vs ws, e) (ap (λ (x : List (ℕ × CellEvent)). (at, Enter level k n) ∷ x) (sym (append_assoc (values_items l (level + 1) (at + 4) items) ((stop, Leave level (values_in items)) ∷ values_items l level stop vs) _)))
+    rw (items_after l level stop ts us vs ws (omega arith), e) (ap (λ (x : List (ℕ × CellEvent)). (at, Enter level k (how_many inner)) ∷ x) (sym (append_assoc (values_items l (level + 1) (at + 4) (first_types (values_in items) inner) items) ((stop, Leave level (values_in items)) ∷ values_items l level stop ts vs) _)))
+items_after l level at ts us vs ws m = absurd cc
 
 -- ---- parts
 
@@ -131,13 +136,6 @@ module _ (l : Rules) (level : ℕ) where
       let rest = part_enough (length (c ++ d) - 1) (length d) (at + l.part) (offset + l.part) d some (omega (arith, all)) (omega arith) in
       enough ∙ rw (less, take_at c d l.part long, drop_at c d l.part long) (ap (λ (x : List (ℕ × CellEvent)). (at, Part level offset c false) ∷ x) rest)
 
-opaque_scalar : (k : Kind) (c : List ℕ) → is_opaque k ≡ true → (v : ScalarValue) × (scalar_of k c ≡ Some v)
-unfolding scalar_of
-opaque_scalar kind.Blob c t = (_, refl)
-opaque_scalar kind.Custom c t = (_, refl)
-opaque_scalar kind.Raw c t = (_, refl)
-opaque_scalar k c t = absurd cc
-
 -- ---- what comes of symbols
 
 abbrev pub Events : Type 0
@@ -155,7 +153,7 @@ module _ (l : Rules) where
     pub more : Events
     pub whole : b ≡ front ++ back
     pub spelled : ValuesSpell ts values front
-    pub items : es ≡ values_items l level at values ++ more
+    pub items : es ≡ values_items l level at ts values ++ more
     pub within : at ≤ stop → at + length front ≤ stop
     pub later : K (at + length front) more back
 
@@ -167,7 +165,7 @@ module _ (l : Rules) where
     pub more : Events
     pub whole : b ≡ front ++ back
     pub spelled : ValuesSpell (first_types (values_in values) ts) values front
-    pub items : es ≡ values_items l (level + 1) at values ++ ((at + length front, Leave level (taken + values_in values)) ∷ more)
+    pub items : es ≡ values_items l (level + 1) at (first_types (values_in values) ts) values ++ ((at + length front, Leave level (taken + values_in values)) ∷ more)
     pub within : at ≤ stop → at + length front ≤ stop
     pub ends : stop ≤ at + length front
     pub later : K (at + length front) more back
@@ -211,9 +209,9 @@ module _ (l : Rules) where
         more = g.more;
         whole = h.whole ∙ ap (λ (x : List ℕ). h.front ++ x) g.whole ∙ sym (append_assoc h.front g.front g.back);
         spelled = spelled_after ts us h.values g.values h.front g.front h.spelled g.spelled;
-        items = h.items ∙ ap (λ (x : Events). values_items l level at h.values ++ x) (g.items ∙ ap (λ (n : ℕ). values_items l level n g.values ++ g.more) size)
-            ∙ sym (append_assoc (values_items l level at h.values) (values_items l level (at + values_size h.values) g.values) g.more)
-            ∙ ap (λ (x : Events). x ++ g.more) (sym (items_after l level at h.values g.values));
+        items = h.items ∙ ap (λ (x : Events). values_items l level at ts h.values ++ x) (g.items ∙ ap (λ (n : ℕ). values_items l level n us g.values ++ g.more) size)
+            ∙ sym (append_assoc (values_items l level at ts h.values) (values_items l level (at + values_size h.values) us g.values) g.more)
+            ∙ ap (λ (x : Events). x ++ g.more) (sym (items_after l level at ts us h.values g.values (spelled_many ts h.values h.front h.spelled)));
         within = λ le. omega (arith, g.within (h.within le), far);
         later = subst (λ (n : ℕ). K n g.more g.back) far g.later;
       }
@@ -243,7 +241,10 @@ module _ (l : Rules) where
       let all = with_others h.values g.values in
       let far : at + length h.front + length g.front ≡ at + length (h.front ++ g.front) = omega (arith, length-append h.front g.front) in
       let size : at + length h.front ≡ at + values_size h.values = ap (λ (n : ℕ). at + n) (spelled_size (Type_and k inner NoMore) h.values h.front h.spelled) in
-      let many : values_in all ≡ suc (values_in g.values) = omega (arith, values_in_after h.values g.values, spelled_many (Type_and k inner NoMore) h.values h.front h.spelled) in
+      let one = Type_and k inner NoMore in
+      let firsts = first_types (values_in g.values) others in
+      let single = spelled_many one h.values h.front h.spelled in
+      let many : values_in all ≡ suc (values_in g.values) = omega (arith, values_in_after h.values g.values, single) in
       let count : taken + 1 + values_in g.values ≡ taken + values_in all = omega (arith, many) in
       let last : (at + length h.front + length g.front, Leave level (taken + 1 + values_in g.values)) ≡ (at + length (h.front ++ g.front), Leave level (taken + values_in all)) = rw (far, count) refl in
       record {
@@ -252,10 +253,11 @@ module _ (l : Rules) where
         back = g.back;
         more = g.more;
         whole = h.whole ∙ ap (λ (x : List ℕ). h.front ++ x) g.whole ∙ sym (append_assoc h.front g.front g.back);
-        spelled = rw many (spelled_after (Type_and k inner NoMore) (first_types (values_in g.values) others) h.values g.values h.front g.front h.spelled g.spelled);
-        items = h.items ∙ ap (λ (x : Events). values_items l (level + 1) at h.values ++ x) (g.items ∙ (λ i. values_items l (level + 1) (size i) g.values ++ (last i ∷ g.more)))
-            ∙ sym (append_assoc (values_items l (level + 1) at h.values) (values_items l (level + 1) (at + values_size h.values) g.values) _)
-            ∙ ap (λ (x : Events). x ++ ((at + length (h.front ++ g.front), Leave level (taken + values_in all)) ∷ g.more)) (sym (items_after l (level + 1) at h.values g.values));
+        spelled = rw many (spelled_after one firsts h.values g.values h.front g.front h.spelled g.spelled);
+        items = h.items ∙ ap (λ (x : Events). values_items l (level + 1) at one h.values ++ x) (g.items ∙ (λ i. values_items l (level + 1) (size i) firsts g.values ++ (last i ∷ g.more)))
+            ∙ sym (append_assoc (values_items l (level + 1) at one h.values) (values_items l (level + 1) (at + values_size h.values) firsts g.values) _)
+            ∙ ap (λ (x : Events). x ++ ((at + length (h.front ++ g.front), Leave level (taken + values_in all)) ∷ g.more)) (sym (items_after l (level + 1) at one firsts h.values g.values single))
+            ∙ ap (λ (n : ℕ). values_items l (level + 1) at (first_types n (Type_and k inner others)) all ++ ((at + length (h.front ++ g.front), Leave level (taken + values_in all)) ∷ g.more)) (sym many);
         within = λ le. omega (arith, g.within (h.within le), far);
         ends = omega (arith, g.ends, far);
         later = subst (λ (n : ℕ). K n g.more g.back) far g.later;
@@ -333,14 +335,14 @@ module _ (l : Rules) where
 
         leaf_came : (k : Kind) (d : List ℕ) (o : Option ScalarValue) → length d ≡ number → allows_size k number ≡ true → (l.parts && is_opaque k && ltb l.part number) ≡ false → scalar_of k d ≡ o → Always (Value_came k) (leaf_step p rest level k o) (c ++ d)
         leaf_came k d None size a f e = tt
-        leaf_came k d (Some v) size a f e = λ es b h. record {
-          values = Scalar_and k d v NoValue;
+        leaf_came k d (Some v) size a f e = let is : IsScalar k v d = record { some = not_none d size; size = rw size a; is = e } in λ es b h. record {
+          values = Scalar_and v NoValue;
           front = c ++ d;
           back = b;
           more = es;
           whole = refl;
-          spelled = (refl, not_none d size, rw size a, e, alone (IsBytes (Some d)) (c ++ d) (head_counts d size));
-          items = rw (size, f) refl;
+          spelled = (d, is, alone (IsBytes (Some d)) (c ++ d) (head_counts d size));
+          items = ap (λ (y : Events). (y ++ []) ++ es) (sym (whole_items l level p.offset k v d (is_own k v d is) (rw size f)));
           within = λ _. omega (arith, length-append c d, size);
           later = h;
         }
@@ -354,17 +356,18 @@ module _ (l : Rules) where
             let far : p.offset + length (c ++ d) + length h.content ≡ p.offset + length (c ++ all) = omega (arith, length-append c d, length-append c all, length-append d h.content) in
             let next : p.offset + length (c ++ d) ≡ p.offset + 4 + l.part = omega (arith, length-append c d, size) in
             let test : (l.parts && is_opaque k && ltb l.part (length all)) ≡ true = rw (full, parts, opaque, lt-ltb l.part number lt) refl in
-            let parts_are : scalar_items l level p.offset k all x.0 ≡ (p.offset + 4, Part level 0 d false) ∷ part_items l (length h.content) level (p.offset + 4 + l.part) (0 + l.part) h.content =
-            rw test (part_first l level (p.offset + 4) 0 d h.content (h.some (omega arith)) size (omega (arith, h.long))) in
+            let is : IsScalar k x.0 all = record { some = not_none all full; size = rw full a; is = x.1 } in
+            let parts_are : scalar_items l level p.offset x.0 ≡ (p.offset + 4, Part level 0 d false) ∷ part_items l (length h.content) level (p.offset + 4 + l.part) (0 + l.part) h.content =
+            parted_items l level p.offset k x.0 all (is_own k x.0 all is).0 (opaque_content k x.0 all opaque x.1) test ∙ part_first l level (p.offset + 4) 0 d h.content (h.some (omega arith)) size (omega (arith, h.long)) in
             record {
-              values = Scalar_and k all x.0 NoValue;
+              values = Scalar_and x.0 NoValue;
               front = c ++ all;
               back = h.back;
               more = h.more;
               whole = ap (λ (y : List ℕ). (c ++ d) ++ y) h.whole ∙ regroup c d h.content h.back;
-              spelled = (refl, not_none all full, rw full a, x.1, alone (IsBytes (Some all)) (c ++ all) (head_counts all full));
+              spelled = (all, is, alone (IsBytes (Some all)) (c ++ all) (head_counts all full));
               items = ap (λ (y : Events). (p.offset + 4, Part level 0 d false) ∷ y) (h.items ∙ ap (λ (n : ℕ). part_items l (length h.content) level n (0 + l.part) h.content ++ h.more) next)
-                  ∙ ap (λ (y : Events). y ++ h.more) (sym parts_are ∙ sym (append-nil (scalar_items l level p.offset k all x.0)));
+                  ∙ ap (λ (y : Events). y ++ h.more) (sym parts_are ∙ sym (append-nil (scalar_items l level p.offset x.0)));
               within = λ _. omega (arith, full, length-append c all);
               later = subst (λ (n : ℕ). Comes l rest n h.more h.back) far h.later;
             }
@@ -385,21 +388,22 @@ module _ (l : Rules) where
         fields_came : (k : Kind) → has_fields k ≡ true → Always (Value_came k) (fielded_step p rest level k inner number) c
         fields_came k fields = λ es b h.
             let size : length h.front ≡ number = omega (arith, h.ends, h.within (omega arith)) in
-            let sized = spelled_size (first_types (values_in h.values) inner) h.values h.front h.spelled in
+            let its = first_types (values_in h.values) inner in
+            let sized = spelled_size its h.values h.front h.spelled in
             let far : p.offset + length c + length h.front ≡ p.offset + length (c ++ h.front) = omega (arith, length-append c h.front) in
             let first : p.offset + length c ≡ p.offset + 4 = omega arith in
             let ends : p.offset + length c + length h.front ≡ p.offset + 4 + values_size h.values = omega (arith, sized) in
             let count : 0 + values_in h.values ≡ values_in h.values = omega arith in
             let last : (p.offset + length c + length h.front, Leave level (0 + values_in h.values)) ≡ (p.offset + 4 + values_size h.values, Leave level (values_in h.values)) = rw (ends, count) refl in
             record {
-              values = Fields_and k (how_many inner) h.values NoValue;
+              values = Fields_and k h.values NoValue;
               front = c ++ h.front;
               back = h.back;
               more = h.more;
               whole = ap (λ (y : List ℕ). c ++ y) h.whole ∙ sym (append_assoc c h.front h.back);
-              spelled = (refl, fields, refl, h.front, not_none h.front size, h.spelled, alone (IsBytes (Some h.front)) (c ++ h.front) (head_counts h.front size));
-              items = ap (λ (y : Events). (p.offset, Enter level k (how_many inner)) ∷ y) (h.items ∙ (λ i. values_items l (level + 1) (first i) h.values ++ (last i ∷ h.more))
-                  ∙ sym (append_assoc (values_items l (level + 1) (p.offset + 4) h.values) ((p.offset + 4 + values_size h.values, Leave level (values_in h.values)) ∷ []) h.more));
+              spelled = (refl, fields, h.front, not_none h.front size, h.spelled, alone (IsBytes (Some h.front)) (c ++ h.front) (head_counts h.front size));
+              items = ap (λ (y : Events). (p.offset, Enter level k (how_many inner)) ∷ y) (h.items ∙ (λ i. values_items l (level + 1) (first i) its h.values ++ (last i ∷ h.more))
+                  ∙ sym (append_assoc (values_items l (level + 1) (p.offset + 4) its h.values) ((p.offset + 4 + values_size h.values, Leave level (values_in h.values)) ∷ []) h.more));
               within = λ _. omega (arith, size, length-append c h.front);
               later = subst (λ (n : ℕ). Comes l rest n h.more h.back) far h.later;
             }
@@ -418,7 +422,8 @@ module _ (l : Rules) where
             let all = d ++ r.front in
             let long_all = length-append d r.front in
             let size : length all ≡ number = omega (arith, long_all, g.2, r.within (omega (arith, both, is.long)), both, is.long) in
-            let sized = spelled_size (type_copies n inner) r.values r.front r.spelled in
+            let its = type_copies n inner in
+            let sized = spelled_size its r.values r.front r.spelled in
             let far : p.offset + length (c ++ d) + length r.front ≡ p.offset + length (c ++ all) = omega (arith, both, long_all, length-append c all) in
             let first : p.offset + length (c ++ d) ≡ p.offset + 8 = omega (arith, both, is.long) in
             let ends : p.offset + length (c ++ d) + length r.front ≡ p.offset + 8 + values_size r.values = omega (arith, sized, both, is.long) in
@@ -430,9 +435,9 @@ module _ (l : Rules) where
               more = g.0;
               whole = ap (λ (y : List ℕ). (c ++ d) ++ y) r.whole ∙ regroup c d r.front r.back;
               spelled = (refl, counted, all, record { front = d; back = r.front; whole = refl; this = (is, small); that = r.spelled }, alone (IsBytes (Some all)) (c ++ all) (head_counts all size));
-              items = ap (λ (y : Events). (p.offset, Enter level k n) ∷ y) (r.items ∙ ap (λ (y : Events). values_items l (level + 1) (p.offset + length (c ++ d)) r.values ++ y) g.1
-                  ∙ (λ i. values_items l (level + 1) (first i) r.values ++ (last i ∷ g.0))
-                  ∙ sym (append_assoc (values_items l (level + 1) (p.offset + 8) r.values) ((p.offset + 8 + values_size r.values, Leave level n) ∷ []) g.0));
+              items = ap (λ (y : Events). (p.offset, Enter level k n) ∷ y) (r.items ∙ ap (λ (y : Events). values_items l (level + 1) (p.offset + length (c ++ d)) its r.values ++ y) g.1
+                  ∙ (λ i. values_items l (level + 1) (first i) its r.values ++ (last i ∷ g.0))
+                  ∙ sym (append_assoc (values_items l (level + 1) (p.offset + 8) its r.values) ((p.offset + 8 + values_size r.values, Leave level n) ∷ []) g.0));
               within = λ _. omega (arith, size, length-append c all);
               later = subst (λ (m : ℕ). Comes l rest m g.0 r.back) far g.3;
             }
@@ -564,10 +569,11 @@ module _ (l : Rules) where
 
 -- A cell that is read is that of a value.
 pub cell_read : (l : Rules) (k : Kind) (inner : Types) (stop : ℕ) (before after : CellPlace) (b : List ℕ) (es : Events) → before.symbols ≡ Value_of k inner 0 stop ∷ [] → after.symbols ≡ [] → Runs (cell_step l) before b es after []
-    → (v : Values) × ValueSpells k inner v b × (es ≡ values_items l 0 before.offset v)
+    → (v : Values) × ValueSpells k inner v b × (es ≡ value_items l before.offset k inner v)
 cell_read l k inner stop before after b es first done r =
     let h : Comes l (Value_of k inner 0 stop ∷ []) before.offset es b = rw first at (runs_come l es before after b r done) in
     let last = h.later in
     let all : b ≡ h.front = h.whole ∙ ap (λ (y : List ℕ). h.front ++ y) last.1 ∙ append-nil h.front in
-    let items : es ≡ values_items l 0 before.offset h.values = h.items ∙ ap (λ (y : Events). values_items l 0 before.offset h.values ++ y) last.0 ∙ append-nil (values_items l 0 before.offset h.values) in
+    let its = value_items l before.offset k inner h.values in
+    let items : es ≡ its = h.items ∙ ap (λ (y : Events). its ++ y) last.0 ∙ append-nil its in
     (h.values, subst (λ (y : List ℕ). ValuesSpell (Type_and k inner NoMore) h.values y) (sym all) h.spelled, items)

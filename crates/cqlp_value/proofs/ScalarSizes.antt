@@ -1,59 +1,94 @@
--- How many bytes spell a scalar.
-use Rattle.std.proofs.Common.{◌≡◌, ℕ, ◌+◌, ◌≤◌, Bool, true, false, List, length, drop, refl, ap, ◌∙◌, arith}
-use Rattle.std.specs.Prelude.{Option, Some, None, ◌||◌, ◌==◌}
+-- The kind of a scalar, and how many bytes its content has, are those of the bytes that it is.
+use Rattle.std.proofs.Common.{◌≡◌, ℕ, ◌+◌, ◌≤◌, ◌&&◌, Bool, true, false, ltb, List, [], ◌∷◌, length, refl, sym, subst, arith}
+use Rattle.std.specs.Prelude.{Some, ◌==◌}
 use Rattle.std.proofs.lemmas.Bool.{eqb-true, leb-true}
 use Rattle.std.proofs.lemmas.List.{length-drop}
 use Rattle.cqlp_note.specs.Field.{address_of}
+use Rattle.cqlp_note.specs.Limits.{Rules}
+use Rattle.cqlp_note.specs.Spelling.{address_bytes}
 use Rattle.cqlp_type.specs.declared.kind.Kind.{Kind}
 use Rattle.cqlp_type.specs.declared.kind.Kind.TheVariants as kind
-use Rattle.cqlp_value.specs.Scalars.{ScalarValue, only_if, allows_size, scalar_of, address_size, content_size}
+use Rattle.cqlp_value.specs.Scalars.{ScalarValue, Blob, Custom, Raw, only_if, allows_size, scalar_of, kind_of, content_of, content_size}
+use Rattle.cqlp_value.specs.CellStep.{Leaf, is_opaque}
+use Rattle.cqlp_value.specs.Values.{IsScalar, part_items, scalar_items}
 
-abbrev size_or : ℕ → Option ScalarValue → ℕ
-size_or n None = n
-size_or n (Some v) = content_size v
+-- these bytes have the kind and the size of this scalar
+abbrev pub Own : Kind → List ℕ → ScalarValue → Type 0
+Own k c v = (kind_of v ≡ k) × (length c ≡ content_size v)
 
-known : (w v : ScalarValue) → Some w ≡ Some v → content_size w ≡ content_size v
-known w v e = ap (size_or 0) e
+known : (k : Kind) (c : List ℕ) (w v : ScalarValue) → Own k c w → Some w ≡ Some v → Own k c v
+known k c w v own e = let same : w ≡ v = cc in subst (Own k c) same own
 
-allowed : (b : Bool) (w v : ScalarValue) → only_if b w ≡ Some v → content_size w ≡ content_size v
-allowed true w v e = known w v e
-allowed false w v e = absurd cc
+allowed : (b : Bool) (k : Kind) (c : List ℕ) (w v : ScalarValue) → Own k c w → only_if b w ≡ Some v → Own k c v
+allowed true k c w v own e = known k c w v own e
+allowed false k c w v own e = absurd cc
 
--- an address of 4 bytes or of 16
-address_sized : (c : List ℕ) (four sixteen : Bool) → (length c == 4) ≡ four → (length c == 16) ≡ sixteen → (four || sixteen) ≡ true → length c ≡ address_size (address_of (length c) c)
-address_sized c true sixteen e f some = rw e (eqb-true (length c) 4 e)
-address_sized c false true e f some = rw e (eqb-true (length c) 16 f)
-address_sized c false false e f some = absurd cc
+address_sized : (four : Bool) (n : ℕ) (c : List ℕ) → (n == 4) ≡ four → length c ≡ length (address_bytes (address_of n c))
+address_sized true n c e = rw e refl
+address_sized false n c e = rw e refl
 
--- A content of an allowed length is as long as its scalar says.
-pub scalar_sized : (k : Kind) (c : List ℕ) (v : ScalarValue) → allows_size k (length c) ≡ true → scalar_of k c ≡ Some v → length c ≡ content_size v
+-- A content of an allowed length has the kind and the size of its scalar.
+pub scalar_own : (k : Kind) (c : List ℕ) (v : ScalarValue) → allows_size k (length c) ≡ true → scalar_of k c ≡ Some v → Own k c v
 unfolding scalar_of
-scalar_sized kind.Custom c v a e = known _ v e
-scalar_sized kind.Ascii c v a e = allowed _ _ v e
-scalar_sized kind.Bigint c v a e = eqb-true (length c) 8 a ∙ known _ v e
-scalar_sized kind.Blob c v a e = known _ v e
-scalar_sized kind.Boolean c v a e = eqb-true (length c) 1 a ∙ known _ v e
-scalar_sized kind.Counter c v a e = eqb-true (length c) 8 a ∙ known _ v e
-scalar_sized kind.Decimal c v a e =
+scalar_own kind.Custom c v a e = known _ c _ v (refl, refl) e
+scalar_own kind.Ascii c v a e = allowed _ _ c _ v (refl, refl) e
+scalar_own kind.Bigint c v a e = known _ c _ v (refl, eqb-true (length c) 8 a) e
+scalar_own kind.Blob c v a e = known _ c _ v (refl, refl) e
+scalar_own kind.Boolean c v a e = known _ c _ v (refl, eqb-true (length c) 1 a) e
+scalar_own kind.Counter c v a e = known _ c _ v (refl, eqb-true (length c) 8 a) e
+scalar_own kind.Decimal c v a e =
     let some : 5 ≤ length c = leb-true 5 (length c) a in
-    let all : length c ≡ 4 + length (drop 4 c) = omega (arith, length-drop 4 c) in
-    all ∙ known _ v e
-scalar_sized kind.Double c v a e = known _ v e
-scalar_sized kind.Float c v a e = known _ v e
-scalar_sized kind.Int c v a e = eqb-true (length c) 4 a ∙ known _ v e
-scalar_sized kind.Timestamp c v a e = eqb-true (length c) 8 a ∙ known _ v e
-scalar_sized kind.Uuid c v a e = known _ v e
-scalar_sized kind.Varchar c v a e = allowed _ _ v e
-scalar_sized kind.Varint c v a e = known _ v e
-scalar_sized kind.Timeuuid c v a e = allowed _ _ v e
-scalar_sized kind.Inet c v a e = address_sized c (length c == 4) (length c == 16) refl refl a ∙ known _ v e
-scalar_sized kind.Date c v a e = eqb-true (length c) 4 a ∙ known _ v e
-scalar_sized kind.Time c v a e = eqb-true (length c) 8 a ∙ allowed _ _ v e
-scalar_sized kind.Smallint c v a e = eqb-true (length c) 2 a ∙ known _ v e
-scalar_sized kind.Tinyint c v a e = eqb-true (length c) 1 a ∙ known _ v e
-scalar_sized kind.Raw c v a e = known _ v e
-scalar_sized kind.List c v a e = absurd cc
-scalar_sized kind.Map c v a e = absurd cc
-scalar_sized kind.Set c v a e = absurd cc
-scalar_sized kind.Udt c v a e = absurd cc
-scalar_sized kind.Tuple c v a e = absurd cc
+    known _ c _ v (refl, omega (arith, length-drop 4 c)) e
+scalar_own kind.Double c v a e = known _ c _ v (refl, refl) e
+scalar_own kind.Float c v a e = known _ c _ v (refl, refl) e
+scalar_own kind.Int c v a e = known _ c _ v (refl, eqb-true (length c) 4 a) e
+scalar_own kind.Timestamp c v a e = known _ c _ v (refl, eqb-true (length c) 8 a) e
+scalar_own kind.Uuid c v a e = known _ c _ v (refl, refl) e
+scalar_own kind.Varchar c v a e = allowed _ _ c _ v (refl, refl) e
+scalar_own kind.Varint c v a e = known _ c _ v (refl, refl) e
+scalar_own kind.Timeuuid c v a e = allowed _ _ c _ v (refl, refl) e
+scalar_own kind.Inet c v a e = known _ c _ v (refl, address_sized (length c == 4) (length c) c refl) e
+scalar_own kind.Date c v a e = known _ c _ v (refl, eqb-true (length c) 4 a) e
+scalar_own kind.Time c v a e = allowed _ _ c _ v (refl, eqb-true (length c) 8 a) e
+scalar_own kind.Smallint c v a e = known _ c _ v (refl, eqb-true (length c) 2 a) e
+scalar_own kind.Tinyint c v a e = known _ c _ v (refl, eqb-true (length c) 1 a) e
+scalar_own kind.Raw c v a e = known _ c _ v (refl, refl) e
+scalar_own kind.List c v a e = absurd cc
+scalar_own kind.Map c v a e = absurd cc
+scalar_own kind.Set c v a e = absurd cc
+scalar_own kind.Udt c v a e = absurd cc
+scalar_own kind.Tuple c v a e = absurd cc
+
+pub scalar_sized : (k : Kind) (c : List ℕ) (v : ScalarValue) → allows_size k (length c) ≡ true → scalar_of k c ≡ Some v → length c ≡ content_size v
+scalar_sized k c v a e = (scalar_own k c v a e).1
+
+pub is_own : (k : Kind) (v : ScalarValue) (c : List ℕ) → IsScalar k v c → Own k c v
+is_own k v c s = scalar_own k c v s.size s.is
+
+-- ---- scalars that come in parts where they are long
+
+-- such a content is a scalar, whatever its bytes are
+pub opaque_scalar : (k : Kind) (c : List ℕ) → is_opaque k ≡ true → (v : ScalarValue) × (scalar_of k c ≡ Some v)
+unfolding scalar_of
+opaque_scalar kind.Blob c t = (Blob c, refl)
+opaque_scalar kind.Custom c t = (Custom c, refl)
+opaque_scalar kind.Raw c t = (Raw c, refl)
+opaque_scalar k c t = absurd cc
+
+holds : (w v : ScalarValue) (c : List ℕ) → content_of w ≡ c → Some w ≡ Some v → content_of v ≡ c
+holds w v c h e = let same : w ≡ v = cc in rw (← same) h
+
+-- and holds them
+pub opaque_content : (k : Kind) (v : ScalarValue) (c : List ℕ) → is_opaque k ≡ true → scalar_of k c ≡ Some v → content_of v ≡ c
+unfolding scalar_of
+opaque_content kind.Blob v c t e = holds _ v c refl e
+opaque_content kind.Custom v c t e = holds _ v c refl e
+opaque_content kind.Raw v c t e = holds _ v c refl e
+opaque_content k v c t e = absurd cc
+
+module _ (l : Rules) (level at : ℕ) (k : Kind) (v : ScalarValue) (c : List ℕ) where
+  pub whole_items : Own k c v → (l.parts && is_opaque k && ltb l.part (length c)) ≡ false → scalar_items l level at v ≡ (at, Leaf level v) ∷ []
+  whole_items own f = rw (own.0, sym own.1, f) refl
+
+  pub parted_items : kind_of v ≡ k → content_of v ≡ c → (l.parts && is_opaque k && ltb l.part (length c)) ≡ true → scalar_items l level at v ≡ part_items l (length c) level (at + 4) 0 c
+  parted_items is holds t = rw (is, holds, t) refl

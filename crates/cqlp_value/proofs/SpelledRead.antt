@@ -1,5 +1,5 @@
 -- What spells a value is read as its items.
-use Rattle.std.proofs.Common.{◌≡◌, ◌≢◌, ℕ, zero, suc, ◌+◌, ◌-◌, ◌<◌, ◌≤◌, ◌^◌, true, false, ltb, leb, min, List, [], ◌∷◌, ◌++◌, length, take, drop, Some, None, refl, sym, ap, ◌∙◌, append_assoc, subst, arith}
+use Rattle.std.proofs.Common.{◌≡◌, ◌≢◌, ℕ, zero, suc, ◌+◌, ◌-◌, ◌<◌, ◌≤◌, ◌^◌, ◌&&◌, true, false, ltb, leb, min, List, [], ◌∷◌, ◌++◌, length, take, drop, Some, None, refl, sym, ap, ◌∙◌, append_assoc, subst, arith}
 use Rattle.std.specs.Int.{w32}
 use Rattle.std.proofs.lemmas.Bool.{ltb-true, leb-true, leb-false, ne_eqb, lt-ltb, le-ltb, lt-leb, le-leb}
 use Rattle.std.proofs.lemmas.List.{append-nil, length-append, length-drop, length-take-le, take-append-drop, drop_all}
@@ -14,11 +14,12 @@ use Rattle.cqlp_type.specs.declared.kind.Kind.{Kind}
 use Rattle.cqlp_type.specs.declared.kind.Kind.TheVariants as kind
 use Rattle.cqlp_type.specs.Types.{Types, NoMore, Type_and, how_many, first_types, followed_by}
 use Rattle.cqlp_type.specs.Trees.{Joined}
-use Rattle.cqlp_value.specs.Scalars.{ScalarValue, allows_size, scalar_of}
+use Rattle.cqlp_value.specs.Scalars.{ScalarValue, allows_size, scalar_of, content_of}
 use Rattle.cqlp_value.specs.CellStep.{CellSymbol, Value_of, Items_of, Close_of, Content_from, CellEvent, Leaf, Null, Empty, Enter, Leave, Part, CellPlace, cell_copies, values_of, is_opaque, place_after, fielded_step, close_step, scalar_step, content_step, sized_step, value_step, cell_step}
 use Rattle.cqlp_value.specs.Sizes.{is_counted}
-use Rattle.cqlp_value.specs.Values.{Values, NoValue, Null_and, Empty_and, Scalar_and, Counted_and, Fields_and, values_in, type_copies, has_fields, IsBytes, ValuesSpell, ValueSpells, values_size, part_items, in_parts, values_items, AreWithin}
+use Rattle.cqlp_value.specs.Values.{Values, NoValue, Null_and, Empty_and, Scalar_and, Counted_and, Fields_and, values_in, type_copies, has_fields, IsBytes, ValuesSpell, ValueSpells, values_size, part_items, in_parts, scalar_items, values_items, value_items, AreWithin}
 use Rattle.cqlp_value.proofs.Sizing.{counted_content}
+use Rattle.cqlp_value.proofs.ScalarSizes.{is_own, opaque_content, whole_items, parted_items}
 use Rattle.cqlp_value.proofs.ReadBack.{Events, with_others, values_in_after, items_after, bytes_size, spelled_size, part_first, part_last, alone, all_true}
 
 abbrev place : (at : ℕ) → List CellSymbol → CellPlace
@@ -118,7 +119,7 @@ module _ (l : Rules) where
   -- This value alone is read, whatever stands after it.
   abbrev Reads_one : Values → Type 0
   Reads_one one = (k : Kind) (inner : Types) (front : List ℕ) → ValueSpells k inner one front → (p : CellPlace) (rest : List CellSymbol) (level stop : ℕ) → cell_step l p ≡ value_step l p rest k inner level (stop - p.offset) → p.offset + length front ≤ stop
-      → Reads p front (values_items l level p.offset one) (place (p.offset + length front) rest)
+      → Reads p front (values_items l level p.offset (Type_and k inner NoMore) one) (place (p.offset + length front) rest)
 
   -- the length of a value, and what is after it
   module _ (p : CellPlace) (rest : List CellSymbol) (k : Kind) (inner : Types) (level stop : ℕ) (step : cell_step l p ≡ value_step l p rest k inner level (stop - p.offset)) where
@@ -146,7 +147,7 @@ module _ (l : Rules) where
       one_step p x front (subst (Yields (cell_step l p) x) (sym h.0.parts) y)
 
   -- a scalar that comes whole
-  leaf_read : (k : Kind) (inner : Types) (c front : List ℕ) (v : ScalarValue) → c ≢ [] → allows_size k (length c) ≡ true → scalar_of k c ≡ Some v → IsBytes (Some c) front → in_parts l k c ≡ false → length c ≤ l.cell
+  leaf_read : (k : Kind) (inner : Types) (c front : List ℕ) (v : ScalarValue) → c ≢ [] → allows_size k (length c) ≡ true → scalar_of k c ≡ Some v → IsBytes (Some c) front → (l.parts && is_opaque k && ltb l.part (length c)) ≡ false → length c ≤ l.cell
       → (p : CellPlace) (rest : List CellSymbol) (level stop : ℕ) → cell_step l p ≡ value_step l p rest k inner level (stop - p.offset) → p.offset + length front ≤ stop
       → Reads p front ((p.offset, Leaf level v) ∷ []) (place (p.offset + length front) rest)
   unfolding Spells
@@ -181,34 +182,41 @@ module _ (l : Rules) where
       subst (λ (z : List ℕ). Reads p z (part_items l n level (p.offset + 4) 0 (d ++ e)) (place (p.offset + length front) rest)) whole
       (subst (λ (z : Events). Reads p ((s.0.head ++ d) ++ e) z (place (p.offset + length front) rest)) (sym items) both)
 
-  scalar_read : (j : Kind) (c : List ℕ) (v : ScalarValue) → (in_parts l j c ≡ false → length c ≤ l.cell) → (in_parts l j c ≡ true → 0 < l.part) → Reads_one (Scalar_and j c v NoValue)
-  scalar_read j c v fits some k inner front s p rest level stop step le =
-      let is : j ≡ k = s.0 in
-      let bytes = alone_is (IsBytes (Some c)) front s.4 in
-      let short : in_parts l k c ≡ false → length c ≤ l.cell = rw is at fits in
-      let part : in_parts l k c ≡ true → 0 < l.part = rw is at some in
+  scalar_read : (v : ScalarValue) → (in_parts l v ≡ false → length (content_of v) ≤ l.cell) → (in_parts l v ≡ true → 0 < l.part) → Reads_one (Scalar_and v NoValue)
+  scalar_read v fits some k inner front s p rest level stop step le =
+      let c = s.0 in
+      let is = s.1 in
+      let own = is_own k v c is in
+      let bytes = alone_is (IsBytes (Some c)) front s.2 in
       let q = place (p.offset + length front) rest in
-      rw is (elim (in_parts l k c) as (λ t. in_parts l k c ≡ t → Reads p front (values_items l level p.offset (Scalar_and k c v NoValue)) q) [
+      let its = scalar_items l level p.offset v in
+      let all = append-nil its in
+      let split = l.parts && is_opaque k && ltb l.part (length c) in
+      let same : in_parts l v ≡ split = rw (own.0, sym own.1) refl in
+      elim split as (λ t. split ≡ t → Reads p front (its ++ []) q) [
         | true ↦ λ t.
             let e = all_true l.parts (is_opaque k) (ltb l.part (length c)) t in
             let lt : l.part < length c = ltb-true _ _ e.2 in
             let d = take l.part c in
             let more = drop l.part c in
             let whole : d ++ more ≡ c = take-append-drop l.part c in
-            let read = split_read k inner d more front v (rw whole s.2) (rw whole s.3) (rw whole bytes) e.0 e.1 (length-take-le l.part c (omega arith)) (part t) (omega (arith, length-drop l.part c)) p rest level stop step le in
-            let items : part_items l (length c) level (p.offset + 4) 0 c ≡ values_items l level p.offset (Scalar_and k c v NoValue) = rw t (sym (append-nil (part_items l (length c) level (p.offset + 4) 0 c))) in
+            let read = split_read k inner d more front v (rw whole is.size) (rw whole is.is) (rw whole bytes) e.0 e.1 (length-take-le l.part c (omega arith)) (some (same ∙ t)) (omega (arith, length-drop l.part c)) p rest level stop step le in
+            let items : part_items l (length c) level (p.offset + 4) 0 c ≡ its ++ [] = sym (all ∙ parted_items l level p.offset k v c own.0 (opaque_content k v c e.1 is.is) t) in
             subst (λ (y : Events). Reads p front y q) items (subst (λ (y : List ℕ). Reads p front (part_items l (length y) level (p.offset + 4) 0 y) q) whole read)
-        | false ↦ λ t. rw t (leaf_read k inner c front v s.1 s.2 s.3 bytes t (short t) p rest level stop step le)
-      ] refl)
+        | false ↦ λ t.
+            let short : length c ≤ l.cell = omega (arith, fits (same ∙ t), own.1) in
+            subst (λ (y : Events). Reads p front y q) (sym (all ∙ whole_items l level p.offset k v c own t))
+            (leaf_read k inner c front v is.some is.size is.is bytes t short p rest level stop step le)
+      ] refl
 
   -- ---- values in values
 
   -- These values are read, side by side and as fields.
   pub record Read (vs : Values) : Type 0 where
     pub values : (ts : Types) (b : List ℕ) → ValuesSpell ts vs b → (at level stop : ℕ) (rest : List CellSymbol) → at + length b ≤ stop
-        → Reads (place at (values_of ts level stop ++ rest)) b (values_items l level at vs) (place (at + length b) rest)
+        → Reads (place at (values_of ts level stop ++ rest)) b (values_items l level at ts vs) (place (at + length b) rest)
     pub fields : (ts : Types) (b : List ℕ) → ValuesSpell (first_types (values_in vs) ts) vs b → (at level stop taken : ℕ) (rest : List CellSymbol) → at + length b ≡ stop
-        → Reads (place at (Items_of ts level stop taken ∷ rest)) b (values_items l (level + 1) at vs ++ ((stop, Leave level (taken + values_in vs)) ∷ [])) (place stop rest)
+        → Reads (place at (Items_of ts level stop taken ∷ rest)) b (values_items l (level + 1) at (first_types (values_in vs) ts) vs ++ ((stop, Leave level (taken + values_in vs)) ∷ [])) (place stop rest)
 
   reads_as : (p : CellPlace) (b b' : List ℕ) (es es' : Events) (q q' : CellPlace) → b ≡ b' → es ≡ es' → q ≡ q' → Reads p b es q → Reads p b' es' q'
   reads_as p b b' es es' q q' e f g r = rw (← e, ← f, ← g) r
@@ -222,7 +230,7 @@ module _ (l : Rules) where
 
   counted_read : (n : ℕ) (items : Values) (k : Kind) (inner : Types) (c count body front : List ℕ) → Read items → is_counted k ≡ true → c ≡ count ++ body → IsNumber 4 w32 n count → n < 2 ^ 31 → ValuesSpell (type_copies n inner) items body → IsBytes (Some c) front
       → (p : CellPlace) (rest : List CellSymbol) (level stop : ℕ) → cell_step l p ≡ value_step l p rest k inner level (stop - p.offset) → p.offset + length front ≤ stop
-      → Reads p front (values_items l level p.offset (Counted_and k n items NoValue)) (place (p.offset + length front) rest)
+      → Reads p front (values_items l level p.offset (Type_and k inner NoMore) (Counted_and k n items NoValue)) (place (p.offset + length front) rest)
   unfolding Spells
   counted_read n items k inner c count body front r counted parts is low spelled s p rest level stop step le =
       let ends = p.offset + 4 + length c in
@@ -244,7 +252,7 @@ module _ (l : Rules) where
       let far = p.offset + 8 + length body in
       let inside = r.values types body spelled (p.offset + 8) (level + 1) ends behind (omega (arith, size)) in
       let close = close_read (place far behind) far level ends n rest refl refl (omega (arith, size)) in
-      let its = values_items l (level + 1) (p.offset + 8) items in
+      let its = values_items l (level + 1) (p.offset + 8) types items in
       let later = reads_both mid (place far behind) (place far rest) body [] its ((far, Leave level n) ∷ []) inside close in
       let both = reads_both p mid (place far rest) (head ++ count) (body ++ []) ((p.offset, Enter level k n) ∷ []) (its ++ ((far, Leave level n) ∷ [])) first later in
       let whole : (head ++ count) ++ (body ++ []) ≡ front = append_assoc head count (body ++ []) ∙ ap (λ (z : List ℕ). head ++ (count ++ z)) (append-nil body) ∙ ap (λ (z : List ℕ). head ++ z) (sym parts) ∙ sym s.0.parts in
@@ -252,11 +260,11 @@ module _ (l : Rules) where
       let end_is : far ≡ p.offset + length front = omega (arith, all, size) in
       reads_as p ((head ++ count) ++ (body ++ [])) front _ _ (place far rest) (place (p.offset + length front) rest) whole (ap (λ (m : ℕ). (p.offset, Enter level k n) ∷ (its ++ ((m, Leave level n) ∷ []))) size_is) (ap (λ (m : ℕ). place m rest) end_is) both
 
-  fields_read : (n : ℕ) (items : Values) (k : Kind) (inner : Types) (c front : List ℕ) → Read items → has_fields k ≡ true → n ≡ how_many inner → c ≢ [] → ValuesSpell (first_types (values_in items) inner) items c → IsBytes (Some c) front
+  fields_read : (items : Values) (k : Kind) (inner : Types) (c front : List ℕ) → Read items → has_fields k ≡ true → c ≢ [] → ValuesSpell (first_types (values_in items) inner) items c → IsBytes (Some c) front
       → (p : CellPlace) (rest : List CellSymbol) (level stop : ℕ) → cell_step l p ≡ value_step l p rest k inner level (stop - p.offset) → p.offset + length front ≤ stop
-      → Reads p front (values_items l level p.offset (Fields_and k n items NoValue)) (place (p.offset + length front) rest)
+      → Reads p front (values_items l level p.offset (Type_and k inner NoMore) (Fields_and k items NoValue)) (place (p.offset + length front) rest)
   unfolding Spells
-  fields_read n items k inner c front r fields many ne spelled s p rest level stop step le =
+  fields_read items k inner c front r fields ne spelled s p rest level stop step le =
       let ends = p.offset + 4 + length c in
       let x : Emitted CellEvent CellPlace = record { at = p.offset; event = Enter level k (how_many inner); after = place_after p rest (Items_of inner level ends 0 ∷ []) } in
       let content : Yields (content_step l p rest level k inner (length c)) x [] = rw (fielded_step_is l p rest level k inner (length c) fields) (refl, refl) in
@@ -267,16 +275,17 @@ module _ (l : Rules) where
       let mid = place (p.offset + 4) (Items_of inner level ends 0 ∷ rest) in
       let first = reads_as p head head _ ((p.offset, Enter level k (how_many inner)) ∷ []) _ mid refl refl (λ i. place (p.offset + s.0.counts.long i) (Items_of inner level ends 0 ∷ rest)) (one_step p x head y') in
       let inside = r.fields inner c spelled (p.offset + 4) level ends 0 rest refl in
-      let its = values_items l (level + 1) (p.offset + 4) items in
+      let types = first_types (values_in items) inner in
+      let its = values_items l (level + 1) (p.offset + 4) types items in
       let both = reads_both p mid (place ends rest) head c ((p.offset, Enter level k (how_many inner)) ∷ []) (its ++ ((ends, Leave level (0 + values_in items)) ∷ [])) first inside in
-      let size_is : ends ≡ p.offset + 4 + values_size items = omega (arith, spelled_size (first_types (values_in items) inner) items c spelled) in
+      let size_is : ends ≡ p.offset + 4 + values_size items = omega (arith, spelled_size types items c spelled) in
       let count : 0 + values_in items ≡ values_in items = omega arith in
       let end_is : ends ≡ p.offset + length front = omega (arith, all) in
-      reads_as p (head ++ c) front _ _ (place ends rest) (place (p.offset + length front) rest) (sym s.0.parts) (λ i. (p.offset, Enter level k (sym many i)) ∷ (its ++ ((size_is i, Leave level (count i)) ∷ []))) (ap (λ (m : ℕ). place m rest) end_is) both
+      reads_as p (head ++ c) front _ _ (place ends rest) (place (p.offset + length front) rest) (sym s.0.parts) (λ i. (p.offset, Enter level k (how_many inner)) ∷ (its ++ ((size_is i, Leave level (count i)) ∷ []))) (ap (λ (m : ℕ). place m rest) end_is) both
 
   -- ---- one value after the other
 
-  none_values : (ts : Types) (b : List ℕ) → ValuesSpell ts NoValue b → (at level stop : ℕ) (rest : List CellSymbol) → Reads (place at (values_of ts level stop ++ rest)) b [] (place (at + length b) rest)
+  none_values : (ts : Types) (b : List ℕ) → ValuesSpell ts NoValue b → (at level stop : ℕ) (rest : List CellSymbol) → Reads (place at (values_of ts level stop ++ rest)) b (values_items l level at ts NoValue) (place (at + length b) rest)
   none_values NoMore b h at level stop rest = let none : at + length b ≡ at = rw h (omega arith) in (ap (λ (n : ℕ). place n rest) none, sym h)
   none_values (Type_and k inner ts) b h at level stop rest = absurd h
 
@@ -306,7 +315,7 @@ module _ (l : Rules) where
     abbrev both_of : Values
     both_of = with_others one vs
 
-    and_values : (ts : Types) (b : List ℕ) → ValuesSpell ts both_of b → (at level stop : ℕ) (rest : List CellSymbol) → at + length b ≤ stop → Reads (place at (values_of ts level stop ++ rest)) b (values_items l level at both_of) (place (at + length b) rest)
+    and_values : (ts : Types) (b : List ℕ) → ValuesSpell ts both_of b → (at level stop : ℕ) (rest : List CellSymbol) → at + length b ≤ stop → Reads (place at (values_of ts level stop ++ rest)) b (values_items l level at ts both_of) (place (at + length b) rest)
     and_values NoMore b h at level stop rest le = absurd (splits.none b h)
     and_values (Type_and k inner ts) b h at level stop rest le =
         let s = splits.some k inner ts b h in
@@ -314,37 +323,42 @@ module _ (l : Rules) where
         let behind = values_of ts level stop ++ rest in
         let p = place at (Value_of k inner level stop ∷ behind) in
         let mid = at + length s.front in
-        let size : mid ≡ at + values_size one = ap (λ (n : ℕ). at + n) (spelled_size (Type_and k inner NoMore) one s.front s.this) in
+        let alone_of = Type_and k inner NoMore in
+        let size : mid ≡ at + values_size one = ap (λ (n : ℕ). at + n) (spelled_size alone_of one s.front s.this) in
         let first = reads k inner s.front s.this p behind level stop refl (omega (arith, long)) in
         let later = r.values ts s.back s.that mid level stop rest (omega (arith, long)) in
-        let both = reads_both p (place mid behind) (place (mid + length s.back) rest) s.front s.back (values_items l level at one) (values_items l level mid vs) first later in
-        let items = ap (λ (n : ℕ). values_items l level at one ++ values_items l level n vs) size ∙ sym (items_after l level at one vs) in
+        let both = reads_both p (place mid behind) (place (mid + length s.back) rest) s.front s.back (values_items l level at alone_of one) (values_items l level mid ts vs) first later in
+        let items = ap (λ (n : ℕ). values_items l level at alone_of one ++ values_items l level n ts vs) size ∙ sym (items_after l level at alone_of ts one vs splits.single) in
         let far : mid + length s.back ≡ at + length b = omega (arith, long) in
-        reads_as p (s.front ++ s.back) b _ (values_items l level at both_of) (place (mid + length s.back) rest) (place (at + length b) rest) (sym s.whole) items (ap (λ (n : ℕ). place n rest) far) both
+        reads_as p (s.front ++ s.back) b _ (values_items l level at (Type_and k inner ts) both_of) (place (mid + length s.back) rest) (place (at + length b) rest) (sym s.whole) items (ap (λ (n : ℕ). place n rest) far) both
 
     many : values_in both_of ≡ suc (values_in vs)
     many = omega (arith, values_in_after one vs, splits.single)
 
     and_fields : (ts : Types) (b : List ℕ) → ValuesSpell (first_types (values_in both_of) ts) both_of b → (at level stop taken : ℕ) (rest : List CellSymbol) → at + length b ≡ stop
-        → Reads (place at (Items_of ts level stop taken ∷ rest)) b (values_items l (level + 1) at both_of ++ ((stop, Leave level (taken + values_in both_of)) ∷ [])) (place stop rest)
+        → Reads (place at (Items_of ts level stop taken ∷ rest)) b (values_items l (level + 1) at (first_types (values_in both_of) ts) both_of ++ ((stop, Leave level (taken + values_in both_of)) ∷ [])) (place stop rest)
     and_fields NoMore b h at level stop taken rest e = absurd (splits.none b (rw many at h))
     and_fields (Type_and k inner ts) b h at level stop taken rest e =
-        let s = splits.some k inner (first_types (values_in vs) ts) b (rw many at h) in
+        let firsts = first_types (values_in vs) ts in
+        let alone_of = Type_and k inner NoMore in
+        let s = splits.some k inner firsts b (rw many at h) in
         let long : length b ≡ length s.front + length s.back = ap length s.whole ∙ length-append s.front s.back in
         let behind = Items_of ts level stop (taken + 1) ∷ rest in
         let p = place at (Items_of (Type_and k inner ts) level stop taken ∷ rest) in
         let mid = at + length s.front in
-        let sized = spelled_size (Type_and k inner NoMore) one s.front s.this in
+        let sized = spelled_size alone_of one s.front s.this in
         let size : mid ≡ at + values_size one = ap (λ (n : ℕ). at + n) sized in
         let step : cell_step l p ≡ value_step l p behind k inner (level + 1) (stop - at) = rw (lt-leb stop at (omega (arith, long, sized, splits.long))) refl in
         let first = reads k inner s.front s.this p behind (level + 1) stop step (omega (arith, long)) in
         let later = r.fields ts s.back s.that mid level stop (taken + 1) rest (omega (arith, long)) in
-        let here = values_items l (level + 1) at one in
-        let both = reads_both p (place mid behind) (place stop rest) s.front s.back here (values_items l (level + 1) mid vs ++ ((stop, Leave level (taken + 1 + values_in vs)) ∷ [])) first later in
+        let here = values_items l (level + 1) at alone_of one in
+        let both = reads_both p (place mid behind) (place stop rest) s.front s.back here (values_items l (level + 1) mid firsts vs ++ ((stop, Leave level (taken + 1 + values_in vs)) ∷ [])) first later in
         let count : taken + 1 + values_in vs ≡ taken + values_in both_of = omega (arith, many) in
-        let items = (λ i. here ++ (values_items l (level + 1) (size i) vs ++ ((stop, Leave level (count i)) ∷ [])))
-        ∙ sym (append_assoc here (values_items l (level + 1) (at + values_size one) vs) ((stop, Leave level (taken + values_in both_of)) ∷ []))
-        ∙ ap (λ (z : Events). z ++ ((stop, Leave level (taken + values_in both_of)) ∷ [])) (sym (items_after l (level + 1) at one vs)) in
+        let last : Events = (stop, Leave level (taken + values_in both_of)) ∷ [] in
+        let items = (λ i. here ++ (values_items l (level + 1) (size i) firsts vs ++ ((stop, Leave level (count i)) ∷ [])))
+        ∙ sym (append_assoc here (values_items l (level + 1) (at + values_size one) firsts vs) last)
+        ∙ ap (λ (z : Events). z ++ last) (sym (items_after l (level + 1) at alone_of firsts one vs splits.single))
+        ∙ ap (λ (n : ℕ). values_items l (level + 1) at (first_types n (Type_and k inner ts)) both_of ++ last) (sym many) in
         reads_as p (s.front ++ s.back) b _ _ (place stop rest) (place stop rest) (sym s.whole) items refl both
 
     and_read : Read both_of
@@ -366,10 +380,10 @@ module _ (l : Rules) where
     long = omega arith;
   }
 
-  scalar_splits : (j : Kind) (c : List ℕ) (v : ScalarValue) (vs : Values) → Splits (Scalar_and j c v NoValue) vs
-  scalar_splits j c v vs = record {
+  scalar_splits : (v : ScalarValue) (vs : Values) → Splits (Scalar_and v NoValue) vs
+  scalar_splits v vs = record {
     none = λ b h. absurd h;
-    some = λ k inner ts b h. record { front = h.4.front; back = h.4.back; whole = h.4.whole; this = (h.0, h.1, h.2, h.3, alone (IsBytes (Some c)) h.4.front h.4.this); that = h.4.that };
+    some = λ k inner ts b h. record { front = h.2.front; back = h.2.back; whole = h.2.whole; this = (h.0, h.1, alone (IsBytes (Some h.0)) h.2.front h.2.this); that = h.2.that };
     single = refl;
     long = omega arith;
   }
@@ -382,10 +396,10 @@ module _ (l : Rules) where
     long = omega arith;
   }
 
-  fields_splits : (j : Kind) (n : ℕ) (items vs : Values) → Splits (Fields_and j n items NoValue) vs
-  fields_splits j n items vs = record {
+  fields_splits : (j : Kind) (items vs : Values) → Splits (Fields_and j items NoValue) vs
+  fields_splits j items vs = record {
     none = λ b h. absurd h;
-    some = λ k inner ts b h. record { front = h.6.front; back = h.6.back; whole = h.6.whole; this = (h.0, h.1, h.2, h.3, h.4, h.5, alone (IsBytes (Some h.3)) h.6.front h.6.this); that = h.6.that };
+    some = λ k inner ts b h. record { front = h.5.front; back = h.5.back; whole = h.5.whole; this = (h.0, h.1, h.2, h.3, h.4, alone (IsBytes (Some h.2)) h.5.front h.5.this); that = h.5.that };
     single = refl;
     long = omega arith;
   }
@@ -394,21 +408,21 @@ module _ (l : Rules) where
   unfolding Spells
   counted_one j n items r k inner front s p rest level stop step le =
       let c = s.3 in
-      rw s.0 (counted_read n items k inner s.2 c.front c.back front r s.1 c.whole c.this.0 c.this.1 c.that (alone_is (IsBytes (Some s.2)) front s.4) p rest level stop step le)
+      counted_read n items k inner s.2 c.front c.back front r s.1 c.whole c.this.0 c.this.1 c.that (alone_is (IsBytes (Some s.2)) front s.4) p rest level stop step le
 
-  fields_one : (j : Kind) (n : ℕ) (items : Values) → Read items → Reads_one (Fields_and j n items NoValue)
-  fields_one j n items r k inner front s p rest level stop step le =
-      rw s.0 (fields_read n items k inner s.3 front r s.1 s.2 s.4 s.5 (alone_is (IsBytes (Some s.3)) front s.6) p rest level stop step le)
+  fields_one : (j : Kind) (items : Values) → Read items → Reads_one (Fields_and j items NoValue)
+  fields_one j items r k inner front s p rest level stop step le =
+      fields_read items k inner s.2 front r s.1 s.3 s.4 (alone_is (IsBytes (Some s.2)) front s.5) p rest level stop step le
 
   pub all_read : (vs : Values) → AreWithin l vs → Read vs
   all_read NoValue w = none_read
   all_read (Null_and vs) w = and_read (Null_and NoValue) vs (null_splits vs) null_read (all_read vs w)
   all_read (Empty_and vs) w = and_read (Empty_and NoValue) vs (empty_splits vs) empty_read (all_read vs w)
-  all_read (Scalar_and j c v vs) w = and_read (Scalar_and j c v NoValue) vs (scalar_splits j c v vs) (scalar_read j c v w.0 w.1) (all_read vs w.2)
+  all_read (Scalar_and v vs) w = and_read (Scalar_and v NoValue) vs (scalar_splits v vs) (scalar_read v w.0 w.1) (all_read vs w.2)
   all_read (Counted_and j n items vs) w = and_read (Counted_and j n items NoValue) vs (counted_splits j n items vs) (counted_one j n items (all_read items w.0)) (all_read vs w.1)
-  all_read (Fields_and j n items vs) w = and_read (Fields_and j n items NoValue) vs (fields_splits j n items vs) (fields_one j n items (all_read items w.0)) (all_read vs w.1)
+  all_read (Fields_and j items vs) w = and_read (Fields_and j items NoValue) vs (fields_splits j items vs) (fields_one j items (all_read items w.0)) (all_read vs w.1)
 
 -- What spells a value that is within the limits is read.
 pub cell_spelled : (l : Rules) (k : Kind) (inner : Types) (v : Values) (at stop : ℕ) (b : List ℕ) → ValueSpells k inner v b → AreWithin l v → at + length b ≤ stop
-    → Runs (cell_step l) (place at (Value_of k inner 0 stop ∷ [])) b (values_items l 0 at v) (place (at + length b) []) []
+    → Runs (cell_step l) (place at (Value_of k inner 0 stop ∷ [])) b (value_items l at k inner v) (place (at + length b) []) []
 cell_spelled l k inner v at stop b s w le = (all_read l v w).values (Type_and k inner NoMore) b s at 0 stop [] le

@@ -1,5 +1,6 @@
 -- Laws of the values of cells.
-use Rattle.std.specs.Prelude.{◌≡◌, ℕ, ◌+◌, ◌≤◌, Bool, true, List, length, [], ◌∷◌, Option, Some, None, ⊤, if◌then◌else◌}
+use Rattle.std.specs.Prelude.{◌≡◌, ℕ, ◌+◌, ◌<◌, ◌≤◌, ◌^◌, Bool, true, List, length, [], ◌∷◌, Option, Some, None, ⊤, if◌then◌else◌}
+use Rattle.std.specs.List.{All}
 use Rattle.cqlp_note.specs.declared.refusal.Refusal.{Refusal}
 use Rattle.cqlp_note.specs.Step.{Runs}
 use Rattle.cqlp_note.specs.Limits.{Rules}
@@ -12,7 +13,8 @@ use Rattle.cqlp_value.specs.declared.advance.CellAdvance.TheVariants as advance
 use Rattle.cqlp_value.specs.declared.item.CellPush.{CellPush}
 use Rattle.cqlp_value.specs.declared.item.CellPush.TheVariants as push
 use Rattle.cqlp_value.specs.CellStep.{Value_of, CellEvent, CellPlace, cell_step}
-use Rattle.cqlp_value.specs.Values.{Values, ValueSpells, values_size, values_items, AreWithin}
+use Rattle.cqlp_value.specs.Scalars.{ScalarValue, kind_of, content_of, scalar_fits, IsInRange}
+use Rattle.cqlp_value.specs.Values.{Values, IsScalar, ValueSpells, values_size, values_bytes, value_fits, AreInRange, value_items, AreWithin}
 use Rattle.cqlp_value.specs.declared.front.FrontScalar.{FrontScalar}
 use Rattle.cqlp_value.specs.Contents.{value_of}
 use Rattle.cqlp_value.specs.Fronts.{IsFront}
@@ -27,7 +29,7 @@ ReadIsSpelled =
     (l : Rules) (k : Kind) (inner : Types) (stop : ℕ)
     (before after : CellPlace) (b : List ℕ) (es : List (ℕ × CellEvent))
     → before.symbols ≡ Value_of k inner 0 stop ∷ [] → after.symbols ≡ [] → Runs (cell_step l) before b es after []
-    → (v : Values) × ValueSpells k inner v b × (es ≡ values_items l 0 before.offset v)
+    → (v : Values) × ValueSpells k inner v b × (es ≡ value_items l before.offset k inner v)
 
 -- What spells a value whose scalars are within the limits is read as its items, each where its bytes are.
 abbrev pub SpelledIsRead : Type 0
@@ -36,7 +38,7 @@ SpelledIsRead =
     → ValueSpells k inner v b → AreWithin l v → at + length b ≤ stop
     → let before : CellPlace = record { offset = at; symbols = Value_of k inner 0 stop ∷ [] } in
     let after : CellPlace = record { offset = at + length b; symbols = [] } in
-    Runs (cell_step l) before b (values_items l 0 at v) after []
+    Runs (cell_step l) before b (value_items l at k inner v) after []
 
 -- The bytes that spell a value are as many as its size says.
 abbrev pub SpelledIsLong : Type 0
@@ -48,6 +50,31 @@ abbrev pub OneSpelled : Type 0
 OneSpelled =
     (k : Kind) (inner : Types) (v w : Values) (b : List ℕ)
     → ValueSpells k inner v b → ValueSpells k inner w b → v ≡ w
+
+-- A scalar that fits is what is read of the content that is written of it.
+abbrev pub ScalarIsItsContent : Type 0
+ScalarIsItsContent =
+    (v : ScalarValue) → IsInRange v → scalar_fits v ≡ true → IsScalar (kind_of v) v (content_of v)
+
+-- What is read of a content of bytes is of its kind, in range, and fits.
+abbrev pub ReadScalarFits : Type 0
+ReadScalarFits =
+    (k : Kind) (v : ScalarValue) (c : List ℕ)
+    → All (λ x. x < 256) c → IsScalar k v c → (kind_of v ≡ k) × (scalar_fits v ≡ true) × IsInRange v
+
+-- A value that fits is spelled by the bytes that are written of it, which are as many as its size says. There are fewer
+-- than 2^31 of them, as the length of each content is an [int].
+abbrev pub FittingIsSpelled : Type 0
+FittingIsSpelled =
+    (k : Kind) (inner : Types) (v : Values)
+    → AreInRange v → value_fits k inner v ≡ true → values_size v < 2 ^ 31
+    → ValueSpells k inner v (values_bytes v) × (length (values_bytes v) ≡ values_size v)
+
+-- A value that bytes spell fits, and its scalars are in range.
+abbrev pub SpelledFits : Type 0
+SpelledFits =
+    (k : Kind) (inner : Types) (v : Values) (b : List ℕ)
+    → ValueSpells k inner v b → All (λ x. x < 256) b → (value_fits k inner v ≡ true) × AreInRange v
 
 -- ---- one answer
 

@@ -12,5 +12,7 @@ pub mod Standing
 pub mod Inner
 pub mod OpenValues
 pub mod Values
+pub mod Owned
+pub mod Measures
 pub mod Laws
 pub mod Fronts

@@ -1,15 +1,15 @@
 -- Scalars (section 6 of native_protocol_v4.spec).
-use Rattle.std.specs.Prelude.{ℕ, ◌+◌, ◌/◌, ℤ, Bool, true, ◌||◌, List, length, take, drop, Option, Some, None, nat_lt, nat_le, ◌==◌, if◌then◌else◌, slice_index}
+use Rattle.std.specs.Prelude.{◌≡◌, ℕ, ◌/◌, ◌<◌, ◌^◌, ◌++◌, ℤ, Bool, true, false, ◌&&◌, ◌||◌, List, [], ◌∷◌, length, take, drop, Option, Some, None, is_some, nat_lt, nat_le, ◌==◌, if◌then◌else◌, slice_index, FitsSigned}
 use Rattle.std.specs.List.{list_all}
-use Rattle.std.specs.Int.{w8, w16, w32, w64, from_be_bytes, cast_signed}
+use Rattle.std.specs.Int.{w8, w16, w32, w64, from_be_bytes, to_be_bytes, cast_signed, cast_unsigned}
 use Rattle.std.specs.Str.{is_utf8}
 use Rattle.cqlp_type.specs.declared.kind.Kind.{Kind}
 use Rattle.cqlp_type.specs.declared.kind.Kind.TheVariants as kind
 use Rattle.cqlp_note.specs.declared.prim.Address.{Address}
-use Rattle.cqlp_note.specs.declared.prim.Address.TheVariants as address
 use Rattle.cqlp_note.specs.declared.refusal.Reason.{Reason}
 use Rattle.cqlp_note.specs.declared.refusal.Reason.TheVariants.{BadUtf8, BadScalar}
 use Rattle.cqlp_note.specs.Field.{address_of, signed}
+use Rattle.cqlp_note.specs.Spelling.{address_bytes, HasItsLength}
 
 -- What a scalar cell holds, without where its bytes lie in memory.
 pub data ScalarValue : Type 0 where
@@ -84,30 +84,85 @@ abbrev pub fault_of : Kind → Reason
 fault_of kind.Varchar = BadUtf8
 fault_of _ = BadScalar
 
--- how many bytes spell a scalar
-abbrev pub address_size : Address → ℕ
-address_size (address.V4 bytes) = 4
-address_size (address.V6 bytes) = 16
+-- ---- of a scalar
 
+abbrev pub kind_of : ScalarValue → Kind
+kind_of (Custom c) = kind.Custom
+kind_of (Ascii c) = kind.Ascii
+kind_of (Bigint z) = kind.Bigint
+kind_of (Blob c) = kind.Blob
+kind_of (Boolean b) = kind.Boolean
+kind_of (Counter z) = kind.Counter
+kind_of (Decimal scale c) = kind.Decimal
+kind_of (Double c) = kind.Double
+kind_of (Float c) = kind.Float
+kind_of (Int z) = kind.Int
+kind_of (Timestamp z) = kind.Timestamp
+kind_of (Uuid c) = kind.Uuid
+kind_of (Varchar c) = kind.Varchar
+kind_of (Varint c) = kind.Varint
+kind_of (Timeuuid c) = kind.Timeuuid
+kind_of (Inet a) = kind.Inet
+kind_of (Date n) = kind.Date
+kind_of (Time z) = kind.Time
+kind_of (Smallint z) = kind.Smallint
+kind_of (Tinyint z) = kind.Tinyint
+kind_of (Raw c) = kind.Raw
+
+abbrev pub boolean_byte : Bool → ℕ
+boolean_byte true = 1
+boolean_byte false = 0
+
+-- The content that is written of a scalar. Any byte but 0 is read as true; 1 is written.
+abbrev pub content_of : ScalarValue → List ℕ
+content_of (Custom c) = c
+content_of (Ascii c) = c
+content_of (Bigint z) = to_be_bytes w64 (cast_unsigned w64 z)
+content_of (Blob c) = c
+content_of (Boolean b) = boolean_byte b ∷ []
+content_of (Counter z) = to_be_bytes w64 (cast_unsigned w64 z)
+content_of (Decimal scale c) = to_be_bytes w32 (cast_unsigned w32 scale) ++ c
+content_of (Double c) = c
+content_of (Float c) = c
+content_of (Int z) = to_be_bytes w32 (cast_unsigned w32 z)
+content_of (Timestamp z) = to_be_bytes w64 (cast_unsigned w64 z)
+content_of (Uuid c) = c
+content_of (Varchar c) = c
+content_of (Varint c) = c
+content_of (Timeuuid c) = c
+content_of (Inet a) = address_bytes a
+content_of (Date n) = to_be_bytes w32 n
+content_of (Time z) = to_be_bytes w64 (cast_unsigned w64 z)
+content_of (Smallint z) = to_be_bytes w16 (cast_unsigned w16 z)
+content_of (Tinyint z) = cast_unsigned w8 z ∷ []
+content_of (Raw c) = c
+
+-- Its content is one of its kind: not empty, of a length that its kind allows, and no more than its kind allows.
+abbrev pub scalar_fits : ScalarValue → Bool
+scalar_fits v =
+    nat_lt 0 (length (content_of v)) && allows_size (kind_of v) (length (content_of v))
+    && is_some (scalar_of (kind_of v) (content_of v))
+
+-- Numbers, arrays and texts are those of a Rust value: in the range of their types, of their lengths, and UTF-8.
+abbrev pub IsInRange : ScalarValue → Type 0
+IsInRange (Ascii c) = is_utf8 c ≡ true
+IsInRange (Bigint z) = FitsSigned w64 z
+IsInRange (Counter z) = FitsSigned w64 z
+IsInRange (Decimal scale c) = FitsSigned w32 scale
+IsInRange (Double c) = length c ≡ 8
+IsInRange (Float c) = length c ≡ 4
+IsInRange (Int z) = FitsSigned w32 z
+IsInRange (Timestamp z) = FitsSigned w64 z
+IsInRange (Uuid c) = length c ≡ 16
+IsInRange (Varchar c) = is_utf8 c ≡ true
+IsInRange (Timeuuid c) = length c ≡ 16
+IsInRange (Inet a) = HasItsLength a
+IsInRange (Date n) = n < 2 ^ 32
+IsInRange (Time z) = FitsSigned w64 z
+IsInRange (Smallint z) = FitsSigned w16 z
+IsInRange (Tinyint z) = FitsSigned w8 z
+IsInRange v = Unit {0}
+
+-- how many bytes spell a scalar
 abbrev pub content_size : ScalarValue → ℕ
-content_size (Custom c) = length c
-content_size (Blob c) = length c
-content_size (Raw c) = length c
-content_size (Varint c) = length c
-content_size (Double c) = length c
-content_size (Float c) = length c
-content_size (Uuid c) = length c
-content_size (Timeuuid c) = length c
-content_size (Ascii c) = length c
-content_size (Varchar c) = length c
-content_size (Bigint z) = 8
-content_size (Counter z) = 8
-content_size (Timestamp z) = 8
-content_size (Time z) = 8
-content_size (Int z) = 4
-content_size (Smallint z) = 2
-content_size (Tinyint z) = 1
-content_size (Date n) = 4
-content_size (Boolean b) = 1
-content_size (Decimal scale c) = 4 + length c
-content_size (Inet a) = address_size a
+content_size v = length (content_of v)

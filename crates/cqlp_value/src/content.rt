@@ -12,7 +12,7 @@ use cqlp_note::{Address, Reason};
 use cqlp_type::Kind;
 
 /// The first nanosecond that is not of the same day.
-const DAY: u64 = 86_400_000_000_000;
+pub(crate) const DAY: u64 = 86_400_000_000_000;
 
 /// The scalar of this kind that these bytes spell, all of them. Section 6 of `native_protocol_v4.spec`.
 ///

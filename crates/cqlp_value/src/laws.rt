@@ -1,6 +1,6 @@
 //! Laws of the definitions.
 
-ghost use Rattle.cqlp_value.specs.Laws.{ReadIsSpelled, SpelledIsRead, SpelledIsLong, OneSpelled, OneAnswerOfPush, OneAnswerOfAdvance, OneAnswerOfFrontScalar};
+ghost use Rattle.cqlp_value.specs.Laws.{ReadIsSpelled, SpelledIsRead, SpelledIsLong, OneSpelled, ScalarIsItsContent, ReadScalarFits, FittingIsSpelled, SpelledFits, OneAnswerOfPush, OneAnswerOfAdvance, OneAnswerOfFrontScalar};
 
 /// What is read of a cell is a value that its bytes spell, with just its items.
 pub fn read_is_spelled()
@@ -20,6 +20,26 @@ pub fn spelled_is_long()
 /// Bytes spell at most one value of a type.
 pub fn one_is_spelled()
     ensures { OneSpelled }
+{}
+
+/// A scalar that fits is what is read of the content that is written of it.
+pub fn scalar_is_its_content()
+    ensures { ScalarIsItsContent }
+{}
+
+/// What is read of a content of bytes is of its kind, in range, and fits.
+pub fn read_scalar_fits()
+    ensures { ReadScalarFits }
+{}
+
+/// A value that fits is spelled by the bytes that are written of it.
+pub fn fitting_is_spelled()
+    ensures { FittingIsSpelled }
+{}
+
+/// A value that bytes spell fits, and its scalars are in range.
+pub fn spelled_fits()
+    ensures { SpelledFits }
 {}
 
 /// After the same bytes and events of a cell, one answer of `CellReader::push` to an input meets its clauses.

@@ -1,0 +1,10 @@
+use Rattle.std.proofs.Common.{◌≡◌, ◌-◌, ◌^◌, min, take}
+use Rattle.cqlp_value.specs.Values.{values_size}
+use Rattle.cqlp_value.specs.Measures.{listed_values, listed_pairs}
+use Rattle.cqlp_value.proofs.measure.+value_size.Given as goal
+
+abbrev pub invariant-items_size-loop-item : goal.invariant-items_size-loop-item
+invariant-items_size-loop-item l = l.size ≡ min (values_size (listed_values (take l.item-index l.items))) (2 ^ 64 - 1)
+
+abbrev pub invariant-pairs_size-loop-key : goal.invariant-pairs_size-loop-key
+invariant-pairs_size-loop-key l = l.size ≡ min (values_size (listed_pairs (take l.key-index l.pairs))) (2 ^ 64 - 1)

@@ -1,0 +1,200 @@
+//! Whether values fit their types.
+
+ghost use Rattle.std.specs.Prelude.{◌≡◌, ◌&&◌, ◌^◌, nat_lt, option_map, true};
+ghost use Rattle.cqlp_type.specs.Trees.{kind_in};
+ghost use Rattle.cqlp_type.specs.TypeTrees.{head_of};
+ghost use Rattle.cqlp_type.specs.Types.{is_kind};
+ghost use Rattle.cqlp_type.specs.declared.kind.Kind.TheVariants as kind;
+ghost use Rattle.cqlp_value.specs.Measures.{all_fields_fit, all_fit, all_pairs_fit, fits_tree, has_one_inner};
+ghost use Rattle.cqlp_value.specs.Measures.{fields_are, items_are, pairs_are};
+ghost use Rattle.cqlp_value.specs.Owned.{atom_of, fits_type};
+ghost use Rattle.cqlp_value.specs.Scalars.{kind_of, scalar_fits};
+ghost use Rattle.cqlp_value.specs.Values.{has_fields};
+
+use crate::value::{Atom, Value};
+use cqlp_type::{Kind, TypeTree};
+
+/// The most items that a count says.
+const MOST: usize = i32::MAX as usize;
+
+/// Whether a value is one of this type, or of a cell without a type. Section 6 of `native_protocol_v4.spec`.
+///
+/// Null and empty are of any type. A scalar is of its own kind alone, and has some bytes; an ascii is ASCII, a
+/// timeuuid of version 1, a time within a day, and a decimal has an unscaled number. A list, a set or a map has at most
+/// 2,147,483,647 items, which fit. A tuple or a user-defined type has one field at least and no more than its type,
+/// which fit. Without a type a value is raw.
+pub fn fits(value: &Value, of: Option<&TypeTree>) -> bool
+    ensures { result ≡ fits_type value.now (option_map (λ t. t.now) of.entry) }
+{
+    match of {
+        Some(tree) => is_of(value, tree),
+        None => match value {
+            Value::Null | Value::Empty => true,
+            Value::Leaf(atom) => is_scalar_of(atom, Kind::Raw),
+            _ => false,
+        },
+    }
+}
+
+/// The same of a type.
+#[cycle(fits)]
+fn is_of(value: &Value, tree: &TypeTree) -> bool
+    ensures { result ≡ fits_tree value.now tree.now }
+{
+    match value {
+        Value::Null => true,
+        Value::Empty => true,
+        Value::Leaf(atom) => is_scalar_of(atom, kind(tree)),
+        Value::List(items) => has_count(Kind::List, items.len(), tree) && items_fit(items, tree),
+        Value::Set(items) => has_count(Kind::Set, items.len(), tree) && items_fit(items, tree),
+        Value::Map(pairs) => has_count(Kind::Map, pairs.len(), tree) && pairs_fit(pairs, tree),
+        Value::Tuple(items) => has_some(Kind::Tuple, items.len(), tree) && fields_fit(items, tree),
+        Value::Udt(items) => has_some(Kind::Udt, items.len(), tree) && fields_fit(items, tree),
+    }
+}
+
+/// The same of the items of a list or a set.
+#[cycle(fits)]
+fn items_fit(items: &[Value], tree: &TypeTree) -> bool
+    requires { has_one_inner (kind_in (head_of tree.now)) ≡ true }
+    ensures { result ≡ items_are items.now tree.now }
+{
+    match tree {
+        TypeTree::List(inner) => each_fits(items, inner),
+        TypeTree::Set(inner) => each_fits(items, inner),
+        _ => items.is_empty(),
+    }
+}
+
+/// Whether each item is one of this type.
+#[cycle(fits)]
+fn each_fits(items: &[Value], tree: &TypeTree) -> bool
+    ensures { result ≡ all_fit tree.now items.now }
+{
+    for item in items {
+        if !is_of(item, tree) {
+            return false;
+        }
+    }
+    true
+}
+
+/// The same of the pairs of a map.
+#[cycle(fits)]
+fn pairs_fit(pairs: &[(Value, Value)], tree: &TypeTree) -> bool
+    requires { is_kind kind.Map (kind_in (head_of tree.now)) ≡ true }
+    ensures { result ≡ pairs_are pairs.now tree.now }
+{
+    match tree {
+        TypeTree::Map(keys, values) => each_pair_fits(pairs, keys, values),
+        _ => pairs.is_empty(),
+    }
+}
+
+/// Whether each key and each value is one of these types.
+#[cycle(fits)]
+fn each_pair_fits(pairs: &[(Value, Value)], keys: &TypeTree, values: &TypeTree) -> bool
+    ensures { result ≡ all_pairs_fit keys.now values.now pairs.now }
+{
+    for (key, value) in pairs {
+        if !is_of(key, keys) {
+            return false;
+        }
+        if !is_of(value, values) {
+            return false;
+        }
+    }
+    true
+}
+
+/// The same of the fields of a tuple or a user-defined type.
+#[cycle(fits)]
+fn fields_fit(items: &[Value], tree: &TypeTree) -> bool
+    requires { has_fields (kind_in (head_of tree.now)) ≡ true }
+    ensures { result ≡ fields_are items.now tree.now }
+{
+    match tree {
+        TypeTree::Tuple(types) => types_fit(items, types),
+        TypeTree::Udt { fields, .. } => named_fit(items, fields),
+        TypeTree::Plain(_) => items.is_empty(),
+        TypeTree::Custom(_) => false,
+        TypeTree::List(_) => false,
+        TypeTree::Set(_) => false,
+        TypeTree::Map(_, _) => false,
+    }
+}
+
+/// The same of the fields of a tuple.
+#[cycle(fits)]
+fn types_fit(items: &[Value], types: &[TypeTree]) -> bool
+    ensures { result ≡ all_fields_fit (λ t. t) items.now types.now }
+{
+    if items.len() > types.len() {
+        return false;
+    }
+    for (i, item) in items.iter().enumerate() {
+        if !is_of(item, &types[i]) {
+            return false;
+        }
+    }
+    true
+}
+
+/// The same of the fields of a user-defined type.
+#[cycle(fits)]
+fn named_fit(items: &[Value], fields: &[(String, TypeTree)]) -> bool
+    ensures { result ≡ all_fields_fit (λ x. x.1) items.now fields.now }
+{
+    if items.len() > fields.len() {
+        return false;
+    }
+    for (i, item) in items.iter().enumerate() {
+        if !is_of(item, &fields[i].1) {
+            return false;
+        }
+    }
+    true
+}
+
+/// Whether a scalar is one of this kind.
+fn is_scalar_of(atom: &Atom, kind: Kind) -> bool
+    ensures { result ≡ (is_kind (kind_of (atom_of atom.now)) kind && scalar_fits (atom_of atom.now)) }
+{
+    is(atom.kind(), kind) && atom.is_allowed()
+}
+
+/// Whether a type is of this kind, and a count says so many items.
+fn has_count(of: Kind, len: usize, tree: &TypeTree) -> bool
+    ensures { result ≡ (is_kind of (kind_in (head_of tree.now)) && nat_lt len (2 ^ 31)) }
+{
+    is(of, kind(tree)) && len <= MOST
+}
+
+/// Whether a type is of this kind, and there is a field.
+fn has_some(of: Kind, len: usize, tree: &TypeTree) -> bool
+    ensures { result ≡ (is_kind of (kind_in (head_of tree.now)) && nat_lt 0 len) }
+{
+    is(of, kind(tree)) && len > 0
+}
+
+/// The kind of a type.
+fn kind(tree: &TypeTree) -> Kind
+    ensures { result ≡ kind_in (head_of tree.now) }
+{
+    match tree {
+        TypeTree::Plain(kind) => *kind,
+        TypeTree::Custom(_) => Kind::Custom,
+        TypeTree::List(_) => Kind::List,
+        TypeTree::Set(_) => Kind::Set,
+        TypeTree::Map(_, _) => Kind::Map,
+        TypeTree::Udt { .. } => Kind::Udt,
+        TypeTree::Tuple(_) => Kind::Tuple,
+    }
+}
+
+/// Whether two kinds are the same.
+fn is(one: Kind, other: Kind) -> bool
+    ensures { result ≡ is_kind one other }
+{
+    one == other
+}
