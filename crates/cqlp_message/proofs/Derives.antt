@@ -1,7 +1,7 @@
 -- How symbols become parts, one after the other.
-use Rattle.std.proofs.Common.{◌≡◌, ℕ, ◌+◌, ◌≤◌, List, [], ◌∷◌, ◌++◌, length, Option, Some, None, refl, sym, append_assoc}
+use Rattle.std.proofs.Common.{◌≡◌, ℕ, ◌+◌, ◌≤◌, Bool, cond, List, [], ◌∷◌, ◌++◌, length, Option, Some, None, refl, sym, append_assoc}
 use Rattle.std.proofs.lemmas.List.Elements.{All-nil, All-cons, All-head, All-tail}
-use Rattle.std.specs.Prelude.{IfSome, All, ⊤}
+use Rattle.std.specs.Prelude.{IfSome, All, ⊤, is_some}
 use Rattle.std.specs.List.{flat_map}
 use Rattle.cqlp_note.specs.declared.field.Field.{Field}
 use Rattle.cqlp_note.specs.declared.field.Notation.{Notation}
@@ -9,18 +9,22 @@ use Rattle.cqlp_note.specs.declared.field.Notation.TheVariants as notation
 use Rattle.cqlp_note.specs.Field.{FieldValue, Text}
 use Rattle.cqlp_note.specs.Heading.{has}
 use Rattle.cqlp_note.specs.Limits.{Rules}
-use Rattle.cqlp_type.specs.Types.{Types}
+use Rattle.cqlp_type.specs.declared.kind.Kind.{Kind}
+use Rattle.cqlp_type.specs.Types.{Types, NoMore, preorder, followed_by}
 use Rattle.cqlp_type.specs.TypeStep.{Option_at}
-use Rattle.cqlp_type.specs.Trees.{Trees, options_in}
-use Rattle.cqlp_message.specs.declared.grammar.Group.{Group}
-use Rattle.cqlp_message.specs.declared.grammar.Role.{Role}
-use Rattle.cqlp_message.specs.declared.grammar.Role.TheVariants as role
+use Rattle.cqlp_type.specs.Trees.{options_in, types_in}
+use Rattle.cqlp_grammar.specs.declared.grammar.Group.{Group}
+use Rattle.cqlp_grammar.specs.declared.grammar.Role.{Role}
+use Rattle.cqlp_grammar.specs.declared.grammar.Role.TheVariants as role
 use Rattle.cqlp_message.specs.FrameValues.{Octets}
-use Rattle.cqlp_message.specs.Productions.{Symbol, In, In_type, Extra, plain, copies, group, where_set, following, fault_in}
-use Rattle.cqlp_message.specs.Productions as productions
-use Rattle.cqlp_message.specs.Parts.{Part, Field_is, Type_is}
+use Rattle.cqlp_grammar.specs.Productions.{Symbol, In, In_type, Cell_due, Extra, plain, copies, group, where_set, following, fault_in, raw_types}
+use Rattle.cqlp_grammar.specs.Productions as productions
+use Rattle.cqlp_message.specs.Parts.{Part, Field_is, Type_is, Cell_is}
 use Rattle.cqlp_message.specs.Bodies.{where_some, text, texts}
-use Rattle.cqlp_message.specs.Agreement.{IsThereIf}
+
+-- a part is there exactly where it is announced
+abbrev pub IsThereIf : {A : Type 0} → (announced : Bool) → Option A → Type 0
+IsThereIf announced o = is_some o ≡ announced
 
 pub record IsField (f g : Field) (n m : Notation) : Type 0 where
   pub name : f ≡ g
@@ -33,34 +37,46 @@ pub trivial : {A : Type 0} (xs : List A) → All (λ a. ⊤) xs
 trivial [] = All-nil (λ a. ⊤)
 trivial (a ∷ xs) = All-cons (λ a. ⊤) a xs tt (trivial xs)
 
--- how many type options are read for a metadata, which a field of this role may begin
-abbrev pub options_after : Role → ℕ → ℕ
-options_after (role.MetaFlags rows) n = 0
-options_after role.PreparedFlags n = 0
-options_after r n = n
+-- metadata begins without types
+abbrev pub told_after : Role → Types → Types
+told_after (role.MetaFlags rows) told = NoMore
+told_after role.PreparedFlags told = NoMore
+told_after r told = told
 
--- a state counts the type options that are read
-pub record Counts (S : Type 0) (after : S → Role → S) (grown : S → Trees → S) (count : S → ℕ) : Type 0 where
-  pub stays : (s : S) (r : Role) → count (after s r) ≡ options_after r (count s)
-  pub grows : (s : S) (t : Trees) → count (grown s t) ≡ count s + options_in t
+-- the types of a page's cells, where those of its metadata are told
+abbrev pub cells_of : Role → Types → Types
+cells_of (role.PageRows flags columns) told = cond (has flags 0x04) (raw_types columns) told
+cells_of r told = raw_types 0
 
--- A reading carries a state along, which gives the types of a page's cells and changes with each field and each type, and
--- which counts the type options.
-module _ (l : Rules) (S : Type 0) (types : S → Role → Types) (after : S → Role → S) (grown : S → Trees → S) (count : S → ℕ) where
-  -- From these symbols, in this state, come these parts and no others, up to the end of the frame.
-  abbrev pub Derives : List Part → List Symbol → S → Type 0
-  Derives [] symbols s = symbols ≡ Extra ∷ []
-  Derives (Field_is g m v ∷ parts) (In f n r ∷ rest) s = IsField g f m n × (fault_in r v ≡ None) × Derives parts (following (types s r) r v ++ rest) (after s r)
-  Derives (Type_is t ∷ parts) (In_type ts ∷ rest) s = (ts ≡ Option_at 1 ∷ []) × (count s + options_in t ≤ l.entries) × Derives parts rest (grown s t)
-  Derives (part ∷ parts) symbols s = ⊥
+-- how many types there are, the inner ones counted
+abbrev pub nodes_in : Types → ℕ
+nodes_in ts = length (preorder ts)
 
-  -- the same in every state
+pub record IsCell (row row' column column' : ℕ) (k k' : Kind) (inner inner' : Types) : Type 0 where
+  pub row_is : row ≡ row'
+  pub column_is : column ≡ column'
+  pub kind_is : k ≡ k'
+  pub inner_is : inner ≡ inner'
+
+module _ (l : Rules) where
+  -- From these symbols, where metadata has told these types, come these parts and no others, up to the end of the frame.
+  abbrev pub Derives : List Part → List Symbol → (told : Types) → Type 0
+  Derives [] symbols told = symbols ≡ Extra ∷ []
+  Derives (Field_is g m v ∷ parts) (In f n r ∷ rest) told =
+      IsField g f m n × (fault_in r v ≡ None) × Derives parts (following (cells_of r told) r v ++ rest) (told_after r told)
+  Derives (Type_is t ∷ parts) (In_type ts ∷ rest) told =
+      (ts ≡ Option_at 1 ∷ []) × (nodes_in told + options_in t ≤ l.entries) × Derives parts rest (followed_by told (types_in t))
+  Derives (Cell_is row column k inner v ∷ parts) (Cell_due row' column' k' inner' ∷ rest) told =
+      IsCell row row' column column' k k' inner inner' × Derives parts rest told
+  Derives (part ∷ parts) symbols told = ⊥
+
+  -- the same, whatever types were told
   abbrev pub D : List Part → List Symbol → Type 0
-  D parts symbols = (s : S) → Derives parts symbols s
+  D parts symbols = (told : Types) → Derives parts symbols told
 
   -- a field that nothing follows
   pub alone_derives : (f : Field) (n : Notation) (v : FieldValue) (ps : List Part) (rest : List Symbol) → D ps rest → D (Field_is f n v ∷ ps) (plain f n ∷ rest)
-  alone_derives f n v ps rest d s = (same, refl, d (after s role.Alone))
+  alone_derives f n v ps rest d told = (same, refl, d told)
 
   -- items one after the other come of copies of a group
   pub each_derives : {A : Type 0} (P : A → Type 0) (h : A → List Part) (g : List Symbol) (xs : List A) (ps : List Part) (rest : List Symbol) → All P xs
@@ -87,7 +103,7 @@ module _ (l : Rules) (S : Type 0) (types : S → Role → Types) (after : S → 
 
   -- a [string list]
   pub texts_derive : (f i : Field) (g : Group) (ts : List Octets) (ps : List Part) (rest : List Symbol) → group g ≡ plain i notation.Text16 ∷ [] → D ps rest → D (texts f i ts ++ ps) (productions.counted f g ∷ rest)
-  texts_derive f i g ts ps rest is d s =
+  texts_derive f i g ts ps rest is d told =
       let items : D (flat_map (λ t. text i t ∷ []) ts ++ ps) (copies (length ts) (plain i notation.Text16 ∷ []) ++ rest) =
       each_derives (λ t. ⊤) (λ t. text i t ∷ []) (plain i notation.Text16 ∷ []) ts ps rest (trivial ts) (λ t ps rest p d. alone_derives i notation.Text16 (Text t) ps rest d) d in
-      (same, refl, rw is (items (after s (role.Counts g))))
+      (same, refl, rw is (items told))

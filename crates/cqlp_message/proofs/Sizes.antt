@@ -10,8 +10,10 @@ use Rattle.cqlp_note.specs.Head.{fixed_of}
 use Rattle.cqlp_note.specs.Spelling.{Spells}
 use Rattle.cqlp_note.proofs.Spelled.{counted_size}
 use Rattle.cqlp_type.proofs.Lengths.{spelled_long}
+use Rattle.cqlp_type.specs.Types.{NoMore, Type_and}
+use Rattle.cqlp_value.proofs.ReadBack.{spelled_size}
 use Rattle.cqlp_message.specs.FrameValues.{FrameValue}
-use Rattle.cqlp_message.specs.Parts.{Part, Field_is, Type_is, PartSpells, PartsSpell, size_behind, part_size, parts_size}
+use Rattle.cqlp_message.specs.Parts.{Part, Field_is, Type_is, Cell_is, PartSpells, PartsSpell, size_behind, part_size, parts_size}
 use Rattle.cqlp_message.specs.Bodies.{message_parts}
 use Rattle.cqlp_message.specs.Frames.{FrameSpells, announced_parts, frame_parts, header_of, frame_size}
 
@@ -40,6 +42,7 @@ field_size n v b s = absurd s
 pub part_sized : (part : Part) (b : List ℕ) → PartSpells part b → length b ≡ part_size part
 part_sized (Field_is f n v) b s = field_size n v b s
 part_sized (Type_is t) b s = spelled_long false t b s.spelled
+part_sized (Cell_is row column k inner v) b s = spelled_size (Type_and k inner NoMore) v b s
 
 pub parts_long : (ps : List Part) (b : List ℕ) → PartsSpell ps b → length b ≡ parts_size ps
 parts_long [] b s = ap length s

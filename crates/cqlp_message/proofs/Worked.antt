@@ -1,22 +1,28 @@
 -- Worked frames: bytes that spell them, and their events.
 use Rattle.std.proofs.Common.{◌≡◌, ◌-◌, ◌^◌, pos, negsuc, [], ◌∷◌, false, true, refl, lit≤, lit<}
-use Rattle.std.proofs.lemmas.List.Elements.{All-cons, All-nil}
-use Rattle.std.specs.Prelude.{Option, Some, None, All, codes}
+use Rattle.std.specs.Prelude.{List, ℕ, Some, None, codes}
 use Rattle.std.specs.Str.{is_utf8, chars}
 use lib.Utf8.{encode}
 use Rattle.cqlp_note.specs.declared.field.Field.TheVariants as field
 use Rattle.cqlp_note.specs.declared.opcode.Opcode.TheVariants as opcode
 use Rattle.cqlp_note.specs.declared.prim.Address.TheVariants as address
 use Rattle.cqlp_note.specs.Field as note
+use Rattle.cqlp_note.specs.Limits.{Rules}
 use Rattle.cqlp_note.specs.Spelling.{Spells}
 use Rattle.cqlp_type.specs.declared.kind.Kind.TheVariants as kind
 use Rattle.cqlp_type.specs.Trees.{Trees, NoTree, Tree_and, ListOf}
 use Rattle.cqlp_type.specs.Trees.{Plain as PlainType}
-use Rattle.cqlp_message.specs.FrameValues.{FrameValue, Options, Query, Error, Void, Prepared, Event}
+use Rattle.cqlp_value.specs.CellStep as cell
+use Rattle.cqlp_value.specs.Scalars as scalar
+use Rattle.cqlp_value.specs.Scalars.{scalar_of}
+use Rattle.cqlp_value.specs.Values.{Values, NoValue, Null_and, Empty_and, Scalar_and, Counted_and}
+use Rattle.cqlp_message.specs.FrameValues.{FrameValue, Options, Query, Error, Void, Rows, Prepared, Event}
 use Rattle.cqlp_message.specs.FrameValues as value
-use Rattle.cqlp_message.specs.Events as told
-use Rattle.cqlp_message.specs.Agreement.{IsThereIf}
-use Rattle.cqlp_message.specs.Frames.{FrameSpells, Flat, IsWithin}
+use Rattle.cqlp_grammar.specs.Events as told
+use Rattle.cqlp_message.specs.Frames.{FrameSpells, frame_bytes, Flat, IsWithin}
+
+abbrev limits : Rules
+limits = record { text = 32; cell = 32; entries = 2; depth = 2; part = 32; types = true; parts = true }
 
 -- ---- a request for the supported options
 
@@ -28,7 +34,8 @@ options_request_spelled = record {
   announced = [];
   body = [];
   extra = [];
-  agrees = record { tracing = refl; warnings = refl; payload = refl; message = tt };
+  agrees = refl;
+  cells = refl;
   parts = refl;
   message = refl;
   more = refl;
@@ -36,7 +43,7 @@ options_request_spelled = record {
   whole = refl;
 }
 
-options_request_flat : Flat 0 options_request 0 ≡ (0, told.Frame (record { response = false; flags = 0; stream = pos 0; opcode = opcode.Options; length = 0 })) ∷ (9, told.End 0) ∷ []
+options_request_flat : Flat limits 0 options_request 0 ≡ (0, told.Frame (record { response = false; flags = 0; stream = pos 0; opcode = opcode.Options; length = 0 })) ∷ (9, told.End 0) ∷ []
 options_request_flat = refl
 
 -- ---- a query with a value that is not set
@@ -51,23 +58,14 @@ query_request = record {
   message = Query (codes "q") (record { consistency = 1; flags = 1; values = Some ((None, note.Unset) ∷ []); page_size = None; paging = None; serial = None; timestamp = None });
 }
 
-nameless : All (λ (v : Option value.Octets × note.BoundValue). IsThereIf false v.0) ((None, note.Unset) ∷ [])
-nameless =
-    let P : Option value.Octets × note.BoundValue → Type 0 = λ v. IsThereIf false v.0 in
-    All-cons P (None, note.Unset) [] refl (All-nil P)
-
 query_request_spelled : FrameSpells query_request 0 (4 ∷ 0 ∷ 0 ∷ 0 ∷ 7 ∷ 0 ∷ 0 ∷ 0 ∷ 14 ∷ 0 ∷ 0 ∷ 0 ∷ 1 ∷ 0x71 ∷ 0 ∷ 1 ∷ 1 ∷ 0 ∷ 1 ∷ 255 ∷ 255 ∷ 255 ∷ 254 ∷ [])
 unfolding Spells is_utf8 chars encode
 query_request_spelled = record {
   announced = [];
   body = 0 ∷ 0 ∷ 0 ∷ 1 ∷ 0x71 ∷ 0 ∷ 1 ∷ 1 ∷ 0 ∷ 1 ∷ 255 ∷ 255 ∷ 255 ∷ 254 ∷ [];
   extra = [];
-  agrees = record {
-    tracing = refl;
-    warnings = refl;
-    payload = refl;
-    message = record { values = refl; names = nameless; page_size = refl; paging = refl; serial = refl; timestamp = refl };
-  };
+  agrees = refl;
+  cells = refl;
   parts = refl;
   message =
       record {
@@ -100,7 +98,7 @@ query_request_spelled = record {
   whole = refl;
 }
 
-query_request_flat : Flat 0 query_request 0 ≡
+query_request_flat : Flat limits 0 query_request 0 ≡
     (0, told.Frame (record { response = false; flags = 0; stream = pos 0; opcode = opcode.Query; length = 14 }))
     ∷ (9, told.Holds field.Query (note.Text (codes "q"))) ∷ (14, told.Holds field.Consistency (note.Short 1)) ∷ (16, told.Holds field.QueryFlags (note.Byte 1))
     ∷ (17, told.Holds field.Values (note.Count 1)) ∷ (19, told.Holds field.Value (note.Bound note.Unset)) ∷ (23, told.End 0) ∷ []
@@ -118,7 +116,7 @@ announced_response = record {
   message = Void;
 }
 
-announced_response_flat : Flat 0 announced_response 0 ≡
+announced_response_flat : Flat limits 0 announced_response 0 ≡
     (0, told.Frame (record { response = true; flags = 14; stream = pos 1; opcode = opcode.Result; length = 35 }))
     ∷ (9, told.Holds field.TraceId (note.Uuid (0 ∷ 1 ∷ 2 ∷ 3 ∷ 4 ∷ 5 ∷ 6 ∷ 7 ∷ 8 ∷ 9 ∷ 10 ∷ 11 ∷ 12 ∷ 13 ∷ 14 ∷ 15 ∷ [])))
     ∷ (25, told.Holds field.Warnings (note.Count 1)) ∷ (27, told.Holds field.Warning (note.Text (codes "w")))
@@ -137,7 +135,8 @@ unknown_error_spelled = record {
   announced = [];
   body = 0 ∷ 0 ∷ 0x43 ∷ 0x21 ∷ 0 ∷ 1 ∷ 0x78 ∷ [];
   extra = 0xAA ∷ 0xBB ∷ 0xCC ∷ [];
-  agrees = record { tracing = refl; warnings = refl; payload = refl; message = refl };
+  agrees = refl;
+  cells = refl;
   parts = refl;
   message =
       record {
@@ -164,7 +163,7 @@ node_event = record {
   message = Event (codes "STATUS_CHANGE") (value.Node (codes "UP") (address.V4 (127 ∷ 0 ∷ 0 ∷ 1 ∷ [])) (pos 9042));
 }
 
-node_event_flat : Flat 0 node_event 0 ≡
+node_event_flat : Flat limits 0 node_event 0 ≡
     (0, told.Frame (record { response = true; flags = 0; stream = negsuc 0; opcode = opcode.Event; length = 28 }))
     ∷ (9, told.Holds field.EventType (note.Text (codes "STATUS_CHANGE"))) ∷ (24, told.Holds field.Change (note.Text (codes "UP")))
     ∷ (28, told.Holds field.Address (note.Inet (address.V4 (127 ∷ 0 ∷ 0 ∷ 1 ∷ [])) (pos 9042))) ∷ (37, told.End 0) ∷ []
@@ -182,14 +181,16 @@ prepared_result = record {
   tracing = None;
   warnings = None;
   payload = None;
-  message = Prepared (0xAB ∷ []) (pos 1) 1 (0 ∷ []) (Some (codes "k", codes "t")) (record { table = None; name = codes "c"; tree = list_of_int } ∷ [])
-      (record { flags = pos 6; columns = 3; paging = Some None; table = None; specs = None });
+  message = Prepared (record {
+    id = 0xAB ∷ [];
+    flags = pos 1;
+    columns = 1;
+    keys = 0 ∷ [];
+    table = Some (codes "k", codes "t");
+    specs = record { table = None; name = codes "c"; tree = list_of_int } ∷ [];
+    result = record { flags = pos 6; columns = 3; paging = Some None; table = None; specs = None };
+  });
 }
-
-tableless : All (λ (c : value.Spec). IsThereIf false c.table) (record { table = None; name = codes "c"; tree = list_of_int } ∷ [])
-tableless =
-    let P : value.Spec → Type 0 = λ c. IsThereIf false c.table in
-    All-cons P (record { table = None; name = codes "c"; tree = list_of_int }) [] refl (All-nil P)
 
 prepared_result_spelled : FrameSpells prepared_result 0 (0x84 ∷ 0 ∷ 0 ∷ 0 ∷ 8 ∷ 0 ∷ 0 ∷ 0 ∷ 0x2E ∷ 0 ∷ 0 ∷ 0 ∷ 4 ∷ 0 ∷ 1 ∷ 0xAB ∷ 0 ∷ 0 ∷ 0 ∷ 1 ∷ 0 ∷ 0 ∷ 0 ∷ 1 ∷ 0 ∷ 0 ∷ 0 ∷ 1 ∷ 0 ∷ 0 ∷ 0 ∷ 1 ∷ 0x6B ∷ 0 ∷ 1 ∷ 0x74 ∷ 0 ∷ 1 ∷ 0x63 ∷ 0 ∷ 0x20 ∷ 0 ∷ 9 ∷ 0 ∷ 0 ∷ 0 ∷ 6 ∷ 0 ∷ 0 ∷ 0 ∷ 3 ∷ 0xFF ∷ 0xFF ∷ 0xFF ∷ 0xFF ∷ [])
 unfolding Spells is_utf8 chars encode
@@ -197,12 +198,8 @@ prepared_result_spelled = record {
   announced = [];
   body = 0 ∷ 0 ∷ 0 ∷ 4 ∷ 0 ∷ 1 ∷ 0xAB ∷ 0 ∷ 0 ∷ 0 ∷ 1 ∷ 0 ∷ 0 ∷ 0 ∷ 1 ∷ 0 ∷ 0 ∷ 0 ∷ 1 ∷ 0 ∷ 0 ∷ 0 ∷ 1 ∷ 0x6B ∷ 0 ∷ 1 ∷ 0x74 ∷ 0 ∷ 1 ∷ 0x63 ∷ 0 ∷ 0x20 ∷ 0 ∷ 9 ∷ 0 ∷ 0 ∷ 0 ∷ 6 ∷ 0 ∷ 0 ∷ 0 ∷ 3 ∷ 0xFF ∷ 0xFF ∷ 0xFF ∷ 0xFF ∷ [];
   extra = [];
-  agrees = record {
-    tracing = refl;
-    warnings = refl;
-    payload = refl;
-    message = (record { number = refl; global = refl; own = tableless }, record { paging = refl; columns = (refl, refl) });
-  };
+  agrees = refl;
+  cells = refl;
   parts = refl;
   message =
       record {
@@ -305,7 +302,7 @@ prepared_result_spelled = record {
   whole = refl;
 }
 
-prepared_result_flat : Flat 0 prepared_result 0 ≡
+prepared_result_flat : Flat limits 0 prepared_result 0 ≡
     (0, told.Frame (record { response = true; flags = 0; stream = pos 0; opcode = opcode.Result; length = 46 }))
     ∷ (9, told.Holds field.ResultKind (note.Int (pos 4))) ∷ (13, told.Holds field.StatementId (note.Bytes (Some (0xAB ∷ []))))
     ∷ (16, told.Holds field.MetaFlags (note.Int (pos 1))) ∷ (20, told.Holds field.Columns (note.Count 1)) ∷ (24, told.Holds field.Keys (note.Count 1)) ∷ (28, told.Holds field.KeyIndex (note.Short 0))
@@ -315,9 +312,170 @@ prepared_result_flat : Flat 0 prepared_result 0 ≡
 prepared_result_flat = refl
 
 -- two type options, one in the other, are within limits of two
-prepared_result_within : IsWithin (record { text = 32; cell = 32; entries = 2; depth = 2; part = 32; types = true; parts = true }) prepared_result
+prepared_result_within : IsWithin limits prepared_result
 prepared_result_within = record {
   parts = (lit≤ tt, (lit≤ tt, (lit≤ tt, (lit≤ tt, (lit≤ tt, (lit≤ tt, (lit≤ tt, (lit≤ tt, (lit≤ tt, (((lit≤ tt, (lit≤ tt, tt, tt), tt), tt), (lit≤ tt, (lit≤ tt, (lit≤ tt, tt)))))))))))));
   types = (lit≤ tt, lit≤ tt);
   typed = refl;
 }
+
+-- ---- a page of one row, whose cell is a list of an int, a null and an empty one
+
+abbrev list_of_three : Values
+list_of_three = Counted_and kind.List 3 (Scalar_and (scalar.Int (pos 1)) (Null_and (Empty_and NoValue))) NoValue
+
+abbrev page_result : FrameValue
+page_result = record {
+  flags = 0;
+  stream = pos 0;
+  tracing = None;
+  warnings = None;
+  payload = None;
+  message = Rows (record {
+    meta = record { flags = pos 1; columns = 1; paging = None; table = Some (codes "k", codes "t"); specs = Some (record { table = None; name = codes "c"; tree = list_of_int } ∷ []) };
+    rows = 1;
+    cells = list_of_three ∷ [];
+  });
+}
+
+abbrev page_bytes : List ℕ
+page_bytes = 0x84 ∷ 0 ∷ 0 ∷ 0 ∷ 8 ∷ 0 ∷ 0 ∷ 0 ∷ 0x35 ∷ 0 ∷ 0 ∷ 0 ∷ 2 ∷ 0 ∷ 0 ∷ 0 ∷ 1 ∷ 0 ∷ 0 ∷ 0 ∷ 1 ∷ 0 ∷ 1 ∷ 0x6B ∷ 0 ∷ 1 ∷ 0x74 ∷ 0 ∷ 1 ∷ 0x63 ∷ 0 ∷ 0x20 ∷ 0 ∷ 9 ∷ 0 ∷ 0 ∷ 0 ∷ 1 ∷ 0 ∷ 0 ∷ 0 ∷ 0x14 ∷ 0 ∷ 0 ∷ 0 ∷ 3 ∷ 0 ∷ 0 ∷ 0 ∷ 4 ∷ 0 ∷ 0 ∷ 0 ∷ 1 ∷ 0xFF ∷ 0xFF ∷ 0xFF ∷ 0xFF ∷ 0 ∷ 0 ∷ 0 ∷ 0 ∷ []
+
+page_result_spelled : FrameSpells page_result 0 page_bytes
+unfolding Spells is_utf8 chars encode scalar_of
+page_result_spelled = record {
+  announced = [];
+  body = 0 ∷ 0 ∷ 0 ∷ 2 ∷ 0 ∷ 0 ∷ 0 ∷ 1 ∷ 0 ∷ 0 ∷ 0 ∷ 1 ∷ 0 ∷ 1 ∷ 0x6B ∷ 0 ∷ 1 ∷ 0x74 ∷ 0 ∷ 1 ∷ 0x63 ∷ 0 ∷ 0x20 ∷ 0 ∷ 9 ∷ 0 ∷ 0 ∷ 0 ∷ 1 ∷ 0 ∷ 0 ∷ 0 ∷ 0x14 ∷ 0 ∷ 0 ∷ 0 ∷ 3 ∷ 0 ∷ 0 ∷ 0 ∷ 4 ∷ 0 ∷ 0 ∷ 0 ∷ 1 ∷ 0xFF ∷ 0xFF ∷ 0xFF ∷ 0xFF ∷ 0 ∷ 0 ∷ 0 ∷ 0 ∷ [];
+  extra = [];
+  agrees = refl;
+  cells = refl;
+  parts = refl;
+  message =
+      record {
+        front = 0 ∷ 0 ∷ 0 ∷ 2 ∷ [];
+        back = 0 ∷ 0 ∷ 0 ∷ 1 ∷ 0 ∷ 0 ∷ 0 ∷ 1 ∷ 0 ∷ 1 ∷ 0x6B ∷ 0 ∷ 1 ∷ 0x74 ∷ 0 ∷ 1 ∷ 0x63 ∷ 0 ∷ 0x20 ∷ 0 ∷ 9 ∷ 0 ∷ 0 ∷ 0 ∷ 1 ∷ 0 ∷ 0 ∷ 0 ∷ 0x14 ∷ 0 ∷ 0 ∷ 0 ∷ 3 ∷ 0 ∷ 0 ∷ 0 ∷ 4 ∷ 0 ∷ 0 ∷ 0 ∷ 1 ∷ 0xFF ∷ 0xFF ∷ 0xFF ∷ 0xFF ∷ 0 ∷ 0 ∷ 0 ∷ 0 ∷ [];
+        whole = refl;
+        this = (2, record { long = refl; is = refl }, refl);
+        that = record {
+          front = 0 ∷ 0 ∷ 0 ∷ 1 ∷ [];
+          back = 0 ∷ 0 ∷ 0 ∷ 1 ∷ 0 ∷ 1 ∷ 0x6B ∷ 0 ∷ 1 ∷ 0x74 ∷ 0 ∷ 1 ∷ 0x63 ∷ 0 ∷ 0x20 ∷ 0 ∷ 9 ∷ 0 ∷ 0 ∷ 0 ∷ 1 ∷ 0 ∷ 0 ∷ 0 ∷ 0x14 ∷ 0 ∷ 0 ∷ 0 ∷ 3 ∷ 0 ∷ 0 ∷ 0 ∷ 4 ∷ 0 ∷ 0 ∷ 0 ∷ 1 ∷ 0xFF ∷ 0xFF ∷ 0xFF ∷ 0xFF ∷ 0 ∷ 0 ∷ 0 ∷ 0 ∷ [];
+          whole = refl;
+          this = (1, record { long = refl; is = refl }, refl);
+          that = record {
+            front = 0 ∷ 0 ∷ 0 ∷ 1 ∷ [];
+            back = 0 ∷ 1 ∷ 0x6B ∷ 0 ∷ 1 ∷ 0x74 ∷ 0 ∷ 1 ∷ 0x63 ∷ 0 ∷ 0x20 ∷ 0 ∷ 9 ∷ 0 ∷ 0 ∷ 0 ∷ 1 ∷ 0 ∷ 0 ∷ 0 ∷ 0x14 ∷ 0 ∷ 0 ∷ 0 ∷ 3 ∷ 0 ∷ 0 ∷ 0 ∷ 4 ∷ 0 ∷ 0 ∷ 0 ∷ 1 ∷ 0xFF ∷ 0xFF ∷ 0xFF ∷ 0xFF ∷ 0 ∷ 0 ∷ 0 ∷ 0 ∷ [];
+            whole = refl;
+            this = (record { long = refl; is = refl }, lit< tt);
+            that = record {
+              front = 0 ∷ 1 ∷ 0x6B ∷ [];
+              back = 0 ∷ 1 ∷ 0x74 ∷ 0 ∷ 1 ∷ 0x63 ∷ 0 ∷ 0x20 ∷ 0 ∷ 9 ∷ 0 ∷ 0 ∷ 0 ∷ 1 ∷ 0 ∷ 0 ∷ 0 ∷ 0x14 ∷ 0 ∷ 0 ∷ 0 ∷ 3 ∷ 0 ∷ 0 ∷ 0 ∷ 4 ∷ 0 ∷ 0 ∷ 0 ∷ 1 ∷ 0xFF ∷ 0xFF ∷ 0xFF ∷ 0xFF ∷ 0 ∷ 0 ∷ 0 ∷ 0 ∷ [];
+              whole = refl;
+              this = (record { head = 0 ∷ 1 ∷ []; counts = record { long = refl; is = refl }; parts = refl }, refl);
+              that = record {
+                front = 0 ∷ 1 ∷ 0x74 ∷ [];
+                back = 0 ∷ 1 ∷ 0x63 ∷ 0 ∷ 0x20 ∷ 0 ∷ 9 ∷ 0 ∷ 0 ∷ 0 ∷ 1 ∷ 0 ∷ 0 ∷ 0 ∷ 0x14 ∷ 0 ∷ 0 ∷ 0 ∷ 3 ∷ 0 ∷ 0 ∷ 0 ∷ 4 ∷ 0 ∷ 0 ∷ 0 ∷ 1 ∷ 0xFF ∷ 0xFF ∷ 0xFF ∷ 0xFF ∷ 0 ∷ 0 ∷ 0 ∷ 0 ∷ [];
+                whole = refl;
+                this = (record { head = 0 ∷ 1 ∷ []; counts = record { long = refl; is = refl }; parts = refl }, refl);
+                that = record {
+                  front = 0 ∷ 1 ∷ 0x63 ∷ [];
+                  back = 0 ∷ 0x20 ∷ 0 ∷ 9 ∷ 0 ∷ 0 ∷ 0 ∷ 1 ∷ 0 ∷ 0 ∷ 0 ∷ 0x14 ∷ 0 ∷ 0 ∷ 0 ∷ 3 ∷ 0 ∷ 0 ∷ 0 ∷ 4 ∷ 0 ∷ 0 ∷ 0 ∷ 1 ∷ 0xFF ∷ 0xFF ∷ 0xFF ∷ 0xFF ∷ 0 ∷ 0 ∷ 0 ∷ 0 ∷ [];
+                  whole = refl;
+                  this = (record { head = 0 ∷ 1 ∷ []; counts = record { long = refl; is = refl }; parts = refl }, refl);
+                  that = record {
+                    front = 0 ∷ 0x20 ∷ 0 ∷ 9 ∷ [];
+                    back = 0 ∷ 0 ∷ 0 ∷ 1 ∷ 0 ∷ 0 ∷ 0 ∷ 0x14 ∷ 0 ∷ 0 ∷ 0 ∷ 3 ∷ 0 ∷ 0 ∷ 0 ∷ 4 ∷ 0 ∷ 0 ∷ 0 ∷ 1 ∷ 0xFF ∷ 0xFF ∷ 0xFF ∷ 0xFF ∷ 0 ∷ 0 ∷ 0 ∷ 0 ∷ [];
+                    whole = refl;
+                    this = record {
+                      one = refl;
+                      formed = (refl, ((refl, refl), tt, tt), tt);
+                      spelled = record {
+                        front = 0 ∷ 0x20 ∷ [];
+                        back = 0 ∷ 9 ∷ [];
+                        whole = refl;
+                        this = (0x20, refl, record { long = refl; is = refl });
+                        that = record {
+                          front = 0 ∷ 9 ∷ [];
+                          back = [];
+                          whole = refl;
+                          this = (9, refl, record { long = refl; is = refl });
+                          that = refl;
+                        };
+                      };
+                    };
+                    that = record {
+                      front = 0 ∷ 0 ∷ 0 ∷ 1 ∷ [];
+                      back = 0 ∷ 0 ∷ 0 ∷ 0x14 ∷ 0 ∷ 0 ∷ 0 ∷ 3 ∷ 0 ∷ 0 ∷ 0 ∷ 4 ∷ 0 ∷ 0 ∷ 0 ∷ 1 ∷ 0xFF ∷ 0xFF ∷ 0xFF ∷ 0xFF ∷ 0 ∷ 0 ∷ 0 ∷ 0 ∷ [];
+                      whole = refl;
+                      this = (record { long = refl; is = refl }, lit< tt);
+                      that = record {
+                        front = 0 ∷ 0 ∷ 0 ∷ 0x14 ∷ 0 ∷ 0 ∷ 0 ∷ 3 ∷ 0 ∷ 0 ∷ 0 ∷ 4 ∷ 0 ∷ 0 ∷ 0 ∷ 1 ∷ 0xFF ∷ 0xFF ∷ 0xFF ∷ 0xFF ∷ 0 ∷ 0 ∷ 0 ∷ 0 ∷ [];
+                        back = [];
+                        whole = refl;
+                        this = (
+                          refl,
+                          refl,
+                          0 ∷ 0 ∷ 0 ∷ 3 ∷ 0 ∷ 0 ∷ 0 ∷ 4 ∷ 0 ∷ 0 ∷ 0 ∷ 1 ∷ 0xFF ∷ 0xFF ∷ 0xFF ∷ 0xFF ∷ 0 ∷ 0 ∷ 0 ∷ 0 ∷ [],
+                          record {
+                            front = 0 ∷ 0 ∷ 0 ∷ 3 ∷ [];
+                            back = 0 ∷ 0 ∷ 0 ∷ 4 ∷ 0 ∷ 0 ∷ 0 ∷ 1 ∷ 0xFF ∷ 0xFF ∷ 0xFF ∷ 0xFF ∷ 0 ∷ 0 ∷ 0 ∷ 0 ∷ [];
+                            whole = refl;
+                            this = (record { long = refl; is = refl }, lit< tt);
+                            that = (
+                              0 ∷ 0 ∷ 0 ∷ 1 ∷ [],
+                              record { some = λ e. absurd cc; size = refl; is = refl },
+                              record {
+                                front = 0 ∷ 0 ∷ 0 ∷ 4 ∷ 0 ∷ 0 ∷ 0 ∷ 1 ∷ [];
+                                back = 0xFF ∷ 0xFF ∷ 0xFF ∷ 0xFF ∷ 0 ∷ 0 ∷ 0 ∷ 0 ∷ [];
+                                whole = refl;
+                                this = (record { head = 0 ∷ 0 ∷ 0 ∷ 4 ∷ []; counts = record { long = refl; is = refl }; parts = refl }, lit< tt);
+                                that = record {
+                                  front = 0xFF ∷ 0xFF ∷ 0xFF ∷ 0xFF ∷ [];
+                                  back = 0 ∷ 0 ∷ 0 ∷ 0 ∷ [];
+                                  whole = refl;
+                                  this = (2 ^ 32 - 1, record { long = refl; is = refl }, lit≤ tt);
+                                  that = record {
+                                    front = 0 ∷ 0 ∷ 0 ∷ 0 ∷ [];
+                                    back = [];
+                                    whole = refl;
+                                    this = (record { head = 0 ∷ 0 ∷ 0 ∷ 0 ∷ []; counts = record { long = refl; is = refl }; parts = refl }, lit< tt);
+                                    that = refl;
+                                  };
+                                };
+                              },
+                            );
+                          },
+                          record {
+                            front = 0 ∷ 0 ∷ 0 ∷ 0x14 ∷ 0 ∷ 0 ∷ 0 ∷ 3 ∷ 0 ∷ 0 ∷ 0 ∷ 4 ∷ 0 ∷ 0 ∷ 0 ∷ 1 ∷ 0xFF ∷ 0xFF ∷ 0xFF ∷ 0xFF ∷ 0 ∷ 0 ∷ 0 ∷ 0 ∷ [];
+                            back = [];
+                            whole = refl;
+                            this = (record { head = 0 ∷ 0 ∷ 0 ∷ 0x14 ∷ []; counts = record { long = refl; is = refl }; parts = refl }, lit< tt);
+                            that = refl;
+                          },
+                        );
+                        that = refl;
+                      };
+                    };
+                  };
+                };
+              };
+            };
+          };
+        };
+      };
+  more = refl;
+  lawful = record { plain = refl; direction = refl; bounded = lit≤ tt };
+  whole = refl;
+}
+
+-- these are the bytes that are written of it
+page_result_written : frame_bytes page_result ≡ page_bytes
+page_result_written = refl
+
+page_result_flat : Flat limits 0 page_result 0 ≡
+    (0, told.Frame (record { response = true; flags = 0; stream = pos 0; opcode = opcode.Result; length = 53 }))
+    ∷ (9, told.Holds field.ResultKind (note.Int (pos 2))) ∷ (13, told.Holds field.MetaFlags (note.Int (pos 1))) ∷ (17, told.Holds field.Columns (note.Count 1))
+    ∷ (21, told.Holds field.Keyspace (note.Text (codes "k"))) ∷ (24, told.Holds field.Table (note.Text (codes "t"))) ∷ (27, told.Holds field.ColumnName (note.Text (codes "c")))
+    ∷ (30, told.Node_of kind.List) ∷ (32, told.Node_of kind.Int) ∷ (34, told.Holds field.Rows (note.Count 1))
+    ∷ (38, told.Cell_at 0 0 (cell.Enter 0 kind.List 3)) ∷ (46, told.Cell_at 0 0 (cell.Leaf 1 (scalar.Int (pos 1)))) ∷ (54, told.Cell_at 0 0 (cell.Null 1)) ∷ (58, told.Cell_at 0 0 (cell.Empty 1))
+    ∷ (62, told.Leave 0 3) ∷ (62, told.End 0) ∷ []
+page_result_flat = refl

@@ -1,96 +1,117 @@
 -- Where flags, codes and names agree with the parts that they announce (sections 2.2, 4 and 9 of
 -- native_protocol_v4.spec).
-use Rattle.std.specs.Prelude.{◌≡◌, ℕ, ◌<◌, ℤ, pos, Bool, true, false, ◌&&◌, not, List, [], length, Option, Some, None, is_some, IfSome, All, codes, ◌⊎◌}
+use Rattle.std.specs.Prelude.{ℕ, ◌*◌, ℤ, Bool, true, ◌&&◌, ◌||◌, ◌==◌, not, List, length, Option, Some, None, is_some, codes, nat_lt}
+use Rattle.std.specs.List.{list_all}
+use Rattle.std.specs.Str.{bytes_eq}
 use Rattle.std.specs.Int.{w32, cast_unsigned}
 use Rattle.cqlp_note.specs.declared.opcode.Opcode.{Opcode}
 use Rattle.cqlp_note.specs.declared.opcode.Opcode.TheVariants as opcode
-use Rattle.cqlp_note.specs.Heading.{has, answers, beside_number}
-use Rattle.cqlp_message.specs.FrameValues.{Octets, TableName, Spec, Metadata, QueryParams, ErrorExtra, Plain, Unavailable, WriteTimeout, ReadTimeout, ReadFailure, FunctionFailure, WriteFailure, AlreadyExists, Unprepared, SchemaOptions, Keyspace, Named, Callable, UnknownTarget, SchemaChange, ServerEvent, Node, Schema, UnknownEvent, Message, Startup, Options, Query, Prepare, Execute, Batch, Register, AuthResponse, Error, Ready, Authenticate, Supported, Void, SetKeyspace, Prepared, Change, UnknownResult, Event, AuthChallenge, AuthSuccess, FrameValue}
-use Rattle.cqlp_message.specs.Productions.{errors, targets, events, by_text}
+use Rattle.cqlp_note.specs.Field.{BoundValue}
+use Rattle.cqlp_note.specs.Heading.{has, same, answers, beside_number}
+use Rattle.cqlp_type.specs.Trees.{is_tree}
+use Rattle.cqlp_message.specs.FrameValues.{Octets, TableName, Spec, Metadata, PreparedStatement, QueryParams, ErrorExtra, Plain, Unavailable, WriteTimeout, ReadTimeout, ReadFailure, FunctionFailure, WriteFailure, AlreadyExists, Unprepared, SchemaOptions, Keyspace, Named, Callable, UnknownTarget, SchemaChange, ServerEvent, Node, Schema, UnknownEvent, Message, Startup, Options, Query, Prepare, Execute, Batch, Register, AuthResponse, Error, Ready, Authenticate, Supported, Void, SetKeyspace, Rows, Prepared, Change, UnknownResult, Event, AuthChallenge, AuthSuccess, FrameValue}
+use Rattle.cqlp_grammar.specs.Productions.{Symbol, errors, targets, events, by_text}
 
 -- a part is there exactly where it is announced
-abbrev pub IsThereIf : {A : Type 0} → (announced : Bool) → Option A → Type 0
-IsThereIf announced o = is_some o ≡ announced
+abbrev pub there_if : {A : Type 0} → (announced : Bool) → Option A → Bool
+there_if announced o = same announced (is_some o)
 
 -- ---- requests
 
+-- the values have names, or none has
+abbrev pub are_named : (named : Bool) → Option (List (Option Octets × BoundValue)) → Bool
+are_named named None = true
+are_named named (Some vs) = list_all (λ v. there_if named v.0) vs
+
 -- Section 4.1.4: the parts of a query's parameters are those of its flags, and its values have names where 40 is set.
-pub record ParamsAgree (q : QueryParams) : Type 0 where
-  pub values : IsThereIf (has q.flags 0x01) q.values
-  pub names : IfSome q.values (All (λ v. IsThereIf (has q.flags 0x40) v.0))
-  pub page_size : IsThereIf (has q.flags 0x04) q.page_size
-  pub paging : IsThereIf (has q.flags 0x08) q.paging
-  pub serial : IsThereIf (has q.flags 0x10) q.serial
-  pub timestamp : IsThereIf (has q.flags 0x20) q.timestamp
+abbrev pub params_agree : QueryParams → Bool
+params_agree q =
+    there_if (has q.flags 0x01) q.values && are_named (has q.flags 0x40) q.values
+    && there_if (has q.flags 0x04) q.page_size && there_if (has q.flags 0x08) q.paging
+    && there_if (has q.flags 0x10) q.serial && there_if (has q.flags 0x20) q.timestamp
 
 -- Section 4.1.7: the same of a batch, whose flags have no bit of 4F.
-pub record BatchAgrees (flags : ℕ) (serial : Option ℕ) (timestamp : Option ℤ) : Type 0 where
-  pub known : has flags 0x4F ≡ false
-  pub serial_there : IsThereIf (has flags 0x10) serial
-  pub timestamp_there : IsThereIf (has flags 0x20) timestamp
+abbrev pub batch_agrees : (flags : ℕ) → Option ℕ → Option ℤ → Bool
+batch_agrees flags serial timestamp =
+    not (has flags 0x4F) && there_if (has flags 0x10) serial && there_if (has flags 0x20) timestamp
 
 -- ---- responses
 
--- Section 9: what stands after an error's message is what its code announces.
-abbrev pub ExtraAgrees : (code : ℤ) → ErrorExtra → Type 0
-ExtraAgrees code Plain = beside_number (cast_unsigned w32 code) errors ≡ None
-ExtraAgrees code (Unavailable c r a) = code ≡ pos 0x1000
-ExtraAgrees code (WriteTimeout c r b w) = code ≡ pos 0x1100
-ExtraAgrees code (ReadTimeout c r b d) = code ≡ pos 0x1200
-ExtraAgrees code (ReadFailure c r b f d) = code ≡ pos 0x1300
-ExtraAgrees code (FunctionFailure k n ts) = code ≡ pos 0x1400
-ExtraAgrees code (WriteFailure c r b f w) = code ≡ pos 0x1500
-ExtraAgrees code (AlreadyExists k t) = code ≡ pos 0x2400
-ExtraAgrees code (Unprepared i) = code ≡ pos 0x2500
+-- Section 9: what stands after an error's message is what its code announces. The code is the number that its bytes are.
+abbrev pub extra_agrees : (code : ℕ) → ErrorExtra → Bool
+extra_agrees code Plain = not (is_some (beside_number code errors))
+extra_agrees code (Unavailable c r a) = code == 0x1000
+extra_agrees code (WriteTimeout c r b w) = code == 0x1100
+extra_agrees code (ReadTimeout c r b d) = code == 0x1200
+extra_agrees code (ReadFailure c r b f d) = code == 0x1300
+extra_agrees code (FunctionFailure k n ts) = code == 0x1400
+extra_agrees code (WriteFailure c r b f w) = code == 0x1500
+extra_agrees code (AlreadyExists k t) = code == 0x2400
+extra_agrees code (Unprepared i) = code == 0x2500
+
+-- no text of a table
+abbrev pub is_unknown : Octets → List (Octets × List Symbol) → Bool
+is_unknown text table = length (by_text text table) == 0
 
 -- Section 4.2.5.5: what was changed is of the target's kind.
-abbrev pub OptionsAgree : (target : Octets) → SchemaOptions → Type 0
-OptionsAgree target (Keyspace k) = target ≡ codes "KEYSPACE"
-OptionsAgree target (Named k n) = (target ≡ codes "TABLE") ⊎ (target ≡ codes "TYPE")
-OptionsAgree target (Callable k n ts) = (target ≡ codes "FUNCTION") ⊎ (target ≡ codes "AGGREGATE")
-OptionsAgree target UnknownTarget = by_text target targets ≡ []
+abbrev pub options_agree : (target : Octets) → SchemaOptions → Bool
+options_agree target (Keyspace k) = bytes_eq target (codes "KEYSPACE")
+options_agree target (Named k n) = bytes_eq target (codes "TABLE") || bytes_eq target (codes "TYPE")
+options_agree target (Callable k n ts) = bytes_eq target (codes "FUNCTION") || bytes_eq target (codes "AGGREGATE")
+options_agree target UnknownTarget = is_unknown target targets
 
-abbrev pub ChangeAgrees : SchemaChange → Type 0
-ChangeAgrees c = OptionsAgree c.target c.options
+abbrev pub change_agrees : SchemaChange → Bool
+change_agrees c = options_agree c.target c.options
 
 -- Section 4.2.6: what an event tells is of its type.
-abbrev pub EventAgrees : (event : Octets) → ServerEvent → Type 0
-EventAgrees event (Node c a port) = (event ≡ codes "TOPOLOGY_CHANGE") ⊎ (event ≡ codes "STATUS_CHANGE")
-EventAgrees event (Schema c) = (event ≡ codes "SCHEMA_CHANGE") × ChangeAgrees c
-EventAgrees event UnknownEvent = by_text event events ≡ []
+abbrev pub event_agrees : (event : Octets) → ServerEvent → Bool
+event_agrees event (Node c a port) = bytes_eq event (codes "TOPOLOGY_CHANGE") || bytes_eq event (codes "STATUS_CHANGE")
+event_agrees event (Schema c) = bytes_eq event (codes "SCHEMA_CHANGE") && change_agrees c
+event_agrees event UnknownEvent = is_unknown event events
 
 -- Section 4.2.5: no kind of result, by the number that its bytes are.
-abbrev pub IsNoResult : (kind : ℕ) → Type 0
-IsNoResult kind = (kind ≡ 0) ⊎ (5 < kind)
+abbrev pub is_no_result : (kind : ℕ) → Bool
+is_no_result kind = (kind == 0) || nat_lt 5 kind
+
+-- Section 4.2.5.2: a column has a table of its own, or has none, and one type.
+abbrev pub spec_agrees : (own : Bool) → Spec → Bool
+spec_agrees own c = there_if own c.table && is_tree c.tree
 
 -- Section 4.2.5.2: there are as many specs as columns. The table of all is there where 1 is set, and else each has one.
-pub record SpecsAgree (flags columns : ℕ) (table : Option TableName) (specs : List Spec) : Type 0 where
-  pub number : length specs ≡ columns
-  pub global : IsThereIf (has flags 0x01) table
-  pub own : All (λ c. IsThereIf (not (has flags 0x01)) c.table) specs
+abbrev pub specs_agree : (flags columns : ℕ) → Option TableName → List Spec → Bool
+specs_agree flags columns table specs =
+    (length specs == columns) && there_if (has flags 0x01) table
+    && list_all (spec_agrees (not (has flags 0x01))) specs
 
 -- Section 4.2.5.2: the columns are told where 4 is not set.
-abbrev pub ColumnsAgree : (flags columns : ℕ) → Option TableName → Option (List Spec) → Type 0
-ColumnsAgree flags columns table None = (has flags 0x04 ≡ true) × (table ≡ None)
-ColumnsAgree flags columns table (Some specs) = (has flags 0x04 ≡ false) × SpecsAgree flags columns table specs
+abbrev pub columns_agree : (flags columns : ℕ) → Option TableName → Option (List Spec) → Bool
+columns_agree flags columns table None = has flags 0x04 && not (is_some table)
+columns_agree flags columns table (Some specs) = not (has flags 0x04) && specs_agree flags columns table specs
 
-pub record MetadataAgrees (m : Metadata) : Type 0 where
-  pub paging : IsThereIf (has (cast_unsigned w32 m.flags) 0x02) m.paging
-  pub columns : ColumnsAgree (cast_unsigned w32 m.flags) m.columns m.table m.specs
+-- the bits of an [int]
+abbrev pub bits : ℤ → ℕ
+bits z = cast_unsigned w32 z
+
+abbrev pub metadata_agrees : Metadata → Bool
+metadata_agrees m =
+    there_if (has (bits m.flags) 0x02) m.paging && columns_agree (bits m.flags) m.columns m.table m.specs
+
+abbrev pub prepared_agrees : PreparedStatement → Bool
+prepared_agrees p = specs_agree (bits p.flags) p.columns p.table p.specs && metadata_agrees p.result
 
 -- ---- messages and frames
 
-abbrev pub MessageAgrees : Message → Type 0
-MessageAgrees (Query text q) = ParamsAgree q
-MessageAgrees (Execute id q) = ParamsAgree q
-MessageAgrees (Batch kind entries consistency flags serial timestamp) = BatchAgrees flags serial timestamp
-MessageAgrees (Error code message extra) = ExtraAgrees code extra
-MessageAgrees (Prepared id flags columns keys table specs result) =
-    SpecsAgree (cast_unsigned w32 flags) columns table specs × MetadataAgrees result
-MessageAgrees (Change c) = ChangeAgrees c
-MessageAgrees (UnknownResult kind) = IsNoResult (cast_unsigned w32 kind)
-MessageAgrees (Event event told) = EventAgrees event told
-MessageAgrees m = Unit {0}
+abbrev pub message_agrees : Message → Bool
+message_agrees (Query text q) = params_agree q
+message_agrees (Execute id q) = params_agree q
+message_agrees (Batch kind entries consistency flags serial timestamp) = batch_agrees flags serial timestamp
+message_agrees (Error code message extra) = extra_agrees (bits code) extra
+message_agrees (Rows p) = metadata_agrees p.meta
+message_agrees (Prepared p) = prepared_agrees p
+message_agrees (Change c) = change_agrees c
+message_agrees (UnknownResult kind) = is_no_result (bits kind)
+message_agrees (Event event told) = event_agrees event told
+message_agrees m = true
 
 -- Section 2.4: the opcode of a message.
 abbrev pub opcode_of : Message → Opcode
@@ -108,7 +129,8 @@ opcode_of (Authenticate class) = opcode.Authenticate
 opcode_of (Supported os) = opcode.Supported
 opcode_of Void = opcode.Result
 opcode_of (SetKeyspace keyspace) = opcode.Result
-opcode_of (Prepared id flags columns keys table specs result) = opcode.Result
+opcode_of (Rows p) = opcode.Result
+opcode_of (Prepared p) = opcode.Result
 opcode_of (Change c) = opcode.Result
 opcode_of (UnknownResult kind) = opcode.Result
 opcode_of (Event event told) = opcode.Event
@@ -118,10 +140,21 @@ opcode_of (AuthSuccess token) = opcode.AuthSuccess
 abbrev pub is_response : Message → Bool
 is_response m = answers (opcode_of m)
 
--- Section 2.2: the parts before a message are those of the frame's flags. A request has neither a tracing id nor
--- warnings, whatever its flags.
-pub record FrameAgrees (f : FrameValue) : Type 0 where
-  pub tracing : IsThereIf (is_response f.message && has f.flags 0x02) f.tracing
-  pub warnings : IsThereIf (is_response f.message && has f.flags 0x08) f.warnings
-  pub payload : IsThereIf (has f.flags 0x04) f.payload
-  pub message : MessageAgrees f.message
+-- A request has neither a tracing id nor warnings.
+abbrev pub is_directed : FrameValue → Bool
+is_directed f = is_response f.message || (not (is_some f.tracing) && not (is_some f.warnings))
+
+-- Section 2.2: the body is not compressed, and the parts before a message are those of the frame's flags. A request has
+-- neither a tracing id nor warnings, whatever its flags.
+abbrev pub frame_agrees : FrameValue → Bool
+frame_agrees f =
+    not (has f.flags 0x01)
+    && there_if (is_response f.message && has f.flags 0x02) f.tracing
+    && there_if (is_response f.message && has f.flags 0x08) f.warnings
+    && there_if (has f.flags 0x04) f.payload
+    && message_agrees f.message
+
+-- Section 4.2.5.2: a page has a cell of each row and each column.
+abbrev pub has_its_cells : Message → Bool
+has_its_cells (Rows p) = length p.cells == p.rows * p.meta.columns
+has_its_cells m = true

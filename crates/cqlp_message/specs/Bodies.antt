@@ -1,13 +1,17 @@
 -- The bodies of messages: their parts in order (section 4 of native_protocol_v4.spec).
-use Rattle.std.specs.Prelude.{ℕ, ℤ, pos, ◌++◌, List, [], ◌∷◌, length, Option, Some, None}
+use Rattle.std.specs.Prelude.{ℕ, zero, suc, ◌+◌, ℤ, pos, ◌++◌, List, [], ◌∷◌, length, drop, Option, Some, None}
 use Rattle.std.specs.List.{flat_map}
 use Rattle.cqlp_note.specs.declared.field.Field.{Field}
 use Rattle.cqlp_note.specs.declared.field.Field.TheVariants as field
 use Rattle.cqlp_note.specs.declared.field.Notation.TheVariants as notation
 use Rattle.cqlp_note.specs.Field.{BoundValue}
 use Rattle.cqlp_note.specs.Field as note
-use Rattle.cqlp_message.specs.FrameValues.{Octets, TableName, Spec, Metadata, QueryParams, BatchEntry, Text, Id, ErrorExtra, Plain, Unavailable, WriteTimeout, ReadTimeout, ReadFailure, FunctionFailure, WriteFailure, AlreadyExists, Unprepared, SchemaOptions, Keyspace, Named, Callable, UnknownTarget, SchemaChange, ServerEvent, Node, Schema, UnknownEvent, Message, Startup, Options, Query, Prepare, Execute, Batch, Register, AuthResponse, Error, Ready, Authenticate, Supported, Void, SetKeyspace, Prepared, Change, UnknownResult, Event, AuthChallenge, AuthSuccess}
-use Rattle.cqlp_message.specs.Parts.{Part, Field_is, Type_is, PartsSpell}
+use Rattle.cqlp_type.specs.Types.{Types, NoMore, Type_and, how_many, followed_by}
+use Rattle.cqlp_type.specs.Trees.{types_in}
+use Rattle.cqlp_value.specs.Values.{Values}
+use Rattle.cqlp_message.specs.FrameValues.{Octets, TableName, Spec, Metadata, Page, PreparedStatement, QueryParams, BatchEntry, Text, Id, ErrorExtra, Plain, Unavailable, WriteTimeout, ReadTimeout, ReadFailure, FunctionFailure, WriteFailure, AlreadyExists, Unprepared, SchemaOptions, Keyspace, Named, Callable, UnknownTarget, SchemaChange, ServerEvent, Node, Schema, UnknownEvent, Message, Startup, Options, Query, Prepare, Execute, Batch, Register, AuthResponse, Error, Ready, Authenticate, Supported, Void, SetKeyspace, Rows, Prepared, Change, UnknownResult, Event, AuthChallenge, AuthSuccess}
+use Rattle.cqlp_grammar.specs.Productions.{raw_types}
+use Rattle.cqlp_message.specs.Parts.{Part, Field_is, Type_is, Cell_is, PartsSpell}
 
 -- ---- fields
 
@@ -135,6 +139,51 @@ metadata_parts m =
     ++ table_parts m.table
     ++ where_some (flat_map spec_parts) m.specs
 
+-- the values of the partition key
+abbrev pub counted_keys : List ℕ → List Part
+counted_keys keys = count field.Keys (length keys) ∷ flat_map (λ k. short field.KeyIndex k ∷ []) keys
+
+-- ---- pages
+
+-- the types of these columns
+abbrev pub column_types : List Spec → Types
+column_types [] = NoMore
+column_types (c ∷ specs) = followed_by (types_in c.tree) (column_types specs)
+
+-- the types of a page's cells: those of its columns, or cells as they are where no columns are told
+abbrev pub types_told : (columns : ℕ) → Option (List Spec) → Types
+types_told columns None = raw_types columns
+types_told columns (Some specs) = column_types specs
+
+abbrev pub cell_types : Metadata → Types
+cell_types m = types_told m.columns m.specs
+
+-- a cell of each of these columns, the first of which has this number
+abbrev pub row_parts : (row column : ℕ) → Types → List Values → List Part
+row_parts row column NoMore cells = []
+row_parts row column (Type_and k inner others) [] = []
+row_parts row column (Type_and k inner others) (v ∷ cells) =
+    Cell_is row column k inner v ∷ row_parts row (column + 1) others cells
+
+-- the cells of this many rows, the first of which has this number
+abbrev pub rows_parts : (row : ℕ) → Types → (rows : ℕ) → List Values → List Part
+rows_parts row columns zero cells = []
+rows_parts row columns (suc n) cells =
+    row_parts row 0 columns cells ++ rows_parts (row + 1) columns n (drop (how_many columns) cells)
+
+-- Section 4.2.5.2: a page.
+abbrev pub page_parts : Page → List Part
+page_parts p =
+    metadata_parts p.meta ++ count field.Rows p.rows ∷ rows_parts 0 (cell_types p.meta) p.rows p.cells
+
+-- Section 4.2.5.4: a prepared statement.
+abbrev pub prepared_parts : PreparedStatement → List Part
+prepared_parts p =
+    statement p.id ∷ int field.MetaFlags p.flags ∷ count field.Columns p.columns
+    ∷ counted_keys p.keys
+    ++ specs_parts p.table p.specs
+    ++ metadata_parts p.result
+
 -- Section 4.2.5.5: what was changed.
 abbrev pub options_parts : SchemaOptions → List Part
 options_parts (Keyspace keyspace) = text field.Keyspace keyspace ∷ []
@@ -177,12 +226,8 @@ message_parts (Supported os) =
     counted field.Options (λ o. text field.OptionKey o.0 ∷ texts field.OptionValues field.OptionValue o.1) os
 message_parts Void = int field.ResultKind (pos 1) ∷ []
 message_parts (SetKeyspace keyspace) = int field.ResultKind (pos 3) ∷ text field.Keyspace keyspace ∷ []
-message_parts (Prepared id flags columns keys table specs result) =
-    int field.ResultKind (pos 4) ∷ statement id ∷ int field.MetaFlags flags ∷ count field.Columns columns
-    ∷ count field.Keys (length keys) ∷ []
-    ++ flat_map (λ k. short field.KeyIndex k ∷ []) keys
-    ++ specs_parts table specs
-    ++ metadata_parts result
+message_parts (Rows p) = int field.ResultKind (pos 2) ∷ page_parts p
+message_parts (Prepared p) = int field.ResultKind (pos 4) ∷ prepared_parts p
 message_parts (Change c) = int field.ResultKind (pos 5) ∷ change_parts c
 message_parts (UnknownResult kind) = int field.ResultKind kind ∷ []
 message_parts (Event event told) = text field.EventType event ∷ event_parts told

@@ -4,6 +4,7 @@ use Rattle.std.specs.Prelude.{ℕ, ℤ, List, Option}
 use Rattle.cqlp_note.specs.declared.prim.Address.{Address}
 use Rattle.cqlp_note.specs.Field.{BoundValue}
 use Rattle.cqlp_type.specs.Trees.{Trees}
+use Rattle.cqlp_value.specs.Values.{Values}
 
 abbrev pub Octets : Type 0
 Octets = List ℕ
@@ -69,6 +70,23 @@ pub record Metadata : Type 0 where
   pub table : Option TableName
   pub specs : Option (List Spec)
 
+-- Section 4.2.5.2: a page: what is told of its columns, how many rows it has, and its cells, row after row.
+pub record Page : Type 0 where
+  pub meta : Metadata
+  pub rows : ℕ
+  pub cells : List Values
+
+-- Section 4.2.5.4: a prepared statement: its id, the values that are to be bound, which of them are the partition key,
+-- and what its pages will tell of their columns.
+pub record PreparedStatement : Type 0 where
+  pub id : Octets
+  pub flags : ℤ
+  pub columns : ℕ
+  pub keys : List ℕ
+  pub table : Option TableName
+  pub specs : List Spec
+  pub result : Metadata
+
 -- Section 4.2.6: what an event tells.
 pub data ServerEvent : Type 0 where
   Node : (change : Octets) → Address → (port : ℤ) → ServerEvent
@@ -93,8 +111,8 @@ pub data Message : Type 0 where
   Supported : List (Octets × List Octets) → Message
   Void : Message
   SetKeyspace : (keyspace : Octets) → Message
-  Prepared : (id : Octets) → (flags : ℤ) → (columns : ℕ) → (keys : List ℕ) → (table : Option TableName) → List Spec
-      → (result : Metadata) → Message
+  Rows : Page → Message
+  Prepared : PreparedStatement → Message
   Change : SchemaChange → Message
   UnknownResult : (kind : ℤ) → Message
   Event : (event : Octets) → ServerEvent → Message

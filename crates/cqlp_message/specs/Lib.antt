@@ -1,10 +1,10 @@
-pub mod Productions
-pub mod Upcoming
 pub mod FrameValues
 pub mod Owned
-pub mod Events
 pub mod Parts
 pub mod Bodies
+pub mod PartRefs
 pub mod Agreement
 pub mod Frames
 pub mod Laws
+pub mod Fitting
+pub mod Tallies

@@ -6,6 +6,7 @@ use Rattle.std.specs.declared.string.String.{String}
 use Rattle.std.specs.declared.vec.Vec.{Vec}
 use Rattle.cqlp_note.specs.Field as note
 use Rattle.cqlp_type.specs.TypeTrees.{tree_of}
+use Rattle.cqlp_value.specs.Owned.{value_of}
 use Rattle.cqlp_message.specs.declared.request.OwnedBound.{OwnedBound}
 use Rattle.cqlp_message.specs.declared.request.OwnedBound.TheVariants as bound
 use Rattle.cqlp_message.specs.declared.request.QueryParams.{QueryParams}
@@ -20,6 +21,8 @@ use Rattle.cqlp_message.specs.declared.response.ServerEvent.{ServerEvent}
 use Rattle.cqlp_message.specs.declared.response.ServerEvent.TheVariants as event
 use Rattle.cqlp_message.specs.declared.response.Spec.{Spec}
 use Rattle.cqlp_message.specs.declared.response.Metadata.{Metadata}
+use Rattle.cqlp_message.specs.declared.response.Rows.{Rows}
+use Rattle.cqlp_message.specs.declared.response.Prepared.{Prepared}
 use Rattle.cqlp_message.specs.declared.message.Message.{Message}
 use Rattle.cqlp_message.specs.declared.message.Message.TheVariants as message
 use Rattle.cqlp_message.specs.declared.frame.Frame.{Frame}
@@ -100,6 +103,20 @@ metadata_of m = record {
   specs = option_map (λ cs. map spec_of cs.items) m.specs;
 }
 
+abbrev pub page_of : Rows → value.Page
+page_of p = record { meta = metadata_of p.meta; rows = p.rows; cells = map value_of p.cells.items }
+
+abbrev pub prepared_of : Prepared → value.PreparedStatement
+prepared_of p = record {
+  id = p.id.items;
+  flags = p.flags;
+  columns = p.columns;
+  keys = p.keys.items;
+  table = table_of p.table;
+  specs = map spec_of p.specs.items;
+  result = metadata_of p.result;
+}
+
 -- What a message holds.
 abbrev pub message_of : Message → value.Message
 message_of (message.Startup os) = value.Startup (map (λ o. (string_bytes o.0, string_bytes o.1)) os.items)
@@ -116,8 +133,8 @@ message_of (message.Authenticate c) = value.Authenticate (string_bytes c)
 message_of (message.Supported os) = value.Supported (map (λ o. (string_bytes o.0, texts_of o.1)) os.items)
 message_of message.Void = value.Void
 message_of (message.SetKeyspace k) = value.SetKeyspace (string_bytes k)
-message_of (message.Prepared i f c ks t cs r) =
-    value.Prepared i.items f c ks.items (table_of t) (map spec_of cs.items) (metadata_of r)
+message_of (message.Rows p) = value.Rows (page_of p)
+message_of (message.Prepared p) = value.Prepared (prepared_of p)
 message_of (message.Change c) = value.Change (change_of c)
 message_of (message.UnknownResult k) = value.UnknownResult k
 message_of (message.Event e d) = value.Event (string_bytes e) (event_of d)

@@ -7,7 +7,7 @@ use crate::message::Message;
 ///
 /// It is a request or a response as its message is. A part is to be there exactly where its flag is set, and in a request
 /// there is neither a tracing id nor are there warnings; where they disagree, no bytes spell the frame.
-#[derive(Drop)]
+#[derive(Debug, PartialEq, Eq, Drop)]
 pub struct Frame {
     /// 02 tracing and 08 warnings in a response, 04 custom payload; other bits but 01, compression, are kept.
     pub flags: u8,

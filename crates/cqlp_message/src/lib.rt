@@ -1,25 +1,27 @@
-//! Messages of the CQL native protocol v4: what they hold, and what follows what.
+//! Frame values of the CQL native protocol v4: what they hold, and why one has no spelling.
 #![tactic(auto)]
 
-mod event;
-mod following;
+mod agreement;
+pub mod fitting;
 mod frame;
-mod grammar;
 pub mod laws;
 mod message;
+mod message_parts;
+mod page_parts;
+mod part;
 mod request;
+mod request_parts;
 mod response;
-mod sink;
-mod table;
-mod upcoming;
+mod response_parts;
+mod tally;
+mod unfit;
+mod walk;
 
-pub use event::{Event, Finish};
-pub use following::{fault_in, has, number};
 pub use frame::Frame;
-pub use grammar::{Group, Role};
 pub use message::Message;
+pub use part::{PartRef, TakesParts};
 pub use request::{BatchEntry, OwnedBound, QueryParams};
-pub use response::{ErrorExtra, Metadata, SchemaChange, SchemaOptions, ServerEvent, Spec};
-pub use sink::{Sink, SinkFault};
-pub use table::{Expected, Want};
-pub use upcoming::Upcoming;
+pub use response::{
+    ErrorExtra, Metadata, Prepared, Rows, SchemaChange, SchemaOptions, ServerEvent, Spec,
+};
+pub use unfit::Unfit;

@@ -1,13 +1,13 @@
 //! Messages.
 
 use crate::request::{BatchEntry, QueryParams};
-use crate::response::{ErrorExtra, Metadata, SchemaChange, ServerEvent, Spec};
+use crate::response::{ErrorExtra, Prepared, Rows, SchemaChange, ServerEvent};
 
 /// A message: what a frame has in its body. Section 4 of `native_protocol_v4.spec`.
 ///
 /// Flags, codes and the names of targets and events are kept whole. They say which parts are to be there; where they
 /// disagree, no bytes spell the message.
-#[derive(Drop)]
+#[derive(Debug, PartialEq, Eq, Drop)]
 pub enum Message {
     /// The options of a connection, each a key and a value. Section 4.1.1.
     Startup(Vec<(String, String)>),
@@ -59,22 +59,10 @@ pub enum Message {
     Void,
     /// A result of kind 3: the keyspace in use. Section 4.2.5.3.
     SetKeyspace(String),
+    /// A result of kind 2: a page of rows. Section 4.2.5.2.
+    Rows(Rows),
     /// A result of kind 4: a statement is prepared. Section 4.2.5.4.
-    Prepared {
-        id: Vec<u8>,
-        /// 1 one table for all values that are bound; other bits are kept.
-        flags: i32,
-        /// How many values are bound, which is how many `specs` there are.
-        columns: u32,
-        /// Which of the values are the partition key, in the key's order.
-        keys: Vec<u16>,
-        /// The keyspace and the table of all values.
-        table: Option<(String, String)>,
-        /// The values that are to be bound.
-        specs: Vec<Spec>,
-        /// What the statement's pages will tell of their columns.
-        result: Metadata,
-    },
+    Prepared(Prepared),
     /// A result of kind 5: the schema was changed. Section 4.2.5.5.
     Change(SchemaChange),
     /// A result of this kind, which is none of 1 to 5.

@@ -2,6 +2,7 @@
 
 use cqlp_note::Address;
 use cqlp_type::TypeTree;
+use cqlp_value::Value;
 
 /// What stands after the message of an error, by the error's code. Section 9 of `native_protocol_v4.spec`.
 #[derive(Debug, PartialEq, Eq, Drop)]
@@ -65,7 +66,7 @@ pub enum ErrorExtra {
 }
 
 /// What is told of a page's columns. Section 4.2.5.2 of `native_protocol_v4.spec`.
-#[derive(Drop)]
+#[derive(Debug, PartialEq, Eq, Drop)]
 pub struct Metadata {
     /// 1 one table for all columns, 2 more pages, 4 no columns are told; other bits are kept.
     pub flags: i32,
@@ -80,12 +81,39 @@ pub struct Metadata {
 }
 
 /// A column, or a value that is to be bound. Section 4.2.5.2 of `native_protocol_v4.spec`.
-#[derive(Drop)]
+#[derive(Debug, PartialEq, Eq, Drop)]
 pub struct Spec {
     /// Its keyspace and its table, where there are none for all.
     pub table: Option<(String, String)>,
     pub name: String,
     pub tree: TypeTree,
+}
+
+/// A page of rows. Section 4.2.5.2 of `native_protocol_v4.spec`.
+#[derive(Debug, PartialEq, Eq, Drop)]
+pub struct Rows {
+    pub meta: Metadata,
+    pub rows: u32,
+    /// A cell of each row and each column, row after row. Where no columns are told, each is Null, Empty or a Raw leaf.
+    pub cells: Vec<Value>,
+}
+
+/// A prepared statement. Section 4.2.5.4 of `native_protocol_v4.spec`.
+#[derive(Debug, PartialEq, Eq, Drop)]
+pub struct Prepared {
+    pub id: Vec<u8>,
+    /// 1 one table for all values that are bound; other bits are kept.
+    pub flags: i32,
+    /// How many values are bound, which is how many `specs` there are.
+    pub columns: u32,
+    /// Which of the values are the partition key, in the key's order.
+    pub keys: Vec<u16>,
+    /// The keyspace and the table of all values.
+    pub table: Option<(String, String)>,
+    /// The values that are to be bound.
+    pub specs: Vec<Spec>,
+    /// What the statement's pages will tell of their columns.
+    pub result: Metadata,
 }
 
 /// A change of the schema. Section 4.2.5.5 of `native_protocol_v4.spec`.

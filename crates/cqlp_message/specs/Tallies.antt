@@ -1,0 +1,19 @@
+-- What is found of the parts of a frame.
+use Rattle.std.specs.Prelude.{◌≡◌, ◌-◌, ◌^◌, List, min}
+use Rattle.std.specs.List.{list_all}
+use Rattle.cqlp_message.specs.declared.tally.Tally.{Tally}
+use Rattle.cqlp_message.specs.Parts.{Part, part_size, parts_size, counts_fit, texts_fit, cell_fits}
+
+-- It says of a part whether its counts, its texts and its cell fit, and how many bytes it has.
+pub record IsTallyOf (t : Tally) (part : Part) : Type 0 where
+  pub counts : t.counts ≡ counts_fit part
+  pub texts : t.texts ≡ texts_fit part
+  pub cells : t.cells ≡ cell_fits part
+  pub size : t.size ≡ min (part_size part) (2 ^ 64 - 1)
+
+-- It says of these parts whether all counts, texts and cells fit, and how many bytes they have.
+pub record IsTally (t : Tally) (parts : List Part) : Type 0 where
+  pub counts : t.counts ≡ list_all counts_fit parts
+  pub texts : t.texts ≡ list_all texts_fit parts
+  pub cells : t.cells ≡ list_all cell_fits parts
+  pub size : t.size ≡ min (parts_size parts) (2 ^ 64 - 1)

@@ -1,0 +1,175 @@
+//! What is found of the parts of a frame.
+
+ghost use Rattle.std.specs.Prelude.{◌≡◌, ◌+◌, ◌-◌, ◌^◌, ◌&&◌, [], length, min, nat_lt, true};
+ghost use Rattle.std.specs.Option.{option_map};
+ghost use Rattle.cqlp_type.specs.TypeTrees.{tree_of};
+ghost use Rattle.cqlp_value.specs.Owned.{fits_type, value_of};
+ghost use Rattle.cqlp_value.specs.Values.{values_size};
+ghost use Rattle.cqlp_message.specs.Bodies.{bound};
+ghost use Rattle.cqlp_message.specs.Owned.{bound_of};
+ghost use Rattle.cqlp_message.specs.Parts.{Type_is};
+ghost use Rattle.cqlp_message.specs.PartRefs.{part_of};
+ghost use Rattle.cqlp_message.specs.Tallies.{IsTally, IsTallyOf};
+
+use crate::part::{PartRef, TakesParts};
+use crate::request::OwnedBound;
+use cqlp_note::Address;
+use cqlp_type::{TypeTree, check_type, type_size};
+use cqlp_value::{Value, fits, value_size};
+
+/// What is found of parts.
+#[derive(Clone, Copy)]
+pub struct Tally {
+    /// Each count is one that its notation has.
+    pub counts: bool,
+    /// Each text and content, but for those in cells, is no longer than its notation says.
+    pub texts: bool,
+    /// Each cell is a value of its type.
+    pub cells: bool,
+    /// How many bytes the parts have; 2^64 - 1 where there are more.
+    pub size: u64,
+}
+
+impl Tally {
+    /// That of no part.
+    pub fn new() -> Tally
+        ensures { IsTally result [] }
+    {
+        Tally::fixed(0)
+    }
+
+    /// That of these parts and of those.
+    fn and(self, other: Tally) -> Tally
+        ensures counts { result.counts ≡ (self.counts && other.counts) }
+        ensures texts { result.texts ≡ (self.texts && other.texts) }
+        ensures cells { result.cells ≡ (self.cells && other.cells) }
+        ensures size { result.size ≡ min (self.size + other.size) (2 ^ 64 - 1) }
+    {
+        Tally {
+            counts: self.counts && other.counts,
+            texts: self.texts && other.texts,
+            cells: self.cells && other.cells,
+            size: self.size.saturating_add(other.size),
+        }
+    }
+
+    /// That of a part.
+    fn of(part: PartRef<'_>) -> Tally
+        ensures { IsTallyOf result (part_of part.entry) }
+    {
+        match part {
+            PartRef::Byte(_, _) => Tally::fixed(1),
+            PartRef::Short(_, _) => Tally::fixed(2),
+            PartRef::Int(_, _) => Tally::fixed(4),
+            PartRef::Long(_, _) => Tally::fixed(8),
+            PartRef::Uuid(_, _) => Tally::fixed(16),
+            PartRef::Count16(_, count) => Tally::counted(is_short(count), 2),
+            PartRef::Count32(_, count) => Tally::counted(is_int(count), 4),
+            PartRef::Text(_, text) => Tally::content(2, text.len(), is_short(text.len())),
+            PartRef::LongText(_, text) => Tally::content(4, text.len(), is_int(text.len())),
+            PartRef::ShortBytes(_, bytes) => Tally::content(2, bytes.len(), is_short(bytes.len())),
+            PartRef::Bytes(_, None) => Tally::fixed(4),
+            PartRef::Bytes(_, Some(bytes)) => Tally::content(4, bytes.len(), is_int(bytes.len())),
+            PartRef::Bound(_, value) => Tally::bound(value),
+            PartRef::Inet(_, Address::V4(_), _) => Tally::fixed(9),
+            PartRef::Inet(_, Address::V6(_), _) => Tally::fixed(21),
+            PartRef::Type(tree) => Tally::option(tree),
+            PartRef::Cell { tree, value, .. } => Tally::cell(value, tree),
+        }
+    }
+
+    /// That of a \[value\].
+    fn bound(value: &OwnedBound) -> Tally
+        ensures { IsTallyOf result (bound (bound_of value.now)) }
+    {
+        match value {
+            OwnedBound::Bytes(bytes) => Tally::content(4, bytes.len(), is_int(bytes.len())),
+            OwnedBound::Null | OwnedBound::Unset => Tally::fixed(4),
+        }
+    }
+
+    /// That of a type option.
+    fn option(tree: &TypeTree) -> Tally
+        ensures { IsTallyOf result (Type_is (tree_of tree.now)) }
+    {
+        let check = check_type(tree);
+        Tally {
+            counts: check.counts,
+            texts: check.texts,
+            cells: true,
+            size: type_size(tree),
+        }
+    }
+
+    /// That of a cell.
+    fn cell(value: &Value, tree: Option<&TypeTree>) -> Tally
+        ensures counts { result.counts ≡ true }
+        ensures texts { result.texts ≡ true }
+        ensures cells { result.cells ≡ fits_type value.now (option_map (λ t. t.now) tree.entry) }
+        ensures size { result.size ≡ min (values_size (value_of value.now)) (2 ^ 64 - 1) }
+    {
+        Tally {
+            cells: fits(value, tree),
+            ..Tally::fixed(value_size(value))
+        }
+    }
+
+    /// That of a part of this many bytes, in which everything fits.
+    fn fixed(size: u64) -> Tally
+        ensures { result ≡ record { counts = true; texts = true; cells = true; size = size } }
+    {
+        Tally {
+            counts: true,
+            texts: true,
+            cells: true,
+            size,
+        }
+    }
+
+    /// That of a count.
+    fn counted(counts: bool, size: u64) -> Tally
+        ensures { result ≡ record { counts = counts; texts = true; cells = true; size = size } }
+    {
+        Tally {
+            counts,
+            ..Tally::fixed(size)
+        }
+    }
+
+    /// That of a content after its length.
+    fn content(length: u64, content: usize, texts: bool) -> Tally
+        ensures { let size = min (length + content) (2 ^ 64 - 1) in
+            result ≡ record { counts = true; texts = texts; cells = true; size = size } }
+    {
+        Tally {
+            texts,
+            ..Tally::fixed(length.saturating_add(content as u64))
+        }
+    }
+}
+
+/// Whether a \[short\] can count this many.
+fn is_short(count: usize) -> bool
+    ensures { result ≡ nat_lt count (2 ^ 16) }
+{
+    count < 1 << 16
+}
+
+/// Whether an \[int\] can count this many.
+fn is_int(count: usize) -> bool
+    ensures { result ≡ nat_lt count (2 ^ 31) }
+{
+    count < 1 << 31
+}
+
+impl TakesParts for Tally {
+    ghost use Rattle.cqlp_message.specs.Tallies.{IsTally};
+
+    ghost Before = { Unit {0} };
+
+    ghost taken = { λ _ t parts. IsTally t parts };
+
+    fn take(&mut self, part: PartRef<'_>) {
+        *self = self.and(Tally::of(part));
+    }
+}
