@@ -1,0 +1,4 @@
+pub mod Progress
+pub mod Fields
+pub mod Encoding
+pub mod Laws

@@ -1,0 +1,53 @@
+-- What was written of a frame.
+use Rattle.std.specs.Prelude.{◌≡◌, ◌≢◌, ◌-◌, ◌^◌, ◌≤◌, ℕ, Bool, true, false, List, [], ◌++◌, length, min}
+use Rattle.std.specs.Io.KnownBytes.{Appends}
+use Rattle.cqlp_note.specs.Streams.{counted}
+use Rattle.cqlp_note.specs.Outputs.{Output}
+use Rattle.cqlp_note.specs.declared.header.TheConstants.Header.{LONGEST_BODY}
+use Rattle.cqlp_message.specs.Parts.{Part, parts_size, parts_bytes}
+
+-- What a target was given, the bytes that wait to be passed on, how many bytes the target took, up to 2^64 - 1, and
+-- whether it failed; and the name of the borrow through which it is given them.
+pub record Progress : Type 0 where
+  pub output : Output
+  pub waiting : List ℕ
+  pub taken : ℕ
+  pub failed : Bool
+  pub lender : ℕ
+
+abbrev pub begun : Output → (lender : ℕ) → Progress
+begun o lender = record { output = o; waiting = []; taken = 0; failed = false; lender = lender }
+
+-- From where a target stood so, it took some of these bytes, in order, and the others wait; or it failed once, and the
+-- others are lost.
+pub record HasTaken (start : Output) (all : List ℕ) (p : Progress) : Type 0 where
+  pub sent : List ℕ
+  pub left : List ℕ
+  pub whole : all ≡ sent ++ left
+  pub given : Appends start.given p.output.given sent
+  pub count : p.taken ≡ min (length sent) (2 ^ 64 - 1)
+  pub failures : p.output.failures ≡ counted p.failed start.failures
+  pub waits : p.failed ≡ false → left ≡ p.waiting
+  pub lost : p.failed ≡ true → left ≢ []
+
+-- These bytes are taken after all before them.
+pub record Puts (old : Progress) (bytes : List ℕ) (new : Progress) : Type 0 where
+  pub taken : (start : Output) (all : List ℕ) → HasTaken start all old → HasTaken start (all ++ bytes) new
+  pub lender : new.lender ≡ old.lender
+
+-- The same of this many bytes, if a body can have as many.
+pub record PutsWithin (size : ℕ) (old : Progress) (bytes : List ℕ) (new : Progress) : Type 0 where
+  pub puts : size ≤ LONGEST_BODY → Puts old bytes new
+  pub lender : new.lender ≡ old.lender
+
+-- What was there before the parts of a frame: where the target stood, what was taken first, and the name of the borrow.
+pub record Before : Type 0 where
+  pub output : Output
+  pub front : List ℕ
+  pub lender : ℕ
+
+-- These parts were taken after that, if a body can have as many bytes; and they have as many as their sizes say.
+pub record HasTakenParts (before : Before) (p : Progress) (parts : List Part) : Type 0 where
+  pub size : length (parts_bytes parts) ≡ parts_size parts
+  pub taken : parts_size parts ≤ LONGEST_BODY → HasTaken before.output (before.front ++ parts_bytes parts) p
+  pub lender : p.lender ≡ before.lender

@@ -1,0 +1,12 @@
+//! Frames of the CQL native protocol v4, written.
+#![tactic(auto)]
+
+mod fields;
+pub mod laws;
+mod parts;
+mod staged;
+mod types;
+mod values;
+mod writing;
+
+pub use writing::{EncodeError, encode};

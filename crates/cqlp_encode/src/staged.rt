@@ -1,0 +1,128 @@
+//! Bytes on their way to a target.
+
+ghost use Rattle.std.specs.Prelude.{◌≡◌, ◌+◌, ◌≤◌, ◌++◌, [], length, min, ◌-◌, ◌^◌};
+ghost use Rattle.cqlp_note.specs.Outputs.{written};
+ghost use Rattle.cqlp_encode.specs.Progress.{Puts, begun};
+
+use cqlp_note::{Target, offer};
+use std::marker::Model;
+
+/// How many bytes wait at most before they are passed on.
+const ROOM: usize = 256;
+
+/// Gathers small pieces, so that a target gets them in few calls, and counts what it took. After the target failed once
+/// nothing more is passed on.
+#[derive(Drop)]
+pub struct Staged<'a, W: Target> {
+    target: &'a mut W,
+    buffer: [u8; ROOM],
+    len: usize,
+    /// How many bytes the target took.
+    taken: u64,
+    failed: bool,
+}
+
+impl<'a, W: Target> Model for Staged<'a, W> {
+    ghost use Rattle.std.specs.Prelude.{◌≡◌, ◌≤◌, length, take};
+    ghost use Rattle.cqlp_note.specs.Outputs.{written};
+    ghost use Rattle.cqlp_encode.specs.Progress.{Progress};
+
+    ghost Value = { Progress };
+
+    ghost view = { λ s. record {
+      output = written W.Target s.target.now;
+      waiting = take s.len s.buffer;
+      taken = s.taken;
+      failed = s.failed;
+      lender = s.target.ghost_name;
+    } };
+
+    ghost invariant = { λ s. (s.len ≤ 256) × (length s.buffer ≡ 256) };
+}
+
+impl<'a, W: Target> Staged<'a, W> {
+    /// With nothing that waits.
+    pub fn new(target: &'a mut W) -> Self
+        ensures { result ≡ begun (written W.Target target.old) target.entry.ghost_name }
+    {
+        Staged {
+            target,
+            buffer: [0; ROOM],
+            len: 0,
+            taken: 0,
+            failed: false,
+        }
+    }
+
+    /// How many bytes the target took, 2^64 - 1 where there are more.
+    pub fn taken(&self) -> u64
+        ensures { result ≡ self.now.taken }
+    {
+        self.taken
+    }
+
+    /// The target, which did not get what waits.
+    pub fn into_inner(self) -> &'a mut W
+        ensures lender { result.ghost_name ≡ self.entry.lender }
+        ensures output { written W.Target result.now ≡ self.entry.output }
+    {
+        let Staged {
+            target,
+            buffer: _,
+            len: _,
+            taken: _,
+            failed: _,
+        } = self;
+        target
+    }
+
+    /// Takes bytes.
+    pub fn put(&mut self, bytes: &[u8])
+        ensures { Puts self.old bytes.now self.new }
+    {
+        if bytes.len() > ROOM - self.len {
+            self.flush();
+        }
+        if bytes.len() > ROOM - self.len {
+            self.pass_on(bytes);
+        } else {
+            self.keep(bytes);
+        }
+    }
+
+    /// Passes on all that waits.
+    pub fn flush(&mut self)
+        ensures puts { Puts self.old [] self.new }
+        ensures empty { self.new.waiting ≡ [] }
+    {
+        let len = self.len;
+        self.len = 0;
+        if !self.failed {
+            let count = offer(self.target, &self.buffer[..len]);
+            self.taken = self.taken.saturating_add(count as u64);
+            self.failed = count < len;
+        }
+    }
+
+    /// Passes bytes on, where nothing waits.
+    fn pass_on(&mut self, bytes: &[u8])
+        requires { self.old.waiting ≡ [] }
+        ensures { Puts self.old bytes.now self.new }
+    {
+        if !self.failed {
+            let count = offer(self.target, bytes);
+            self.taken = self.taken.saturating_add(count as u64);
+            self.failed = count < bytes.len();
+        }
+    }
+
+    /// Takes bytes that there is room for.
+    fn keep(&mut self, bytes: &[u8])
+        requires { length self.old.waiting + length bytes.now ≤ 256 }
+        ensures { self.new ≡ record self.old { waiting = self.old.waiting ++ bytes.now } }
+    {
+        let end = self.len + bytes.len();
+        self.buffer[self.len..end].copy_from_slice(bytes);
+        self.len = end;
+    }
+}

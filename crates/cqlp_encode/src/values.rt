@@ -1,0 +1,78 @@
+//! Values of cells, written.
+
+ghost use Rattle.cqlp_value.specs.Measures.{listed_pairs, listed_values};
+ghost use Rattle.cqlp_value.specs.Owned.{atom_of, value_and, value_of};
+ghost use Rattle.cqlp_value.specs.Scalars.{content_of};
+ghost use Rattle.cqlp_value.specs.Values.{Scalar_and, NoValue, values_bytes, values_size};
+ghost use Rattle.cqlp_encode.specs.Progress.{PutsWithin};
+
+use crate::staged::Staged;
+use cqlp_note::Target;
+use cqlp_value::{Atom, Value, content_len};
+
+/// Takes a value with its length.
+#[cycle(put_value)]
+pub fn put_value<W: Target>(out: &mut Staged<'_, W>, value: &Value)
+    ensures { PutsWithin (values_size (value_of value.now)) out.old (values_bytes (value_of value.now)) out.new }
+{
+    match value {
+        Value::Null => out.put_int(-1),
+        Value::Empty => out.put_int(0),
+        Value::Leaf(atom) => put_atom(out, atom),
+        Value::List(items) => {
+            out.put_count32(content_len(value) as usize);
+            out.put_count32(items.len());
+            put_values(out, items);
+        }
+        Value::Set(items) => {
+            out.put_count32(content_len(value) as usize);
+            out.put_count32(items.len());
+            put_values(out, items);
+        }
+        Value::Map(pairs) => {
+            out.put_count32(content_len(value) as usize);
+            out.put_count32(pairs.len());
+            put_pairs(out, pairs);
+        }
+        Value::Tuple(items) => {
+            out.put_count32(content_len(value) as usize);
+            put_values(out, items);
+        }
+        Value::Udt(items) => {
+            out.put_count32(content_len(value) as usize);
+            put_values(out, items);
+        }
+    }
+}
+
+/// Takes values, each with its length.
+#[cycle(put_value)]
+fn put_values<W: Target>(out: &mut Staged<'_, W>, values: &[Value])
+    ensures { PutsWithin (values_size (listed_values values.now)) out.old (values_bytes (listed_values values.now)) out.new }
+{
+    for value in values {
+        put_value(out, value);
+    }
+}
+
+/// Takes pairs, of each the key and the value with their lengths.
+#[cycle(put_value)]
+fn put_pairs<W: Target>(out: &mut Staged<'_, W>, pairs: &[(Value, Value)])
+    ensures { PutsWithin (values_size (listed_pairs pairs.now)) out.old (values_bytes (listed_pairs pairs.now)) out.new }
+{
+    for (key, value) in pairs {
+        put_value(out, key);
+        put_value(out, value);
+    }
+}
+
+/// Takes a scalar with its length.
+fn put_atom<W: Target>(out: &mut Staged<'_, W>, atom: &Atom)
+    ensures { PutsWithin (values_size (Scalar_and (atom_of atom.now) NoValue)) out.old (values_bytes (Scalar_and (atom_of atom.now) NoValue)) out.new }
+{
+    let content = atom.content();
+    let (head, tail) = content.parts();
+    out.put_count32(head.len().saturating_add(tail.len()));
+    out.put(head);
+    out.put(tail);
+}

@@ -1,0 +1,64 @@
+//! A frame, written.
+
+ghost use Rattle.std.specs.Prelude.{◌≡◌, None, length};
+ghost use Rattle.cqlp_note.specs.Outputs.{Offered, written};
+ghost use Rattle.cqlp_message.specs.Frames.{frame_bytes, frame_size, unfit_of};
+ghost use Rattle.cqlp_message.specs.Owned.{frame_of};
+ghost use Rattle.cqlp_encode.specs.Encoding.{Encodes};
+
+use crate::staged::Staged;
+use cqlp_message::{Frame, Unfit};
+use cqlp_note::Target;
+use thiserror::Error;
+
+/// Why a frame was not written, or not whole.
+#[derive(Clone, Copy, Debug, PartialEq, Eq, Error)]
+pub enum EncodeError {
+    /// No bytes spell the frame, and nothing was written.
+    #[error("{0}")]
+    Unfit(Unfit),
+    /// The target failed, or took nothing, after the frame's first bytes, this many.
+    #[error("the target failed after {written} bytes of the frame")]
+    Write { written: u32 },
+}
+
+/// Writes a frame, and answers how many bytes it has: its header, what its flags announce, and its message. Section 2 of
+/// `native_protocol_v4.spec`. Each null has the length -1, and each true is 01.
+///
+/// It takes no memory. Small fields go to the target together, and a content longer than 256 bytes by a call of its own.
+///
+/// # Errors
+///
+/// [`EncodeError::Unfit`] where [`Frame::unfit`] says why no bytes spell the frame, before anything is written, and
+/// [`EncodeError::Write`] at the first call of the target that fails or takes nothing.
+pub fn encode<W: Target>(frame: &Frame, target: &mut W) -> Result<u32, EncodeError>
+    ensures { Encodes (frame_of frame.now) (written W.Target target.old) result (written W.Target target.new) }
+{
+    let len = match frame.measure() {
+        Ok(len) => len,
+        Err(why) => return Err(EncodeError::Unfit(why)),
+    };
+    let taken = write(frame, len, target);
+    if taken < len {
+        Err(EncodeError::Write { written: taken })
+    } else {
+        Ok(len)
+    }
+}
+
+/// Writes a frame of this many bytes, and answers how many of them the target took.
+fn write<W: Target>(frame: &Frame, len: u32, target: &mut W) -> u32
+    requires fits { unfit_of (frame_of frame.now) ≡ None }
+    requires len { len ≡ frame_size (frame_of frame.now) 0 }
+    ensures offered { Offered (written W.Target target.old) (frame_bytes (frame_of frame.now)) result (written W.Target target.new) }
+    ensures size { length (frame_bytes (frame_of frame.now)) ≡ len }
+{
+    let header = frame.header(len - 9);
+    let mut out = Staged::new(target);
+    out.put(&header.write());
+    frame.walk(&mut out);
+    out.flush();
+    let taken = out.taken();
+    let _ = out.into_inner();
+    taken as u32
+}
