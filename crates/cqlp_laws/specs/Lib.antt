@@ -1,0 +1,8 @@
+pub mod Reading
+pub mod Frames
+pub mod Excess
+pub mod Limits
+pub mod OneAnswer
+pub mod Refused
+pub mod ReadFrames
+pub mod Written

@@ -1,0 +1,44 @@
+-- What limits refuse, and that they change nothing else.
+use Rattle.std.specs.Prelude.{◌≡◌, ℕ, ◌≤◌, ◌++◌, List, ◌⊎◌}
+use Rattle.cqlp_note.specs.declared.refusal.Reason.{Reason}
+use Rattle.cqlp_note.specs.declared.refusal.Reason.TheVariants.{TooLong, TooDeep, TooMany}
+use Rattle.cqlp_note.specs.Limits.{Rules}
+use Rattle.cqlp_decode.specs.Reading.{Event, Verdict, Refused, Says, start}
+use Rattle.cqlp_laws.specs.Excess.{with_limits, free, IsCut}
+
+-- what a limit refuses
+abbrev pub IsOfLimit : Reason → Type 0
+IsOfLimit TooLong = Unit {0}
+IsOfLimit TooDeep = Unit {0}
+IsOfLimit TooMany = Unit {0}
+IsOfLimit why = ⊥
+
+-- What is said here ends in a limit's refusal, after events with which those of a wider reading begin.
+abbrev pub IsCutByLimit : (wide es : List (ℕ × Event)) → Verdict → Type 0
+IsCutByLimit wide es v =
+    (more : List (ℕ × Event)) × (k : ℕ) × (why : Reason)
+    × (wide ≡ es ++ more) × (v ≡ Refused k why) × IsOfLimit why
+
+-- What is said within limits is what is said within wider ones; or it ends before that, where a limit refuses.
+abbrev pub IsSameOrCut : (es fs : List (ℕ × Event)) (v w : Verdict) → Type 0
+IsSameOrCut es fs v w = ((fs ≡ es) × (w ≡ v)) ⊎ IsCutByLimit fs es v
+
+abbrev pub LimitsOnlyCut : Type 0
+LimitsOnlyCut =
+    (l : Rules) (text cell entries depth : ℕ)
+    → l.text ≤ text → l.cell ≤ cell → l.entries ≤ entries → l.depth ≤ depth
+    → (bytes : List ℕ) (es fs : List (ℕ × Event)) (v w : Verdict)
+    → Says l start bytes es v → Says (with_limits l text cell entries depth) start bytes fs w → IsSameOrCut es fs v w
+
+-- Within limits a stream says just what the free reading says, cut where something first exceeds its own limit. So the
+-- free reading and the limits determine it.
+abbrev pub LimitsCutAtFirstExcess : Type 0
+LimitsCutAtFirstExcess =
+    (l : Rules) (bytes : List ℕ) (es : List (ℕ × Event)) (v : Verdict)
+    → (Says l start bytes es v → IsCut l bytes es v) × (IsCut l bytes es v → Says l start bytes es v)
+
+-- The free reading refuses nothing by a limit.
+abbrev pub FreeHasNoLimit : Type 0
+FreeHasNoLimit =
+    (l : Rules) (bytes : List ℕ) (es : List (ℕ × Event)) (k : ℕ) (why : Reason)
+    → Says (free l) start bytes es (Refused k why) → IsOfLimit why → ⊥

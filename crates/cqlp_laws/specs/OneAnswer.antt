@@ -1,0 +1,150 @@
+-- Laws of one answer: from the same history and the same input, two answers that both meet what a call promises are the
+-- same, given what only the outside decides.
+use Rattle.std.specs.Prelude.{◌≡◌, ℕ, ◌++◌, List, [], ◌∷◌, length, Option, Some, None, ◌⊎◌}
+use Rattle.cqlp_note.specs.declared.limits.Limits.{Limits}
+use Rattle.cqlp_note.specs.declared.refusal.Refusal.{Refusal}
+use Rattle.cqlp_note.specs.Limits.{rules_of}
+use Rattle.cqlp_decode.specs.declared.step.Step.{Step}
+use Rattle.cqlp_decode.specs.declared.step.Step.TheVariants as step
+use Rattle.cqlp_grammar.specs.declared.event.Finish.{Finish}
+use Rattle.cqlp_grammar.specs.declared.event.Finish.TheVariants as finish
+use Rattle.cqlp_decode.specs.declared.step.Held.{Held}
+use Rattle.cqlp_decode.specs.declared.running.Outcome.{Outcome}
+use Rattle.cqlp_decode.specs.declared.running.Outcome.TheVariants as outcome
+use Rattle.cqlp_decode.specs.Reading.{Event, Verdict, Waits, Refused, Says, start}
+use Rattle.cqlp_grammar.specs.Events.{event_of}
+use Rattle.cqlp_decode.specs.Standing.{StreamState, levels_of}
+use Rattle.cqlp_decode.specs.Streams.{Decoding, state, After, Answers, Finishes, FinishesBy}
+use Rattle.cqlp_decode.specs.Draining.{RunsTo, WaitsAt, fold_events}
+use Rattle.cqlp_laws.specs.Reading.{BeginsWith}
+
+-- ---- the decoder
+
+-- what a call answers, wherever a content lies
+pub data Answer : Type 0 where
+  Hands : (at used : ℕ) → Event → Answer
+  Wants : (used : ℕ) → Answer
+  Refuses : Refusal → Answer
+
+abbrev pub answer_of : Step → Answer
+answer_of (step.Event at used e) = Hands at used (event_of e)
+answer_of (step.More used) = Wants used
+answer_of (step.Refused r) = Refuses r
+
+-- Two decoders have the same limits, the same refusal, if any, and the same types of metadata.
+pub record AreAlike (d d' : StreamState) : Type 0 where
+  pub rules : d'.rules ≡ d.rules
+  pub refusal : d'.refusal ≡ d.refusal
+  pub nodes : d'.place.nodes ≡ d.place.nodes
+
+-- what the clauses of `new` say of a decoder
+pub record IsNew (limits : Limits) (d : Decoding) : Type 0 where
+  pub fresh : After (state d) [] []
+  pub unrefused : (state d).refusal ≡ None
+  pub rules : (state d).rules ≡ rules_of limits
+  pub nothing_held : ((state d).held ≡ []) × ((state d).place.nodes ≡ []) × (levels_of d.parts ≡ 0)
+
+-- Two decoders hold the same bytes, and the same number of levels.
+abbrev pub HoldTheSame : (d d' : Decoding) → Type 0
+HoldTheSame d d' = ((state d').held ≡ (state d).held) × (levels_of d'.parts ≡ levels_of d.parts)
+
+-- Any two decoders that were made with the same limits stand at the start of a stream, and hold the same.
+abbrev pub IsOneAnswerOfNew : Type 0
+IsOneAnswerOfNew =
+    (limits : Limits) (d d' : Decoding) → IsNew limits d → IsNew limits d'
+    → AreAlike (state d) (state d') × ((state d).place ≡ start) × ((state d').place ≡ start) × HoldTheSame d d'
+
+-- After the same bytes and events the next answer is one, and so is what comes after it.
+abbrev pub IsOneAnswerOfNext : Type 0
+IsOneAnswerOfNext =
+    (old new new' : StreamState) (s input : List ℕ) (es : List (ℕ × Event)) (x y : Step)
+    → After old s es → Answers old input x new → Answers old input y new'
+    → (answer_of y ≡ answer_of x) × AreAlike new new'
+
+abbrev pub IsOneAnswerOfFinish : Type 0
+IsOneAnswerOfFinish =
+    (d : StreamState) (s : List ℕ) (es : List (ℕ × Event)) (f f' : Finish)
+    → Finishes d s es f → Finishes d s es f' → f' ≡ f
+
+-- what the clauses of `held` say
+pub record IsHeld (d : Decoding) (h : Held) : Type 0 where
+  pub bytes : h.bytes ≡ length (state d).held
+  pub entries : h.entries ≡ length (state d).place.nodes
+  pub levels : h.levels ≡ levels_of d.parts
+
+abbrev pub IsOneAnswerOfHeld : Type 0
+IsOneAnswerOfHeld = (d : Decoding) (h h' : Held) → IsHeld d h → IsHeld d h' → h' ≡ h
+
+-- ---- runs
+
+-- one list is a front of the other
+abbrev pub IsFrontEitherWay : (es fs : List (ℕ × Event)) → Type 0
+IsFrontEitherWay es fs = BeginsWith fs es ⊎ BeginsWith es fs
+
+-- the sink did not fail, so all events of what was read were handed to it
+abbrev pub IsSound : Outcome → Type 0
+IsSound outcome.SinkFault = ⊥
+IsSound o = Unit {0}
+
+-- how a stream ends that says these events and this verdict
+abbrev pub EndsBy : Verdict → List ℕ → List (ℕ × Event) → Finish → Type 0
+EndsBy Waits bytes es end = FinishesBy None bytes es end
+EndsBy (Refused at why) bytes es end = end ≡ finish.Refused (record { at = at; why = why })
+
+module _ {V : Type 0} (f : V → ℕ → Event → V) (faulted : V → ℕ → Event → V → Type 0) where
+  -- what the clauses of `run` say of a reader that had the bytes xs
+  pub record Ran
+      (turns : ℕ) (o : Outcome) (old new : StreamState) (xs : List ℕ) (left : Option (List ℕ)) (before after : V)
+      : Type 0 where
+    pub runs : RunsTo f faulted turns o old new xs left before after
+    pub waits : WaitsAt o new
+    pub refused :
+        (r : Refusal) → old.refusal ≡ Some r
+        → (o ≡ outcome.Finished (finish.Refused r)) × (new ≡ old) × (after ≡ before)
+    pub rules : new.rules ≡ old.rules
+
+  -- the events that a run handed to the sink
+  abbrev pub handed :
+      (turns : ℕ) (o : Outcome) (old new : StreamState) (xs : List ℕ) (left : Option (List ℕ)) (before after : V)
+      → RunsTo f faulted turns o old new xs left before after
+      → (s : List ℕ) (es : List (ℕ × Event)) → After old s es → List (ℕ × Event)
+  handed turns (outcome.Finished end) old new xs left before after ran s es a = (ran.0.drained s es a).more
+  handed turns outcome.ReadFault old new xs left before after ran s es a = (ran.0.drained s es a).more
+  handed turns outcome.Turns old new xs left before after ran s es a = (ran.0.drained s es a).more
+  handed turns outcome.SinkFault old new xs left before after ran s es a =
+      let d = ran.failed s es a in
+      d.more ++ (d.at, d.event) ∷ []
+
+  -- Two runs from one decoder over one reader's bytes hand out the same events, as far as both go. Where no sink
+  -- failed, and both read the same bytes, the sinks are left alike. And where both finish, they do so alike, however
+  -- their reader cut its bytes.
+  pub record AreOneRun
+      (turns : ℕ) (o o' : Outcome) (old new new' : StreamState) (xs : List ℕ) (left left' : Option (List ℕ))
+      (before after after' : V) (s : List ℕ) (es : List (ℕ × Event)) (a : After old s es)
+      (ran : Ran turns o old new xs left before after) (ran' : Ran turns o' old new' xs left' before after')
+      : Type 0 where
+    pub events :
+        IsFrontEitherWay
+        (handed turns o old new xs left before after ran.runs s es a)
+        (handed turns o' old new' xs left' before after' ran'.runs s es a)
+    pub sinks : IsSound o → IsSound o' → left' ≡ left → (after' ≡ after) × (new'.refusal ≡ new.refusal)
+    pub ends :
+        (end end' : Finish) → o ≡ outcome.Finished end → o' ≡ outcome.Finished end'
+        → (end' ≡ end) × (after' ≡ after)
+
+  abbrev pub IsOneAnswerOfRun : Type 0
+  IsOneAnswerOfRun =
+      (turns : ℕ) (o o' : Outcome) (old new new' : StreamState) (xs : List ℕ) (left left' : Option (List ℕ))
+      (before after after' : V) (s : List ℕ) (es : List (ℕ × Event)) (a : After old s es)
+      (ran : Ran turns o old new xs left before after) (ran' : Ran turns o' old new' xs left' before after')
+      → AreOneRun turns o o' old new new' xs left left' before after after' s es a ran ran'
+
+  -- The answer is the right one: of a stream that says these events and this verdict, a run from a new decoder that
+  -- finishes has handed out just these events, and ends with that verdict.
+  abbrev pub RunsRight : Type 0
+  RunsRight =
+      (limits : Limits) (d : Decoding) (new : StreamState) (turns : ℕ) (xs : List ℕ) (left : Option (List ℕ))
+      (before after : V) (es : List (ℕ × Event)) (v : Verdict) (end : Finish)
+      → IsNew limits d → Says (rules_of limits) start xs es v
+      → Ran turns (outcome.Finished end) (state d) new xs left before after
+      → (after ≡ fold_events f before es) × EndsBy v xs es end

@@ -1,0 +1,19 @@
+//! Laws of limits: what they refuse, and that they change nothing else.
+
+ghost use Rattle.cqlp_laws.specs.Limits.{FreeHasNoLimit, LimitsCutAtFirstExcess, LimitsOnlyCut};
+
+/// Limits only cut: wider ones change no event and no refusal that is not a limit's own.
+pub fn limits_only_cut()
+    ensures { LimitsOnlyCut }
+{}
+
+/// Within limits a stream says just what it says without, up to the first item that passes all tests before its limit
+/// and exceeds that: there it is refused, at the item's first byte.
+pub fn limits_cut_at_first_excess()
+    ensures { LimitsCutAtFirstExcess }
+{}
+
+/// With limits of 2^31 nothing is refused by a limit: those are no limits.
+pub fn free_has_no_limit()
+    ensures { FreeHasNoLimit }
+{}

@@ -1,0 +1,42 @@
+//! Laws of one answer: what a call of the decoder answers is decided by the history and the input, but for what only
+//! the outside decides.
+
+ghost use Rattle.cqlp_laws.specs.OneAnswer.{IsOneAnswerOfFinish, IsOneAnswerOfHeld, IsOneAnswerOfNew};
+ghost use Rattle.cqlp_laws.specs.OneAnswer.{IsOneAnswerOfNext, IsOneAnswerOfRun, RunsRight};
+
+use cqlp_grammar::Sink;
+
+/// Two decoders that were made with the same limits stand alike, at the start of a stream. Whether one is made at all,
+/// where the limits allow it, is up to the memory that is there.
+pub fn one_answer_of_new()
+    ensures { IsOneAnswerOfNew }
+{}
+
+/// After the same bytes and events, and over the same input, there is one answer: the same event at the same offset with
+/// the same bytes used, the same refusal, or more is wanted; and the decoder is left alike.
+pub fn one_answer_of_next()
+    ensures { IsOneAnswerOfNext }
+{}
+
+/// After the same bytes and events a stream has one end.
+pub fn one_answer_of_finish()
+    ensures { IsOneAnswerOfFinish }
+{}
+
+/// Of one decoder there is one answer of what is held.
+pub fn one_answer_of_held()
+    ensures { IsOneAnswerOfHeld }
+{}
+
+/// From the same decoder over the same bytes of a reader a run hands the same events to its sink, as far as it goes. Where
+/// the sink does not fail, how far that is goes by how much the reader gave; and a run that finishes ends the same way,
+/// however the reader cut its bytes.
+pub fn one_answer_of_run<S: Sink>()
+    ensures { IsOneAnswerOfRun S.after S.faulted }
+{}
+
+/// The answer is the right one: from a new decoder, over a stream that says these events and this verdict, a run that
+/// finishes has handed just these events to its sink, and ends with that verdict.
+pub fn run_says_what_the_stream_says<S: Sink>()
+    ensures { RunsRight S.after S.faulted }
+{}

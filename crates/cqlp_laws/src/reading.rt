@@ -1,0 +1,23 @@
+//! Laws of what bytes say: one list of events with one verdict, which goes on where more bytes come.
+
+ghost use Rattle.cqlp_laws.specs.Reading.{GoesOn, IsSaid, IsSaidOnce};
+ghost use Rattle.cqlp_laws.specs.Reading.{HandsOutNoMoreEventsThanBytes, HasNoMoreEventsThanBytes};
+
+/// Of any bytes there is one list of events, and one verdict.
+pub fn said_once()
+    ensures some { IsSaid }
+    ensures once { IsSaidOnce }
+{}
+
+/// Whatever bytes follow, the events of a stream go on, and a refusal stays. So they do not depend on how the stream is
+/// cut into pieces.
+pub fn goes_on()
+    ensures { GoesOn }
+{}
+
+/// A stream has no more events than bytes, whatever lengths and counts it tells, and a decoder hands out no more, also
+/// before it refuses.
+pub fn no_more_events_than_bytes()
+    ensures stream { HasNoMoreEventsThanBytes }
+    ensures decoder { HandsOutNoMoreEventsThanBytes }
+{}

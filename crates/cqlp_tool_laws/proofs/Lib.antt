@@ -1,0 +1,4 @@
+mod CellRows
+mod PageRows
+mod OneText
+mod OneAnswer

@@ -1,0 +1,38 @@
+//! Laws of one answer: what is written of a stream, and how that ends, is decided by its bytes, but for what only the
+//! outside decides.
+
+ghost use Rattle.cqlp_text.specs.PageText.{no_page};
+ghost use Rattle.cqlp_tool_laws.specs.Tool.{IsCheckedOnce, IsCheckedRightly, IsRenderedOnce, IsRenderedWhole};
+ghost use Rattle.cqlp_tool_laws.specs.Tool.{IsShownOnce, IsShownRightly};
+ghost use Rattle.cqlp_tool.specs.declared.text_form.TextForm.TheVariants as forms;
+
+/// Finished, all lines of the stream were written, and its end is reported; and two runs that end alike wrote the same.
+pub fn one_answer_of_render_events()
+    ensures whole { IsRenderedWhole forms.Lines }
+    ensures once { IsRenderedOnce forms.Lines }
+{}
+
+/// Finished, all pages of the stream were written, and its end is reported; and two runs that end alike wrote the same.
+pub fn one_answer_of_render_rows()
+    ensures whole { IsRenderedWhole (forms.Pages no_page) }
+    ensures once { IsRenderedOnce (forms.Pages no_page) }
+{}
+
+/// A stream has one text of lines, one verdict line and one status, also where `command` has no words; and two commands
+/// that end alike wrote the same.
+pub fn one_answer_of_show()
+    ensures right { IsShownRightly forms.Lines }
+    ensures once { IsShownOnce forms.Lines }
+{}
+
+/// A stream has one text of pages, one verdict line and one status; and two commands that end alike wrote the same.
+pub fn one_answer_of_rows()
+    ensures right { IsShownRightly (forms.Pages no_page) }
+    ensures once { IsShownOnce (forms.Pages no_page) }
+{}
+
+/// A stream has one verdict line and one status; and two commands that end alike wrote the same.
+pub fn one_answer_of_check()
+    ensures right { IsCheckedRightly }
+    ensures once { IsCheckedOnce }
+{}
