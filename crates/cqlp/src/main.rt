@@ -1,15 +1,13 @@
 //! Reads streams of the CQL native protocol v4, as its words say, and writes what is in them.
 #![tactic(auto)]
 
-mod words;
-
+use cqlp_arguments::{read_words, redirect, texts};
 use cqlp_note::OfStd;
 use cqlp_text::cannot_open_line;
 use cqlp_text::status::FAULT;
 use cqlp_tool::command;
 use std::alloc::AllocError;
 use std::process::ExitCode;
-use words::{read_words, redirect, texts};
 
 fn main(rt: HostRuntime) -> ExitCode {
     match run(&rt) {

@@ -5,9 +5,9 @@ use Rattle.std.proofs.lemmas.List.{take-append-drop}
 use Rattle.std.proofs.Math.Seq.{take-add}
 use Rattle.std.proofs.lemmas.Bool.Decides.{nat_tests}
 use Rattle.std.proofs.lemmas.Bool.{lt-ltb, le-ltb}
-use Rattle.std.specs.Io.KnownBytes.{Appends}
+use Rattle.std.specs.Io.KnownBytes.{Appends, append_known}
 use Rattle.cqlp_note.specs.Streams.{counted}
-use Rattle.cqlp_message.specs.declared.sink.SinkFault.{SinkFault}
+use Rattle.cqlp_grammar.specs.declared.sink.SinkFault.{SinkFault}
 use Rattle.cqlp_text.specs.Outputs.{WritesText, output}
 use Rattle.cqlp_text.specs.Written.{Written, PassesOn, Receives, BreaksOff, Writes, bare}
 
@@ -16,6 +16,11 @@ passed_then a b c x y left first second text given =
     let p = first text given in
     let q = second (text ++ p.0) p.1 in
     (p.0 ++ q.0, q.1 ∙ ap (λ t. Some t) (append_assoc text p.0 q.0), append_assoc p.0 q.0 left ∙ ap (λ t. p.0 ++ t) q.2 ∙ sym (append_assoc p.0 b.waiting y) ∙ ap (λ t. t ++ y) p.2 ∙ append_assoc a.waiting x y)
+
+-- known bytes after one text and another
+pub known_then : (given : Option (List ℕ)) (x y : List ℕ) → append_known (append_known given x) y ≡ append_known given (x ++ y)
+known_then None x y = refl
+known_then (Some t) x y = ap (λ k. Some k) (append_assoc t x y)
 
 -- nothing more
 pub takes_nothing : (w : Written) → Receives w [] w
@@ -55,29 +60,10 @@ breaks_in_more a b x y broken = record {
 
 -- ---- a target takes the first bytes
 
-pub appends_then : (a b c : Option (List ℕ)) (x y : List ℕ) → Appends a b x → Appends b c y → Appends a c (x ++ y)
-appends_then None b c x y first second = tt
-appends_then (Some t) None c x y first second = absurd first
-appends_then (Some t) (Some u) None x y first second = absurd second
-appends_then (Some t) (Some u) (Some v) x y first second = second ∙ ap (λ k. k ++ y) first ∙ append_assoc t x y
-
 pub known_grown : (old new : Option (List ℕ)) (text more : List ℕ) → Appends old new more → old ≡ Some text → new ≡ Some (text ++ more)
 known_grown None new text more grows known = cc
 known_grown (Some xs) None text more grows known = absurd grows
 known_grown (Some xs) (Some ys) text more grows known = let e : xs ≡ text = cc in ap (λ t. Some t) (grows ∙ ap (λ t. t ++ more) e)
-
--- the first i and n more
-pub take_more : (i n : ℕ) (bytes : List ℕ) → i ≤ length bytes → take (i + n) bytes ≡ take i bytes ++ take n (take (length bytes - i) (drop i bytes))
-take_more i n bytes within =
-    let later : take (length bytes - i) (drop i bytes) ≡ drop i bytes = grind (arith, common_steps) in
-    take-add i n bytes ∙ ap (λ t. take i bytes ++ take n t) (sym later)
-
-took_some_at : (n len : ℕ) → n ≢ 0 → ((n == 0) && nat_lt 0 len) ≡ false
-took_some_at n len some = grind (arith, nat_tests)
-
--- a call that took some bytes is no failure
-pub took_some : (n len f f' : ℕ) → n ≢ 0 → f' ≡ counted ((n == 0) && nat_lt 0 len) f → f' ≡ f
-took_some n len f f' some reported = reported ∙ ap (λ (t : Bool). counted t f) (took_some_at n len some)
 
 first_and_rest : (xs : List ℕ) → 0 < length xs → (x : ℕ) × (rest : List ℕ) × (xs ≡ x ∷ rest)
 first_and_rest [] some = absurd (omega arith)

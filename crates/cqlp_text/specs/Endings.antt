@@ -1,7 +1,7 @@
 -- How a command ends: its line and its exit status.
 use Rattle.std.specs.Prelude.{ℕ, ◌≤◌, ◌≢◌, List, [], ◌∷◌, ◌++◌, codes, decimal}
-use Rattle.cqlp_message.specs.declared.event.Finish.{Finish}
-use Rattle.cqlp_message.specs.declared.event.Finish.TheVariants as finish
+use Rattle.cqlp_grammar.specs.declared.event.Finish.{Finish}
+use Rattle.cqlp_grammar.specs.declared.event.Finish.TheVariants as finish
 use Rattle.cqlp_text.specs.declared.ending.Ending.{Ending}
 use Rattle.cqlp_text.specs.declared.ending.Ending.TheVariants as ending
 use Rattle.cqlp_text.specs.declared.status.TheConstants.{DONE, NOT_WHOLE, BAD_COMMAND_LINE, FAULT}

@@ -1,6 +1,5 @@
 pub mod CellText
 pub mod Endings
-pub mod Laws
 pub mod Lines
 pub mod Names
 pub mod Outputs

@@ -7,8 +7,8 @@ use Rattle.cqlp_note.specs.Field.{BoundValue, FieldValue}
 use Rattle.cqlp_note.specs.Field as field
 use Rattle.cqlp_value.specs.CellStep.{CellEvent}
 use Rattle.cqlp_value.specs.CellStep as cell
-use Rattle.cqlp_message.specs.Events.{Event}
-use Rattle.cqlp_message.specs.Events as reading
+use Rattle.cqlp_grammar.specs.Events.{Event}
+use Rattle.cqlp_grammar.specs.Events as reading
 use Rattle.cqlp_text.specs.Names.{field_name, opcode_name, kind_name}
 use Rattle.cqlp_text.specs.Text.{hex_text, quoted, address_text}
 use Rattle.cqlp_text.specs.CellText.{cell_text}

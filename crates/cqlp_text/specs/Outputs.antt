@@ -1,20 +1,9 @@
 -- What a target was given of a text.
-use Rattle.std.specs.Prelude.{◌≡◌, ◌≤◌, ℕ, true, nat_lt, List, ◌∷◌, ◌++◌, length, take, Option, IsSome, Result, Ok, Err}
-use Rattle.std.specs.Io.KnownBytes.{Appends, append_known}
-use Rattle.cqlp_note.specs.declared.streams.Target.{Ghosts}
+use Rattle.std.specs.Prelude.{◌≡◌, ℕ, true, List, ◌∷◌, ◌++◌, Option, IsSome, Result, Ok, Err}
+use Rattle.std.specs.Io.KnownBytes.{append_known}
 use Rattle.cqlp_note.specs.Streams.{counted}
-use Rattle.cqlp_message.specs.declared.sink.SinkFault.{SinkFault}
-
--- what a target was given, where that is known, and how often it failed
-pub record Output : Type 0 where
-  pub given : Option (List ℕ)
-  pub failures : ℕ
-
-abbrev pub output : Option (List ℕ) → ℕ → Output
-output given failures = record { given = given; failures = failures }
-
-abbrev pub written : {W : Type 0} → Ghosts W → W → Output
-written members target = output (members.contents target) (members.failures target)
+pub use Rattle.cqlp_note.specs.Outputs.{Output, output, written, Offered}
+use Rattle.cqlp_grammar.specs.declared.sink.SinkFault.{SinkFault}
 
 -- with more text
 abbrev pub with_text : Output → List ℕ → Output
@@ -41,9 +30,3 @@ AppendsText old text r new = IsSome old.given → WritesText old text r new
 -- One call of the target failed.
 abbrev pub HasFailed : (before after : Output) → Type 0
 HasFailed before after = after.failures ≡ counted true before.failures
-
--- The target took the first n of these bytes, and failed where they are not all.
-pub record Offered (old : Output) (bytes : List ℕ) (n : ℕ) (new : Output) : Type 0 where
-  pub bound : n ≤ length bytes
-  pub given : Appends old.given new.given (take n bytes)
-  pub failures : new.failures ≡ counted (nat_lt n (length bytes)) old.failures

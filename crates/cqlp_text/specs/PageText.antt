@@ -10,8 +10,8 @@ use Rattle.cqlp_type.specs.declared.kind.Kind.{Kind}
 use Rattle.cqlp_type.specs.declared.kind.Kind.TheVariants as kind
 use Rattle.cqlp_value.specs.CellStep.{CellEvent}
 use Rattle.cqlp_value.specs.CellStep as cell
-use Rattle.cqlp_message.specs.Events.{Event}
-use Rattle.cqlp_message.specs.Events as reading
+use Rattle.cqlp_grammar.specs.Events.{Event}
+use Rattle.cqlp_grammar.specs.Events as reading
 use Rattle.cqlp_text.specs.declared.page_text.WrittenValue.{WrittenValue}
 use Rattle.cqlp_text.specs.declared.page_text.Turn.{Turn}
 use Rattle.cqlp_text.specs.declared.page_text.Turn.TheVariants.{First, Paired, Another}

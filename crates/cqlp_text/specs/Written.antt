@@ -3,7 +3,7 @@ use Rattle.std.specs.Prelude.{◌≡◌, ℕ, true, List, [], ◌∷◌, ◌++�
 use Rattle.std.specs.Io.KnownBytes.{append_known}
 use Rattle.cqlp_note.specs.declared.streams.Target.{Ghosts}
 use Rattle.cqlp_note.specs.Streams.{counted}
-use Rattle.cqlp_message.specs.declared.sink.SinkFault.{SinkFault}
+use Rattle.cqlp_grammar.specs.declared.sink.SinkFault.{SinkFault}
 
 -- What the target was given, where that is known, how often it failed, and what waits to be passed on; and the name of
 -- the borrow through which it is given that.

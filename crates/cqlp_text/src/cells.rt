@@ -6,7 +6,7 @@ ghost use Rattle.cqlp_text.specs.Outputs.{AppendsText, written};
 ghost use Rattle.cqlp_value.specs.Contents.{value_of};
 
 use crate::text_writer::TextWriter;
-use cqlp_message::SinkFault;
+use cqlp_grammar::SinkFault;
 use cqlp_note::Target;
 use cqlp_value::Scalar;
 

@@ -4,7 +4,7 @@ ghost use Rattle.std.specs.Prelude.{◌≡◌, ◌<◌, pos, ◌-ℤ◌, unsigne
 ghost use Rattle.jiff_core.specs.Date.{epoch_day};
 
 use crate::text_writer::TextWriter;
-use cqlp_message::SinkFault;
+use cqlp_grammar::SinkFault;
 use cqlp_note::Target;
 use jiff_core::civil::Date;
 

@@ -8,7 +8,7 @@ use crate::names::reason_name;
 use crate::status::{DONE, FAULT, NOT_WHOLE};
 use crate::text_writer::TextWriter;
 use crate::word::Word;
-use cqlp_message::{Finish, SinkFault};
+use cqlp_grammar::{Finish, SinkFault};
 use cqlp_note::{Refusal, Target};
 
 /// How a command ends.

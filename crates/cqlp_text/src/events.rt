@@ -1,14 +1,14 @@
 //! Events as lines.
 
 ghost use Rattle.std.specs.Prelude.{◌≡◌, IsSome, []};
-ghost use Rattle.cqlp_message.specs.Events.{bound_of, event_of};
+ghost use Rattle.cqlp_grammar.specs.Events.{bound_of, event_of};
 ghost use Rattle.cqlp_text.specs.Lines.{line as line_of};
 ghost use Rattle.cqlp_text.specs.Outputs.{AppendsText, written};
 
 use crate::names::{field_name, kind_name, opcode_name};
 use crate::text_writer::TextWriter;
 use crate::word::Word;
-use cqlp_message::{Event, SinkFault};
+use cqlp_grammar::{Event, SinkFault};
 use cqlp_note::{BoundValue, Field, Header, Target};
 
 /// Appends the line of an event at an offset. A fault is the writer's own.
@@ -22,7 +22,7 @@ pub fn event_line<W: Target>(at: u64, event: &Event<'_>, w: &mut W) -> Result<()
 }
 
 impl<W: Target> TextWriter<'_, W> {
-    ghost use Rattle.cqlp_message.specs.Events as reading;
+    ghost use Rattle.cqlp_grammar.specs.Events as reading;
     ghost use Rattle.std.specs.Prelude.{◌∷◌};
     ghost use Rattle.cqlp_text.specs.Lines.{line, spaced, words};
     ghost use Rattle.cqlp_text.specs.Names.{field_name};

@@ -1,13 +1,13 @@
 //! Pages as text.
 
 ghost use Rattle.std.specs.Prelude.{◌≡◌, ◌++◌, IsSome, []};
-ghost use Rattle.cqlp_message.specs.Events.{event_of};
+ghost use Rattle.cqlp_grammar.specs.Events.{event_of};
 ghost use Rattle.cqlp_text.specs.PageText.{page_part as text_of, place_after};
 ghost use Rattle.cqlp_text.specs.Outputs.{AppendsText, written};
 
 use crate::text_writer::TextWriter;
 use crate::word::Word;
-use cqlp_message::{Event, SinkFault};
+use cqlp_grammar::{Event, SinkFault};
 use cqlp_note::{Field, Target};
 use cqlp_type::Kind;
 use std::marker::Model;

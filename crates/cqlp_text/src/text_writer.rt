@@ -4,9 +4,8 @@ ghost use Rattle.std.specs.Prelude.{◌≡◌, ◌+◌, ◌≤◌, ◌++◌, [],
 ghost use Rattle.cqlp_text.specs.Outputs.{AppendsText, written};
 ghost use Rattle.cqlp_text.specs.Written.{Writes, unbuffered};
 
-use crate::targets::offer;
-use cqlp_message::SinkFault;
-use cqlp_note::Target;
+use cqlp_grammar::SinkFault;
+use cqlp_note::{Target, offer};
 use std::marker::Model;
 
 /// How many bytes wait at most before they are passed on.

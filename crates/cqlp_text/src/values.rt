@@ -10,7 +10,7 @@ ghost use Rattle.cqlp_note.specs.declared.prim.Address.TheVariants.{V4, V6};
 ghost use Rattle.cqlp_text.specs.Written.{Writes};
 
 use crate::text_writer::TextWriter;
-use cqlp_message::SinkFault;
+use cqlp_grammar::SinkFault;
 use cqlp_note::{Address, Target};
 use uuid::Uuid;
 

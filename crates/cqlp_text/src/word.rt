@@ -3,7 +3,7 @@
 ghost use Rattle.std.specs.Prelude.{◌≡◌, map};
 
 use crate::text_writer::TextWriter;
-use cqlp_message::SinkFault;
+use cqlp_grammar::SinkFault;
 use cqlp_note::{Address, Target};
 use cqlp_value::Scalar;
 

@@ -1,4 +1,3 @@
-pub mod OneAnswer
 pub mod Passing
 pub mod Renders
 pub mod Shows

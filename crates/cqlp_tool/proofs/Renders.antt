@@ -11,7 +11,7 @@ use Rattle.cqlp_tool.specs.declared.text_form.TextForm.{TextForm}
 use Rattle.cqlp_tool.specs.declared.text_form.TextForm.TheVariants as forms
 use Rattle.cqlp_tool.specs.Forms.{text, text_of, form_after, form_after_all}
 use Rattle.cqlp_text.specs.Outputs.{Output, output, with_text, StopsWithin}
-use Rattle.cqlp_text.proofs.OneAnswer.{known_then}
+use Rattle.cqlp_text.proofs.Writing.{known_then}
 use Rattle.cqlp_tool.specs.Rendering.{Rendering, rendering, with_event, StopsWithinEvent, RendersTo}
 
 pub known_nothing : (given : Option (List ℕ)) → append_known given [] ≡ given

@@ -11,13 +11,13 @@ use Rattle.cqlp_tool.specs.declared.text_form.TextForm.{TextForm}
 use Rattle.cqlp_tool.specs.Forms.{text, text_of, form_after_all}
 use Rattle.cqlp_text.specs.Written.{Written, bare, taken}
 use Rattle.cqlp_text.specs.Outputs.{Output, output, with_text, HasFailed, StopsWithin}
-use Rattle.cqlp_text.proofs.OneAnswer.{known_then}
+use Rattle.cqlp_text.proofs.Writing.{known_then}
 use Rattle.cqlp_tool.specs.Rendering.{Rendering, with_event, StopsWithinEvent, RendersFront}
 use Rattle.cqlp_tool.specs.Showing.{RendersOrFails, ShowsTo, Concludes, ConcludesCheck, ending_of}
 use Rattle.cqlp_text.specs.declared.ending.Ending.{Ending}
 use Rattle.cqlp_text.specs.declared.ending.Ending.TheVariants as ending
 use Rattle.cqlp_text.specs.Endings.{ending_line, status_of}
-use Rattle.cqlp_message.specs.declared.event.Finish.{Finish}
+use Rattle.cqlp_grammar.specs.declared.event.Finish.{Finish}
 use Rattle.cqlp_note.specs.declared.limits.Limits.{Limits}
 use Rattle.cqlp_note.specs.Limits.{rules_of}
 use Rattle.cqlp_tool.proofs.Renders.{known_nothing, known_still, text-last, renders_to, texts_to, Renders, RendersPart}

@@ -6,8 +6,7 @@ ghost use Rattle.cqlp_note.specs.Streams.{counted, took_none};
 ghost use Rattle.cqlp_text.specs.Outputs.{output, written};
 ghost use Rattle.cqlp_text.specs.Written.{taken, unbuffered};
 
-use cqlp_note::{IoFault, Target};
-use cqlp_text::offer;
+use cqlp_note::{IoFault, Target, offer};
 use std::alloc::{Allocator, Global};
 use std::marker::Model;
 

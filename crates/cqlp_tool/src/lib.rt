@@ -3,7 +3,6 @@
 
 mod buffered;
 mod command_line;
-pub mod laws;
 mod render;
 mod showing;
 mod text_form;
@@ -13,3 +12,4 @@ pub use cqlp_options::{DEFAULT_LIMITS, NoTask, Options, Task};
 pub use cqlp_text::{Ending, cell_text};
 pub use render::{render_events, render_rows};
 pub use showing::{check, rows, show};
+pub use text_form::TextForm;

@@ -2,9 +2,9 @@
 
 use cqlp_text::PagePlace;
 
-/// What is written of the events of a stream.
+/// What is written of the events of a stream. The clauses of the calls of this crate speak of it.
 #[derive(Drop)]
-pub(crate) enum TextForm {
+pub enum TextForm {
     /// A line for each.
     Lines,
     /// The text of pages, from a place in a page.

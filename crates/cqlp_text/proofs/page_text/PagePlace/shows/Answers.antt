@@ -1,5 +1,5 @@
 use Rattle.std.proofs.Common.{◌≡◌, [], arith}
-use Rattle.cqlp_message.specs.Events.{event_of}
+use Rattle.cqlp_grammar.specs.Events.{event_of}
 use Rattle.cqlp_text.specs.PageText.{event_part}
 use Rattle.cqlp_text.proofs.Pages.{nothing_shown}
 use Rattle.cqlp_text.proofs.page_text.PagePlace.shows.Goals as goal

@@ -1,5 +1,5 @@
 use Rattle.std.proofs.Common.{◌≡◌, List, ℕ, [], sym, subst, arith}
-use Rattle.cqlp_message.specs.Events.{event_of}
+use Rattle.cqlp_grammar.specs.Events.{event_of}
 use Rattle.cqlp_text.specs.PageText.{event_part}
 use Rattle.cqlp_text.specs.Written.{Receives}
 use Rattle.cqlp_text.proofs.Writing.{takes_nothing}

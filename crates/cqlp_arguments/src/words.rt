@@ -1,8 +1,8 @@
-//! The words of the command line, which need not be text.
+//! Words that need not be text.
 
 ghost use Rattle.std.specs.Prelude.{◌≡◌, IfOk, IsUtf8, None, string_bytes};
 
-use cqlp_tool::Options;
+use cqlp_options::Options;
 use libc::STDIN_FILENO;
 use std::alloc::{AllocError, Global};
 use std::env::{Env, FillError};
@@ -10,7 +10,7 @@ use std::fmt::Write;
 
 /// A word after the program's name.
 #[derive(Drop)]
-pub(crate) struct Argument {
+pub struct Argument {
     /// The word, where each byte that is no text is written as its two hexadecimal digits.
     pub(crate) text: String,
     /// Its own bytes, where they are no text.
@@ -19,7 +19,7 @@ pub(crate) struct Argument {
 
 impl Argument {
     fn new(alloc: Global, bytes: Vec<u8>) -> Result<Argument, AllocError>
-        ensures { IfOk result (λ word. IsUtf8 bytes.items → (string_bytes word.text ≡ bytes.items) × (word.raw ≡ None)) }
+        ensures { IfOk result (λ w. IsUtf8 bytes.items → (string_bytes w.text ≡ bytes.items) × (w.raw ≡ None)) }
     {
         match String::from_utf8(bytes) {
             Ok(text) => Ok(Argument { text, raw: None }),
@@ -34,7 +34,7 @@ impl Argument {
 }
 
 /// All words after the program's name.
-pub(crate) fn read_words<R: Env + AllocGlobal>(rt: &R) -> Result<Vec<Argument>, AllocError> {
+pub fn read_words<R: Env + AllocGlobal>(rt: &R) -> Result<Vec<Argument>, AllocError> {
     let mut words = Vec::new(rt.alloc());
     for place in 1..usize::MAX {
         let Some(bytes) = read_word(rt, place)? else {
@@ -75,7 +75,7 @@ fn escaped(alloc: Global, bytes: &[u8]) -> Result<String, AllocError> {
 }
 
 /// The texts of the words.
-pub(crate) fn texts(alloc: Global, words: &[Argument]) -> Result<Vec<&str>, AllocError> {
+pub fn texts(alloc: Global, words: &[Argument]) -> Result<Vec<&str>, AllocError> {
     let mut texts = Vec::new(alloc);
     for word in words {
         texts.push(word.text.as_str())?;
@@ -83,9 +83,9 @@ pub(crate) fn texts(alloc: Global, words: &[Argument]) -> Result<Vec<&str>, Allo
     Ok(texts)
 }
 
-/// Opens the stream's file in the place of standard input, where its name is no text, and puts `-` in its place among the
-/// texts. An error is the text of a name that cannot be opened.
-pub(crate) fn redirect<'a>(
+/// Opens the stream's file in the place of standard input, where its name is no text, and puts `-` in its place among
+/// the texts. An error is the text of a name that cannot be opened.
+pub fn redirect<'a>(
     alloc: Global,
     words: &'a [Argument],
     texts: &mut [&'a str],

@@ -1,6 +1,0 @@
-use Rattle.cqlp_text.specs.Lines.{line}
-use Rattle.cqlp_text.proofs.OneAnswer.{writes_once}
-use Rattle.cqlp_text.proofs.laws.one_answer_of_event_line.Goals as goal
-
-pub returns : goal.returns
-returns c = λ at event. writes_once (line at event)

@@ -1,9 +1,0 @@
-use Rattle.cqlp_tool.specs.declared.text_form.TextForm.TheVariants as forms
-use Rattle.cqlp_tool.proofs.OneAnswer.{shown_rightly, shown_once}
-use Rattle.cqlp_tool.proofs.laws.one_answer_of_show.Goals as goal
-
-pub returns-clause-right : goal.returns-clause-right
-returns-clause-right c = shown_rightly forms.Lines
-
-pub returns-clause-once : goal.returns-clause-once
-returns-clause-once c = shown_once forms.Lines
