@@ -41,6 +41,7 @@ impl Content<'_> {
 
 impl Atom {
     /// The kind of its type.
+    #[inline(always)]
     pub fn kind(&self) -> Kind
         ensures { result ≡ kind_of (atom_of self.now) }
     {
@@ -71,6 +72,7 @@ impl Atom {
 
     /// Its content: what follows its length where it is spelled. A true is the byte 01. What it holds is in the range of
     /// its types.
+    #[inline(always)]
     pub fn content(&self) -> Content<'_>
         ensures is { content_in result ≡ content_of (atom_of self.now) }
         ensures range { IsInRange (atom_of self.now) }
@@ -99,16 +101,23 @@ impl Atom {
     }
 
     /// How many bytes its content has.
+    #[inline(always)]
     pub fn content_len(&self) -> u64
         ensures { result ≡ length (content_of (atom_of self.now)) }
     {
-        let content = self.content();
-        let (head, tail) = content.parts();
-        head.len() as u64 + tail.len() as u64
+        match self.content() {
+            Content::One(_) => 1,
+            Content::Two(_) => 2,
+            Content::Four(_) => 4,
+            Content::Eight(_) => 8,
+            Content::Lent(bytes) => bytes.len() as u64,
+            Content::Decimal(_, unscaled) => unscaled.len() as u64 + 4,
+        }
     }
 
     /// Whether its content is one of its kind: it is not empty, an ascii is ASCII, a timeuuid is of version 1, a time
     /// is within a day, and a decimal has an unscaled number.
+    #[inline(always)]
     pub fn is_allowed(&self) -> bool
         ensures { result ≡ scalar_fits (atom_of self.now) }
     {

@@ -23,6 +23,7 @@ const MOST: usize = i32::MAX as usize;
 /// timeuuid of version 1, a time within a day, and a decimal has an unscaled number. A list, a set or a map has at most
 /// 2,147,483,647 items, which fit. A tuple or a user-defined type has one field at least and no more than its type,
 /// which fit. Without a type a value is raw.
+#[inline(always)]
 pub fn fits(value: &Value, of: Option<&TypeTree>) -> bool
     ensures { result ≡ fits_type value.now (option_map (λ t. t.now) of.entry) }
 {
@@ -37,8 +38,20 @@ pub fn fits(value: &Value, of: Option<&TypeTree>) -> bool
 }
 
 /// The same of a type.
+#[inline(always)]
 #[cycle(fits)]
 fn is_of(value: &Value, tree: &TypeTree) -> bool
+    ensures { result ≡ fits_tree value.now tree.now }
+{
+    match value {
+        Value::Leaf(atom) => is_scalar_of(atom, kind(tree)),
+        _ => is_any_of(value, tree),
+    }
+}
+
+/// The same of a value that is mostly no scalar.
+#[cycle(fits)]
+fn is_any_of(value: &Value, tree: &TypeTree) -> bool
     ensures { result ≡ fits_tree value.now tree.now }
 {
     match value {
@@ -157,6 +170,7 @@ fn named_fit(items: &[Value], fields: &[(String, TypeTree)]) -> bool
 }
 
 /// Whether a scalar is one of this kind.
+#[inline(always)]
 fn is_scalar_of(atom: &Atom, kind: Kind) -> bool
     ensures { result ≡ (is_kind (kind_of (atom_of atom.now)) kind && scalar_fits (atom_of atom.now)) }
 {
@@ -178,6 +192,7 @@ fn has_some(of: Kind, len: usize, tree: &TypeTree) -> bool
 }
 
 /// The kind of a type.
+#[inline(always)]
 fn kind(tree: &TypeTree) -> Kind
     ensures { result ≡ kind_in (head_of tree.now) }
 {

@@ -39,8 +39,20 @@ pub fn content_len(value: &Value) -> u64
 }
 
 /// How many bytes spell a value, the four of its length counted; 2^64 - 1 where there are more.
+#[inline(always)]
 #[cycle(value_size)]
 pub fn value_size(value: &Value) -> u64
+    ensures { result ≡ min (values_size (value_of value.now)) (2 ^ 64 - 1) }
+{
+    match value {
+        Value::Leaf(atom) => atom.content_len().saturating_add(4),
+        _ => any_size(value),
+    }
+}
+
+/// The same of a value that is mostly no scalar.
+#[cycle(value_size)]
+fn any_size(value: &Value) -> u64
     ensures { result ≡ min (values_size (value_of value.now)) (2 ^ 64 - 1) }
 {
     match value {

@@ -8,80 +8,80 @@ use Rattle.cqlp_value.specs.Measures.{all_fit, all_pairs_fit, all_fields_fit, fi
 use Rattle.cqlp_value.proofs.ValueFits.{items_next, pairs_next, fields_next, too_many, first_true, first_false, list_fits, set_fits, map_fits, tuple_fits, udt_fits, no_items, no_pairs, no_fields, tuple_types, udt_types, no_inner, no_pair}
 use Rattle.cqlp_value.proofs.fitting.+fits.Goals as goal
 
-pub is_of-returns-then-has_count : goal.is_of-returns-then-has_count
-is_of-returns-then-has_count t c =
+pub is_any_of-returns-then-has_count : goal.is_any_of-returns-then-has_count
+is_any_of-returns-then-has_count t c =
     let tree = c.args.tree.now in
     let items = c.in-List.items in
     let n : c.len.result ≡ length items.items = omega arith in
     let whole = ap (λ x. fits_tree x tree) c.in-List.is ∙ list_fits items tree in
     rw c.deref.ensures.value at c.items_fit.ensures ∙ first_true _ _ _ _ whole (rw n at c.has_count.ensures) c.if-has_count.true
 
-pub is_of-returns-else-has_count : goal.is_of-returns-else-has_count
-is_of-returns-else-has_count t c =
+pub is_any_of-returns-else-has_count : goal.is_any_of-returns-else-has_count
+is_any_of-returns-else-has_count t c =
     let tree = c.args.tree.now in
     let items = c.in-List.items in
     let n : c.len.result ≡ length items.items = omega arith in
     let whole = ap (λ x. fits_tree x tree) c.in-List.is ∙ list_fits items tree in
     c.if-has_count.false ∙ first_false _ _ _ _ whole (rw n at c.has_count.ensures) c.if-has_count.false
 
-pub is_of-returns-then-has_count-2 : goal.is_of-returns-then-has_count-2
-is_of-returns-then-has_count-2 t c =
+pub is_any_of-returns-then-has_count-2 : goal.is_any_of-returns-then-has_count-2
+is_any_of-returns-then-has_count-2 t c =
     let tree = c.args.tree.now in
     let items = c.in-Set.items in
     let n : c.len-in-Set.result ≡ length items.items = omega arith in
     let whole = ap (λ x. fits_tree x tree) c.in-Set.is ∙ set_fits items tree in
     rw c.deref-then-has_count-2.ensures.value at c.items_fit-then-has_count-2.ensures ∙ first_true _ _ _ _ whole (rw n at c.has_count-in-Set.ensures) c.if-has_count-2.true
 
-pub is_of-returns-else-has_count-2 : goal.is_of-returns-else-has_count-2
-is_of-returns-else-has_count-2 t c =
+pub is_any_of-returns-else-has_count-2 : goal.is_any_of-returns-else-has_count-2
+is_any_of-returns-else-has_count-2 t c =
     let tree = c.args.tree.now in
     let items = c.in-Set.items in
     let n : c.len-in-Set.result ≡ length items.items = omega arith in
     let whole = ap (λ x. fits_tree x tree) c.in-Set.is ∙ set_fits items tree in
     c.if-has_count-2.false ∙ first_false _ _ _ _ whole (rw n at c.has_count-in-Set.ensures) c.if-has_count-2.false
 
-pub is_of-returns-then-has_count-3 : goal.is_of-returns-then-has_count-3
-is_of-returns-then-has_count-3 t c =
+pub is_any_of-returns-then-has_count-3 : goal.is_any_of-returns-then-has_count-3
+is_any_of-returns-then-has_count-3 t c =
     let tree = c.args.tree.now in
     let pairs = c.in-Map.pairs in
     let n : c.len-in-Map.result ≡ length pairs.items = omega arith in
     let whole = ap (λ x. fits_tree x tree) c.in-Map.is ∙ map_fits pairs tree in
     rw c.deref-then-has_count-3.ensures.value at c.pairs_fit.ensures ∙ first_true _ _ _ _ whole (rw n at c.has_count-in-Map.ensures) c.if-has_count-3.true
 
-pub is_of-returns-else-has_count-3 : goal.is_of-returns-else-has_count-3
-is_of-returns-else-has_count-3 t c =
+pub is_any_of-returns-else-has_count-3 : goal.is_any_of-returns-else-has_count-3
+is_any_of-returns-else-has_count-3 t c =
     let tree = c.args.tree.now in
     let pairs = c.in-Map.pairs in
     let n : c.len-in-Map.result ≡ length pairs.items = omega arith in
     let whole = ap (λ x. fits_tree x tree) c.in-Map.is ∙ map_fits pairs tree in
     c.if-has_count-3.false ∙ first_false _ _ _ _ whole (rw n at c.has_count-in-Map.ensures) c.if-has_count-3.false
 
-pub is_of-returns-then-has_some : goal.is_of-returns-then-has_some
-is_of-returns-then-has_some t c =
+pub is_any_of-returns-then-has_some : goal.is_any_of-returns-then-has_some
+is_any_of-returns-then-has_some t c =
     let tree = c.args.tree.now in
     let items = c.in-Tuple.items in
     let n : c.len-in-Tuple.result ≡ length items.items = omega arith in
     let whole = ap (λ x. fits_tree x tree) c.in-Tuple.is ∙ tuple_fits items tree in
     rw c.deref-then-has_some.ensures.value at c.fields_fit.ensures ∙ first_true _ _ _ _ whole (rw n at c.has_some.ensures) c.if-has_some.true
 
-pub is_of-returns-else-has_some : goal.is_of-returns-else-has_some
-is_of-returns-else-has_some t c =
+pub is_any_of-returns-else-has_some : goal.is_any_of-returns-else-has_some
+is_any_of-returns-else-has_some t c =
     let tree = c.args.tree.now in
     let items = c.in-Tuple.items in
     let n : c.len-in-Tuple.result ≡ length items.items = omega arith in
     let whole = ap (λ x. fits_tree x tree) c.in-Tuple.is ∙ tuple_fits items tree in
     c.if-has_some.false ∙ first_false _ _ _ _ whole (rw n at c.has_some.ensures) c.if-has_some.false
 
-pub is_of-returns-then-has_some-2 : goal.is_of-returns-then-has_some-2
-is_of-returns-then-has_some-2 t c =
+pub is_any_of-returns-then-has_some-2 : goal.is_any_of-returns-then-has_some-2
+is_any_of-returns-then-has_some-2 t c =
     let tree = c.args.tree.now in
     let items = c.in-Udt.items in
     let n : c.len-in-Udt.result ≡ length items.items = omega arith in
     let whole = ap (λ x. fits_tree x tree) c.in-Udt.is ∙ udt_fits items tree in
     rw c.deref-then-has_some-2.ensures.value at c.fields_fit-then-has_some-2.ensures ∙ first_true _ _ _ _ whole (rw n at c.has_some-in-Udt.ensures) c.if-has_some-2.true
 
-pub is_of-returns-else-has_some-2 : goal.is_of-returns-else-has_some-2
-is_of-returns-else-has_some-2 t c =
+pub is_any_of-returns-else-has_some-2 : goal.is_any_of-returns-else-has_some-2
+is_any_of-returns-else-has_some-2 t c =
     let tree = c.args.tree.now in
     let items = c.in-Udt.items in
     let n : c.len-in-Udt.result ≡ length items.items = omega arith in

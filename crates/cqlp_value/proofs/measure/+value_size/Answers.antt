@@ -17,32 +17,32 @@ pairs_size-loop-key-preserved t c =
     let size = c.loop-key.invariant in
     omega arith
 
-pub value_size-returns-in-List : goal.value_size-returns-in-List
-value_size-returns-in-List t c =
+pub any_size-returns-in-List : goal.any_size-returns-in-List
+any_size-returns-in-List t c =
     let whole = ap (λ (x : Value). values_size (value_of x)) c.in-List.is ∙ list_size c.in-List.items in
     let inner = rw c.deref.ensures.value at c.items_size.ensures in
     omega arith
 
-pub value_size-returns-in-Set : goal.value_size-returns-in-Set
-value_size-returns-in-Set t c =
+pub any_size-returns-in-Set : goal.any_size-returns-in-Set
+any_size-returns-in-Set t c =
     let whole = ap (λ (x : Value). values_size (value_of x)) c.in-Set.is ∙ set_size c.in-Set.items in
     let inner = rw c.deref-in-Set.ensures.value at c.items_size-in-Set.ensures in
     omega arith
 
-pub value_size-returns-in-Map : goal.value_size-returns-in-Map
-value_size-returns-in-Map t c =
+pub any_size-returns-in-Map : goal.any_size-returns-in-Map
+any_size-returns-in-Map t c =
     let whole = ap (λ (x : Value). values_size (value_of x)) c.in-Map.is ∙ map_size c.in-Map.pairs in
     let inner = rw c.deref-in-Map.ensures.value at c.pairs_size.ensures in
     omega arith
 
-pub value_size-returns-in-Tuple : goal.value_size-returns-in-Tuple
-value_size-returns-in-Tuple t c =
+pub any_size-returns-in-Tuple : goal.any_size-returns-in-Tuple
+any_size-returns-in-Tuple t c =
     let whole = ap (λ (x : Value). values_size (value_of x)) c.in-Tuple.is ∙ tuple_size c.in-Tuple.items in
     let inner = rw c.deref-in-Tuple.ensures.value at c.items_size-in-Tuple.ensures in
     omega arith
 
-pub value_size-returns-in-Udt : goal.value_size-returns-in-Udt
-value_size-returns-in-Udt t c =
+pub any_size-returns-in-Udt : goal.any_size-returns-in-Udt
+any_size-returns-in-Udt t c =
     let whole = ap (λ (x : Value). values_size (value_of x)) c.in-Udt.is ∙ udt_size c.in-Udt.items in
     let inner = rw c.deref-in-Udt.ensures.value at c.items_size-in-Udt.ensures in
     omega arith
