@@ -98,7 +98,7 @@ module _ (l : Rules) (n : ℕ) (allows : Allow l n) where
 
 -- ---- the type options of a message
 
-parts_append : (ps qs : List Part) → parts_size (ps ++ qs) ≡ parts_size ps + parts_size qs
+pub parts_append : (ps qs : List Part) → parts_size (ps ++ qs) ≡ parts_size ps + parts_size qs
 parts_append [] qs = omega arith
 parts_append (part ∷ ps) qs = omega (arith, parts_append ps qs)
 

@@ -1,6 +1,6 @@
 -- Where bytes spell parts that come of a lawful header's symbols, those of the header with them spell a frame value, and the
 -- events of the header and of the parts are the frame's.
-use Rattle.std.proofs.Common.{◌≡◌, ℕ, ◌+◌, ◌<◌, ◌^◌, true, ◌&&◌, List, [], ◌∷◌, ◌++◌, length, refl, sym, ap, ◌∙◌, append_assoc, arith}
+use Rattle.std.proofs.Common.{◌≡◌, ℕ, ◌+◌, ◌<◌, ◌^◌, true, List, [], ◌∷◌, ◌++◌, length, refl, sym, ap, ◌∙◌, append_assoc, arith}
 use Rattle.std.specs.Prelude.{All, FitsSigned, ◌==◌}
 use Rattle.std.specs.Int.{w16}
 use Rattle.std.proofs.lemmas.Bool.{eq-eqb}
@@ -9,7 +9,8 @@ use Rattle.cqlp_note.specs.declared.header.Header.{Header}
 use Rattle.cqlp_note.specs.Heading.{IsLawful, header_bytes}
 use Rattle.cqlp_note.specs.Limits.{Rules}
 use Rattle.cqlp_type.specs.Types.{Types}
-use Rattle.cqlp_type.specs.Trees.{Head, Plain, Custom, ListOf, SetOf, MapOf, TupleOf, UdtOf, Trees, NoTree, Tree_and, trees_in, IsHead, AreTrees, is_plain, is_head, are_trees}
+use Rattle.cqlp_type.specs.Trees.{trees_in, are_trees}
+use Rattle.cqlp_type.proofs.WrittenTrees.{are_the_trees}
 use Rattle.cqlp_grammar.specs.Productions.{message}
 use Rattle.cqlp_message.specs.Parts.{Part, Field_is, Type_is, Cell_is, Joined, PartSpells, PartsSpell, parts_size, parts_events, PartsWithin, PartIsInRange}
 use Rattle.cqlp_message.specs.Bodies.{message_parts}
@@ -21,23 +22,9 @@ use Rattle.cqlp_message.proofs.PartsBack.{IsFrame, frame_back}
 
 -- ---- sound parts
 
-head_is : (h : Head) (n : ℕ) → IsHead h n → is_head h n ≡ true
-head_is (Plain k) n is = both (is_plain k) (n == 0) is.0 (eq-eqb n 0 is.1)
-head_is (Custom class) n is = eq-eqb n 0 is
-head_is ListOf n is = eq-eqb n 1 is
-head_is SetOf n is = eq-eqb n 1 is
-head_is MapOf n is = eq-eqb n 2 is
-head_is TupleOf n is = refl
-head_is (UdtOf keyspace name) n is = refl
-
-trees_are : (t : Trees) → AreTrees t → are_trees t ≡ true
-trees_are NoTree is = refl
-trees_are (Tree_and name h inner others) is =
-    both (is_head h (trees_in inner) && are_trees inner) (are_trees others) (both (is_head h (trees_in inner)) (are_trees inner) (head_is h (trees_in inner) is.0) (trees_are inner is.1)) (trees_are others is.2)
-
 sound : (part : Part) (b : List ℕ) → PartIsInRange part → PartSpells part b → IsSound part
 sound (Field_is f n v) b range s = range
-sound (Type_is t) b range s = both (trees_in t == 1) (are_trees t) (eq-eqb (trees_in t) 1 s.one) (trees_are t s.formed)
+sound (Type_is t) b range s = both (trees_in t == 1) (are_trees t) (eq-eqb (trees_in t) 1 s.one) (are_the_trees t s.formed)
 sound (Cell_is row column k inner v) b range s = tt
 
 -- parts that are in range and spelled are sound

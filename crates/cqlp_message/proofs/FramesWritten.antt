@@ -22,11 +22,11 @@ use Rattle.cqlp_message.proofs.Sizes.{parts_long, frame_spelled, frame_long}
 
 -- ---- tests
 
-not_false : (b : Bool) → not b ≡ false → b ≡ true
+pub not_false : (b : Bool) → not b ≡ false → b ≡ true
 not_false true e = refl
 not_false false e = absurd cc
 
-none_left : (t : Bool) (u : Unfit) (rest : Option Unfit) → cond t (Some u) rest ≡ None → (t ≡ false) × (rest ≡ None)
+pub none_left : (t : Bool) (u : Unfit) (rest : Option Unfit) → cond t (Some u) rest ≡ None → (t ≡ false) × (rest ≡ None)
 none_left true u rest e = absurd cc
 none_left false u rest e = (refl, e)
 

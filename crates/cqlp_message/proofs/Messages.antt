@@ -63,7 +63,7 @@ followed_thrice (Type_and k inner others) us vs = ap (Type_and k inner) (followe
 more_nodes : (ts : Types) (t : Trees) → nodes_in (followed_by ts (types_in t)) ≡ nodes_in ts + options_in t
 more_nodes ts t = ap length (preorder-followed ts (types_in t)) ∙ length-append (preorder ts) (preorder (types_in t)) ∙ rw (many_nodes t) refl
 
-many_after : (ts us : Types) → how_many (followed_by ts us) ≡ how_many ts + how_many us
+pub many_after : (ts us : Types) → how_many (followed_by ts us) ≡ how_many ts + how_many us
 many_after NoMore us = omega arith
 many_after (Type_and k inner others) us = omega (arith, many_after others us)
 
@@ -78,7 +78,7 @@ many_columns own (c ∷ cs) all =
     omega (arith, one, many_after (types_in c.tree) (column_types cs), many_columns own cs (All-tail (SpecAgrees own) c cs all))
 
 -- a page has a type of each column
-many_told : (flags n : ℕ) (o : Option TableName) (cs : Option (List Spec)) → ColumnsAgree flags n o cs → how_many (types_told n cs) ≡ n
+pub many_told : (flags n : ℕ) (o : Option TableName) (cs : Option (List Spec)) → ColumnsAgree flags n o cs → how_many (types_told n cs) ≡ n
 many_told flags n o None a = many_raw n
 many_told flags n o (Some cs) a = many_columns (not (has flags 0x01)) cs a.1.each ∙ a.1.number
 

@@ -69,7 +69,7 @@ rows_more row rows ts rest l =
 pub rows_all : (row rows : ℕ) (ts : Types) (rest : List Value) → rows ≤ row → rows_rest row rows ts rest ≡ []
 rows_all row rows ts rest l = let e : rows - row ≡ 0 = omega arith in rw e refl
 
-rows_cut : (row : ℕ) (ts : Types) (n : ℕ) → rows_parts row ts n [] ≡ []
+pub rows_cut : (row : ℕ) (ts : Types) (n : ℕ) → rows_parts row ts n [] ≡ []
 rows_cut row ts zero = refl
 rows_cut row ts (suc n) = rw (row_none row 0 ts, drop_all {X = Values} (how_many ts) [] (omega arith)) (rows_cut (row + 1) ts n)
 

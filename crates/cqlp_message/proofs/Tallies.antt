@@ -1,7 +1,8 @@
 -- What is found of parts, one more of them, and why a frame has no spelling.
-use Rattle.std.proofs.Common.{◌≡◌, ℕ, ◌+◌, ◌-◌, ◌≤◌, ◌^◌, ◌++◌, Bool, true, false, ◌&&◌, List, [], ◌∷◌, None, min, refl, sym, ap, ◌∙◌, arith}
-use Rattle.std.specs.Prelude.{nat_lt, Option, Some, Ok, Err}
+use Rattle.std.proofs.Common.{◌≡◌, ℕ, ◌+◌, ◌-◌, ◌≤◌, ◌^◌, ◌++◌, Bool, true, false, cond, ◌&&◌, List, [], ◌∷◌, None, min, refl, sym, ap, ◌∙◌, arith}
+use Rattle.std.specs.Prelude.{nat_lt, not, Option, Some, Ok, Err}
 use Rattle.cqlp_message.specs.declared.unfit.Unfit.{Unfit}
+use Rattle.cqlp_message.specs.declared.unfit.Unfit.TheVariants as unfit
 use Rattle.std.specs.List.{list_all}
 use Rattle.std.proofs.lemmas.List.Folds.{list_all-append}
 use Rattle.std.proofs.lemmas.Bool.Decides.{nat_tests}
@@ -9,14 +10,16 @@ use Rattle.cqlp_note.specs.declared.header.TheConstants.Header.{LONGEST_BODY}
 use Rattle.cqlp_message.specs.declared.tally.Tally.{Tally}
 use Rattle.cqlp_message.specs.FrameValues.{FrameValue}
 use Rattle.cqlp_message.specs.Parts.{Part, part_size, parts_size, counts_fit, texts_fit, cell_fits}
-use Rattle.cqlp_message.specs.Frames.{frame_parts, first_of, obstacles, unfit_of, if_none}
+use Rattle.cqlp_message.specs.Frames.{frame_parts, first_obstacles, first_of, obstacles, unfit_of, if_none}
+use Rattle.cqlp_message.specs.Agreement.{has_its_cells}
+use Rattle.cqlp_message.specs.Pages.{is_bare, page_unfit_of}
 use Rattle.cqlp_message.specs.Tallies.{IsTally, IsTallyOf}
 
-size_more : (ps : List Part) (p : Part) → parts_size (ps ++ p ∷ []) ≡ parts_size ps + part_size p
+pub size_more : (ps : List Part) (p : Part) → parts_size (ps ++ p ∷ []) ≡ parts_size ps + part_size p
 size_more [] p = omega arith
 size_more (q ∷ ps) p = let e = size_more ps p in omega arith
 
-and_true : (b : Bool) → (b && true) ≡ b
+pub and_true : (b : Bool) → (b && true) ≡ b
 and_true true = refl
 and_true false = refl
 
@@ -43,6 +46,24 @@ all_false_first false a tests more e = (refl, more e)
 pub all_false : {A : Type 0} (tests : List (Bool × A)) → first_of tests ≡ None → AllFalse tests
 all_false [] e = tt
 all_false (test ∷ tests) e = all_false_first test.0 test.1 tests (all_false tests) e
+
+first_with : {A : Type 0} (b : Bool) (a' : A) (rest all : Option A) (a : A) → (rest ≡ Some a → all ≡ Some a) → cond b (Some a') rest ≡ Some a → cond b (Some a') all ≡ Some a
+first_with true a' rest all a more e = e
+first_with false a' rest all a more e = more e
+
+-- the first that holds of some tests is the first of these and others
+first_of_more : {A : Type 0} (tests others : List (Bool × A)) (a : A) → first_of tests ≡ Some a → first_of (tests ++ others) ≡ Some a
+first_of_more [] others a e = absurd cc
+first_of_more (test ∷ tests) others a e = first_with test.0 test.1 (first_of tests) (first_of (tests ++ others)) a (first_of_more tests others a) e
+
+-- what is in the way of a frame whatever its cells is so of the frame, and of a page without cells
+pub first_of_frame : (f : FrameValue) (why : Unfit) → first_of (first_obstacles f) ≡ Some why → unfit_of f ≡ Some why
+first_of_frame f why e =
+    first_of_more (first_obstacles f) ((not (has_its_cells f.message), unfit.RowShape) ∷ (not (list_all cell_fits (frame_parts f)), unfit.CellType) ∷ (nat_lt LONGEST_BODY (parts_size (frame_parts f)), unfit.BodyTooLong) ∷ []) why e
+
+pub first_of_page : (f : FrameValue) (n : ℕ) (why : Unfit) → first_of (first_obstacles f) ≡ Some why → page_unfit_of f n ≡ Some why
+first_of_page f n why e =
+    first_of_more (first_obstacles f) ((not (is_bare f.message), unfit.RowShape) ∷ (nat_lt LONGEST_BODY (parts_size (frame_parts f) + n), unfit.BodyTooLong) ∷ []) why e
 
 below : (m n : ℕ) → nat_lt m n ≡ false → n ≤ m
 below m n e = grind (arith, nat_tests)

@@ -26,13 +26,10 @@ use Rattle.cqlp_message.specs.Bodies as bodies
 use Rattle.cqlp_message.specs.Agreement.{bits, spec_agrees, specs_agree, columns_agree, metadata_agrees, prepared_agrees}
 use Rattle.cqlp_message.specs.Frames.{options_among, options_told}
 use Rattle.cqlp_message.proofs.Derives.{Derives, nodes_in}
+use Rattle.cqlp_message.proofs.Messages.{many_after}
 use Rattle.cqlp_message.proofs.Gives.{AreSound, Gives, take, sure, any, field_back, int_view, count32_view, short_back, text_back, statement_back, bytes_back, pair_back, copies_back, where_back, both}
 
 -- ---- types
-
-many_followed : (ts us : Types) → how_many (followed_by ts us) ≡ how_many ts + how_many us
-many_followed NoMore us = omega arith
-many_followed (Type_and k inner others) us = omega (arith, many_followed others us)
 
 many_in : (t : Trees) → how_many (types_in t) ≡ trees_in t
 many_in NoTree = refl
@@ -103,7 +100,7 @@ columns_back l global (suc n) ps rest told s room d =
       item = c ∷ cs;
       left = rs;
       whole = sym (append_assoc (spec_parts c) (flat_map spec_parts cs) rs);
-      holds = (omega (arith, q.0), rw (p.0, q.1) refl, omega (arith, many_followed (types_in c.tree) (column_types cs), p.1, q.2), omega (arith, nodes, q.3));
+      holds = (omega (arith, q.0), rw (p.0, q.1) refl, omega (arith, many_after (types_in c.tree) (column_types cs), p.1, q.2), omega (arith, nodes, q.3));
       sound = s;
       derives = rw (followed_assoc told (types_in c.tree) (column_types cs)) at d;
     }

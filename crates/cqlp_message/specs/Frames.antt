@@ -73,14 +73,20 @@ frame_size f x = 9 + (parts_size (frame_parts f) + x)
 abbrev pub frame_bytes : FrameValue → List ℕ
 frame_bytes f = header_bytes (header_of f (parts_size (frame_parts f))) ++ parts_bytes (frame_parts f)
 
--- What keeps a frame from being spelled, each with its name, in the order in which it is told.
-abbrev pub obstacles : FrameValue → List (Bool × Unfit)
-obstacles f =
+-- What is in the way of a frame whatever its cells, each with its name, in the order in which it is told.
+abbrev pub first_obstacles : FrameValue → List (Bool × Unfit)
+first_obstacles f =
     (not (is_directed f), unfit.Direction)
     ∷ (not (frame_agrees f), unfit.Parts)
     ∷ (not (list_all counts_fit (frame_parts f)), unfit.TooManyItems)
     ∷ (not (list_all texts_fit (frame_parts f)), unfit.TextTooLong)
-    ∷ (not (has_its_cells f.message), unfit.RowShape)
+    ∷ []
+
+-- What keeps a frame from being spelled, each with its name, in the order in which it is told.
+abbrev pub obstacles : FrameValue → List (Bool × Unfit)
+obstacles f =
+    first_obstacles f
+    ++ (not (has_its_cells f.message), unfit.RowShape)
     ∷ (not (list_all cell_fits (frame_parts f)), unfit.CellType)
     ∷ (nat_lt LONGEST_BODY (parts_size (frame_parts f)), unfit.BodyTooLong)
     ∷ []

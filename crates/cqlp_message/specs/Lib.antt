@@ -8,3 +8,4 @@ pub mod Frames
 pub mod Laws
 pub mod Fitting
 pub mod Tallies
+pub mod Pages

@@ -1,6 +1,7 @@
 //! Which frames are spelled.
 
 ghost use Rattle.cqlp_message.specs.Fitting.{FitJustIfSpelled, WhatFitsIsSpelled, WhatIsSpelledFits, WrittenAreBytes};
+ghost use Rattle.cqlp_message.specs.Pages.{PagesAreFrames};
 
 /// A frame that nothing keeps from being spelled is spelled by the bytes that are written of it.
 pub fn what_fits_is_spelled()
@@ -20,4 +21,9 @@ pub fn written_are_bytes()
 /// Nothing keeps a frame from being spelled exactly where some bytes spell it.
 pub fn fit_just_if_spelled()
     ensures { FitJustIfSpelled }
+{}
+
+/// A page that can be begun, and then all its cells, are together the bytes of the frame with those cells.
+pub fn pages_are_frames()
+    ensures { PagesAreFrames }
 {}

@@ -7,6 +7,7 @@ mod frame;
 pub mod laws;
 mod message;
 mod message_parts;
+mod page;
 mod page_parts;
 mod part;
 mod request;

@@ -32,6 +32,7 @@ pub struct Tally {
 
 impl Tally {
     /// That of no part.
+    #[inline]
     pub fn new() -> Tally
         ensures { IsTally result [] }
     {
@@ -39,6 +40,7 @@ impl Tally {
     }
 
     /// That of these parts and of those.
+    #[inline(always)]
     fn and(self, other: Tally) -> Tally
         ensures counts { result.counts ≡ (self.counts && other.counts) }
         ensures texts { result.texts ≡ (self.texts && other.texts) }
@@ -54,7 +56,18 @@ impl Tally {
     }
 
     /// That of a part.
+    #[inline(always)]
     fn of(part: PartRef<'_>) -> Tally
+        ensures { IsTallyOf result (part_of part.entry) }
+    {
+        match part {
+            PartRef::Cell { tree, value, .. } => Tally::cell(value, tree),
+            _ => Tally::of_any(part),
+        }
+    }
+
+    /// That of a part that is mostly no cell.
+    fn of_any(part: PartRef<'_>) -> Tally
         ensures { IsTallyOf result (part_of part.entry) }
     {
         match part {
@@ -102,6 +115,7 @@ impl Tally {
     }
 
     /// That of a cell.
+    #[inline(always)]
     fn cell(value: &Value, tree: Option<&TypeTree>) -> Tally
         ensures counts { result.counts ≡ true }
         ensures texts { result.texts ≡ true }
@@ -115,6 +129,7 @@ impl Tally {
     }
 
     /// That of a part of this many bytes, in which everything fits.
+    #[inline(always)]
     fn fixed(size: u64) -> Tally
         ensures { result ≡ record { counts = true; texts = true; cells = true; size = size } }
     {
@@ -169,6 +184,7 @@ impl TakesParts for Tally {
 
     ghost taken = { λ _ t parts. IsTally t parts };
 
+    #[inline(always)]
     fn take(&mut self, part: PartRef<'_>) {
         *self = self.and(Tally::of(part));
     }

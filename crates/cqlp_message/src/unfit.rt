@@ -1,6 +1,6 @@
 //! Why a frame has no spelling.
 
-ghost use Rattle.std.specs.Prelude.{◌≡◌, None};
+ghost use Rattle.std.specs.Prelude.{◌≡◌, IfErr, IfOk, None, Some};
 ghost use Rattle.cqlp_message.specs.Owned.{frame_of};
 
 use crate::frame::Frame;
@@ -36,26 +36,15 @@ pub enum Unfit {
 }
 
 impl Frame {
-    ghost use Rattle.cqlp_message.specs.Frames.{frame_parts, frame_size, header_of, measure_of, unfit_of};
-    ghost use Rattle.cqlp_message.specs.Tallies.{IsTally};
+    ghost use Rattle.cqlp_message.specs.Frames.{first_obstacles, first_of, frame_parts, frame_size};
+    ghost use Rattle.cqlp_message.specs.Frames.{header_of, measure_of, unfit_of};
+    ghost use Rattle.cqlp_message.specs.Tallies.{IsFrameTally, IsTally};
 
     /// How many bytes it has, with its header and nothing after its parts; or why no bytes spell it.
     pub fn measure(&self) -> Result<u32, Unfit>
         ensures { result ≡ measure_of (frame_of self.now) }
     {
-        if !self.is_directed() {
-            return Err(Unfit::Direction);
-        }
-        if !self.agrees() {
-            return Err(Unfit::Parts);
-        }
-        let tally = self.tally();
-        if !tally.counts {
-            return Err(Unfit::TooManyItems);
-        }
-        if !tally.texts {
-            return Err(Unfit::TextTooLong);
-        }
+        let tally = self.frame_tally()?;
         if !self.message.has_its_cells() {
             return Err(Unfit::RowShape);
         }
@@ -100,6 +89,27 @@ impl Frame {
             opcode: self.message.opcode(),
             length,
         }
+    }
+
+    /// What is found of its parts; or the first that holds of `Direction`, `Parts`, `TooManyItems` and `TextTooLong`.
+    pub(crate) fn frame_tally(&self) -> Result<Tally, Unfit>
+        ensures found { IfOk result (λ t. IsFrameTally t (frame_of self.now)) }
+        ensures refused { IfErr result (λ why. first_of (first_obstacles (frame_of self.now)) ≡ Some why) }
+    {
+        if !self.is_directed() {
+            return Err(Unfit::Direction);
+        }
+        if !self.agrees() {
+            return Err(Unfit::Parts);
+        }
+        let tally = self.tally();
+        if !tally.counts {
+            return Err(Unfit::TooManyItems);
+        }
+        if !tally.texts {
+            return Err(Unfit::TextTooLong);
+        }
+        Ok(tally)
     }
 
     /// What is found of its parts.

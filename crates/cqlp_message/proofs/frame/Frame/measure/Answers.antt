@@ -1,0 +1,11 @@
+use Rattle.std.proofs.Common.{◌≡◌, Err, sym, ap, ◌∙◌, rules}
+use Rattle.cqlp_message.specs.Frames.{frame_size, if_none}
+use Rattle.cqlp_message.specs.Owned.{frame_of}
+use Rattle.cqlp_message.proofs.Tallies.{first_of_frame}
+use Rattle.cqlp_message.proofs.frame.Frame.measure.Goals as goal
+
+pub returns-in_err-tally : goal.returns-in_err-tally
+returns-in_err-tally c =
+    let f = frame_of c.args.self.now in
+    let is : c.from_residual.result ≡ Err c.in_err-tally.field-0.0 = search rules in
+    is ∙ ap (λ o. if_none o (frame_size f 0)) (sym (first_of_frame f _ c.in_err-tally.ensures.refused))

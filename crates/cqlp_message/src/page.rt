@@ -1,0 +1,122 @@
+//! Pages whose cells are written one by one, after all else of their frame.
+
+ghost use Rattle.std.specs.Prelude.{◌≡◌, None, map};
+ghost use Rattle.cqlp_value.specs.Owned.{value_of};
+ghost use Rattle.cqlp_message.specs.Bodies.{cell_types, column_types};
+ghost use Rattle.cqlp_message.specs.Owned.{frame_of, message_of, metadata_of, spec_of};
+ghost use Rattle.cqlp_message.specs.Pages as pages;
+
+use crate::frame::Frame;
+use crate::message::Message;
+use crate::response::{Metadata, Spec};
+use crate::unfit::Unfit;
+use cqlp_note::Header;
+use cqlp_value::{Value, fits};
+
+impl Frame {
+    ghost use Rattle.cqlp_message.specs.Frames.{frame_size, if_none};
+    ghost use Rattle.cqlp_message.specs.Pages.{page_unfit_of, types_of_page};
+
+    /// How many bytes it has, with its header and cells of this many bytes after its parts; or why it is no page that can be
+    /// written with them.
+    pub fn page_measure(&self, cells_len: u32) -> Result<u32, Unfit>
+        ensures { let f = frame_of self.now in
+            result ≡ if_none (page_unfit_of f cells_len) (frame_size f cells_len) }
+    {
+        let tally = self.frame_tally()?;
+        if !self.message.is_bare() {
+            return Err(Unfit::RowShape);
+        }
+        let body = tally.size.saturating_add(u64::from(cells_len));
+        if body > u64::from(Header::LONGEST_BODY) {
+            return Err(Unfit::BodyTooLong);
+        }
+        Ok(body as u32 + 9)
+    }
+
+    /// Why it is no page that can be written with cells of this many bytes after its parts, or None where it is one.
+    pub fn page_unfit(&self, cells_len: u32) -> Option<Unfit>
+        ensures { result ≡ page_unfit_of (frame_of self.now) cells_len }
+    {
+        match self.page_measure(cells_len) {
+            Ok(_) => None,
+            Err(why) => Some(why),
+        }
+    }
+
+    /// How many bytes it has, with its header and cells of this many bytes after its parts.
+    pub fn page_len(&self, cells_len: u32) -> u32
+        requires { page_unfit_of (frame_of self.now) cells_len ≡ None }
+        ensures { result ≡ frame_size (frame_of self.now) cells_len }
+    {
+        match self.page_measure(cells_len) {
+            Ok(len) => len,
+            Err(_) => unreachable!(),
+        }
+    }
+
+    /// How many columns the cells of its page are of; 0 where it is no page.
+    pub fn columns(&self) -> u32
+        ensures { result ≡ pages.page_columns (message_of self.now.message) }
+    {
+        match &self.message {
+            Message::Rows(page) => page.meta.columns,
+            _ => 0,
+        }
+    }
+
+    /// How many cells its page is to have: rows times columns; 0 where it is no page.
+    pub fn cells_wanted(&self) -> u64
+        ensures { result ≡ pages.cells_wanted (message_of self.now.message) }
+    {
+        match &self.message {
+            Message::Rows(page) => u64::from(page.rows) * u64::from(page.meta.columns),
+            _ => 0,
+        }
+    }
+
+    /// Whether a value is one of the type of this column of its page, the first of which is 0. Where no columns are told, it is
+    /// Null, Empty or a Raw leaf. False past the last column, and where it is no page.
+    pub fn fits_column(&self, column: usize, value: &Value) -> bool
+        ensures { result ≡ pages.fits_column (types_of_page (frame_of self.now).message) column (value_of value.now) }
+    {
+        match &self.message {
+            Message::Rows(page) => page.meta.fits_column(column, value),
+            _ => false,
+        }
+    }
+}
+
+impl Message {
+    /// Whether it is a page that holds no cells.
+    fn is_bare(&self) -> bool
+        ensures { result ≡ pages.is_bare (message_of self.now) }
+    {
+        match self {
+            Message::Rows(page) => page.cells.is_empty(),
+            _ => false,
+        }
+    }
+}
+
+impl Metadata {
+    /// Whether a value is one of the type of this column.
+    fn fits_column(&self, column: usize, value: &Value) -> bool
+        ensures { result ≡ pages.fits_column (cell_types (metadata_of self.now)) column (value_of value.now) }
+    {
+        match &self.specs {
+            Some(specs) => fits_spec(specs, column, value),
+            None => column < self.columns as usize && fits(value, None),
+        }
+    }
+}
+
+/// Whether a value is one of the type that is told of this column.
+fn fits_spec(specs: &[Spec], column: usize, value: &Value) -> bool
+    ensures { result ≡ pages.fits_column (column_types (map spec_of specs.now)) column (value_of value.now) }
+{
+    match specs.get(column) {
+        Some(spec) => fits(value, Some(&spec.tree)),
+        None => false,
+    }
+}
