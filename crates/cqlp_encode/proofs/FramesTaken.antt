@@ -1,5 +1,5 @@
 -- All of a frame that is taken, and what the target has of it.
-use Rattle.std.proofs.Common.{◌≡◌, ◌≢◌, ℕ, ◌+◌, ◌-◌, ◌≤◌, ◌<◌, ◌^◌, Bool, true, false, List, [], ◌∷◌, ◌++◌, length, take, min, nat_lt, Option, Some, None, refl, sym, ap, ◌∙◌, subst, append-nil, arith}
+use Rattle.std.proofs.Common.{◌≡◌, ◌≢◌, ℕ, ◌+◌, ◌-◌, ◌≤◌, ◌<◌, ◌^◌, Bool, true, false, List, [], ◌∷◌, ◌++◌, length, take, nat_lt, Option, Some, None, refl, sym, ap, ◌∙◌, subst, append-nil, arith}
 use Rattle.std.proofs.lemmas.List.{length-append, take_at}
 use Rattle.std.proofs.lemmas.Bool.{lt-ltb, le-ltb}
 use Rattle.std.specs.Io.KnownBytes.{Appends}
@@ -7,13 +7,16 @@ use Rattle.cqlp_note.specs.Heading.{IsLawful, header_bytes}
 use Rattle.cqlp_note.specs.declared.header.TheConstants.Header.{LONGEST_BODY}
 use Rattle.cqlp_note.specs.Streams.{counted}
 use Rattle.cqlp_note.specs.Outputs.{Output, Offered}
+use Rattle.cqlp_value.specs.Values.{Values, values_size, values_bytes}
+use Rattle.cqlp_value.proofs.ValuesWritten.{written_size}
 use Rattle.cqlp_message.specs.FrameValues.{FrameValue}
-use Rattle.cqlp_message.specs.Parts.{Part, parts_size, parts_bytes}
+use Rattle.cqlp_message.specs.Parts.{parts_size, parts_bytes}
 use Rattle.cqlp_message.specs.Frames.{frame_parts, header_of, frame_bytes, frame_size, unfit_of}
 use Rattle.cqlp_message.specs.PartRefs.{Takes}
 use Rattle.cqlp_message.proofs.FramesWritten.{is_fit, plain as not_compressed}
 use Rattle.cqlp_message.proofs.Tallies.{small_enough}
-use Rattle.cqlp_encode.specs.Progress.{Progress, Before, HasTaken, HasTakenParts, Puts, begun}
+use Rattle.cqlp_encode.specs.Encoding.{header_and_parts, CanBeWritten}
+use Rattle.cqlp_encode.specs.Progress.{Progress, Before, HasTaken, HasTakenParts, Puts, PutsWithin, begun}
 
 some_left : (xs : List ℕ) → xs ≢ [] → 0 < length xs
 some_left [] some = absurd (some refl)
@@ -55,50 +58,91 @@ nothing_taken o lender same = record {
   lost = λ e. absurd cc;
 }
 
-nothing_more : (o : Option (List ℕ)) → Appends o o []
+pub nothing_more : (o : Option (List ℕ)) → Appends o o []
 nothing_more None = tt
 nothing_more (Some xs) = sym (append-nil xs)
 
 pub lawful : (f : FrameValue) (n : ℕ) → unfit_of f ≡ None → n ≡ parts_size (frame_parts f) → IsLawful (header_of f n)
 lawful f n e is = record { plain = not_compressed f (is_fit f e).agrees; direction = refl; bounded = omega (arith, is, small_enough f e) }
 
-module _ (f : FrameValue) (start : Output) (len lender : ℕ) (bytes : List ℕ) (a b c : Progress) (fits : unfit_of f ≡ None) (long : len ≡ frame_size f 0) where
-  body : len - 9 ≡ parts_size (frame_parts f)
-  body = omega (arith, long)
+-- all was passed on through a borrow that ended
+sent : {X : Type 0} (o : X → Output) (start : Output) (last end : X) (all : List ℕ) (c : Progress) → HasTaken start all c → c.waiting ≡ [] → length all < 2 ^ 32 → o last ≡ c.output → end ≡ last
+    → Offered start all c.taken (o end) × (c.taken < 2 ^ 32)
+sent o start last end all c t none short left same =
+    let r = has_offered start all c t none short in
+    (rw (same, left) r, omega (arith, r.bound, short))
+
+-- ---- a header and parts
+
+module _ (f : FrameValue) (start : Output) (lender : ℕ) (bytes : List ℕ) (a b c : Progress) (header : Puts (begun start lender) bytes a) (parts : Takes HasTakenParts a b (frame_parts f)) (rest : Puts b [] c) where
+  head_taken : HasTaken start bytes a
+  head_taken = header.taken start [] (nothing_taken start lender (nothing_more start.given))
+
+  before : Before
+  before = record { output = start; front = bytes; lender = lender }
+
+  no_parts : HasTakenParts before a []
+  unfolding before
+  no_parts = record { size = refl; taken = λ le. subst (λ (x : List ℕ). HasTaken start x a) (sym (append-nil bytes)) head_taken; lender = header.lender }
 
   -- the borrow is the one that was made
-  pub frame_lender : bytes ≡ header_bytes (header_of f (len - 9)) → Puts (begun start lender) bytes a → Takes HasTakenParts a b (frame_parts f) → Puts b [] c → b.lender ≡ lender
-  frame_lender is header parts rest =
-      let first : HasTaken start bytes a = header.taken start [] (nothing_taken start lender (nothing_more start.given)) in
-      let before : Before = record { output = start; front = bytes; lender = lender } in
-      let none : HasTakenParts before a [] = record { size = refl; taken = λ le. subst (λ (x : List ℕ). HasTaken start x a) (sym (append-nil bytes)) first; lender = header.lender } in
-      (parts.takes before [] none).lender
+  frame_lender : c.lender ≡ lender
+  unfolding before
+  frame_lender = rest.lender ∙ (parts.takes before [] no_parts).lender
 
-  -- the header, the parts and what waited
-  pub frame_taken : bytes ≡ header_bytes (header_of f (len - 9)) → Puts (begun start lender) bytes a → Takes HasTakenParts a b (frame_parts f) → Puts b [] c → HasTaken start (frame_bytes f) c × (length (frame_bytes f) ≡ len) × (len < 2 ^ 32)
-  frame_taken is header parts rest =
-      let head : List ℕ = header_bytes (header_of f (parts_size (frame_parts f))) in
-      let h : bytes ≡ head = is ∙ ap (λ (n : ℕ). header_bytes (header_of f n)) body in
-      let first : HasTaken start head a = rw h at (header.taken start [] (nothing_taken start lender (nothing_more start.given))) in
-      let before : Before = record { output = start; front = head; lender = lender } in
-      let none : HasTakenParts before a [] = record { size = refl; taken = λ le. subst (λ (x : List ℕ). HasTaken start x a) (sym (append-nil head)) first; lender = header.lender } in
-      let all = parts.takes before [] none in
-      let small = small_enough f fits in
-      let some : HasTaken start (frame_bytes f ++ []) c = rest.taken start (frame_bytes f) (all.taken small) in
-      (subst (λ (x : List ℕ). HasTaken start x c) (append-nil (frame_bytes f)) some, omega (arith, all.size, long, length-append head (parts_bytes (frame_parts f))), omega (arith, small, long))
+  frame_long : length (parts_bytes (frame_parts f)) ≡ parts_size (frame_parts f)
+  frame_long = (parts.takes before [] no_parts).size
 
--- as `write` leaves the target
-pub frame_sent : {X : Type 0} (o : X → Output) (first last end : X) (f : FrameValue) (len lender : ℕ) (bytes : List ℕ) (a b c : Progress) → unfit_of f ≡ None → len ≡ frame_size f 0 → bytes ≡ header_bytes (header_of f (len - 9))
+  frame_taken : parts_size (frame_parts f) ≤ LONGEST_BODY → HasTaken start (bytes ++ parts_bytes (frame_parts f)) c
+  unfolding before
+  frame_taken small =
+      let all : List ℕ = bytes ++ parts_bytes (frame_parts f) in
+      subst (λ (x : List ℕ). HasTaken start x c) (append-nil all) (rest.taken start all ((parts.takes before [] no_parts).taken small))
+
+-- as `write_parts` leaves the target
+pub parts_sent : {X : Type 0} (o : X → Output) (first last end : X) (f : FrameValue) (body lender : ℕ) (bytes : List ℕ) (a b c : Progress) → IsLawful (header_of f body) → parts_size (frame_parts f) ≤ body → bytes ≡ header_bytes (header_of f body)
     → Puts (begun (o first) lender) bytes a → Takes HasTakenParts a b (frame_parts f) → Puts b [] c → c.waiting ≡ [] → o last ≡ c.output → (c.lender ≡ lender → end ≡ last)
-    → Offered (o first) (frame_bytes f) c.taken (o end) × (length (frame_bytes f) ≡ len) × (c.taken < 2 ^ 32)
-frame_sent o first last end f len lender bytes a b c fits long is header parts rest none left is_last =
-    let t = frame_taken f (o first) len lender bytes a b c fits long is header parts rest in
-    let short : length (frame_bytes f) < 2 ^ 32 = omega (arith, t.1, t.2) in
-    let r = has_offered (o first) (frame_bytes f) c t.0 none short in
-    let same = is_last (rest.lender ∙ frame_lender f (o first) len lender bytes a b c fits long is header parts rest) in
-    (rw (same, left) r, t.1, omega (arith, r.bound, short))
+    → Offered (o first) (header_and_parts f body) c.taken (o end) × (c.taken < 2 ^ 32) × (length (header_and_parts f body) ≡ frame_size f 0)
+parts_sent o first last end f body lender bytes a b c law fits is header parts rest none left is_last =
+    let small : parts_size (frame_parts f) ≤ LONGEST_BODY = omega (arith, law.bounded, fits) in
+    let t = rw is at (frame_taken f (o first) lender bytes a b c header parts rest small) in
+    let long : length (header_and_parts f body) ≡ frame_size f 0 = omega (arith, length-append (header_bytes (header_of f body)) (parts_bytes (frame_parts f)), frame_long f (o first) lender bytes a b c header parts rest) in
+    let s = sent o (o first) last end (header_and_parts f body) c t none (omega (arith, long, small)) left (is_last (frame_lender f (o first) lender bytes a b c header parts rest)) in
+    (s.0, s.1, long)
 
-pub frame_offered : {X : Type 0} (o : X → Output) (first last end : X) (f : FrameValue) (len lender : ℕ) (bytes : List ℕ) (a b c : Progress) → unfit_of f ≡ None → len ≡ frame_size f 0 → bytes ≡ header_bytes (header_of f (len - 9))
+pub parts_offered : {X : Type 0} (o : X → Output) (first last end : X) (f : FrameValue) (body lender : ℕ) (bytes : List ℕ) (a b c : Progress) → IsLawful (header_of f body) → parts_size (frame_parts f) ≤ body → bytes ≡ header_bytes (header_of f body)
     → Puts (begun (o first) lender) bytes a → Takes HasTakenParts a b (frame_parts f) → Puts b [] c → c.waiting ≡ [] → o last ≡ c.output → (c.lender ≡ lender → end ≡ last)
-    → Offered (o first) (frame_bytes f) c.taken (o end)
-frame_offered o first last end f len lender bytes a b c fits long is header parts rest none left is_last = (frame_sent o first last end f len lender bytes a b c fits long is header parts rest none left is_last).0
+    → Offered (o first) (header_and_parts f body) c.taken (o end)
+parts_offered o first last end f body lender bytes a b c law fits is header parts rest none left is_last = (parts_sent o first last end f body lender bytes a b c law fits is header parts rest none left is_last).0
+
+module _ (f : FrameValue) (old new : Output) (len taken : ℕ) (fits : unfit_of f ≡ None) (is : len ≡ frame_size f 0) (offered : Offered old (header_and_parts f (len - 9)) taken new) (long : length (header_and_parts f (len - 9)) ≡ frame_size f 0) where
+  same_bytes : header_and_parts f (len - 9) ≡ frame_bytes f
+  same_bytes = let body : len - 9 ≡ parts_size (frame_parts f) = omega (arith, is) in ap (λ (n : ℕ). header_and_parts f n) body
+
+  can_be_written : CanBeWritten f
+  can_be_written = (fits, ap length (sym same_bytes) ∙ long)
+
+  pub frame_cut : taken < len → CanBeWritten f × (taken < frame_size f 0) × Offered old (frame_bytes f) taken new
+  frame_cut less = (can_be_written, omega (arith, is), subst (λ (x : List ℕ). Offered old x taken new) same_bytes offered)
+
+  pub frame_whole : len ≤ taken → CanBeWritten f × (len ≡ frame_size f 0) × Offered old (frame_bytes f) len new
+  frame_whole all =
+      let same : taken ≡ len = omega (arith, offered.bound, long, is) in
+      (can_be_written, is, subst (λ (x : List ℕ). Offered old x len new) same_bytes (subst (λ (n : ℕ). Offered old (header_and_parts f (len - 9)) n new) same offered))
+
+-- ---- a value
+
+-- as `write_value` leaves the target
+pub value_sent : {X : Type 0} (o : X → Output) (first last end : X) (v : Values) (lender : ℕ) (a c : Progress) → values_size v ≤ LONGEST_BODY
+    → PutsWithin (values_size v) (begun (o first) lender) (values_bytes v) a → Puts a [] c → c.waiting ≡ [] → o last ≡ c.output → (c.lender ≡ lender → end ≡ last)
+    → Offered (o first) (values_bytes v) c.taken (o end) × (c.taken < 2 ^ 32)
+value_sent o first last end v lender a c small value rest none left is_last =
+    let start = o first in
+    let whole : HasTaken start (values_bytes v) a = (value.puts small).taken start [] (nothing_taken start lender (nothing_more start.given)) in
+    let t : HasTaken start (values_bytes v) c = subst (λ (x : List ℕ). HasTaken start x c) (append-nil (values_bytes v)) (rest.taken start (values_bytes v) whole) in
+    sent o start last end (values_bytes v) c t none (omega (arith, small, written_size v)) left (is_last (rest.lender ∙ value.lender))
+
+pub value_offered : {X : Type 0} (o : X → Output) (first last end : X) (v : Values) (lender : ℕ) (a c : Progress) → values_size v ≤ LONGEST_BODY
+    → PutsWithin (values_size v) (begun (o first) lender) (values_bytes v) a → Puts a [] c → c.waiting ≡ [] → o last ≡ c.output → (c.lender ≡ lender → end ≡ last)
+    → Offered (o first) (values_bytes v) c.taken (o end)
+value_offered o first last end v lender a c small value rest none left is_last = (value_sent o first last end v lender a c small value rest none left is_last).0

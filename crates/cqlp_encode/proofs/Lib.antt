@@ -3,4 +3,7 @@ pub mod Options
 pub mod Contents
 pub mod PartsTaken
 pub mod FramesTaken
+pub mod PageSteps
 pub mod OneAnswer
+pub mod PageAnswers
+pub mod PageWhole

@@ -1,12 +1,9 @@
 -- One answer of `encode` meets its clause.
-use Rattle.std.proofs.Common.{◌≡◌, ℕ, List, ◌++◌, Option, Some, None, IsSome, Result, Ok, Err, take, refl, sym, ap, ◌∙◌, arith}
+use Rattle.std.proofs.Common.{◌≡◌, ℕ, List, Option, Some, None, IsSome, Ok, Err, take, sym, ap, ◌∙◌, arith}
 use Rattle.std.specs.Io.KnownBytes.{Appends}
 use Rattle.cqlp_note.specs.Outputs.{Output, output, Offered}
-use Rattle.cqlp_message.specs.FrameValues.{FrameValue}
-use Rattle.cqlp_message.specs.Frames.{unfit_of, frame_bytes, frame_size}
-use Rattle.cqlp_encode.specs.declared.writing.EncodeError.{EncodeError}
+use Rattle.cqlp_message.specs.Frames.{frame_bytes}
 use Rattle.cqlp_encode.specs.declared.writing.EncodeError.TheVariants as error
-use Rattle.cqlp_encode.specs.Encoding.{Encodes}
 use Rattle.cqlp_encode.specs.Laws.{OneAnswerOfEncode}
 
 same_given : (o a b : Option (List ℕ)) (bytes : List ℕ) → IsSome o → Appends o a bytes → Appends o b bytes → b ≡ a
@@ -16,21 +13,21 @@ same_given (Some xs) (Some ys) None bytes known s t = absurd t
 same_given (Some xs) (Some ys) (Some zs) bytes known s t = ap (λ (x : List ℕ). Some x) (t ∙ sym s)
 
 -- the target is left in one state by how many bytes it took
-left_once : (old new new' : Output) (bytes : List ℕ) (n m : ℕ) → IsSome old.given → m ≡ n → Offered old bytes n new → Offered old bytes m new' → new' ≡ new
+pub left_once : (old new new' : Output) (bytes : List ℕ) (n m : ℕ) → IsSome old.given → m ≡ n → Offered old bytes n new → Offered old bytes m new' → new' ≡ new
 left_once old new new' bytes n m known e s t =
     let u : Offered old bytes n new' = rw e at t in
     λ i. output (same_given old.given new.given new'.given (take n bytes) known s.given u.given i) ((u.failures ∙ sym s.failures) i)
 
 pub one_answer : OneAnswerOfEncode
 one_answer f old new new' (Ok n) (Ok m) known a b e = (ap (λ (k : ℕ). Ok k) e, left_once old new new' (frame_bytes f) n m known e a.2 b.2)
-one_answer f old new new' (Ok n) (Err (error.Unfit why)) known a b e = let both = sym a.0 ∙ b.0 in absurd cc
+one_answer f old new new' (Ok n) (Err (error.Unfit why)) known a b e = let both = sym a.0.0 ∙ b.0 in absurd cc
 one_answer f old new new' (Ok n) (Err (error.Write m)) known a b e = absurd (omega (arith, a.1, b.1, e))
-one_answer f old new new' (Err (error.Unfit why)) (Ok m) known a b e = let both = sym a.0 ∙ b.0 in absurd cc
+one_answer f old new new' (Err (error.Unfit why)) (Ok m) known a b e = let both = sym a.0 ∙ b.0.0 in absurd cc
 one_answer f old new new' (Err (error.Unfit why)) (Err (error.Unfit why')) known a b e =
     let both : ◌≡◌ {A = Option _} (Some why) (Some why') = sym a.0 ∙ b.0 in
     let same : why' ≡ why = cc in
     (ap (λ w. Err (error.Unfit w)) same, b.1 ∙ sym a.1)
-one_answer f old new new' (Err (error.Unfit why)) (Err (error.Write m)) known a b e = let both = sym a.0 ∙ b.0 in absurd cc
+one_answer f old new new' (Err (error.Unfit why)) (Err (error.Write m)) known a b e = let both = sym a.0 ∙ b.0.0 in absurd cc
 one_answer f old new new' (Err (error.Write n)) (Ok m) known a b e = absurd (omega (arith, a.1, b.1, e))
-one_answer f old new new' (Err (error.Write n)) (Err (error.Unfit why)) known a b e = let both = sym a.0 ∙ b.0 in absurd cc
+one_answer f old new new' (Err (error.Write n)) (Err (error.Unfit why)) known a b e = let both = sym a.0.0 ∙ b.0 in absurd cc
 one_answer f old new new' (Err (error.Write n)) (Err (error.Write m)) known a b e = (ap (λ (k : ℕ). Err (error.Write k)) e, left_once old new new' (frame_bytes f) n m known e a.2 b.2)

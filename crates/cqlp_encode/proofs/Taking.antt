@@ -4,7 +4,6 @@ use Rattle.std.proofs.lemmas.List.{take-append-drop, length-append, length-drop,
 use Rattle.std.proofs.lemmas.Bool.{cases_lt, lt-ltb, le-ltb}
 use Rattle.std.proofs.lemmas.Grind.{common_steps, flat_map-append}
 use Rattle.std.specs.List.{flat_map}
-use Rattle.std.specs.Io.KnownBytes.{Appends}
 use Rattle.cqlp_note.specs.Streams.{counted}
 use Rattle.cqlp_note.specs.Outputs.{Output, Offered}
 use Rattle.cqlp_note.proofs.Appended.{appends_then}

@@ -1,15 +1,25 @@
 -- What becomes of a frame that is to be written.
-use Rattle.std.specs.Prelude.{◌≡◌, ◌<◌, ℕ, None, Some, Result, Ok, Err}
+use Rattle.std.specs.Prelude.{◌≡◌, ◌<◌, ◌++◌, ℕ, List, length, None, Some, Result, Ok, Err}
+use Rattle.cqlp_note.specs.Heading.{header_bytes}
 use Rattle.cqlp_note.specs.Outputs.{Output, Offered}
 use Rattle.cqlp_message.specs.FrameValues.{FrameValue}
-use Rattle.cqlp_message.specs.Frames.{unfit_of, frame_size, frame_bytes}
+use Rattle.cqlp_message.specs.Parts.{parts_bytes}
+use Rattle.cqlp_message.specs.Frames.{frame_parts, header_of, unfit_of, frame_size, frame_bytes}
 use Rattle.cqlp_encode.specs.declared.writing.EncodeError.{EncodeError}
 use Rattle.cqlp_encode.specs.declared.writing.EncodeError.TheVariants as error
 
--- All bytes of the frame, as many as its size says, were appended; or no bytes spell it, and the target is as it was; or
--- the target failed after the first bytes, which were appended.
+-- a frame's header, where its body has this length, and then its parts
+abbrev pub header_and_parts : FrameValue → (length : ℕ) → List ℕ
+header_and_parts f n = header_bytes (header_of f n) ++ parts_bytes (frame_parts f)
+
+-- Nothing keeps a frame from being spelled, and the bytes that are written of it are as many as its size says.
+abbrev pub CanBeWritten : FrameValue → Type 0
+CanBeWritten f = (unfit_of f ≡ None) × (length (frame_bytes f) ≡ frame_size f 0)
+
+-- All bytes of the frame were appended, and the answer is how many they are; or no bytes spell it, and the target is as
+-- it was; or the target failed after the first bytes, which were appended.
 abbrev pub Encodes : FrameValue → (old : Output) → Result ℕ EncodeError → (new : Output) → Type 0
-Encodes f old (Ok n) new = (unfit_of f ≡ None) × (n ≡ frame_size f 0) × Offered old (frame_bytes f) n new
+Encodes f old (Ok n) new = CanBeWritten f × (n ≡ frame_size f 0) × Offered old (frame_bytes f) n new
 Encodes f old (Err (error.Unfit why)) new = (unfit_of f ≡ Some why) × (new ≡ old)
 Encodes f old (Err (error.Write n)) new =
-    (unfit_of f ≡ None) × (n < frame_size f 0) × Offered old (frame_bytes f) n new
+    CanBeWritten f × (n < frame_size f 0) × Offered old (frame_bytes f) n new

@@ -1,10 +1,17 @@
--- The law of the encoder.
-use Rattle.std.specs.Prelude.{◌≡◌, ℕ, IsSome, Result, Ok, Err}
+-- The laws of the encoder.
+use Rattle.std.specs.Prelude.{◌≡◌, ℕ, List, [], IsSome, Result, Ok, Err, ⊤}
 use Rattle.cqlp_note.specs.Outputs.{Output}
+use Rattle.cqlp_value.specs.Values.{Values}
+use Rattle.cqlp_message.specs.declared.frame.Frame.{Frame}
 use Rattle.cqlp_message.specs.FrameValues.{FrameValue}
+use Rattle.cqlp_message.specs.Owned.{frame_of}
+use Rattle.cqlp_message.specs.Pages.{with_cells}
 use Rattle.cqlp_encode.specs.declared.writing.EncodeError.{EncodeError}
 use Rattle.cqlp_encode.specs.declared.writing.EncodeError.TheVariants as error
+use Rattle.cqlp_encode.specs.declared.page_writer.PageError.{PageError}
+use Rattle.cqlp_encode.specs.declared.page_writer.PageError.TheVariants as page_error
 use Rattle.cqlp_encode.specs.Encoding.{Encodes}
+use Rattle.cqlp_encode.specs.PageWriting.{PageState, Begins, Adds, AddsAll, Finishes}
 
 -- how many bytes the target took
 abbrev pub taken : Result ℕ EncodeError → ℕ
@@ -12,9 +19,44 @@ taken (Ok n) = n
 taken (Err (error.Unfit why)) = 0
 taken (Err (error.Write n)) = n
 
--- Of one frame and one target, whose bytes are known, there is one answer, and the target is left in one state, but for how
--- many bytes it took before it failed, if it did.
+-- Of one frame and one target, whose bytes are known, there is one answer, and the target is left in one state, but for
+-- how many bytes it took before it failed, if it did.
 abbrev pub OneAnswerOfEncode : Type 0
 OneAnswerOfEncode =
     (f : FrameValue) (old new new' : Output) (r r' : Result ℕ EncodeError) → IsSome old.given
     → Encodes f old r new → Encodes f old r' new' → taken r' ≡ taken r → (r' ≡ r) × (new' ≡ new)
+
+-- ---- pages
+
+-- how many bytes the target took before the first cell
+abbrev pub head_taken : Result PageState PageError → ℕ
+head_taken (Ok p) = p.written
+head_taken (Err (page_error.Write n)) = n
+head_taken (Err e) = 0
+
+-- The same of a page that is begun: its writer, too, is left in one state.
+abbrev pub OneAnswerOfBegin : Type 0
+OneAnswerOfBegin =
+    (f : Frame) (n : ℕ) (old new new' : Output) (r r' : Result PageState PageError) → IsSome old.given
+    → Begins f n old r new → Begins f n old r' new' → head_taken r' ≡ head_taken r → (r' ≡ r) × (new' ≡ new)
+
+-- The same of the next cell of a page.
+abbrev pub OneAnswerOfCell : Type 0
+OneAnswerOfCell =
+    (p q q' : PageState) (cells : List Values) (v : Values) (old new new' : Output) (r r' : Result ⊤ PageError)
+    → IsSome old.given → Adds p cells v old r new q → Adds p cells v old r' new' q' → q'.written ≡ q.written
+    → (r' ≡ r) × (new' ≡ new) × (q' ≡ q)
+
+-- There is one answer to whether a page is done.
+abbrev pub OneAnswerOfFinish : Type 0
+OneAnswerOfFinish =
+    (p : PageState) (n : ℕ) (cells : List Values) (r r' : Result ℕ PageError)
+    → Finishes p n cells r → Finishes p n cells r' → r' ≡ r
+
+-- A page that is begun, whose cells are written one after the other, and that is done, is the frame with those cells as
+-- `encode` writes it.
+abbrev pub PageIsAsEncoded : Type 0
+PageIsAsEncoded =
+    (f : Frame) (n : ℕ) (cells : List Values) (p q : PageState) (old mid new : Output) (size : ℕ)
+    → Begins f n old (Ok p) mid → AddsAll p [] cells mid new q → Finishes q n cells (Ok size)
+    → Encodes (with_cells (frame_of f) cells) old (Ok size) new

@@ -1,4 +1,6 @@
 pub mod Progress
 pub mod Fields
 pub mod Encoding
+pub mod PageWriting
+pub mod PagePlaces
 pub mod Laws

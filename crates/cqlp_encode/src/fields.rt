@@ -29,6 +29,7 @@ impl<'a, W: Target> Staged<'a, W> {
     }
 
     /// Takes an \[int\].
+    #[inline]
     pub fn put_int(&mut self, value: i32)
         ensures { Puts self.old (field_bytes notation.Int (note.Int value)) self.new }
     {
@@ -59,6 +60,7 @@ impl<'a, W: Target> Staged<'a, W> {
     }
 
     /// Takes a number of four bytes, the lowest four of this.
+    #[inline(always)]
     pub fn put_count32(&mut self, count: usize)
         ensures { Puts self.old (to_be_bytes w32 count) self.new }
     {
@@ -75,6 +77,7 @@ impl<'a, W: Target> Staged<'a, W> {
     }
 
     /// Takes a content after its length of four bytes.
+    #[inline(always)]
     pub fn put_content(&mut self, content: &[u8])
         ensures { Puts self.old (to_be_bytes w32 (length content.now) ++ content.now) self.new }
     {

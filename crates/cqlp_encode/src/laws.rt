@@ -1,8 +1,30 @@
-//! The law of the encoder.
+//! The laws of the encoder.
 
-ghost use Rattle.cqlp_encode.specs.Laws.{OneAnswerOfEncode};
+ghost use Rattle.cqlp_encode.specs.Laws.{OneAnswerOfBegin, OneAnswerOfCell, OneAnswerOfEncode, OneAnswerOfFinish, PageIsAsEncoded};
 
 /// One answer of [`encode`](crate::encode) meets its clause, given how many bytes the target took.
 pub fn one_answer_of_encode()
     ensures { OneAnswerOfEncode }
+{}
+
+/// One answer of [`PageWriter::begin`](crate::PageWriter::begin) meets its clause, given how many bytes the target took.
+pub fn one_answer_of_begin()
+    ensures { OneAnswerOfBegin }
+{}
+
+/// One answer of [`PageWriter::cell`](crate::PageWriter::cell) meets its clause, and leaves one state, given how many bytes the
+/// target took.
+pub fn one_answer_of_cell()
+    ensures { OneAnswerOfCell }
+{}
+
+/// One answer of [`PageWriter::finish`](crate::PageWriter::finish) meets its clause.
+pub fn one_answer_of_finish()
+    ensures { OneAnswerOfFinish }
+{}
+
+/// A page that is begun, whose cells are written one after the other, and that is done, is the frame with those cells as
+/// [`encode`](crate::encode) writes it.
+pub fn page_is_as_encoded()
+    ensures { PageIsAsEncoded }
 {}

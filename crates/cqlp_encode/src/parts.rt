@@ -19,6 +19,7 @@ impl<'a, W: Target> TakesParts for Staged<'a, W> {
 
     ghost taken = { HasTakenParts };
 
+    #[inline(always)]
     fn take(&mut self, part: PartRef<'_>) {
         self.put_part(part);
     }
@@ -26,8 +27,20 @@ impl<'a, W: Target> TakesParts for Staged<'a, W> {
 
 impl<'a, W: Target> Staged<'a, W> {
     /// Takes a part.
-    #[tactic(auto, using(crate::proofs::Contents::whole))]
+    #[inline(always)]
     fn put_part(&mut self, part: PartRef<'_>)
+        ensures puts { PutsWithin (part_size (part_of part.entry)) self.old (part_bytes (part_of part.entry)) self.new }
+        ensures size { length (part_bytes (part_of part.entry)) ≡ part_size (part_of part.entry) }
+    {
+        match part {
+            PartRef::Cell { value, .. } => put_value(self, value),
+            _ => self.put_any_part(part),
+        }
+    }
+
+    /// The same of a part that is mostly no cell.
+    #[tactic(auto, using(crate::proofs::Contents::whole))]
+    fn put_any_part(&mut self, part: PartRef<'_>)
         ensures puts { PutsWithin (part_size (part_of part.entry)) self.old (part_bytes (part_of part.entry)) self.new }
         ensures size { length (part_bytes (part_of part.entry)) ≡ part_size (part_of part.entry) }
     {

@@ -77,13 +77,23 @@ impl<'a, W: Target> Staged<'a, W> {
     }
 
     /// Takes bytes.
+    #[inline(always)]
     pub fn put(&mut self, bytes: &[u8])
         ensures { Puts self.old bytes.now self.new }
     {
         if bytes.len() > ROOM - self.len {
-            self.flush();
+            self.put_after_flush(bytes);
+        } else {
+            self.keep(bytes);
         }
-        if bytes.len() > ROOM - self.len {
+    }
+
+    /// Takes bytes once all that waits is passed on.
+    fn put_after_flush(&mut self, bytes: &[u8])
+        ensures { Puts self.old bytes.now self.new }
+    {
+        self.flush();
+        if bytes.len() > ROOM {
             self.pass_on(bytes);
         } else {
             self.keep(bytes);
@@ -117,6 +127,7 @@ impl<'a, W: Target> Staged<'a, W> {
     }
 
     /// Takes bytes that there is room for.
+    #[inline(always)]
     fn keep(&mut self, bytes: &[u8])
         requires { length self.old.waiting + length bytes.now ≤ 256 }
         ensures { self.new ≡ record self.old { waiting = self.old.waiting ++ bytes.now } }

@@ -70,7 +70,9 @@ fn put_types<W: Target>(out: &mut Staged<'_, W>, types: &[TypeTree])
 /// Takes the options of inner types, each after its name.
 #[cycle(put_tree)]
 fn put_fields<W: Target>(out: &mut Staged<'_, W>, fields: &[(String, TypeTree)])
-    ensures { Puts out.old (flat_map (λ x. field_bytes notation.Text16 (note.Text (string_bytes x.0)) ++ tree_bytes (tree_of x.1)) fields.now) out.new }
+    ensures { Puts out.old
+        (flat_map (λ x. field_bytes notation.Text16 (note.Text (string_bytes x.0)) ++ tree_bytes (tree_of x.1)) fields.now)
+        out.new }
 {
     for (name, tree) in fields {
         out.put_text(name);

@@ -8,11 +8,23 @@ ghost use Rattle.cqlp_encode.specs.Progress.{PutsWithin};
 
 use crate::staged::Staged;
 use cqlp_note::Target;
-use cqlp_value::{Atom, Value, content_len};
+use cqlp_value::{Atom, Content, Value, content_len};
 
 /// Takes a value with its length.
+#[inline(always)]
 #[cycle(put_value)]
 pub fn put_value<W: Target>(out: &mut Staged<'_, W>, value: &Value)
+    ensures { PutsWithin (values_size (value_of value.now)) out.old (values_bytes (value_of value.now)) out.new }
+{
+    match value {
+        Value::Leaf(atom) => put_atom(out, atom),
+        _ => put_any(out, value),
+    }
+}
+
+/// The same of a value that is mostly no scalar.
+#[cycle(put_value)]
+fn put_any<W: Target>(out: &mut Staged<'_, W>, value: &Value)
     ensures { PutsWithin (values_size (value_of value.now)) out.old (values_bytes (value_of value.now)) out.new }
 {
     match value {
@@ -67,12 +79,20 @@ fn put_pairs<W: Target>(out: &mut Staged<'_, W>, pairs: &[(Value, Value)])
 }
 
 /// Takes a scalar with its length.
+#[inline(always)]
 fn put_atom<W: Target>(out: &mut Staged<'_, W>, atom: &Atom)
-    ensures { PutsWithin (values_size (Scalar_and (atom_of atom.now) NoValue)) out.old (values_bytes (Scalar_and (atom_of atom.now) NoValue)) out.new }
+    ensures { let v = Scalar_and (atom_of atom.now) NoValue in PutsWithin (values_size v) out.old (values_bytes v) out.new }
 {
-    let content = atom.content();
-    let (head, tail) = content.parts();
-    out.put_count32(head.len().saturating_add(tail.len()));
-    out.put(head);
-    out.put(tail);
+    match atom.content() {
+        Content::One(bytes) => out.put_content(&bytes),
+        Content::Two(bytes) => out.put_content(&bytes),
+        Content::Four(bytes) => out.put_content(&bytes),
+        Content::Eight(bytes) => out.put_content(&bytes),
+        Content::Lent(bytes) => out.put_content(bytes),
+        Content::Decimal(scale, unscaled) => {
+            out.put_count32(unscaled.len().saturating_add(scale.len()));
+            out.put(&scale);
+            out.put(unscaled);
+        }
+    }
 }

@@ -1,10 +1,12 @@
 //! A frame, written.
 
-ghost use Rattle.std.specs.Prelude.{◌≡◌, None, length};
+ghost use Rattle.std.specs.Prelude.{◌≡◌, ◌≤◌, length};
+ghost use Rattle.cqlp_note.specs.Heading.{IsLawful};
 ghost use Rattle.cqlp_note.specs.Outputs.{Offered, written};
-ghost use Rattle.cqlp_message.specs.Frames.{frame_bytes, frame_size, unfit_of};
+ghost use Rattle.cqlp_message.specs.Frames.{frame_parts, frame_size, header_of};
 ghost use Rattle.cqlp_message.specs.Owned.{frame_of};
-ghost use Rattle.cqlp_encode.specs.Encoding.{Encodes};
+ghost use Rattle.cqlp_message.specs.Parts.{parts_size};
+ghost use Rattle.cqlp_encode.specs.Encoding.{Encodes, header_and_parts};
 
 use crate::staged::Staged;
 use cqlp_message::{Frame, Unfit};
@@ -38,7 +40,7 @@ pub fn encode<W: Target>(frame: &Frame, target: &mut W) -> Result<u32, EncodeErr
         Ok(len) => len,
         Err(why) => return Err(EncodeError::Unfit(why)),
     };
-    let taken = write(frame, len, target);
+    let taken = write_parts(frame, len - 9, target);
     if taken < len {
         Err(EncodeError::Write { written: taken })
     } else {
@@ -46,14 +48,15 @@ pub fn encode<W: Target>(frame: &Frame, target: &mut W) -> Result<u32, EncodeErr
     }
 }
 
-/// Writes a frame of this many bytes, and answers how many of them the target took.
-fn write<W: Target>(frame: &Frame, len: u32, target: &mut W) -> u32
-    requires fits { unfit_of (frame_of frame.now) ≡ None }
-    requires len { len ≡ frame_size (frame_of frame.now) 0 }
-    ensures offered { Offered (written W.Target target.old) (frame_bytes (frame_of frame.now)) result (written W.Target target.new) }
-    ensures size { length (frame_bytes (frame_of frame.now)) ≡ len }
+/// Writes a frame's header, where its body has this many bytes, and its parts, and answers how many bytes the target took.
+pub fn write_parts<W: Target>(frame: &Frame, body_len: u32, target: &mut W) -> u32
+    requires lawful { IsLawful (header_of (frame_of frame.now) body_len) }
+    requires size { parts_size (frame_parts (frame_of frame.now)) ≤ body_len }
+    ensures offered { Offered (written W.Target target.old) (header_and_parts (frame_of frame.now) body_len) result
+        (written W.Target target.new) }
+    ensures size { length (header_and_parts (frame_of frame.now) body_len) ≡ frame_size (frame_of frame.now) 0 }
 {
-    let header = frame.header(len - 9);
+    let header = frame.header(body_len);
     let mut out = Staged::new(target);
     out.put(&header.write());
     frame.walk(&mut out);

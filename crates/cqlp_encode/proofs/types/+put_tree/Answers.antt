@@ -1,4 +1,4 @@
-use Rattle.std.proofs.Common.{◌≡◌, length, sym, ap, ◌∙◌, arith}
+use Rattle.std.proofs.Common.{◌≡◌, length, arith}
 use Rattle.cqlp_encode.proofs.Taking.{puts_nil, puts_item, puts_all, puts_then}
 use Rattle.cqlp_encode.proofs.Options.{own_bytes, field_option, tuple_bytes, udt_bytes}
 use Rattle.cqlp_encode.proofs.types.+put_tree.Goals as goal

@@ -1,6 +1,6 @@
-use Rattle.std.proofs.Common.{refl, sym, take, length, arith}
+use Rattle.std.proofs.Common.{sym, arith}
 use Rattle.std.proofs.lemmas.List.{length-take-le}
-use Rattle.cqlp_encode.proofs.Taking.{flushes, drops}
+use Rattle.cqlp_encode.proofs.Taking.{flushes}
 use Rattle.cqlp_encode.proofs.staged.Staged.flush.Goals as goal
 
 pub returns-then-not-self-clause-puts : goal.returns-then-not-self-clause-puts

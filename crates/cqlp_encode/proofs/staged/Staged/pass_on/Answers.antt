@@ -1,4 +1,4 @@
-use Rattle.std.proofs.Common.{refl, ap, ◌∙◌, sym}
+use Rattle.std.proofs.Common.{ap, ◌∙◌}
 use Rattle.cqlp_encode.proofs.Taking.{passes, drops}
 use Rattle.cqlp_encode.proofs.staged.Staged.pass_on.Goals as goal
 

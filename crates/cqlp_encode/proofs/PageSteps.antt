@@ -1,0 +1,178 @@
+-- A page that is written cell by cell, one call after the other.
+use Rattle.std.proofs.Common.{◌≡◌, ℕ, zero, suc, ◌+◌, ◌-◌, ◌*◌, ◌<◌, ◌≤◌, ◌==◌, if◌then◌else◌, Bool, true, false, not, List, [], ◌∷◌, ◌++◌, length, nat_lt, Option, Some, None, Ok, Err, refl, sym, ap, ◌∙◌, subst, inl, inr, arith}
+use Rattle.std.proofs.lemmas.List.{length-append}
+use Rattle.std.proofs.lemmas.Bool.{lt-ltb, le-ltb}
+use Rattle.std.proofs.lemmas.Bool.Decides.{nat_tests}
+use Rattle.std.proofs.Math.Nat.{lt_of_mul-lt-mul_right, mul-zero, zero-mul}
+use Rattle.cqlp_note.specs.Heading.{IsLawful}
+use Rattle.cqlp_note.specs.Outputs.{Output, Offered}
+use Rattle.cqlp_value.specs.Values.{Values, values_size, values_bytes}
+use Rattle.cqlp_value.proofs.ValuesWritten.{written_size}
+use Rattle.cqlp_message.specs.declared.frame.Frame.{Frame}
+use Rattle.cqlp_message.specs.declared.unfit.Unfit.TheVariants as unfit
+use Rattle.cqlp_message.specs.FrameValues.{FrameValue}
+use Rattle.cqlp_message.specs.Owned.{frame_of}
+use Rattle.cqlp_message.specs.Parts.{parts_size}
+use Rattle.cqlp_message.specs.Frames.{frame_parts, frame_size, header_of}
+use Rattle.cqlp_message.proofs.FramesWritten.{plain as not_compressed}
+use Rattle.cqlp_message.specs.Pages.{page_unfit_of, page_head, page_columns, cells_wanted, cells_fit, types_of_page, fits_column, AreItsCells}
+use Rattle.cqlp_message.proofs.PageCells.{cells_size_more}
+use Rattle.cqlp_message.proofs.PageFrames.{page_rows, wanted_is, is_page, no_cells_fit, one_more_fits, page_written}
+use Rattle.cqlp_encode.specs.declared.page_writer.PageError.{PageError}
+use Rattle.cqlp_encode.specs.declared.page_writer.PageError.TheVariants as error
+use Rattle.cqlp_encode.specs.PageWriting.{PageState, page, After, Begins, Finishes, Adds, cell_error, one_more, failed_after}
+use Rattle.cqlp_encode.specs.Encoding.{header_and_parts}
+use Rattle.cqlp_encode.specs.PagePlaces.{IsPlace}
+
+-- ---- before the first cell
+
+pub page_lawful : (f : FrameValue) (n len : ℕ) → page_unfit_of f n ≡ None → len ≡ frame_size f n → IsLawful (header_of f (len - 9))
+page_lawful f n len e is =
+    let t = is_page f n e in
+    record { plain = not_compressed f t.agrees; direction = refl; bounded = omega (arith, is, t.short) }
+
+some_column : (rows c : ℕ) → 0 < rows * c → 0 < c
+some_column rows zero lt = absurd (omega (arith, mul-zero rows))
+some_column rows (suc c) lt = omega arith
+
+-- a writer that was just made
+abbrev pub made : Frame → (left free written : ℕ) → PageState
+made f left free written = record { frame = f; left = left; free = free; written = written; failed = false }
+
+module _ (f : Frame) (n len taken : ℕ) (fits : page_unfit_of (frame_of f) n ≡ None) (is : len ≡ frame_size (frame_of f) n) where
+  pub first_place : (left : ℕ) → left ≡ cells_wanted (frame_of f).message → taken ≡ frame_size (frame_of f) 0 → IsPlace (made f left n taken) 0
+  first_place left all count =
+      let m = (frame_of f).message in
+      let short = (is_page (frame_of f) n fits).short in
+      record {
+        row = 0;
+        cells = omega (arith, all, zero-mul (page_columns m));
+        column = λ some. some_column (page_rows m) (page_columns m) (omega (arith, some, all, wanted_is m));
+        free = omega (arith, short);
+        bounded = λ e. omega (arith, short, count);
+      }
+
+  module _ (old new : Output) (offered : Offered old (header_and_parts (frame_of f) (len - 9)) taken new) (long : length (header_and_parts (frame_of f) (len - 9)) ≡ frame_size (frame_of f) 0) where
+    same_head : header_and_parts (frame_of f) (len - 9) ≡ page_head (frame_of f) n
+    same_head = let body : len - 9 ≡ parts_size (frame_parts (frame_of f)) + n = omega (arith, is) in ap (λ (k : ℕ). header_and_parts (frame_of f) k) body
+
+    head_long : length (page_head (frame_of f) n) ≡ frame_size (frame_of f) 0
+    head_long = ap length (sym same_head) ∙ long
+
+    pub begins_cut : taken < len - n → Begins f n old (Err (error.Write taken)) new
+    begins_cut less = (fits, head_long, omega (arith, is, less), subst (λ (x : List ℕ). Offered old x taken new) same_head offered)
+
+    pub all_of_head : len - n ≤ taken → taken ≡ frame_size (frame_of f) 0
+    all_of_head all = omega (arith, offered.bound, long, is, all)
+
+    pub begins_all : (left : ℕ) → left ≡ cells_wanted (frame_of f).message → len - n ≤ taken → Begins f n old (Ok (made f left n taken)) new
+    begins_all left wanted all =
+        let count = all_of_head all in (
+          refl,
+          refl,
+          record {
+            begun = fits;
+            fit = no_cells_fit (frame_of f) n fits;
+            left = omega (arith, wanted);
+            free = omega arith;
+            written = λ e. omega (arith, count);
+          },
+          head_long,
+          subst (λ (k : ℕ). Offered old (page_head (frame_of f) n) k new) count (subst (λ (x : List ℕ). Offered old x taken new) same_head offered),
+        )
+
+-- ---- a value is the next cell, or is not
+
+-- where the cells so far fit, one more does if it is one of its column's type
+fits_next : (p : PageState) (at : ℕ) (v : Values) → IsPlace p at → 0 < p.left → (n : ℕ) (cells : List Values) → After p n cells
+    → cells_fit (page p) (cells ++ v ∷ []) ≡ fits_column (types_of_page (page p).message) at v
+fits_next p at v place some n cells a =
+    let m = (page p).message in
+    let c : ℕ = page_columns m in
+    let whole : place.row * c + at + p.left ≡ page_rows m * c = place.cells ∙ wanted_is m in
+    let is : length cells ≡ place.row * c + at = omega (arith, place.cells, a.left) in
+    let more = one_more_fits (page p) cells v place.row at (is_page (page p) n a.begun).agrees is (place.column some) (lt_of_mul-lt-mul_right c {m = place.row} {n = page_rows m} (omega (arith, whole, some))) in
+    more ∙ rw a.fit refl
+
+some_left : (n : ℕ) → 0 < n → (n == 0) ≡ false
+some_left n some = grind (arith, nat_tests)
+
+module _ (p : PageState) (at : ℕ) (v : Values) (place : IsPlace p at) (sound : p.failed ≡ false) (some : 0 < p.left) where
+  pub refuses_type : fits_column (types_of_page (page p).message) at v ≡ false → (n : ℕ) (cells : List Values) → After p n cells → cell_error p cells v ≡ Some (error.Unfit unfit.CellType)
+  refuses_type isnt n cells a =
+      let none : cells_fit (page p) (cells ++ v ∷ []) ≡ false = fits_next p at v place some n cells a ∙ isnt in
+      rw (sound, some_left p.left some, none) refl
+
+  pub refuses_length : fits_column (types_of_page (page p).message) at v ≡ true → p.free < values_size v → (n : ℕ) (cells : List Values) → After p n cells → cell_error p cells v ≡ Some error.PastLength
+  refuses_length is long n cells a =
+      let fits : cells_fit (page p) (cells ++ v ∷ []) ≡ true = fits_next p at v place some n cells a ∙ is in
+      rw (sound, some_left p.left some, fits, lt-ltb p.free (values_size v) long) refl
+
+  pub accepts : fits_column (types_of_page (page p).message) at v ≡ true → values_size v ≤ p.free → (n : ℕ) (cells : List Values) → After p n cells → cell_error p cells v ≡ None
+  accepts is short n cells a =
+      let fits : cells_fit (page p) (cells ++ v ∷ []) ≡ true = fits_next p at v place some n cells a ∙ is in
+      rw (sound, some_left p.left some, fits, le-ltb p.free (values_size v) short) refl
+
+-- ---- a cell
+
+pub refused : (p : PageState) (cells : List Values) (v : Values) (old : Output) (e : PageError) → cell_error p cells v ≡ Some e → Adds p cells v old (Err e) old p
+refused p cells v old (error.Unfit why) is = (is, refl, refl)
+refused p cells v old error.OutOfTurn is = (is, refl, refl)
+refused p cells v old error.PastLength is = (is, refl, refl)
+refused p cells v old error.NotDone is = (is, refl, refl)
+refused p cells v old (error.Write k) is = inl (is, refl, refl)
+
+module _ (p : PageState) (cells : List Values) (v : Values) (old new : Output) (size taken : ℕ) (is : size ≡ values_size v) (offered : Offered old (values_bytes v) taken new) where
+  pub adds_cut : (k : ℕ) (q : PageState) → taken < size → k ≡ p.written + taken → q ≡ failed_after p k → cell_error p cells v ≡ None → Adds p cells v old (Err (error.Write k)) new q
+  adds_cut k q less count after none = inr (none, record { taken = taken; some = omega (arith, less, is); count = count; offered = offered; after = after })
+
+  pub adds_all : (q : PageState) → size ≤ taken → q ≡ one_more p size → cell_error p cells v ≡ None → Adds p cells v old (Ok tt) new q
+  adds_all q all after none =
+      let long = written_size v in
+      let count : taken ≡ values_size v = omega (arith, offered.bound, long, all, is) in
+      (none, long, subst (λ (k : ℕ). Offered old (values_bytes v) k new) count offered, after ∙ ap (λ (k : ℕ). one_more p k) is)
+
+none_left : (b : Bool) (e : PageError) (o : Option PageError) → (if b then Some e else o) ≡ None → (b ≡ false) × (o ≡ None)
+none_left true e o is = absurd cc
+none_left false e o is = (refl, is)
+
+not_false : (b : Bool) → not b ≡ false → b ≡ true
+not_false true e = refl
+not_false false e = absurd cc
+
+less_or_not : (m n : ℕ) → nat_lt m n ≡ false → n ≤ m
+less_or_not m n e = grind (arith, nat_tests)
+
+none_no : (n : ℕ) → (n == 0) ≡ false → 0 < n
+none_no n e = grind (arith, nat_tests)
+
+-- a fault leaves the cells as they were
+pub after_cut : (p : PageState) (n : ℕ) (cells : List Values) (k : ℕ) (q : PageState) → q ≡ failed_after p k → After p n cells → After q n cells
+after_cut p n cells k q after a = rw after (record { begun = a.begun; fit = a.fit; left = a.left; free = a.free; written = λ e. absurd cc })
+
+-- where the value was the next cell, the writer stands after it
+pub after_one_more : (p : PageState) (n : ℕ) (cells : List Values) (v : Values) (size : ℕ) (q : PageState) → size ≡ values_size v → q ≡ one_more p size → cell_error p cells v ≡ None → After p n cells → After q n (cells ++ v ∷ [])
+after_one_more p n cells v size q is after none a =
+    let w = none_left p.failed (error.Write p.written) _ none in
+    let x = none_left (p.left == 0) error.OutOfTurn _ w.1 in
+    let y = none_left (not (cells_fit (page p) (cells ++ v ∷ []))) (error.Unfit unfit.CellType) _ x.1 in
+    let z = none_left (nat_lt p.free (values_size v)) error.PastLength _ y.1 in
+    let some = none_no p.left x.0 in
+    let room = less_or_not p.free (values_size v) z.0 in
+    let sum = a.written w.0 in
+    rw after (record {
+      begun = a.begun;
+      fit = not_false _ y.0;
+      left = omega (arith, some, a.left, length-append cells (v ∷ []));
+      free = omega (arith, is, room, a.free, cells_size_more cells v);
+      written = λ e. omega (arith, is, room, sum);
+    })
+
+-- ---- all cells
+
+pub finished : (p : PageState) → p.failed ≡ false → p.left ≡ 0 → p.free ≡ 0 → (n : ℕ) (cells : List Values) → After p n cells → Finishes p n cells (Ok p.written)
+finished p sound none empty n cells a =
+    let all : AreItsCells (page p) n cells = record { number = omega (arith, none, a.left); fit = a.fit; size = omega (arith, empty, a.free) } in
+    let law = page_written (page p) n cells a.begun all in
+    let count : p.written ≡ frame_size (page p) n = omega (arith, empty, a.written sound) in
+    (sound, omega (arith, none, empty), count ∙ law.2, law.0, law.1)

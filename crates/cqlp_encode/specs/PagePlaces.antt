@@ -1,0 +1,21 @@
+-- Where a writer of a page stands among its columns, the bounds of its numbers, and what a check of a cell answers.
+use Rattle.std.specs.Prelude.{◌≡◌, ℕ, ◌+◌, ◌*◌, ◌<◌, ◌≤◌, false, List, Some, None, Result, Ok, Err}
+use Rattle.cqlp_note.specs.declared.header.TheConstants.Header.{LONGEST_BODY}
+use Rattle.cqlp_message.specs.Pages.{page_columns, cells_wanted}
+use Rattle.cqlp_value.specs.Values.{Values}
+use Rattle.cqlp_encode.specs.declared.page_writer.PageError.{PageError}
+use Rattle.cqlp_encode.specs.PageWriting.{PageState, page, cell_error}
+
+-- After whole rows, and the cells of one that come before this column, the others are still to come. No more bytes are
+-- still to come than a body can have, and with those that targets took they are no more than a frame can have.
+pub record IsPlace (p : PageState) (at : ℕ) : Type 0 where
+  pub row : ℕ
+  pub cells : row * page_columns (page p).message + at + p.left ≡ cells_wanted (page p).message
+  pub column : 0 < p.left → at < page_columns (page p).message
+  pub free : p.free ≤ LONGEST_BODY
+  pub bounded : p.failed ≡ false → p.written + p.free ≤ 9 + LONGEST_BODY
+
+-- What a check of the next cell answers: how many bytes it has, or why the value is not it.
+abbrev pub Checks : PageState → List Values → Values → Result ℕ PageError → Type 0
+Checks p cells v (Ok size) = cell_error p cells v ≡ None
+Checks p cells v (Err e) = cell_error p cells v ≡ Some e
