@@ -23,7 +23,7 @@ use Rattle.cqlp_laws.proofs.OneAnswer.{finish_by}
 
 -- ---- what was read, by the events so far
 
-after_reads : (d : StreamState) (s : List ℕ) (es : List (ℕ × Event)) → After d s es → (p : Place) × (b : List ℕ) × Reads d.rules start s es p b
+pub after_reads : (d : StreamState) (s : List ℕ) (es : List (ℕ × Event)) → After d s es → (p : Place) × (b : List ℕ) × Reads d.rules start s es p b
 after_reads d s es a = by d.refusal a
   where
     by : (o : Option Refusal) → AfterBy o d s es → (p : Place) × (b : List ℕ) × Reads d.rules start s es p b

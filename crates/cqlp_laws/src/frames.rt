@@ -2,7 +2,7 @@
 
 ghost use Rattle.cqlp_laws.specs.Frames.{SpelledIsRead};
 ghost use Rattle.cqlp_laws.specs.ReadFrames.{ReadIsSpelled};
-ghost use Rattle.cqlp_laws.specs.Written.{WrittenIsRead};
+ghost use Rattle.cqlp_laws.specs.Written.{PageIsRead, WrittenIsRead};
 ghost use Rattle.cqlp_laws.specs.Refused.{DecoderRefusesNoFrame, RefusedIsNoFrame};
 
 /// What is spelled is read: frames within the limits, one after the other, say their own events, and nothing is
@@ -15,6 +15,11 @@ pub fn spelled_is_read()
 /// nothing is left.
 pub fn written_is_read()
     ensures { WrittenIsRead }
+{}
+
+/// What is written of a page cell by cell is read back as the page with those cells, and nothing is left.
+pub fn page_is_read()
+    ensures { PageIsRead }
 {}
 
 /// What is read is spelled: where cells are read as their types, the bytes from a header to the end of its frame spell a
