@@ -1,0 +1,33 @@
+//! Bytes that lie in memory, as a source.
+
+ghost use Rattle.std.specs.Prelude.{◌≡◌, Some};
+
+use cqlp_note::{IoFault, Source};
+
+/// Gives bytes that lie in memory, from the first on. No read of it fails.
+#[derive(Drop)]
+pub struct InMemory<'a> {
+    bytes: &'a [u8],
+}
+
+impl<'a> InMemory<'a> {
+    /// With all of these bytes still to come.
+    pub fn new(bytes: &'a [u8]) -> InMemory<'a>
+        ensures { result.bytes.now ≡ bytes.now }
+    {
+        InMemory { bytes }
+    }
+}
+
+impl Source for InMemory<'_> {
+    ghost left = { λ source. Some source.bytes.now };
+
+    ghost failures = { λ _. 0 };
+
+    fn read(&mut self, buffer: &mut [u8]) -> Result<usize, IoFault> {
+        let count = self.bytes.len().min(buffer.len());
+        buffer[..count].copy_from_slice(&self.bytes[..count]);
+        self.bytes = &self.bytes[count..];
+        Ok(count)
+    }
+}
