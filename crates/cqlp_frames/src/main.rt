@@ -1,0 +1,83 @@
+//! Writes the frames that its standard input spells out, reads back what was written, and prints both.
+//!
+//! A line has a name, `|`, and the words of a frame value: its fields in the order of their definition. After some names
+//! `--sum` asks for the number of the events alone, and `--cut` for a target that fails after ten bytes. A line `value |` has
+//! a type or `-`, and a value, and a line `cells |` a page that is written cell by cell. A line without `|` is a heading.
+#![tactic(auto)]
+
+mod by_cell;
+mod frames;
+mod requests;
+mod responses;
+mod results;
+mod shown;
+mod types;
+mod values;
+mod words;
+
+use cqlp_message::Frame;
+use cqlp_type::TypeTree;
+use cqlp_value::{Value, fits, value_len};
+use std::io;
+use words::Words;
+
+fn main(rt: HostRuntime) -> io::Result<()> {
+    for line in rt.lines(rt.alloc()) {
+        execute(&rt, line?.as_str())?;
+    }
+    Ok(())
+}
+
+/// Does what one line asks for.
+fn execute(rt: &HostRuntime, line: &str) -> io::Result<()> {
+    match line.split_once(" | ") {
+        Some(("value", words)) => show_value(rt, words),
+        Some(("cells", words)) => by_cell::show(rt, words),
+        Some((name, words)) => show_frame(rt, name, words),
+        None => println!(rt; "{line}"),
+    }
+}
+
+/// Prints what is written of the frame that some words spell out.
+fn show_frame(rt: &HostRuntime, name: &str, line: &str) -> io::Result<()> {
+    let mut words = Words::new(rt.alloc(), line);
+    let frame: Frame = words.read();
+    show_written(rt, name, &words, &frame)
+}
+
+/// The same, once the words are read.
+fn show_written(rt: &HostRuntime, name: &str, words: &Words<'_>, frame: &Frame) -> io::Result<()> {
+    words.end()?;
+    println!(rt; "== {name}")?;
+    if name.ends_with("--sum") {
+        shown::sum(rt, frame)
+    } else if name.ends_with("--cut") {
+        shown::cut(rt, frame)
+    } else {
+        shown::whole(rt, frame)
+    }
+}
+
+/// Prints whether the value that some words spell out is one of the type before it, and how many bytes it has then.
+fn show_value(rt: &HostRuntime, line: &str) -> io::Result<()> {
+    let mut words = Words::new(rt.alloc(), line);
+    let tree: Option<TypeTree> = words.option();
+    let value: Value = words.read();
+    print_judged(rt, &words, line, &value, tree.as_ref())
+}
+
+/// The same, once the words are read.
+fn print_judged(
+    rt: &HostRuntime,
+    words: &Words<'_>,
+    line: &str,
+    value: &Value,
+    tree: Option<&TypeTree>,
+) -> io::Result<()> {
+    words.end()?;
+    println!(rt;
+        "{line}: {} {:?}",
+        fits(value, tree),
+        value_len(value, tree)
+    )
+}
