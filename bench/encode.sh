@@ -1,0 +1,45 @@
+#!/usr/bin/env bash
+# Times the encoder on the pages that pages.py makes, as values in memory. cqlp_pages writes each page once and 21 times into a
+# Vec, whole or cell by cell, and so does encode.rs, an encoder written by hand, with and without a check of what it writes. A
+# twentieth of the difference, in time of the processor, is the time of one writing; the best of five is told, with its MB/s.
+set -euo pipefail
+
+here=$(dirname -- "$(readlink -f -- "${BASH_SOURCE[0]}")")
+crate=$here/../crates/cqlp_pages
+room=$(mktemp -d)
+trap 'rm -rf "$room"' EXIT
+
+(cd "$crate" && rt run <stdin >/dev/null 2>"$room/built") || { cat "$room/built" >&2; exit 1; } # builds the program
+rustc --edition 2021 -O -C codegen-units=1 -o "$room/by_hand" "$here/encode.rs"
+
+# The milliseconds of the processor that a program takes for a line.
+spent() {
+    local TIMEFORMAT='%3U %3S'
+    { time "$1" <<<"$2" >"$room/printed" 2>/dev/null; } 2>&1 | awk '{print ($1 + $2) * 1000}'
+}
+
+# The microseconds of one writing of a page: the best of five.
+once() {
+    local best= one many each page=$2 how=${3:-}
+    for _ in 1 2 3 4 5; do
+        one=$(spent "$1" "$page 1 $how")
+        many=$(spent "$1" "$page 21 $how")
+        each=$(((many - one) * 50))
+        if [ -z "$best" ] || [ "$each" -lt "$best" ]; then best=$each; fi
+    done
+    echo $((best > 0 ? best : 1))
+}
+
+tell() {
+    echo "  $1: $2 us, $((bytes / $2)) MB/s"
+}
+
+for page in 'rows 1000000' 'collections 200000' 'columns 5000' 'blobs 96'; do
+    by_hand=$(once "$room/by_hand" "$page")
+    bytes=$(sed 's/.*: \([0-9]*\) bytes.*/\1/' "$room/printed")
+    echo "$page, $bytes bytes"
+    tell 'by hand' "$by_hand"
+    tell 'by hand, checked' "$(once "$room/by_hand" "$page" checked)"
+    tell encode "$(once "$crate/out/cqlp_pages" "$page")"
+    tell 'cell by cell' "$(once "$crate/out/cqlp_pages" "$page" cells)"
+done
