@@ -15,5 +15,6 @@ mod word;
 pub use cells::cell_text;
 pub use ending::{Ending, cannot_open_line, ending_line};
 pub use events::event_line;
+pub use names::opcode_name;
 pub use page_text::{PagePlace, page_part};
 pub use text_writer::put_text;

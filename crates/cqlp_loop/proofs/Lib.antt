@@ -1,0 +1,4 @@
+pub mod Seeking
+pub mod Pulling
+pub mod Spelled
+pub mod Talking

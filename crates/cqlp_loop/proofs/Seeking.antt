@@ -1,0 +1,108 @@
+-- What the bytes of a piece lead to, event by event.
+use Rattle.std.proofs.Common.{◌≡◌, ℕ, ◌+◌, List, [], ◌∷◌, ◌++◌, take, drop, refl, ap, ◌∙◌, append_assoc}
+use Rattle.std.specs.Prelude.{Some, None}
+use Rattle.std.proofs.lemmas.List.{append-nil, take-append-drop}
+use Rattle.cqlp_note.specs.declared.header.Header.{Header}
+use Rattle.cqlp_note.specs.declared.refusal.Refusal.{Refusal}
+use Rattle.cqlp_grammar.specs.declared.event.Event as handed_out
+use Rattle.cqlp_grammar.specs.Events as told
+use Rattle.cqlp_grammar.specs.Events.{Event, Frame, End, event_of}
+use Rattle.cqlp_decode.specs.declared.step.Step.TheVariants as steps
+use Rattle.cqlp_decode.specs.Standing.{StreamState}
+use Rattle.cqlp_decode.specs.Streams.{Goes, LeadsOn}
+use Rattle.cqlp_decode.proofs.Gets.{take_two}
+use Rattle.cqlp_loop.specs.declared.inbox.Edge.{Edge}
+use Rattle.cqlp_loop.specs.declared.inbox.Edge.TheVariants.{Begin, Finish}
+use Rattle.cqlp_loop.specs.declared.inbox.Mark.{Mark}
+use Rattle.cqlp_loop.specs.declared.inbox.Mark.TheVariants as mark
+use Rattle.cqlp_loop.specs.Hearing.{Hearing, with_event, with_events}
+use Rattle.cqlp_loop.specs.Inboxes.{Tells, mark_of, awaiting, past, IsAt}
+
+pub events_then : (h : Hearing) (es fs : List (ℕ × Event)) → with_events h (es ++ fs) ≡ with_events (with_events h es) fs
+events_then h [] fs = refl
+events_then h (e ∷ es) fs = events_then (with_event h e.1) es fs
+
+-- an event that is not waited for
+skipped : (edge : Edge) (e : Event) (hs : List Header) → mark_of edge e ≡ None → with_event (awaiting edge hs) e ≡ awaiting edge hs
+skipped Begin (Frame h) hs is = absurd cc
+skipped Begin (End n) hs is = refl
+skipped Begin (told.Holds f v) hs is = refl
+skipped Begin (told.Node_of k) hs is = refl
+skipped Begin (told.Cell_at r c x) hs is = refl
+skipped Begin (told.Leave l i) hs is = refl
+skipped Finish (Frame h) hs is = refl
+skipped Finish (End n) hs is = absurd cc
+skipped Finish (told.Holds f v) hs is = refl
+skipped Finish (told.Node_of k) hs is = refl
+skipped Finish (told.Cell_at r c x) hs is = refl
+skipped Finish (told.Leave l i) hs is = refl
+
+-- the one that is waited for
+passed : (edge : Edge) (e : Event) (m : Mark) (hs : List Header) → mark_of edge e ≡ Some m → with_event (awaiting edge hs) e ≡ past m hs
+passed Begin (Frame h) m hs is = let same : m ≡ mark.Head h = cc in rw same refl
+passed Begin (End n) m hs is = absurd cc
+passed Begin (told.Holds f v) m hs is = absurd cc
+passed Begin (told.Node_of k) m hs is = absurd cc
+passed Begin (told.Cell_at r c x) m hs is = absurd cc
+passed Begin (told.Leave l i) m hs is = absurd cc
+passed Finish (Frame h) m hs is = absurd cc
+passed Finish (End n) m hs is = let same : m ≡ mark.Tail = cc in rw same refl
+passed Finish (told.Holds f v) m hs is = absurd cc
+passed Finish (told.Node_of k) m hs is = absurd cc
+passed Finish (told.Cell_at r c x) m hs is = absurd cc
+passed Finish (told.Leave l i) m hs is = absurd cc
+
+pub is_at : (edge : Edge) (e : Event) (m : Mark) → mark_of edge e ≡ Some m → IsAt edge m
+is_at Begin (Frame h) m is = let same : m ≡ mark.Head h = cc in rw same tt
+is_at Begin (End n) m is = absurd cc
+is_at Begin (told.Holds f v) m is = absurd cc
+is_at Begin (told.Node_of k) m is = absurd cc
+is_at Begin (told.Cell_at r c x) m is = absurd cc
+is_at Begin (told.Leave l i) m is = absurd cc
+is_at Finish (Frame h) m is = absurd cc
+is_at Finish (End n) m is = let same : m ≡ mark.Tail = cc in rw same tt
+is_at Finish (told.Holds f v) m is = absurd cc
+is_at Finish (told.Node_of k) m is = absurd cc
+is_at Finish (told.Cell_at r c x) m is = absurd cc
+is_at Finish (told.Leave l i) m is = absurd cc
+
+pub tells_none : (d : StreamState) (h : Hearing) → Tells d [] d h h
+tells_none d h = record { more = []; leads = λ s es a. rw (append-nil s, append-nil es) a; heard = refl; rules = refl }
+
+pub tells_then : (old mid new : StreamState) (a b : List ℕ) (x y z : Hearing) → Tells old a mid x y → Tells mid b new y z → Tells old (a ++ b) new x z
+tells_then old mid new a b x y z p q = record {
+  more = p.more ++ q.more;
+  leads = λ s es at. rw (← (append_assoc s a b), ← (append_assoc es p.more q.more)) (q.leads (s ++ a) (es ++ p.more) (p.leads s es at));
+  heard = events_then x p.more q.more ∙ ap (λ (h : Hearing). with_events h q.more) p.heard ∙ q.heard;
+  rules = q.rules ∙ p.rules;
+}
+
+-- one event
+tells_event : (old new : StreamState) (input : List ℕ) (at used : ℕ) (e : handed_out.Event) (h : Hearing) → Goes old (steps.Event at used e) new → LeadsOn old input (steps.Event at used e) new → Tells old (take used input) new h (with_event h (event_of e))
+tells_event old new input at used e h goes leads = record {
+  more = (at, event_of e) ∷ [];
+  leads = λ s es a. (leads s es a).3;
+  heard = refl;
+  rules = goes.2;
+}
+
+module _ (old mid new : StreamState) (piece : List ℕ) (used : ℕ) (edge : Edge) (hs : List Header) (so_far : Tells old (take used piece) mid (awaiting edge hs) (awaiting edge hs)) where
+  joined : (at taken : ℕ) (e : handed_out.Event) → Goes mid (steps.Event at taken e) new → LeadsOn mid (drop used piece) (steps.Event at taken e) new → Tells old (take (used + taken) piece) new (awaiting edge hs) (with_event (awaiting edge hs) (event_of e))
+  joined at taken e goes leads = rw (take_two used taken piece) (tells_then old mid new _ _ _ _ _ so_far (tells_event mid new (drop used piece) at taken e _ goes leads))
+
+  pub tells_skipped : (at taken : ℕ) (e : handed_out.Event) → Goes mid (steps.Event at taken e) new → LeadsOn mid (drop used piece) (steps.Event at taken e) new → mark_of edge (event_of e) ≡ None → Tells old (take (used + taken) piece) new (awaiting edge hs) (awaiting edge hs)
+  tells_skipped at taken e goes leads is = rw (skipped edge (event_of e) hs is) at (joined at taken e goes leads)
+
+  pub tells_mark : (at taken : ℕ) (e : handed_out.Event) (m : Mark) → Goes mid (steps.Event at taken e) new → LeadsOn mid (drop used piece) (steps.Event at taken e) new → mark_of edge (event_of e) ≡ Some m → Tells old (take (used + taken) piece) new (awaiting edge hs) (past m hs)
+  tells_mark at taken e m goes leads is = rw (passed edge (event_of e) m hs is) at (joined at taken e goes leads)
+
+  pub tells_more : (taken : ℕ) → Goes mid (steps.More taken) new → LeadsOn mid (drop used piece) (steps.More taken) new → Tells old piece new (awaiting edge hs) (awaiting edge hs)
+  tells_more taken goes leads = record {
+    more = so_far.more;
+    leads = λ s es a. rw (append_assoc s (take used piece) (drop used piece), take-append-drop used piece) at ((leads _ _ (so_far.leads s es a)).2);
+    heard = so_far.heard;
+    rules = goes.0 ∙ so_far.rules;
+  }
+
+  pub tells_refused : (r : Refusal) → Goes mid (steps.Refused r) new → LeadsOn mid (drop used piece) (steps.Refused r) new → Tells old (take used piece) new (awaiting edge hs) (awaiting edge hs)
+  tells_refused r goes leads = record { more = so_far.more; leads = λ s es a. (leads _ _ (so_far.leads s es a)).1; heard = so_far.heard; rules = goes.0 ∙ so_far.rules }

@@ -1,0 +1,5 @@
+use Rattle.cqlp_loop.proofs.Spelled.{reply_spelled, same_frame}
+use Rattle.cqlp_loop.proofs.request.Request.write_reply.Goals as goal
+
+pub send-requires : goal.send-requires
+send-requires g c = rw (same_frame _ _ _ _ c.plain.ensures c.in-Ok.ensures) (reply_spelled c.args.self _)

@@ -1,0 +1,5 @@
+pub mod Exchanges
+pub mod Hearing
+pub mod Hosts
+pub mod Inboxes
+pub mod Script

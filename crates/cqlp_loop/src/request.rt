@@ -1,0 +1,183 @@
+//! The requests of the conversation, and their replies.
+
+ghost use Rattle.std.specs.Prelude.{◌≡◌, IfOk, string_bytes};
+ghost use Rattle.cqlp_message.specs.Owned.{frame_of, message_of, page_of};
+ghost use Rattle.cqlp_note.specs.Outputs.{written};
+ghost use Rattle.cqlp_loop.specs.Exchanges.{IsSpelled, Sends, Writes, page as the_page, kind_of, opcode_of};
+ghost use Rattle.cqlp_loop.specs.Exchanges.{plain_frame, reply_frame, request_frame};
+
+use crate::fault::LoopFault;
+use cqlp_encode::{EncodeError, encode};
+use cqlp_message::{Frame, Message, Metadata, QueryParams, Rows, Spec};
+use cqlp_note::{Opcode, Target};
+use cqlp_session::RequestKind;
+use cqlp_type::{Kind, TypeTree};
+use cqlp_value::{Atom, Value};
+use std::alloc::{AllocError, Global};
+
+/// A request of the conversation. Section 4.1 of `native_protocol_v4.spec`.
+#[derive(Clone, Copy)]
+pub enum Request {
+    /// A question for the options that are there.
+    Options,
+    /// The opening of the connection.
+    Startup,
+    /// A query for a page of one row.
+    Query,
+}
+
+impl Request {
+    /// Its kind.
+    pub fn kind(self) -> RequestKind
+        ensures { result ≡ kind_of self }
+    {
+        match self {
+            Request::Options => RequestKind::Options,
+            Request::Startup => RequestKind::Startup,
+            Request::Query => RequestKind::Query,
+        }
+    }
+
+    /// The opcode of its reply.
+    pub fn reply(self) -> Opcode
+        ensures { result ≡ opcode_of self }
+    {
+        match self {
+            Request::Options => Opcode::Supported,
+            Request::Startup => Opcode::Ready,
+            Request::Query => Opcode::Result,
+        }
+    }
+
+    /// Writes it on a stream.
+
+    pub fn write<W: Target>(
+        self,
+        alloc: Global,
+        stream: i16,
+        target: &mut W,
+    ) -> Result<(), LoopFault>
+        ensures { Writes (request_frame self stream) (written W.Target target.old) result (written W.Target target.new) }
+    {
+        let message = match self.message(alloc) {
+            Ok(message) => message,
+            Err(AllocError) => return Err(LoopFault::NoMemory),
+        };
+        send(&plain(stream, message), target)
+    }
+
+    /// Writes its reply on its stream.
+
+    pub fn write_reply<W: Target>(
+        self,
+        alloc: Global,
+        stream: i16,
+        target: &mut W,
+    ) -> Result<(), LoopFault>
+        ensures { Writes (reply_frame self stream) (written W.Target target.old) result (written W.Target target.new) }
+    {
+        let message = match self.reply_message(alloc) {
+            Ok(message) => message,
+            Err(AllocError) => return Err(LoopFault::NoMemory),
+        };
+        send(&plain(stream, message), target)
+    }
+}
+
+impl Request {
+    ghost use Rattle.cqlp_loop.specs.Exchanges.{reply_message, request_message};
+
+    fn message(self, alloc: Global) -> Result<Message, AllocError>
+        ensures { IfOk result (λ m. message_of m ≡ request_message self) }
+    {
+        match self {
+            Request::Options => Ok(Message::Options),
+            Request::Startup => {
+                let version = (text(alloc, "CQL_VERSION")?, text(alloc, "3.0.0")?);
+                Ok(Message::Startup(vec![in alloc; version]?))
+            }
+            Request::Query => Ok(Message::Query {
+                text: text(alloc, "SELECT c FROM k.t")?,
+                params: QueryParams {
+                    consistency: 1,
+                    flags: 0,
+                    values: None,
+                    page_size: None,
+                    paging: None,
+                    serial: None,
+                    timestamp: None,
+                },
+            }),
+        }
+    }
+
+    fn reply_message(self, alloc: Global) -> Result<Message, AllocError>
+        ensures { IfOk result (λ m. message_of m ≡ reply_message self) }
+    {
+        match self {
+            Request::Options => {
+                let key = text(alloc, "CQL_VERSION")?;
+                let versions = vec![in alloc; text(alloc, "3.0.0")?]?;
+                Ok(Message::Supported(vec![in alloc; (key, versions)]?))
+            }
+            Request::Startup => Ok(Message::Ready),
+            Request::Query => Ok(Message::Rows(page(alloc)?)),
+        }
+    }
+}
+
+/// The page that answers a query.
+fn page(alloc: Global) -> Result<Rows, AllocError>
+    ensures { IfOk result (λ p. page_of p ≡ the_page) }
+{
+    let table = (text(alloc, "k")?, text(alloc, "t")?);
+    let spec = Spec {
+        table: None,
+        name: text(alloc, "c")?,
+        tree: TypeTree::Plain(Kind::Int),
+    };
+    let meta = Metadata {
+        flags: 1,
+        columns: 1,
+        paging: None,
+        table: Some(table),
+        specs: Some(vec![in alloc; spec]?),
+    };
+    Ok(Rows {
+        meta,
+        rows: 1,
+        cells: vec![in alloc; Value::Leaf(Atom::Int(7))]?,
+    })
+}
+
+fn text(alloc: Global, text: &str) -> Result<String, AllocError>
+    ensures { IfOk result (λ s. string_bytes s ≡ text.now) }
+{
+    Ok(String::from_str(alloc, text)?)
+}
+
+/// A frame with this message alone.
+fn plain(stream: i16, message: Message) -> Frame
+    ensures { frame_of result ≡ plain_frame stream (message_of message) }
+{
+    Frame {
+        flags: 0,
+        stream,
+        tracing: None,
+        warnings: None,
+        payload: None,
+        message,
+    }
+}
+
+/// Writes a frame.
+fn send<W: Target>(frame: &Frame, target: &mut W) -> Result<(), LoopFault>
+    requires { IsSpelled (frame_of frame.now) }
+    ensures { Sends (frame_of frame.now) (written W.Target target.old) result (written W.Target target.new) }
+{
+    match encode(frame, target) {
+        Ok(_) => Ok(()),
+        Err(EncodeError::Write { .. }) => Err(LoopFault::SocketFault),
+        Err(EncodeError::Unfit(_)) => unreachable!(),
+    }
+}
