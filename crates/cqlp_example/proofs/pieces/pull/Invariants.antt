@@ -1,7 +1,7 @@
 use Rattle.std.proofs.Common.{◌+◌, ◌-◌, ◌*◌, ◌≤◌, length}
 use Rattle.cqlp_decode.specs.Standing.{ends_due}
 use Rattle.cqlp_decode.specs.Streams.{state}
-use Rattle.cqlp_example.proofs.pull.Given as goal
+use Rattle.cqlp_example.proofs.pieces.pull.Given as goal
 
 abbrev pub invariant-events : goal.invariant-events
 invariant-events g l = l.used ≤ length l.piece
