@@ -1,0 +1,120 @@
+//! Two pipes in memory.
+
+ghost use Rattle.std.specs.Prelude.{◌≤◌, length};
+
+use cqlp_note::{IoFault, Source, Target};
+use std::alloc::Global;
+use std::cell::{Cell, RefCell};
+
+/// Bytes on their way, and where the next to be read stands.
+#[derive(Drop)]
+struct Wire {
+    bytes: Vec<u8>,
+    next: usize,
+}
+
+impl Wire {
+    fn new(alloc: Global) -> RefCell<Wire> {
+        RefCell::new(Wire {
+            bytes: Vec::new(alloc),
+            next: 0,
+        })
+    }
+
+    /// Moves the next bytes, at most this many, to the front of the buffer, and answers how many.
+    fn take(&mut self, most: usize, buffer: &mut [u8]) -> usize
+        ensures { result ≤ length buffer.new }
+    {
+        let waiting = self.bytes.get(self.next..).unwrap_or(&[]);
+        let count = waiting.len().min(most).min(buffer.len());
+        buffer[..count].copy_from_slice(&waiting[..count]);
+        self.next = self.next.saturating_add(count);
+        count
+    }
+}
+
+/// The two ways of a connection. A call moves this many bytes at most, and after this many calls each fails.
+#[derive(Drop)]
+pub struct Wires {
+    up: RefCell<Wire>,
+    down: RefCell<Wire>,
+    most: usize,
+    calls: Cell<u64>,
+}
+
+impl Wires {
+    pub fn new(alloc: Global, most: usize, calls: u64) -> Wires {
+        Wires {
+            up: Wire::new(alloc),
+            down: Wire::new(alloc),
+            most,
+            calls: Cell::new(calls),
+        }
+    }
+
+    /// Counts a call, and answers whether it fails.
+    fn fails(&self) -> bool {
+        let calls = self.calls.get();
+        self.calls.set(calls.saturating_sub(1));
+        calls == 0
+    }
+}
+
+/// An end of one of the ways.
+#[derive(Drop)]
+pub struct Pipe<'a> {
+    wires: &'a Wires,
+    wire: &'a RefCell<Wire>,
+    failures: u64,
+}
+
+impl<'a> Pipe<'a> {
+    /// From the client to the server.
+    pub fn up(wires: &'a Wires) -> Pipe<'a> {
+        Pipe {
+            wires,
+            wire: &wires.up,
+            failures: 0,
+        }
+    }
+
+    /// From the server to the client.
+    pub fn down(wires: &'a Wires) -> Pipe<'a> {
+        Pipe {
+            wires,
+            wire: &wires.down,
+            failures: 0,
+        }
+    }
+}
+
+impl Source for Pipe<'_> {
+    ghost failures = { λ pipe. pipe.failures };
+
+    fn read(&mut self, buffer: &mut [u8]) -> Result<usize, IoFault> {
+        if !self.wires.fails() {
+            if let Ok(mut wire) = self.wire.try_borrow_mut() {
+                return Ok(wire.take(self.wires.most, buffer));
+            }
+        }
+        self.failures = self.failures.saturating_add(1);
+        Err(IoFault)
+    }
+}
+
+impl Target for Pipe<'_> {
+    ghost failures = { λ pipe. pipe.failures };
+
+    fn write(&mut self, bytes: &[u8]) -> Result<usize, IoFault> {
+        let count = bytes.len().min(self.wires.most);
+        if !self.wires.fails() && (count > 0 || bytes.is_empty()) {
+            if let Ok(mut wire) = self.wire.try_borrow_mut() {
+                if wire.bytes.extend_from_slice(&bytes[..count]).is_ok() {
+                    return Ok(count);
+                }
+            }
+        }
+        self.failures = self.failures.saturating_add(1);
+        Err(IoFault)
+    }
+}
