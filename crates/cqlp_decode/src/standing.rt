@@ -1,6 +1,7 @@
 //! Where the reading of a stream stands, and one step of it.
 
-ghost use Rattle.std.specs.Prelude.{◌≡◌, ◌+◌, ◌-◌, ◌<◌, ◌≤◌, ◌^◌, ◌++◌, [], length, take, None, Some, IsTrue, ◌↔◌, true, false};
+ghost use Rattle.std.specs.Prelude.{◌≡◌, ◌↔◌, ◌+◌, ◌-◌, ◌<◌, ◌≤◌, ◌^◌, ◌++◌};
+ghost use Rattle.std.specs.Prelude.{[], IsTrue, None, Some, false, length, take, true};
 ghost use Rattle.cqlp_note.specs.Limits.{limit_of, rules_of};
 ghost use Rattle.cqlp_note.specs.declared.refusal.Refusal.{Refusal as Refusing};
 ghost use Rattle.cqlp_decode.specs.Standing.{came_of, stage_with};

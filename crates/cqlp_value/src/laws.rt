@@ -1,6 +1,8 @@
 //! Laws of the definitions.
 
-ghost use Rattle.cqlp_value.specs.Laws.{ReadIsSpelled, SpelledIsRead, SpelledIsLong, OneSpelled, ScalarIsItsContent, ReadScalarFits, FittingIsSpelled, SpelledFits, OneAnswerOfPush, OneAnswerOfAdvance, OneAnswerOfFrontScalar};
+ghost use Rattle.cqlp_value.specs.Laws.{FittingIsSpelled, OneSpelled, ReadIsSpelled, ReadScalarFits, ScalarIsItsContent};
+ghost use Rattle.cqlp_value.specs.Laws.{SpelledFits, SpelledIsLong, SpelledIsRead};
+ghost use Rattle.cqlp_value.specs.Laws.{OneAnswerOfAdvance, OneAnswerOfFrontScalar, OneAnswerOfPush};
 
 /// What is read of a cell is a value that its bytes spell, with just its items.
 pub fn read_is_spelled()
