@@ -7,28 +7,28 @@ use Rattle.cqlp_note.specs.Step.{Emitted, map_step}
 use Rattle.cqlp_note.specs.Limits.{Rules, rules_of}
 use Rattle.cqlp_note.specs.Partial.{FieldState}
 use Rattle.cqlp_note.proofs.Yields.{map_said, says_map}
-use Rattle.cqlp_type.specs.declared.kind.Kind.{Kind}
-use Rattle.cqlp_type.specs.declared.node.Node.{Node}
-use Rattle.cqlp_type.specs.Types.{Types, Type_and}
-use Rattle.cqlp_value.specs.declared.advance.CellOutline.{CellOutline}
-use Rattle.cqlp_value.specs.declared.advance.CellAdvance.TheVariants as cell_advance
-use Rattle.cqlp_value.specs.declared.standing.NextInCell.{NextInCell}
-use Rattle.cqlp_value.specs.declared.standing.NextInCell.TheVariants as next
-use Rattle.cqlp_value.specs.CellStep.{CellSymbol, CellEvent, CellPlace, Value_of, cell_step}
-use Rattle.cqlp_value.specs.CellStep as cell
-use Rattle.cqlp_value.specs.declared.advance.CellOutline.TheVariants as outline
-use Rattle.cqlp_value.specs.Scalars.{ScalarValue, allows_size, scalar_of}
-use Rattle.cqlp_value.specs.Items.{event_at as cell_event_at, leaf_event, content_at, CanLend}
-use Rattle.cqlp_value.specs.Inner.{Forest}
-use Rattle.cqlp_value.specs.Standing as value
-use Rattle.cqlp_value.specs.Standing.{CellState, place, cell_symbols, is_under_way}
-use Rattle.cqlp_value.specs.Reading.{HaveCome, IsAfterItem}
-use Rattle.cqlp_value.specs.Reading as taking
-use Rattle.cqlp_value.specs.Pushing.{is_done, begun as begun_at}
-use Rattle.cqlp_value.specs.Fronts.{SaysScalar}
-use Rattle.cqlp_value.proofs.Leading.{some_come, stands_under, told_is as cell_told_is}
-use Rattle.cqlp_value.proofs.ScalarSizes.{scalar_sized}
-use Rattle.cqlp_value.proofs.Leavings.{left_none, left_some, stop_is}
+use Rattle.cqlp_kind.specs.declared.kind.Kind.{Kind}
+use Rattle.cqlp_kind.specs.declared.node.Node.{Node}
+use Rattle.cqlp_kind.specs.Types.{Types, Type_and}
+use Rattle.cqlp_cell.specs.declared.advance.CellOutline.{CellOutline}
+use Rattle.cqlp_cell.specs.declared.advance.CellAdvance.TheVariants as cell_advance
+use Rattle.cqlp_cell.specs.declared.standing.NextInCell.{NextInCell}
+use Rattle.cqlp_cell.specs.declared.standing.NextInCell.TheVariants as next
+use Rattle.cqlp_kind.specs.CellStep.{CellSymbol, CellEvent, CellPlace, Value_of, cell_step}
+use Rattle.cqlp_kind.specs.CellStep as cell
+use Rattle.cqlp_cell.specs.declared.advance.CellOutline.TheVariants as outline
+use Rattle.cqlp_kind.specs.Scalars.{ScalarValue, allows_size, scalar_of}
+use Rattle.cqlp_cell.specs.Items.{event_at as cell_event_at, leaf_event, content_at, CanLend}
+use Rattle.cqlp_type.specs.Forests.{Forest}
+use Rattle.cqlp_cell.specs.Standing as value
+use Rattle.cqlp_cell.specs.Standing.{CellState, place, cell_symbols, is_under_way}
+use Rattle.cqlp_cell.specs.Reading.{HaveCome, IsAfterItem}
+use Rattle.cqlp_cell.specs.Reading as taking
+use Rattle.cqlp_cell.specs.Pushing.{is_done, begun as begun_at}
+use Rattle.cqlp_cell.specs.Fronts.{SaysScalar}
+use Rattle.cqlp_cell.proofs.Leading.{some_come, stands_under, told_is as cell_told_is}
+use Rattle.cqlp_cell.proofs.ScalarSizes.{scalar_sized}
+use Rattle.cqlp_cell.proofs.Leavings.{left_none, left_some, stop_is}
 use Rattle.cqlp_grammar.specs.Productions.{Symbol, Cell_due, In_cell}
 use Rattle.cqlp_decode.specs.declared.page.CellCursor.{CellCursor}
 use Rattle.cqlp_decode.specs.declared.standing.StreamStage.{StreamStage}

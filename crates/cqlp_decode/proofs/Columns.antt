@@ -3,16 +3,16 @@ use Rattle.std.proofs.Common.{◌≡◌, ℕ, zero, suc, ◌+◌, ◌-◌, ◌<�
 use Rattle.std.specs.Prelude.{Option, Some, None, Bool}
 use Rattle.cqlp_note.specs.Limits.{Rules}
 use Rattle.cqlp_note.specs.Field.{FieldValue}
-use Rattle.cqlp_type.specs.declared.kind.Kind.{Kind}
-use Rattle.cqlp_type.specs.declared.kind.Kind.TheVariants as kind
-use Rattle.cqlp_type.specs.declared.node.Node.{Node}
-use Rattle.cqlp_type.specs.Types.{Types, NoMore, Type_and, types_of, other_types}
-use Rattle.cqlp_value.specs.declared.standing.NextInCell.{NextInCell}
-use Rattle.cqlp_value.specs.declared.standing.NextInCell.TheVariants as next
-use Rattle.cqlp_value.specs.CellStep.{CellSymbol, Value_of, values_of}
-use Rattle.cqlp_value.specs.Inner.{Forest}
-use Rattle.cqlp_value.specs.Standing.{CellState, place, cell_symbols, CellStands}
-use Rattle.cqlp_value.proofs.Columns.{Column, forest_first, forest_end}
+use Rattle.cqlp_kind.specs.declared.kind.Kind.{Kind}
+use Rattle.cqlp_kind.specs.declared.kind.Kind.TheVariants as kind
+use Rattle.cqlp_kind.specs.declared.node.Node.{Node}
+use Rattle.cqlp_kind.specs.Types.{Types, NoMore, Type_and, types_of, other_types}
+use Rattle.cqlp_cell.specs.declared.standing.NextInCell.{NextInCell}
+use Rattle.cqlp_cell.specs.declared.standing.NextInCell.TheVariants as next
+use Rattle.cqlp_kind.specs.CellStep.{CellSymbol, Value_of, values_of}
+use Rattle.cqlp_type.specs.Forests.{Forest}
+use Rattle.cqlp_cell.specs.Standing.{CellState, place, cell_symbols, CellStands}
+use Rattle.cqlp_type.proofs.Columns.{Column, forest_first, forest_end}
 use Rattle.cqlp_grammar.specs.declared.grammar.Role.{Role}
 use Rattle.cqlp_grammar.specs.declared.grammar.Role.TheVariants as role
 use Rattle.cqlp_grammar.specs.Productions.{Symbol, rows_from, raw_types, number_in}

@@ -15,14 +15,14 @@ use Rattle.cqlp_note.specs.Partial.{FieldState, item_value, CanLend, Ends}
 use Rattle.cqlp_note.specs.Partial as partial
 use Rattle.cqlp_note.proofs.Yields.{after_more, after_bad, after_got, got_inside, says_exact}
 use Rattle.cqlp_note.proofs.Fronts.{fixed_overruns, fixed_wanting, fixed_taken}
-use Rattle.cqlp_type.specs.Types.{Types}
+use Rattle.cqlp_kind.specs.Types.{Types}
 use Rattle.cqlp_type.specs.Table.{Table}
 use Rattle.cqlp_type.specs.Standing as type
-use Rattle.cqlp_type.specs.declared.node.Node.{Node}
-use Rattle.cqlp_value.specs.Standing as value
-use Rattle.cqlp_value.specs.Standing.{is_under_way}
-use Rattle.cqlp_value.specs.Inner.{Forest}
-use Rattle.cqlp_value.proofs.Columns.{forest_none}
+use Rattle.cqlp_kind.specs.declared.node.Node.{Node}
+use Rattle.cqlp_cell.specs.Standing as value
+use Rattle.cqlp_cell.specs.Standing.{is_under_way}
+use Rattle.cqlp_type.specs.Forests.{Forest}
+use Rattle.cqlp_type.proofs.Columns.{forest_none}
 use Rattle.cqlp_grammar.specs.declared.grammar.Role.{Role}
 use Rattle.cqlp_grammar.specs.declared.grammar.Role.TheVariants as role
 use Rattle.cqlp_grammar.specs.Productions.{Symbol, following, fault_in}

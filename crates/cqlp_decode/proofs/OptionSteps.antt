@@ -16,11 +16,11 @@ use Rattle.cqlp_note.specs.Partial.{FieldState}
 use Rattle.cqlp_note.proofs.Readers.{Always, says_always}
 use Rattle.cqlp_note.proofs.Fields.{either_always}
 use Rattle.cqlp_note.proofs.Yields.{map_said, says_map}
-use Rattle.cqlp_type.specs.declared.kind.Kind.{Kind}
+use Rattle.cqlp_kind.specs.declared.kind.Kind.{Kind}
 use Rattle.cqlp_type.specs.declared.advance.TypeOutline.{TypeOutline}
-use Rattle.cqlp_type.specs.Types.{kinds}
+use Rattle.cqlp_kind.specs.Types.{kinds}
 use Rattle.cqlp_type.specs.Pushing.{ReadsInto}
-use Rattle.cqlp_type.specs.TypeStep.{TypeSymbol, TypeEvent, IsNode, IsField, TypePlace, Option_at, Text_of, Fields_of, Whole, option_step, type_step_at, type_step, type_place, settled, symbol_copies, inner_symbols, with_arity, count_in}
+use Rattle.cqlp_kind.specs.TypeStep.{TypeSymbol, TypeEvent, IsNode, IsField, TypePlace, Option_at, Text_of, Fields_of, Whole, option_step, type_step_at, type_step, type_place, settled, symbol_copies, inner_symbols, with_arity, count_in}
 use Rattle.cqlp_type.specs.Table.{Table}
 use Rattle.cqlp_type.specs.Standing as type
 use Rattle.cqlp_type.specs.Standing.{place_of, pending}
@@ -36,9 +36,9 @@ use Rattle.cqlp_decode.specs.declared.standing.StreamStage.{StreamStage}
 use Rattle.cqlp_decode.proofs.Steps.{starts_bare, begun_bare, one_due_bare, offset_is_bare}
 use Rattle.cqlp_decode.proofs.FieldSteps.{used_some, goes_on_lawful}
 use Rattle.cqlp_type.proofs.Pushes.{option_begun, option_waited, option_handed, option_over}
-use Rattle.cqlp_value.specs.Inner.{Forest}
-use Rattle.cqlp_value.specs.Standing.{is_under_way}
-use Rattle.cqlp_value.proofs.Columns.{forest_more}
+use Rattle.cqlp_type.specs.Forests.{Forest}
+use Rattle.cqlp_cell.specs.Standing.{is_under_way}
+use Rattle.cqlp_type.proofs.Columns.{forest_more}
 
 -- ---- the table that an option is read into
 

@@ -11,8 +11,8 @@ use Rattle.cqlp_note.specs.Reader.{Bad, Got}
 use Rattle.cqlp_note.specs.Step.{Emitted}
 use Rattle.cqlp_note.specs.Heading.{heading}
 use Rattle.cqlp_note.specs.Limits.{rules_of}
-use Rattle.cqlp_type.specs.declared.node.Node.{Node}
-use Rattle.cqlp_value.specs.Inner.{Forest}
+use Rattle.cqlp_kind.specs.declared.node.Node.{Node}
+use Rattle.cqlp_type.specs.Forests.{Forest}
 use Rattle.cqlp_grammar.specs.Productions.{Stream, message}
 use Rattle.cqlp_grammar.specs.declared.table.Expected.{Expected}
 use Rattle.cqlp_grammar.specs.declared.table.Expected.TheVariants as due

@@ -1,15 +1,15 @@
 -- The cells that are still to be read of a page (section 4.2.5.2 of native_protocol_v4.spec).
 use Rattle.std.specs.Prelude.{◌≡◌, ℕ, ◌+◌, ◌-◌, ◌<◌, ◌≤◌, ◌^◌, ◌++◌, Bool, List, [], ◌∷◌, length, drop, Option, Some, None}
 use Rattle.cqlp_note.specs.Field.{FieldValue}
-use Rattle.cqlp_type.specs.declared.kind.Kind.{Kind}
-use Rattle.cqlp_type.specs.declared.node.Node.{Node}
-use Rattle.cqlp_type.specs.Types.{Types, NoMore, Type_and, types_of, other_types}
-use Rattle.cqlp_value.specs.declared.standing.NextInCell.{NextInCell}
-use Rattle.cqlp_value.specs.declared.standing.NextInCell.TheVariants as next
-use Rattle.cqlp_value.specs.CellStep.{CellSymbol}
-use Rattle.cqlp_value.specs.Inner.{Forest}
-use Rattle.cqlp_value.specs.Standing as cell
-use Rattle.cqlp_value.specs.Standing.{place}
+use Rattle.cqlp_kind.specs.declared.kind.Kind.{Kind}
+use Rattle.cqlp_kind.specs.declared.node.Node.{Node}
+use Rattle.cqlp_kind.specs.Types.{Types, NoMore, Type_and, types_of, other_types}
+use Rattle.cqlp_cell.specs.declared.standing.NextInCell.{NextInCell}
+use Rattle.cqlp_cell.specs.declared.standing.NextInCell.TheVariants as next
+use Rattle.cqlp_kind.specs.CellStep.{CellSymbol}
+use Rattle.cqlp_type.specs.Forests.{Forest}
+use Rattle.cqlp_cell.specs.Standing as cell
+use Rattle.cqlp_cell.specs.Standing.{place}
 use Rattle.cqlp_grammar.specs.declared.grammar.Role.{Role}
 use Rattle.cqlp_grammar.specs.Productions.{Symbol, Cell_due, In_cell, row_from, rows_from, raw_types, following}
 use Rattle.cqlp_decode.specs.declared.page.Columns.{Columns}

@@ -10,10 +10,10 @@ use Rattle.cqlp_note.specs.Step.{Emitted, Step, Emit, after_field, map_step, Run
 use Rattle.cqlp_note.specs.Limits.{Rules, limit_of}
 use Rattle.cqlp_note.specs.declared.header.Header.{Header}
 use Rattle.cqlp_note.specs.Heading.{Heading, heading, has}
-use Rattle.cqlp_type.specs.declared.node.Node.{Node}
-use Rattle.cqlp_type.specs.Types.{Types, types_of, how_many}
-use Rattle.cqlp_type.specs.TypeStep.{TypeSymbol, TypePlace, type_step}
-use Rattle.cqlp_value.specs.CellStep.{CellSymbol, Value_of, CellPlace, cell_step}
+use Rattle.cqlp_kind.specs.declared.node.Node.{Node}
+use Rattle.cqlp_kind.specs.Types.{Types, types_of, how_many}
+use Rattle.cqlp_kind.specs.TypeStep.{TypeSymbol, TypePlace, type_step}
+use Rattle.cqlp_kind.specs.CellStep.{CellSymbol, Value_of, CellPlace, cell_step}
 pub use Rattle.cqlp_grammar.specs.Events.{Event, Frame, Holds, Node_of, Cell_at, Leave, End, type_event, cell_event}
 use Rattle.cqlp_grammar.specs.declared.grammar.Role.{Role}
 use Rattle.cqlp_grammar.specs.declared.grammar.Role.TheVariants as role

@@ -12,24 +12,24 @@ use Rattle.cqlp_note.specs.declared.limits.Limits.{Limits}
 use Rattle.cqlp_note.specs.Field.{FieldValue}
 use Rattle.cqlp_note.specs.Partial.{FieldState, item_value, CanLend}
 use Rattle.cqlp_note.specs.Field.{content_length}
-use Rattle.cqlp_type.specs.TypeStep.{Option_at, TypeEvent, TypePlace}
-use Rattle.cqlp_type.specs.declared.node.Node.{Node}
+use Rattle.cqlp_kind.specs.TypeStep.{Option_at, TypeEvent, TypePlace}
+use Rattle.cqlp_kind.specs.declared.node.Node.{Node}
 use Rattle.cqlp_type.specs.Table.{Table}
 use Rattle.cqlp_type.specs.Standing as type
 use Rattle.cqlp_type.specs.Standing.{IsShared, CanLendPart}
 use Rattle.cqlp_type.specs.Remaining as part
 use Rattle.cqlp_type.specs.Pushing as option
-use Rattle.cqlp_value.specs.declared.standing.NextInCell.TheVariants as next
-use Rattle.cqlp_value.specs.declared.standing.Under.{Under}
-use Rattle.cqlp_value.specs.declared.standing.Under.TheVariants as under
-use Rattle.cqlp_value.specs.CellStep as cell
-use Rattle.cqlp_value.specs.Items as cells
-use Rattle.cqlp_value.specs.Scalars.{content_size}
-use Rattle.cqlp_value.specs.Inner.{Forest}
-use Rattle.cqlp_value.specs.Standing as value
-use Rattle.cqlp_value.specs.Standing.{is_under_way}
-use Rattle.cqlp_value.specs.Reading as taking
-use Rattle.cqlp_value.specs.Pushing.{is_done}
+use Rattle.cqlp_cell.specs.declared.standing.NextInCell.TheVariants as next
+use Rattle.cqlp_cell.specs.declared.standing.Under.{Under}
+use Rattle.cqlp_cell.specs.declared.standing.Under.TheVariants as under
+use Rattle.cqlp_kind.specs.CellStep as cell
+use Rattle.cqlp_cell.specs.Items as cells
+use Rattle.cqlp_kind.specs.Scalars.{content_size}
+use Rattle.cqlp_type.specs.Forests.{Forest}
+use Rattle.cqlp_cell.specs.Standing as value
+use Rattle.cqlp_cell.specs.Standing.{is_under_way}
+use Rattle.cqlp_cell.specs.Reading as taking
+use Rattle.cqlp_cell.specs.Pushing.{is_done}
 use Rattle.cqlp_grammar.specs.declared.grammar.Role.{Role}
 use Rattle.cqlp_grammar.specs.Productions.{Symbol, Stream, Extra, In_type}
 use Rattle.cqlp_grammar.specs.declared.table.Want.{Want}
@@ -45,7 +45,7 @@ use Rattle.cqlp_decode.specs.declared.advance.EventAdvance.TheVariants as advanc
 use Rattle.cqlp_decode.specs.declared.standing.StreamStanding.{StreamStanding}
 use Rattle.cqlp_decode.specs.declared.parts.Parts.{Parts}
 use Rattle.cqlp_decode.specs.declared.advance.ScalarCell.{ScalarCell}
-use Rattle.cqlp_value.specs.Contents.{value_of as scalar_value}
+use Rattle.cqlp_kind.specs.Contents.{value_of as scalar_value}
 use Rattle.cqlp_decode.specs.declared.page.CellCursor.{CellCursor}
 use Rattle.cqlp_grammar.specs.Upcoming.{symbols_in, wanted, room_after, IsRead}
 use Rattle.cqlp_decode.specs.Pages.{cells_from, page_symbols, node_by, symbols_after, IsPage}

@@ -1,8 +1,9 @@
 //! What a piece of input makes of a stream, with nothing borrowed but scalars.
 
+use cqlp_cell::CellOutline;
+use cqlp_kind::Scalar;
 use cqlp_note::{Field, FieldOutline, Header, Refusal};
 use cqlp_type::TypeOutline;
-use cqlp_value::{CellOutline, Scalar};
 
 /// An event, with nothing borrowed.
 #[derive(Clone, Copy)]

@@ -2,13 +2,14 @@
 
 ghost use Rattle.std.specs.Prelude.{◌≡◌, ◌↔◌, ℕ, IsTrue};
 ghost use Rattle.cqlp_note.specs.Head.{value_of};
-ghost use Rattle.cqlp_value.specs.Inner.{Forest};
-ghost use Rattle.cqlp_type.specs.Types.{NoMore};
+ghost use Rattle.cqlp_type.specs.Forests.{Forest};
+ghost use Rattle.cqlp_kind.specs.Types.{NoMore};
 ghost use Rattle.cqlp_decode.specs.Pages.{AreColumns, Begins, FindsColumn, FindsPage, IsKind, IsPage, IsSomePage, Turns, column_types, node_by};
 
 use cqlp_grammar::{Role, has, number};
+use cqlp_kind::Kind;
 use cqlp_note::{Limits, Prim};
-use cqlp_type::{Kind, TypeTable};
+use cqlp_type::TypeTable;
 use std::alloc::Allocator;
 
 /// The types of a page's columns.

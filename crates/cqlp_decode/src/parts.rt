@@ -1,8 +1,8 @@
 //! The parts of a decoder that own memory.
 
+use cqlp_cell::CellReader;
 use cqlp_note::Partial;
 use cqlp_type::{TypeReader, TypeTable};
-use cqlp_value::CellReader;
 use std::alloc::Allocator;
 
 /// All that a decoder has memory for.

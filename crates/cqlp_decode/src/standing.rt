@@ -10,12 +10,13 @@ use crate::advance::{EventAdvance, EventOutline, ScalarCell};
 use crate::metadata::begin_metadata;
 use crate::page::{CellCursor, find_page};
 use crate::parts::Parts;
+use cqlp_cell::{CellAdvance, CellOutline, CellReader, front_scalar};
 use cqlp_grammar::{Expected, Finish, Role, Upcoming, Want, fault_in};
+use cqlp_kind::Scalar;
 use cqlp_note::{
     self as note, Field, FieldOutline, Header, Limits, Notation, Partial, Prim, Reason, Refusal,
 };
 use cqlp_type::{TypeAdvance, TypeOutline, TypeReader, TypeTable};
-use cqlp_value::{CellAdvance, CellOutline, CellReader, Scalar, front_scalar};
 use std::alloc::Allocator;
 
 /// What is read now.
@@ -57,8 +58,8 @@ impl StreamStanding {
     ghost use Rattle.std.specs.Prelude.{max};
     ghost use Rattle.cqlp_note.specs.Head.{value_of};
     ghost use Rattle.cqlp_type.specs.Standing.{started};
-    ghost use Rattle.cqlp_value.specs.Standing.{ended, is_under_way};
-    ghost use Rattle.cqlp_value.specs.Standing as value;
+    ghost use Rattle.cqlp_cell.specs.Standing.{ended, is_under_way};
+    ghost use Rattle.cqlp_cell.specs.Standing as value;
     ghost use Rattle.cqlp_grammar.specs.Productions.{Extra, following, message};
     ghost use Rattle.cqlp_decode.specs.Reading.{start};
     ghost use Rattle.cqlp_decode.specs.Streams.{EndsAs};
@@ -69,8 +70,8 @@ impl StreamStanding {
     ghost use Rattle.cqlp_decode.specs.Standing.{IsAsked, IsAt, IsBounded, IsWanted, Starts, asked};
     ghost use Rattle.cqlp_decode.specs.Standing.{first_state, refusal_in, rest_of, state_of, state_with, symbols_at};
     ghost use Rattle.cqlp_decode.specs.Pages.{IsPage, cells_after, node_by};
-    ghost use Rattle.cqlp_value.specs.Inner.{Forest};
-    ghost use Rattle.cqlp_value.specs.Pushing.{begun};
+    ghost use Rattle.cqlp_type.specs.Forests.{Forest};
+    ghost use Rattle.cqlp_cell.specs.Pushing.{begun};
 
     /// At the start of a stream.
     pub fn new(limits: Limits) -> Self

@@ -3,7 +3,7 @@ use Rattle.std.proofs.Common.{◌≡◌, ℕ, ◌+◌, ◌-◌, ◌^◌, ◌<◌
 use Rattle.std.proofs.lemmas.List.{take_more, length-append}
 use Rattle.std.specs.Int.{w32, to_be_bytes}
 use Rattle.cqlp_value.specs.declared.value.Value.{Value, Null, Empty, Leaf, List', Map', Set', Tuple', Udt'}
-use Rattle.cqlp_type.specs.declared.kind.Kind.{Kind}
+use Rattle.cqlp_kind.specs.declared.kind.Kind.{Kind}
 use Rattle.cqlp_value.specs.Values.{Values, NoValue, Counted_and, Fields_and, values_size, values_bytes}
 use Rattle.cqlp_value.specs.Owned.{value_and, value_of}
 use Rattle.cqlp_value.specs.Measures.{listed_values, listed_pairs}

@@ -11,9 +11,9 @@ use Rattle.std.specs.declared.vec.Vec.{Vec}
 use Rattle.cqlp_note.specs.declared.field.Notation.TheVariants as notation
 use Rattle.cqlp_note.specs.Field as note
 use Rattle.cqlp_note.specs.Spelling.{field_bytes}
-use Rattle.cqlp_type.specs.declared.kind.Kind.TheVariants as kind
+use Rattle.cqlp_kind.specs.declared.kind.Kind.TheVariants as kind
 use Rattle.cqlp_type.specs.declared.tree.TypeTree.{TypeTree, Udt, Tuple}
-use Rattle.cqlp_type.specs.TypeStep.{TypeEvent, IsNode}
+use Rattle.cqlp_kind.specs.TypeStep.{TypeEvent, IsNode}
 use Rattle.cqlp_type.specs.Trees.{Head, Plain, Custom, ListOf, SetOf, MapOf, TupleOf, UdtOf, Trees, NoTree, Tree_and, trees_in, kind_in, has_names, head_items, name_items, trees_items, item_bytes, tree_bytes}
 use Rattle.cqlp_type.specs.TypeTrees.{head_of, inner_of, tree_of, name_size, head_size, trees_size}
 use Rattle.cqlp_type.specs.TypeLists.{listed_types, listed_fields}

@@ -5,7 +5,7 @@ ghost use Rattle.std.specs.List.{flat_map};
 ghost use Rattle.cqlp_note.specs.declared.field.Notation.TheVariants as notation;
 ghost use Rattle.cqlp_note.specs.Field as note;
 ghost use Rattle.cqlp_note.specs.Spelling.{field_bytes};
-ghost use Rattle.cqlp_type.specs.TypeStep.{IsNode};
+ghost use Rattle.cqlp_kind.specs.TypeStep.{IsNode};
 ghost use Rattle.cqlp_type.specs.Trees.{item_bytes, tree_bytes};
 ghost use Rattle.cqlp_type.specs.TypeTrees.{tree_of};
 ghost use Rattle.cqlp_encode.specs.Progress.{Puts};

@@ -2,7 +2,7 @@
 
 ghost use Rattle.cqlp_value.specs.Measures.{listed_pairs, listed_values};
 ghost use Rattle.cqlp_value.specs.Owned.{atom_of, value_and, value_of};
-ghost use Rattle.cqlp_value.specs.Scalars.{content_of};
+ghost use Rattle.cqlp_kind.specs.Scalars.{content_of};
 ghost use Rattle.cqlp_value.specs.Values.{Scalar_and, NoValue, values_bytes, values_size};
 ghost use Rattle.cqlp_encode.specs.Progress.{PutsWithin};
 

@@ -3,7 +3,7 @@ use Rattle.std.proofs.Common.{◌≡◌, ℕ, zero, suc, drop, drop-cons, add-on
 use Rattle.std.proofs.Math.ListN.{set}
 use Rattle.std.proofs.lemmas.List.{append-nil, take_more, take_more_set, length-take-le, drop_all}
 use Rattle.std.specs.Prelude.{max}
-use Rattle.cqlp_type.specs.Types.{NoMore}
+use Rattle.cqlp_kind.specs.Types.{NoMore}
 use Rattle.cqlp_grammar.specs.Productions.{Symbol, copies, group, rows_from}
 use Rattle.cqlp_grammar.specs.declared.grammar.Group.{Group}
 use Rattle.std.specs.Prelude.{Some}

@@ -6,11 +6,11 @@ use Rattle.cqlp_note.specs.declared.prim.BoundValue.{BoundValue}
 use Rattle.cqlp_note.specs.declared.prim.BoundValue.TheVariants as bound
 use Rattle.cqlp_note.specs.Field.{FieldValue}
 use Rattle.cqlp_note.specs.Field as field
-use Rattle.cqlp_type.specs.declared.kind.Kind.{Kind}
-use Rattle.cqlp_type.specs.TypeStep.{TypeEvent, IsNode, IsField}
-use Rattle.cqlp_value.specs.CellStep.{CellEvent}
-use Rattle.cqlp_value.specs.CellStep as cell
-use Rattle.cqlp_value.specs.Contents.{value_of as scalar_value}
+use Rattle.cqlp_kind.specs.declared.kind.Kind.{Kind}
+use Rattle.cqlp_kind.specs.TypeStep.{TypeEvent, IsNode, IsField}
+use Rattle.cqlp_kind.specs.CellStep.{CellEvent}
+use Rattle.cqlp_kind.specs.CellStep as cell
+use Rattle.cqlp_kind.specs.Contents.{value_of as scalar_value}
 use Rattle.cqlp_grammar.specs.declared.event.Event as handed_out
 use Rattle.cqlp_grammar.specs.declared.event.Event.TheVariants as event
 

@@ -15,11 +15,11 @@ use Rattle.cqlp_note.specs.declared.refusal.Reason.TheVariants.{BadBatchKind, Ba
 use Rattle.cqlp_note.specs.Field.{FieldValue}
 use Rattle.cqlp_note.specs.Field as note
 use Rattle.cqlp_note.specs.Heading.{has, beside_number}
-use Rattle.cqlp_type.specs.declared.kind.Kind.{Kind}
-use Rattle.cqlp_type.specs.declared.kind.Kind.TheVariants as kind
-use Rattle.cqlp_type.specs.Types.{Types, NoMore, Type_and}
-use Rattle.cqlp_type.specs.TypeStep.{TypeSymbol, Option_at}
-use Rattle.cqlp_value.specs.CellStep.{CellSymbol}
+use Rattle.cqlp_kind.specs.declared.kind.Kind.{Kind}
+use Rattle.cqlp_kind.specs.declared.kind.Kind.TheVariants as kind
+use Rattle.cqlp_kind.specs.Types.{Types, NoMore, Type_and}
+use Rattle.cqlp_kind.specs.TypeStep.{TypeSymbol, Option_at}
+use Rattle.cqlp_kind.specs.CellStep.{CellSymbol}
 use Rattle.cqlp_grammar.specs.declared.grammar.Group.{Group}
 use Rattle.cqlp_grammar.specs.declared.grammar.Group.TheVariants as group_of
 use Rattle.cqlp_grammar.specs.declared.grammar.Role.{Role}

@@ -5,8 +5,8 @@ use Rattle.cqlp_grammar.specs.declared.grammar.Group.TheVariants as group_of
 use Rattle.cqlp_grammar.specs.declared.grammar.Role.{Role}
 use Rattle.cqlp_grammar.specs.declared.grammar.Role.TheVariants as role
 use Rattle.cqlp_grammar.specs.Productions.{Symbol, In, In_type, copies, group, following, number_in}
-use Rattle.cqlp_type.specs.Types.{Types}
-use Rattle.cqlp_type.specs.TypeStep.{Option_at}
+use Rattle.cqlp_kind.specs.Types.{Types}
+use Rattle.cqlp_kind.specs.TypeStep.{Option_at}
 use Rattle.cqlp_note.specs.Field.{FieldValue}
 use Rattle.cqlp_note.specs.Head.{fixed_of}
 use Rattle.cqlp_grammar.specs.declared.table.Expected.{Expected}

@@ -1,8 +1,7 @@
 //! What a stream says, event by event.
 
+use cqlp_kind::{Kind, Scalar};
 use cqlp_note::{Address, BoundValue, Field, Header, Refusal};
-use cqlp_type::Kind;
-use cqlp_value::Scalar;
 
 /// One thing that a stream says: a header (section 2 of `native_protocol_v4.spec`), a field of a message in one of the
 /// notations of section 3, a type option (section 4.2.5.2), a part of a cell (section 6), or a frame's end. Contents are

@@ -3,7 +3,7 @@
 ghost use Rattle.std.specs.Prelude.{◌≡◌, ◌+◌, ◌≤◌, ◌++◌, ◌∷◌, [], length};
 ghost use Rattle.cqlp_note.specs.Heading.{has as has_bit};
 ghost use Rattle.cqlp_note.specs.Head.{value_of};
-ghost use Rattle.cqlp_type.specs.Types.{NoMore};
+ghost use Rattle.cqlp_kind.specs.Types.{NoMore};
 ghost use Rattle.cqlp_grammar.specs.Productions.{Extra, In, batch_parts, entry_parts, fault_in as fault_of, following};
 ghost use Rattle.cqlp_grammar.specs.Productions.{message, number_in, query_parts, specs, text_in};
 

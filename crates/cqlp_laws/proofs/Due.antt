@@ -7,8 +7,8 @@ use Rattle.cqlp_note.specs.declared.opcode.Opcode.TheVariants as opcode
 use Rattle.cqlp_note.specs.declared.header.Header.{Header}
 use Rattle.cqlp_note.specs.Field.{FieldValue}
 use Rattle.cqlp_note.specs.Heading.{has, beside_number}
-use Rattle.cqlp_type.specs.Types.{Types, NoMore, Type_and}
-use Rattle.cqlp_type.specs.TypeStep.{Option_at}
+use Rattle.cqlp_kind.specs.Types.{Types, NoMore, Type_and}
+use Rattle.cqlp_kind.specs.TypeStep.{Option_at}
 use Rattle.cqlp_grammar.specs.declared.grammar.Group.{Group}
 use Rattle.cqlp_grammar.specs.declared.grammar.Group.TheVariants as group_of
 use Rattle.cqlp_grammar.specs.declared.grammar.Role.{Role}

@@ -11,10 +11,10 @@ use Rattle.cqlp_note.specs.Heading.{Heading, heading}
 use Rattle.cqlp_note.specs.Limits.{Rules, limit_of}
 use Rattle.cqlp_note.specs.Step.{Emitted, map_step}
 use Rattle.cqlp_note.proofs.Yields.{Yields}
-use Rattle.cqlp_type.specs.Types.{Types}
-use Rattle.cqlp_type.specs.TypeStep.{TypeEvent, IsNode, IsField, type_step}
-use Rattle.cqlp_value.specs.CellStep.{CellSymbol, Value_of, CellEvent, cell_step}
-use Rattle.cqlp_value.specs.CellStep as cell
+use Rattle.cqlp_kind.specs.Types.{Types}
+use Rattle.cqlp_kind.specs.TypeStep.{TypeEvent, IsNode, IsField, type_step}
+use Rattle.cqlp_kind.specs.CellStep.{CellSymbol, Value_of, CellEvent, cell_step}
+use Rattle.cqlp_kind.specs.CellStep as cell
 use Rattle.cqlp_grammar.specs.declared.grammar.Role.{Role}
 use Rattle.cqlp_grammar.specs.Events.{Event, Frame, End, type_event, cell_event}
 use Rattle.cqlp_grammar.specs.Productions.{Symbol, Stream, In, In_type, Cell_due, In_cell, Extra, message, fault_in}

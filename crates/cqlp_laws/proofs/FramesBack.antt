@@ -10,7 +10,7 @@ use Rattle.cqlp_note.specs.declared.header.Header.{Header}
 use Rattle.cqlp_note.specs.Heading.{Heading, heading, heading_of, has, same, answers, beside_number, opcodes, IsLawful, header_bytes}
 use Rattle.cqlp_note.specs.Limits.{Rules}
 use Rattle.cqlp_note.proofs.Written.{read_is_lawful, read_is_written}
-use Rattle.cqlp_type.specs.Types.{Types, NoMore}
+use Rattle.cqlp_kind.specs.Types.{Types, NoMore}
 use Rattle.cqlp_grammar.specs.Events.{Event, Frame, End}
 use Rattle.cqlp_message.specs.Parts.{Part, PartsSpell, PartsWithin, parts_events}
 use Rattle.cqlp_grammar.specs.Productions.{Symbol, Extra, message}

@@ -12,7 +12,7 @@ use Rattle.cqlp_note.specs.Step.{Emitted}
 use Rattle.cqlp_note.proofs.Runs.{runs_then, runs_stay}
 use Rattle.cqlp_note.proofs.Written.{written_is_read}
 use Rattle.cqlp_note.proofs.Yields.{Yields}
-use Rattle.cqlp_type.specs.Types.{Types, NoMore}
+use Rattle.cqlp_kind.specs.Types.{Types, NoMore}
 use Rattle.cqlp_message.specs.FrameValues.{FrameValue}
 use Rattle.cqlp_grammar.specs.Events.{Event, Frame, End}
 use Rattle.cqlp_grammar.specs.Productions.{Stream, Extra, message}

@@ -21,13 +21,13 @@ use Rattle.cqlp_note.specs.Heading.{Heading, heading, heading_of, has, beside_nu
 use Rattle.cqlp_note.proofs.Readers.{Always, says_always}
 use Rattle.cqlp_note.proofs.Fields.{either_always}
 use Rattle.cqlp_note.proofs.Yields.{says_yields}
-use Rattle.cqlp_type.specs.declared.kind.Kind.{Kind}
-use Rattle.cqlp_type.specs.declared.kind.Kind.TheVariants as kind
-use Rattle.cqlp_type.specs.declared.node.Node.{Node}
-use Rattle.cqlp_type.specs.Types.{Types, NoMore, Type_and, kinds}
-use Rattle.cqlp_type.specs.TypeStep.{TypeSymbol, TypeEvent, TypePlace, Option_at, Text_of, Fields_of, Whole, symbol_copies, parameters_of, inner_symbols, arity_of, with_arity, with_span, settled, count_in, option_step, type_step_at, type_step}
-use Rattle.cqlp_value.specs.Scalars.{ScalarValue, allows_size, scalar_of}
-use Rattle.cqlp_value.specs.CellStep.{CellSymbol, Value_of, Items_of, Close_of, Content_from, CellEvent, CellPlace, is_opaque, leaf_step, close_step, counted_step, part_step, scalar_step, content_step, value_step, cell_step_at, cell_step}
+use Rattle.cqlp_kind.specs.declared.kind.Kind.{Kind}
+use Rattle.cqlp_kind.specs.declared.kind.Kind.TheVariants as kind
+use Rattle.cqlp_kind.specs.declared.node.Node.{Node}
+use Rattle.cqlp_kind.specs.Types.{Types, NoMore, Type_and, kinds}
+use Rattle.cqlp_kind.specs.TypeStep.{TypeSymbol, TypeEvent, TypePlace, Option_at, Text_of, Fields_of, Whole, symbol_copies, parameters_of, inner_symbols, arity_of, with_arity, with_span, settled, count_in, option_step, type_step_at, type_step}
+use Rattle.cqlp_kind.specs.Scalars.{ScalarValue, allows_size, scalar_of}
+use Rattle.cqlp_kind.specs.CellStep.{CellSymbol, Value_of, Items_of, Close_of, Content_from, CellEvent, CellPlace, is_opaque, leaf_step, close_step, counted_step, part_step, scalar_step, content_step, value_step, cell_step_at, cell_step}
 use Rattle.cqlp_grammar.specs.declared.grammar.Group.{Group}
 use Rattle.cqlp_grammar.specs.declared.grammar.Group.TheVariants as group_of
 use Rattle.cqlp_grammar.specs.declared.grammar.Role.{Role}

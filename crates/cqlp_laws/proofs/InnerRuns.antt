@@ -12,14 +12,14 @@ use Rattle.cqlp_note.specs.Limits.{Rules}
 use Rattle.cqlp_note.specs.Heading.{beside_number}
 use Rattle.cqlp_note.proofs.Readers.{Always}
 use Rattle.cqlp_note.proofs.Fields.{either_always}
-use Rattle.cqlp_type.specs.declared.kind.Kind.{Kind}
-use Rattle.cqlp_type.specs.declared.kind.Kind.TheVariants as kind
-use Rattle.cqlp_type.specs.declared.node.Node.{Node}
-use Rattle.cqlp_type.specs.Types.{Types, NoMore, Type_and, kinds}
-use Rattle.cqlp_type.specs.TypeStep.{TypeSymbol, Option_at, Text_of, Fields_of, Whole, TypeEvent, TypePlace, parameters_of, inner_symbols, symbol_copies, with_arity, with_span, begun_node, settled, type_place, option_step, count_in, type_step_at, type_step}
+use Rattle.cqlp_kind.specs.declared.kind.Kind.{Kind}
+use Rattle.cqlp_kind.specs.declared.kind.Kind.TheVariants as kind
+use Rattle.cqlp_kind.specs.declared.node.Node.{Node}
+use Rattle.cqlp_kind.specs.Types.{Types, NoMore, Type_and, kinds}
+use Rattle.cqlp_kind.specs.TypeStep.{TypeSymbol, Option_at, Text_of, Fields_of, Whole, TypeEvent, TypePlace, parameters_of, inner_symbols, symbol_copies, with_arity, with_span, begun_node, settled, type_place, option_step, count_in, type_step_at, type_step}
 use Rattle.cqlp_type.proofs.Nodes.{length_with_span, length_with_arity}
-use Rattle.cqlp_value.specs.Scalars.{ScalarValue, allows_size, scalar_of}
-use Rattle.cqlp_value.specs.CellStep.{CellSymbol, Value_of, Items_of, Close_of, Content_from, CellEvent, CellPlace, is_opaque, leaf_step, close_step, counted_step, part_step, scalar_step, content_step, value_step, cell_step_at, cell_step}
+use Rattle.cqlp_kind.specs.Scalars.{ScalarValue, allows_size, scalar_of}
+use Rattle.cqlp_kind.specs.CellStep.{CellSymbol, Value_of, Items_of, Close_of, Content_from, CellEvent, CellPlace, is_opaque, leaf_step, close_step, counted_step, part_step, scalar_step, content_step, value_step, cell_step_at, cell_step}
 use Rattle.cqlp_value.specs.Values.{Values, ValueSpells, value_items}
 use Rattle.cqlp_value.proofs.ReadBack.{Comes, runs_come}
 use Rattle.cqlp_laws.proofs.EventCounts.{after_always}

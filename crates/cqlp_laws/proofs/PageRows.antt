@@ -5,15 +5,15 @@ use lib.Utf8.{encode}
 use Rattle.cqlp_note.specs.declared.opcode.Opcode.TheVariants as opcode
 use Rattle.cqlp_note.specs.declared.field.Field.TheVariants as field
 use Rattle.cqlp_note.specs.declared.refusal.Reason.TheVariants as reason
-use Rattle.cqlp_type.specs.declared.kind.Kind.TheVariants as kind
+use Rattle.cqlp_kind.specs.declared.kind.Kind.TheVariants as kind
 use Rattle.cqlp_note.specs.Limits.{Rules}
 use Rattle.cqlp_note.specs.Reader.{number_of}
 use Rattle.cqlp_note.specs.Field as note
 use Rattle.cqlp_note.specs.Field.{field_of, content_of}
 use Rattle.cqlp_note.specs.Heading.{heading}
-use Rattle.cqlp_value.specs.Scalars as scalar
-use Rattle.cqlp_value.specs.Scalars.{scalar_of}
-use Rattle.cqlp_value.specs.CellStep as cell
+use Rattle.cqlp_kind.specs.Scalars as scalar
+use Rattle.cqlp_kind.specs.Scalars.{scalar_of}
+use Rattle.cqlp_kind.specs.CellStep as cell
 use Rattle.cqlp_decode.specs.Reading.{reading, start, Frame, Holds, Node_of, Cell_at, Leave, End, Waits, Refused}
 
 abbrev limits : Rules

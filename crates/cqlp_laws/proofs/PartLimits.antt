@@ -15,16 +15,16 @@ use Rattle.cqlp_note.specs.Heading.{beside_number}
 use Rattle.cqlp_note.proofs.Readers.{Always}
 use Rattle.cqlp_note.proofs.Fields.{either_always}
 use Rattle.cqlp_note.proofs.Yields.{Yields}
-use Rattle.cqlp_type.specs.declared.kind.Kind.{Kind}
-use Rattle.cqlp_type.specs.declared.kind.Kind.TheVariants as kind
-use Rattle.cqlp_type.specs.Types.{Types, NoMore, Type_and, kinds, first_types}
-use Rattle.cqlp_type.specs.TypeStep.{TypeSymbol, Option_at, Text_of, Fields_of, Whole, TypeEvent, IsNode, IsField, TypePlace, option_step, type_step_at, type_step}
+use Rattle.cqlp_kind.specs.declared.kind.Kind.{Kind}
+use Rattle.cqlp_kind.specs.declared.kind.Kind.TheVariants as kind
+use Rattle.cqlp_kind.specs.Types.{Types, NoMore, Type_and, kinds, first_types}
+use Rattle.cqlp_kind.specs.TypeStep.{TypeSymbol, Option_at, Text_of, Fields_of, Whole, TypeEvent, IsNode, IsField, TypePlace, option_step, type_step_at, type_step}
 use Rattle.cqlp_type.specs.Trees.{AreShort, placed}
-use Rattle.cqlp_value.specs.Scalars.{ScalarValue, allows_size, scalar_of, content_size}
-use Rattle.cqlp_value.specs.Scalars as scalar
-use Rattle.cqlp_value.specs.CellStep.{CellSymbol, Value_of, Items_of, Close_of, Content_from, CellEvent, Leaf, Leave, Part, CellPlace, is_opaque, leaf_step, close_step, counted_step, part_step, scalar_step, content_step, value_step, cell_step_at, cell_step}
+use Rattle.cqlp_kind.specs.Scalars.{ScalarValue, allows_size, scalar_of, content_size}
+use Rattle.cqlp_kind.specs.Scalars as scalar
+use Rattle.cqlp_kind.specs.CellStep.{CellSymbol, Value_of, Items_of, Close_of, Content_from, CellEvent, Leaf, Leave, Part, CellPlace, is_opaque, leaf_step, close_step, counted_step, part_step, scalar_step, content_step, value_step, cell_step_at, cell_step}
 use Rattle.cqlp_value.specs.Values.{Values, NoValue, Null_and, Empty_and, Scalar_and, Counted_and, Fields_and, values_in, values_size, type_copies, ValuesSpell, part_items, in_parts, scalar_items, values_items, AreWithin}
-use Rattle.cqlp_value.proofs.ScalarSizes.{scalar_sized}
+use Rattle.cqlp_cell.proofs.ScalarSizes.{scalar_sized}
 use Rattle.cqlp_laws.proofs.EventCounts.{after_always}
 use Rattle.cqlp_laws.proofs.RunsBack.{yields_always, taken}
 

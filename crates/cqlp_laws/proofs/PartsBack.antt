@@ -11,15 +11,15 @@ use Rattle.cqlp_note.specs.Limits.{Rules, limit_of}
 use Rattle.cqlp_note.specs.Spelling.{Spells}
 use Rattle.cqlp_note.specs.Step.{Emitted, after_field, map_step, Runs}
 use Rattle.cqlp_note.proofs.Yields.{Yields}
-use Rattle.cqlp_type.specs.declared.kind.Kind.{Kind}
-use Rattle.cqlp_type.specs.declared.node.Node.{Node}
-use Rattle.cqlp_type.specs.Types.{Types, NoMore, Type_and, how_many, preorder, followed_by}
-use Rattle.cqlp_type.specs.TypeStep.{TypeSymbol, Option_at, TypeEvent, TypePlace, type_step}
+use Rattle.cqlp_kind.specs.declared.kind.Kind.{Kind}
+use Rattle.cqlp_kind.specs.declared.node.Node.{Node}
+use Rattle.cqlp_kind.specs.Types.{Types, NoMore, Type_and, how_many, preorder, followed_by}
+use Rattle.cqlp_kind.specs.TypeStep.{TypeSymbol, Option_at, TypeEvent, TypePlace, type_step}
 use Rattle.cqlp_type.specs.Trees.{Trees, trees_items, types_in, options_in}
 use Rattle.cqlp_type.specs.Pushing.{IsWhole}
 use Rattle.cqlp_type.proofs.Forests.{many_nodes, types_of_own_preorder}
 use Rattle.cqlp_type.proofs.ReadBack.{option_read}
-use Rattle.cqlp_value.specs.CellStep.{CellSymbol, Value_of, CellEvent, CellPlace, cell_step}
+use Rattle.cqlp_kind.specs.CellStep.{CellSymbol, Value_of, CellEvent, CellPlace, cell_step}
 use Rattle.cqlp_grammar.specs.declared.grammar.Role.{Role}
 use Rattle.cqlp_grammar.specs.declared.grammar.Role.TheVariants as role
 use Rattle.cqlp_grammar.specs.Events.{Event, Holds, type_event, cell_event}

@@ -10,16 +10,16 @@ use Rattle.cqlp_note.specs.Spelling.{Spells}
 use Rattle.cqlp_note.specs.Step.{Emitted, Runs}
 use Rattle.cqlp_note.proofs.Yields.{map_said, says_map}
 use Rattle.cqlp_note.proofs.Spelled.{field_yields}
-use Rattle.cqlp_type.specs.declared.kind.Kind.{Kind}
-use Rattle.cqlp_type.specs.declared.node.Node.{Node}
-use Rattle.cqlp_type.specs.Types.{Types, preorder, followed_by}
-use Rattle.cqlp_type.specs.TypeStep.{TypeSymbol, Option_at, TypeEvent, TypePlace, type_step}
+use Rattle.cqlp_kind.specs.declared.kind.Kind.{Kind}
+use Rattle.cqlp_kind.specs.declared.node.Node.{Node}
+use Rattle.cqlp_kind.specs.Types.{Types, preorder, followed_by}
+use Rattle.cqlp_kind.specs.TypeStep.{TypeSymbol, Option_at, TypeEvent, TypePlace, type_step}
 use Rattle.cqlp_type.specs.Trees.{Trees, options_in, types_in, trees_items, placed}
 use Rattle.cqlp_type.proofs.Forests.{types_of_own_preorder}
 use Rattle.cqlp_type.proofs.SpelledRead.{tree_read}
-use Rattle.cqlp_value.specs.CellStep.{CellSymbol, Value_of, CellEvent, CellPlace, cell_step}
+use Rattle.cqlp_kind.specs.CellStep.{CellSymbol, Value_of, CellEvent, CellPlace, cell_step}
 use Rattle.cqlp_value.specs.Values.{Values, ValueSpells, value_items, AreWithin}
-use Rattle.cqlp_value.proofs.Inside.{preorder-followed}
+use Rattle.cqlp_type.proofs.Inside.{preorder-followed}
 use Rattle.cqlp_value.proofs.SpelledRead.{cell_spelled}
 use Rattle.cqlp_grammar.specs.declared.grammar.Role.{Role}
 use Rattle.cqlp_grammar.specs.declared.grammar.Role.TheVariants as role

@@ -7,7 +7,7 @@ use Rattle.std.proofs.lemmas.List.Elements.{All-take, All-drop}
 use Rattle.cqlp_note.specs.declared.header.Header.{Header}
 use Rattle.cqlp_note.specs.Heading.{IsLawful, header_bytes}
 use Rattle.cqlp_note.specs.Limits.{Rules}
-use Rattle.cqlp_type.specs.Types.{Types}
+use Rattle.cqlp_kind.specs.Types.{Types}
 use Rattle.cqlp_message.specs.FrameValues.{FrameValue}
 use Rattle.cqlp_grammar.specs.Events.{Event, Frame, End}
 use Rattle.cqlp_message.specs.Parts.{Part, PartsSpell, PartsWithin, parts_size, parts_events}

@@ -14,11 +14,11 @@ use Rattle.cqlp_note.specs.Field.{FieldValue, FieldReader, field_of, is_negative
 use Rattle.cqlp_note.specs.Step.{Step, after_field}
 use Rattle.cqlp_note.specs.Heading.{Heading, heading, heading_of, has}
 use Rattle.std.specs.Str.{is_utf8}
-use Rattle.cqlp_type.specs.declared.kind.Kind.{Kind}
-use Rattle.cqlp_type.specs.declared.kind.Kind.TheVariants as kind
-use Rattle.cqlp_type.specs.Types.{Types}
-use Rattle.cqlp_value.specs.Scalars.{ScalarValue, fault_of}
-use Rattle.cqlp_value.specs.CellStep.{CellSymbol, CellPlace, leaf_step, close_step, counted_step}
+use Rattle.cqlp_kind.specs.declared.kind.Kind.{Kind}
+use Rattle.cqlp_kind.specs.declared.kind.Kind.TheVariants as kind
+use Rattle.cqlp_kind.specs.Types.{Types}
+use Rattle.cqlp_kind.specs.Scalars.{ScalarValue, fault_of}
+use Rattle.cqlp_kind.specs.CellStep.{CellSymbol, CellPlace, leaf_step, close_step, counted_step}
 use Rattle.cqlp_grammar.specs.declared.grammar.Role.{Role}
 use Rattle.cqlp_grammar.specs.declared.grammar.Role.TheVariants as role
 use Rattle.cqlp_grammar.specs.Productions.{Symbol, number_in, fault_in}

@@ -12,12 +12,12 @@ use Rattle.cqlp_note.specs.Step.{Emitted, Step, after_field, map_step}
 use Rattle.cqlp_note.specs.Limits.{Rules, limit_of}
 use Rattle.cqlp_note.specs.Heading.{heading, beside_number}
 use Rattle.cqlp_note.proofs.Yields.{map_said, says_map, after_got, after_more, after_bad}
-use Rattle.cqlp_type.specs.declared.kind.Kind.{Kind}
-use Rattle.cqlp_type.specs.declared.kind.Kind.TheVariants as kind
-use Rattle.cqlp_type.specs.Types.{Types, NoMore, Type_and, kinds, has_no_items}
-use Rattle.cqlp_type.specs.TypeStep.{TypeSymbol, TypePlace, Option_at, Text_of, Fields_of, Whole, option_step, type_step_at}
-use Rattle.cqlp_value.specs.Scalars.{allows_size, scalar_of}
-use Rattle.cqlp_value.specs.CellStep.{CellSymbol, Value_of, Items_of, Close_of, Content_from, CellPlace, leaf_step, part_step, scalar_step, content_step, value_step, cell_step_at}
+use Rattle.cqlp_kind.specs.declared.kind.Kind.{Kind}
+use Rattle.cqlp_kind.specs.declared.kind.Kind.TheVariants as kind
+use Rattle.cqlp_kind.specs.Types.{Types, NoMore, Type_and, kinds, has_no_items}
+use Rattle.cqlp_kind.specs.TypeStep.{TypeSymbol, TypePlace, Option_at, Text_of, Fields_of, Whole, option_step, type_step_at}
+use Rattle.cqlp_kind.specs.Scalars.{allows_size, scalar_of}
+use Rattle.cqlp_kind.specs.CellStep.{CellSymbol, Value_of, Items_of, Close_of, Content_from, CellPlace, leaf_step, part_step, scalar_step, content_step, value_step, cell_step_at}
 use Rattle.cqlp_grammar.specs.Productions.{Symbol, Stream, In, In_type, Cell_due, In_cell, Extra}
 use Rattle.cqlp_laws.specs.Excess.{with_limits, first_number, IsLong16, IsLong32, IsLongField, comes_in_parts, IsLongValue, IsLongInCell, IsOption, IsOver, ExceedsInType, ExceedsAt}
 use Rattle.cqlp_laws.specs.Limits.{IsOfLimit}

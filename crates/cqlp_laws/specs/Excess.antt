@@ -7,11 +7,11 @@ use Rattle.cqlp_note.specs.declared.refusal.Reason.{Reason}
 use Rattle.cqlp_note.specs.declared.refusal.Reason.TheVariants.{TooLong, TooDeep, TooMany}
 use Rattle.cqlp_note.specs.Heading.{beside_number}
 use Rattle.cqlp_note.specs.Limits.{Rules}
-use Rattle.cqlp_type.specs.declared.kind.Kind.{Kind}
-use Rattle.cqlp_type.specs.Types.{Type_and, kinds, has_no_items}
-use Rattle.cqlp_type.specs.TypeStep.{TypeSymbol, Option_at, Text_of}
-use Rattle.cqlp_value.specs.Scalars.{allows_size}
-use Rattle.cqlp_value.specs.CellStep.{CellSymbol, Value_of, Items_of, is_opaque}
+use Rattle.cqlp_kind.specs.declared.kind.Kind.{Kind}
+use Rattle.cqlp_kind.specs.Types.{Type_and, kinds, has_no_items}
+use Rattle.cqlp_kind.specs.TypeStep.{TypeSymbol, Option_at, Text_of}
+use Rattle.cqlp_kind.specs.Scalars.{allows_size}
+use Rattle.cqlp_kind.specs.CellStep.{CellSymbol, Value_of, Items_of, is_opaque}
 use Rattle.cqlp_grammar.specs.Productions.{Symbol, In, In_type, Cell_due, In_cell}
 use Rattle.cqlp_decode.specs.Reading.{Place, Event, Verdict, Refused, Reads, Says, start}
 

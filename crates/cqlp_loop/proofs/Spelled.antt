@@ -1,6 +1,6 @@
 -- The messages of the conversation have a spelling.
 use Rattle.std.proofs.Common.{◌≡◌, ℤ, refl, ap, ◌∙◌}
-use Rattle.cqlp_value.specs.Scalars.{scalar_of}
+use Rattle.cqlp_kind.specs.Scalars.{scalar_of}
 use Rattle.cqlp_message.specs.FrameValues.{FrameValue, Message}
 use Rattle.cqlp_loop.specs.declared.request.Request.{Request}
 use Rattle.cqlp_loop.specs.declared.request.Request.TheVariants.{Options, Startup, Query}

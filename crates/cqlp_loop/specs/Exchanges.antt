@@ -4,9 +4,9 @@ use Rattle.std.specs.Io.KnownBytes.{Appends}
 use Rattle.cqlp_note.specs.declared.opcode.Opcode.{Opcode}
 use Rattle.cqlp_note.specs.declared.opcode.Opcode.TheVariants as opcode
 use Rattle.cqlp_note.specs.Outputs.{Output, Offered}
-use Rattle.cqlp_type.specs.declared.kind.Kind.TheVariants as type
+use Rattle.cqlp_kind.specs.declared.kind.Kind.TheVariants as type
 use Rattle.cqlp_type.specs.Trees.{Plain, NoTree, Tree_and}
-use Rattle.cqlp_value.specs.Scalars as scalar
+use Rattle.cqlp_kind.specs.Scalars as scalar
 use Rattle.cqlp_value.specs.Values.{NoValue, Scalar_and}
 use Rattle.cqlp_message.specs.FrameValues as value
 use Rattle.cqlp_message.specs.FrameValues.{FrameValue, Message}

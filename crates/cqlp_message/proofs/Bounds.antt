@@ -10,7 +10,7 @@ use Rattle.cqlp_note.specs.declared.prim.Address.TheVariants as address
 use Rattle.cqlp_note.specs.Field.{FieldValue, Byte, Short, Int, Long, Uuid, Count, Text, Bytes, Bound, Inet, Null, Unset, Known, content_length}
 use Rattle.cqlp_note.specs.Limits.{Rules, limit_of}
 use Rattle.cqlp_note.specs.Spelling.{Spells}
-use Rattle.cqlp_type.specs.TypeStep.{TypeEvent, IsNode, IsField}
+use Rattle.cqlp_kind.specs.TypeStep.{TypeEvent, IsNode, IsField}
 use Rattle.cqlp_type.specs.Trees.{Trees, NoTree, Tree_and, has_names, options_in, Shallow, ItemsSpell, AreShort}
 use Rattle.cqlp_type.specs.Trees as tree
 use Rattle.cqlp_type.specs.TypeTrees.{trees_size}

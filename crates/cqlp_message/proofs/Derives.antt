@@ -9,9 +9,9 @@ use Rattle.cqlp_note.specs.declared.field.Notation.TheVariants as notation
 use Rattle.cqlp_note.specs.Field.{FieldValue, Text}
 use Rattle.cqlp_note.specs.Heading.{has}
 use Rattle.cqlp_note.specs.Limits.{Rules}
-use Rattle.cqlp_type.specs.declared.kind.Kind.{Kind}
-use Rattle.cqlp_type.specs.Types.{Types, NoMore, preorder, followed_by}
-use Rattle.cqlp_type.specs.TypeStep.{Option_at}
+use Rattle.cqlp_kind.specs.declared.kind.Kind.{Kind}
+use Rattle.cqlp_kind.specs.Types.{Types, NoMore, preorder, followed_by}
+use Rattle.cqlp_kind.specs.TypeStep.{Option_at}
 use Rattle.cqlp_type.specs.Trees.{options_in, types_in}
 use Rattle.cqlp_grammar.specs.declared.grammar.Group.{Group}
 use Rattle.cqlp_grammar.specs.declared.grammar.Role.{Role}

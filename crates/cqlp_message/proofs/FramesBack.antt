@@ -8,7 +8,7 @@ use Rattle.std.proofs.lemmas.List.Elements.{All-head, All-tail}
 use Rattle.cqlp_note.specs.declared.header.Header.{Header}
 use Rattle.cqlp_note.specs.Heading.{IsLawful, header_bytes}
 use Rattle.cqlp_note.specs.Limits.{Rules}
-use Rattle.cqlp_type.specs.Types.{Types}
+use Rattle.cqlp_kind.specs.Types.{Types}
 use Rattle.cqlp_type.specs.Trees.{trees_in, are_trees}
 use Rattle.cqlp_type.proofs.WrittenTrees.{are_the_trees}
 use Rattle.cqlp_grammar.specs.Productions.{message}

@@ -14,7 +14,7 @@ use Rattle.cqlp_note.specs.Field as note
 use Rattle.cqlp_note.specs.Heading.{has, beside_number}
 use Rattle.cqlp_note.specs.Limits.{Rules}
 use Rattle.cqlp_note.specs.Spelling.{IsInRange}
-use Rattle.cqlp_type.specs.Types.{Types}
+use Rattle.cqlp_kind.specs.Types.{Types}
 use Rattle.cqlp_type.specs.Trees.{is_tree}
 use Rattle.cqlp_grammar.specs.declared.grammar.Group.{Group}
 use Rattle.cqlp_grammar.specs.declared.grammar.Role.{Role}

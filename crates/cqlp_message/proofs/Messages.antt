@@ -13,11 +13,11 @@ use Rattle.cqlp_note.specs.Field.{FieldValue, BoundValue}
 use Rattle.cqlp_note.specs.Field as note
 use Rattle.cqlp_note.specs.Heading.{has, beside_number}
 use Rattle.cqlp_note.specs.Limits.{Rules}
-use Rattle.cqlp_type.specs.Types.{Types, NoMore, Type_and, how_many, preorder, followed_by}
+use Rattle.cqlp_kind.specs.Types.{Types, NoMore, Type_and, how_many, preorder, followed_by}
 use Rattle.cqlp_type.specs.Trees.{Trees, options_in, types_in}
 use Rattle.cqlp_type.proofs.Forests.{followed_by_none, many_nodes, many_types}
 use Rattle.cqlp_value.specs.Values.{Values}
-use Rattle.cqlp_value.proofs.Inside.{preorder-followed}
+use Rattle.cqlp_type.proofs.Inside.{preorder-followed}
 use Rattle.cqlp_grammar.specs.declared.grammar.Group.TheVariants as group_of
 use Rattle.cqlp_grammar.specs.declared.grammar.Role.TheVariants as role
 use Rattle.cqlp_message.specs.FrameValues.{Octets, TableName, Spec, Metadata, Page, PreparedStatement, QueryParams, BatchEntry, Text, Id, ErrorExtra, Plain, Unavailable, WriteTimeout, ReadTimeout, ReadFailure, FunctionFailure, WriteFailure, AlreadyExists, Unprepared, SchemaOptions, Keyspace, Named, Callable, UnknownTarget, SchemaChange, ServerEvent, Node, Schema, UnknownEvent, Message, Startup, Options, Query, Prepare, Execute, Batch, Register, AuthResponse, Error, Ready, Authenticate, Supported, Void, SetKeyspace, Rows, Prepared, Change, UnknownResult, Event, AuthChallenge, AuthSuccess, FrameValue}

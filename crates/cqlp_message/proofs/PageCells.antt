@@ -5,7 +5,7 @@ use Rattle.std.proofs.Math.Nat.{suc-mul}
 use Rattle.std.proofs.lemmas.Grind.{flat_map-append}
 use Rattle.std.proofs.lemmas.List.{append-nil, nil_from_length, drop_all, drop-append-le, length-append, take-append-drop, length-drop}
 use Rattle.std.proofs.lemmas.List.Folds.{list_all-append}
-use Rattle.cqlp_type.specs.Types.{Types, NoMore, Type_and, how_many}
+use Rattle.cqlp_kind.specs.Types.{Types, NoMore, Type_and, how_many}
 use Rattle.cqlp_value.specs.Values.{Values, value_fits, values_size, values_bytes}
 use Rattle.cqlp_message.specs.Parts.{Part, parts_size, parts_bytes, counts_fit, texts_fit, cell_fits}
 use Rattle.cqlp_message.specs.Bodies.{row_parts, rows_parts}

@@ -1,7 +1,7 @@
 -- Values of a page's columns.
 use Rattle.std.proofs.Common.{◌≡◌, ℕ, zero, suc, ◌<◌, ◌≤◌, false, List, [], ◌∷◌, length, get_or, map, refl, sym, ap, arith}
-use Rattle.cqlp_type.specs.declared.kind.Kind.TheVariants as kind
-use Rattle.cqlp_type.specs.Types.{Types, NoMore, Type_and, how_many}
+use Rattle.cqlp_kind.specs.declared.kind.Kind.TheVariants as kind
+use Rattle.cqlp_kind.specs.Types.{Types, NoMore, Type_and, how_many}
 use Rattle.cqlp_type.specs.Trees.{types_in}
 use Rattle.cqlp_type.specs.TypeTrees.{tree_of}
 use Rattle.cqlp_value.specs.Values.{Values, values_fit, value_fits}

@@ -12,7 +12,7 @@ use Rattle.cqlp_note.specs.declared.field.Notation.TheVariants as notation
 use Rattle.cqlp_note.specs.Field as note
 use Rattle.cqlp_note.specs.declared.header.TheConstants.Header.{LONGEST_BODY}
 use Rattle.cqlp_note.specs.Heading.{header_bytes}
-use Rattle.cqlp_type.specs.Types.{how_many}
+use Rattle.cqlp_kind.specs.Types.{how_many}
 use Rattle.cqlp_value.specs.Values.{Values}
 use Rattle.cqlp_message.specs.declared.unfit.Unfit.TheVariants as unfit
 use Rattle.cqlp_message.specs.FrameValues.{Octets, TableName, Spec, Metadata, Message, Rows, FrameValue}

@@ -2,8 +2,8 @@
 use Rattle.std.proofs.Common.{◌≡◌, ℕ, zero, suc, ◌+◌, ◌-◌, ◌<◌, ◌≤◌, ◌++◌, List, [], ◌∷◌, length, get_or, map, drop, sym, ap, ◌∙◌, refl, arith}
 use Rattle.std.proofs.lemmas.List.{drop_more, drop_all, drop-map}
 use Rattle.std.proofs.Math.Nat.{sub-zero}
-use Rattle.cqlp_type.specs.declared.kind.Kind.TheVariants as kind
-use Rattle.cqlp_type.specs.Types.{Types, NoMore, Type_and, how_many}
+use Rattle.cqlp_kind.specs.declared.kind.Kind.TheVariants as kind
+use Rattle.cqlp_kind.specs.Types.{Types, NoMore, Type_and, how_many}
 use Rattle.cqlp_type.specs.Trees.{kind_in, types_in}
 use Rattle.cqlp_type.specs.TypeTrees.{head_of, inner_of}
 use Rattle.cqlp_value.specs.Values.{Values}

@@ -13,7 +13,7 @@ use Rattle.cqlp_note.specs.declared.opcode.Opcode.TheVariants as opcode
 use Rattle.cqlp_note.specs.Field as note
 use Rattle.cqlp_note.specs.Heading.{has, answers, beside_number}
 use Rattle.cqlp_note.specs.Limits.{Rules}
-use Rattle.cqlp_type.specs.Types.{Types}
+use Rattle.cqlp_kind.specs.Types.{Types}
 use Rattle.cqlp_grammar.specs.declared.grammar.Group.TheVariants as group_of
 use Rattle.cqlp_grammar.specs.declared.grammar.Role.TheVariants as role
 use Rattle.cqlp_message.specs.FrameValues.{Octets, Message, Void, SetKeyspace, Rows, Prepared, Change, UnknownResult, FrameValue}

@@ -10,7 +10,7 @@ use Rattle.cqlp_note.specs.Head.{fixed_of}
 use Rattle.cqlp_note.specs.Spelling.{Spells}
 use Rattle.cqlp_note.proofs.Spelled.{counted_size}
 use Rattle.cqlp_type.proofs.Lengths.{spelled_long}
-use Rattle.cqlp_type.specs.Types.{NoMore, Type_and}
+use Rattle.cqlp_kind.specs.Types.{NoMore, Type_and}
 use Rattle.cqlp_value.proofs.ReadBack.{spelled_size}
 use Rattle.cqlp_message.specs.FrameValues.{FrameValue}
 use Rattle.cqlp_message.specs.Parts.{Part, Field_is, Type_is, Cell_is, PartSpells, PartsSpell, size_behind, part_size, parts_size}

@@ -9,9 +9,9 @@ use Rattle.cqlp_note.specs.declared.field.Notation.TheVariants as notation
 use Rattle.cqlp_note.specs.Field as note
 use Rattle.cqlp_note.specs.Heading.{has}
 use Rattle.cqlp_note.specs.Limits.{Rules}
-use Rattle.cqlp_type.specs.declared.kind.Kind.{Kind}
-use Rattle.cqlp_type.specs.Types.{Types, NoMore, Type_and, how_many, preorder, followed_by}
-use Rattle.cqlp_type.specs.TypeStep.{Option_at}
+use Rattle.cqlp_kind.specs.declared.kind.Kind.{Kind}
+use Rattle.cqlp_kind.specs.Types.{Types, NoMore, Type_and, how_many, preorder, followed_by}
+use Rattle.cqlp_kind.specs.TypeStep.{Option_at}
 use Rattle.cqlp_type.specs.Trees.{Trees, NoTree, Tree_and, trees_in, options_in, types_in, are_trees, is_tree}
 use Rattle.cqlp_type.proofs.Forests.{many_nodes, followed_by_none}
 use Rattle.cqlp_value.specs.Values.{Values}

@@ -9,12 +9,12 @@ use Rattle.cqlp_note.specs.declared.prim.Address.TheVariants as address
 use Rattle.cqlp_note.specs.Field as note
 use Rattle.cqlp_note.specs.Limits.{Rules}
 use Rattle.cqlp_note.specs.Spelling.{Spells}
-use Rattle.cqlp_type.specs.declared.kind.Kind.TheVariants as kind
+use Rattle.cqlp_kind.specs.declared.kind.Kind.TheVariants as kind
 use Rattle.cqlp_type.specs.Trees.{Trees, NoTree, Tree_and, ListOf}
 use Rattle.cqlp_type.specs.Trees.{Plain as PlainType}
-use Rattle.cqlp_value.specs.CellStep as cell
-use Rattle.cqlp_value.specs.Scalars as scalar
-use Rattle.cqlp_value.specs.Scalars.{scalar_of}
+use Rattle.cqlp_kind.specs.CellStep as cell
+use Rattle.cqlp_kind.specs.Scalars as scalar
+use Rattle.cqlp_kind.specs.Scalars.{scalar_of}
 use Rattle.cqlp_value.specs.Values.{Values, NoValue, Null_and, Empty_and, Scalar_and, Counted_and}
 use Rattle.cqlp_message.specs.FrameValues.{FrameValue, Options, Query, Error, Void, Rows, Prepared, Event}
 use Rattle.cqlp_message.specs.FrameValues as value

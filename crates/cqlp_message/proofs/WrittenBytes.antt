@@ -13,10 +13,10 @@ use Rattle.cqlp_note.specs.Field.{FieldValue, Byte, Short, Int, Long, Uuid, Coun
 use Rattle.cqlp_note.specs.Heading.{code_of, header_bytes}
 use Rattle.cqlp_note.specs.Spelling.{field_bytes, IsInRange}
 use Rattle.cqlp_note.proofs.Small.{Small, small_front, small_back}
-use Rattle.cqlp_type.specs.Types.{id_of}
-use Rattle.cqlp_type.specs.TypeStep.{TypeEvent, IsNode, IsField}
+use Rattle.cqlp_kind.specs.Types.{id_of}
+use Rattle.cqlp_kind.specs.TypeStep.{TypeEvent, IsNode, IsField}
 use Rattle.cqlp_type.specs.Trees.{trees_items, notation_for, item_bytes, ItemIsInRange}
-use Rattle.cqlp_value.specs.Scalars.{content_of}
+use Rattle.cqlp_kind.specs.Scalars.{content_of}
 use Rattle.cqlp_value.specs.Values.{Values, NoValue, Null_and, Empty_and, Scalar_and, Counted_and, Fields_and, values_bytes}
 use Rattle.cqlp_message.specs.Parts.{Part, Field_is, Type_is, Cell_is, parts_size, part_bytes, parts_bytes, PartIsInRange}
 use Rattle.cqlp_message.specs.Frames.{frame_parts, header_of}

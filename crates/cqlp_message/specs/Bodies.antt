@@ -6,7 +6,7 @@ use Rattle.cqlp_note.specs.declared.field.Field.TheVariants as field
 use Rattle.cqlp_note.specs.declared.field.Notation.TheVariants as notation
 use Rattle.cqlp_note.specs.Field.{BoundValue}
 use Rattle.cqlp_note.specs.Field as note
-use Rattle.cqlp_type.specs.Types.{Types, NoMore, Type_and, how_many, followed_by}
+use Rattle.cqlp_kind.specs.Types.{Types, NoMore, Type_and, how_many, followed_by}
 use Rattle.cqlp_type.specs.Trees.{types_in}
 use Rattle.cqlp_value.specs.Values.{Values}
 use Rattle.cqlp_message.specs.FrameValues.{Octets, TableName, Spec, Metadata, Page, PreparedStatement, QueryParams, BatchEntry, Text, Id, ErrorExtra, Plain, Unavailable, WriteTimeout, ReadTimeout, ReadFailure, FunctionFailure, WriteFailure, AlreadyExists, Unprepared, SchemaOptions, Keyspace, Named, Callable, UnknownTarget, SchemaChange, ServerEvent, Node, Schema, UnknownEvent, Message, Startup, Options, Query, Prepare, Execute, Batch, Register, AuthResponse, Error, Ready, Authenticate, Supported, Void, SetKeyspace, Rows, Prepared, Change, UnknownResult, Event, AuthChallenge, AuthSuccess}

@@ -4,9 +4,9 @@ use Rattle.std.specs.List.{flat_map}
 use Rattle.std.specs.Int.{w16}
 use Rattle.cqlp_note.specs.Field.{FieldValue, Uuid, Text, Bytes, Bound, Inet, Known}
 use Rattle.cqlp_note.specs.Spelling.{address_bytes}
-use Rattle.cqlp_type.specs.TypeStep.{TypeEvent, IsNode, IsField}
+use Rattle.cqlp_kind.specs.TypeStep.{TypeEvent, IsNode, IsField}
 use Rattle.cqlp_type.specs.Trees.{trees_items}
-use Rattle.cqlp_value.specs.Scalars.{content_of}
+use Rattle.cqlp_kind.specs.Scalars.{content_of}
 use Rattle.cqlp_value.specs.Values.{Values, NoValue, Null_and, Empty_and, Scalar_and, Counted_and, Fields_and}
 use Rattle.cqlp_message.specs.FrameValues.{Octets, FrameValue}
 use Rattle.cqlp_message.specs.Parts.{Part, Field_is, Type_is, Cell_is}

@@ -3,7 +3,7 @@ use Rattle.std.specs.Prelude.{◌≡◌, ℕ, zero, suc, ◌+◌, ◌*◌, ◌++
 use Rattle.std.specs.List.{flat_map, list_all}
 use Rattle.cqlp_note.specs.declared.header.TheConstants.Header.{LONGEST_BODY}
 use Rattle.cqlp_note.specs.Heading.{header_bytes}
-use Rattle.cqlp_type.specs.Types.{Types, NoMore, Type_and}
+use Rattle.cqlp_kind.specs.Types.{Types, NoMore, Type_and}
 use Rattle.cqlp_value.specs.Values.{Values, value_fits, values_size, values_bytes}
 use Rattle.cqlp_message.specs.declared.unfit.Unfit.{Unfit}
 use Rattle.cqlp_message.specs.declared.unfit.Unfit.TheVariants as unfit

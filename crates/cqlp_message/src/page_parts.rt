@@ -1,7 +1,7 @@
 //! The parts of pages.
 
 ghost use Rattle.std.specs.Prelude.{◌≡◌, ℕ, List, [], ◌∷◌, map};
-ghost use Rattle.cqlp_type.specs.Types.{how_many};
+ghost use Rattle.cqlp_kind.specs.Types.{how_many};
 ghost use Rattle.cqlp_value.specs.Owned.{value_of};
 ghost use Rattle.cqlp_message.specs.Bodies as body;
 ghost use Rattle.cqlp_message.specs.FrameValues as value;

@@ -1,8 +1,8 @@
 //! A cell without a type, by the calls of its reader.
 
 ghost use Rattle.std.specs.Prelude.{◌≡◌, ◌≤◌, true, length, IfOk, IfSome};
-ghost use Rattle.cqlp_value.specs.Standing.{Stands, is_under_way};
-ghost use Rattle.cqlp_value.specs.Reading.{Joined};
+ghost use Rattle.cqlp_cell.specs.Standing.{Stands, is_under_way};
+ghost use Rattle.cqlp_cell.specs.Reading.{Joined};
 
 use cqlp_note::{Limits, Partial};
 use cqlp_type::TypeTable;

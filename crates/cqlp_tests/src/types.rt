@@ -2,7 +2,7 @@
 
 ghost use Rattle.std.specs.Prelude.{◌≡◌, ◌≤◌, true, length, IfOk, IfSome};
 ghost use Rattle.cqlp_type.specs.Standing.{IsShared};
-ghost use Rattle.cqlp_type.specs.Types.{IsPreorder};
+ghost use Rattle.cqlp_kind.specs.Types.{IsPreorder};
 ghost use Rattle.cqlp_type.specs.Pushing.{ReadsInto};
 
 use cqlp_decode::{Decoder, run};

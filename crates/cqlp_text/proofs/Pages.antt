@@ -4,7 +4,7 @@ use Rattle.std.proofs.lemmas.Bool.Decides.{nat_tests}
 use Rattle.std.proofs.lemmas.List.{drop-set}
 use Rattle.std.proofs.lemmas.Option.{same_Some}
 use Rattle.cqlp_grammar.specs.declared.sink.SinkFault.{SinkFault}
-use Rattle.cqlp_type.specs.declared.kind.Kind.{Kind}
+use Rattle.cqlp_kind.specs.declared.kind.Kind.{Kind}
 use Rattle.cqlp_text.specs.declared.page_text.WrittenValue.{WrittenValue}
 use Rattle.cqlp_text.specs.declared.page_text.Turn.{Turn}
 use Rattle.cqlp_text.specs.declared.page_text.Turn.TheVariants.{First}

@@ -5,8 +5,8 @@ use Rattle.std.specs.Prelude.{take, codes, slice_index, replicate, sum, count_by
 use Rattle.std.specs.Fmt.{signed_decimal}
 use Rattle.std.specs.Int.{w128, from_be_bytes, cast_signed}
 use Rattle.std.specs.List.{range_with_len}
-use Rattle.cqlp_value.specs.Scalars.{ScalarValue}
-use Rattle.cqlp_value.specs.Scalars as scalar
+use Rattle.cqlp_kind.specs.Scalars.{ScalarValue}
+use Rattle.cqlp_kind.specs.Scalars as scalar
 use Rattle.cqlp_text.specs.Text.{hex_text, quoted, address_text}
 use Rattle.uuid.specs.Text.{hyphenated_text, lower}
 

@@ -5,8 +5,8 @@ use Rattle.std.specs.List.{flat_map}
 use Rattle.cqlp_note.specs.declared.field.Field.{Field}
 use Rattle.cqlp_note.specs.Field.{BoundValue, FieldValue}
 use Rattle.cqlp_note.specs.Field as field
-use Rattle.cqlp_value.specs.CellStep.{CellEvent}
-use Rattle.cqlp_value.specs.CellStep as cell
+use Rattle.cqlp_kind.specs.CellStep.{CellEvent}
+use Rattle.cqlp_kind.specs.CellStep as cell
 use Rattle.cqlp_grammar.specs.Events.{Event}
 use Rattle.cqlp_grammar.specs.Events as reading
 use Rattle.cqlp_text.specs.Names.{field_name, opcode_name, kind_name}

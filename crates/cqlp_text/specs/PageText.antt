@@ -6,10 +6,10 @@ use Rattle.cqlp_note.specs.declared.field.Field.{Field}
 use Rattle.cqlp_note.specs.declared.field.Field.TheVariants as field
 use Rattle.cqlp_note.specs.Field.{FieldValue}
 use Rattle.cqlp_note.specs.Field as value
-use Rattle.cqlp_type.specs.declared.kind.Kind.{Kind}
-use Rattle.cqlp_type.specs.declared.kind.Kind.TheVariants as kind
-use Rattle.cqlp_value.specs.CellStep.{CellEvent}
-use Rattle.cqlp_value.specs.CellStep as cell
+use Rattle.cqlp_kind.specs.declared.kind.Kind.{Kind}
+use Rattle.cqlp_kind.specs.declared.kind.Kind.TheVariants as kind
+use Rattle.cqlp_kind.specs.CellStep.{CellEvent}
+use Rattle.cqlp_kind.specs.CellStep as cell
 use Rattle.cqlp_grammar.specs.Events.{Event}
 use Rattle.cqlp_grammar.specs.Events as reading
 use Rattle.cqlp_text.specs.declared.page_text.WrittenValue.{WrittenValue}

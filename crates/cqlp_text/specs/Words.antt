@@ -3,7 +3,7 @@ use Rattle.std.specs.Prelude.{ℕ, List, [], ◌∷◌, decimal}
 use Rattle.std.specs.Fmt.{signed_decimal}
 use Rattle.hex.specs.Hex.{encode_lower}
 use Rattle.uuid.specs.Text.{hyphenated_text, lower}
-use Rattle.cqlp_value.specs.Contents.{value_of}
+use Rattle.cqlp_kind.specs.Contents.{value_of}
 use Rattle.cqlp_text.specs.declared.word.Word.{Word}
 use Rattle.cqlp_text.specs.declared.word.Word.TheVariants as word
 use Rattle.cqlp_text.specs.CellText.{cell_text}

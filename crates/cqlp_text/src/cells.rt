@@ -3,12 +3,12 @@
 ghost use Rattle.std.specs.Prelude.{◌≡◌, ◌≤◌, IsSome, length};
 ghost use Rattle.cqlp_text.specs.CellText.{boolean_text, cell_text as text_of, extended as extended_bytes, sign_byte};
 ghost use Rattle.cqlp_text.specs.Outputs.{AppendsText, written};
-ghost use Rattle.cqlp_value.specs.Contents.{value_of};
+ghost use Rattle.cqlp_kind.specs.Contents.{value_of};
 
 use crate::text_writer::TextWriter;
 use cqlp_grammar::SinkFault;
+use cqlp_kind::Scalar;
 use cqlp_note::Target;
-use cqlp_value::Scalar;
 
 /// How many bytes a number has at most that is written in decimal digits.
 const WIDE: usize = 16;

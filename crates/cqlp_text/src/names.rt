@@ -3,8 +3,8 @@
 ghost use Rattle.std.specs.Prelude.{◌≡◌};
 ghost use Rattle.cqlp_text.specs.Names as names;
 
+use cqlp_kind::Kind;
 use cqlp_note::{Field, Opcode, Reason};
-use cqlp_type::Kind;
 
 /// The name of a field.
 pub fn field_name(field: Field) -> &'static str

@@ -8,8 +8,8 @@ ghost use Rattle.cqlp_text.specs.Outputs.{AppendsText, written};
 use crate::text_writer::TextWriter;
 use crate::word::Word;
 use cqlp_grammar::{Event, SinkFault};
+use cqlp_kind::Kind;
 use cqlp_note::{Field, Target};
-use cqlp_type::Kind;
 use std::marker::Model;
 
 /// How many values are open at most: no type is deeper.
@@ -283,7 +283,7 @@ impl PagePlace {
 
 impl<W: Target> TextWriter<'_, W> {
     ghost use Rattle.cqlp_note.specs.Field.{Count as CountValue, Text as TextValue};
-    ghost use Rattle.cqlp_value.specs.CellStep as cell;
+    ghost use Rattle.cqlp_kind.specs.CellStep as cell;
     ghost use Rattle.cqlp_text.specs.PageText.{before, after, column_line, page_line, event_part, field_part};
     ghost use Rattle.cqlp_text.specs.PageText.{value_part, whole_value, part_start, part_end, end_part, opening};
     ghost use Rattle.cqlp_text.specs.Words.{word_text};

@@ -4,8 +4,8 @@ ghost use Rattle.std.specs.Prelude.{◌≡◌, map};
 
 use crate::text_writer::TextWriter;
 use cqlp_grammar::SinkFault;
+use cqlp_kind::Scalar;
 use cqlp_note::{Address, Target};
-use cqlp_value::Scalar;
 
 /// A word of a line.
 #[derive(Clone, Copy, Debug, PartialEq, Eq)]

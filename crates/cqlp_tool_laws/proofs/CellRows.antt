@@ -3,7 +3,7 @@ use Rattle.std.proofs.Common.{◌≡◌, ◌+◌, ◌-◌, ◌^◌, [], ◌∷�
 use Rattle.std.proofs.Common.{pos, negsuc}
 use Rattle.std.specs.Fmt.{digits}
 use Rattle.cqlp_text.specs.CellText.{cell_text, year_of, month_of}
-use Rattle.cqlp_value.specs.Scalars as scalar
+use Rattle.cqlp_kind.specs.Scalars as scalar
 
 negative_varint : cell_text (scalar.Varint (0xFF ∷ 0x7F ∷ [])) ≡ codes "-129"
 unfolding digits

@@ -3,9 +3,9 @@ use Rattle.std.proofs.Common.{◌≡◌, ℕ, List, [], ◌∷◌, ◌++◌, pos
 use Rattle.std.specs.Fmt.{digits}
 use Rattle.cqlp_note.specs.Field as value
 use Rattle.cqlp_note.specs.declared.field.Field.TheVariants as field
-use Rattle.cqlp_type.specs.declared.kind.Kind.TheVariants as kind
-use Rattle.cqlp_value.specs.CellStep as cell
-use Rattle.cqlp_value.specs.Scalars as scalar
+use Rattle.cqlp_kind.specs.declared.kind.Kind.TheVariants as kind
+use Rattle.cqlp_kind.specs.CellStep as cell
+use Rattle.cqlp_kind.specs.Scalars as scalar
 use Rattle.cqlp_grammar.specs.Events.{Event, Holds, Cell_at, Leave, End}
 use Rattle.cqlp_text.specs.PageText.{no_page, page_text}
 use Rattle.hex.specs.Hex.{encode_with}

@@ -1,6 +1,6 @@
 -- Laws of one answer: what a call writes is decided by its arguments, but for whether its target failed.
 use Rattle.std.specs.Prelude.{◌≡◌, ℕ, ◌-◌, ◌^◌, ◌<◌, List, length, IsSome, Result, Ok, Err, ◌⊎◌}
-use Rattle.cqlp_value.specs.Scalars.{ScalarValue}
+use Rattle.cqlp_kind.specs.Scalars.{ScalarValue}
 use Rattle.cqlp_grammar.specs.declared.sink.SinkFault.{SinkFault}
 use Rattle.cqlp_grammar.specs.Events.{Event}
 use Rattle.cqlp_text.specs.declared.ending.Ending.{Ending}

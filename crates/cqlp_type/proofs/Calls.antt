@@ -20,9 +20,9 @@ use Rattle.cqlp_note.specs.Partial as partial
 use Rattle.cqlp_note.proofs.Readers.{says_always}
 use Rattle.cqlp_note.proofs.Fields.{field_spells}
 use Rattle.cqlp_note.proofs.Yields.{got_inside}
-use Rattle.cqlp_type.specs.declared.node.Node.{Node}
+use Rattle.cqlp_kind.specs.declared.node.Node.{Node}
 use Rattle.cqlp_type.specs.declared.advance.TypeOutline.{TypeOutline}
-use Rattle.cqlp_type.specs.TypeStep.{TypeSymbol, Option_at, Text_of, Fields_of, Whole, TypeEvent, TypePlace, type_place}
+use Rattle.cqlp_kind.specs.TypeStep.{TypeSymbol, Option_at, Text_of, Fields_of, Whole, TypeEvent, TypePlace, type_place}
 use Rattle.cqlp_type.specs.Table.{Table}
 use Rattle.cqlp_type.specs.Remaining.{event_at, item_step, Keeps, IsPart, number_of, short_in}
 use Rattle.cqlp_type.specs.Standing.{TypeState, stopped, place_of, notation_of, IsFor, IsShared, pending, step_says, CanLendPart, text_length, Waits, Ends}

@@ -1,10 +1,10 @@
 -- Types in preorder, as trees and as nodes.
 use Rattle.std.proofs.Common.{◌≡◌, ℕ, suc, ◌+◌, List, [], ◌∷◌, ◌++◌, length, refl, sym, ap, ◌∙◌, append_assoc, arith}
 use Rattle.std.proofs.lemmas.List.{append-nil, length-append}
-use Rattle.cqlp_type.specs.declared.kind.Kind.{Kind}
-use Rattle.cqlp_type.specs.declared.node.Node.{Node}
-use Rattle.cqlp_type.specs.Types.{Types, NoMore, Type_and, how_many, first_types, other_types, types_of, preorder, followed_by}
-use Rattle.cqlp_type.specs.TypeStep.{with_arity, with_span}
+use Rattle.cqlp_kind.specs.declared.kind.Kind.{Kind}
+use Rattle.cqlp_kind.specs.declared.node.Node.{Node}
+use Rattle.cqlp_kind.specs.Types.{Types, NoMore, Type_and, how_many, first_types, other_types, types_of, preorder, followed_by}
+use Rattle.cqlp_kind.specs.TypeStep.{with_arity, with_span}
 use Rattle.cqlp_type.specs.Trees.{Trees, NoTree, Tree_and, types_in, trees_in, options_in}
 
 first_followed : (ts us : Types) → first_types (how_many ts) (followed_by ts us) ≡ ts

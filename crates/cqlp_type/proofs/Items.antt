@@ -15,8 +15,8 @@ use Rattle.cqlp_note.specs.Step.{Emit, Emitted}
 use Rattle.cqlp_note.specs.Limits.{Rules, limit_of}
 use Rattle.cqlp_note.specs.Heading.{beside_number}
 use Rattle.cqlp_note.proofs.Yields.{says_yields, after_more, after_bad, after_got}
-use Rattle.cqlp_type.specs.Types.{kinds}
-use Rattle.cqlp_type.specs.TypeStep.{TypeSymbol, Option_at, Text_of, Fields_of, Whole, TypeEvent, IsField, TypePlace, symbol_copies, inner_symbols, with_arity, settled, type_place, option_step, count_in, type_step_at}
+use Rattle.cqlp_kind.specs.Types.{kinds}
+use Rattle.cqlp_kind.specs.TypeStep.{TypeSymbol, Option_at, Text_of, Fields_of, Whole, TypeEvent, IsField, TypePlace, symbol_copies, inner_symbols, with_arity, settled, type_place, option_step, count_in, type_step_at}
 use Rattle.cqlp_type.specs.Remaining.{short_in, item_step}
 use Rattle.cqlp_type.specs.Standing.{notation_of}
 

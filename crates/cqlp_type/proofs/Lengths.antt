@@ -1,7 +1,7 @@
 -- How many bytes spell the items of types.
 use Rattle.std.proofs.Common.{◌≡◌, ℕ, ◌+◌, Bool, true, false, List, [], ◌∷◌, ◌++◌, length, refl, ap, ◌∙◌, arith}
 use Rattle.std.proofs.lemmas.List.{length-append}
-use Rattle.cqlp_type.specs.TypeStep.{TypeEvent, IsNode}
+use Rattle.cqlp_kind.specs.TypeStep.{TypeEvent, IsNode}
 use Rattle.cqlp_type.specs.Trees.{Head, Plain, Custom, ListOf, SetOf, MapOf, TupleOf, UdtOf, Trees, NoTree, Tree_and, kind_in, trees_in, has_names, head_items, name_items, trees_items, ItemsSpell, items_size}
 use Rattle.cqlp_type.specs.TypeTrees.{name_size, head_size, trees_size}
 use Rattle.cqlp_type.proofs.ReadBack.{item_sized}

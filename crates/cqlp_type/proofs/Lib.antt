@@ -17,3 +17,5 @@ pub mod TreeChecks
 pub mod TreeSizes
 pub mod OpenTypes
 pub mod Ids
+pub mod Inside
+pub mod Columns

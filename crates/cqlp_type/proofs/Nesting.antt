@@ -2,7 +2,7 @@
 use Rattle.std.proofs.Common.{◌≡◌, ℕ, suc, ◌+◌, ◌-◌, ◌<◌, List, [], ◌∷◌, ◌++◌, length, refl, sym, ap, ◌∙◌, append_assoc, arith}
 use Rattle.std.proofs.lemmas.List.{append-nil, length-append}
 use Rattle.cqlp_type.specs.declared.open_options.OpenOption.{OpenOption}
-use Rattle.cqlp_type.specs.TypeStep.{TypeSymbol, Whole, symbol_copies, inner_symbols}
+use Rattle.cqlp_kind.specs.TypeStep.{TypeSymbol, Whole, symbol_copies, inner_symbols}
 use Rattle.cqlp_type.specs.OpenOptions.{open_symbols, all_open_symbols}
 
 last_level : (depth : ℕ) (vs : List OpenOption) (v : OpenOption) → all_open_symbols depth (vs ++ v ∷ []) ≡ open_symbols (depth + length vs) v ++ all_open_symbols depth vs

@@ -1,8 +1,8 @@
 -- A node of a table that is written.
 use Rattle.std.proofs.Common.{◌≡◌, ℕ, zero, suc, ◌-◌, ◌<◌, ◌≤◌, List, [], ◌∷◌, length, get_or, refl, ap, arith}
 use Rattle.std.proofs.Math.ListN.{set}
-use Rattle.cqlp_type.specs.declared.node.Node.{Node}
-use Rattle.cqlp_type.specs.TypeStep.{with_arity, with_span}
+use Rattle.cqlp_kind.specs.declared.node.Node.{Node}
+use Rattle.cqlp_kind.specs.TypeStep.{with_arity, with_span}
 
 pub span_set : (xs : List Node) (i : ℕ) (x : Node) → x ≡ get_or xs i x → i < length xs → set xs i (record x { span = length xs - i }) ≡ with_span i xs
 span_set [] i x here lt = absurd (omega arith)

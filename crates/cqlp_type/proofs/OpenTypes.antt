@@ -17,17 +17,18 @@ use Rattle.cqlp_note.specs.Heading.{beside_number}
 use Rattle.cqlp_note.proofs.Readers.{Always, says_always}
 use Rattle.cqlp_note.proofs.Fields.{either_always}
 use Rattle.cqlp_note.proofs.Yields.{says_exact}
-use Rattle.cqlp_type.specs.declared.kind.Kind.{Kind}
-use Rattle.cqlp_type.specs.declared.kind.Kind.TheVariants as kind
-use Rattle.cqlp_type.specs.declared.node.Node.{Node}
+use Rattle.cqlp_kind.specs.declared.kind.Kind.{Kind}
+use Rattle.cqlp_kind.specs.declared.kind.Kind.TheVariants as kind
+use Rattle.cqlp_kind.specs.declared.node.Node.{Node}
 use Rattle.cqlp_type.specs.declared.advance.TypeOutline.{TypeOutline}
-use Rattle.cqlp_type.specs.Types.{Types, NoMore, Type_and, how_many, HasInner, AreFormed, IsPreorder, preorder, followed_by, kinds}
-use Rattle.cqlp_type.specs.TypeStep.{TypeSymbol, Option_at, Text_of, Fields_of, Whole, TypeEvent, IsNode, IsField, TypePlace, parameters_of, arity_of, inner_symbols, symbol_copies, with_arity, with_span, settled, type_place, option_step, count_in, type_step_at, type_step}
+use Rattle.cqlp_kind.specs.Types.{Types, NoMore, Type_and, how_many, HasInner, AreFormed, IsPreorder, preorder, followed_by, kinds}
+use Rattle.cqlp_kind.specs.TypeStep.{TypeSymbol, Option_at, Text_of, Fields_of, Whole, TypeEvent, IsNode, IsField, TypePlace, parameters_of, arity_of, inner_symbols, symbol_copies, with_arity, with_span, settled, type_place, option_step, count_in, type_step_at, type_step}
 use Rattle.cqlp_type.specs.Table.{Table, HoldsTypes}
 use Rattle.cqlp_type.specs.Remaining.{Closes, Keeps, item_step, short_in, event_at}
 use Rattle.cqlp_type.specs.Standing.{TypeState, IsShared, place_of, pending, step_says, started, Waits, Ends}
 use Rattle.cqlp_type.specs.Pushing.{ReadsInto, IsWhole}
-use Rattle.cqlp_type.specs.Trees.{Head, Plain, Custom, ListOf, SetOf, MapOf, TupleOf, UdtOf, Trees, NoTree, Tree_and, kind_in, types_in, is_plain, IsHead, AreTrees}
+use Rattle.cqlp_type.specs.Trees.{Head, Plain, Custom, ListOf, SetOf, MapOf, TupleOf, UdtOf, Trees, NoTree, Tree_and, kind_in, types_in, IsHead, AreTrees}
+use Rattle.cqlp_kind.specs.Types.{is_plain}
 use Rattle.cqlp_type.proofs.Forests.{many_types}
 use Rattle.cqlp_type.proofs.ReadBack.{option_read}
 use Rattle.cqlp_type.proofs.Pushes.{run_more, option_begun, option_waited, option_handed, option_over, nothing_begun}

@@ -9,13 +9,14 @@ use Rattle.std.proofs.lemmas.Str.{IsUtf8-string_bytes, is_utf8-from_IsUtf8}
 use Rattle.cqlp_note.specs.declared.field.Field.{Field}
 use Rattle.cqlp_note.specs.declared.field.Field.TheVariants as field
 use Rattle.cqlp_note.specs.Field.{Text, Count}
-use Rattle.cqlp_type.specs.declared.kind.Kind.{Kind}
-use Rattle.cqlp_type.specs.declared.kind.Kind.TheVariants as kind
+use Rattle.cqlp_kind.specs.declared.kind.Kind.{Kind}
+use Rattle.cqlp_kind.specs.declared.kind.Kind.TheVariants as kind
 use Rattle.cqlp_type.specs.declared.tree.TypeTree.{TypeTree, List', Set', Map', Udt', Tuple', Row_of-TypeTree, end_of-TypeTree, more_of-TypeTree, Row_of-TypeTree-Udt-2-2, end_of-TypeTree-Udt-2-2, more_of-TypeTree-Udt-2-2}
 use Rattle.cqlp_type.specs.declared.tree.TypeTree as type
-use Rattle.cqlp_type.specs.Types.{has_id}
-use Rattle.cqlp_type.specs.TypeStep.{TypeEvent, IsNode, IsField}
-use Rattle.cqlp_type.specs.Trees.{Head, Plain, Custom, ListOf, SetOf, MapOf, TupleOf, UdtOf, Trees, NoTree, Tree_and, kind_in, trees_in, has_names, is_plain, IsHead, AreTrees, head_items, name_items, trees_items, ItemSpells, ItemsSpell}
+use Rattle.cqlp_kind.specs.Types.{has_id}
+use Rattle.cqlp_kind.specs.TypeStep.{TypeEvent, IsNode, IsField}
+use Rattle.cqlp_type.specs.Trees.{Head, Plain, Custom, ListOf, SetOf, MapOf, TupleOf, UdtOf, Trees, NoTree, Tree_and, kind_in, trees_in, has_names, IsHead, AreTrees, head_items, name_items, trees_items, ItemSpells, ItemsSpell}
+use Rattle.cqlp_kind.specs.Types.{is_plain}
 use Rattle.cqlp_type.specs.TypeTrees.{head_of, inner_of, types_in_row, fields_in_row, tree_of, is_counted, name_fits, head_fits, trees_fit, trees_size, len_if}
 use Rattle.cqlp_type.specs.Laws.{HasLenOfOption}
 use Rattle.cqlp_type.proofs.Lengths.{spelled_long}

@@ -14,8 +14,8 @@ use Rattle.cqlp_type.specs.declared.advance.TypeOutline.{TypeOutline}
 use Rattle.cqlp_type.specs.declared.item.TypeItem.{TypeItem}
 use Rattle.cqlp_type.specs.declared.advance.TypeAdvance.TheVariants as advance
 use Rattle.cqlp_type.specs.declared.item.TypePush.TheVariants as push
-use Rattle.cqlp_type.specs.Types.{IsPreorder}
-use Rattle.cqlp_type.specs.TypeStep.{TypeSymbol, Option_at, TypeEvent, TypePlace, type_step}
+use Rattle.cqlp_kind.specs.Types.{IsPreorder}
+use Rattle.cqlp_kind.specs.TypeStep.{TypeSymbol, Option_at, TypeEvent, TypePlace, type_step}
 use Rattle.cqlp_type.specs.Table.{Table}
 use Rattle.cqlp_type.specs.Remaining.{event_at}
 use Rattle.cqlp_type.specs.Standing.{TypeState, IsShared, IsFor, place_of, pending, step_says, started, stopped, Waits, Ends, Advances}

@@ -15,11 +15,11 @@ use Rattle.cqlp_note.proofs.Readers.{Always, says_always}
 use Rattle.cqlp_note.proofs.Fields.{field_spells, either_always}
 use Rattle.cqlp_note.proofs.Yields.{says_yields}
 use Rattle.cqlp_note.proofs.Spelled.{counted_size}
-use Rattle.cqlp_type.specs.declared.kind.Kind.{Kind}
-use Rattle.cqlp_type.specs.declared.kind.Kind.TheVariants as kind
-use Rattle.cqlp_type.specs.declared.node.Node.{Node}
-use Rattle.cqlp_type.specs.Types.{NoMore, Type_and, has_id, preorder, kinds}
-use Rattle.cqlp_type.specs.TypeStep.{TypeSymbol, Option_at, Text_of, Fields_of, Whole, TypeEvent, IsNode, IsField, TypePlace, parameters_of, arity_of, inner_symbols, symbol_copies, with_arity, with_span, settled, option_step, count_in, type_step_at, type_step}
+use Rattle.cqlp_kind.specs.declared.kind.Kind.{Kind}
+use Rattle.cqlp_kind.specs.declared.kind.Kind.TheVariants as kind
+use Rattle.cqlp_kind.specs.declared.node.Node.{Node}
+use Rattle.cqlp_kind.specs.Types.{NoMore, Type_and, has_id, preorder, kinds}
+use Rattle.cqlp_kind.specs.TypeStep.{TypeSymbol, Option_at, Text_of, Fields_of, Whole, TypeEvent, IsNode, IsField, TypePlace, parameters_of, arity_of, inner_symbols, symbol_copies, with_arity, with_span, settled, option_step, count_in, type_step_at, type_step}
 use Rattle.cqlp_type.specs.Trees.{Head, Plain, Custom, ListOf, SetOf, MapOf, TupleOf, UdtOf, Trees, NoTree, Tree_and, kind_in, trees_in, types_in, has_names, IsHead, AreTrees, Shallow, head_items, trees_items, notation_for, ItemSpells, ItemsSpell, item_size, placed}
 use Rattle.cqlp_type.specs.Pushing.{IsWhole}
 use Rattle.cqlp_type.proofs.Forests.{last_arity, span_at, and_more, many_types}

@@ -13,12 +13,13 @@ use Rattle.cqlp_note.specs.Step.{Emitted, Step, Emit, Runs, after_field}
 use Rattle.cqlp_note.specs.Limits.{Rules}
 use Rattle.cqlp_note.proofs.Yields.{Yields, yields_says}
 use Rattle.cqlp_note.proofs.Spelled.{field_yields, alone_yields}
-use Rattle.cqlp_type.specs.declared.kind.Kind.{Kind}
-use Rattle.cqlp_type.specs.declared.kind.Kind.TheVariants as kind
-use Rattle.cqlp_type.specs.declared.node.Node.{Node}
-use Rattle.cqlp_type.specs.Types.{Types, NoMore, Type_and, preorder}
-use Rattle.cqlp_type.specs.TypeStep.{TypeSymbol, Option_at, Text_of, Fields_of, Whole, TypeEvent, IsNode, IsField, TypePlace, parameters_of, arity_of, inner_symbols, symbol_copies, with_arity, with_span, settled, type_place, count_in, type_step}
-use Rattle.cqlp_type.specs.Trees.{Head, Plain, Custom, ListOf, SetOf, MapOf, TupleOf, UdtOf, Trees, NoTree, Tree_and, kind_in, trees_in, options_in, types_in, has_names, is_plain, IsHead, AreTrees, Shallow, head_items, name_items, trees_items, ItemSpells, ItemsSpell, AreShort, item_size, placed}
+use Rattle.cqlp_kind.specs.declared.kind.Kind.{Kind}
+use Rattle.cqlp_kind.specs.declared.kind.Kind.TheVariants as kind
+use Rattle.cqlp_kind.specs.declared.node.Node.{Node}
+use Rattle.cqlp_kind.specs.Types.{Types, NoMore, Type_and, preorder}
+use Rattle.cqlp_kind.specs.TypeStep.{TypeSymbol, Option_at, Text_of, Fields_of, Whole, TypeEvent, IsNode, IsField, TypePlace, parameters_of, arity_of, inner_symbols, symbol_copies, with_arity, with_span, settled, type_place, count_in, type_step}
+use Rattle.cqlp_type.specs.Trees.{Head, Plain, Custom, ListOf, SetOf, MapOf, TupleOf, UdtOf, Trees, NoTree, Tree_and, kind_in, trees_in, options_in, types_in, has_names, IsHead, AreTrees, Shallow, head_items, name_items, trees_items, ItemSpells, ItemsSpell, AreShort, item_size, placed}
+use Rattle.cqlp_kind.specs.Types.{is_plain}
 use Rattle.cqlp_type.proofs.Forests.{last_arity, span_at, and_more, many_types, one_size}
 use Rattle.cqlp_type.proofs.ReadBack.{item_sized}
 

@@ -10,7 +10,7 @@ use Rattle.std.specs.declared.string.String.{String}
 use Rattle.std.specs.declared.alloc.Global.{Global}
 use Rattle.cqlp_type.specs.declared.check.TreeCheck.{TreeCheck}
 use Rattle.cqlp_type.specs.declared.tree.TypeTree.{TypeTree, Map, Udt, Tuple}
-use Rattle.cqlp_type.specs.TypeStep.{TypeEvent, IsNode}
+use Rattle.cqlp_kind.specs.TypeStep.{TypeEvent, IsNode}
 use Rattle.cqlp_type.specs.Trees.{Head, TupleOf, UdtOf, Trees, NoTree, Tree_and, kind_in, trees_in, has_names, is_head, head_items, name_items, trees_items, item_counts, item_is_short}
 use Rattle.cqlp_type.specs.TypeTrees.{head_of, inner_of, tree_of}
 use Rattle.cqlp_type.specs.TypeLists.{listed_types, listed_fields}

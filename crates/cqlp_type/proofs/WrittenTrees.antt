@@ -9,11 +9,12 @@ use Rattle.cqlp_note.specs.Field.{Short}
 use Rattle.cqlp_note.specs.Heading.{beside_number}
 use Rattle.cqlp_note.proofs.Small.{Small, small_front, small_back}
 use Rattle.cqlp_note.proofs.WrittenFields.{field_written, field_fits}
-use Rattle.cqlp_type.specs.declared.kind.Kind.{Kind}
-use Rattle.cqlp_type.specs.declared.kind.Kind.TheVariants as kind
-use Rattle.cqlp_type.specs.Types.{kinds, has_id, id_of}
-use Rattle.cqlp_type.specs.TypeStep.{TypeEvent, IsNode, IsField}
-use Rattle.cqlp_type.specs.Trees.{Head, Plain, Custom, ListOf, SetOf, MapOf, TupleOf, UdtOf, Trees, NoTree, Tree_and, kind_in, trees_in, has_names, is_plain, IsHead, AreTrees, is_head, are_trees, is_tree, head_items, name_items, trees_items, notation_for, ItemSpells, ItemsSpell, TreeSpells, item_counts, item_is_short, ItemIsInRange, item_bytes, tree_bytes}
+use Rattle.cqlp_kind.specs.declared.kind.Kind.{Kind}
+use Rattle.cqlp_kind.specs.declared.kind.Kind.TheVariants as kind
+use Rattle.cqlp_kind.specs.Types.{kinds, has_id, id_of}
+use Rattle.cqlp_kind.specs.TypeStep.{TypeEvent, IsNode, IsField}
+use Rattle.cqlp_type.specs.Trees.{Head, Plain, Custom, ListOf, SetOf, MapOf, TupleOf, UdtOf, Trees, NoTree, Tree_and, kind_in, trees_in, has_names, IsHead, AreTrees, is_head, are_trees, is_tree, head_items, name_items, trees_items, notation_for, ItemSpells, ItemsSpell, TreeSpells, item_counts, item_is_short, ItemIsInRange, item_bytes, tree_bytes}
+use Rattle.cqlp_kind.specs.Types.{is_plain}
 use Rattle.cqlp_type.specs.TypeTrees.{trees_size}
 use Rattle.cqlp_type.specs.Laws.{TreeFits}
 use Rattle.cqlp_type.proofs.Lengths.{spelled_long}

@@ -6,10 +6,10 @@ use Rattle.cqlp_note.specs.Step.{Runs}
 use Rattle.cqlp_note.specs.Limits.{Rules}
 use Rattle.cqlp_note.specs.Heading.{beside_number}
 use Rattle.cqlp_note.specs.Partial.{FieldState}
-use Rattle.cqlp_type.specs.declared.kind.Kind.{Kind}
-use Rattle.cqlp_type.specs.declared.node.Node.{Node}
-use Rattle.cqlp_type.specs.Types.{Types, NoMore, Type_and, how_many, types_of, preorder, followed_by, kinds}
-use Rattle.cqlp_type.specs.TypeStep.{TypeEvent, Option_at, TypePlace, type_step}
+use Rattle.cqlp_kind.specs.declared.kind.Kind.{Kind}
+use Rattle.cqlp_kind.specs.declared.node.Node.{Node}
+use Rattle.cqlp_kind.specs.Types.{Types, NoMore, Type_and, how_many, types_of, preorder, followed_by, kinds}
+use Rattle.cqlp_kind.specs.TypeStep.{TypeEvent, Option_at, TypePlace, type_step}
 use Rattle.cqlp_type.specs.declared.advance.TypeAdvance.{TypeAdvance}
 use Rattle.cqlp_type.specs.declared.advance.TypeAdvance.TheVariants as advance
 use Rattle.cqlp_type.specs.declared.item.TypePush.{TypePush}

@@ -1,5 +1,3 @@
-pub mod Types
-pub mod TypeStep
 pub mod Table
 pub mod OpenOptions
 pub mod Remaining
@@ -10,3 +8,4 @@ pub mod Laws
 pub mod TypeTrees
 pub mod TypeLists
 pub mod TreeChecks
+pub mod Forests

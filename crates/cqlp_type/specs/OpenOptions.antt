@@ -3,7 +3,7 @@ use Rattle.std.specs.Prelude.{◌≡◌, ℕ, ◌+◌, ◌^◌, ◌<◌, ◌≤�
 use Rattle.cqlp_type.specs.declared.open_options.OpenOption.{OpenOption}
 use Rattle.cqlp_type.specs.declared.open_options.NextOption.{NextOption}
 use Rattle.cqlp_type.specs.declared.open_options.NextOption.TheVariants as next
-use Rattle.cqlp_type.specs.TypeStep.{TypeSymbol, Whole, symbol_copies, inner_symbols}
+use Rattle.cqlp_kind.specs.TypeStep.{TypeSymbol, Whole, symbol_copies, inner_symbols}
 
 -- what is still to be read of an option at this depth
 abbrev pub open_symbols : (depth : ℕ) → OpenOption → List TypeSymbol

@@ -6,15 +6,15 @@ use Rattle.cqlp_note.specs.declared.field.Field.TheVariants as field
 use Rattle.cqlp_note.specs.Step.{Runs}
 use Rattle.cqlp_note.specs.Limits.{Rules}
 use Rattle.cqlp_note.specs.Partial.{FieldState}
-use Rattle.cqlp_type.specs.declared.node.Node.{Node}
+use Rattle.cqlp_kind.specs.declared.node.Node.{Node}
 use Rattle.cqlp_type.specs.declared.item.TypeItem.{TypeItem}
 use Rattle.cqlp_type.specs.declared.item.TypeItem.TheVariants as item
 use Rattle.cqlp_type.specs.declared.advance.TypeAdvance.{TypeAdvance}
 use Rattle.cqlp_type.specs.declared.advance.TypeAdvance.TheVariants as advance
 use Rattle.cqlp_type.specs.declared.item.TypePush.{TypePush}
 use Rattle.cqlp_type.specs.declared.item.TypePush.TheVariants as push
-use Rattle.cqlp_type.specs.Types.{IsPreorder, preorder}
-use Rattle.cqlp_type.specs.TypeStep.{TypeEvent, IsNode, IsField, TypePlace, type_step, Option_at}
+use Rattle.cqlp_kind.specs.Types.{IsPreorder, preorder}
+use Rattle.cqlp_kind.specs.TypeStep.{TypeEvent, IsNode, IsField, TypePlace, type_step, Option_at}
 use Rattle.cqlp_type.specs.Table.{Table}
 use Rattle.cqlp_type.specs.Trees.{Trees, trees_in, types_in, AreTrees, Shallow, trees_items, placed, TreeSpells}
 use Rattle.cqlp_type.specs.Standing.{TypeState, IsShared, place_of, pending, step_says, stopped, text_length}

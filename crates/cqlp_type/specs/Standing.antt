@@ -11,13 +11,13 @@ use Rattle.cqlp_note.specs.Step.{Emitted}
 use Rattle.cqlp_note.specs.Limits.{Rules, rules_of, limit_of}
 use Rattle.cqlp_note.specs.Partial.{FieldState, item_value, CanLend}
 use Rattle.cqlp_note.specs.Field.{content_length}
-use Rattle.cqlp_type.specs.declared.node.Node.{Node}
+use Rattle.cqlp_kind.specs.declared.node.Node.{Node}
 use Rattle.cqlp_type.specs.declared.remaining.OptionStage.{OptionStage}
 use Rattle.cqlp_type.specs.declared.advance.TypeOutline.{TypeOutline}
 use Rattle.cqlp_type.specs.declared.advance.TypeOutline.TheVariants as part
 use Rattle.cqlp_type.specs.declared.advance.TypeAdvance.{TypeAdvance}
 use Rattle.cqlp_type.specs.declared.advance.TypeAdvance.TheVariants as advance
-use Rattle.cqlp_type.specs.TypeStep.{TypeSymbol, Option_at, Text_of, Whole, TypeEvent, IsNode, IsField, TypePlace, type_step}
+use Rattle.cqlp_kind.specs.TypeStep.{TypeSymbol, Option_at, Text_of, Whole, TypeEvent, IsNode, IsField, TypePlace, type_step}
 use Rattle.cqlp_type.specs.Table.{Table}
 use Rattle.cqlp_type.specs.OpenOptions.{Nest}
 use Rattle.cqlp_type.specs.Remaining.{is_under_way, stage_symbols, event_at}

@@ -1,7 +1,7 @@
 -- Tables of types: nodes in preorder, of which the last type may be under way.
 use Rattle.std.specs.Prelude.{◌≢◌, ◌≤◌, ℕ, zero, suc, ◌+◌, ◌-◌, List, [], ◌∷◌, All, length, take, drop, Option, option_and_then, slice_get, ◌==◌, if◌then◌else◌}
-use Rattle.cqlp_type.specs.declared.node.Node.{Node}
-use Rattle.cqlp_type.specs.Types.{IsPreorder}
+use Rattle.cqlp_kind.specs.declared.node.Node.{Node}
+use Rattle.cqlp_kind.specs.Types.{IsPreorder}
 
 -- What a caller knows of a `TypeTable`: its nodes, and how many there can be.
 pub record Table : Type 0 where

@@ -2,7 +2,7 @@
 use Rattle.std.specs.Prelude.{Bool, ◌&&◌, List}
 use Rattle.std.specs.List.{list_all}
 use Rattle.cqlp_type.specs.declared.check.TreeCheck.{TreeCheck}
-use Rattle.cqlp_type.specs.TypeStep.{TypeEvent}
+use Rattle.cqlp_kind.specs.TypeStep.{TypeEvent}
 use Rattle.cqlp_type.specs.Trees.{Trees, are_trees, trees_items, item_counts, item_is_short}
 
 -- these items, of types that are formed or not

@@ -9,10 +9,10 @@ use Rattle.cqlp_note.specs.Limits.{Rules}
 use Rattle.cqlp_note.specs.Heading.{beside_number}
 use Rattle.cqlp_note.specs.Spelling.{Spells, field_bytes, counts_no_more, is_short_enough, IsInRange}
 use Rattle.cqlp_note.specs.Field.{content_length}
-use Rattle.cqlp_type.specs.declared.kind.Kind.{Kind}
-use Rattle.cqlp_type.specs.declared.kind.Kind.TheVariants as kind
-use Rattle.cqlp_type.specs.Types.{Types, NoMore, Type_and, kinds, id_of}
-use Rattle.cqlp_type.specs.TypeStep.{TypeEvent, IsNode, IsField}
+use Rattle.cqlp_kind.specs.declared.kind.Kind.{Kind}
+use Rattle.cqlp_kind.specs.declared.kind.Kind.TheVariants as kind
+use Rattle.cqlp_kind.specs.Types.{Types, NoMore, Type_and, is_plain, kinds, id_of}
+use Rattle.cqlp_kind.specs.TypeStep.{TypeEvent, IsNode, IsField}
 
 -- What a type option is, apart from its inner options.
 pub data Head : Type 0 where
@@ -54,17 +54,6 @@ has_names (UdtOf keyspace name) = true
 has_names _ = false
 
 -- ---- shape
-
--- one of the 19 kinds without parameters
-abbrev pub is_plain : Kind → Bool
-is_plain kind.Custom = false
-is_plain kind.List = false
-is_plain kind.Map = false
-is_plain kind.Set = false
-is_plain kind.Udt = false
-is_plain kind.Tuple = false
-is_plain kind.Raw = false
-is_plain _ = true
 
 -- a head with this many inner types
 abbrev pub IsHead : Head → (n : ℕ) → Type 0

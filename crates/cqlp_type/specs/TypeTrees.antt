@@ -3,7 +3,8 @@ use Rattle.std.specs.Prelude.{ℕ, ◌+◌, List, [], length, Bool, true, false,
 use Rattle.cqlp_note.specs.declared.header.TheConstants.Header.{LONGEST_BODY}
 use Rattle.cqlp_type.specs.declared.tree.TypeTree.{TypeTree, Plain, Custom, List', Set', Map', Udt', Tuple', Row_of-TypeTree, end_of-TypeTree, more_of-TypeTree, Row_of-TypeTree-Udt-2-2, end_of-TypeTree-Udt-2-2, more_of-TypeTree-Udt-2-2}
 use Rattle.cqlp_type.specs.Trees as tree
-use Rattle.cqlp_type.specs.Trees.{Head, Trees, NoTree, Tree_and, trees_in, has_names, is_plain}
+use Rattle.cqlp_type.specs.Trees.{Head, Trees, NoTree, Tree_and, trees_in, has_names}
+use Rattle.cqlp_kind.specs.Types.{is_plain}
 
 abbrev pub head_of : TypeTree → Head
 head_of (Plain k) = tree.Plain k

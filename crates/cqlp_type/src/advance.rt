@@ -3,7 +3,7 @@
 ghost use Rattle.std.specs.Prelude.{◌≡◌};
 
 use crate::item::TypeItem;
-use crate::kind::Kind;
+use cqlp_kind::Kind;
 use cqlp_note::{Field, FieldOutline, Partial, Prim, Refusal};
 use std::alloc::Allocator;
 

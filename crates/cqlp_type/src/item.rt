@@ -1,6 +1,6 @@
 //! What is read of a type option.
 
-use crate::kind::Kind;
+use cqlp_kind::Kind;
 use cqlp_note::{Field, Refusal};
 
 /// A part of a type option. Section 4.2.5.2 of `native_protocol_v4.spec`.

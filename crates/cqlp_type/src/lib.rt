@@ -4,9 +4,7 @@
 mod advance;
 mod check;
 mod item;
-mod kind;
 pub mod laws;
-mod node;
 mod open_options;
 mod reader;
 mod remaining;
@@ -16,9 +14,8 @@ mod tree;
 
 pub use advance::{TypeAdvance, TypeOutline};
 pub use check::{TreeCheck, check_type};
+pub use cqlp_kind::{Kind, Node};
 pub use item::{TypeItem, TypePush};
-pub use kind::Kind;
-pub use node::Node;
 pub use reader::TypeReader;
 pub use size::type_size;
 pub use table::TypeTable;

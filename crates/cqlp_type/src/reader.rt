@@ -46,7 +46,7 @@ impl<A: Allocator> TypeReader<A> {
     ghost use Rattle.cqlp_note.specs.Lending.{LeavesField};
     ghost use Rattle.cqlp_type.specs.Pushing.{Uses, Continues, Fills, Pushes, ReadsInto, AdvanceLeaves};
     ghost use Rattle.cqlp_type.specs.Table.{Table};
-    ghost use Rattle.cqlp_type.specs.Types.{IsPreorder};
+    ghost use Rattle.cqlp_kind.specs.Types.{IsPreorder};
     ghost use Rattle.cqlp_note.specs.Partial.{FieldState};
 
     /// With room for the nesting that the limits allow.

@@ -7,13 +7,12 @@ ghost use Rattle.cqlp_type.specs.OpenOptions.{entered, entered_symbols};
 ghost use Rattle.cqlp_type.specs.declared.remaining.OptionStage.TheVariants as stage;
 ghost use Rattle.cqlp_type.specs.Remaining.{Closes, FollowsId, FollowsItem, HasRoom, IsPart, Keeps, Settles};
 ghost use Rattle.cqlp_type.specs.Remaining.{is_under_way, is_wanted, number_of, short_in, symbols_of};
-ghost use Rattle.cqlp_type.specs.declared.kind.Kind.{Kind};
+ghost use Rattle.cqlp_kind.specs.declared.kind.Kind.{Kind};
 
 use crate::advance::TypeOutline;
-use crate::kind::Kind;
-use crate::node::Node;
 use crate::open_options::{NextOption, OpenOptions};
 use crate::table::TypeTable;
+use cqlp_kind::{Kind, Node};
 use cqlp_note::{Field, FieldOutline, Limits, Prim, Reason};
 use std::alloc::Allocator;
 

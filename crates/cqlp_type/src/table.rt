@@ -3,7 +3,7 @@
 ghost use Rattle.std.specs.Prelude.{◌≡◌, ◌+◌, ◌^◌, ◌<◌, ◌≤◌, ◌++◌, ◌∷◌, [], length, slice_get, IfOk, IsTrue, ◌↔◌};
 ghost use Rattle.cqlp_type.specs.Table.{beginnings};
 
-use crate::node::Node;
+use cqlp_kind::Node;
 use cqlp_note::NoMemory;
 use std::alloc::{Allocator, Global};
 use std::marker::Model;
@@ -29,8 +29,8 @@ impl<A: Allocator> Model for TypeTable<A> {
 
 impl<A: Allocator> TypeTable<A> {
     ghost use Rattle.cqlp_type.specs.Table.{AreWhole, HoldsTypes, root, child};
-    ghost use Rattle.cqlp_type.specs.Types.{IsPreorder};
-    ghost use Rattle.cqlp_type.specs.TypeStep.{with_arity, with_span};
+    ghost use Rattle.cqlp_kind.specs.Types.{IsPreorder};
+    ghost use Rattle.cqlp_kind.specs.TypeStep.{with_arity, with_span};
 
     /// With room for `room` nodes, which is all that it will ever have.
     #[tactic(auto, using(crate::proofs::OpenTypes::nothing_holds))]

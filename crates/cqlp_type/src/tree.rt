@@ -1,11 +1,11 @@
 //! Types as trees.
 
 ghost use Rattle.std.specs.Prelude.{◌≡◌, ◌+◌, ◌&&◌, ℕ, Bool, true, false, length, string_bytes};
-ghost use Rattle.cqlp_type.specs.Trees.{is_plain};
+ghost use Rattle.cqlp_kind.specs.Types.{is_plain};
 ghost use Rattle.cqlp_type.specs.TypeTrees.{spelled_len, len_if, is_counted, trees_fit, trees_size};
 ghost use Rattle.cqlp_type.specs.TypeLists.{listed_types, listed_fields};
 
-use crate::kind::Kind;
+use cqlp_kind::Kind;
 use cqlp_note::Header;
 
 /// The longest option, which is also the longest body of a frame.

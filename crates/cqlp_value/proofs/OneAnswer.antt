@@ -11,32 +11,32 @@ use Rattle.cqlp_note.specs.Limits.{Rules}
 use Rattle.cqlp_note.specs.Partial.{FieldState}
 use Rattle.cqlp_note.proofs.Readers.{says_stays}
 use Rattle.cqlp_note.proofs.Runs.{stays_got, same_got, runs_stay}
-use Rattle.cqlp_type.specs.declared.node.Node.{Node}
-use Rattle.cqlp_type.specs.declared.kind.Kind.{Kind}
-use Rattle.cqlp_type.specs.declared.kind.Kind.TheVariants as kind
-use Rattle.cqlp_type.specs.Types.{Types, NoMore, Type_and, has_no_items}
-use Rattle.cqlp_value.specs.declared.advance.CellAdvance.{CellAdvance}
-use Rattle.cqlp_value.specs.declared.advance.CellAdvance.TheVariants as advance
-use Rattle.cqlp_value.specs.declared.item.CellPush.{CellPush}
-use Rattle.cqlp_value.specs.declared.item.CellPush.TheVariants as push
-use Rattle.cqlp_value.specs.declared.open_values.OpenValue.{OpenValue}
-use Rattle.cqlp_value.specs.declared.open_values.Order.{Order}
-use Rattle.cqlp_value.specs.declared.open_values.Order.TheVariants as order
-use Rattle.cqlp_value.specs.declared.standing.NextInCell.{NextInCell}
-use Rattle.cqlp_value.specs.declared.standing.NextInCell.TheVariants as next
-use Rattle.cqlp_value.specs.declared.standing.Under.{Under}
-use Rattle.cqlp_value.specs.declared.standing.Under.TheVariants as under
-use Rattle.cqlp_value.specs.CellStep.{CellSymbol, Value_of, Items_of, Close_of, Content_from, CellEvent, CellPlace, cell_copies, values_of, cell_step}
-use Rattle.cqlp_value.specs.Items.{content_length, event_at, event_of}
-use Rattle.cqlp_value.specs.Sizes.{is_counted}
-use Rattle.cqlp_value.specs.Inner.{types_at}
-use Rattle.cqlp_value.specs.Standing.{CellState, value_symbols, left_of, open_symbols, all_open_symbols, symbols_for, cell_symbols, place, due_value, is_under_way, is_some_next, ended, NextStands, Stands}
-use Rattle.cqlp_value.specs.Reading.{gathered, Joined, UnderBy, PartUnder, HaveCome, Answers, Empties, Moves}
-use Rattle.cqlp_value.specs.Pushing.{After, Continues, Keeps, Pushes, Uses, is_done, done_by}
+use Rattle.cqlp_kind.specs.declared.node.Node.{Node}
+use Rattle.cqlp_kind.specs.declared.kind.Kind.{Kind}
+use Rattle.cqlp_kind.specs.declared.kind.Kind.TheVariants as kind
+use Rattle.cqlp_kind.specs.Types.{Types, NoMore, Type_and, has_no_items}
+use Rattle.cqlp_cell.specs.declared.advance.CellAdvance.{CellAdvance}
+use Rattle.cqlp_cell.specs.declared.advance.CellAdvance.TheVariants as advance
+use Rattle.cqlp_cell.specs.declared.item.CellPush.{CellPush}
+use Rattle.cqlp_cell.specs.declared.item.CellPush.TheVariants as push
+use Rattle.cqlp_cell.specs.declared.open_values.OpenValue.{OpenValue}
+use Rattle.cqlp_cell.specs.declared.open_values.Order.{Order}
+use Rattle.cqlp_cell.specs.declared.open_values.Order.TheVariants as order
+use Rattle.cqlp_cell.specs.declared.standing.NextInCell.{NextInCell}
+use Rattle.cqlp_cell.specs.declared.standing.NextInCell.TheVariants as next
+use Rattle.cqlp_cell.specs.declared.standing.Under.{Under}
+use Rattle.cqlp_cell.specs.declared.standing.Under.TheVariants as under
+use Rattle.cqlp_kind.specs.CellStep.{CellSymbol, Value_of, Items_of, Close_of, Content_from, CellEvent, CellPlace, cell_copies, values_of, cell_step}
+use Rattle.cqlp_cell.specs.Items.{content_length, event_at, event_of}
+use Rattle.cqlp_cell.specs.Sizes.{is_counted}
+use Rattle.cqlp_type.specs.Forests.{types_at}
+use Rattle.cqlp_cell.specs.Standing.{CellState, value_symbols, left_of, open_symbols, all_open_symbols, symbols_for, cell_symbols, place, due_value, is_under_way, is_some_next, ended, NextStands, Stands}
+use Rattle.cqlp_cell.specs.Reading.{gathered, Joined, UnderBy, PartUnder, HaveCome, Answers, Empties, Moves}
+use Rattle.cqlp_cell.specs.Pushing.{After, Continues, Keeps, Pushes, Uses, is_done, done_by}
 use Rattle.cqlp_value.specs.Laws.{Answer, More, FieldOutline, Done, Refused, push_answer, advance_answer, Call, Seen, seen, LeaveAlike, IsPush, IsAdvance, AreAlike}
-use Rattle.cqlp_value.proofs.Coming.{first_kind, one_value, value_first_is}
-use Rattle.cqlp_value.proofs.Leading.{keeps, told_is, stands_under, is_over_done, is_not_done}
-use Rattle.cqlp_value.proofs.Leavings.{stop_is}
+use Rattle.cqlp_cell.proofs.Coming.{first_kind, one_value, value_first_is}
+use Rattle.cqlp_cell.proofs.Leading.{keeps, told_is, stands_under, is_over_done, is_not_done}
+use Rattle.cqlp_cell.proofs.Leavings.{stop_is}
 
 -- ---- runs with the same events
 

@@ -5,12 +5,12 @@ use Rattle.std.proofs.lemmas.List.{length-append, take_at, drop_at}
 use Rattle.cqlp_note.specs.declared.field.Notation.TheVariants as notation
 use Rattle.cqlp_note.specs.Field.{Count}
 use Rattle.cqlp_note.specs.Spelling.{Spells}
-use Rattle.cqlp_type.specs.declared.kind.Kind.{Kind}
-use Rattle.cqlp_type.specs.declared.kind.Kind.TheVariants as kind
-use Rattle.cqlp_type.specs.Types.{Types, NoMore, Type_and, first_types}
+use Rattle.cqlp_kind.specs.declared.kind.Kind.{Kind}
+use Rattle.cqlp_kind.specs.declared.kind.Kind.TheVariants as kind
+use Rattle.cqlp_kind.specs.Types.{Types, NoMore, Type_and, first_types}
 use Rattle.cqlp_type.specs.Trees.{Joined}
-use Rattle.cqlp_value.specs.Scalars.{ScalarValue, scalar_of}
-use Rattle.cqlp_value.specs.Sizes.{is_counted}
+use Rattle.cqlp_kind.specs.Scalars.{ScalarValue, scalar_of}
+use Rattle.cqlp_cell.specs.Sizes.{is_counted}
 use Rattle.cqlp_value.specs.Values.{Values, NoValue, Null_and, Empty_and, Scalar_and, Counted_and, Fields_and, values_in, type_copies, has_fields, IsBytes, ValuesSpell, ValueSpells}
 use Rattle.cqlp_value.proofs.ReadBack.{spelled_size, count_size}
 

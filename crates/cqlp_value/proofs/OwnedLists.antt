@@ -3,8 +3,8 @@ use Rattle.std.proofs.Common.{◌≡◌, ℕ, suc, List, [], ◌∷◌, length, 
 use Rattle.std.specs.declared.vec.Vec.{Vec}
 use Rattle.std.specs.declared.alloc.Global.{Global}
 use mathlib.Core.Former.{Count}
-use Rattle.cqlp_type.specs.declared.kind.Kind.{Kind}
-use Rattle.cqlp_type.specs.declared.kind.Kind.TheVariants as kind
+use Rattle.cqlp_kind.specs.declared.kind.Kind.{Kind}
+use Rattle.cqlp_kind.specs.declared.kind.Kind.TheVariants as kind
 use Rattle.cqlp_value.specs.declared.value.Value.{Value, Null, Empty, Leaf, List as ListValue, Map, Set, Tuple, Udt, List', Map', Set', Tuple', Udt', Row_of-Value, end_of-Value, more_of-Value, items-the_row-Value, items_hidden-the_row-Value-0, Row_of-Value-Map-0-2, end_of-Value-Map-0-2, more_of-Value-Map-0-2, items-the_row-Value-Map-0-2, items_hidden-the_row-Value-Map-0-2-1}
 use Rattle.cqlp_value.specs.Values.{Values, NoValue, Counted_and, Fields_and, values_in}
 use Rattle.cqlp_value.specs.Owned.{value_and, value_of, row_of, pairs_of, pairs_in}

@@ -13,15 +13,16 @@ use Rattle.cqlp_note.proofs.Readers.{Always, says_always}
 use Rattle.cqlp_note.proofs.Fields.{either_always}
 use Rattle.cqlp_note.proofs.Yields.{says_yields}
 use Rattle.cqlp_note.proofs.Spelled.{counted_size}
-use Rattle.cqlp_type.specs.declared.kind.Kind.{Kind}
-use Rattle.cqlp_type.specs.declared.kind.Kind.TheVariants as kind
-use Rattle.cqlp_type.specs.Types.{Types, NoMore, Type_and, how_many, first_types, followed_by}
+use Rattle.cqlp_kind.specs.declared.kind.Kind.{Kind}
+use Rattle.cqlp_kind.specs.declared.kind.Kind.TheVariants as kind
+use Rattle.cqlp_kind.specs.Types.{Types, NoMore, Type_and, how_many, first_types, followed_by}
 use Rattle.cqlp_type.specs.Trees.{Joined}
-use Rattle.cqlp_value.specs.Scalars.{ScalarValue, allows_size, scalar_of, content_size}
-use Rattle.cqlp_value.specs.CellStep.{CellSymbol, Value_of, Items_of, Close_of, Content_from, CellEvent, Null, Empty, Enter, Leave, Part, CellPlace, cell_copies, values_of, is_opaque, place_after, leaf_step, fielded_step, close_step, counted_step, part_step, scalar_step, content_step, sized_step, value_step, items_step, cell_step_at, cell_step}
-use Rattle.cqlp_value.specs.Sizes.{is_counted}
+use Rattle.cqlp_kind.specs.Scalars.{ScalarValue, allows_size, scalar_of, content_size}
+use Rattle.cqlp_kind.specs.CellStep.{CellSymbol, Value_of, Items_of, Close_of, Content_from, CellEvent, Null, Empty, Enter, Leave, Part, CellPlace, cell_copies, values_of, is_opaque, place_after, leaf_step, fielded_step, close_step, counted_step, part_step, scalar_step, content_step, sized_step, value_step, items_step, cell_step_at, cell_step}
+use Rattle.cqlp_cell.specs.Sizes.{is_counted}
 use Rattle.cqlp_value.specs.Values.{Values, NoValue, Null_and, Empty_and, Scalar_and, Counted_and, Fields_and, values_in, type_copies, has_fields, IsBytes, IsScalar, ValuesSpell, ValueSpells, values_size, part_items, scalar_items, values_items, value_items}
-use Rattle.cqlp_value.proofs.ScalarSizes.{is_own, opaque_scalar, opaque_content, whole_items, parted_items}
+use Rattle.cqlp_value.proofs.ScalarItems.{is_own, whole_items, parted_items}
+use Rattle.cqlp_cell.proofs.ScalarSizes.{opaque_scalar, opaque_content}
 
 -- ---- values one after the other
 

@@ -13,12 +13,12 @@ use Rattle.std.proofs.lemmas.Nat.{from_be_bytes-to_be_bytes_8}
 use Rattle.std.proofs.lemmas.Bool.Decides.{nat_tests}
 use Rattle.cqlp_note.specs.declared.prim.Address.{Address}
 use Rattle.cqlp_note.specs.declared.prim.Address.TheVariants as address
-use Rattle.cqlp_type.specs.declared.kind.Kind.TheVariants as kind
+use Rattle.cqlp_kind.specs.declared.kind.Kind.TheVariants as kind
 use Rattle.cqlp_value.specs.declared.value.Atom.{Atom}
 use Rattle.cqlp_value.specs.declared.value.Atom.TheVariants as atom
-use Rattle.cqlp_value.specs.Scalars.{ScalarValue, Custom, Blob, Raw, Varint, Double, Float, Uuid, Timeuuid, Ascii, Varchar, Time, Decimal, Inet, allows_size, is_time, is_version_1, only_if, scalar_of, scalar_fits, IsInRange}
+use Rattle.cqlp_kind.specs.Scalars.{ScalarValue, Custom, Blob, Raw, Varint, Double, Float, Uuid, Timeuuid, Ascii, Varchar, Time, Decimal, Inet, allows_size, is_time, is_version_1, only_if, scalar_of, scalar_fits, IsInRange}
 use Rattle.cqlp_value.specs.Owned.{atom_of}
-use Rattle.cqlp_value.proofs.Texts.{varchar_decided, timeuuid_decided, ascii_decided}
+use Rattle.cqlp_kind.proofs.Texts.{varchar_decided, timeuuid_decided, ascii_decided}
 
 and_true : (b : Bool) → ((b && true) && true) ≡ b
 and_true true = refl

@@ -13,11 +13,11 @@ use Rattle.cqlp_note.specs.declared.prim.Address.TheVariants as address
 use Rattle.cqlp_note.specs.Field.{address_of}
 use Rattle.cqlp_note.specs.Spelling.{HasItsLength}
 use Rattle.cqlp_note.proofs.Small.{each_byte, number_16, number_32, number_64}
-use Rattle.cqlp_type.specs.declared.kind.Kind.{Kind}
-use Rattle.cqlp_type.specs.declared.kind.Kind.TheVariants as kind
-use Rattle.cqlp_value.specs.Scalars.{ScalarValue, Custom, Blob, Raw, Varint, Double, Float, Uuid, Timeuuid, Ascii, Varchar, Bigint, Counter, Timestamp, Time, Int, Smallint, Tinyint, Date, Boolean, Decimal, Inet, is_time, is_version_1, only_if, allows_size, scalar_of, kind_of, content_of, scalar_fits, IsInRange}
+use Rattle.cqlp_kind.specs.declared.kind.Kind.{Kind}
+use Rattle.cqlp_kind.specs.declared.kind.Kind.TheVariants as kind
+use Rattle.cqlp_kind.specs.Scalars.{ScalarValue, Custom, Blob, Raw, Varint, Double, Float, Uuid, Timeuuid, Ascii, Varchar, Bigint, Counter, Timestamp, Time, Int, Smallint, Tinyint, Date, Boolean, Decimal, Inet, is_time, is_version_1, only_if, allows_size, scalar_of, kind_of, content_of, scalar_fits, IsInRange}
 use Rattle.cqlp_value.specs.Values.{IsScalar}
-use Rattle.cqlp_value.proofs.ScalarSizes.{is_own}
+use Rattle.cqlp_value.proofs.ScalarItems.{is_own}
 
 pub both_true : (a b : Bool) → (a && b) ≡ true → (a ≡ true) × (b ≡ true)
 both_true true b e = (refl, e)

@@ -10,16 +10,17 @@ use Rattle.cqlp_note.specs.Limits.{Rules}
 use Rattle.cqlp_note.proofs.Runs.{runs_then, runs_stay}
 use Rattle.cqlp_note.proofs.Yields.{Yields, yields_says}
 use Rattle.cqlp_note.proofs.Spelled.{number_yields, alone_yields, positive}
-use Rattle.cqlp_type.specs.declared.kind.Kind.{Kind}
-use Rattle.cqlp_type.specs.declared.kind.Kind.TheVariants as kind
-use Rattle.cqlp_type.specs.Types.{Types, NoMore, Type_and, how_many, first_types, followed_by}
+use Rattle.cqlp_kind.specs.declared.kind.Kind.{Kind}
+use Rattle.cqlp_kind.specs.declared.kind.Kind.TheVariants as kind
+use Rattle.cqlp_kind.specs.Types.{Types, NoMore, Type_and, how_many, first_types, followed_by}
 use Rattle.cqlp_type.specs.Trees.{Joined}
-use Rattle.cqlp_value.specs.Scalars.{ScalarValue, allows_size, scalar_of, content_of}
-use Rattle.cqlp_value.specs.CellStep.{CellSymbol, Value_of, Items_of, Close_of, Content_from, CellEvent, Leaf, Null, Empty, Enter, Leave, Part, CellPlace, cell_copies, values_of, is_opaque, place_after, fielded_step, close_step, scalar_step, content_step, sized_step, value_step, cell_step}
-use Rattle.cqlp_value.specs.Sizes.{is_counted}
+use Rattle.cqlp_kind.specs.Scalars.{ScalarValue, allows_size, scalar_of, content_of}
+use Rattle.cqlp_kind.specs.CellStep.{CellSymbol, Value_of, Items_of, Close_of, Content_from, CellEvent, Leaf, Null, Empty, Enter, Leave, Part, CellPlace, cell_copies, values_of, is_opaque, place_after, fielded_step, close_step, scalar_step, content_step, sized_step, value_step, cell_step}
+use Rattle.cqlp_cell.specs.Sizes.{is_counted}
 use Rattle.cqlp_value.specs.Values.{Values, NoValue, Null_and, Empty_and, Scalar_and, Counted_and, Fields_and, values_in, type_copies, has_fields, IsBytes, ValuesSpell, ValueSpells, values_size, part_items, in_parts, scalar_items, values_items, value_items, AreWithin}
-use Rattle.cqlp_value.proofs.Sizing.{counted_content}
-use Rattle.cqlp_value.proofs.ScalarSizes.{is_own, opaque_content, whole_items, parted_items}
+use Rattle.cqlp_cell.proofs.Sizing.{counted_content}
+use Rattle.cqlp_value.proofs.ScalarItems.{is_own, whole_items, parted_items}
+use Rattle.cqlp_cell.proofs.ScalarSizes.{opaque_content}
 use Rattle.cqlp_value.proofs.ReadBack.{Events, with_others, values_in_after, items_after, bytes_size, spelled_size, part_first, part_last, alone, all_true}
 
 abbrev place : (at : ℕ) → List CellSymbol → CellPlace

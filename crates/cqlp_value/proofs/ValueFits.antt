@@ -5,17 +5,17 @@ use Rattle.std.specs.declared.boxed.Box.{Box}
 use Rattle.std.specs.declared.string.String.{String}
 use Rattle.std.specs.declared.alloc.Global.{Global}
 use Rattle.std.proofs.lemmas.Bool.Decides.{nat_tests}
-use Rattle.cqlp_type.specs.declared.kind.Kind.{Kind}
-use Rattle.cqlp_type.specs.declared.kind.Kind.TheVariants as kind
+use Rattle.cqlp_kind.specs.declared.kind.Kind.{Kind}
+use Rattle.cqlp_kind.specs.declared.kind.Kind.TheVariants as kind
 use Rattle.cqlp_type.specs.declared.tree.TypeTree.{TypeTree, Plain, Custom, List as ListTree, Set as SetTree, Map as MapTree, Tuple as TupleTree, Udt as UdtTree, List' as ListTree', Set' as SetTree', Map' as MapTree', Udt' as UdtTree', Tuple' as TupleTree'}
 use Rattle.cqlp_type.specs.TypeLists.{listed_types, listed_fields}
 use Rattle.cqlp_type.proofs.TreeLengths.{inner_tuple, inner_udt}
 use Rattle.cqlp_type.specs.Trees.{kind_in, types_in}
 use Rattle.cqlp_type.specs.TypeTrees.{head_of, inner_of, tree_of}
-use Rattle.cqlp_type.specs.Types.{Types, NoMore, Type_and, first_types, is_kind}
+use Rattle.cqlp_kind.specs.Types.{Types, NoMore, Type_and, first_types, is_kind}
 use Rattle.cqlp_value.specs.declared.value.Value.{Value, Null, Empty, Leaf, List as ListValue, Map as MapValue, Set as SetValue, Tuple as TupleValue, Udt as UdtValue, List', Map', Set', Tuple', Udt'}
-use Rattle.cqlp_value.specs.Scalars.{kind_of, scalar_fits}
-use Rattle.cqlp_value.specs.Sizes.{is_counted}
+use Rattle.cqlp_kind.specs.Scalars.{kind_of, scalar_fits}
+use Rattle.cqlp_cell.specs.Sizes.{is_counted}
 use Rattle.cqlp_value.specs.Values.{Values, NoValue, Counted_and, Fields_and, values_in, has_fields, type_copies, values_fit}
 use Rattle.cqlp_value.specs.Owned.{atom_of, value_and, value_of, row_of, pairs_of, pairs_in}
 use Rattle.cqlp_value.specs.Measures.{all_fit, all_pairs_fit, all_fields_fit, has_one_inner, fits_tree, types_by, listed_values, listed_pairs}

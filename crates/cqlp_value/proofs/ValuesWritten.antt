@@ -9,11 +9,11 @@ use Rattle.cqlp_note.specs.Heading.{beside_number}
 use Rattle.cqlp_note.specs.Spelling.{Spells, field_bytes}
 use Rattle.cqlp_note.proofs.Small.{Small, small_front, small_back}
 use Rattle.cqlp_note.proofs.WrittenFields.{field_written}
-use Rattle.cqlp_type.specs.declared.kind.Kind.{Kind}
-use Rattle.cqlp_type.specs.declared.kind.Kind.TheVariants as kind
-use Rattle.cqlp_type.specs.Types.{Types, NoMore, Type_and, first_types, kinds, id_of, is_kind}
-use Rattle.cqlp_value.specs.Scalars.{kind_of, content_of, scalar_fits}
-use Rattle.cqlp_value.specs.Sizes.{is_counted}
+use Rattle.cqlp_kind.specs.declared.kind.Kind.{Kind}
+use Rattle.cqlp_kind.specs.declared.kind.Kind.TheVariants as kind
+use Rattle.cqlp_kind.specs.Types.{Types, NoMore, Type_and, first_types, kinds, id_of, is_kind}
+use Rattle.cqlp_kind.specs.Scalars.{kind_of, content_of, scalar_fits}
+use Rattle.cqlp_cell.specs.Sizes.{is_counted}
 use Rattle.cqlp_value.specs.Values.{Values, NoValue, Null_and, Empty_and, Scalar_and, Counted_and, Fields_and, values_in, type_copies, has_fields, IsBytes, IsScalar, ValuesSpell, ValueSpells, values_size, values_bytes, values_fit, value_fits, AreInRange}
 use Rattle.cqlp_value.proofs.ScalarsWritten.{both_true, scalar_written, scalar_read_fits}
 

@@ -5,23 +5,23 @@ use Rattle.cqlp_note.specs.declared.refusal.Refusal.{Refusal}
 use Rattle.cqlp_note.specs.Step.{Runs}
 use Rattle.cqlp_note.specs.Limits.{Rules}
 use Rattle.cqlp_note.specs.Partial.{FieldState}
-use Rattle.cqlp_type.specs.declared.kind.Kind.{Kind}
-use Rattle.cqlp_type.specs.declared.node.Node.{Node}
-use Rattle.cqlp_type.specs.Types.{Types}
-use Rattle.cqlp_value.specs.declared.advance.CellAdvance.{CellAdvance}
-use Rattle.cqlp_value.specs.declared.advance.CellAdvance.TheVariants as advance
-use Rattle.cqlp_value.specs.declared.item.CellPush.{CellPush}
-use Rattle.cqlp_value.specs.declared.item.CellPush.TheVariants as push
-use Rattle.cqlp_value.specs.CellStep.{Value_of, CellEvent, CellPlace, cell_step}
-use Rattle.cqlp_value.specs.Scalars.{ScalarValue, kind_of, content_of, scalar_fits, IsInRange}
+use Rattle.cqlp_kind.specs.declared.kind.Kind.{Kind}
+use Rattle.cqlp_kind.specs.declared.node.Node.{Node}
+use Rattle.cqlp_kind.specs.Types.{Types}
+use Rattle.cqlp_cell.specs.declared.advance.CellAdvance.{CellAdvance}
+use Rattle.cqlp_cell.specs.declared.advance.CellAdvance.TheVariants as advance
+use Rattle.cqlp_cell.specs.declared.item.CellPush.{CellPush}
+use Rattle.cqlp_cell.specs.declared.item.CellPush.TheVariants as push
+use Rattle.cqlp_kind.specs.CellStep.{Value_of, CellEvent, CellPlace, cell_step}
+use Rattle.cqlp_kind.specs.Scalars.{ScalarValue, kind_of, content_of, scalar_fits, IsInRange}
 use Rattle.cqlp_value.specs.Values.{Values, IsScalar, ValueSpells, values_size, values_bytes, value_fits, AreInRange, value_items, AreWithin}
-use Rattle.cqlp_value.specs.declared.front.FrontScalar.{FrontScalar}
-use Rattle.cqlp_value.specs.Contents.{value_of}
-use Rattle.cqlp_value.specs.Fronts.{IsFront}
-use Rattle.cqlp_value.specs.Items.{event_at, event_of}
-use Rattle.cqlp_value.specs.Standing.{CellState, Stands, is_under_way, place}
-use Rattle.cqlp_value.specs.Reading.{Answers, Empties, HaveCome, Joined, Moves}
-use Rattle.cqlp_value.specs.Pushing.{After, Continues, Pushes, Uses, is_done}
+use Rattle.cqlp_cell.specs.declared.front.FrontScalar.{FrontScalar}
+use Rattle.cqlp_kind.specs.Contents.{value_of}
+use Rattle.cqlp_cell.specs.Fronts.{IsFront}
+use Rattle.cqlp_cell.specs.Items.{event_at, event_of}
+use Rattle.cqlp_cell.specs.Standing.{CellState, Stands, is_under_way, place}
+use Rattle.cqlp_cell.specs.Reading.{Answers, Empties, HaveCome, Joined, Moves}
+use Rattle.cqlp_cell.specs.Pushing.{After, Continues, Pushes, Uses, is_done}
 
 -- What is read of a cell, up to its end, is a value of its type that its bytes spell, with just its items.
 abbrev pub ReadIsSpelled : Type 0

@@ -1,11 +1,11 @@
 -- Lists of a caller's values side by side, and whether a value is one of a caller's type.
 use Rattle.std.specs.Prelude.{ℕ, ◌++◌, Bool, true, false, List, [], ◌∷◌, length}
-use Rattle.cqlp_type.specs.declared.kind.Kind.{Kind}
-use Rattle.cqlp_type.specs.declared.kind.Kind.TheVariants as kind
+use Rattle.cqlp_kind.specs.declared.kind.Kind.{Kind}
+use Rattle.cqlp_kind.specs.declared.kind.Kind.TheVariants as kind
 use Rattle.cqlp_type.specs.declared.tree.TypeTree.{TypeTree}
 use Rattle.cqlp_type.specs.Trees.{kind_in, types_in}
 use Rattle.cqlp_type.specs.TypeTrees.{head_of, inner_of, tree_of}
-use Rattle.cqlp_type.specs.Types.{Types, NoMore, Type_and, first_types}
+use Rattle.cqlp_kind.specs.Types.{Types, NoMore, Type_and, first_types}
 use Rattle.cqlp_value.specs.declared.atom.Content.{Content}
 use Rattle.cqlp_value.specs.declared.atom.Content.TheVariants as content
 use Rattle.cqlp_value.specs.declared.value.Value.{Value}

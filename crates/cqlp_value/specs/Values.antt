@@ -4,13 +4,13 @@ use Rattle.cqlp_note.specs.declared.field.Notation.TheVariants as notation
 use Rattle.cqlp_note.specs.Field.{Bytes, Count}
 use Rattle.cqlp_note.specs.Spelling.{Spells, field_bytes}
 use Rattle.cqlp_note.specs.Limits.{Rules}
-use Rattle.cqlp_type.specs.declared.kind.Kind.{Kind}
-use Rattle.cqlp_type.specs.declared.kind.Kind.TheVariants as kind
-use Rattle.cqlp_type.specs.Types.{Types, NoMore, Type_and, how_many, first_types, followed_by, is_kind}
+use Rattle.cqlp_kind.specs.declared.kind.Kind.{Kind}
+use Rattle.cqlp_kind.specs.declared.kind.Kind.TheVariants as kind
+use Rattle.cqlp_kind.specs.Types.{Types, NoMore, Type_and, how_many, first_types, followed_by, is_kind}
 use Rattle.cqlp_type.specs.Trees.{Joined}
-use Rattle.cqlp_value.specs.Scalars.{ScalarValue, allows_size, scalar_of, kind_of, content_of, scalar_fits, IsInRange}
-use Rattle.cqlp_value.specs.CellStep.{CellEvent, Leaf, Null, Empty, Enter, Leave, Part, is_opaque}
-use Rattle.cqlp_value.specs.Sizes.{is_counted}
+use Rattle.cqlp_kind.specs.Scalars.{ScalarValue, allows_size, scalar_of, kind_of, content_of, scalar_fits, IsInRange}
+use Rattle.cqlp_kind.specs.CellStep.{CellEvent, Leaf, Null, Empty, Enter, Leave, Part, is_opaque}
+use Rattle.cqlp_cell.specs.Sizes.{is_counted}
 
 -- Values side by side: one, and others after it.
 pub data Values : Type 0 where

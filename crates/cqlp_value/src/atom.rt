@@ -3,10 +3,10 @@
 ghost use Rattle.std.specs.Prelude.{◌≡◌, ◌++◌, length};
 ghost use Rattle.cqlp_value.specs.Owned.{atom_of};
 ghost use Rattle.cqlp_value.specs.Measures.{content_in};
-ghost use Rattle.cqlp_value.specs.Scalars.{IsInRange, allows_size, content_of, kind_of, scalar_fits};
+ghost use Rattle.cqlp_kind.specs.Scalars.{IsInRange, allows_size, content_of, kind_of, scalar_fits};
 
-use crate::content::{DAY, allows};
 use crate::value::Atom;
+use cqlp_kind::content::{DAY, allows};
 use cqlp_note::Address;
 use cqlp_type::Kind;
 

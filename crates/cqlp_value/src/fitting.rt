@@ -3,12 +3,12 @@
 ghost use Rattle.std.specs.Prelude.{◌≡◌, ◌&&◌, ◌^◌, nat_lt, option_map, true};
 ghost use Rattle.cqlp_type.specs.Trees.{kind_in};
 ghost use Rattle.cqlp_type.specs.TypeTrees.{head_of};
-ghost use Rattle.cqlp_type.specs.Types.{is_kind};
-ghost use Rattle.cqlp_type.specs.declared.kind.Kind.TheVariants as kind;
+ghost use Rattle.cqlp_kind.specs.Types.{is_kind};
+ghost use Rattle.cqlp_kind.specs.declared.kind.Kind.TheVariants as kind;
 ghost use Rattle.cqlp_value.specs.Measures.{all_fields_fit, all_fit, all_pairs_fit, fits_tree, has_one_inner};
 ghost use Rattle.cqlp_value.specs.Measures.{fields_are, items_are, pairs_are};
 ghost use Rattle.cqlp_value.specs.Owned.{atom_of, fits_type};
-ghost use Rattle.cqlp_value.specs.Scalars.{kind_of, scalar_fits};
+ghost use Rattle.cqlp_kind.specs.Scalars.{kind_of, scalar_fits};
 ghost use Rattle.cqlp_value.specs.Values.{has_fields};
 
 use crate::value::{Atom, Value};

@@ -4,7 +4,7 @@ ghost use Rattle.std.specs.Prelude.{◌≡◌, ◌+◌, ◌-◌, ◌^◌, length
 ghost use Rattle.cqlp_type.specs.TypeTrees.{len_if};
 ghost use Rattle.cqlp_value.specs.Measures.{listed_pairs, listed_values};
 ghost use Rattle.cqlp_value.specs.Owned.{atom_of, fits_type, spelled_value_len, value_of};
-ghost use Rattle.cqlp_value.specs.Scalars.{content_of};
+ghost use Rattle.cqlp_kind.specs.Scalars.{content_of};
 ghost use Rattle.cqlp_value.specs.Values.{values_size};
 
 use crate::fitting::fits;

@@ -1,6 +1,6 @@
 use Rattle.std.proofs.Common.{◌≡◌, ℕ, min, length, drop, sym, ap, ◌∙◌, rules}
 use Rattle.std.proofs.lemmas.List.{nil_from_length, drop_min}
-use Rattle.cqlp_type.specs.Types.{how_many}
+use Rattle.cqlp_kind.specs.Types.{how_many}
 use Rattle.cqlp_message.specs.Bodies.{cell_types}
 use Rattle.cqlp_message.specs.Owned.{metadata_of}
 use Rattle.cqlp_message.proofs.Walks.{remains_all, remains_more, remains_none}

@@ -1,5 +1,5 @@
 use Rattle.std.proofs.Common.{◌≡◌, ◌∙◌, List, ap, sym, arith}
-use Rattle.cqlp_type.specs.TypeStep.{TypeSymbol, settled, with_span}
+use Rattle.cqlp_kind.specs.TypeStep.{TypeSymbol, settled, with_span}
 use Rattle.cqlp_type.specs.Table.{Table}
 use Rattle.cqlp_type.proofs.Nodes.{length_with_span}
 use Rattle.cqlp_type.proofs.remaining.settle.Goals as goal

@@ -1,6 +1,6 @@
 use Rattle.std.proofs.Common.{◌≡◌, ◌≤◌, List, length}
-use Rattle.cqlp_type.specs.declared.node.Node.{Node}
-use Rattle.cqlp_type.specs.TypeStep.{TypeSymbol, settled}
+use Rattle.cqlp_kind.specs.declared.node.Node.{Node}
+use Rattle.cqlp_kind.specs.TypeStep.{TypeSymbol, settled}
 use Rattle.cqlp_type.specs.Remaining.{Closes}
 use Rattle.cqlp_type.proofs.remaining.settle.Given as goal
 

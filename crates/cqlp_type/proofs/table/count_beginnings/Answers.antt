@@ -1,6 +1,6 @@
 use Rattle.std.proofs.Common.{◌∙◌, arith}
-use Rattle.cqlp_type.specs.declared.node.Node.{Node}
-use Rattle.cqlp_type.specs.declared.kind.Kind.TheVariants.{Custom}
+use Rattle.cqlp_kind.specs.declared.node.Node.{Node}
+use Rattle.cqlp_kind.specs.declared.kind.Kind.TheVariants.{Custom}
 use Rattle.cqlp_type.proofs.Beginnings.{more_counted}
 use Rattle.cqlp_type.proofs.table.count_beginnings.Goals as goal
 

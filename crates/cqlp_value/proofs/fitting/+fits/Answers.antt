@@ -1,5 +1,5 @@
 use Rattle.std.proofs.Common.{◌≡◌, ◌+◌, ◌&&◌, true, false, Bool, length, drop, sym, ap, ◌∙◌, arith}
-use Rattle.cqlp_type.specs.Types.{Types, first_types}
+use Rattle.cqlp_kind.specs.Types.{Types, first_types}
 use Rattle.cqlp_type.specs.Trees.{types_in}
 use Rattle.cqlp_type.specs.TypeTrees.{inner_of}
 use Rattle.cqlp_type.specs.declared.tree.TypeTree.{TypeTree}

@@ -1,4 +1,4 @@
-use Rattle.cqlp_type.specs.Types.{NoMore, Type_and}
+use Rattle.cqlp_kind.specs.Types.{NoMore, Type_and}
 use Rattle.cqlp_value.proofs.ReadBack.{spelled_size}
 use Rattle.cqlp_value.proofs.laws.spelled_is_long.Goals as goal
 

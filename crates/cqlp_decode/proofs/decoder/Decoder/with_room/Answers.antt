@@ -1,7 +1,7 @@
 use Rattle.std.proofs.Common.{refl, ap, ◌∙◌}
 use Rattle.cqlp_type.specs.Table.{Table}
 use Rattle.cqlp_type.specs.Standing as type
-use Rattle.cqlp_value.specs.Standing as value
+use Rattle.cqlp_cell.specs.Standing as value
 use Rattle.cqlp_decode.specs.Standing.{IsFresh, parts}
 use Rattle.cqlp_decode.proofs.decoder.Decoder.with_room.Goals as goal
 

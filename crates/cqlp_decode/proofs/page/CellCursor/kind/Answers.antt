@@ -1,5 +1,5 @@
 use Rattle.std.proofs.Common.{◌≡◌, ◌+◌, ◌-◌, Some, refl, sym, ◌∙◌}
-use Rattle.cqlp_type.specs.Types.{NoMore}
+use Rattle.cqlp_kind.specs.Types.{NoMore}
 use Rattle.cqlp_grammar.specs.Productions.{raw_types}
 use Rattle.cqlp_decode.proofs.Columns.{column_there, raw_left}
 use Rattle.cqlp_decode.proofs.page.CellCursor.kind.Goals as goal

@@ -1,6 +1,6 @@
 use Rattle.std.proofs.Common.{◌≡◌, Bool, true, false, refl, sym, ap, ◌∙◌}
-use Rattle.cqlp_value.specs.Standing.{CellState, is_under_way}
-use Rattle.cqlp_value.proofs.Leading.{is_over_done}
+use Rattle.cqlp_cell.specs.Standing.{CellState, is_under_way}
+use Rattle.cqlp_cell.proofs.Leading.{is_over_done}
 use Rattle.cqlp_decode.specs.declared.standing.StreamStanding.{StreamStanding}
 use Rattle.cqlp_decode.specs.Standing.{parts, parts_state}
 use Rattle.cqlp_decode.proofs.CellSteps.{cell_waits, cell_fails, going_hands, ended_hands, cell_more_lawful, cell_refused_lawful, cell_going_lawful, cell_ended_lawful}

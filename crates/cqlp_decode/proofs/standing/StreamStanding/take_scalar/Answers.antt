@@ -1,6 +1,6 @@
 use Rattle.std.proofs.Common.{refl, ap, ◌∙◌, arith}
 use Rattle.cqlp_note.specs.Limits.{rules_of}
-use Rattle.cqlp_value.specs.Contents.{value_of}
+use Rattle.cqlp_kind.specs.Contents.{value_of}
 use Rattle.cqlp_decode.specs.declared.standing.StreamStanding.{StreamStanding}
 use Rattle.cqlp_decode.specs.Standing.{parts_state}
 use Rattle.cqlp_decode.proofs.CellSteps.{nothing_held, scalar_hands, scalar_lawful}

@@ -1,6 +1,6 @@
 use Rattle.std.proofs.Common.{List, ◌++◌, sym, ap}
 use Rattle.cqlp_note.specs.Head.{value_of}
-use Rattle.cqlp_type.specs.Types.{NoMore}
+use Rattle.cqlp_kind.specs.Types.{NoMore}
 use Rattle.cqlp_grammar.specs.Productions.{Symbol, number_in}
 use Rattle.cqlp_grammar.specs.Upcoming.{symbols_in}
 use Rattle.cqlp_grammar.proofs.Stack.{rows_none}

@@ -1,5 +1,5 @@
 use Rattle.std.proofs.Common.{List, ap, arith}
-use Rattle.cqlp_type.specs.declared.kind.Kind.TheVariants.{Custom}
+use Rattle.cqlp_kind.specs.declared.kind.Kind.TheVariants.{Custom}
 use Rattle.cqlp_text.specs.declared.page_text.WrittenValue.{WrittenValue}
 use Rattle.cqlp_text.specs.declared.page_text.Turn.TheVariants.{First}
 use Rattle.cqlp_text.proofs.Pages.{placed, item_counted}

@@ -1,7 +1,7 @@
 use Rattle.std.proofs.Common.{◌≡◌, ◌+◌, ◌++◌, ◌∷◌, [], List, length, ap}
 use Rattle.std.proofs.lemmas.List.{length-append}
 use Rattle.cqlp_type.specs.declared.open_options.OpenOption.{OpenOption}
-use Rattle.cqlp_type.specs.TypeStep.{TypeSymbol}
+use Rattle.cqlp_kind.specs.TypeStep.{TypeSymbol}
 use Rattle.cqlp_type.proofs.Nesting.{pushed}
 use Rattle.cqlp_type.proofs.open_options.OpenOptions.push.Goals as goal
 

@@ -3,8 +3,8 @@ use Rattle.cqlp_note.specs.declared.field.Field.TheVariants as field
 use Rattle.cqlp_note.specs.Field.{Count}
 use Rattle.cqlp_note.specs.Partial.{item_value}
 use Rattle.cqlp_note.specs.Step.{Emit}
-use Rattle.cqlp_type.specs.declared.node.Node.{Node}
-use Rattle.cqlp_type.specs.TypeStep.{TypeSymbol, TypeEvent, IsField, TypePlace, type_place}
+use Rattle.cqlp_kind.specs.declared.node.Node.{Node}
+use Rattle.cqlp_kind.specs.TypeStep.{TypeSymbol, TypeEvent, IsField, TypePlace, type_place}
 use Rattle.cqlp_type.specs.Table.{Table}
 use Rattle.cqlp_type.specs.Remaining.{symbols_of}
 use Rattle.cqlp_type.proofs.Nodes.{length_with_arity}

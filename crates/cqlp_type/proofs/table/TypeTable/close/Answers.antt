@@ -1,5 +1,5 @@
 use Rattle.std.proofs.Common.{◌≡◌, ◌≤◌, ◌<◌, List, length, sym, ap, arith}
-use Rattle.cqlp_type.specs.declared.node.Node.{Node}
+use Rattle.cqlp_kind.specs.declared.node.Node.{Node}
 use Rattle.cqlp_type.specs.Table.{Table}
 use Rattle.cqlp_type.proofs.Nodes.{length_with_span, span_set, span_past}
 use Rattle.cqlp_type.proofs.table.TypeTable.close.Goals as goal

@@ -1,6 +1,6 @@
 use Rattle.std.proofs.Common.{◌≡◌, ◌<◌, List, length, ap, sym, arith}
 use Rattle.std.proofs.lemmas.Bool.{eqb-false}
-use Rattle.cqlp_type.specs.declared.node.Node.{Node}
+use Rattle.cqlp_kind.specs.declared.node.Node.{Node}
 use Rattle.cqlp_type.specs.Table.{Table}
 use Rattle.cqlp_type.proofs.Nodes.{length_with_arity, arity_set}
 use Rattle.cqlp_type.proofs.table.TypeTable.set_arity.Goals as goal

@@ -5,7 +5,7 @@ use Rattle.std.specs.Prelude.{string_bytes, string_len}
 use Rattle.cqlp_value.specs.declared.value.Atom.{Atom}
 use Rattle.cqlp_value.specs.declared.value.Atom.TheVariants as atom
 use Rattle.cqlp_value.specs.Owned.{atom_of}
-use Rattle.cqlp_value.specs.Scalars.{scalar_fits}
+use Rattle.cqlp_kind.specs.Scalars.{scalar_fits}
 use Rattle.cqlp_value.proofs.ScalarFits.{HasAnyBytes, others_fit, some_bytes, bytes_fit, ascii_fits, varchar_fits, decimal_fits, double_fits, float_fits, uuid_fits, timeuuid_fits, v4_fits, v6_fits, time_fits}
 use Rattle.cqlp_value.proofs.value.Atom.is_allowed.Goals as goal
 

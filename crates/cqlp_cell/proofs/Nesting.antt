@@ -1,0 +1,38 @@
+-- One level more, and one less.
+use Rattle.std.proofs.Common.{◌≡◌, suc, ◌-◌, List, [], ◌∷◌, ◌++◌, length, take, Some, refl, ap, inl, inr, ◌⊎◌, arith}
+use Rattle.std.specs.Prelude.{slice_get}
+use Rattle.cqlp_cell.specs.declared.open_values.OpenValue.{OpenValue}
+use Rattle.cqlp_cell.specs.OpenValues.{last_open, but_last, with_last}
+
+pub last_is : (os : List OpenValue) (o : OpenValue) → last_open (os ++ o ∷ []) ≡ Some o
+last_is [] o = refl
+last_is (x ∷ []) o = refl
+last_is (x ∷ y ∷ os) o = last_is (y ∷ os) o
+
+pub but_last_is : (os : List OpenValue) (o : OpenValue) → but_last (os ++ o ∷ []) ≡ os
+but_last_is [] o = refl
+but_last_is (x ∷ []) o = refl
+but_last_is (x ∷ y ∷ os) o = ap (λ (m : List OpenValue). x ∷ m) (but_last_is (y ∷ os) o)
+
+pub with_last_is : (os : List OpenValue) (o p : OpenValue) → with_last p (os ++ o ∷ []) ≡ os ++ p ∷ []
+with_last_is [] o p = refl
+with_last_is (x ∷ []) o p = refl
+with_last_is (x ∷ y ∷ os) o p = ap (λ (m : List OpenValue). x ∷ m) (with_last_is (y ∷ os) o p)
+
+-- values are open, or none is
+pub cases_open : (os : List OpenValue) → (os ≡ []) ⊎ ((front : List OpenValue) × (o : OpenValue) × (os ≡ front ++ o ∷ []))
+cases_open [] = inl refl
+cases_open (o ∷ os) = elim (cases_open os) [
+  | inl none ↦ inr ([], o, ap (λ (m : List OpenValue). o ∷ m) none)
+  | inr some ↦ inr (o ∷ some.0, some.1, ap (λ (m : List OpenValue). o ∷ m) some.2)
+]
+
+pub last_read : (os : List OpenValue) → slice_get os (length os - 1) ≡ last_open os
+last_read [] = refl
+last_read (o ∷ []) = refl
+last_read (o ∷ p ∷ os) = let e : suc (suc (length os)) - 1 ≡ suc (suc (length os) - 1) = omega arith in rw e (last_read (p ∷ os))
+
+pub front_is : (os : List OpenValue) → take (length os - 1) os ≡ but_last os
+front_is [] = refl
+front_is (o ∷ []) = refl
+front_is (o ∷ p ∷ os) = let e : suc (suc (length os)) - 1 ≡ suc (suc (length os) - 1) = omega arith in rw e (ap (λ (m : List OpenValue). o ∷ m) (front_is (p ∷ os)))

@@ -1,0 +1,10 @@
+pub mod Items
+pub mod Gathering
+pub mod Numbers
+pub mod Sizes
+pub mod Coming
+pub mod Reading
+pub mod Pushing
+pub mod Standing
+pub mod OpenValues
+pub mod Fronts

@@ -1,0 +1,18 @@
+//! How cells of the CQL native protocol v4 are read.
+#![tactic(auto)]
+
+mod advance;
+mod front;
+mod gather;
+mod item;
+mod number;
+mod open_values;
+mod reader;
+mod reading;
+mod size;
+mod standing;
+
+pub use advance::{CellAdvance, CellOutline};
+pub use front::{FrontScalar, front_scalar};
+pub use item::{CellItem, CellPush};
+pub use reader::CellReader;

@@ -1,0 +1,117 @@
+//! The values around the one that is read.
+
+ghost use Rattle.std.specs.Prelude.{◌≡◌, ◌+◌, ◌<◌, ◌≤◌, ◌++◌, ◌∷◌, [], length, IfOk};
+
+use cqlp_note::NoMemory;
+use std::alloc::Allocator;
+use std::marker::Model;
+
+/// What is read next in an open value.
+#[derive(Clone, Copy)]
+pub(crate) enum Order {
+    /// An element of a list or a set.
+    Elements,
+    /// A key of a map.
+    Keys,
+    /// A value of a map, whose key was read.
+    Values,
+    /// An item of a tuple or a user-defined type.
+    Fields,
+}
+
+/// A value whose items are read.
+#[derive(Clone, Copy)]
+pub(crate) struct OpenValue {
+    pub order: Order,
+    /// The node of the next item's type.
+    pub node: u32,
+    /// The node of the item's type that takes turns with it, in a map.
+    pub other: u32,
+    /// How many elements, pairs or fields have not begun.
+    pub left: u32,
+    /// How many elements or pairs there are in all; how many fields were read.
+    pub items: u32,
+    /// Where the value ends.
+    pub stop: u64,
+}
+
+/// The open values, the outermost first.
+#[derive(Drop)]
+pub(crate) struct OpenValues<A: Allocator> {
+    values: Vec<OpenValue, A>,
+    room: u32,
+}
+
+impl<A: Allocator> Model for OpenValues<A> {
+    ghost use Rattle.std.specs.Prelude.{◌≤◌, vec_capacity};
+    ghost use Rattle.cqlp_cell.specs.OpenValues.{Nest, FitIn};
+
+    ghost Value = { Nest };
+
+    ghost view = { λ t. record { open_values = t.values.items; room = t.room } };
+
+    ghost invariant = { λ t. (t.room ≤ vec_capacity t.values) × FitIn t.room t.values.items };
+}
+
+impl<A: Allocator> OpenValues<A> {
+    ghost use Rattle.cqlp_cell.specs.OpenValues.{last_open, but_last, with_last};
+
+    /// With room for this many.
+    pub(crate) fn new(alloc: A, room: u32) -> Result<Self, NoMemory>
+        ensures { IfOk result (λ values. values ≡ record { open_values = []; room = room }) }
+    {
+        Ok(OpenValues {
+            values: Vec::with_capacity(alloc, room as usize)?,
+            room,
+        })
+    }
+
+    #[inline]
+    pub(crate) fn len(&self) -> u32
+        ensures is { result ≡ length self.now.open_values }
+        ensures bound { result ≤ self.now.room }
+    {
+        self.values.len() as u32
+    }
+
+    pub(crate) fn clear(&mut self)
+        ensures { self.new ≡ record { open_values = []; room = self.old.room } }
+    {
+        self.values.clear();
+    }
+
+    /// The innermost value.
+    #[tactic(auto, using(crate::proofs::Nesting::last_read))]
+    #[inline]
+    pub(crate) fn last(&self) -> Option<OpenValue>
+        ensures { result ≡ last_open self.now.open_values }
+    {
+        self.values.last().copied()
+    }
+
+    #[inline]
+    pub(crate) fn push(&mut self, value: OpenValue)
+        requires { length self.old.open_values < self.old.room }
+        ensures { self.new ≡ record { open_values = self.old.open_values ++ value ∷ []; room = self.old.room } }
+    {
+        self.values.push_reserved(value);
+    }
+
+    /// Closes the innermost value.
+    #[inline]
+    pub(crate) fn pop(&mut self)
+        ensures { self.new ≡ record { open_values = but_last self.old.open_values; room = self.old.room } }
+    {
+        self.values.pop();
+    }
+
+    /// Puts another in the place of the innermost value.
+    #[inline]
+    pub(crate) fn set_last(&mut self, value: OpenValue)
+        ensures { self.new ≡ record { open_values = with_last value self.old.open_values; room = self.old.room } }
+    {
+        if let Some(_) = self.values.pop() {
+            self.values.push_reserved(value);
+        }
+    }
+}

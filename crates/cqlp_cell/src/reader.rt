@@ -1,0 +1,160 @@
+//! A cell out of pieces of any size.
+
+ghost use Rattle.std.specs.Prelude.{◌≡◌, ℕ, ◌+◌, ◌≤◌, List, true, false, length, IfOk};
+ghost use Rattle.std.specs.Borrow.{sem};
+ghost use Rattle.cqlp_note.specs.Limits.{rules_of};
+
+use crate::advance::CellAdvance;
+use crate::item::CellPush;
+use crate::open_values::OpenValues;
+use crate::standing::{CellStanding, NextInCell, Under};
+use cqlp_note::{Limits, NoMemory, Partial};
+use cqlp_type::TypeTable;
+use std::alloc::{Allocator, Global};
+use std::marker::Model;
+
+/// Reads cells, one at a time, as events. Their contents are read in the caller's `Partial`, and their types stand in
+/// the caller's table. Section 6 of `native_protocol_v4.spec`.
+#[derive(Drop)]
+pub struct CellReader<A: Allocator = Global> {
+    standing: CellStanding<A>,
+}
+
+impl<A: Allocator> Model for CellReader<A> {
+    ghost use Rattle.cqlp_cell.specs.Standing.{CellState, IsLawful, state_of};
+
+    ghost Value = { CellState };
+
+    ghost view = { λ r. state_of r.standing };
+
+    ghost invariant = { λ r. IsLawful r.standing };
+}
+
+impl<A: Allocator> CellReader<A> {
+    ghost use Rattle.cqlp_note.specs.Lending.{LeavesField};
+    ghost use Rattle.cqlp_cell.specs.Standing.{Stands, ended, is_under_way};
+    ghost use Rattle.cqlp_kind.specs.declared.node.Node.{Node};
+    ghost use Rattle.cqlp_cell.specs.Reading.{Answers, Empties, HaveCome, Joined, Moves};
+    ghost use Rattle.cqlp_cell.specs.Pushing.{Continues, Pushes, Uses, begun, is_done, new_reader};
+
+    /// With room for the nesting that the limits allow. Parts have at least one byte.
+    pub fn new(alloc: A, limits: &Limits) -> Result<Self, NoMemory>
+        requires { limits.now.parts ≡ true → 1 ≤ limits.now.cell }
+        ensures { IfOk result (λ reader. reader ≡ new_reader (rules_of limits.now)) }
+    {
+        Ok(CellReader {
+            standing: CellStanding {
+                limits: *limits,
+                offset: 0,
+                stop: 0,
+                next: NextInCell::Nothing,
+                under: Under::Nothing,
+                open_values: OpenValues::new(alloc, limits.depth)?,
+            },
+        })
+    }
+
+    /// Begins a cell of the type at this node, or of none, at an offset in a container that ends at another.
+    pub fn begin(&mut self, node: Option<u32>, at: u64, end: u64)
+        requires idle { is_under_way self.old ≡ false }
+        requires place { at ≤ end }
+        ensures { self.new ≡ begun self.old node at end }
+    {
+        self.standing.offset = at;
+        self.standing.stop = end;
+        self.standing.next = NextInCell::Cell(node);
+        self.standing.under = Under::Nothing;
+        self.standing.open_values.clear();
+    }
+
+    /// Whether a cell is under way and whole, so that the next push says so.
+    pub fn done(&self) -> bool
+        ensures { result ≡ is_done self.now }
+    {
+        matches!(self.standing.next, NextInCell::Items) && self.standing.open_values.len() == 0
+    }
+
+    /// How many values are open.
+    pub fn levels(&self) -> u32
+        ensures is { result ≡ length self.now.open_values }
+        ensures bound { result ≤ self.now.rules.depth }
+    {
+        self.standing.open_values.len()
+    }
+
+    /// The offset of what is read next.
+    pub fn offset(&self) -> u64
+        ensures { result ≡ self.now.offset }
+    {
+        let standing = &self.standing;
+        standing.offset
+    }
+
+    /// Ends the cell that is under way, whole or not, if there is one.
+    pub fn stop(&mut self)
+        ensures { self.new ≡ ended self.old }
+    {
+        self.standing.end();
+    }
+
+    /// How many bytes of the stream were used: those before what is read next, and those of it that have come.
+    pub fn bytes_used(&self, partial: &Partial<A>) -> u64
+        requires { (nodes : List Node) × Stands nodes self.now × Joined nodes self.now partial.now }
+        ensures { (b : List ℕ) → HaveCome b self.now.under partial.now.seen → result ≡ self.now.offset + length b }
+    {
+        match self.standing.under {
+            Under::Nothing => self.standing.offset,
+            Under::Length | Under::Later => self.standing.offset + partial.came(),
+            Under::Scalar(_) | Under::Counted(_) | Under::First(_) => {
+                self.standing.offset + 4 + partial.came()
+            }
+        }
+    }
+
+    /// Takes the next bytes of the cell that is under way, and says where the content of an item lies.
+    pub fn advance(
+        &mut self,
+        partial: &mut Partial<A>,
+        table: &TypeTable<A>,
+        input: &[u8],
+    ) -> CellAdvance
+        requires under_way { is_under_way self.old ≡ true }
+        requires stands { Stands table.now.nodes self.old }
+        requires joined { Joined table.now.nodes self.old partial.old }
+        ensures moves { Moves table.now.nodes self.old partial.old input.now result self.new partial.new }
+        ensures answers { Answers self.old input.now result }
+        ensures empties { Empties result partial.new }
+    {
+        self.standing.advance(partial, table, input)
+    }
+
+    /// Takes the next bytes of the cell that is under way. A content that lies whole in them is lent from them.
+    ///
+    /// The `Partial` comes first: what is lent may be its own, and a clause says what the first parameter is once that
+    /// loan has ended.
+    pub fn push<'a>(
+        partial: &'a mut Partial<A>,
+        reader: &mut Self,
+        table: &TypeTable<A>,
+        input: &'a [u8],
+    ) -> CellPush<'a>
+        requires under_way { is_under_way reader.old ≡ true }
+        requires stands { Stands table.now.nodes reader.old }
+        requires joined { Joined table.now.nodes reader.old partial.old }
+        ensures uses { Uses reader.old input.now result }
+        ensures reader { Continues table.now.nodes reader.old result reader.new }
+        ensures* next { sem 𝓛 (LeavesField A.row A.Allocator partial.entry
+            (λ after. Pushes table.now.nodes reader.old partial.old input.now result reader.new after)) }
+    {
+        match reader.advance(partial, table, input) {
+            CellAdvance::More { used } => CellPush::More { used },
+            CellAdvance::Item { at, used, item } => CellPush::Item {
+                at,
+                used,
+                item: item.lend(partial, input),
+            },
+            CellAdvance::Done => CellPush::Done,
+            CellAdvance::Refused(refusal) => CellPush::Refused(refusal),
+        }
+    }
+}

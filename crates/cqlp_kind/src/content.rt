@@ -1,0 +1,218 @@
+//! Scalars out of their bytes.
+
+ghost use Rattle.std.specs.Prelude.{◌≡◌, ◌≢◌, ◌≤◌, ◌<◌, Some, [], is_some, length, take, true};
+ghost use Rattle.cqlp_note.specs.Field.{address_of};
+ghost use Rattle.cqlp_kind.specs.Types.{has_no_items};
+ghost use Rattle.cqlp_kind.specs.declared.kind.Kind.TheVariants as kind;
+ghost use Rattle.cqlp_kind.specs.Scalars.{allows_size, scalar_of, fault_of};
+ghost use Rattle.cqlp_kind.specs.Contents.{IsWholly, scalar_in, value_in, value_of};
+
+use crate::kind::Kind;
+use crate::scalars::Scalar;
+use cqlp_note::{Address, Reason};
+
+/// The first nanosecond that is not of the same day.
+pub const DAY: u64 = 86_400_000_000_000;
+
+/// The scalar of this kind that these bytes spell, all of them. Section 6 of `native_protocol_v4.spec`.
+///
+/// `BadSize` where no scalar of the kind has this many bytes; else `BadUtf8` for a varchar that is not UTF-8, and
+/// `BadScalar` for an ascii with a byte above 7F, a time past the end of a day or a timeuuid that is not of version 1.
+#[inline]
+#[tactic(auto, using(crate::proofs::Texts::varchar_is, crate::proofs::Texts::varchar_is_not), unfolding(crate::specs::Scalars::scalar_of))]
+pub fn scalar(kind: Kind, bytes: &[u8]) -> Result<Scalar<'_>, Reason>
+    requires scalar { has_no_items kind ≡ true }
+    requires content { bytes.now ≢ [] }
+    ensures { value_in result ≡ scalar_in kind bytes.now }
+{
+    match kind {
+        Kind::Int => match whole(bytes) {
+            Some(bytes) => Ok(Scalar::Int(i32::from_be_bytes(bytes))),
+            None => Err(Reason::BadSize),
+        },
+        Kind::Bigint => match whole(bytes) {
+            Some(bytes) => Ok(Scalar::Bigint(i64::from_be_bytes(bytes))),
+            None => Err(Reason::BadSize),
+        },
+        Kind::Counter => match whole(bytes) {
+            Some(bytes) => Ok(Scalar::Counter(i64::from_be_bytes(bytes))),
+            None => Err(Reason::BadSize),
+        },
+        Kind::Timestamp => match whole(bytes) {
+            Some(bytes) => Ok(Scalar::Timestamp(i64::from_be_bytes(bytes))),
+            None => Err(Reason::BadSize),
+        },
+        Kind::Smallint => match whole(bytes) {
+            Some(bytes) => Ok(Scalar::Smallint(i16::from_be_bytes(bytes))),
+            None => Err(Reason::BadSize),
+        },
+        Kind::Date => match whole(bytes) {
+            Some(bytes) => Ok(Scalar::Date(u32::from_be_bytes(bytes))),
+            None => Err(Reason::BadSize),
+        },
+        Kind::Double => match whole(bytes) {
+            Some(bytes) => Ok(Scalar::Double(bytes)),
+            None => Err(Reason::BadSize),
+        },
+        Kind::Float => match whole(bytes) {
+            Some(bytes) => Ok(Scalar::Float(bytes)),
+            None => Err(Reason::BadSize),
+        },
+        Kind::Uuid => match whole(bytes) {
+            Some(bytes) => Ok(Scalar::Uuid(bytes)),
+            None => Err(Reason::BadSize),
+        },
+        Kind::Boolean => match whole::<1>(bytes) {
+            Some(bytes) => Ok(Scalar::Boolean(bytes[0] != 0)),
+            None => Err(Reason::BadSize),
+        },
+        Kind::Varchar => match str::from_utf8(bytes) {
+            Ok(text) => Ok(Scalar::Varchar(text)),
+            Err(_) => Err(Reason::BadUtf8),
+        },
+        Kind::Blob => Ok(Scalar::Blob(bytes)),
+        Kind::Raw => Ok(Scalar::Raw(bytes)),
+        _ => rare_scalar(kind, bytes),
+    }
+}
+
+/// The same of any kind, its size, its content and its value one after the other.
+fn rare_scalar(kind: Kind, bytes: &[u8]) -> Result<Scalar<'_>, Reason>
+    requires scalar { has_no_items kind ≡ true }
+    ensures { value_in result ≡ scalar_in kind bytes.now }
+{
+    if !allows(kind, bytes.len()) {
+        Err(Reason::BadSize)
+    } else if accepts(kind, bytes) {
+        Ok(make_scalar(kind, bytes))
+    } else {
+        Err(fault(kind))
+    }
+}
+
+/// The bytes, if they are N.
+#[inline]
+fn whole<const N: usize>(bytes: &[u8]) -> Option<[u8; N]>
+    ensures { IsWholly N bytes.now result }
+{
+    if bytes.len() == N {
+        Some(first(bytes))
+    } else {
+        None
+    }
+}
+
+/// Whether a content of a scalar kind may have this many bytes, which are not none.
+#[inline]
+pub fn allows(kind: Kind, len: usize) -> bool
+    ensures { result ≡ allows_size kind len }
+{
+    match kind {
+        Kind::Bigint | Kind::Counter | Kind::Timestamp | Kind::Time | Kind::Double => len == 8,
+        Kind::Int | Kind::Date | Kind::Float => len == 4,
+        Kind::Smallint => len == 2,
+        Kind::Tinyint | Kind::Boolean => len == 1,
+        Kind::Uuid | Kind::Timeuuid => len == 16,
+        Kind::Inet => len == 4 || len == 16,
+        Kind::Decimal => len >= 5,
+        _ => true,
+    }
+}
+
+/// Whether a content of an allowed length is a scalar of this kind.
+#[tactic(auto, unfolding(crate::specs::Scalars::scalar_of))]
+#[inline]
+pub fn accepts(kind: Kind, bytes: &[u8]) -> bool
+    requires scalar { has_no_items kind ≡ true }
+    requires size { allows_size kind (length bytes.now) ≡ true }
+    ensures { result ≡ is_some (scalar_of kind bytes.now) }
+{
+    match kind {
+        Kind::Ascii => bytes.is_ascii(),
+        Kind::Varchar => is_text(bytes),
+        Kind::Time => u64::from_be_bytes(first(bytes)) < DAY,
+        Kind::Timeuuid => bytes[6] >> 4 == 1,
+        _ => true,
+    }
+}
+
+#[tactic(auto, using(crate::proofs::Texts::varchar_decided, crate::proofs::Texts::varchar_undecided))]
+fn is_text(bytes: &[u8]) -> bool
+    ensures { result ≡ is_some (scalar_of kind.Varchar bytes.now) }
+{
+    match str::from_utf8(bytes) {
+        Ok(_) => true,
+        Err(_) => false,
+    }
+}
+
+/// Why a content of an allowed length is no scalar of this kind.
+pub fn fault(kind: Kind) -> Reason
+    ensures { result ≡ fault_of kind }
+{
+    match kind {
+        Kind::Varchar => Reason::BadUtf8,
+        _ => Reason::BadScalar,
+    }
+}
+
+/// The scalar that these bytes are.
+#[tactic(auto, using(crate::proofs::Texts::ascii_known, crate::proofs::Texts::varchar_known), unfolding(crate::specs::Scalars::scalar_of))]
+#[inline]
+pub fn make_scalar(kind: Kind, bytes: &[u8]) -> Scalar<'_>
+    requires size { allows_size kind (length bytes.now) ≡ true }
+    requires accepted { is_some (scalar_of kind bytes.now) ≡ true }
+    ensures { scalar_of kind bytes.now ≡ Some (value_of result) }
+{
+    match kind {
+        Kind::Custom => Scalar::Custom(bytes),
+        // The bytes are text, which `accepts` found out.
+        Kind::Ascii => Scalar::Ascii(unsafe { str::from_utf8_unchecked(bytes) }),
+        Kind::Bigint => Scalar::Bigint(i64::from_be_bytes(first(bytes))),
+        Kind::Blob => Scalar::Blob(bytes),
+        Kind::Boolean => Scalar::Boolean(bytes[0] != 0),
+        Kind::Counter => Scalar::Counter(i64::from_be_bytes(first(bytes))),
+        Kind::Decimal => Scalar::Decimal {
+            scale: i32::from_be_bytes(first(bytes)),
+            unscaled: &bytes[4..],
+        },
+        Kind::Double => Scalar::Double(first(bytes)),
+        Kind::Float => Scalar::Float(first(bytes)),
+        Kind::Int => Scalar::Int(i32::from_be_bytes(first(bytes))),
+        Kind::Timestamp => Scalar::Timestamp(i64::from_be_bytes(first(bytes))),
+        Kind::Uuid => Scalar::Uuid(first(bytes)),
+        // So are these.
+        Kind::Varchar => Scalar::Varchar(unsafe { str::from_utf8_unchecked(bytes) }),
+        Kind::Varint => Scalar::Varint(bytes),
+        Kind::Timeuuid => Scalar::Timeuuid(first(bytes)),
+        Kind::Inet => Scalar::Inet(address(bytes)),
+        Kind::Date => Scalar::Date(u32::from_be_bytes(first(bytes))),
+        Kind::Time => Scalar::Time(i64::from_be_bytes(first(bytes))),
+        Kind::Smallint => Scalar::Smallint(i16::from_be_bytes(first(bytes))),
+        Kind::Tinyint => Scalar::Tinyint(i8::from_be_bytes(first(bytes))),
+        Kind::Raw => Scalar::Raw(bytes),
+        Kind::List | Kind::Map | Kind::Set | Kind::Udt | Kind::Tuple => unreachable!(),
+    }
+}
+
+/// An address of 4 or 16 bytes.
+#[inline]
+fn address(bytes: &[u8]) -> Address
+    requires { allows_size kind.Inet (length bytes.now) ≡ true }
+    ensures { result ≡ address_of (length bytes.now) bytes.now }
+{
+    if bytes.len() == 4 {
+        Address::V4(first(bytes))
+    } else {
+        Address::V6(first(bytes))
+    }
+}
+
+/// The first N bytes.
+#[inline]
+pub fn first<const N: usize>(bytes: &[u8]) -> [u8; N]
+    requires { N ≤ length bytes.now }
+    ensures { result ≡ take N bytes.now }
+{
+    *bytes.first_chunk().unwrap()
+}
