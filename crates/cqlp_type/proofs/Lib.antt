@@ -19,3 +19,5 @@ pub mod OpenTypes
 pub mod Ids
 pub mod Inside
 pub mod Columns
+pub mod Depths
+pub mod WholeTables

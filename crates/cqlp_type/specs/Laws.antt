@@ -1,5 +1,5 @@
 -- Laws of types, of their tables and of how they are read.
-use Rattle.std.specs.Prelude.{◌≡◌, ℕ, suc, ◌+◌, ◌++◌, ◌<◌, ◌≤◌, Bool, true, false, List, [], ◌∷◌, All, length, slice_get, Some}
+use Rattle.std.specs.Prelude.{◌≡◌, ℕ, suc, ◌+◌, ◌++◌, ◌<◌, ◌≤◌, ◌↔◌, Bool, true, false, IsTrue, List, [], ◌∷◌, All, length, max, slice_get, Some}
 use Rattle.std.specs.List.{list_all}
 use Rattle.cqlp_note.specs.declared.refusal.Refusal.{Refusal}
 use Rattle.cqlp_note.specs.Step.{Runs}
@@ -8,13 +8,15 @@ use Rattle.cqlp_note.specs.Heading.{beside_number}
 use Rattle.cqlp_note.specs.Partial.{FieldState}
 use Rattle.cqlp_kind.specs.declared.kind.Kind.{Kind}
 use Rattle.cqlp_kind.specs.declared.node.Node.{Node}
-use Rattle.cqlp_kind.specs.Types.{Types, NoMore, Type_and, how_many, types_of, preorder, followed_by, kinds}
+use Rattle.cqlp_kind.specs.Types.{Types, NoMore, Type_and, how_many, types_of, preorder, followed_by, kinds, AreFormed, IsPreorder}
 use Rattle.cqlp_kind.specs.TypeStep.{TypeEvent, Option_at, TypePlace, type_step}
 use Rattle.cqlp_type.specs.declared.advance.TypeAdvance.{TypeAdvance}
 use Rattle.cqlp_type.specs.declared.advance.TypeAdvance.TheVariants as advance
 use Rattle.cqlp_type.specs.declared.item.TypePush.{TypePush}
 use Rattle.cqlp_type.specs.declared.item.TypePush.TheVariants as push
-use Rattle.cqlp_type.specs.Table.{Table, beginnings, child}
+use Rattle.cqlp_type.specs.Table.{Table, AreWhole, beginnings, child}
+use Rattle.cqlp_type.specs.Forests.{depth_of, Forest}
+use Rattle.cqlp_type.specs.Depths.{IsDepth}
 use Rattle.cqlp_type.specs.Remaining.{event_at}
 use Rattle.cqlp_type.specs.Standing.{TypeState, IsShared, place_of, pending, Advances}
 use Rattle.cqlp_type.specs.Trees.{Trees, trees_in, options_in, types_in, AreTrees, is_tree, Shallow, AreShort, trees_items, placed, TreeSpells, item_counts, item_is_short, ItemIsInRange, tree_bytes}
@@ -121,11 +123,46 @@ ChildrenOfOpen =
 abbrev pub OpenIsLast : Type 0
 OpenIsLast = (x : Node) (rest : List Node) (number : ℕ) → x.span ≡ 0 → beginnings number 0 (x ∷ rest) ≡ number ∷ []
 
+-- Types that stand side by side are as deep as the deepest of them, or as what follows them.
+abbrev pub DepthIsOfTypes : Type 0
+DepthIsOfTypes =
+    (ts : Types) (ns : List Node) (depth : ℕ) → IsDepth ns depth → IsDepth (preorder ts ++ ns) (max (depth_of ts) depth)
+
+-- A type that is under way, last of all, is one deeper than the types in the nodes after its own.
+abbrev pub OpenIsDeeper : Type 0
+OpenIsDeeper =
+    (x : Node) (rest : List Node) (depth : ℕ) → x.span ≡ 0 → IsDepth rest depth → IsDepth (x ∷ rest) (suc depth)
+
+-- These nodes are these types: none is under way, as many begin side by side as there are, and they are as deep.
+pub record AreTypesOf (nodes : List Node) (ts : Types) : Type 0 where
+  pub whole : AreWhole nodes
+  pub are : preorder ts ≡ nodes
+  pub formed : AreFormed ts
+  pub many : length (beginnings 0 0 nodes) ≡ how_many ts
+  pub depth : IsDepth nodes (depth_of ts)
+
+abbrev pub WholeAreTypes : Type 0
+WholeAreTypes = (nodes : List Node) → IsPreorder nodes → AreTypesOf nodes (types_of nodes)
+
+-- Nodes are whole types within a depth exactly where they are whole types, and no deeper than that.
+abbrev pub WithinIsNoDeeper : Type 0
+WithinIsNoDeeper =
+    (nodes : List Node) (found depth : ℕ) → IsDepth nodes found
+    → (Forest nodes 0 depth ↔ (IsPreorder nodes × (found ≤ depth)))
+
 -- ---- one answer
 
 -- Each kind has one id.
 abbrev pub OneAnswerOfId : Type 0
 OneAnswerOfId = (k : Kind) (a b : ℕ) → beside_number a kinds ≡ Some k → beside_number b kinds ≡ Some k → a ≡ b
+
+-- A type is under way in a table, or none is.
+abbrev pub OneAnswerOfWhole : Type 0
+OneAnswerOfWhole = (nodes : List Node) (a b : Bool) → (IsTrue a ↔ AreWhole nodes) → (IsTrue b ↔ AreWhole nodes) → a ≡ b
+
+-- Nodes have one depth.
+abbrev pub OneAnswerOfDepth : Type 0
+OneAnswerOfDepth = (nodes : List Node) (a b : ℕ) → IsDepth nodes a → IsDepth nodes b → a ≡ b
 
 -- What a call says of an option, its text as bytes.
 pub data Answer : Type 0 where

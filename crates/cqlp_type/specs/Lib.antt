@@ -9,3 +9,4 @@ pub mod TypeTrees
 pub mod TypeLists
 pub mod TreeChecks
 pub mod Forests
+pub mod Depths

@@ -2,7 +2,8 @@
 
 ghost use Rattle.cqlp_type.specs.Laws.{TypesOfPreorder, TypesOfOwnPreorder, RootsAreTypes, ChildrenOfWhole, ChildrenOfOpen};
 ghost use Rattle.cqlp_type.specs.Laws.{SpelledIsRead, ReadIsSpelled, SpelledIsLong, FittingIsSpelled, SpelledFits, OpenIsLast, LenIsOfOption};
-ghost use Rattle.cqlp_type.specs.Laws.{OneAnswerOfId, OneAnswerOfPush, OneAnswerOfAdvance};
+ghost use Rattle.cqlp_type.specs.Laws.{DepthIsOfTypes, OpenIsDeeper, WholeAreTypes, WithinIsNoDeeper};
+ghost use Rattle.cqlp_type.specs.Laws.{OneAnswerOfId, OneAnswerOfWhole, OneAnswerOfDepth, OneAnswerOfPush, OneAnswerOfAdvance};
 
 /// The types of nodes in preorder are those that the nodes were made of.
 #[tactic(auto, using(crate::proofs::Forests::types_of_preorder, crate::proofs::Forests::types_of_own_preorder))]
@@ -53,9 +54,32 @@ pub fn children_are_inner_types()
     ensures under_way { ChildrenOfOpen }
 {}
 
+/// How deep types that stand side by side are nested, also where the last one is under way.
+#[tactic(auto, using(crate::proofs::Depths::depth_followed, crate::proofs::Depths::open_deeper))]
+pub fn depth_is_of_types()
+    ensures whole { DepthIsOfTypes }
+    ensures under_way { OpenIsDeeper }
+{}
+
+/// A table in which no type is under way says which types it holds, how many they are and how deep they are nested.
+pub fn whole_tables_are_types()
+    ensures are { WholeAreTypes }
+    ensures within { WithinIsNoDeeper }
+{}
+
 /// One id meets the clause of `Kind::id`.
 pub fn one_answer_of_kind_id()
     ensures { OneAnswerOfId }
+{}
+
+/// `TypeTable::whole` has one answer.
+pub fn one_answer_of_whole()
+    ensures { OneAnswerOfWhole }
+{}
+
+/// `TypeTable::depth` has one answer.
+pub fn one_answer_of_depth()
+    ensures { OneAnswerOfDepth }
 {}
 
 /// After the same bytes and items of an option, one answer of `TypeReader::push` to an input meets its clauses.

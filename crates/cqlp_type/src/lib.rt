@@ -3,6 +3,7 @@
 
 mod advance;
 mod check;
+mod depth;
 mod item;
 pub mod laws;
 mod open_options;

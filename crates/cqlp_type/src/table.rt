@@ -3,6 +3,7 @@
 ghost use Rattle.std.specs.Prelude.{◌≡◌, ◌+◌, ◌^◌, ◌<◌, ◌≤◌, ◌++◌, ◌∷◌, [], length, slice_get, IfOk, IsTrue, ◌↔◌};
 ghost use Rattle.cqlp_type.specs.Table.{beginnings};
 
+use crate::depth::{deepest, inner_of};
 use cqlp_kind::Node;
 use cqlp_note::NoMemory;
 use std::alloc::{Allocator, Global};
@@ -29,7 +30,9 @@ impl<A: Allocator> Model for TypeTable<A> {
 
 impl<A: Allocator> TypeTable<A> {
     ghost use Rattle.cqlp_type.specs.Table.{AreWhole, HoldsTypes, root, child};
-    ghost use Rattle.cqlp_kind.specs.Types.{IsPreorder};
+    ghost use Rattle.cqlp_type.specs.Depths.{IsDepth};
+    ghost use Rattle.cqlp_type.specs.Forests.{depth_of};
+    ghost use Rattle.cqlp_kind.specs.Types.{IsPreorder, Types, preorder};
     ghost use Rattle.cqlp_kind.specs.TypeStep.{with_arity, with_span};
 
     /// With room for `room` nodes, which is all that it will ever have.
@@ -66,6 +69,17 @@ impl<A: Allocator> TypeTable<A> {
         self.nodes.iter().all(|node| node.span != 0)
     }
 
+    /// How deep the types are nested; 0 where there are none. A type without inner types has depth 1, and another one
+    /// more than its deepest inner type. Of a type that is under way the inner types that stand so far count.
+    #[tactic(auto, using(crate::proofs::Depths::depth_of_types, crate::proofs::Depths::depth_few))]
+    pub fn depth(&self) -> u32
+        ensures is { IsDepth self.now.nodes result }
+        ensures whole { (ts : Types) → self.now.nodes ≡ preorder ts → result ≡ depth_of ts }
+        ensures bound { result ≤ length self.now.nodes }
+    {
+        deepest(&self.nodes)
+    }
+
     /// The node with this number; the first has the number 0.
     pub fn node(&self, i: u32) -> Option<Node>
         ensures { result ≡ slice_get self.now.nodes i }
@@ -91,13 +105,9 @@ impl<A: Allocator> TypeTable<A> {
     pub fn child(&self, node: u32, i: u32) -> Option<u32>
         ensures { result ≡ child self.now.nodes node i }
     {
-        let span = self.node(node)?.span as usize;
-        let inner = &self.nodes[node as usize + 1..];
-        if span == 0 || span > inner.len() {
-            beginning(inner, node + 1, i)
-        } else {
-            beginning(&inner[..span - 1], node + 1, i)
-        }
+        let first = self.node(node)?;
+        let after = &self.nodes[node as usize + 1..];
+        beginning(inner_of(first, after), node + 1, i)
     }
 
     /// Removes all nodes, and keeps the room.
