@@ -19,7 +19,7 @@ const LIMITS: Limits = Limits {
     text: 64,
     cell: 64,
     entries: 8,
-    depth: 3,
+    depth: 4,
     types: true,
     parts: false,
 };
@@ -144,6 +144,34 @@ fn options_in_one_table(rt: HostRuntime) -> Result<(), Fail> {
         let walked = walk(rt.alloc(), &table.clone_table()?)?;
         if lines.as_str() != read_of_it || walked.as_str() != table_of_it {
             write!(wrong, "{lines}; {walked}; ")?;
+        }
+    }
+    assert_eq!(rt; wrong.as_str(), "");
+    Ok(())
+}
+
+/// An option, or what came of one, and how deep the types of a table are nested that it is read into.
+static DEPTHS: [(&[u8], u32); 6] = [
+    (&[], 0),
+    (&[0, 9], 1),
+    // list<map<int, list<blob>>>
+    (&[0, 0x20, 0, 0x21, 0, 9, 0, 0x20, 0, 3], 4),
+    // A user-defined type without fields.
+    (&[0, 0x30, 0, 1, b'k', 0, 1, b'u', 0, 0], 1),
+    // tuple<list<int>, ..
+    (&[0, 0x31, 0, 2, 0, 0x20, 0, 9], 3),
+    // tuple<int, set<..
+    (&[0, 0x31, 0, 2, 0, 9, 0, 0x22], 2),
+];
+
+#[test]
+fn a_table_is_as_deep_as_its_types(rt: HostRuntime) -> Result<(), Fail> {
+    let mut wrong = String::new(rt.alloc());
+    for (option, depth) in DEPTHS {
+        let mut table = TypeTable::new(rt.alloc(), 8)?;
+        let lines = read(rt.alloc(), &mut table, option)?;
+        if table.depth() != depth {
+            write!(wrong, "{lines}: {}; ", table.depth())?;
         }
     }
     assert_eq!(rt; wrong.as_str(), "");
