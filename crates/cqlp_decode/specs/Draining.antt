@@ -6,9 +6,9 @@ use Rattle.cqlp_decode.specs.declared.running.Drained.{Drained}
 use Rattle.cqlp_decode.specs.declared.running.Drained.TheVariants as drained
 use Rattle.cqlp_decode.specs.declared.running.Outcome.{Outcome}
 use Rattle.cqlp_decode.specs.declared.running.Outcome.TheVariants as outcome
-use Rattle.cqlp_decode.specs.Reading.{Event, Verdict, start, Says, Waits, Refused}
+use Rattle.cqlp_decode.specs.Reading.{Event, Gifts, Verdict, start_with, Says, Waits, Refused}
 use Rattle.cqlp_decode.specs.Standing.{StreamState}
-use Rattle.cqlp_decode.specs.Streams.{After, EndsAs}
+use Rattle.cqlp_decode.specs.Streams.{AfterGifts, EndsAs}
 
 -- the view after these events, in order
 abbrev pub fold_events : {V : Type 0} → (V → ℕ → Event → V) → V → List (ℕ × Event) → V
@@ -31,25 +31,27 @@ DrainsBy drained.Fault new = ⊤
 
 -- What a sink has got: f is what it makes of an event, and V is what is seen of it.
 module _ {V : Type 0} (f : V → ℕ → Event → V) where
-  -- After the bytes s and the events es, these bytes were used and their events handed out, and the sink has got just
-  -- them.
-  pub record Drains (new : StreamState) (s : List ℕ) (es : List (ℕ × Event)) (bytes : List ℕ)
+  -- After these gifts, the bytes s and the events es, these bytes were used and their events handed out, and the sink has
+  -- got just them.
+  pub record Drains (gifts : Gifts) (new : StreamState) (s : List ℕ) (es : List (ℕ × Event)) (bytes : List ℕ)
       (before after : V) : Type 0 where
     pub more : List (ℕ × Event)
-    pub stands : After new (s ++ bytes) (es ++ more)
+    pub stands : AfterGifts gifts new (s ++ bytes) (es ++ more)
     pub got : after ≡ fold_events f before more
 
   -- Of a piece the decoder used these bytes, and the sink has got just their events. They are all events that the piece
   -- says, with this verdict, if nothing was refused before it.
-  pub record DrainsAll (old new : StreamState) (s : List ℕ) (es : List (ℕ × Event)) (piece bytes : List ℕ)
-      (before after : V) : Type 0 where
-    pub drains : Drains new s es bytes before after
-    pub says : old.refusal ≡ None → Says new.rules start (s ++ piece) (es ++ drains.more) (verdict_of new.refusal)
+  pub record DrainsAll (gifts : Gifts) (old new : StreamState) (s : List ℕ) (es : List (ℕ × Event))
+      (piece bytes : List ℕ) (before after : V) : Type 0 where
+    pub drains : Drains gifts new s es bytes before after
+    pub says : old.refusal ≡ None
+        → Says new.rules (start_with gifts) (s ++ piece) (es ++ drains.more) (verdict_of new.refusal)
 
-  -- the same of any stream that led here
+  -- the same of any gifts and any stream that led here
   abbrev pub DrainsPiece : (old new : StreamState) → (piece bytes : List ℕ) → (before after : V) → Type 0
   DrainsPiece old new piece bytes before after =
-      (s : List ℕ) (es : List (ℕ × Event)) → After old s es → DrainsAll old new s es piece bytes before after
+      (gifts : Gifts) (s : List ℕ) (es : List (ℕ × Event)) → AfterGifts gifts old s es
+      → DrainsAll gifts old new s es piece bytes before after
 
   -- Of the bytes xs of a reader, `rest` is left or was not used; the others the decoder used, and the sink has got
   -- their events.
@@ -57,14 +59,16 @@ module _ {V : Type 0} (f : V → ℕ → Event → V) where
     pub bytes : List ℕ
     pub rest : List ℕ
     pub parts : xs ≡ bytes ++ rest
-    pub drained : (s : List ℕ) (es : List (ℕ × Event)) → After old s es → Drains new s es bytes before after
+    pub drained : (gifts : Gifts) (s : List ℕ) (es : List (ℕ × Event)) → AfterGifts gifts old s es
+        → Drains gifts new s es bytes before after
 
   -- what was handed out is all that the bytes used and those looked at say, and the refusal, or none, is their verdict
   abbrev pub SaysAll : (old new : StreamState) (xs : List ℕ) (before after : V) → Feeds old new xs before after
       → (looked : List ℕ) → Type 0
   SaysAll old new xs before after d looked =
-      (s : List ℕ) (es : List (ℕ × Event)) (a : After old s es)
-      → Says new.rules start (s ++ d.bytes ++ looked) (es ++ (d.drained s es a).more) (verdict_of new.refusal)
+      (gifts : Gifts) (s : List ℕ) (es : List (ℕ × Event)) (a : AfterGifts gifts old s es)
+      → Says new.rules (start_with gifts) (s ++ d.bytes ++ looked) (es ++ (d.drained gifts s es a).more)
+      (verdict_of new.refusal)
 
   -- Of the bytes that were not used, the first were looked at, where they are refused, and the others are left. What
   -- was handed out is all that they say, if nothing was refused before.
@@ -80,18 +84,19 @@ module _ {V : Type 0} (f : V → ℕ → Event → V) where
   -- Which faults an event may lead to.
   module _ (faulted : V → ℕ → Event → V → Type 0) where
     -- The same as `Drains`, but at the last of the events the sink failed.
-    pub record Fails (new : StreamState) (s : List ℕ) (es : List (ℕ × Event)) (bytes : List ℕ)
+    pub record Fails (gifts : Gifts) (new : StreamState) (s : List ℕ) (es : List (ℕ × Event)) (bytes : List ℕ)
         (before after : V) : Type 0 where
       pub more : List (ℕ × Event)
       pub at : ℕ
       pub event : Event
-      pub stands : After new (s ++ bytes) (es ++ more ++ (at, event) ∷ [])
+      pub stands : AfterGifts gifts new (s ++ bytes) (es ++ more ++ (at, event) ∷ [])
       pub fault : faulted (fold_events f before more) at event after
 
-    -- the same of any stream that led here
+    -- the same of any gifts and any stream that led here
     abbrev pub FailsWithin : (old new : StreamState) → (bytes : List ℕ) → (before after : V) → Type 0
     FailsWithin old new bytes before after =
-        (s : List ℕ) (es : List (ℕ × Event)) → After old s es → Fails new s es bytes before after
+        (gifts : Gifts) (s : List ℕ) (es : List (ℕ × Event)) → AfterGifts gifts old s es
+        → Fails gifts new s es bytes before after
 
     -- What draining a piece leaves, by how it ends: all of its events, those before a refusal, or those up to a fault.
     abbrev pub DrainsTo : StreamState → List ℕ → Drained → StreamState → (before after : V) → Type 0

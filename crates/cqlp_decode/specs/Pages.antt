@@ -16,15 +16,20 @@ use Rattle.cqlp_decode.specs.declared.page.Columns.{Columns}
 use Rattle.cqlp_decode.specs.declared.page.Columns.TheVariants as columns
 use Rattle.cqlp_decode.specs.declared.page.CellCursor.{CellCursor}
 use Rattle.cqlp_decode.specs.Reading as reading
-use Rattle.cqlp_decode.specs.Reading.{page_types, types_for}
+use Rattle.cqlp_decode.specs.Reading.{Given, Nothing, Waiting, InUse, Used, page_types, types_for}
+use Rattle.cqlp_decode.specs.declared.standing.GivenUse.{GivenUse}
+use Rattle.cqlp_decode.specs.declared.standing.GivenUse.TheVariants as use
+use Rattle.cqlp_type.specs.Table.{Table}
 
 abbrev pub column_types : List Node → Columns → Types
 column_types nodes columns.Typed = types_of nodes
+column_types nodes columns.Given = types_of nodes
 column_types nodes (columns.Raw n) = raw_types n
 
 -- the types of a column and of those after it
 abbrev pub types_from : List Node → Columns → (column index : ℕ) → Types
 types_from nodes columns.Typed column index = types_of (drop index nodes)
+types_from nodes columns.Given column index = types_of (drop index nodes)
 types_from nodes (columns.Raw n) column index = raw_types (n - column)
 
 abbrev pub types_left : List Node → CellCursor → Types
@@ -33,6 +38,7 @@ types_left nodes p = types_from nodes p.columns p.column p.index
 -- the node of a column's type, if it is known
 abbrev pub node_by : Columns → (index : ℕ) → Option ℕ
 node_by columns.Typed index = Some index
+node_by columns.Given index = Some index
 node_by (columns.Raw n) index = None
 
 -- the rows after this one
@@ -67,6 +73,8 @@ page_symbols nodes d p =
 abbrev pub IsColumn : List Node → (depth : ℕ) → Columns → (column index : ℕ) → Type 0
 IsColumn nodes depth columns.Typed column index =
     (index < length nodes) × (column ≤ index) × Forest nodes index depth × Forest nodes 0 depth
+IsColumn nodes depth columns.Given column index =
+    (index < length nodes) × (column ≤ index) × Forest nodes index depth × Forest nodes 0 depth
 IsColumn nodes depth (columns.Raw n) column index = column < n
 
 abbrev pub IsPage : List Node → (depth : ℕ) → CellCursor → Type 0
@@ -95,27 +103,51 @@ FindsColumn nodes p o = (depth : ℕ) → IsPage nodes depth p → NextColumn no
 -- the next cell, if there is one
 abbrev pub Turns : List Node → (depth : ℕ) → CellCursor → Option CellCursor → Type 0
 Turns nodes depth p None = cells_after nodes p ≡ []
-Turns nodes depth p (Some q) = (cells_after nodes p ≡ cells_from nodes q) × IsPage nodes depth q
+Turns nodes depth p (Some q) =
+    (cells_after nodes p ≡ cells_from nodes q) × IsPage nodes depth q × (q.columns ≡ p.columns)
 
 -- the first cell of this many rows, if there is one
 abbrev pub Begins : List Node → (depth : ℕ) → Columns → (rows : ℕ) → Option CellCursor → Type 0
 Begins nodes depth c rows None = rows_from 0 (column_types nodes c) rows ≡ []
 Begins nodes depth c rows (Some p) =
-    (rows_from 0 (column_types nodes c) rows ≡ cells_from nodes p) × IsPage nodes depth p
+    (rows_from 0 (column_types nodes c) rows ≡ cells_from nodes p) × IsPage nodes depth p × (p.columns ≡ c)
+
+-- ---- the table of a page
+
+-- what the table that the caller gave is for
+abbrev pub given_of : GivenUse → Option Table → Given
+given_of u None = Nothing
+given_of use.Waiting (Some t) = Waiting (types_of t.nodes)
+given_of use.InUse (Some t) = InUse (types_of t.nodes)
+given_of use.Used (Some t) = Used (types_of t.nodes)
+
+-- the nodes of the table that types a page's columns: those of the metadata, or those that were given
+abbrev pub page_nodes : Columns → List Node → Option Table → List Node
+page_nodes columns.Given nodes (Some t) = t.nodes
+page_nodes c nodes given = nodes
+
+-- whole types side by side, none nested deeper than this
+abbrev pub HoldsForest : (depth : ℕ) → Option Table → Type 0
+HoldsForest depth None = ⊤
+HoldsForest depth (Some t) = Forest t.nodes 0 depth
 
 -- what follows from the value of a field
-abbrev pub symbols_after : (types : Bool) → List Node → Role → FieldValue → List Symbol
-symbols_after types nodes r v = following (types_for types r nodes reading.Nothing) r v
+abbrev pub symbols_after : (types : Bool) → List Node → Given → Role → FieldValue → List Symbol
+symbols_after types nodes held r v = following (types_for types r nodes held) r v
 
--- the page after a field, if it has a cell
-abbrev pub Follows : List Node → (depth : ℕ) → (types : Bool) → Role → FieldValue → Option CellCursor → Type 0
-Follows nodes depth types r v None = symbols_after types nodes r v ≡ following NoMore r v
-Follows nodes depth types r v (Some p) = (symbols_after types nodes r v ≡ cells_from nodes p) × IsPage nodes depth p
+-- The page after a field, if it has a cell.
+module _ (nodes : List Node) (given : Option Table) (u : GivenUse) where
+  abbrev pub Follows : (depth : ℕ) → (types : Bool) → Role → FieldValue → Option CellCursor → Type 0
+  Follows depth types r v None = symbols_after types nodes (given_of u given) r v ≡ following NoMore r v
+  Follows depth types r v (Some p) =
+      (symbols_after types nodes (given_of u given) r v ≡ cells_from (page_nodes p.columns nodes given) p)
+      × IsPage (page_nodes p.columns nodes given) depth p
 
-abbrev pub FindsPage : List Node → (types : Bool) → Role → FieldValue → Option CellCursor → Type 0
-FindsPage nodes types r v o = (depth : ℕ) → Forest nodes 0 depth → Follows nodes depth types r v o
+  abbrev pub FindsPage : (types : Bool) → Role → FieldValue → Option CellCursor → Type 0
+  FindsPage types r v o =
+      (depth : ℕ) → Forest nodes 0 depth → HoldsForest depth given → Follows depth types r v o
 
--- the columns of a page whose metadata has these flags and this many columns
-abbrev pub AreColumns : (types : Bool) → (flags columns : ℕ) → Columns → Type 0
-AreColumns types flags n c =
-    (nodes : List Node) → page_types types flags n nodes reading.Nothing ≡ column_types nodes c
+  -- the columns of a page whose metadata has these flags and this many columns
+  abbrev pub AreColumns : (types : Bool) → (flags columns : ℕ) → Columns → Type 0
+  AreColumns types flags n c =
+      page_types types flags n nodes (given_of u given) ≡ column_types (page_nodes c nodes given) c

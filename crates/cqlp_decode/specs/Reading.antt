@@ -19,22 +19,71 @@ use Rattle.cqlp_grammar.specs.declared.grammar.Role.{Role}
 use Rattle.cqlp_grammar.specs.declared.grammar.Role.TheVariants as role
 use Rattle.cqlp_grammar.specs.Productions.{Symbol, Stream, In, In_type, Cell_due, In_cell, Extra, message, following, fault_in, raw_types}
 
--- The types that the caller gave for a page without metadata: they wait, are in use, or were used.
+-- ---- what the caller gives
+
+-- The types that the caller gave for a page without metadata: they wait, are in use until the frame ends, or were used.
 pub data Given : Type 0 where
   Nothing : Given
   Waiting InUse Used : Types → Given
 
+-- What a caller does between two events: it gives types for a page without metadata, in place of those that were given
+-- before, or takes back what is held.
+pub data Gift : Type 0 where
+  Gives : Types → Gift
+  TakesBack : Gift
+
+abbrev pub held_after : Gift → Given → Given
+held_after (Gives ts) g = Waiting ts
+held_after TakesBack g = Nothing
+
+abbrev pub held_after_all : List Gift → Given → Given
+held_after_all [] g = g
+held_after_all (x ∷ xs) g = held_after_all xs (held_after x g)
+
+-- What a caller does before the first event, what before the second, and so on; after the last of these, nothing.
+abbrev pub Gifts : Type 0
+Gifts = List (List Gift)
+
+abbrev pub gifts_now : Gifts → List Gift
+gifts_now [] = []
+gifts_now (now ∷ later) = now
+
+abbrev pub gifts_later : Gifts → Gifts
+gifts_later [] = []
+gifts_later (now ∷ later) = later
+
+-- with one more, after n events
+abbrev pub with_gift : (n : ℕ) → Gift → Gifts → Gifts
+with_gift zero x [] = (x ∷ []) ∷ []
+with_gift zero x (now ∷ later) = (now ++ x ∷ []) ∷ later
+with_gift (suc n) x [] = [] ∷ with_gift n x []
+with_gift (suc n) x (now ∷ later) = now ∷ with_gift n x later
+
+-- ---- places
+
 -- Where the reading of a stream stands: at this offset, in a frame that ends at `stop`, with these symbols still to
--- be read. The nodes are those of the metadata read last.
+-- be read. The nodes are those of the metadata read last. These types are held that the caller gave, and this is what it
+-- gives from here on.
 pub record Place : Type 0 where
   pub offset : ℕ
   pub stop : ℕ
   pub symbols : List Symbol
   pub nodes : List Node
   pub given : Given
+  pub gifts : Gifts
 
+-- the start of a stream, over which the caller gives this
+abbrev pub start_with : Gifts → Place
+start_with gifts =
+    record { offset = 0; stop = 0; symbols = Stream ∷ []; nodes = []; given = Nothing; gifts = gifts }
+
+-- the start of a stream, over which nothing is given
 abbrev pub start : Place
-start = record { offset = 0; stop = 0; symbols = Stream ∷ []; nodes = []; given = Nothing }
+start = start_with []
+
+-- the place with what the caller gives before the next event
+abbrev pub settled : Place → Place
+settled p = record p { given = held_after_all (gifts_now p.gifts) p.given; gifts = gifts_later p.gifts }
 
 -- ---- pages
 
@@ -89,6 +138,7 @@ place_in_frame p h used = record {
   symbols = message h;
   nodes = p.nodes;
   given = p.given;
+  gifts = p.gifts;
 }
 
 -- the place after a field of this role and value, before what comes after it
@@ -99,6 +149,7 @@ place_after types p r rest v used = record {
   symbols = following (types_for types r p.nodes p.given) r v ++ rest;
   nodes = nodes_after r p.nodes;
   given = given_after r p.given;
+  gifts = p.gifts;
 }
 
 -- the place at a frame's end
@@ -109,6 +160,7 @@ place_at_end p used = record {
   symbols = Stream ∷ [];
   nodes = p.nodes;
   given = retired p.given;
+  gifts = p.gifts;
 }
 
 abbrev pub header_step : Place → Heading → Step Event Place
@@ -136,6 +188,7 @@ place_of_types p rest q = record {
   symbols = types_left q.symbols ++ rest;
   nodes = q.nodes;
   given = p.given;
+  gifts = p.gifts;
 }
 
 abbrev pub place_of_cells : (row column : ℕ) → Place → List Symbol → CellPlace → Place
@@ -145,6 +198,7 @@ place_of_cells row column p rest q = record {
   symbols = cells_left row column q.symbols ++ rest;
   nodes = p.nodes;
   given = p.given;
+  gifts = p.gifts;
 }
 
 module _ (l : Rules) (p : Place) where
@@ -174,8 +228,9 @@ module _ (l : Rules) (p : Place) where
   step_at (Extra ∷ rest) =
       Takes (p.stop - p.offset) (λ skipped. Emit p.stop (End (p.stop - p.offset)) (place_at_end p))
 
+-- a step, after what the caller gives before its event
 abbrev pub step : Rules → Place → Step Event Place
-step l p = step_at l p p.symbols
+step l p = step_at l (settled p) p.symbols
 
 -- Reading from p over these bytes says these events and leads to q, before the bytes that are left.
 abbrev pub Reads : Rules → Place → List ℕ → List (ℕ × Event) → Place → List ℕ → Type 0

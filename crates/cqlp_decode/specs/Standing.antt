@@ -48,9 +48,10 @@ use Rattle.cqlp_decode.specs.declared.advance.ScalarCell.{ScalarCell}
 use Rattle.cqlp_kind.specs.Contents.{value_of as scalar_value}
 use Rattle.cqlp_decode.specs.declared.page.CellCursor.{CellCursor}
 use Rattle.cqlp_grammar.specs.Upcoming.{symbols_in, wanted, room_after, IsRead}
-use Rattle.cqlp_decode.specs.Pages.{cells_from, page_symbols, node_by, symbols_after, IsPage}
+use Rattle.cqlp_decode.specs.declared.page.Columns.{Columns}
+use Rattle.cqlp_decode.specs.Pages.{cells_from, page_symbols, node_by, symbols_after, IsPage, given_of, page_nodes}
 use Rattle.cqlp_decode.specs.Reading as reading
-use Rattle.cqlp_decode.specs.Reading.{Place, Event, start, step}
+use Rattle.cqlp_decode.specs.Reading.{Place, Event, Given, retired, start, step}
 
 -- The bytes of what is under way that have come: they are kept, or this many were skipped, or they are those of a value
 -- whose length may have come before them.
@@ -66,8 +67,8 @@ IsPending (Skipped n) b = length b ≡ n
 IsPending (Valued u seen) b = taking.HaveCome b u seen
 
 -- What a decoder knows of its stream: the caller's rules, the place before what is under way, what has come of it,
--- the start of the frame under way, the refusal if there was one, the content that is held, and how many values of a
--- cell are open.
+-- the start of the frame under way, the refusal if there was one, the content that is held, how many values of a cell are
+-- open, and the table that the caller gave.
 pub record StreamState : Type 0 where
   pub rules : Rules
   pub place : Place
@@ -76,6 +77,7 @@ pub record StreamState : Type 0 where
   pub refusal : Option Refusal
   pub held : List ℕ
   pub open_values : ℕ
+  pub given : Option Table
 
 -- ---- one step
 
@@ -148,6 +150,7 @@ pub record Hands (old : StreamState) (input : List ℕ) (at used : ℕ) (e : Eve
   pub lent : IsLent e used new.held
   pub gives : (b : List ℕ) → IsPending old.pending b → Gives old (b ++ input) at e (length b + used) new.place
   pub offset : (b : List ℕ) → IsPending old.pending b → new.place.offset ≡ old.place.offset + (length b + used)
+  pub gifts : new.place.gifts ≡ []
   pub due : ends_due new.place.symbols ≡ due_after e
   pub pays : ends_due new.place.symbols + new.open_values < ends_due old.place.symbols + old.open_values + 2 * used
 
@@ -167,10 +170,16 @@ abbrev pub LeavesTypes : EventAdvance → (old new : List Node) → Type 0
 LeavesTypes (advance.Refused r) old new = new ≡ old
 LeavesTypes a old new = ⊤
 
+-- after a refusal no given types are in use
+abbrev pub LeavesGiven : EventAdvance → (old new : Given) → Type 0
+LeavesGiven (advance.Refused r) old new = new ≡ retired old
+LeavesGiven a old new = ⊤
+
 -- What a call does: a refusal is repeated.
 abbrev pub AdvancesFrom : Option Refusal → StreamState → List ℕ → EventAdvance → StreamState → Type 0
 AdvancesFrom (Some r) old input a new = (a ≡ advance.Refused r) × (new ≡ old)
-AdvancesFrom None old input a new = Moves old input a new × (new.refusal ≡ refusal_in a) × (new.rules ≡ old.rules)
+AdvancesFrom None old input a new =
+    Moves old input a new × (new.refusal ≡ refusal_in a) × (new.rules ≡ old.rules) × (new.given ≡ old.given)
 
 abbrev pub Advances : StreamState → List ℕ → EventAdvance → StreamState → Type 0
 Advances old input a new = AdvancesFrom old.refusal old input a new
@@ -183,7 +192,7 @@ scalar_event t = reading.Cell_at t.row t.column (cell.Leaf 0 (scalar_value t.sca
 abbrev pub Takes : StreamState → List ℕ → Option ScalarCell → StreamState → Type 0
 Takes old input None new = new ≡ old
 Takes old input (Some t) new =
-    (old.refusal ≡ None) × (new.refusal ≡ None) × (new.rules ≡ old.rules)
+    (old.refusal ≡ None) × (new.refusal ≡ None) × (new.rules ≡ old.rules) × (new.given ≡ old.given)
     × Hands old input t.at t.used (scalar_event t) new
 
 -- this many bytes of the stream have come: those before what is under way, and those of it
@@ -192,19 +201,24 @@ HasCome d n = (b : List ℕ) → IsPending d.pending b → n ≡ d.place.offset 
 
 -- ---- what is inside
 
--- The parts of a decoder that own memory: the field under way, the type option under way, the cell under way, and the
--- types of the metadata begun last.
+-- The parts of a decoder that own memory: the field under way, the type option under way, the cell under way, the
+-- types of the metadata begun last, and the table that the caller gave.
 pub record PartsState : Type 0 where
   pub partial : FieldState
   pub types : type.TypeState
   pub cells : value.CellState
   pub table : Table
+  pub given : Option Table
 
-abbrev pub parts : FieldState → type.TypeState → value.CellState → Table → PartsState
-parts p r c t = record { partial = p; types = r; cells = c; table = t }
+abbrev pub parts : FieldState → type.TypeState → value.CellState → Table → Option Table → PartsState
+parts p r c t g = record { partial = p; types = r; cells = c; table = t; given = g }
 
 abbrev pub parts_state : {A : Type 0} → Parts A → PartsState
-parts_state p = parts p.partial p.types p.cells p.table
+parts_state p = parts p.partial p.types p.cells p.table p.given
+
+-- the nodes of the table that types the columns of a page
+abbrev pub nodes_of : PartsState → Columns → List Node
+nodes_of q c = page_nodes c q.table.nodes q.given
 
 -- the types and the values around the one that is read
 abbrev pub levels_of : PartsState → ℕ
@@ -219,8 +233,8 @@ symbols_at stage.Header q upcoming = Stream ∷ []
 symbols_at (stage.Field w) q upcoming = wanted (due.Field w) ∷ rest_of upcoming
 symbols_at stage.BeforeType q upcoming = In_type (Option_at 1 ∷ []) ∷ rest_of upcoming
 symbols_at stage.InType q upcoming = In_type q.types.symbols ∷ rest_of upcoming
-symbols_at (stage.BeforeCell p) q upcoming = cells_from q.table.nodes p ++ rest_of upcoming
-symbols_at (stage.InCell p) q upcoming = page_symbols q.table.nodes q.cells p ++ rest_of upcoming
+symbols_at (stage.BeforeCell p) q upcoming = cells_from (nodes_of q p.columns) p ++ rest_of upcoming
+symbols_at (stage.InCell p) q upcoming = page_symbols (nodes_of q p.columns) q.cells p ++ rest_of upcoming
 symbols_at stage.Extra q upcoming = Extra ∷ []
 
 abbrev pub offset_at : StreamStage → (offset : ℕ) → PartsState → ℕ
@@ -232,9 +246,9 @@ offset_at (stage.BeforeCell p) offset q = offset
 offset_at (stage.InCell p) offset q = q.cells.offset
 offset_at stage.Extra offset q = offset
 
-abbrev pub place_at : (offset stop : ℕ) → List Symbol → List Node → Place
-place_at offset stop symbols nodes =
-    record { offset = offset; stop = stop; symbols = symbols; nodes = nodes; given = reading.Nothing }
+abbrev pub place_at : (offset stop : ℕ) → List Symbol → List Node → Given → Place
+place_at offset stop symbols nodes given =
+    record { offset = offset; stop = stop; symbols = symbols; nodes = nodes; given = given; gifts = [] }
 
 -- the bytes of the field under way that have come
 abbrev pub came_of : FieldState → List ℕ
@@ -252,12 +266,14 @@ pending_at stage.Extra header came q = Skipped came
 abbrev pub state_of : StreamStanding → PartsState → StreamState
 state_of s q = record {
   rules = rules_of s.limits;
-  place = place_at (offset_at s.stage s.offset q) s.stop (symbols_at s.stage q s.upcoming) q.table.nodes;
+  place = place_at (offset_at s.stage s.offset q) s.stop (symbols_at s.stage q s.upcoming) q.table.nodes
+      (given_of s.given_use q.given);
   pending = pending_at s.stage s.header s.came q;
   frame = s.frame;
   refusal = s.refusal;
   held = q.partial.content;
   open_values = length q.cells.open_values;
+  given = q.given;
 }
 
 -- no field, no type option and no cell is under way
@@ -322,11 +338,11 @@ pub record OptionRuns (l : Rules) (q : PartsState) : Type 0 where
 -- The cell under way is in this frame, and its type stands in the table.
 pub record IsCell (s : StreamStanding) (q : PartsState) (p : CellCursor) : Type 0 where
   pub under_way : is_under_way q.cells ≡ true
-  pub stands : value.Stands q.table.nodes q.cells
-  pub joined : taking.Joined q.table.nodes q.cells q.partial
+  pub stands : value.Stands (nodes_of q p.columns) q.cells
+  pub joined : taking.Joined (nodes_of q p.columns) q.cells q.partial
   pub some : is_done q.cells ≡ false
   pub is : (n : Option ℕ) → q.cells.next ≡ next.Cell n → n ≡ node_by p.columns p.index
-  pub page : IsPage q.table.nodes s.limits.depth p
+  pub page : IsPage (nodes_of q p.columns) s.limits.depth p
   pub stop : q.cells.stop ≡ s.stop
   pub after : s.offset ≤ q.cells.offset
   pub came : s.came ≡ 0
@@ -336,7 +352,7 @@ StageHolds s q stage.Header = (s.came < 9) × IsIdle q × (s.frame ≡ s.offset)
 StageHolds s q (stage.Field w) = IsWanted s q.partial w × (q.types.under_way ≡ false) × (is_under_way q.cells ≡ false)
 StageHolds s q stage.BeforeType = IsIdle q × (s.came ≡ 0)
 StageHolds s q stage.InType = IsOption s q.partial q.types × OptionWaits q × (is_under_way q.cells ≡ false)
-StageHolds s q (stage.BeforeCell p) = IsPage q.table.nodes s.limits.depth p × IsIdle q × (s.came ≡ 0)
+StageHolds s q (stage.BeforeCell p) = IsPage (nodes_of q p.columns) s.limits.depth p × IsIdle q × (s.came ≡ 0)
 StageHolds s q (stage.InCell p) = IsCell s q p × (q.types.under_way ≡ false)
 StageHolds s q stage.Extra = (s.came ≤ s.stop - s.offset) × IsIdle q
 
@@ -349,7 +365,7 @@ TableHolds l q t = Forest q.table.nodes 0 l.depth
 abbrev pub IsPlaced : StreamStanding → PartsState → StreamStage → Type 0
 IsPlaced s q stage.Header = (s.came < 9) × (s.frame ≡ s.offset)
 IsPlaced s q stage.InType = IsOption s q.partial q.types
-IsPlaced s q (stage.BeforeCell p) = IsPage q.table.nodes s.limits.depth p
+IsPlaced s q (stage.BeforeCell p) = IsPage (nodes_of q p.columns) s.limits.depth p
 IsPlaced s q (stage.InCell p) = IsCell s q p
 IsPlaced s q stage.Extra = s.came ≤ s.stop - s.offset
 IsPlaced s q t = ⊤
@@ -368,12 +384,18 @@ pub record HasParts (s : StreamStanding) (q : PartsState) : Type 0 where
   pub cells : q.cells.rules ≡ rules_of s.limits
   pub table : q.table.room ≡ s.limits.entries
 
+-- The given table is whole types, no more and nested no deeper than the limits allow.
+abbrev pub HoldsGiven : Limits → Option Table → Type 0
+HoldsGiven l None = ⊤
+HoldsGiven l (Some t) = Forest t.nodes 0 l.depth × (length t.nodes ≤ l.entries)
+
 pub record IsConsistent (s : StreamStanding) (q : PartsState) : Type 0 where
   pub bounded : IsBounded s
   pub parts : HasParts s q
   pub stage : StageHolds s q s.stage
   pub quiet : IsQuiet q
   pub table : s.refusal ≡ None → TableHolds (rules_of s.limits) q s.stage
+  pub given : HoldsGiven s.limits q.given
 
 -- ---- the same of the parts as the code has them
 
@@ -390,6 +412,7 @@ pub record IsFresh (q : PartsState) : Type 0 where
   pub idle : IsIdle q
   pub quiet : IsQuiet q
   pub types : q.table.nodes ≡ []
+  pub given : q.given ≡ None
 
 abbrev pub first_state : Limits → PartsState → StreamState
 first_state limits q = record {
@@ -400,6 +423,7 @@ first_state limits q = record {
   refusal = None;
   held = q.partial.content;
   open_values = length q.cells.open_values;
+  given = None;
 }
 
 -- ---- from one thing to the next
@@ -431,16 +455,18 @@ HasRoom stage.Extra upcoming = ⊤
 abbrev pub IsAt : StreamStanding → (offset : ℕ) → StreamStanding → Type 0
 IsAt new offset old = new ≡ record old { offset = offset; stage = new.stage; upcoming = new.upcoming }
 
--- The message goes on with these symbols, and then with what came after what was read. In the table are these nodes.
-abbrev pub GoesOn : (old new : StreamStanding) → List Node → List Symbol → Type 0
-GoesOn old new nodes symbols =
-    (q : PartsState) → q.table.nodes ≡ nodes → symbols_at new.stage q new.upcoming ≡ symbols ++ rest_of old.upcoming
+-- The message goes on with these symbols, and then with what came after what was read. In the tables are these nodes.
+abbrev pub GoesOn : (old new : StreamStanding) → List Node → Option Table → List Symbol → Type 0
+GoesOn old new nodes given symbols =
+    (q : PartsState) → q.table.nodes ≡ nodes → q.given ≡ given
+    → symbols_at new.stage q new.upcoming ≡ symbols ++ rest_of old.upcoming
 
 -- The message goes on with what follows from the value of a field.
-abbrev pub GoesOnAfter : (old new : StreamStanding) → List Node → Role → FieldValue → Type 0
-GoesOnAfter old new nodes r v = GoesOn old new nodes (symbols_after old.limits.types nodes r v)
+abbrev pub GoesOnAfter : (old new : StreamStanding) → List Node → Option Table → Role → FieldValue → Type 0
+GoesOnAfter old new nodes given r v =
+    GoesOn old new nodes given (symbols_after old.limits.types nodes (given_of old.given_use given) r v)
 
 -- a message goes on here, with nothing under way, and perhaps with the cells of a page
-abbrev pub Starts : StreamStanding → List Node → StreamStage → Type 0
-Starts s nodes (stage.BeforeCell p) = IsPage nodes s.limits.depth p
-Starts s nodes t = HasRoom t s.upcoming
+abbrev pub Starts : StreamStanding → List Node → Option Table → StreamStage → Type 0
+Starts s nodes given (stage.BeforeCell p) = IsPage (page_nodes p.columns nodes given) s.limits.depth p
+Starts s nodes given t = HasRoom t s.upcoming

@@ -10,7 +10,7 @@ use Rattle.cqlp_note.specs.Limits.{Rules}
 use Rattle.cqlp_decode.specs.declared.standing.StreamStanding.{StreamStanding}
 use Rattle.cqlp_decode.specs.Reading as reading
 use Rattle.cqlp_note.specs.Reader.{says, Bad}
-use Rattle.cqlp_decode.specs.Reading.{Event, Place, start, Reads, Says, Waits, Refused}
+use Rattle.cqlp_decode.specs.Reading.{Event, Place, Gift, Gifts, gifts_now, gifts_later, held_after_all, retired, settled, start_with, Reads, Says, Waits, Refused}
 use Rattle.cqlp_decode.specs.Reading.{step as step_of}
 use Rattle.cqlp_grammar.specs.Events.{event_of}
 use Rattle.cqlp_decode.specs.Standing.{StreamState, PartsState, IsPending, IsLent, state_of, levels_of, frame_after, ends_due}
@@ -48,50 +48,64 @@ is_open es = open_from false es
 
 -- ---- after some calls
 
--- The decoder used these bytes and handed out these events: the reading of the bytes says the events, and stands
--- where the decoder does, before the bytes that are under way.
-pub record Stands (d : StreamState) (s : List ℕ) (es : List (ℕ × Event)) : Type 0 where
+-- The decoder used these bytes and handed out these events, while the caller gave this: the reading of the bytes says
+-- the events, and stands where the decoder does, before the bytes that are under way.
+pub record Stands (gifts : Gifts) (d : StreamState) (s : List ℕ) (es : List (ℕ × Event)) : Type 0 where
+  pub place : Place
   pub bytes : List ℕ
   pub pending : IsPending d.pending bytes
-  pub read : Reads d.rules start s es d.place bytes
+  pub read : Reads d.rules (start_with gifts) s es place bytes
+  pub here : d.place ≡ settled place
+  pub all : gifts_later place.gifts ≡ []
   pub count : length s ≡ d.place.offset + length bytes
   pub frame : d.frame ≡ frame_of es
   pub due : ends_due d.place.symbols ≡ (if is_open es then 1 else 0)
 
 -- A decoder that has refused used these bytes and handed out these events: the reading of the bytes says the events,
 -- and where it stands it refuses so, with bytes that were looked at but not used. The types of the metadata are those
--- there.
-pub record HasRefusedAt (r : Refusal) (d : StreamState) (s : List ℕ) (es : List (ℕ × Event)) : Type 0 where
+-- there, and so are the given ones, of which none are in use any more.
+pub record HasRefusedAt (r : Refusal) (gifts : Gifts) (d : StreamState) (s : List ℕ) (es : List (ℕ × Event))
+    : Type 0 where
   pub place : Place
   pub bytes : List ℕ
-  pub read : Reads d.rules start s es place bytes
+  pub read : Reads d.rules (start_with gifts) s es place bytes
   pub looked : List ℕ
   pub refused : says (step_of d.rules place) 0 (bytes ++ looked) ≡ Bad (r.at, r.why)
+  pub all : gifts_later place.gifts ≡ []
   pub nodes : d.place.nodes ≡ place.nodes
+  pub given : d.place.given ≡ held_after_all (gifts_now place.gifts) (retired place.given)
 
-abbrev pub AfterBy : Option Refusal → StreamState → List ℕ → List (ℕ × Event) → Type 0
-AfterBy None d s es = Stands d s es
-AfterBy (Some r) d s es = HasRefusedAt r d s es
+abbrev pub AfterBy : Option Refusal → Gifts → StreamState → List ℕ → List (ℕ × Event) → Type 0
+AfterBy None gifts d s es = Stands gifts d s es
+AfterBy (Some r) gifts d s es = HasRefusedAt r gifts d s es
 
--- a decoder that was made, and then used the bytes s and handed out the events es
+-- a decoder that was made, and then was given this, used the bytes s and handed out the events es
+abbrev pub AfterGifts : Gifts → StreamState → List ℕ → List (ℕ × Event) → Type 0
+AfterGifts gifts d s es = AfterBy d.refusal gifts d s es
+
+-- the same where nothing was given
 abbrev pub After : StreamState → List ℕ → List (ℕ × Event) → Type 0
-After d s es = AfterBy d.refusal d s es
+After d s es = AfterGifts [] d s es
 
 -- a refusal is that of the bytes used and the input, or it is the one before
-abbrev pub Refuses : Option Refusal → StreamState → List ℕ → List (ℕ × Event) → List ℕ → Refusal → Type 0
-Refuses None old s es input r = Says old.rules start (s ++ input) es (Refused r.at r.why)
-Refuses (Some before) old s es input r = r ≡ before
+abbrev pub Refuses : Option Refusal → Gifts → StreamState → List ℕ → List (ℕ × Event) → List ℕ → Refusal → Type 0
+Refuses None gifts old s es input r = Says old.rules (start_with gifts) (s ++ input) es (Refused r.at r.why)
+Refuses (Some before) gifts old s es input r = r ≡ before
 
--- What a call leads to that was made after these bytes and events.
-abbrev pub Leads : StreamState → List ℕ → List (ℕ × Event) → List ℕ → Step → StreamState → Type 0
-Leads old s es input (step.Event at used e) new =
+-- What a call leads to that was made after these gifts, bytes and events.
+abbrev pub LeadsAfter : Gifts → StreamState → List ℕ → List (ℕ × Event) → List ℕ → Step → StreamState → Type 0
+LeadsAfter gifts old s es input (step.Event at used e) new =
     (used ≤ length input) × (new.refusal ≡ None) × IsPending new.pending []
-    × After new (s ++ take used input) (es ++ (at, event_of e) ∷ [])
-Leads old s es input (step.More used) new =
-    (used ≡ length input) × (new.refusal ≡ None) × After new (s ++ input) es
-    × Says new.rules start (s ++ input) es Waits
-Leads old s es input (step.Refused r) new =
-    (new.refusal ≡ Some r) × After new s es × Refuses old.refusal old s es input r
+    × AfterGifts gifts new (s ++ take used input) (es ++ (at, event_of e) ∷ [])
+LeadsAfter gifts old s es input (step.More used) new =
+    (used ≡ length input) × (new.refusal ≡ None) × AfterGifts gifts new (s ++ input) es
+    × Says new.rules (start_with gifts) (s ++ input) es Waits
+LeadsAfter gifts old s es input (step.Refused r) new =
+    (new.refusal ≡ Some r) × AfterGifts gifts new s es × Refuses old.refusal gifts old s es input r
+
+-- the same where nothing was given
+abbrev pub Leads : StreamState → List ℕ → List (ℕ × Event) → List ℕ → Step → StreamState → Type 0
+Leads old s es input x new = LeadsAfter [] old s es input x new
 
 -- how many bytes of the input a call uses
 abbrev pub Uses : List ℕ → Step → Type 0
@@ -113,9 +127,11 @@ abbrev pub Repeats : Option Refusal → StreamState → Step → StreamState →
 Repeats (Some r) old x new = (x ≡ step.Refused r) × (new ≡ old)
 Repeats None old x new = ⊤
 
--- the same of any stream that led here
+-- the same of any gifts and any stream that led here
 abbrev pub LeadsOn : StreamState → List ℕ → Step → StreamState → Type 0
-LeadsOn old input x new = (s : List ℕ) (es : List (ℕ × Event)) → After old s es → Leads old s es input x new
+LeadsOn old input x new =
+    (gifts : Gifts) (s : List ℕ) (es : List (ℕ × Event))
+    → AfterGifts gifts old s es → LeadsAfter gifts old s es input x new
 
 -- What a call answers.
 abbrev pub Answers : StreamState → List ℕ → Step → StreamState → Type 0
@@ -135,9 +151,9 @@ FinishesBy None s es (finish.Refused r) = ⊥
 abbrev pub Finishes : StreamState → List ℕ → List (ℕ × Event) → Finish → Type 0
 Finishes d s es f = FinishesBy d.refusal s es f
 
--- any stream that led here ends so
+-- any stream that led here ends so, whatever was given
 abbrev pub EndsAs : StreamState → Finish → Type 0
-EndsAs d f = (s : List ℕ) (es : List (ℕ × Event)) → After d s es → Finishes d s es f
+EndsAs d f = (gifts : Gifts) (s : List ℕ) (es : List (ℕ × Event)) → AfterGifts gifts d s es → Finishes d s es f
 
 -- ---- what is held
 
