@@ -37,22 +37,22 @@ use Rattle.cqlp_decode.specs.declared.standing.StreamStanding.{StreamStanding}
 use Rattle.cqlp_decode.specs.declared.advance.EventAdvance.TheVariants as advance
 use Rattle.cqlp_decode.specs.declared.advance.EventOutline.TheVariants as what
 use Rattle.cqlp_decode.specs.Reading as reading
-use Rattle.cqlp_decode.specs.Reading.{Place, step, cell_event, cells_left, place_of_cells}
-use Rattle.cqlp_decode.specs.Pages.{cell_symbol, page_symbols, cells_after, types_left, node_by}
+use Rattle.cqlp_decode.specs.Reading.{Given, Place, step, cell_event, cells_left, place_of_cells}
+use Rattle.cqlp_decode.specs.Pages.{given_of, cell_symbol, page_symbols, cells_after, types_left, node_by}
 use Rattle.cqlp_decode.specs.declared.advance.EventAdvance.{EventAdvance}
-use Rattle.cqlp_decode.specs.Standing.{StreamState, IsPending, PartsState, parts, state_of, place_at, offset_at, symbols_at, rest_of, said, Waits, Hands, Moves, IsLent, due_after, frame_after, ends_due, IsCell, IsConsistent, StageHolds, Starts}
+use Rattle.cqlp_decode.specs.Standing.{StreamState, IsPending, PartsState, parts, nodes_of, state_of, place_at, offset_at, symbols_at, rest_of, said, Waits, Hands, Moves, IsLent, due_after, frame_after, ends_due, IsCell, IsConsistent, StageHolds, Starts}
 use Rattle.cqlp_decode.proofs.Steps.{begun, one_due, offset_is}
 use Rattle.cqlp_decode.proofs.FieldSteps.{goes_on_lawful}
 use Rattle.cqlp_decode.proofs.Columns.{FirstColumn, first_column, page_begun, page_due}
 
 -- the step of a cell under way, or of one that has just begun, is that of what is left of it
-alike : (l : Rules) (nodes : List Node) (d : CellState) (n : NextInCell) (row column stop : ℕ) (k : Kind) (inner : Types) (rest : List Symbol) → ((i : Option ℕ) → n ≡ next.Cell i → (place nodes d).symbols ≡ Value_of k inner 0 stop ∷ [])
-    → let here : Place = place_at d.offset stop (cell_symbol n row column k inner (place nodes d).symbols ∷ rest) nodes in
+alike : (l : Rules) (nodes : List Node) (d : CellState) (n : NextInCell) (row column stop : ℕ) (k : Kind) (inner : Types) (rest : List Symbol) (others : List Node) (held : Given) → ((i : Option ℕ) → n ≡ next.Cell i → (place nodes d).symbols ≡ Value_of k inner 0 stop ∷ [])
+    → let here : Place = place_at d.offset stop (cell_symbol n row column k inner (place nodes d).symbols ∷ rest) others held in
     step l here ≡ map_step (cell_event row column) (place_of_cells row column here rest) (cell_step l (place nodes d))
-alike l nodes d (next.Cell i) row column stop k inner rest due = rw (due i refl) refl
-alike l nodes d next.Nothing row column stop k inner rest due = refl
-alike l nodes d next.Items row column stop k inner rest due = refl
-alike l nodes d (next.Part offset total) row column stop k inner rest due = refl
+alike l nodes d (next.Cell i) row column stop k inner rest others held due = rw (due i refl) refl
+alike l nodes d next.Nothing row column stop k inner rest others held due = refl
+alike l nodes d next.Items row column stop k inner rest others held due = refl
+alike l nodes d (next.Part offset total) row column stop k inner rest others held due = refl
 
 -- an event of a cell is no end
 no_end : (row column : ℕ) (e : CellEvent) → due_after (cell_event row column e) ≡ 1
@@ -101,60 +101,66 @@ under_way_still : (nodes : List Node) (depth : ℕ) (d : CellState) (p : CellCur
 under_way_still nodes depth d p f behind some rest = rw f.is (still_by d.next p.row p.column f.first f.inner (place nodes d).symbols _ behind some)
 
 module _ (s : StreamStanding) (q : PartsState) (p : CellCursor) (here : s.stage ≡ stage.InCell p) (c : IsCell s q p) (rules : q.cells.rules ≡ rules_of s.limits) where
-  abbrev rest : List Symbol
-  rest = cells_after q.table.nodes p ++ rest_of s.upcoming
+  abbrev typed : List Node
+  typed = nodes_of q p.columns
 
-  abbrev column : FirstColumn q.table.nodes s.limits.depth p.columns p.column p.index
-  column = first_column q.table.nodes s.limits.depth p.columns p.column p.index c.page.0
+  abbrev held : Given
+  held = given_of s.given_use q.given
+
+  abbrev rest : List Symbol
+  rest = cells_after typed p ++ rest_of s.upcoming
+
+  abbrev column : FirstColumn typed s.limits.depth p.columns p.column p.index
+  column = first_column typed s.limits.depth p.columns p.column p.index c.page.0
 
   abbrev stands : Place
-  stands = place_at q.cells.offset s.stop (cell_symbol q.cells.next p.row p.column column.first column.inner (place q.table.nodes q.cells).symbols ∷ rest) q.table.nodes
+  stands = place_at q.cells.offset s.stop (cell_symbol q.cells.next p.row p.column column.first column.inner (place typed q.cells).symbols ∷ rest) q.table.nodes held
 
-  due_now : (i : Option ℕ) → q.cells.next ≡ next.Cell i → (place q.table.nodes q.cells).symbols ≡ Value_of column.first column.inner 0 s.stop ∷ []
+  due_now : (i : Option ℕ) → q.cells.next ≡ next.Cell i → (place typed q.cells).symbols ≡ Value_of column.first column.inner 0 s.stop ∷ []
   due_now i is = rw (is, c.is i is, c.stop) (column.symbols s.stop)
 
   place_is : (state_of s q).place ≡ stands
   place_is = rw (here, column.is) refl
 
-  told_is : (bytes : List ℕ) → said (state_of s q) bytes ≡ map_said (cell_event p.row p.column) (place_of_cells p.row p.column stands rest) (taking.step_says q.table.nodes q.cells bytes)
+  told_is : (bytes : List ℕ) → said (state_of s q) bytes ≡ map_said (cell_event p.row p.column) (place_of_cells p.row p.column stands rest) (taking.step_says typed q.cells bytes)
   told_is bytes =
       ap (λ (z : Place). says (step (rules_of s.limits) z) 0 bytes) place_is
-      ∙ ap (λ z. says z 0 bytes) (alike (rules_of s.limits) q.table.nodes q.cells q.cells.next p.row p.column s.stop column.first column.inner rest due_now)
-      ∙ says_map (cell_event p.row p.column) (place_of_cells p.row p.column stands rest) (cell_step (rules_of s.limits) (place q.table.nodes q.cells)) 0 bytes
-      ∙ ap (λ z. map_said (cell_event p.row p.column) (place_of_cells p.row p.column stands rest) z) (rw (← rules) (sym (cell_told_is q.table.nodes q.cells bytes)))
+      ∙ ap (λ z. says z 0 bytes) (alike (rules_of s.limits) typed q.cells q.cells.next p.row p.column s.stop column.first column.inner rest q.table.nodes held due_now)
+      ∙ says_map (cell_event p.row p.column) (place_of_cells p.row p.column stands rest) (cell_step (rules_of s.limits) (place typed q.cells)) 0 bytes
+      ∙ ap (λ z. map_said (cell_event p.row p.column) (place_of_cells p.row p.column stands rest) z) (rw (← rules) (sym (cell_told_is typed q.cells bytes)))
 
   come_is : (b : List ℕ) → IsPending (state_of s q).pending b → HaveCome b q.cells.under q.partial.seen
   come_is b is = rw here at is
 
   came : (b : List ℕ) × HaveCome b q.cells.under q.partial.seen
-  came = some_come q.table.nodes q.cells q.partial c.joined
+  came = some_come typed q.cells q.partial c.joined
 
-  pub cell_waits : (input : List ℕ) (used : ℕ) (d : CellState) (p' : FieldState) → taking.Moves q.table.nodes q.cells q.partial input (cell_advance.More used) d p' → Waits (state_of s q) input used (state_of s (parts p' q.types d q.table))
+  pub cell_waits : (input : List ℕ) (used : ℕ) (d : CellState) (p' : FieldState) → taking.Moves typed q.cells q.partial input (cell_advance.More used) d p' → Waits (state_of s q) input used (state_of s (parts p' q.types d q.table q.given))
   cell_waits input used d p' m =
       let same = (m came.0 came.1).0.same in
       record {
         all = (m came.0 came.1).0.all;
-        place = rw here (λ j. place_at (ap (λ (z : CellState). z.offset) same j) s.stop (ap (λ (z : CellState). page_symbols q.table.nodes z p) same j ++ rest_of s.upcoming) q.table.nodes);
+        place = rw here (λ j. place_at (ap (λ (z : CellState). z.offset) same j) s.stop (ap (λ (z : CellState). page_symbols typed z p) same j ++ rest_of s.upcoming) q.table.nodes held);
         frame = refl;
         waits = λ b is.
             let w = m b (come_is b is) in
             (told_is (b ++ input) ∙ ap (λ z. map_said (cell_event p.row p.column) (place_of_cells p.row p.column stands rest) z) w.0.is, rw here w.1);
       }
 
-  pub cell_fails : (input : List ℕ) (r : Refusal) (d : CellState) (p' : FieldState) → taking.Moves q.table.nodes q.cells q.partial input (cell_advance.Refused r) d p'
+  pub cell_fails : (input : List ℕ) (r : Refusal) (d : CellState) (p' : FieldState) → taking.Moves typed q.cells q.partial input (cell_advance.Refused r) d p'
       → (b : List ℕ) → IsPending (state_of s q).pending b → said (state_of s q) (b ++ input) ≡ Bad (r.at, r.why)
   cell_fails input r d p' m b is = told_is (b ++ input) ∙ ap (λ z. map_said (cell_event p.row p.column) (place_of_cells p.row p.column stands rest) z) (m b (come_is b is)).is
 
-  module _ (input : List ℕ) (at used : ℕ) (i : CellOutline) (d : CellState) (p' : FieldState) (m : taking.Moves q.table.nodes q.cells q.partial input (cell_advance.Item at used i) d p') where
+  module _ (input : List ℕ) (at used : ℕ) (i : CellOutline) (d : CellState) (p' : FieldState) (m : taking.Moves typed q.cells q.partial input (cell_advance.Item at used i) d p') where
     abbrev event : (held : List ℕ) → reading.Event
     event held = cell_event p.row p.column (cell_event_at i input held)
 
-    abbrev one : (b : List ℕ) → HaveCome b q.cells.under q.partial.seen → taking.Hands q.table.nodes q.cells q.partial input (taking.step_says q.table.nodes q.cells (b ++ input)) (length b) at used i d p'
+    abbrev one : (b : List ℕ) → HaveCome b q.cells.under q.partial.seen → taking.Hands typed q.cells q.partial input (taking.step_says typed q.cells (b ++ input)) (length b) at used i d p'
     one b come = m b come
 
     -- the place that the decoder stands at then
-    module _ (e : StreamStanding) (q' : PartsState) (content : q'.partial.content ≡ p'.content) (nodes : q'.table.nodes ≡ q.table.nodes) (offset : offset_at e.stage e.offset q' ≡ d.offset) (stop : e.stop ≡ s.stop) (frame : e.frame ≡ s.frame)
-        (symbols : symbols_at e.stage q' e.upcoming ≡ cells_left p.row p.column (place q.table.nodes d).symbols ++ rest) (fresh : IsPending (state_of e q').pending []) (due : ends_due (symbols_at e.stage q' e.upcoming) ≡ 1)
+    module _ (e : StreamStanding) (q' : PartsState) (content : q'.partial.content ≡ p'.content) (nodes : q'.table.nodes ≡ q.table.nodes) (given : given_of e.given_use q'.given ≡ held) (offset : offset_at e.stage e.offset q' ≡ d.offset) (stop : e.stop ≡ s.stop) (frame : e.frame ≡ s.frame)
+        (symbols : symbols_at e.stage q' e.upcoming ≡ cells_left p.row p.column (place typed d).symbols ++ rest) (fresh : IsPending (state_of e q').pending []) (due : ends_due (symbols_at e.stage q' e.upcoming) ≡ 1)
         (open_values : length q'.cells.open_values ≤ length d.open_values) where
       pub cell_hands : Moves (state_of s q) input (advance.Event at used (what.Cell p.row p.column i)) (state_of e q')
       cell_hands =
@@ -164,7 +170,7 @@ module _ (s : StreamStanding) (q : PartsState) (p : CellCursor) (here : s.stage 
               within = h.within;
               begun = fresh;
               frame = frame ∙ sym (same_frame s.frame at p.row p.column (cell_event_at i input q'.partial.content));
-              lent = rw content (lent_is q.table.nodes p.row p.column used i input p'.content h.can_lend h.lent);
+              lent = rw content (lent_is typed p.row p.column used i input p'.content h.can_lend h.lent);
               gives = λ b is.
                   let g = one b (come_is b is) in
                   let x = g.emits.x in (
@@ -172,85 +178,92 @@ module _ (s : StreamStanding) (q : PartsState) (p : CellCursor) (here : s.stage 
                     told_is (b ++ input) ∙ ap (λ z. map_said (cell_event p.row p.column) (place_of_cells p.row p.column stands rest) z) g.emits.is,
                     g.emits.offset,
                     ap (cell_event p.row p.column) g.emits.event ∙ ap event (sym content),
-                    ap (λ (z : CellPlace). place_of_cells p.row p.column stands rest z) g.emits.after ∙ (λ j. place_at (sym offset j) (sym stop j) (sym symbols j) (sym nodes j)),
+                    ap (λ (z : CellPlace). place_of_cells p.row p.column stands rest z) g.emits.after ∙ (λ j. place_at (sym offset j) (sym stop j) (sym symbols j) (sym nodes j) (sym given j)),
                   );
               offset = λ b is. rw (offset, here) (one b (come_is b is)).onward;
+              gifts = refl;
               due = due ∙ sym (no_end p.row p.column (cell_event_at i input q'.partial.content));
               pays =
-                  let before : ends_due (state_of s q).place.symbols ≡ 1 = rw here (page_due q.table.nodes s.limits.depth q.cells p (rest_of s.upcoming) c.page.0) in
+                  let before : ends_due (state_of s q).place.symbols ≡ 1 = rw here (page_due typed s.limits.depth q.cells p (rest_of s.upcoming) c.page.0) in
                   rw (due, before) (omega (arith, h.pays, open_values));
             },
           )
 
     -- the cell goes on
     module _ (more : is_done d ≡ false) where
-      pub going_hands : Moves (state_of s q) input (advance.Event at used (what.Cell p.row p.column i)) (state_of s (parts p' q.types d q.table))
+      pub going_hands : Moves (state_of s q) input (advance.Event at used (what.Cell p.row p.column i)) (state_of s (parts p' q.types d q.table q.given))
       going_hands =
           let h = one came.0 came.1 in
-          let left : page_symbols q.table.nodes d p ++ rest_of s.upcoming ≡ cells_left p.row p.column (place q.table.nodes d).symbols ++ rest = under_way_still q.table.nodes s.limits.depth d p column h.goes_after (left_some q.table.nodes d h.stands h.goes_after more) (rest_of s.upcoming) in
-          cell_hands s (parts p' q.types d q.table) refl refl (rw here refl) refl refl (rw here left) (rw (here, h.fresh) refl) (rw here (page_due q.table.nodes s.limits.depth d p (rest_of s.upcoming) c.page.0)) (omega arith)
+          let left : page_symbols typed d p ++ rest_of s.upcoming ≡ cells_left p.row p.column (place typed d).symbols ++ rest = under_way_still typed s.limits.depth d p column h.goes_after (left_some typed d h.stands h.goes_after more) (rest_of s.upcoming) in
+          cell_hands s (parts p' q.types d q.table q.given) refl refl refl (rw here refl) refl refl (rw here left) (rw (here, h.fresh) refl) (rw here (page_due typed s.limits.depth d p (rest_of s.upcoming) c.page.0)) (omega arith)
 
     -- the cell is whole, and this is next
-    module _ (whole : is_done d ≡ true) (e : StreamStanding) (d' : CellState) (offset : e.offset ≡ d.offset) (stop : e.stop ≡ s.stop) (frame : e.frame ≡ s.frame) (zero : e.came ≡ 0) (symbols : symbols_at e.stage (parts p' q.types d' q.table) e.upcoming ≡ rest)
-        (starts : Starts e q.table.nodes e.stage) (none : d'.open_values ≡ []) where
-      pub ended_hands : Moves (state_of s q) input (advance.Event at used (what.Cell p.row p.column i)) (state_of e (parts p' q.types d' q.table))
+    module _ (whole : is_done d ≡ true) (e : StreamStanding) (d' : CellState) (offset : e.offset ≡ d.offset) (stop : e.stop ≡ s.stop) (frame : e.frame ≡ s.frame) (zero : e.came ≡ 0) (symbols : symbols_at e.stage (parts p' q.types d' q.table q.given) e.upcoming ≡ rest)
+        (starts : Starts e (parts p' q.types d' q.table q.given) e.stage) (none : d'.open_values ≡ []) (same_use : e.given_use ≡ s.given_use) where
+      pub ended_hands : Moves (state_of s q) input (advance.Event at used (what.Cell p.row p.column i)) (state_of e (parts p' q.types d' q.table q.given))
       ended_hands =
           let h = one came.0 came.1 in
-          let z : PartsState = parts p' q.types d' q.table in
-          cell_hands e z refl refl (offset_is e e.stage z starts ∙ offset) stop frame (rw (left_none q.table.nodes d whole) symbols) (begun e e.stage e.header e.came z starts zero h.idle) (one_due e e.stage z starts) (rw none (omega arith))
+          let z : PartsState = parts p' q.types d' q.table q.given in
+          cell_hands e z refl refl (λ j. given_of (same_use j) q.given) (offset_is e e.stage z starts ∙ offset) stop frame (rw (left_none typed d whole) symbols) (begun e e.stage e.header e.came z starts zero h.idle) (one_due e e.stage z starts) (rw none (omega arith))
 
   -- ---- what holds of the decoder then
 
-  cell_goes : (d : CellState) (p' : FieldState) → taking.Joined q.table.nodes d p' → value.Stands q.table.nodes d → is_under_way d ≡ true → is_done d ≡ false → ((n : Option ℕ) → d.next ≡ next.Cell n → n ≡ node_by p.columns p.index) → d.stop ≡ s.stop → s.offset ≤ d.offset → IsCell s (parts p' q.types d q.table) p
+  cell_goes : (d : CellState) (p' : FieldState) → taking.Joined typed d p' → value.Stands typed d → is_under_way d ≡ true → is_done d ≡ false → ((n : Option ℕ) → d.next ≡ next.Cell n → n ≡ node_by p.columns p.index) → d.stop ≡ s.stop → s.offset ≤ d.offset → IsCell s (parts p' q.types d q.table q.given) p
   cell_goes d p' joined stands under_way some is stop after = record { under_way = under_way; stands = stands; joined = joined; some = some; is = is; page = c.page; stop = stop; after = after; came = c.came }
 
   stage_there : (z : PartsState) → StageHolds s z (stage.InCell p) → StageHolds s z s.stage
   stage_there z h = subst (λ (t : StreamStage). StageHolds s z t) (sym here) h
 
-  pub cell_more_lawful : (input : List ℕ) (used : ℕ) (d : CellState) (p' : FieldState) → taking.Moves q.table.nodes q.cells q.partial input (cell_advance.More used) d p' → IsConsistent s q → IsConsistent s (parts p' q.types d q.table)
+  pub cell_more_lawful : (input : List ℕ) (used : ℕ) (d : CellState) (p' : FieldState) → taking.Moves typed q.cells q.partial input (cell_advance.More used) d p' → IsConsistent s q → IsConsistent s (parts p' q.types d q.table q.given)
   cell_more_lawful input used d p' m law =
       let h = (m came.0 came.1).0 in
       record {
         bounded = law.bounded;
-        parts = record { room = h.longest ∙ law.parts.room; rules = law.parts.rules; cells = ap (λ (z : CellState). z.rules) h.same ∙ law.parts.cells; table = law.parts.table };
-        stage = let stage = rw here at law.stage in stage_there (parts p' q.types d q.table) (cell_goes d p' h.joined (rw h.same (stands_under q.table.nodes q.cells d.under c.stands)) (ap (λ (z : CellState). is_under_way z) h.same ∙ c.under_way) (ap (λ (z : CellState). is_done z) h.same ∙ c.some) (λ n is. c.is n (sym (ap (λ (z : CellState). z.next) h.same) ∙ is)) (ap (λ (z : CellState). z.stop) h.same ∙ c.stop) (omega (arith, c.after, ap (λ (z : CellState). z.offset) h.same)), stage.1);
+        parts = record { room = h.longest ∙ law.parts.room; rules = law.parts.rules; cells = ap (λ (z : CellState). z.rules) h.same ∙ law.parts.cells; table = law.parts.table; few = law.parts.few };
+        stage = let stage = rw here at law.stage in stage_there (parts p' q.types d q.table q.given) (cell_goes d p' h.joined (rw h.same (stands_under typed q.cells d.under c.stands)) (ap (λ (z : CellState). is_under_way z) h.same ∙ c.under_way) (ap (λ (z : CellState). is_done z) h.same ∙ c.some) (λ n is. c.is n (sym (ap (λ (z : CellState). z.next) h.same) ∙ is)) (ap (λ (z : CellState). z.stop) h.same ∙ c.stop) (omega (arith, c.after, ap (λ (z : CellState). z.offset) h.same)), stage.1);
         quiet = record { types = law.quiet.types; cells = λ idle. let busy = ap (λ (z : CellState). is_under_way z) h.same ∙ c.under_way in cc };
         table = λ none. rw here (rw here at (law.table none));
+        given = law.given;
+        uses = law.uses;
       }
 
-  pub cell_refused_lawful : (input : List ℕ) (r : Refusal) (d : CellState) (p' : FieldState) → taking.Moves q.table.nodes q.cells q.partial input (cell_advance.Refused r) d p' → IsConsistent s q → IsConsistent (record s { stage = stage.Extra }) (parts p' q.types d q.table)
+  pub cell_refused_lawful : (input : List ℕ) (r : Refusal) (d : CellState) (p' : FieldState) → taking.Moves typed q.cells q.partial input (cell_advance.Refused r) d p' → IsConsistent s q → IsConsistent (record s { stage = stage.Extra }) (parts p' q.types d q.table q.given)
   cell_refused_lawful input r d p' m law =
       let h = m came.0 came.1 in
       let stage = rw here at law.stage in
       record {
         bounded = record { long = law.bounded.long; inside = law.bounded.inside; size = law.bounded.size; bound = law.bounded.bound };
-        parts = record { room = h.longest ∙ law.parts.room; rules = law.parts.rules; cells = rw h.ends law.parts.cells; table = law.parts.table };
+        parts = record { room = h.longest ∙ law.parts.room; rules = law.parts.rules; cells = rw h.ends law.parts.cells; table = law.parts.table; few = law.parts.few };
         stage = (rw c.came (omega arith), record { field = h.idle; types = stage.1; cells = rw h.ends refl });
         quiet = record { types = law.quiet.types; cells = λ idle. rw h.ends refl };
         table = λ none. rw here at (law.table none);
+        given = law.given;
+        uses = tt;
       }
 
-  module _ (input : List ℕ) (at used : ℕ) (i : CellOutline) (d : CellState) (p' : FieldState) (m : taking.Moves q.table.nodes q.cells q.partial input (cell_advance.Item at used i) d p') (law : IsConsistent s q) where
-    abbrev this : taking.Hands q.table.nodes q.cells q.partial input (taking.step_says q.table.nodes q.cells (came.0 ++ input)) (length came.0) at used i d p'
+  module _ (input : List ℕ) (at used : ℕ) (i : CellOutline) (d : CellState) (p' : FieldState) (m : taking.Moves typed q.cells q.partial input (cell_advance.Item at used i) d p') (law : IsConsistent s q) where
+    abbrev this : taking.Hands typed q.cells q.partial input (taking.step_says typed q.cells (came.0 ++ input)) (length came.0) at used i d p'
     this = m came.0 came.1
 
     not_due : (n : Option ℕ) → d.next ≡ next.Cell n → n ≡ node_by p.columns p.index
     not_due n is = absurd (rw is at this.goes_after)
 
     pub cell_inside : d.offset ≤ s.stop
-    cell_inside = omega (arith, stop_is q.table.nodes d this.stands, this.stop, c.stop)
+    cell_inside = omega (arith, stop_is typed d this.stands, this.stop, c.stop)
 
-    pub cell_going_lawful : is_done d ≡ false → IsConsistent s (parts p' q.types d q.table)
+    pub cell_going_lawful : is_done d ≡ false → IsConsistent s (parts p' q.types d q.table q.given)
     cell_going_lawful more = record {
       bounded = law.bounded;
-      parts = record { room = this.longest ∙ law.parts.room; rules = law.parts.rules; cells = this.rules ∙ law.parts.cells; table = law.parts.table };
-      stage = let stage = rw here at law.stage in stage_there (parts p' q.types d q.table) (cell_goes d p' (record { longest = rw (this.rules, this.longest) c.joined.longest; under_way = rw this.fresh this.idle }) this.stands this.goes_on more not_due (this.stop ∙ c.stop) (omega (arith, c.after, this.onward)), stage.1);
+      parts = record { room = this.longest ∙ law.parts.room; rules = law.parts.rules; cells = this.rules ∙ law.parts.cells; table = law.parts.table; few = law.parts.few };
+      stage = let stage = rw here at law.stage in stage_there (parts p' q.types d q.table q.given) (cell_goes d p' (record { longest = rw (this.rules, this.longest) c.joined.longest; under_way = rw this.fresh this.idle }) this.stands this.goes_on more not_due (this.stop ∙ c.stop) (omega (arith, c.after, this.onward)), stage.1);
       quiet = record { types = law.quiet.types; cells = λ idle. let busy = this.goes_on in cc };
       table = λ none. rw here (rw here at (law.table none));
+      given = law.given;
+      uses = law.uses;
     }
 
-    pub cell_ended_lawful : (e : StreamStanding) (d' : CellState) → e.offset ≡ d.offset → e.stop ≡ s.stop → e.limits ≡ s.limits → e.header ≡ s.header → e.came ≡ s.came → d'.rules ≡ d.rules → Forest q.table.nodes 0 s.limits.depth → is_under_way d' ≡ false → d'.open_values ≡ [] → Starts e q.table.nodes e.stage
-        → IsConsistent e (parts p' q.types d' q.table)
+    pub cell_ended_lawful : (e : StreamStanding) (d' : CellState) → e.offset ≡ d.offset → e.stop ≡ s.stop → e.limits ≡ s.limits → e.header ≡ s.header → e.came ≡ s.came → d'.rules ≡ d.rules → Forest q.table.nodes 0 s.limits.depth → is_under_way d' ≡ false → d'.open_values ≡ [] → Starts e (parts p' q.types d' q.table q.given) e.stage
+        → IsConsistent e (parts p' q.types d' q.table q.given)
     cell_ended_lawful e d' offset stop limits header same rules_are forest idle none starts =
         let n : ℕ = d.offset - s.offset in
         let after : s.offset ≤ d.offset = omega (arith, c.after, this.onward) in
@@ -275,6 +288,7 @@ begun_moves d d' input new rules place frame pending fewer (advance.Event at use
         lent = h.lent;
         gives = λ b is. let g = h.gives b (pending b is) in (g.0, (λ i. says (step (rules i) (sym place i)) 0 (b ++ input)) ∙ g.1, g.2, g.3, g.4);
         offset = λ b is. rw (← place) (h.offset b (pending b is));
+        gifts = h.gifts;
         due = h.due;
         pays = rw (← place) (omega (arith, h.pays, fewer));
       },
@@ -284,19 +298,22 @@ begun_moves d d' input new rules place frame pending fewer (advance.Refused r) m
 -- ---- a cell begins
 
 module _ (s : StreamStanding) (q : PartsState) (p : CellCursor) (here : s.stage ≡ stage.BeforeCell p) where
+  abbrev typed_by : List Node
+  typed_by = nodes_of q p.columns
+
   abbrev begins : StreamStanding
   begins = record s { stage = stage.InCell p }
 
   abbrev beside : PartsState
-  beside = parts q.partial q.types (begun_at q.cells (node_by p.columns p.index) s.offset s.stop) q.table
+  beside = parts q.partial q.types (begun_at q.cells (node_by p.columns p.index) s.offset s.stop) q.table q.given
 
   pub cell_begun_lawful : IsConsistent s q → s.refusal ≡ None → IsConsistent begins beside
   cell_begun_lawful law unrefused =
       let stage = rw here at law.stage in
-      let f = first_column q.table.nodes s.limits.depth p.columns p.column p.index stage.0.0 in
+      let f = first_column typed_by s.limits.depth p.columns p.column p.index stage.0.0 in
       record {
         bounded = record { long = law.bounded.long; inside = law.bounded.inside; size = law.bounded.size; bound = law.bounded.bound };
-        parts = record { room = law.parts.room; rules = law.parts.rules; cells = law.parts.cells; table = law.parts.table };
+        parts = record { room = law.parts.room; rules = law.parts.rules; cells = law.parts.cells; table = law.parts.table; few = law.parts.few };
         stage = (
           record {
             under_way = refl;
@@ -318,13 +335,15 @@ module _ (s : StreamStanding) (q : PartsState) (p : CellCursor) (here : s.stage 
         );
         quiet = record { types = law.quiet.types; cells = λ _. refl };
         table = λ none. rw here at (law.table unrefused);
+        given = law.given;
+        uses = rw here at law.uses;
       }
 
   -- a cell that has just begun is read as one that is due
   pub cell_begun_moves : (input : List ℕ) (a : EventAdvance) (new : StreamState) → IsConsistent s q → Moves (state_of begins beside) input a new → Moves (state_of s q) input a new
   cell_begun_moves input a new law m =
       let stage = rw here at law.stage in
-      let place : (state_of begins beside).place ≡ (state_of s q).place = rw here (ap (λ (z : List Symbol). place_at s.offset s.stop (z ++ rest_of s.upcoming) q.table.nodes) (page_begun q.table.nodes s.limits.depth (begun_at q.cells (node_by p.columns p.index) s.offset s.stop) p (node_by p.columns p.index) refl stage.0.0)) in
+      let place : (state_of begins beside).place ≡ (state_of s q).place = rw here (ap (λ (z : List Symbol). place_at s.offset s.stop (z ++ rest_of s.upcoming) q.table.nodes (given_of s.given_use q.given)) (page_begun typed_by s.limits.depth (begun_at q.cells (node_by p.columns p.index) s.offset s.stop) p (node_by p.columns p.index) refl stage.0.0)) in
       let pending : (b : List ℕ) → IsPending (state_of s q).pending b → IsPending (state_of begins beside).pending b = λ b is. rw here at is in
       begun_moves (state_of begins beside) (state_of s q) input new refl place refl pending (omega arith) a m
 
@@ -334,14 +353,14 @@ nothing_held (x ∷ xs) le = absurd (omega (arith, le))
 
 -- ---- a scalar that is a cell, whose bytes are all there
 
-module _ (s : StreamStanding) (q : PartsState) (p : CellCursor) (here : s.stage ≡ stage.BeforeCell p) (law : IsConsistent s q) (unrefused : s.refusal ≡ None) (input : List ℕ) (used : ℕ) (k : Kind) (inner others : Types) (v : ScalarValue) (is : types_left q.table.nodes p ≡ Type_and k inner others)
-    (front : SaysScalar (rules_of s.limits) k (s.stop - s.offset) input used v) (empty : q.partial.content ≡ []) (e : StreamStanding) (symbols : symbols_at e.stage q e.upcoming ≡ cells_after q.table.nodes p ++ rest_of s.upcoming)
-    (starts : Starts e q.table.nodes e.stage) (offset : e.offset ≡ s.offset + used) (stop : e.stop ≡ s.stop) (frame : e.frame ≡ s.frame) (came : e.came ≡ s.came) where
+module _ (s : StreamStanding) (q : PartsState) (p : CellCursor) (here : s.stage ≡ stage.BeforeCell p) (law : IsConsistent s q) (unrefused : s.refusal ≡ None) (input : List ℕ) (used : ℕ) (k : Kind) (inner others : Types) (v : ScalarValue) (is : types_left (nodes_of q p.columns) p ≡ Type_and k inner others)
+    (front : SaysScalar (rules_of s.limits) k (s.stop - s.offset) input used v) (empty : q.partial.content ≡ []) (e : StreamStanding) (symbols : symbols_at e.stage q e.upcoming ≡ cells_after (nodes_of q p.columns) p ++ rest_of s.upcoming)
+    (starts : Starts e q e.stage) (same_use : e.given_use ≡ s.given_use) (offset : e.offset ≡ s.offset + used) (stop : e.stop ≡ s.stop) (frame : e.frame ≡ s.frame) (came : e.came ≡ s.came) where
   abbrev there : List Symbol
-  there = cells_after q.table.nodes p ++ rest_of s.upcoming
+  there = cells_after (nodes_of q p.columns) p ++ rest_of s.upcoming
 
   abbrev due_place : Place
-  due_place = place_at s.offset s.stop (Cell_due p.row p.column k inner ∷ there) q.table.nodes
+  due_place = place_at s.offset s.stop (Cell_due p.row p.column k inner ∷ there) q.table.nodes (given_of s.given_use q.given)
 
   place_due : (state_of s q).place ≡ due_place
   place_due = rw (here, is) refl
@@ -371,9 +390,10 @@ module _ (s : StreamStanding) (q : PartsState) (p : CellCursor) (here : s.stage 
               scalar_said input ∙ ap (λ z. map_said (cell_event p.row p.column) (place_of_cells p.row p.column due_place there) z) (front.is (record { offset = s.offset; symbols = Value_of k inner 0 s.stop ∷ [] }) [] inner 0),
               refl,
               refl,
-              λ j. place_at (sym at j) (sym stop j) (sym symbols j) q.table.nodes,
+              λ j. place_at (sym at j) (sym stop j) (sym symbols j) q.table.nodes (given_of (sym same_use j) q.given),
             );
         offset = λ b pending. let none : b ≡ [] = rw here at pending in let count : 0 + used ≡ used = omega arith in rw (none, count, at, here) refl;
+        gifts = refl;
         due = one_due e e.stage q starts;
         pays =
             let before : ends_due (state_of s q).place.symbols ≡ 1 = ap (λ (z : Place). ends_due z.symbols) place_due in

@@ -1,7 +1,9 @@
 -- The cells of a page, one after the other.
-use Rattle.std.proofs.Common.{◌≡◌, ℕ, zero, suc, ◌+◌, ◌-◌, ◌<◌, ◌≤◌, ◌^◌, List, [], ◌∷◌, ◌++◌, length, drop, refl, sym, ap, ◌∙◌, arith}
-use Rattle.std.specs.Prelude.{Option, Some, None, Bool}
+use Rattle.std.proofs.Common.{◌≡◌, ℕ, zero, suc, ◌+◌, ◌-◌, ◌<◌, ◌≤◌, ◌^◌, true, false, List, [], ◌∷◌, ◌++◌, length, drop, refl, sym, ap, subst, ◌∙◌, arith}
+use Rattle.std.specs.Prelude.{Option, Some, None, Bool, nat_eq}
 use Rattle.cqlp_note.specs.Limits.{Rules}
+use Rattle.cqlp_note.specs.declared.limits.Limits.{Limits}
+use Rattle.cqlp_note.specs.Heading.{has}
 use Rattle.cqlp_note.specs.Field.{FieldValue}
 use Rattle.cqlp_kind.specs.declared.kind.Kind.{Kind}
 use Rattle.cqlp_kind.specs.declared.kind.Kind.TheVariants as kind
@@ -11,6 +13,8 @@ use Rattle.cqlp_cell.specs.declared.standing.NextInCell.{NextInCell}
 use Rattle.cqlp_cell.specs.declared.standing.NextInCell.TheVariants as next
 use Rattle.cqlp_kind.specs.CellStep.{CellSymbol, Value_of, values_of}
 use Rattle.cqlp_type.specs.Forests.{Forest}
+use Rattle.cqlp_type.specs.Table.{Table, beginnings}
+use Rattle.cqlp_type.proofs.WholeTables.{whole_roots, forest_whole}
 use Rattle.cqlp_cell.specs.Standing.{CellState, place, cell_symbols, CellStands}
 use Rattle.cqlp_type.proofs.Columns.{Column, forest_first, forest_end}
 use Rattle.cqlp_grammar.specs.declared.grammar.Role.{Role}
@@ -20,10 +24,11 @@ use Rattle.cqlp_grammar.proofs.Stack.{rows_none}
 use Rattle.cqlp_decode.specs.declared.page.Columns.{Columns}
 use Rattle.cqlp_decode.specs.declared.page.Columns.TheVariants as columns
 use Rattle.cqlp_decode.specs.declared.page.CellCursor.{CellCursor}
-use Rattle.cqlp_decode.specs.Pages.{column_types, types_from, node_by, cell_symbol, cells_from, page_symbols, IsColumn, IsPage, NextColumn, Turns, Begins, Follows}
-use Rattle.cqlp_decode.specs.Reading as reading
-use Rattle.cqlp_decode.specs.Reading.{page_types}
-use Rattle.cqlp_decode.specs.Standing.{ends_due}
+use Rattle.cqlp_decode.specs.declared.given.GivenUse.{GivenUse}
+use Rattle.cqlp_decode.specs.declared.given.GivenUse.TheVariants as uses
+use Rattle.cqlp_decode.specs.Pages.{column_types, types_from, node_by, cell_symbol, cells_from, page_symbols, given_of, use_after, page_nodes, IsColumn, IsPage, NextColumn, Turns, Begins, Follows, AreColumns, HoldsForest}
+use Rattle.cqlp_decode.specs.Reading.{Nothing, Waiting, InUse, Used, serves, serves_after, given_after, given_types}
+use Rattle.cqlp_decode.specs.Standing.{ends_due, HoldsGiven}
 
 -- The column of a cell: its type is the first of those left, and stands in the table.
 pub record FirstColumn (nodes : List Node) (depth : ℕ) (c : Columns) (column index : ℕ) : Type 0 where
@@ -41,6 +46,16 @@ raw_left n column lt =
 
 pub first_column : (nodes : List Node) (depth : ℕ) (c : Columns) (column index : ℕ) → IsColumn nodes depth c column index → FirstColumn nodes depth c column index
 first_column nodes depth columns.Typed column index h =
+    let f = forest_first nodes index depth h.2 h.0 in
+    record {
+      first = f.x.kind;
+      inner = f.inner;
+      others = f.others;
+      is = f.is;
+      stands = λ l same. rw same f.stands;
+      symbols = λ stop. ap (λ (ts : Types). values_of ts 0 stop) f.one;
+    }
+first_column nodes depth columns.Given column index h =
     let f = forest_first nodes index depth h.2 h.0 in
     record {
       first = f.x.kind;
@@ -106,6 +121,7 @@ some_raw (suc n) some = omega arith
 
 first_there : (nodes : List Node) (depth : ℕ) (c : Columns) → Forest nodes 0 depth → (column_types nodes c ≡ NoMore → ⊥) → (types_from nodes c 0 0 ≡ column_types nodes c) × IsColumn nodes depth c 0 0
 first_there nodes depth columns.Typed f some = (refl, (some_nodes nodes some, omega arith, f, f))
+first_there nodes depth columns.Given f some = (refl, (some_nodes nodes some, omega arith, f, f))
 first_there nodes depth (columns.Raw n) f some = let e : n - 0 ≡ n = omega arith in (ap raw_types e, some_raw n some)
 
 pub first_some : (nodes : List Node) (depth : ℕ) (c : Columns) (rows : ℕ) → Forest nodes 0 depth → (rows ≡ 0 → ⊥) → rows < 2 ^ 32 → (column_types nodes c ≡ NoMore → ⊥) → Begins nodes depth c rows (Some (record { columns = c; row = 0; column = 0; index = 0; left = rows - 1 }))
@@ -113,7 +129,7 @@ first_some nodes depth c zero f rows few some = absurd (rows refl)
 first_some nodes depth c (suc n) f rows few some =
     let h = first_there nodes depth c f some in
     let e : suc n - 1 ≡ n = omega arith in
-    (rw (e, h.0) refl, (h.1, omega (arith, few)))
+    (rw (e, h.0) refl, (h.1, omega (arith, few)), refl)
 
 -- the column after one of a known type
 module _ (nodes : List Node) (depth index column : ℕ) (h : IsColumn nodes depth columns.Typed column index) where
@@ -142,27 +158,95 @@ last_raw n column lt le =
 -- the first column of the next row
 next_row : (nodes : List Node) (depth : ℕ) (c : Columns) (column index : ℕ) → IsColumn nodes depth c column index → (types_from nodes c 0 0 ≡ column_types nodes c) × IsColumn nodes depth c 0 0
 next_row nodes depth columns.Typed column index h = (refl, (omega (arith, h.0), omega arith, h.3, h.3))
+next_row nodes depth columns.Given column index h = (refl, (omega (arith, h.0), omega arith, h.3, h.3))
 next_row nodes depth (columns.Raw n) column index h = let e : n - 0 ≡ n = omega arith in (ap raw_types e, omega (arith, h))
 
 module _ (nodes : List Node) (depth : ℕ) (p : CellCursor) (h : IsPage nodes depth p) where
   pub turns_column : (i : ℕ) → NextColumn nodes depth p (Some i) → Turns nodes depth p (Some (record p { column = p.column + 1; index = i }))
-  turns_column i n = (rw n.0 refl, (n.1, h.1))
+  turns_column i n = (rw n.0 refl, (n.1, h.1), refl)
 
   pub turns_row : NextColumn nodes depth p None → (p.left ≡ 0 → ⊥) → Turns nodes depth p (Some (record p { row = p.row + 1; column = 0; index = 0; left = p.left - 1 }))
   turns_row n some =
       let first = next_row nodes depth p.columns p.column p.index h.0 in
       let e : p.left ≡ suc (p.left - 1) = omega (arith, λ (z : p.left ≡ 0). some z) in
-      (rw (n, first.0) (ap (λ (k : ℕ). rows_from (p.row + 1) (column_types nodes p.columns) k) e), (first.1, omega (arith, h.1, e)))
+      (rw (n, first.0) (ap (λ (k : ℕ). rows_from (p.row + 1) (column_types nodes p.columns) k) e), (first.1, omega (arith, h.1, e)), refl)
 
   pub turns_over : NextColumn nodes depth p None → p.left ≡ 0 → Turns nodes depth p None
   turns_over n none = rw (n, none) refl
 
--- what follows a field but the number of a page's rows is no page
-pub page_there : (nodes : List Node) (depth : ℕ) (types : Bool) (flags columns rows : ℕ) (v : FieldValue) (c : Columns) (o : Option CellCursor) → number_in v ≡ rows → page_types types flags columns nodes reading.Nothing ≡ column_types nodes c → Begins nodes depth c rows o
-    → Follows nodes depth types (role.PageRows flags columns) v o
-page_there nodes depth types flags columns rows v c None many same h = rw (same, many) (h ∙ sym (rows_none 0 rows))
-page_there nodes depth types flags columns rows v c (Some p) many same h = (rw (same, many) h.0, h.1)
+-- ---- the page after a field
 
-pub no_page : (nodes : List Node) (depth : ℕ) (types : Bool) (r : Role) (v : FieldValue) → ((flags columns : ℕ) → r ≡ role.PageRows flags columns → ⊥) → Follows nodes depth types r v None
-no_page nodes depth types (role.PageRows flags columns) v other = absurd (other flags columns refl)
-no_page nodes depth types r v other = refl
+-- the types of a table that was given and serves a page
+served_types : (flags n : ℕ) (nodes : List Node) (u : GivenUse) (g : Option Table) → true ≡ serves flags n (given_of u g) → given_types (given_of u g) ≡ types_of (page_nodes columns.Given nodes g)
+served_types flags n nodes u None is = absurd cc
+served_types flags n nodes uses.Waiting (Some t) is = refl
+served_types flags n nodes uses.InUse (Some t) is = refl
+served_types flags n nodes uses.Used (Some t) is = refl
+
+pub columns_given : (flags n : ℕ) → AreColumns true flags n true columns.Given
+columns_given flags n nodes g u is = (rw (← is) (served_types flags n nodes u g is), λ _. refl)
+
+pub columns_typed : (flags n : ℕ) → has flags 0x04 ≡ false → AreColumns true flags n false columns.Typed
+columns_typed flags n some nodes g u is = (rw (← is, some) refl, λ e. absurd cc)
+
+pub columns_raw : (flags n : ℕ) → has flags 0x04 ≡ true → AreColumns true flags n false (columns.Raw n)
+columns_raw flags n none nodes g u is = (rw (← is, none) refl, λ e. absurd cc)
+
+pub columns_off : (flags n : ℕ) (served : Bool) → AreColumns false flags n served (columns.Raw n)
+columns_off flags n served nodes g u is = (refl, λ e. absurd cc)
+
+-- whether a table that waits serves, by how many types begin in it
+pub serves_found : (depth flags columns roots : ℕ) (t : Table) → Forest t.nodes 0 depth → roots ≡ length (beginnings 0 0 t.nodes) → has flags 0x04 ≡ true → nat_eq roots columns ≡ serves flags columns (Waiting (types_of t.nodes))
+serves_found depth flags columns roots t f many some = rw (some, many, whole_roots t.nodes (forest_whole t.nodes depth f).0) refl
+
+-- what follows a field but the number of a page's rows is no page
+module _ (nodes : List Node) (g : Option Table) (u : GivenUse) (depth : ℕ) (types : Bool) where
+  module _ (flags columns rows : ℕ) (v : FieldValue) (served : Bool) (many : number_in v ≡ rows) (is : served ≡ serves flags columns (given_of u g)) where
+    page_some : (p : CellCursor) → AreColumns types flags columns served p.columns → rows_from 0 (column_types (page_nodes p.columns nodes g) p.columns) rows ≡ cells_from (page_nodes p.columns nodes g) p → IsPage (page_nodes p.columns nodes g) depth p
+        → Follows nodes g u depth types (role.PageRows flags columns) v (Some p)
+    page_some p are cells page = let a = are nodes g u is in (rw (a.0, many) cells, page, λ e. sym is ∙ a.1 e)
+
+    pub page_there : (c : Columns) (o : Option CellCursor) → AreColumns types flags columns served c → Begins (page_nodes c nodes g) depth c rows o → Follows nodes g u depth types (role.PageRows flags columns) v o
+    page_there c None are h = let a = are nodes g u is in rw (a.0, many) (h ∙ sym (rows_none 0 rows))
+    page_there c (Some p) are h =
+        let cells = subst (λ (z : Columns). rows_from 0 (column_types (page_nodes z nodes g) z) rows ≡ cells_from (page_nodes z nodes g) p) (sym h.2) h.0 in
+        let page = subst (λ (z : Columns). IsPage (page_nodes z nodes g) depth p) (sym h.2) h.1 in
+        page_some p (subst (λ (z : Columns). AreColumns types flags columns served z) (sym h.2) are) cells page
+
+  pub no_page : (r : Role) (v : FieldValue) → ((flags columns : ℕ) → r ≡ role.PageRows flags columns → ⊥) → Follows nodes g u depth types r v None
+  no_page (role.PageRows flags columns) v other = absurd (other flags columns refl)
+  no_page r v other = refl
+
+-- what is given serves a page only while it waits
+none_serves : (r : Role) → serves_after r Nothing ≡ false
+none_serves (role.PageRows flags columns) = refl
+none_serves r = refl
+
+in_use_serves : (r : Role) (ts : Types) → serves_after r (InUse ts) ≡ false
+in_use_serves (role.PageRows flags columns) ts = refl
+in_use_serves r ts = refl
+
+used_serves : (r : Role) (ts : Types) → serves_after r (Used ts) ≡ false
+used_serves (role.PageRows flags columns) ts = refl
+used_serves r ts = refl
+
+-- what is given, where a page begins that it types or not
+pub use_given : (served : Bool) (u : GivenUse) (g : Option Table) (r : Role) → served ≡ serves_after r (given_of u g) → given_of (use_after served u) g ≡ given_after r (given_of u g)
+use_given false u g r is = rw (← is) refl
+use_given true u None r is = absurd (let no = is ∙ none_serves r in cc)
+use_given true uses.Waiting (Some t) r is = rw (← is) refl
+use_given true uses.InUse (Some t) r is = absurd (let no = is ∙ in_use_serves r (types_of t.nodes) in cc)
+use_given true uses.Used (Some t) r is = absurd (let no = is ∙ used_serves r (types_of t.nodes) in cc)
+
+-- the given table is whole types
+pub given_forest : (l : Limits) (g : Option Table) → HoldsGiven l g → HoldsForest l.depth g
+given_forest l None h = tt
+given_forest l (Some t) h = h.0
+
+-- ---- tables that are not those of a page
+
+pub page_table_forest : (c : Columns) (nodes : List Node) (g : Option Table) (depth : ℕ) → Forest nodes 0 depth → HoldsForest depth g → Forest (page_nodes c nodes g) 0 depth
+page_table_forest columns.Typed nodes g depth f h = f
+page_table_forest columns.Given nodes None depth f h = f
+page_table_forest columns.Given nodes (Some t) depth f h = h
+page_table_forest (columns.Raw n) nodes g depth f h = f

@@ -1,6 +1,6 @@
 -- One step of a field.
 use Rattle.std.proofs.Common.{◌≡◌, ℕ, ◌+◌, ◌-◌, ◌<◌, ◌≤◌, List, [], ◌∷◌, ◌++◌, length, take, drop, refl, sym, ap, ◌∙◌, inl, inr, arith, length-append}
-use Rattle.std.specs.Prelude.{Some, None, Bool, false}
+use Rattle.std.specs.Prelude.{Option, Some, None, Bool, false}
 use Rattle.std.proofs.lemmas.Bool.{cases_lt, lt-ltb, le-ltb}
 use Rattle.std.proofs.lemmas.List.{append-nil}
 use Rattle.cqlp_note.specs.declared.refusal.Reason.{Reason}
@@ -34,9 +34,10 @@ use Rattle.cqlp_decode.specs.declared.advance.EventAdvance.TheVariants as advanc
 use Rattle.cqlp_decode.specs.declared.advance.EventOutline.TheVariants as what
 use Rattle.cqlp_grammar.specs.Upcoming.{wanted}
 use Rattle.cqlp_decode.specs.Reading as reading
-use Rattle.cqlp_decode.specs.Reading.{Place, value_step, types_for, nodes_after, given_after, Nothing}
+use Rattle.cqlp_decode.specs.Reading.{Given, Place, value_step, types_for, nodes_after, given_after}
+use Rattle.cqlp_decode.specs.Pages.{given_of}
 use Rattle.cqlp_decode.specs.Standing.{IsPending, PartsState, parts, state_of, place_at, offset_at, symbols_at, rest_of, came_of, said, Gives, Waits, Moves, IsAsked, IsWanted, IsBounded, IsQuiet, HasParts, IsConsistent, asked, Starts}
-use Rattle.cqlp_decode.proofs.Steps.{begun, one_due, offset_is, fresh_stage, fresh_table}
+use Rattle.cqlp_decode.proofs.Steps.{begun, one_due, offset_is, fresh_stage, fresh_table, starts_uses}
 
 -- ---- fields
 
@@ -78,20 +79,19 @@ used_some r seen input v used more got = elim (cases_lt 0 used) [
       absurd cc
 ]
 
-given_none : (r : Role) → given_after r Nothing ≡ Nothing
-given_none (role.PageRows flags columns) = refl
-given_none r = refl
-
 -- what is read of a field that is wanted
 module _ (s : StreamStanding) (q : PartsState) (w : Want) (here : s.stage ≡ stage.Field w) (bytes : List ℕ) where
   abbrev rest : List Symbol
   rest = rest_of s.upcoming
 
+  abbrev held : Given
+  held = given_of s.given_use q.given
+
   abbrev types : Types
-  types = types_for s.limits.types w.role q.table.nodes Nothing
+  types = types_for s.limits.types w.role q.table.nodes held
 
   abbrev next_step : FieldValue → Reader (Emitted reading.Event Place) (ℕ × Reason)
-  next_step v = value_step s.limits.types (place_at s.offset s.stop (wanted (due.Field w) ∷ rest) q.table.nodes) w.field w.role rest v (fault_in w.role v)
+  next_step v = value_step s.limits.types (place_at s.offset s.stop (wanted (due.Field w) ∷ rest) q.table.nodes held) w.field w.role rest v (fault_in w.role v)
 
   told_is : said (state_of s q) bytes ≡ says (after_field s.offset (reader_of (asked s w)) next_step) 0 bytes
   told_is = rw here refl
@@ -106,22 +106,22 @@ module _ (s : StreamStanding) (q : PartsState) (w : Want) (here : s.stage ≡ st
   field_faults v k why m fault = told_is ∙ (after_got s.offset (reader_of (asked s w)) next_step 0 bytes v k m).1 ∙ rw fault refl
 
   abbrev behind_field : ℕ → FieldValue → Place
-  behind_field k v = place_at (s.offset + k) s.stop (following types w.role v ++ rest) (nodes_after w.role q.table.nodes)
+  behind_field k v = place_at (s.offset + k) s.stop (following types w.role v ++ rest) (nodes_after w.role q.table.nodes) (given_after w.role held)
 
   field_gives : (v : FieldValue) (k : ℕ) → says (reader_of (asked s w)) 0 bytes ≡ Got v k → fault_in w.role v ≡ None → Gives (state_of s q) bytes s.offset (reading.Holds w.field v) k (behind_field k v)
   field_gives v k m fine =
-      let x : Emitted reading.Event Place = record { at = s.offset; event = reading.Holds w.field v; after = λ used. record { offset = s.offset + used; stop = s.stop; symbols = following types w.role v ++ rest; nodes = nodes_after w.role q.table.nodes; given = given_after w.role Nothing } } in
-      (x, told_is ∙ (after_got s.offset (reader_of (asked s w)) next_step 0 bytes v k m).1 ∙ rw fine refl, refl, refl, rw (given_none w.role) refl)
+      let x : Emitted reading.Event Place = record { at = s.offset; event = reading.Holds w.field v; after = λ used. record { offset = s.offset + used; stop = s.stop; symbols = following types w.role v ++ rest; nodes = nodes_after w.role q.table.nodes; given = given_after w.role held; gifts = [] } } in
+      (x, told_is ∙ (after_got s.offset (reader_of (asked s w)) next_step 0 bytes v k m).1 ∙ rw fine refl, refl, refl, refl)
 
 -- what a piece of input makes of a field that is wanted, and was begun
-module _ (s : StreamStanding) (old p : FieldState) (r : type.TypeState) (d : value.CellState) (t : Table) (w : Want) (input : List ℕ) (here : s.stage ≡ stage.Field w) (a : IsAsked s old p w) where
+module _ (s : StreamStanding) (old p : FieldState) (r : type.TypeState) (d : value.CellState) (t : Table) (g : Option Table) (w : Want) (input : List ℕ) (here : s.stage ≡ stage.Field w) (a : IsAsked s old p w) where
   abbrev before : PartsState
-  before = parts old r d t
+  before = parts old r d t g
 
   pending_is : (b : List ℕ) → IsPending (state_of s before).pending b → b ≡ p.seen
   pending_is b is = let e : b ≡ came_of old = rw here at is in e ∙ sym a.seen
 
-  pub piece_waits : (new : FieldState) (used : ℕ) → partial.Waits p input used new → Waits (state_of s before) input used (state_of s (parts new r d t))
+  pub piece_waits : (new : FieldState) (used : ℕ) → partial.Waits p input used new → Waits (state_of s before) input used (state_of s (parts new r d t g))
   piece_waits new used m = record {
     all = m.all;
     place = rw here refl;
@@ -139,11 +139,11 @@ module _ (s : StreamStanding) (old p : FieldState) (r : type.TypeState) (d : val
     piece_faults why fault b is = rw (pending_is b is) (field_faults s before w here (p.seen ++ input) v (length p.seen + used) why (rw a.field at m.is) fault)
 
     pub piece_hands : (e : StreamStanding) (t' : Table) (i : FieldOutline) → v ≡ item_value i input new.content → CanLend i input new.content → fault_in w.role v ≡ None → IsWanted s old w
-        → e.offset ≡ s.offset + (length p.seen + used) → e.stop ≡ s.stop → e.frame ≡ s.frame → e.came ≡ 0 → Starts e t'.nodes e.stage → t'.nodes ≡ nodes_after w.role t.nodes
-        → symbols_at e.stage (parts new r d t') e.upcoming ≡ following (types_for s.limits.types w.role t.nodes Nothing) w.role v ++ rest_of s.upcoming
-        → Moves (state_of s before) input (advance.Event s.offset used (what.Holds w.field i)) (state_of e (parts new r d t'))
-    piece_hands e t' i is there fine law at stop frame none start nodes symbols =
-        let q : PartsState = parts new r d t' in
+        → e.offset ≡ s.offset + (length p.seen + used) → e.stop ≡ s.stop → e.frame ≡ s.frame → e.came ≡ 0 → Starts e (parts new r d t' g) e.stage → t'.nodes ≡ nodes_after w.role t.nodes → given_of e.given_use g ≡ given_after w.role (given_of s.given_use g)
+        → symbols_at e.stage (parts new r d t' g) e.upcoming ≡ following (types_for s.limits.types w.role t.nodes (given_of s.given_use g)) w.role v ++ rest_of s.upcoming
+        → Moves (state_of s before) input (advance.Event s.offset used (what.Holds w.field i)) (state_of e (parts new r d t' g))
+    piece_hands e t' i is there fine law at stop frame none start nodes given symbols =
+        let q : PartsState = parts new r d t' g in
         let offset : offset_at e.stage e.offset q ≡ s.offset + (length p.seen + used) = offset_is e e.stage q start ∙ at in (
           there,
           record {
@@ -152,8 +152,9 @@ module _ (s : StreamStanding) (old p : FieldState) (r : type.TypeState) (d : val
             frame = frame;
             lent = rw (← is) m.lent;
             gives = λ b pending.
-                let g = field_gives s before w here (p.seen ++ input) v (length p.seen + used) (rw a.field at m.is) fine in
-                rw (pending_is b pending, ← is) (g.0, g.1, g.2, g.3, g.4 ∙ (λ j. place_at (sym offset j) (sym stop j) (sym symbols j) (sym nodes j)));
+                let x = field_gives s before w here (p.seen ++ input) v (length p.seen + used) (rw a.field at m.is) fine in
+                rw (pending_is b pending, ← is) (x.0, x.1, x.2, x.3, x.4 ∙ (λ j. place_at (sym offset j) (sym stop j) (sym symbols j) (sym nodes j) (sym given j)));
+            gifts = refl;
             offset = λ b pending. rw (pending_is b pending, offset, here) refl;
             due = one_due e e.stage q start;
             pays = rw (here, one_due e e.stage q start) (omega (arith, some));
@@ -185,22 +186,24 @@ metadata_forest role.PreparedFlags nodes depth f = forest_none depth
 metadata_forest r nodes depth f = f
 
 -- what follows a field goes by the types before it
-pub following_there : (r : Role) (v : FieldValue) (types : Bool) (nodes after : List Node) (rest : List Symbol) → after ≡ nodes_after r nodes
-    → following (types_for types r after Nothing) r v ++ rest ≡ following (types_for types r nodes Nothing) r v ++ rest
-following_there (role.PageRows flags columns) v types nodes after rest e = rw e refl
-following_there r v types nodes after rest e = refl
+pub following_there : (r : Role) (v : FieldValue) (types : Bool) (held : Given) (nodes after : List Node) (rest : List Symbol) → after ≡ nodes_after r nodes
+    → following (types_for types r after held) r v ++ rest ≡ following (types_for types r nodes held) r v ++ rest
+following_there (role.PageRows flags columns) v types held nodes after rest e = rw e refl
+following_there r v types held nodes after rest e = refl
 
 module _ (s e : StreamStanding) (q : PartsState) (p : FieldState) (r : type.TypeState) (d : value.CellState) (t : Table) (n : ℕ) (law : IsConsistent s q) (offset : e.offset ≡ s.offset + n) (inside : s.offset + n ≤ s.stop) (stop : e.stop ≡ s.stop) (limits : e.limits ≡ s.limits) (header : e.header ≡ s.header) (came : e.came ≡ 0)
-    (room : p.room ≡ q.partial.room) (idle : p.under_way ≡ false) (rules : r.rules ≡ q.types.rules) (types : r.under_way ≡ false) (cells : d.rules ≡ q.cells.rules) (idle_cells : is_under_way d ≡ false) (table : t.room ≡ q.table.room) (forest : Forest t.nodes 0 s.limits.depth) (starts : Starts e t.nodes e.stage) (quiet : IsQuiet (parts p r d t)) where
-  pub goes_on_lawful : IsConsistent e (parts p r d t)
+    (room : p.room ≡ q.partial.room) (idle : p.under_way ≡ false) (rules : r.rules ≡ q.types.rules) (types : r.under_way ≡ false) (cells : d.rules ≡ q.cells.rules) (idle_cells : is_under_way d ≡ false) (table : t.room ≡ q.table.room) (forest : Forest t.nodes 0 s.limits.depth) (starts : Starts e (parts p r d t q.given) e.stage) (quiet : IsQuiet (parts p r d t q.given)) where
+  pub goes_on_lawful : IsConsistent e (parts p r d t q.given)
   goes_on_lawful =
-      let z : PartsState = parts p r d t in
+      let z : PartsState = parts p r d t q.given in
       let bounded : IsBounded e = record { long = ap (λ (h : List ℕ). length h) header ∙ law.bounded.long; inside = omega (arith, law.bounded.inside); size = omega (arith, law.bounded.size); bound = omega (arith, law.bounded.bound) } in
-      let parts : HasParts e z = rw limits (record { room = room ∙ law.parts.room; rules = rules ∙ law.parts.rules; cells = cells ∙ law.parts.cells; table = table ∙ law.parts.table }) in
+      let parts : HasParts e z = rw limits (record { room = room ∙ law.parts.room; rules = rules ∙ law.parts.rules; cells = cells ∙ law.parts.cells; table = table ∙ law.parts.table; few = law.parts.few }) in
       record {
         bounded = bounded;
         parts = parts;
         stage = fresh_stage e z e.stage starts (record { field = idle; types = types; cells = idle_cells }) came;
         quiet = quiet;
         table = λ none. fresh_table e z e.stage starts (rw limits forest);
+        given = rw limits law.given;
+        uses = starts_uses e z e.stage starts;
       }

@@ -7,10 +7,10 @@ use Rattle.cqlp_note.specs.declared.refusal.Refusal.{Refusal}
 use Rattle.cqlp_grammar.specs.declared.event.Event.{Event}
 use Rattle.cqlp_decode.specs.declared.step.Step.TheVariants as steps
 use Rattle.cqlp_decode.specs.Reading as reading
-use Rattle.cqlp_decode.specs.Reading.{Says, Waits}
+use Rattle.cqlp_decode.specs.Reading.{Gifts, start_with, Says, Waits}
 use Rattle.cqlp_grammar.specs.Events.{event_of}
 use Rattle.cqlp_decode.specs.Standing.{StreamState}
-use Rattle.cqlp_decode.specs.Streams.{After, Leads, Goes, Refuses}
+use Rattle.cqlp_decode.specs.Streams.{AfterGifts, LeadsAfter, Goes, Refuses}
 use Rattle.cqlp_decode.specs.Draining.{Drains, DrainsAll, Fails, Feeds, FeedsInto, HasAll, ReadsAtMost, fold_events}
 
 pub take_two : (k n : ℕ) (bytes : List ℕ) → take (k + n) bytes ≡ take k bytes ++ take n (drop k bytes)
@@ -20,9 +20,9 @@ take_two k n bytes = sym (rw (take-take k (k + n) bytes (omega arith), drop-take
 pub rest_is : (used : ℕ) (input : List ℕ) → take (length input - used) (drop used input) ≡ drop used input
 rest_is used input = take_all _ _ (omega (arith, length-drop used input))
 
-pub refuses_new : (o : Option Refusal) (old : StreamState) (s : List ℕ) (es : List (ℕ × reading.Event)) (input : List ℕ) (r : Refusal) → o ≡ None → Refuses o old s es input r → Says old.rules reading.start (s ++ input) es (reading.Refused r.at r.why)
-refuses_new None old s es input r is h = h
-refuses_new (Some b) old s es input r is h = absurd cc
+pub refuses_new : (o : Option Refusal) (gifts : Gifts) (old : StreamState) (s : List ℕ) (es : List (ℕ × reading.Event)) (input : List ℕ) (r : Refusal) → o ≡ None → Refuses o gifts old s es input r → Says old.rules (start_with gifts) (s ++ input) es (reading.Refused r.at r.why)
+refuses_new None gifts old s es input r is h = h
+refuses_new (Some b) gifts old s es input r is h = absurd cc
 
 module _ {V : Type 0} (f : V → ℕ → reading.Event → V) where
   fold_more : (v : V) (es : List (ℕ × reading.Event)) (at : ℕ) (e : reading.Event) → fold_events f v (es ++ (at, e) ∷ []) ≡ f (fold_events f v es) at e
@@ -33,22 +33,22 @@ module _ {V : Type 0} (f : V → ℕ → reading.Event → V) where
   fold_append v [] fs = refl
   fold_append v (x ∷ es) fs = fold_append (f v x.0 x.1) es fs
 
-  pub drains_none : (d : StreamState) (s : List ℕ) (es : List (ℕ × reading.Event)) (v : V) → After d s es → Drains f d s es [] v v
-  drains_none d s es v a = record { more = []; stands = rw (append-nil s, append-nil es) a; got = refl }
+  pub drains_none : (gifts : Gifts) (d : StreamState) (s : List ℕ) (es : List (ℕ × reading.Event)) (v : V) → AfterGifts gifts d s es → Drains f gifts d s es [] v v
+  drains_none gifts d s es v a = record { more = []; stands = rw (append-nil s, append-nil es) a; got = refl }
 
-  module _ (old new : StreamState) (s input : List ℕ) (used : ℕ) (es : List (ℕ × reading.Event)) (v w : V) (d : Drains f old s es (take used input) v w) where
-    stands_more : (at taken : ℕ) (e : Event) → Leads old (s ++ take used input) (es ++ d.more) (drop used input) (steps.Event at taken e) new → After new (s ++ take (used + taken) input) (es ++ (d.more ++ (at, event_of e) ∷ []))
+  module _ (gifts : Gifts) (old new : StreamState) (s input : List ℕ) (used : ℕ) (es : List (ℕ × reading.Event)) (v w : V) (d : Drains f gifts old s es (take used input) v w) where
+    stands_more : (at taken : ℕ) (e : Event) → LeadsAfter gifts old (s ++ take used input) (es ++ d.more) (drop used input) (steps.Event at taken e) new → AfterGifts gifts new (s ++ take (used + taken) input) (es ++ (d.more ++ (at, event_of e) ∷ []))
     stands_more at taken e leads = rw (take_two used taken input, ← (append_assoc s (take used input) (take taken (drop used input))), ← (append_assoc es d.more ((at, event_of e) ∷ []))) leads.3
 
-    pub drains_event : (at taken : ℕ) (e : Event) (w' : V) → Leads old (s ++ take used input) (es ++ d.more) (drop used input) (steps.Event at taken e) new → w' ≡ f w at (event_of e) → Drains f new s es (take (used + taken) input) v w'
+    pub drains_event : (at taken : ℕ) (e : Event) (w' : V) → LeadsAfter gifts old (s ++ take used input) (es ++ d.more) (drop used input) (steps.Event at taken e) new → w' ≡ f w at (event_of e) → Drains f gifts new s es (take (used + taken) input) v w'
     drains_event at taken e w' leads is = record {
       more = d.more ++ (at, event_of e) ∷ [];
       stands = stands_more at taken e leads;
       got = is ∙ ap (λ (z : V). f z at (event_of e)) d.got ∙ sym (fold_more v d.more at (event_of e));
     }
 
-    pub fails_event : (faulted : V → ℕ → reading.Event → V → Type 0) (at taken : ℕ) (e : Event) (w' : V) → Leads old (s ++ take used input) (es ++ d.more) (drop used input) (steps.Event at taken e) new → faulted w at (event_of e) w'
-        → Fails f faulted new s es (take (used + taken) input) v w'
+    pub fails_event : (faulted : V → ℕ → reading.Event → V → Type 0) (at taken : ℕ) (e : Event) (w' : V) → LeadsAfter gifts old (s ++ take used input) (es ++ d.more) (drop used input) (steps.Event at taken e) new → faulted w at (event_of e) w'
+        → Fails f faulted gifts new s es (take (used + taken) input) v w'
     fails_event faulted at taken e w' leads fault = record {
       more = d.more;
       at = at;
@@ -60,26 +60,26 @@ module _ {V : Type 0} (f : V → ℕ → reading.Event → V) where
     all : (s ++ take used input) ++ drop used input ≡ s ++ input
     all = append_assoc s (take used input) (drop used input) ∙ ap (λ (z : List ℕ). s ++ z) (take-append-drop used input)
 
-    pub drains_all : (free : StreamState) → (free.refusal ≡ None → old.refusal ≡ None) → (taken : ℕ) → Goes old (steps.More taken) new → Leads old (s ++ take used input) (es ++ d.more) (drop used input) (steps.More taken) new → DrainsAll f free new s es input input v w
+    pub drains_all : (free : StreamState) → (free.refusal ≡ None → old.refusal ≡ None) → (taken : ℕ) → Goes old (steps.More taken) new → LeadsAfter gifts old (s ++ take used input) (es ++ d.more) (drop used input) (steps.More taken) new → DrainsAll f gifts free new s es input input v w
     drains_all free clear taken goes leads =
         let h = rw all at leads in record { drains = record { more = d.more; stands = h.2; got = d.got }; says = λ none. rw goes.1 h.3 }
 
-    pub drains_refused : (free : StreamState) → (free.refusal ≡ None → old.refusal ≡ None) → (r : Refusal) → Goes old (steps.Refused r) new → Leads old (s ++ take used input) (es ++ d.more) (drop used input) (steps.Refused r) new → DrainsAll f free new s es input (take used input) v w
+    pub drains_refused : (free : StreamState) → (free.refusal ≡ None → old.refusal ≡ None) → (r : Refusal) → Goes old (steps.Refused r) new → LeadsAfter gifts old (s ++ take used input) (es ++ d.more) (drop used input) (steps.Refused r) new → DrainsAll f gifts free new s es input (take used input) v w
     drains_refused free clear r goes leads = record {
       drains = record { more = d.more; stands = leads.1; got = d.got };
-      says = λ none. rw (goes.0, goes.1) (rw all at (refuses_new old.refusal old (s ++ take used input) (es ++ d.more) (drop used input) r (clear none) leads.2));
+      says = λ none. rw (goes.0, goes.1) (rw all at (refuses_new old.refusal gifts old (s ++ take used input) (es ++ d.more) (drop used input) r (clear none) leads.2));
     }
 
   -- one piece after another
-  abbrev pub drains_then : (mid new : StreamState) (s a b : List ℕ) (es : List (ℕ × reading.Event)) (v w x : V) (d : Drains f mid s es a v w) → Drains f new (s ++ a) (es ++ d.more) b w x → Drains f new s es (a ++ b) v x
-  drains_then mid new s a b es v w x d e = record {
+  abbrev pub drains_then : (gifts : Gifts) (mid new : StreamState) (s a b : List ℕ) (es : List (ℕ × reading.Event)) (v w x : V) (d : Drains f gifts mid s es a v w) → Drains f gifts new (s ++ a) (es ++ d.more) b w x → Drains f gifts new s es (a ++ b) v x
+  drains_then gifts mid new s a b es v w x d e = record {
     more = d.more ++ e.more;
     stands = rw (← (append_assoc s a b), ← (append_assoc es d.more e.more)) e.stands;
     got = e.got ∙ ap (λ (z : V). fold_events f z e.more) d.got ∙ sym (fold_append v d.more e.more);
   }
 
-  pub fails_then : (faulted : V → ℕ → reading.Event → V → Type 0) (mid new : StreamState) (s a b : List ℕ) (es : List (ℕ × reading.Event)) (v w x : V) (d : Drains f mid s es a v w) → Fails f faulted new (s ++ a) (es ++ d.more) b w x → Fails f faulted new s es (a ++ b) v x
-  fails_then faulted mid new s a b es v w x d e = record {
+  pub fails_then : (faulted : V → ℕ → reading.Event → V → Type 0) (gifts : Gifts) (mid new : StreamState) (s a b : List ℕ) (es : List (ℕ × reading.Event)) (v w x : V) (d : Drains f gifts mid s es a v w) → Fails f faulted gifts new (s ++ a) (es ++ d.more) b w x → Fails f faulted gifts new s es (a ++ b) v x
+  fails_then faulted gifts mid new s a b es v w x d e = record {
     more = d.more ++ e.more;
     at = e.at;
     event = e.event;
@@ -88,42 +88,42 @@ module _ {V : Type 0} (f : V → ℕ → reading.Event → V) where
   }
 
   abbrev pub feeds_none : (d : StreamState) (xs : List ℕ) (v : V) → Feeds f d d xs v v
-  feeds_none d xs v = record { bytes = []; rest = xs; parts = refl; drained = λ s es a. drains_none d s es v a }
+  feeds_none d xs v = record { bytes = []; rest = xs; parts = refl; drained = λ gifts s es a. drains_none gifts d s es v a }
 
   module _ (old mid new : StreamState) (xs piece left : List ℕ) (v w x : V) (d : Feeds f old mid xs v w) (is : d.rest ≡ piece ++ left) (part end : List ℕ) (split : piece ≡ part ++ end) where
     pub parts_then : xs ≡ (d.bytes ++ part) ++ (end ++ left)
     parts_then = d.parts ∙ ap (λ (z : List ℕ). d.bytes ++ z) (is ∙ ap (λ (z : List ℕ). z ++ left) split ∙ append_assoc part end left) ∙ sym (append_assoc d.bytes part (end ++ left))
 
-    abbrev pub feeds_then : ((s : List ℕ) (es : List (ℕ × reading.Event)) → After mid s es → Drains f new s es part w x) → Feeds f old new xs v x
+    abbrev pub feeds_then : ((gifts : Gifts) (s : List ℕ) (es : List (ℕ × reading.Event)) → AfterGifts gifts mid s es → Drains f gifts new s es part w x) → Feeds f old new xs v x
     feeds_then next = record {
       bytes = d.bytes ++ part;
       rest = end ++ left;
       parts = parts_then;
-      drained = λ s es a. let e = d.drained s es a in drains_then mid new s d.bytes part es v w x e (next (s ++ d.bytes) (es ++ e.more) e.stands);
+      drained = λ gifts s es a. let e = d.drained gifts s es a in drains_then gifts mid new s d.bytes part es v w x e (next gifts (s ++ d.bytes) (es ++ e.more) e.stands);
     }
 
     -- of the piece, what was looked at but not used was refused
-    pub has_all : (left' : Option (List ℕ)) → left' ≡ Some left → (new.refusal ≡ None → end ≡ []) → (old.refusal ≡ None → mid.refusal ≡ None) → (next : (s : List ℕ) (es : List (ℕ × reading.Event)) → After mid s es → DrainsAll f mid new s es piece part w x)
-        → HasAll f old new xs left' v x (feeds_then (λ s es a. (next s es a).drains))
+    pub has_all : (left' : Option (List ℕ)) → left' ≡ Some left → (new.refusal ≡ None → end ≡ []) → (old.refusal ≡ None → mid.refusal ≡ None) → (next : (gifts : Gifts) (s : List ℕ) (es : List (ℕ × reading.Event)) → AfterGifts gifts mid s es → DrainsAll f gifts mid new s es piece part w x)
+        → HasAll f old new xs left' v x (feeds_then (λ gifts s es a. (next gifts s es a).drains))
     has_all left' is' none clear next = record {
       looked = end;
       unread = left;
       parts = refl;
       others = is';
       none = none;
-      says = λ free s es a.
-          let e = d.drained s es a in
-          let n = next (s ++ d.bytes) (es ++ e.more) e.stands in
+      says = λ free gifts s es a.
+          let e = d.drained gifts s es a in
+          let n = next gifts (s ++ d.bytes) (es ++ e.more) e.stands in
           let bytes : s ++ (d.bytes ++ part) ++ end ≡ s ++ d.bytes ++ piece = ap (λ (z : List ℕ). z ++ end) (sym (append_assoc s d.bytes part)) ∙ append_assoc (s ++ d.bytes) part end ∙ ap (λ (z : List ℕ). s ++ d.bytes ++ z) (sym split) in
           rw (bytes, ← (append_assoc es e.more n.drains.more)) (n.says (clear free));
     }
 
-    abbrev pub feeds_into : (faulted : V → ℕ → reading.Event → V → Type 0) → ((s : List ℕ) (es : List (ℕ × reading.Event)) → After mid s es → Fails f faulted new s es part w x) → FeedsInto f faulted old new xs v x
+    abbrev pub feeds_into : (faulted : V → ℕ → reading.Event → V → Type 0) → ((gifts : Gifts) (s : List ℕ) (es : List (ℕ × reading.Event)) → AfterGifts gifts mid s es → Fails f faulted gifts new s es part w x) → FeedsInto f faulted old new xs v x
     feeds_into faulted next = record {
       bytes = d.bytes ++ part;
       rest = end ++ left;
       parts = parts_then;
-      failed = λ s es a. let e = d.drained s es a in fails_then faulted mid new s d.bytes part es v w x e (next (s ++ d.bytes) (es ++ e.more) e.stands);
+      failed = λ gifts s es a. let e = d.drained gifts s es a in fails_then faulted gifts mid new s d.bytes part es v w x e (next gifts (s ++ d.bytes) (es ++ e.more) e.stands);
     }
 
 -- the reader's bytes stay

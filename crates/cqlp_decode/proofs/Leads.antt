@@ -14,10 +14,11 @@ use Rattle.cqlp_grammar.specs.declared.event.Event.{Event}
 use Rattle.cqlp_decode.specs.declared.step.Step.{Step}
 use Rattle.cqlp_decode.specs.declared.step.Step.TheVariants as steps
 use Rattle.cqlp_decode.specs.Reading as reading
-use Rattle.cqlp_decode.specs.Reading.{Place, step, start, Reads}
+use Rattle.cqlp_decode.specs.Reading.{Gifts, Place, gifts_now, gifts_later, settled, retired, start_with, step, Reads}
 use Rattle.cqlp_grammar.specs.Events.{event_of}
 use Rattle.cqlp_decode.specs.Standing.{StreamState, AdvancesFrom, Hands, event_at, frame_after, due_after}
-use Rattle.cqlp_decode.specs.Streams.{After, AfterBy, Leads, Goes, Refuses, Repeats, frame_from, open_after, open_from}
+use Rattle.cqlp_decode.specs.Streams.{AfterGifts, AfterBy, LeadsAfter, Goes, Refuses, Repeats, frame_from, open_after, open_from}
+use Rattle.cqlp_decode.proofs.Gifts.{settled_none, settled_step, retired_all}
 
 -- ---- one more event
 
@@ -33,12 +34,12 @@ due_is : (e : reading.Event) → due_after e ≡ (if open_after e then 1 else 0)
 due_is (reading.End n) = refl
 due_is e = refl
 
-run_more : (l : Rules) (p q : Place) (s b t : List ℕ) (es : List (ℕ × reading.Event)) (at : ℕ) (e : reading.Event) (x : Emitted reading.Event Place) → Reads l start s es p b
-    → says (step l p) 0 (b ++ t) ≡ Got x (length b + length t) → x.at ≡ at → x.event ≡ e → x.after (length b + length t) ≡ q → Reads l start (s ++ t) (es ++ (at, e) ∷ []) q []
-run_more l p q s b t es at e x run said a w after =
+run_more : (l : Rules) (gifts : Gifts) (p q : Place) (s b t : List ℕ) (es : List (ℕ × reading.Event)) (at : ℕ) (e : reading.Event) (x : Emitted reading.Event Place) → Reads l (start_with gifts) s es p b
+    → says (step l p) 0 (b ++ t) ≡ Got x (length b + length t) → x.at ≡ at → x.event ≡ e → x.after (length b + length t) ≡ q → Reads l (start_with gifts) (s ++ t) (es ++ (at, e) ∷ []) q []
+run_more l gifts p q s b t es at e x run said a w after =
     let k = length b + length t in
     let none : drop k (b ++ t) ≡ [] = drop_all k (b ++ t) (omega (arith, length-append b t)) in
-    runs_then (step l) start p q (s ++ t) (b ++ t) [] es ((at, e) ∷ []) (runs_stay (step l) start s t es p b run) (k, x.after, said ∙ ap (λ (z : Emitted reading.Event Place). Got z k) (emitted_is x at e a w), (sym after, sym none))
+    runs_then (step l) (start_with gifts) p q (s ++ t) (b ++ t) [] es ((at, e) ∷ []) (runs_stay (step l) (start_with gifts) s t es p b run) (k, x.after, said ∙ ap (λ (z : Emitted reading.Event Place). Got z k) (emitted_is x at e a w), (sym after, sym none))
 
 -- ---- after a refusal
 
@@ -52,67 +53,90 @@ unrefused old new x (Some r) is = absurd cc
 
 -- ---- one call
 
+-- where nothing is given later, the reading's step at a place is the decoder's
+same_said : (l : Rules) (p q : Place) (bytes : List ℕ) → q ≡ settled p → gifts_later p.gifts ≡ [] → says (step l p) 0 bytes ≡ says (step l q) 0 bytes
+same_said l p q bytes here none = ap (λ r. says r 0 bytes) (settled_step l p none ∙ ap (λ (z : Place). step l z) (sym here))
+
 module _ (old new : StreamState) (input s : List ℕ) (es : List (ℕ × reading.Event)) where
-  pub more_leads : (o : Option Refusal) (used : ℕ) → AdvancesFrom o old input (advance.More used) new → AfterBy o old s es → Leads old s es input (steps.More used) new
-  more_leads (Some r) used a after = absurd (let e = a.0 in cc)
-  more_leads None used a after =
-      let m = a.0.waits after.bytes after.pending in
-      let run = runs_stay (step old.rules) start s input es old.place after.bytes after.read in
-      rw (a.1, a.2) (
-        a.0.all,
-        refl,
-        record {
-          bytes = after.bytes ++ input;
-          pending = m.1;
-          read = rw a.0.place run;
-          count = rw a.0.place (omega (arith, after.count, length-append s input, length-append after.bytes input));
-          frame = a.0.frame ∙ after.frame;
-          due = rw a.0.place after.due;
-        },
-        (old.place, after.bytes ++ input, run, rw m.0 tt),
-      )
+  module _ (gifts : Gifts) where
+    pub more_leads : (o : Option Refusal) (used : ℕ) → AdvancesFrom o old input (advance.More used) new → AfterBy o gifts old s es → LeadsAfter gifts old s es input (steps.More used) new
+    more_leads (Some r) used a after = absurd (let e = a.0 in cc)
+    more_leads None used a after =
+        let m = a.0.waits after.bytes after.pending in
+        let run = runs_stay (step old.rules) (start_with gifts) s input es after.place after.bytes after.read in
+        let waits = same_said old.rules after.place old.place (after.bytes ++ input) after.here after.all ∙ m.0 in
+        rw (a.1, a.2) (
+          a.0.all,
+          refl,
+          record {
+            place = after.place;
+            bytes = after.bytes ++ input;
+            pending = m.1;
+            read = run;
+            here = a.0.place ∙ after.here;
+            all = after.all;
+            count = rw a.0.place (omega (arith, after.count, length-append s input, length-append after.bytes input));
+            frame = a.0.frame ∙ after.frame;
+            due = rw a.0.place after.due;
+          },
+          (after.place, after.bytes ++ input, run, rw waits tt),
+        )
 
-  pub hands_leads : (at used : ℕ) (e : Event) → Hands old input at used (event_of e) new → new.refusal ≡ None → new.rules ≡ old.rules → AfterBy None old s es → Leads old s es input (steps.Event at used e) new
-  hands_leads at used e h none rules after =
-      let t = take used input in
-      let g = h.gives after.bytes after.pending in
-      let long : length t ≡ used = length-take-le used input h.within in
-      let one = says_exact (step old.rules old.place) after.bytes input g.0 used g.1 in
-      let run = run_more old.rules old.place new.place s after.bytes t es at (event_of e) g.0 after.read (rw long one) g.2 g.3 (rw long g.4) in
-      rw (none, rules) (
-        h.within,
-        refl,
-        h.begun,
-        record {
-          bytes = [];
-          pending = h.begun;
-          read = run;
-          count = omega (arith, h.offset after.bytes after.pending, after.count, length-append s t, long);
-          frame = h.frame ∙ ap (λ (f : ℕ). frame_after f at (event_of e)) after.frame ∙ sym (frame_more 0 es at (event_of e));
-          due = h.due ∙ due_is (event_of e) ∙ ap (λ (b : Bool). if b then 1 else 0) (sym (open_more false es at (event_of e)));
-        },
-      )
+    pub hands_leads : (at used : ℕ) (e : Event) → Hands old input at used (event_of e) new → new.refusal ≡ None → new.rules ≡ old.rules → AfterBy None gifts old s es → LeadsAfter gifts old s es input (steps.Event at used e) new
+    hands_leads at used e h none rules after =
+        let t = take used input in
+        let g = h.gives after.bytes after.pending in
+        let long : length t ≡ used = length-take-le used input h.within in
+        let given = same_said old.rules after.place old.place (after.bytes ++ input) after.here after.all ∙ g.1 in
+        let one = says_exact (step old.rules after.place) after.bytes input g.0 used given in
+        let run = run_more old.rules gifts after.place new.place s after.bytes t es at (event_of e) g.0 after.read (rw long one) g.2 g.3 (rw long g.4) in
+        rw (none, rules) (
+          h.within,
+          refl,
+          h.begun,
+          record {
+            place = new.place;
+            bytes = [];
+            pending = h.begun;
+            read = run;
+            here = settled_none new.place h.gifts;
+            all = ap gifts_later h.gifts;
+            count = omega (arith, h.offset after.bytes after.pending, after.count, length-append s t, long);
+            frame = h.frame ∙ ap (λ (f : ℕ). frame_after f at (event_of e)) after.frame ∙ sym (frame_more 0 es at (event_of e));
+            due = h.due ∙ due_is (event_of e) ∙ ap (λ (b : Bool). if b then 1 else 0) (sym (open_more false es at (event_of e)));
+          },
+        )
 
-  pub event_leads : (o : Option Refusal) (at used : ℕ) (w : EventOutline) (e : Event) → event_of e ≡ event_at new.held input w → AdvancesFrom o old input (advance.Event at used w) new → AfterBy o old s es → Leads old s es input (steps.Event at used e) new
-  event_leads (Some r) at used w e is a after = absurd (let e = a.0 in cc)
-  event_leads None at used w e is a after = hands_leads at used e (rw is a.0.1) a.1 a.2 after
+    pub event_leads : (o : Option Refusal) (at used : ℕ) (w : EventOutline) (e : Event) → event_of e ≡ event_at new.held input w → AdvancesFrom o old input (advance.Event at used w) new → AfterBy o gifts old s es → LeadsAfter gifts old s es input (steps.Event at used e) new
+    event_leads (Some r) at used w e is a after = absurd (let e = a.0 in cc)
+    event_leads None at used w e is a after = hands_leads at used e (rw is a.0.1) a.1 a.2 after
 
-  pub refused_leads : (o : Option Refusal) → old.refusal ≡ o → (r : Refusal) → new.place.nodes ≡ old.place.nodes → AdvancesFrom o old input (advance.Refused r) new → AfterBy o old s es → Leads old s es input (steps.Refused r) new
-  refused_leads (Some before) eq r nodes a after =
-      let same : r ≡ before = let e = a.0 in cc in
-      subst (λ (z : StreamState). (z.refusal ≡ Some r) × After z s es × Refuses old.refusal old s es input r) (sym a.1) (
-        eq ∙ ap Some (sym same),
-        subst (λ (o : Option Refusal). AfterBy o old s es) (sym eq) after,
-        subst (λ (o : Option Refusal). Refuses o old s es input r) (sym eq) same,
-      )
-  refused_leads None eq r nodes a after =
-      let bad = a.0 after.bytes after.pending in
-      let run = runs_stay (step old.rules) start s input es old.place after.bytes after.read in
-      rw (a.1, a.2, eq) (
-        refl,
-        record { place = old.place; bytes = after.bytes; read = after.read; looked = input; refused = bad; nodes = nodes },
-        (old.place, after.bytes ++ input, run, rw bad refl),
-      )
+    pub refused_leads : (o : Option Refusal) → old.refusal ≡ o → (r : Refusal) → new.place.nodes ≡ old.place.nodes → AdvancesFrom o old input (advance.Refused r) new → AfterBy o gifts old s es → LeadsAfter gifts old s es input (steps.Refused r) new
+    refused_leads (Some before) eq r nodes a after =
+        let same : r ≡ before = let e = a.0 in cc in
+        subst (λ (z : StreamState). (z.refusal ≡ Some r) × AfterGifts gifts z s es × Refuses old.refusal gifts old s es input r) (sym a.1) (
+          eq ∙ ap Some (sym same),
+          subst (λ (o : Option Refusal). AfterBy o gifts old s es) (sym eq) after,
+          subst (λ (o : Option Refusal). Refuses o gifts old s es input r) (sym eq) same,
+        )
+    refused_leads None eq r nodes a after =
+        let bad = same_said old.rules after.place old.place (after.bytes ++ input) after.here after.all ∙ a.0 after.bytes after.pending in
+        let run = runs_stay (step old.rules) (start_with gifts) s input es after.place after.bytes after.read in
+        let held = a.4 ∙ ap (λ (z : Place). retired z.given) after.here ∙ retired_all (gifts_now after.place.gifts) after.place.given in
+        rw (a.1, a.2, eq) (
+          refl,
+          record {
+            place = after.place;
+            bytes = after.bytes;
+            read = after.read;
+            looked = input;
+            refused = bad;
+            all = after.all;
+            nodes = nodes ∙ ap (λ (z : Place). z.nodes) after.here;
+            given = held;
+          },
+          (after.place, after.bytes ++ input, run, rw bad refl),
+        )
 
   pub more_uses : (o : Option Refusal) (used : ℕ) → AdvancesFrom o old input (advance.More used) new → used ≡ length input
   more_uses (Some r) used a = absurd (let e = a.0 in cc)
@@ -124,17 +148,17 @@ module _ (old new : StreamState) (input s : List ℕ) (es : List (ℕ × reading
 
   pub more_goes : (o : Option Refusal) (used : ℕ) → AdvancesFrom o old input (advance.More used) new → Goes old (steps.More used) new
   more_goes (Some r) used a = absurd (let e = a.0 in cc)
-  more_goes None used a = (a.2, a.1)
+  more_goes None used a = (a.2, a.1, a.3)
 
   pub event_goes : (o : Option Refusal) (at used : ℕ) (w : EventOutline) (e : Event) → event_of e ≡ event_at new.held input w → AdvancesFrom o old input (advance.Event at used w) new → Goes old (steps.Event at used e) new
   event_goes (Some r) at used w e is a = absurd (let e = a.0 in cc)
-  event_goes None at used w e is a = (a.0.1.pays, rw is a.0.1.lent, a.2, a.1)
+  event_goes None at used w e is a = (a.0.1.pays, rw is a.0.1.lent, a.2, a.1, a.3)
 
   pub refused_goes : (o : Option Refusal) → old.refusal ≡ o → (r : Refusal) → AdvancesFrom o old input (advance.Refused r) new → Goes old (steps.Refused r) new
   refused_goes (Some before) eq r a =
       let same : r ≡ before = let e = a.0 in cc in
-      (ap (λ (z : StreamState). z.rules) a.1, ap (λ (z : StreamState). z.refusal) a.1 ∙ eq ∙ ap Some (sym same))
-  refused_goes None eq r a = (a.2, a.1)
+      (ap (λ (z : StreamState). z.rules) a.1, ap (λ (z : StreamState). z.refusal) a.1 ∙ eq ∙ ap Some (sym same), ap (λ (z : StreamState). z.given) a.1)
+  refused_goes None eq r a = (a.2, a.1, a.3)
 
   -- after a refusal
   pub event_repeats : (o : Option Refusal) (at used : ℕ) (w : EventOutline) (e : Event) → AdvancesFrom o old input (advance.Event at used w) new → Repeats o old (steps.Event at used e) new

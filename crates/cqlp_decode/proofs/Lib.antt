@@ -3,6 +3,8 @@ pub mod Steps
 pub mod FieldSteps
 pub mod OptionSteps
 pub mod CellSteps
+pub mod Gifts
 pub mod Leads
 pub mod Ends
+pub mod Tables
 pub mod Gets

@@ -31,6 +31,7 @@ use Rattle.cqlp_decode.specs.declared.standing.StreamStanding.{StreamStanding}
 use Rattle.cqlp_decode.specs.declared.advance.EventAdvance.TheVariants as advance
 use Rattle.cqlp_decode.specs.declared.advance.EventOutline.TheVariants as what
 use Rattle.cqlp_decode.specs.Reading.{Place, type_event, types_left, place_of_types}
+use Rattle.cqlp_decode.specs.Pages.{given_of}
 use Rattle.cqlp_decode.specs.Standing.{IsPending, PartsState, parts, state_of, place_at, offset_at, symbols_at, rest_of, said, Gives, Waits, Moves, IsLent, due_after, frame_after, ends_due, HasRoom, IsOption, OptionWaits, OptionRuns, IsConsistent, StageHolds, TableHolds}
 use Rattle.cqlp_decode.specs.declared.standing.StreamStage.{StreamStage}
 use Rattle.cqlp_decode.proofs.Steps.{starts_bare, begun_bare, one_due_bare, offset_is_bare}
@@ -111,21 +112,21 @@ module _ (s : StreamStanding) (q : PartsState) (here : s.stage ≡ stage.InType)
   rest = rest_of s.upcoming
 
   abbrev stands : Place
-  stands = place_at q.types.offset s.stop (In_type q.types.symbols ∷ rest) q.table.nodes
+  stands = place_at q.types.offset s.stop (In_type q.types.symbols ∷ rest) q.table.nodes (given_of s.given_use q.given)
 
   told_is : (bytes : List ℕ) → said (state_of s q) bytes ≡ map_said type_event (place_of_types stands rest) (type.step_says q.types q.table.nodes bytes)
-  told_is bytes = rw (here, ← rules, ← o.stop) (says_map type_event (place_of_types (place_at q.types.offset q.types.stop (In_type q.types.symbols ∷ rest) q.table.nodes) rest) (type_step q.types.rules (place_of q.types q.table.nodes)) 0 bytes)
+  told_is bytes = rw (here, ← rules, ← o.stop) (says_map type_event (place_of_types (place_at q.types.offset q.types.stop (In_type q.types.symbols ∷ rest) q.table.nodes (given_of s.given_use q.given)) rest) (type_step q.types.rules (place_of q.types q.table.nodes)) 0 bytes)
 
   pending_is : (b : List ℕ) → IsPending (state_of s q).pending b → b ≡ pending q.types q.partial
   pending_is b is = rw here at is
 
-  pub option_waits : (input : List ℕ) (used : ℕ) (r' : type.TypeState) (p' : FieldState) (t' : Table) → type.Waits q.types q.partial q.table input used r' p' t' → Waits (state_of s q) input used (state_of s (parts p' r' q.cells t'))
+  pub option_waits : (input : List ℕ) (used : ℕ) (r' : type.TypeState) (p' : FieldState) (t' : Table) → type.Waits q.types q.partial q.table input used r' p' t' → Waits (state_of s q) input used (state_of s (parts p' r' q.cells t' q.given))
   option_waits input used r' p' t' m =
       let offset : r'.offset ≡ q.types.offset = ap (λ (z : type.TypeState). z.offset) m.reader in
       let symbols : r'.symbols ≡ q.types.symbols = ap (λ (z : type.TypeState). z.symbols) m.reader in
       record {
         all = m.all;
-        place = rw (here, m.table) (λ j. place_at (offset j) s.stop (In_type (symbols j) ∷ rest) q.table.nodes);
+        place = rw (here, m.table) (λ j. place_at (offset j) s.stop (In_type (symbols j) ∷ rest) q.table.nodes (given_of s.given_use q.given));
         frame = refl;
         waits = λ b is. (rw (pending_is b is) (told_is (pending q.types q.partial ++ input) ∙ ap (λ z. map_said type_event (place_of_types stands rest) z) m.is), rw (here, pending_is b is) (sym m.pending));
       }
@@ -162,7 +163,7 @@ module _ (s : StreamStanding) (q : PartsState) (here : s.stage ≡ stage.InType)
 
     -- the place that the decoder stands at then
     module _ (e : StreamStanding) (q' : PartsState) (content : q'.partial.content ≡ p'.content) (nodes : q'.table.nodes ≡ t'.nodes) (offset : offset_at e.stage e.offset q' ≡ r'.offset) (stop : e.stop ≡ s.stop) (frame : e.frame ≡ s.frame)
-        (symbols : symbols_at e.stage q' e.upcoming ≡ types_left r'.symbols ++ rest) (fresh : IsPending (state_of e q').pending []) (one : ends_due (symbols_at e.stage q' e.upcoming) ≡ 1) (cells : q'.cells ≡ q.cells) where
+        (symbols : symbols_at e.stage q' e.upcoming ≡ types_left r'.symbols ++ rest) (fresh : IsPending (state_of e q').pending []) (one : ends_due (symbols_at e.stage q' e.upcoming) ≡ 1) (cells : q'.cells ≡ q.cells) (given : given_of e.given_use q'.given ≡ given_of s.given_use q.given) where
       pub option_hands : Moves (state_of s q) input (advance.Event at used (what.Option x)) (state_of e q')
       option_hands = (
         rw content m.can_lend,
@@ -174,7 +175,8 @@ module _ (s : StreamStanding) (q : PartsState) (here : s.stage ≡ stage.InType)
           gives = λ b is.
               let g = option_gives in
               let stopped : r'.stop ≡ s.stop = ap (λ (z : type.TypeState). z.stop) m.reader ∙ o.stop in
-              rw (pending_is b is) (g.0, g.1, g.2, g.3 ∙ ap (λ (z : List ℕ). type_event (part.event_at x input z)) (sym content), g.4 ∙ (λ j. place_at (sym offset j) ((stopped ∙ sym stop) j) (sym symbols j) (sym nodes j)));
+              rw (pending_is b is) (g.0, g.1, g.2, g.3 ∙ ap (λ (z : List ℕ). type_event (part.event_at x input z)) (sym content), g.4 ∙ (λ j. place_at (sym offset j) ((stopped ∙ sym stop) j) (sym symbols j) (sym nodes j) (sym given j)));
+          gifts = refl;
           offset = λ b is. rw (pending_is b is, offset, here) option_on;
           due = one ∙ sym (no_end (part.event_at x input q'.partial.content));
           pays = rw (here, one, cells) (omega (arith, some));
@@ -189,16 +191,16 @@ module _ (s : StreamStanding) (q : PartsState) (here : s.stage ≡ stage.InType)
     none_pending = rw began refl
 
     -- the option goes on
-    pub still_hands : (r'.symbols ≡ [] → ⊥) → Moves (state_of s q) input (advance.Event at used (what.Option x)) (state_of s (parts p' r' q.cells t'))
-    still_hands more = option_hands s (parts p' r' q.cells t') refl refl (rw here refl) refl refl (rw here (sym (left_some r'.symbols rest more))) (rw (here, none_pending) refl) (rw here refl) refl
+    pub still_hands : (r'.symbols ≡ [] → ⊥) → Moves (state_of s q) input (advance.Event at used (what.Option x)) (state_of s (parts p' r' q.cells t' q.given))
+    still_hands more = option_hands s (parts p' r' q.cells t' q.given) refl refl (rw here refl) refl refl (rw here (sym (left_some r'.symbols rest more))) (rw (here, none_pending) refl) (rw here refl) refl refl
 
     -- the option is whole
     module _ (whole : r'.symbols ≡ []) (e : StreamStanding) (r'' : type.TypeState) (offset : e.offset ≡ r'.offset) (stop : e.stop ≡ s.stop) (frame : e.frame ≡ s.frame) (came : e.came ≡ 0) (symbols : (z : PartsState) → symbols_at e.stage z e.upcoming ≡ rest)
-        (room : HasRoom e.stage e.upcoming) where
-      pub ended_hands : Moves (state_of s q) input (advance.Event at used (what.Option x)) (state_of e (parts p' r'' q.cells t'))
+        (room : HasRoom e.stage e.upcoming) (same_use : e.given_use ≡ s.given_use) where
+      pub ended_hands : Moves (state_of s q) input (advance.Event at used (what.Option x)) (state_of e (parts p' r'' q.cells t' q.given))
       ended_hands =
-          let z : PartsState = parts p' r'' q.cells t' in
-          option_hands e z refl refl (offset_is_bare e.stage e.offset z e.upcoming room ∙ offset) stop frame (rw whole (symbols z)) (begun_bare e.stage e.upcoming e.header e.came z room came (m.shared.same ∙ began)) (one_due_bare e.stage z e.upcoming room) refl
+          let z : PartsState = parts p' r'' q.cells t' q.given in
+          option_hands e z refl refl (offset_is_bare e.stage e.offset z e.upcoming room ∙ offset) stop frame (rw whole (symbols z)) (begun_bare e.stage e.upcoming e.header e.came z room came (m.shared.same ∙ began)) (one_due_bare e.stage z e.upcoming room) refl (λ j. given_of (same_use j) q.given)
 
   -- ---- what holds of the decoder then
 
@@ -215,15 +217,15 @@ module _ (s : StreamStanding) (q : PartsState) (here : s.stage ≡ stage.InType)
     idle_cells : is_under_way q.cells ≡ false
     idle_cells = let stage = rw here at law.stage in stage.2
 
-    pub option_more_lawful : (input : List ℕ) (used : ℕ) (r' : type.TypeState) (p' : FieldState) (t' : Table) → type.Waits q.types q.partial q.table input used r' p' t' → IsConsistent s (parts p' r' q.cells t')
+    pub option_more_lawful : (input : List ℕ) (used : ℕ) (r' : type.TypeState) (p' : FieldState) (t' : Table) → type.Waits q.types q.partial q.table input used r' p' t' → IsConsistent s (parts p' r' q.cells t' q.given)
     option_more_lawful input used r' p' t' m =
-        let z : PartsState = parts p' r' q.cells t' in
+        let z : PartsState = parts p' r' q.cells t' q.given in
         let same = m.reader in
         let rules : r'.rules ≡ q.types.rules = ap (λ (x : type.TypeState). x.rules) same in
         let place : place_of r' t'.nodes ≡ place_of q.types q.table.nodes = rw (same, m.table) refl in
         record {
           bounded = law.bounded;
-          parts = record { room = m.room ∙ law.parts.room; rules = rules ∙ law.parts.rules; cells = law.parts.cells; table = rw m.table law.parts.table };
+          parts = record { room = m.room ∙ law.parts.room; rules = rules ∙ law.parts.rules; cells = law.parts.cells; table = rw m.table law.parts.table; few = law.parts.few };
           stage = stage_there z (
             record {
               under_way = ap (λ (x : type.TypeState). x.under_way) same ∙ o.under_way;
@@ -239,17 +241,19 @@ module _ (s : StreamStanding) (q : PartsState) (here : s.stage ≡ stage.InType)
           );
           quiet = record { types = λ idle. let busy = ap (λ (x : type.TypeState). x.under_way) same ∙ o.under_way in cc; cells = law.quiet.cells };
           table = λ none. table_there z (record { begun = run.begun; first = run.first; before = run.before; bytes = run.bytes ++ input; items = run.items; runs = option_waited q.types q.partial q.table input r' p' t' used m run.begun run.bytes run.items run.runs });
+          given = law.given;
+          uses = law.uses;
         }
 
     module _ (input : List ℕ) (at used : ℕ) (x : TypeOutline) (r' : type.TypeState) (p' : FieldState) (t' : Table) (m : type.Ends q.types q.partial q.table input at used x r' p' t') (inside : r'.offset ≤ s.stop) where
-      pub option_still_lawful : (r'.symbols ≡ [] → ⊥) → IsConsistent s (parts p' r' q.cells t')
+      pub option_still_lawful : (r'.symbols ≡ [] → ⊥) → IsConsistent s (parts p' r' q.cells t' q.given)
       option_still_lawful some =
-          let z : PartsState = parts p' r' q.cells t' in
+          let z : PartsState = parts p' r' q.cells t' q.given in
           let same = m.reader in
           let begun : r'.begun ≡ false = ap (λ (y : type.TypeState). y.begun) same in
           record {
             bounded = law.bounded;
-            parts = record { room = m.room ∙ law.parts.room; rules = ap (λ (y : type.TypeState). y.rules) same ∙ law.parts.rules; cells = law.parts.cells; table = m.table ∙ law.parts.table };
+            parts = record { room = m.room ∙ law.parts.room; rules = ap (λ (y : type.TypeState). y.rules) same ∙ law.parts.rules; cells = law.parts.cells; table = m.table ∙ law.parts.table; few = law.parts.few };
             stage = stage_there z (
               record { under_way = ap (λ (y : type.TypeState). y.under_way) same; some = some; shared = m.shared; stop = ap (λ (y : type.TypeState). y.stop) same ∙ o.stop; after = omega (arith, o.after, m.forward); inside = inside; came = o.came },
               λ long. let none : length (pending r' p') ≡ 0 = rw begun refl in absurd (omega arith),
@@ -264,9 +268,11 @@ module _ (s : StreamStanding) (q : PartsState) (here : s.stage ≡ stage.InType)
               items = run.items ++ (at, part.event_at x input p'.content) ∷ [];
               runs = option_handed q.types q.partial q.table input r' p' t' at used x m run.begun run.bytes run.items run.runs;
             });
+            given = law.given;
+            uses = law.uses;
           }
 
-      pub option_ended_lawful : r'.symbols ≡ [] → (e : StreamStanding) (r'' : type.TypeState) → r'' ≡ type.stopped r' → e.offset ≡ r'.offset → e.stop ≡ s.stop → e.limits ≡ s.limits → e.header ≡ s.header → e.came ≡ s.came → HasRoom e.stage e.upcoming → IsConsistent e (parts p' r'' q.cells t')
+      pub option_ended_lawful : r'.symbols ≡ [] → (e : StreamStanding) (r'' : type.TypeState) → r'' ≡ type.stopped r' → e.offset ≡ r'.offset → e.stop ≡ s.stop → e.limits ≡ s.limits → e.header ≡ s.header → e.came ≡ s.came → HasRoom e.stage e.upcoming → IsConsistent e (parts p' r'' q.cells t' q.given)
       option_ended_lawful whole e r'' over offset stop limits header came room =
           let same = m.reader in
           let rules : r'.rules ≡ rules_of s.limits = ap (λ (y : type.TypeState). y.rules) same ∙ law.parts.rules in
@@ -274,21 +280,21 @@ module _ (s : StreamStanding) (q : PartsState) (here : s.stage ≡ stage.InType)
           let is = option_over run.begun 1 r' p' t' (run.bytes ++ take used input) (run.items ++ (at, part.event_at x input p'.content) ∷ []) run.first (option_handed q.types q.partial q.table input r' p' t' at used x m run.begun run.bytes run.items run.runs) whole begun in
           let forest : Forest t'.nodes 0 s.limits.depth = forest_more (rules_of s.limits) run.begun.offset run.begun.nodes (run.bytes ++ take used input) (run.items ++ (at, part.event_at x input p'.content) ∷ []) t'.nodes run.before (rw rules at is) in
           goes_on_lawful s e q p' r'' q.cells t' (r'.offset - s.offset) law (omega (arith, offset, o.after, m.forward)) (omega (arith, inside, o.after, m.forward)) stop limits header (came ∙ o.came)
-          m.room (m.shared.same ∙ begun) (rw over (ap (λ (y : type.TypeState). y.rules) same)) (rw over refl) refl idle_cells m.table forest (starts_bare e t'.nodes e.stage room) (record { types = λ idle. rw over refl; cells = law.quiet.cells })
+          m.room (m.shared.same ∙ begun) (rw over (ap (λ (y : type.TypeState). y.rules) same)) (rw over refl) refl idle_cells m.table forest (starts_bare e (parts p' r'' q.cells t' q.given) e.stage room) (record { types = λ idle. rw over refl; cells = law.quiet.cells })
 
 -- ---- an option begins
 
 module _ (s : StreamStanding) (q : PartsState) (here : s.stage ≡ stage.BeforeType) where
-  pub option_begun_same : state_of (record s { stage = stage.InType }) (parts q.partial (type.started q.types s.offset s.stop) q.cells q.table) ≡ state_of s q
+  pub option_begun_same : state_of (record s { stage = stage.InType }) (parts q.partial (type.started q.types s.offset s.stop) q.cells q.table q.given) ≡ state_of s q
   option_begun_same = rw here refl
 
-  pub option_begun_lawful : IsConsistent s q → s.refusal ≡ None → IsConsistent (record s { stage = stage.InType }) (parts q.partial (type.started q.types s.offset s.stop) q.cells q.table)
+  pub option_begun_lawful : IsConsistent s q → s.refusal ≡ None → IsConsistent (record s { stage = stage.InType }) (parts q.partial (type.started q.types s.offset s.stop) q.cells q.table q.given)
   option_begun_lawful law unrefused =
       let idle = rw here at law.stage in
       let forest : Forest q.table.nodes 0 s.limits.depth = rw here at (law.table unrefused) in
       record {
         bounded = record { long = law.bounded.long; inside = law.bounded.inside; size = law.bounded.size; bound = law.bounded.bound };
-        parts = record { room = law.parts.room; rules = law.parts.rules; cells = law.parts.cells; table = law.parts.table };
+        parts = record { room = law.parts.room; rules = law.parts.rules; cells = law.parts.cells; table = law.parts.table; few = law.parts.few };
         stage = (
           record {
             under_way = refl;
@@ -311,4 +317,6 @@ module _ (s : StreamStanding) (q : PartsState) (here : s.stage ≡ stage.BeforeT
           items = [];
           runs = option_begun q.types q.partial q.table s.offset s.stop;
         };
+        given = law.given;
+        uses = tt;
       }

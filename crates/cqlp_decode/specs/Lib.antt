@@ -3,4 +3,5 @@ pub mod Pages
 pub mod Standing
 pub mod Streams
 pub mod Lending
+pub mod Giving
 pub mod Draining

@@ -1,5 +1,5 @@
 -- The cells that are still to be read of a page (section 4.2.5.2 of native_protocol_v4.spec).
-use Rattle.std.specs.Prelude.{◌≡◌, ℕ, ◌+◌, ◌-◌, ◌<◌, ◌≤◌, ◌^◌, ◌++◌, Bool, List, [], ◌∷◌, length, drop, Option, Some, None}
+use Rattle.std.specs.Prelude.{◌≡◌, ℕ, ◌+◌, ◌-◌, ◌<◌, ◌≤◌, ◌^◌, ◌++◌, Bool, true, List, [], ◌∷◌, length, drop, Option, Some, None, if◌then◌else◌, ⊤}
 use Rattle.cqlp_note.specs.Field.{FieldValue}
 use Rattle.cqlp_kind.specs.declared.kind.Kind.{Kind}
 use Rattle.cqlp_kind.specs.declared.node.Node.{Node}
@@ -15,10 +15,9 @@ use Rattle.cqlp_grammar.specs.Productions.{Symbol, Cell_due, In_cell, row_from, 
 use Rattle.cqlp_decode.specs.declared.page.Columns.{Columns}
 use Rattle.cqlp_decode.specs.declared.page.Columns.TheVariants as columns
 use Rattle.cqlp_decode.specs.declared.page.CellCursor.{CellCursor}
-use Rattle.cqlp_decode.specs.Reading as reading
-use Rattle.cqlp_decode.specs.Reading.{Given, Nothing, Waiting, InUse, Used, page_types, types_for}
-use Rattle.cqlp_decode.specs.declared.standing.GivenUse.{GivenUse}
-use Rattle.cqlp_decode.specs.declared.standing.GivenUse.TheVariants as use
+use Rattle.cqlp_decode.specs.Reading.{Given, Nothing, Waiting, InUse, Used, serves, serves_after, page_types, types_for}
+use Rattle.cqlp_decode.specs.declared.given.GivenUse.{GivenUse}
+use Rattle.cqlp_decode.specs.declared.given.GivenUse.TheVariants as uses
 use Rattle.cqlp_type.specs.Table.{Table}
 
 abbrev pub column_types : List Node → Columns → Types
@@ -117,9 +116,19 @@ Begins nodes depth c rows (Some p) =
 -- what the table that the caller gave is for
 abbrev pub given_of : GivenUse → Option Table → Given
 given_of u None = Nothing
-given_of use.Waiting (Some t) = Waiting (types_of t.nodes)
-given_of use.InUse (Some t) = InUse (types_of t.nodes)
-given_of use.Used (Some t) = Used (types_of t.nodes)
+given_of uses.Waiting (Some t) = Waiting (types_of t.nodes)
+given_of uses.InUse (Some t) = InUse (types_of t.nodes)
+given_of uses.Used (Some t) = Used (types_of t.nodes)
+
+-- what it is for where a page begins, which it types or not
+abbrev pub use_after : (served : Bool) → GivenUse → GivenUse
+use_after served u = if served then uses.InUse else u
+
+-- what it is for after the end of a frame
+abbrev pub ended_use : GivenUse → GivenUse
+ended_use uses.Waiting = uses.Waiting
+ended_use uses.InUse = uses.Used
+ended_use uses.Used = uses.Used
 
 -- the nodes of the table that types a page's columns: those of the metadata, or those that were given
 abbrev pub page_nodes : Columns → List Node → Option Table → List Node
@@ -142,12 +151,15 @@ module _ (nodes : List Node) (given : Option Table) (u : GivenUse) where
   Follows depth types r v (Some p) =
       (symbols_after types nodes (given_of u given) r v ≡ cells_from (page_nodes p.columns nodes given) p)
       × IsPage (page_nodes p.columns nodes given) depth p
+      × (p.columns ≡ columns.Given → serves_after r (given_of u given) ≡ true)
 
   abbrev pub FindsPage : (types : Bool) → Role → FieldValue → Option CellCursor → Type 0
   FindsPage types r v o =
       (depth : ℕ) → Forest nodes 0 depth → HoldsForest depth given → Follows depth types r v o
 
-  -- the columns of a page whose metadata has these flags and this many columns
-  abbrev pub AreColumns : (types : Bool) → (flags columns : ℕ) → Columns → Type 0
-  AreColumns types flags n c =
-      page_types types flags n nodes (given_of u given) ≡ column_types (page_nodes c nodes given) c
+-- The columns of a page whose metadata has these flags and this many columns, by whether what is given types it.
+abbrev pub AreColumns : (types : Bool) → (flags columns : ℕ) → (served : Bool) → Columns → Type 0
+AreColumns types flags n served c =
+    (nodes : List Node) (given : Option Table) (u : GivenUse) → served ≡ serves flags n (given_of u given)
+    → (page_types types flags n nodes (given_of u given) ≡ column_types (page_nodes c nodes given) c)
+    × (c ≡ columns.Given → served ≡ true)

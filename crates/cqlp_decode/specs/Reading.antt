@@ -1,5 +1,5 @@
 -- What a stream of frames says, from left to right.
-use Rattle.std.specs.Prelude.{◌≡◌, ℕ, zero, suc, ◌+◌, ◌-◌, ◌++◌, ◌^◌, Bool, false, ◌&&◌, List, [], ◌∷◌, drop, Option, Some, None, nat_lt, ◌==◌, if◌then◌else◌, Ok, Err}
+use Rattle.std.specs.Prelude.{◌≡◌, ℕ, zero, suc, ◌+◌, ◌-◌, ◌++◌, ◌^◌, Bool, true, false, ◌&&◌, List, [], ◌∷◌, drop, Option, Some, None, nat_lt, ◌==◌, if◌then◌else◌, Ok, Err}
 use Rattle.cqlp_note.specs.declared.field.Field.{Field}
 use Rattle.cqlp_note.specs.declared.refusal.Reason.{Reason}
 use Rattle.cqlp_note.specs.declared.refusal.Reason.TheVariants.{StreamTooLong}
@@ -113,10 +113,17 @@ abbrev pub types_for : (types : Bool) → Role → List Node → Given → Types
 types_for types (role.PageRows flags columns) nodes given = page_types types flags columns nodes given
 types_for types r nodes given = raw_types 0
 
+-- the given types are those of the page that begins after a field of this role
+abbrev pub serves_after : Role → Given → Bool
+serves_after (role.PageRows flags columns) given = serves flags columns given
+serves_after r given = false
+
 abbrev pub given_after : Role → Given → Given
-given_after (role.PageRows flags columns) given =
-    if serves flags columns given then InUse (given_types given) else given
-given_after r given = given
+given_after r given = if serves_after r given then InUse (given_types given) else given
+
+abbrev pub is_in_use : Given → Bool
+is_in_use (InUse ts) = true
+is_in_use g = false
 
 abbrev pub retired : Given → Given
 retired (InUse ts) = Used ts

@@ -49,9 +49,10 @@ use Rattle.cqlp_kind.specs.Contents.{value_of as scalar_value}
 use Rattle.cqlp_decode.specs.declared.page.CellCursor.{CellCursor}
 use Rattle.cqlp_grammar.specs.Upcoming.{symbols_in, wanted, room_after, IsRead}
 use Rattle.cqlp_decode.specs.declared.page.Columns.{Columns}
+use Rattle.cqlp_decode.specs.declared.page.Columns.TheVariants as columns
 use Rattle.cqlp_decode.specs.Pages.{cells_from, page_symbols, node_by, symbols_after, IsPage, given_of, page_nodes}
 use Rattle.cqlp_decode.specs.Reading as reading
-use Rattle.cqlp_decode.specs.Reading.{Place, Event, Given, retired, start, step}
+use Rattle.cqlp_decode.specs.Reading.{Place, Event, Given, is_in_use, retired, start, step}
 
 -- The bytes of what is under way that have come: they are kept, or this many were skipped, or they are those of a value
 -- whose length may have come before them.
@@ -180,6 +181,7 @@ abbrev pub AdvancesFrom : Option Refusal → StreamState → List ℕ → EventA
 AdvancesFrom (Some r) old input a new = (a ≡ advance.Refused r) × (new ≡ old)
 AdvancesFrom None old input a new =
     Moves old input a new × (new.refusal ≡ refusal_in a) × (new.rules ≡ old.rules) × (new.given ≡ old.given)
+    × LeavesGiven a old.place.given new.place.given
 
 abbrev pub Advances : StreamState → List ℕ → EventAdvance → StreamState → Type 0
 Advances old input a new = AdvancesFrom old.refusal old input a new
@@ -383,11 +385,18 @@ pub record HasParts (s : StreamStanding) (q : PartsState) : Type 0 where
   pub rules : q.types.rules ≡ rules_of s.limits
   pub cells : q.cells.rules ≡ rules_of s.limits
   pub table : q.table.room ≡ s.limits.entries
+  pub few : s.limits.entries < 2 ^ 31
 
 -- The given table is whole types, no more and nested no deeper than the limits allow.
 abbrev pub HoldsGiven : Limits → Option Table → Type 0
 HoldsGiven l None = ⊤
 HoldsGiven l (Some t) = Forest t.nodes 0 l.depth × (length t.nodes ≤ l.entries)
+
+-- a page that the given table types is read while it is in use
+abbrev pub UsesGiven : Given → StreamStage → Type 0
+UsesGiven held (stage.BeforeCell p) = p.columns ≡ columns.Given → is_in_use held ≡ true
+UsesGiven held (stage.InCell p) = p.columns ≡ columns.Given → is_in_use held ≡ true
+UsesGiven held t = ⊤
 
 pub record IsConsistent (s : StreamStanding) (q : PartsState) : Type 0 where
   pub bounded : IsBounded s
@@ -396,6 +405,7 @@ pub record IsConsistent (s : StreamStanding) (q : PartsState) : Type 0 where
   pub quiet : IsQuiet q
   pub table : s.refusal ≡ None → TableHolds (rules_of s.limits) q s.stage
   pub given : HoldsGiven s.limits q.given
+  pub uses : UsesGiven (given_of s.given_use q.given) s.stage
 
 -- ---- the same of the parts as the code has them
 
@@ -455,18 +465,36 @@ HasRoom stage.Extra upcoming = ⊤
 abbrev pub IsAt : StreamStanding → (offset : ℕ) → StreamStanding → Type 0
 IsAt new offset old = new ≡ record old { offset = offset; stage = new.stage; upcoming = new.upcoming }
 
--- The message goes on with these symbols, and then with what came after what was read. In the tables are these nodes.
-abbrev pub GoesOn : (old new : StreamStanding) → List Node → Option Table → List Symbol → Type 0
-GoesOn old new nodes given symbols =
-    (q : PartsState) → q.table.nodes ≡ nodes → q.given ≡ given
-    → symbols_at new.stage q new.upcoming ≡ symbols ++ rest_of old.upcoming
+-- nothing is under way, and what follows has room, or it is the cells of a page
+abbrev pub Starts : StreamStanding → PartsState → StreamStage → Type 0
+Starts s q (stage.BeforeCell p) =
+    IsPage (nodes_of q p.columns) s.limits.depth p × UsesGiven (given_of s.given_use q.given) (stage.BeforeCell p)
+Starts s q t = HasRoom t s.upcoming
 
--- The message goes on with what follows from the value of a field.
+-- The message goes on with these symbols, and then with what came after what was read.
+abbrev pub Continues : (old new : StreamStanding) → PartsState → List Symbol → Type 0
+Continues old new q symbols =
+    (symbols_at new.stage q new.upcoming ≡ symbols ++ rest_of old.upcoming) × Starts new q new.stage
+
+-- The message goes on after a cell with these symbols, in the tables in which its page's columns have these nodes.
+abbrev pub GoesOn : (old new : StreamStanding) → CellCursor → List Node → List Symbol → Type 0
+GoesOn old new p nodes symbols =
+    (q : PartsState) → nodes_of q p.columns ≡ nodes → UsesGiven (given_of old.given_use q.given) (stage.BeforeCell p)
+    → Continues old new q symbols
+
+-- The message goes on with what follows from the value of a field. In the tables are these nodes.
 abbrev pub GoesOnAfter : (old new : StreamStanding) → List Node → Option Table → Role → FieldValue → Type 0
 GoesOnAfter old new nodes given r v =
-    GoesOn old new nodes given (symbols_after old.limits.types nodes (given_of old.given_use given) r v)
+    (q : PartsState) → q.table.nodes ≡ nodes → q.given ≡ given
+    → Continues old new q (symbols_after old.limits.types nodes (given_of old.given_use given) r v)
 
--- a message goes on here, with nothing under way, and perhaps with the cells of a page
-abbrev pub Starts : StreamStanding → List Node → Option Table → StreamStage → Type 0
-Starts s nodes given (stage.BeforeCell p) = IsPage (page_nodes p.columns nodes given) s.limits.depth p
-Starts s nodes given t = HasRoom t s.upcoming
+-- no page is read now
+abbrev pub IsNoPage : StreamStage → Type 0
+IsNoPage (stage.BeforeCell p) = ⊥
+IsNoPage (stage.InCell p) = ⊥
+IsNoPage t = ⊤
+
+-- a refusal ends a page, and leaves a given table in use
+abbrev pub EndsPage : EventAdvance → (old new : StreamStanding) → Type 0
+EndsPage (advance.Refused r) old new = IsNoPage new.stage × (new.given_use ≡ old.given_use)
+EndsPage a old new = ⊤

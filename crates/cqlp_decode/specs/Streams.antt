@@ -7,6 +7,8 @@ use Rattle.cqlp_grammar.specs.declared.event.Finish.{Finish}
 use Rattle.cqlp_grammar.specs.declared.event.Finish.TheVariants as finish
 use Rattle.cqlp_decode.specs.declared.step.Held.{Held}
 use Rattle.cqlp_note.specs.Limits.{Rules}
+use Rattle.cqlp_kind.specs.declared.node.Node.{Node}
+use Rattle.cqlp_type.specs.Table.{Table}
 use Rattle.cqlp_decode.specs.declared.standing.StreamStanding.{StreamStanding}
 use Rattle.cqlp_decode.specs.Reading as reading
 use Rattle.cqlp_note.specs.Reader.{says, Bad}
@@ -118,9 +120,9 @@ Uses input (step.Refused r) = ⊤
 abbrev pub Goes : StreamState → Step → StreamState → Type 0
 Goes old (step.Event at used e) new =
     (ends_due new.place.symbols + new.open_values < ends_due old.place.symbols + old.open_values + 2 * used)
-    × IsLent (event_of e) used new.held × (new.rules ≡ old.rules) × (new.refusal ≡ None)
-Goes old (step.More used) new = (new.rules ≡ old.rules) × (new.refusal ≡ None)
-Goes old (step.Refused r) new = (new.rules ≡ old.rules) × (new.refusal ≡ Some r)
+    × IsLent (event_of e) used new.held × (new.rules ≡ old.rules) × (new.refusal ≡ None) × (new.given ≡ old.given)
+Goes old (step.More used) new = (new.rules ≡ old.rules) × (new.refusal ≡ None) × (new.given ≡ old.given)
+Goes old (step.Refused r) new = (new.rules ≡ old.rules) × (new.refusal ≡ Some r) × (new.given ≡ old.given)
 
 -- after a refusal, whatever came before it, a call says it again and changes nothing
 abbrev pub Repeats : Option Refusal → StreamState → Step → StreamState → Type 0
@@ -157,10 +159,15 @@ EndsAs d f = (gifts : Gifts) (s : List ℕ) (es : List (ℕ × Event)) → After
 
 -- ---- what is held
 
+-- the nodes of the table that the caller gave
+abbrev pub given_nodes : Option Table → List Node
+given_nodes None = []
+given_nodes (Some t) = t.nodes
+
 -- no content, no type and no level
 abbrev pub HoldsNothing : Decoding → Type 0
 HoldsNothing d = ((state d).held ≡ []) × ((state d).place.nodes ≡ []) × (levels_of d.parts ≡ 0)
 
--- no more than the rules allow
+-- no more than the rules allow, of two tables
 abbrev pub IsWithin : Held → Rules → Type 0
-IsWithin h l = (h.bytes ≤ max l.text l.cell) × (h.entries ≤ l.entries) × (h.levels ≤ l.depth)
+IsWithin h l = (h.bytes ≤ max l.text l.cell) × (h.entries ≤ 2 * l.entries) × (h.levels ≤ l.depth)

@@ -1,6 +1,6 @@
 //! The decoder of a stream of frames.
 
-ghost use Rattle.std.specs.Prelude.{◌≡◌, ◌≤◌, ◌↔◌, [], length, IfOk, IsErrOf, Err, max, None, Some};
+ghost use Rattle.std.specs.Prelude.{◌≡◌, ◌+◌, ◌<◌, ◌≤◌, ◌^◌, ◌↔◌, [], length, IfOk, IsErrOf, Err, Ok, max, None, Some};
 ghost use Rattle.std.specs.Borrow.{sem};
 ghost use Rattle.cqlp_note.specs.Limits.{first_bad, rules_of};
 ghost use Rattle.cqlp_note.specs.Head.{value_of};
@@ -13,6 +13,7 @@ ghost use Rattle.cqlp_note.specs.declared.limits.BadLimits.{BadLimits as Bad};
 ghost use Rattle.cqlp_note.specs.declared.refusal.Refusal.{Refusal};
 
 use crate::advance::{EventAdvance, EventOutline, ScalarCell};
+use crate::given::{GiveError, GiveReason, GivenUse};
 use crate::parts::Parts;
 use crate::standing::StreamStanding;
 use crate::step::{Held, Step};
@@ -64,6 +65,7 @@ impl<A: Allocator + Clone> Decoder<A> {
         ensures unrefused { IfOk result (λ d. (state d).refusal ≡ None) }
         ensures rules { IfOk result (λ d. (state d).rules ≡ rules_of limits) }
         ensures nothing_held { IfOk result (λ d. HoldsNothing d) }
+        ensures nothing_given { IfOk result (λ d. (state d).given ≡ None) }
     {
         if let Err(bad) = limits.check() {
             return Err(NewError::BadLimits(bad));
@@ -75,11 +77,13 @@ impl<A: Allocator + Clone> Decoder<A> {
     }
 
     fn with_room(alloc: A, limits: Limits) -> Result<Self, NoMemory>
-        requires { 1 ≤ limits.cell }
+        requires cell { 1 ≤ limits.cell }
+        requires entries { limits.entries < 2 ^ 31 }
         ensures fresh { IfOk result (λ d. After (state d) [] []) }
         ensures unrefused { IfOk result (λ d. (state d).refusal ≡ None) }
         ensures rules { IfOk result (λ d. (state d).rules ≡ rules_of limits) }
         ensures nothing_held { IfOk result (λ d. HoldsNothing d) }
+        ensures nothing_given { IfOk result (λ d. (state d).given ≡ None) }
     {
         let partial = Partial::new(alloc.clone()?, limits.text.max(limits.cell))?;
         let table = TypeTable::new(alloc.clone()?, limits.entries)?;
@@ -91,6 +95,7 @@ impl<A: Allocator + Clone> Decoder<A> {
             types,
             cells,
             table,
+            given: None,
         };
         Ok(Decoder { standing, parts })
     }
@@ -98,8 +103,12 @@ impl<A: Allocator + Clone> Decoder<A> {
 
 impl<A: Allocator> Decoder<A> {
     ghost use Rattle.cqlp_decode.specs.Lending.{LeavesAnswer};
-    ghost use Rattle.cqlp_decode.specs.Standing.{Advances, LeavesTypes, Takes, WhatThere, event_at};
-    ghost use Rattle.cqlp_decode.specs.Streams.{EndsAs, IsWithin, Uses, state};
+    ghost use Rattle.cqlp_decode.specs.Giving.{GivesAlso, TakesAlso, after_taking, free_table, once_given, reason_against};
+    ghost use Rattle.cqlp_decode.specs.Reading.{Gives, is_in_use};
+    ghost use Rattle.cqlp_decode.specs.Standing.{Advances, HoldsGiven, LeavesTypes, Takes, WhatThere, event_at};
+    ghost use Rattle.cqlp_decode.specs.Streams.{EndsAs, IsWithin, Uses, given_nodes, state};
+    ghost use Rattle.cqlp_decode.specs.declared.given.GiveReason.{GiveReason as Why};
+    ghost use Rattle.cqlp_kind.specs.Types.{types_of};
 
     /// The next event that the input leads to. The caller hands in the bytes after those that were used, and goes on
     /// until more are wanted. A refusal is final: each later call says it again.
@@ -130,6 +139,37 @@ impl<A: Allocator> Decoder<A> {
         }
     }
 
+    /// Gives types for a page whose result has the flag No_metadata (0x04, section 4.2.5.2): they wait for the first page
+    /// that has it and as many columns as they are, type its cells, and type no other page unless they are given again. The
+    /// table that was held before comes back. A table that is not taken comes back with the first reason against it, and
+    /// nothing changes.
+    pub fn give(&mut self, table: TypeTable<A>) -> Result<Option<TypeTable<A>>, GiveError<A>>
+        ensures refused { (w : Why) → reason_against (state self.old) table.nodes ≡ Some w
+            → (result ≡ Err (record { why = w; table = table })) × (self.new ≡ self.old) }
+        ensures taken { reason_against (state self.old) table.nodes ≡ None
+            → (result ≡ Ok (state self.old).given) × (state self.new ≡ once_given (state self.old) table) }
+        ensures after { reason_against (state self.old) table.nodes ≡ None
+            → GivesAlso (Gives (types_of table.nodes)) (state self.old) (state self.new) }
+    {
+        if let Some(why) = self.reason(&table) {
+            return Err(GiveError { why, table });
+        }
+        self.standing.given_use = GivenUse::Waiting;
+        Ok(self.parts.given.replace(table))
+    }
+
+    /// Takes back the table that was given, if one is held and not in use. After a refusal none is in use.
+    pub fn take_given(&mut self) -> Option<TypeTable<A>>
+        ensures given { result ≡ free_table (state self.old) }
+        ensures left { state self.new ≡ after_taking result (state self.old) }
+        ensures after { TakesAlso result (state self.old) (state self.new) }
+    {
+        if self.is_in_use() {
+            return None;
+        }
+        self.parts.given.take()
+    }
+
     /// How the stream ends, if it ends after the bytes that were used.
     pub fn finish(&self) -> Finish
         ensures refused { (r : Refusal) → (state self.now).refusal ≡ Some r → result ≡ Finish.Refused r }
@@ -138,17 +178,18 @@ impl<A: Allocator> Decoder<A> {
         self.standing.finish(&self.parts)
     }
 
-    /// What is held of the stream: at most as many bytes as the greater of the limits on a text and on a cell, as many
-    /// type options as their limit, and as many levels as the limit on nesting.
+    /// What is held of the stream: at most as many bytes as the greater of the limits on a text and on a cell, twice as many
+    /// type options as their limit, since two tables are held, and as many levels as the limit on nesting.
     pub fn held(&self) -> Held
         ensures bytes { result.bytes ≡ length (state self.now).held }
-        ensures entries { result.entries ≡ length (state self.now).place.nodes }
+        ensures entries { result.entries
+            ≡ length (state self.now).place.nodes + length (given_nodes (state self.now).given) }
         ensures levels { result.levels ≡ levels_of self.now.parts }
         ensures bounded { IsWithin result (state self.now).rules }
     {
         Held {
             bytes: self.parts.partial.held(),
-            entries: self.parts.table.len(),
+            entries: self.parts.table.len() + self.given_len(),
             levels: self.parts.types.held() + self.parts.cells.levels(),
         }
     }
@@ -158,6 +199,46 @@ impl<A: Allocator> Decoder<A> {
         ensures { result.now.nodes ≡ (state self.now).place.nodes }
     {
         &self.parts.table
+    }
+
+    /// How many type options the table has that the caller gave.
+    fn given_len(&self) -> u32
+        ensures is { result ≡ length (given_nodes (state self.now).given) }
+        ensures bound { result ≤ (state self.now).rules.entries }
+    {
+        match &self.parts.given {
+            Some(table) => table.len(),
+            None => 0,
+        }
+    }
+
+    /// Why a table is not taken now, if so.
+    fn reason(&self, table: &TypeTable<A>) -> Option<GiveReason>
+        ensures is { result ≡ reason_against (state self.now) table.now.nodes }
+        ensures fits { result ≡ None → HoldsGiven self.now.standing.limits (Some table.now) }
+    {
+        if self.standing.refusal.is_some() {
+            Some(GiveReason::Ended)
+        } else if !self.standing.limits.types {
+            Some(GiveReason::Off)
+        } else if self.is_in_use() {
+            Some(GiveReason::Busy)
+        } else if !table.whole() {
+            Some(GiveReason::Open)
+        } else if table.len() > self.standing.limits.entries {
+            Some(GiveReason::TooMany)
+        } else if table.depth() > self.standing.limits.depth {
+            Some(GiveReason::TooDeep)
+        } else {
+            None
+        }
+    }
+
+    /// Whether a given table types the frame under way.
+    fn is_in_use(&self) -> bool
+        ensures { result ≡ is_in_use (state self.now).place.given }
+    {
+        self.parts.given.is_some() && matches!(self.standing.given_use, GivenUse::InUse)
     }
 
     /// Takes the cell that is due, where it is a scalar and all its bytes lie in the input.

@@ -3,6 +3,7 @@
 
 mod advance;
 mod decoder;
+mod given;
 mod metadata;
 mod page;
 mod parts;
@@ -12,5 +13,6 @@ mod step;
 
 pub use cqlp_grammar::{Event, Finish, Sink, SinkFault};
 pub use decoder::{Decoder, NewError};
+pub use given::{GiveError, GiveReason};
 pub use running::{Outcome, run};
 pub use step::{Held, Step};

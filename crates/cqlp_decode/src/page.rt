@@ -1,11 +1,16 @@
 //! The cells of a page, in their order.
 
-ghost use Rattle.std.specs.Prelude.{◌≡◌, ◌↔◌, ℕ, IsTrue};
+ghost use Rattle.std.specs.Prelude.{◌≡◌, ◌↔◌, ℕ, List, IsTrue};
 ghost use Rattle.cqlp_note.specs.Head.{value_of};
+ghost use Rattle.cqlp_kind.specs.declared.node.Node.{Node};
 ghost use Rattle.cqlp_type.specs.Forests.{Forest};
 ghost use Rattle.cqlp_kind.specs.Types.{NoMore};
-ghost use Rattle.cqlp_decode.specs.Pages.{AreColumns, Begins, FindsColumn, FindsPage, IsKind, IsPage, IsSomePage, Turns, column_types, node_by};
+ghost use Rattle.cqlp_decode.specs.Reading.{serves_after};
+ghost use Rattle.cqlp_decode.specs.Pages.{AreColumns, Begins, FindsColumn, FindsPage, HoldsForest, IsKind, IsPage, IsSomePage, Turns};
+ghost use Rattle.cqlp_decode.specs.Pages.{column_types, given_of, node_by, page_nodes};
+ghost use Rattle.cqlp_decode.specs.declared.given.GivenUse.{GivenUse as Use};
 
+use crate::given::GivenUse;
 use cqlp_grammar::{Role, has, number};
 use cqlp_kind::Kind;
 use cqlp_note::{Limits, Prim};
@@ -15,8 +20,10 @@ use std::alloc::Allocator;
 /// The types of a page's columns.
 #[derive(Clone, Copy, Debug, PartialEq, Eq)]
 pub enum Columns {
-    /// Those of the table.
+    /// Those of the metadata.
     Typed,
+    /// Those of the table that the caller gave.
+    Given,
     /// This many columns, whose types are not known.
     Raw(u32),
 }
@@ -37,7 +44,7 @@ impl Columns {
         ensures { IsTrue result ↔ (column_types table.now.nodes self ≡ NoMore) }
     {
         match self {
-            Columns::Typed => table.is_empty(),
+            Columns::Typed | Columns::Given => table.is_empty(),
             Columns::Raw(columns) => columns == 0,
         }
     }
@@ -65,7 +72,7 @@ impl CellCursor {
         ensures { result ≡ node_by self.now.columns self.now.index }
     {
         match self.columns {
-            Columns::Typed => Some(self.index),
+            Columns::Typed | Columns::Given => Some(self.index),
             Columns::Raw(_) => None,
         }
     }
@@ -76,7 +83,7 @@ impl CellCursor {
         ensures { (depth : ℕ) → IsPage table.now.nodes depth self.now → IsKind table.now.nodes self.now result }
     {
         match self.columns {
-            Columns::Typed => table.node(self.index).unwrap().kind,
+            Columns::Typed | Columns::Given => table.node(self.index).unwrap().kind,
             Columns::Raw(_) => Kind::Raw,
         }
     }
@@ -111,7 +118,7 @@ impl CellCursor {
         ensures { FindsColumn table.now.nodes self.now result }
     {
         match self.columns {
-            Columns::Typed => {
+            Columns::Typed | Columns::Given => {
                 let end = table.len();
                 let index = self.index + table.node(self.index).unwrap().span;
                 (index < end).then_some(index)
@@ -121,28 +128,61 @@ impl CellCursor {
     }
 }
 
-/// The page that begins after a field of this role that has this value, if it has a cell.
+/// The table that types the columns of a page: that of the metadata, or the one that was given.
+pub fn page_table<'a, A: Allocator>(
+    columns: Columns,
+    table: &'a TypeTable<A>,
+    given: &'a Option<TypeTable<A>>,
+) -> &'a TypeTable<A>
+    ensures { result.now.nodes ≡ page_nodes columns table.now.nodes given.now }
+{
+    match (columns, given) {
+        (Columns::Given, Some(given)) => given,
+        _ => table,
+    }
+}
+
+/// Whether a given table types the page that begins after a field of this role: it waits, the metadata has no types, and
+/// as many types stand in it as the page has columns.
+pub fn serves<A: Allocator>(role: Role, given: &Option<TypeTable<A>>, given_use: GivenUse) -> bool
+    ensures { (depth : ℕ) → HoldsForest depth given.now → result ≡ serves_after role (given_of given_use given.now) }
+{
+    match (role, given, given_use) {
+        (Role::PageRows { flags, columns }, Some(table), GivenUse::Waiting) => {
+            has(flags, 0x04) && table.roots() == columns
+        }
+        _ => false,
+    }
+}
+
+/// The page that begins after a field of this role that has this value, if it has a cell. A given table types it where it
+/// was found to serve.
 pub fn find_page<A: Allocator>(
     limits: &Limits,
     role: Role,
     value: Prim<'_>,
     table: &TypeTable<A>,
+    given: &Option<TypeTable<A>>,
+    served: bool,
 ) -> Option<CellCursor>
-    ensures { FindsPage table.now.nodes limits.now.types role (value_of value.entry) result }
+    ensures { (u : Use) → served ≡ serves_after role (given_of u given.now)
+        → FindsPage table.now.nodes given.now u limits.now.types role (value_of value.entry) result }
 {
     let Role::PageRows { flags, columns } = role else {
         return None;
     };
-    CellCursor::first(columns_of(limits, flags, columns), number(value), table)
+    let columns = columns_of(limits, flags, columns, served);
+    CellCursor::first(columns, number(value), page_table(columns, table, given))
 }
 
 /// The types of this many columns, whose metadata has these flags.
-fn columns_of(limits: &Limits, flags: u32, columns: u32) -> Columns
-    ensures { AreColumns limits.now.types flags columns result }
+fn columns_of(limits: &Limits, flags: u32, columns: u32, served: bool) -> Columns
+    ensures { AreColumns limits.now.types flags columns served result }
 {
-    match (limits.types, has(flags, 0x04)) {
-        (true, false) => Columns::Typed,
-        (true, true) => Columns::Raw(columns),
-        (false, _) => Columns::Raw(columns),
+    match (limits.types, served, has(flags, 0x04)) {
+        (true, true, _) => Columns::Given,
+        (true, false, false) => Columns::Typed,
+        (true, false, true) => Columns::Raw(columns),
+        (false, _, _) => Columns::Raw(columns),
     }
 }

@@ -16,4 +16,6 @@ pub struct Parts<A: Allocator> {
     pub cells: CellReader<A>,
     /// The types of the metadata begun last.
     pub table: TypeTable<A>,
+    /// The table that the caller gave.
+    pub given: Option<TypeTable<A>>,
 }

@@ -50,6 +50,7 @@ pub fn run<R: Source, S: Sink, A: Allocator>(
     ensures reads { (xs : List ℕ) → R.left reader.old ≡ Some xs → ReadsAtMost (4096 * turns) xs (R.left reader.new) }
     ensures failures { Counts result (R.failures reader.old) (R.failures reader.new) }
     ensures rules { (state decoder.new).rules ≡ (state decoder.old).rules }
+    ensures given { (state decoder.new).given ≡ (state decoder.old).given }
 {
     let mut buffer = [0; 4096];
     match drain(decoder, &[], sink) {
@@ -84,6 +85,7 @@ fn drain<S: Sink, A: Allocator>(decoder: &mut Decoder<A>, input: &[u8], sink: &m
         DrainsTo S.after S.faulted (state decoder.old) input.now result (state decoder.new)
         (S.view sink.old) (S.view sink.new) }
     ensures rules { (state decoder.new).rules ≡ (state decoder.old).rules }
+    ensures given { (state decoder.new).given ≡ (state decoder.old).given }
 {
     let mut used = 0;
     'events: loop {

@@ -7,8 +7,9 @@ ghost use Rattle.cqlp_note.specs.declared.refusal.Refusal.{Refusal as Refusing};
 ghost use Rattle.cqlp_decode.specs.Standing.{came_of, stage_with};
 
 use crate::advance::{EventAdvance, EventOutline, ScalarCell};
+use crate::given::GivenUse;
 use crate::metadata::begin_metadata;
-use crate::page::{CellCursor, find_page};
+use crate::page::{CellCursor, find_page, page_table, serves};
 use crate::parts::Parts;
 use cqlp_cell::{CellAdvance, CellOutline, CellReader, front_scalar};
 use cqlp_grammar::{Expected, Finish, Role, Upcoming, Want, fault_in};
@@ -52,6 +53,8 @@ pub struct StreamStanding {
     /// How many bytes of the header, or after the last field, have come.
     pub came: u64,
     pub refusal: Option<Refusal>,
+    /// What the table that the caller gave is for.
+    pub given_use: GivenUse,
 }
 
 impl StreamStanding {
@@ -61,15 +64,15 @@ impl StreamStanding {
     ghost use Rattle.cqlp_cell.specs.Standing.{ended, is_under_way};
     ghost use Rattle.cqlp_cell.specs.Standing as value;
     ghost use Rattle.cqlp_grammar.specs.Productions.{Extra, following, message};
-    ghost use Rattle.cqlp_decode.specs.Reading.{start};
+    ghost use Rattle.cqlp_decode.specs.Reading.{given_after};
     ghost use Rattle.cqlp_decode.specs.Streams.{EndsAs};
     ghost use Rattle.cqlp_grammar.specs.Upcoming.{room_after};
     ghost use Rattle.cqlp_decode.specs.declared.standing.StreamStage.TheVariants as stage;
-    ghost use Rattle.cqlp_decode.specs.Standing.{Advances, GoesOn, GoesOnAfter, HasCome, LeavesTypes, Moves, MovesIdle, Takes};
-    ghost use Rattle.cqlp_decode.specs.Standing.{HasParts, HasRoom, IsConsistent, IsFresh, IsLawful, PartsState};
-    ghost use Rattle.cqlp_decode.specs.Standing.{IsAsked, IsAt, IsBounded, IsWanted, Starts, asked};
+    ghost use Rattle.cqlp_decode.specs.Standing.{Advances, EndsPage, GoesOn, GoesOnAfter, HasCome, LeavesTypes, Moves, MovesIdle, Takes};
+    ghost use Rattle.cqlp_decode.specs.Standing.{HasParts, HasRoom, HoldsGiven, IsConsistent, IsFresh, IsLawful, PartsState};
+    ghost use Rattle.cqlp_decode.specs.Standing.{IsAsked, IsAt, IsBounded, IsWanted, asked};
     ghost use Rattle.cqlp_decode.specs.Standing.{first_state, refusal_in, rest_of, state_of, state_with, symbols_at};
-    ghost use Rattle.cqlp_decode.specs.Pages.{IsPage, cells_after, node_by};
+    ghost use Rattle.cqlp_decode.specs.Pages.{IsPage, cells_after, given_of, node_by};
     ghost use Rattle.cqlp_type.specs.Forests.{Forest};
     ghost use Rattle.cqlp_cell.specs.Pushing.{begun};
 
@@ -90,6 +93,7 @@ impl StreamStanding {
             header: [0; 9],
             came: 0,
             refusal: None,
+            given_use: GivenUse::Waiting,
         }
     }
 
@@ -106,6 +110,7 @@ impl StreamStanding {
         let advance = self.step(parts, input);
         if let EventAdvance::Refused(refusal) = advance {
             self.refusal = Some(refusal);
+            self.given_use = self.given_use.ended();
         }
         advance
     }
@@ -158,6 +163,8 @@ impl StreamStanding {
         ensures limits { self.new.limits ≡ self.old.limits }
         ensures refusal { refusal_in result ≡ None → self.new.refusal ≡ None }
         ensures table { LeavesTypes result parts.old.table.nodes parts.new.table.nodes }
+        ensures given { parts.new.given ≡ parts.old.given }
+        ensures page { EndsPage result self.old self.new }
     {
         match self.stage {
             StreamStage::Header => self.advance_header(input),
@@ -184,6 +191,7 @@ impl StreamStanding {
         ensures lawful { (q : PartsState) → IsConsistent self.old q → IsConsistent self.new q }
         ensures moves { MovesIdle self.old input.now result self.new }
         ensures rest { (self.new.refusal ≡ None) × (self.new.limits ≡ self.old.limits) }
+        ensures page { EndsPage result self.old self.new }
     {
         if self.offset > 1 << 63 {
             return EventAdvance::Refused(Refusal {
@@ -251,6 +259,7 @@ impl StreamStanding {
         ensures room { HasRoom self.new.stage self.new.upcoming }
         ensures frame { (self.new.frame ≡ self.old.frame) × (self.new.came ≡ 0) }
         ensures rest { (self.new.refusal ≡ None) × (self.new.limits ≡ self.old.limits) }
+        ensures given_use { self.new.given_use ≡ self.old.given_use }
     {
         self.offset += 9;
         self.stop = self.offset + u64::from(header.length);
@@ -280,11 +289,14 @@ impl StreamStanding {
         requires wanted { IsWanted self.old parts.old.partial want }
         requires room { parts.old.partial.room ≡ max self.old.limits.text self.old.limits.cell }
         requires forest { Forest parts.old.table.nodes 0 self.old.limits.depth }
+        requires given { HoldsGiven self.old.limits parts.old.given }
         requires unrefused { self.old.refusal ≡ None }
         ensures lawful { IsLawful self.old parts.old → IsLawful self.new parts.new }
         ensures moves { Moves (state_with self.old parts.old) input.now result (state_with self.new parts.new) }
         ensures rest { (self.new.refusal ≡ None) × (self.new.limits ≡ self.old.limits) }
         ensures table { LeavesTypes result parts.old.table.nodes parts.new.table.nodes }
+        ensures given { parts.new.given ≡ parts.old.given }
+        ensures page { EndsPage result self.old self.new }
     {
         self.ask(&mut parts.partial, want);
         let came = parts.partial.came();
@@ -302,7 +314,7 @@ impl StreamStanding {
                 let at = self.offset;
                 self.offset += came + used as u64;
                 begin_metadata(want.role, &mut parts.table);
-                self.follow(want.role, value, &parts.table);
+                self.follow(want.role, value, &parts.table, &parts.given);
                 EventAdvance::Event {
                     at,
                     used,
@@ -325,15 +337,25 @@ impl StreamStanding {
         }
     }
 
-    /// Goes on after a field: with the cells of a page, or with what is due next in the message.
-    fn follow<A: Allocator>(&mut self, role: Role, value: Prim<'_>, table: &TypeTable<A>)
+    /// Goes on after a field: with the cells of a page, which a given table may type, or with what is due next in the
+    /// message.
+    fn follow<A: Allocator>(
+        &mut self,
+        role: Role,
+        value: Prim<'_>,
+        table: &TypeTable<A>,
+        given: &Option<TypeTable<A>>,
+    )
         requires room { length self.old.upcoming + room_after role ≤ 16 }
         requires forest { Forest table.now.nodes 0 self.old.limits.depth }
-        ensures symbols { GoesOnAfter self.old self.new table.now.nodes role (value_of value.entry) }
-        ensures rest { self.new ≡ record self.old { stage = self.new.stage; upcoming = self.new.upcoming } }
-        ensures starts { Starts self.new table.now.nodes self.new.stage }
+        requires given { HoldsGiven self.old.limits given.now }
+        ensures goes_on { GoesOnAfter self.old self.new table.now.nodes given.now role (value_of value.entry) }
+        ensures rest { self.new ≡ record self.old { stage = self.new.stage; upcoming = self.new.upcoming; given_use = self.new.given_use } }
+        ensures given { given_of self.new.given_use given.now ≡ given_after role (given_of self.old.given_use given.now) }
     {
-        if let Some(page) = find_page(&self.limits, role, value, table) {
+        let served = serves(role, given, self.given_use);
+        self.given_use = self.given_use.with_page(served);
+        if let Some(page) = find_page(&self.limits, role, value, table, given, served) {
             self.stage = StreamStage::BeforeCell(page);
             return;
         }
@@ -361,7 +383,8 @@ impl StreamStanding {
         if let Some(_) = self.refusal {
             return None;
         }
-        let kind = page.kind(&parts.table);
+        let table = page_table(page.columns, &parts.table, &parts.given);
+        let kind = page.kind(table);
         let room = self.stop - self.offset;
         let Some(front) = front_scalar(&self.limits, kind, room, input) else {
             return None;
@@ -374,16 +397,15 @@ impl StreamStanding {
             scalar: front.scalar,
         };
         self.offset += front.used as u64;
-        self.turn(page, &parts.table);
+        self.turn(page, table);
         Some(taken)
     }
 
     /// Goes on after a cell: with the next cell of its page, or with what is due next in the message.
     fn turn<A: Allocator>(&mut self, page: CellCursor, table: &TypeTable<A>)
         requires page { IsPage table.now.nodes self.old.limits.depth page }
-        ensures symbols { GoesOn self.old self.new table.now.nodes (cells_after table.now.nodes page) }
+        ensures goes_on { GoesOn self.old self.new page table.now.nodes (cells_after table.now.nodes page) }
         ensures rest { self.new ≡ record self.old { stage = self.new.stage; upcoming = self.new.upcoming } }
-        ensures starts { Starts self.new table.now.nodes self.new.stage }
     {
         match page.next(table) {
             Some(page) => self.stage = StreamStage::BeforeCell(page),
@@ -423,6 +445,8 @@ impl StreamStanding {
         ensures limits { self.new.limits ≡ self.old.limits }
         ensures refusal { refusal_in result ≡ None → self.new.refusal ≡ None }
         ensures table { LeavesTypes result parts.old.table.nodes parts.new.table.nodes }
+        ensures given { parts.new.given ≡ parts.old.given }
+        ensures page { EndsPage result self.old self.new }
     {
         match parts
             .types
@@ -473,10 +497,12 @@ impl StreamStanding {
         requires unrefused { self.old.refusal ≡ None }
         ensures lawful { IsLawful self.new parts.new }
         ensures moves { Moves (state_with self.old parts.old) input.now result (state_with self.new parts.new) }
-        ensures table { parts.new.table ≡ parts.old.table }
+        ensures table { (parts.new.table ≡ parts.old.table) × (parts.new.given ≡ parts.old.given) }
         ensures rest { (self.new.refusal ≡ None) × (self.new.limits ≡ self.old.limits) }
+        ensures page { EndsPage result self.old self.new }
     {
-        match parts.cells.advance(&mut parts.partial, &parts.table, input) {
+        let table = page_table(page.columns, &parts.table, &parts.given);
+        match parts.cells.advance(&mut parts.partial, table, input) {
             CellAdvance::More { used } => EventAdvance::More { used },
             CellAdvance::Refused(refusal) => {
                 self.stage = StreamStage::Extra;
@@ -492,7 +518,7 @@ impl StreamStanding {
                 if !parts.cells.done() {
                     return event;
                 }
-                self.end_cell(page, &mut parts.cells, &parts.table);
+                self.end_cell(page, &mut parts.cells, table);
                 event
             }
         }
@@ -506,9 +532,8 @@ impl StreamStanding {
         table: &TypeTable<A>,
     )
         requires page { IsPage table.now.nodes self.old.limits.depth page }
-        ensures symbols { GoesOn self.old self.new table.now.nodes (cells_after table.now.nodes page) }
+        ensures goes_on { GoesOn self.old self.new page table.now.nodes (cells_after table.now.nodes page) }
         ensures rest { IsAt self.new cells.old.offset self.old }
-        ensures starts { Starts self.new table.now.nodes self.new.stage }
         ensures cells { cells.new ≡ ended cells.old }
     {
         self.offset = cells.offset();
@@ -524,6 +549,7 @@ impl StreamStanding {
         ensures lawful { (q : PartsState) → IsConsistent self.old q → IsConsistent self.new q }
         ensures moves { MovesIdle self.old input.now result self.new }
         ensures rest { (self.new.refusal ≡ None) × (self.new.limits ≡ self.old.limits) }
+        ensures page { EndsPage result self.old self.new }
     {
         let extra = self.stop - self.offset;
         let used = (extra - self.came).min(input.len() as u64);
@@ -537,6 +563,7 @@ impl StreamStanding {
         self.offset = self.stop;
         self.came = 0;
         self.stage = StreamStage::Header;
+        self.given_use = self.given_use.ended();
         EventAdvance::Event {
             at: self.stop,
             used: used as usize,

@@ -26,7 +26,7 @@ pub enum Step<'a> {
 pub struct Held {
     /// The bytes of a content that came in pieces.
     pub bytes: u32,
-    /// The type options of the metadata begun last.
+    /// The type options of the metadata begun last, and of the table that the caller gave.
     pub entries: u32,
     /// The types or values around the one that is read.
     pub levels: u32,

@@ -1,8 +1,8 @@
 use Rattle.std.proofs.Common.{◌≡◌, ◌+◌, ◌-◌, ◌*◌, ◌≤◌, List, ℕ, length, take, Some, None}
 use Rattle.cqlp_note.specs.declared.refusal.Refusal.{Refusal}
-use Rattle.cqlp_decode.specs.Reading.{Event}
+use Rattle.cqlp_decode.specs.Reading.{Event, Gifts}
 use Rattle.cqlp_decode.specs.Standing.{ends_due}
-use Rattle.cqlp_decode.specs.Streams.{After, state}
+use Rattle.cqlp_decode.specs.Streams.{AfterGifts, state}
 use Rattle.cqlp_decode.specs.Draining.{Drains}
 use Rattle.cqlp_decode.proofs.running.drain.Given as goal
 
@@ -11,10 +11,11 @@ abbrev pub invariant-events : goal.invariant-events
 invariant-events g l = record {
   within : l.used ≤ length l.input;
   rules : (state l.decoder).rules ≡ (state l.fn.decoder).rules;
+  given : (state l.decoder).given ≡ (state l.fn.decoder).given;
   refused : (r : Refusal) → (state l.fn.decoder).refusal ≡ Some r → (state l.decoder ≡ state l.fn.decoder) × (l.sink ≡ l.fn.sink);
   clear : (state l.fn.decoder).refusal ≡ None → (state l.decoder).refusal ≡ None;
   tells : g.S.Sink.tells l.fn.sink → g.S.Sink.tells l.sink;
-  drained : g.S.Sink.tells l.fn.sink → (s : List ℕ) (es : List (ℕ × Event)) → After (state l.fn.decoder) s es → Drains g.S.Sink.after (state l.decoder) s es (take l.used l.input) (g.S.Sink.view l.fn.sink) (g.S.Sink.view l.sink);
+  drained : g.S.Sink.tells l.fn.sink → (gifts : Gifts) (s : List ℕ) (es : List (ℕ × Event)) → AfterGifts gifts (state l.fn.decoder) s es → Drains g.S.Sink.after gifts (state l.decoder) s es (take l.used l.input) (g.S.Sink.view l.fn.sink) (g.S.Sink.view l.sink);
 }
 
 -- an event takes some byte, or is the end of the frame or of a value that is open

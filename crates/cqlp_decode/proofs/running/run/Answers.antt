@@ -16,7 +16,7 @@ returns-in-Refused-clause-runs g c = λ xs is tells.
     let v = g.S.Sink.view c.args.sink.now in
     let refused = c.in-Refused.ensures.refusal in
     let split = sym (take-append-drop e.0 []) in (
-      feeds_then g.S.Sink.after d d (state c.drain.new.decoder) xs [] xs v v _ (feeds_none g.S.Sink.after d xs v) refl (take e.0 []) (drop e.0 []) split (λ s es a. (e.1 s es a).drains),
+      feeds_then g.S.Sink.after d d (state c.drain.new.decoder) xs [] xs v v _ (feeds_none g.S.Sink.after d xs v) refl (take e.0 []) (drop e.0 []) split (λ gifts s es a. (e.1 gifts s es a).drains),
       inr refused,
       c.finish.ensures.ends,
       has_all g.S.Sink.after d d (state c.drain.new.decoder) xs [] xs v v _ (feeds_none g.S.Sink.after d xs v) refl (take e.0 []) (drop e.0 []) split _ is (λ none. absurd (let some = refused.1 in cc)) (λ none. none) e.1,
@@ -33,6 +33,7 @@ pub loop-turn-init : goal.loop-turn-init
 loop-turn-init g c = record {
   long = refl;
   rules = c.in-More.ensures.rules;
+  given = c.in-More.ensures.given;
   failures = refl;
   reads = λ xs is. reads_none _ xs _ is;
   tells = λ tells. c.in-More.ensures.tells tells refl;
@@ -42,7 +43,7 @@ loop-turn-init g c = record {
       let e = c.in-More.ensures.drains tells in
       let d = state c.args.decoder.now in
       let v = g.S.Sink.view c.args.sink.now in (
-        feeds_then g.S.Sink.after d d (state c.drain.new.decoder) xs [] xs v v _ (feeds_none g.S.Sink.after d xs v) refl [] [] refl (λ s es a. (e s es a).drains),
+        feeds_then g.S.Sink.after d d (state c.drain.new.decoder) xs [] xs v v _ (feeds_none g.S.Sink.after d xs v) refl [] [] refl (λ gifts s es a. (e gifts s es a).drains),
         is,
         omega arith,
         has_all g.S.Sink.after d d (state c.drain.new.decoder) xs [] xs v v _ (feeds_none g.S.Sink.after d xs v) refl [] [] refl _ is (λ _. refl) (λ none. none) e,
@@ -74,7 +75,7 @@ returns-in-Refused-drain-clause-runs g c = λ xs is tells.
     let refused = c.in-Refused-drain.ensures.refusal in
     let piece = take c.in-Ok.count c.read.new.buffer in
     let split = sym (take-append-drop e.0 piece) in (
-      feeds_then g.S.Sink.after (state c.args.decoder.now) (state c.loop-turn.decoder) (state c.drain-in-loop-turn.new.decoder) xs piece r.0 _ _ _ d.0 r.2 (take e.0 piece) (drop e.0 piece) split (λ s es a. (e.1 s es a).drains),
+      feeds_then g.S.Sink.after (state c.args.decoder.now) (state c.loop-turn.decoder) (state c.drain-in-loop-turn.new.decoder) xs piece r.0 _ _ _ d.0 r.2 (take e.0 piece) (drop e.0 piece) split (λ gifts s es a. (e.1 gifts s es a).drains),
       inr refused,
       c.finish-in-Refused-drain.ensures.ends,
       has_all g.S.Sink.after (state c.args.decoder.now) (state c.loop-turn.decoder) (state c.drain-in-loop-turn.new.decoder) xs piece r.0 _ _ _ d.0 r.2 (take e.0 piece) (drop e.0 piece) split _ r.1 (λ none. absurd (let some = refused.1 in cc)) (λ none. c.loop-turn.invariant.waits) e.1,
@@ -94,6 +95,7 @@ loop-turn-preserved g c =
     record {
       long = long;
       rules = c.in-More-drain.ensures.rules ∙ c.loop-turn.invariant.rules;
+      given = c.in-More-drain.ensures.given ∙ c.loop-turn.invariant.given;
       reads = λ xs is. reads_then c.loop-turn.turn _ xs _ _ c.read.new.buffer c.in-Ok.count (omega arith) (c.loop-turn.invariant.reads xs is) c.in-Ok.ensures.bound long c.in-Ok.ensures.bytes;
       failures = let a = c.in-Ok.ensures.failures in let b = c.loop-turn.invariant.failures in cc;
       tells = λ tells. c.in-More-drain.ensures.tells (c.loop-turn.invariant.tells tells) refl;
@@ -106,7 +108,7 @@ loop-turn-preserved g c =
           let piece = take c.in-Ok.count c.read.new.buffer in
           let size : length piece ≡ c.in-Ok.count = length-take-le c.in-Ok.count c.read.new.buffer c.in-Ok.ensures.bound in
           let some = c.if-count-eq0.false in (
-            feeds_then g.S.Sink.after (state c.args.decoder.now) (state c.loop-turn.decoder) (state c.drain-in-loop-turn.new.decoder) xs piece r.0 _ _ _ d.0 r.2 piece [] (sym (append-nil piece)) (λ s es a. (e s es a).drains),
+            feeds_then g.S.Sink.after (state c.args.decoder.now) (state c.loop-turn.decoder) (state c.drain-in-loop-turn.new.decoder) xs piece r.0 _ _ _ d.0 r.2 piece [] (sym (append-nil piece)) (λ gifts s es a. (e gifts s es a).drains),
             r.1,
             omega (arith, d.2, length-append d.0.bytes piece),
             has_all g.S.Sink.after (state c.args.decoder.now) (state c.loop-turn.decoder) (state c.drain-in-loop-turn.new.decoder) xs piece r.0 _ _ _ d.0 r.2 piece [] (sym (append-nil piece)) _ r.1 (λ _. refl) (λ none. c.loop-turn.invariant.waits) e,

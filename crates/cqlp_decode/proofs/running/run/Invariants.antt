@@ -9,6 +9,7 @@ abbrev pub invariant-loop-turn : goal.invariant-loop-turn
 invariant-loop-turn g l = record {
   long : length l.buffer ≡ 4096;
   rules : (state l.decoder).rules ≡ (state l.fn.decoder).rules;
+  given : (state l.decoder).given ≡ (state l.fn.decoder).given;
   failures : g.R.Source.failures l.reader ≡ g.R.Source.failures l.fn.reader;
   reads : (xs : List ℕ) → g.R.Source.left l.fn.reader ≡ Some xs → ReadsAtMost (4096 * l.turn) xs (g.R.Source.left l.reader);
   tells : g.S.Sink.tells l.fn.sink → g.S.Sink.tells l.sink;

@@ -21,12 +21,12 @@ returns-in-Some g c =
         refl,
         λ _. tt,
         (
-          (takes.3.pays, takes.3.lent, takes.2, takes.1),
-          λ s es after. hands_leads old new input s es t.at t.used e takes.3 takes.1 takes.2 (subst (λ (o : Option Refusal). AfterBy o old s es) takes.0 after),
+          (takes.4.pays, takes.4.lent, takes.2, takes.1, takes.3),
+          λ gifts s es after. hands_leads old new input s es gifts t.at t.used e takes.4 takes.1 takes.2 (subst (λ (o : Option Refusal). AfterBy o gifts old s es) takes.0 after),
           unrefused old new (steps.Event t.at t.used e) old.refusal takes.0,
         ),
       ),
-      record { next = tt; uses = takes.3.within },
+      record { next = tt; uses = takes.4.within },
     )
 
 pub returns-in-More : goal.returns-in-More
@@ -35,7 +35,7 @@ returns-in-More g c =
     let new = state c.advance.new.self in
     let input = c.args.input.now in
     let moves = subst (λ (z : StreamState). Advances z input (advance.More c.in-More.used) new) c.in_default.ensures c.in-More.ensures.advances in (
-      (refl, λ _. tt, (more_goes old new input [] [] old.refusal c.in-More.used moves, λ s es after. more_leads old new input s es old.refusal c.in-More.used moves after, more_repeats old new input [] [] old.refusal c.in-More.used moves)),
+      (refl, λ _. tt, (more_goes old new input [] [] old.refusal c.in-More.used moves, λ gifts s es after. more_leads old new input s es gifts old.refusal c.in-More.used moves after, more_repeats old new input [] [] old.refusal c.in-More.used moves)),
       record { next = tt; uses = more_uses old new input [] [] old.refusal c.in-More.used moves },
     )
 
@@ -46,7 +46,7 @@ returns-in-Refused g c =
     let input = c.args.input.now in
     let moves = subst (λ (z : StreamState). Advances z input (advance.Refused c.in-Refused.refusal) new) c.in_default.ensures c.in-Refused.ensures.advances in
     let nodes : new.place.nodes ≡ old.place.nodes = c.in-Refused.ensures.table ∙ ap (λ (z : StreamState). z.place.nodes) c.in_default.ensures in (
-      (refl, λ _. tt, (refused_goes old new input [] [] old.refusal refl c.in-Refused.refusal moves, λ s es after. refused_leads old new input s es old.refusal refl c.in-Refused.refusal nodes moves after, refused_repeats old new input [] [] old.refusal c.in-Refused.refusal moves)),
+      (refl, λ _. tt, (refused_goes old new input [] [] old.refusal refl c.in-Refused.refusal moves, λ gifts s es after. refused_leads old new input s es gifts old.refusal refl c.in-Refused.refusal nodes moves after, refused_repeats old new input [] [] old.refusal c.in-Refused.refusal moves)),
       record { next = tt; uses = tt },
     )
 
@@ -56,6 +56,6 @@ returns-in-Event g c =
     let new = state c.advance.new.self in
     let input = c.args.input.now in
     let moves = subst (λ (z : StreamState). Advances z input (advance.Event c.in-Event.at c.in-Event.used c.in-Event.what) new) c.in_default.ensures c.in-Event.ensures.advances in (
-      (refl, λ _. tt, (event_goes old new input [] [] old.refusal c.in-Event.at c.in-Event.used c.in-Event.what c.lend.result c.lend.ensures moves, λ s es after. event_leads old new input s es old.refusal c.in-Event.at c.in-Event.used c.in-Event.what c.lend.result c.lend.ensures moves after, event_repeats old new input [] [] old.refusal c.in-Event.at c.in-Event.used c.in-Event.what c.lend.result moves)),
+      (refl, λ _. tt, (event_goes old new input [] [] old.refusal c.in-Event.at c.in-Event.used c.in-Event.what c.lend.result c.lend.ensures moves, λ gifts s es after. event_leads old new input s es gifts old.refusal c.in-Event.at c.in-Event.used c.in-Event.what c.lend.result c.lend.ensures moves after, event_repeats old new input [] [] old.refusal c.in-Event.at c.in-Event.used c.in-Event.what c.lend.result moves)),
       record { next = tt; uses = event_uses old new input [] [] old.refusal c.in-Event.at c.in-Event.used c.in-Event.what moves },
     )

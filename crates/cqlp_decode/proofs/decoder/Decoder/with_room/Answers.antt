@@ -1,4 +1,4 @@
-use Rattle.std.proofs.Common.{refl, ap, ◌∙◌}
+use Rattle.std.proofs.Common.{None, refl, ap, ◌∙◌}
 use Rattle.cqlp_type.specs.Table.{Table}
 use Rattle.cqlp_type.specs.Standing as type
 use Rattle.cqlp_cell.specs.Standing as value
@@ -12,11 +12,12 @@ invariant_of-result g c =
     let cells = c.in_ok-cells.ensures in
     let table = c.in_ok-table.ensures in
     let limits = c.new-standing.ensures.limits in
-    let q = parts c.in_ok-partial.partial c.in_ok-types.types c.in_ok-cells.cells c.in_ok-table.table in
+    let q = parts c.in_ok-partial.partial c.in_ok-types.types c.in_ok-cells.cells c.in_ok-table.table None in
     let fresh : IsFresh q = record {
       idle = record { field = field.idle; types = rw types refl; cells = rw cells refl };
       quiet = record { types = λ _. rw types refl; cells = λ _. rw cells refl };
       types = ap (λ (t : Table). t.nodes) table;
+      given = refl;
     } in
     c.new-standing.ensures.lawful q fresh
-    (rw limits (record { room = field.room ∙ c.max.ensures; rules = ap (λ (r : type.TypeState). r.rules) types; cells = ap (λ (z : value.CellState). z.rules) cells; table = ap (λ (t : Table). t.room) table }))
+    (rw limits (record { room = field.room ∙ c.max.ensures; rules = ap (λ (r : type.TypeState). r.rules) types; cells = ap (λ (z : value.CellState). z.rules) cells; table = ap (λ (t : Table). t.room) table; few = c.requires.entries }))

@@ -12,4 +12,4 @@ pub returns-in-Ok-clause-moves : goal.returns-in-Ok-clause-moves
 returns-in-Ok-clause-moves c = λ q idle.
     let r = rw c.complete_header.ensures at c.in-Ok.ensures in
     let e = c.enter.ensures in
-    header_hands c.args.self.now q c.args.input.now c.requires.here c.if-self.false c.requires.bounded.long c.requires.came (omega arith) c.enter.new.self c.in-Ok.header r.0 e.offset e.stop (e.symbols q) e.room e.frame.0 e.frame.1 idle
+    header_hands c.args.self.now q c.args.input.now c.requires.here c.if-self.false c.requires.bounded.long c.requires.came (omega arith) c.enter.new.self c.in-Ok.header r.0 e.offset e.stop (e.symbols q) e.room e.frame.0 e.frame.1 e.given_use idle

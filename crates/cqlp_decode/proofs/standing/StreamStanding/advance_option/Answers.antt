@@ -43,7 +43,7 @@ returns-else-not-done-clause-moves g c =
     let rest = c.end_option.ensures.rest in
     ended_hands c.args.self.now (parts_state c.args.parts.now) c.requires.here stage.0 c.requires.lawful.parts.rules c.args.input.now c.in-Item.at c.in-Item.used c.in-Item.item c.advance.new.self c.advance.new.partial c.advance.new.table ends stage.1
     (c.if-not-done.ensures.0 refl).1 c.end_option.new.self c.stop.new.self (ap (λ (z : StreamStanding). z.offset) rest ∙ c.offset-offset.ensures.is) (ap (λ (z : StreamStanding). z.stop) rest) (ap (λ (z : StreamStanding). z.frame) rest)
-    (ap (λ (z : StreamStanding). z.came) rest ∙ stage.0.came) c.end_option.ensures.symbols c.end_option.ensures.room
+    (ap (λ (z : StreamStanding). z.came) rest ∙ stage.0.came) c.end_option.ensures.symbols c.end_option.ensures.room (ap (λ (z : StreamStanding). z.given_use) rest)
 
 pub returns-in-More-clause-lawful : goal.returns-in-More-clause-lawful
 returns-in-More-clause-lawful g c =

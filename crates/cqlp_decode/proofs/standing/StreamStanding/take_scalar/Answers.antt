@@ -12,15 +12,17 @@ returns-clause-takes g c =
     let law = c.requires.lawful in
     let page = c.in-BeforeCell.page in
     let stage = rw c.in-BeforeCell.is at law.stage in
-    let kind = c.kind-kind.ensures c.args.self.now.limits.depth stage.0 in
+    let kind = (rw c.page_table-table.ensures at c.kind-kind.ensures) c.args.self.now.limits.depth stage.0 in
     let rest = c.turn.ensures.rest in
+    let goes_on = (rw c.page_table-table.ensures at c.turn.ensures.goes_on) q refl (rw c.in-BeforeCell.is at law.uses) in
     let front = c.in-Some-front_scalar.ensures in
     let empty = nothing_held c.args.parts.now.partial.content (omega (arith, c.if-held-gt0.false, c.held.ensures.is)) in (
       c.in_default-refusal.is,
       ap (λ (z : StreamStanding). z.refusal) rest ∙ c.in_default-refusal.is,
       ap (λ (z : StreamStanding). rules_of z.limits) rest,
+      refl,
       scalar_hands c.args.self.now q page c.in-BeforeCell.is law c.in_default-refusal.is c.args.input.now c.in-Some-front_scalar.front.used c.kind-kind.result kind.0 kind.1 (value_of c.in-Some-front_scalar.front.scalar) kind.2 front empty
-          c.turn.new.self (c.turn.ensures.symbols q refl) c.turn.ensures.starts (ap (λ (z : StreamStanding). z.offset) rest) (ap (λ (z : StreamStanding). z.stop) rest) (ap (λ (z : StreamStanding). z.frame) rest) (ap (λ (z : StreamStanding). z.came) rest),
+          c.turn.new.self goes_on.0 goes_on.1 (ap (λ (z : StreamStanding). z.given_use) rest) (ap (λ (z : StreamStanding). z.offset) rest) (ap (λ (z : StreamStanding). z.stop) rest) (ap (λ (z : StreamStanding). z.frame) rest) (ap (λ (z : StreamStanding). z.came) rest),
     )
 
 pub returns-clause-lawful : goal.returns-clause-lawful
@@ -29,9 +31,10 @@ returns-clause-lawful g c =
     let law = c.requires.lawful in
     let page = c.in-BeforeCell.page in
     let stage = rw c.in-BeforeCell.is at law.stage in
-    let kind = c.kind-kind.ensures c.args.self.now.limits.depth stage.0 in
+    let kind = (rw c.page_table-table.ensures at c.kind-kind.ensures) c.args.self.now.limits.depth stage.0 in
     let rest = c.turn.ensures.rest in
+    let goes_on = (rw c.page_table-table.ensures at c.turn.ensures.goes_on) q refl (rw c.in-BeforeCell.is at law.uses) in
     let front = c.in-Some-front_scalar.ensures in
     let empty = nothing_held c.args.parts.now.partial.content (omega (arith, c.if-held-gt0.false, c.held.ensures.is)) in
     scalar_lawful c.args.self.now q page c.in-BeforeCell.is law c.in_default-refusal.is c.args.input.now c.in-Some-front_scalar.front.used c.kind-kind.result kind.0 kind.1 (value_of c.in-Some-front_scalar.front.scalar) kind.2 front empty
-    c.turn.new.self (c.turn.ensures.symbols q refl) c.turn.ensures.starts (ap (λ (z : StreamStanding). z.offset) rest) (ap (λ (z : StreamStanding). z.stop) rest) (ap (λ (z : StreamStanding). z.frame) rest) (ap (λ (z : StreamStanding). z.came) rest) (ap (λ (z : StreamStanding). z.limits) rest) (ap (λ (z : StreamStanding). z.header) rest)
+    c.turn.new.self goes_on.0 goes_on.1 (ap (λ (z : StreamStanding). z.given_use) rest) (ap (λ (z : StreamStanding). z.offset) rest) (ap (λ (z : StreamStanding). z.stop) rest) (ap (λ (z : StreamStanding). z.frame) rest) (ap (λ (z : StreamStanding). z.came) rest) (ap (λ (z : StreamStanding). z.limits) rest) (ap (λ (z : StreamStanding). z.header) rest)

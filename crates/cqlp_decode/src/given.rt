@@ -1,0 +1,68 @@
+//! Tables of types that the caller gives, for pages whose metadata has none.
+
+ghost use Rattle.std.specs.Prelude.{◌≡◌};
+ghost use Rattle.cqlp_decode.specs.Pages.{ended_use, use_after};
+
+use cqlp_type::TypeTable;
+use std::alloc::{Allocator, Global};
+use thiserror::Error;
+
+/// What a table that the caller gave is for.
+#[derive(Clone, Copy, Debug, PartialEq, Eq)]
+pub enum GivenUse {
+    /// It waits for a page that it fits.
+    Waiting,
+    /// It types the page of the frame under way.
+    InUse,
+    /// The frame whose page it typed has ended.
+    Used,
+}
+
+/// Why a table was not taken.
+#[derive(Clone, Copy, Debug, PartialEq, Eq, Error)]
+pub enum GiveReason {
+    /// The stream was refused.
+    #[error("the stream was refused")]
+    Ended,
+    /// The limits say that cells are not read by their types.
+    #[error("cells are not read by their types")]
+    Off,
+    /// The table that was given before types the frame under way.
+    #[error("a given table is in use")]
+    Busy,
+    /// A type of the table is under way.
+    #[error("a type of the table is not whole")]
+    Open,
+    /// The table has more types than the limit on `entries`.
+    #[error("the table has more types than the limit")]
+    TooMany,
+    /// The types are nested deeper than the limit on `depth`.
+    #[error("the types are nested deeper than the limit")]
+    TooDeep,
+}
+
+/// A table that was not taken, and why.
+#[derive(Drop)]
+pub struct GiveError<A: Allocator = Global> {
+    pub why: GiveReason,
+    pub table: TypeTable<A>,
+}
+
+impl GivenUse {
+    /// What the table is for where a page begins, which it types or not.
+    pub fn with_page(self, served: bool) -> Self
+        ensures { result ≡ use_after served self }
+    {
+        if served { GivenUse::InUse } else { self }
+    }
+
+    /// What the table is for after the end of a frame.
+    pub fn ended(self) -> Self
+        ensures { result ≡ ended_use self }
+    {
+        match self {
+            GivenUse::InUse => GivenUse::Used,
+            GivenUse::Waiting | GivenUse::Used => self,
+        }
+    }
+}
