@@ -1,6 +1,7 @@
 -- The cells of a page, one after the other.
-use Rattle.std.proofs.Common.{◌≡◌, ℕ, zero, suc, ◌+◌, ◌-◌, ◌<◌, ◌≤◌, ◌^◌, true, false, List, [], ◌∷◌, ◌++◌, length, drop, refl, sym, ap, subst, ◌∙◌, arith}
-use Rattle.std.specs.Prelude.{Option, Some, None, Bool, nat_eq}
+use Rattle.std.proofs.Common.{◌≡◌, ℕ, zero, suc, ◌+◌, ◌-◌, ◌<◌, ◌≤◌, ◌^◌, true, false, List, [], ◌∷◌, ◌++◌, length, drop, refl, sym, ap, subst, ◌∙◌, inl, inr, arith}
+use Rattle.std.specs.Prelude.{◌↔◌, IsTrue, Option, Some, None, Bool}
+use Rattle.std.proofs.lemmas.Bool.{cases_Bool, eq-eqb, ne_eqb}
 use Rattle.cqlp_note.specs.Limits.{Rules}
 use Rattle.cqlp_note.specs.declared.limits.Limits.{Limits}
 use Rattle.cqlp_note.specs.Heading.{has}
@@ -8,7 +9,7 @@ use Rattle.cqlp_note.specs.Field.{FieldValue}
 use Rattle.cqlp_kind.specs.declared.kind.Kind.{Kind}
 use Rattle.cqlp_kind.specs.declared.kind.Kind.TheVariants as kind
 use Rattle.cqlp_kind.specs.declared.node.Node.{Node}
-use Rattle.cqlp_kind.specs.Types.{Types, NoMore, Type_and, types_of, other_types}
+use Rattle.cqlp_kind.specs.Types.{Types, NoMore, Type_and, how_many, types_of, other_types}
 use Rattle.cqlp_cell.specs.declared.standing.NextInCell.{NextInCell}
 use Rattle.cqlp_cell.specs.declared.standing.NextInCell.TheVariants as next
 use Rattle.cqlp_kind.specs.CellStep.{CellSymbol, Value_of, values_of}
@@ -196,8 +197,13 @@ pub columns_off : (flags n : ℕ) (served : Bool) → AreColumns false flags n s
 columns_off flags n served nodes g u is = (refl, λ e. absurd cc)
 
 -- whether a table that waits serves, by how many types begin in it
-pub serves_found : (depth flags columns roots : ℕ) (t : Table) → Forest t.nodes 0 depth → roots ≡ length (beginnings 0 0 t.nodes) → has flags 0x04 ≡ true → nat_eq roots columns ≡ serves flags columns (Waiting (types_of t.nodes))
-serves_found depth flags columns roots t f many some = rw (some, many, whole_roots t.nodes (forest_whole t.nodes depth f).0) refl
+pub serves_found : (depth flags columns : ℕ) (t : Table) (b : Bool) → Forest t.nodes 0 depth → (IsTrue b ↔ (length (beginnings 0 0 t.nodes) ≡ columns)) → has flags 0x04 ≡ true → b ≡ serves flags columns (Waiting (types_of t.nodes))
+serves_found depth flags columns t b f found some =
+    let same : length (beginnings 0 0 t.nodes) ≡ how_many (types_of t.nodes) = whole_roots t.nodes (forest_whole t.nodes depth f).0 in
+    rw (some, ← same) (elim (cases_Bool b) [
+      | inl is ↦ is ∙ sym (eq-eqb (length (beginnings 0 0 t.nodes)) columns (found.0 is))
+      | inr is ↦ is ∙ sym (ne_eqb (length (beginnings 0 0 t.nodes)) columns (λ e. let shut : ◌≡◌ {A = Bool} false true = sym is ∙ found.1 e in cc))
+    ])
 
 -- what follows a field but the number of a page's rows is no page
 module _ (nodes : List Node) (g : Option Table) (u : GivenUse) (depth : ℕ) (types : Bool) where

@@ -1,10 +1,11 @@
 //! The cells of a page, in their order.
 
-ghost use Rattle.std.specs.Prelude.{◌≡◌, ◌↔◌, ℕ, List, IsTrue};
+ghost use Rattle.std.specs.Prelude.{◌≡◌, ◌↔◌, ℕ, List, IsTrue, length};
 ghost use Rattle.cqlp_note.specs.Head.{value_of};
 ghost use Rattle.cqlp_kind.specs.declared.node.Node.{Node};
 ghost use Rattle.cqlp_type.specs.Forests.{Forest};
 ghost use Rattle.cqlp_kind.specs.Types.{NoMore};
+ghost use Rattle.cqlp_type.specs.Table.{beginnings};
 ghost use Rattle.cqlp_decode.specs.Reading.{serves_after};
 ghost use Rattle.cqlp_decode.specs.Pages.{AreColumns, Begins, FindsColumn, FindsPage, HoldsForest, IsKind, IsPage, IsSomePage, Turns};
 ghost use Rattle.cqlp_decode.specs.Pages.{column_types, given_of, node_by, page_nodes};
@@ -149,10 +150,17 @@ pub fn serves<A: Allocator>(role: Role, given: &Option<TypeTable<A>>, given_use:
 {
     match (role, given, given_use) {
         (Role::PageRows { flags, columns }, Some(table), GivenUse::Waiting) => {
-            has(flags, 0x04) && table.roots() == columns
+            has(flags, 0x04) && has_types(table, columns)
         }
         _ => false,
     }
+}
+
+/// Whether this many types stand side by side in a table.
+fn has_types<A: Allocator>(table: &TypeTable<A>, count: u32) -> bool
+    ensures { IsTrue result ↔ (length (beginnings 0 0 table.now.nodes) ≡ count) }
+{
+    table.roots() == count
 }
 
 /// The page that begins after a field of this role that has this value, if it has a cell. A given table types it where it
