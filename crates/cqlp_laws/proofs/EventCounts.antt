@@ -32,10 +32,10 @@ use Rattle.cqlp_grammar.specs.declared.grammar.Group.TheVariants as group_of
 use Rattle.cqlp_grammar.specs.declared.grammar.Role.{Role}
 use Rattle.cqlp_grammar.specs.declared.grammar.Role.TheVariants as role
 use Rattle.cqlp_grammar.specs.Productions.{Symbol, Stream, In, In_type, Cell_due, In_cell, Extra, plain, counted, copies, where_set, group, body, announced, message, query_parts, errors, results, by_text, targets, events, specs, table_name, row_from, rows_from, or_nothing, number_in, text_in, following, fault_in}
-use Rattle.cqlp_decode.specs.Reading.{Event, Place, start, Reads, Says, Verdict, Waits, Refused, type_event, cell_event, types_for, nodes_after, types_left, cells_left, place_of_types, place_of_cells, header_step, step_at, step}
+use Rattle.cqlp_decode.specs.Reading.{Event, Place, Gifts, settled, start_with, Reads, Says, Verdict, Waits, Refused, type_event, cell_event, types_for, nodes_after, types_left, cells_left, place_of_types, place_of_cells, header_step, step_at, step}
 use Rattle.cqlp_decode.specs.Reading as reading
 use Rattle.cqlp_decode.specs.Standing.{StreamState}
-use Rattle.cqlp_decode.specs.Streams.{After, AfterBy}
+use Rattle.cqlp_decode.specs.Streams.{AfterGifts, AfterBy}
 
 -- ---- readers
 
@@ -422,7 +422,7 @@ step_paid l some p bytes x used s =
     let taken : take used bytes ≡ y.0 = ap (λ (t : List ℕ). take used t) y.2 ∙ take_at y.0 y.1 used long in
     let none : used - length {A = ℕ} [] ≡ used = omega arith in
     let all : length (take (used - length {A = ℕ} []) bytes) ≡ used = rw none (ap length taken ∙ long) in
-    let paid = (says_always (StepPays (dues p.symbols)) (step l p) [] bytes x used (step_pays l some p p.symbols) s).1 in
+    let paid = (says_always (StepPays (dues p.symbols)) (step l p) [] bytes x used (step_pays l some (settled p) p.symbols) s).1 in
     (subst (λ (n : ℕ). suc (dues (x.after n).symbols) ≤ dues p.symbols + n) all paid, omega (arith, length-drop used bytes, ap length y.2, length-append y.0 y.1, long))
 
 pub events_paid : (l : Rules) (some : 1 ≤ l.part) (es : List (ℕ × Event)) (p q : Place) (bytes rest : List ℕ) → Reads l p bytes es q rest → length es + dues q.symbols + length rest ≤ dues p.symbols + length bytes
@@ -431,15 +431,15 @@ events_paid l some (e ∷ es) p q bytes rest r =
     let paid = step_paid l some p bytes _ r.0 r.2 in
     omega (arith, paid.0, paid.1, events_paid l some es (r.1 r.0) q (drop r.0 bytes) rest r.3)
 
-pub no_more_events : (l : Rules) (bytes : List ℕ) (es : List (ℕ × Event)) (v : Verdict) → 1 ≤ l.part → Says l start bytes es v → length es ≤ length bytes
-no_more_events l bytes es v some says = omega (arith, events_paid l some es start says.0 bytes says.1 says.2)
+pub no_more_events : (l : Rules) (gifts : Gifts) (bytes : List ℕ) (es : List (ℕ × Event)) (v : Verdict) → 1 ≤ l.part → Says l (start_with gifts) bytes es v → length es ≤ length bytes
+no_more_events l gifts bytes es v some says = omega (arith, events_paid l some es (start_with gifts) says.0 bytes says.1 says.2)
 
-handed_out_by : (o : Option Refusal) (d : StreamState) (s : List ℕ) (es : List (ℕ × Event)) → 1 ≤ d.rules.part → AfterBy o d s es → length es ≤ length s
-handed_out_by None d s es some stands = omega (arith, events_paid d.rules some es start d.place s stands.bytes stands.read)
-handed_out_by (Some r) d s es some after = omega (arith, events_paid d.rules some es start after.place s after.bytes after.read)
+handed_out_by : (o : Option Refusal) (gifts : Gifts) (d : StreamState) (s : List ℕ) (es : List (ℕ × Event)) → 1 ≤ d.rules.part → AfterBy o gifts d s es → length es ≤ length s
+handed_out_by None gifts d s es some stands = omega (arith, events_paid d.rules some es (start_with gifts) stands.place s stands.bytes stands.read)
+handed_out_by (Some r) gifts d s es some after = omega (arith, events_paid d.rules some es (start_with gifts) after.place s after.bytes after.read)
 
-pub no_more_handed_out : (d : StreamState) (s : List ℕ) (es : List (ℕ × Event)) → 1 ≤ d.rules.part → After d s es → length es ≤ length s
-no_more_handed_out d s es some after = handed_out_by d.refusal d s es some after
+pub no_more_handed_out : (gifts : Gifts) (d : StreamState) (s : List ℕ) (es : List (ℕ × Event)) → 1 ≤ d.rules.part → AfterGifts gifts d s es → length es ≤ length s
+no_more_handed_out gifts d s es some after = handed_out_by d.refusal gifts d s es some after
 
 -- ---- what is always said
 

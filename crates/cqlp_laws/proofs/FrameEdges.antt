@@ -18,7 +18,7 @@ use Rattle.cqlp_kind.specs.CellStep as cell
 use Rattle.cqlp_grammar.specs.declared.grammar.Role.{Role}
 use Rattle.cqlp_grammar.specs.Events.{Event, Frame, End, type_event, cell_event}
 use Rattle.cqlp_grammar.specs.Productions.{Symbol, Stream, In, In_type, Cell_due, In_cell, Extra, message, fault_in}
-use Rattle.cqlp_decode.specs.Reading.{Place, place_of_types, place_of_cells, place_in_frame, place_at_end, header_step, value_step, step, step_at, Reads}
+use Rattle.cqlp_decode.specs.Reading.{Place, settled, place_of_types, place_of_cells, place_in_frame, place_at_end, header_step, value_step, step, step_at, Reads}
 use Rattle.cqlp_laws.proofs.RunsBack.{taken, after_back, map_back, passed}
 use Rattle.cqlp_laws.proofs.PartsBack.{inside, IsAtEnd}
 
@@ -94,7 +94,7 @@ pub next_comes : (l : Rules) (p q : Place) (b left : List ℕ) (e : ℕ × Event
 next_comes l p q b left e es run =
     let x : Emitted Event Place = record { at = e.0; event = e.1; after = run.1 } in
     let t = taken (step l p) x run.0 b run.2 in
-    step_comes l p x p.symbols t.front t.yields
+    step_comes l (settled p) x p.symbols t.front t.yields
 
 -- ---- a header, and an end
 

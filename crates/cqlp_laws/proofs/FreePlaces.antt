@@ -34,7 +34,7 @@ use Rattle.cqlp_grammar.specs.declared.grammar.Role.{Role}
 use Rattle.cqlp_grammar.specs.declared.grammar.Role.TheVariants as role
 use Rattle.cqlp_grammar.specs.Productions.{Symbol, Stream, In, In_type, Cell_due, In_cell, Extra, plain, counted, copies, where_set, group, body, announced, message, query_parts, errors, results, by_text, targets, events, specs, table_name, row_from, rows_from, or_nothing, number_in, text_in, following, fault_in}
 use Rattle.cqlp_laws.specs.Excess.{free, IsLongField, IsLongValue, IsLongInCell, IsOver, ExceedsInType, ExceedsAt, Exceeds}
-use Rattle.cqlp_decode.specs.Reading.{Event, Place, start, Reads, type_event, cell_event, types_for, nodes_after, types_left, cells_left, place_of_types, place_of_cells, header_step, step_at, step}
+use Rattle.cqlp_decode.specs.Reading.{Event, Place, settled as settled_place, start, Reads, type_event, cell_event, types_for, nodes_after, types_left, cells_left, place_of_types, place_of_cells, header_step, step_at, step}
 use Rattle.cqlp_decode.specs.Reading as reading
 use Rattle.cqlp_laws.proofs.EventCounts.{always_then, after_always, map_always}
 
@@ -489,7 +489,7 @@ step_bounded l p bytes x used b s =
     let taken : take used bytes ≡ y.0 = ap (λ (t : List ℕ). take used t) y.2 ∙ take_at y.0 y.1 used long in
     let none : used - length {A = ℕ} [] ≡ used = omega arith in
     let all : length (take (used - length {A = ℕ} []) bytes) ≡ used = rw none (ap length taken ∙ long) in
-    let stays = (says_always Stays (step l p) [] bytes x used (step_stays l p b.0 b.1.behind b.1.short p.symbols b.1.deep b.1.counted) s).1 in
+    let stays = (says_always Stays (step l p) [] bytes x used (step_stays l (settled_place p) b.0 b.1.behind b.1.short p.symbols b.1.deep b.1.counted) s).1 in
     subst (λ (n : ℕ). IsBounded (x.after n)) all stays
 
 reads_bounded : (l : Rules) (es : List (ℕ × Event)) (p q : Place) (bytes rest : List ℕ) → IsBounded p → Reads l p bytes es q rest → IsBounded q

@@ -105,4 +105,4 @@ refused_is_no_frame l bytes es k why typed some said fault t fs s =
 
 pub decoder_refuses_no_frame : DecoderRefusesNoFrame
 decoder_refuses_no_frame old new s input es r typed some none after answers fault =
-    refused_is_no_frame old.rules (s ++ input) es r.at r.why typed some (refuses_new old.refusal old s es input r none (answers.1 s es after).2) fault
+    refused_is_no_frame old.rules (s ++ input) es r.at r.why typed some (refuses_new old.refusal [] old s es input r none (answers.1 [] s es after).2) fault

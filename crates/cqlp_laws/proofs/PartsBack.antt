@@ -35,7 +35,7 @@ use Rattle.cqlp_laws.proofs.InnerRuns.{GetsOn, options_get, IsCellRead, cell_bac
 
 -- a place in a frame, where metadata has told these types and the caller has given none
 abbrev pub inside : (at stop : ℕ) → List Symbol → (told : Types) → Place
-inside at stop ss told = record { offset = at; stop = stop; symbols = ss; nodes = preorder told; given = Nothing }
+inside at stop ss told = record { offset = at; stop = stop; symbols = ss; nodes = preorder told; given = Nothing; gifts = [] }
 
 -- the end of a frame, or of none, is due
 abbrev pub IsAtEnd : List Symbol → Type 0
@@ -81,7 +81,10 @@ unfolding are_none
 cells_over row column [] rest ends = refl
 cells_over row column (c ∷ cs) rest ends = absurd ends
 
-module _ (l : Rules) (p : Place) (rest : List Symbol) where
+module _ (l : Rules) (at end : ℕ) (told : Types) (rest : List Symbol) where
+  abbrev p : Place
+  p = inside at end rest told
+
   option_steps : (offset stop : ℕ) (ts : List TypeSymbol) (nodes : List Node) → are_none ts ≡ false
       → let q : TypePlace = record { offset = offset; stop = stop; symbols = ts; nodes = nodes } in step l (place_of_types p rest q) ≡ map_step type_event (place_of_types p rest) (type_step l q)
   unfolding are_none
@@ -191,7 +194,7 @@ module _ (l : Rules) (stop : ℕ) where
 
       field_place : (x : Emitted Event Place) (v : FieldValue) (used k : ℕ) → x ≡ record { at = at; event = Holds f v; after = place_after l.types at_field r rest v } → k ≡ used → x.after used ≡ inside (at + k) stop (following (cells_of r told) r v ++ rest) (told_after r told)
       field_place x v used k is long =
-          ap (λ (y : Emitted Event Place). y.after used) is ∙ (λ i. record { offset = at + sym long i; stop = stop; symbols = following (types_told l.types r told on i) r v ++ rest; nodes = nodes_told r told i; given = none_given r i })
+          ap (λ (y : Emitted Event Place). y.after used) is ∙ (λ i. record { offset = at + sym long i; stop = stop; symbols = following (types_told l.types r told on i) r v ++ rest; nodes = nodes_told r told i; given = none_given r i; gifts = [] })
 
       field_joined : (x : Emitted Event Place) (used : ℕ) (es : List (ℕ × Event)) (t : Taken (step l at_field) x used b) → FieldRead l at_field f m r rest x t.front → length es < n → Reads l (x.after used) t.back es q left
           → ReadsParts l at stop (In f m r ∷ rest) told b ((x.at, x.event) ∷ es) q left
@@ -220,7 +223,7 @@ module _ (l : Rules) (stop : ℕ) where
     type_place : (w : Trees) (last : TypePlace) (k : ℕ) → GetsOn l first_option last k → last.symbols ≡ [] → last.nodes ≡ preorder told ++ preorder (types_in w) → to_place last ≡ inside (at + k) stop rest (followed_by told (types_in w))
     type_place w last k gets over table =
         let nodes : last.nodes ≡ preorder (followed_by told (types_in w)) = table ∙ sym (preorder_followed told (types_in w)) in
-        λ i. record { offset = gets.onward i; stop = gets.same_stop i; symbols = types_left (over i) ++ rest; nodes = nodes i; given = Nothing }
+        λ i. record { offset = gets.onward i; stop = gets.same_stop i; symbols = types_left (over i) ++ rest; nodes = nodes i; given = Nothing; gifts = [] }
 
     type_few : (w : Trees) (last : TypePlace) (k : ℕ) → GetsOn l first_option last k → last.symbols ≡ [] → last.nodes ≡ preorder told ++ preorder (types_in w) → nodes_in told + options_in w ≤ l.entries
     type_few w last k gets over table =
@@ -253,7 +256,7 @@ module _ (l : Rules) (stop : ℕ) where
     type_read : (es : List (ℕ × Event)) → length es ≤ n → Reads l (inside at stop (In_type (Option_at 1 ∷ []) ∷ rest) told) b es q left → ReadsParts l at stop (In_type (Option_at 1 ∷ []) ∷ rest) told b es q left
     type_read es le run =
         let out : (r : TypePlace) → q ≡ to_place r → are_none r.symbols ≡ true = λ r is. types_over r.symbols rest (subst (λ (y : Place). IsAtEnd y.symbols) is ends) in
-        let k = part_off (step l) (type_step l) type_event to_place (λ r. are_none r.symbols) (λ r some. option_steps l (inside at stop rest told) rest r.offset r.stop r.symbols r.nodes some) es first_option b q left out run in
+        let k = part_off (step l) (type_step l) type_event to_place (λ r. are_none r.symbols) (λ r some. option_steps l at stop told rest r.offset r.stop r.symbols r.nodes some) es first_option b q left out run in
         let x = runs_exact (type_step l) first_option k.last b k.between k.items k.first in
         type_whole k.items k.last x.0 k.between es k.later x.1 k.events (none k.last.symbols k.over) x.2 le k.onward
 
@@ -269,7 +272,7 @@ module _ (l : Rules) (stop : ℕ) where
       cell_joined : (items : List (ℕ × CellEvent)) (last : CellPlace) (front between : List ℕ) (es later : List (ℕ × Event)) → b ≡ front ++ between → es ≡ map (λ e. (e.0, cell_event row column e.1)) items ++ later → last.symbols ≡ [] → AllCells l items
           → IsCellRead l c inner at stop front items last → length later < n → Reads l (of_cell last) between later q left → ReadsParts l at stop (Cell_due row column c inner ∷ rest) told b es q left
       cell_joined items last front between es later whole events over kept v fewer run =
-          let place : of_cell last ≡ inside (at + length front) stop rest told = λ i. record { offset = v.onward i; stop = stop; symbols = cells_left row column (over i) ++ rest; nodes = preorder told; given = Nothing } in
+          let place : of_cell last ≡ inside (at + length front) stop rest told = λ i. record { offset = v.onward i; stop = stop; symbols = cells_left row column (over i) ++ rest; nodes = preorder told; given = Nothing; gifts = [] } in
           part_joined (Cell_is row column c inner v.value) at (Cell_due row column c inner ∷ rest) rest told told front between b es later q left whole v.spelled
           (values_within l (Type_and c inner NoMore) v.value 0 at front v.spelled (subst (λ (z : List (ℕ × CellEvent)). AllCells l z) v.items kept))
           (subst (λ (z : List (ℕ × CellEvent)). es ≡ map (λ e. (e.0, cell_event row column e.1)) z ++ later) v.items events)
@@ -289,7 +292,7 @@ module _ (l : Rules) (stop : ℕ) where
       cell_read : (e : ℕ × Event) (es : List (ℕ × Event)) → length (e ∷ es) ≤ n → Reads l (inside at stop (Cell_due row column c inner ∷ rest) told) b (e ∷ es) q left → ReadsParts l at stop (Cell_due row column c inner ∷ rest) told b (e ∷ es) q left
       cell_read e es le run =
           let out : (r : CellPlace) → q ≡ of_cell r → are_none r.symbols ≡ true = λ r is. cells_over row column r.symbols rest (subst (λ (y : Place). IsAtEnd y.symbols) is ends) in
-          let k = part_off (step l) (cell_step l) (cell_event row column) of_cell (λ r. are_none r.symbols) (λ r some. cell_steps l (inside at stop rest told) rest row column r.offset r.symbols some) (e ∷ es) first_value b q left out run in
+          let k = part_off (step l) (cell_step l) (cell_event row column) of_cell (λ r. are_none r.symbols) (λ r some. cell_steps l at stop told rest row column r.offset r.symbols some) (e ∷ es) first_value b q left out run in
           let x = runs_exact (cell_step l) first_value k.last b k.between k.items k.first in
           cell_whole k.items k.last x.0 k.between (e ∷ es) k.later x.1 k.events (none k.last.symbols k.over) x.2 le k.onward
 

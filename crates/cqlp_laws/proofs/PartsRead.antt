@@ -33,7 +33,7 @@ use Rattle.cqlp_laws.proofs.StepRuns.{after_yields, step_runs, runs_join}
 
 -- a place in a frame whose metadata has told these types, where no types were given
 abbrev pub inside : (offset stop : ℕ) → List Symbol → (told : Types) → Place
-inside at stop ss told = record { offset = at; stop = stop; symbols = ss; nodes = preorder told; given = Nothing }
+inside at stop ss told = record { offset = at; stop = stop; symbols = ss; nodes = preorder told; given = Nothing; gifts = [] }
 
 never_given : (r : Role) → given_after r Nothing ≡ Nothing
 never_given (role.PageRows flags columns) = refl
@@ -52,7 +52,7 @@ cells_told l r told typed = refl
 
 -- a place in a type option of a frame
 abbrev in_option : List Symbol → TypePlace → Place
-in_option rest q = record { offset = q.offset; stop = q.stop; symbols = types_left q.symbols ++ rest; nodes = q.nodes; given = Nothing }
+in_option rest q = record { offset = q.offset; stop = q.stop; symbols = types_left q.symbols ++ rest; nodes = q.nodes; given = Nothing; gifts = [] }
 
 -- A run over a type option is one of the frame around it.
 option_runs : (l : Rules) (rest : List Symbol) (es : List (ℕ × TypeEvent)) (at stop : ℕ) (ss : List TypeSymbol) (ns : List Node) (b left : List ℕ) (q : TypePlace)
@@ -115,7 +115,7 @@ module _ (l : Rules) (typed : l.types ≡ true) (stop : ℕ) where
       let room : length b ≤ stop - at = omega arith in
       let y = field_yields n v (limit_of l n) (stop - at) b spelled within room in
       let ends : x.after (length b) ≡ inside (at + length b) stop (following (cells_of r told) r v ++ rest) (told_after r told) =
-      λ i. record { offset = at + length b; stop = stop; symbols = following (cells_told l r told typed i) r v ++ rest; nodes = nodes_told r told i; given = never_given r i } in
+      λ i. record { offset = at + length b; stop = stop; symbols = following (cells_told l r told typed i) r v ++ rest; nodes = nodes_told r told i; given = never_given r i; gifts = [] } in
       subst (λ (q : Place). Reads l p b ((at, Holds f v) ∷ []) q []) ends (step_runs (step l) p x b (after_yields at _ (λ v. value_step l.types p f r rest v (fault_in r v)) v x b y (rw ok (refl, refl))))
 
   type_reads : (at : ℕ) (rest : List Symbol) (t : Trees) (told : Types) (b : List ℕ) → OptionSpells t b → PartWithin l (Type_is t) → nodes_in told + options_in t ≤ l.entries → at + length b ≤ stop
@@ -124,7 +124,7 @@ module _ (l : Rules) (typed : l.types ≡ true) (stop : ℕ) where
       let end : TypePlace = record { offset = at + length b; stop = stop; symbols = []; nodes = preorder told ++ preorder (types_in t) } in
       let p = inside at stop (In_type (Option_at 1 ∷ []) ∷ rest) told in
       let ends : in_option rest end ≡ inside (at + length b) stop rest (followed_by told (types_in t)) =
-      λ i. record { offset = at + length b; stop = stop; symbols = rest; nodes = sym (preorder-followed told (types_in t)) i; given = Nothing } in
+      λ i. record { offset = at + length b; stop = stop; symbols = rest; nodes = sym (preorder-followed told (types_in t)) i; given = Nothing; gifts = [] } in
       subst (λ (q : Place). Reads l p b (part_events l at (Type_is t)) q []) ends
       (option_runs l rest (placed at (trees_items false t)) at stop (Option_at 1 ∷ []) (preorder told) b [] end (tree_read l t 1 at stop (preorder told) b o.one o.formed w.0 w.1 room o.spelled le))
 

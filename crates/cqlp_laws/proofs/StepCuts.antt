@@ -22,7 +22,7 @@ use Rattle.cqlp_grammar.specs.Productions.{Symbol, Stream, In, In_type, Cell_due
 use Rattle.cqlp_laws.specs.Excess.{with_limits, first_number, IsLong16, IsLong32, IsLongField, comes_in_parts, IsLongValue, IsLongInCell, IsOption, IsOver, ExceedsInType, ExceedsAt}
 use Rattle.cqlp_laws.specs.Limits.{IsOfLimit}
 use Rattle.cqlp_laws.proofs.Refusals.{AtLimit, IsClean, NeverBy, clean_says, either_never, after_never, text_never, byte_never, short_never, int_never, long_never, uuid_never, count_never, wide_count_never, inet_never, leaf_never, close_never, counted_never, header_never, value_never, heading_plain}
-use Rattle.cqlp_decode.specs.Reading.{Place, type_event, cell_event, place_of_types, place_of_cells, header_step, step_at}
+use Rattle.cqlp_decode.specs.Reading.{Place, settled, type_event, cell_event, place_of_types, place_of_cells, header_step, step_at}
 
 -- ---- readers
 
@@ -284,21 +284,21 @@ module _ (l : Rules) (text cell entries depth : ℕ) (texts : l.text ≤ text) (
   -- ---- a stream
 
   -- A step within the limits says what one within wider limits says, unless what begins there exceeds a limit.
-  pub step_cut : (p : Place) (bytes : List ℕ) (ss : List Symbol) → Cuts AtLimit (AtFirst p.offset (ExceedsAt l p ss bytes)) 0 bytes (step_at l p ss) (step_at wide p ss)
+  pub step_cut : (p : Place) (bytes : List ℕ) (ss : List Symbol) → Cuts AtLimit (AtFirst p.offset (ExceedsAt l p ss bytes)) 0 bytes (step_at l (settled p) ss) (step_at wide (settled p) ss)
   step_cut p bytes [] = same refl tt (λ f e. e.1)
-  step_cut p bytes (Stream ∷ rest) = same refl (clean_says AtLimit _ 0 bytes (either_never AtLimit (ltb (2 ^ 63) p.offset) (Refuses (p.offset, StreamTooLong)) (Takes 9 (λ b. header_step p (heading b))) (λ e. e) (λ b. header_never p (heading b) (heading_plain b)))) (λ f e. e.1)
-  step_cut p bytes (In f n r ∷ rest) = after_cut p.offset (field_of n (limit_of l n) (p.stop - p.offset)) (field_of n (limit_of wide n) (p.stop - p.offset)) _ bytes (LongField (p.stop - p.offset) bytes n) (λ v. value_never l.types p f r rest v) (field_cut (p.stop - p.offset) bytes n)
+  step_cut p bytes (Stream ∷ rest) = same refl (clean_says AtLimit _ 0 bytes (either_never AtLimit (ltb (2 ^ 63) p.offset) (Refuses (p.offset, StreamTooLong)) (Takes 9 (λ b. header_step (settled p) (heading b))) (λ e. e) (λ b. header_never (settled p) (heading b) (heading_plain b)))) (λ f e. e.1)
+  step_cut p bytes (In f n r ∷ rest) = after_cut p.offset (field_of n (limit_of l n) (p.stop - p.offset)) (field_of n (limit_of wide n) (p.stop - p.offset)) _ bytes (LongField (p.stop - p.offset) bytes n) (λ v. value_never l.types (settled p) f r rest v) (field_cut (p.stop - p.offset) bytes n)
   step_cut p bytes (In_type ts ∷ rest) =
       let q : TypePlace = record { offset = p.offset; stop = p.stop; symbols = ts; nodes = p.nodes } in
-      map_cut (InType q bytes ts) type_event (place_of_types p rest) (type_step_at l q ts) (type_step_at wide q ts) bytes (type_cut q bytes ts)
+      map_cut (InType q bytes ts) type_event (place_of_types (settled p) rest) (type_step_at l q ts) (type_step_at wide q ts) bytes (type_cut q bytes ts)
   step_cut p bytes (Cell_due row column k inner ∷ rest) =
       let cs = Value_of k inner 0 p.stop ∷ [] in
       let q : CellPlace = record { offset = p.offset; symbols = cs } in
-      map_cut (InCell q bytes cs) (cell_event row column) (place_of_cells row column p rest) (cell_step_at l q cs) (cell_step_at wide q cs) bytes (cell_cut q bytes cs)
+      map_cut (InCell q bytes cs) (cell_event row column) (place_of_cells row column (settled p) rest) (cell_step_at l q cs) (cell_step_at wide q cs) bytes (cell_cut q bytes cs)
   step_cut p bytes (In_cell row column cs ∷ rest) =
       let q : CellPlace = record { offset = p.offset; symbols = cs } in
-      map_cut (InCell q bytes cs) (cell_event row column) (place_of_cells row column p rest) (cell_step_at l q cs) (cell_step_at wide q cs) bytes (cell_cut q bytes cs)
-  step_cut p bytes (Extra ∷ rest) = same refl (clean_says AtLimit (step_at l p (Extra ∷ rest)) 0 bytes (λ c. tt)) (λ f e. e.1)
+      map_cut (InCell q bytes cs) (cell_event row column) (place_of_cells row column (settled p) rest) (cell_step_at l q cs) (cell_step_at wide q cs) bytes (cell_cut q bytes cs)
+  step_cut p bytes (Extra ∷ rest) = same refl (clean_says AtLimit (step_at l (settled p) (Extra ∷ rest)) 0 bytes (λ c. tt)) (λ f e. e.1)
 
 -- ---- reasons
 

@@ -1,17 +1,13 @@
 -- What is written of a frame is read back.
-use Rattle.std.proofs.Common.{◌≡◌, ℕ, ◌+◌, ◌≤◌, ◌^◌, List, [], ◌∷◌, ◌++◌, length, None, refl, sym, subst, append-nil, arith}
+use Rattle.std.proofs.Common.{◌≡◌, ℕ, ◌≤◌, ◌^◌, List, [], ◌∷◌, length, refl, sym, subst, append-nil, arith}
 use Rattle.std.proofs.lemmas.Bool.{le-ltb}
-use Rattle.cqlp_note.specs.Limits.{Rules}
-use Rattle.cqlp_note.specs.declared.header.TheConstants.Header.{LONGEST_BODY}
-use Rattle.cqlp_message.specs.FrameValues.{FrameValue}
-use Rattle.cqlp_message.specs.Parts.{parts_size}
-use Rattle.cqlp_message.specs.Frames.{AllSpell, FlatAll, Flat, frame_bytes, frame_parts, frame_size, unfit_of}
+use Rattle.cqlp_message.specs.Frames.{AllSpell, Flat, frame_bytes}
 use Rattle.cqlp_message.proofs.FramesWritten.{frame_written}
 use Rattle.cqlp_message.specs.Pages.{with_cells}
 use Rattle.cqlp_message.proofs.PageFrames.{page_written}
 use Rattle.cqlp_message.proofs.Tallies.{small_enough}
 use Rattle.cqlp_grammar.specs.Events.{Event}
-use Rattle.cqlp_decode.specs.Reading.{Verdict, Waits, Says, start}
+use Rattle.cqlp_decode.specs.Reading.{Waits, Says, start}
 use Rattle.cqlp_laws.specs.Frames.{verdict_between}
 use Rattle.cqlp_laws.specs.Written.{WrittenIsRead, PageIsRead}
 use Rattle.cqlp_laws.proofs.FramesRead.{spelled_is_read}

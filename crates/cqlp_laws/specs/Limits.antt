@@ -3,7 +3,7 @@ use Rattle.std.specs.Prelude.{◌≡◌, ℕ, ◌≤◌, ◌++◌, List, ◌⊎�
 use Rattle.cqlp_note.specs.declared.refusal.Reason.{Reason}
 use Rattle.cqlp_note.specs.declared.refusal.Reason.TheVariants.{TooLong, TooDeep, TooMany}
 use Rattle.cqlp_note.specs.Limits.{Rules}
-use Rattle.cqlp_decode.specs.Reading.{Event, Verdict, Refused, Says, start}
+use Rattle.cqlp_decode.specs.Reading.{Event, Verdict, Refused, Gifts, Says, start, start_with}
 use Rattle.cqlp_laws.specs.Excess.{with_limits, free, IsCut}
 
 -- what a limit refuses
@@ -23,12 +23,15 @@ IsCutByLimit wide es v =
 abbrev pub IsSameOrCut : (es fs : List (ℕ × Event)) (v w : Verdict) → Type 0
 IsSameOrCut es fs v w = ((fs ≡ es) × (w ≡ v)) ⊎ IsCutByLimit fs es v
 
+-- So it is whatever the caller gives, if that is the same.
 abbrev pub LimitsOnlyCut : Type 0
 LimitsOnlyCut =
     (l : Rules) (text cell entries depth : ℕ)
     → l.text ≤ text → l.cell ≤ cell → l.entries ≤ entries → l.depth ≤ depth
-    → (bytes : List ℕ) (es fs : List (ℕ × Event)) (v w : Verdict)
-    → Says l start bytes es v → Says (with_limits l text cell entries depth) start bytes fs w → IsSameOrCut es fs v w
+    → (gifts : Gifts) (bytes : List ℕ) (es fs : List (ℕ × Event)) (v w : Verdict)
+    → Says l (start_with gifts) bytes es v
+    → Says (with_limits l text cell entries depth) (start_with gifts) bytes fs w
+    → IsSameOrCut es fs v w
 
 -- Within limits a stream says just what the free reading says, cut where something first exceeds its own limit. So the
 -- free reading and the limits determine it.

@@ -1,6 +1,6 @@
 -- Laws of one answer: from the same history and the same input, two answers that both meet what a call promises are the
 -- same, given what only the outside decides.
-use Rattle.std.specs.Prelude.{◌≡◌, ℕ, ◌++◌, List, [], ◌∷◌, length, Option, Some, None, ◌⊎◌}
+use Rattle.std.specs.Prelude.{◌≡◌, ℕ, ◌+◌, ◌++◌, List, [], ◌∷◌, length, Option, Some, None, ◌⊎◌}
 use Rattle.cqlp_note.specs.declared.limits.Limits.{Limits}
 use Rattle.cqlp_note.specs.declared.refusal.Refusal.{Refusal}
 use Rattle.cqlp_note.specs.Limits.{rules_of}
@@ -11,10 +11,10 @@ use Rattle.cqlp_grammar.specs.declared.event.Finish.TheVariants as finish
 use Rattle.cqlp_decode.specs.declared.step.Held.{Held}
 use Rattle.cqlp_decode.specs.declared.running.Outcome.{Outcome}
 use Rattle.cqlp_decode.specs.declared.running.Outcome.TheVariants as outcome
-use Rattle.cqlp_decode.specs.Reading.{Event, Verdict, Waits, Refused, Says, start}
+use Rattle.cqlp_decode.specs.Reading.{Event, Verdict, Waits, Refused, Gifts, Says, start}
 use Rattle.cqlp_grammar.specs.Events.{event_of}
 use Rattle.cqlp_decode.specs.Standing.{StreamState, levels_of}
-use Rattle.cqlp_decode.specs.Streams.{Decoding, state, After, Answers, Finishes, FinishesBy}
+use Rattle.cqlp_decode.specs.Streams.{Decoding, state, After, AfterGifts, Answers, Finishes, FinishesBy, given_nodes}
 use Rattle.cqlp_decode.specs.Draining.{RunsTo, WaitsAt, fold_events}
 use Rattle.cqlp_laws.specs.Reading.{BeginsWith}
 
@@ -31,11 +31,13 @@ answer_of (step.Event at used e) = Hands at used (event_of e)
 answer_of (step.More used) = Wants used
 answer_of (step.Refused r) = Refuses r
 
--- Two decoders have the same limits, the same refusal, if any, and the same types of metadata.
+-- Two decoders have the same limits, the same refusal, if any, the same types of metadata, and hold the same table that
+-- was given.
 pub record AreAlike (d d' : StreamState) : Type 0 where
   pub rules : d'.rules ≡ d.rules
   pub refusal : d'.refusal ≡ d.refusal
   pub nodes : d'.place.nodes ≡ d.place.nodes
+  pub given : d'.given ≡ d.given
 
 -- what the clauses of `new` say of a decoder
 pub record IsNew (limits : Limits) (d : Decoding) : Type 0 where
@@ -43,6 +45,7 @@ pub record IsNew (limits : Limits) (d : Decoding) : Type 0 where
   pub unrefused : (state d).refusal ≡ None
   pub rules : (state d).rules ≡ rules_of limits
   pub nothing_held : ((state d).held ≡ []) × ((state d).place.nodes ≡ []) × (levels_of d.parts ≡ 0)
+  pub nothing_given : (state d).given ≡ None
 
 -- Two decoders hold the same bytes, and the same number of levels.
 abbrev pub HoldTheSame : (d d' : Decoding) → Type 0
@@ -54,11 +57,11 @@ IsOneAnswerOfNew =
     (limits : Limits) (d d' : Decoding) → IsNew limits d → IsNew limits d'
     → AreAlike (state d) (state d') × ((state d).place ≡ start) × ((state d').place ≡ start) × HoldTheSame d d'
 
--- After the same bytes and events the next answer is one, and so is what comes after it.
+-- After the same gifts, bytes and events the next answer is one, and so is what comes after it.
 abbrev pub IsOneAnswerOfNext : Type 0
 IsOneAnswerOfNext =
-    (old new new' : StreamState) (s input : List ℕ) (es : List (ℕ × Event)) (x y : Step)
-    → After old s es → Answers old input x new → Answers old input y new'
+    (gifts : Gifts) (old new new' : StreamState) (s input : List ℕ) (es : List (ℕ × Event)) (x y : Step)
+    → AfterGifts gifts old s es → Answers old input x new → Answers old input y new'
     → (answer_of y ≡ answer_of x) × AreAlike new new'
 
 abbrev pub IsOneAnswerOfFinish : Type 0
@@ -69,7 +72,7 @@ IsOneAnswerOfFinish =
 -- what the clauses of `held` say
 pub record IsHeld (d : Decoding) (h : Held) : Type 0 where
   pub bytes : h.bytes ≡ length (state d).held
-  pub entries : h.entries ≡ length (state d).place.nodes
+  pub entries : h.entries ≡ length (state d).place.nodes + length (given_nodes (state d).given)
   pub levels : h.levels ≡ levels_of d.parts
 
 abbrev pub IsOneAnswerOfHeld : Type 0
@@ -102,17 +105,18 @@ module _ {V : Type 0} (f : V → ℕ → Event → V) (faulted : V → ℕ → E
         (r : Refusal) → old.refusal ≡ Some r
         → (o ≡ outcome.Finished (finish.Refused r)) × (new ≡ old) × (after ≡ before)
     pub rules : new.rules ≡ old.rules
+    pub given : new.given ≡ old.given
 
   -- the events that a run handed to the sink
   abbrev pub handed :
       (turns : ℕ) (o : Outcome) (old new : StreamState) (xs : List ℕ) (left : Option (List ℕ)) (before after : V)
       → RunsTo f faulted turns o old new xs left before after
-      → (s : List ℕ) (es : List (ℕ × Event)) → After old s es → List (ℕ × Event)
-  handed turns (outcome.Finished end) old new xs left before after ran s es a = (ran.0.drained s es a).more
-  handed turns outcome.ReadFault old new xs left before after ran s es a = (ran.0.drained s es a).more
-  handed turns outcome.Turns old new xs left before after ran s es a = (ran.0.drained s es a).more
-  handed turns outcome.SinkFault old new xs left before after ran s es a =
-      let d = ran.failed s es a in
+      → (gifts : Gifts) (s : List ℕ) (es : List (ℕ × Event)) → AfterGifts gifts old s es → List (ℕ × Event)
+  handed turns (outcome.Finished end) old new xs left before after ran gifts s es a = (ran.0.drained gifts s es a).more
+  handed turns outcome.ReadFault old new xs left before after ran gifts s es a = (ran.0.drained gifts s es a).more
+  handed turns outcome.Turns old new xs left before after ran gifts s es a = (ran.0.drained gifts s es a).more
+  handed turns outcome.SinkFault old new xs left before after ran gifts s es a =
+      let d = ran.failed gifts s es a in
       d.more ++ (d.at, d.event) ∷ []
 
   -- Two runs from one decoder over one reader's bytes hand out the same events, as far as both go. Where no sink
@@ -120,13 +124,13 @@ module _ {V : Type 0} (f : V → ℕ → Event → V) (faulted : V → ℕ → E
   -- their reader cut its bytes.
   pub record AreOneRun
       (turns : ℕ) (o o' : Outcome) (old new new' : StreamState) (xs : List ℕ) (left left' : Option (List ℕ))
-      (before after after' : V) (s : List ℕ) (es : List (ℕ × Event)) (a : After old s es)
+      (before after after' : V) (gifts : Gifts) (s : List ℕ) (es : List (ℕ × Event)) (a : AfterGifts gifts old s es)
       (ran : Ran turns o old new xs left before after) (ran' : Ran turns o' old new' xs left' before after')
       : Type 0 where
     pub events :
         IsFrontEitherWay
-        (handed turns o old new xs left before after ran.runs s es a)
-        (handed turns o' old new' xs left' before after' ran'.runs s es a)
+        (handed turns o old new xs left before after ran.runs gifts s es a)
+        (handed turns o' old new' xs left' before after' ran'.runs gifts s es a)
     pub sinks : IsSound o → IsSound o' → left' ≡ left → (after' ≡ after) × (new'.refusal ≡ new.refusal)
     pub ends :
         (end end' : Finish) → o ≡ outcome.Finished end → o' ≡ outcome.Finished end'
@@ -135,9 +139,9 @@ module _ {V : Type 0} (f : V → ℕ → Event → V) (faulted : V → ℕ → E
   abbrev pub IsOneAnswerOfRun : Type 0
   IsOneAnswerOfRun =
       (turns : ℕ) (o o' : Outcome) (old new new' : StreamState) (xs : List ℕ) (left left' : Option (List ℕ))
-      (before after after' : V) (s : List ℕ) (es : List (ℕ × Event)) (a : After old s es)
+      (before after after' : V) (gifts : Gifts) (s : List ℕ) (es : List (ℕ × Event)) (a : AfterGifts gifts old s es)
       (ran : Ran turns o old new xs left before after) (ran' : Ran turns o' old new' xs left' before after')
-      → AreOneRun turns o o' old new new' xs left left' before after after' s es a ran ran'
+      → AreOneRun turns o o' old new new' xs left left' before after after' gifts s es a ran ran'
 
   -- The answer is the right one: of a stream that says these events and this verdict, a run from a new decoder that
   -- finishes has handed out just these events, and ends with that verdict.

@@ -2,9 +2,9 @@
 use Rattle.std.specs.Prelude.{◌≡◌, ℕ, ◌≤◌, ◌++◌, List, length}
 use Rattle.cqlp_note.specs.declared.refusal.Reason.{Reason}
 use Rattle.cqlp_note.specs.Limits.{Rules}
-use Rattle.cqlp_decode.specs.Reading.{Place, Event, Verdict, Refused, Says, start}
+use Rattle.cqlp_decode.specs.Reading.{Place, Event, Verdict, Refused, Gifts, Says, start_with}
 use Rattle.cqlp_decode.specs.Standing.{StreamState}
-use Rattle.cqlp_decode.specs.Streams.{After}
+use Rattle.cqlp_decode.specs.Streams.{AfterGifts}
 
 -- Any bytes say some list of events and some verdict, where a part of a long content has any byte.
 abbrev pub IsSaid : Type 0
@@ -29,14 +29,15 @@ GoesOn =
     → Says l p bytes es v → Says l p (bytes ++ t) es' v'
     → BeginsWith es' es × ((k : ℕ) (why : Reason) → v ≡ Refused k why → (es' ≡ es) × (v' ≡ v))
 
--- There are no more events than bytes, where a part of a long content has any: the end of a frame is paid by its
+-- There are no more events than bytes, whatever is given, where a part of a long content has any byte: the end of a frame is paid by its
 -- header, and that of a value by its length.
 abbrev pub HasNoMoreEventsThanBytes : Type 0
 HasNoMoreEventsThanBytes =
-    (l : Rules) (bytes : List ℕ) (es : List (ℕ × Event)) (v : Verdict)
-    → 1 ≤ l.part → Says l start bytes es v → length es ≤ length bytes
+    (l : Rules) (gifts : Gifts) (bytes : List ℕ) (es : List (ℕ × Event)) (v : Verdict)
+    → 1 ≤ l.part → Says l (start_with gifts) bytes es v → length es ≤ length bytes
 
 -- So a decoder has handed out no more events than it has used bytes, whether it has refused or not.
 abbrev pub HandsOutNoMoreEventsThanBytes : Type 0
 HandsOutNoMoreEventsThanBytes =
-    (d : StreamState) (s : List ℕ) (es : List (ℕ × Event)) → 1 ≤ d.rules.part → After d s es → length es ≤ length s
+    (gifts : Gifts) (d : StreamState) (s : List ℕ) (es : List (ℕ × Event))
+    → 1 ≤ d.rules.part → AfterGifts gifts d s es → length es ≤ length s

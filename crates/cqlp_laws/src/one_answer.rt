@@ -12,8 +12,9 @@ pub fn one_answer_of_new()
     ensures { IsOneAnswerOfNew }
 {}
 
-/// After the same bytes and events, and over the same input, there is one answer: the same event at the same offset with
-/// the same bytes used, the same refusal, or more is wanted; and the decoder is left alike.
+/// After the same bytes and events, and the same tables given in between, there is one answer over the same input: the
+/// same event at the same offset with the same bytes used, the same refusal, or more is wanted; and the decoder is left
+/// alike.
 pub fn one_answer_of_next()
     ensures { IsOneAnswerOfNext }
 {}
@@ -28,7 +29,8 @@ pub fn one_answer_of_held()
     ensures { IsOneAnswerOfHeld }
 {}
 
-/// From the same decoder over the same bytes of a reader a run hands the same events to its sink, as far as it goes. Where
+/// From the same decoder over the same bytes of a reader a run hands the same events to its sink, as far as it goes,
+/// whatever tables were given before. Where
 /// the sink does not fail, how far that is goes by how much the reader gave; and a run that finishes ends the same way,
 /// however the reader cut its bytes.
 pub fn one_answer_of_run<S: Sink>()
