@@ -16,7 +16,7 @@ use Rattle.cqlp_type.specs.Table.{Table}
 use Rattle.cqlp_grammar.specs.declared.grammar.Role.{Role}
 use Rattle.cqlp_note.specs.declared.field.Field.{Field}
 use Rattle.cqlp_grammar.specs.Productions.{Symbol, Stream, In, In_type, Cell_due, In_cell, Extra, fault_in}
-use Rattle.cqlp_decode.specs.Reading.{Event, Given, Nothing, Waiting, Gift, Gives, TakesBack, Gifts, held_after, held_after_all, gifts_now, gifts_later, with_gift, Place, start_with, settled, retired, type_event, cell_event, header_step, value_step, place_of_types, place_of_cells, step_at, step, Reads}
+use Rattle.cqlp_decode.specs.Reading.{Event, Given, Nothing, Waiting, InUse, Used, Gift, Gives, TakesBack, Gifts, held_after, held_after_all, gifts_now, gifts_later, with_gift, Place, start_with, settled, retired, is_in_use, type_event, cell_event, header_step, value_step, place_of_types, place_of_cells, step_at, step, Reads}
 use Rattle.cqlp_decode.specs.Standing.{StreamState}
 use Rattle.cqlp_decode.specs.Streams.{AfterBy}
 use Rattle.cqlp_decode.specs.Giving.{with_given}
@@ -27,6 +27,22 @@ pub retired_all : (xs : List Gift) (g : Given) → retired (held_after_all xs g)
 retired_all [] g = refl
 retired_all (Gives ts ∷ xs) g = retired_all xs (Waiting ts)
 retired_all (TakesBack ∷ xs) g = retired_all xs Nothing
+
+never_in_use : (xs : List Gift) (g : Given) → is_in_use g ≡ false → is_in_use (held_after_all xs g) ≡ false
+never_in_use [] g free = free
+never_in_use (Gives ts ∷ xs) g free = never_in_use xs (Waiting ts) refl
+never_in_use (TakesBack ∷ xs) g free = never_in_use xs Nothing refl
+
+retired_free : (g : Given) → is_in_use (retired g) ≡ false
+retired_free Nothing = refl
+retired_free (Waiting ts) = refl
+retired_free (InUse ts) = refl
+retired_free (Used ts) = refl
+
+-- after a refusal no table is in use
+pub refused_free : (o : Option Refusal) (r : Refusal) (gifts : Gifts) (d : StreamState) (s : List ℕ) (es : List (ℕ × Event)) → o ≡ Some r → AfterBy o gifts d s es → is_in_use d.place.given ≡ false
+refused_free None r gifts d s es is a = absurd cc
+refused_free (Some w) r gifts d s es is a = rw a.given (never_in_use (gifts_now a.place.gifts) (retired a.place.given) (retired_free a.place.given))
 
 held_more : (xs : List Gift) (x : Gift) (g : Given) → held_after_all (xs ++ x ∷ []) g ≡ held_after x (held_after_all xs g)
 held_more [] x g = refl

@@ -1,5 +1,6 @@
 -- What it does to a stream that a table of types is given or taken back.
-use Rattle.std.specs.Prelude.{ℕ, Bool, true, not, ◌&&◌, List, [], ◌∷◌, length, is_some, nat_lt, Option, Some, None, if◌then◌else◌}
+use Rattle.std.specs.Prelude.{◌≡◌, ℕ, Bool, true, not, ◌&&◌, List, [], ◌∷◌, length, is_some, nat_lt, Option, Some, None, if◌then◌else◌}
+use Rattle.cqlp_note.specs.declared.refusal.Refusal.{Refusal}
 use Rattle.cqlp_kind.specs.declared.node.Node.{Node}
 use Rattle.cqlp_kind.specs.Types.{types_of}
 use Rattle.cqlp_type.specs.Forests.{depth_of}
@@ -69,3 +70,9 @@ abbrev pub TakesAlso : Option Table → (old new : StreamState) → Type 0
 TakesAlso table old new =
     (gifts : Gifts) (s : List ℕ) (es : List (ℕ × Event)) → AfterGifts gifts old s es
     → AfterGifts (with_taking table (length es) gifts) new s es
+
+-- after a refusal all that is held is given back
+abbrev pub GivesBack : Option Table → StreamState → Type 0
+GivesBack table d =
+    (r : Refusal) (gifts : Gifts) (s : List ℕ) (es : List (ℕ × Event))
+    → d.refusal ≡ Some r → AfterGifts gifts d s es → table ≡ d.given

@@ -103,7 +103,7 @@ impl<A: Allocator + Clone> Decoder<A> {
 
 impl<A: Allocator> Decoder<A> {
     ghost use Rattle.cqlp_decode.specs.Lending.{LeavesAnswer};
-    ghost use Rattle.cqlp_decode.specs.Giving.{GivesAlso, TakesAlso, after_taking, free_table, once_given, reason_against};
+    ghost use Rattle.cqlp_decode.specs.Giving.{GivesAlso, GivesBack, TakesAlso, after_taking, free_table, once_given, reason_against};
     ghost use Rattle.cqlp_decode.specs.Reading.{Gives, is_in_use};
     ghost use Rattle.cqlp_decode.specs.Standing.{Advances, HoldsGiven, LeavesTypes, Takes, WhatThere, event_at};
     ghost use Rattle.cqlp_decode.specs.Streams.{EndsAs, IsWithin, Uses, given_nodes, state};
@@ -163,6 +163,7 @@ impl<A: Allocator> Decoder<A> {
         ensures given { result ≡ free_table (state self.old) }
         ensures left { state self.new ≡ after_taking result (state self.old) }
         ensures after { TakesAlso result (state self.old) (state self.new) }
+        ensures refused { GivesBack result (state self.old) }
     {
         if self.is_in_use() {
             return None;

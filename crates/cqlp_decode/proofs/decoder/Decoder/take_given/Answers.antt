@@ -1,7 +1,8 @@
-use Rattle.std.proofs.Common.{◌≡◌, false, None, refl, sym, ◌∙◌}
+use Rattle.std.proofs.Common.{◌≡◌, true, Bool, false, None, refl, sym, ◌∙◌}
 use Rattle.cqlp_decode.specs.Reading.{is_in_use}
 use Rattle.cqlp_decode.specs.Standing.{parts_state, state_of}
 use Rattle.cqlp_decode.specs.Streams.{state}
+use Rattle.cqlp_decode.proofs.Gifts.{refused_free}
 use Rattle.cqlp_decode.proofs.Tables.{given_lawful, given_state, taken_is, nothing_held, takes_also}
 use Rattle.cqlp_decode.proofs.decoder.Decoder.take_given.Goals as goal
 
@@ -32,3 +33,13 @@ returns-clause-after g c =
 
 pub returns-then-is_in_use-clause-after : goal.returns-then-is_in_use-clause-after
 returns-then-is_in_use-clause-after g c = takes_also None (state c.args.self.now) _ refl
+
+pub returns-clause-refused : goal.returns-clause-refused
+returns-clause-refused g c = λ r gifts s es is a. rw (← c.self.view_is) c.take.ensures.value
+
+pub returns-then-is_in_use-clause-refused : goal.returns-then-is_in_use-clause-refused
+returns-then-is_in_use-clause-refused g c = λ r gifts s es is a.
+    let d = state c.args.self.now in
+    let busy : is_in_use d.place.given ≡ true = sym c.is_in_use.ensures ∙ c.if-is_in_use.true in
+    let free = refused_free d.refusal r gifts d s es is a in
+    absurd (let shut : ◌≡◌ {A = Bool} true false = sym busy ∙ free in cc)
