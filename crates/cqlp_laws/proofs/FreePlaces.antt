@@ -34,7 +34,7 @@ use Rattle.cqlp_grammar.specs.declared.grammar.Role.{Role}
 use Rattle.cqlp_grammar.specs.declared.grammar.Role.TheVariants as role
 use Rattle.cqlp_grammar.specs.Productions.{Symbol, Stream, In, In_type, Cell_due, In_cell, Extra, plain, counted, copies, where_set, group, body, announced, message, query_parts, errors, results, by_text, targets, events, specs, table_name, row_from, rows_from, or_nothing, number_in, text_in, following, fault_in}
 use Rattle.cqlp_laws.specs.Excess.{free, IsLongField, IsLongValue, IsLongInCell, IsOver, ExceedsInType, ExceedsAt, Exceeds}
-use Rattle.cqlp_decode.specs.Reading.{Event, Place, settled as settled_place, start, Reads, type_event, cell_event, types_for, nodes_after, types_left, cells_left, place_of_types, place_of_cells, header_step, step_at, step}
+use Rattle.cqlp_decode.specs.Reading.{Event, Place, settled as settled_place, Gifts, start_with, Reads, type_event, cell_event, types_for, nodes_after, types_left, cells_left, place_of_types, place_of_cells, header_step, step_at, step}
 use Rattle.cqlp_decode.specs.Reading as reading
 use Rattle.cqlp_laws.proofs.EventCounts.{always_then, after_always, map_always}
 
@@ -496,8 +496,8 @@ reads_bounded : (l : Rules) (es : List (ℕ × Event)) (p q : Place) (bytes rest
 reads_bounded l [] p q bytes rest b r = rw r.0 b
 reads_bounded l (e ∷ es) p q bytes rest b r = reads_bounded l es (r.1 r.0) q (drop r.0 bytes) rest (step_bounded l p bytes _ r.0 b r.2) r.3
 
-start_bounded : IsBounded start
-start_bounded = (0, record { behind = omega arith; short = omega arith; deep = omega arith; counted = λ some. absurd (omega (arith, some)) })
+start_bounded : (gifts : Gifts) → IsBounded (start_with gifts)
+start_bounded gifts = (0, record { behind = omega arith; short = omega arith; deep = omega arith; counted = λ some. absurd (omega (arith, some)) })
 
 -- ---- what exceeds no limit
 
@@ -544,7 +544,7 @@ module _ (l : Rules) (p : Place) (base : ℕ) (behind : base ≤ p.offset) (shor
   bounded_under (Extra ∷ rest) deep counted over = over
 
 -- Read freely, no place is reached where a limit is exceeded.
-pub never_exceeds : (l : Rules) (bytes : List ℕ) (es : List (ℕ × Event)) (p : Place) (rest : List ℕ) (why : Reason) → Reads (free l) start bytes es p rest → Exceeds (free l) p rest why → ⊥
-never_exceeds l bytes es p rest why read over =
-    let b = reads_bounded (free l) es start p bytes rest start_bounded read in
+pub never_exceeds : (l : Rules) (gifts : Gifts) (bytes : List ℕ) (es : List (ℕ × Event)) (p : Place) (rest : List ℕ) (why : Reason) → Reads (free l) (start_with gifts) bytes es p rest → Exceeds (free l) p rest why → ⊥
+never_exceeds l gifts bytes es p rest why read over =
+    let b = reads_bounded (free l) es (start_with gifts) p bytes rest (start_bounded gifts) read in
     bounded_under l p b.0 b.1.behind b.1.short rest why p.symbols b.1.deep b.1.counted over

@@ -89,7 +89,7 @@ module _ (l : Rules) (b : List ℕ) (es : List (ℕ × Event)) (k : ℕ) (why : 
 
 -- What no limit refuses is refused without limits.
 refused_freely : (l : Rules) (bytes : List ℕ) (es : List (ℕ × Event)) (k : ℕ) (why : Reason) → Says l start bytes es (Refused k why) → (IsOfLimit why → ⊥) → Says (free l) start bytes es (Refused k why)
-refused_freely l bytes es k why said plain = elim (says_cut l bytes es (Refused k why) said) [
+refused_freely l bytes es k why said plain = elim (says_cut l [] bytes es (Refused k why) said) [
   | inl c ↦ c.1
   | inr c ↦
       let is : why ≡ c.2 = same_reason k c.0.offset why c.2 c.4 in

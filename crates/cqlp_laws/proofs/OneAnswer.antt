@@ -12,7 +12,7 @@ use Rattle.cqlp_decode.specs.declared.step.Step.TheVariants as steps
 use Rattle.cqlp_grammar.specs.declared.event.Event as events
 use Rattle.cqlp_grammar.specs.declared.event.Finish.{Finish}
 use Rattle.cqlp_grammar.specs.declared.event.Finish.TheVariants as finish
-use Rattle.cqlp_decode.specs.Reading.{Event, Place, Verdict, Waits, Refused, Gifts, settled, Reads, Says, start_with, step}
+use Rattle.cqlp_decode.specs.Reading.{Event, Place, Verdict, Waits, Refused, Gifts, gifts_now, held_after_all, retired, settled, Reads, Says, start_with, step}
 use Rattle.cqlp_grammar.specs.Events.{event_of}
 use Rattle.cqlp_decode.specs.Standing.{StreamState, Pending, Kept, Skipped, Valued, IsPending}
 use Rattle.cqlp_decode.specs.Streams.{state, AfterGifts, AfterBy, Stands, LeadsAfter, Goes, Answers, FinishesBy}
@@ -97,7 +97,7 @@ module _ (gifts : Gifts) where
   -- ---- two decoders
 
   alike_same : (d d' : StreamState) → d' ≡ d → AreAlike d d'
-  alike_same d d' same = record { rules = ap (λ (z : StreamState). z.rules) same; refusal = ap (λ (z : StreamState). z.refusal) same; nodes = ap (λ (z : StreamState). z.place.nodes) same; given = ap (λ (z : StreamState). z.given) same }
+  alike_same d d' same = record { rules = ap (λ (z : StreamState). z.rules) same; refusal = ap (λ (z : StreamState). z.refusal) same; nodes = ap (λ (z : StreamState). z.place.nodes) same; given = ap (λ (z : StreamState). z.given) same; held = ap (λ (z : StreamState). z.place.given) same }
 
   -- what was read, where nothing has come of what is next
   reads_to : (l : Rules) (d : StreamState) (s : List ℕ) (es : List (ℕ × Event)) → d.rules ≡ l → d.refusal ≡ None → IsPending d.pending [] → AfterGifts gifts d s es → (p : Place) × Reads l (start_with gifts) s es p [] × (d.place ≡ settled p)
@@ -115,6 +115,14 @@ module _ (gifts : Gifts) where
   same_nodes l d d' s es is is' (Some r) (Some r') a a' =
       a'.nodes ∙ ap (λ (p : Place). p.nodes) (place_once gifts l s es a.place a'.place a.bytes a'.bytes (rw is at a.read) (rw is' at a'.read)).0 ∙ sym a.nodes
 
+  same_held : (l : Rules) (d d' : StreamState) (s : List ℕ) (es : List (ℕ × Event)) → d.rules ≡ l → d'.rules ≡ l → (o o' : Option Refusal) → o' ≡ o → AfterBy o gifts d s es → AfterBy o' gifts d' s es → d'.place.given ≡ d.place.given
+  same_held l d d' s es is is' None None same a a' =
+      ap (λ (p : Place). p.given) a'.here ∙ ap (λ (p : Place). (settled p).given) (place_once gifts l s es a.place a'.place a.bytes a'.bytes (rw is at a.read) (rw is' at a'.read)).0 ∙ sym (ap (λ (p : Place). p.given) a.here)
+  same_held l d d' s es is is' None (Some r) same a a' = absurd cc
+  same_held l d d' s es is is' (Some r) None same a a' = absurd cc
+  same_held l d d' s es is is' (Some r) (Some r') same a a' =
+      a'.given ∙ ap (λ (p : Place). held_after_all (gifts_now p.gifts) (retired p.given)) (place_once gifts l s es a.place a'.place a.bytes a'.bytes (rw is at a.read) (rw is' at a'.read)).0 ∙ sym a.given
+
   same_refusal : (r r' : Refusal) → ◌≡◌ {A = Verdict} (Refused r'.at r'.why) (Refused r.at r.why) → r' ≡ r
   same_refusal r r' same = let at : r'.at ≡ r.at = cc in let why : r'.why ≡ r.why = cc in λ i. record { at = at i; why = why i }
 
@@ -131,7 +139,7 @@ module _ (gifts : Gifts) where
           | inr le ↦ event_once old.rules s input es x.0 y.0 used used' (at, event_of e) (at', event_of e') le a'.0 x.1 y.1
         ] in (
           λ i. one.Hands ((once.2 i).0) (once.1 i) ((once.2 i).1),
-          record { rules = g'.2 ∙ sym g.2; refusal = a'.1 ∙ sym a.1; nodes = ap (λ (p : Place). p.nodes) y.2 ∙ ap (λ (p : Place). p.nodes) once.0 ∙ sym (ap (λ (p : Place). p.nodes) x.2); given = g'.4 ∙ sym g.4 },
+          record { rules = g'.2 ∙ sym g.2; refusal = a'.1 ∙ sym a.1; nodes = ap (λ (p : Place). p.nodes) y.2 ∙ ap (λ (p : Place). p.nodes) once.0 ∙ sym (ap (λ (p : Place). p.nodes) x.2); given = g'.4 ∙ sym g.4; held = ap (λ (p : Place). p.given) y.2 ∙ ap (λ (p : Place). (settled p).given) once.0 ∙ sym (ap (λ (p : Place). p.given) x.2) },
         )
 
     event_and_all : (l : Rules) → old.rules ≡ l → (v : Verdict) (at used : ℕ) (e : events.Event) → Goes old (steps.Event at used e) new → LeadsAfter gifts old s es input (steps.Event at used e) new → Says l (start_with gifts) (s ++ input) es v → ⊥
@@ -143,7 +151,7 @@ module _ (gifts : Gifts) where
         → (answer_of (steps.More used') ≡ answer_of (steps.More used)) × AreAlike new new'
     more_more used used' g g' a a' = (
       ap one.Wants (a'.0 ∙ sym a.0),
-      record { rules = g'.0 ∙ sym g.0; refusal = a'.1 ∙ sym a.1; nodes = same_nodes old.rules new new' (s ++ input) es g.0 g'.0 new.refusal new'.refusal a.2 a'.2; given = g'.2 ∙ sym g.2 },
+      record { rules = g'.0 ∙ sym g.0; refusal = a'.1 ∙ sym a.1; nodes = same_nodes old.rules new new' (s ++ input) es g.0 g'.0 new.refusal new'.refusal a.2 a'.2; given = g'.2 ∙ sym g.2; held = same_held old.rules new new' (s ++ input) es g.0 g'.0 new.refusal new'.refusal (a'.1 ∙ sym a.1) a.2 a'.2 },
     )
 
     refused_refused : (r r' : Refusal) → old.refusal ≡ None → Goes old (steps.Refused r) new → Goes old (steps.Refused r') new' → LeadsAfter gifts old s es input (steps.Refused r) new → LeadsAfter gifts old s es input (steps.Refused r') new'
@@ -153,7 +161,7 @@ module _ (gifts : Gifts) where
         let y = refuses_new old.refusal gifts old s es input r' none a'.2 in
         let same = same_refusal r r' (says_once old.rules (start_with gifts) (s ++ input) es es (Refused r.at r.why) (Refused r'.at r'.why) x y).1 in (
           ap one.Refuses same,
-          record { rules = g'.0 ∙ sym g.0; refusal = a'.0 ∙ ap Some same ∙ sym a.0; nodes = same_nodes old.rules new new' s es g.0 g'.0 new.refusal new'.refusal a.1 a'.1; given = g'.2 ∙ sym g.2 },
+          record { rules = g'.0 ∙ sym g.0; refusal = a'.0 ∙ ap Some same ∙ sym a.0; nodes = same_nodes old.rules new new' s es g.0 g'.0 new.refusal new'.refusal a.1 a'.1; given = g'.2 ∙ sym g.2; held = same_held old.rules new new' s es g.0 g'.0 new.refusal new'.refusal (a'.0 ∙ ap Some same ∙ sym a.0) a.1 a'.1 },
         )
 
     more_refused : (used : ℕ) (r : Refusal) → old.refusal ≡ None → Goes old (steps.More used) new → LeadsAfter gifts old s es input (steps.More used) new → LeadsAfter gifts old s es input (steps.Refused r) new' → ⊥
@@ -189,7 +197,7 @@ pub one_new : IsOneAnswerOfNew
 one_new limits d d' n n' =
     let st : Stands [] (state d) [] [] = subst (λ (o : Option Refusal). AfterBy o [] (state d) [] []) n.unrefused n.fresh in
     let st' : Stands [] (state d') [] [] = subst (λ (o : Option Refusal). AfterBy o [] (state d') [] []) n'.unrefused n'.fresh in (
-      record { rules = n'.rules ∙ sym n.rules; refusal = n'.unrefused ∙ sym n.unrefused; nodes = n'.nothing_held.1 ∙ sym n.nothing_held.1; given = n'.nothing_given ∙ sym n.nothing_given },
+      record { rules = n'.rules ∙ sym n.rules; refusal = n'.unrefused ∙ sym n.unrefused; nodes = n'.nothing_held.1 ∙ sym n.nothing_held.1; given = n'.nothing_given ∙ sym n.nothing_given; held = ap (λ (p : Place). p.given) (st'.here ∙ ap settled st'.read.0) ∙ sym (ap (λ (p : Place). p.given) (st.here ∙ ap settled st.read.0)) },
       st.here ∙ ap settled st.read.0,
       st'.here ∙ ap settled st'.read.0,
       (n'.nothing_held.0 ∙ sym n.nothing_held.0, n'.nothing_held.2 ∙ sym n.nothing_held.2),

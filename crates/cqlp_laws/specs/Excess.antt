@@ -13,7 +13,7 @@ use Rattle.cqlp_kind.specs.TypeStep.{TypeSymbol, Option_at, Text_of}
 use Rattle.cqlp_kind.specs.Scalars.{allows_size}
 use Rattle.cqlp_kind.specs.CellStep.{CellSymbol, Value_of, Items_of, is_opaque}
 use Rattle.cqlp_grammar.specs.Productions.{Symbol, In, In_type, Cell_due, In_cell}
-use Rattle.cqlp_decode.specs.Reading.{Place, Event, Verdict, Refused, Reads, Says, start}
+use Rattle.cqlp_decode.specs.Reading.{Place, Event, Verdict, Refused, Gifts, Reads, Says, start_with}
 
 -- other limits on texts, on contents, on the types of one metadata and on their nesting
 abbrev pub with_limits : Rules → (text cell entries depth : ℕ) → Rules
@@ -108,25 +108,27 @@ ExceedsAt l p symbols bytes why = ⊥
 abbrev pub Exceeds : Rules → Place → List ℕ → Reason → Type 0
 Exceeds l p bytes why = ExceedsAt l p p.symbols bytes why
 
--- Read freely, these bytes say these events and lead to this place, where what begins exceeds a limit.
-abbrev pub ComesToExcess : Rules → List ℕ → List (ℕ × Event) → Place → List ℕ → Reason → Type 0
-ComesToExcess l bytes es p rest why = Reads (free l) start bytes es p rest × Exceeds l p rest why
+-- What is read while the caller gives this.
+module _ (l : Rules) (gifts : Gifts) where
+  -- Read freely, these bytes say these events and lead to this place, where what begins exceeds a limit.
+  abbrev pub ComesToExcess : List ℕ → List (ℕ × Event) → Place → List ℕ → Reason → Type 0
+  ComesToExcess bytes es p rest why = Reads (free l) (start_with gifts) bytes es p rest × Exceeds l p rest why
 
-abbrev pub NothingExceeds : Rules → List ℕ → Type 0
-NothingExceeds l bytes =
-    (es : List (ℕ × Event)) (p : Place) (rest : List ℕ) (why : Reason) → ComesToExcess l bytes es p rest why → ⊥
+  abbrev pub NothingExceeds : List ℕ → Type 0
+  NothingExceeds bytes =
+      (es : List (ℕ × Event)) (p : Place) (rest : List ℕ) (why : Reason) → ComesToExcess bytes es p rest why → ⊥
 
--- And they lead to no such place after fewer events.
-abbrev pub ComesFirstToExcess : Rules → List ℕ → List (ℕ × Event) → Place → List ℕ → Reason → Type 0
-ComesFirstToExcess l bytes es p rest why =
-    ComesToExcess l bytes es p rest why
-    × ((fs : List (ℕ × Event)) (q : Place) (left : List ℕ) (how : Reason)
-    → ComesToExcess l bytes fs q left how → length es ≤ length fs)
+  -- And they lead to no such place after fewer events.
+  abbrev pub ComesFirstToExcess : List ℕ → List (ℕ × Event) → Place → List ℕ → Reason → Type 0
+  ComesFirstToExcess bytes es p rest why =
+      ComesToExcess bytes es p rest why
+      × ((fs : List (ℕ × Event)) (q : Place) (left : List ℕ) (how : Reason)
+      → ComesToExcess bytes fs q left how → length es ≤ length fs)
 
--- What the free reading says of these bytes, if nothing exceeds a limit; else the events before the first that does,
--- and its refusal, at its first byte.
-abbrev pub IsCut : Rules → List ℕ → List (ℕ × Event) → Verdict → Type 0
-IsCut l bytes es v =
-    (NothingExceeds l bytes × Says (free l) start bytes es v)
-    ⊎ ((p : Place) × (rest : List ℕ) × (why : Reason)
-    × ComesFirstToExcess l bytes es p rest why × (v ≡ Refused p.offset why))
+  -- What the free reading says of these bytes, if nothing exceeds a limit; else the events before the first that does,
+  -- and its refusal, at its first byte.
+  abbrev pub IsCut : List ℕ → List (ℕ × Event) → Verdict → Type 0
+  IsCut bytes es v =
+      (NothingExceeds bytes × Says (free l) (start_with gifts) bytes es v)
+      ⊎ ((p : Place) × (rest : List ℕ) × (why : Reason)
+      × ComesFirstToExcess bytes es p rest why × (v ≡ Refused p.offset why))

@@ -3,7 +3,7 @@ use Rattle.std.specs.Prelude.{◌≡◌, ℕ, ◌≤◌, ◌++◌, List, ◌⊎�
 use Rattle.cqlp_note.specs.declared.refusal.Reason.{Reason}
 use Rattle.cqlp_note.specs.declared.refusal.Reason.TheVariants.{TooLong, TooDeep, TooMany}
 use Rattle.cqlp_note.specs.Limits.{Rules}
-use Rattle.cqlp_decode.specs.Reading.{Event, Verdict, Refused, Gifts, Says, start, start_with}
+use Rattle.cqlp_decode.specs.Reading.{Event, Verdict, Refused, Gifts, Says, start_with}
 use Rattle.cqlp_laws.specs.Excess.{with_limits, free, IsCut}
 
 -- what a limit refuses
@@ -37,11 +37,12 @@ LimitsOnlyCut =
 -- free reading and the limits determine it.
 abbrev pub LimitsCutAtFirstExcess : Type 0
 LimitsCutAtFirstExcess =
-    (l : Rules) (bytes : List ℕ) (es : List (ℕ × Event)) (v : Verdict)
-    → (Says l start bytes es v → IsCut l bytes es v) × (IsCut l bytes es v → Says l start bytes es v)
+    (l : Rules) (gifts : Gifts) (bytes : List ℕ) (es : List (ℕ × Event)) (v : Verdict)
+    → (Says l (start_with gifts) bytes es v → IsCut l gifts bytes es v)
+    × (IsCut l gifts bytes es v → Says l (start_with gifts) bytes es v)
 
 -- The free reading refuses nothing by a limit.
 abbrev pub FreeHasNoLimit : Type 0
 FreeHasNoLimit =
-    (l : Rules) (bytes : List ℕ) (es : List (ℕ × Event)) (k : ℕ) (why : Reason)
-    → Says (free l) start bytes es (Refused k why) → IsOfLimit why → ⊥
+    (l : Rules) (gifts : Gifts) (bytes : List ℕ) (es : List (ℕ × Event)) (k : ℕ) (why : Reason)
+    → Says (free l) (start_with gifts) bytes es (Refused k why) → IsOfLimit why → ⊥

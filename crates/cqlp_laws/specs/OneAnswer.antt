@@ -32,12 +32,13 @@ answer_of (step.More used) = Wants used
 answer_of (step.Refused r) = Refuses r
 
 -- Two decoders have the same limits, the same refusal, if any, the same types of metadata, and hold the same table that
--- was given.
+-- was given, for the same use.
 pub record AreAlike (d d' : StreamState) : Type 0 where
   pub rules : d'.rules ≡ d.rules
   pub refusal : d'.refusal ≡ d.refusal
   pub nodes : d'.place.nodes ≡ d.place.nodes
   pub given : d'.given ≡ d.given
+  pub held : d'.place.given ≡ d.place.given
 
 -- what the clauses of `new` say of a decoder
 pub record IsNew (limits : Limits) (d : Decoding) : Type 0 where
