@@ -139,10 +139,10 @@ impl<A: Allocator> Decoder<A> {
         }
     }
 
-    /// Gives types for a page whose result has the flag No_metadata (0x04, section 4.2.5.2): they wait for the first page
-    /// that has it and as many columns as they are, type its cells, and type no other page unless they are given again. The
-    /// table that was held before comes back. A table that is not taken comes back with the first reason against it, and
-    /// nothing changes.
+    /// Gives types for a page whose result has the flag No_metadata (0x04, section 4.2.5.2 of
+    /// `native_protocol_v4.spec`): they wait for the first page that has it and as many columns as they are, type its
+    /// cells, and type no other page unless they are given again. The table that was held before comes back. A table
+    /// that is not taken comes back with the first reason against it, and nothing changes.
     pub fn give(&mut self, table: TypeTable<A>) -> Result<Option<TypeTable<A>>, GiveError<A>>
         ensures refused { (w : Why) → reason_against (state self.old) table.nodes ≡ Some w
             → (result ≡ Err (record { why = w; table = table })) × (self.new ≡ self.old) }
@@ -179,8 +179,8 @@ impl<A: Allocator> Decoder<A> {
         self.standing.finish(&self.parts)
     }
 
-    /// What is held of the stream: at most as many bytes as the greater of the limits on a text and on a cell, twice as many
-    /// type options as their limit, since two tables are held, and as many levels as the limit on nesting.
+    /// What is held of the stream: at most as many bytes as the greater of the limits on a text and on a cell, twice as
+    /// many type options as their limit, since two tables are held, and as many levels as the limit on nesting.
     pub fn held(&self) -> Held
         ensures bytes { result.bytes ≡ length (state self.now).held }
         ensures entries { result.entries

@@ -143,8 +143,8 @@ pub fn page_table<'a, A: Allocator>(
     }
 }
 
-/// Whether a given table types the page that begins after a field of this role: it waits, the metadata has no types, and
-/// as many types stand in it as the page has columns.
+/// Whether a given table types the page that begins after a field of this role: it waits, the metadata has no types,
+/// and as many types stand in it as the page has columns.
 pub fn serves<A: Allocator>(role: Role, given: &Option<TypeTable<A>>, given_use: GivenUse) -> bool
     ensures { (depth : ℕ) → HoldsForest depth given.now → result ≡ serves_after role (given_of given_use given.now) }
 {
@@ -163,8 +163,8 @@ fn has_types<A: Allocator>(table: &TypeTable<A>, count: u32) -> bool
     table.roots() == count
 }
 
-/// The page that begins after a field of this role that has this value, if it has a cell. A given table types it where it
-/// was found to serve.
+/// The page that begins after a field of this role that has this value, if it has a cell. A given table types it where
+/// it was found to serve.
 pub fn find_page<A: Allocator>(
     limits: &Limits,
     role: Role,

@@ -350,8 +350,13 @@ impl StreamStanding {
         requires forest { Forest table.now.nodes 0 self.old.limits.depth }
         requires given { HoldsGiven self.old.limits given.now }
         ensures goes_on { GoesOnAfter self.old self.new table.now.nodes given.now role (value_of value.entry) }
-        ensures rest { self.new ≡ record self.old { stage = self.new.stage; upcoming = self.new.upcoming; given_use = self.new.given_use } }
-        ensures given { given_of self.new.given_use given.now ≡ given_after role (given_of self.old.given_use given.now) }
+        ensures rest { self.new ≡ record self.old {
+          stage = self.new.stage;
+          upcoming = self.new.upcoming;
+          given_use = self.new.given_use;
+        } }
+        ensures given { given_of self.new.given_use given.now
+            ≡ given_after role (given_of self.old.given_use given.now) }
     {
         let served = serves(role, given, self.given_use);
         self.given_use = self.given_use.with_page(served);

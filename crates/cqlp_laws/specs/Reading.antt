@@ -29,8 +29,8 @@ GoesOn =
     → Says l p bytes es v → Says l p (bytes ++ t) es' v'
     → BeginsWith es' es × ((k : ℕ) (why : Reason) → v ≡ Refused k why → (es' ≡ es) × (v' ≡ v))
 
--- There are no more events than bytes, whatever is given, where a part of a long content has any byte: the end of a frame is paid by its
--- header, and that of a value by its length.
+-- There are no more events than bytes, whatever is given, where a part of a long content has any byte: the end of a
+-- frame is paid by its header, and that of a value by its length.
 abbrev pub HasNoMoreEventsThanBytes : Type 0
 HasNoMoreEventsThanBytes =
     (l : Rules) (gifts : Gifts) (bytes : List ℕ) (es : List (ℕ × Event)) (v : Verdict)

@@ -2,7 +2,8 @@
 
 ghost use Rattle.cqlp_laws.specs.Limits.{FreeHasNoLimit, LimitsCutAtFirstExcess, LimitsOnlyCut};
 
-/// Limits only cut: wider ones change no event and no refusal that is not a limit's own, where the same tables are given.
+/// Limits only cut: wider ones change no event and no refusal that is not a limit's own, where the same tables are
+/// given.
 pub fn limits_only_cut()
     ensures { LimitsOnlyCut }
 {}

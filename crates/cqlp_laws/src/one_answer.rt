@@ -30,8 +30,8 @@ pub fn one_answer_of_held()
 {}
 
 /// From the same decoder over the same bytes of a reader a run hands the same events to its sink, as far as it goes,
-/// whatever tables were given before. Where the sink does not fail, how far that is goes by how much the reader gave; and a
-/// run that finishes ends the same way, however the reader cut its bytes.
+/// whatever tables were given before. Where the sink does not fail, how far that is goes by how much the reader gave;
+/// and a run that finishes ends the same way, however the reader cut its bytes.
 pub fn one_answer_of_run<S: Sink>()
     ensures { IsOneAnswerOfRun S.after S.faulted }
 {}
