@@ -1,4 +1,5 @@
 pub mod Seeking
 pub mod Pulling
+pub mod Turns
+pub mod Paged
 pub mod Spelled
-pub mod Talking

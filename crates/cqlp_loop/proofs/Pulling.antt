@@ -1,16 +1,18 @@
 -- What an inbox hears, read by read.
-use Rattle.std.proofs.Common.{◌≡◌, ℕ, ◌+◌, ◌-◌, ◌≤◌, List, [], ◌++◌, length, take, drop, sym, ap, ◌∙◌, append_assoc, arith}
+use Rattle.std.proofs.Common.{◌≡◌, ℕ, ◌+◌, ◌-◌, ◌≤◌, List, [], ◌∷◌, ◌++◌, length, take, drop, inl, inr, refl, sym, ap, ◌∙◌, append_assoc, arith}
 use Rattle.std.proofs.lemmas.List.{append-nil, take-append-drop, length-append, length-take, drop-take, drop-drop}
-use Rattle.std.proofs.KnownBytes.{Consumes-nil, Consumes-trans, Consumes-kept}
-use Rattle.std.specs.Io.KnownBytes.{Consumes, Keeps}
-use Rattle.cqlp_decode.specs.Streams.{Decoding, state}
-use Rattle.std.specs.Prelude.{Err}
+use Rattle.std.proofs.KnownBytes.{Consumes-nil, Consumes-trans}
+use Rattle.std.specs.Prelude.{Ok, Err}
+use Rattle.cqlp_note.specs.declared.header.Header.{Header}
+use Rattle.cqlp_note.specs.declared.refusal.Refusal.{Refusal}
+use Rattle.cqlp_decode.specs.Reading.{Verdict, Waits, Refused}
+use Rattle.cqlp_decode.specs.Streams.{state}
 use Rattle.cqlp_loop.specs.declared.fault.LoopFault.{LoopFault}
 use Rattle.cqlp_loop.specs.declared.fault.LoopFault.TheVariants as fault
-use Rattle.cqlp_loop.specs.declared.inbox.Edge.TheVariants.{Begin, Finish}
-use Rattle.cqlp_loop.specs.Hearing.{Hearing, idle}
-use Rattle.cqlp_loop.specs.Inboxes.{Supply, InboxState, Tells, Uses, Hears, HearsHeader, HearsRest, Pulls, Spends}
-use Rattle.cqlp_loop.proofs.Seeking.{tells_none, tells_then}
+use Rattle.cqlp_loop.specs.declared.inbox.Edge.{Edge}
+use Rattle.cqlp_loop.specs.Hearing.{Hearing, idle, amid}
+use Rattle.cqlp_loop.specs.Inboxes.{Supply, InboxState, Tells, SaysAll, IsWithout, Uses, Fills, Reads, IsShort, AreNeeded, Hears, Lacks, Misses, Receives, awaiting, for_next}
+use Rattle.cqlp_loop.proofs.Seeking.{tells_none, tells_then, says_then}
 
 -- the bytes that wait, once some of them are used
 pub waiting_split : (next end used : ℕ) (piece : List ℕ) → used ≤ length (take (end - next) (drop next piece))
@@ -23,82 +25,153 @@ waiting_split next end used piece within =
     = ap (λ (n : ℕ). drop used (take n (drop next piece))) size ∙ drop-take used m (drop next piece) ∙ ap (λ (l : List ℕ). take m l) (drop-drop used next piece) in
     sym (take-append-drop used (take (end - next) (drop next piece))) ∙ ap (λ (l : List ℕ). take used (take (end - next) (drop next piece)) ++ l) rest
 
-pub hears_none : (old : InboxState) (from : Supply) (x : Hearing) → Hears old from old.decoder old.waiting from x x
+-- ---- reads
+
+reads_none : (n : ℕ) (from : Supply) → Reads n from [] n from
+reads_none n from = record { taken = Consumes-nil from.left; failures = refl; least = omega arith; most = omega arith }
+
+reads_then : (n m k : ℕ) (from at left : Supply) (a b : List ℕ) → Reads n from a m at → Reads m at b k left → Reads n from (a ++ b) k left
+reads_then n m k from at left a b p q = record {
+  taken = Consumes-trans from.left at.left left.left a b p.taken q.taken;
+  failures = q.failures ∙ p.failures;
+  least = omega (arith, p.least, q.least, length-append a b);
+  most = omega (arith, p.most, q.most, length-append a b);
+}
+
+-- ---- what is needed
+
+short_then : (x y z : Hearing) → IsShort x y → IsShort y z → IsShort x z
+short_then x y z first (inr within) = inr within
+short_then x y z (inl same) (inl again) = inl (again ∙ same)
+short_then x y z (inr within) (inl again) = inr (rw again within)
+
+-- what was needed before some of the bytes were used, and more were read
+needed_then : (old mid : InboxState) (used a b : List ℕ) (x y : Hearing) → old.waiting ++ a ≡ used ++ mid.waiting → Tells (state old.decoder) used (state mid.decoder) x y → IsShort x y → AreNeeded old a x → AreNeeded mid b y → AreNeeded old (a ++ b) x
+needed_then old mid used a b x y split tells short first (inl none) = rw (none, append-nil a) first
+needed_then old mid used a b x y split tells short first (inr n) = inr (record {
+  earlier = a ++ n.earlier;
+  last = n.last;
+  split = ap (λ (z : List ℕ). a ++ z) n.split ∙ sym (append_assoc a n.earlier n.last);
+  most = n.most;
+  stands = n.stands;
+  short = short_then x y n.stands short n.short;
+  says =
+      let is : used ++ (mid.waiting ++ n.earlier) ≡ old.waiting ++ (a ++ n.earlier)
+      = sym (append_assoc used mid.waiting n.earlier) ∙ ap (λ (z : List ℕ). z ++ n.earlier) (sym split) ∙ append_assoc old.waiting a n.earlier in
+      rw is at (says_then (state old.decoder) (state mid.decoder) used (mid.waiting ++ n.earlier) _ x y n.stands tells n.says);
+})
+
+-- ---- what is heard
+
+pub hears_none : (old : InboxState) (from : Supply) (x : Hearing) → Hears old from old from x x
 hears_none old from x = record {
   read = [];
   used = [];
-  taken = Consumes-nil from.left;
+  reads = reads_none old.reads from;
+  needed = inl refl;
   split = append-nil old.waiting;
   tells = tells_none (state old.decoder) x;
 }
 
--- all that waits is used, and a read gives more
-pub hears_more : (old : InboxState) (from left left' : Supply) (mid new : Decoding) (w r : List ℕ) (x y z : Hearing) → Hears old from mid w left x y → Tells (state mid) w (state new) y z → Consumes left.left left'.left r → Hears old from new r left' x z
-hears_more old from left left' mid new w r x y z h t taken = record {
-  read = h.read ++ r;
-  used = h.used ++ w;
-  taken = Consumes-trans from.left left.left left'.left h.read r h.taken taken;
-  split = sym (append_assoc old.waiting h.read r) ∙ ap (λ (l : List ℕ). l ++ r) h.split;
-  tells = tells_then (state old.decoder) (state mid) (state new) h.used w x y z h.tells t;
-}
-
--- some of what waits is used
-pub hears_uses : (old mid : InboxState) (from left : Supply) (new : Decoding) (others : List ℕ) (x y z : Hearing) → Hears old from mid.decoder mid.waiting left x y → Uses mid new others y z → Hears old from new others left x z
-hears_uses old mid from left new others x y z h u = record {
-  read = h.read;
-  used = h.used ++ u.used;
-  taken = h.taken;
-  split = h.split ∙ ap (λ (l : List ℕ). h.used ++ l) u.split ∙ sym (append_assoc h.used u.used others);
-  tells = tells_then (state old.decoder) (state mid.decoder) (state new) h.used u.used x y z h.tells u.tells;
-}
-
--- one message after another
-pub hears_then : (old mid : InboxState) (from left left' : Supply) (new : Decoding) (others : List ℕ) (x y z : Hearing) → Hears old from mid.decoder mid.waiting left x y → Hears mid left new others left' y z → Hears old from new others left' x z
-hears_then old mid from left left' new others x y z h k = record {
+pub hears_then : (old mid new : InboxState) (from at left : Supply) (x y z : Hearing) → IsShort x y → Hears old from mid at x y → Hears mid at new left y z → Hears old from new left x z
+hears_then old mid new from at left x y z short h k = record {
   read = h.read ++ k.read;
   used = h.used ++ k.used;
-  taken = Consumes-trans from.left left.left left'.left h.read k.read h.taken k.taken;
-  split = sym (append_assoc old.waiting h.read k.read) ∙ ap (λ (l : List ℕ). l ++ k.read) h.split ∙ append_assoc h.used mid.waiting k.read ∙ ap (λ (l : List ℕ). h.used ++ l) k.split ∙ sym (append_assoc h.used k.used others);
-  tells = tells_then (state old.decoder) (state mid.decoder) (state new) h.used k.used x y z h.tells k.tells;
+  reads = reads_then old.reads mid.reads new.reads from at left h.read k.read h.reads k.reads;
+  needed = needed_then old mid h.used h.read k.read x y h.split h.tells short h.needed k.needed;
+  split = sym (append_assoc old.waiting h.read k.read) ∙ ap (λ (l : List ℕ). l ++ k.read) h.split ∙ append_assoc h.used mid.waiting k.read ∙ ap (λ (l : List ℕ). h.used ++ l) k.split ∙ sym (append_assoc h.used k.used new.waiting);
+  tells = tells_then (state old.decoder) (state mid.decoder) (state new.decoder) h.used k.used x y z h.tells k.tells;
 }
 
--- reads left are nothing to what is heard
-pub hears_from : (old old' : InboxState) (from : Supply) (new : Decoding) (others : List ℕ) (left : Supply) (x y : Hearing) → old.decoder ≡ old'.decoder → old.waiting ≡ old'.waiting → Hears old from new others left x y → Hears old' from new others left x y
-hears_from old old' from new others left x y decoder waiting h = record {
-  read = h.read;
-  used = h.used;
-  taken = h.taken;
-  split = ap (λ (l : List ℕ). l ++ h.read) (sym waiting) ∙ h.split;
-  tells = rw decoder at h.tells;
+lacks_then : (old mid : InboxState) (from at left : Supply) (v : Verdict) (n : ℕ) (x y z : Hearing) → IsShort x y → Hears old from mid at x y → Lacks mid at v n left y z → Lacks old from v n left x z
+lacks_then old mid from at left v n x y z short h k = record {
+  read = h.read ++ k.read;
+  reads = reads_then old.reads mid.reads n from at left h.read k.read h.reads k.reads;
+  needed = needed_then old mid h.used h.read k.read x y h.split h.tells short h.needed k.needed;
+  says =
+      let is : h.used ++ (mid.waiting ++ k.read) ≡ old.waiting ++ (h.read ++ k.read)
+      = sym (append_assoc h.used mid.waiting k.read) ∙ ap (λ (l : List ℕ). l ++ k.read) (sym h.split) ∙ append_assoc old.waiting h.read k.read in
+      rw is at (says_then (state old.decoder) (state mid.decoder) h.used (mid.waiting ++ k.read) v x y z h.tells k.says);
 }
 
-pub header_fault : (old old' : InboxState) (from : Supply) (e : LoopFault) (new : InboxState) (left : Supply) → old.decoder ≡ old'.decoder → old.waiting ≡ old'.waiting → Pulls Begin old from (Err e) new left → HearsHeader old' from (Err e) new left
-header_fault old old' from fault.BadReply new left decoder waiting p = (p.0, p.1, λ hs. let h = p.2 hs in (h.0, hears_from old old' from new.decoder h.0 left (idle hs) (idle hs) decoder waiting h.1))
-header_fault old old' from fault.TooManyTurns new left decoder waiting p = p
-header_fault old old' from fault.SocketFault new left decoder waiting p = p
-header_fault old old' from fault.NoMemory new left decoder waiting p = p
-header_fault old old' from fault.WriteFault new left decoder waiting p = p
+pub misses_then : (e : LoopFault) (old mid : InboxState) (from at left : Supply) (x y z : Hearing) → IsShort x y → Hears old from mid at x y → Misses mid at e left y z → Misses old from e left x z
+misses_then fault.BadReply old mid from at left x y z short h k = (k.0, k.1, lacks_then old mid from at left _ k.1 x y z short h k.2)
+misses_then fault.TooManyTurns old mid from at left x y z short h k = lacks_then old mid from at left Waits 0 x y z short h k
+misses_then fault.SocketFault old mid from at left x y z short h k = (k.0, k.1, lacks_then old mid from at k.1 Waits k.0 x y z short h k.2, k.3, k.4)
+misses_then fault.NoMemory old mid from at left x y z short h k = absurd k
+misses_then fault.WriteFault old mid from at left x y z short h k = absurd k
 
-pub rest_fault : (old : InboxState) (from : Supply) (e : LoopFault) (new : InboxState) (left : Supply) → Pulls Finish old from (Err e) new left → HearsRest old from (Err e) new left
-rest_fault old from fault.BadReply new left p = p
-rest_fault old from fault.TooManyTurns new left p = p
-rest_fault old from fault.SocketFault new left p = p
-rest_fault old from fault.NoMemory new left p = p
-rest_fault old from fault.WriteFault new left p = p
+-- ---- one step of an inbox
 
-pub spends_none : (n : ℕ) (from : Supply) → Spends n from n from
-spends_none n from = record { read = []; taken = Consumes-nil from.left; few = omega arith }
-
-pub spends_more : (before m after : ℕ) (from left left' : Supply) (r : List ℕ) → Spends before from m left → m ≡ after + 1 → length r ≤ 4096 → Consumes left.left left'.left r → Spends before from after left'
-spends_more before m after from left left' r s one short taken = record {
-  read = s.read ++ r;
-  taken = Consumes-trans from.left left.left left'.left s.read r s.taken taken;
-  few = omega (arith, s.few, length-append s.read r);
+-- some of what waits is used
+uses_hears : (old new : InboxState) (from : Supply) (x y : Hearing) → new.reads ≡ old.reads → Uses old new x y → Hears old from new from x y
+uses_hears old new from x y reads u = record {
+  read = [];
+  used = u.used;
+  reads = rw reads (reads_none old.reads from);
+  needed = inl refl;
+  split = append-nil old.waiting ∙ u.split;
+  tells = u.tells;
 }
 
-pub spends_kept : (before m after : ℕ) (from left left' : Supply) → Spends before from m left → m ≡ after + 1 → Keeps left.left left'.left → Spends before from after left'
-spends_kept before m after from left left' s one kept = record {
-  read = s.read;
-  taken = Consumes-kept from.left left.left left'.left s.read s.taken kept;
-  few = omega (arith, s.few);
+-- all that waits is used, and a read gives more
+fill_hears : (old mid new : InboxState) (from left : Supply) (x : Hearing) → mid.reads ≡ old.reads → mid.waiting ≡ [] → SaysAll (state old.decoder) old.waiting Waits x x → Tells (state old.decoder) old.waiting (state mid.decoder) x x → Fills mid from (Ok tt) new left → Hears old from new left x x
+fill_hears old mid new from left x reads waiting says tells f = record {
+  read = new.waiting;
+  used = old.waiting;
+  reads = record { taken = f.4; failures = f.5; least = omega (arith, f.0, f.3, reads); most = omega (arith, f.0, f.2, reads) };
+  needed = inr (record {
+    earlier = [];
+    last = new.waiting;
+    split = refl;
+    most = f.2;
+    stands = x;
+    short = inl refl;
+    says = rw (append-nil old.waiting) says;
+  });
+  split = refl;
+  tells = rw f.1 tells;
 }
+
+lacks_now : (old : InboxState) (from : Supply) (v : Verdict) (n : ℕ) (x : Hearing) → n ≡ old.reads → SaysAll (state old.decoder) old.waiting v x x → Lacks old from v n from x x
+lacks_now old from v n x reads says = record {
+  read = [];
+  reads = rw reads (reads_none old.reads from);
+  needed = inl refl;
+  says = rw (append-nil old.waiting) says;
+}
+
+-- a read that fails
+fill_misses : (e : LoopFault) (old mid new : InboxState) (from left : Supply) (x : Hearing) → mid.reads ≡ old.reads → SaysAll (state old.decoder) old.waiting Waits x x → Fills mid from (Err e) new left → Misses old from e left x x
+fill_misses fault.TooManyTurns old mid new from left x reads says f = rw f.2 (lacks_now old from Waits 0 x (sym f.0 ∙ reads) says)
+fill_misses fault.SocketFault old mid new from left x reads says f = (old.reads, from, lacks_now old from Waits old.reads x refl says, f.0, f.1)
+fill_misses fault.BadReply old mid new from left x reads says f = absurd f
+fill_misses fault.NoMemory old mid new from left x reads says f = absurd f
+fill_misses fault.WriteFault old mid new from left x reads says f = absurd f
+
+-- ---- what comes of waiting for an edge, after some reads that did not lead to it
+
+module _ (edge : Edge) (old cur : InboxState) (from at : Supply) (so_far : (hs : List Header) → Hears old from cur at (awaiting edge hs) (awaiting edge hs)) where
+  pub used_last : (new : InboxState) (hs : List Header) (y : Hearing) → new.reads ≡ cur.reads → Uses cur new (awaiting edge hs) y → Hears old from new at (awaiting edge hs) y
+  used_last new hs y reads u = hears_then old cur new from at at _ _ y (inl refl) (so_far hs) (uses_hears cur new at _ y reads u)
+
+  pub refused_last : (r : Refusal) → IsWithout edge (state cur.decoder) cur.waiting (Refused r.at r.why) → (hs : List Header) → Misses old from fault.BadReply at (awaiting edge hs) (awaiting edge hs)
+  refused_last r says hs = (r, cur.reads, lacks_then old cur from at at _ cur.reads _ _ _ (inl refl) (so_far hs) (lacks_now cur at _ cur.reads _ refl (says hs)))
+
+  pub filled_last : (mid new : InboxState) (left : Supply) → mid.reads ≡ cur.reads → mid.waiting ≡ [] → IsWithout edge (state cur.decoder) cur.waiting Waits → ((hs : List Header) → Tells (state cur.decoder) cur.waiting (state mid.decoder) (awaiting edge hs) (awaiting edge hs)) → Fills mid at (Ok tt) new left → (hs : List Header) → Hears old from new left (awaiting edge hs) (awaiting edge hs)
+  filled_last mid new left reads waiting says tells f hs = hears_then old cur new from at left _ _ _ (inl refl) (so_far hs) (fill_hears cur mid new at left _ reads waiting (says hs) (tells hs) f)
+
+  pub failed_last : (e : LoopFault) (mid new : InboxState) (left : Supply) → mid.reads ≡ cur.reads → IsWithout edge (state cur.decoder) cur.waiting Waits → Fills mid at (Err e) new left → (hs : List Header) → Misses old from e left (awaiting edge hs) (awaiting edge hs)
+  failed_last e mid new left reads says f hs = misses_then e old cur from at left _ _ _ (inl refl) (so_far hs) (fill_misses e cur mid new at left _ reads (says hs) f)
+
+-- ---- one message
+
+module _ (takes refuses : Header → Type 0) (old mid : InboxState) (from at : Supply) (h : Header) (head : (hs : List Header) → Hears (for_next old) from mid at (idle hs) (amid (hs ++ h ∷ []))) where
+  pub received : (new : InboxState) (left : Supply) → takes h → ((hs : List Header) → Hears mid at new left (amid hs) (idle hs)) → Receives takes refuses old from (Ok h) new left
+  received new left taken rest = (taken, hears_then (for_next old) mid new from at left (idle []) (amid (h ∷ [])) (idle (h ∷ [])) (inr refl) (head []) (rest (h ∷ [])))
+
+  pub cut_short : (e : LoopFault) (new : InboxState) (left : Supply) → takes h → ((hs : List Header) → Misses mid at e left (amid hs) (amid hs)) → Receives takes refuses old from (Err e) new left
+  cut_short e new left taken rest = inr (inl (h, taken, misses_then e (for_next old) mid from at left (idle []) (amid (h ∷ [])) (amid (h ∷ [])) (inr refl) (head []) (rest (h ∷ []))))
+
+  pub turned_away : refuses h → Receives takes refuses old from (Err fault.BadReply) mid at
+  turned_away refused = inr (inr (h, refused, refl, head []))

@@ -8,6 +8,7 @@ use Rattle.cqlp_grammar.specs.declared.event.Event as handed_out
 use Rattle.cqlp_grammar.specs.Events as told
 use Rattle.cqlp_grammar.specs.Events.{Event, Frame, End, event_of}
 use Rattle.cqlp_decode.specs.declared.step.Step.TheVariants as steps
+use Rattle.cqlp_decode.specs.Reading.{Verdict, Waits, Refused}
 use Rattle.cqlp_decode.specs.Standing.{StreamState}
 use Rattle.cqlp_decode.specs.Streams.{Goes, LeadsOn}
 use Rattle.cqlp_decode.proofs.Gets.{take_two}
@@ -16,7 +17,7 @@ use Rattle.cqlp_loop.specs.declared.inbox.Edge.TheVariants.{Begin, Finish}
 use Rattle.cqlp_loop.specs.declared.inbox.Mark.{Mark}
 use Rattle.cqlp_loop.specs.declared.inbox.Mark.TheVariants as mark
 use Rattle.cqlp_loop.specs.Hearing.{Hearing, with_event, with_events}
-use Rattle.cqlp_loop.specs.Inboxes.{Tells, mark_of, awaiting, past, IsAt}
+use Rattle.cqlp_loop.specs.Inboxes.{Tells, SaysAll, mark_of, awaiting, past, IsAt}
 
 pub events_then : (h : Hearing) (es fs : List (ℕ × Event)) → with_events h (es ++ fs) ≡ with_events (with_events h es) fs
 events_then h [] fs = refl
@@ -77,13 +78,44 @@ tells_then old mid new a b x y z p q = record {
   rules = q.rules ∙ p.rules;
 }
 
+-- after some bytes were used, what all bytes behind them say
+pub says_then : (old mid : StreamState) (a b : List ℕ) (v : Verdict) (x y z : Hearing) → Tells old a mid x y → SaysAll mid b v y z → SaysAll old (a ++ b) v x z
+says_then old mid a b v x y z p q = record {
+  more = p.more ++ q.more;
+  says = λ s es at. rw (append_assoc s a b, append_assoc es p.more q.more, p.rules) at (q.says (s ++ a) (es ++ p.more) (p.leads s es at));
+  heard = events_then x p.more q.more ∙ ap (λ (h : Hearing). with_events h q.more) p.heard ∙ q.heard;
+}
+
 -- one event
 tells_event : (old new : StreamState) (input : List ℕ) (at used : ℕ) (e : handed_out.Event) (h : Hearing) → Goes old (steps.Event at used e) new → LeadsOn old input (steps.Event at used e) new → Tells old (take used input) new h (with_event h (event_of e))
 tells_event old new input at used e h goes leads = record {
   more = (at, event_of e) ∷ [];
-  leads = λ s es a. (leads s es a).3;
+  leads = λ s es a. (goes.3, (leads [] s es a.1).3);
   heard = refl;
   rules = goes.2;
+}
+
+-- all of a piece is used
+more_tells : (old new : StreamState) (input : List ℕ) (used : ℕ) (h : Hearing) → Goes old (steps.More used) new → LeadsOn old input (steps.More used) new → Tells old input new h h
+more_tells old new input used h goes leads = record {
+  more = [];
+  leads = λ s es a. (goes.1, rw (append-nil es) ((leads [] s es a.1).2));
+  heard = refl;
+  rules = goes.0;
+}
+
+more_says : (old new : StreamState) (input : List ℕ) (used : ℕ) (h : Hearing) → Goes old (steps.More used) new → LeadsOn old input (steps.More used) new → SaysAll old input Waits h h
+more_says old new input used h goes leads = record {
+  more = [];
+  says = λ s es a. rw (append-nil es) (rw goes.0 at ((leads [] s es a.1).3));
+  heard = refl;
+}
+
+refused_says : (old new : StreamState) (input : List ℕ) (r : Refusal) (h : Hearing) → LeadsOn old input (steps.Refused r) new → SaysAll old input (Refused r.at r.why) h h
+refused_says old new input r h leads = record {
+  more = [];
+  says = λ s es a. rw (append-nil es) (rw a.0 at ((leads [] s es a.1).2));
+  heard = refl;
 }
 
 module _ (old mid new : StreamState) (piece : List ℕ) (used : ℕ) (edge : Edge) (hs : List Header) (so_far : Tells old (take used piece) mid (awaiting edge hs) (awaiting edge hs)) where
@@ -96,13 +128,14 @@ module _ (old mid new : StreamState) (piece : List ℕ) (used : ℕ) (edge : Edg
   pub tells_mark : (at taken : ℕ) (e : handed_out.Event) (m : Mark) → Goes mid (steps.Event at taken e) new → LeadsOn mid (drop used piece) (steps.Event at taken e) new → mark_of edge (event_of e) ≡ Some m → Tells old (take (used + taken) piece) new (awaiting edge hs) (past m hs)
   tells_mark at taken e m goes leads is = rw (passed edge (event_of e) m hs is) at (joined at taken e goes leads)
 
-  pub tells_more : (taken : ℕ) → Goes mid (steps.More taken) new → LeadsOn mid (drop used piece) (steps.More taken) new → Tells old piece new (awaiting edge hs) (awaiting edge hs)
-  tells_more taken goes leads = record {
-    more = so_far.more;
-    leads = λ s es a. rw (append_assoc s (take used piece) (drop used piece), take-append-drop used piece) at ((leads _ _ (so_far.leads s es a)).2);
-    heard = so_far.heard;
-    rules = goes.0 ∙ so_far.rules;
-  }
+  whole : take used piece ++ drop used piece ≡ piece
+  whole = take-append-drop used piece
 
-  pub tells_refused : (r : Refusal) → Goes mid (steps.Refused r) new → LeadsOn mid (drop used piece) (steps.Refused r) new → Tells old (take used piece) new (awaiting edge hs) (awaiting edge hs)
-  tells_refused r goes leads = record { more = so_far.more; leads = λ s es a. (leads _ _ (so_far.leads s es a)).1; heard = so_far.heard; rules = goes.0 ∙ so_far.rules }
+  pub tells_more : (taken : ℕ) → Goes mid (steps.More taken) new → LeadsOn mid (drop used piece) (steps.More taken) new → Tells old piece new (awaiting edge hs) (awaiting edge hs)
+  tells_more taken goes leads = rw whole at (tells_then old mid new (take used piece) (drop used piece) _ _ _ so_far (more_tells mid new (drop used piece) taken _ goes leads))
+
+  pub says_more : (taken : ℕ) → Goes mid (steps.More taken) new → LeadsOn mid (drop used piece) (steps.More taken) new → SaysAll old piece Waits (awaiting edge hs) (awaiting edge hs)
+  says_more taken goes leads = rw whole at (says_then old mid (take used piece) (drop used piece) _ _ _ _ so_far (more_says mid new (drop used piece) taken _ goes leads))
+
+  pub says_refused : (r : Refusal) → LeadsOn mid (drop used piece) (steps.Refused r) new → SaysAll old piece (Refused r.at r.why) (awaiting edge hs) (awaiting edge hs)
+  says_refused r leads = rw whole at (says_then old mid (take used piece) (drop used piece) _ _ _ _ so_far (refused_says mid new (drop used piece) r _ leads))

@@ -1,3 +1,4 @@
+pub mod Callers
 pub mod Exchanges
 pub mod Hearing
 pub mod Hosts

@@ -1,11 +1,8 @@
 //! The client.
 
-ghost use Rattle.std.specs.Prelude.{◌≡◌, IfOk, IfErr, OnOk, Ok, Err};
+ghost use Rattle.std.specs.Prelude.{◌≡◌, IfOk, IfErr};
 ghost use Rattle.cqlp_note.specs.Outputs.{written};
-ghost use Rattle.cqlp_session.specs.declared.ticket.Ticket.{Ticket as TicketOf};
-ghost use Rattle.cqlp_session.specs.declared.ticket.BeginError.{BeginError};
-ghost use Rattle.cqlp_session.specs.Client.{begun, new_client, ticket_for};
-ghost use Rattle.cqlp_loop.specs.Exchanges.{Writes, kind_of, request_frame};
+ghost use Rattle.cqlp_session.specs.Client.{new_client};
 ghost use Rattle.cqlp_loop.specs.Inboxes.{IsNew, supply};
 
 use crate::fault::LoopFault;
@@ -28,7 +25,7 @@ pub struct Caller {
 }
 
 impl Model for Caller {
-    ghost use Rattle.cqlp_loop.specs.Script.{CallerState};
+    ghost use Rattle.cqlp_loop.specs.Callers.{CallerState};
 
     ghost Value = { CallerState };
 
@@ -36,8 +33,7 @@ impl Model for Caller {
 }
 
 impl Caller {
-    ghost use Rattle.cqlp_loop.specs.Script.{Ends, Hears, IsOfSocket, Listens};
-    ghost use Rattle.std.specs.Prelude.{◌∷◌, []};
+    ghost use Rattle.cqlp_loop.specs.Callers.{Asks, Hears, Listens};
 
     /// With nothing sent and nothing heard.
     ///
@@ -70,13 +66,7 @@ impl Caller {
         request: Request,
         target: &mut W,
     ) -> Result<(), LoopFault>
-        ensures refused { (e : BeginError) → ticket_for self.old.core (kind_of request) ≡ Err e →
-            (result ≡ Err LoopFault.BadReply) × (self.new ≡ self.old) × (target.new ≡ target.old) }
-        ensures begins { (t : TicketOf) → ticket_for self.old.core (kind_of request) ≡ Ok t →
-            self.new ≡ record self.old { core = begun self.old.core (kind_of request) (Ok t) } }
-        ensures writes { (t : TicketOf) → ticket_for self.old.core (kind_of request) ≡ Ok t →
-            Writes (request_frame request t.id) (written W.Target target.old) result (written W.Target target.new) }
-        ensures fault { IfErr result IsOfSocket }
+        ensures { Asks request self.old (written W.Target target.old) result self.new (written W.Target target.new) }
     {
         match self.core.begin(request.kind()) {
             Ok(ticket) => request.write(alloc, ticket.id, target),
@@ -85,19 +75,21 @@ impl Caller {
     }
 
     /// Waits for a reply and prints its line.
+    ///
+    /// # Errors
+    ///
+    /// Those of [`Caller::listen`], [`LoopFault::NoMemory`], and [`LoopFault::WriteFault`] where the output fails.
     pub fn hear<R: Source, O: Target>(
         &mut self,
         alloc: Global,
         source: &mut R,
         out: &mut O,
     ) -> Result<(), LoopFault>
-        ensures { Ends (Hears ∷ []) self.old (supply R.Source source.old) (written O.Target out.old) result
+        ensures { Hears self.old (supply R.Source source.old) (written O.Target out.old) result
             self.new (supply R.Source source.new) (written O.Target out.new) }
     {
-        match self.listen(source) {
-            Ok((ticket, opcode)) => print_reply(alloc, ticket, opcode, out),
-            Err(fault) => Err(fault),
-        }
+        let (ticket, opcode) = self.listen(source)?;
+        print_reply(alloc, ticket, opcode, out)
     }
 
     /// Waits for a reply: the ticket of its request, and its opcode.
@@ -109,20 +101,14 @@ impl Caller {
     pub fn listen<R: Source>(&mut self, source: &mut R) -> Result<(Ticket, Opcode), LoopFault>
         ensures { Listens self.old (supply R.Source source.old) result self.new (supply R.Source source.new) }
     {
-        let header = match self.inbox.header(source) {
-            Ok(header) => header,
-            Err(fault) => return Err(fault),
-        };
+        let header = self.inbox.header(source)?;
         let ticket = match self.core.reply(&header) {
             Ok(Reply::Answer { ticket, kind: _ }) => ticket,
             Ok(Reply::ServerEvent) => return Err(LoopFault::BadReply),
             Ok(Reply::Dropped { ticket: _ }) => return Err(LoopFault::BadReply),
             Err(_) => return Err(LoopFault::BadReply),
         };
-        match self.inbox.rest(source) {
-            Ok(()) => {}
-            Err(fault) => return Err(fault),
-        }
+        self.inbox.rest(source)?;
         Ok((ticket, header.opcode))
     }
 }

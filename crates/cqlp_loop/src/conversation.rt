@@ -1,11 +1,12 @@
 //! The conversation.
 
-ghost use Rattle.std.specs.Prelude.{◌≡◌, ◌∷◌, [], IfErr};
-ghost use Rattle.cqlp_note.specs.Outputs.{written};
-ghost use Rattle.cqlp_loop.specs.Exchanges.{kind_of};
+ghost use Rattle.std.specs.Prelude.{◌≡◌, ◌∷◌, ◌++◌, []};
+ghost use Rattle.cqlp_note.specs.Outputs.{Output, written};
+ghost use Rattle.cqlp_loop.specs.Callers.{CallerState};
 ghost use Rattle.cqlp_loop.specs.Inboxes.{supply};
-ghost use Rattle.cqlp_loop.specs.Script.{Begins, Converses, Ends, Hears, IsOfSocket};
-ghost use Rattle.cqlp_loop.specs.Script.{pairs, queries as queries_of, setting_up, script};
+ghost use Rattle.cqlp_loop.specs.Script.{Answers, Converses, End, Ends, Takes, Talks, end_of, scene, wires, wires_of};
+ghost use Rattle.cqlp_loop.specs.Script.{exchange as one_exchange, exchange_pair as two_queries};
+ghost use Rattle.cqlp_loop.specs.Script.{queries as these_queries, setting_up};
 
 use crate::client::Caller;
 use crate::fault::LoopFault;
@@ -40,17 +41,18 @@ pub fn talk<CS: Source, CT: Target, SS: Source, ST: Target, O: Target>(
     server: &mut Socket<SS, ST>,
     out: &mut O,
 ) -> Result<(), LoopFault>
-    ensures { Converses count (supply CS.Source client.old.source) (written O.Target out.old) result
+    // What each turn of the script did, and why a fault ended it.
+    ensures talks { Talks count
+        (wires_of CS.Source CT.Target SS.Source ST.Target O.Target client.old server.old out.old)
+        result
+        (wires_of CS.Source CT.Target SS.Source ST.Target O.Target client.new server.new out.new) }
+
+    // The same of what the client hears and what is printed.
+    ensures converses { Converses count (supply CS.Source client.old.source) (written O.Target out.old) result
         (supply CS.Source client.new.source) (written O.Target out.new) }
 {
-    let mut caller = match Caller::new(alloc) {
-        Ok(caller) => caller,
-        Err(fault) => return Err(fault),
-    };
-    let mut host = match Host::new(alloc) {
-        Ok(host) => host,
-        Err(fault) => return Err(fault),
-    };
+    let mut caller = Caller::new(alloc)?;
+    let mut host = Host::new(alloc)?;
     match play(alloc, count, &mut caller, &mut host, client, server, out) {
         Ok(()) => {}
         Err(fault) => return Err(fault),
@@ -58,7 +60,7 @@ pub fn talk<CS: Source, CT: Target, SS: Source, ST: Target, O: Target>(
     print_done(alloc, count, out)
 }
 
-/// Plays the script.
+/// Plays the script, but for its last line.
 fn play<CS: Source, CT: Target, SS: Source, ST: Target, O: Target>(
     alloc: Global,
     count: u16,
@@ -68,13 +70,14 @@ fn play<CS: Source, CT: Target, SS: Source, ST: Target, O: Target>(
     server: &mut Socket<SS, ST>,
     out: &mut O,
 ) -> Result<(), LoopFault>
-    ensures { Ends (script count) caller.old (supply CS.Source client.old.source) (written O.Target out.old) result
-        caller.new (supply CS.Source client.new.source) (written O.Target out.new) }
+    ensures { Ends (setting_up ++ these_queries count)
+        (scene caller.old host.old []
+        (wires_of CS.Source CT.Target SS.Source ST.Target O.Target client.old server.old out.old))
+        result
+        (scene caller.new host.new []
+        (wires_of CS.Source CT.Target SS.Source ST.Target O.Target client.new server.new out.new)) }
 {
-    match set_up(alloc, caller, host, client, server, out) {
-        Ok(()) => {}
-        Err(fault) => return Err(fault),
-    }
+    set_up(alloc, caller, host, client, server, out)?;
     queries(alloc, count, caller, host, client, server, out)
 }
 
@@ -87,13 +90,14 @@ fn set_up<CS: Source, CT: Target, SS: Source, ST: Target, O: Target>(
     server: &mut Socket<SS, ST>,
     out: &mut O,
 ) -> Result<(), LoopFault>
-    ensures { Ends setting_up caller.old (supply CS.Source client.old.source) (written O.Target out.old) result
-        caller.new (supply CS.Source client.new.source) (written O.Target out.new) }
+    ensures { Ends setting_up
+        (scene caller.old host.old []
+        (wires_of CS.Source CT.Target SS.Source ST.Target O.Target client.old server.old out.old))
+        result
+        (scene caller.new host.new []
+        (wires_of CS.Source CT.Target SS.Source ST.Target O.Target client.new server.new out.new)) }
 {
-    match exchange(alloc, Request::Options, caller, host, client, server, out) {
-        Ok(()) => {}
-        Err(fault) => return Err(fault),
-    }
+    exchange(alloc, Request::Options, caller, host, client, server, out)?;
     exchange(alloc, Request::Startup, caller, host, client, server, out)
 }
 
@@ -107,14 +111,15 @@ fn queries<CS: Source, CT: Target, SS: Source, ST: Target, O: Target>(
     server: &mut Socket<SS, ST>,
     out: &mut O,
 ) -> Result<(), LoopFault>
-    ensures { Ends (queries_of count) caller.old (supply CS.Source client.old.source) (written O.Target out.old) result
-        caller.new (supply CS.Source client.new.source) (written O.Target out.new) }
+    ensures { Ends (these_queries count)
+        (scene caller.old host.old []
+        (wires_of CS.Source CT.Target SS.Source ST.Target O.Target client.old server.old out.old))
+        result
+        (scene caller.new host.new []
+        (wires_of CS.Source CT.Target SS.Source ST.Target O.Target client.new server.new out.new)) }
 {
     for pair in 0..count / 2 {
-        match exchange_pair(alloc, caller, host, client, server, out) {
-            Ok(()) => {}
-            Err(fault) => return Err(fault),
-        }
+        exchange_pair(alloc, caller, host, client, server, out)?;
     }
     if count % 2 == 0 {
         return Ok(());
@@ -132,17 +137,15 @@ fn exchange<CS: Source, CT: Target, SS: Source, ST: Target, O: Target>(
     server: &mut Socket<SS, ST>,
     out: &mut O,
 ) -> Result<(), LoopFault>
-    ensures { Ends (Begins (kind_of request) ∷ Hears ∷ []) caller.old (supply CS.Source client.old.source)
-        (written O.Target out.old) result caller.new (supply CS.Source client.new.source) (written O.Target out.new) }
+    ensures { Ends (one_exchange request)
+        (scene caller.old host.old []
+        (wires_of CS.Source CT.Target SS.Source ST.Target O.Target client.old server.old out.old))
+        result
+        (scene caller.new host.new []
+        (wires_of CS.Source CT.Target SS.Source ST.Target O.Target client.new server.new out.new)) }
 {
-    match caller.ask(alloc, request, &mut client.target) {
-        Ok(()) => {}
-        Err(fault) => return Err(fault),
-    }
-    match serve(alloc, request, host, server) {
-        Ok(()) => {}
-        Err(fault) => return Err(fault),
-    }
+    caller.ask(alloc, request, &mut client.target)?;
+    serve(alloc, request, host, server)?;
     caller.hear(alloc, &mut client.source, out)
 }
 
@@ -155,25 +158,17 @@ fn exchange_pair<CS: Source, CT: Target, SS: Source, ST: Target, O: Target>(
     server: &mut Socket<SS, ST>,
     out: &mut O,
 ) -> Result<(), LoopFault>
-    ensures { Ends (pairs 1) caller.old (supply CS.Source client.old.source)
-        (written O.Target out.old) result caller.new (supply CS.Source client.new.source) (written O.Target out.new) }
+    ensures { Ends two_queries
+        (scene caller.old host.old []
+        (wires_of CS.Source CT.Target SS.Source ST.Target O.Target client.old server.old out.old))
+        result
+        (scene caller.new host.new []
+        (wires_of CS.Source CT.Target SS.Source ST.Target O.Target client.new server.new out.new)) }
 {
-    match caller.ask(alloc, Request::Query, &mut client.target) {
-        Ok(()) => {}
-        Err(fault) => return Err(fault),
-    }
-    match caller.ask(alloc, Request::Query, &mut client.target) {
-        Ok(()) => {}
-        Err(fault) => return Err(fault),
-    }
-    match serve_pair(alloc, host, server) {
-        Ok(()) => {}
-        Err(fault) => return Err(fault),
-    }
-    match caller.hear(alloc, &mut client.source, out) {
-        Ok(()) => {}
-        Err(fault) => return Err(fault),
-    }
+    caller.ask(alloc, Request::Query, &mut client.target)?;
+    caller.ask(alloc, Request::Query, &mut client.target)?;
+    serve_pair(alloc, host, server)?;
+    caller.hear(alloc, &mut client.source, out)?;
     caller.hear(alloc, &mut client.source, out)
 }
 
@@ -184,12 +179,13 @@ fn serve<S: Source, T: Target>(
     host: &mut Host,
     server: &mut Socket<S, T>,
 ) -> Result<(), LoopFault>
-    ensures { IfErr result IsOfSocket }
+    ensures { (c : CallerState) (e : End) (o : Output) →
+        Ends (Takes ∷ Answers request ∷ [])
+        (scene c host.old [] (wires e (end_of S.Source T.Target server.old) o)) result
+        (scene c host.new [] (wires e (end_of S.Source T.Target server.new) o)) }
 {
-    match host.accept(&mut server.source) {
-        Ok(header) => host.answer(alloc, request, header.stream, &mut server.target),
-        Err(fault) => Err(fault),
-    }
+    let header = host.accept(&mut server.source)?;
+    host.answer(alloc, request, header.stream, &mut server.target)
 }
 
 /// Takes two queries and answers the later one first.
@@ -198,19 +194,13 @@ fn serve_pair<S: Source, T: Target>(
     host: &mut Host,
     server: &mut Socket<S, T>,
 ) -> Result<(), LoopFault>
-    ensures { IfErr result IsOfSocket }
+    ensures { (c : CallerState) (e : End) (o : Output) →
+        Ends (Takes ∷ Takes ∷ Answers Request.Query ∷ Answers Request.Query ∷ [])
+        (scene c host.old [] (wires e (end_of S.Source T.Target server.old) o)) result
+        (scene c host.new [] (wires e (end_of S.Source T.Target server.new) o)) }
 {
-    let first = match host.accept(&mut server.source) {
-        Ok(header) => header.stream,
-        Err(fault) => return Err(fault),
-    };
-    let second = match host.accept(&mut server.source) {
-        Ok(header) => header.stream,
-        Err(fault) => return Err(fault),
-    };
-    match host.answer(alloc, Request::Query, second, &mut server.target) {
-        Ok(()) => {}
-        Err(fault) => return Err(fault),
-    }
-    host.answer(alloc, Request::Query, first, &mut server.target)
+    let first = host.accept(&mut server.source)?;
+    let second = host.accept(&mut server.source)?;
+    host.answer(alloc, Request::Query, second.stream, &mut server.target)?;
+    host.answer(alloc, Request::Query, first.stream, &mut server.target)
 }

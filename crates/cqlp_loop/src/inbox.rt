@@ -46,7 +46,7 @@ impl Model for Inbox {
 }
 
 impl Inbox {
-    ghost use Rattle.cqlp_loop.specs.Inboxes.{Fills, Finds, HearsHeader, HearsRest, IsNew, Pulls, Spends, supply};
+    ghost use Rattle.cqlp_loop.specs.Inboxes.{Fills, Finds, HearsHeader, HearsRest, IsNew, Pulls, supply};
 
     /// At the start of a stream.
     ///
@@ -77,8 +77,7 @@ impl Inbox {
     /// [`LoopFault::BadReply`] where the decoder refuses, [`LoopFault::SocketFault`] where a read fails or gives nothing,
     /// and [`LoopFault::TooManyTurns`].
     pub fn header<R: Source>(&mut self, source: &mut R) -> Result<Header, LoopFault>
-        ensures hears { HearsHeader self.old (supply R.Source source.old) result self.new (supply R.Source source.new) }
-        ensures reads { Spends READS (supply R.Source source.old) self.new.reads (supply R.Source source.new) }
+        ensures { HearsHeader self.old (supply R.Source source.old) result self.new (supply R.Source source.new) }
     {
         self.reads = READS;
         match self.pull(source, Edge::Begin) {
@@ -90,8 +89,7 @@ impl Inbox {
 
     /// The rest of the message whose header came last. Errors as those of [`Inbox::header`].
     pub fn rest<R: Source>(&mut self, source: &mut R) -> Result<(), LoopFault>
-        ensures hears { HearsRest self.old (supply R.Source source.old) result self.new (supply R.Source source.new) }
-        ensures reads { Spends self.old.reads (supply R.Source source.old) self.new.reads (supply R.Source source.new) }
+        ensures { HearsRest self.old (supply R.Source source.old) result self.new (supply R.Source source.new) }
     {
         match self.pull(source, Edge::Finish) {
             Ok(Mark::Head(_)) => unreachable!(),
@@ -102,8 +100,7 @@ impl Inbox {
 
     /// Reads to the edge.
     fn pull<R: Source>(&mut self, source: &mut R, edge: Edge) -> Result<Mark, LoopFault>
-        ensures pulls { Pulls edge self.old (supply R.Source source.old) result self.new (supply R.Source source.new) }
-        ensures reads { Spends self.old.reads (supply R.Source source.old) self.new.reads (supply R.Source source.new) }
+        ensures { Pulls edge self.old (supply R.Source source.old) result self.new (supply R.Source source.new) }
     {
         'reads: loop {
             match self.find(edge) {

@@ -2,7 +2,7 @@
 
 ghost use Rattle.std.specs.Prelude.{◌≡◌};
 ghost use Rattle.cqlp_note.specs.Outputs.{written};
-ghost use Rattle.cqlp_loop.specs.Script.{Prints, done_line, reply_line};
+ghost use Rattle.cqlp_loop.specs.Callers.{Prints, done_line, reply_line};
 
 use crate::fault::LoopFault;
 use cqlp_decode::SinkFault;

@@ -1,19 +1,23 @@
 //! The requests of the conversation, and their replies.
 
-ghost use Rattle.std.specs.Prelude.{◌≡◌, IfOk, string_bytes};
+ghost use Rattle.std.specs.Prelude.{◌≡◌, ◌∷◌, [], IfOk, string_bytes};
 ghost use Rattle.cqlp_message.specs.Owned.{frame_of, message_of, page_of};
+ghost use Rattle.cqlp_message.specs.Pages.{with_cells};
 ghost use Rattle.cqlp_note.specs.Outputs.{written};
-ghost use Rattle.cqlp_loop.specs.Exchanges.{IsSpelled, Sends, Writes, page as the_page, kind_of, opcode_of};
-ghost use Rattle.cqlp_loop.specs.Exchanges.{plain_frame, reply_frame, request_frame};
+ghost use Rattle.cqlp_loop.specs.Exchanges.{IsPage, IsSpelled, Sends, Writes, WritesPage};
+ghost use Rattle.cqlp_loop.specs.Exchanges.{bare_page, cell, kind_of, opcode_of, plain_frame, reply_frame, request_frame};
 
 use crate::fault::LoopFault;
-use cqlp_encode::{EncodeError, encode};
+use cqlp_encode::{EncodeError, PageError, PageWriter, encode};
 use cqlp_message::{Frame, Message, Metadata, QueryParams, Rows, Spec};
 use cqlp_note::{Opcode, Target};
 use cqlp_session::RequestKind;
 use cqlp_type::{Kind, TypeTree};
 use cqlp_value::{Atom, Value};
 use std::alloc::{AllocError, Global};
+
+/// How many bytes the cell of a page has: an \[int\] for its length, and an int.
+const CELL_LEN: u32 = 8;
 
 /// A request of the conversation. Section 4.1 of `native_protocol_v4.spec`.
 #[derive(Clone, Copy)]
@@ -50,7 +54,10 @@ impl Request {
     }
 
     /// Writes it on a stream.
-
+    ///
+    /// # Errors
+    ///
+    /// [`LoopFault::NoMemory`], before anything is written, and [`LoopFault::SocketFault`] where the target fails.
     pub fn write<W: Target>(
         self,
         alloc: Global,
@@ -66,8 +73,11 @@ impl Request {
         send(&plain(stream, message), target)
     }
 
-    /// Writes its reply on its stream.
-
+    /// Writes its reply on its stream: a page cell by cell, any other message as a whole.
+    ///
+    /// # Errors
+    ///
+    /// [`LoopFault::NoMemory`], before anything is written, and [`LoopFault::SocketFault`] where the target fails.
     pub fn write_reply<W: Target>(
         self,
         alloc: Global,
@@ -76,16 +86,21 @@ impl Request {
     ) -> Result<(), LoopFault>
         ensures { Writes (reply_frame self stream) (written W.Target target.old) result (written W.Target target.new) }
     {
-        let message = match self.reply_message(alloc) {
+        let message = match self.reply_head(alloc) {
             Ok(message) => message,
             Err(AllocError) => return Err(LoopFault::NoMemory),
         };
-        send(&plain(stream, message), target)
+        let frame = plain(stream, message);
+        match self {
+            Request::Options => send(&frame, target),
+            Request::Startup => send(&frame, target),
+            Request::Query => send_page(&frame, target),
+        }
     }
 }
 
 impl Request {
-    ghost use Rattle.cqlp_loop.specs.Exchanges.{reply_message, request_message};
+    ghost use Rattle.cqlp_loop.specs.Exchanges.{reply_head, request_message};
 
     fn message(self, alloc: Global) -> Result<Message, AllocError>
         ensures { IfOk result (λ m. message_of m ≡ request_message self) }
@@ -111,8 +126,9 @@ impl Request {
         }
     }
 
-    fn reply_message(self, alloc: Global) -> Result<Message, AllocError>
-        ensures { IfOk result (λ m. message_of m ≡ reply_message self) }
+    /// Its reply, a page without its cells.
+    fn reply_head(self, alloc: Global) -> Result<Message, AllocError>
+        ensures { IfOk result (λ m. message_of m ≡ reply_head self) }
     {
         match self {
             Request::Options => {
@@ -126,9 +142,9 @@ impl Request {
     }
 }
 
-/// The page that answers a query.
+/// The page that answers a query, without its cell.
 fn page(alloc: Global) -> Result<Rows, AllocError>
-    ensures { IfOk result (λ p. page_of p ≡ the_page) }
+    ensures { IfOk result (λ p. page_of p ≡ bare_page) }
 {
     let table = (text(alloc, "k")?, text(alloc, "t")?);
     let spec = Spec {
@@ -146,7 +162,7 @@ fn page(alloc: Global) -> Result<Rows, AllocError>
     Ok(Rows {
         meta,
         rows: 1,
-        cells: vec![in alloc; Value::Leaf(Atom::Int(7))]?,
+        cells: Vec::new(alloc),
     })
 }
 
@@ -168,6 +184,30 @@ fn plain(stream: i16, message: Message) -> Frame
         payload: None,
         message,
     }
+}
+
+/// Writes a page, its cell after all else.
+fn send_page<W: Target>(frame: &Frame, target: &mut W) -> Result<(), LoopFault>
+    requires { IsPage (frame_of frame.now) }
+    ensures { Sends (with_cells (frame_of frame.now) (cell ∷ [])) (written W.Target target.old) result
+        (written W.Target target.new) }
+{
+    match write_page(frame, target) {
+        Ok(_) => Ok(()),
+        Err(PageError::Write { .. }) => Err(LoopFault::SocketFault),
+        Err(_) => unreachable!(),
+    }
+}
+
+/// The same, with what the writer answers.
+fn write_page<W: Target>(frame: &Frame, target: &mut W) -> Result<u32, PageError>
+    requires { IsPage (frame_of frame.now) }
+    ensures { WritesPage (with_cells (frame_of frame.now) (cell ∷ [])) (written W.Target target.old) result
+        (written W.Target target.new) }
+{
+    let mut page = PageWriter::begin(frame, CELL_LEN, target)?;
+    page.cell(&Value::Leaf(Atom::Int(7)), target)?;
+    page.finish()
 }
 
 /// Writes a frame.

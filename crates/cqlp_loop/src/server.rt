@@ -1,11 +1,8 @@
 //! The server.
 
-ghost use Rattle.std.specs.Prelude.{◌≡◌, IfOk, IfErr, Ok, Err};
+ghost use Rattle.std.specs.Prelude.{◌≡◌, IfOk, IfErr};
 ghost use Rattle.cqlp_note.specs.Outputs.{written};
-ghost use Rattle.cqlp_session.specs.declared.kind.RequestKind.{RequestKind};
-ghost use Rattle.cqlp_session.specs.declared.server.AnswerError.{AnswerError};
-ghost use Rattle.cqlp_session.specs.Server.{answer_of, answered, new_server};
-ghost use Rattle.cqlp_loop.specs.Exchanges.{Writes, opcode_of, reply_frame};
+ghost use Rattle.cqlp_session.specs.Server.{new_server};
 ghost use Rattle.cqlp_loop.specs.Inboxes.{IsNew, supply};
 
 use crate::fault::LoopFault;
@@ -35,8 +32,7 @@ impl Model for Host {
 }
 
 impl Host {
-    ghost use Rattle.cqlp_loop.specs.Hosts.{Accepts};
-    ghost use Rattle.cqlp_loop.specs.Script.{IsOfSocket};
+    ghost use Rattle.cqlp_loop.specs.Hosts.{Accepts, Answers};
 
     /// With nothing sent and nothing heard.
     ///
@@ -64,21 +60,14 @@ impl Host {
     /// [`LoopFault::BadReply`] where the decoder or the core refuses, [`LoopFault::SocketFault`] where a read fails or
     /// gives nothing, and [`LoopFault::TooManyTurns`].
     pub fn accept<R: Source>(&mut self, source: &mut R) -> Result<Header, LoopFault>
-        ensures accepts { Accepts self.old (supply R.Source source.old) result self.new (supply R.Source source.new) }
-        ensures fault { IfErr result IsOfSocket }
+        ensures { Accepts self.old (supply R.Source source.old) result self.new (supply R.Source source.new) }
     {
-        let header = match self.inbox.header(source) {
-            Ok(header) => header,
-            Err(fault) => return Err(fault),
-        };
+        let header = self.inbox.header(source)?;
         match self.core.accept(&header) {
             Ok(_) => {}
             Err(_) => return Err(LoopFault::BadReply),
         }
-        match self.inbox.rest(source) {
-            Ok(()) => {}
-            Err(fault) => return Err(fault),
-        }
+        self.inbox.rest(source)?;
         Ok(header)
     }
 
@@ -95,13 +84,8 @@ impl Host {
         stream: i16,
         target: &mut W,
     ) -> Result<(), LoopFault>
-        ensures refused { (e : AnswerError) → answer_of self.old.core stream (opcode_of request) ≡ Err e →
-            (result ≡ Err LoopFault.BadReply) × (self.new ≡ self.old) × (target.new ≡ target.old) }
-        ensures closes { (k : RequestKind) → answer_of self.old.core stream (opcode_of request) ≡ Ok k →
-            self.new ≡ record self.old { core = answered self.old.core stream (opcode_of request) (Ok k) } }
-        ensures writes { (k : RequestKind) → answer_of self.old.core stream (opcode_of request) ≡ Ok k →
-            Writes (reply_frame request stream) (written W.Target target.old) result (written W.Target target.new) }
-        ensures fault { IfErr result IsOfSocket }
+        ensures { Answers request stream self.old (written W.Target target.old) result
+            self.new (written W.Target target.new) }
     {
         match self.core.answer(stream, request.reply()) {
             Ok(_) => request.write_reply(alloc, stream, target),

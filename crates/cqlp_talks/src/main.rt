@@ -2,7 +2,8 @@
 //!
 //! `tcp COUNT` is over a loopback connection, with this many queries. `memory COUNT MOST FIRST` is over two pipes in memory, of
 //! which a read or a write moves at most this many bytes, and where the client hears these bytes first, in hexadecimal digits.
-//! `failing COUNT` is over two pipes that fail at each of their calls in turn.
+//! `failing COUNT` is over two pipes that fail at each of their calls in turn. `closing COUNT` is over two pipes that are closed
+//! after each number of bytes in turn.
 #![tactic(auto)]
 
 mod pipes;
@@ -34,6 +35,7 @@ fn execute(rt: &HostRuntime, line: &str) -> io::Result<()> {
             over_memory(rt, count, most, words.next().unwrap_or(""))
         }
         "failing" => over_failing(rt, count),
+        "closing" => over_closing(rt, count),
         _ => Err(io::Error::from(io::ErrorKind::InvalidInput)),
     }
 }
@@ -78,6 +80,29 @@ fn over_failing(rt: &HostRuntime, count: u16) -> io::Result<()> {
         match converse(rt, count, &wires, &mut out) {
             Err(LoopFault::SocketFault) => {}
             other => return println!(rt; "each failing call is a socket fault, and then {other:?}"),
+        }
+    }
+    println!(rt; "without end")
+}
+
+/// Over two pipes that are closed after no byte, after one, and so on, until all that is sent comes.
+fn over_closing(rt: &HostRuntime, count: u16) -> io::Result<()> {
+    let mut whole = OfStd::new(Vec::new(rt.alloc()));
+    let _ = converse(
+        rt,
+        count,
+        &Wires::closing(rt.alloc(), usize::MAX),
+        &mut whole,
+    );
+    for bytes in 0..10_000 {
+        let mut out = OfStd::new(Vec::new(rt.alloc()));
+        match converse(rt, count, &Wires::closing(rt.alloc(), bytes), &mut out) {
+            Err(LoopFault::SocketFault) if whole.inner.starts_with(&out.inner) => {}
+            other => {
+                return println!(rt;
+                    "{bytes} times a socket fault after a front of the text, and then {other:?}"
+                );
+            }
         }
     }
     println!(rt; "without end")

@@ -33,13 +33,15 @@ impl Wire {
     }
 }
 
-/// The two ways of a connection. A call moves this many bytes at most, and after this many calls each fails.
+/// The two ways of a connection. A call moves this many bytes at most, and after this many calls each fails. Once this
+/// many bytes came over both ways, both are closed: each read is at its end.
 #[derive(Drop)]
 pub struct Wires {
     up: RefCell<Wire>,
     down: RefCell<Wire>,
     most: usize,
     calls: Cell<u64>,
+    open: Cell<usize>,
 }
 
 impl Wires {
@@ -49,7 +51,25 @@ impl Wires {
             down: Wire::new(alloc),
             most,
             calls: Cell::new(calls),
+            open: Cell::new(usize::MAX),
         }
+    }
+
+    /// With both ways closed after this many bytes.
+    pub fn closing(alloc: Global, bytes: usize) -> Wires {
+        let wires = Wires::new(alloc, 4096, u64::MAX);
+        wires.open.set(bytes);
+        wires
+    }
+
+    /// Takes the next bytes of one of the ways, and counts them.
+    fn take(&self, wire: &mut Wire, buffer: &mut [u8]) -> usize
+        ensures { result ≤ length buffer.new }
+    {
+        let open = self.open.get();
+        let count = wire.take(self.most.min(open), buffer);
+        self.open.set(open.saturating_sub(count));
+        count
     }
 
     /// Counts a call, and answers whether it fails.
@@ -94,7 +114,7 @@ impl Source for Pipe<'_> {
     fn read(&mut self, buffer: &mut [u8]) -> Result<usize, IoFault> {
         if !self.wires.fails() {
             if let Ok(mut wire) = self.wire.try_borrow_mut() {
-                return Ok(wire.take(self.wires.most, buffer));
+                return Ok(self.wires.take(&mut wire, buffer));
             }
         }
         self.failures = self.failures.saturating_add(1);

@@ -2,14 +2,23 @@ use Rattle.std.proofs.Common.{◌≤◌, length, drop, sym, ◌∙◌, arith}
 use Rattle.std.proofs.lemmas.List.{length-drop}
 use Rattle.cqlp_decode.specs.Streams.{state}
 use Rattle.cqlp_decode.proofs.Gets.{rest_is}
-use Rattle.cqlp_loop.proofs.Seeking.{is_at, tells_skipped, tells_mark, tells_more, tells_refused}
+use Rattle.cqlp_loop.specs.Inboxes.{awaiting}
+use Rattle.cqlp_loop.proofs.Seeking.{is_at, tells_none, tells_skipped, tells_mark, tells_more, says_more, says_refused}
 use Rattle.cqlp_loop.proofs.inbox.seek.Goals as goal
+
+pub events-init : goal.events-init
+events-init c = record {
+  within = omega arith;
+  tells = λ hs. tells_none (state c.args.decoder.now) (awaiting c.args.edge hs);
+}
 
 pub returns-in-More : goal.returns-in-More
 returns-in-More c =
     let goes = rw c.in-More.is at c.next.follows.holds-at-none.0 in
-    let leads = rw (c.in-More.is, rest_is) at c.next.follows.holds-at-none.1 in
-    (goes.1, λ hs. tells_more (state c.args.decoder.now) (state c.events.decoder) (state c.next.follows.lender-at-none) c.args.piece.now c.events.used c.args.edge hs (c.events.invariant.tells hs) _ goes leads)
+    let leads = rw (c.in-More.is, rest_is) at c.next.follows.holds-at-none.1 in (
+      λ hs. says_more (state c.args.decoder.now) (state c.events.decoder) (state c.next.follows.lender-at-none) c.args.piece.now c.events.used c.args.edge hs (c.events.invariant.tells hs) _ goes leads,
+      λ hs. tells_more (state c.args.decoder.now) (state c.events.decoder) (state c.next.follows.lender-at-none) c.args.piece.now c.events.used c.args.edge hs (c.events.invariant.tells hs) _ goes leads,
+    )
 
 pub returns-in-Some : goal.returns-in-Some
 returns-in-Some c =
@@ -39,6 +48,5 @@ events-preserved c =
 
 pub returns-in-Refused : goal.returns-in-Refused
 returns-in-Refused c =
-    let goes = rw c.in-Refused.is at c.next.follows.holds-at-none.0 in
     let leads = rw (c.in-Refused.is, rest_is) at c.next.follows.holds-at-none.1 in
-    ((_, goes.1), c.events.used, λ hs. tells_refused (state c.args.decoder.now) (state c.events.decoder) (state c.next.follows.lender-at-none) c.args.piece.now c.events.used c.args.edge hs (c.events.invariant.tells hs) _ goes leads)
+    (_, λ hs. says_refused (state c.args.decoder.now) (state c.events.decoder) (state c.next.follows.lender-at-none) c.args.piece.now c.events.used c.args.edge hs (c.events.invariant.tells hs) _ leads)

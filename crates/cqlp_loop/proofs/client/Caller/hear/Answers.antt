@@ -1,9 +1,11 @@
-use Rattle.cqlp_loop.specs.Inboxes.{supply}
-use Rattle.cqlp_loop.proofs.Talking.{reply_ends, breaks_none, is_last, unheard}
+use Rattle.std.proofs.Common.{◌≡◌, rules, inl, inr, refl}
+use Rattle.std.specs.Prelude.{Err}
 use Rattle.cqlp_loop.proofs.client.Caller.hear.Goals as goal
 
-pub returns-in-Ok : goal.returns-in-Ok
-returns-in-Ok g c = reply_ends _ c.in-Ok.ticket c.in-Ok.opcode _ _ _ _ _ _ c.in-Ok.ensures c.print_reply.ensures
+pub returns : goal.returns
+returns g c = inl (_, c.in_ok-ticket.ensures, c.print_reply.ensures)
 
-pub returns-in-Err : goal.returns-in-Err
-returns-in-Err g c = breaks_none c.in-Err.fault _ _ _ _ _ (is_last c.in-Err.fault _ (unheard c.in-Err.fault c.args.self.now c.listen.new.self (supply g.R.Source c.args.source.now) (supply g.R.Source c.listen.new.source) c.in-Err.ensures))
+pub returns-in_err-ticket : goal.returns-in_err-ticket
+returns-in_err-ticket g c =
+    let is : c.from_residual.result ≡ Err c.in_err-ticket.field-0.0 = search rules in
+    rw is (inr (c.in_err-ticket.field-0.0, refl, c.in_err-ticket.ensures, refl))

@@ -1,5 +1,4 @@
 use Rattle.std.proofs.Common.{◌-◌, take, drop, ap, sym, ◌∙◌}
-use Rattle.std.proofs.lemmas.List.{take-append-drop}
 use Rattle.cqlp_loop.specs.Inboxes.{InboxState}
 use Rattle.cqlp_loop.proofs.Pulling.{waiting_split}
 use Rattle.cqlp_loop.proofs.inbox.Inbox.find.Goals as goal
@@ -14,19 +13,4 @@ returns-in-Found c =
         split = ap (λ (i : InboxState). i.waiting) (sym c.self.view_is) ∙ waiting_split c.self.inside.next c.self.inside.end c.in-Found.used c.self.inside.piece e.0;
         tells = rw (← c.self.view_is) (e.2 hs);
       },
-    )
-
-pub returns-in-Refused : goal.returns-in-Refused
-returns-in-Refused c =
-    let e = c.in-Refused.ensures in (
-      ap (λ (i : InboxState). i.reads) c.self.view_is,
-      e.0,
-      λ hs. (
-        drop e.1 (take (c.self.inside.end - c.self.inside.next) (drop c.self.inside.next c.self.inside.piece)),
-        record {
-          used = take e.1 (take (c.self.inside.end - c.self.inside.next) (drop c.self.inside.next c.self.inside.piece));
-          split = ap (λ (i : InboxState). i.waiting) (sym c.self.view_is) ∙ sym (take-append-drop e.1 _);
-          tells = rw (← c.self.view_is) (e.2 hs);
-        },
-      ),
     )

@@ -1,30 +1,30 @@
-use Rattle.std.proofs.Common.{◌∙◌, sym, refl}
-use Rattle.cqlp_loop.proofs.Pulling.{hears_none, hears_more, hears_uses, spends_none, spends_more}
+use Rattle.std.proofs.Common.{◌≡◌, rules}
+use Rattle.std.specs.Prelude.{Err}
+use Rattle.cqlp_loop.proofs.Pulling.{hears_none, used_last, refused_last, filled_last, failed_last}
 use Rattle.cqlp_loop.proofs.inbox.Inbox.pull.Goals as goal
 
 pub reads-init : goal.reads-init
-reads-init g c = record {
-  failures = refl;
-  spends = spends_none _ _;
-  heard = λ hs. hears_none _ _ _;
-}
+reads-init g c = record { heard = λ hs. hears_none _ _ _ }
 
-pub returns-in-Mark-clause-pulls : goal.returns-in-Mark-clause-pulls
-returns-in-Mark-clause-pulls g c =
+pub returns-in-Mark : goal.returns-in-Mark
+returns-in-Mark g c =
     let e = c.in-Mark.ensures in
-    (e.1, c.reads.invariant.failures, λ hs. hears_uses _ c.reads.self _ _ _ _ _ _ _ (c.reads.invariant.heard hs) (e.2 hs))
+    (e.1, λ hs. used_last c.args.edge c.args.self.now c.reads.self _ _ c.reads.invariant.heard c.find.new.self hs _ e.0 (e.2 hs))
 
-pub returns-in-Refused-clause-pulls : goal.returns-in-Refused-clause-pulls
-returns-in-Refused-clause-pulls g c =
+pub returns-in-Refused : goal.returns-in-Refused
+returns-in-Refused g c =
     let e = c.in-Refused.ensures in
-    (e.1, c.reads.invariant.failures, λ hs. let u = e.2 hs in (u.0, hears_uses _ c.reads.self _ _ _ _ _ _ _ (c.reads.invariant.heard hs) u.1))
+    refused_last c.args.edge c.args.self.now c.reads.self _ _ c.reads.invariant.heard e.1 e.2
 
 pub reads-preserved : goal.reads-preserved
 reads-preserved g c =
     let e = c.in-More.ensures in
-    let f = c.in_ok-fill-in-More.ensures in
     record {
-      failures = f.4 ∙ c.reads.invariant.failures;
-      spends = spends_more _ _ _ _ _ _ _ c.reads.invariant.spends (sym e.0 ∙ f.0) f.2 f.3;
-      heard = λ hs. rw (f.1) (hears_more _ _ _ _ _ c.find.new.self.decoder c.reads.self.waiting _ _ _ _ (c.reads.invariant.heard hs) (e.2 hs) f.3);
+      heard = filled_last c.args.edge c.args.self.now c.reads.self _ _ c.reads.invariant.heard c.find.new.self _ _ e.0 e.1 e.2 e.3 c.in_ok-fill-in-More.ensures;
     }
+
+pub returns-in_err-fill-in-More : goal.returns-in_err-fill-in-More
+returns-in_err-fill-in-More g c =
+    let e = c.in-More.ensures in
+    let is : c.from_residual.result ≡ Err c.in_err-fill-in-More.field-0.0 = search rules in
+    rw is (failed_last c.args.edge c.args.self.now c.reads.self _ _ c.reads.invariant.heard c.in_err-fill-in-More.field-0.0 c.find.new.self _ _ e.0 e.2 c.in_err-fill-in-More.ensures)

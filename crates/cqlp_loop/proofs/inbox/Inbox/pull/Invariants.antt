@@ -1,14 +1,12 @@
-use Rattle.std.proofs.Common.{◌≡◌, List}
+use Rattle.std.proofs.Common.{List}
 use Rattle.cqlp_note.specs.declared.header.Header.{Header}
-use Rattle.cqlp_loop.specs.Inboxes.{Hears, Spends, awaiting, supply}
+use Rattle.cqlp_loop.specs.Inboxes.{Hears, awaiting, supply}
 use Rattle.cqlp_loop.proofs.inbox.Inbox.pull.Given as goal
 
 -- what was read leads no further than to the wait
 abbrev pub invariant-reads : goal.invariant-reads
 invariant-reads g l = record {
-  failures : (supply g.R.Source l.source).failures ≡ (supply g.R.Source l.fn.source).failures;
-  spends : Spends l.fn.self.reads (supply g.R.Source l.fn.source) l.self.reads (supply g.R.Source l.source);
-  heard : (hs : List Header) → Hears l.fn.self (supply g.R.Source l.fn.source) l.self.decoder l.self.waiting (supply g.R.Source l.source) (awaiting l.edge hs) (awaiting l.edge hs);
+  heard : (hs : List Header) → Hears l.fn.self (supply g.R.Source l.fn.source) l.self (supply g.R.Source l.source) (awaiting l.edge hs) (awaiting l.edge hs);
 }
 
 abbrev pub decreases-reads : goal.decreases-reads
