@@ -1,4 +1,4 @@
-//! Reads streams of the CQL native protocol v4, as its words say, and writes what is in them.
+//! Reads streams of the CQL native protocol v4, as its words say, and writes what is in them; or has a client and a server talk.
 #![tactic(auto)]
 
 use cqlp_arguments::{read_words, redirect, texts};

@@ -2,7 +2,7 @@
 
 ghost use Rattle.std.specs.Prelude.{◌≡◌, IfOk, IsUtf8, None, string_bytes};
 
-use cqlp_options::Options;
+use cqlp_options::CommandLine;
 use libc::STDIN_FILENO;
 use std::alloc::{AllocError, Global};
 use std::env::{Env, FillError};
@@ -116,9 +116,9 @@ fn raw_file<'a>(alloc: Global, words: &'a [Argument], texts: &[&str]) -> Option<
 
 /// Whether a command line has this text as its file's name.
 fn is_file(alloc: Global, texts: &[&str], text: &str) -> bool {
-    match Options::parse(alloc, texts) {
-        Ok(options) => options.file == text,
-        Err(_) => false,
+    match CommandLine::parse(alloc, texts) {
+        Ok(CommandLine::Stream(options)) => options.file == text,
+        Ok(CommandLine::Loop { .. }) | Err(_) => false,
     }
 }
 

@@ -7,6 +7,8 @@ use std::io;
 /// The status of a fault.
 const FAULT: u8 = 3;
 
+const WRITE_FAULT: &[u8] = b"cqlp: write fault\n";
+
 /// How many bytes a read gives before one fails.
 const PIECE: usize = 4;
 
@@ -17,7 +19,8 @@ pub fn all(rt: &HostRuntime, call: &Invocation<'_>, whole: &Done) -> io::Result<
     in_bytes(rt, call, whole)?;
     after_read_faults(rt, call, whole)?;
     with_room_for_output(rt, call, whole)?;
-    with_room_for_error(rt, call, whole)
+    with_room_for_error(rt, call, whole)?;
+    with_room_for_fault(rt, call, whole)
 }
 
 /// Byte by byte.
@@ -56,7 +59,7 @@ fn with_room_for_output(rt: &HostRuntime, call: &Invocation<'_>, whole: &Done) -
         let room = room_of(share, len);
         let done = call.done(rt, &mut call.pieces(9), room, usize::MAX);
         let front = whole.out.text().get(..room).unwrap_or(&[]);
-        if !done.is(FAULT, front, b"cqlp: write fault\n") {
+        if !done.is(FAULT, front, WRITE_FAULT) {
             println!(rt; "differs with room for {room} bytes of output")?;
         }
     }
@@ -77,6 +80,21 @@ fn with_room_for_error(rt: &HostRuntime, call: &Invocation<'_>, whole: &Done) ->
         let front = whole.err.text().get(..room).unwrap_or(&[]);
         if !done.is(FAULT, whole.out.text(), front) {
             println!(rt; "differs with room for {room} bytes of errors")?;
+        }
+    }
+    Ok(())
+}
+
+/// With no room for standard output, and room for a part of the fault line: that much of it.
+fn with_room_for_fault(rt: &HostRuntime, call: &Invocation<'_>, whole: &Done) -> io::Result<()> {
+    if whole.out.text().is_empty() {
+        return Ok(());
+    }
+    for room in 0..WRITE_FAULT.len() {
+        let done = call.done(rt, &mut call.pieces(9), 0, room);
+        let front = WRITE_FAULT.get(..room).unwrap_or(&[]);
+        if !done.is(FAULT, b"", front) {
+            println!(rt; "differs with room for {room} bytes of the fault line")?;
         }
     }
     Ok(())

@@ -5,8 +5,8 @@ use cqlp_encode::{EncodeError, encode};
 use cqlp_fakes::{Narrow, Pieces, Takes};
 use cqlp_message::Frame;
 use cqlp_note::{Limits, OfStd};
+use cqlp_show::render_events;
 use cqlp_text::{Ending, ending_line};
-use cqlp_tool::render_events;
 use std::alloc::Global;
 use std::io;
 

@@ -1,9 +1,12 @@
 //! What a command line of the program cqlp asks for.
 #![tactic(auto)]
 
+mod command_line;
 mod no_task;
 mod options;
+mod program;
 mod reported;
 
+pub use command_line::{CommandLine, QUERIES};
 pub use no_task::NoTask;
 pub use options::{DEFAULT_LIMITS, Options, Task};

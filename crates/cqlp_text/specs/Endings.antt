@@ -20,6 +20,8 @@ ending_text ending.ReadFault = codes "cqlp: read fault"
 ending_text ending.WriteFault = codes "cqlp: write fault"
 ending_text ending.NoMemory = codes "cqlp: no memory"
 ending_text ending.TooManyTurns = codes "cqlp: too many turns"
+ending_text ending.BadReply = codes "cqlp: bad reply"
+ending_text ending.SocketFault = codes "cqlp: socket fault"
 
 abbrev pub ending_line : Ending → List ℕ
 ending_line e = ending_text e ++ codes "\n"
@@ -39,7 +41,9 @@ status_of ending.ReadFault = FAULT
 status_of ending.WriteFault = FAULT
 status_of ending.NoMemory = FAULT
 status_of ending.TooManyTurns = FAULT
+status_of ending.BadReply = NOT_WHOLE
+status_of ending.SocketFault = FAULT
 
--- what a status can be where a stream was read
-abbrev pub IsStatusOfStream : (status : ℕ) → Type 0
-IsStatusOfStream status = (status ≤ FAULT) × (status ≢ BAD_COMMAND_LINE)
+-- what a status can be where a task was begun
+abbrev pub IsStatusOfTask : (status : ℕ) → Type 0
+IsStatusOfTask status = (status ≤ FAULT) × (status ≢ BAD_COMMAND_LINE)

@@ -1,5 +1,5 @@
 -- What a target was given of a text.
-use Rattle.std.specs.Prelude.{◌≡◌, ℕ, true, List, ◌∷◌, ◌++◌, Option, IsSome, Result, Ok, Err}
+use Rattle.std.specs.Prelude.{◌≡◌, ℕ, true, List, ◌∷◌, ◌++◌, IsSome, Result, Ok, Err}
 use Rattle.std.specs.Io.KnownBytes.{append_known}
 use Rattle.cqlp_note.specs.Streams.{counted}
 pub use Rattle.cqlp_note.specs.Outputs.{Output, output, written, Offered}

@@ -21,17 +21,21 @@ pub enum Ending {
     /// The output failed.
     WriteFault,
     NoMemory,
-    /// The input was not at its end after the greatest number of reads.
+    /// The input was not at its end, or a message not whole, after the greatest number of reads.
     TooManyTurns,
+    /// A message of a conversation was refused.
+    BadReply,
+    /// A connection could not be made, or failed, or ended within a conversation.
+    SocketFault,
 }
 
 impl Ending {
-    ghost use Rattle.cqlp_text.specs.Endings.{IsStatusOfStream, status_of};
+    ghost use Rattle.cqlp_text.specs.Endings.{IsStatusOfTask, status_of};
 
     /// The exit status.
     pub fn status(self) -> u8
         ensures value { result ≡ status_of self }
-        ensures stream { IsStatusOfStream result }
+        ensures task { IsStatusOfTask result }
     {
         match self {
             Ending::Finished(Finish::Whole { .. }) => DONE,
@@ -41,6 +45,8 @@ impl Ending {
             Ending::WriteFault => FAULT,
             Ending::NoMemory => FAULT,
             Ending::TooManyTurns => FAULT,
+            Ending::BadReply => NOT_WHOLE,
+            Ending::SocketFault => FAULT,
         }
     }
 }
@@ -83,6 +89,8 @@ impl<W: Target> TextWriter<'_, W> {
             Ending::WriteFault => self.put_line("cqlp: write fault", &[]),
             Ending::NoMemory => self.put_line("cqlp: no memory", &[]),
             Ending::TooManyTurns => self.put_line("cqlp: too many turns", &[]),
+            Ending::BadReply => self.put_line("cqlp: bad reply", &[]),
+            Ending::SocketFault => self.put_line("cqlp: socket fault", &[]),
         }
     }
 

@@ -5,9 +5,9 @@ use Rattle.cqlp_note.specs.declared.limits.TheConstants.Limits.{DEFAULT}
 use Rattle.cqlp_text.specs.declared.ending.Ending.TheVariants as ending
 use Rattle.cqlp_text.specs.declared.status.TheConstants.{BAD_COMMAND_LINE, DONE, FAULT}
 use Rattle.cqlp_text.specs.Outputs.{Output, with_text, StopsWithin}
-use Rattle.cqlp_tool.specs.declared.text_form.TextForm.TheVariants as forms
-use Rattle.cqlp_tool.specs.Showing.{Concludes, ShowsAndReports}
-use Rattle.cqlp_tool.specs.Streams.{Streams}
+use Rattle.cqlp_show.specs.declared.text_form.TextForm.TheVariants as forms
+use Rattle.cqlp_show.specs.Showing.{Concludes, ShowsAndReports}
+use Rattle.cqlp_show.specs.Streams.{Streams}
 
 -- the limits where none are given
 abbrev pub default_limits : Limits

@@ -1,5 +1,2 @@
 pub mod CommandLines
-pub mod Forms
-pub mod Rendering
-pub mod Showing
-pub mod Streams
+pub mod Conversing

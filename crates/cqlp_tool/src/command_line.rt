@@ -4,34 +4,38 @@ ghost use Rattle.std.specs.Prelude.{◌≡◌, ◌≤◌, IsSome};
 ghost use Rattle.cqlp_note.specs.Limits.{first_bad};
 ghost use Rattle.cqlp_tool.specs.CommandLines.{Complains, Helps, Performs, ReportsFault, ReportsMistake};
 ghost use Rattle.cqlp_tool.specs.CommandLines.{ReportsNoMemory, ReportsWrong};
-ghost use Rattle.cqlp_text.specs.Endings.{IsStatusOfStream, cannot_open_line as cannot_open_line_of};
+ghost use Rattle.cqlp_text.specs.Endings.{IsStatusOfTask, cannot_open_line as cannot_open_line_of};
 ghost use Rattle.cqlp_text.specs.Outputs.{written};
-ghost use Rattle.cqlp_tool.specs.Streams.{streams};
+ghost use Rattle.cqlp_show.specs.Streams.{streams};
 ghost use Rattle.cqlp_text.specs.declared.ending.Ending.{Ending};
 ghost use Rattle.cqlp_options.specs.NoTasks.{IfHelp, IfMistake};
 ghost use Rattle.cqlp_options.specs.declared.no_task.NoTask.TheVariants as no_tasks;
 
-use crate::showing::{TURNS, check, conclude, rows, show};
+use crate::conversing::converse;
 use cqlp_decode::SinkFault;
 use cqlp_note::{OfStd, Source, Target};
-use cqlp_options::{DEFAULT_LIMITS, NoTask, Options, Task};
+use cqlp_options::{CommandLine, DEFAULT_LIMITS, NoTask, Options, Task};
+use cqlp_show::{TURNS, check, conclude, rows, show};
 use cqlp_text::status::{BAD_COMMAND_LINE, DONE, FAULT};
 use cqlp_text::{Ending, cannot_open_line, put_text};
 use std::alloc::Allocator;
 use std::fs::File;
+use std::net::{Net, TcpListener, TcpStream};
 use std::rt::Files;
 
 /// What the program does: `words` are those after its name, and `input` is standard input. Without words that is what
 /// `show -` does. Answers the exit status, and the two outputs.
 ///
 /// What is wrong with a command line is written to `err`, and help that was asked for to `out`.
-pub fn command<R: Files + AllocGlobal, I: Source, O: Target, E: Target>(
+pub fn command<R, I: Source, O: Target, E: Target>(
     rt: &R,
     words: &[&str],
     input: &mut I,
     out: O,
     err: E,
 ) -> (u8, O, E)
+where
+    R: Files + Net<Listener = TcpListener, Stream = TcpStream> + AllocGlobal,
     ensures performs { let view = streams I.Source O.Target E.Target in
         Performs words.now TURNS (view input.old out err) result.0 (view input.new result.1 result.2) }
     ensures untouched { result.0 ≡ BAD_COMMAND_LINE → input.new ≡ input.old }
@@ -40,10 +44,25 @@ pub fn command<R: Files + AllocGlobal, I: Source, O: Target, E: Target>(
     if words.is_empty() {
         return show(&heap, DEFAULT_LIMITS, input, out, err);
     }
-    let options = match Options::parse(rt.alloc(), words) {
-        Ok(options) => options,
-        Err(no_task) => return tell(no_task, out, err),
-    };
+    match CommandLine::parse(rt.alloc(), words) {
+        Ok(CommandLine::Stream(options)) => stream(rt, options, input, out, err),
+        Ok(CommandLine::Loop { queries }) => converse(rt, queries, out, err),
+        Err(no_task) => tell(no_task, out, err),
+    }
+}
+
+/// Opens a stream, and does the task with it.
+fn stream<R: Files + AllocGlobal, I: Source, O: Target, E: Target>(
+    rt: &R,
+    options: Options<'_>,
+    input: &mut I,
+    out: O,
+    err: E,
+) -> (u8, O, E)
+    requires { first_bad options.limits ≡ Ok tt }
+    ensures { IsStatusOfTask result.0 }
+{
+    let heap = rt.alloc();
     if options.file == "-" {
         return perform(&heap, options, input, out, err);
     }
@@ -65,7 +84,7 @@ fn perform<A: Allocator, I: Source, O: Target, E: Target>(
     err: E,
 ) -> (u8, O, E)
     requires { first_bad options.limits ≡ Ok tt }
-    ensures { IsStatusOfStream result.0 }
+    ensures { IsStatusOfTask result.0 }
 {
     match options.task {
         Task::Show => show(heap, options.limits, input, out, err),
@@ -116,7 +135,7 @@ fn tell<O: Target, E: Target>(no_task: NoTask, out: O, err: E) -> (u8, O, E)
 
 /// Writes help that was asked for.
 fn help<O: Target, E: Target>(text: &str, mut out: O, err: E) -> (u8, O, E)
-    ensures status { IsStatusOfStream result.0 }
+    ensures status { IsStatusOfTask result.0 }
     ensures help { IsSome (O.contents out) → IsSome (E.contents err) →
         Helps text.now (written O.Target out) (written E.Target err) result.0
         (written O.Target result.1) (written E.Target result.2) }

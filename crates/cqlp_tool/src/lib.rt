@@ -1,15 +1,12 @@
 //! What the program cqlp does.
 #![tactic(auto)]
 
-mod buffered;
 mod command_line;
-mod render;
-mod showing;
-mod text_form;
+mod connection;
+mod conversing;
 
 pub use command_line::command;
-pub use cqlp_options::{DEFAULT_LIMITS, NoTask, Options, Task};
+pub use conversing::converse;
+pub use cqlp_options::{CommandLine, DEFAULT_LIMITS, NoTask, Options, QUERIES, Task};
+pub use cqlp_show::{TextForm, check, render_events, render_rows, rows, show};
 pub use cqlp_text::{Ending, cell_text};
-pub use render::{render_events, render_rows};
-pub use showing::{check, rows, show};
-pub use text_form::TextForm;

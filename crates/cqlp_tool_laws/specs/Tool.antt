@@ -7,20 +7,20 @@ use Rattle.cqlp_grammar.specs.declared.event.Finish.{Finish}
 use Rattle.cqlp_grammar.specs.declared.event.Finish.TheVariants as finish
 use Rattle.cqlp_decode.specs.declared.running.Outcome.{Outcome}
 use Rattle.cqlp_decode.specs.declared.running.Outcome.TheVariants as outcome
-use Rattle.cqlp_decode.specs.Reading.{Event, Verdict, Waits, Refused, Says, start}
+use Rattle.cqlp_decode.specs.Reading.{Event, Gifts, Verdict, Waits, Refused, Says, start, start_with}
 use Rattle.cqlp_decode.specs.Standing.{StreamState}
-use Rattle.cqlp_decode.specs.Streams.{After, FinishesBy}
+use Rattle.cqlp_decode.specs.Streams.{AfterGifts, FinishesBy}
 use Rattle.cqlp_text.specs.declared.ending.Ending.{Ending}
 use Rattle.cqlp_text.specs.declared.ending.Ending.TheVariants as ending
 use Rattle.cqlp_text.specs.declared.status.TheConstants.{FAULT}
 use Rattle.cqlp_text.specs.Endings.{ending_line, finish_status}
 use Rattle.cqlp_tool_laws.specs.Text.{FailsAlike, GoesOnFromOther}
 use Rattle.cqlp_text.specs.Outputs.{Output, with_text, HasFailed}
-use Rattle.cqlp_tool.specs.declared.text_form.TextForm.{TextForm}
-use Rattle.cqlp_tool.specs.Forms.{text}
-use Rattle.cqlp_tool.specs.Rendering.{RendersTo}
-use Rattle.cqlp_tool.specs.Showing.{ShowsBytes, ChecksBytes}
-use Rattle.cqlp_tool.specs.Streams.{Streams}
+use Rattle.cqlp_show.specs.declared.text_form.TextForm.{TextForm}
+use Rattle.cqlp_show.specs.Forms.{text}
+use Rattle.cqlp_show.specs.Rendering.{RendersTo}
+use Rattle.cqlp_show.specs.Showing.{ShowsBytes, ChecksBytes}
+use Rattle.cqlp_show.specs.Streams.{Streams}
 
 -- ---- the right answer
 
@@ -29,13 +29,18 @@ abbrev pub EndsAs : List ℕ → List (ℕ × Event) → Verdict → Finish → 
 EndsAs xs es Waits f = FinishesBy None xs es f
 EndsAs xs es (Refused at why) f = f ≡ finish.Refused (record { at = at; why = why })
 
--- A renderer that is Finished wrote the text of all events that the stream says, and reports its end.
-abbrev pub IsRenderedWhole : TextForm → Type 0
-IsRenderedWhole form = (turns : ℕ) (f : Finish) (old new : StreamState) (xs : List ℕ) (left : Option (List ℕ))
+-- A renderer that is Finished wrote the text of all events that the stream says, and reports its end, whatever types were
+-- given.
+abbrev pub IsRenderedWholeAfter : Gifts → TextForm → Type 0
+IsRenderedWholeAfter gifts form = (turns : ℕ) (f : Finish) (old new : StreamState) (xs : List ℕ) (left : Option (List ℕ))
     (before after : Output) (s : List ℕ) (es more : List (ℕ × Event)) (v : Verdict)
-    → After old s es → old.refusal ≡ None → new.rules ≡ old.rules → Says old.rules start (s ++ xs) (es ++ more) v
+    → AfterGifts gifts old s es → old.refusal ≡ None → new.rules ≡ old.rules
+    → Says old.rules (start_with gifts) (s ++ xs) (es ++ more) v
     → RendersTo form turns (outcome.Finished f) old new xs left before after
     → (after ≡ with_text before (text form more)) × EndsAs (s ++ xs) (es ++ more) v f
+
+abbrev pub IsRenderedWhole : TextForm → Type 0
+IsRenderedWhole form = (gifts : Gifts) → IsRenderedWholeAfter gifts form
 
 -- no call failed of what counts these failures before and after
 abbrev pub IsSound : (before after : ℕ) → Type 0
@@ -89,13 +94,17 @@ EndsAlike outcome.SinkFault outcome.SinkFault left left' = Unit {0}
 EndsAlike o o' left left' = ⊥
 
 -- Two runs of a renderer, from the same history and the same bytes, that end alike: one outcome, and one output.
-abbrev pub IsRenderedOnce : TextForm → Type 0
-IsRenderedOnce form =
+abbrev pub IsRenderedOnceAfter : Gifts → TextForm → Type 0
+IsRenderedOnceAfter gifts form =
     (turns : ℕ) (o o' : Outcome) (old new new' : StreamState) (xs : List ℕ) (left left' : Option (List ℕ))
     (before after after' : Output) (s : List ℕ) (es : List (ℕ × Event))
-    → After old s es → old.refusal ≡ None → new.rules ≡ old.rules → new'.rules ≡ old.rules → EndsAlike o o' left left'
+    → AfterGifts gifts old s es → old.refusal ≡ None → new.rules ≡ old.rules → new'.rules ≡ old.rules
+    → EndsAlike o o' left left'
     → RendersTo form turns o old new xs left before after → RendersTo form turns o' old new' xs left' before after'
     → (o' ≡ o) × IsOneOutput before after after'
+
+abbrev pub IsRenderedOnce : TextForm → Type 0
+IsRenderedOnce form = (gifts : Gifts) → IsRenderedOnceAfter gifts form
 
 -- the same of two commands
 abbrev pub EndAlike : Ending → Ending → (left left' : Option (List ℕ)) → Type 0

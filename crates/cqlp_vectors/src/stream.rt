@@ -3,7 +3,7 @@
 use cqlp_decode::{Decoder, Outcome};
 use cqlp_fakes::Pieces;
 use cqlp_note::{Limits, OfStd, Source};
-use cqlp_tool::{render_events, render_rows};
+use cqlp_show::{render_events, render_rows};
 use std::alloc::Global;
 use std::io;
 

@@ -3,7 +3,7 @@
 use crate::stream::{Said, Stream};
 use cqlp_decode::{Finish, Outcome, run};
 use cqlp_fakes::{Ends, FailsOnce, Narrow, Takes};
-use cqlp_tool::render_events;
+use cqlp_show::render_events;
 use std::alloc::Global;
 use std::io;
 

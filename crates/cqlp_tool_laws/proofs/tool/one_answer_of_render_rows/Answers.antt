@@ -1,10 +1,10 @@
 use Rattle.cqlp_text.specs.PageText.{no_page}
-use Rattle.cqlp_tool.specs.declared.text_form.TextForm.TheVariants as forms
+use Rattle.cqlp_show.specs.declared.text_form.TextForm.TheVariants as forms
 use Rattle.cqlp_tool_laws.proofs.OneAnswer.{rendered_whole, rendered_once}
 use Rattle.cqlp_tool_laws.proofs.tool.one_answer_of_render_rows.Goals as goal
 
 pub returns-clause-whole : goal.returns-clause-whole
-returns-clause-whole c = rendered_whole (forms.Pages no_page)
+returns-clause-whole c = λ gifts. rendered_whole gifts (forms.Pages no_page)
 
 pub returns-clause-once : goal.returns-clause-once
-returns-clause-once c = rendered_once (forms.Pages no_page)
+returns-clause-once c = λ gifts. rendered_once gifts (forms.Pages no_page)

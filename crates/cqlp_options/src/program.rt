@@ -1,0 +1,182 @@
+//! The program's command line, as its parser is told of it.
+
+use crate::command_line::QUERIES;
+use clap::{Arg, ArgAction, Command, value_parser};
+use cqlp_note::{LimitRange, Limits};
+use std::alloc::{AllocError, Global};
+
+/// What the program's own help ends with.
+const HELP: &str = "Each of show, rows and check takes a FILE, where - is standard input, and\n\
+    \x20 --text <N>     bytes of one text at most, from 32 to 16777216 [default: 1048576]\n\
+    \x20 --cell <N>     bytes of one content or scalar cell at most, from 32 to 16777216 [default: 1048576]\n\
+    \x20 --entries <N>  type options of one metadata at most, from 1 to 65536 [default: 4096]\n\
+    \x20 --depth <N>    nesting of one type at most, from 1 to 64 [default: 16]\n\
+    \x20 --raw          each cell as raw bytes\n\
+    \x20 --parts        longer blob, custom and raw cells in parts\n\
+    \n\
+    Without words it does what `cqlp show -` does.\n\
+    Example: cqlp rows capture.bin";
+
+/// The program's command line. Each task is handed on as it is made, so that no other is alive at a `?`.
+pub(crate) fn program<'a>(alloc: Global) -> Result<Command<'a>, AllocError> {
+    let program = with_task(
+        alloc,
+        without_tasks(alloc)?,
+        "show",
+        "Write a line for each event of a stream, and a verdict to standard error",
+        "Example: cqlp show --text 4096 capture.bin",
+    )?;
+    let program = with_task(
+        alloc,
+        program,
+        "rows",
+        "Write the pages of a stream as text, and a verdict to standard error",
+        "Example: cqlp rows --parts capture.bin",
+    )?;
+    let program = with_task(
+        alloc,
+        program,
+        "check",
+        "Write the verdict on a stream alone",
+        "Example: cqlp check - < capture.bin",
+    )?;
+    with_conversation(alloc, program)
+}
+
+fn without_tasks<'a>(alloc: Global) -> Result<Command<'a>, AllocError> {
+    let program = Command::new(alloc, "cqlp").bin_name("cqlp")?;
+    Ok(
+        program
+            .about(
+                "Reads streams of the CQL native protocol v4, and has a client and a server talk",
+            )
+            .after_help(HELP)
+            .version("0.1.0")
+            .no_binary_name(true)
+            .subcommand_required(true),
+    )
+}
+
+fn with_task<'a>(
+    alloc: Global,
+    program: Command<'a>,
+    name: &'a str,
+    about: &'a str,
+    example: &'a str,
+) -> Result<Command<'a>, AllocError> {
+    program.subcommand(subcommand(alloc, name, about, example)?)
+}
+
+/// A task with the arguments that each takes.
+fn subcommand<'a>(
+    alloc: Global,
+    name: &'a str,
+    about: &'a str,
+    example: &'a str,
+) -> Result<Command<'a>, AllocError> {
+    let mut task = Command::new(alloc, name)
+        .about(about)
+        .after_help(example)
+        .arg(file(alloc))?;
+    for bound in &BOUNDS {
+        task = task.arg(limit(alloc, bound))?;
+    }
+    for (name, help) in FLAGS {
+        task = task.arg(flag(alloc, name).help(help))?;
+    }
+    Ok(task)
+}
+
+fn with_conversation<'a>(alloc: Global, program: Command<'a>) -> Result<Command<'a>, AllocError> {
+    program.subcommand(conversation(alloc)?)
+}
+
+/// The subcommand `loop`.
+fn conversation<'a>(alloc: Global) -> Result<Command<'a>, AllocError> {
+    Command::new(alloc, "loop")
+        .about(
+            "Have a client and a server talk over a loopback connection, and write a line for each reply",
+        )
+        .after_help("Example: cqlp loop 3")
+        .arg(queries(alloc))
+}
+
+fn queries<'a>(alloc: Global) -> Arg<'a> {
+    let (least, greatest) = (i64::from(QUERIES.least), i64::from(QUERIES.greatest));
+    Arg::new(alloc, "queries")
+        .value_name("COUNT")
+        .required(true)
+        .value_parser(value_parser!(u16).range(least..=greatest))
+        .help("How many queries the client sends, from 1 to 1000")
+}
+
+fn file<'a>(alloc: Global) -> Arg<'a> {
+    Arg::new(alloc, "file")
+        .value_name("FILE")
+        .required(true)
+        .help("The file with the stream; - is standard input")
+}
+
+/// An option for a number in a range.
+struct Bound {
+    name: &'static str,
+    range: LimitRange,
+    default: &'static str,
+    help: &'static str,
+}
+
+const BOUNDS: [Bound; 4] = [
+    Bound {
+        name: "text",
+        range: Limits::TEXT,
+        default: "1048576",
+        help: "Bytes of one [string] or [long string] at most, from 32 to 16777216",
+    },
+    Bound {
+        name: "cell",
+        range: Limits::CELL,
+        default: "1048576",
+        help: "Bytes of one [bytes], [short bytes], [value] or scalar cell at most, from 32 to 16777216",
+    },
+    Bound {
+        name: "entries",
+        range: Limits::ENTRIES,
+        default: "4096",
+        help: "Type options of one metadata at most, nested ones counted, from 1 to 65536",
+    },
+    Bound {
+        name: "depth",
+        range: Limits::DEPTH,
+        default: "16",
+        help: "Nesting of one type at most, from 1 to 64; a column's own type has depth 1",
+    },
+];
+
+fn limit<'a>(alloc: Global, bound: &Bound) -> Arg<'a> {
+    let (least, greatest) = (
+        i64::from(bound.range.least),
+        i64::from(bound.range.greatest),
+    );
+    Arg::new(alloc, bound.name)
+        .long(bound.name)
+        .value_name("N")
+        .value_parser(value_parser!(u32).range(least..=greatest))
+        .default_value(bound.default)
+        .help(bound.help)
+}
+
+/// The options without a value, and their help.
+const FLAGS: [(&str, &str); 2] = [
+    (
+        "raw",
+        "Read each cell as raw bytes, without its column's type",
+    ),
+    (
+        "parts",
+        "Give longer blob, custom and raw cells in parts of the size of --cell",
+    ),
+];
+
+fn flag<'a>(alloc: Global, name: &'a str) -> Arg<'a> {
+    Arg::new(alloc, name).long(name).action(ArgAction::SetTrue)
+}

@@ -1,0 +1,4 @@
+pub mod Passing
+pub mod Renders
+pub mod Shows
+pub mod Turns

@@ -1,0 +1,15 @@
+use Rattle.std.proofs.Common.{◌≡◌, List, [], ℕ, Some, IsSome}
+use Rattle.cqlp_decode.specs.Draining.{Counts, RunsTo, WaitsAt}
+use Rattle.cqlp_decode.specs.Streams.{After, state}
+use Rattle.cqlp_show.specs.Rendering.{with_event, StopsWithinEvent}
+use Rattle.cqlp_show.proofs.render.run_flushing.Given as goal
+
+-- the runs so far were one
+abbrev pub invariant-loop-turn : goal.invariant-loop-turn
+invariant-loop-turn g l = record {
+  waits : WaitsAt l.outcome (state l.decoder);
+  rules : (state l.decoder).rules ≡ (state l.fn.decoder).rules;
+  failures : Counts l.outcome (g.R.Source.failures l.fn.reader) (g.R.Source.failures l.reader);
+  ran : (xs : List ℕ) → g.R.Source.left l.fn.reader ≡ Some xs → IsSome l.fn.sink.output.given → After (state l.fn.decoder) [] []
+      → RunsTo with_event StopsWithinEvent l.turn l.outcome (state l.fn.decoder) (state l.decoder) xs (g.R.Source.left l.reader) l.fn.sink l.sink;
+}

@@ -1,0 +1,17 @@
+use Rattle.cqlp_show.proofs.Shows.{tells_at_first, failed_in, failed_later, passed_through}
+use Rattle.cqlp_show.proofs.showing.render_buffered.Goals as goal
+
+pub returns-in-SinkFault-clause-renders : goal.returns-in-SinkFault-clause-renders
+returns-in-SinkFault-clause-renders g c = λ xs left known fresh.
+    let ran = rw (← c.into_inner-buffered.ensures) at ((rw c.new-sink.ensures at c.run_flushing-outcome.ensures.renders) xs left (tells_at_first _ _ _ c.new.ensures known) fresh) in
+    rw (c.into_inner.ensures, c.in-SinkFault.is) (failed_in _ _ _ _ _ _ _ _ _ _ c.into_inner-buffered.result c.new.ensures fresh ran c.in-SinkFault.is)
+
+pub returns-in-Ok-clause-renders : goal.returns-in-Ok-clause-renders
+returns-in-Ok-clause-renders g c = λ xs left known fresh.
+    let ran = rw (← c.into_inner-buffered.ensures) at ((rw c.new-sink.ensures at c.run_flushing-outcome.ensures.renders) xs left (tells_at_first _ _ _ c.new.ensures known) fresh) in
+    rw c.into_inner-in-Ok.ensures (passed_through _ _ _ _ _ _ _ _ _ _ c.into_inner-buffered.result c.new.ensures fresh ran c.flush.new.self known c.in_default.not-SinkFault c.in-Ok.ensures.keeps c.in-Ok.ensures.ok c.in-Ok.ensures.sound)
+
+pub returns-in-Err-clause-renders : goal.returns-in-Err-clause-renders
+returns-in-Err-clause-renders g c = λ xs left known fresh.
+    let ran = rw (← c.into_inner-buffered.ensures) at ((rw c.new-sink.ensures at c.run_flushing-outcome.ensures.renders) xs left (tells_at_first _ _ _ c.new.ensures known) fresh) in
+    rw c.into_inner-in-Err.ensures (failed_later _ _ _ _ _ _ _ _ _ _ c.into_inner-buffered.result c.new.ensures fresh ran c.flush.new.self known c.in_default.not-SinkFault c.in-Err.ensures.keeps c.in-Err.ensures.err)

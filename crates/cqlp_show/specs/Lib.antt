@@ -1,0 +1,4 @@
+pub mod Forms
+pub mod Rendering
+pub mod Showing
+pub mod Streams

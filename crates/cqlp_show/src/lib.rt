@@ -1,0 +1,11 @@
+//! A stream as text, with what is reported of it.
+#![tactic(auto)]
+
+mod buffered;
+mod render;
+mod showing;
+mod text_form;
+
+pub use render::{render_events, render_rows};
+pub use showing::{TURNS, check, conclude, rows, show};
+pub use text_form::TextForm;

@@ -1,0 +1,167 @@
+//! A whole stream, shown or checked.
+
+ghost use Rattle.std.specs.Prelude.{◌≡◌, []};
+ghost use Rattle.cqlp_decode.specs.Streams.{After, state};
+ghost use Rattle.cqlp_note.specs.Limits.{first_bad};
+ghost use Rattle.cqlp_text.specs.Endings.{IsStatusOfTask};
+ghost use Rattle.cqlp_text.specs.PageText.{no_page};
+ghost use Rattle.cqlp_text.specs.Outputs.{Output, written};
+ghost use Rattle.cqlp_show.specs.Streams.{IfKnown, streams, unread};
+ghost use Rattle.cqlp_show.specs.Showing.{ending_of, ChecksAndReports, ConcludesIfKnown, CountsReads, RendersOrFails};
+ghost use Rattle.cqlp_show.specs.Showing.{ShowsAndReports, ShowsTo};
+ghost use Rattle.cqlp_text.specs.declared.ending.Ending.{Ending};
+ghost use Rattle.cqlp_show.specs.declared.text_form.TextForm.TheVariants as forms;
+
+use crate::buffered::Buffered;
+use crate::render::{TextSink, run_flushing};
+use crate::text_form::TextForm;
+use cqlp_decode::{Decoder, NewError, Outcome, SinkFault};
+use cqlp_note::{IoFault, Limits, Source, Target};
+use cqlp_text::status::FAULT;
+use cqlp_text::{Ending, PagePlace, ending_line};
+use std::alloc::Allocator;
+
+/// How many reads the program makes at most.
+pub const TURNS: u64 = 4_294_967_296;
+
+/// How many bytes of text go to the output at once.
+const ROOM: usize = 65_536;
+
+/// Writes the lines of the events of a stream to `out`, and the verdict line or fault line to `err`. Answers the exit
+/// status, and the two outputs.
+pub fn show<R: Source, O: Target, E: Target, A: Allocator>(
+    alloc: &A,
+    limits: Limits,
+    input: &mut R,
+    out: O,
+    err: E,
+) -> (u8, O, E)
+    requires { first_bad limits ≡ Ok tt }
+    ensures status { IsStatusOfTask result.0 }
+    ensures shows { let view = streams R.Source O.Target E.Target in
+        ShowsAndReports forms.Lines limits TURNS (view input.old out err) result.0 (view input.new result.1 result.2) }
+{
+    let (ending, out) = write_text(alloc, limits, TextForm::Lines, input, out);
+    let (status, err) = conclude(ending, err);
+    (status, out, err)
+}
+
+/// Writes the text of the pages of a stream to `out`, and the verdict line or fault line to `err`. Answers the exit
+/// status, and the two outputs.
+pub fn rows<R: Source, O: Target, E: Target, A: Allocator>(
+    alloc: &A,
+    limits: Limits,
+    input: &mut R,
+    out: O,
+    err: E,
+) -> (u8, O, E)
+    requires { first_bad limits ≡ Ok tt }
+    ensures status { IsStatusOfTask result.0 }
+    ensures shows { let view = streams R.Source O.Target E.Target in
+        ShowsAndReports (forms.Pages no_page) limits TURNS
+        (view input.old out err) result.0 (view input.new result.1 result.2) }
+{
+    let (ending, out) = write_text(alloc, limits, TextForm::Pages(PagePlace::new()), input, out);
+    let (status, err) = conclude(ending, err);
+    (status, out, err)
+}
+
+/// Reads a stream, and writes the verdict line to `out` or the fault line to `err`. Answers the exit status, and the
+/// two outputs.
+pub fn check<R: Source, O: Target, E: Target, A: Allocator>(
+    alloc: &A,
+    limits: Limits,
+    input: &mut R,
+    out: O,
+    err: E,
+) -> (u8, O, E)
+    requires { first_bad limits ≡ Ok tt }
+    ensures status { IsStatusOfTask result.0 }
+    ensures checks { let view = streams R.Source O.Target E.Target in
+        ChecksAndReports limits TURNS (view input.old out err) result.0 (view input.new result.1 result.2) }
+{
+    let (ending, mut out) = write_text(alloc, limits, TextForm::Nothing, input, out);
+    let Ending::Finished(_) = ending else {
+        let (status, err) = conclude(ending, err);
+        return (status, out, err);
+    };
+    let Err(SinkFault) = ending_line(ending, &mut out) else {
+        return (ending.status(), out, err);
+    };
+    let (status, err) = conclude(Ending::WriteFault, err);
+    (status, out, err)
+}
+
+/// Writes the text of the events of a stream within these limits, in a form.
+fn write_text<R: Source, O: Target, A: Allocator>(
+    alloc: &A,
+    limits: Limits,
+    form: TextForm,
+    input: &mut R,
+    out: O,
+) -> (Ending, O)
+    requires { first_bad limits ≡ Ok tt }
+    ensures shows { IfKnown (unread R.Source input.old) (written O.Target out) (λ xs.
+        ShowsTo form limits TURNS result.0 xs (R.left input.new) (written O.Target out) (written O.Target result.1)) }
+    ensures failures { CountsReads result.0 (R.failures input.old) (R.failures input.new) }
+{
+    let mut decoder = match Decoder::new(alloc, limits) {
+        Ok(decoder) => decoder,
+        Err(NewError::NoMemory) => return (Ending::NoMemory, out),
+        Err(NewError::BadLimits(_)) => unreachable!(),
+    };
+    let Ok(buffer) = Vec::with_capacity(alloc, ROOM) else {
+        return (Ending::NoMemory, out);
+    };
+    let (outcome, out) = render_buffered(&mut decoder, input, out, form, buffer);
+    (ending_of(outcome), out)
+}
+
+/// How the command ends where a run does.
+fn ending_of(outcome: Outcome) -> Ending
+    ensures { result ≡ ending_of outcome }
+{
+    match outcome {
+        Outcome::Finished(finish) => Ending::Finished(finish),
+        Outcome::ReadFault => Ending::ReadFault,
+        Outcome::SinkFault => Ending::WriteFault,
+        Outcome::Turns => Ending::TooManyTurns,
+    }
+}
+
+/// Writes the text of the events of a reader's bytes, in pieces as large as the buffer where the input does not stop.
+fn render_buffered<R: Source, O: Target, A: Allocator, B: Allocator>(
+    decoder: &mut Decoder<A>,
+    input: &mut R,
+    out: O,
+    form: TextForm,
+    buffer: Vec<u8, B>,
+) -> (Outcome, O)
+    ensures renders { IfKnown (unread R.Source input.old) (written O.Target out) (λ xs.
+        After (state decoder.old) [] [] → RendersOrFails form TURNS result.0 (state decoder.old) (state decoder.new) xs
+        (R.left input.new) (written O.Target out) (written O.Target result.1)) }
+    ensures failures { CountsReads (ending_of result.0) (R.failures input.old) (R.failures input.new) }
+    ensures rules { (state decoder.new).rules ≡ (state decoder.old).rules }
+{
+    let mut sink = TextSink::new(Buffered::new(out, buffer), form);
+    let outcome = run_flushing(decoder, input, &mut sink, TURNS);
+    let mut buffered = sink.into_inner();
+    if let Outcome::SinkFault = outcome {
+        return (outcome, buffered.into_inner());
+    }
+    match buffered.flush() {
+        Ok(()) => (outcome, buffered.into_inner()),
+        Err(IoFault) => (Outcome::SinkFault, buffered.into_inner()),
+    }
+}
+
+/// Writes the verdict line or fault line. Answers the exit status, which is that of a fault where the target fails.
+pub fn conclude<E: Target>(ending: Ending, mut err: E) -> (u8, E)
+    ensures status { IsStatusOfTask result.0 }
+    ensures concludes { ConcludesIfKnown ending (written E.Target err) result.0 (written E.Target result.1) }
+{
+    match ending_line(ending, &mut err) {
+        Ok(()) => (ending.status(), err),
+        Err(SinkFault) => (FAULT, err),
+    }
+}

@@ -1,0 +1,13 @@
+//! Forms of text.
+
+use cqlp_text::PagePlace;
+
+/// What is written of the events of a stream. The clauses of the calls of this crate speak of it.
+#[derive(Drop)]
+pub enum TextForm {
+    /// A line for each.
+    Lines,
+    /// The text of pages, from a place in a page.
+    Pages(PagePlace),
+    Nothing,
+}
