@@ -1,9 +1,11 @@
 //! Gives scripts of pieces to decoders, and prints what each decoder says.
 //!
 //! A line of the input has a name, words on how the stream is read, and its pieces, each after `|`. A line without `|` is a
-//! heading. Each decoder is made in memory of just the size that it takes when it is made.
+//! heading. Each decoder is made in memory of just the size that it takes when it is made. In place of bytes a piece may have
+//! `give` and a stream, whose types are given to the decoder, or `take`.
 #![tactic(auto)]
 
+mod gifts;
 mod memory;
 mod reading;
 mod script;
@@ -12,7 +14,7 @@ mod ways;
 use cqlp_decode::Decoder;
 use cqlp_fakes::bytes_of;
 use linked_list_allocator::LocalHeap;
-use reading::{Report, take};
+use reading::{AMPLE, Report, take};
 use script::{Script, Shows};
 use std::io;
 
@@ -38,11 +40,15 @@ fn execute(rt: &HostRuntime, line: &str) -> io::Result<()> {
 }
 
 /// Prints what a decoder says of the pieces, and where a single piece would say something else if it came in several.
-fn print_pieces(rt: &HostRuntime, script: &Script, pieces: &str) -> io::Result<()> {
+fn print_pieces(rt: &HostRuntime, script: &Script<'_>, pieces: &str) -> io::Result<()> {
+    let tables = LocalHeap::new(rt.alloc(), AMPLE)?;
     let heap = LocalHeap::new(rt.alloc(), script.room)?;
-    let mut decoder = reading::decoder(&heap, script.limits)?;
+    let mut decoder = gifts::decoder_with(rt.alloc(), &heap, &tables, script)?;
     let mut said = Report::new(rt.alloc(), script.shows);
     for piece in pieces.split('|') {
+        if gifts::exchange(rt, &tables, &mut decoder, piece)? {
+            continue;
+        }
         let bytes = bytes_of(rt.alloc(), piece)?;
         take(&mut decoder, &bytes, &mut said)?;
         print_said(rt, &mut said, &decoder)?;

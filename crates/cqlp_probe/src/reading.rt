@@ -1,11 +1,15 @@
 //! What a decoder says of pieces.
 
+use crate::gifts::decoder_with;
 use crate::script::{Script, Shows};
 use cqlp_decode::{Decoder, Event, Step};
 use cqlp_note::{Limits, Refusal};
 use linked_list_allocator::LocalHeap;
 use std::alloc::Global;
 use std::io;
+
+/// More bytes than the tables of any script take.
+pub const AMPLE: usize = 1 << 16;
 
 /// What a decoder has said: a line for each event, with the offsets where it begins and where the bytes used end.
 #[derive(Drop)]
@@ -95,13 +99,14 @@ pub fn take(
 /// What is said of a stream that comes in pieces: a first of this size, and all others of another.
 pub fn said_in_pieces(
     alloc: Global,
-    script: &Script,
+    script: &Script<'_>,
     stream: &[u8],
     first: usize,
     other: usize,
 ) -> io::Result<Report> {
+    let tables = LocalHeap::new(alloc, AMPLE)?;
     let heap = LocalHeap::new(alloc, script.room)?;
-    let mut decoder = decoder(&heap, script.limits)?;
+    let mut decoder = decoder_with(alloc, &heap, &tables, script)?;
     let mut said = Report::new(alloc, script.shows);
     let mut rest = stream;
     let mut size = first;

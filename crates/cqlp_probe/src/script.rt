@@ -28,22 +28,26 @@ pub enum Shows {
 
 /// How a stream is read.
 #[derive(Clone, Copy)]
-pub struct Script {
+pub struct Script<'a> {
     pub limits: Limits,
     pub shows: Shows,
+    /// The stream whose types are given to the decoder before its first byte, in hexadecimal digits.
+    pub given: Option<&'a str>,
     /// The bytes of memory that a decoder takes.
     pub room: usize,
 }
 
-impl Script {
-    pub fn read(words: &str) -> Script {
+impl<'a> Script<'a> {
+    pub fn read(words: &'a str) -> Script<'a> {
         let mut script = Script {
             limits: LIMITS,
             shows: Shows::Events,
+            given: None,
             room: 0,
         };
         for word in words.split_whitespace() {
             match word.split_once('=') {
+                Some(("--given", digits)) => script.given = Some(digits),
                 Some((name, digits)) => script.limit(name, number_of(digits)),
                 None => script.ask(word),
             }

@@ -5,7 +5,7 @@ use crate::script::{Script, Shows};
 use std::io;
 
 /// In pieces of each size, and in two pieces cut at each place; where events are counted, byte by byte alone.
-pub fn in_pieces(rt: &HostRuntime, script: &Script, stream: &[u8]) -> io::Result<()> {
+pub fn in_pieces(rt: &HostRuntime, script: &Script<'_>, stream: &[u8]) -> io::Result<()> {
     let whole = said_in_pieces(rt.alloc(), script, stream, stream.len(), 1)?;
     match script.shows {
         Shows::Calls | Shows::Memory => Ok(()),
@@ -22,7 +22,7 @@ pub fn in_pieces(rt: &HostRuntime, script: &Script, stream: &[u8]) -> io::Result
 
 fn in_these_pieces(
     rt: &HostRuntime,
-    script: &Script,
+    script: &Script<'_>,
     stream: &[u8],
     whole: &Report,
     sizes: (usize, usize),

@@ -55,12 +55,12 @@ module _ {V : Type 0} (f : V → ℕ → Event → V) (faulted : V → ℕ → E
   pub fails_reading : FeedsInto f faulted (state d) new xs before after → FailsReading f faulted (rules_of limits) xs before after
   fails_reading fed es v says =
       let l = rules_of limits in
-      let e = fed.failed [] [] fresh.fresh in
+      let e = fed.failed [] [] [] fresh.fresh in
       let all = e.more ++ (e.at, e.event) ∷ [] in
-      let r = after_reads new fed.bytes all e.stands in
+      let r = after_reads [] new fed.bytes all e.stands in
       let read : Reads l start fed.bytes all r.0 r.1 = subst (λ (k : Rules). Reads k start fed.bytes all r.0 r.1) (rules ∙ fresh.rules) r.2 in
       let on : Reads l start xs all r.0 (r.1 ++ fed.rest) = subst (λ (z : List ℕ). Reads l start z all r.0 (r.1 ++ fed.rest)) (sym fed.parts) (runs_stay (step l) start fed.bytes fed.rest all r.0 r.1 read) in
-      let few = no_further l xs es all v r.0 (r.1 ++ fed.rest) says on in
+      let few = no_further [] l xs es all v r.0 (r.1 ++ fed.rest) says on in
       let c = runs_compare (step l) start r.0 says.0 xs (r.1 ++ fed.rest) says.1 all es on says.2 few in record {
         first = e.more;
         at = e.at;
