@@ -73,7 +73,7 @@ same_head x y xs ys same = cc
 module _ (gifts : Gifts) where
   module _ (l : Rules) (s input : List ℕ) (es : List (ℕ × Event)) where
     -- an event ends at one byte
-    event_once : (p q : Place) (used used' : ℕ) (e e' : ℕ × Event) → used ≤ used' → used' ≤ length input → Reads l (start_with gifts) (s ++ take used input) (es ++ e ∷ []) p [] → Reads l (start_with gifts) (s ++ take used' input) (es ++ e' ∷ []) q [] → (q ≡ p) × (used' ≡ used) × (e' ≡ e)
+    pub event_once : (p q : Place) (used used' : ℕ) (e e' : ℕ × Event) → used ≤ used' → used' ≤ length input → Reads l (start_with gifts) (s ++ take used input) (es ++ e ∷ []) p [] → Reads l (start_with gifts) (s ++ take used' input) (es ++ e' ∷ []) q [] → (q ≡ p) × (used' ≡ used) × (e' ≡ e)
     event_once p q used used' e e' le within x y =
         let more = take_more used used' input le within in
         let t = more.0 in
@@ -87,7 +87,7 @@ module _ (gifts : Gifts) where
         (end.0, omega (arith, more.2, ap length end.1), same_head e' e [] [] (append_cancel_left es (e' ∷ []) (e ∷ []) same))
 
     -- where all events of the bytes were handed out there is none more
-    no_event : (v : Verdict) (p : Place) (used : ℕ) (e : ℕ × Event) → Says l (start_with gifts) (s ++ input) es v → Reads l (start_with gifts) (s ++ take used input) (es ++ e ∷ []) p [] → ⊥
+    pub no_event : (v : Verdict) (p : Place) (used : ℕ) (e : ℕ × Event) → Says l (start_with gifts) (s ++ input) es v → Reads l (start_with gifts) (s ++ take used input) (es ++ e ∷ []) p [] → ⊥
     no_event v p used e all run =
         let there : s ++ take used input ++ drop used input ≡ s ++ input = append_assoc s (take used input) (drop used input) ∙ ap (λ (z : List ℕ). s ++ z) (take-append-drop used input) in
         let on = runs_stay (step l) (start_with gifts) (s ++ take used input) (drop used input) (es ++ e ∷ []) p [] run in

@@ -1,0 +1,175 @@
+/* What a caller in C sees: the events of a page, a refusal, handles that are made and freed, and every cut of a stream. It
+ * prints, and bindings/c/expected is what it must print. */
+#include "cqlp.h"
+
+#include <assert.h>
+#include <stdio.h>
+#include <string.h>
+
+static_assert(sizeof(cqlp_event) == 56 + 2 * sizeof(void *), "as in crates/cqlp_c/src/event.rt");
+static_assert(offsetof(cqlp_event, bytes) == 32 + 2 * sizeof(void *), "as in crates/cqlp_c/src/event.rt");
+static_assert(offsetof(cqlp_event, octets) == 54 + 2 * sizeof(void *), "as in crates/cqlp_c/src/event.rt");
+static_assert(sizeof(cqlp_limits) == 20, "as in crates/cqlp_c/src/shown.rt");
+static_assert(sizeof(cqlp_holding) == 12, "as in crates/cqlp_c/src/shown.rt");
+
+enum { ROOM = 64 };
+
+/* A response with one page, of one row with one list<int>, whose elements are 1 and null. */
+static const uint8_t page[] = {0x84, 0, 0, 0, 8, 0, 0, 0, 49, 0, 0, 0, 2, 0, 0, 0, 1, 0, 0, 0, 1, 0, 1, 'k', 0, 1, 't', 0, 1,
+                               'c', 0, 0x20, 0, 9, 0, 0, 0, 1, 0, 0, 0, 16, 0, 0, 0, 2, 0, 0, 0, 4, 0, 0, 0, 1, 0xFF, 0xFF,
+                               0xFF, 0xFF};
+
+/* A request, QUERY, whose text has six bytes. */
+static const uint8_t query[] = {4, 0, 0, 7, 7, 0, 0, 0, 13, 0, 0, 0, 6, 'a', 'b', 'c', 'd', 'e', 'f', 0, 1, 0};
+
+/* A page of one row with one decimal, 12345 with a scale of 2. */
+static const uint8_t decimal[] = {0x84, 0, 0, 0, 8, 0, 0, 0, 37, 0, 0, 0, 2, 0, 0, 0, 1, 0, 0, 0, 1, 0, 1, 'k', 0, 1,
+                                  't', 0, 1, 'c', 0, 6, 0, 0, 0, 1, 0, 0, 0, 6, 0, 0, 0, 2, 0x30, 0x39};
+
+static void print_event(const cqlp_event *e) {
+  printf("%llu tag %u", (unsigned long long)e->at, e->tag);
+  if (e->field) printf(" field %u", e->field);
+  if (e->kind) printf(" kind %u", e->kind);
+  if (e->tag == CQLP_TAG_FRAME) printf(" opcode %u flags %u", e->opcode, e->flags);
+  if (e->tag >= CQLP_TAG_LEAF && e->tag <= CQLP_TAG_PART) printf(" at %u %u %u", e->row, e->column, e->level);
+  printf(" number %lld", (long long)e->number);
+  if (e->extra) printf(" extra %d", e->extra);
+  if (e->mark) printf(" mark %u", e->mark);
+  if (e->length) {
+    printf(" content ");
+    for (size_t i = 0; i < e->length; i++) printf("%02x", e->content[i]);
+  }
+  printf("\n");
+}
+
+/* An event without where its content lies: a sum of all that it tells. */
+static uint64_t sum_of(uint64_t sum, const cqlp_event *e) {
+  cqlp_event plain = *e;
+  plain.content = NULL;
+  const uint8_t *bytes = (const uint8_t *)&plain;
+  size_t size = offsetof(cqlp_event, octets) + 1;
+  for (size_t i = 0; i < size; i++) sum = (sum ^ bytes[i]) * 1099511628211u;
+  for (size_t i = 0; i < e->length; i++) sum = (sum ^ e->content[i]) * 1099511628211u;
+  return sum;
+}
+
+/* Gives a piece to the decoder; each event goes into the sum, after the batch that it came in. */
+static uint8_t give(cqlp_decoder *decoder, const uint8_t *piece, size_t length, size_t room, uint64_t *sum, size_t *count) {
+  cqlp_event events[ROOM];
+  cqlp_batch batch;
+  size_t used = 0;
+  memset(events, 0, sizeof events);
+  memset(&batch, 0, sizeof batch);
+  do {
+    uint32_t code = cqlp_next(decoder, piece + used, length - used, events, room, &batch);
+    assert(code == CQLP_DONE && batch.used <= length - used && batch.events <= room);
+    assert(batch.stop != CQLP_STOP_FULL || batch.events > 0);
+    used += batch.used;
+    *count += batch.events;
+    for (size_t i = 0; i < batch.events; i++) *sum = sum_of(*sum, &events[i]);
+  } while (batch.stop == CQLP_STOP_FULL);
+  return batch.stop;
+}
+
+static void print_stream(const char *name, const uint8_t *stream, size_t length) {
+  cqlp_limits limits = CQLP_DEFAULT_LIMITS;
+  cqlp_decoder decoder = CQLP_NO_DECODER_YET;
+  cqlp_event events[ROOM];
+  cqlp_batch batch;
+  cqlp_end end;
+  memset(events, 0, sizeof events);
+  memset(&batch, 0, sizeof batch);
+  memset(&end, 0, sizeof end);
+  assert(cqlp_new(&limits, &decoder) == CQLP_DONE);
+  assert(cqlp_next(&decoder, stream, length, events, ROOM, &batch) == CQLP_DONE);
+  printf("%s\n", name);
+  for (size_t i = 0; i < batch.events; i++) print_event(&events[i]);
+  printf("used %zu stop %u reason %u at %llu\n", batch.used, batch.stop, batch.reason, (unsigned long long)batch.at);
+  assert(cqlp_finish(&decoder, &end) == CQLP_DONE);
+  printf("verdict %u at %llu bytes %llu reason %u\n", end.verdict, (unsigned long long)end.at,
+         (unsigned long long)end.bytes, end.reason);
+  cqlp_end whole;
+  memset(&whole, 0, sizeof whole);
+  assert(cqlp_check(&limits, stream, length, &whole) == CQLP_DONE);
+  assert(whole.verdict == end.verdict && whole.at == end.at && whole.bytes == end.bytes && whole.reason == end.reason);
+  assert(cqlp_free(&decoder) == CQLP_DONE);
+}
+
+/* Each cut of a stream, and each room, gives the same events. */
+static void cut_everywhere(const uint8_t *stream, size_t length) {
+  cqlp_limits limits = CQLP_DEFAULT_LIMITS;
+  uint64_t wanted = 0;
+  size_t wanted_count = 0;
+  cqlp_decoder decoder = CQLP_NO_DECODER_YET;
+  assert(cqlp_new(&limits, &decoder) == CQLP_DONE);
+  give(&decoder, stream, length, ROOM, &wanted, &wanted_count);
+  cqlp_free(&decoder);
+  for (size_t first = 0; first <= length; first++)
+    for (size_t second = first; second <= length; second++)
+      for (size_t room = 1; room <= 3; room++) {
+        uint64_t sum = 0;
+        size_t count = 0;
+        cqlp_end end;
+        memset(&end, 0, sizeof end);
+        assert(cqlp_new(&limits, &decoder) == CQLP_DONE);
+        give(&decoder, stream, first, room, &sum, &count);
+        give(&decoder, stream + first, second - first, room, &sum, &count);
+        give(&decoder, stream + second, length - second, room, &sum, &count);
+        assert(sum == wanted && count == wanted_count);
+        assert(cqlp_finish(&decoder, &end) == CQLP_DONE);
+        assert(end.verdict == CQLP_END_WHOLE && end.bytes == length);
+        assert(cqlp_free(&decoder) == CQLP_DONE);
+      }
+  printf("each cut of %zu bytes: %zu events\n", length, wanted_count);
+}
+
+static void print_handles(void) {
+  cqlp_limits limits = CQLP_DEFAULT_LIMITS;
+  cqlp_decoder decoder = CQLP_NO_DECODER_YET;
+  cqlp_holding held;
+  cqlp_batch batch;
+  cqlp_event event;
+  cqlp_end end;
+  memset(&held, 0, sizeof held);
+  memset(&batch, 0, sizeof batch);
+  memset(&event, 0, sizeof event);
+  memset(&end, 0, sizeof end);
+  printf("no decoder: %u %u %u %u\n", cqlp_next(&decoder, page, sizeof page, &event, 1, &batch),
+         cqlp_finish(&decoder, &end), cqlp_held(&decoder, &held), cqlp_free(&decoder));
+  limits.depth = 65;
+  printf("bad depth: %u\n", cqlp_new(&limits, &decoder));
+  limits.text = 31;
+  printf("bad text first: %u\n", cqlp_new(&limits, &decoder));
+  cqlp_limits good = CQLP_DEFAULT_LIMITS;
+  for (int i = 0; i < 10000; i++) {
+    assert(cqlp_new(&good, &decoder) == CQLP_DONE);
+    assert(cqlp_new(&good, &decoder) == CQLP_IN_USE);
+    assert(cqlp_next(&decoder, query, 15, &event, 1, &batch) == CQLP_DONE);
+    assert(cqlp_free(&decoder) == CQLP_DONE);
+  }
+  assert(cqlp_new(&good, &decoder) == CQLP_DONE);
+  assert(cqlp_next(&decoder, query, 15, &event, 1, &batch) == CQLP_DONE && batch.stop == CQLP_STOP_FULL);
+  assert(cqlp_next(&decoder, query + 9, 6, &event, 1, &batch) == CQLP_DONE && batch.stop == CQLP_STOP_MORE);
+  assert(cqlp_held(&decoder, &held) == CQLP_DONE);
+  printf("held: %u bytes %u entries %u levels\n", held.bytes, held.entries, held.levels);
+  assert(cqlp_next(&decoder, query + 15, 7, &event, 1, &batch) == CQLP_DONE);
+  printf("a text of two pieces: %.*s used %zu stop %u\n", (int)event.length, (const char *)event.content, batch.used,
+         batch.stop);
+  printf("no room: %u", cqlp_next(&decoder, query + 19, 3, &event, 0, &batch));
+  printf(" stop %u used %zu events %zu\n", batch.stop, batch.used, batch.events);
+  assert(cqlp_free(&decoder) == CQLP_DONE);
+}
+
+int main(void) {
+  static const uint8_t hostile[] = {0x84, 0, 0, 0, 8, 0x10, 0, 0, 1};
+  print_stream("a page", page, sizeof page);
+  print_stream("a query", query, sizeof query);
+  print_stream("a decimal", decimal, sizeof decimal);
+  print_stream("a page that is cut", page, 52);
+  print_stream("a length of 256 MB and a byte", hostile, sizeof hostile);
+  print_handles();
+  cut_everywhere(page, sizeof page);
+  cut_everywhere(query, sizeof query);
+  cut_everywhere(decimal, sizeof decimal);
+  return 0;
+}

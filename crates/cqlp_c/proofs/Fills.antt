@@ -1,0 +1,177 @@
+-- One more event in a batch.
+use Rattle.std.proofs.Common.{◌≡◌, ℕ, ◌+◌, ◌≤◌, ◌<◌, List, [], ◌∷◌, ◌++◌, length, take, drop, refl, sym, ap, subst, ◌∙◌, append_assoc, inl, inr, arith}
+use Rattle.std.specs.Prelude.{Option, Some, None}
+use Rattle.std.proofs.lemmas.List.{append-nil, length-append, length-drop, take-append-drop, take_all}
+use Rattle.cqlp_note.specs.Limits.{Rules}
+use Rattle.cqlp_note.specs.declared.refusal.Refusal.{Refusal}
+use Rattle.cqlp_grammar.specs.declared.event.Event as handed
+use Rattle.cqlp_grammar.specs.Events.{event_of}
+use Rattle.cqlp_decode.specs.declared.step.Step.TheVariants as steps
+use Rattle.cqlp_decode.specs.Reading.{Event, Reads, start}
+use Rattle.cqlp_decode.specs.Standing.{StreamState, IsPending}
+use Rattle.cqlp_decode.specs.Streams.{After, AfterBy, Stands, Leads, Refuses}
+use Rattle.cqlp_decode.proofs.Gets.{take_two, refuses_new}
+use Rattle.cqlp_laws.proofs.OneAnswer.{pending_none}
+use Rattle.cqlp_c.specs.declared.event.CqlpEvent.{CqlpEvent}
+use Rattle.cqlp_c.specs.Events.{Tells}
+use Rattle.cqlp_c.specs.declared.batch.Batch.{Batch}
+use Rattle.cqlp_c.specs.declared.batch.Stop.TheVariants as stop
+use Rattle.cqlp_c.specs.Batches.{Fills, Put, Puts, IsRead, IsInInput, AllInInput, OthersInInput, LastIsGathered, IsGathered, TellsAll, events_of, end_of}
+
+-- ---- lists of events that were put
+
+pub length_snoc : (ps : List Put) (p : Put) → length (ps ++ p ∷ []) ≡ length ps + 1
+length_snoc ps p = length-append ps (p ∷ [])
+
+pub events_snoc : (ps : List Put) (p : Put) → events_of (ps ++ p ∷ []) ≡ events_of ps ++ (p.at, p.event) ∷ []
+events_snoc [] p = refl
+events_snoc (q ∷ ps) p = ap (λ (z : List (ℕ × Event)). (q.at, q.event) ∷ z) (events_snoc ps p)
+
+pub end_snoc : (from : ℕ) (ps : List Put) (p : Put) → end_of from (ps ++ p ∷ []) ≡ p.end
+end_snoc from [] p = refl
+end_snoc from (q ∷ ps) p = end_snoc q.end ps p
+
+pub puts_snoc : (l : Rules) (s input : List ℕ) (es : List (ℕ × Event)) (from : ℕ) (ps : List Put) (p : Put) → Puts l s input es from ps → p.from ≡ end_of from ps → p.end ≤ length input
+    → IsRead l (s ++ take p.end input) ((es ++ events_of ps) ++ (p.at, p.event) ∷ []) → Puts l s input es from (ps ++ p ∷ [])
+puts_snoc l s input es from [] p put is within read = (is, within, subst (λ (z : List (ℕ × Event)). IsRead l (s ++ take p.end input) (z ++ (p.at, p.event) ∷ [])) (append-nil es) read, tt)
+puts_snoc l s input es from (q ∷ ps) p put is within read = (
+  put.0,
+  put.1,
+  put.2,
+  puts_snoc l s input (es ++ (q.at, q.event) ∷ []) q.end ps p put.3 is within
+      (subst (λ (z : List (ℕ × Event)). IsRead l (s ++ take p.end input) (z ++ (p.at, p.event) ∷ [])) (sym (append_assoc es ((q.at, q.event) ∷ []) (events_of ps))) read),
+)
+
+pub all_snoc : (ps : List Put) (p : Put) → AllInInput ps → IsInInput p → AllInInput (ps ++ p ∷ [])
+all_snoc [] p all is = (is, tt)
+all_snoc (q ∷ ps) p all is = (all.0, all_snoc ps p all.1 is)
+
+pub others_snoc : (ps : List Put) (p : Put) → AllInInput ps → OthersInInput (ps ++ p ∷ [])
+others_snoc [] p all = tt
+others_snoc (q ∷ []) p all = (all.0, tt)
+others_snoc (q ∷ r ∷ ps) p all = (all.0, others_snoc (r ∷ ps) p all.1)
+
+pub others_of_all : (ps : List Put) → AllInInput ps → OthersInInput ps
+others_of_all [] all = tt
+others_of_all (q ∷ []) all = tt
+others_of_all (q ∷ r ∷ ps) all = (all.0, others_of_all (r ∷ ps) all.1)
+
+pub last_snoc : (ps : List Put) (p : Put) → IsGathered p → LastIsGathered (ps ++ p ∷ [])
+last_snoc [] p is = is
+last_snoc (q ∷ []) p is = is
+last_snoc (q ∷ r ∷ ps) p is = last_snoc (r ∷ ps) p is
+
+pub tells_snoc : (cs : List CqlpEvent) (ps : List Put) (c : CqlpEvent) (p : Put) → TellsAll cs ps → Tells c p.at p.event → TellsAll (cs ++ c ∷ []) (ps ++ p ∷ [])
+tells_snoc [] [] c p all is = (is, tt)
+tells_snoc [] (q ∷ ps) c p all is = absurd all
+tells_snoc (d ∷ cs) [] c p all is = absurd all
+tells_snoc (d ∷ cs) (q ∷ ps) c p all is = (all.0, tells_snoc cs ps c p all.1 is)
+
+-- ---- a batch so far
+
+-- what was read, where nothing has come of what is next
+is_read : (l : Rules) (d : StreamState) (s : List ℕ) (es : List (ℕ × Event)) → d.rules ≡ l → d.refusal ≡ None → IsPending d.pending [] → After d s es → IsRead l s es
+is_read l d s es rules none begun a =
+    let st : Stands [] d s es = subst (λ (o : Option Refusal). AfterBy o [] d s es) none a in (
+      st.place,
+      subst (λ (z : Rules). Reads z start s es st.place []) rules (subst (λ (b : List ℕ). Reads d.rules start s es st.place b) (pending_none d.pending st.bytes begun st.pending) st.read),
+    )
+
+-- These were put: the reading of the bytes used says their events, and the decoder is after them.
+pub record IsFilled (l : Rules) (d : StreamState) (s input : List ℕ) (es : List (ℕ × Event)) (used : ℕ) (cs : List CqlpEvent) : Type 0 where
+  pub puts : List Put
+  pub count : length puts ≡ length cs
+  pub put : Puts l s input es 0 puts
+  pub told : TellsAll cs puts
+  pub ends : used ≡ end_of 0 puts
+  pub after : After d (s ++ take used input) (es ++ events_of puts)
+  pub lie : AllInInput puts
+
+pub filled_none : (l : Rules) (d : StreamState) (s input : List ℕ) (es : List (ℕ × Event)) → After d s es → IsFilled l d s input es 0 []
+filled_none l d s input es a = record { puts = []; count = refl; put = tt; told = tt; ends = refl; after = rw (append-nil s, append-nil es) a; lie = tt }
+
+module _ (l : Rules) (old new : StreamState) (s input : List ℕ) (es : List (ℕ × Event)) (used : ℕ) (cs : List CqlpEvent) (f : IsFilled l old s input es used cs) where
+  all : (s ++ take used input) ++ drop used input ≡ s ++ input
+  all = append_assoc s (take used input) (drop used input) ∙ ap (λ (z : List ℕ). s ++ z) (take-append-drop used input)
+
+  -- the event of a step
+  module _ (at taken : ℕ) (e : handed.Event) (rules : new.rules ≡ l) (within : used ≤ length input)
+      (leads : Leads old (s ++ take used input) (es ++ events_of f.puts) (drop used input) (steps.Event at taken e) new)
+      (c : CqlpEvent) (tells : Tells c at (event_of e)) where
+    abbrev pub next_put : Put
+    next_put = record { at = at; event = event_of e; from = used; end = used + taken }
+
+    there : After new (s ++ take (used + taken) input) ((es ++ events_of f.puts) ++ (at, event_of e) ∷ [])
+    there = rw (take_two used taken input, ← (append_assoc s (take used input) (take taken (drop used input)))) leads.3
+
+    put_more : Puts l s input es 0 (f.puts ++ next_put ∷ [])
+    put_more =
+        puts_snoc l s input es 0 f.puts next_put f.put f.ends (omega (arith, leads.0, within, length-drop used input))
+        (is_read l new (s ++ take (used + taken) input) ((es ++ events_of f.puts) ++ (at, event_of e) ∷ []) rules leads.1 leads.2 there)
+
+    after_more : After new (s ++ take (used + taken) input) (es ++ events_of (f.puts ++ next_put ∷ []))
+    after_more = rw (events_snoc f.puts next_put, ← (append_assoc es (events_of f.puts) ((at, event_of e) ∷ []))) there
+
+    pub filled_more : (ds : List CqlpEvent) → ds ≡ cs ++ c ∷ [] → IsInInput next_put → IsFilled l new s input es (used + taken) ds
+    filled_more ds is lies = record {
+      puts = f.puts ++ next_put ∷ [];
+      count = omega (arith, length_snoc f.puts next_put, f.count, ap length is, length-append cs (c ∷ []));
+      put = put_more;
+      told = rw is (tells_snoc cs f.puts c next_put f.told tells);
+      ends = sym (end_snoc 0 f.puts next_put);
+      after = after_more;
+      lie = all_snoc f.puts next_put f.lie lies;
+    }
+
+    pub fills_gathered : (free : StreamState) (room : ℕ) (b : Batch) (events : List CqlpEvent) → free.rules ≡ l → b ≡ record { used = used + taken; events = length cs + 1; stop = stop.Full } → take (length cs + 1) events ≡ cs ++ c ∷ [] → IsGathered next_put
+        → Fills free new s input es room b events
+    fills_gathered free room b events same is put gathered = record {
+      puts = f.puts ++ next_put ∷ [];
+      count = rw is (omega (arith, length_snoc f.puts next_put, f.count));
+      put = rw same put_more;
+      told = rw (is, put) (tells_snoc cs f.puts c next_put f.told tells);
+      after = rw is after_more;
+      stops = rw is (sym (end_snoc 0 f.puts next_put), others_snoc f.puts next_put f.lie, inr (last_snoc f.puts next_put gathered));
+    }
+
+  -- the end of a batch
+  module _ (free : StreamState) (same : free.rules ≡ l) (room : ℕ) (b : Batch) (events : List CqlpEvent) (put : take b.events events ≡ cs) (count : b.events ≡ length cs) where
+    pub fills_full : b.used ≡ used → b.stop ≡ stop.Full → old ≡ new → length cs ≡ room → Fills free new s input es room b events
+    fills_full at is still full = record {
+      puts = f.puts;
+      count = f.count ∙ sym count;
+      put = rw same f.put;
+      told = rw put f.told;
+      after = rw (at, ← still) f.after;
+      stops = rw (at, is) (f.ends, others_of_all f.puts f.lie, inl (f.count ∙ full));
+    }
+
+    pub fills_all : (taken : ℕ) → b.used ≡ used + taken → used ≤ length input → b.stop ≡ stop.More → length cs < room → Leads old (s ++ take used input) (es ++ events_of f.puts) (drop used input) (steps.More taken) new → Fills free new s input es room b events
+    fills_all taken at within is room' leads =
+        let h = rw all at leads in
+        let whole : b.used ≡ length input = omega (arith, at, h.0, length-drop used input, within) in
+        record {
+          puts = f.puts;
+          count = f.count ∙ sym count;
+          put = rw same f.put;
+          told = rw put f.told;
+          after = rw (whole, take_all (length input) input (omega arith)) h.2;
+          stops = rw is (whole, omega (arith, f.count, room'), f.lie, h.1, h.3);
+        }
+
+    -- what is refused, over the whole stream
+    refuses_free : (o : Option Refusal) → old.rules ≡ free.rules → (o ≡ None → old.refusal ≡ None) → ((z : Refusal) → o ≡ Some z → old.refusal ≡ Some z) → (r : Refusal) → Refuses old.refusal [] old (s ++ take used input) (es ++ events_of f.puts) (drop used input) r
+        → Refuses o [] free s (es ++ events_of f.puts) input r
+    refuses_free None rules clear still r h = rw (all, rules) at (refuses_new old.refusal [] old (s ++ take used input) (es ++ events_of f.puts) (drop used input) r (clear refl) h)
+    refuses_free (Some before) rules clear still r h = subst (λ (o : Option Refusal). Refuses o [] old (s ++ take used input) (es ++ events_of f.puts) (drop used input) r) (still before refl) h
+
+    pub fills_refused : (r : Refusal) → b.used ≡ used → b.stop ≡ stop.Refused r → length cs < room → old.rules ≡ free.rules → (free.refusal ≡ None → old.refusal ≡ None) → ((z : Refusal) → free.refusal ≡ Some z → old.refusal ≡ Some z)
+        → Leads old (s ++ take used input) (es ++ events_of f.puts) (drop used input) (steps.Refused r) new → Fills free new s input es room b events
+    fills_refused r at is room' rules clear still leads = record {
+      puts = f.puts;
+      count = f.count ∙ sym count;
+      put = rw same f.put;
+      told = rw put f.told;
+      after = rw at leads.1;
+      stops = rw (at, is) (f.ends, omega (arith, f.count, room'), f.lie, leads.0, refuses_free free.refusal rules clear still r leads.2);
+    }

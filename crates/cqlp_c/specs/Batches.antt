@@ -1,0 +1,119 @@
+-- Batches of events, as calls put them into an array.
+use Rattle.std.specs.Prelude.{◌≡◌, ℕ, ◌+◌, ◌*◌, ◌<◌, ◌≤◌, ◌++◌, List, [], ◌∷◌, length, take, Some, None, ◌⊎◌, ⊤}
+use Rattle.cqlp_note.specs.declared.refusal.Refusal.{Refusal}
+use Rattle.cqlp_note.specs.Limits.{Rules}
+use Rattle.cqlp_decode.specs.Reading.{Event, Place, start, Reads, Says, Waits}
+use Rattle.cqlp_decode.specs.Standing.{StreamState, ends_due}
+use Rattle.cqlp_decode.specs.Streams.{After, Refuses}
+use Rattle.cqlp_c.specs.declared.event.CqlpEvent.{CqlpEvent}
+use Rattle.cqlp_c.specs.declared.batch.Batch.{Batch}
+use Rattle.cqlp_c.specs.declared.batch.Stop.{Stop}
+use Rattle.cqlp_c.specs.declared.batch.Stop.TheVariants as stop
+use Rattle.cqlp_c.specs.Events.{Tells, content_span}
+
+-- An event that was put, at this offset of the stream. Its step used the bytes of the input from `from` to `end`.
+pub record Put : Type 0 where
+  pub at : ℕ
+  pub event : Event
+  pub from : ℕ
+  pub end : ℕ
+
+abbrev pub events_of : List Put → List (ℕ × Event)
+events_of [] = []
+events_of (p ∷ ps) = (p.at, p.event) ∷ events_of ps
+
+-- how much of the input was used when all of them were put
+abbrev pub end_of : (from : ℕ) → List Put → ℕ
+end_of from [] = from
+end_of from (p ∷ ps) = end_of p.end ps
+
+-- the reading of these bytes says these events, and nothing of what comes next
+abbrev pub IsRead : Rules → List ℕ → List (ℕ × Event) → Type 0
+IsRead l s es = (q : Place) × Reads l start s es q []
+
+-- After the bytes s and the events es, these events were put out of the input, one after the other, from here on: each is
+-- the next that the reading says, of the bytes used up to its end.
+abbrev pub Puts : Rules → (s input : List ℕ) → (es : List (ℕ × Event)) → (from : ℕ) → List Put → Type 0
+Puts l s input es from [] = ⊤
+Puts l s input es from (p ∷ ps) =
+    (p.from ≡ from) × (p.end ≤ length input) × IsRead l (s ++ take p.end input) (es ++ (p.at, p.event) ∷ [])
+    × Puts l s input (es ++ (p.at, p.event) ∷ []) p.end ps
+
+-- these are the events, as C sees them, one for one
+abbrev pub TellsAll : List CqlpEvent → List Put → Type 0
+TellsAll [] [] = ⊤
+TellsAll (c ∷ cs) (p ∷ ps) = Tells c p.at p.event × TellsAll cs ps
+TellsAll cs ps = ⊥
+
+-- ---- where contents lie
+
+-- the content lies whole in the bytes that its step used, so that it is not held by the decoder
+abbrev pub IsInInput : Put → Type 0
+IsInInput p = p.from + content_span p.event ≤ p.end
+
+-- part of the content came before, so that it was gathered in the decoder
+abbrev pub IsGathered : Put → Type 0
+IsGathered p = p.end < p.from + content_span p.event
+
+abbrev pub AllInInput : List Put → Type 0
+AllInInput [] = ⊤
+AllInInput (p ∷ ps) = IsInInput p × AllInInput ps
+
+-- the same but for the last
+abbrev pub OthersInInput : List Put → Type 0
+OthersInInput [] = ⊤
+OthersInInput (p ∷ []) = ⊤
+OthersInInput (p ∷ q ∷ ps) = IsInInput p × OthersInInput (q ∷ ps)
+
+abbrev pub LastIsGathered : List Put → Type 0
+LastIsGathered [] = ⊥
+LastIsGathered (p ∷ []) = IsGathered p
+LastIsGathered (p ∷ q ∷ ps) = LastIsGathered (q ∷ ps)
+
+-- ---- how a batch ends
+
+-- More is wanted, with all of the input used; or what comes next is refused, or was before; or the array is full, or the
+-- last content lies in the decoder, which the next step may overwrite.
+abbrev pub StopsBy : (old new : StreamState) → (s input : List ℕ) → (es : List (ℕ × Event)) → (room used : ℕ)
+    → List Put → Stop → Type 0
+StopsBy old new s input es room used puts stop.More =
+    (used ≡ length input) × (length puts < room) × AllInInput puts
+    × (new.refusal ≡ None) × Says new.rules start (s ++ input) (es ++ events_of puts) Waits
+StopsBy old new s input es room used puts (stop.Refused r) =
+    (used ≡ end_of 0 puts) × (length puts < room) × AllInInput puts
+    × (new.refusal ≡ Some r) × Refuses old.refusal [] old s (es ++ events_of puts) input r
+StopsBy old new s input es room used puts stop.Full =
+    (used ≡ end_of 0 puts) × OthersInInput puts × ((length puts ≡ room) ⊎ LastIsGathered puts)
+
+-- What a batch is, after the bytes s and the events es: of the input, so many bytes were used, and the events that the
+-- reading says of them are in the array. No content but the last lies in the decoder.
+pub record Fills (old new : StreamState) (s input : List ℕ) (es : List (ℕ × Event)) (room : ℕ) (b : Batch)
+    (events : List CqlpEvent) : Type 0 where
+  pub puts : List Put
+  pub count : length puts ≡ b.events
+  pub put : Puts old.rules s input es 0 puts
+  pub told : TellsAll (take b.events events) puts
+  pub after : After new (s ++ take b.used input) (es ++ events_of puts)
+  pub stops : StopsBy old new s input es room b.used puts b.stop
+
+-- the same of any stream that led here
+abbrev pub FillsOn : (old new : StreamState) → (input : List ℕ) → (room : ℕ) → Batch → List CqlpEvent → Type 0
+FillsOn old new input room b events =
+    (s : List ℕ) (es : List (ℕ × Event)) → After old s es → Fills old new s input es room b events
+
+-- after a refusal a batch says it again, and changes nothing
+abbrev pub RepeatsRefusal : Refusal → (old new : StreamState) → Batch → Type 0
+RepeatsRefusal r old new b = (b ≡ record { used = 0; events = 0; stop = stop.Refused r }) × (new ≡ old)
+
+-- ---- progress
+
+-- the events that may come of a state before a byte does: the ends of its frame and of the values that are open
+abbrev pub due : StreamState → ℕ
+due d = ends_due d.place.symbols + d.open_values
+
+-- A batch that ends for want of room has put some event, if there was room for one; and each event takes some byte, or is
+-- one that was due. So no loop over batches goes on for ever.
+abbrev pub GoesOn : (old new : StreamState) → (room : ℕ) → Batch → Type 0
+GoesOn old new room b =
+    b.stop ≡ stop.Full
+    → (new.refusal ≡ old.refusal) × (0 < room → 0 < b.events) × (due new + b.events ≤ due old + 2 * b.used)

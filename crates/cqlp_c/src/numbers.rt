@@ -1,0 +1,442 @@
+//! The numbers by which C is told of codes, tags, marks, fields, kinds and reasons. They never change; new ones are added
+//! at the end of their group. `include/cqlp.h` has the same, with `CQLP_` before each name.
+
+ghost use Rattle.std.specs.Prelude.{◌≡◌};
+ghost use Rattle.cqlp_c.specs.Numbers as numbers;
+
+use cqlp_kind::Kind;
+use cqlp_note::{BadLimits, Field, Reason};
+
+// ---- codes: what a call answers
+
+pub const DONE: u32 = 0;
+
+pub const BAD_TEXT: u32 = 1;
+
+pub const BAD_CELL: u32 = 2;
+
+pub const BAD_ENTRIES: u32 = 3;
+
+pub const BAD_DEPTH: u32 = 4;
+
+pub const NO_MEMORY: u32 = 5;
+
+pub const NO_DECODER: u32 = 6;
+
+pub const IN_USE: u32 = 7;
+
+// ---- why a batch of events ends
+
+pub const STOP_MORE: u8 = 0;
+
+pub const STOP_FULL: u8 = 1;
+
+pub const STOP_REFUSED: u8 = 2;
+
+// ---- how a stream ends
+
+pub const END_WHOLE: u8 = 0;
+
+pub const END_CUT: u8 = 1;
+
+pub const END_REFUSED: u8 = 2;
+
+// ---- tags: what an event is
+
+pub const TAG_FRAME: u8 = 1;
+
+pub const TAG_BYTE: u8 = 2;
+
+pub const TAG_SHORT: u8 = 3;
+
+pub const TAG_INT: u8 = 4;
+
+pub const TAG_LONG: u8 = 5;
+
+pub const TAG_UUID: u8 = 6;
+
+pub const TAG_COUNT: u8 = 7;
+
+pub const TAG_TEXT: u8 = 8;
+
+pub const TAG_BYTES: u8 = 9;
+
+pub const TAG_BOUND: u8 = 10;
+
+pub const TAG_INET: u8 = 11;
+
+pub const TAG_TYPE_NODE: u8 = 12;
+
+pub const TAG_LEAF: u8 = 13;
+
+pub const TAG_NULL: u8 = 14;
+
+pub const TAG_EMPTY: u8 = 15;
+
+pub const TAG_ENTER: u8 = 16;
+
+pub const TAG_LEAVE: u8 = 17;
+
+pub const TAG_PART: u8 = 18;
+
+pub const TAG_END: u8 = 19;
+
+// ---- marks: what a tag leaves open
+
+pub const MARK_NONE: u8 = 0;
+
+pub const MARK_RESPONSE: u8 = 1;
+
+pub const MARK_NULL: u8 = 2;
+
+pub const MARK_UNSET: u8 = 3;
+
+pub const MARK_LAST: u8 = 4;
+
+// ---- fields, in the order of `Field`; 0 is no field
+
+pub const FIELD_TRACE_ID: u8 = 1;
+
+pub const FIELD_WARNINGS: u8 = 2;
+
+pub const FIELD_WARNING: u8 = 3;
+
+pub const FIELD_PAYLOAD_ITEMS: u8 = 4;
+
+pub const FIELD_PAYLOAD_KEY: u8 = 5;
+
+pub const FIELD_PAYLOAD_VALUE: u8 = 6;
+
+pub const FIELD_OPTIONS: u8 = 7;
+
+pub const FIELD_OPTION_KEY: u8 = 8;
+
+pub const FIELD_OPTION_VALUE: u8 = 9;
+
+pub const FIELD_OPTION_VALUES: u8 = 10;
+
+pub const FIELD_QUERY: u8 = 11;
+
+pub const FIELD_STATEMENT_ID: u8 = 12;
+
+pub const FIELD_EVENT_TYPES: u8 = 13;
+
+pub const FIELD_EVENT_TYPE: u8 = 14;
+
+pub const FIELD_TOKEN: u8 = 15;
+
+pub const FIELD_BATCH_TYPE: u8 = 16;
+
+pub const FIELD_ENTRIES: u8 = 17;
+
+pub const FIELD_ENTRY_KIND: u8 = 18;
+
+pub const FIELD_CONSISTENCY: u8 = 19;
+
+pub const FIELD_BATCH_FLAGS: u8 = 20;
+
+pub const FIELD_SERIAL_CONSISTENCY: u8 = 21;
+
+pub const FIELD_TIMESTAMP: u8 = 22;
+
+pub const FIELD_QUERY_FLAGS: u8 = 23;
+
+pub const FIELD_VALUES: u8 = 24;
+
+pub const FIELD_VALUE_NAME: u8 = 25;
+
+pub const FIELD_VALUE: u8 = 26;
+
+pub const FIELD_PAGE_SIZE: u8 = 27;
+
+pub const FIELD_PAGING_STATE: u8 = 28;
+
+pub const FIELD_CLASS: u8 = 29;
+
+pub const FIELD_ERROR_CODE: u8 = 30;
+
+pub const FIELD_MESSAGE: u8 = 31;
+
+pub const FIELD_REQUIRED: u8 = 32;
+
+pub const FIELD_ALIVE: u8 = 33;
+
+pub const FIELD_RECEIVED: u8 = 34;
+
+pub const FIELD_BLOCK_FOR: u8 = 35;
+
+pub const FIELD_WRITE_TYPE: u8 = 36;
+
+pub const FIELD_DATA_PRESENT: u8 = 37;
+
+pub const FIELD_FAILURES: u8 = 38;
+
+pub const FIELD_KEYSPACE: u8 = 39;
+
+pub const FIELD_NAME: u8 = 40;
+
+pub const FIELD_ARGUMENTS: u8 = 41;
+
+pub const FIELD_ARGUMENT: u8 = 42;
+
+pub const FIELD_TABLE: u8 = 43;
+
+pub const FIELD_RESULT_KIND: u8 = 44;
+
+pub const FIELD_ROWS: u8 = 45;
+
+pub const FIELD_META_FLAGS: u8 = 46;
+
+pub const FIELD_COLUMNS: u8 = 47;
+
+pub const FIELD_KEYS: u8 = 48;
+
+pub const FIELD_KEY_INDEX: u8 = 49;
+
+pub const FIELD_COLUMN_NAME: u8 = 50;
+
+pub const FIELD_CHANGE: u8 = 51;
+
+pub const FIELD_TARGET: u8 = 52;
+
+pub const FIELD_ADDRESS: u8 = 53;
+
+pub const FIELD_TYPE_NAME: u8 = 54;
+
+pub const FIELD_FIELDS: u8 = 55;
+
+pub const FIELD_FIELD_NAME: u8 = 56;
+
+// ---- kinds of types, by the ids of their type options (section 4.2.5.2 of `native_protocol_v4.spec`)
+
+pub const KIND_CUSTOM: u8 = 0x00;
+
+pub const KIND_ASCII: u8 = 0x01;
+
+pub const KIND_BIGINT: u8 = 0x02;
+
+pub const KIND_BLOB: u8 = 0x03;
+
+pub const KIND_BOOLEAN: u8 = 0x04;
+
+pub const KIND_COUNTER: u8 = 0x05;
+
+pub const KIND_DECIMAL: u8 = 0x06;
+
+pub const KIND_DOUBLE: u8 = 0x07;
+
+pub const KIND_FLOAT: u8 = 0x08;
+
+pub const KIND_INT: u8 = 0x09;
+
+pub const KIND_TIMESTAMP: u8 = 0x0B;
+
+pub const KIND_UUID: u8 = 0x0C;
+
+pub const KIND_VARCHAR: u8 = 0x0D;
+
+pub const KIND_VARINT: u8 = 0x0E;
+
+pub const KIND_TIMEUUID: u8 = 0x0F;
+
+pub const KIND_INET: u8 = 0x10;
+
+pub const KIND_DATE: u8 = 0x11;
+
+pub const KIND_TIME: u8 = 0x12;
+
+pub const KIND_SMALLINT: u8 = 0x13;
+
+pub const KIND_TINYINT: u8 = 0x14;
+
+pub const KIND_LIST: u8 = 0x20;
+
+pub const KIND_MAP: u8 = 0x21;
+
+pub const KIND_SET: u8 = 0x22;
+
+pub const KIND_UDT: u8 = 0x30;
+
+pub const KIND_TUPLE: u8 = 0x31;
+
+pub const KIND_RAW: u8 = 0xFF;
+
+// ---- reasons of a refusal, in the order of `Reason`; 0 is no reason
+
+pub const REASON_BAD_VERSION: u8 = 1;
+
+pub const REASON_COMPRESSED: u8 = 2;
+
+pub const REASON_BAD_OPCODE: u8 = 3;
+
+pub const REASON_BAD_DIRECTION: u8 = 4;
+
+pub const REASON_BAD_LENGTH: u8 = 5;
+
+pub const REASON_OVERRUN: u8 = 6;
+
+pub const REASON_TOO_LONG: u8 = 7;
+
+pub const REASON_BAD_UTF8: u8 = 8;
+
+pub const REASON_BAD_VALUE_LENGTH: u8 = 9;
+
+pub const REASON_BAD_INET: u8 = 10;
+
+pub const REASON_BAD_COUNT: u8 = 11;
+
+pub const REASON_BAD_TYPE: u8 = 12;
+
+pub const REASON_TOO_DEEP: u8 = 13;
+
+pub const REASON_TOO_MANY: u8 = 14;
+
+pub const REASON_BAD_BATCH_KIND: u8 = 15;
+
+pub const REASON_BAD_BATCH_FLAGS: u8 = 16;
+
+pub const REASON_BAD_SIZE: u8 = 17;
+
+pub const REASON_BAD_SCALAR: u8 = 18;
+
+pub const REASON_EXTRA_IN_VALUE: u8 = 19;
+
+pub const REASON_STREAM_TOO_LONG: u8 = 20;
+
+/// The code for a limit that is out of its range.
+pub fn limit_code(limit: BadLimits) -> u32
+    ensures { result ≡ numbers.code_of_limit limit }
+{
+    match limit {
+        BadLimits::Text => BAD_TEXT,
+        BadLimits::Cell => BAD_CELL,
+        BadLimits::Entries => BAD_ENTRIES,
+        BadLimits::Depth => BAD_DEPTH,
+    }
+}
+
+/// The number of a field.
+pub fn field_number(field: Field) -> u8
+    ensures { result ≡ numbers.number_of_field field }
+{
+    match field {
+        Field::TraceId => FIELD_TRACE_ID,
+        Field::Warnings => FIELD_WARNINGS,
+        Field::Warning => FIELD_WARNING,
+        Field::PayloadItems => FIELD_PAYLOAD_ITEMS,
+        Field::PayloadKey => FIELD_PAYLOAD_KEY,
+        Field::PayloadValue => FIELD_PAYLOAD_VALUE,
+        Field::Options => FIELD_OPTIONS,
+        Field::OptionKey => FIELD_OPTION_KEY,
+        Field::OptionValue => FIELD_OPTION_VALUE,
+        Field::OptionValues => FIELD_OPTION_VALUES,
+        Field::Query => FIELD_QUERY,
+        Field::StatementId => FIELD_STATEMENT_ID,
+        Field::EventTypes => FIELD_EVENT_TYPES,
+        Field::EventType => FIELD_EVENT_TYPE,
+        Field::Token => FIELD_TOKEN,
+        Field::BatchType => FIELD_BATCH_TYPE,
+        Field::Entries => FIELD_ENTRIES,
+        Field::EntryKind => FIELD_ENTRY_KIND,
+        Field::Consistency => FIELD_CONSISTENCY,
+        Field::BatchFlags => FIELD_BATCH_FLAGS,
+        Field::SerialConsistency => FIELD_SERIAL_CONSISTENCY,
+        Field::Timestamp => FIELD_TIMESTAMP,
+        Field::QueryFlags => FIELD_QUERY_FLAGS,
+        Field::Values => FIELD_VALUES,
+        Field::ValueName => FIELD_VALUE_NAME,
+        Field::Value => FIELD_VALUE,
+        Field::PageSize => FIELD_PAGE_SIZE,
+        Field::PagingState => FIELD_PAGING_STATE,
+        Field::Class => FIELD_CLASS,
+        Field::ErrorCode => FIELD_ERROR_CODE,
+        Field::Message => FIELD_MESSAGE,
+        Field::Required => FIELD_REQUIRED,
+        Field::Alive => FIELD_ALIVE,
+        Field::Received => FIELD_RECEIVED,
+        Field::BlockFor => FIELD_BLOCK_FOR,
+        Field::WriteType => FIELD_WRITE_TYPE,
+        Field::DataPresent => FIELD_DATA_PRESENT,
+        Field::Failures => FIELD_FAILURES,
+        Field::Keyspace => FIELD_KEYSPACE,
+        Field::Name => FIELD_NAME,
+        Field::Arguments => FIELD_ARGUMENTS,
+        Field::Argument => FIELD_ARGUMENT,
+        Field::Table => FIELD_TABLE,
+        Field::ResultKind => FIELD_RESULT_KIND,
+        Field::Rows => FIELD_ROWS,
+        Field::MetaFlags => FIELD_META_FLAGS,
+        Field::Columns => FIELD_COLUMNS,
+        Field::Keys => FIELD_KEYS,
+        Field::KeyIndex => FIELD_KEY_INDEX,
+        Field::ColumnName => FIELD_COLUMN_NAME,
+        Field::Change => FIELD_CHANGE,
+        Field::Target => FIELD_TARGET,
+        Field::Address => FIELD_ADDRESS,
+        Field::TypeName => FIELD_TYPE_NAME,
+        Field::Fields => FIELD_FIELDS,
+        Field::FieldName => FIELD_FIELD_NAME,
+    }
+}
+
+/// The number of a kind of types.
+pub fn kind_number(kind: Kind) -> u8
+    ensures { result ≡ numbers.number_of_kind kind }
+{
+    match kind {
+        Kind::Custom => KIND_CUSTOM,
+        Kind::Ascii => KIND_ASCII,
+        Kind::Bigint => KIND_BIGINT,
+        Kind::Blob => KIND_BLOB,
+        Kind::Boolean => KIND_BOOLEAN,
+        Kind::Counter => KIND_COUNTER,
+        Kind::Decimal => KIND_DECIMAL,
+        Kind::Double => KIND_DOUBLE,
+        Kind::Float => KIND_FLOAT,
+        Kind::Int => KIND_INT,
+        Kind::Timestamp => KIND_TIMESTAMP,
+        Kind::Uuid => KIND_UUID,
+        Kind::Varchar => KIND_VARCHAR,
+        Kind::Varint => KIND_VARINT,
+        Kind::Timeuuid => KIND_TIMEUUID,
+        Kind::Inet => KIND_INET,
+        Kind::Date => KIND_DATE,
+        Kind::Time => KIND_TIME,
+        Kind::Smallint => KIND_SMALLINT,
+        Kind::Tinyint => KIND_TINYINT,
+        Kind::List => KIND_LIST,
+        Kind::Map => KIND_MAP,
+        Kind::Set => KIND_SET,
+        Kind::Udt => KIND_UDT,
+        Kind::Tuple => KIND_TUPLE,
+        Kind::Raw => KIND_RAW,
+    }
+}
+
+/// The number of a reason.
+pub fn reason_number(why: Reason) -> u8
+    ensures { result ≡ numbers.number_of_reason why }
+{
+    match why {
+        Reason::BadVersion => REASON_BAD_VERSION,
+        Reason::Compressed => REASON_COMPRESSED,
+        Reason::BadOpcode => REASON_BAD_OPCODE,
+        Reason::BadDirection => REASON_BAD_DIRECTION,
+        Reason::BadLength => REASON_BAD_LENGTH,
+        Reason::Overrun => REASON_OVERRUN,
+        Reason::TooLong => REASON_TOO_LONG,
+        Reason::BadUtf8 => REASON_BAD_UTF8,
+        Reason::BadValueLength => REASON_BAD_VALUE_LENGTH,
+        Reason::BadInet => REASON_BAD_INET,
+        Reason::BadCount => REASON_BAD_COUNT,
+        Reason::BadType => REASON_BAD_TYPE,
+        Reason::TooDeep => REASON_TOO_DEEP,
+        Reason::TooMany => REASON_TOO_MANY,
+        Reason::BadBatchKind => REASON_BAD_BATCH_KIND,
+        Reason::BadBatchFlags => REASON_BAD_BATCH_FLAGS,
+        Reason::BadSize => REASON_BAD_SIZE,
+        Reason::BadScalar => REASON_BAD_SCALAR,
+        Reason::ExtraInValue => REASON_EXTRA_IN_VALUE,
+        Reason::StreamTooLong => REASON_STREAM_TOO_LONG,
+    }
+}

@@ -1,0 +1,320 @@
+/* cqlp: the CQL binary protocol, version 4 (native_protocol_v4.spec of Apache Cassandra), read as events.
+ *
+ * A decoder takes the bytes of a connection, or of a file of frames, in pieces of any size, and puts events into an array:
+ * the header of a frame, each field of a message in its notation, each type option, each scalar of a cell, and the end of
+ * the frame. It holds no more memory than its limits say, whatever lengths and counts come. The library is written in
+ * Rattle and proved: the events in the array are those that the bytes used say, in order, and no input makes it read or write
+ * outside what it was given, loop for ever or end the process. What is proved ends at this interface: what the caller
+ * owes, below, nothing checks.
+ *
+ *     cqlp_limits limits = CQLP_DEFAULT_LIMITS;
+ *     cqlp_decoder decoder = CQLP_NO_DECODER_YET;
+ *     static cqlp_event events[64];
+ *     cqlp_batch batch = {0};
+ *     cqlp_end end = {0};
+ *     if (cqlp_new(&limits, &decoder) != CQLP_DONE) return;
+ *     while ((length = read(fd, input, sizeof input)) > 0) {
+ *       size_t used = 0;
+ *       do {
+ *         cqlp_next(&decoder, input + used, length - used, events, 64, &batch);
+ *         used += batch.used;
+ *         for (size_t i = 0; i < batch.events; i++) take(&events[i]);
+ *       } while (batch.stop == CQLP_STOP_FULL);
+ *       if (batch.stop == CQLP_STOP_REFUSED) break;
+ *     }
+ *     cqlp_finish(&decoder, &end);
+ *     cqlp_free(&decoder);
+ *
+ * What the caller owes:
+ *
+ * - No pointer is null, also where the length or the room beside it is 0. Each points to as much as its type and the number
+ *   after it say, aligned for its type, and no two that are given to one call overlap.
+ * - A handle is CQLP_NO_DECODER_YET before cqlp_new. Nothing but these calls writes or copies it from then on until
+ *   cqlp_free, and it is not given to another call of this library while one runs on it.
+ * - The array of events and the other structs that calls write are memory that may be written; what was in them does not
+ *   matter, but it must have been set once (zeros will do).
+ * - The program has malloc, realloc and free of one allocator, that align as C says. Calls are not made from a signal
+ *   handler, nor in the child of a fork of a process with threads.
+ *
+ * How long a content lives: `content` of an event points into the input of the call that put it, or into the decoder. It
+ * stays as it is until the next call on the handle, and as long as the caller leaves the input as it is. Copy what is to
+ * live longer. The batch ends after an event whose content is in the decoder, so all contents of one batch can be read
+ * together.
+ *
+ * Threads: a decoder has no thread of its own and takes no lock. Keep a handle on the thread that made it. Different handles
+ * share nothing, and may be used at the same time.
+ *
+ * The numbers below never change; new ones come at the end of their group, so take a number that you do not know as one to
+ * pass over. Sections are those of native_protocol_v4.spec.
+ */
+#ifndef CQLP_H
+#define CQLP_H
+
+#include <stddef.h>
+#include <stdint.h>
+
+#ifdef __cplusplus
+extern "C" {
+#endif
+
+/* Codes: what a call answers. */
+#define CQLP_DONE 0                  /* the call did what it says */
+#define CQLP_BAD_TEXT 1              /* `text` is not from 32 to 16777216 */
+#define CQLP_BAD_CELL 2              /* `cell` is not from 32 to 16777216 */
+#define CQLP_BAD_ENTRIES 3           /* `entries` is not from 1 to 65536 */
+#define CQLP_BAD_DEPTH 4             /* `depth` is not from 1 to 64 */
+#define CQLP_NO_MEMORY 5             /* malloc gave none */
+#define CQLP_NO_DECODER 6            /* the handle has no decoder */
+#define CQLP_IN_USE 7                /* the handle has a decoder already */
+
+/* Why a batch of events ends. */
+#define CQLP_STOP_MORE 0             /* all of the input was used, and more is wanted */
+#define CQLP_STOP_FULL 1             /* call again with the rest of the input; `events` is over 0 where `room` is */
+#define CQLP_STOP_REFUSED 2          /* the stream is refused, here and at every later call */
+
+/* How a stream ends. */
+#define CQLP_END_WHOLE 0             /* at a frame's end; bytes: how many were used */
+#define CQLP_END_CUT 1               /* within the frame that begins at `at`; bytes: how many were used */
+#define CQLP_END_REFUSED 2           /* at the offset `at`, for `reason` */
+
+/* Tags: what an event is, and which members of `cqlp_event` it uses beside `at`. The others are 0. */
+#define CQLP_TAG_FRAME 1             /* number: the bytes of the body; extra: the stream id; opcode, flags; mark RESPONSE or NONE */
+#define CQLP_TAG_BYTE 2              /* field; number */
+#define CQLP_TAG_SHORT 3             /* field; number */
+#define CQLP_TAG_INT 4               /* field; number */
+#define CQLP_TAG_LONG 5              /* field; number */
+#define CQLP_TAG_UUID 6              /* field; bytes */
+#define CQLP_TAG_COUNT 7             /* field; number: how many items follow */
+#define CQLP_TAG_TEXT 8              /* field; content in UTF-8 */
+#define CQLP_TAG_BYTES 9             /* field; content, or mark NULL */
+#define CQLP_TAG_BOUND 10            /* field; content, or mark NULL or UNSET */
+#define CQLP_TAG_INET 11             /* field; bytes: the address, 4 or 16 octets; extra: the port */
+#define CQLP_TAG_TYPE_NODE 12        /* kind of a type option; its parameters follow */
+#define CQLP_TAG_LEAF 13             /* a scalar: row, column, level, kind, and what the kind says below */
+#define CQLP_TAG_NULL 14             /* a value of a negative length: row, column, level */
+#define CQLP_TAG_EMPTY 15            /* a value of no bytes: row, column, level */
+#define CQLP_TAG_ENTER 16            /* a value with items begins: row, column, level, kind; number: how many */
+#define CQLP_TAG_LEAVE 17            /* such a value ends: level; number: how many items it had */
+#define CQLP_TAG_PART 18             /* a part of a long scalar: row, column, level; number: its offset; content; mark LAST or NONE */
+#define CQLP_TAG_END 19              /* the frame ends; number: bytes after its last field */
+
+/* Marks: what the tag leaves open. */
+#define CQLP_MARK_NONE 0
+#define CQLP_MARK_RESPONSE 1         /* the frame is a response */
+#define CQLP_MARK_NULL 2             /* null, not bytes */
+#define CQLP_MARK_UNSET 3            /* not set, not bytes */
+#define CQLP_MARK_LAST 4             /* the last part */
+
+/* Fields of messages. */
+#define CQLP_FIELD_TRACE_ID 1        /* The id of the tracing session, a [uuid], where the header has the flag 02. Section 2.2. */
+#define CQLP_FIELD_WARNINGS 2        /* How many warnings come, a [short], where the header has the flag 08. Section 2.2. */
+#define CQLP_FIELD_WARNING 3         /* One of them, a [string]. */
+#define CQLP_FIELD_PAYLOAD_ITEMS 4   /* How many items the custom payload has, a [short], where the header has the flag 04. Section 2.2. */
+#define CQLP_FIELD_PAYLOAD_KEY 5     /* The key of an item, a [string]. */
+#define CQLP_FIELD_PAYLOAD_VALUE 6   /* The value of an item, [bytes]. */
+#define CQLP_FIELD_OPTIONS 7         /* How many options come, a [short]: of STARTUP, section 4.1.1, or of SUPPORTED, section 4.2.4. */
+#define CQLP_FIELD_OPTION_KEY 8      /* The name of an option, a [string]. */
+#define CQLP_FIELD_OPTION_VALUE 9    /* The value of an option, or one of its values, a [string]. */
+#define CQLP_FIELD_OPTION_VALUES 10  /* How many values an option of SUPPORTED has, a [short]. */
+#define CQLP_FIELD_QUERY 11          /* The text of a query, a [long string]. Sections 4.1.4, 4.1.5 and 4.1.7. */
+#define CQLP_FIELD_STATEMENT_ID 12   /* The id of a prepared statement, [short bytes]. Sections 4.1.6, 4.1.7, 4.2.5.4 and 9. */
+#define CQLP_FIELD_EVENT_TYPES 13    /* How many types of events are asked for, a [short]. Section 4.1.8. */
+#define CQLP_FIELD_EVENT_TYPE 14     /* A type of events, a [string]: one that is asked for, or that of an EVENT. Sections 4.1.8 and 4.2.6. */
+#define CQLP_FIELD_TOKEN 15          /* What either side says to authenticate, [bytes]. Sections 4.1.2, 4.2.7 and 4.2.8. */
+#define CQLP_FIELD_BATCH_TYPE 16     /* The kind of a batch, a [byte]: 0 logged, 1 unlogged, 2 of counters. Section 4.1.7. */
+#define CQLP_FIELD_ENTRIES 17        /* How many statements a batch has, a [short]. */
+#define CQLP_FIELD_ENTRY_KIND 18     /* Whether a statement of a batch comes as a text, 0, or by the id of a prepared one, 1: a [byte]. */
+#define CQLP_FIELD_CONSISTENCY 19    /* A level of consistency, a [short]. Section 3. */
+#define CQLP_FIELD_BATCH_FLAGS 20    /* What a batch has after its consistency, a [byte]: 10 a serial consistency, 20 a timestamp. */
+#define CQLP_FIELD_SERIAL_CONSISTENCY 21 /* The level of consistency of the serial phase, a [short]. */
+#define CQLP_FIELD_TIMESTAMP 22      /* The time that the statements have by default, in microseconds from 1970, a [long]. */
+#define CQLP_FIELD_QUERY_FLAGS 23    /* What a query has after its consistency, a [byte]. Section 4.1.4. */
+#define CQLP_FIELD_VALUES 24         /* How many values are bound, a [short]. */
+#define CQLP_FIELD_VALUE_NAME 25     /* The name of a bound value, a [string]. */
+#define CQLP_FIELD_VALUE 26          /* A bound value, a [value]. */
+#define CQLP_FIELD_PAGE_SIZE 27      /* How many rows a page of the result is to have, an [int]. */
+#define CQLP_FIELD_PAGING_STATE 28   /* Where the result goes on, [bytes]. Sections 4.1.4 and 4.2.5.2. */
+#define CQLP_FIELD_CLASS 29          /* The name of a class, a [string]: of an authenticator, section 4.2.3, or of a custom type, section 4.2.5.2. */
+#define CQLP_FIELD_ERROR_CODE 30     /* What an ERROR is of, an [int]. Section 9. */
+#define CQLP_FIELD_MESSAGE 31        /* What an ERROR says, a [string]. Section 4.2.1. */
+#define CQLP_FIELD_REQUIRED 32       /* How many replicas had to be alive, an [int]. Section 9. */
+#define CQLP_FIELD_ALIVE 33          /* How many replicas were alive, an [int]. Section 9. */
+#define CQLP_FIELD_RECEIVED 34       /* How many replicas answered, an [int]. Section 9. */
+#define CQLP_FIELD_BLOCK_FOR 35      /* How many replicas had to answer, an [int]. Section 9. */
+#define CQLP_FIELD_WRITE_TYPE 36     /* What kind of write it was, a [string]. Section 9. */
+#define CQLP_FIELD_DATA_PRESENT 37   /* Whether the replica that was asked for data answered, a [byte], 0 where it did not. Section 9. */
+#define CQLP_FIELD_FAILURES 38       /* How many replicas failed, an [int]. Section 9. */
+#define CQLP_FIELD_KEYSPACE 39       /* The name of a keyspace, a [string]. */
+#define CQLP_FIELD_NAME 40           /* The name of a table, a type, a function or an aggregate, a [string]. Sections 4.2.5.5 and 9. */
+#define CQLP_FIELD_ARGUMENTS 41      /* How many arguments a function has, a [short]. */
+#define CQLP_FIELD_ARGUMENT 42       /* The type of an argument, a [string]. */
+#define CQLP_FIELD_TABLE 43          /* The name of a table, a [string]. */
+#define CQLP_FIELD_RESULT_KIND 44    /* What a RESULT is, an [int]: 1 nothing, 2 rows, 3 a keyspace, 4 a prepared statement, 5 a change of the schema. Section 4.2.5. */
+#define CQLP_FIELD_ROWS 45           /* How many rows come, an [int]. Section 4.2.5.2. */
+#define CQLP_FIELD_META_FLAGS 46     /* What the metadata have, an [int]: 1 one table for all columns, 2 more pages, 4 no columns. Section 4.2.5.2. */
+#define CQLP_FIELD_COLUMNS 47        /* How many columns there are, an [int]. */
+#define CQLP_FIELD_KEYS 48           /* How many of the bound values make the partition key, an [int]. Section 4.2.5.4. */
+#define CQLP_FIELD_KEY_INDEX 49      /* The place of one of them among the bound values, a [short]. */
+#define CQLP_FIELD_COLUMN_NAME 50    /* The name of a column, a [string]. */
+#define CQLP_FIELD_CHANGE 51         /* What was done, a [string]. Sections 4.2.5.5 and 4.2.6. */
+#define CQLP_FIELD_TARGET 52         /* What a change of the schema was done to, a [string]. Section 4.2.5.5. */
+#define CQLP_FIELD_ADDRESS 53        /* The node that an event is about, an [inet]. Section 4.2.6. */
+#define CQLP_FIELD_TYPE_NAME 54      /* The name of a user defined type, a [string]. Section 4.2.5.2. */
+#define CQLP_FIELD_FIELDS 55         /* How many fields a user defined type or a tuple has, a [short]. */
+#define CQLP_FIELD_FIELD_NAME 56     /* The name of a field of a user defined type, a [string]. */
+
+/* Kinds of types: the ids of their type options, section 4.2.5.2. */
+#define CQLP_KIND_CUSTOM 0x00        /* content */
+#define CQLP_KIND_ASCII 0x01         /* content */
+#define CQLP_KIND_BIGINT 0x02        /* number */
+#define CQLP_KIND_BLOB 0x03          /* content */
+#define CQLP_KIND_BOOLEAN 0x04       /* number: 0 or 1 */
+#define CQLP_KIND_COUNTER 0x05       /* number */
+#define CQLP_KIND_DECIMAL 0x06       /* extra: the scale; content: the unscaled number, in two's complement */
+#define CQLP_KIND_DOUBLE 0x07        /* bytes: 8 of a binary64, the highest first */
+#define CQLP_KIND_FLOAT 0x08         /* bytes: 4 of a binary32, the highest first */
+#define CQLP_KIND_INT 0x09           /* number */
+#define CQLP_KIND_TIMESTAMP 0x0B     /* number: milliseconds from 1970 */
+#define CQLP_KIND_UUID 0x0C          /* bytes: 16 */
+#define CQLP_KIND_VARCHAR 0x0D       /* content in UTF-8 */
+#define CQLP_KIND_VARINT 0x0E        /* content, in two's complement */
+#define CQLP_KIND_TIMEUUID 0x0F      /* bytes: 16 */
+#define CQLP_KIND_INET 0x10          /* bytes: 4 or 16 */
+#define CQLP_KIND_DATE 0x11          /* number: days, 2^31 is the first of January 1970 */
+#define CQLP_KIND_TIME 0x12          /* number: nanoseconds since midnight */
+#define CQLP_KIND_SMALLINT 0x13      /* number */
+#define CQLP_KIND_TINYINT 0x14       /* number */
+#define CQLP_KIND_LIST 0x20          /* of items */
+#define CQLP_KIND_MAP 0x21           /* of pairs */
+#define CQLP_KIND_SET 0x22           /* of items */
+#define CQLP_KIND_UDT 0x30           /* of fields */
+#define CQLP_KIND_TUPLE 0x31         /* of fields */
+#define CQLP_KIND_RAW 0xFF           /* content of a cell whose type is not known */
+
+/* Reasons of a refusal. */
+#define CQLP_REASON_BAD_VERSION 1    /* The first byte of a header is neither 04 nor 84. */
+#define CQLP_REASON_COMPRESSED 2     /* A header's flags announce compression. */
+#define CQLP_REASON_BAD_OPCODE 3     /* No opcode has this number. */
+#define CQLP_REASON_BAD_DIRECTION 4  /* A request's opcode in a response, or the other way round. */
+#define CQLP_REASON_BAD_LENGTH 5     /* A body's length that is negative or above 268,435,456. */
+#define CQLP_REASON_OVERRUN 6        /* Past the end of the frame, or of the value around an element. */
+#define CQLP_REASON_TOO_LONG 7       /* Past the caller's limit on a text or a cell. */
+#define CQLP_REASON_BAD_UTF8 8       /* A text that is not UTF-8. */
+#define CQLP_REASON_BAD_VALUE_LENGTH 9 /* The length of a [value] below -2. */
+#define CQLP_REASON_BAD_INET 10      /* The address of an [inet] has neither 4 nor 16 bytes. */
+#define CQLP_REASON_BAD_COUNT 11     /* A negative count, or a negative length of a text. */
+#define CQLP_REASON_BAD_TYPE 12      /* No type option has this id. */
+#define CQLP_REASON_TOO_DEEP 13      /* A type past the caller's limit on nesting. */
+#define CQLP_REASON_TOO_MANY 14      /* More type options than the caller's limit. */
+#define CQLP_REASON_BAD_BATCH_KIND 15 /* The kind of a batch's entry is neither 0 nor 1. */
+#define CQLP_REASON_BAD_BATCH_FLAGS 16 /* A batch's flags name values, or have a bit that only a query's have. */
+#define CQLP_REASON_BAD_SIZE 17      /* A cell's length that its type does not have. */
+#define CQLP_REASON_BAD_SCALAR 18    /* A cell's content that its type does not have. */
+#define CQLP_REASON_EXTRA_IN_VALUE 19 /* Bytes of a value after its last item. */
+#define CQLP_REASON_STREAM_TOO_LONG 20 /* A frame that would begin past offset 2^63. */
+
+/* What a decoder holds at most, and what it reads. */
+typedef struct cqlp_limits {
+  uint32_t text;    /* the bytes of one [string] or [long string]: 32 to 16777216 */
+  uint32_t cell;    /* the bytes of one [bytes], [short bytes], [value] or scalar cell: 32 to 16777216 */
+  uint32_t entries; /* the type options of one metadata, nested ones counted: 1 to 65536 */
+  uint32_t depth;   /* the nesting of one type, a column's own option having depth 1: 1 to 64 */
+  uint8_t types;    /* 0: cells are not read by the types of their columns, and each is a raw scalar */
+  uint8_t parts;    /* not 0: a blob, custom or raw scalar longer than `cell` comes in parts of that size */
+} cqlp_limits;
+
+#define CQLP_DEFAULT_LIMITS {1048576, 1048576, 4096, 16, 1, 0}
+
+/* A decoder, or none. The members are the library's own. */
+typedef struct cqlp_decoder {
+  uint64_t live;
+  void *place;
+} cqlp_decoder;
+
+#define CQLP_NO_DECODER_YET {0, NULL}
+
+/* An event; 72 bytes where a pointer has 8. What its tag has no use for is 0. Rows and columns count from 0; a level is the
+ * number of values around a value, 0 for the cell itself. */
+typedef struct cqlp_event {
+  uint64_t at;            /* the offset in the stream of the event's field; an end's is the frame's end */
+  const uint8_t *content; /* the content, lent as said above; null where it has no bytes */
+  size_t length;          /* how many bytes the content has; it ends with no zero */
+  int64_t number;         /* a value, a count, how many items, an offset, or how many bytes */
+  uint32_t row;
+  uint32_t column;
+  uint32_t level;
+  int32_t extra;     /* a stream id, a port, or a scale */
+  uint8_t bytes[16]; /* a uuid, an address or a binary number, in the order of the stream, and zeros after it */
+  uint8_t tag;       /* CQLP_TAG_.. */
+  uint8_t field;     /* CQLP_FIELD_.. */
+  uint8_t kind;      /* CQLP_KIND_.. */
+  uint8_t opcode;    /* of a frame: section 2.4 */
+  uint8_t flags;     /* of a frame: section 2.2 */
+  uint8_t mark;      /* CQLP_MARK_.. */
+  uint8_t octets;    /* how many of `bytes` are the event's: 4, 8 or 16 */
+} cqlp_event;
+
+/* What one call of cqlp_next made of the input. */
+typedef struct cqlp_batch {
+  size_t used;    /* how many bytes of the input were used */
+  size_t events;  /* how many events are in the array */
+  uint64_t at;    /* where the stream is refused: the offset of the first byte of the field that could not be made */
+  uint8_t stop;   /* CQLP_STOP_.. */
+  uint8_t reason; /* where the stream is refused: CQLP_REASON_.. */
+} cqlp_batch;
+
+/* How a stream ends. */
+typedef struct cqlp_end {
+  uint64_t at;     /* where it is cut: the offset of the frame; where it is refused: that of the field */
+  uint64_t bytes;  /* how many bytes were used; 0 where it is refused */
+  uint8_t verdict; /* CQLP_END_.. */
+  uint8_t reason;  /* where it is refused: CQLP_REASON_.. */
+} cqlp_end;
+
+/* What a decoder holds of the stream. */
+typedef struct cqlp_holding {
+  uint32_t bytes;   /* of a content that came in pieces: no more than the greater of `text` and `cell` */
+  uint32_t entries; /* the type options of the metadata begun last: no more than `entries` */
+  uint32_t levels;  /* the types or values around the one that is read: no more than `depth` */
+} cqlp_holding;
+
+/* Makes a decoder in a handle that has none, at the start of a stream. All of its memory is asked for here, so no later call
+ * runs out of memory.
+ * Answers CQLP_DONE; else the handle is as it was: CQLP_BAD_TEXT, CQLP_BAD_CELL, CQLP_BAD_ENTRIES or CQLP_BAD_DEPTH for the
+ * first limit in this order that is out of its range, CQLP_NO_MEMORY, or CQLP_IN_USE where the handle has a decoder. */
+uint32_t cqlp_new(const cqlp_limits *limits, cqlp_decoder *decoder);
+
+/* Takes the next bytes of the stream, and puts the events that they end into the array, at most `room`; the members after
+ * them stay as they were. `batch` says how many bytes were used and why it stopped:
+ * - CQLP_STOP_MORE: all of the input was used. Give the bytes that come after it.
+ * - CQLP_STOP_FULL: the array is full, or the last content lies in the decoder. Give the rest of the input again, from
+ *   `used` on, also where nothing is left of it: an end of a frame or of a value may still be due. With a `room` over 0 there
+ *   is at least one event.
+ * - CQLP_STOP_REFUSED: the bytes after those used are no frame of the protocol, or past a limit. The events before them are
+ *   in the array. Every later call answers the same, and no event.
+ * How the stream is cut into pieces, and how much room there is, changes no event and no refusal.
+ * Answers CQLP_DONE, or CQLP_NO_DECODER, with the array and the batch as they were. */
+uint32_t cqlp_next(cqlp_decoder *decoder, const uint8_t *input, size_t length, cqlp_event *events, size_t room,
+                   cqlp_batch *batch);
+
+/* How the stream ends, if it ends after the bytes that were used. It changes nothing, and more bytes may come after it.
+ * Answers CQLP_DONE, or CQLP_NO_DECODER, with `end` as it was. */
+uint32_t cqlp_finish(cqlp_decoder *decoder, cqlp_end *end);
+
+/* How much the decoder holds of the stream. It changes nothing.
+ * Answers CQLP_DONE, or CQLP_NO_DECODER, with `holding` as it was. */
+uint32_t cqlp_held(cqlp_decoder *decoder, cqlp_holding *holding);
+
+/* Frees the decoder, and leaves a handle that has none, in which another may be made.
+ * Answers CQLP_DONE, or CQLP_NO_DECODER where there was none, which does nothing. */
+uint32_t cqlp_free(cqlp_decoder *decoder);
+
+/* How a stream ends that is there whole: what a decoder with these limits says of it. It keeps nothing.
+ * Answers CQLP_DONE; else `end` is as it was: a bad limit as in cqlp_new, or CQLP_NO_MEMORY. */
+uint32_t cqlp_check(const cqlp_limits *limits, const uint8_t *stream, size_t length, cqlp_end *end);
+
+#ifdef __cplusplus
+}
+#endif
+
+#endif
