@@ -1,4 +1,0 @@
-pub mod Passing
-pub mod Renders
-pub mod Shows
-pub mod Turns

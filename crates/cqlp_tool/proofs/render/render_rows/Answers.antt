@@ -1,4 +1,0 @@
-use Rattle.cqlp_tool.proofs.render.render_rows.Goals as goal
-
-pub returns-clause-text : goal.returns-clause-text
-returns-clause-text g c = λ xs left tells. rw c.into_inner.ensures (_, (rw (c.new-sink.ensures, c.new.ensures) at c.run-outcome.ensures.runs) xs left tells)
