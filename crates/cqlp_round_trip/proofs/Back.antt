@@ -42,13 +42,14 @@ whole_end bytes es at n (finish.Refused r) long h = absurd h
 
 -- ---- what was read
 
-module _ {V : Type 0} (f : V → ℕ → Event → V) (faulted : V → ℕ → Event → V → Type 0) (limits : Limits) (d : Decoding) (new : StreamState) (turns : ℕ) (xs : List ℕ) (left : Option (List ℕ)) (before after : V) (fresh : IsNew limits d) (rules : new.rules ≡ (state d).rules) where
+module _ {V : Type 0} (f : V → ℕ → Event → V) (faulted : V → ℕ → Event → V → Type 0) (limits : Limits) (d : Decoding) (new : StreamState) (turns : ℕ) (xs : List ℕ) (left : Option (List ℕ)) (before after : V) (fresh : IsNew limits d) (rules : new.rules ≡ (state d).rules) (given : new.given ≡ (state d).given) where
   pub reads_all : (end : Finish) → RunsTo f faulted turns (outcome.Finished end) (state d) new xs left before after → ReadsAll f (rules_of limits) xs end before after
   reads_all end runs es v says = runs_right f faulted limits d new turns xs left before after es v end fresh says (record {
     runs = runs;
     waits = tt;
     refused = λ r is. absurd (let e = sym fresh.unrefused ∙ is in cc);
     rules = rules;
+    given = given;
   })
 
   -- the event at which the sink failed is one that the bytes say
