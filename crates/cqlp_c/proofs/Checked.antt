@@ -1,5 +1,5 @@
 -- The check of a whole stream.
-use Rattle.std.proofs.Common.{◌≡◌, ◌↔◌, ℕ, List, ◌++◌, take, drop, Ok, Err, refl, sym, ap, subst, ◌∙◌, inl, inr, arith}
+use Rattle.std.proofs.Common.{◌≡◌, ◌↔◌, ℕ, List, [], ◌++◌, take, drop, Ok, Err, refl, sym, ap, subst, ◌∙◌, inl, inr, arith}
 use Rattle.std.specs.Prelude.{Option, Some, None, Result}
 use Rattle.std.proofs.lemmas.List.{take-append-drop, take_all}
 use Rattle.cqlp_note.specs.declared.limits.BadLimits.{BadLimits}
