@@ -85,8 +85,8 @@ StopsBy old new s input es room used puts (stop.Refused r) =
 StopsBy old new s input es room used puts stop.Full =
     (used ≡ end_of 0 puts) × OthersInInput puts × ((length puts ≡ room) ⊎ LastIsGathered puts)
 
--- What a batch is, after the bytes s and the events es: of the input, so many bytes were used, and the events that the
--- reading says of them are in the array. No content but the last lies in the decoder.
+-- What a batch is, after the bytes s and the events es: this many bytes of the input were used, and the events that
+-- the reading says of them are in the array. No content but the last lies in the decoder.
 pub record Fills (old new : StreamState) (s input : List ℕ) (es : List (ℕ × Event)) (room : ℕ) (b : Batch)
     (events : List CqlpEvent) : Type 0 where
   pub puts : List Put

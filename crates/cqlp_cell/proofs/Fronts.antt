@@ -18,7 +18,7 @@ use Rattle.cqlp_kind.specs.Scalars.{ScalarValue, allows_size, scalar_of, fault_o
 use Rattle.cqlp_kind.specs.CellStep.{CellEvent, Leaf, CellPlace, is_opaque, leaf_step, part_step, counted_step, scalar_step, content_step, sized_step, value_step}
 use Rattle.cqlp_kind.specs.Contents.{scalar_in}
 use Rattle.cqlp_cell.specs.Fronts.{SaysScalar}
-use Rattle.cqlp_cell.proofs.Sizing.{scalar_content_is, short_scalar, fitting_sized}
+use Rattle.cqlp_cell.proofs.Sizing.{scalar_content_is, short_is, fitting_is}
 
 -- a content that is a scalar has an allowed size
 scalar_or : (o : Option ScalarValue) (v : ScalarValue) (why : Reason) → ◌≡◌ {A = Result ScalarValue Reason} (Ok v) (ok_or o why) → o ≡ Some v
@@ -37,7 +37,7 @@ module _ (l : Rules) (k : Kind) (room n : ℕ) (input : List ℕ) (v : ScalarVal
   pub says_scalar : SaysScalar l k room input (4 + n) v
   unfolding number_of
   says_scalar =
-      let sized = fitting_sized l k room n (size.Scalar n) low some enough (short_scalar l k n kind part allows short) in
+      let sized = fitting_is l k room n (size.Scalar n) low some enough (short_is l k n kind part allows short) in
       let fits : 4 ≤ room = omega arith in
       let first : 4 ≤ length input = omega arith in
       let left : n ≤ length (drop 4 input) = omega (arith, length-drop 4 input) in

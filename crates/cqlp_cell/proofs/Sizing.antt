@@ -46,14 +46,14 @@ module _ (l : Rules) (k : Kind) (n : ℕ) (scalar : has_no_items k ≡ true) whe
   and_false true false = refl
   and_false false b = refl
 
-  pub short_scalar : l.part ≡ l.cell → allows_size k n ≡ true → n ≤ l.cell → IsContent l k n (size.Scalar n)
-  short_scalar e t le = record {
+  pub short_is : l.part ≡ l.cell → allows_size k n ≡ true → n ≤ l.cell → IsContent l k n (size.Scalar n)
+  short_is e t le = record {
     is = λ p rest inner level. scalar_content_is l p rest level k inner n scalar ∙ rw (t, e, le-ltb l.cell n le, and_false l.parts (is_opaque k)) refl;
     can = (refl, le, scalar, t);
   }
 
-  pub long_scalar : l.part ≡ l.cell → allows_size k n ≡ true → l.cell < n → l.parts ≡ true → is_opaque k ≡ true → IsContent l k n (size.Parts n)
-  long_scalar e t lt parts opaque = record {
+  pub long_is : l.part ≡ l.cell → allows_size k n ≡ true → l.cell < n → l.parts ≡ true → is_opaque k ≡ true → IsContent l k n (size.Parts n)
+  long_is e t lt parts opaque = record {
     is = λ p rest inner level. scalar_content_is l p rest level k inner n scalar ∙ rw (t, e, lt-ltb l.cell n lt, parts, opaque) refl;
     can = (refl, lt, parts, scalar);
   }
@@ -65,14 +65,14 @@ module _ (l : Rules) (k : Kind) (n : ℕ) (scalar : has_no_items k ≡ true) whe
   }
 
 module _ (l : Rules) (k : Kind) (room n : ℕ) where
-  pub null_sized : 2 ^ 31 ≤ n → IsSized l k room n size.Null
-  null_sized le = record { is = λ p rest inner level. rw (lt-ltb (2 ^ 31 - 1) n (omega arith)) refl; can = tt; fits = tt }
+  pub null_is : 2 ^ 31 ≤ n → IsSized l k room n size.Null
+  null_is le = record { is = λ p rest inner level. rw (lt-ltb (2 ^ 31 - 1) n (omega arith)) refl; can = tt; fits = tt }
 
-  pub empty_sized : n ≡ 0 → IsSized l k room n size.Empty
-  empty_sized e = record { is = λ p rest inner level. rw e refl; can = tt; fits = tt }
+  pub empty_is : n ≡ 0 → IsSized l k room n size.Empty
+  empty_is e = record { is = λ p rest inner level. rw e refl; can = tt; fits = tt }
 
-  pub overrun_sized : n < 2 ^ 31 → n ≢ 0 → room < 4 + n → IsSized l k room n (size.Refused Overrun)
-  overrun_sized lt some short = record {
+  pub overrun_is : n < 2 ^ 31 → n ≢ 0 → room < 4 + n → IsSized l k room n (size.Refused Overrun)
+  overrun_is lt some short = record {
     is = λ p rest inner level. rw (le-ltb (2 ^ 31 - 1) n (omega arith), ne_eqb n 0 some, lt-ltb room (4 + n) short) refl;
     can = tt;
     fits = tt;
@@ -87,8 +87,8 @@ module _ (l : Rules) (k : Kind) (room n : ℕ) where
   has_room (size.Counted m) le = le
   has_room (size.Fields m) le = le
 
-  pub fitting_sized : (s : Sized) → n < 2 ^ 31 → n ≢ 0 → 4 + n ≤ room → IsContent l k n s → IsSized l k room n s
-  fitting_sized s lt some enough h = record {
+  pub fitting_is : (s : Sized) → n < 2 ^ 31 → n ≢ 0 → 4 + n ≤ room → IsContent l k n s → IsSized l k room n s
+  fitting_is s lt some enough h = record {
     is = λ p rest inner level. rw (le-ltb (2 ^ 31 - 1) n (omega arith), ne_eqb n 0 some, le-ltb room (4 + n) enough) (h.is p rest inner level);
     can = h.can;
     fits = has_room s (enough, lt);

@@ -28,7 +28,7 @@ pub(crate) enum Sized {
 
 /// What a value of this kind is by the four bytes of its length, in a container with room for this many bytes from
 /// there on.
-#[tactic(auto, using(crate::proofs::Sizing::null_sized, crate::proofs::Sizing::empty_sized, crate::proofs::Sizing::overrun_sized, crate::proofs::Sizing::fitting_sized))]
+#[tactic(auto, using(crate::proofs::Sizing::null_is, crate::proofs::Sizing::empty_is, crate::proofs::Sizing::overrun_is, crate::proofs::Sizing::fitting_is))]
 #[inline]
 pub(crate) fn size_up(limits: &Limits, kind: Kind, room: u64, len: u32) -> Sized
     ensures { IsSized (rules_of limits.now) kind room len result }
@@ -58,7 +58,7 @@ fn size_content(limits: &Limits, kind: Kind, len: u32) -> Sized
 }
 
 /// The same of a scalar.
-#[tactic(auto, using(crate::proofs::Sizing::bad_size, crate::proofs::Sizing::short_scalar, crate::proofs::Sizing::long_scalar, crate::proofs::Sizing::too_long))]
+#[tactic(auto, using(crate::proofs::Sizing::bad_size, crate::proofs::Sizing::short_is, crate::proofs::Sizing::long_is, crate::proofs::Sizing::too_long))]
 #[inline]
 fn size_scalar(limits: &Limits, kind: Kind, len: u32) -> Sized
     requires { has_no_items kind ≡ true }

@@ -150,6 +150,7 @@ impl<A: Allocator> Decoder<A> {
             → (result ≡ Ok (state self.old).given) × (state self.new ≡ once_given (state self.old) table) }
         ensures after { reason_against (state self.old) table.nodes ≡ None
             → GivesAlso (Gives (types_of table.nodes)) (state self.old) (state self.new) }
+        ensures levels { levels_of self.new.parts ≡ levels_of self.old.parts }
     {
         if let Some(why) = self.reason(&table) {
             return Err(GiveError { why, table });
@@ -164,6 +165,7 @@ impl<A: Allocator> Decoder<A> {
         ensures left { state self.new ≡ after_taking result (state self.old) }
         ensures after { TakesAlso result (state self.old) (state self.new) }
         ensures refused { GivesBack result (state self.old) }
+        ensures levels { levels_of self.new.parts ≡ levels_of self.old.parts }
     {
         if self.is_in_use() {
             return None;
