@@ -62,7 +62,7 @@ module _ (l : Rules) (gifts : Gifts) where
           let next : run.1 ≡ after = ap (λ (x : Emitted Event Place). x.after) is.0 in
           omega (arith, later.1 gs s left how (rw (is.1, next) at run.3) over)
 
-    reads_freely : (es fs : List (ℕ × Event)) (q p : Place) (mid rest : List ℕ) → Reads (free l) (start_with gifts) bytes fs q mid → Reads l q mid es p rest → GoesFreely q mid es p rest
+    pub reads_freely : (es fs : List (ℕ × Event)) (q p : Place) (mid rest : List ℕ) → Reads (free l) (start_with gifts) bytes fs q mid → Reads l q mid es p rest → GoesFreely q mid es p rest
     reads_freely [] fs q p mid rest before r = (r, λ gs s left how run over. omega arith)
     reads_freely (e ∷ es) fs q p mid rest before r =
         let cut = free_cut bytes fs q mid before in

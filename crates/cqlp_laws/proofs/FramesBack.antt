@@ -1,5 +1,5 @@
 -- What is read between a header and the end of its frame is spelled by the frame's bytes.
-use Rattle.std.proofs.Common.{◌≡◌, ℕ, zero, suc, ◌+◌, ◌-◌, ◌<◌, ◌≤◌, ◌^◌, Bool, true, false, cond, ltb, ◌||◌, ◌==◌, List, [], ◌∷◌, ◌++◌, Option, Some, None, length, take, drop, Ok, Err, refl, sym, ap, ◌∙◌, subst, append_assoc, lit<, arith}
+use Rattle.std.proofs.Common.{◌≡◌, ℕ, ◌+◌, ◌-◌, ◌<◌, ◌≤◌, ◌^◌, Bool, true, false, cond, ltb, ◌||◌, ◌==◌, List, [], ◌∷◌, ◌++◌, Option, Some, None, length, take, drop, Ok, Err, refl, sym, ap, ◌∙◌, subst, append_assoc, lit<, arith}
 use borrow.Author.Gap.{read_sfits}
 use Rattle.std.specs.Prelude.{All, FitsSigned, slice_index}
 use Rattle.std.specs.Int.{w16, w32, from_be_bytes}
@@ -15,82 +15,32 @@ use Rattle.cqlp_grammar.specs.Events.{Event, Frame, End}
 use Rattle.cqlp_message.specs.Parts.{Part, PartsSpell, PartsWithin, parts_events}
 use Rattle.cqlp_grammar.specs.Productions.{Symbol, Extra, message}
 use Rattle.cqlp_message.proofs.Derives.{Derives}
-use Rattle.cqlp_decode.specs.Reading.{Place, step, start, Reads, Verdict, Says}
+use Rattle.cqlp_decode.specs.Reading.{Place, Gifts, step, start_with, Reads, Verdict, Says}
+use Rattle.cqlp_laws.specs.Untyped.{NoneInUse}
 use Rattle.cqlp_laws.specs.ReadFrames.{EndsNone}
-use Rattle.cqlp_laws.proofs.RunsBack.{runs_split}
+use Rattle.cqlp_laws.proofs.RunsBack.{runs_exact, runs_split}
+use Rattle.cqlp_laws.proofs.Offsets.{offset_is}
+use Rattle.cqlp_laws.proofs.PlainRuns.{plainly, free_from, frame_forth}
 use Rattle.cqlp_laws.proofs.Due.{message_due}
 use Rattle.cqlp_laws.proofs.PartsBack.{inside, ReadsParts, parts_back}
-use Rattle.cqlp_laws.proofs.FrameEdges.{Begun, IsAtStream, stream_end, extra_end, next_comes, between, Ended, ended, begun}
-
--- the end of a frame that was begun comes before the next header
-module _ (l : Rules) (at stop : ℕ) (told : Types) (b : List ℕ) (q : Place) (left : List ℕ) where
-  frame_ends : (es : List (ℕ × Event)) → IsAtStream q.symbols → Reads l (inside at stop (Extra ∷ []) told) b es q left → Ended l at stop told b es q left
-  frame_ends [] h run = absurd (subst (λ (p : Place). IsAtStream p.symbols) run.0 h)
-  frame_ends (e ∷ es) h run = ended l at stop told b e es q left run
+use Rattle.cqlp_laws.proofs.FrameEdges.{Begun, extra_end, next_comes, between, Ended, ended, begun}
 
 -- a place between frames, after these bytes
-record Between (at : ℕ) (b : List ℕ) (q : Place) (left : List ℕ) : Type 0 where
-  told : Types
-  stop : ℕ
-  front : List ℕ
-  whole : b ≡ front ++ left
-  place : q ≡ between (at + length front) stop told
+pub record Between (at : ℕ) (b : List ℕ) (q : Place) (left : List ℕ) : Type 0 where
+  pub told : Types
+  pub stop : ℕ
+  pub front : List ℕ
+  pub whole : b ≡ front ++ left
+  pub place : q ≡ between (at + length front) stop told
 
 zero_more : (a : ℕ) → a ≡ 0 + a
 zero_more a = omega arith
-
-no_more : (a : ℕ) → a ≤ a
-no_more a = omega arith
 
 no_less : (a b : ℕ) → a ≤ a + b
 no_less a b = omega arith
 
 three : (a b c d : List ℕ) → a ++ (b ++ (c ++ d)) ≡ (a ++ (b ++ c)) ++ d
 three a b c d = simp append_assoc
-
-four : (a b c d e : List ℕ) → a ++ (b ++ (c ++ (d ++ e))) ≡ (a ++ (b ++ (c ++ d))) ++ e
-four a b c d e = simp append_assoc
-
-module _ (l : Rules) (at stop : ℕ) (told : Types) (b : List ℕ) (e : ℕ × Event) (es : List (ℕ × Event)) (q : Place) (left : List ℕ) (g : Begun l at told b e es q left) where
-  abbrev end_of : ℕ
-  end_of = (at + 9) + g.header.length
-
-  abbrev Body : Type 0
-  Body = ReadsParts l (at + 9) end_of (message g.header) told g.back es q left
-
-  module _ (r : Body) (f : Ended l ((at + 9) + length r.body) end_of r.told' r.back r.later q left) where
-    -- fewer events are left after a frame
-    fewer_left : (n : ℕ) → length es ≤ n → length f.later ≤ n
-    fewer_left n le = omega (arith, le, ap length r.events, length-append (parts_events l (at + 9) r.parts) r.later, ap length f.events)
-
-    frame_then : Between end_of f.back q left → Between at b q left
-    frame_then o =
-        let front = g.head ++ (r.body ++ (f.extra ++ o.front)) in
-        let there : end_of + length o.front ≡ at + length front = omega (arith, g.nine, f.long, r.within, length-append g.head (r.body ++ (f.extra ++ o.front)), length-append r.body (f.extra ++ o.front), length-append f.extra o.front) in
-        let rest : g.back ≡ r.body ++ (f.extra ++ (o.front ++ left)) = r.whole ∙ ap (λ (z : List ℕ). r.body ++ z) (f.whole ∙ ap (λ (z : List ℕ). f.extra ++ z) o.whole) in
-        record {
-          told = o.told;
-          stop = o.stop;
-          front = front;
-          whole = g.whole ∙ ap (λ (z : List ℕ). g.head ++ z) rest ∙ four g.head r.body f.extra o.front left;
-          place = o.place ∙ ap (λ (k : ℕ). between k o.stop o.told) there;
-        }
-
-  frame_body : l.types ≡ true → IsAtStream q.symbols → Body
-  frame_body on h = parts_back l (at + 9) end_of (message g.header) told g.back es q left on (message_due g.header) (no_less (at + 9) g.header.length) (stream_end q.symbols h) g.onward
-
--- Where a header is due, frames were read before it.
-frames_before : (l : Rules) → l.types ≡ true → (n : ℕ) (es : List (ℕ × Event)) (at stop : ℕ) (told : Types) (b : List ℕ) (q : Place) (left : List ℕ) → length es ≤ n → IsAtStream q.symbols → Reads l (between at stop told) b es q left → Between at b q left
-frames_before l on n [] at stop told b q left le h run =
-    let none : at ≡ at + length {A = ℕ} [] = omega arith in
-    record { told = told; stop = stop; front = []; whole = sym run.1; place = run.0 ∙ ap (λ (k : ℕ). between k stop told) none }
-frames_before l on zero (e ∷ es) at stop told b q left le h run = absurd (omega arith)
-frames_before l on (suc n) (e ∷ es) at stop told b q left le h run =
-    let g = begun l at stop told b e es q left run in
-    let end = (at + 9) + g.header.length in
-    let r = frame_body l at stop told b e es q left g on h in
-    let f = frame_ends l ((at + 9) + length r.body) end r.told' r.back q left r.later h r.onward in
-    frame_then l at stop told b e es q left g r f (frames_before l on n f.later end end r.told' f.back q left (fewer_left l at stop told b e es q left g r f n (omega arith)) h f.onward)
 
 no_end : (xs ys : List (ℕ × Event)) (at n : ℕ) → All EndsNone (xs ++ (at, End n) ∷ ys) → ⊥
 no_end [] ys at n all = let no : false ≡ true = All-head EndsNone (at, End n) ys all in absurd cc
@@ -261,17 +211,25 @@ module _ (l : Rules) (on : l.types ≡ true) (s : List ℕ) (small : All (λ b. 
         let r = frame_read l s small middle x (0 + length t.front) t.stop t.told t.front left (p, Frame h) q after last over t.whole (zero_more (length t.front)) inner on g in
         subst (λ (k : ℕ). IsReadFrame l s k h q x middle) (sym is.0) (subst (λ (y : Header). IsReadFrame l s (0 + length t.front) y q x middle) (sym is.1) r)
 
-    frame_from : Reads l m left ((p, Frame h) ∷ later) last over → IsReadFrame l s p h q x middle
+    pub frame_from : Reads l m left ((p, Frame h) ∷ later) last over → IsReadFrame l s p h q x middle
     frame_from run =
         let g = begun l (0 + length t.front) t.stop t.told left (p, Frame h) later last over (subst (λ (y : Place). Reads l y left ((p, Frame h) ∷ later) last over) t.place run) in
         frame_named g (same_frame g.header h (0 + length t.front) p g.event)
 
--- What is read between a header and the end of its frame is spelled by the bytes there.
-pub frame_back : (l : Rules) (s : List ℕ) (before middle after : List (ℕ × Event)) (p q x : ℕ) (h : Header) (v : Verdict) → l.types ≡ true → All (λ b. b < 256) s
-    → Says l start s (before ++ ((p, Frame h) ∷ middle) ++ (q, End x) ∷ after) v → All EndsNone middle → IsReadFrame l s p h q x middle
-frame_back l s before middle after p q x h v on small said inner =
-    let rest = (p, Frame h) ∷ (middle ++ (q, End x) ∷ after) in
-    let run : Reads l start s (before ++ rest) said.0 said.1 = rw append_assoc at said.2 in
-    let a = runs_split (step l) start said.0 s said.1 before rest run in
-    let t = frames_before l on (length before) before 0 0 NoMore s a.0 a.1 (no_more (length before)) (next_comes l a.0 said.0 a.1 said.1 (p, Frame h) (middle ++ (q, End x) ∷ after) a.3) a.2 in
-    frame_from l on s small middle after inner p q x h said.0 said.1 a.0 a.1 t a.3
+-- What is read between a header and the end of its frame is spelled by the bytes there, where no given types are in use
+-- in the frame.
+pub frame_back : (l : Rules) (gifts : Gifts) (s : List ℕ) (before middle after : List (ℕ × Event)) (p q x : ℕ) (h : Header) (v : Verdict) → l.types ≡ true → All (λ b. b < 256) s
+    → Says l (start_with gifts) s (before ++ ((p, Frame h) ∷ middle) ++ (q, End x) ∷ after) v → NoneInUse l gifts s before ((p, Frame h) ∷ middle ++ (q, End x) ∷ []) → All EndsNone middle → IsReadFrame l s p h q x middle
+frame_back l gifts s before middle after p q x h v on small said none inner =
+    let frame = (p, Frame h) ∷ (middle ++ (q, End x) ∷ []) in
+    let whole : (before ++ ((p, Frame h) ∷ middle)) ++ (q, End x) ∷ after ≡ before ++ (frame ++ after) = simp append_assoc in
+    let run : Reads l (start_with gifts) s (before ++ (frame ++ after)) said.0 said.1 = subst (λ (es : List (ℕ × Event)). Reads l (start_with gifts) s es said.0 said.1) whole said.2 in
+    let a = runs_split (step l) (start_with gifts) said.0 s said.1 before (frame ++ after) run in
+    let c = runs_split (step l) a.0 said.0 a.1 said.1 frame after a.3 in
+    let exact = runs_exact (step l) (start_with gifts) a.0 s a.1 before a.2 in
+    let due = next_comes l a.0 c.0 a.1 c.1 (p, Frame h) (middle ++ (q, End x) ∷ []) c.2 in
+    let free = free_from l gifts s before frame a.0 a.1 a.2 none in
+    let plain = frame_forth l a.0 a.1 due (p, Frame h) (middle ++ (q, End x) ∷ []) c.0 c.1 free c.2 in
+    let at : a.0.offset ≡ 0 + length exact.0 = omega (arith, offset_is l gifts before a.0 s a.1 a.2, ap length exact.1, length-append exact.0 a.1) in
+    let t : Between 0 s (plainly a.0) a.1 = record { told = NoMore; stop = a.0.stop; front = exact.0; whole = exact.1; place = ap (λ (n : ℕ). between n a.0.stop NoMore) at } in
+    frame_from l on s small middle [] inner p q x h plain.0 c.1 (plainly a.0) a.1 t plain.1

@@ -1,5 +1,5 @@
 -- What spells a frame within the limits is read as its events, and so are frames one after the other.
-use Rattle.std.proofs.Common.{◌≡◌, ℕ, ◌+◌, ◌-◌, ◌≤◌, ◌^◌, List, [], ◌∷◌, ◌++◌, length, refl, sym, ap, ◌∙◌, inl, inr, append_assoc, arith}
+use Rattle.std.proofs.Common.{◌≡◌, ℕ, ◌+◌, ◌-◌, ◌≤◌, ◌^◌, List, [], ◌∷◌, ◌++◌, length, refl, sym, ap, subst, ◌∙◌, inl, inr, append_assoc, arith}
 use Rattle.std.specs.Prelude.{FitsSigned, Ok}
 use Rattle.std.specs.Int.{w16}
 use Rattle.std.proofs.lemmas.Bool.{cases_lt, lt-ltb, le-ltb}
@@ -20,10 +20,13 @@ use Rattle.cqlp_message.specs.Parts.{parts_size, parts_events}
 use Rattle.cqlp_message.specs.Frames.{FrameSpells, header_of, frame_parts, frame_size, Flat, IsWithin, AllSpell, FlatAll}
 use Rattle.cqlp_message.proofs.Sizes.{parts_long, frame_spelled, frame_long}
 use Rattle.cqlp_message.proofs.Messages.{frame_derives}
-use Rattle.cqlp_decode.specs.Reading.{Place, step, Reads, Says, Verdict, Ends}
-use Rattle.cqlp_laws.specs.Frames.{AllWithin, AllBeginInTime, verdict_between, SpelledIsRead}
+use Rattle.cqlp_decode.specs.Reading.{Place, Gifts, step, start, start_with, Reads, Says, Verdict, Ends}
+use Rattle.cqlp_laws.specs.Untyped.{AreWholeFrames}
+use Rattle.cqlp_laws.specs.Frames.{AllWithin, AllBeginInTime, verdict_between, SpelledIsRead, SpelledIsReadWithGifts}
 use Rattle.cqlp_laws.proofs.StepRuns.{step_runs, runs_join}
 use Rattle.cqlp_laws.proofs.PartsRead.{inside, parts_read}
+use Rattle.cqlp_laws.proofs.Offsets.{offset_is}
+use Rattle.cqlp_laws.proofs.PlainRuns.{plainly, like_plainly, whole_due, free_from, says_back, nothing_in_use}
 
 -- a place between frames
 abbrev pub between : (at stop : ℕ) → (told : Types) → Place
@@ -91,7 +94,7 @@ nothing_more l at stop told = elim (cases_lt (2 ^ 63) at) [
 ]
 
 -- What is spelled is read: frames one after the other, within the limits, say their events, and then nothing more.
-frames_read : (l : Rules) (fs : List (FrameValue × ℕ)) (at stop : ℕ) (told : Types) (b : List ℕ) → AllSpell fs b → AllWithin l fs → AllBeginInTime at fs → Says l (between at stop told) b (FlatAll l at fs) (verdict_between (at + length b))
+pub frames_read : (l : Rules) (fs : List (FrameValue × ℕ)) (at stop : ℕ) (told : Types) (b : List ℕ) → AllSpell fs b → AllWithin l fs → AllBeginInTime at fs → Says l (between at stop told) b (FlatAll l at fs) (verdict_between (at + length b))
 frames_read l [] at stop told b s w early =
     let none : at + length {A = ℕ} [] ≡ at = omega arith in
     (between at stop told, b, (refl, refl), rw (s, none) (nothing_more l at stop told))
@@ -103,7 +106,24 @@ frames_read l (f ∷ fs) at stop told b s w early =
     let more = frames_read l fs here here one.0 s.back s.that w.2 (rw size early.1) in
     rw long (frames_joined l at stop told one.0 s.front s.back b (frame_size f.0 f.1) (Flat l at f.0 f.1) (λ k. FlatAll l k fs) (verdict_between (here + length s.back)) s.whole size one.1 more)
 
+module _ (l : Rules) (gifts : Gifts) (s : List ℕ) (before : List (ℕ × Event)) (w : AreWholeFrames l gifts s before) where
+  -- after whole frames the reading stands at their end
+  pub whole_offset : w.0.offset ≡ length s
+  whole_offset = omega (arith, offset_is l gifts before w.0 s [] w.1)
+
+  pub resumed : (bytes : List ℕ) → Reads l (start_with gifts) (s ++ bytes) before w.0 bytes
+  resumed bytes = runs_stay (step l) (start_with gifts) s bytes before w.0 [] w.1
+
+pub spelled_with_gifts : SpelledIsReadWithGifts
+spelled_with_gifts l gifts s bytes before fs w spelled within early none =
+    let at = whole_offset l gifts s before w in
+    let all : w.0.offset + length bytes ≡ length (s ++ bytes) = omega (arith, at, length-append s bytes) in
+    let plain = frames_read l fs w.0.offset w.0.stop NoMore bytes spelled within (rw at early) in
+    let ends = subst (λ (k : ℕ). Says l (plainly w.0) bytes (FlatAll l w.0.offset fs) (verdict_between k)) all plain in
+    let events = subst (λ (k : ℕ). Says l (plainly w.0) bytes (FlatAll l k fs) (verdict_between (length (s ++ bytes)))) at ends in
+    let free = free_from l gifts (s ++ bytes) before (FlatAll l (length s) fs) w.0 bytes (resumed l gifts s before w bytes) none in
+    let said = says_back l (FlatAll l (length s) fs) w.0 (plainly w.0) bytes (verdict_between (length (s ++ bytes))) (like_plainly w.0 (whole_due l gifts s before w)) free events in
+    (said.0, said.1, runs_then (step l) (start_with gifts) w.0 said.0 (s ++ bytes) bytes said.1 before (FlatAll l (length s) fs) (resumed l gifts s before w bytes) said.2, said.3)
+
 pub spelled_is_read : SpelledIsRead
-spelled_is_read l fs bytes s w early =
-    let all : length bytes ≡ 0 + length bytes = omega arith in
-    rw all (frames_read l fs 0 0 NoMore bytes s w early)
+spelled_is_read l fs bytes s within early = spelled_with_gifts l [] [] bytes [] fs (start, (refl, refl), refl) s within early (nothing_in_use l bytes [] (FlatAll l 0 fs))

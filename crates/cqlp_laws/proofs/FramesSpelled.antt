@@ -4,8 +4,8 @@ use Rattle.std.proofs.Common.{◌≡◌, true, length, refl}
 use Rattle.cqlp_note.specs.Limits.{Rules}
 use Rattle.cqlp_message.proofs.PartsWritten.{parts_fit}
 use Rattle.cqlp_message.proofs.FramesBack.{spelled_back, frame_spelled, frame_in_range, frame_within, frame_events}
-use Rattle.cqlp_laws.specs.ReadFrames.{ReadIsSpelled}
-use Rattle.cqlp_laws.proofs.ReadSpelled.{AreOfFrames, read_is_spelled}
+use Rattle.cqlp_laws.specs.ReadFrames.{ReadIsSpelled, ReadIsSpelledWithGifts}
+use Rattle.cqlp_laws.proofs.ReadSpelled.{AreOfFrames, read_is_spelled, read_with_gifts}
 
 of_frames : (l : Rules) → l.types ≡ true → AreOfFrames l
 of_frames l on h ps told body extra lawful flags stream small s within d long =
@@ -21,3 +21,6 @@ of_frames l on h ps told body extra lawful flags stream small s within d long =
 
 pub frames_spelled : ReadIsSpelled
 frames_spelled = read_is_spelled of_frames
+
+pub frames_with_gifts : ReadIsSpelledWithGifts
+frames_with_gifts = read_with_gifts of_frames

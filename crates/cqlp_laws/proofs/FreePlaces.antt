@@ -47,36 +47,37 @@ always_trivial (Takes n next) before = λ c long. always_trivial (next c) (befor
 -- ---- how deep the type options are that are still to be read
 
 -- the greatest depth of an option
-abbrev depth_of : List TypeSymbol → ℕ
+abbrev pub depth_of : List TypeSymbol → ℕ
 depth_of [] = 0
 depth_of (Option_at d ∷ ss) = max d (depth_of ss)
 depth_of (Text_of f ∷ ss) = depth_of ss
 depth_of (Fields_of named d ∷ ss) = max d (depth_of ss)
 depth_of (Whole i ∷ ss) = depth_of ss
 
--- after a field of this role type options may come
-abbrev group_depth : Group → ℕ
+-- after a field of this role type options may come, or cells of the types that were read
+abbrev pub group_depth : Group → ℕ
 group_depth (group_of.Columns named) = 1
 group_depth g = 0
 
-abbrev role_depth : Role → ℕ
+abbrev pub role_depth : Role → ℕ
 role_depth (role.Counts g) = group_depth g
 role_depth (role.MetaColumns rows flags) = 1
+role_depth (role.PageRows flags columns) = 1
 role_depth (role.PreparedColumns flags) = 1
 role_depth (role.PreparedKeys flags columns) = 1
 role_depth r = 0
 
-abbrev symbol_depth : Symbol → ℕ
+abbrev pub symbol_depth : Symbol → ℕ
 symbol_depth (In f n r) = role_depth r
 symbol_depth (In_type ts) = max 1 (depth_of ts)
 symbol_depth s = 0
 
--- the greatest depth among these symbols: 0 where no type option comes
-abbrev deepest : List Symbol → ℕ
+-- the greatest depth among these symbols: 0 where no type option comes, nor the count of a page's rows
+abbrev pub deepest : List Symbol → ℕ
 deepest [] = 0
 deepest (s ∷ ss) = max (symbol_depth s) (deepest ss)
 
-deepest-append : (xs ys : List Symbol) → deepest (xs ++ ys) ≡ max (deepest xs) (deepest ys)
+pub deepest-append : (xs ys : List Symbol) → deepest (xs ++ ys) ≡ max (deepest xs) (deepest ys)
 deepest-append [] ys = omega arith
 deepest-append (x ∷ xs) ys = omega (arith, deepest-append xs ys)
 
@@ -90,7 +91,7 @@ depth-append (Whole i ∷ xs) ys = depth-append xs ys
 -- ---- productions
 
 -- no deeper than this
-abbrev IsAtMost : ℕ → List Symbol → Type 0
+abbrev pub IsAtMost : ℕ → List Symbol → Type 0
 IsAtMost m ss = deepest ss ≤ m
 
 module _ (m : ℕ) where
@@ -177,7 +178,7 @@ announced_most h =
     (where_most 0 h.flags 0x04 (counted field.PayloadItems group_of.PayloadItems ∷ []) (omega arith))
 
 -- a message begins with no type options
-message_most : (h : Header) → IsAtMost 0 (message h)
+pub message_most : (h : Header) → IsAtMost 0 (message h)
 message_most h = both_most 0 (announced h ++ body h.opcode) (Extra ∷ []) (both_most 0 (announced h) (body h.opcode) (announced_most h) (body_most h.opcode)) (omega arith)
 
 specs_most : (flags columns : ℕ) → IsAtMost 1 (specs flags columns)
@@ -193,13 +194,13 @@ query_most flags =
     (where_most 0 flags 0x20 (plain field.Timestamp notation.Long ∷ []) (omega arith))
 
 -- metadata begins where a field of this role is read
-abbrev depth_after : Role → ℕ
+abbrev pub depth_after : Role → ℕ
 depth_after (role.MetaFlags rows) = 1
 depth_after role.PreparedFlags = 1
 depth_after r = role_depth r
 
 -- type options come of metadata alone
-following_most : (ts : Types) (r : Role) (v : FieldValue) → IsAtMost (depth_after r) (following ts r v)
+pub following_most : (ts : Types) (r : Role) (v : FieldValue) → IsAtMost (depth_after r) (following ts r v)
 following_most ts role.Alone v = omega arith
 following_most ts (role.Counts g) v = copies_most (group_depth g) (number_in v) (group g) (group_most g)
 following_most ts role.QueryFlags v = query_most (number_in v)
@@ -217,7 +218,7 @@ following_most ts role.PreparedFlags v = omega arith
 following_most ts (role.PreparedColumns flags) v = omega arith
 following_most ts (role.PreparedKeys flags columns) v =
     both_most 1 _ _ (both_most 1 _ _ (copies_most 1 (number_in v) (group group_of.KeyIndexes) (omega arith)) (specs_most flags columns)) (omega arith)
-following_most ts (role.PageRows flags columns) v = rows_most 0 0 ts (number_in v)
+following_most ts (role.PageRows flags columns) v = rows_most 1 0 ts (number_in v)
 
 -- ---- type options
 
@@ -410,7 +411,7 @@ left_depth : (ts : List TypeSymbol) (rest : List Symbol) → deepest (types_left
 left_depth [] rest = omega arith
 left_depth (t ∷ ts) rest = omega arith
 
-cells_depth : (row column : ℕ) (cs : List CellSymbol) (rest : List Symbol) → deepest (cells_left row column cs ++ rest) ≡ deepest rest
+pub cells_depth : (row column : ℕ) (cs : List CellSymbol) (rest : List Symbol) → deepest (cells_left row column cs ++ rest) ≡ deepest rest
 cells_depth row column [] rest = refl
 cells_depth row column (c ∷ cs) rest = omega arith
 

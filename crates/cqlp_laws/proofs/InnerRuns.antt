@@ -54,7 +54,7 @@ pub record GetsOn (l : Rules) (p q : TypePlace) (n : ℕ) : Type 0 where
   pub counted : Few l q.symbols (length q.nodes)
 
 module _ (l : Rules) (p : TypePlace) (inside : p.offset ≤ p.stop) where
-  abbrev Gets : Emitted TypeEvent TypePlace → List ℕ → Type 0
+  abbrev pub Gets : Emitted TypeEvent TypePlace → List ℕ → Type 0
   Gets x b = GetsOn l p (x.after (length b)) (length b)
 
   settled_gets : (ss : List TypeSymbol) (ns : List Node) (n : ℕ) → n ≤ p.stop - p.offset → length ns ≤ l.entries → GetsOn l p (type_place p (settled ss ns) n) n
@@ -71,7 +71,7 @@ module _ (l : Rules) (p : TypePlace) (inside : p.offset ≤ p.stop) where
   abbrev Fits : FieldValue → List ℕ → Type 0
   Fits v b = length b ≤ p.stop - p.offset
 
-  type_gets : (ss : List TypeSymbol) → Few l ss (length p.nodes) → Always Gets (type_step_at l p ss) []
+  pub type_gets : (ss : List TypeSymbol) → Few l ss (length p.nodes) → Always Gets (type_step_at l p ss) []
   unfolding number_of
   type_gets [] h = tt
   type_gets (Option_at d ∷ rest) h = either_always Gets [] (ltb (p.stop - p.offset) 2) _ _ (λ _. tt) (λ t c long. option_gets d rest c (beside_number (from_be_bytes w16 c) kinds) (omega (arith, ltb-false _ _ t, long)))

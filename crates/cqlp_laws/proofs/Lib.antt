@@ -6,9 +6,11 @@ pub mod EventCounts
 pub mod StepRuns
 pub mod PartsRead
 pub mod FramesRead
+pub mod PlainRuns
 pub mod Refusals
 pub mod StepCuts
 pub mod FreePlaces
+pub mod Plain
 pub mod Cuts
 pub mod WiderLimits
 pub mod OneAnswer
@@ -17,6 +19,7 @@ pub mod NoFrames
 pub mod RunsBack
 pub mod Due
 pub mod InnerRuns
+pub mod Offsets
 pub mod PartsBack
 pub mod FrameEdges
 pub mod FramesBack

@@ -35,7 +35,7 @@ use Rattle.cqlp_laws.proofs.StepRuns.{after_yields, step_runs, runs_join}
 abbrev pub inside : (offset stop : ℕ) → List Symbol → (told : Types) → Place
 inside at stop ss told = record { offset = at; stop = stop; symbols = ss; nodes = preorder told; given = Nothing; gifts = [] }
 
-never_given : (r : Role) → given_after r Nothing ≡ Nothing
+pub never_given : (r : Role) → given_after r Nothing ≡ Nothing
 never_given (role.PageRows flags columns) = refl
 never_given r = refl
 

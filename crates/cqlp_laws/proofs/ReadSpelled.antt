@@ -14,10 +14,11 @@ use Rattle.cqlp_message.specs.Parts.{Part, PartsSpell, PartsWithin, parts_size, 
 use Rattle.cqlp_grammar.specs.Productions.{message}
 use Rattle.cqlp_message.specs.Frames.{FrameSpells, FrameIsInRange, IsWithin, Flat}
 use Rattle.cqlp_message.proofs.Derives.{Derives}
-use Rattle.cqlp_decode.specs.Reading.{Says, start}
-use Rattle.cqlp_laws.specs.ReadFrames.{IsOfFrame, ReadIsSpelled}
+use Rattle.cqlp_decode.specs.Reading.{Says, start_with}
+use Rattle.cqlp_laws.specs.ReadFrames.{IsOfFrame, ReadIsSpelled, ReadIsSpelledWithGifts}
 use Rattle.cqlp_message.proofs.Sizes.{parts_long}
 use Rattle.cqlp_laws.proofs.FramesBack.{IsReadFrame, frame_back}
+use Rattle.cqlp_laws.proofs.PlainRuns.{nothing_in_use}
 
 -- What comes of a header with these parts: a frame value.
 pub record IsFrame (l : Rules) (h : Header) (ps : List Part) (body extra : List ℕ) : Type 0 where
@@ -59,7 +60,11 @@ module _ (l : Rules) (on : l.types ≡ true) (framed : AreOfFrames l) (bytes : L
   of_frame : IsOfFrame l (take (q - p) (drop p bytes)) p x ((p, Frame h) ∷ middle ++ (q, End x) ∷ [])
   of_frame = framed_by (framed h r.parts r.told r.body r.extra r.lawful r.flags r.stream (small_body bytes (header_bytes h) r.body r.extra p (q - p) small r.bytes) r.spelled r.limits r.derives r.long)
 
+pub read_with_gifts : ((l : Rules) → l.types ≡ true → AreOfFrames l) → ReadIsSpelledWithGifts
+read_with_gifts framed l gifts bytes before middle after p q x h v on small inner said none =
+    of_frame l on (framed l on) bytes small middle p q x h
+    (frame_back l gifts bytes before middle after p q x h v on small (subst (λ (es : List (ℕ × Event)). Says l (start_with gifts) bytes es v) (in_line before ((p, Frame h) ∷ middle) (q, End x) after) said) none inner)
+
 pub read_is_spelled : ((l : Rules) → l.types ≡ true → AreOfFrames l) → ReadIsSpelled
 read_is_spelled framed l bytes before middle after p q x h v on small inner said =
-    of_frame l on (framed l on) bytes small middle p q x h
-    (frame_back l bytes before middle after p q x h v on small (subst (λ (es : List (ℕ × Event)). Says l start bytes es v) (in_line before ((p, Frame h) ∷ middle) (q, End x) after) said) inner)
+    read_with_gifts framed l [] bytes before middle after p q x h v on small inner said (nothing_in_use l bytes before ((p, Frame h) ∷ middle ++ (q, End x) ∷ []))

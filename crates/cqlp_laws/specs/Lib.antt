@@ -1,4 +1,5 @@
 pub mod Reading
+pub mod Untyped
 pub mod Frames
 pub mod Excess
 pub mod Limits

@@ -5,8 +5,9 @@ use Rattle.cqlp_note.specs.Limits.{Rules}
 use Rattle.cqlp_message.specs.FrameValues.{FrameValue}
 use Rattle.cqlp_grammar.specs.Events.{Event, Frame, End}
 use Rattle.cqlp_message.specs.Frames.{FrameSpells, IsWithin, FrameIsInRange, Flat}
-use Rattle.cqlp_decode.specs.Reading.{Verdict, Says, start}
+use Rattle.cqlp_decode.specs.Reading.{Verdict, Gifts, Says, start, start_with}
 use Rattle.cqlp_decode.specs.Streams.{open_after}
+use Rattle.cqlp_laws.specs.Untyped.{NoneInUse}
 
 -- an event that ends no frame
 abbrev pub EndsNone : ℕ × Event → Type 0
@@ -29,3 +30,13 @@ ReadIsSpelled =
     → l.types ≡ true → All (λ b. b < 256) bytes → All EndsNone middle
     → let events = (p, Frame h) ∷ middle ++ (q, End x) ∷ [] in
     Says l start bytes (before ++ events ++ after) v → IsOfFrame l (take (q - p) (drop p bytes)) p x events
+
+-- The same while types are given, of a frame in which no given types are in use.
+abbrev pub ReadIsSpelledWithGifts : Type 0
+ReadIsSpelledWithGifts =
+    (l : Rules) (gifts : Gifts) (bytes : List ℕ) (before middle after : List (ℕ × Event)) (p q x : ℕ) (h : Header)
+    (v : Verdict)
+    → l.types ≡ true → All (λ b. b < 256) bytes → All EndsNone middle
+    → let events = (p, Frame h) ∷ middle ++ (q, End x) ∷ [] in
+    Says l (start_with gifts) bytes (before ++ events ++ after) v → NoneInUse l gifts bytes before events
+    → IsOfFrame l (take (q - p) (drop p bytes)) p x events

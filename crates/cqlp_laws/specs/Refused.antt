@@ -7,10 +7,11 @@ use Rattle.cqlp_note.specs.Limits.{Rules}
 use Rattle.cqlp_message.specs.FrameValues.{FrameValue}
 use Rattle.cqlp_message.specs.Frames.{AllSpell}
 use Rattle.cqlp_decode.specs.declared.step.Step.TheVariants as step
-use Rattle.cqlp_decode.specs.Reading.{Event, Refused, Says, start}
+use Rattle.cqlp_decode.specs.Reading.{Event, Refused, Gifts, Says, start, start_with}
 use Rattle.cqlp_decode.specs.Standing.{StreamState}
-use Rattle.cqlp_decode.specs.Streams.{After, Answers}
+use Rattle.cqlp_decode.specs.Streams.{After, AfterGifts, Answers}
 use Rattle.cqlp_laws.specs.Limits.{IsOfLimit}
+use Rattle.cqlp_laws.specs.Untyped.{AreWholeFrames, NoneInUse}
 
 -- The fault is the bytes' own: no limit of the caller's, and not that a stream goes on past offset 2 ^ 63.
 abbrev pub IsFault : Reason → Type 0
@@ -31,3 +32,22 @@ DecoderRefusesNoFrame =
     → old.rules.types ≡ true → 1 ≤ old.rules.part → old.refusal ≡ None
     → After old s es → Answers old input (step.Refused r) new → IsFault r.why
     → (t : List ℕ) (fs : List (FrameValue × ℕ)) → AllSpell fs (s ++ input ++ t) → ⊥
+
+-- The same after other frames, while types are given, where no given types are in use on the way: the bytes after those
+-- frames begin no list of frames.
+abbrev pub RefusedIsNoFrameWithGifts : Type 0
+RefusedIsNoFrameWithGifts =
+    (l : Rules) (gifts : Gifts) (s bytes : List ℕ) (before es : List (ℕ × Event)) (k : ℕ) (why : Reason)
+    → l.types ≡ true → 1 ≤ l.part → AreWholeFrames l gifts s before
+    → Says l (start_with gifts) (s ++ bytes) (before ++ es) (Refused k why) → IsFault why
+    → NoneInUse l gifts (s ++ bytes) before es
+    → (t : List ℕ) (fs : List (FrameValue × ℕ)) → AllSpell fs (bytes ++ t) → ⊥
+
+-- And for a decoder that has used whole frames, and these bytes after them.
+abbrev pub DecoderRefusesNoFrameWithGifts : Type 0
+DecoderRefusesNoFrameWithGifts =
+    (gifts : Gifts) (old new : StreamState) (s bytes input : List ℕ) (before es : List (ℕ × Event)) (r : Refusal)
+    → old.rules.types ≡ true → 1 ≤ old.rules.part → old.refusal ≡ None → AreWholeFrames old.rules gifts s before
+    → AfterGifts gifts old (s ++ bytes) (before ++ es) → Answers old input (step.Refused r) new → IsFault r.why
+    → NoneInUse old.rules gifts (s ++ bytes ++ input) before es
+    → (t : List ℕ) (fs : List (FrameValue × ℕ)) → AllSpell fs (bytes ++ input ++ t) → ⊥

@@ -1,11 +1,13 @@
 -- What is written of a frame is read back.
-use Rattle.std.specs.Prelude.{◌≡◌, ◌++◌, ℕ, List, None}
+use Rattle.std.specs.Prelude.{◌≡◌, ◌++◌, ℕ, ◌≤◌, ◌^◌, List, length, None}
 use Rattle.cqlp_note.specs.Limits.{Rules}
 use Rattle.cqlp_value.specs.Values.{Values}
 use Rattle.cqlp_message.specs.FrameValues.{FrameValue}
 use Rattle.cqlp_message.specs.Frames.{FrameIsInRange, IsWithin, Flat, frame_bytes, unfit_of}
 use Rattle.cqlp_message.specs.Pages.{AreItsCells, cells_bytes, page_head, page_unfit_of, with_cells}
-use Rattle.cqlp_decode.specs.Reading.{Waits, Says, start}
+use Rattle.cqlp_decode.specs.Reading.{Event, Gifts, Waits, Says, start, start_with}
+use Rattle.cqlp_laws.specs.Frames.{verdict_between}
+use Rattle.cqlp_laws.specs.Untyped.{AreWholeFrames, NoneInUse}
 
 -- The bytes that are written of a frame within the limits, which nothing keeps from being spelled, are read as its own
 -- events, and then more is waited for: nothing is left.
@@ -22,3 +24,24 @@ PageIsRead =
     → page_unfit_of f n ≡ None → AreItsCells f n cells
     → FrameIsInRange (with_cells f cells) → IsWithin l (with_cells f cells)
     → Says l start (page_head f n ++ cells_bytes cells) (Flat l 0 (with_cells f cells) 0) Waits
+
+-- The same after other frames, while types are given, where no given types are in use on the way.
+abbrev pub WrittenIsReadWithGifts : Type 0
+WrittenIsReadWithGifts =
+    (l : Rules) (gifts : Gifts) (s : List ℕ) (before : List (ℕ × Event)) (f : FrameValue)
+    → AreWholeFrames l gifts s before → length s ≤ 2 ^ 63
+    → FrameIsInRange f → unfit_of f ≡ None → IsWithin l f
+    → NoneInUse l gifts (s ++ frame_bytes f) before (Flat l (length s) f 0)
+    → Says l (start_with gifts) (s ++ frame_bytes f) (before ++ Flat l (length s) f 0)
+    (verdict_between (length (s ++ frame_bytes f)))
+
+abbrev pub PageIsReadWithGifts : Type 0
+PageIsReadWithGifts =
+    (l : Rules) (gifts : Gifts) (s : List ℕ) (before : List (ℕ × Event)) (f : FrameValue) (n : ℕ) (cells : List Values)
+    → AreWholeFrames l gifts s before → length s ≤ 2 ^ 63
+    → page_unfit_of f n ≡ None → AreItsCells f n cells
+    → FrameIsInRange (with_cells f cells) → IsWithin l (with_cells f cells)
+    → let page = page_head f n ++ cells_bytes cells in
+    NoneInUse l gifts (s ++ page) before (Flat l (length s) (with_cells f cells) 0)
+    → Says l (start_with gifts) (s ++ page) (before ++ Flat l (length s) (with_cells f cells) 0)
+    (verdict_between (length (s ++ page)))

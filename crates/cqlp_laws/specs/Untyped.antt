@@ -1,0 +1,17 @@
+-- Frames whose cells no given types are used for.
+use Rattle.std.specs.Prelude.{◌≡◌, ℕ, ◌++◌, false, List, []}
+use Rattle.cqlp_note.specs.Limits.{Rules}
+use Rattle.cqlp_decode.specs.Reading.{Place, Event, Gifts, Reads, start_with, is_in_use}
+use Rattle.cqlp_decode.specs.Streams.{is_open}
+
+-- While the caller gives this, these bytes are read as whole frames: they say these events, no frame is open after
+-- them, and no byte is left.
+abbrev pub AreWholeFrames : Rules → Gifts → List ℕ → List (ℕ × Event) → Type 0
+AreWholeFrames l gifts s es = (p : Place) × Reads l (start_with gifts) s es p [] × (is_open es ≡ false)
+
+-- No given types are in use where these bytes say the events es after those before: wherever the reading stands after a
+-- front of es, none are. (They are in use from the count of a page's rows to the end of its frame.)
+abbrev pub NoneInUse : Rules → Gifts → List ℕ → (before es : List (ℕ × Event)) → Type 0
+NoneInUse l gifts bytes before es =
+    (front back : List (ℕ × Event)) (p : Place) (left : List ℕ)
+    → es ≡ front ++ back → Reads l (start_with gifts) bytes (before ++ front) p left → is_in_use p.given ≡ false
