@@ -1,12 +1,13 @@
 #!/usr/bin/env python3
-"""Writes a stream of one result page to standard output: pages.py rows|collections|columns|blobs [ROWS]
+"""Writes a stream of one result page to standard output: pages.py rows|collections|columns|blobs [bare] [ROWS]
 
 rows         1,000,000 rows of int, bigint, varchar of 16 letters, boolean
 collections  200,000 rows of list<int> of 8 and map<varchar, int> of 3
 columns      5,000 rows of 200 columns of int
 blobs        96 rows of one blob of 1 MiB
 
-A page of more than 256 MB does not fit in a frame. The same words give the same bytes.
+A page of more than 256 MB does not fit in a frame. The same words give the same bytes. A bare page has no metadata; the
+word `types` in place of ROWS writes the digits of the page without rows, whose types are those of the bare page.
 """
 import struct
 import sys
@@ -59,17 +60,32 @@ PAGES = {
 }
 
 
+def head(options, rows, bare):
+    specs = b"".join(text16(b"column%d" % i) + option for i, option in enumerate(options))
+    described = text16(b"shop") + text16(b"orders") + specs
+    return int_(2) + int_(4 if bare else 1) + int_(len(options)) + (b"" if bare else described) + int_(rows)
+
+
+def header(length):
+    return struct.pack(">BBhBi", 0x84, 0, 0, 0x08, length)
+
+
 def main():
     options, rows, row = PAGES[sys.argv[1]]
-    rows = int(sys.argv[2]) if len(sys.argv) > 2 else rows
-    specs = b"".join(text16(b"column%d" % i) + option for i, option in enumerate(options))
-    head = int_(2) + int_(1) + int_(len(options)) + text16(b"shop") + text16(b"orders") + specs + int_(rows)
+    words = sys.argv[2:]
+    if words == ["types"]:
+        described = head(options, 0, False)
+        print((header(len(described)) + described).hex())
+        return
+    bare = words[:1] == ["bare"]
+    rows = int((words[bare:] or [rows])[0])
+    first = head(options, rows, bare)
     # every row of a page is as long as every other
-    length = len(head) + rows * len(row(0))
+    length = len(first) + rows * len(row(0))
     if length > 0x10000000:
         sys.exit("longer than a frame may be")
     out = sys.stdout.buffer
-    out.write(struct.pack(">BBhBi", 0x84, 0, 0, 0x08, length) + head)
+    out.write(header(length) + first)
     for at in range(0, rows, 4096):
         out.write(b"".join(row(i) for i in range(at, min(at + 4096, rows))))
 
