@@ -37,4 +37,5 @@ SpelledIsReadWithGifts =
     (l : Rules) (gifts : Gifts) (s bytes : List ℕ) (before : List (ℕ × Event)) (fs : List (FrameValue × ℕ))
     → AreWholeFrames l gifts s before → AllSpell fs bytes → AllWithin l fs → AllBeginInTime (length s) fs
     → NoneInUse l gifts (s ++ bytes) before (FlatAll l (length s) fs)
-    → Says l (start_with gifts) (s ++ bytes) (before ++ FlatAll l (length s) fs) (verdict_between (length (s ++ bytes)))
+    → Says l (start_with gifts) (s ++ bytes) (before ++ FlatAll l (length s) fs)
+    (verdict_between (length (s ++ bytes)))

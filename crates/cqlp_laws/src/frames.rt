@@ -1,5 +1,5 @@
-//! The laws of frames: what is spelled is read, what is read is spelled, and what is refused is no frame. They hold while
-//! types are given too, of frames in which no given types are in use.
+//! The laws of frames: what is spelled is read, what is read is spelled, and what is refused is no frame. They hold
+//! while types are given too, of frames in which no given types are in use.
 
 ghost use Rattle.cqlp_laws.specs.Frames.{SpelledIsRead, SpelledIsReadWithGifts};
 ghost use Rattle.cqlp_laws.specs.ReadFrames.{ReadIsSpelled, ReadIsSpelledWithGifts};
