@@ -5,6 +5,7 @@ pub mod PageRows
 pub mod EventCounts
 pub mod StepRuns
 pub mod PartsRead
+pub mod Bare
 pub mod FramesRead
 pub mod PlainRuns
 pub mod Refusals

@@ -18,7 +18,7 @@ use Rattle.cqlp_kind.specs.CellStep as cell
 use Rattle.cqlp_grammar.specs.declared.grammar.Role.{Role}
 use Rattle.cqlp_grammar.specs.Events.{Frame, Holds, type_event, cell_event}
 use Rattle.cqlp_grammar.specs.Productions.{Symbol, Stream, In, In_type, Cell_due, In_cell, Extra, fault_in}
-use Rattle.cqlp_decode.specs.Reading.{Event, Place, Nothing, Gifts, is_in_use, settled, retired, gifts_now, gifts_later, held_after_all, given_after, place_of_types, place_of_cells, header_step, value_step, step_at, step, start_with, Reads, Verdict, Waits, Refused, Ends, Says}
+use Rattle.cqlp_decode.specs.Reading.{Event, Place, Given, Nothing, Waiting, InUse, Used, Gifts, is_in_use, settled, retired, gifts_now, gifts_later, held_after_all, given_after, place_of_types, place_of_cells, place_in_frame, place_after, header_step, value_step, step_at, step, start_with, Reads, Verdict, Waits, Refused, Ends, Says}
 use Rattle.cqlp_decode.specs.Streams.{open_after, open_from}
 use Rattle.cqlp_laws.specs.Untyped.{AreWholeFrames, NoneInUse}
 use Rattle.cqlp_laws.proofs.Plain.{IsLike, Both, SaidAlike, step_plain}
@@ -123,9 +123,19 @@ module _ (l : Rules) (gifts : Gifts) (bytes : List ℕ) (before es : List (ℕ �
 
 -- ---- the end of a frame
 
--- after the end of a frame a header is due
+-- a header is due, and no given types are in use
+abbrev pub IsBetween : Place → Type 0
+IsBetween p = (p.symbols ≡ Stream ∷ []) × (is_in_use p.given ≡ false)
+
+-- it is so after the end of a frame
 abbrev IsDue : Emitted Event Place → List ℕ → Type 0
-IsDue x b = open_after x.event ≡ false → (x.after (length b)).symbols ≡ Stream ∷ []
+IsDue x b = open_after x.event ≡ false → IsBetween (x.after (length b))
+
+pub retired_free : (g : Given) → is_in_use (retired g) ≡ false
+retired_free Nothing = refl
+retired_free (Waiting ts) = refl
+retired_free (InUse ts) = refl
+retired_free (Used ts) = refl
 
 type_opens : (e : TypeEvent) → open_after (type_event e) ≡ true
 type_opens (IsNode k) = refl
@@ -135,10 +145,10 @@ cell_opens : (row column : ℕ) (e : CellEvent) → open_after (cell_event row c
 cell_opens row column (cell.Leave level items) = refl
 cell_opens row column e = refl
 
-not_due : (e : Event) (ss : List Symbol) → open_after e ≡ true → open_after e ≡ false → ss ≡ Stream ∷ []
-not_due e ss opens ends = let no : true ≡ false = sym opens ∙ ends in absurd cc
+not_due : (e : Event) (p : Place) → open_after e ≡ true → open_after e ≡ false → IsBetween p
+not_due e p opens ends = let no : true ≡ false = sym opens ∙ ends in absurd cc
 
-always_any : {A F : Type 0} (r : Reader A F) (before : List ℕ) → Always (λ v b. Unit {0}) r before
+pub always_any : {A F : Type 0} (r : Reader A F) (before : List ℕ) → Always (λ v b. Unit {0}) r before
 always_any (Gives v) before = tt
 always_any (Refuses why) before = tt
 always_any Idles before = tt
@@ -147,16 +157,16 @@ always_any (Takes n next) before = λ c long. always_any (next c) (before ++ c)
 module _ (l : Rules) (p : Place) where
   header_ends : (h : Heading) (b : List ℕ) → Always IsDue (header_step p h) b
   header_ends (Err e) b = tt
-  header_ends (Ok h) b = not_due (Frame h) _ refl
+  header_ends (Ok h) b = not_due (Frame h) (place_in_frame p h (length b)) refl
 
   value_ends : (f : Field) (r : Role) (rest : List Symbol) (v : FieldValue) (o : Option Reason) (b : List ℕ) → Always IsDue (value_step l.types p f r rest v o) b
-  value_ends f r rest v None b = not_due (Holds f v) _ refl
+  value_ends f r rest v None b = not_due (Holds f v) (place_after l.types p r rest v (length b)) refl
   value_ends f r rest v (Some why) b = tt
 
   cells_end : (row column : ℕ) (cs : List CellSymbol) (rest : List Symbol) → Always IsDue (map_step (cell_event row column) (place_of_cells row column p rest) (cell_step l (record { offset = p.offset; symbols = cs }))) []
   cells_end row column cs rest =
       let r = cell_step l (record { offset = p.offset; symbols = cs }) in
-      map_always (cell_event row column) (place_of_cells row column p rest) IsDue r [] (always_then (λ x b. Unit {0}) _ r [] (λ x b _. not_due (cell_event row column x.event) _ (cell_opens row column x.event)) (always_any r []))
+      map_always (cell_event row column) (place_of_cells row column p rest) IsDue r [] (always_then (λ x b. Unit {0}) _ r [] (λ x b _. not_due (cell_event row column x.event) (place_of_cells row column p rest (x.after (length b))) (cell_opens row column x.event)) (always_any r []))
 
   step_ends : (ss : List Symbol) → Always IsDue (step_at l p ss) []
   step_ends [] = tt
@@ -166,22 +176,22 @@ module _ (l : Rules) (p : Place) where
       after_always (λ v b. Unit {0}) IsDue p.offset (field_of m (limit_of l m) room) _ [] (always_any (field_of m (limit_of l m) room) []) (λ v b _. value_ends f r rest v (fault_in r v) b)
   step_ends (In_type ts ∷ rest) =
       let r = type_step l (record { offset = p.offset; stop = p.stop; symbols = ts; nodes = p.nodes }) in
-      map_always type_event (place_of_types p rest) IsDue r [] (always_then (λ x b. Unit {0}) _ r [] (λ x b _. not_due (type_event x.event) _ (type_opens x.event)) (always_any r []))
+      map_always type_event (place_of_types p rest) IsDue r [] (always_then (λ x b. Unit {0}) _ r [] (λ x b _. not_due (type_event x.event) (place_of_types p rest (x.after (length b))) (type_opens x.event)) (always_any r []))
   step_ends (Cell_due row column k inner ∷ rest) = cells_end row column (Value_of k inner 0 p.stop ∷ []) rest
   step_ends (In_cell row column cs ∷ rest) = cells_end row column cs rest
-  step_ends (Extra ∷ rest) = λ c long ends. refl
+  step_ends (Extra ∷ rest) = λ c long ends. (refl, retired_free p.given)
 
 -- Where no frame is open, a header is due.
-pub closed_due : (l : Rules) (es : List (ℕ × Event)) (b0 : Bool) (p q : Place) (b left : List ℕ) → (b0 ≡ false → p.symbols ≡ Stream ∷ []) → open_from b0 es ≡ false → Reads l p b es q left → q.symbols ≡ Stream ∷ []
+pub closed_due : (l : Rules) (es : List (ℕ × Event)) (b0 : Bool) (p q : Place) (b left : List ℕ) → (b0 ≡ false → IsBetween p) → open_from b0 es ≡ false → Reads l p b es q left → IsBetween q
 closed_due l [] b0 p q b left due closed r = rw r.0 (due closed)
 closed_due l (e ∷ es) b0 p q b left due closed r =
     let x : Emitted Event Place = record { at = e.0; event = e.1; after = r.1 } in
     let t = taken (step l p) x r.0 b r.2 in
-    let next : open_after e.1 ≡ false → (r.1 r.0).symbols ≡ Stream ∷ [] = rw t.long at (yields_always IsDue (step l p) x [] t.front (step_ends l (settled p) p.symbols) t.yields) in
+    let next : open_after e.1 ≡ false → IsBetween (r.1 r.0) = rw t.long at (yields_always IsDue (step l p) x [] t.front (step_ends l (settled p) p.symbols) t.yields) in
     closed_due l es (open_after e.1) (r.1 r.0) q (drop r.0 b) left next closed r.3
 
 pub whole_due : (l : Rules) (gifts : Gifts) (s : List ℕ) (es : List (ℕ × Event)) (w : AreWholeFrames l gifts s es) → w.0.symbols ≡ Stream ∷ []
-whole_due l gifts s es w = closed_due l es false (start_with gifts) w.0 s [] (λ _. refl) w.2 w.1
+whole_due l gifts s es w = (closed_due l es false (start_with gifts) w.0 s [] (λ _. (refl, refl)) w.2 w.1).0
 
 header_only : (l : Rules) (p : Place) (ss : List Symbol) (b : List ℕ) → IsAtStream ss → says (step_at l (settled p) ss) 0 b ≡ says (step_at l (settled p) (Stream ∷ [])) 0 b
 header_only l p [] b h = absurd h

@@ -3,6 +3,7 @@
 
 ghost use Rattle.cqlp_laws.specs.Frames.{SpelledIsRead, SpelledIsReadWithGifts};
 ghost use Rattle.cqlp_laws.specs.ReadFrames.{ReadIsSpelled, ReadIsSpelledWithGifts};
+ghost use Rattle.cqlp_laws.specs.Untyped.{GivenTypesAreForPagesWithoutMetadata};
 ghost use Rattle.cqlp_laws.specs.Written.{PageIsRead, PageIsReadWithGifts, WrittenIsRead, WrittenIsReadWithGifts};
 ghost use Rattle.cqlp_laws.specs.Refused.{DecoderRefusesNoFrame, DecoderRefusesNoFrameWithGifts};
 ghost use Rattle.cqlp_laws.specs.Refused.{RefusedIsNoFrame, RefusedIsNoFrameWithGifts};
@@ -41,4 +42,10 @@ pub fn refused_is_no_frame()
     ensures stream_with_gifts { RefusedIsNoFrameWithGifts }
     ensures decoder { DecoderRefusesNoFrame }
     ensures decoder_with_gifts { DecoderRefusesNoFrameWithGifts }
+{}
+
+/// Given types are for pages without metadata alone: whatever is given, none are in use in frames that do not say the
+/// flag No_metadata (0x04, section 4.2.5.2 of `native_protocol_v4.spec`).
+pub fn given_types_are_for_pages_without_metadata()
+    ensures { GivenTypesAreForPagesWithoutMetadata }
 {}
