@@ -1,0 +1,249 @@
+"""The decoder, and how it ends."""
+
+import ctypes
+import threading
+from dataclasses import dataclass
+from typing import Any, List, NamedTuple, Optional, Tuple, Union
+
+from . import _native
+from ._events import Event, camel
+from .numbers import End, Field, Kind, Mark, Opcode, Reason, Stop, Tag
+
+
+class Error(Exception):
+    """What this package raises."""
+
+
+class BadLimits(Error, ValueError):
+    """A limit is out of its range; `limit` is its name."""
+
+    def __init__(self, limit: str) -> None:
+        super().__init__("the limit %r is out of its range" % limit)
+        self.limit = limit
+
+
+class Refused(Error, ValueError):
+    """A stream is refused: at the offset `at` of the field that could not be made, for `reason`. `events` are those of the last
+    piece that come before."""
+
+    def __init__(self, at: int, reason: Union[Reason, int], events: "List[Event]") -> None:
+        super().__init__("refused at %d: %s" % (at, camel(reason)))
+        self.at = at
+        self.reason = reason
+        self.events = events
+
+
+class Cut(Error, EOFError):
+    """A stream ends within the frame that begins at the offset `at`, after `bytes` bytes."""
+
+    def __init__(self, at: int, bytes: int) -> None:
+        super().__init__("cut after %d bytes, within the frame at %d" % (bytes, at))
+        self.at = at
+        self.bytes = bytes
+
+
+class Closed(Error, ValueError):
+    """The decoder was closed."""
+
+    def __init__(self) -> None:
+        super().__init__("the decoder was closed")
+
+
+@dataclass(frozen=True)
+class Limits:
+    """What a decoder holds at most, and what it reads."""
+
+    text: int = 1 << 20
+    """The bytes of one [string] or [long string]: 32 to 16777216."""
+    cell: int = 1 << 20
+    """The bytes of one [bytes], [short bytes], [value] or scalar cell: 32 to 16777216."""
+    entries: int = 4096
+    """The type options of one metadata, nested ones counted: 1 to 65536."""
+    depth: int = 16
+    """The nesting of one type, a column's own option having depth 1: 1 to 64."""
+    types: bool = True
+    """Whether cells are read by the types of their columns; else each is a raw scalar."""
+    parts: bool = False
+    """Whether a blob, custom or raw scalar longer than `cell` comes in parts of that size; else it is refused."""
+
+    def _native(self) -> _native.Limits:
+        for name in ("text", "cell", "entries", "depth"):
+            if not 0 <= getattr(self, name) < 1 << 32:
+                raise BadLimits(name)
+        return _native.Limits(self.text, self.cell, self.entries, self.depth, self.types, self.parts)
+
+
+class Verdict(NamedTuple):
+    """How a stream ends. `str` of it is the verdict line of `cqlp check`."""
+
+    end: End
+    at: int
+    """Where it is cut: the offset of the frame; where it is refused: that of the field."""
+    bytes: int
+    """How many bytes were used; 0 where it is refused."""
+    reason: Optional[Union[Reason, int]]
+    """Where it is refused."""
+
+    def __str__(self) -> str:
+        if self.end == End.WHOLE:
+            return "whole %d" % self.bytes
+        if self.end == End.CUT:
+            return "cut %d %d" % (self.at, self.bytes)
+        return "refused %d %s" % (self.at, camel(self.reason))
+
+
+class Held(NamedTuple):
+    """What a decoder holds of the stream."""
+
+    bytes: int
+    """Of a content that came in pieces: no more than the greater of `text` and `cell`."""
+    entries: int
+    """The type options of the metadata begun last: no more than `entries`."""
+    levels: int
+    """The types or values around the one that is read: no more than `depth`."""
+
+
+def _named(names: Any) -> Tuple[Any, ...]:
+    """For each byte the name that it has, or the byte itself."""
+    known = {int(name): name for name in names}
+    return tuple(known.get(number, number) for number in range(256))
+
+
+_TAGS, _FIELDS, _KINDS, _OPCODES, _MARKS, _REASONS = map(_named, (Tag, Field, Kind, Opcode, Mark, Reason))
+_LIMITS = {
+    _native.BAD_TEXT: "text",
+    _native.BAD_CELL: "cell",
+    _native.BAD_ENTRIES: "entries",
+    _native.BAD_DEPTH: "depth",
+}
+
+
+def _must_be_done(code: int) -> None:
+    if code == _native.DONE:
+        return
+    if code in _LIMITS:
+        raise BadLimits(_LIMITS[code])
+    if code == _native.NO_DECODER:
+        raise Closed
+    raise MemoryError("cqlp") if code == _native.NO_MEMORY else Error("code %d" % code)
+
+
+def _address(data: bytes) -> int:
+    """Where the bytes of an object lie, as long as it lives."""
+    return ctypes.cast(data, ctypes.c_void_p).value or 0
+
+
+def _verdict(end: _native.End) -> Verdict:
+    refused = end.verdict == End.REFUSED
+    return Verdict(End(end.verdict), end.at, end.bytes, _REASONS[end.reason] if refused else None)
+
+
+def _event(record: Tuple[Any, ...], content: bytes) -> Event:
+    at, _, _, number, row, column, level, extra, octets, tag, field, kind, opcode, flags, mark, count = record
+    return Event(
+        at,
+        content,
+        number,
+        row,
+        column,
+        level,
+        extra,
+        octets[:count],
+        _TAGS[tag],
+        _FIELDS[field],
+        _KINDS[kind],
+        _OPCODES[opcode],
+        flags,
+        _MARKS[mark],
+    )
+
+
+class Decoder:
+    """Reads the frames of one stream, from pieces of any size.
+
+    It is closed by `close`, or as a context manager, or when it is let go. A lock keeps calls from several threads apart.
+    """
+
+    def __init__(self, limits: Limits = Limits(), *, room: int = 256) -> None:
+        """All of its memory is asked for here. `room` is how many events one call of the library puts."""
+        self._handle = _native.Handle(0, None)
+        self._lock = threading.Lock()
+        self._room = max(1, room)
+        self._array = (_native.Event * self._room)()
+        self._bytes = (ctypes.c_char * ctypes.sizeof(self._array)).from_buffer(self._array)
+        self._batch = _native.Batch()
+        _must_be_done(_native.library.cqlp_new(limits._native(), self._handle))
+
+    def decode(self, data: bytes) -> List[Event]:
+        """The events that the next bytes of the stream end. Where the stream is refused, here or before, Refused is raised, and has
+        the events before it."""
+        events: List[Event] = []
+        for batch in self._batches(bytes(data), events):
+            events += batch
+        return events
+
+    def finish(self) -> Verdict:
+        """How the stream ends, if it ends here. It changes nothing."""
+        end = _native.End()
+        with self._lock:
+            _must_be_done(_native.library.cqlp_finish(self._handle, end))
+        return _verdict(end)
+
+    def held(self) -> Held:
+        """How much is held of the stream. It changes nothing."""
+        holding = _native.Holding()
+        with self._lock:
+            _must_be_done(_native.library.cqlp_held(self._handle, holding))
+        return Held(holding.bytes, holding.entries, holding.levels)
+
+    def close(self) -> None:
+        """Frees the decoder; a second time does nothing. Each other call raises Closed from then on."""
+        with self._lock:
+            _native.library.cqlp_free(self._handle)
+
+    def __enter__(self) -> "Decoder":
+        return self
+
+    def __exit__(self, *_: object) -> None:
+        self.close()
+
+    def __del__(self) -> None:
+        if hasattr(self, "_batch"):
+            _native.library.cqlp_free(self._handle)
+
+    def _batches(self, data: bytes, events: List[Event]) -> Any:
+        """The events of a piece, a list for each call of the library. A refusal has `events` beside those of its own batch."""
+        used, stop = 0, Stop.FULL
+        while stop == Stop.FULL:
+            with self._lock:
+                taken, stop, batch = self._take(data, used)
+                refusal = self._batch.at, _REASONS[self._batch.reason]
+            used += taken
+            if stop == Stop.REFUSED:
+                raise Refused(*refusal, events + batch)
+            yield batch
+
+    def _take(self, data: bytes, used: int) -> Tuple[int, int, List[Event]]:
+        """One call of the library, with what comes after the used bytes. Each content is copied before the next call."""
+        base, batch = _address(data), self._batch
+        code = _native.library.cqlp_next(self._handle, base + used, len(data) - used, self._array, self._room, batch)
+        _must_be_done(code)
+        past = base + len(data)
+        events = []
+        for record in _native.RECORD.iter_unpack(memoryview(self._bytes)[: batch.events * _native.RECORD.size]):
+            place, length = record[1], record[2]
+            if not length:
+                content = b""
+            elif base <= place and place + length <= past:
+                content = data[place - base : place - base + length]
+            else:
+                content = ctypes.string_at(place, length)
+            events.append(_event(record, content))
+        return batch.used, batch.stop, events
+
+
+def check(data: bytes, limits: Limits = Limits()) -> Verdict:
+    """How a stream ends that is there whole: what a decoder with these limits says of it."""
+    data, end = bytes(data), _native.End()
+    _must_be_done(_native.library.cqlp_check(limits._native(), _address(data), len(data), end))
+    return _verdict(end)

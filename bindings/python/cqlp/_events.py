@@ -1,0 +1,111 @@
+"""Events, and their lines."""
+
+from typing import NamedTuple, Optional, Union
+
+from ._values import UNSET, ValueOf, address, leaf_text, leaf_value, quoted, uuid_of
+from .numbers import Field, Kind, Mark, Opcode, Tag
+
+
+class Event(NamedTuple):
+    """An event: what `include/cqlp.h` says of `cqlp_event`. What its tag has no use for is 0, or no bytes.
+
+    `str(event)` is the line that `cqlp show` writes of it, and `event.value` what it tells, as a Python value.
+    """
+
+    at: int
+    """The offset in the stream of the event's field; an end's is the frame's end."""
+    content: bytes
+    number: int
+    row: int
+    column: int
+    level: int
+    extra: int
+    octets: bytes
+    """A uuid, an address or a binary number, in the order of the stream."""
+    tag: Union[Tag, int]
+    field: Union[Field, int]
+    kind: Union[Kind, int]
+    opcode: Union[Opcode, int]
+    flags: int
+    mark: Union[Mark, int]
+
+    @property
+    def value(self) -> ValueOf:
+        """A text is a str, bytes are bytes or None, a uuid a UUID, an [inet] an address and a port, a leaf the value of its
+        type; else it is the number. A bound value that is not set is UNSET."""
+        tag = self.tag
+        if tag == Tag.LEAF:
+            return leaf_value(self)
+        if tag == Tag.TEXT:
+            return self.content.decode("utf-8")
+        if tag in (Tag.BYTES, Tag.BOUND):
+            return {Mark.NULL: None, Mark.UNSET: UNSET}.get(self.mark, self.content)
+        if tag == Tag.PART:
+            return self.content
+        if tag == Tag.UUID:
+            return uuid_of(self)
+        if tag == Tag.INET:
+            return address(self), self.extra
+        return None if tag == Tag.NULL else self.number
+
+    def __str__(self) -> str:
+        words = _WORDS.get(self.tag)
+        return " ".join([str(self.at), camel(self.tag), *(words(self) if words else ())])
+
+
+def camel(number: Optional[int]) -> str:
+    """The name of a field, a tag or a reason, as lines have it; a number that has none is itself."""
+    name = getattr(number, "name", None)
+    return str(number) if name is None else "".join(word.capitalize() for word in name.split("_"))
+
+
+def _kind(event: Event) -> str:
+    return getattr(event.kind, "name", str(event.kind)).lower()
+
+
+def _numbered(event: Event) -> tuple:
+    return camel(event.field), str(event.number)
+
+
+def _lent(event: Event) -> tuple:
+    """Bytes, or that there are none."""
+    word = {Mark.NULL: "null", Mark.UNSET: "unset"}.get(event.mark)
+    return camel(event.field), word or "0x" + event.content.hex()
+
+
+def _place(event: Event) -> tuple:
+    return str(event.row), str(event.column), str(event.level)
+
+
+_WORDS = {
+    Tag.FRAME: lambda e: (
+        "response" if e.mark == Mark.RESPONSE else "request",
+        "%02x" % e.flags,
+        str(e.extra),
+        getattr(e.opcode, "name", str(e.opcode)),
+        str(e.number),
+    ),
+    Tag.BYTE: _numbered,
+    Tag.SHORT: _numbered,
+    Tag.INT: _numbered,
+    Tag.LONG: _numbered,
+    Tag.COUNT: _numbered,
+    Tag.UUID: lambda e: (camel(e.field), str(uuid_of(e))),
+    Tag.TEXT: lambda e: (camel(e.field), quoted(e.content)),
+    Tag.BYTES: _lent,
+    Tag.BOUND: _lent,
+    Tag.INET: lambda e: (camel(e.field), getattr(address(e), "exploded"), str(e.extra)),
+    Tag.TYPE_NODE: lambda e: (_kind(e),),
+    Tag.LEAF: lambda e: (*_place(e), leaf_text(e)),
+    Tag.NULL: _place,
+    Tag.EMPTY: _place,
+    Tag.ENTER: lambda e: (*_place(e), _kind(e), str(e.number)),
+    Tag.LEAVE: lambda e: (str(e.level), str(e.number)),
+    Tag.PART: lambda e: (
+        *_place(e),
+        str(e.number),
+        "last" if e.mark == Mark.LAST else "more",
+        "0x" + e.content.hex(),
+    ),
+    Tag.END: lambda e: (str(e.number),),
+}

@@ -1,0 +1,87 @@
+"""The calls of include/cqlp.h, by ctypes."""
+
+import ctypes
+import os
+import struct
+from ctypes import POINTER, c_int32, c_int64, c_size_t, c_uint8, c_uint32, c_uint64, c_void_p
+from pathlib import Path
+
+
+class Limits(ctypes.Structure):
+    _fields_ = [
+        ("text", c_uint32),
+        ("cell", c_uint32),
+        ("entries", c_uint32),
+        ("depth", c_uint32),
+        ("types", c_uint8),
+        ("parts", c_uint8),
+    ]
+
+
+class Handle(ctypes.Structure):
+    _fields_ = [("live", c_uint64), ("place", c_void_p)]
+
+
+class Event(ctypes.Structure):
+    _fields_ = [
+        ("at", c_uint64),
+        ("content", c_void_p),
+        ("length", c_size_t),
+        ("number", c_int64),
+        ("row", c_uint32),
+        ("column", c_uint32),
+        ("level", c_uint32),
+        ("extra", c_int32),
+        ("bytes", c_uint8 * 16),
+        ("tag", c_uint8),
+        ("field", c_uint8),
+        ("kind", c_uint8),
+        ("opcode", c_uint8),
+        ("flags", c_uint8),
+        ("mark", c_uint8),
+        ("octets", c_uint8),
+    ]
+
+
+class Batch(ctypes.Structure):
+    _fields_ = [("used", c_size_t), ("events", c_size_t), ("at", c_uint64), ("stop", c_uint8), ("reason", c_uint8)]
+
+
+class End(ctypes.Structure):
+    _fields_ = [("at", c_uint64), ("bytes", c_uint64), ("verdict", c_uint8), ("reason", c_uint8)]
+
+
+class Holding(ctypes.Structure):
+    _fields_ = [("bytes", c_uint32), ("entries", c_uint32), ("levels", c_uint32)]
+
+
+# The members of an event, in the order of Event: many are read at once.
+RECORD = struct.Struct("@QPNqIIIi16sBBBBBBB0Q")
+if RECORD.size != ctypes.sizeof(Event):
+    raise ImportError("cqlp: an event has another size here")
+
+DONE, BAD_TEXT, BAD_CELL, BAD_ENTRIES, BAD_DEPTH, NO_MEMORY, NO_DECODER, IN_USE = range(8)
+
+
+def _load() -> ctypes.CDLL:
+    """The library that CQLP_LIBRARY names; else what bindings/build made; else the system's."""
+    named = os.environ.get("CQLP_LIBRARY")
+    if named:
+        return ctypes.CDLL(named)
+    built = Path(__file__).resolve().parents[2] / "out" / "libcqlp.so"
+    return ctypes.CDLL(str(built) if built.exists() else "libcqlp.so")
+
+
+library = _load()
+
+for name, arguments in (
+    ("cqlp_new", [POINTER(Limits), POINTER(Handle)]),
+    ("cqlp_next", [POINTER(Handle), c_void_p, c_size_t, c_void_p, c_size_t, POINTER(Batch)]),
+    ("cqlp_finish", [POINTER(Handle), POINTER(End)]),
+    ("cqlp_held", [POINTER(Handle), POINTER(Holding)]),
+    ("cqlp_free", [POINTER(Handle)]),
+    ("cqlp_check", [POINTER(Limits), c_void_p, c_size_t, POINTER(End)]),
+):
+    call = getattr(library, name)
+    call.argtypes = arguments
+    call.restype = c_uint32

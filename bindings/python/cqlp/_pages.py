@@ -1,0 +1,296 @@
+"""The rows of pages, as Python values."""
+
+from typing import Any, Iterator, List, NamedTuple, Optional, Tuple
+
+from ._decoder import Limits
+from ._events import Event
+from ._sources import Progress, Source, batches
+from ._values import EMPTY, LEAVES, ValueOf, content_of
+from .numbers import Field, Kind, Mark, Tag
+
+_ROWS_RESULT = 2
+_TEXTS = (Kind.ASCII, Kind.VARCHAR)
+_BYTES = (Kind.BLOB, Kind.CUSTOM, Kind.RAW)
+
+
+class Type(NamedTuple):
+    """The type of a column."""
+
+    kind: Kind
+    inner: "Tuple[Type, ...]" = ()
+    """The types in it: one of a list or a set, a key's and a value's of a map, one for each field of a tuple or a udt."""
+    names: Tuple[str, ...] = ()
+    """The names of the fields of a udt."""
+    name: str = ""
+    """The name of a udt, with its keyspace; the class of a custom type."""
+
+    def __str__(self) -> str:
+        word = getattr(self.kind, "name", str(self.kind)).lower()
+        if self.kind == Kind.UDT:
+            return self.name
+        return "%s<%s>" % (word, ", ".join(map(str, self.inner))) if self.inner else word
+
+
+class Column(NamedTuple):
+    """A column of a page."""
+
+    keyspace: str
+    table: str
+    name: str
+    type: Type
+
+
+_RAW = Type(Kind.RAW)
+_ARITY = {Kind.LIST: 1, Kind.SET: 1, Kind.MAP: 2}
+
+
+class _Open:
+    """A type option whose parameters are still to come."""
+
+    def __init__(self, kind: Kind) -> None:
+        self.kind = kind
+        self.inner: List[Type] = []
+        self.names: List[str] = []
+        self.words: List[str] = []
+        # a custom type is whole after its class, a tuple or a udt after as many fields as come to be told
+        self.wanted = None if kind in (Kind.CUSTOM, Kind.TUPLE, Kind.UDT) else _ARITY.get(kind, 0)
+
+    def type(self) -> Type:
+        return Type(self.kind, tuple(self.inner), tuple(self.names), ".".join(self.words))
+
+
+class _Types:
+    """Makes a type of the events of a type option."""
+
+    def __init__(self) -> None:
+        self.open: List[_Open] = []
+
+    def add(self, event: Event) -> Optional[Type]:
+        """The type, once it is whole."""
+        if event.tag == Tag.TYPE_NODE:
+            self.open.append(_Open(event.kind))
+        elif event.tag == Tag.COUNT:
+            self.open[-1].wanted = event.number
+        elif event.field == Field.FIELD_NAME:
+            self.open[-1].names.append(event.value)
+        else:
+            self.open[-1].words.append(event.value)
+            if event.field == Field.CLASS:
+                self.open[-1].wanted = 0
+        return self._closed()
+
+    def _closed(self) -> Optional[Type]:
+        while self.open[-1].wanted == len(self.open[-1].inner):
+            whole = self.open.pop().type()
+            if not self.open:
+                return whole
+            self.open[-1].inner.append(whole)
+        return None
+
+
+def _frozen(value: ValueOf) -> ValueOf:
+    """A value that may be in a set: a list as a tuple, a set as a frozenset, a dict as the tuple of its pairs."""
+    if isinstance(value, (list, tuple)):
+        return tuple(map(_frozen, value))
+    if isinstance(value, set):
+        return frozenset(value)
+    if isinstance(value, dict):
+        return tuple((key, _frozen(item)) for key, item in value.items())
+    return value
+
+
+class _Items:
+    """A list, set, map, tuple or udt whose items are still to come."""
+
+    def __init__(self, event: Event, type: Type) -> None:
+        self.kind = type.kind
+        self.type = type
+        self.wanted = event.number
+        self.values: List[ValueOf] = []
+
+    def next_type(self) -> Type:
+        """The type of the item that comes next."""
+        count, inner = len(self.values), self.type.inner
+        if self.kind in (Kind.TUPLE, Kind.UDT):
+            return inner[count]
+        return inner[count % 2] if self.kind == Kind.MAP else inner[0]
+
+    def value(self) -> ValueOf:
+        values = self.values
+        if self.kind == Kind.LIST:
+            return values
+        if self.kind == Kind.SET:
+            return set(map(_frozen, values))
+        if self.kind == Kind.MAP:
+            return dict(zip(map(_frozen, values[::2]), values[1::2]))
+        values += [None] * (self.wanted - len(values))
+        return dict(zip(self.type.names, values)) if self.kind == Kind.UDT else tuple(values)
+
+
+class Page:
+    """A page. It is iterated once, and gives its rows, each a tuple with a value of each column. A page without columns gives none,
+    whatever its count."""
+
+    def __init__(self, pages: "Pages", columns: Tuple[Column, ...], width: int, count: int, state: Optional[bytes]) -> None:
+        self.columns = columns
+        """Its columns; none where its metadata tell none."""
+        self.width = width
+        """How many columns it has, also where none are told."""
+        self.count = count
+        """How many rows it says that it has."""
+        self.paging_state = state
+        """Where the result goes on, or None where this is its last page."""
+        self._pages = pages
+
+    def __iter__(self) -> Iterator[Tuple[ValueOf, ...]]:
+        return self
+
+    def __next__(self) -> Tuple[ValueOf, ...]:
+        pages = self._pages
+        if pages._current is not self:
+            raise StopIteration
+        row = next(pages._found, None)
+        if not isinstance(row, tuple):
+            pages._current, pages._coming = None, row
+            raise StopIteration
+        return row
+
+
+class Pages:
+    """The pages of a stream, one after the other; each is to be used before the next is asked for.
+
+    Of frames that are no page nothing is told. Where the stream is refused or cut, the error comes after the last row before
+    that place.
+    """
+
+    def __init__(
+        self,
+        source: Source,
+        limits: Limits = Limits(),
+        *,
+        piece: int = 65536,
+        progress: Optional[Progress] = None,
+    ) -> None:
+        self._found = _found(self, batches(source, limits, piece, progress))
+        self._current: Optional[Page] = None
+        self._coming: Optional[Page] = None
+
+    def __iter__(self) -> "Pages":
+        return self
+
+    def __next__(self) -> Page:
+        for _ in self._current or ():
+            pass
+        page = self._coming or next(self._found, None)
+        if page is None:
+            raise StopIteration
+        self._current, self._coming = page, None
+        return page
+
+
+class _Metadata:
+    """What the events of a frame say before its rows."""
+
+    def __init__(self) -> None:
+        self.kind = 0
+        self.width = 0
+        self.state: Optional[bytes] = None
+        self.words: dict = {}
+        self.types = _Types()
+        self.columns: List[Column] = []
+
+    def add(self, event: Event) -> None:
+        if self.types.open or event.tag == Tag.TYPE_NODE:
+            whole = self.types.add(event)
+            if whole:
+                self.columns.append(Column(*(self.words.get(field, "") for field in _SPEC), whole))
+        elif event.tag == Tag.TEXT:
+            self.words[event.field] = event.value
+        elif event.field == Field.RESULT_KIND:
+            self.kind = event.number
+        elif event.field == Field.COLUMNS:
+            self.width = event.number
+        elif event.field == Field.PAGING_STATE:
+            self.state = event.value
+
+
+_SPEC = (Field.KEYSPACE, Field.TABLE, Field.COLUMN_NAME)
+_CELLS = (Tag.LEAF, Tag.NULL, Tag.EMPTY, Tag.ENTER, Tag.LEAVE, Tag.PART)
+
+
+def _found(pages: Pages, batches: Iterator[List[Event]]) -> Iterator[Any]:
+    """Each page, and after it each of its rows."""
+    metadata, cells = _Metadata(), _Cells(_Metadata())
+    for batch in batches:
+        for event in batch:
+            if event.tag in _CELLS:
+                if cells.add(event):
+                    yield cells.row()
+            elif event.tag == Tag.FRAME:
+                metadata = _Metadata()
+            elif event.field == Field.ROWS and metadata.kind == _ROWS_RESULT:
+                cells = _Cells(metadata)
+                yield Page(pages, tuple(metadata.columns), metadata.width, event.number, metadata.state)
+            else:
+                metadata.add(event)
+
+
+class _Cells:
+    """Puts values together to cells, and cells to rows."""
+
+    def __init__(self, metadata: _Metadata) -> None:
+        self.types = [column.type for column in metadata.columns]
+        self.last = metadata.width - 1
+        self.values: List[ValueOf] = []
+        self.open: List[_Items] = []
+        self.parts: List[bytes] = []
+
+    def row(self) -> Tuple[ValueOf, ...]:
+        row, self.values = tuple(self.values), []
+        return row
+
+    def add(self, event: Event) -> bool:
+        """Whether the event ends a row."""
+        tag = event.tag
+        if tag == Tag.LEAF:
+            value = LEAVES.get(event.kind, content_of)(event)
+        elif tag == Tag.NULL:
+            value = None
+        elif tag == Tag.EMPTY:
+            value = self._empty()
+        elif tag == Tag.ENTER:
+            self.open.append(_Items(event, self._next_type()))
+            return False
+        elif tag == Tag.LEAVE:
+            value = self.open.pop().value()
+        else:
+            self.parts.append(event.content)
+            if event.mark != Mark.LAST:
+                return False
+            value, self.parts = b"".join(self.parts), []
+        if self.open:
+            self.open[-1].values.append(value)
+            return False
+        self.values.append(value)
+        return len(self.values) > self.last
+
+    def _next_type(self) -> Type:
+        if self.open:
+            return self.open[-1].next_type()
+        return self.types[len(self.values)] if self.types else _RAW
+
+    def _empty(self) -> ValueOf:
+        kind = self._next_type().kind
+        return "" if kind in _TEXTS else b"" if kind in _BYTES else EMPTY
+
+
+def rows(
+    source: Source,
+    limits: Limits = Limits(),
+    *,
+    piece: int = 65536,
+    progress: Optional[Progress] = None,
+) -> Iterator[Tuple[ValueOf, ...]]:
+    """The rows of all pages of a stream, as tuples."""
+    for page in Pages(source, limits, piece=piece, progress=progress):
+        yield from page

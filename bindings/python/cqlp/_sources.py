@@ -1,0 +1,73 @@
+"""Streams from bytes and files."""
+
+import os
+from typing import Any, BinaryIO, Callable, Iterator, List, Optional, Tuple, Union
+
+from ._decoder import Cut, Decoder, Limits, Refused
+from ._events import Event
+from .numbers import End
+
+Source = Union[bytes, bytearray, memoryview, str, "os.PathLike[str]", BinaryIO]
+"""Bytes; the path of a file; or a binary file that is open, also a pipe."""
+
+Progress = Callable[[int, Optional[int]], None]
+"""Is told, after each piece, how many bytes were read, and of how many, or None where that is not known."""
+
+
+def _pieces(source: Source, size: int) -> Iterator[Tuple[bytes, Optional[int]]]:
+    """The pieces of a source, each with the bytes of the whole."""
+    if isinstance(source, (bytes, bytearray, memoryview)):
+        view = memoryview(source).cast("B")
+        for at in range(0, len(view), size):
+            yield bytes(view[at : at + size]), len(view)
+    elif isinstance(source, (str, os.PathLike)):
+        with open(source, "rb") as file:
+            yield from _pieces(file, size)
+    else:
+        total = _length_of(source)
+        # what is there is taken, and a pipe not waited for until the piece is full
+        read = getattr(source, "read1", source.read)
+        while piece := read(size):
+            yield piece, total
+
+
+def _length_of(file: BinaryIO) -> Optional[int]:
+    """How many bytes are left of a file that has an end."""
+    try:
+        at = file.tell()
+        end = file.seek(0, os.SEEK_END)
+        file.seek(at)
+    except (AttributeError, OSError, ValueError):
+        return None
+    return end - at
+
+
+def batches(source: Source, limits: Limits, piece: int, progress: Optional[Progress]) -> Iterator[List[Event]]:
+    """The events of a source, batch by batch; the one before a refusal too."""
+    read = 0
+    with Decoder(limits) as decoder:
+        for data, total in _pieces(source, piece):
+            try:
+                yield from decoder._batches(data, [])
+            except Refused as refused:
+                yield refused.events
+                raise
+            read += len(data)
+            if progress:
+                progress(read, total)
+        verdict = decoder.finish()
+    if verdict.end == End.CUT:
+        raise Cut(verdict.at, verdict.bytes)
+
+
+def events(
+    source: Source,
+    limits: Limits = Limits(),
+    *,
+    piece: int = 65536,
+    progress: Optional[Progress] = None,
+) -> Iterator[Event]:
+    """The events of a stream, read in pieces of at most this many bytes. After the last event, Refused or Cut is raised where the
+    stream is refused or cut."""
+    for batch in batches(source, limits, piece, progress):
+        yield from batch

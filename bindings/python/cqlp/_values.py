@@ -1,0 +1,188 @@
+"""Scalars as Python values, and as the texts of `cqlp show`."""
+
+import datetime
+import decimal
+import ipaddress
+import re
+import struct
+import uuid
+from typing import Any, Union
+
+from .numbers import Kind
+
+ValueOf = Any
+"""None, an int, str, bytes, float, bool, Decimal, UUID, datetime, date, address, Nanoseconds, or a collection of these."""
+
+
+class _Word:
+    """A value that is none of Python's."""
+
+    def __init__(self, name: str) -> None:
+        self._name = name
+
+    def __repr__(self) -> str:
+        return self._name
+
+    def __reduce__(self) -> str:
+        return self._name
+
+
+EMPTY = _Word("EMPTY")
+"""A value of no bytes, of a type that is neither a text nor bytes."""
+
+UNSET = _Word("UNSET")
+"""A bound value that is not set."""
+
+
+class Nanoseconds(int):
+    """A `time`: nanoseconds since midnight. `datetime.time` has only microseconds."""
+
+    def time(self) -> datetime.time:
+        """Without what is below a microsecond."""
+        seconds, nanoseconds = divmod(int(self), 1_000_000_000)
+        minutes, second = divmod(seconds, 60)
+        hour, minute = divmod(minutes, 60)
+        return datetime.time(hour, minute, second, nanoseconds // 1000)
+
+
+class Days(int):
+    """A `date` before the year 1 or after 9999: days from the first of January 1970."""
+
+
+class Milliseconds(int):
+    """A `timestamp` before the year 1 or after 9999: milliseconds from the start of 1970, in UTC."""
+
+
+_EPOCH = datetime.datetime(1970, 1, 1, tzinfo=datetime.timezone.utc)
+_FIRST, _LAST = -62_135_596_800_000, 253_402_300_799_999
+_ORDINAL = datetime.date(1970, 1, 1).toordinal()
+_EXACT = decimal.Context(prec=decimal.MAX_PREC, Emin=decimal.MIN_EMIN, Emax=decimal.MAX_EMAX)
+
+
+def uuid_of(event: Any) -> uuid.UUID:
+    return uuid.UUID(bytes=bytes(event.octets))
+
+
+def address(event: Any) -> Union[ipaddress.IPv4Address, ipaddress.IPv6Address]:
+    return ipaddress.ip_address(bytes(event.octets))
+
+
+def integer(content: bytes) -> int:
+    """A number in two's complement."""
+    return int.from_bytes(content, "big", signed=True)
+
+
+def exact(number: int) -> decimal.Decimal:
+    """Of this value, however long. `Decimal(number)` takes time that grows with the square of the length, halves less."""
+    half = number.bit_length() // 2
+    if half < 8192:
+        return decimal.Decimal(number)
+    high, low = exact(number >> half), exact(number & ((1 << half) - 1))
+    return _EXACT.add(_EXACT.multiply(high, _EXACT.power(2, half)), low)
+
+
+def timestamp(milliseconds: int) -> Union[datetime.datetime, Milliseconds]:
+    if _FIRST <= milliseconds <= _LAST:
+        return _EPOCH + datetime.timedelta(milliseconds=milliseconds)
+    return Milliseconds(milliseconds)
+
+
+def date(number: int) -> Union[datetime.date, Days]:
+    """Of days, of which 2^31 is the first of January 1970."""
+    days = number - (1 << 31)
+    ordinal = days + _ORDINAL
+    return datetime.date.fromordinal(ordinal) if 1 <= ordinal <= 3_652_059 else Days(days)
+
+
+def number_of(event: Any) -> int:
+    return event.number
+
+
+def content_of(event: Any) -> bytes:
+    return event.content
+
+
+LEAVES = {
+    Kind.CUSTOM: content_of,
+    Kind.ASCII: lambda e: e.content.decode("ascii"),
+    Kind.BIGINT: number_of,
+    Kind.BLOB: content_of,
+    Kind.BOOLEAN: lambda e: e.number != 0,
+    Kind.COUNTER: number_of,
+    Kind.DECIMAL: lambda e: exact(integer(e.content)).scaleb(-e.extra, _EXACT),
+    Kind.DOUBLE: lambda e: struct.unpack(">d", e.octets)[0],
+    Kind.FLOAT: lambda e: struct.unpack(">f", e.octets)[0],
+    Kind.INT: number_of,
+    Kind.TIMESTAMP: lambda e: timestamp(e.number),
+    Kind.UUID: uuid_of,
+    Kind.VARCHAR: lambda e: e.content.decode("utf-8"),
+    Kind.VARINT: lambda e: integer(e.content),
+    Kind.TIMEUUID: uuid_of,
+    Kind.INET: address,
+    Kind.DATE: lambda e: date(e.number),
+    Kind.TIME: lambda e: Nanoseconds(e.number),
+    Kind.SMALLINT: number_of,
+    Kind.TINYINT: number_of,
+    Kind.RAW: content_of,
+}
+
+
+def leaf_value(event: Any) -> ValueOf:
+    """A scalar as a Python value; one of a kind that is not known here as its content."""
+    return LEAVES.get(event.kind, content_of)(event)
+
+
+_ODD = re.compile('[\x00-\x1f\x7f"\\\\]')
+
+
+def _escaped(found: "re.Match[str]") -> str:
+    letter = found.group()
+    return "\\" + letter if letter in '"\\' else "\\x%02x" % ord(letter)
+
+
+def quoted(content: bytes) -> str:
+    return '"' + _ODD.sub(_escaped, content.decode("utf-8")) + '"'
+
+
+def _varint_text(content: bytes) -> str:
+    return str(integer(content)) if len(content) <= 16 else "0x" + content.hex()
+
+
+def _time_text(number: int) -> str:
+    seconds, nanoseconds = divmod(number, 1_000_000_000)
+    return "%02d:%02d:%02d.%09d" % (seconds // 3600, seconds // 60 % 60, seconds % 60, nanoseconds)
+
+
+def _date_text(number: int) -> str:
+    """The years 0000 to 9999 have a date; the year 0, which Python has not, is as long as the year 400."""
+    days = number - (1 << 31)
+    if -719_528 <= days < -719_162:
+        return "0000" + datetime.date.fromordinal(days + _ORDINAL + 146_097).isoformat()[4:]
+    day = date(number)
+    return "day %d" % days if isinstance(day, Days) else day.isoformat()
+
+
+_TEXTS = {
+    Kind.BOOLEAN: lambda e: "true" if e.number else "false",
+    Kind.ASCII: lambda e: quoted(e.content),
+    Kind.VARCHAR: lambda e: quoted(e.content),
+    Kind.VARINT: lambda e: _varint_text(e.content),
+    Kind.DECIMAL: lambda e: "%se%d" % (_varint_text(e.content), -e.extra),
+    Kind.TIME: lambda e: _time_text(e.number),
+    Kind.DATE: lambda e: _date_text(e.number),
+    Kind.UUID: lambda e: str(uuid_of(e)),
+    Kind.TIMEUUID: lambda e: str(uuid_of(e)),
+    Kind.INET: lambda e: address(e).exploded,
+    Kind.FLOAT: lambda e: "0x" + e.octets.hex(),
+    Kind.DOUBLE: lambda e: "0x" + e.octets.hex(),
+}
+
+_NUMBERS = {Kind.BIGINT, Kind.COUNTER, Kind.TIMESTAMP, Kind.INT, Kind.SMALLINT, Kind.TINYINT}
+
+
+def leaf_text(event: Any) -> str:
+    """The text of a cell, as `cqlp show` writes it."""
+    if event.kind in _NUMBERS:
+        return str(event.number)
+    text = _TEXTS.get(event.kind)
+    return text(event) if text else "0x" + event.content.hex()
