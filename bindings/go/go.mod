@@ -1,0 +1,3 @@
+module cqlp
+
+go 1.19

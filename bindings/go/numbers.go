@@ -1,0 +1,472 @@
+package cqlp
+
+// The numbers of include/cqlp.h, by name. They never change; new ones come at the end of their group.
+
+import "strconv"
+
+// Tag is what an event is.
+type Tag uint8
+
+const (
+	// TagFrame: number: the bytes of the body; extra: the stream id; opcode, flags; mark RESPONSE or NONE.
+	TagFrame Tag = 1
+	// TagByte: field; number.
+	TagByte Tag = 2
+	// TagShort: field; number.
+	TagShort Tag = 3
+	// TagInt: field; number.
+	TagInt Tag = 4
+	// TagLong: field; number.
+	TagLong Tag = 5
+	// TagUUID: field; bytes.
+	TagUUID Tag = 6
+	// TagCount: field; number: how many items follow.
+	TagCount Tag = 7
+	// TagText: field; content in UTF-8.
+	TagText Tag = 8
+	// TagBytes: field; content, or mark NULL.
+	TagBytes Tag = 9
+	// TagBound: field; content, or mark NULL or UNSET.
+	TagBound Tag = 10
+	// TagInet: field; bytes: the address, 4 or 16 octets; extra: the port.
+	TagInet Tag = 11
+	// TagTypeNode: kind of a type option; its parameters follow.
+	TagTypeNode Tag = 12
+	// TagLeaf: a scalar: row, column, level, kind, and what the kind says below.
+	TagLeaf Tag = 13
+	// TagNull: a value of a negative length: row, column, level.
+	TagNull Tag = 14
+	// TagEmpty: a value of no bytes: row, column, level.
+	TagEmpty Tag = 15
+	// TagEnter: a value with items begins: row, column, level, kind; number: how many.
+	TagEnter Tag = 16
+	// TagLeave: such a value ends: level; number: how many items it had.
+	TagLeave Tag = 17
+	// TagPart: a part of a long scalar: row, column, level; number: its offset; content; mark LAST or NONE.
+	TagPart Tag = 18
+	// TagEnd: the frame ends; number: bytes after its last field.
+	TagEnd Tag = 19
+)
+
+var tagNames = map[Tag]string{
+	TagFrame:    "Frame",
+	TagByte:     "Byte",
+	TagShort:    "Short",
+	TagInt:      "Int",
+	TagLong:     "Long",
+	TagUUID:     "Uuid",
+	TagCount:    "Count",
+	TagText:     "Text",
+	TagBytes:    "Bytes",
+	TagBound:    "Bound",
+	TagInet:     "Inet",
+	TagTypeNode: "TypeNode",
+	TagLeaf:     "Leaf",
+	TagNull:     "Null",
+	TagEmpty:    "Empty",
+	TagEnter:    "Enter",
+	TagLeave:    "Leave",
+	TagPart:     "Part",
+	TagEnd:      "End",
+}
+
+// String is its name as lines have it; a number that has none is itself.
+func (n Tag) String() string { return named(tagNames[n], uint8(n)) }
+
+// Mark is what the tag of an event leaves open.
+type Mark uint8
+
+const (
+	MarkNone     Mark = 0
+	MarkResponse Mark = 1
+	MarkNull     Mark = 2
+	MarkUnset    Mark = 3
+	MarkLast     Mark = 4
+)
+
+var markNames = map[Mark]string{
+	MarkNone:     "none",
+	MarkResponse: "response",
+	MarkNull:     "null",
+	MarkUnset:    "unset",
+	MarkLast:     "last",
+}
+
+// String is its name as lines have it; a number that has none is itself.
+func (n Mark) String() string { return named(markNames[n], uint8(n)) }
+
+// Field is the field of a message that an event has.
+type Field uint8
+
+const (
+	// FieldTraceID: The id of the tracing session, a [uuid], where the header has the flag 02. Section 2.2.
+	FieldTraceID Field = 1
+	// FieldWarnings: How many warnings come, a [short], where the header has the flag 08. Section 2.2.
+	FieldWarnings Field = 2
+	// FieldWarning: One of them, a [string].
+	FieldWarning Field = 3
+	// FieldPayloadItems: How many items the custom payload has, a [short], where the header has the flag 04. Section 2.2.
+	FieldPayloadItems Field = 4
+	// FieldPayloadKey: The key of an item, a [string].
+	FieldPayloadKey Field = 5
+	// FieldPayloadValue: The value of an item, [bytes].
+	FieldPayloadValue Field = 6
+	// FieldOptions: How many options come, a [short]: of STARTUP, section 4.1.1, or of SUPPORTED, section 4.2.4.
+	FieldOptions Field = 7
+	// FieldOptionKey: The name of an option, a [string].
+	FieldOptionKey Field = 8
+	// FieldOptionValue: The value of an option, or one of its values, a [string].
+	FieldOptionValue Field = 9
+	// FieldOptionValues: How many values an option of SUPPORTED has, a [short].
+	FieldOptionValues Field = 10
+	// FieldQuery: The text of a query, a [long string]. Sections 4.1.4, 4.1.5 and 4.1.7.
+	FieldQuery Field = 11
+	// FieldStatementID: The id of a prepared statement, [short bytes]. Sections 4.1.6, 4.1.7, 4.2.5.4 and 9.
+	FieldStatementID Field = 12
+	// FieldEventTypes: How many types of events are asked for, a [short]. Section 4.1.8.
+	FieldEventTypes Field = 13
+	// FieldEventType: A type of events, a [string]: one that is asked for, or that of an EVENT. Sections 4.1.8 and 4.2.6.
+	FieldEventType Field = 14
+	// FieldToken: What either side says to authenticate, [bytes]. Sections 4.1.2, 4.2.7 and 4.2.8.
+	FieldToken Field = 15
+	// FieldBatchType: The kind of a batch, a [byte]: 0 logged, 1 unlogged, 2 of counters. Section 4.1.7.
+	FieldBatchType Field = 16
+	// FieldEntries: How many statements a batch has, a [short].
+	FieldEntries Field = 17
+	// FieldEntryKind: Whether a statement of a batch comes as a text, 0, or by the id of a prepared one, 1: a [byte].
+	FieldEntryKind Field = 18
+	// FieldConsistency: A level of consistency, a [short]. Section 3.
+	FieldConsistency Field = 19
+	// FieldBatchFlags: What a batch has after its consistency, a [byte]: 10 a serial consistency, 20 a timestamp.
+	FieldBatchFlags Field = 20
+	// FieldSerialConsistency: The level of consistency of the serial phase, a [short].
+	FieldSerialConsistency Field = 21
+	// FieldTimestamp: The time that the statements have by default, in microseconds from 1970, a [long].
+	FieldTimestamp Field = 22
+	// FieldQueryFlags: What a query has after its consistency, a [byte]. Section 4.1.4.
+	FieldQueryFlags Field = 23
+	// FieldValues: How many values are bound, a [short].
+	FieldValues Field = 24
+	// FieldValueName: The name of a bound value, a [string].
+	FieldValueName Field = 25
+	// FieldValue: A bound value, a [value].
+	FieldValue Field = 26
+	// FieldPageSize: How many rows a page of the result is to have, an [int].
+	FieldPageSize Field = 27
+	// FieldPagingState: Where the result goes on, [bytes]. Sections 4.1.4 and 4.2.5.2.
+	FieldPagingState Field = 28
+	// FieldClass: The name of a class, a [string]: of an authenticator, section 4.2.3, or of a custom type, section 4.2.5.2.
+	FieldClass Field = 29
+	// FieldErrorCode: What an ERROR is of, an [int]. Section 9.
+	FieldErrorCode Field = 30
+	// FieldMessage: What an ERROR says, a [string]. Section 4.2.1.
+	FieldMessage Field = 31
+	// FieldRequired: How many replicas had to be alive, an [int]. Section 9.
+	FieldRequired Field = 32
+	// FieldAlive: How many replicas were alive, an [int]. Section 9.
+	FieldAlive Field = 33
+	// FieldReceived: How many replicas answered, an [int]. Section 9.
+	FieldReceived Field = 34
+	// FieldBlockFor: How many replicas had to answer, an [int]. Section 9.
+	FieldBlockFor Field = 35
+	// FieldWriteType: What kind of write it was, a [string]. Section 9.
+	FieldWriteType Field = 36
+	// FieldDataPresent: Whether the replica that was asked for data answered, a [byte], 0 where it did not. Section 9.
+	FieldDataPresent Field = 37
+	// FieldFailures: How many replicas failed, an [int]. Section 9.
+	FieldFailures Field = 38
+	// FieldKeyspace: The name of a keyspace, a [string].
+	FieldKeyspace Field = 39
+	// FieldName: The name of a table, a type, a function or an aggregate, a [string]. Sections 4.2.5.5 and 9.
+	FieldName Field = 40
+	// FieldArguments: How many arguments a function has, a [short].
+	FieldArguments Field = 41
+	// FieldArgument: The type of an argument, a [string].
+	FieldArgument Field = 42
+	// FieldTable: The name of a table, a [string].
+	FieldTable Field = 43
+	// FieldResultKind: What a RESULT is, an [int]: 1 nothing, 2 rows, 3 a keyspace, 4 a prepared statement, 5 a change of the schema. Section 4.2.5.
+	FieldResultKind Field = 44
+	// FieldRows: How many rows come, an [int]. Section 4.2.5.2.
+	FieldRows Field = 45
+	// FieldMetaFlags: What the metadata have, an [int]: 1 one table for all columns, 2 more pages, 4 no columns. Section 4.2.5.2.
+	FieldMetaFlags Field = 46
+	// FieldColumns: How many columns there are, an [int].
+	FieldColumns Field = 47
+	// FieldKeys: How many of the bound values make the partition key, an [int]. Section 4.2.5.4.
+	FieldKeys Field = 48
+	// FieldKeyIndex: The place of one of them among the bound values, a [short].
+	FieldKeyIndex Field = 49
+	// FieldColumnName: The name of a column, a [string].
+	FieldColumnName Field = 50
+	// FieldChange: What was done, a [string]. Sections 4.2.5.5 and 4.2.6.
+	FieldChange Field = 51
+	// FieldTarget: What a change of the schema was done to, a [string]. Section 4.2.5.5.
+	FieldTarget Field = 52
+	// FieldAddress: The node that an event is about, an [inet]. Section 4.2.6.
+	FieldAddress Field = 53
+	// FieldTypeName: The name of a user defined type, a [string]. Section 4.2.5.2.
+	FieldTypeName Field = 54
+	// FieldFields: How many fields a user defined type or a tuple has, a [short].
+	FieldFields Field = 55
+	// FieldFieldName: The name of a field of a user defined type, a [string].
+	FieldFieldName Field = 56
+)
+
+var fieldNames = map[Field]string{
+	FieldTraceID:           "TraceId",
+	FieldWarnings:          "Warnings",
+	FieldWarning:           "Warning",
+	FieldPayloadItems:      "PayloadItems",
+	FieldPayloadKey:        "PayloadKey",
+	FieldPayloadValue:      "PayloadValue",
+	FieldOptions:           "Options",
+	FieldOptionKey:         "OptionKey",
+	FieldOptionValue:       "OptionValue",
+	FieldOptionValues:      "OptionValues",
+	FieldQuery:             "Query",
+	FieldStatementID:       "StatementId",
+	FieldEventTypes:        "EventTypes",
+	FieldEventType:         "EventType",
+	FieldToken:             "Token",
+	FieldBatchType:         "BatchType",
+	FieldEntries:           "Entries",
+	FieldEntryKind:         "EntryKind",
+	FieldConsistency:       "Consistency",
+	FieldBatchFlags:        "BatchFlags",
+	FieldSerialConsistency: "SerialConsistency",
+	FieldTimestamp:         "Timestamp",
+	FieldQueryFlags:        "QueryFlags",
+	FieldValues:            "Values",
+	FieldValueName:         "ValueName",
+	FieldValue:             "Value",
+	FieldPageSize:          "PageSize",
+	FieldPagingState:       "PagingState",
+	FieldClass:             "Class",
+	FieldErrorCode:         "ErrorCode",
+	FieldMessage:           "Message",
+	FieldRequired:          "Required",
+	FieldAlive:             "Alive",
+	FieldReceived:          "Received",
+	FieldBlockFor:          "BlockFor",
+	FieldWriteType:         "WriteType",
+	FieldDataPresent:       "DataPresent",
+	FieldFailures:          "Failures",
+	FieldKeyspace:          "Keyspace",
+	FieldName:              "Name",
+	FieldArguments:         "Arguments",
+	FieldArgument:          "Argument",
+	FieldTable:             "Table",
+	FieldResultKind:        "ResultKind",
+	FieldRows:              "Rows",
+	FieldMetaFlags:         "MetaFlags",
+	FieldColumns:           "Columns",
+	FieldKeys:              "Keys",
+	FieldKeyIndex:          "KeyIndex",
+	FieldColumnName:        "ColumnName",
+	FieldChange:            "Change",
+	FieldTarget:            "Target",
+	FieldAddress:           "Address",
+	FieldTypeName:          "TypeName",
+	FieldFields:            "Fields",
+	FieldFieldName:         "FieldName",
+}
+
+// String is its name as lines have it; a number that has none is itself.
+func (n Field) String() string { return named(fieldNames[n], uint8(n)) }
+
+// Kind is the kind of a type: the id of its type option, section 4.2.5.2.
+type Kind uint8
+
+const (
+	KindCustom    Kind = 0x00
+	KindASCII     Kind = 0x01
+	KindBigint    Kind = 0x02
+	KindBlob      Kind = 0x03
+	KindBoolean   Kind = 0x04
+	KindCounter   Kind = 0x05
+	KindDecimal   Kind = 0x06
+	KindDouble    Kind = 0x07
+	KindFloat     Kind = 0x08
+	KindInt       Kind = 0x09
+	KindTimestamp Kind = 0x0b
+	KindUUID      Kind = 0x0c
+	KindVarchar   Kind = 0x0d
+	KindVarint    Kind = 0x0e
+	KindTimeUUID  Kind = 0x0f
+	KindInet      Kind = 0x10
+	KindDate      Kind = 0x11
+	KindTime      Kind = 0x12
+	KindSmallint  Kind = 0x13
+	KindTinyint   Kind = 0x14
+	KindList      Kind = 0x20
+	KindMap       Kind = 0x21
+	KindSet       Kind = 0x22
+	KindUDT       Kind = 0x30
+	KindTuple     Kind = 0x31
+	KindRaw       Kind = 0xff
+)
+
+var kindNames = map[Kind]string{
+	KindCustom:    "custom",
+	KindASCII:     "ascii",
+	KindBigint:    "bigint",
+	KindBlob:      "blob",
+	KindBoolean:   "boolean",
+	KindCounter:   "counter",
+	KindDecimal:   "decimal",
+	KindDouble:    "double",
+	KindFloat:     "float",
+	KindInt:       "int",
+	KindTimestamp: "timestamp",
+	KindUUID:      "uuid",
+	KindVarchar:   "varchar",
+	KindVarint:    "varint",
+	KindTimeUUID:  "timeuuid",
+	KindInet:      "inet",
+	KindDate:      "date",
+	KindTime:      "time",
+	KindSmallint:  "smallint",
+	KindTinyint:   "tinyint",
+	KindList:      "list",
+	KindMap:       "map",
+	KindSet:       "set",
+	KindUDT:       "udt",
+	KindTuple:     "tuple",
+	KindRaw:       "raw",
+}
+
+// String is its name as lines have it; a number that has none is itself.
+func (n Kind) String() string { return named(kindNames[n], uint8(n)) }
+
+// Reason is why a stream is refused.
+type Reason uint8
+
+const (
+	// ReasonBadVersion: The first byte of a header is neither 04 nor 84.
+	ReasonBadVersion Reason = 1
+	// ReasonCompressed: A header's flags announce compression.
+	ReasonCompressed Reason = 2
+	// ReasonBadOpcode: No opcode has this number.
+	ReasonBadOpcode Reason = 3
+	// ReasonBadDirection: A request's opcode in a response, or the other way round.
+	ReasonBadDirection Reason = 4
+	// ReasonBadLength: A body's length that is negative or above 268,435,456.
+	ReasonBadLength Reason = 5
+	// ReasonOverrun: Past the end of the frame, or of the value around an element.
+	ReasonOverrun Reason = 6
+	// ReasonTooLong: Past the caller's limit on a text or a cell.
+	ReasonTooLong Reason = 7
+	// ReasonBadUTF8: A text that is not UTF-8.
+	ReasonBadUTF8 Reason = 8
+	// ReasonBadValueLength: The length of a [value] below -2.
+	ReasonBadValueLength Reason = 9
+	// ReasonBadInet: The address of an [inet] has neither 4 nor 16 bytes.
+	ReasonBadInet Reason = 10
+	// ReasonBadCount: A negative count, or a negative length of a text.
+	ReasonBadCount Reason = 11
+	// ReasonBadType: No type option has this id.
+	ReasonBadType Reason = 12
+	// ReasonTooDeep: A type past the caller's limit on nesting.
+	ReasonTooDeep Reason = 13
+	// ReasonTooMany: More type options than the caller's limit.
+	ReasonTooMany Reason = 14
+	// ReasonBadBatchKind: The kind of a batch's entry is neither 0 nor 1.
+	ReasonBadBatchKind Reason = 15
+	// ReasonBadBatchFlags: A batch's flags name values, or have a bit that only a query's have.
+	ReasonBadBatchFlags Reason = 16
+	// ReasonBadSize: A cell's length that its type does not have.
+	ReasonBadSize Reason = 17
+	// ReasonBadScalar: A cell's content that its type does not have.
+	ReasonBadScalar Reason = 18
+	// ReasonExtraInValue: Bytes of a value after its last item.
+	ReasonExtraInValue Reason = 19
+	// ReasonStreamTooLong: A frame that would begin past offset 2^63.
+	ReasonStreamTooLong Reason = 20
+)
+
+var reasonNames = map[Reason]string{
+	ReasonBadVersion:     "BadVersion",
+	ReasonCompressed:     "Compressed",
+	ReasonBadOpcode:      "BadOpcode",
+	ReasonBadDirection:   "BadDirection",
+	ReasonBadLength:      "BadLength",
+	ReasonOverrun:        "Overrun",
+	ReasonTooLong:        "TooLong",
+	ReasonBadUTF8:        "BadUtf8",
+	ReasonBadValueLength: "BadValueLength",
+	ReasonBadInet:        "BadInet",
+	ReasonBadCount:       "BadCount",
+	ReasonBadType:        "BadType",
+	ReasonTooDeep:        "TooDeep",
+	ReasonTooMany:        "TooMany",
+	ReasonBadBatchKind:   "BadBatchKind",
+	ReasonBadBatchFlags:  "BadBatchFlags",
+	ReasonBadSize:        "BadSize",
+	ReasonBadScalar:      "BadScalar",
+	ReasonExtraInValue:   "ExtraInValue",
+	ReasonStreamTooLong:  "StreamTooLong",
+}
+
+// String is its name as lines have it; a number that has none is itself.
+func (n Reason) String() string { return named(reasonNames[n], uint8(n)) }
+
+// End is how a stream ends.
+type End uint8
+
+const (
+	EndWhole   End = 0
+	EndCut     End = 1
+	EndRefused End = 2
+)
+
+// Opcode is the opcode of a frame. Section 2.4.
+type Opcode uint8
+
+const (
+	OpcodeError         Opcode = 0x00
+	OpcodeStartup       Opcode = 0x01
+	OpcodeReady         Opcode = 0x02
+	OpcodeAuthenticate  Opcode = 0x03
+	OpcodeOptions       Opcode = 0x05
+	OpcodeSupported     Opcode = 0x06
+	OpcodeQuery         Opcode = 0x07
+	OpcodeResult        Opcode = 0x08
+	OpcodePrepare       Opcode = 0x09
+	OpcodeExecute       Opcode = 0x0a
+	OpcodeRegister      Opcode = 0x0b
+	OpcodeEvent         Opcode = 0x0c
+	OpcodeBatch         Opcode = 0x0d
+	OpcodeAuthChallenge Opcode = 0x0e
+	OpcodeAuthResponse  Opcode = 0x0f
+	OpcodeAuthSuccess   Opcode = 0x10
+)
+
+var opcodeNames = map[Opcode]string{
+	OpcodeError:         "ERROR",
+	OpcodeStartup:       "STARTUP",
+	OpcodeReady:         "READY",
+	OpcodeAuthenticate:  "AUTHENTICATE",
+	OpcodeOptions:       "OPTIONS",
+	OpcodeSupported:     "SUPPORTED",
+	OpcodeQuery:         "QUERY",
+	OpcodeResult:        "RESULT",
+	OpcodePrepare:       "PREPARE",
+	OpcodeExecute:       "EXECUTE",
+	OpcodeRegister:      "REGISTER",
+	OpcodeEvent:         "EVENT",
+	OpcodeBatch:         "BATCH",
+	OpcodeAuthChallenge: "AUTH_CHALLENGE",
+	OpcodeAuthResponse:  "AUTH_RESPONSE",
+	OpcodeAuthSuccess:   "AUTH_SUCCESS",
+}
+
+// String is its name as the standard has it; a number that has none is itself.
+func (n Opcode) String() string { return named(opcodeNames[n], uint8(n)) }
+
+func named(name string, number uint8) string {
+	if name == "" {
+		return strconv.Itoa(int(number))
+	}
+	return name
+}
