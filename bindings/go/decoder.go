@@ -221,17 +221,17 @@ func NewDecoder(limits Limits) (*Decoder, error) {
 // last event of a stream that is refused, at every call, and ErrClosed after Close.
 //
 // The content of the event lives until the next call.
-func (d *Decoder) Next(p []byte) (event Event, n int, err error) {
+func (d *Decoder) Next(p []byte) (Event, int, error) {
+	defer runtime.KeepAlive(d)
 	if d.box == nil {
 		return Event{}, 0, ErrClosed
 	}
+	n := 0
 	for d.next == d.count {
-		used := d.take(p[n:])
-		n += used
-		if d.count > 0 {
+		n += d.take(p[n:])
+		if batch := &d.box.batch; d.count > 0 {
 			break
-		}
-		if batch := &d.box.batch; batch.stop == C.CQLP_STOP_REFUSED {
+		} else if batch.stop == C.CQLP_STOP_REFUSED {
 			return Event{}, n, &Refusal{uint64(batch.at), Reason(batch.reason)}
 		} else if batch.stop == C.CQLP_STOP_MORE && n == len(p) {
 			return Event{}, n, ErrMore
@@ -240,9 +240,7 @@ func (d *Decoder) Next(p []byte) (event Event, n int, err error) {
 	native := &d.box.events[d.next]
 	d.next++
 	d.content = append(d.content[:0], unsafe.Slice((*byte)(unsafe.Pointer(native.content)), int(native.length))...)
-	event = eventOf(native, d.content)
-	runtime.KeepAlive(d)
-	return event, n, nil
+	return eventOf(native, d.content), n, nil
 }
 
 // take is one call of the library: how many bytes were used.
@@ -253,30 +251,27 @@ func (d *Decoder) take(p []byte) int {
 	}
 	C.cqlp_box_next(d.box, first, C.size_t(len(p)))
 	d.next, d.count = 0, int(d.box.batch.events)
-	used := int(d.box.batch.used)
-	runtime.KeepAlive(d)
-	return used
+	return int(d.box.batch.used)
 }
 
 // Finish says how the stream ends, if it ends after the bytes that were used. It changes nothing.
 func (d *Decoder) Finish() (Verdict, error) {
+	defer runtime.KeepAlive(d)
 	if d.box == nil {
 		return Verdict{}, ErrClosed
 	}
 	C.cqlp_finish(&d.box.decoder, &d.box.end)
-	verdict := verdictOf(&d.box.end)
-	runtime.KeepAlive(d)
-	return verdict, nil
+	return verdictOf(&d.box.end), nil
 }
 
 // Held says how much is held of the stream. It changes nothing.
 func (d *Decoder) Held() (Held, error) {
+	defer runtime.KeepAlive(d)
 	if d.box == nil {
 		return Held{}, ErrClosed
 	}
 	C.cqlp_held(&d.box.decoder, &d.box.holding)
 	h := d.box.holding
-	runtime.KeepAlive(d)
 	return Held{uint32(h.bytes), uint32(h.entries), uint32(h.levels)}, nil
 }
 

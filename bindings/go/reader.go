@@ -30,7 +30,7 @@ func NewReader(source io.Reader, limits Limits) (*Reader, error) {
 //
 // The content of the event lives until the next call.
 func (r *Reader) Next() (Event, error) {
-	for {
+	for empty := 0; ; {
 		event, n, err := r.decoder.Next(r.rest)
 		r.rest = r.rest[n:]
 		if !errors.Is(err, ErrMore) {
@@ -41,6 +41,11 @@ func (r *Reader) Next() (Event, error) {
 		}
 		n, r.err = r.source.Read(r.buffer)
 		r.rest = r.buffer[:n]
+		if empty++; n > 0 {
+			empty = 0
+		} else if empty == 100 && r.err == nil {
+			r.err = io.ErrNoProgress
+		}
 	}
 }
 

@@ -3,7 +3,7 @@
 import ctypes
 import threading
 from dataclasses import dataclass
-from typing import Any, List, NamedTuple, Optional, Tuple, Union
+from typing import Any, Iterator, List, NamedTuple, Optional, Tuple, Union
 
 from . import _native
 from ._events import Event, camel
@@ -138,7 +138,11 @@ def _verdict(end: _native.End) -> Verdict:
     return Verdict(End(end.verdict), end.at, end.bytes, _REASONS[end.reason] if refused else None)
 
 
-def _event(record: Tuple[Any, ...], content: bytes) -> Event:
+Record = Tuple[Any, ...]
+"""The members of an event, in the order of include/cqlp.h."""
+
+
+def event_of(record: Record, content: bytes) -> Event:
     at, _, _, number, row, column, level, extra, octets, tag, field, kind, opcode, flags, mark, count = record
     return Event(
         at,
@@ -178,8 +182,10 @@ class Decoder:
         """The events that the next bytes of the stream end. Where the stream is refused, here or before, Refused is raised, and has
         the events before it."""
         events: List[Event] = []
-        for batch in self._batches(bytes(data), events):
-            events += batch
+        for batch, refusal in self._batches(bytes(data)):
+            events += [event_of(*one) for one in batch]
+            if refusal:
+                raise Refused(*refusal, events)
         return events
 
     def finish(self) -> Verdict:
@@ -207,39 +213,37 @@ class Decoder:
     def __exit__(self, *_: object) -> None:
         self.close()
 
-    def __del__(self) -> None:
+    def __del__(self, _free: Any = _native.library.cqlp_free) -> None:
         if hasattr(self, "_batch"):
-            _native.library.cqlp_free(self._handle)
+            _free(self._handle)
 
-    def _batches(self, data: bytes, events: List[Event]) -> Any:
-        """The events of a piece, a list for each call of the library. A refusal has `events` beside those of its own batch."""
+    def _batches(self, data: bytes) -> Iterator[Tuple[List[Tuple[Record, bytes]], Optional[Tuple[int, Any]]]]:
+        """The events of a piece with their contents, a list for each call of the library; and beside the last one the refusal."""
         used, stop = 0, Stop.FULL
         while stop == Stop.FULL:
             with self._lock:
                 taken, stop, batch = self._take(data, used)
-                refusal = self._batch.at, _REASONS[self._batch.reason]
+                refusal = (self._batch.at, _REASONS[self._batch.reason]) if stop == Stop.REFUSED else None
             used += taken
-            if stop == Stop.REFUSED:
-                raise Refused(*refusal, events + batch)
-            yield batch
+            yield batch, refusal
 
-    def _take(self, data: bytes, used: int) -> Tuple[int, int, List[Event]]:
+    def _take(self, data: bytes, used: int) -> Tuple[int, int, List[Tuple[Record, bytes]]]:
         """One call of the library, with what comes after the used bytes. Each content is copied before the next call."""
         base, batch = _address(data), self._batch
         code = _native.library.cqlp_next(self._handle, base + used, len(data) - used, self._array, self._room, batch)
         _must_be_done(code)
-        past = base + len(data)
-        events = []
+        past, found = base + len(data), []
         for record in _native.RECORD.iter_unpack(memoryview(self._bytes)[: batch.events * _native.RECORD.size]):
-            place, length = record[1], record[2]
+            length = record[2]
             if not length:
-                content = b""
-            elif base <= place and place + length <= past:
-                content = data[place - base : place - base + length]
+                found.append((record, b""))
+                continue
+            place = record[1]
+            if base <= place and place + length <= past:
+                found.append((record, data[place - base : place - base + length]))
             else:
-                content = ctypes.string_at(place, length)
-            events.append(_event(record, content))
-        return batch.used, batch.stop, events
+                found.append((record, ctypes.string_at(place, length)))
+        return batch.used, batch.stop, found
 
 
 def check(data: bytes, limits: Limits = Limits()) -> Verdict:

@@ -2,7 +2,7 @@
 
 from typing import NamedTuple, Optional, Union
 
-from ._values import UNSET, ValueOf, address, leaf_text, leaf_value, quoted, uuid_of
+from ._values import LEAVES, UNSET, ValueOf, address, leaf_text, quoted, uuid_of
 from .numbers import Field, Kind, Mark, Opcode, Tag
 
 
@@ -35,7 +35,7 @@ class Event(NamedTuple):
         type; else it is the number. A bound value that is not set is UNSET."""
         tag = self.tag
         if tag == Tag.LEAF:
-            return leaf_value(self)
+            return LEAVES[self.kind](self.number, self.content, self.extra, self.octets)
         if tag == Tag.TEXT:
             return self.content.decode("utf-8")
         if tag in (Tag.BYTES, Tag.BOUND):
@@ -43,9 +43,9 @@ class Event(NamedTuple):
         if tag == Tag.PART:
             return self.content
         if tag == Tag.UUID:
-            return uuid_of(self)
+            return uuid_of(self.octets)
         if tag == Tag.INET:
-            return address(self), self.extra
+            return address(self.octets), self.extra
         return None if tag == Tag.NULL else self.number
 
     def __str__(self) -> str:
@@ -90,11 +90,11 @@ _WORDS = {
     Tag.INT: _numbered,
     Tag.LONG: _numbered,
     Tag.COUNT: _numbered,
-    Tag.UUID: lambda e: (camel(e.field), str(uuid_of(e))),
+    Tag.UUID: lambda e: (camel(e.field), str(uuid_of(e.octets))),
     Tag.TEXT: lambda e: (camel(e.field), quoted(e.content)),
     Tag.BYTES: _lent,
     Tag.BOUND: _lent,
-    Tag.INET: lambda e: (camel(e.field), getattr(address(e), "exploded"), str(e.extra)),
+    Tag.INET: lambda e: (camel(e.field), address(e.octets).exploded, str(e.extra)),
     Tag.TYPE_NODE: lambda e: (_kind(e),),
     Tag.LEAF: lambda e: (*_place(e), leaf_text(e)),
     Tag.NULL: _place,

@@ -2,10 +2,10 @@
 
 from typing import Any, Iterator, List, NamedTuple, Optional, Tuple
 
-from ._decoder import Limits
+from ._decoder import Limits, Record, event_of
 from ._events import Event
 from ._sources import Progress, Source, batches
-from ._values import EMPTY, LEAVES, ValueOf, content_of
+from ._values import EMPTY, LEAVES, ValueOf
 from .numbers import Field, Kind, Mark, Tag
 
 _ROWS_RESULT = 2
@@ -102,10 +102,10 @@ def _frozen(value: ValueOf) -> ValueOf:
 class _Items:
     """A list, set, map, tuple or udt whose items are still to come."""
 
-    def __init__(self, event: Event, type: Type) -> None:
+    def __init__(self, wanted: int, type: Type) -> None:
         self.kind = type.kind
         self.type = type
-        self.wanted = event.number
+        self.wanted = wanted
         self.values: List[ValueOf] = []
 
     def next_type(self) -> Type:
@@ -215,18 +215,30 @@ class _Metadata:
 
 
 _SPEC = (Field.KEYSPACE, Field.TABLE, Field.COLUMN_NAME)
-_CELLS = (Tag.LEAF, Tag.NULL, Tag.EMPTY, Tag.ENTER, Tag.LEAVE, Tag.PART)
+_LEAF, _NULL, _EMPTY, _ENTER, _LEAVE, _PART = map(int, (Tag.LEAF, Tag.NULL, Tag.EMPTY, Tag.ENTER, Tag.LEAVE, Tag.PART))
 
 
-def _found(pages: Pages, batches: Iterator[List[Event]]) -> Iterator[Any]:
+def _found(pages: Pages, batches: Iterator[List[Tuple[Record, bytes]]]) -> Iterator[Any]:
     """Each page, and after it each of its rows."""
     metadata, cells = _Metadata(), _Cells(_Metadata())
     for batch in batches:
-        for event in batch:
-            if event.tag in _CELLS:
-                if cells.add(event):
-                    yield cells.row()
-            elif event.tag == Tag.FRAME:
+        for record, content in batch:
+            tag = record[9]
+            if tag == _LEAF and not record[6]:
+                # most are such, so this stands here and not in a call
+                row = cells.row
+                row.append(LEAVES[record[11]](record[3], content, record[7], record[8][: record[15]]))
+                if len(row) == cells.width:
+                    yield tuple(row)
+                    row.clear()
+                continue
+            if _LEAF <= tag <= _PART:
+                if cells.add(record, content):
+                    yield tuple(cells.row)
+                    cells.row.clear()
+                continue
+            event = event_of(record, content)
+            if event.tag == Tag.FRAME:
                 metadata = _Metadata()
             elif event.field == Field.ROWS and metadata.kind == _ROWS_RESULT:
                 cells = _Cells(metadata)
@@ -240,44 +252,40 @@ class _Cells:
 
     def __init__(self, metadata: _Metadata) -> None:
         self.types = [column.type for column in metadata.columns]
-        self.last = metadata.width - 1
-        self.values: List[ValueOf] = []
+        self.width = metadata.width
+        self.row: List[ValueOf] = []
         self.open: List[_Items] = []
         self.parts: List[bytes] = []
 
-    def row(self) -> Tuple[ValueOf, ...]:
-        row, self.values = tuple(self.values), []
-        return row
-
-    def add(self, event: Event) -> bool:
-        """Whether the event ends a row."""
-        tag = event.tag
-        if tag == Tag.LEAF:
-            value = LEAVES.get(event.kind, content_of)(event)
-        elif tag == Tag.NULL:
+    def add(self, record: Record, content: bytes) -> bool:
+        """Whether the event, one of a cell, ends a row."""
+        tag = record[9]
+        if tag == _LEAF:
+            value = LEAVES[record[11]](record[3], content, record[7], record[8][: record[15]])
+        elif tag == _NULL:
             value = None
-        elif tag == Tag.EMPTY:
+        elif tag == _EMPTY:
             value = self._empty()
-        elif tag == Tag.ENTER:
-            self.open.append(_Items(event, self._next_type()))
+        elif tag == _ENTER:
+            self.open.append(_Items(record[3], self._next_type()))
             return False
-        elif tag == Tag.LEAVE:
+        elif tag == _LEAVE:
             value = self.open.pop().value()
         else:
-            self.parts.append(event.content)
-            if event.mark != Mark.LAST:
+            self.parts.append(content)
+            if record[14] != Mark.LAST:
                 return False
             value, self.parts = b"".join(self.parts), []
         if self.open:
             self.open[-1].values.append(value)
             return False
-        self.values.append(value)
-        return len(self.values) > self.last
+        self.row.append(value)
+        return len(self.row) == self.width
 
     def _next_type(self) -> Type:
         if self.open:
             return self.open[-1].next_type()
-        return self.types[len(self.values)] if self.types else _RAW
+        return self.types[len(self.row)] if self.types else _RAW
 
     def _empty(self) -> ValueOf:
         kind = self._next_type().kind

@@ -3,7 +3,7 @@
 import os
 from typing import Any, BinaryIO, Callable, Iterator, List, Optional, Tuple, Union
 
-from ._decoder import Cut, Decoder, Limits, Refused
+from ._decoder import Cut, Decoder, Limits, Record, Refused, event_of
 from ._events import Event
 from .numbers import End
 
@@ -42,16 +42,17 @@ def _length_of(file: BinaryIO) -> Optional[int]:
     return end - at
 
 
-def batches(source: Source, limits: Limits, piece: int, progress: Optional[Progress]) -> Iterator[List[Event]]:
-    """The events of a source, batch by batch; the one before a refusal too."""
+def batches(
+    source: Source, limits: Limits, piece: int, progress: Optional[Progress]
+) -> Iterator[List[Tuple[Record, bytes]]]:
+    """The events of a source with their contents, batch by batch; the one before a refusal too."""
     read = 0
     with Decoder(limits) as decoder:
         for data, total in _pieces(source, piece):
-            try:
-                yield from decoder._batches(data, [])
-            except Refused as refused:
-                yield refused.events
-                raise
+            for batch, refusal in decoder._batches(data):
+                yield batch
+                if refusal:
+                    raise Refused(*refusal, [event_of(*one) for one in batch])
             read += len(data)
             if progress:
                 progress(read, total)
@@ -70,4 +71,5 @@ def events(
     """The events of a stream, read in pieces of at most this many bytes. After the last event, Refused or Cut is raised where the
     stream is refused or cut."""
     for batch in batches(source, limits, piece, progress):
-        yield from batch
+        for one in batch:
+            yield event_of(*one)

@@ -59,12 +59,11 @@ _ORDINAL = datetime.date(1970, 1, 1).toordinal()
 _EXACT = decimal.Context(prec=decimal.MAX_PREC, Emin=decimal.MIN_EMIN, Emax=decimal.MAX_EMAX)
 
 
-def uuid_of(event: Any) -> uuid.UUID:
-    return uuid.UUID(bytes=bytes(event.octets))
+def uuid_of(octets: bytes) -> uuid.UUID:
+    return uuid.UUID(bytes=octets)
 
 
-def address(event: Any) -> Union[ipaddress.IPv4Address, ipaddress.IPv6Address]:
-    return ipaddress.ip_address(bytes(event.octets))
+address = ipaddress.ip_address
 
 
 def integer(content: bytes) -> int:
@@ -94,42 +93,35 @@ def date(number: int) -> Union[datetime.date, Days]:
     return datetime.date.fromordinal(ordinal) if 1 <= ordinal <= 3_652_059 else Days(days)
 
 
-def number_of(event: Any) -> int:
-    return event.number
+def number_of(number: int, content: bytes, extra: int, octets: bytes) -> int:
+    return number
 
 
-def content_of(event: Any) -> bytes:
-    return event.content
+def content_of(number: int, content: bytes, extra: int, octets: bytes) -> bytes:
+    return content
 
 
-LEAVES = {
-    Kind.CUSTOM: content_of,
-    Kind.ASCII: lambda e: e.content.decode("ascii"),
-    Kind.BIGINT: number_of,
-    Kind.BLOB: content_of,
-    Kind.BOOLEAN: lambda e: e.number != 0,
-    Kind.COUNTER: number_of,
-    Kind.DECIMAL: lambda e: exact(integer(e.content)).scaleb(-e.extra, _EXACT),
-    Kind.DOUBLE: lambda e: struct.unpack(">d", e.octets)[0],
-    Kind.FLOAT: lambda e: struct.unpack(">f", e.octets)[0],
-    Kind.INT: number_of,
-    Kind.TIMESTAMP: lambda e: timestamp(e.number),
-    Kind.UUID: uuid_of,
-    Kind.VARCHAR: lambda e: e.content.decode("utf-8"),
-    Kind.VARINT: lambda e: integer(e.content),
-    Kind.TIMEUUID: uuid_of,
-    Kind.INET: address,
-    Kind.DATE: lambda e: date(e.number),
-    Kind.TIME: lambda e: Nanoseconds(e.number),
-    Kind.SMALLINT: number_of,
-    Kind.TINYINT: number_of,
-    Kind.RAW: content_of,
-}
+def text_of(number: int, content: bytes, extra: int, octets: bytes) -> str:
+    return content.decode("utf-8")
 
 
-def leaf_value(event: Any) -> ValueOf:
-    """A scalar as a Python value; one of a kind that is not known here as its content."""
-    return LEAVES.get(event.kind, content_of)(event)
+# Of each kind its value, of an event's number, content, extra and octets. A kind that is not known has its content.
+LEAVES = [content_of] * 256
+for kind in (Kind.BIGINT, Kind.COUNTER, Kind.INT, Kind.SMALLINT, Kind.TINYINT):
+    LEAVES[kind] = number_of
+for kind in (Kind.ASCII, Kind.VARCHAR):
+    LEAVES[kind] = text_of
+for kind in (Kind.UUID, Kind.TIMEUUID):
+    LEAVES[kind] = lambda number, content, extra, octets: uuid_of(octets)
+LEAVES[Kind.BOOLEAN] = lambda number, content, extra, octets: number != 0
+LEAVES[Kind.DECIMAL] = lambda number, content, extra, octets: exact(integer(content)).scaleb(-extra, _EXACT)
+LEAVES[Kind.DOUBLE] = lambda number, content, extra, octets: struct.unpack(">d", octets)[0]
+LEAVES[Kind.FLOAT] = lambda number, content, extra, octets: struct.unpack(">f", octets)[0]
+LEAVES[Kind.TIMESTAMP] = lambda number, content, extra, octets: timestamp(number)
+LEAVES[Kind.VARINT] = lambda number, content, extra, octets: integer(content)
+LEAVES[Kind.INET] = lambda number, content, extra, octets: address(octets)
+LEAVES[Kind.DATE] = lambda number, content, extra, octets: date(number)
+LEAVES[Kind.TIME] = lambda number, content, extra, octets: Nanoseconds(number)
 
 
 _ODD = re.compile('[\x00-\x1f\x7f"\\\\]')
@@ -170,9 +162,9 @@ _TEXTS = {
     Kind.DECIMAL: lambda e: "%se%d" % (_varint_text(e.content), -e.extra),
     Kind.TIME: lambda e: _time_text(e.number),
     Kind.DATE: lambda e: _date_text(e.number),
-    Kind.UUID: lambda e: str(uuid_of(e)),
-    Kind.TIMEUUID: lambda e: str(uuid_of(e)),
-    Kind.INET: lambda e: address(e).exploded,
+    Kind.UUID: lambda e: str(uuid_of(e.octets)),
+    Kind.TIMEUUID: lambda e: str(uuid_of(e.octets)),
+    Kind.INET: lambda e: address(e.octets).exploded,
     Kind.FLOAT: lambda e: "0x" + e.octets.hex(),
     Kind.DOUBLE: lambda e: "0x" + e.octets.hex(),
 }

@@ -1,0 +1,29 @@
+#!/usr/bin/env bash
+# Times the wrappers for Rust and Python on pages that pages.py makes, beside `cqlp check` of the same file and a plain loop in
+# Python over the same cells.
+set -eu
+
+here=$(dirname -- "$(readlink -f -- "${BASH_SOURCE[0]}")")
+bindings=$here/../bindings
+room=$(mktemp -d)
+trap 'rm -rf "$room"' EXIT
+
+"$bindings/build"
+"$here/../cqlp" check - </dev/null >/dev/null # builds the program
+export CARGO_TARGET_DIR=$bindings/out/rust PYTHONPATH=$bindings/python
+cargo build -q --offline --release --manifest-path "$bindings/rust/Cargo.toml" --example count
+
+for page in 'rows 200000' 'collections 40000' 'columns 1000' 'blobs 32'; do
+    # shellcheck disable=SC2086
+    python3 "$here/pages.py" $page >"$room/page"
+    size=$(stat -c %s "$room/page")
+    echo "$page: $size bytes"
+    for _ in 1 2 3; do
+        start=$(date +%s%N)
+        "$here/../cqlp" check "$room/page" >/dev/null
+        spent=$(($(date +%s%N) - start))
+        echo "  cqlp check, with its start: $((spent / 1000000)) ms, $((size * 1000 / (spent + 1))) MB/s"
+        "$CARGO_TARGET_DIR/release/examples/count" "$room/page"
+    done
+    python3 "$here/bindings.py" "$room/page"
+done
