@@ -171,7 +171,7 @@ class Pages:
         piece: int = 65536,
         progress: Optional[Progress] = None,
     ) -> None:
-        self._found = _found(self, batches(source, limits, piece, progress))
+        self._found = _found(self, batches(source, limits, piece, progress), limits.types)
         self._current: Optional[Page] = None
         self._coming: Optional[Page] = None
 
@@ -218,9 +218,9 @@ _SPEC = (Field.KEYSPACE, Field.TABLE, Field.COLUMN_NAME)
 _LEAF, _NULL, _EMPTY, _ENTER, _LEAVE, _PART = map(int, (Tag.LEAF, Tag.NULL, Tag.EMPTY, Tag.ENTER, Tag.LEAVE, Tag.PART))
 
 
-def _found(pages: Pages, batches: Iterator[List[Tuple[Record, bytes]]]) -> Iterator[Any]:
-    """Each page, and after it each of its rows."""
-    metadata, cells = _Metadata(), _Cells(_Metadata())
+def _found(pages: Pages, batches: Iterator[List[Tuple[Record, bytes]]], typed: bool) -> Iterator[Any]:
+    """Each page, and after it each of its rows; whether cells are read by the types of their columns is told."""
+    metadata, cells = _Metadata(), _Cells(0, [])
     for batch in batches:
         for record, content in batch:
             tag = record[9]
@@ -241,7 +241,7 @@ def _found(pages: Pages, batches: Iterator[List[Tuple[Record, bytes]]]) -> Itera
             if event.tag == Tag.FRAME:
                 metadata = _Metadata()
             elif event.field == Field.ROWS and metadata.kind == _ROWS_RESULT:
-                cells = _Cells(metadata)
+                cells = _Cells(metadata.width, [column.type for column in metadata.columns] if typed else [])
                 yield Page(pages, tuple(metadata.columns), metadata.width, event.number, metadata.state)
             else:
                 metadata.add(event)
@@ -250,9 +250,9 @@ def _found(pages: Pages, batches: Iterator[List[Tuple[Record, bytes]]]) -> Itera
 class _Cells:
     """Puts values together to cells, and cells to rows."""
 
-    def __init__(self, metadata: _Metadata) -> None:
-        self.types = [column.type for column in metadata.columns]
-        self.width = metadata.width
+    def __init__(self, width: int, types: List[Type]) -> None:
+        self.types = types
+        self.width = width
         self.row: List[ValueOf] = []
         self.open: List[_Items] = []
         self.parts: List[bytes] = []
