@@ -7,7 +7,11 @@ use std::time::Instant;
 /// Says how long a reading took.
 fn tell(what: &str, bytes: usize, began: Instant) {
     let seconds = began.elapsed().as_secs_f64();
-    println!("  {what}: {:.0} ms, {:.0} MB/s", seconds * 1e3, bytes as f64 / 1e6 / seconds);
+    println!(
+        "  {what}: {:.0} ms, {:.0} MB/s",
+        seconds * 1e3,
+        bytes as f64 / 1e6 / seconds
+    );
 }
 
 fn main() -> Result<(), Box<dyn Error>> {

@@ -324,7 +324,16 @@ impl<'a> Iterator for Batch<'a> {
 
 impl ExactSizeIterator for Batch<'_> {}
 
-/// The events of a piece, lent one after the other.
+/// The events of a piece, lent one after the other: an event is to be let go before the next is taken.
+///
+/// ```compile_fail,E0499
+/// # use cqlp::{Decoder, Limits};
+/// # let mut decoder = Decoder::new(Limits::default()).unwrap();
+/// let mut events = decoder.decode(&[0x04, 0, 0, 0, 0x05, 0, 0, 0, 0]);
+/// let first = events.next_event();
+/// let second = events.next_event();
+/// println!("{first:?}");
+/// ```
 #[derive(Debug)]
 pub struct Events<'a> {
     decoder: &'a mut Decoder,

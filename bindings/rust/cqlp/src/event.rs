@@ -216,13 +216,7 @@ unsafe fn text_of(content: &[u8]) -> &str {
 unsafe fn what_of<'a>(raw: &sys::cqlp_event, content: &'a [u8]) -> What<'a> {
     let field = Field::of(raw.field);
     match raw.tag {
-        sys::CQLP_TAG_FRAME => What::Frame(Frame {
-            response: raw.mark == sys::CQLP_MARK_RESPONSE,
-            flags: raw.flags,
-            stream: raw.extra as i16,
-            opcode: Opcode::of(raw.opcode),
-            length: raw.number as u32,
-        }),
+        sys::CQLP_TAG_FRAME => What::Frame(frame_of(raw)),
         sys::CQLP_TAG_BYTE => What::Byte(field, raw.number as u8),
         sys::CQLP_TAG_SHORT => What::Short(field, raw.number as u16),
         sys::CQLP_TAG_INT => What::Int(field, raw.number as i32),
@@ -231,21 +225,27 @@ unsafe fn what_of<'a>(raw: &sys::cqlp_event, content: &'a [u8]) -> What<'a> {
         sys::CQLP_TAG_COUNT => What::Count(field, raw.number as u32),
         sys::CQLP_TAG_TEXT => What::Text(field, text_of(content)),
         sys::CQLP_TAG_BYTES => What::Bytes(field, (raw.mark != sys::CQLP_MARK_NULL).then_some(content)),
-        sys::CQLP_TAG_BOUND => What::Bound(
-            field,
-            match raw.mark {
-                sys::CQLP_MARK_NULL => Bound::Null,
-                sys::CQLP_MARK_UNSET => Bound::Unset,
-                _ => Bound::Bytes(content),
-            },
-        ),
+        sys::CQLP_TAG_BOUND => What::Bound(field, bound_of(raw, content)),
         sys::CQLP_TAG_INET => What::Inet(field, address_of(raw), raw.extra),
         sys::CQLP_TAG_TYPE_NODE => What::TypeNode(Kind::of(raw.kind)),
-        sys::CQLP_TAG_LEAF => What::Leaf(place_of(raw), scalar_of(raw, content)),
-        sys::CQLP_TAG_NULL => What::Null(place_of(raw)),
-        sys::CQLP_TAG_EMPTY => What::Empty(place_of(raw)),
+        sys::CQLP_TAG_END => What::End(raw.number as u32),
+        _ => cell_of(raw, content),
+    }
+}
+
+/// What an event of a cell is.
+///
+/// # Safety
+///
+/// As of [`what_of`].
+unsafe fn cell_of<'a>(raw: &sys::cqlp_event, content: &'a [u8]) -> What<'a> {
+    let place = place_of(raw);
+    match raw.tag {
+        sys::CQLP_TAG_LEAF => What::Leaf(place, scalar_of(raw, content)),
+        sys::CQLP_TAG_NULL => What::Null(place),
+        sys::CQLP_TAG_EMPTY => What::Empty(place),
         sys::CQLP_TAG_ENTER => What::Enter {
-            place: place_of(raw),
+            place,
             kind: Kind::of(raw.kind),
             items: raw.number as u32,
         },
@@ -254,13 +254,30 @@ unsafe fn what_of<'a>(raw: &sys::cqlp_event, content: &'a [u8]) -> What<'a> {
             items: raw.number as u32,
         },
         sys::CQLP_TAG_PART => What::Part {
-            place: place_of(raw),
+            place,
             offset: raw.number as u32,
             bytes: content,
             last: raw.mark == sys::CQLP_MARK_LAST,
         },
-        sys::CQLP_TAG_END => What::End(raw.number as u32),
         other => What::Other(other),
+    }
+}
+
+fn frame_of(raw: &sys::cqlp_event) -> Frame {
+    Frame {
+        response: raw.mark == sys::CQLP_MARK_RESPONSE,
+        flags: raw.flags,
+        stream: raw.extra as i16,
+        opcode: Opcode::of(raw.opcode),
+        length: raw.number as u32,
+    }
+}
+
+fn bound_of<'a>(raw: &sys::cqlp_event, content: &'a [u8]) -> Bound<'a> {
+    match raw.mark {
+        sys::CQLP_MARK_NULL => Bound::Null,
+        sys::CQLP_MARK_UNSET => Bound::Unset,
+        _ => Bound::Bytes(content),
     }
 }
 

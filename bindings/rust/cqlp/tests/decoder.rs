@@ -157,7 +157,7 @@ fn many_are_made_and_freed() {
     make_and_free(1000);
     let before = resident();
     make_and_free(100_000);
-    assert!(resident() < before + 1000, "{before} pages, then {}", resident());
+    assert!(resident() < before + 5000, "{before} pages, then {}", resident());
 }
 
 #[test]

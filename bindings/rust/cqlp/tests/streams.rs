@@ -127,3 +127,21 @@ fn in_batches() {
         );
     }
 }
+
+#[test]
+fn a_byte_is_another() {
+    for mut stream in streams() {
+        for at in 0..stream.bytes.len() {
+            let byte = stream.bytes[at];
+            for other in [0x00, 0x80, 0xFF, byte.wrapping_add(1)] {
+                stream.bytes[at] = other;
+                let whole = said(&stream, [&stream.bytes[..]]);
+                let checked = check(stream.limits, &stream.bytes).unwrap();
+                assert_eq!(whole.1, checked.to_string(), "{} {at} {other}", stream.name);
+                let cut = said(&stream, [&stream.bytes[..at], &stream.bytes[at..]]);
+                assert_eq!(cut, whole, "{} {at} {other}", stream.name);
+            }
+            stream.bytes[at] = byte;
+        }
+    }
+}
