@@ -1,6 +1,6 @@
 #!/usr/bin/env bash
 # Times the wrappers for Rust and Python on pages that pages.py makes, beside `cqlp check` of the same file and a plain loop in
-# Python over the same cells.
+# Python over the same cells; and that for Go, where it is there, on small pages.
 set -eu
 
 here=$(dirname -- "$(readlink -f -- "${BASH_SOURCE[0]}")")
@@ -27,3 +27,6 @@ for page in 'rows 200000' 'collections 40000' 'columns 1000' 'blobs 32'; do
     done
     python3 "$here/bindings.py" "$room/page"
 done
+if command -v go >/dev/null; then
+    (cd "$bindings/go" && go test -run none -bench . . | grep '^Benchmark')
+fi

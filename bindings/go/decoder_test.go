@@ -285,3 +285,25 @@ func TestNamesAreThoseOfTheHeader(t *testing.T) {
 		t.Fatal(count, all)
 	}
 }
+
+// Two small pages, time and again: a page of three rows with four scalars, and one of two rows with a list and a map.
+func BenchmarkReader(b *testing.B) {
+	pages, err := os.ReadFile("../pages.bin")
+	if err != nil {
+		b.Fatal(err)
+	}
+	stream, events := strings.Repeat(string(pages), 1000), 0
+	b.SetBytes(int64(len(stream)))
+	for i := 0; i < b.N; i++ {
+		r, err := NewReader(strings.NewReader(stream), DefaultLimits())
+		if err != nil {
+			b.Fatal(err)
+		}
+		for err == nil {
+			_, err = r.Next()
+			events++
+		}
+		r.Close()
+	}
+	b.ReportMetric(float64(events)/float64(b.N), "events/op")
+}
