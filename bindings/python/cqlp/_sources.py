@@ -1,5 +1,6 @@
 """Streams from bytes and files."""
 
+import io
 import os
 from typing import Any, BinaryIO, Callable, Iterator, List, Optional, Tuple, Union
 
@@ -32,12 +33,14 @@ def _pieces(source: Source, size: int) -> Iterator[Tuple[bytes, Optional[int]]]:
 
 
 def _length_of(file: BinaryIO) -> Optional[int]:
-    """How many bytes are left of a file that has an end."""
+    """How many bytes are left of a plain file that has an end. One that is decompressed as it is read would have to be read for it."""
+    if not isinstance(file, (io.BufferedReader, io.BytesIO, io.FileIO)):
+        return None
     try:
         at = file.tell()
         end = file.seek(0, os.SEEK_END)
         file.seek(at)
-    except (AttributeError, OSError, ValueError):
+    except (OSError, ValueError):
         return None
     return end - at
 

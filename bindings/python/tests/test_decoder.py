@@ -1,7 +1,8 @@
 """Handles, limits, refusals, and what a decoder holds."""
 
-import resource
 import re
+import resource
+import threading
 import unittest
 
 import cqlp
@@ -111,6 +112,15 @@ class Decoder(unittest.TestCase):
             with cqlp.Decoder() as decoder:
                 self.assertEqual(len(decoder.decode(given)), 2)
             self.assertEqual(str(cqlp.check(given)), "whole 9")
+
+    def test_threads_may_share_one(self) -> None:
+        with cqlp.Decoder() as decoder:
+            tasks = [threading.Thread(target=lambda: [decoder.decode(OPTIONS) for _ in range(1000)]) for _ in range(4)]
+            for task in tasks:
+                task.start()
+            for task in tasks:
+                task.join()
+            self.assertEqual(str(decoder.finish()), "whole 36000")
 
     def test_many_are_made_and_freed(self) -> None:
         library, native = cqlp._native.library, cqlp._native

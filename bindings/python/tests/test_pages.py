@@ -1,5 +1,6 @@
 """Rows as Python values, and sources."""
 
+import gzip
 import io
 import os
 import struct
@@ -226,6 +227,13 @@ class Sources(unittest.TestCase):
         with open(reader, "rb") as file:
             self.assertEqual(len(list(cqlp.rows(file, progress=lambda *numbers: told.append(numbers)))), 5)
         self.assertEqual(told, [(613, None)])
+
+    def test_other_files(self) -> None:
+        stream, told = (BINDINGS / "pages.bin").read_bytes(), []
+        self.assertEqual(len(list(cqlp.rows(io.BytesIO(stream), progress=lambda *numbers: told.append(numbers)))), 5)
+        packed = gzip.GzipFile(fileobj=io.BytesIO(gzip.compress(stream)))
+        self.assertEqual(len(list(cqlp.rows(packed, progress=lambda *numbers: told.append(numbers)))), 5)
+        self.assertEqual(told, [(613, 613), (613, None)])
 
     def test_a_read_that_fails(self) -> None:
         class Broken(io.RawIOBase):
