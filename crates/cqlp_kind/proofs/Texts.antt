@@ -1,19 +1,19 @@
 -- Texts among scalars.
-use Rattle.std.proofs.Common.{◌≡◌, ℕ, ◌<◌, Bool, true, false, List, nat_lt, Some, None, is_some, sym, ◌∙◌, refl, arith, lt-ltb, ltb-true}
+use Rattle.std.proofs.Common.{◌≡◌, ℕ, ◌<◌, Bool, true, false, List, nat_lt, Some, is_some, sym, ◌∙◌, refl, arith, lt-ltb, ltb-true}
 use Rattle.std.specs.Bool.{MatchBool}
 use Rattle.std.specs.List.{list_all}
 use Rattle.std.specs.Str.{IsAscii, IsNotAscii, IsUtf8, is_utf8}
 use Rattle.std.proofs.lemmas.Bool.{false_from_ne_true}
 use Rattle.std.proofs.lemmas.List.Elements.{All-weaker}
 use Rattle.std.proofs.lemmas.List.Sums.{AllPass-from_list_all, list_all-from_AllPass}
-use Rattle.std.proofs.lemmas.Str.{IsUtf8-from_ascii, IsUtf8-from_is_utf8, is_utf8-from_IsUtf8}
+use Rattle.std.proofs.lemmas.Str.{IsUtf8-from_ascii, IsUtf8-from_is_utf8}
 use Rattle.std.proofs.lemmas.Str.Ascii.{All-from_ascii, IsAscii-from_all}
 use Rattle.cqlp_kind.specs.declared.kind.Kind.{Kind}
 use Rattle.cqlp_kind.specs.declared.kind.Kind.TheVariants as kind
 use Rattle.cqlp_kind.specs.Types.{has_no_items}
-use Rattle.cqlp_kind.specs.Scalars.{ScalarValue, Varchar, Timeuuid, is_version_1, only_if, scalar_of}
+use Rattle.cqlp_kind.specs.Scalars.{ScalarValue, Timeuuid, is_version_1, only_if, scalar_of}
 
-only_if_some : (b : Bool) (v : ScalarValue) → is_some (only_if b v) ≡ b
+pub only_if_some : (b : Bool) (v : ScalarValue) → is_some (only_if b v) ≡ b
 only_if_some true v = refl
 only_if_some false v = refl
 
@@ -38,13 +38,8 @@ pub ascii_known : (c : List ℕ) → is_some (scalar_of kind.Ascii c) ≡ true �
 unfolding scalar_of
 ascii_known c t = IsUtf8-from_ascii c (ascii_from_test c (sym (only_if_some (list_all is_low c) _) ∙ t))
 
-pub varchar_decided : (c : List ℕ) → IsUtf8 c → is_some (scalar_of kind.Varchar c) ≡ true
-unfolding scalar_of
-varchar_decided c u = only_if_some (is_utf8 c) _ ∙ is_utf8-from_IsUtf8 c u
-
-pub varchar_undecided : (c : List ℕ) → ¬ IsUtf8 c → is_some (scalar_of kind.Varchar c) ≡ false
-unfolding scalar_of
-varchar_undecided c n = only_if_some (is_utf8 c) _ ∙ false_from_ne_true (is_utf8 c) (λ t. n (IsUtf8-from_is_utf8 c t))
+pub text_known : (c : List ℕ) → is_utf8 c ≡ true → IsUtf8 c
+text_known c t = IsUtf8-from_is_utf8 c t
 
 pub varchar_known : (c : List ℕ) → is_some (scalar_of kind.Varchar c) ≡ true → IsUtf8 c
 unfolding scalar_of
@@ -76,15 +71,3 @@ only_if_known false v t = absurd cc
 pub timeuuid_known : (c : List ℕ) → is_some (scalar_of kind.Timeuuid c) ≡ true → scalar_of kind.Timeuuid c ≡ Some (Timeuuid c)
 unfolding scalar_of
 timeuuid_known c t = only_if_known (is_version_1 c) (Timeuuid c) t
-
-pub varchar_is : (c : List ℕ) → IsUtf8 c → scalar_of kind.Varchar c ≡ Some (Varchar c)
-unfolding scalar_of
-varchar_is c u = only_if_known (is_utf8 c) (Varchar c) (varchar_decided c u)
-
-only_if_unknown : (b : Bool) (v : ScalarValue) → b ≡ false → only_if b v ≡ None
-only_if_unknown true v f = absurd cc
-only_if_unknown false v f = refl
-
-pub varchar_is_not : (c : List ℕ) → ¬ IsUtf8 c → scalar_of kind.Varchar c ≡ None
-unfolding scalar_of
-varchar_is_not c n = only_if_unknown (is_utf8 c) (Varchar c) (false_from_ne_true (is_utf8 c) (λ t. n (IsUtf8-from_is_utf8 c t)))

@@ -9,7 +9,7 @@ ghost use Rattle.cqlp_kind.specs.Contents.{IsWholly, scalar_in, value_in, value_
 
 use crate::kind::Kind;
 use crate::scalars::Scalar;
-use cqlp_note::{Address, Reason};
+use cqlp_note::{Address, Reason, is_text};
 
 /// The first nanosecond that is not of the same day.
 pub const DAY: u64 = 86_400_000_000_000;
@@ -19,7 +19,7 @@ pub const DAY: u64 = 86_400_000_000_000;
 /// `BadSize` where no scalar of the kind has this many bytes; else `BadUtf8` for a varchar that is not UTF-8, and
 /// `BadScalar` for an ascii with a byte above 7F, a time past the end of a day or a timeuuid that is not of version 1.
 #[inline]
-#[tactic(auto, using(crate::proofs::Texts::varchar_is, crate::proofs::Texts::varchar_is_not), unfolding(crate::specs::Scalars::scalar_of))]
+#[tactic(auto, using(crate::proofs::Texts::text_known), unfolding(crate::specs::Scalars::scalar_of))]
 pub fn scalar(kind: Kind, bytes: &[u8]) -> Result<Scalar<'_>, Reason>
     requires scalar { has_no_items kind ≡ true }
     requires content { bytes.now ≢ [] }
@@ -66,10 +66,11 @@ pub fn scalar(kind: Kind, bytes: &[u8]) -> Result<Scalar<'_>, Reason>
             Some(bytes) => Ok(Scalar::Boolean(bytes[0] != 0)),
             None => Err(Reason::BadSize),
         },
-        Kind::Varchar => match str::from_utf8(bytes) {
-            Ok(text) => Ok(Scalar::Varchar(text)),
-            Err(_) => Err(Reason::BadUtf8),
-        },
+        // The bytes are a text.
+        Kind::Varchar if is_text(bytes) => Ok(Scalar::Varchar(unsafe {
+            str::from_utf8_unchecked(bytes)
+        })),
+        Kind::Varchar => Err(Reason::BadUtf8),
         Kind::Blob => Ok(Scalar::Blob(bytes)),
         Kind::Raw => Ok(Scalar::Raw(bytes)),
         _ => rare_scalar(kind, bytes),
@@ -120,7 +121,7 @@ pub fn allows(kind: Kind, len: usize) -> bool
 }
 
 /// Whether a content of an allowed length is a scalar of this kind.
-#[tactic(auto, unfolding(crate::specs::Scalars::scalar_of))]
+#[tactic(auto, using(crate::proofs::Texts::only_if_some), unfolding(crate::specs::Scalars::scalar_of))]
 #[inline]
 pub fn accepts(kind: Kind, bytes: &[u8]) -> bool
     requires scalar { has_no_items kind ≡ true }
@@ -133,16 +134,6 @@ pub fn accepts(kind: Kind, bytes: &[u8]) -> bool
         Kind::Time => u64::from_be_bytes(first(bytes)) < DAY,
         Kind::Timeuuid => bytes[6] >> 4 == 1,
         _ => true,
-    }
-}
-
-#[tactic(auto, using(crate::proofs::Texts::varchar_decided, crate::proofs::Texts::varchar_undecided))]
-fn is_text(bytes: &[u8]) -> bool
-    ensures { result ≡ is_some (scalar_of kind.Varchar bytes.now) }
-{
-    match str::from_utf8(bytes) {
-        Ok(_) => true,
-        Err(_) => false,
     }
 }
 

@@ -11,3 +11,4 @@ pub mod Small
 pub mod WrittenFields
 pub mod OneAnswer
 pub mod Appended
+pub mod Texts

@@ -1,10 +1,8 @@
 -- What is said of a field goes on over pieces.
-use Rattle.std.proofs.Common.{◌≡◌, ℕ, ◌+◌, ◌-◌, ◌<◌, ◌≤◌, Bool, true, false, List, [], ◌∷◌, ◌++◌, length, take, drop, Result, Ok, Err, Some, None, refl, ap, ◌∙◌, inl, inr, append_assoc, arith}
+use Rattle.std.proofs.Common.{◌≡◌, ℕ, ◌+◌, ◌-◌, ◌<◌, ◌≤◌, true, false, List, [], ◌∷◌, ◌++◌, length, take, drop, Result, Ok, Err, Some, None, refl, ap, ◌∙◌, inl, inr, append_assoc, arith}
 use Rattle.std.proofs.lemmas.Bool.{cases_lt, lt-ltb, le-ltb}
 use Rattle.std.proofs.lemmas.List.{take-append-le, drop-append-le, length-append, length-drop, length-take, length-take-le, take-append-drop, take_all, append-nil}
 use Rattle.std.proofs.Math.Seq.{take-append-add, drop-append-add}
-use Rattle.std.specs.Str.{IsUtf8, is_utf8}
-use Rattle.std.proofs.lemmas.Str.{IsUtf8-from_is_utf8, is_utf8-from_IsUtf8}
 use Rattle.cqlp_note.specs.declared.refusal.Reason.TheVariants.{BadUtf8}
 use Rattle.cqlp_note.specs.declared.head.Wanted.{Wanted}
 use Rattle.cqlp_note.specs.declared.head.ContentForm.{ContentForm}
@@ -232,19 +230,6 @@ whole_lent f len start rest buffer lt = absurd (omega (arith, rw content_size at
 -- what `&input[start..]` is
 pub rest_is : (input : List ℕ) (start : ℕ) → take (length input - start) (drop start input) ≡ drop start input
 rest_is input start = take_all (length input - start) (drop start input) (omega (arith, length-drop start input))
-
-is_false : (b : Bool) → (b ≡ true → ⊥) → b ≡ false
-is_false true f = absurd (f refl)
-is_false false f = refl
-
-pub utf8_true : (c : List ℕ) → IsUtf8 c → is_utf8 c ≡ true
-utf8_true c u = is_utf8-from_IsUtf8 c u
-
-pub utf8_false : (c : List ℕ) → ¬ IsUtf8 c → is_utf8 c ≡ false
-utf8_false c u = is_false (is_utf8 c) (λ t. u (IsUtf8-from_is_utf8 c t))
-
-pub utf8_known : (c : List ℕ) → is_utf8 c ≡ true → IsUtf8 c
-utf8_known c t = IsUtf8-from_is_utf8 c t
 
 -- what the reading of a content out of pieces rests on
 pub ruleset of_contents = (whole_bad, seen_is_front, split_goes_on, rest_is, front_fits)

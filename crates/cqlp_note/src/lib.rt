@@ -14,6 +14,7 @@ mod partial;
 mod prim;
 mod refusal;
 mod streams;
+mod text;
 
 pub use advance::{ContentPlace, FieldAdvance, FieldOutline, Push};
 pub use field::{Field, Notation};
@@ -27,3 +28,4 @@ pub use partial::Partial;
 pub use prim::{Address, BoundValue, Primitive as Prim};
 pub use refusal::{NoMemory, Reason, Refusal};
 pub use streams::{IoFault, OfStd, Source, Target};
+pub use text::is_text;

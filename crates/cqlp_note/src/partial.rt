@@ -11,6 +11,7 @@ use crate::front::FieldFront;
 use crate::head::{ContentForm, Head, Stop, Wanted, read_head};
 use crate::prim::{BoundValue, Primitive};
 use crate::refusal::{NoMemory, Reason, Refusal};
+use crate::text::is_text;
 use std::alloc::{Allocator, Global};
 use std::marker::Model;
 
@@ -262,7 +263,7 @@ impl ContentForm {
     ghost use Rattle.cqlp_note.specs.Partial.{accepts, content_value};
 
     /// What such a content is.
-    #[tactic(auto, using(crate::proofs::Pieces::utf8_known))]
+    #[tactic(auto, using(crate::proofs::Texts::utf8_known))]
     fn prim<'a>(self, bytes: &'a [u8]) -> Primitive<'a>
         requires { accepts self bytes.now ≡ true }
         ensures { value_of result ≡ content_value self bytes.now }
@@ -276,15 +277,12 @@ impl ContentForm {
     }
 
     /// Whether these bytes may stand in such a content.
-    #[tactic(auto, using(crate::proofs::Pieces::utf8_true, crate::proofs::Pieces::utf8_false))]
+    #[inline]
     fn accepts(self, bytes: &[u8]) -> bool
         ensures { result ≡ accepts self bytes.now }
     {
         match self {
-            ContentForm::Text => match str::from_utf8(bytes) {
-                Ok(_) => true,
-                Err(_) => false,
-            },
+            ContentForm::Text => is_text(bytes),
             ContentForm::Bytes | ContentForm::Bound => true,
         }
     }
