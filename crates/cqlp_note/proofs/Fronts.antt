@@ -6,9 +6,11 @@ use Rattle.std.proofs.lemmas.List.{take-append-le, drop-append-le, length-append
 use Rattle.cqlp_note.specs.declared.field.Notation.{Notation}
 use Rattle.cqlp_note.specs.declared.field.Notation.TheVariants as notation
 use Rattle.cqlp_note.specs.declared.refusal.Reason.TheVariants.{Overrun}
-use Rattle.cqlp_note.specs.Reader.{Takes, More, Bad, Got, says, fits, number_of}
+use Rattle.cqlp_note.specs.declared.prim.Primitive.{Primitive}
+use Rattle.cqlp_note.specs.Partial.{IsPlain}
+use Rattle.cqlp_note.specs.Reader.{Gives, Takes, More, Bad, Got, says, fits, number_of}
 use Rattle.cqlp_note.specs.Field.{Inet, field_of, content_of, inet_of, is_negative, signed, address_of}
-use Rattle.cqlp_note.specs.Head.{fixed_of, after_fixed, front_of, made, reader_of, Tells}
+use Rattle.cqlp_note.specs.Head.{fixed_of, after_fixed, front_of, made, reader_of, value_of, Tells}
 use Rattle.cqlp_note.specs.declared.head.Wanted.{Wanted}
 use Rattle.cqlp_note.specs.declared.head.ContentForm.TheVariants as form
 use Rattle.cqlp_note.specs.declared.head.Head.{Head}
@@ -62,6 +64,14 @@ fixed_tells w bytes (Err stop.Wanting) le long h =
     let all = rw (append-nil bytes, append-nil (drop (fixed_of w.notation) bytes)) at (fixed_taken w.notation w.limit w.room bytes le long []) in
     (omega (arith, length-drop (fixed_of w.notation) bytes, h.0), all ∙ h.1)
 fixed_tells w bytes (Err (stop.Refused why)) le long h = λ t. fixed_taken w.notation w.limit w.room bytes le long t ∙ h t
+
+-- a field that is no more than its fixed part
+pub plain_is : (w : Wanted) (bytes : List ℕ) (used : ℕ) (v : Primitive) → IsPlain w bytes used v → says (reader_of w) 0 bytes ≡ Got (value_of v) used
+plain_is w bytes used v p =
+    let n = w.notation in
+    let gives : after_fixed n w.limit w.room (take (fixed_of n) bytes) ≡ Gives (value_of v) = rw p.0 at p.4 in
+    let now = rw (append-nil bytes, append-nil (drop (fixed_of n) bytes), gives) at (fixed_taken n w.limit w.room bytes (rw p.0 at p.1) (rw p.0 at p.2) []) in
+    rw p.0 now
 
 -- a front is short
 pub fixed_short : (n : Notation) → (fixed_of n ≤ front_of n) × (front_of n < 24)

@@ -16,12 +16,12 @@ use Rattle.cqlp_note.specs.Field.{FieldValue}
 use Rattle.cqlp_note.specs.declared.prim.Primitive.{Primitive}
 use Rattle.cqlp_note.specs.declared.prim.Primitive.TheVariants as prim
 use Rattle.cqlp_note.specs.declared.prim.BoundValue.TheVariants as bound
-use Rattle.cqlp_note.specs.Head.{made, reader_of, value_of, HasNoContent, Tells}
+use Rattle.cqlp_note.specs.Head.{fixed_of, made, reader_of, value_of, HasNoContent, Tells}
 use Rattle.cqlp_note.specs.declared.advance.FieldStage.{FieldStage}
 use Rattle.cqlp_note.specs.declared.advance.FieldStage.TheVariants as stage
-use Rattle.cqlp_note.specs.Partial.{accepts, content_value, content_bytes, is_under_way, seen_of}
-use Rattle.cqlp_note.specs.Field.{content_length}
-use Rattle.cqlp_note.proofs.Fronts.{fixed_short}
+use Rattle.cqlp_note.specs.Partial.{HasContent, LeadsToContent, accepts, content_value, content_bytes, is_under_way, seen_of}
+use Rattle.cqlp_note.specs.Field.{content_length, content_of}
+use Rattle.cqlp_note.proofs.Fronts.{fixed_short, fixed_taken}
 
 -- what a front tells, it tells whatever follows, if nothing follows one that is wanting
 tells_on : (w : Wanted) (xs ys : List ℕ) (told : Result Head Stop) → (length xs < 24 → ys ≡ []) → Tells w (reader_of w) 0 xs told → Tells w (reader_of w) 0 (xs ++ ys) told
@@ -226,6 +226,19 @@ content_size form.Bound c = refl
 -- a content that lies whole in the bytes used is not in the buffer
 pub whole_lent : (f : ContentForm) (len start : ℕ) (rest buffer : List ℕ) → start + len < content_length (content_value f (take len rest)) → buffer ≡ content_bytes (content_value f (take len rest))
 whole_lent f len start rest buffer lt = absurd (omega (arith, rw content_size at lt, length-take len rest))
+
+-- a content that lies whole in the bytes
+pub content_is : (w : Wanted) (bytes : List ℕ) (start len : ℕ) (f : ContentForm) → LeadsToContent w.notation bytes start len f → HasContent w bytes start len f
+    → says (reader_of w) 0 bytes ≡ Got (content_value f (take len (drop start bytes))) (start + len)
+unfolding content_of
+content_is w bytes start len f leads has =
+    let n = w.notation in
+    let leads_on = rw leads.1 at (leads.2 w.limit w.room) in
+    let fixed : fixed_of n ≤ w.room = omega (arith, leads.1, has.1) in
+    let long : fixed_of n ≤ length bytes = omega (arith, leads.1, has.2) in
+    let now = rw (append-nil bytes, append-nil (drop (fixed_of n) bytes), leads_on, ← leads.1) at (fixed_taken n w.limit w.room bytes fixed long []) in
+    let enough : len ≤ length (drop start bytes) = omega (arith, has.2, length-drop start bytes) in
+    now ∙ rw (le-ltb w.room (start + len) has.1, le-ltb w.limit len has.0) (content_got f len start (drop start bytes) enough has.3)
 
 -- what `&input[start..]` is
 pub rest_is : (input : List ℕ) (start : ℕ) → take (length input - start) (drop start input) ≡ drop start input

@@ -1,6 +1,7 @@
 -- A field out of pieces.
 use Rattle.std.specs.Prelude.{◌≡◌, ℕ, ◌+◌, ◌++◌, ◌<◌, ◌≤◌, Bool, true, false, List, [], length, take, drop, Some, ⊤}
 use Rattle.std.specs.Str.{is_utf8}
+use Rattle.cqlp_note.specs.declared.field.Notation.{Notation}
 use Rattle.cqlp_note.specs.declared.head.Wanted.{Wanted}
 use Rattle.cqlp_note.specs.declared.head.ContentForm.{ContentForm}
 use Rattle.cqlp_note.specs.declared.head.ContentForm.TheVariants as form
@@ -14,9 +15,10 @@ use Rattle.cqlp_note.specs.declared.advance.Push.{Push}
 use Rattle.cqlp_note.specs.declared.advance.Push.TheVariants as push
 use Rattle.cqlp_note.specs.declared.advance.FieldStage.{FieldStage}
 use Rattle.cqlp_note.specs.declared.advance.FieldStage.TheVariants as stage
-use Rattle.cqlp_note.specs.Reader.{More, Bad, Got, Takes, says}
-use Rattle.cqlp_note.specs.Field.{FieldValue, Text, Bytes, Bound, Known, content_length}
-use Rattle.cqlp_note.specs.Head.{reader_of, value_of, made, front_of}
+use Rattle.cqlp_note.specs.declared.prim.Primitive.{Primitive}
+use Rattle.cqlp_note.specs.Reader.{More, Bad, Got, Gives, Takes, says}
+use Rattle.cqlp_note.specs.Field.{FieldValue, Text, Bytes, Bound, Known, content_length, content_of}
+use Rattle.cqlp_note.specs.Head.{HasNoContent, after_fixed, fixed_of, reader_of, value_of, made, front_of}
 
 -- What a caller knows of a `Partial`: the room for a content; whether a field is under way, which was asked for
 -- last, and its bytes since `begin`; and the content that the buffer holds.
@@ -83,12 +85,34 @@ IsUnderWay (stage.Content len f) w front content room =
     × IsContentAfter w (front ++ content) len f (length front) content
     × (length front ≡ front_of w.notation)
 
+-- no byte of a field has come
+abbrev pub IsFresh : FieldState → Type 0
+IsFresh p = (p.seen ≡ []) × (p.content ≡ [])
+
+-- The first bytes are a whole field that fits its container: this value, in which no content stands.
+abbrev pub IsPlain : Wanted → (bytes : List ℕ) → (used : ℕ) → Primitive → Type 0
+IsPlain w bytes used v =
+    (used ≡ fixed_of w.notation) × (used ≤ w.room) × (used ≤ length bytes) × HasNoContent v
+    × (after_fixed w.notation w.limit w.room (take used bytes) ≡ Gives (value_of v))
+
 -- ---- what is handed out
 
 abbrev pub accepts : ContentForm → List ℕ → Bool
 accepts form.Text c = is_utf8 c
 accepts form.Bytes c = true
 accepts form.Bound c = true
+
+-- After these bytes comes a content of this length.
+abbrev pub LeadsToContent : Notation → (bytes : List ℕ) → (start len : ℕ) → ContentForm → Type 0
+LeadsToContent n bytes start len f =
+    (start ≤ 4) × (start ≡ fixed_of n)
+    × ((limit room : ℕ) → after_fixed n limit room (take start bytes) ≡ content_of start len limit room (made f))
+
+-- Such a content is within the limit, fits its container, lies whole in the bytes, and may stand there.
+abbrev pub HasContent : Wanted → (bytes : List ℕ) → (start len : ℕ) → ContentForm → Type 0
+HasContent w bytes start len f =
+    (len ≤ w.limit) × (start + len ≤ w.room) × (start + len ≤ length bytes)
+    × (accepts f (take len (drop start bytes)) ≡ true)
 
 abbrev pub content_value : ContentForm → List ℕ → FieldValue
 content_value form.Text c = Text c

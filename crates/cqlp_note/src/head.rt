@@ -225,7 +225,8 @@ fn read_address(size: usize, bytes: &[u8]) -> Address
 }
 
 /// Reads the number in the first four bytes, where it is not negative.
-fn read_natural(bytes: &[u8]) -> Option<u32>
+#[inline(always)]
+pub(crate) fn read_natural(bytes: &[u8]) -> Option<u32>
     requires { 4 ≤ length bytes.now }
     ensures { let n = from_be_bytes w32 (take 4 bytes.now) in result ≡ (if is_negative n then None else Some n) }
 {
@@ -238,7 +239,8 @@ fn read_natural(bytes: &[u8]) -> Option<u32>
 }
 
 /// Reads the number in the first two bytes.
-fn read_short(bytes: &[u8]) -> u32
+#[inline(always)]
+pub(crate) fn read_short(bytes: &[u8]) -> u32
     requires { 2 ≤ length bytes.now }
     ensures { result ≡ from_be_bytes w16 (take 2 bytes.now) }
 {
@@ -253,7 +255,8 @@ fn end_field(used: usize, prim: Primitive<'static>) -> Result<Head, Stop>
 }
 
 /// Reads the first N bytes.
-fn read_first<const N: usize>(bytes: &[u8]) -> [u8; N]
+#[inline(always)]
+pub(crate) fn read_first<const N: usize>(bytes: &[u8]) -> [u8; N]
     requires { N ≤ length bytes.now }
     ensures { result ≡ take N bytes.now }
 {

@@ -1,14 +1,17 @@
 //! A field out of pieces of any size.
 
-ghost use Rattle.std.specs.Prelude.{◌≡◌, ◌+◌, ◌-◌, ◌<◌, ◌≤◌, ◌^◌, ◌++◌, List, [], ℕ, true, false, length, drop, IfOk};
+ghost use Rattle.std.specs.Prelude.{◌≡◌, ◌+◌, ◌-◌, ◌<◌, ◌≤◌, ◌^◌, ◌++◌, List, [], ℕ, true, false, length, drop, IfOk, IfSome, IsTrue};
 ghost use Rattle.std.specs.Borrow.{sem};
 ghost use Rattle.cqlp_note.specs.Head.{Tells, front_of, reader_of, value_of};
+ghost use Rattle.cqlp_note.specs.Partial.{LeadsToContent};
 ghost use Rattle.cqlp_note.specs.Reader.{More, says};
 
 use crate::advance::{ContentPlace, FieldAdvance, FieldOutline, FieldStage, Push};
 use crate::field::Notation;
 use crate::front::FieldFront;
-use crate::head::{ContentForm, Head, Stop, Wanted, read_head};
+use crate::head::{
+    ContentForm, Head, Stop, Wanted, read_first as first, read_head, read_natural, read_short,
+};
 use crate::prim::{BoundValue, Primitive};
 use crate::refusal::{NoMemory, Reason, Refusal};
 use crate::text::is_text;
@@ -40,7 +43,7 @@ impl<A: Allocator> Model for Partial<A> {
 
 impl<A: Allocator> Partial<A> {
     ghost use Rattle.cqlp_note.specs.Lending.{LeavesField};
-    ghost use Rattle.cqlp_note.specs.Partial.{Advances, CanLend, IsContentAfter, IsNew, Pushes, Uses, begun, ended, item_value};
+    ghost use Rattle.cqlp_note.specs.Partial.{Advances, CanLend, HasContent, IsContentAfter, IsFresh, IsNew, IsPlain, Pushes, Uses, begun, ended, item_value};
 
     /// With room for contents of up to `room` bytes, and no field under way. This is the one call that takes memory;
     /// the error is that it was refused.
@@ -117,8 +120,106 @@ impl<A: Allocator> Partial<A> {
 
     /// Does what `push` does, but tells where a content lies in place of lending it, so that a reader around this one
     /// can go on before it lends.
-    #[tactic(auto, using(crate::proofs::Pieces::gathered_bad))]
     pub fn advance(&mut self, input: &[u8]) -> FieldAdvance
+        requires { self.old.under_way ≡ true }
+        ensures { Advances self.old input.now result self.new }
+    {
+        if self.is_fresh() {
+            // A number that lies whole in the input is most of all fields.
+            match self.wanted.notation {
+                Notation::Byte if self.has_whole(1, input) => {
+                    return self.end_plain(1, Primitive::Byte(u8::from_be_bytes(first(input))));
+                }
+                Notation::Short if self.has_whole(2, input) => {
+                    return self.end_plain(2, Primitive::Short(u16::from_be_bytes(first(input))));
+                }
+                Notation::Count16 if self.has_whole(2, input) => {
+                    return self.end_plain(
+                        2,
+                        Primitive::Count(u16::from_be_bytes(first(input)).into()),
+                    );
+                }
+                Notation::Int if self.has_whole(4, input) => {
+                    return self.end_plain(4, Primitive::Int(i32::from_be_bytes(first(input))));
+                }
+                Notation::Long if self.has_whole(8, input) => {
+                    return self.end_plain(8, Primitive::Long(i64::from_be_bytes(first(input))));
+                }
+                _ => {}
+            }
+            if let Some((start, len, form)) = read_content_head(self.wanted.notation, input) {
+                if self.has_content(start, len, form, input) {
+                    return self.end_content(start, len, form);
+                }
+            }
+        }
+        self.advance_by_piece(input)
+    }
+
+    /// Whether no byte of the field that is under way has come.
+    #[inline(always)]
+    fn is_fresh(&self) -> bool
+        ensures { IsTrue result → IsFresh self.now }
+    {
+        matches!(self.stage, FieldStage::Front) && self.front.is_empty()
+    }
+
+    /// Whether a field of this many bytes fits its container and lies whole in the input.
+    #[inline(always)]
+    fn has_whole(&self, size: usize, input: &[u8]) -> bool
+        ensures { IsTrue result → (size ≤ self.now.field.room) × (size ≤ length input.now) }
+    {
+        size as u64 <= self.wanted.room && size <= input.len()
+    }
+
+    /// Ends the field by a value without content, of this many bytes.
+    #[inline(always)]
+    fn end_plain(&mut self, used: usize, prim: Primitive<'static>) -> FieldAdvance
+        requires { self.old.under_way ≡ true }
+        ensures { (input : List ℕ) → IsFresh self.old → IsPlain self.old.field input used prim.entry
+            → Advances self.old input result self.new }
+    {
+        self.stage = FieldStage::Idle;
+        let item = FieldOutline::Plain(prim);
+        FieldAdvance::Got { used, item }
+    }
+
+    /// Whether a content of this length, after this many bytes, is within the limit, fits its container, lies whole in
+    /// the input, and may stand there.
+    #[inline(always)]
+    fn has_content(&self, start: usize, len: u32, form: ContentForm, input: &[u8]) -> bool
+        requires { start ≤ 4 }
+        ensures { IsTrue result → HasContent self.now.field input.now start len form }
+    {
+        let used = start + len as usize;
+        len <= self.wanted.limit
+            && used as u64 <= self.wanted.room
+            && used <= input.len()
+            && form.accepts(&input[start..used])
+    }
+
+    /// Ends the field by a content of this length in the input, after this many bytes.
+    #[inline(always)]
+    fn end_content(&mut self, start: usize, len: u32, form: ContentForm) -> FieldAdvance
+        requires under_way { self.old.under_way ≡ true }
+        requires few { start ≤ 4 }
+        ensures { (input : List ℕ) → IsFresh self.old → LeadsToContent self.old.field.notation input start len form
+            → HasContent self.old.field input start len form → Advances self.old input result self.new }
+    {
+        self.stage = FieldStage::Idle;
+        let size = len as usize;
+        let lies = ContentPlace::InInput { start, len: size };
+        let item = FieldOutline::Content { form, lies };
+        FieldAdvance::Got {
+            used: start + size,
+            item,
+        }
+    }
+
+    /// Does the same, whatever has come of the field.
+    #[inline(never)]
+    #[tactic(auto, using(crate::proofs::Pieces::gathered_bad))]
+    fn advance_by_piece(&mut self, input: &[u8]) -> FieldAdvance
         requires { self.old.under_way ≡ true }
         ensures { Advances self.old input.now result self.new }
     {
@@ -297,5 +398,25 @@ fn read_head_of_pieces(wanted: Wanted, front: &FieldFront, input: &[u8]) -> Resu
         read_head(wanted, input)
     } else {
         read_head(wanted, front.with(input).as_slice())
+    }
+}
+
+/// Where the content of a field begins, how long it is, and what is made of it.
+#[tactic(auto, using(crate::proofs::Fronts::bound_known))]
+#[inline(always)]
+fn read_content_head(notation: Notation, input: &[u8]) -> Option<(usize, u32, ContentForm)>
+    ensures { IfSome result (λ head. LeadsToContent notation input.now head.0 head.1 head.2) }
+{
+    match notation {
+        Notation::Text16 if input.len() >= 2 => Some((2, read_short(input), ContentForm::Text)),
+        Notation::Bytes16 if input.len() >= 2 => Some((2, read_short(input), ContentForm::Bytes)),
+        Notation::Text32 if input.len() >= 4 => Some((4, read_natural(input)?, ContentForm::Text)),
+        Notation::Bytes32 if input.len() >= 4 => Some((
+            4,
+            read_natural(input)?,
+            ContentForm::Bytes,
+        )),
+        Notation::Bound if input.len() >= 4 => Some((4, read_natural(input)?, ContentForm::Bound)),
+        _ => None,
     }
 }
