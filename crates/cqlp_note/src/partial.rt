@@ -153,7 +153,9 @@ impl<A: Allocator> Partial<A> {
                 }
             }
         }
-        self.advance_by_piece(input)
+        // Bound to a name, so that the answers above are not made in the place in memory that this one wants.
+        let advance = self.advance_by_piece(input);
+        advance
     }
 
     /// Whether no byte of the field that is under way has come.
@@ -216,7 +218,7 @@ impl<A: Allocator> Partial<A> {
         }
     }
 
-    /// Does the same, whatever has come of the field.
+    /// Does what `advance` does, whatever has come of the field.
     #[inline(never)]
     #[tactic(auto, using(crate::proofs::Pieces::gathered_bad))]
     fn advance_by_piece(&mut self, input: &[u8]) -> FieldAdvance
