@@ -43,6 +43,10 @@ impl Upcoming {
         requires { length self.old + room_after role ≤ 16 }
         ensures { symbols_in self.new ≡ following NoMore role (value_of value.entry) ++ symbols_in self.old }
     {
+        // Nothing follows most fields.
+        if let Role::Alone = role {
+            return;
+        }
         let number = number(value);
         match role {
             Role::Alone => {}
