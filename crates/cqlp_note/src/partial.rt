@@ -147,10 +147,11 @@ impl<A: Allocator> Partial<A> {
                 }
                 _ => {}
             }
-            if let Some((start, len, form)) = read_content_head(self.wanted.notation, input) {
-                if self.has_content(start, len, form, input) {
-                    return self.end_content(start, len, form);
-                }
+            if let Some((start, len, form)) = self.find_content(input) {
+                return self.end_content(start, len, form);
+            }
+            if let Some(prim) = self.find_null(input) {
+                return self.end_plain(4, prim);
             }
         }
         // Bound to a name, so that the answers above are not made in the place in memory that this one wants.
@@ -184,6 +185,43 @@ impl<A: Allocator> Partial<A> {
         self.stage = FieldStage::Idle;
         let item = FieldOutline::Plain(prim);
         FieldAdvance::Got { used, item }
+    }
+
+    /// The null of a field that lies whole in the input, or that its value is not set.
+    #[inline(always)]
+    fn find_null(&self, input: &[u8]) -> Option<Primitive<'static>>
+        ensures { IfSome result (λ null. IsPlain self.now.field input.now 4 null) }
+    {
+        if !self.has_whole(4, input) {
+            return None;
+        }
+        match self.wanted.notation {
+            Notation::Bytes32 => match read_natural(input) {
+                Some(_) => None,
+                None => Some(Primitive::Bytes(None)),
+            },
+            Notation::Bound => match i32::from_be_bytes(first(input)) {
+                -1 => Some(Primitive::Bound(BoundValue::Null)),
+                -2 => Some(Primitive::Bound(BoundValue::Unset)),
+                _ => None,
+            },
+            _ => None,
+        }
+    }
+
+    /// Where the content of the field begins, how long it is, and what is made of it, if it lies whole in the input and
+    /// may stand there.
+    #[inline(always)]
+    fn find_content(&self, input: &[u8]) -> Option<(usize, u32, ContentForm)>
+        ensures { IfSome result (λ head. LeadsToContent self.now.field.notation input.now head.0 head.1 head.2
+            × HasContent self.now.field input.now head.0 head.1 head.2) }
+    {
+        let (start, len, form) = read_content_head(self.wanted.notation, input)?;
+        if self.has_content(start, len, form, input) {
+            Some((start, len, form))
+        } else {
+            None
+        }
     }
 
     /// Whether a content of this length, after this many bytes, is within the limit, fits its container, lies whole in
