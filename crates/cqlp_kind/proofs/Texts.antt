@@ -6,7 +6,7 @@ use Rattle.std.specs.Str.{IsAscii, IsNotAscii, IsUtf8, is_utf8}
 use Rattle.std.proofs.lemmas.Bool.{false_from_ne_true}
 use Rattle.std.proofs.lemmas.List.Elements.{All-weaker}
 use Rattle.std.proofs.lemmas.List.Sums.{AllPass-from_list_all, list_all-from_AllPass}
-use Rattle.std.proofs.lemmas.Str.{IsUtf8-from_ascii, IsUtf8-from_is_utf8}
+use Rattle.std.proofs.lemmas.Str.{IsUtf8-from_ascii, IsUtf8-from_is_utf8, is_utf8-from_IsUtf8}
 use Rattle.std.proofs.lemmas.Str.Ascii.{All-from_ascii, IsAscii-from_all}
 use Rattle.cqlp_kind.specs.declared.kind.Kind.{Kind}
 use Rattle.cqlp_kind.specs.declared.kind.Kind.TheVariants as kind
@@ -37,6 +37,10 @@ ascii_decided c b m = ascii_test c b m ∙ sym (only_if_some (list_all is_low c)
 pub ascii_known : (c : List ℕ) → is_some (scalar_of kind.Ascii c) ≡ true → IsUtf8 c
 unfolding scalar_of
 ascii_known c t = IsUtf8-from_ascii c (ascii_from_test c (sym (only_if_some (list_all is_low c) _) ∙ t))
+
+pub varchar_decided : (c : List ℕ) → IsUtf8 c → is_some (scalar_of kind.Varchar c) ≡ true
+unfolding scalar_of
+varchar_decided c u = only_if_some (is_utf8 c) _ ∙ is_utf8-from_IsUtf8 c u
 
 pub text_known : (c : List ℕ) → is_utf8 c ≡ true → IsUtf8 c
 text_known c t = IsUtf8-from_is_utf8 c t
