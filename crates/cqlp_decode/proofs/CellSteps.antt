@@ -31,6 +31,7 @@ use Rattle.cqlp_cell.proofs.ScalarSizes.{scalar_sized}
 use Rattle.cqlp_cell.proofs.Leavings.{left_none, left_some, stop_is}
 use Rattle.cqlp_grammar.specs.Productions.{Symbol, Cell_due, In_cell}
 use Rattle.cqlp_decode.specs.declared.page.CellCursor.{CellCursor}
+use Rattle.cqlp_decode.specs.declared.page.Columns.{Columns}
 use Rattle.cqlp_decode.specs.declared.standing.StreamStage.{StreamStage}
 use Rattle.cqlp_decode.specs.declared.standing.StreamStage.TheVariants as stage
 use Rattle.cqlp_decode.specs.declared.standing.StreamStanding.{StreamStanding}
@@ -38,7 +39,8 @@ use Rattle.cqlp_decode.specs.declared.advance.EventAdvance.TheVariants as advanc
 use Rattle.cqlp_decode.specs.declared.advance.EventOutline.TheVariants as what
 use Rattle.cqlp_decode.specs.Reading as reading
 use Rattle.cqlp_decode.specs.Reading.{Given, Place, step, cell_event, cells_left, place_of_cells}
-use Rattle.cqlp_decode.specs.Pages.{given_of, cell_symbol, page_symbols, cells_after, types_left, node_by}
+use Rattle.cqlp_decode.specs.Cells.{SaysCell}
+use Rattle.cqlp_decode.specs.Pages.{IsKind, IsPage, Turns, cells_from, given_of, cell_symbol, page_symbols, cells_after, types_left, node_by}
 use Rattle.cqlp_decode.specs.declared.advance.EventAdvance.{EventAdvance}
 use Rattle.cqlp_decode.specs.Standing.{StreamState, IsPending, PartsState, parts, nodes_of, state_of, place_at, offset_at, symbols_at, rest_of, said, Waits, Hands, Moves, IsLent, due_after, frame_after, ends_due, IsCell, IsConsistent, StageHolds, Starts}
 use Rattle.cqlp_decode.proofs.Steps.{begun, one_due, offset_is}
@@ -351,10 +353,22 @@ pub nothing_held : (xs : List ℕ) → length xs ≤ 0 → xs ≡ []
 nothing_held [] le = refl
 nothing_held (x ∷ xs) le = absurd (omega (arith, le))
 
--- ---- a scalar that is a cell, whose bytes are all there
+-- ---- a cell that is one event, whose bytes are all there
 
-module _ (s : StreamStanding) (q : PartsState) (p : CellCursor) (here : s.stage ≡ stage.BeforeCell p) (law : IsConsistent s q) (unrefused : s.refusal ≡ None) (input : List ℕ) (used : ℕ) (k : Kind) (inner others : Types) (v : ScalarValue) (is : types_left (nodes_of q p.columns) p ≡ Type_and k inner others)
-    (front : SaysScalar (rules_of s.limits) k (s.stop - s.offset) input used v) (empty : q.partial.content ≡ []) (e : StreamStanding) (symbols : symbols_at e.stage q e.upcoming ≡ cells_after (nodes_of q p.columns) p ++ rest_of s.upcoming)
+-- an empty buffer lends nothing
+lent_empty : (row column used : ℕ) (ev : CellEvent) (content : List ℕ) → content ≡ [] → IsLent (cell_event row column ev) used content
+lent_empty r c used (cell.Leaf level v) content none = λ le. none
+lent_empty r c used (cell.Null level) content none = tt
+lent_empty r c used (cell.Empty level) content none = tt
+lent_empty r c used (cell.Enter level k n) content none = tt
+lent_empty r c used (cell.Leave level n) content none = tt
+lent_empty r c used (cell.Part level offset bytes last) content none = λ le. none
+
+pub says_leaf : (l : Rules) (k : Kind) (room : ℕ) (input : List ℕ) (used : ℕ) (v : ScalarValue) → SaysScalar l k room input used v → SaysCell l k room input used (cell.Leaf 0 v)
+says_leaf l k room input used v h = record { is = λ p rest inner. h.is p rest inner 0; within = h.within; inside = h.inside; some = h.some }
+
+module _ (s : StreamStanding) (q : PartsState) (p : CellCursor) (here : s.stage ≡ stage.BeforeCell p) (law : IsConsistent s q) (unrefused : s.refusal ≡ None) (input : List ℕ) (used : ℕ) (k : Kind) (inner others : Types) (ev : CellEvent) (is : types_left (nodes_of q p.columns) p ≡ Type_and k inner others)
+    (front : SaysCell (rules_of s.limits) k (s.stop - s.offset) input used ev) (empty : q.partial.content ≡ []) (e : StreamStanding) (symbols : symbols_at e.stage q e.upcoming ≡ cells_after (nodes_of q p.columns) p ++ rest_of s.upcoming)
     (starts : Starts e q e.stage) (same_use : e.given_use ≡ s.given_use) (offset : e.offset ≡ s.offset + used) (stop : e.stop ≡ s.stop) (frame : e.frame ≡ s.frame) (came : e.came ≡ s.came) where
   abbrev there : List Symbol
   there = cells_after (nodes_of q p.columns) p ++ rest_of s.upcoming
@@ -368,38 +382,56 @@ module _ (s : StreamStanding) (q : PartsState) (p : CellCursor) (here : s.stage 
   stage_due : StageHolds s q (stage.BeforeCell p)
   stage_due = rw here at law.stage
 
-  scalar_said : (b : List ℕ) → said (state_of s q) b ≡ map_said (cell_event p.row p.column) (place_of_cells p.row p.column due_place there) (says (cell_step (rules_of s.limits) (record { offset = s.offset; symbols = Value_of k inner 0 s.stop ∷ [] })) 0 b)
-  scalar_said b =
+  one_said : (b : List ℕ) → said (state_of s q) b ≡ map_said (cell_event p.row p.column) (place_of_cells p.row p.column due_place there) (says (cell_step (rules_of s.limits) (record { offset = s.offset; symbols = Value_of k inner 0 s.stop ∷ [] })) 0 b)
+  one_said b =
       ap (λ (z : Place). says (step (rules_of s.limits) z) 0 b) place_due
       ∙ says_map (cell_event p.row p.column) (place_of_cells p.row p.column due_place there) (cell_step (rules_of s.limits) (record { offset = s.offset; symbols = Value_of k inner 0 s.stop ∷ [] })) 0 b
 
-  pub scalar_hands : Hands (state_of s q) input s.offset used (reading.Cell_at p.row p.column (cell.Leaf 0 v)) (state_of e q)
-  scalar_hands =
+  pub one_hands : Hands (state_of s q) input s.offset used (cell_event p.row p.column ev) (state_of e q)
+  one_hands =
       let at : offset_at e.stage e.offset q ≡ s.offset + used = offset_is e e.stage q starts ∙ offset in
       record {
         within = front.within;
         begun = begun e e.stage e.header e.came q starts (came ∙ stage_due.2) stage_due.1.field;
-        frame = frame;
-        lent = λ le. empty;
+        frame = frame ∙ sym (same_frame s.frame s.offset p.row p.column ev);
+        lent = lent_empty p.row p.column used ev q.partial.content empty;
         gives = λ b pending.
             let none : b ≡ [] = rw here at pending in
             let count : 0 + used ≡ used = omega arith in
-            let x : Emitted CellEvent CellPlace = record { at = s.offset; event = cell.Leaf 0 v; after = cell.place_after (record { offset = s.offset; symbols = Value_of k inner 0 s.stop ∷ [] }) [] [] } in
+            let x : Emitted CellEvent CellPlace = record { at = s.offset; event = ev; after = cell.place_after (record { offset = s.offset; symbols = Value_of k inner 0 s.stop ∷ [] }) [] [] } in
             rw (none, count) (
-              record { at = s.offset; event = reading.Cell_at p.row p.column (cell.Leaf 0 v); after = λ u. place_of_cells p.row p.column due_place there (x.after u) },
-              scalar_said input ∙ ap (λ z. map_said (cell_event p.row p.column) (place_of_cells p.row p.column due_place there) z) (front.is (record { offset = s.offset; symbols = Value_of k inner 0 s.stop ∷ [] }) [] inner 0),
+              record { at = s.offset; event = cell_event p.row p.column ev; after = λ u. place_of_cells p.row p.column due_place there (x.after u) },
+              one_said input ∙ ap (λ z. map_said (cell_event p.row p.column) (place_of_cells p.row p.column due_place there) z) (front.is (record { offset = s.offset; symbols = Value_of k inner 0 s.stop ∷ [] }) [] inner),
               refl,
               refl,
               λ j. place_at (sym at j) (sym stop j) (sym symbols j) q.table.nodes (given_of (sym same_use j) q.given),
             );
         offset = λ b pending. let none : b ≡ [] = rw here at pending in let count : 0 + used ≡ used = omega arith in rw (none, count, at, here) refl;
         gifts = refl;
-        due = one_due e e.stage q starts;
+        due = one_due e e.stage q starts ∙ sym (no_end p.row p.column ev);
         pays =
             let before : ends_due (state_of s q).place.symbols ≡ 1 = ap (λ (z : Place). ends_due z.symbols) place_due in
             rw (one_due e e.stage q starts, before) (omega (arith, front.some));
       }
 
-  pub scalar_lawful : e.limits ≡ s.limits → e.header ≡ s.header → IsConsistent e q
-  scalar_lawful limits header =
+  pub one_lawful : e.limits ≡ s.limits → e.header ≡ s.header → IsConsistent e q
+  one_lawful limits header =
       goes_on_lawful s e q q.partial q.types q.cells q.table used law offset (omega (arith, front.inside, law.bounded.inside)) stop limits header (came ∙ stage_due.2) refl stage_due.1.field refl stage_due.1.types refl stage_due.1.cells refl (rw here at (law.table unrefused)) starts (record { types = law.quiet.types; cells = law.quiet.cells })
+
+-- the page goes on with another cell
+module _ (s : StreamStanding) (q : PartsState) (p p' : CellCursor) (here : s.stage ≡ stage.BeforeCell p) (law : IsConsistent s q) (unrefused : s.refusal ≡ None) (input : List ℕ) (used : ℕ) (k : Kind) (kind : IsKind (nodes_of q p.columns) p k) (ev : CellEvent)
+    (front : SaysCell (rules_of s.limits) k (s.stop - s.offset) input used ev) (empty : q.partial.content ≡ []) (turns : Turns (nodes_of q p.columns) s.limits.depth p (Some p')) where
+  abbrev onward : StreamStanding
+  onward = record s { stage = stage.BeforeCell p'; offset = s.offset + used }
+
+  onward_symbols : symbols_at onward.stage q onward.upcoming ≡ cells_after (nodes_of q p.columns) p ++ rest_of s.upcoming
+  onward_symbols = ap (λ (z : Columns). cells_from (nodes_of q z) p' ++ rest_of s.upcoming) turns.2 ∙ ap (λ (z : List Symbol). z ++ rest_of s.upcoming) (sym turns.0)
+
+  onward_starts : Starts onward q onward.stage
+  onward_starts = (subst (λ (z : Columns). IsPage (nodes_of q z) s.limits.depth p') (sym turns.2) turns.1, let uses = rw here at law.uses in λ given. uses (sym turns.2 ∙ given))
+
+  pub onward_hands : Hands (state_of s q) input s.offset used (cell_event p.row p.column ev) (state_of onward q)
+  onward_hands = one_hands s q p here law unrefused input used k kind.0 kind.1 ev kind.2 front empty onward onward_symbols onward_starts refl refl refl refl refl
+
+  pub onward_lawful : IsConsistent onward q
+  onward_lawful = one_lawful s q p here law unrefused input used k kind.0 kind.1 ev kind.2 front empty onward onward_symbols onward_starts refl refl refl refl refl refl refl

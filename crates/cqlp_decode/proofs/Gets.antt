@@ -37,25 +37,35 @@ module _ {V : Type 0} (f : V → ℕ → reading.Event → V) where
   drains_none gifts d s es v a = record { more = []; stands = rw (append-nil s, append-nil es) a; got = refl }
 
   module _ (gifts : Gifts) (old new : StreamState) (s input : List ℕ) (used : ℕ) (es : List (ℕ × reading.Event)) (v w : V) (d : Drains f gifts old s es (take used input) v w) where
-    stands_more : (at taken : ℕ) (e : Event) → LeadsAfter gifts old (s ++ take used input) (es ++ d.more) (drop used input) (steps.Event at taken e) new → AfterGifts gifts new (s ++ take (used + taken) input) (es ++ (d.more ++ (at, event_of e) ∷ []))
-    stands_more at taken e leads = rw (take_two used taken input, ← (append_assoc s (take used input) (take taken (drop used input))), ← (append_assoc es d.more ((at, event_of e) ∷ []))) leads.3
+    -- after one more event
+    abbrev Onward : (at taken : ℕ) → reading.Event → Type 0
+    Onward at taken e = AfterGifts gifts new ((s ++ take used input) ++ take taken (drop used input)) ((es ++ d.more) ++ (at, e) ∷ [])
+
+    stands_more : (at taken : ℕ) (e : reading.Event) → Onward at taken e → AfterGifts gifts new (s ++ take (used + taken) input) (es ++ (d.more ++ (at, e) ∷ []))
+    stands_more at taken e stands = rw (take_two used taken input, ← (append_assoc s (take used input) (take taken (drop used input))), ← (append_assoc es d.more ((at, e) ∷ []))) stands
+
+    pub drains_one : (at taken : ℕ) (e : reading.Event) (w' : V) → Onward at taken e → w' ≡ f w at e → Drains f gifts new s es (take (used + taken) input) v w'
+    drains_one at taken e w' stands is = record {
+      more = d.more ++ (at, e) ∷ [];
+      stands = stands_more at taken e stands;
+      got = is ∙ ap (λ (z : V). f z at e) d.got ∙ sym (fold_more v d.more at e);
+    }
+
+    pub fails_one : (faulted : V → ℕ → reading.Event → V → Type 0) (at taken : ℕ) (e : reading.Event) (w' : V) → Onward at taken e → faulted w at e w' → Fails f faulted gifts new s es (take (used + taken) input) v w'
+    fails_one faulted at taken e w' stands fault = record {
+      more = d.more;
+      at = at;
+      event = e;
+      stands = rw (append_assoc es d.more ((at, e) ∷ [])) (stands_more at taken e stands);
+      fault = rw (← d.got) fault;
+    }
 
     pub drains_event : (at taken : ℕ) (e : Event) (w' : V) → LeadsAfter gifts old (s ++ take used input) (es ++ d.more) (drop used input) (steps.Event at taken e) new → w' ≡ f w at (event_of e) → Drains f gifts new s es (take (used + taken) input) v w'
-    drains_event at taken e w' leads is = record {
-      more = d.more ++ (at, event_of e) ∷ [];
-      stands = stands_more at taken e leads;
-      got = is ∙ ap (λ (z : V). f z at (event_of e)) d.got ∙ sym (fold_more v d.more at (event_of e));
-    }
+    drains_event at taken e w' leads is = drains_one at taken (event_of e) w' leads.3 is
 
     pub fails_event : (faulted : V → ℕ → reading.Event → V → Type 0) (at taken : ℕ) (e : Event) (w' : V) → LeadsAfter gifts old (s ++ take used input) (es ++ d.more) (drop used input) (steps.Event at taken e) new → faulted w at (event_of e) w'
         → Fails f faulted gifts new s es (take (used + taken) input) v w'
-    fails_event faulted at taken e w' leads fault = record {
-      more = d.more;
-      at = at;
-      event = event_of e;
-      stands = rw (append_assoc es d.more ((at, event_of e) ∷ [])) (stands_more at taken e leads);
-      fault = rw (← d.got) fault;
-    }
+    fails_event faulted at taken e w' leads fault = fails_one faulted at taken (event_of e) w' leads.3 fault
 
     all : (s ++ take used input) ++ drop used input ≡ s ++ input
     all = append_assoc s (take used input) (drop used input) ∙ ap (λ (z : List ℕ). s ++ z) (take-append-drop used input)
@@ -86,6 +96,15 @@ module _ {V : Type 0} (f : V → ℕ → reading.Event → V) where
     stands = rw (← (append_assoc s a b), ← (append_assoc es d.more e.more)) e.stands;
     fault = rw (fold_append v d.more e.more, ← d.got) e.fault;
   }
+
+  -- of the rest of an input more was used
+  pub drains_rest : (gifts : Gifts) (mid new : StreamState) (s input : List ℕ) (used taken : ℕ) (es : List (ℕ × reading.Event)) (v w x : V) (d : Drains f gifts mid s es (take used input) v w)
+      → Drains f gifts new (s ++ take used input) (es ++ d.more) (take taken (drop used input)) w x → Drains f gifts new s es (take (used + taken) input) v x
+  drains_rest gifts mid new s input used taken es v w x d e = rw (take_two used taken input) (drains_then gifts mid new s (take used input) (take taken (drop used input)) es v w x d e)
+
+  pub fails_rest : (faulted : V → ℕ → reading.Event → V → Type 0) (gifts : Gifts) (mid new : StreamState) (s input : List ℕ) (used taken : ℕ) (es : List (ℕ × reading.Event)) (v w x : V) (d : Drains f gifts mid s es (take used input) v w)
+      → Fails f faulted gifts new (s ++ take used input) (es ++ d.more) (take taken (drop used input)) w x → Fails f faulted gifts new s es (take (used + taken) input) v x
+  fails_rest faulted gifts mid new s input used taken es v w x d e = rw (take_two used taken input) (fails_then faulted gifts mid new s (take used input) (take taken (drop used input)) es v w x d e)
 
   abbrev pub feeds_none : (d : StreamState) (xs : List ℕ) (v : V) → Feeds f d d xs v v
   feeds_none d xs v = record { bytes = []; rest = xs; parts = refl; drained = λ gifts s es a. drains_none gifts d s es v a }

@@ -82,30 +82,28 @@ module _ (old new : StreamState) (input s : List ℕ) (es : List (ℕ × reading
           (after.place, after.bytes ++ input, run, rw waits tt),
         )
 
-    pub hands_leads : (at used : ℕ) (e : Event) → Hands old input at used (event_of e) new → new.refusal ≡ None → new.rules ≡ old.rules → AfterBy None gifts old s es → LeadsAfter gifts old s es input (steps.Event at used e) new
-    hands_leads at used e h none rules after =
+    pub hands_stands : (at used : ℕ) (e : reading.Event) → Hands old input at used e new → new.refusal ≡ None → new.rules ≡ old.rules → AfterBy None gifts old s es → AfterGifts gifts new (s ++ take used input) (es ++ (at, e) ∷ [])
+    hands_stands at used e h none rules after =
         let t = take used input in
         let g = h.gives after.bytes after.pending in
         let long : length t ≡ used = length-take-le used input h.within in
         let given = same_said old.rules after.place old.place (after.bytes ++ input) after.here after.all ∙ g.1 in
         let one = says_exact (step old.rules after.place) after.bytes input g.0 used given in
-        let run = run_more old.rules gifts after.place new.place s after.bytes t es at (event_of e) g.0 after.read (rw long one) g.2 g.3 (rw long g.4) in
-        rw (none, rules) (
-          h.within,
-          refl,
-          h.begun,
-          record {
-            place = new.place;
-            bytes = [];
-            pending = h.begun;
-            read = run;
-            here = settled_none new.place h.gifts;
-            all = ap gifts_later h.gifts;
-            count = omega (arith, h.offset after.bytes after.pending, after.count, length-append s t, long);
-            frame = h.frame ∙ ap (λ (f : ℕ). frame_after f at (event_of e)) after.frame ∙ sym (frame_more 0 es at (event_of e));
-            due = h.due ∙ due_is (event_of e) ∙ ap (λ (b : Bool). if b then 1 else 0) (sym (open_more false es at (event_of e)));
-          },
-        )
+        let run = run_more old.rules gifts after.place new.place s after.bytes t es at e g.0 after.read (rw long one) g.2 g.3 (rw long g.4) in
+        rw (none, rules) (record {
+          place = new.place;
+          bytes = [];
+          pending = h.begun;
+          read = run;
+          here = settled_none new.place h.gifts;
+          all = ap gifts_later h.gifts;
+          count = omega (arith, h.offset after.bytes after.pending, after.count, length-append s t, long);
+          frame = h.frame ∙ ap (λ (f : ℕ). frame_after f at e) after.frame ∙ sym (frame_more 0 es at e);
+          due = h.due ∙ due_is e ∙ ap (λ (b : Bool). if b then 1 else 0) (sym (open_more false es at e));
+        })
+
+    pub hands_leads : (at used : ℕ) (e : Event) → Hands old input at used (event_of e) new → new.refusal ≡ None → new.rules ≡ old.rules → AfterBy None gifts old s es → LeadsAfter gifts old s es input (steps.Event at used e) new
+    hands_leads at used e h none rules after = (h.within, none, h.begun, hands_stands at used (event_of e) h none rules after)
 
     pub event_leads : (o : Option Refusal) (at used : ℕ) (w : EventOutline) (e : Event) → event_of e ≡ event_at new.held input w → AdvancesFrom o old input (advance.Event at used w) new → AfterBy o gifts old s es → LeadsAfter gifts old s es input (steps.Event at used e) new
     event_leads (Some r) at used w e is a after = absurd (let e = a.0 in cc)

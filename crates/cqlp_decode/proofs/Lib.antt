@@ -8,3 +8,4 @@ pub mod Leads
 pub mod Ends
 pub mod Tables
 pub mod Gets
+pub mod PageLoop

@@ -5,3 +5,4 @@ pub mod Streams
 pub mod Lending
 pub mod Giving
 pub mod Draining
+pub mod Cells

@@ -1,6 +1,6 @@
 //! The decoder of a stream of frames.
 
-ghost use Rattle.std.specs.Prelude.{◌≡◌, ◌+◌, ◌<◌, ◌≤◌, ◌^◌, ◌↔◌, [], length, IfOk, IsErrOf, Err, Ok, max, None, Some};
+ghost use Rattle.std.specs.Prelude.{◌≡◌, ◌+◌, ◌<◌, ◌≤◌, ◌^◌, ◌*◌, ◌↔◌, [], length, IfOk, OnOk, IsErrOf, Err, Ok, max, None, Some};
 ghost use Rattle.std.specs.Borrow.{sem};
 ghost use Rattle.cqlp_note.specs.Limits.{first_bad, rules_of};
 ghost use Rattle.cqlp_note.specs.Head.{value_of};
@@ -14,11 +14,12 @@ ghost use Rattle.cqlp_note.specs.declared.refusal.Refusal.{Refusal};
 
 use crate::advance::{EventAdvance, EventOutline, ScalarCell};
 use crate::given::{GiveError, GiveReason, GivenUse};
+use crate::page_loop::take_cells;
 use crate::parts::Parts;
 use crate::standing::StreamStanding;
 use crate::step::{Held, Step};
 use cqlp_cell::{CellItem, CellReader};
-use cqlp_grammar::{Event, Finish};
+use cqlp_grammar::{Event, Finish, Sink, SinkFault};
 use cqlp_note::{BadLimits, Field, Limits, NoMemory, Partial, Prim};
 use cqlp_type::{TypeItem, TypeReader, TypeTable};
 use std::alloc::{Allocator, Global};
@@ -103,6 +104,7 @@ impl<A: Allocator + Clone> Decoder<A> {
 
 impl<A: Allocator> Decoder<A> {
     ghost use Rattle.cqlp_decode.specs.Lending.{LeavesAnswer};
+    ghost use Rattle.cqlp_decode.specs.Cells.{DrainsCells, StaysWithin};
     ghost use Rattle.cqlp_decode.specs.Giving.{GivesAlso, GivesBack, TakesAlso, after_taking, free_table, once_given, reason_against};
     ghost use Rattle.cqlp_decode.specs.Reading.{Gives, is_in_use};
     ghost use Rattle.cqlp_decode.specs.Standing.{Advances, HoldsGiven, LeavesTypes, Takes, WhatThere, event_at};
@@ -250,6 +252,25 @@ impl<A: Allocator> Decoder<A> {
         ensures { Takes (state self.old) input.now result (state self.new) }
     {
         self.standing.take_scalar(&self.parts, input)
+    }
+
+    /// Hands the cells that are due to the sink, as far as the loop over a page takes them, and answers how many bytes of
+    /// the input they take.
+    #[inline]
+    pub(crate) fn take_cells<S: Sink>(
+        &mut self,
+        input: &[u8],
+        sink: &mut S,
+    ) -> Result<usize, SinkFault>
+        ensures stays { StaysWithin (state self.old) input.now result (state self.new) }
+        ensures refused { (r : Refusal) → (state self.old).refusal ≡ Some r
+            → (state self.new ≡ state self.old) × (sink.new ≡ sink.old) × (result ≡ Ok 0) }
+        ensures tells { S.tells sink.old → OnOk result (S.tells sink.new) }
+        ensures drains { S.tells sink.old →
+            DrainsCells S.after S.faulted (state self.old) input.now result (state self.new)
+            (S.view sink.old) (S.view sink.new) }
+    {
+        take_cells(&mut self.standing, &self.parts, input, sink)
     }
 
     /// The work of a call, with nothing borrowed in its result.

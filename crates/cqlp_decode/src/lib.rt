@@ -6,6 +6,7 @@ mod decoder;
 mod given;
 mod metadata;
 mod page;
+mod page_loop;
 mod parts;
 mod running;
 mod standing;

@@ -89,6 +89,10 @@ fn drain<S: Sink, A: Allocator>(decoder: &mut Decoder<A>, input: &[u8], sink: &m
 {
     let mut used = 0;
     'events: loop {
+        match decoder.take_cells(&input[used..], sink) {
+            Ok(taken) => used += taken,
+            Err(SinkFault) => return Drained::Fault,
+        }
         match decoder.next(&input[used..]) {
             Step::More { .. } => return Drained::More,
             Step::Refused(_) => return Drained::Refused,

@@ -3,24 +3,50 @@ use Rattle.std.proofs.lemmas.List.{length-drop}
 use Rattle.cqlp_decode.specs.Standing.{StreamState}
 use Rattle.cqlp_decode.specs.Streams.{state}
 use Rattle.cqlp_decode.proofs.Leads.{repeated}
-use Rattle.cqlp_decode.proofs.Gets.{rest_is, drains_event, drains_all, drains_refused, fails_event}
+use Rattle.cqlp_decode.proofs.Gets.{rest_is, drains_event, drains_all, drains_refused, drains_rest, fails_event, fails_rest}
 use Rattle.cqlp_decode.proofs.running.drain.Goals as goal
+
+-- the cells of a page
+
+pub returns-in-Err-clause-refused : goal.returns-in-Err-clause-refused
+returns-in-Err-clause-refused g c = λ r is.
+    let cells = c.in-Err.ensures.refused r (ap (λ (z : StreamState). z.refusal) (c.events.invariant.refused r is).0 ∙ is) in
+    absurd (let e = cells.2 in cc)
+
+pub returns-in-Err-clause-drains : goal.returns-in-Err-clause-drains
+returns-in-Err-clause-drains g c = λ tells.
+    let cells = (rw rest_is at c.in-Err.ensures.drains) (c.events.invariant.tells tells) in (
+      c.events.used + cells.0,
+      λ gifts s es a.
+          let d = c.events.invariant.drained tells gifts s es a in
+          fails_rest g.S.Sink.after g.S.Sink.faulted gifts (state c.events.decoder) (state c.take_cells.new.self) s c.args.input.now c.events.used cells.0 es _ _ _ d (cells.1 gifts _ _ d.stands),
+    )
+
+-- all else
 
 pub returns-in-More-clause-refusal : goal.returns-in-More-clause-refusal
 returns-in-More-clause-refusal g c = (rw c.in-More.is at c.next.follows.holds-at-none.0).1
 
 pub returns-in-More-clause-refused : goal.returns-in-More-clause-refused
 returns-in-More-clause-refused g c = λ r is.
-    let mid = ap (λ (z : StreamState). z.refusal) (c.events.invariant.refused r is).0 ∙ is in
-    let again = (repeated (state c.events.decoder) (state c.next.follows.lender-at-none) _ (state c.events.decoder).refusal r mid c.next.follows.holds-at-none.2).0 in
-    absurd (let e = sym c.in-More.is ∙ again in cc)
+    let before = c.events.invariant.refused r is in
+    let cells = c.in-Ok.ensures.refused r (ap (λ (z : StreamState). z.refusal) before.0 ∙ is) in
+    let same = cells.0 ∙ before.0 in
+    let again = repeated (state c.take_cells.new.self) (state c.next.follows.lender-at-none) _ (state c.take_cells.new.self).refusal r (ap (λ (z : StreamState). z.refusal) same ∙ is) c.next.follows.holds-at-none.2 in
+    absurd (let e = sym c.in-More.is ∙ again.0 in cc)
 
 pub returns-in-More-clause-drains : goal.returns-in-More-clause-drains
 returns-in-More-clause-drains g c = λ tells gifts s es a.
-    let d = c.events.invariant.drained tells gifts s es a in
+    let old = state c.events.decoder in
+    let mid = state c.take_cells.new.self in
+    let used = c.events.used + c.in-Ok.taken in
+    let input = c.args.input.now in
+    let cells = (rw rest_is at c.in-Ok.ensures.drains) (c.events.invariant.tells tells) in
+    let d0 = c.events.invariant.drained tells gifts s es a in
+    let d = drains_rest g.S.Sink.after gifts old mid s input c.events.used c.in-Ok.taken es _ _ _ d0 (cells gifts _ _ d0.stands) in
     let leads = c.next.follows.holds-at-none.1 gifts _ _ d.stands in
     let goes = rw c.in-More.is at c.next.follows.holds-at-none.0 in
-    drains_all g.S.Sink.after gifts (state c.events.decoder) (state c.next.follows.lender-at-none) s c.args.input.now c.events.used es _ _ d (state c.args.decoder.now) c.events.invariant.clear c.in-More.used goes (rw (c.in-More.is, rest_is) at leads)
+    drains_all g.S.Sink.after gifts mid (state c.next.follows.lender-at-none) s input used es _ _ d (state c.args.decoder.now) (λ none. c.in-Ok.ensures.stays.1 ∙ c.events.invariant.clear none) c.in-More.used goes (rw (c.in-More.is, rest_is) at leads)
 
 pub returns-in-Refused-clause-refusal : goal.returns-in-Refused-clause-refusal
 returns-in-Refused-clause-refusal g c = (_, (rw c.in-Refused.is at c.next.follows.holds-at-none.0).1)
@@ -28,51 +54,86 @@ returns-in-Refused-clause-refusal g c = (_, (rw c.in-Refused.is at c.next.follow
 pub returns-in-Refused-clause-refused : goal.returns-in-Refused-clause-refused
 returns-in-Refused-clause-refused g c = λ r is.
     let before = c.events.invariant.refused r is in
-    let mid = ap (λ (z : StreamState). z.refusal) before.0 ∙ is in
-    let again = repeated (state c.events.decoder) (state c.next.follows.lender-at-none) _ (state c.events.decoder).refusal r mid c.next.follows.holds-at-none.2 in
-    (refl, again.1 ∙ before.0, before.1)
+    let cells = c.in-Ok.ensures.refused r (ap (λ (z : StreamState). z.refusal) before.0 ∙ is) in
+    let same = cells.0 ∙ before.0 in
+    let again = repeated (state c.take_cells.new.self) (state c.next.follows.lender-at-none) _ (state c.take_cells.new.self).refusal r (ap (λ (z : StreamState). z.refusal) same ∙ is) c.next.follows.holds-at-none.2 in
+    (refl, again.1 ∙ same, cells.1 ∙ before.1)
 
 pub returns-in-Refused-clause-drains : goal.returns-in-Refused-clause-drains
-returns-in-Refused-clause-drains g c = λ tells. (
-  c.events.used,
-  λ gifts s es a.
-      let d = c.events.invariant.drained tells gifts s es a in
-      let leads = c.next.follows.holds-at-none.1 gifts _ _ d.stands in
-      let goes = rw c.in-Refused.is at c.next.follows.holds-at-none.0 in
-      drains_refused g.S.Sink.after gifts (state c.events.decoder) (state c.next.follows.lender-at-none) s c.args.input.now c.events.used es _ _ d (state c.args.decoder.now) c.events.invariant.clear _ goes (rw (c.in-Refused.is, rest_is) at leads),
-)
+returns-in-Refused-clause-drains g c = λ tells.
+    let old = state c.events.decoder in
+    let mid = state c.take_cells.new.self in
+    let used = c.events.used + c.in-Ok.taken in
+    let input = c.args.input.now in
+    let cells = (rw rest_is at c.in-Ok.ensures.drains) (c.events.invariant.tells tells) in (
+      used,
+      λ gifts s es a.
+          let d0 = c.events.invariant.drained tells gifts s es a in
+          let d = drains_rest g.S.Sink.after gifts old mid s input c.events.used c.in-Ok.taken es _ _ _ d0 (cells gifts _ _ d0.stands) in
+          let leads = c.next.follows.holds-at-none.1 gifts _ _ d.stands in
+          let goes = rw c.in-Refused.is at c.next.follows.holds-at-none.0 in
+          drains_refused g.S.Sink.after gifts mid (state c.next.follows.lender-at-none) s input used es _ _ d (state c.args.decoder.now) (λ none. c.in-Ok.ensures.stays.1 ∙ c.events.invariant.clear none) _ goes (rw (c.in-Refused.is, rest_is) at leads),
+    )
 
-pub returns-in-Err-clause-refused : goal.returns-in-Err-clause-refused
-returns-in-Err-clause-refused g c = λ r is.
-    let mid = ap (λ (z : StreamState). z.refusal) (c.events.invariant.refused r is).0 ∙ is in
-    let again = (repeated (state c.events.decoder) (state c.next.follows.lender-at-none) _ (state c.events.decoder).refusal r mid c.next.follows.holds-at-none.2).0 in
-    absurd (let e = sym c.in-Event.is ∙ again in cc)
+pub returns-in-Err-take-clause-refused : goal.returns-in-Err-take-clause-refused
+returns-in-Err-take-clause-refused g c = λ r is.
+    let before = c.events.invariant.refused r is in
+    let cells = c.in-Ok.ensures.refused r (ap (λ (z : StreamState). z.refusal) before.0 ∙ is) in
+    let same = cells.0 ∙ before.0 in
+    let again = repeated (state c.take_cells.new.self) (state c.next.follows.lender-at-none) _ (state c.take_cells.new.self).refusal r (ap (λ (z : StreamState). z.refusal) same ∙ is) c.next.follows.holds-at-none.2 in
+    absurd (let e = sym c.in-Event.is ∙ again.0 in cc)
 
-pub returns-in-Err-clause-drains : goal.returns-in-Err-clause-drains
-returns-in-Err-clause-drains g c = λ tells. (
-  c.events.used + c.in-Event.taken,
-  λ gifts s es a.
-      let d = c.events.invariant.drained tells gifts s es a in
-      let leads = c.next.follows.holds-at-none.1 gifts _ _ d.stands in
-      fails_event g.S.Sink.after gifts (state c.events.decoder) (state c.next.follows.lender-at-none) s c.args.input.now c.events.used es _ _ d g.S.Sink.faulted c.in-Event.at c.in-Event.taken c.in-Event.event _ (rw (c.in-Event.is, rest_is) at leads) (c.in-Err.ensures.err (c.events.invariant.tells tells)),
-)
+pub returns-in-Err-take-clause-drains : goal.returns-in-Err-take-clause-drains
+returns-in-Err-take-clause-drains g c = λ tells.
+    let old = state c.events.decoder in
+    let mid = state c.take_cells.new.self in
+    let used = c.events.used + c.in-Ok.taken in
+    let input = c.args.input.now in
+    let cells = (rw rest_is at c.in-Ok.ensures.drains) (c.events.invariant.tells tells) in (
+      used + c.in-Event.taken,
+      λ gifts s es a.
+          let d0 = c.events.invariant.drained tells gifts s es a in
+          let d = drains_rest g.S.Sink.after gifts old mid s input c.events.used c.in-Ok.taken es _ _ _ d0 (cells gifts _ _ d0.stands) in
+          let leads = c.next.follows.holds-at-none.1 gifts _ _ d.stands in
+          fails_event g.S.Sink.after gifts mid (state c.next.follows.lender-at-none) s input used es _ _ d g.S.Sink.faulted c.in-Event.at c.in-Event.taken c.in-Event.event _ (rw (c.in-Event.is, rest_is) at leads) (c.in-Err-take.ensures.err (c.in-Ok.ensures.tells (c.events.invariant.tells tells))),
+    )
+
+pub events-smaller : goal.events-smaller
+events-smaller g c =
+    let used = c.events.used + c.in-Ok.taken in
+    let input = c.args.input.now in
+    let goes = rw c.in-Event.is at c.next.follows.holds-at-none.0 in
+    let taken : c.in-Event.taken ≤ length (drop used input) = rw rest_is at c.in-Event.ensures.uses in
+    let first : c.in-Ok.taken ≤ length (drop c.events.used input) = rw rest_is at c.in-Ok.ensures.stays.0.0 in
+    omega (arith, goes.0, c.in-Ok.ensures.stays.0.1, taken, first, length-drop used input, length-drop c.events.used input, c.events.invariant.within)
 
 pub events-preserved : goal.events-preserved
-events-preserved g c = record {
-  within =
-      let taken : c.in-Event.taken ≤ length (drop c.events.used c.args.input.now) = rw rest_is at c.in-Event.ensures.uses in
-      let left = length-drop c.events.used c.args.input.now in
-      let within = c.events.invariant.within in omega arith;
-  rules = let goes = rw c.in-Event.is at c.next.follows.holds-at-none.0 in goes.2 ∙ c.events.invariant.rules;
-  given = let goes = rw c.in-Event.is at c.next.follows.holds-at-none.0 in goes.4 ∙ c.events.invariant.given;
-  refused = λ r is.
-      let mid = ap (λ (z : StreamState). z.refusal) (c.events.invariant.refused r is).0 ∙ is in
-      let again = (repeated (state c.events.decoder) (state c.next.follows.lender-at-none) _ (state c.events.decoder).refusal r mid c.next.follows.holds-at-none.2).0 in
-      absurd (let e = sym c.in-Event.is ∙ again in cc);
-  clear = λ none. let goes = rw c.in-Event.is at c.next.follows.holds-at-none.0 in goes.3;
-  tells = λ tells. (c.in-Ok.ensures.ok (c.events.invariant.tells tells)).0;
-  drained = λ tells gifts s es a.
-      let d = c.events.invariant.drained tells gifts s es a in
-      let leads = c.next.follows.holds-at-none.1 gifts _ _ d.stands in
-      drains_event g.S.Sink.after gifts (state c.events.decoder) (state c.next.follows.lender-at-none) s c.args.input.now c.events.used es _ _ d c.in-Event.at c.in-Event.taken c.in-Event.event _ (rw (c.in-Event.is, rest_is) at leads) (c.in-Ok.ensures.ok (c.events.invariant.tells tells)).1;
-}
+events-preserved g c =
+    let old = state c.events.decoder in
+    let mid = state c.take_cells.new.self in
+    let used = c.events.used + c.in-Ok.taken in
+    let input = c.args.input.now in
+    let goes = rw c.in-Event.is at c.next.follows.holds-at-none.0 in record {
+      within =
+          let taken : c.in-Event.taken ≤ length (drop used input) = rw rest_is at c.in-Event.ensures.uses in
+          let left = length-drop used input in
+          let more = length-drop c.events.used input in
+          let first : c.in-Ok.taken ≤ length (drop c.events.used input) = rw rest_is at c.in-Ok.ensures.stays.0.0 in
+          let within = c.events.invariant.within in omega arith;
+      rules = goes.2 ∙ c.in-Ok.ensures.stays.2 ∙ c.events.invariant.rules;
+      given = goes.4 ∙ c.in-Ok.ensures.stays.3 ∙ c.events.invariant.given;
+      refused = λ r is.
+          let before = c.events.invariant.refused r is in
+          let cells = c.in-Ok.ensures.refused r (ap (λ (z : StreamState). z.refusal) before.0 ∙ is) in
+          let same = cells.0 ∙ before.0 in
+          let again = repeated (state c.take_cells.new.self) (state c.next.follows.lender-at-none) _ (state c.take_cells.new.self).refusal r (ap (λ (z : StreamState). z.refusal) same ∙ is) c.next.follows.holds-at-none.2 in
+          absurd (let e = sym c.in-Event.is ∙ again.0 in cc);
+      clear = λ none. goes.3;
+      tells = λ tells. (c.in-Ok-take.ensures.ok (c.in-Ok.ensures.tells (c.events.invariant.tells tells))).0;
+      drained = λ tells gifts s es a.
+          let cells = (rw rest_is at c.in-Ok.ensures.drains) (c.events.invariant.tells tells) in
+          let d0 = c.events.invariant.drained tells gifts s es a in
+          let d = drains_rest g.S.Sink.after gifts old mid s input c.events.used c.in-Ok.taken es _ _ _ d0 (cells gifts _ _ d0.stands) in
+          let leads = c.next.follows.holds-at-none.1 gifts _ _ d.stands in
+          drains_event g.S.Sink.after gifts mid (state c.next.follows.lender-at-none) s input used es _ _ d c.in-Event.at c.in-Event.taken c.in-Event.event _ (rw (c.in-Event.is, rest_is) at leads) (c.in-Ok-take.ensures.ok (c.in-Ok.ensures.tells (c.events.invariant.tells tells))).1;
+    }

@@ -1,9 +1,10 @@
-use Rattle.std.proofs.Common.{refl, ap, ◌∙◌, arith}
+use Rattle.std.proofs.Common.{◌-◌, refl, ap, ◌∙◌, arith}
 use Rattle.cqlp_note.specs.Limits.{rules_of}
 use Rattle.cqlp_kind.specs.Contents.{value_of}
+use Rattle.cqlp_kind.specs.CellStep as cell
 use Rattle.cqlp_decode.specs.declared.standing.StreamStanding.{StreamStanding}
 use Rattle.cqlp_decode.specs.Standing.{parts_state}
-use Rattle.cqlp_decode.proofs.CellSteps.{nothing_held, scalar_hands, scalar_lawful}
+use Rattle.cqlp_decode.proofs.CellSteps.{nothing_held, says_leaf, one_hands, one_lawful}
 use Rattle.cqlp_decode.proofs.standing.StreamStanding.take_scalar.Goals as goal
 
 pub returns-clause-takes : goal.returns-clause-takes
@@ -15,13 +16,14 @@ returns-clause-takes g c =
     let kind = (rw c.page_table-table.ensures at c.kind-kind.ensures) c.args.self.now.limits.depth stage.0 in
     let rest = c.turn.ensures.rest in
     let goes_on = (rw c.page_table-table.ensures at c.turn.ensures.goes_on) q refl (rw c.in-BeforeCell.is at law.uses) in
-    let front = c.in-Some-front_scalar.ensures in
+    let v = value_of c.in-Some-front_scalar.front.scalar in
+    let front = says_leaf (rules_of c.args.self.now.limits) c.kind-kind.result (c.args.self.now.stop - c.args.self.now.offset) c.args.input.now c.in-Some-front_scalar.front.used v c.in-Some-front_scalar.ensures in
     let empty = nothing_held c.args.parts.now.partial.content (omega (arith, c.if-held-gt0.false, c.held.ensures.is)) in (
       c.in_default-refusal.is,
       ap (λ (z : StreamStanding). z.refusal) rest ∙ c.in_default-refusal.is,
       ap (λ (z : StreamStanding). rules_of z.limits) rest,
       refl,
-      scalar_hands c.args.self.now q page c.in-BeforeCell.is law c.in_default-refusal.is c.args.input.now c.in-Some-front_scalar.front.used c.kind-kind.result kind.0 kind.1 (value_of c.in-Some-front_scalar.front.scalar) kind.2 front empty
+      one_hands c.args.self.now q page c.in-BeforeCell.is law c.in_default-refusal.is c.args.input.now c.in-Some-front_scalar.front.used c.kind-kind.result kind.0 kind.1 (cell.Leaf 0 v) kind.2 front empty
           c.turn.new.self goes_on.0 goes_on.1 (ap (λ (z : StreamStanding). z.given_use) rest) (ap (λ (z : StreamStanding). z.offset) rest) (ap (λ (z : StreamStanding). z.stop) rest) (ap (λ (z : StreamStanding). z.frame) rest) (ap (λ (z : StreamStanding). z.came) rest),
     )
 
@@ -34,7 +36,8 @@ returns-clause-lawful g c =
     let kind = (rw c.page_table-table.ensures at c.kind-kind.ensures) c.args.self.now.limits.depth stage.0 in
     let rest = c.turn.ensures.rest in
     let goes_on = (rw c.page_table-table.ensures at c.turn.ensures.goes_on) q refl (rw c.in-BeforeCell.is at law.uses) in
-    let front = c.in-Some-front_scalar.ensures in
+    let v = value_of c.in-Some-front_scalar.front.scalar in
+    let front = says_leaf (rules_of c.args.self.now.limits) c.kind-kind.result (c.args.self.now.stop - c.args.self.now.offset) c.args.input.now c.in-Some-front_scalar.front.used v c.in-Some-front_scalar.ensures in
     let empty = nothing_held c.args.parts.now.partial.content (omega (arith, c.if-held-gt0.false, c.held.ensures.is)) in
-    scalar_lawful c.args.self.now q page c.in-BeforeCell.is law c.in_default-refusal.is c.args.input.now c.in-Some-front_scalar.front.used c.kind-kind.result kind.0 kind.1 (value_of c.in-Some-front_scalar.front.scalar) kind.2 front empty
+    one_lawful c.args.self.now q page c.in-BeforeCell.is law c.in_default-refusal.is c.args.input.now c.in-Some-front_scalar.front.used c.kind-kind.result kind.0 kind.1 (cell.Leaf 0 v) kind.2 front empty
     c.turn.new.self goes_on.0 goes_on.1 (ap (λ (z : StreamStanding). z.given_use) rest) (ap (λ (z : StreamStanding). z.offset) rest) (ap (λ (z : StreamStanding). z.stop) rest) (ap (λ (z : StreamStanding). z.frame) rest) (ap (λ (z : StreamStanding). z.came) rest) (ap (λ (z : StreamStanding). z.limits) rest) (ap (λ (z : StreamStanding). z.header) rest)

@@ -1,0 +1,89 @@
+-- The loop over the cells of a page.
+use Rattle.std.proofs.Common.{◌≡◌, ℕ, ◌+◌, ◌-◌, ◌^◌, ◌≤◌, List, [], ◌∷◌, ◌++◌, length, take, drop, refl, sym, ap, subst, ◌∙◌, arith}
+use Rattle.std.specs.Prelude.{Option, Some, None}
+use Rattle.std.specs.Int.{w32, from_be_bytes}
+use Rattle.std.proofs.lemmas.Bool.{le-ltb}
+use Rattle.cqlp_note.specs.Reader.{number_of}
+use Rattle.cqlp_note.specs.Limits.{Rules, rules_of}
+use Rattle.cqlp_note.specs.declared.refusal.Refusal.{Refusal}
+use Rattle.cqlp_kind.specs.declared.kind.Kind.{Kind}
+use Rattle.cqlp_kind.specs.CellStep.{CellEvent, Null, Empty}
+use Rattle.cqlp_cell.proofs.Sizing.{null_is, empty_is}
+use Rattle.cqlp_decode.specs.declared.page_loop.Handed.{Handed}
+use Rattle.cqlp_decode.specs.declared.page_loop.Handed.TheVariants as handed
+use Rattle.cqlp_decode.specs.declared.page.CellCursor.{CellCursor}
+use Rattle.cqlp_decode.specs.declared.standing.StreamStage.TheVariants as stage
+use Rattle.cqlp_decode.specs.declared.standing.StreamStanding.{StreamStanding}
+use Rattle.cqlp_decode.specs.Reading.{Event, Gifts, cell_event}
+use Rattle.cqlp_decode.specs.Pages.{IsKind, Turns}
+use Rattle.cqlp_decode.specs.Standing.{StreamState, PartsState, IsConsistent, nodes_of, state_of}
+use Rattle.cqlp_decode.specs.Streams.{AfterBy, AfterGifts}
+use Rattle.cqlp_decode.specs.Draining.{Drains, Fails}
+use Rattle.cqlp_decode.specs.Cells.{SaysCell, HandsCell, HandsFront, HasHanded}
+use Rattle.cqlp_decode.proofs.CellSteps.{onward_hands, onward_lawful}
+use Rattle.cqlp_decode.proofs.Leads.{hands_stands}
+use Rattle.cqlp_decode.proofs.Gets.{drains_one, fails_one}
+
+-- ---- a value without a content
+
+module _ (l : Rules) (k : Kind) (room n : ℕ) (input : List ℕ) (number : n ≡ from_be_bytes w32 (take 4 input)) (fits : 4 ≤ room) (first : 4 ≤ length input) where
+  pub says_null : 2 ^ 31 ≤ n → SaysCell l k room input 4 (Null 0)
+  unfolding number_of
+  says_null high = record {
+    is = λ p rest inner. rw (le-ltb _ _ fits, le-ltb _ _ first, ← number, (null_is l k room n high).is p rest inner 0) refl;
+    within = first;
+    inside = fits;
+    some = omega arith;
+  }
+
+  pub says_empty : n ≡ 0 → SaysCell l k room input 4 (Empty 0)
+  unfolding number_of
+  says_empty zero = record {
+    is = λ p rest inner. rw (le-ltb _ _ fits, le-ltb _ _ first, ← number, (empty_is l k room n zero).is p rest inner 0) refl;
+    within = first;
+    inside = fits;
+    some = omega arith;
+  }
+
+-- an event was handed out that the bytes say
+pub hands_said : (l : Rules) (k : Kind) (room : ℕ) (input : List ℕ) (row column used : ℕ) (e : CellEvent) → SaysCell l k room input used e → (HasGot Failed : Event → Type 0) (h : Handed)
+    → HasHanded (HasGot (cell_event row column e)) (Failed (cell_event row column e)) used h → HandsFront l k room input row column HasGot Failed h
+hands_said l k room input row column used e says HasGot Failed handed.Left told = absurd told
+hands_said l k room input row column used e says HasGot Failed (handed.Cell n) told = rw told.0 (record { event = e; says = says; holds = told.1 })
+hands_said l k room input row column used e says HasGot Failed (handed.Fault n) told = rw told.0 (record { event = e; says = says; holds = told.1 })
+
+-- ---- from cell to cell
+
+-- the reading stands at a cell of a page
+abbrev pub at_cell : StreamStanding → CellCursor → (offset : ℕ) → StreamStanding
+at_cell s p offset = record s { stage = stage.BeforeCell p; offset = offset }
+
+pub at_first : (s : StreamStanding) (p : CellCursor) → s.stage ≡ stage.BeforeCell p → at_cell s p s.offset ≡ s
+at_first s p here = λ j. record s { stage = sym here j; offset = s.offset }
+
+module _ (s : StreamStanding) (q : PartsState) (p p' : CellCursor) (offset : ℕ) (law : IsConsistent (at_cell s p offset) q) (unrefused : s.refusal ≡ None) (empty : q.partial.content ≡ []) (k : Kind) (kind : IsKind (nodes_of q p.columns) p k)
+    (turns : Turns (nodes_of q p.columns) s.limits.depth p (Some p')) (input : List ℕ) (used taken : ℕ) (Holds : Event → Type 0) (h : HandsCell (rules_of s.limits) k (s.stop - offset) (drop used input) p.row p.column taken Holds) where
+  abbrev old : StreamState
+  old = state_of (at_cell s p offset) q
+
+  abbrev new : StreamState
+  new = state_of (at_cell s p' (offset + taken)) q
+
+  abbrev told : Event
+  told = cell_event p.row p.column h.event
+
+  pub cell_lawful : IsConsistent (at_cell s p' (offset + taken)) q
+  cell_lawful = onward_lawful (at_cell s p offset) q p p' refl law unrefused (drop used input) taken k kind h.event h.says empty turns
+
+  module _ {V : Type 0} (f : V → ℕ → Event → V) (gifts : Gifts) (bytes : List ℕ) (es : List (ℕ × Event)) (v w w' : V) (d : Drains f gifts old bytes es (take used input) v w) where
+    stands : AfterGifts gifts new ((bytes ++ take used input) ++ take taken (drop used input)) ((es ++ d.more) ++ (offset, told) ∷ [])
+    stands =
+        let hands = onward_hands (at_cell s p offset) q p p' refl law unrefused (drop used input) taken k kind h.event h.says empty turns in
+        let after = subst (λ (o : Option Refusal). AfterBy o gifts old (bytes ++ take used input) (es ++ d.more)) unrefused d.stands in
+        hands_stands old new (drop used input) (bytes ++ take used input) (es ++ d.more) gifts offset taken told hands unrefused refl after
+
+    pub cell_drains : w' ≡ f w offset told → Drains f gifts new bytes es (take (used + taken) input) v w'
+    cell_drains is = drains_one f gifts old new bytes input used es v w d offset taken told w' stands is
+
+    pub cell_fails : (faulted : V → ℕ → Event → V → Type 0) → faulted w offset told w' → Fails f faulted gifts new bytes es (take (used + taken) input) v w'
+    cell_fails faulted fault = fails_one f gifts old new bytes input used es v w d faulted offset taken told w' stands fault

@@ -1,0 +1,84 @@
+use Rattle.std.proofs.Common.{◌≡◌, ◌+◌, ◌-◌, ◌≤◌, ◌<◌, ℕ, List, [], length, take, drop, refl, sym, ap, subst, ◌∙◌, arith}
+use Rattle.std.proofs.lemmas.List.{length-drop}
+use Rattle.cqlp_note.specs.Limits.{rules_of}
+use Rattle.cqlp_decode.specs.Draining.{Drains, Fails}
+use Rattle.cqlp_decode.specs.Standing.{IsConsistent, ends_due, nodes_of, parts_state, rest_of, state_of, symbols_at}
+use Rattle.cqlp_decode.specs.declared.standing.StreamStage.TheVariants as stage
+use Rattle.cqlp_decode.specs.declared.page.Columns.{Columns}
+use Rattle.cqlp_decode.specs.declared.standing.StreamStanding.{StreamStanding}
+use Rattle.cqlp_decode.proofs.CellSteps.{nothing_held}
+use Rattle.cqlp_decode.proofs.Columns.{cells_due}
+use Rattle.cqlp_decode.proofs.Gets.{drains_none, rest_is}
+use Rattle.cqlp_decode.proofs.PageLoop.{at_cell, at_first, cell_lawful, cell_drains, cell_fails}
+use Rattle.cqlp_decode.proofs.page_loop.take_cells.Goals as goal
+
+pub cells-init : goal.cells-init
+cells-init g c =
+    let s = c.args.standing.now in
+    let q = parts_state c.args.parts.now in
+    let first = at_first s c.in-BeforeCell.due c.in-BeforeCell.is in
+    let v = g.S.Sink.view c.args.sink.now in
+    record {
+      within = omega arith;
+      standing = refl;
+      columns = refl;
+      lawful = subst (λ (z : StreamStanding). IsConsistent z q) (sym first) c.requires.lawful;
+      tells = λ tells. tells;
+      drained = λ tells gifts bytes es a. subst (λ (z : StreamStanding). Drains g.S.Sink.after gifts (state_of z q) bytes es [] v v) (sym first) (drains_none g.S.Sink.after gifts (state_of s q) bytes es v a);
+    }
+
+pub cells-preserved : goal.cells-preserved
+cells-preserved g c =
+    let s = c.args.standing.now in
+    let q = parts_state c.args.parts.now in
+    let input = c.args.input.now in
+    let i = c.cells.invariant in
+    let p = c.cells.page in
+    let next = c.in-Some-next.following in
+    let nodes = c.page_table-table.ensures ∙ ap (λ (z : Columns). nodes_of q z) (sym i.columns) in
+    let kind = (rw nodes at c.kind-kind.ensures) s.limits.depth i.lawful.stage.0 in
+    let turns = (rw nodes at c.in-Some-next.ensures) s.limits.depth i.lawful.stage.0 in
+    let empty = nothing_held q.partial.content (omega (arith, c.if-held-gt0.false, c.held.ensures.is)) in
+    let hands = rw rest_is at c.in-Cell.ensures.hands in
+    record {
+      within = omega (arith, i.within, hands.says.within, length-drop c.cells.used input);
+      standing = i.standing;
+      columns = turns.2 ∙ i.columns;
+      lawful = cell_lawful s q p next c.cells.offset i.lawful c.in_default-refusal.is empty c.kind-kind.result kind turns input c.cells.used c.in-Cell.taken _ hands;
+      tells = λ tells. (hands.holds (i.tells tells)).0;
+      drained = λ tells gifts bytes es a.
+          cell_drains s q p next c.cells.offset i.lawful c.in_default-refusal.is empty c.kind-kind.result kind turns input c.cells.used c.in-Cell.taken _ hands g.S.Sink.after gifts bytes es _ _ _ (i.drained tells gifts bytes es a) (hands.holds (i.tells tells)).1;
+    }
+
+pub returns-in-Fault-clause-drains : goal.returns-in-Fault-clause-drains
+returns-in-Fault-clause-drains g c = λ tells.
+    let s = c.args.standing.now in
+    let q = parts_state c.args.parts.now in
+    let input = c.args.input.now in
+    let i = c.cells.invariant in
+    let p = c.cells.page in
+    let next = c.in-Some-next.following in
+    let nodes = c.page_table-table.ensures ∙ ap (λ (z : Columns). nodes_of q z) (sym i.columns) in
+    let kind = (rw nodes at c.kind-kind.ensures) s.limits.depth i.lawful.stage.0 in
+    let turns = (rw nodes at c.in-Some-next.ensures) s.limits.depth i.lawful.stage.0 in
+    let empty = nothing_held q.partial.content (omega (arith, c.if-held-gt0.false, c.held.ensures.is)) in
+    let hands = rw rest_is at c.in-Fault.ensures.hands in
+    let offset = c.cells.offset + c.in-Fault.taken in (
+      c.cells.used + c.in-Fault.taken,
+      λ gifts bytes es a.
+          subst (λ (z : StreamStanding). Fails g.S.Sink.after g.S.Sink.faulted gifts (state_of (at_cell z next offset) q) bytes es (take (c.cells.used + c.in-Fault.taken) input) (g.S.Sink.view c.args.sink.now) (g.S.Sink.view c.hand_cell.new.sink)) (sym i.standing)
+          (cell_fails s q p next c.cells.offset i.lawful c.in_default-refusal.is empty c.kind-kind.result kind turns input c.cells.used c.in-Fault.taken _ hands g.S.Sink.after gifts bytes es _ _ _ (i.drained tells gifts bytes es a) g.S.Sink.faulted (hands.holds (i.tells tells))),
+    )
+
+pub returns-clause-stays : goal.returns-clause-stays
+returns-clause-stays g c =
+    let q = parts_state c.args.parts.now in
+    let i = c.cells.invariant in
+    let due = c.in-BeforeCell.due in
+    let before : ends_due (symbols_at c.args.standing.now.stage q c.args.standing.now.upcoming) ≡ 1 = let law = c.requires.lawful in let stage = rw c.in-BeforeCell.is at law.stage in rw c.in-BeforeCell.is (cells_due (nodes_of q due.columns) c.args.standing.now.limits.depth due (rest_of c.args.standing.now.upcoming) stage.0.0) in
+    let after : ends_due (symbols_at (stage.BeforeCell c.cells.page) q c.cells.standing.upcoming) ≡ 1 = cells_due (nodes_of q c.cells.page.columns) c.args.standing.now.limits.depth c.cells.page (rest_of c.cells.standing.upcoming) i.lawful.stage.0.0 in (
+      (i.within, rw (before, after) (omega arith)),
+      ap (λ (z : StreamStanding). z.refusal) i.standing,
+      ap (λ (z : StreamStanding). rules_of z.limits) i.standing,
+      refl,
+    )

@@ -1,0 +1,23 @@
+use Rattle.std.proofs.Common.{◌≡◌, ◌-◌, ◌≤◌, List, ℕ, length, take}
+use Rattle.cqlp_decode.specs.Reading.{Event, Gifts}
+use Rattle.cqlp_decode.specs.Standing.{IsConsistent, parts_state, state_of, state_with}
+use Rattle.cqlp_decode.specs.Streams.{AfterGifts}
+use Rattle.cqlp_decode.specs.Draining.{Drains}
+use Rattle.cqlp_decode.proofs.PageLoop.{at_cell}
+use Rattle.cqlp_decode.proofs.page_loop.take_cells.Given as goal
+
+-- what is used is read, the locals say where the reading stands, and the sink has got its events
+abbrev pub invariant-cells : goal.invariant-cells
+invariant-cells g l = record {
+  within : l.used ≤ length l.input;
+  standing : l.standing ≡ l.fn.standing;
+  columns : l.page.columns ≡ l.initial.page.columns;
+  lawful : IsConsistent (at_cell l.fn.standing l.page l.offset) (parts_state l.fn.parts);
+  tells : g.S.Sink.tells l.fn.sink → g.S.Sink.tells l.sink;
+  drained : g.S.Sink.tells l.fn.sink → (gifts : Gifts) (s : List ℕ) (es : List (ℕ × Event)) → AfterGifts gifts (state_with l.fn.standing l.fn.parts) s es
+      → Drains g.S.Sink.after gifts (state_of (at_cell l.fn.standing l.page l.offset) (parts_state l.fn.parts)) s es (take l.used l.input) (g.S.Sink.view l.fn.sink) (g.S.Sink.view l.sink);
+}
+
+-- each cell takes some byte
+abbrev pub decreases-cells : goal.decreases-cells
+decreases-cells g l = length l.input - l.used

@@ -1,0 +1,187 @@
+//! The cells of a page, handed straight to a sink.
+//!
+//! The loop takes nulls, empty values and scalars, while each lies whole in the input and a cell of the page follows it.
+//! It leaves all else to `Decoder::next`, which alone decides it: a page's last cell, a value with items, a cut, a part,
+//! and each refusal. It may, since it is proved to hand out what the reading of the bytes says, and to stand where that
+//! does; and it reads a scalar by the very function by which `next` does, so that no rule stands here alone.
+
+ghost use Rattle.std.specs.Prelude.{◌≡◌, ◌*◌, Ok, OnOk, Some};
+ghost use Rattle.cqlp_note.specs.Limits.{rules_of};
+ghost use Rattle.cqlp_note.specs.declared.refusal.Refusal.{Refusal};
+ghost use Rattle.cqlp_decode.specs.Cells.{DrainsCells, HandsFront, HasHanded, IsBare, StaysWithin};
+ghost use Rattle.cqlp_grammar.specs.Events.{event_of};
+ghost use Rattle.cqlp_decode.specs.Standing.{IsLawful, state_with};
+
+use crate::page::{CellCursor, page_table};
+use crate::parts::Parts;
+use crate::standing::{StreamStage, StreamStanding};
+use cqlp_cell::front_scalar;
+use cqlp_grammar::{Event, Sink, SinkFault};
+use cqlp_kind::Kind;
+use cqlp_kind::content::first;
+use cqlp_note::Limits;
+use std::alloc::Allocator;
+
+/// What became of the cell that is due.
+#[derive(Clone, Copy, Debug, PartialEq, Eq)]
+pub enum Handed {
+    /// Nothing: it is left.
+    Left,
+    /// It was handed out, and takes this many bytes.
+    Cell(usize),
+    /// The same, but the sink failed.
+    Fault(usize),
+}
+
+/// A value without a content.
+#[derive(Clone, Copy, Debug, PartialEq, Eq)]
+pub enum Bare {
+    Null,
+    Empty,
+}
+
+/// Hands the cells that are due to the sink, as far as the loop takes them, and answers how many bytes of the input they
+/// take.
+pub fn take_cells<S: Sink, A: Allocator>(
+    standing: &mut StreamStanding,
+    parts: &Parts<A>,
+    input: &[u8],
+    sink: &mut S,
+) -> Result<usize, SinkFault>
+    requires lawful { IsLawful standing.old parts.now }
+    ensures lawful { IsLawful standing.new parts.now }
+    ensures stays { StaysWithin (state_with standing.old parts.now) input.now result (state_with standing.new parts.now) }
+    ensures refused { (r : Refusal) → standing.old.refusal ≡ Some r
+        → (standing.new ≡ standing.old) × (sink.new ≡ sink.old) × (result ≡ Ok 0) }
+    ensures tells { S.tells sink.old → OnOk result (S.tells sink.new) }
+    ensures drains { S.tells sink.old →
+        DrainsCells S.after S.faulted (state_with standing.old parts.now) input.now result
+        (state_with standing.new parts.now) (S.view sink.old) (S.view sink.new) }
+{
+    let StreamStage::BeforeCell(due) = standing.stage else {
+        return Ok(0);
+    };
+    if parts.partial.held() > 0 {
+        return Ok(0);
+    }
+    if let Some(_) = standing.refusal {
+        return Ok(0);
+    }
+    let limits = standing.limits;
+    let stop = standing.stop;
+    let table = page_table(due.columns, &parts.table, &parts.given);
+    let mut page = due;
+    let mut offset = standing.offset;
+    let mut used = 0;
+    'cells: loop {
+        let Some(following) = page.next(table) else {
+            break 'cells;
+        };
+        let kind = page.kind(table);
+        let room = stop - offset;
+        match hand_cell(&limits, kind, room, page, offset, &input[used..], sink) {
+            Handed::Left => break 'cells,
+            Handed::Cell(taken) => {
+                used += taken;
+                offset += taken as u64;
+                page = following;
+            }
+            Handed::Fault(taken) => {
+                standing.offset = offset + taken as u64;
+                standing.stage = StreamStage::BeforeCell(following);
+                return Err(SinkFault);
+            }
+        }
+    }
+    standing.offset = offset;
+    standing.stage = StreamStage::BeforeCell(page);
+    Ok(used)
+}
+
+/// Hands the cell at the front of the input to the sink, if the loop takes it. It begins at an offset, and has room for
+/// this many bytes.
+#[inline(always)]
+fn hand_cell<S: Sink>(
+    limits: &Limits,
+    kind: Kind,
+    room: u64,
+    page: CellCursor,
+    at: u64,
+    input: &[u8],
+    sink: &mut S,
+) -> Handed
+    ensures left { result ≡ Handed.Left → sink.new ≡ sink.old }
+    ensures hands { HandsFront (rules_of limits.now) kind room input.now page.row page.column
+        (λ e. S.tells sink.old → S.tells sink.new × (S.view sink.new ≡ S.after (S.view sink.old) at e))
+        (λ e. S.tells sink.old → S.faulted (S.view sink.old) at e (S.view sink.new)) result }
+{
+    let CellCursor { row, column, .. } = page;
+    match front_bare(room, input) {
+        Some(Bare::Null) => return hand(
+            at,
+            &Event::Null {
+                row,
+                column,
+                level: 0,
+            },
+            4,
+            sink,
+        ),
+        Some(Bare::Empty) => return hand(
+            at,
+            &Event::Empty {
+                row,
+                column,
+                level: 0,
+            },
+            4,
+            sink,
+        ),
+        None => {}
+    }
+    let Some(front) = front_scalar(limits, kind, room, input) else {
+        return Handed::Left;
+    };
+    let scalar = front.scalar;
+    hand(
+        at,
+        &Event::Leaf {
+            row,
+            column,
+            level: 0,
+            scalar,
+        },
+        front.used,
+        sink,
+    )
+}
+
+/// Hands an event that takes this many bytes to the sink.
+#[inline(always)]
+fn hand<S: Sink>(at: u64, event: &Event<'_>, used: usize, sink: &mut S) -> Handed
+    ensures { HasHanded (S.tells sink.old → S.tells sink.new × (S.view sink.new ≡ S.after (S.view sink.old) at (event_of event.now)))
+        (S.tells sink.old → S.faulted (S.view sink.old) at (event_of event.now) (S.view sink.new)) used result }
+{
+    match sink.take(at, event) {
+        Ok(()) => Handed::Cell(used),
+        Err(SinkFault) => Handed::Fault(used),
+    }
+}
+
+/// The value without a content at the front of the input, if there is one.
+#[inline(always)]
+fn front_bare(room: u64, input: &[u8]) -> Option<Bare>
+    ensures { IsBare room input.now result }
+{
+    if room < 4 || input.len() < 4 {
+        return None;
+    }
+    let len = u32::from_be_bytes(first(input));
+    if len > i32::MAX as u32 {
+        return Some(Bare::Null);
+    }
+    if len == 0 {
+        return Some(Bare::Empty);
+    }
+    None
+}
