@@ -16,7 +16,7 @@ pub struct FrontScalar<'a> {
 
 /// The value of this kind at the front of the input, in a container with room for this many bytes, where it is a scalar
 /// that a `CellReader` would hand out whole and all its bytes are there. Section 6 of `native_protocol_v4.spec`.
-#[inline]
+#[inline(always)]
 pub fn front_scalar<'a>(
     limits: &Limits,
     kind: Kind,

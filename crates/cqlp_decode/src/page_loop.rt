@@ -139,9 +139,45 @@ fn hand_cell<S: Sink>(
         ),
         None => {}
     }
+    // An arm for each kind, so that each has code of its own.
+    match kind {
+        Kind::Int => hand_scalar(limits, Kind::Int, room, page, at, input, sink),
+        Kind::Bigint => hand_scalar(limits, Kind::Bigint, room, page, at, input, sink),
+        Kind::Varchar => hand_scalar(limits, Kind::Varchar, room, page, at, input, sink),
+        Kind::Boolean => hand_scalar(limits, Kind::Boolean, room, page, at, input, sink),
+        Kind::Blob => hand_scalar(limits, Kind::Blob, room, page, at, input, sink),
+        Kind::Raw => hand_scalar(limits, Kind::Raw, room, page, at, input, sink),
+        Kind::Timestamp => hand_scalar(limits, Kind::Timestamp, room, page, at, input, sink),
+        Kind::Counter => hand_scalar(limits, Kind::Counter, room, page, at, input, sink),
+        Kind::Double => hand_scalar(limits, Kind::Double, room, page, at, input, sink),
+        Kind::Float => hand_scalar(limits, Kind::Float, room, page, at, input, sink),
+        Kind::Uuid => hand_scalar(limits, Kind::Uuid, room, page, at, input, sink),
+        Kind::Date => hand_scalar(limits, Kind::Date, room, page, at, input, sink),
+        Kind::Smallint => hand_scalar(limits, Kind::Smallint, room, page, at, input, sink),
+        _ => hand_scalar(limits, kind, room, page, at, input, sink),
+    }
+}
+
+/// Hands the scalar at the front of the input to the sink, if all its bytes are there.
+#[inline(always)]
+fn hand_scalar<S: Sink>(
+    limits: &Limits,
+    kind: Kind,
+    room: u64,
+    page: CellCursor,
+    at: u64,
+    input: &[u8],
+    sink: &mut S,
+) -> Handed
+    ensures left { result ≡ Handed.Left → sink.new ≡ sink.old }
+    ensures hands { HandsFront (rules_of limits.now) kind room input.now page.row page.column
+        (λ e. S.tells sink.old → S.tells sink.new × (S.view sink.new ≡ S.after (S.view sink.old) at e))
+        (λ e. S.tells sink.old → S.faulted (S.view sink.old) at e (S.view sink.new)) result }
+{
     let Some(front) = front_scalar(limits, kind, room, input) else {
         return Handed::Left;
     };
+    let CellCursor { row, column, .. } = page;
     let scalar = front.scalar;
     hand(
         at,

@@ -18,8 +18,8 @@ pub const DAY: u64 = 86_400_000_000_000;
 ///
 /// `BadSize` where no scalar of the kind has this many bytes; else `BadUtf8` for a varchar that is not UTF-8, and
 /// `BadScalar` for an ascii with a byte above 7F, a time past the end of a day or a timeuuid that is not of version 1.
-#[inline]
-#[tactic(auto, using(crate::proofs::Texts::text_known), unfolding(crate::specs::Scalars::scalar_of))]
+#[inline(always)]
+#[tactic(auto, using(crate::proofs::Texts::varchar_is, crate::proofs::Texts::varchar_is_not), unfolding(crate::specs::Scalars::scalar_of))]
 pub fn scalar(kind: Kind, bytes: &[u8]) -> Result<Scalar<'_>, Reason>
     requires scalar { has_no_items kind ≡ true }
     requires content { bytes.now ≢ [] }
@@ -92,7 +92,7 @@ fn rare_scalar(kind: Kind, bytes: &[u8]) -> Result<Scalar<'_>, Reason>
 }
 
 /// The bytes, if they are N.
-#[inline]
+#[inline(always)]
 fn whole<const N: usize>(bytes: &[u8]) -> Option<[u8; N]>
     ensures { IsWholly N bytes.now result }
 {
@@ -200,7 +200,7 @@ fn address(bytes: &[u8]) -> Address
 }
 
 /// The first N bytes.
-#[inline]
+#[inline(always)]
 pub fn first<const N: usize>(bytes: &[u8]) -> [u8; N]
     requires { N ≤ length bytes.now }
     ensures { result ≡ take N bytes.now }
