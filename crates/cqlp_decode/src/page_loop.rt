@@ -116,6 +116,9 @@ fn hand_cell<S: Sink>(
         (λ e. S.tells sink.old → S.faulted (S.view sink.old) at e (S.view sink.new)) result }
 {
     let CellCursor { row, column, .. } = page;
+    if room < 4 || input.len() < 4 {
+        return Handed::Left;
+    }
     match front_bare(room, input) {
         Some(Bare::Null) => return hand(
             at,
@@ -145,16 +148,24 @@ fn hand_cell<S: Sink>(
         Kind::Bigint => hand_scalar(limits, Kind::Bigint, room, page, at, input, sink),
         Kind::Varchar => hand_scalar(limits, Kind::Varchar, room, page, at, input, sink),
         Kind::Boolean => hand_scalar(limits, Kind::Boolean, room, page, at, input, sink),
+        Kind::Ascii => hand_scalar(limits, Kind::Ascii, room, page, at, input, sink),
         Kind::Blob => hand_scalar(limits, Kind::Blob, room, page, at, input, sink),
-        Kind::Raw => hand_scalar(limits, Kind::Raw, room, page, at, input, sink),
-        Kind::Timestamp => hand_scalar(limits, Kind::Timestamp, room, page, at, input, sink),
         Kind::Counter => hand_scalar(limits, Kind::Counter, room, page, at, input, sink),
+        Kind::Custom => hand_scalar(limits, Kind::Custom, room, page, at, input, sink),
+        Kind::Date => hand_scalar(limits, Kind::Date, room, page, at, input, sink),
+        Kind::Decimal => hand_scalar(limits, Kind::Decimal, room, page, at, input, sink),
         Kind::Double => hand_scalar(limits, Kind::Double, room, page, at, input, sink),
         Kind::Float => hand_scalar(limits, Kind::Float, room, page, at, input, sink),
-        Kind::Uuid => hand_scalar(limits, Kind::Uuid, room, page, at, input, sink),
-        Kind::Date => hand_scalar(limits, Kind::Date, room, page, at, input, sink),
+        Kind::Inet => hand_scalar(limits, Kind::Inet, room, page, at, input, sink),
+        Kind::Raw => hand_scalar(limits, Kind::Raw, room, page, at, input, sink),
         Kind::Smallint => hand_scalar(limits, Kind::Smallint, room, page, at, input, sink),
-        _ => hand_scalar(limits, kind, room, page, at, input, sink),
+        Kind::Time => hand_scalar(limits, Kind::Time, room, page, at, input, sink),
+        Kind::Timestamp => hand_scalar(limits, Kind::Timestamp, room, page, at, input, sink),
+        Kind::Timeuuid => hand_scalar(limits, Kind::Timeuuid, room, page, at, input, sink),
+        Kind::Tinyint => hand_scalar(limits, Kind::Tinyint, room, page, at, input, sink),
+        Kind::Uuid => hand_scalar(limits, Kind::Uuid, room, page, at, input, sink),
+        Kind::Varint => hand_scalar(limits, Kind::Varint, room, page, at, input, sink),
+        Kind::List | Kind::Map | Kind::Set | Kind::Udt | Kind::Tuple => Handed::Left,
     }
 }
 

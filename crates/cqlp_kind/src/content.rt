@@ -19,7 +19,7 @@ pub const DAY: u64 = 86_400_000_000_000;
 /// `BadSize` where no scalar of the kind has this many bytes; else `BadUtf8` for a varchar that is not UTF-8, and
 /// `BadScalar` for an ascii with a byte above 7F, a time past the end of a day or a timeuuid that is not of version 1.
 #[inline(always)]
-#[tactic(auto, using(crate::proofs::Texts::varchar_is, crate::proofs::Texts::varchar_is_not), unfolding(crate::specs::Scalars::scalar_of))]
+#[tactic(auto, using(crate::proofs::Texts::text_known), unfolding(crate::specs::Scalars::scalar_of))]
 pub fn scalar(kind: Kind, bytes: &[u8]) -> Result<Scalar<'_>, Reason>
     requires scalar { has_no_items kind ≡ true }
     requires content { bytes.now ≢ [] }
@@ -78,6 +78,7 @@ pub fn scalar(kind: Kind, bytes: &[u8]) -> Result<Scalar<'_>, Reason>
 }
 
 /// The same of any kind, its size, its content and its value one after the other.
+#[inline(always)]
 fn rare_scalar(kind: Kind, bytes: &[u8]) -> Result<Scalar<'_>, Reason>
     requires scalar { has_no_items kind ≡ true }
     ensures { value_in result ≡ scalar_in kind bytes.now }
