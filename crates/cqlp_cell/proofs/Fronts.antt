@@ -174,3 +174,41 @@ module _ (l : Rules) (k : Kind) (room used : ℕ) (input : List ℕ) (v : Scalar
         there = omega (arith, length-drop 4 input, sized.1);
         is = leaf_is start k (scalar_of k (take n rest)) _ _ d.1;
       }
+
+-- ---- the scalar that it is
+
+abbrev leaf_in : CellEvent → Option ScalarValue
+leaf_in (Leaf level v) = Some v
+leaf_in e = None
+
+abbrev told_leaf : Saying → Option ScalarValue
+told_leaf (Got x used) = leaf_in x.event
+told_leaf d = None
+
+abbrev told_used : Saying → ℕ
+told_used (Got x used) = used
+told_used d = 0
+
+module _ (l : Rules) (k : Kind) (room used : ℕ) (input : List ℕ) (v : ScalarValue) (same : l.part ≡ l.cell) (h : SaysScalar l k room input used v) where
+  abbrev content_long : ℕ
+  content_long = from_be_bytes w32 (take 4 input)
+
+  abbrev content_of : List ℕ
+  content_of = take content_long (drop 4 input)
+
+  front_by : (o : Option ScalarValue) → scalar_of k content_of ≡ o → is_some o ≡ true → (used ≡ 4 + content_long) × (scalar_of k content_of ≡ Some v)
+  front_by None e t = absurd cc
+  front_by (Some w) e t =
+      let t = front_there l k room used input v h in
+      let s = says_scalar l k room content_long input w same refl t.some t.low t.short t.enough t.there t.kind t.allows e in
+      let begin : CellPlace = record { offset = 0; symbols = [] } in
+      let both = sym (h.is begin [] NoMore 0) ∙ s.is begin [] NoMore 0 in
+      let is : ◌≡◌ {A = Option ScalarValue} (Some v) (Some w) = ap told_leaf both in
+      (ap told_used both, e ∙ sym is)
+
+  -- all that the bytes say of it
+  pub front_is : IsThere l k room content_long input × (used ≡ 4 + content_long) × (scalar_of k content_of ≡ Some v)
+  front_is =
+      let t = front_there l k room used input v h in
+      let leaf = front_by (scalar_of k content_of) refl t.is in
+      (t, leaf.0, leaf.1)

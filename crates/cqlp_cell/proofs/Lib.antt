@@ -16,3 +16,4 @@ pub mod Settling
 pub mod Parting
 pub mod Leavings
 pub mod Fronts
+pub mod WholeItems

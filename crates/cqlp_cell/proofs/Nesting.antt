@@ -1,5 +1,5 @@
 -- One level more, and one less.
-use Rattle.std.proofs.Common.{◌≡◌, suc, ◌-◌, List, [], ◌∷◌, ◌++◌, length, take, Some, refl, ap, inl, inr, ◌⊎◌, arith}
+use Rattle.std.proofs.Common.{◌≡◌, suc, ◌-◌, List, [], ◌∷◌, ◌++◌, length, set, take, Some, refl, ap, inl, inr, ◌⊎◌, arith}
 use Rattle.std.specs.Prelude.{slice_get}
 use Rattle.cqlp_cell.specs.declared.open_values.OpenValue.{OpenValue}
 use Rattle.cqlp_cell.specs.OpenValues.{last_open, but_last, with_last}
@@ -36,3 +36,8 @@ pub front_is : (os : List OpenValue) → take (length os - 1) os ≡ but_last os
 front_is [] = refl
 front_is (o ∷ []) = refl
 front_is (o ∷ p ∷ os) = let e : suc (suc (length os)) - 1 ≡ suc (suc (length os) - 1) = omega arith in rw e (ap (λ (m : List OpenValue). o ∷ m) (front_is (p ∷ os)))
+
+pub last_set : (os : List OpenValue) (p : OpenValue) → set os (length os - 1) p ≡ with_last p os
+last_set [] p = refl
+last_set (o ∷ []) p = refl
+last_set (o ∷ q ∷ os) p = let e : suc (suc (length os)) - 1 ≡ suc (suc (length os) - 1) = omega arith in rw e (ap (λ (m : List OpenValue). o ∷ m) (last_set (q ∷ os) p))

@@ -8,3 +8,4 @@ pub mod Pushing
 pub mod Standing
 pub mod OpenValues
 pub mod Fronts
+pub mod Whole

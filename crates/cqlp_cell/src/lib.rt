@@ -11,8 +11,10 @@ mod reader;
 mod reading;
 mod size;
 mod standing;
+mod whole;
 
 pub use advance::{CellAdvance, CellOutline};
 pub use front::{FrontScalar, front_scalar};
 pub use item::{CellItem, CellPush};
 pub use reader::CellReader;
+pub use whole::{BareItem, BarePart, ScalarItem};

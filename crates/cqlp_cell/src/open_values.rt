@@ -110,8 +110,9 @@ impl<A: Allocator> OpenValues<A> {
     pub(crate) fn set_last(&mut self, value: OpenValue)
         ensures { self.new ≡ record { open_values = with_last value self.old.open_values; room = self.old.room } }
     {
-        if let Some(_) = self.values.pop() {
-            self.values.push_reserved(value);
+        let len = self.values.len();
+        if len > 0 {
+            self.values[len - 1] = value;
         }
     }
 }

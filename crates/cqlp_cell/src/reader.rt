@@ -8,6 +8,7 @@ use crate::advance::CellAdvance;
 use crate::item::CellPush;
 use crate::open_values::OpenValues;
 use crate::standing::{CellStanding, NextInCell, Under};
+use crate::whole::{BareItem, ScalarItem};
 use cqlp_note::{Limits, NoMemory, Partial};
 use cqlp_type::TypeTable;
 use std::alloc::{Allocator, Global};
@@ -36,6 +37,7 @@ impl<A: Allocator> CellReader<A> {
     ghost use Rattle.cqlp_kind.specs.declared.node.Node.{Node};
     ghost use Rattle.cqlp_cell.specs.Reading.{Answers, Empties, HaveCome, Joined, Moves};
     ghost use Rattle.cqlp_cell.specs.Pushing.{Continues, Pushes, Uses, begun, is_done, new_reader};
+    ghost use Rattle.cqlp_cell.specs.Whole.{TakesBare, TakesScalar};
 
     /// With room for the nesting that the limits allow. Parts have at least one byte.
     pub fn new(alloc: A, limits: &Limits) -> Result<Self, NoMemory>
@@ -126,6 +128,30 @@ impl<A: Allocator> CellReader<A> {
         ensures empties { Empties result partial.new }
     {
         self.standing.advance(partial, table, input)
+    }
+
+    /// Takes the next item of the innermost value that is open, where it is a scalar that `advance` would hand out of
+    /// the input alone, and all its bytes lie in it; else it does nothing. Section 6 of `native_protocol_v4.spec`.
+    #[inline(always)]
+    pub fn take_scalar<'a>(
+        &mut self,
+        table: &TypeTable<A>,
+        input: &'a [u8],
+    ) -> Option<ScalarItem<'a>>
+        requires { Stands table.now.nodes self.old }
+        ensures { TakesScalar table.now.nodes self.old input.now result self.new }
+    {
+        self.standing.take_scalar(table, input)
+    }
+
+    /// Takes what is next of the cell that is under way, where it has no content, `advance` would hand it out of the
+    /// input alone, and all its bytes lie in it; else it does nothing.
+    #[inline(always)]
+    pub fn take_bare(&mut self, table: &TypeTable<A>, input: &[u8]) -> Option<BareItem>
+        requires { Stands table.now.nodes self.old }
+        ensures { TakesBare table.now.nodes self.old input.now result self.new }
+    {
+        self.standing.take_bare(table, input)
     }
 
     /// Takes the next bytes of the cell that is under way. A content that lies whole in them is lent from them.

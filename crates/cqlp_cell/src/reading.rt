@@ -186,7 +186,7 @@ impl<A: Allocator> CellStanding<A> {
     }
 
     /// Goes on inside a list, a set or a map of this many bytes, which has this many elements or pairs.
-    fn enter_counted(
+    pub(crate) fn enter_counted(
         &mut self,
         value: DueValue,
         len: u32,
@@ -226,7 +226,12 @@ impl<A: Allocator> CellStanding<A> {
     }
 
     /// Goes on inside a tuple or a user-defined type of this many bytes.
-    fn enter_fields(&mut self, value: DueValue, len: u32, table: &TypeTable<A>) -> CellOutline
+    pub(crate) fn enter_fields(
+        &mut self,
+        value: DueValue,
+        len: u32,
+        table: &TypeTable<A>,
+    ) -> CellOutline
         requires stands { Stands table.now.nodes (state_of self.old) }
         requires due { due_of (state_of self.old) ≡ due.Value }
         requires value { value ≡ due_value table.now.nodes (state_of self.old) }

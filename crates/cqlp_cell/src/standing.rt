@@ -119,7 +119,7 @@ impl<A: Allocator> CellStanding<A> {
     }
 
     /// Goes on after this many bytes of the value that was read, or of what is known of it.
-    #[inline]
+    #[inline(always)]
     pub(crate) fn pass(&mut self, size: u64, table: &TypeTable<A>)
         requires stands { Stands table.now.nodes (state_of self.old) }
         requires due { due_of (state_of self.old) ≡ due.Value }

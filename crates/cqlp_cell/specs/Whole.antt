@@ -1,0 +1,43 @@
+-- Items that lie whole at the front of the input.
+use Rattle.std.specs.Prelude.{◌≡◌, ℕ, false, List, [], Option, Some, None}
+use Rattle.cqlp_note.specs.Partial.{FieldState}
+use Rattle.cqlp_kind.specs.declared.node.Node.{Node}
+use Rattle.cqlp_kind.specs.CellStep.{Leaf}
+use Rattle.cqlp_kind.specs.Contents.{value_of}
+use Rattle.cqlp_cell.specs.declared.advance.CellOutline.{CellOutline}
+use Rattle.cqlp_cell.specs.declared.advance.CellOutline.TheVariants as outline
+use Rattle.cqlp_cell.specs.declared.advance.CellAdvance.TheVariants as advance
+use Rattle.cqlp_cell.specs.declared.standing.Under.TheVariants as under
+use Rattle.cqlp_cell.specs.declared.whole.ScalarItem.{ScalarItem}
+use Rattle.cqlp_cell.specs.declared.whole.BareItem.{BareItem}
+use Rattle.cqlp_cell.specs.declared.whole.BarePart.{BarePart}
+use Rattle.cqlp_cell.specs.declared.whole.BarePart.TheVariants as bare
+use Rattle.cqlp_cell.specs.Items.{event_at}
+use Rattle.cqlp_cell.specs.Standing.{CellState}
+use Rattle.cqlp_cell.specs.Reading.{Joined, Moves}
+use Rattle.cqlp_cell.specs.Pushing.{is_done}
+
+abbrev pub outline_of : BarePart → CellOutline
+outline_of (bare.Null level) = outline.Null level
+outline_of (bare.Empty level) = outline.Empty level
+outline_of (bare.Enter level k n) = outline.Enter level k n
+outline_of (bare.Leave level n) = outline.Leave level n
+
+-- Nothing has come of what is read next, and a call that begins with an empty buffer says that it is this item, of this
+-- many bytes of the input, and leaves the `Partial` as it was.
+pub record IsWhole (nodes : List Node) (old : CellState) (input : List ℕ) (at used : ℕ) (i : CellOutline)
+    (new : CellState) : Type 0 where
+  pub fresh : old.under ≡ under.Nothing
+  pub moves : (p : FieldState) → Joined nodes old p → p.content ≡ [] → Moves nodes old p input (advance.Item at used i) new p
+
+-- The next item is this scalar, and the value around it is still open; or nothing is done.
+abbrev pub TakesScalar : List Node → CellState → List ℕ → Option ScalarItem → CellState → Type 0
+TakesScalar nodes old input None new = new ≡ old
+TakesScalar nodes old input (Some t) new =
+    (i : CellOutline) × ((buffer : List ℕ) → event_at i input buffer ≡ Leaf t.level (value_of t.scalar))
+    × IsWhole nodes old input t.at t.used i new × (is_done new ≡ false)
+
+-- What is next is this part, which has no content; or nothing is done.
+abbrev pub TakesBare : List Node → CellState → List ℕ → Option BareItem → CellState → Type 0
+TakesBare nodes old input None new = new ≡ old
+TakesBare nodes old input (Some t) new = IsWhole nodes old input t.at t.used (outline_of t.part) new

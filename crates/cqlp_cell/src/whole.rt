@@ -1,0 +1,215 @@
+//! Items that lie whole at the front of the input.
+
+ghost use Rattle.std.specs.Prelude.{◌≡◌, ◌≤◌, length, take};
+ghost use Rattle.std.specs.Int.{w32, from_be_bytes};
+ghost use Rattle.cqlp_cell.specs.declared.size.Sized.TheVariants as size;
+ghost use Rattle.cqlp_cell.specs.declared.standing.CellDue.TheVariants as due;
+ghost use Rattle.cqlp_cell.specs.declared.standing.Under.TheVariants as under;
+ghost use Rattle.cqlp_cell.specs.Coming.{room_of};
+ghost use Rattle.cqlp_cell.specs.Reading.{Decided};
+ghost use Rattle.cqlp_cell.specs.Standing.{Stands, due_of, due_value, state_of};
+ghost use Rattle.cqlp_cell.specs.Whole.{TakesBare, TakesScalar};
+
+use crate::front::front_scalar;
+use crate::size::{Sized, size_up};
+use crate::standing::{CellDue, CellStanding, DueValue, NextInCell, Under};
+use cqlp_kind::content::first;
+use cqlp_kind::{Kind, Scalar};
+use cqlp_type::TypeTable;
+use std::alloc::Allocator;
+
+/// A scalar in a value that is open, which began at this offset, and how many bytes it takes with its length.
+#[derive(Clone, Copy, Debug, PartialEq, Eq)]
+pub struct ScalarItem<'a> {
+    pub at: u64,
+    pub used: usize,
+    pub level: u32,
+    pub scalar: Scalar<'a>,
+}
+
+/// A part of a cell that has no content, which began at this offset, and how many bytes it takes.
+#[derive(Clone, Copy, Debug, PartialEq, Eq)]
+pub struct BareItem {
+    pub at: u64,
+    pub used: usize,
+    pub part: BarePart,
+}
+
+/// A part of a cell that has no content.
+#[derive(Clone, Copy, Debug, PartialEq, Eq)]
+pub enum BarePart {
+    /// A value of a negative length.
+    Null { level: u32 },
+    /// A value of no bytes.
+    Empty { level: u32 },
+    /// The beginning of a value with items.
+    Enter { level: u32, kind: Kind, items: u32 },
+    /// The end of such a value.
+    Leave { level: u32, items: u32 },
+}
+
+impl<A: Allocator> CellStanding<A> {
+    /// Takes the next item of the innermost value, where it is a scalar and all its bytes lie in the input.
+    #[inline(always)]
+    pub(crate) fn take_scalar<'a>(
+        &mut self,
+        table: &TypeTable<A>,
+        input: &'a [u8],
+    ) -> Option<ScalarItem<'a>>
+        requires stands { Stands table.now.nodes (state_of self.old) }
+        ensures takes { TakesScalar table.now.nodes (state_of self.old) input.now result (state_of self.new) }
+        ensures room { self.new.open_values.room ≡ self.old.open_values.room }
+        ensures limits { self.new.limits ≡ self.old.limits }
+    {
+        let Under::Nothing = self.under else {
+            return None;
+        };
+        let NextInCell::Items = self.next else {
+            return None;
+        };
+        let CellDue::Value = self.due() else {
+            return None;
+        };
+        let value = self.value(table);
+        let at = self.offset;
+        let Some(front) = front_scalar(&self.limits, value.kind, value.stop - at, input) else {
+            return None;
+        };
+        let level = self.open_values.len();
+        self.pass(front.used as u64, table);
+        Some(ScalarItem {
+            at,
+            used: front.used,
+            level,
+            scalar: front.scalar,
+        })
+    }
+
+    /// Takes what is next, where it has no content and all its bytes lie in the input.
+    #[inline(always)]
+    pub(crate) fn take_bare(&mut self, table: &TypeTable<A>, input: &[u8]) -> Option<BareItem>
+        requires stands { Stands table.now.nodes (state_of self.old) }
+        requires levels { self.old.open_values.room ≡ self.old.limits.depth }
+        ensures takes { TakesBare table.now.nodes (state_of self.old) input.now result (state_of self.new) }
+        ensures room { self.new.open_values.room ≡ self.old.open_values.room }
+        ensures limits { self.new.limits ≡ self.old.limits }
+    {
+        let Under::Nothing = self.under else {
+            return None;
+        };
+        match self.due() {
+            CellDue::Nothing | CellDue::Part { .. } => None,
+            CellDue::Close(value) => {
+                let at = self.offset;
+                if at < value.stop {
+                    return None;
+                }
+                self.open_values.pop();
+                Some(BareItem {
+                    at,
+                    used: 0,
+                    part: BarePart::Leave {
+                        level: self.open_values.len(),
+                        items: value.items,
+                    },
+                })
+            }
+            CellDue::Value => self.take_front(table, input),
+        }
+    }
+
+    /// Takes the value that is next, where it has no content, or goes on inside it.
+    #[inline(always)]
+    fn take_front(&mut self, table: &TypeTable<A>, input: &[u8]) -> Option<BareItem>
+        requires stands { Stands table.now.nodes (state_of self.old) }
+        requires fresh { self.old.under ≡ under.Nothing }
+        requires due { due_of (state_of self.old) ≡ due.Value }
+        requires levels { self.old.open_values.room ≡ self.old.limits.depth }
+        ensures takes { TakesBare table.now.nodes (state_of self.old) input.now result (state_of self.new) }
+        ensures room { self.new.open_values.room ≡ self.old.open_values.room }
+        ensures limits { self.new.limits ≡ self.old.limits }
+    {
+        let value = self.value(table);
+        let at = self.offset;
+        let level = self.open_values.len();
+        if value.stop - at < 4 || input.len() < 4 {
+            return None;
+        }
+        let len = u32::from_be_bytes(first(input));
+        match size_up(&self.limits, value.kind, value.stop - at, len) {
+            Sized::Null => {
+                self.pass(4, table);
+                Some(BareItem {
+                    at,
+                    used: 4,
+                    part: BarePart::Null { level },
+                })
+            }
+            Sized::Empty => {
+                self.pass(4, table);
+                Some(BareItem {
+                    at,
+                    used: 4,
+                    part: BarePart::Empty { level },
+                })
+            }
+            Sized::Counted(len) => self.take_counted(value, len, table, input),
+            Sized::Fields(len) => {
+                self.enter_fields(value, len, table);
+                Some(BareItem {
+                    at,
+                    used: 4,
+                    part: BarePart::Enter {
+                        level,
+                        kind: value.kind,
+                        items: u32::from(value.arity),
+                    },
+                })
+            }
+            Sized::Scalar(_) | Sized::Parts(_) | Sized::Refused(_) => None,
+        }
+    }
+
+    /// Goes on inside a list, a set or a map of this many bytes, where its count is lawful and lies in the input.
+    #[inline(always)]
+    fn take_counted(
+        &mut self,
+        value: DueValue,
+        len: u32,
+        table: &TypeTable<A>,
+        input: &[u8],
+    ) -> Option<BareItem>
+        requires stands { Stands table.now.nodes (state_of self.old) }
+        requires fresh { self.old.under ≡ under.Nothing }
+        requires due { due_of (state_of self.old) ≡ due.Value }
+        requires value { value ≡ due_value table.now.nodes (state_of self.old) }
+        requires decided { Decided table.now.nodes (state_of self.old) len (size.Counted len) }
+        requires room { 4 ≤ room_of table.now.nodes (state_of self.old) }
+        requires within { 4 ≤ length input.now }
+        requires length { len ≡ from_be_bytes w32 (take 4 input.now) }
+        requires levels { self.old.open_values.room ≡ self.old.limits.depth }
+        ensures takes { TakesBare table.now.nodes (state_of self.old) input.now result (state_of self.new) }
+        ensures room { self.new.open_values.room ≡ self.old.open_values.room }
+        ensures limits { self.new.limits ≡ self.old.limits }
+    {
+        let at = self.offset;
+        let level = self.open_values.len();
+        if len < 4 || input.len() < 8 {
+            return None;
+        }
+        let count = u32::from_be_bytes(first(&input[4..]));
+        if count > i32::MAX as u32 {
+            return None;
+        }
+        self.enter_counted(value, len, count, table);
+        Some(BareItem {
+            at,
+            used: 8,
+            part: BarePart::Enter {
+                level,
+                kind: value.kind,
+                items: count,
+            },
+        })
+    }
+}
