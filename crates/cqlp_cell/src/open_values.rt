@@ -1,8 +1,9 @@
 //! The values around the one that is read.
 
-ghost use Rattle.std.specs.Prelude.{◌≡◌, ◌+◌, ◌<◌, ◌≤◌, ◌++◌, ◌∷◌, [], length, IfOk};
+ghost use Rattle.std.specs.Prelude.{◌≡◌, ◌+◌, ◌<◌, ◌≤◌, ◌++◌, ◌∷◌, [], length, IfOk, IfSome};
 
 use cqlp_note::NoMemory;
+use cqlp_type::TypeTable;
 use std::alloc::Allocator;
 use std::marker::Model;
 
@@ -54,7 +55,8 @@ impl<A: Allocator> Model for OpenValues<A> {
 }
 
 impl<A: Allocator> OpenValues<A> {
-    ghost use Rattle.cqlp_cell.specs.OpenValues.{last_open, but_last, with_last};
+    ghost use Rattle.cqlp_cell.specs.OpenValues.{but_last, last_open};
+    ghost use Rattle.cqlp_cell.specs.Standing.{HasNext, after_item_in};
 
     /// With room for this many.
     pub(crate) fn new(alloc: A, room: u32) -> Result<Self, NoMemory>
@@ -105,14 +107,18 @@ impl<A: Allocator> OpenValues<A> {
         self.values.pop();
     }
 
-    /// Puts another in the place of the innermost value.
-    #[inline]
-    pub(crate) fn set_last(&mut self, value: OpenValue)
-        ensures { self.new ≡ record { open_values = with_last value self.old.open_values; room = self.old.room } }
+    /// Goes on after the next item of the innermost value.
+    #[inline(always)]
+    pub(crate) fn pass_item(&mut self, table: &TypeTable<A>)
+        requires { IfSome (last_open self.old.open_values) (λ o. HasNext table.now.nodes o o.order) }
+        ensures { self.new ≡ record {
+          open_values = after_item_in table.now.nodes self.old.open_values (last_open self.old.open_values);
+          room = self.old.room;
+        } }
     {
         let len = self.values.len();
         if len > 0 {
-            self.values[len - 1] = value;
+            self.values[len - 1].pass_item(table);
         }
     }
 }

@@ -129,8 +129,7 @@ impl<A: Allocator> CellStanding<A> {
         ensures limits { self.new.limits ≡ self.old.limits }
     {
         if let NextInCell::Items = self.next {
-            let value = self.open_values.last().unwrap();
-            self.open_values.set_last(value.pass_item(table));
+            self.open_values.pass_item(table);
         }
         self.offset += size;
         self.next = NextInCell::Items;
@@ -197,38 +196,37 @@ impl OpenValue {
         }
     }
 
-    /// What it is after its next item.
-    #[inline]
-    fn pass_item<A: Allocator>(self, table: &TypeTable<A>) -> OpenValue
-        requires { HasNext table.now.nodes self self.order }
-        ensures { result ≡ after_item table.now.nodes self }
+    /// Goes on after its next item.
+    #[inline(always)]
+    pub(crate) fn pass_item<A: Allocator>(&mut self, table: &TypeTable<A>)
+        requires { HasNext table.now.nodes self.old self.old.order }
+        ensures { self.new ≡ after_item table.now.nodes self.old }
     {
         // The proof reads that the number of nodes fits in 32 bits.
         let _nodes = table.len();
         match self.order {
-            Order::Elements => OpenValue {
-                left: self.left - 1,
-                ..self
-            },
-            Order::Keys => OpenValue {
-                order: Order::Values,
-                node: self.other,
-                other: self.node,
-                left: self.left - 1,
-                ..self
-            },
-            Order::Values => OpenValue {
-                order: Order::Keys,
-                node: self.other,
-                other: self.node,
-                ..self
-            },
-            Order::Fields => OpenValue {
-                node: self.node + table.node(self.node).unwrap().span,
-                left: self.left - 1,
-                items: self.items + 1,
-                ..self
-            },
+            Order::Elements => self.left -= 1,
+            Order::Keys => {
+                self.turn(Order::Values);
+                self.left -= 1;
+            }
+            Order::Values => self.turn(Order::Keys),
+            Order::Fields => {
+                self.node += table.node(self.node).unwrap().span;
+                self.left -= 1;
+                self.items += 1;
+            }
         }
+    }
+
+    /// Goes on with the other of a map's types.
+    #[inline(always)]
+    fn turn(&mut self, order: Order)
+        ensures { self.new ≡ record self.old { order = order; node = self.old.other; other = self.old.node } }
+    {
+        let node = self.node;
+        self.order = order;
+        self.node = self.other;
+        self.other = node;
     }
 }
