@@ -9,3 +9,4 @@ pub mod Ends
 pub mod Tables
 pub mod Gets
 pub mod PageLoop
+pub mod ItemLoop

@@ -54,11 +54,11 @@ HandsFront l k room input row column HasGot Failed handed.Left = ⊤
 HandsFront l k room input row column HasGot Failed (handed.Cell used) = HandsCell l k room input row column used HasGot
 HandsFront l k room input row column HasGot Failed (handed.Fault used) = HandsCell l k room input row column used Failed
 
--- No more bytes are used than there are, and nothing is open that was not.
+-- No more bytes are used than there are, and two for each value that was opened.
 abbrev pub UsesWithin : StreamState → List ℕ → Result ℕ SinkFault → StreamState → Type 0
 UsesWithin old input (Ok used) new =
     (used ≤ length input)
-    × (ends_due new.place.symbols + new.open_values ≤ ends_due old.place.symbols + old.open_values)
+    × (ends_due new.place.symbols + new.open_values ≤ ends_due old.place.symbols + old.open_values + 2 * used)
 UsesWithin old input (Err fault) new = ⊤
 
 -- the same, where what the caller asked for and gave stands, and nothing is refused

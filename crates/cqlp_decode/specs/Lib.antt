@@ -6,3 +6,4 @@ pub mod Lending
 pub mod Giving
 pub mod Draining
 pub mod Cells
+pub mod Items

@@ -14,6 +14,7 @@ ghost use Rattle.cqlp_note.specs.declared.refusal.Refusal.{Refusal};
 
 use crate::advance::{EventAdvance, EventOutline, ScalarCell};
 use crate::given::{GiveError, GiveReason, GivenUse};
+use crate::item_loop::take_items;
 use crate::page_loop::take_cells;
 use crate::parts::Parts;
 use crate::standing::StreamStanding;
@@ -254,8 +255,8 @@ impl<A: Allocator> Decoder<A> {
         self.standing.take_scalar(&self.parts, input)
     }
 
-    /// Hands the cells that are due to the sink, as far as the loop over a page takes them, and answers how many bytes of
-    /// the input they take.
+    /// Hands cells to the sink, as far as the loops over a page and over the items of its cells take them, and answers how
+    /// many bytes of the input they take.
     #[inline]
     pub(crate) fn take_cells<S: Sink>(
         &mut self,
@@ -270,7 +271,15 @@ impl<A: Allocator> Decoder<A> {
             DrainsCells S.after S.faulted (state self.old) input.now result (state self.new)
             (S.view sink.old) (S.view sink.new) }
     {
-        take_cells(&mut self.standing, &self.parts, input, sink)
+        let used = match take_cells(&mut self.standing, &self.parts, input, sink) {
+            Ok(used) => used,
+            Err(SinkFault) => return Err(SinkFault),
+        };
+        let more = match take_items(&mut self.standing, &mut self.parts, &input[used..], sink) {
+            Ok(more) => more,
+            Err(SinkFault) => return Err(SinkFault),
+        };
+        Ok(used + more)
     }
 
     /// The work of a call, with nothing borrowed in its result.

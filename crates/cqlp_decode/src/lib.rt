@@ -4,6 +4,7 @@
 mod advance;
 mod decoder;
 mod given;
+mod item_loop;
 mod metadata;
 mod page;
 mod page_loop;

@@ -419,7 +419,7 @@ impl StreamStanding {
     }
 
     /// Begins the cell of a page that is due.
-    fn begin_cell<A: Allocator>(&mut self, page: CellCursor, cells: &mut CellReader<A>)
+    pub fn begin_cell<A: Allocator>(&mut self, page: CellCursor, cells: &mut CellReader<A>)
         requires idle { is_under_way cells.old ≡ false }
         requires inside { self.old.offset ≤ self.old.stop }
         ensures stage { self.new ≡ record self.old { stage = stage.InCell page } }
@@ -530,7 +530,7 @@ impl StreamStanding {
     }
 
     /// Goes on after a cell that is whole.
-    fn end_cell<A: Allocator>(
+    pub fn end_cell<A: Allocator>(
         &mut self,
         page: CellCursor,
         cells: &mut CellReader<A>,

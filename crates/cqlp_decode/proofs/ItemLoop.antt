@@ -1,0 +1,113 @@
+-- The loop over the items of cells.
+use Rattle.std.proofs.Common.{◌≡◌, ℕ, ◌+◌, ◌-◌, ◌*◌, ◌<◌, ◌≤◌, true, false, List, [], ◌∷◌, ◌++◌, length, take, drop, refl, sym, ap, subst, ◌∙◌, arith}
+use Rattle.std.specs.Prelude.{Option, Some, None}
+use Rattle.cqlp_note.specs.declared.refusal.Refusal.{Refusal}
+use Rattle.cqlp_kind.specs.declared.node.Node.{Node}
+use Rattle.cqlp_kind.specs.CellStep.{CellEvent}
+use Rattle.cqlp_cell.specs.declared.whole.BareItem.{BareItem}
+use Rattle.cqlp_cell.specs.declared.whole.BarePart.{BarePart}
+use Rattle.cqlp_cell.specs.declared.whole.BarePart.TheVariants as bare
+use Rattle.cqlp_cell.specs.declared.whole.ScalarItem.{ScalarItem}
+use Rattle.cqlp_cell.specs.declared.advance.CellAdvance.TheVariants as cell_advance
+use Rattle.cqlp_cell.specs.Items.{event_at}
+use Rattle.cqlp_cell.specs.Standing.{CellState, ended, is_under_way}
+use Rattle.cqlp_cell.specs.Reading as taking
+use Rattle.cqlp_cell.specs.Pushing.{is_done}
+use Rattle.cqlp_cell.specs.Whole.{IsWhole, TakesScalar, outline_of}
+use Rattle.cqlp_decode.specs.declared.page.CellCursor.{CellCursor}
+use Rattle.cqlp_decode.specs.declared.standing.StreamStage.{StreamStage}
+use Rattle.cqlp_decode.specs.declared.standing.StreamStage.TheVariants as stage
+use Rattle.cqlp_decode.specs.declared.standing.StreamStanding.{StreamStanding}
+use Rattle.cqlp_decode.specs.Reading.{Event, Gifts, cell_event}
+use Rattle.cqlp_decode.specs.Pages.{cells_after}
+use Rattle.cqlp_decode.specs.Standing.{StreamState, PartsState, Hands, GoesOn, IsAt, IsCell, IsConsistent, StageHolds, nodes_of, parts, state_of}
+use Rattle.cqlp_decode.specs.Streams.{AfterBy, AfterGifts}
+use Rattle.cqlp_decode.specs.Draining.{Drains, Fails}
+use Rattle.cqlp_decode.specs.Items.{TakesItem, TakesLeaf, bare_event, leaf_told, part_told}
+use Rattle.cqlp_decode.proofs.CellSteps.{going_hands, ended_hands, cell_going_lawful, cell_ended_lawful}
+use Rattle.cqlp_decode.proofs.Leads.{hands_stands}
+use Rattle.cqlp_decode.proofs.Gets.{drains_one, fails_one}
+
+-- ---- one item
+
+part_is : (part : BarePart) (input buffer : List ℕ) → event_at (outline_of part) input buffer ≡ bare_event part
+part_is (bare.Null level) input buffer = refl
+part_is (bare.Empty level) input buffer = refl
+part_is (bare.Enter level k n) input buffer = refl
+part_is (bare.Leave level n) input buffer = refl
+
+module _ (s : StreamStanding) (q : PartsState) (p : CellCursor) (here : s.stage ≡ stage.InCell p) (law : IsConsistent s q) (empty : q.partial.content ≡ []) (input : List ℕ) (d : CellState) where
+  abbrev beside : PartsState
+  beside = parts q.partial q.types d q.table q.given
+
+  abbrev typed : List Node
+  typed = nodes_of q p.columns
+
+  cell_is : IsCell s q p
+  cell_is = (subst (λ (t : StreamStage). StageHolds s q t) here law.stage).0
+
+  -- ---- a scalar
+
+  pub leaf_lawful : (r : Option ScalarItem) → TakesScalar typed q.cells input r d → IsConsistent s beside
+  leaf_lawful None h = subst (λ (z : CellState). IsConsistent s (parts q.partial q.types z q.table q.given)) (sym h) law
+  leaf_lawful (Some t) h =
+      let m = h.2.moves q.partial cell_is.joined empty in
+      cell_going_lawful s q p here cell_is law.parts.cells input t.at t.used h.0 d q.partial m law h.3
+
+  pub leaf_takes : (r : Option ScalarItem) → TakesScalar typed q.cells input r d → TakesLeaf (state_of s q) input p.row p.column r (state_of s beside)
+  leaf_takes None h = ap (λ (z : CellState). state_of s (parts q.partial q.types z q.table q.given)) h
+  leaf_takes (Some t) h =
+      let m = h.2.moves q.partial cell_is.joined empty in
+      let going = going_hands s q p here cell_is law.parts.cells input t.at t.used h.0 d q.partial m h.3 in
+      (refl, refl, refl, subst (λ (e : CellEvent). Hands (state_of s q) input t.at t.used (cell_event p.row p.column e) (state_of s beside)) (h.1 q.partial.content) going.1)
+
+  -- ---- a part without a content
+
+  module _ (t : BareItem) (w : IsWhole typed q.cells input t.at t.used (outline_of t.part) d) where
+    abbrev moves : taking.Moves typed q.cells q.partial input (cell_advance.Item t.at t.used (outline_of t.part)) d q.partial
+    moves = w.moves q.partial cell_is.joined empty
+
+    pub going_lawful : is_done d ≡ false → IsConsistent s beside
+    going_lawful more = cell_going_lawful s q p here cell_is law.parts.cells input t.at t.used (outline_of t.part) d q.partial moves law more
+
+    pub going_takes : is_done d ≡ false → TakesItem (state_of s q) input t.at t.used (part_told p.row p.column t.part) (state_of s beside)
+    going_takes more =
+        let going = going_hands s q p here cell_is law.parts.cells input t.at t.used (outline_of t.part) d q.partial moves more in
+        (refl, refl, refl, subst (λ (e : CellEvent). Hands (state_of s q) input t.at t.used (cell_event p.row p.column e) (state_of s beside)) (part_is t.part input q.partial.content) going.1)
+
+    -- the cell is whole, and the page goes on
+    module _ (whole : is_done d ≡ true) (unrefused : s.refusal ≡ None) (e : StreamStanding) (d' : CellState) (goes_on : GoesOn s e p typed (cells_after typed p)) (rest : IsAt e d.offset s) (cells : d' ≡ ended d) where
+      abbrev after : PartsState
+      after = parts q.partial q.types d' q.table q.given
+
+      pub over_lawful : IsConsistent e after
+      over_lawful =
+          let goes = goes_on after refl (rw here at law.uses) in
+          cell_ended_lawful s q p here cell_is law.parts.cells input t.at t.used (outline_of t.part) d q.partial moves law e d' (ap (λ (z : StreamStanding). z.offset) rest) (ap (λ (z : StreamStanding). z.stop) rest) (ap (λ (z : StreamStanding). z.limits) rest) (ap (λ (z : StreamStanding). z.header) rest)
+          (ap (λ (z : StreamStanding). z.came) rest) (ap (λ (z : CellState). z.rules) cells) (rw here at (law.table unrefused)) (ap is_under_way cells) (ap (λ (z : CellState). z.open_values) cells) goes.1
+
+      pub over_takes : TakesItem (state_of s q) input t.at t.used (part_told p.row p.column t.part) (state_of e after)
+      over_takes =
+          let goes = goes_on after refl (rw here at law.uses) in
+          let hands = ended_hands s q p here cell_is law.parts.cells input t.at t.used (outline_of t.part) d q.partial moves whole e d' (ap (λ (z : StreamStanding). z.offset) rest) (ap (λ (z : StreamStanding). z.stop) rest) (ap (λ (z : StreamStanding). z.frame) rest)
+          (ap (λ (z : StreamStanding). z.came) rest ∙ cell_is.came) goes.0 goes.1 (ap (λ (z : CellState). z.open_values) cells) (ap (λ (z : StreamStanding). z.given_use) rest) in (
+            ap (λ (z : StreamStanding). z.refusal) rest,
+            ap (λ (z : StreamStanding). (state_of z after).rules) rest,
+            refl,
+            subst (λ (x : CellEvent). Hands (state_of s q) input t.at t.used (cell_event p.row p.column x) (state_of e after)) (part_is t.part input q.partial.content) hands.1,
+          )
+
+-- ---- one more item for a sink
+
+module _ {V : Type 0} (f : V → ℕ → Event → V) (gifts : Gifts) (old new : StreamState) (bytes input : List ℕ) (used : ℕ) (es : List (ℕ × Event)) (v w : V) (d : Drains f gifts old bytes es (take used input) v w) (unrefused : old.refusal ≡ None) (at taken : ℕ) (told : Event)
+    (h : TakesItem old (drop used input) at taken told new) where
+  stands : AfterGifts gifts new ((bytes ++ take used input) ++ take taken (drop used input)) ((es ++ d.more) ++ (at, told) ∷ [])
+  stands =
+      let after = subst (λ (o : Option Refusal). AfterBy o gifts old (bytes ++ take used input) (es ++ d.more)) unrefused d.stands in
+      hands_stands old new (drop used input) (bytes ++ take used input) (es ++ d.more) gifts at taken told h.3 (h.0 ∙ unrefused) h.1 after
+
+  pub item_drains : (w' : V) → w' ≡ f w at told → Drains f gifts new bytes es (take (used + taken) input) v w'
+  item_drains w' is = drains_one f gifts old new bytes input used es v w d at taken told w' stands is
+
+  pub item_fails : (faulted : V → ℕ → Event → V → Type 0) (w' : V) → faulted w at told w' → Fails f faulted gifts new bytes es (take (used + taken) input) v w'
+  item_fails faulted w' fault = fails_one f gifts old new bytes input used es v w d faulted at taken told w' stands fault

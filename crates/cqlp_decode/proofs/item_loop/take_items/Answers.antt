@@ -1,0 +1,131 @@
+use Rattle.std.proofs.Common.{◌≡◌, ◌+◌, ◌-◌, ◌≤◌, [], length, drop, refl, sym, ap, subst, ◌∙◌, arith}
+use Rattle.std.proofs.lemmas.List.{length-drop}
+use Rattle.cqlp_decode.specs.Draining.{Drains}
+use Rattle.cqlp_decode.specs.Standing.{StreamState, state_with}
+use Rattle.cqlp_decode.specs.Items.{TakesItem, leaf_told, part_told}
+use Rattle.cqlp_decode.proofs.Gets.{rest_is}
+use Rattle.cqlp_decode.proofs.ItemLoop.{item_drains, item_fails}
+use Rattle.cqlp_decode.proofs.item_loop.take_items.Goals as goal
+
+pub returns-in-Err-clause-drains : goal.returns-in-Err-clause-drains
+returns-in-Err-clause-drains g c = λ tells.
+    let i = c.items.invariant in
+    let t = c.in-Some-take_leaf.item in
+    let p = c.items.page in
+    let old = state_with c.items.standing c.items.parts in
+    let new = state_with c.items.standing c.take_leaf.new.parts in
+    let input = c.args.input.now in
+    let told = leaf_told p.row p.column t in
+    let h : TakesItem old (drop c.items.used input) t.at t.used told new = rw rest_is at c.in-Some-take_leaf.ensures.takes in (
+      c.items.used + t.used,
+      λ gifts s es a. item_fails g.S.Sink.after gifts old new s input c.items.used es _ _ (i.drained tells gifts s es a) i.unrefused t.at t.used told h g.S.Sink.faulted _ (c.in-Err.ensures.err (i.tells tells)),
+    )
+
+pub returns-in-Err-hand_part-clause-drains : goal.returns-in-Err-hand_part-clause-drains
+returns-in-Err-hand_part-clause-drains g c = λ tells.
+    let i = c.items.invariant in
+    let t = c.in-Some-take_part.taken.item in
+    let p = c.items.page in
+    let old = state_with c.items.standing c.items.parts in
+    let new = state_with c.take_part.new.self c.take_part.new.parts in
+    let input = c.args.input.now in
+    let told = part_told p.row p.column t.part in
+    let none = c.in_default-take_leaf.ensures.takes in
+    let given : TakesItem (state_with c.items.standing c.take_leaf.new.parts) (drop c.items.used input) t.at t.used told new = rw rest_is at c.in-Some-take_part.ensures.takes in
+    let h : TakesItem old (drop c.items.used input) t.at t.used told new = subst (λ (z : StreamState). TakesItem z (drop c.items.used input) t.at t.used told new) none given in (
+      c.items.used + t.used,
+      λ gifts s es a. item_fails g.S.Sink.after gifts old new s input c.items.used es _ _ (i.drained tells gifts s es a) i.unrefused t.at t.used told h g.S.Sink.faulted _ (c.in-Err-hand_part.ensures.err (i.tells tells)),
+    )
+
+pub items-preserved-in-Some-take_leaf : goal.items-preserved-in-Some-take_leaf
+items-preserved-in-Some-take_leaf g c =
+    let i = c.items.invariant in
+    let t = c.in-Some-take_leaf.item in
+    let p = c.items.page in
+    let old = state_with c.items.standing c.items.parts in
+    let new = state_with c.items.standing c.take_leaf.new.parts in
+    let input = c.args.input.now in
+    let told = leaf_told p.row p.column t in
+    let h : TakesItem old (drop c.items.used input) t.at t.used told new = rw rest_is at c.in-Some-take_leaf.ensures.takes in
+    record {
+      within = omega (arith, i.within, h.3.within, length-drop c.items.used input);
+      lawful = c.in-Some-take_leaf.ensures.lawful;
+      here = i.here;
+      unrefused = i.unrefused;
+      empty = c.in-Some-take_leaf.ensures.empty;
+      rules = i.rules;
+      given = h.2 ∙ i.given;
+      pays = omega (arith, h.3.pays, i.pays);
+      tells = λ tells. (c.in-Ok.ensures.ok (i.tells tells)).0;
+      drained = λ tells gifts s es a. item_drains g.S.Sink.after gifts old new s input c.items.used es _ _ (i.drained tells gifts s es a) i.unrefused t.at t.used told h _ (c.in-Ok.ensures.ok (i.tells tells)).1;
+    }
+
+pub items-preserved : goal.items-preserved
+items-preserved g c =
+    let i = c.items.invariant in
+    let t = c.in-Some-take_part.taken.item in
+    let p = c.items.page in
+    let old = state_with c.items.standing c.items.parts in
+    let new = state_with c.take_part.new.self c.take_part.new.parts in
+    let input = c.args.input.now in
+    let told = part_told p.row p.column t.part in
+    let none = c.in_default-take_leaf.ensures.takes in
+    let given : TakesItem (state_with c.items.standing c.take_leaf.new.parts) (drop c.items.used input) t.at t.used told new = rw rest_is at c.in-Some-take_part.ensures.takes in
+    let h : TakesItem old (drop c.items.used input) t.at t.used told new = subst (λ (z : StreamState). TakesItem z (drop c.items.used input) t.at t.used told new) none given in
+    record {
+      within = omega (arith, i.within, h.3.within, length-drop c.items.used input);
+      lawful = c.in-Some-take_part.ensures.lawful;
+      here = c.in-Some-take_part.ensures.here c.if-taken.false;
+      unrefused = h.0 ∙ i.unrefused;
+      empty = c.in-Some-take_part.ensures.empty;
+      rules = h.1 ∙ i.rules;
+      given = h.2 ∙ i.given;
+      pays = omega (arith, h.3.pays, i.pays);
+      tells = λ tells. (c.in-Ok-hand_part.ensures.ok (i.tells tells)).0;
+      drained = λ tells gifts s es a. item_drains g.S.Sink.after gifts old new s input c.items.used es _ _ (i.drained tells gifts s es a) i.unrefused t.at t.used told h _ (c.in-Ok-hand_part.ensures.ok (i.tells tells)).1;
+    }
+
+pub items-preserved-then-taken : goal.items-preserved-then-taken
+items-preserved-then-taken g c =
+    let i = c.items.invariant in
+    let t = c.in-Some-take_part.taken.item in
+    let p = c.items.page in
+    let old = state_with c.items.standing c.items.parts in
+    let mid = state_with c.take_part.new.self c.take_part.new.parts in
+    let new = state_with c.enter_cell-then-taken.new.self c.enter_cell-then-taken.new.parts in
+    let same : new ≡ mid = c.in-Some-enter_cell.ensures.same in
+    let input = c.args.input.now in
+    let told = part_told p.row p.column t.part in
+    let none = c.in_default-take_leaf.ensures.takes in
+    let given : TakesItem (state_with c.items.standing c.take_leaf.new.parts) (drop c.items.used input) t.at t.used told mid = rw rest_is at c.in-Some-take_part.ensures.takes in
+    let h : TakesItem old (drop c.items.used input) t.at t.used told mid = subst (λ (z : StreamState). TakesItem z (drop c.items.used input) t.at t.used told mid) none given in
+    let k : TakesItem old (drop c.items.used input) t.at t.used told new = subst (λ (z : StreamState). TakesItem old (drop c.items.used input) t.at t.used told z) (sym same) h in
+    record {
+      within = omega (arith, i.within, h.3.within, length-drop c.items.used input);
+      lawful = c.in-Some-enter_cell.ensures.lawful;
+      here = c.in-Some-enter_cell.ensures.here;
+      unrefused = k.0 ∙ i.unrefused;
+      empty = ap (λ (z : StreamState). z.held) same ∙ c.in-Some-take_part.ensures.empty;
+      rules = k.1 ∙ i.rules;
+      given = k.2 ∙ i.given;
+      pays = omega (arith, k.3.pays, i.pays);
+      tells = λ tells. (c.in-Ok-hand_part.ensures.ok (i.tells tells)).0;
+      drained = λ tells gifts s es a. item_drains g.S.Sink.after gifts old new s input c.items.used es _ _ (i.drained tells gifts s es a) i.unrefused t.at t.used told k _ (c.in-Ok-hand_part.ensures.ok (i.tells tells)).1;
+    }
+
+pub returns-in_default-enter_cell-clause-drains : goal.returns-in_default-enter_cell-clause-drains
+returns-in_default-enter_cell-clause-drains g c = λ tells gifts s es a.
+    let i = c.items.invariant in
+    let t = c.in-Some-take_part.taken.item in
+    let p = c.items.page in
+    let old = state_with c.items.standing c.items.parts in
+    let mid = state_with c.take_part.new.self c.take_part.new.parts in
+    let new = state_with c.enter_cell-then-taken.new.self c.enter_cell-then-taken.new.parts in
+    let same : new ≡ mid = c.in_default-enter_cell.ensures.same in
+    let input = c.args.input.now in
+    let told = part_told p.row p.column t.part in
+    let none = c.in_default-take_leaf.ensures.takes in
+    let given : TakesItem (state_with c.items.standing c.take_leaf.new.parts) (drop c.items.used input) t.at t.used told mid = rw rest_is at c.in-Some-take_part.ensures.takes in
+    let h : TakesItem old (drop c.items.used input) t.at t.used told mid = subst (λ (z : StreamState). TakesItem z (drop c.items.used input) t.at t.used told mid) none given in
+    let k : TakesItem old (drop c.items.used input) t.at t.used told new = subst (λ (z : StreamState). TakesItem old (drop c.items.used input) t.at t.used told z) (sym same) h in
+    item_drains g.S.Sink.after gifts old new s input c.items.used es _ _ (i.drained tells gifts s es a) i.unrefused t.at t.used told k _ (c.in-Ok-hand_part.ensures.ok (i.tells tells)).1
