@@ -271,6 +271,9 @@ impl<A: Allocator> Decoder<A> {
             DrainsCells S.after S.faulted (state self.old) input.now result (state self.new)
             (S.view sink.old) (S.view sink.new) }
     {
+        if !self.standing.is_in_page() {
+            return Ok(0);
+        }
         let used = match take_cells(&mut self.standing, &self.parts, input, sink) {
             Ok(used) => used,
             Err(SinkFault) => return Err(SinkFault),

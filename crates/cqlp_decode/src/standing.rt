@@ -1,7 +1,7 @@
 //! Where the reading of a stream stands, and one step of it.
 
 ghost use Rattle.std.specs.Prelude.{◌≡◌, ◌↔◌, ◌+◌, ◌-◌, ◌<◌, ◌≤◌, ◌^◌, ◌++◌};
-ghost use Rattle.std.specs.Prelude.{[], IsTrue, None, Some, false, length, take, true};
+ghost use Rattle.std.specs.Prelude.{[], IsFalse, IsTrue, None, Some, false, length, take, true};
 ghost use Rattle.cqlp_note.specs.Limits.{limit_of, rules_of};
 ghost use Rattle.cqlp_note.specs.declared.refusal.Refusal.{Refusal as Refusing};
 ghost use Rattle.cqlp_decode.specs.Standing.{came_of, stage_with};
@@ -69,7 +69,7 @@ impl StreamStanding {
     ghost use Rattle.cqlp_grammar.specs.Upcoming.{room_after};
     ghost use Rattle.cqlp_decode.specs.declared.standing.StreamStage.TheVariants as stage;
     ghost use Rattle.cqlp_decode.specs.Standing.{Advances, EndsPage, GoesOn, GoesOnAfter, HasCome, LeavesTypes, Moves, MovesIdle, Takes};
-    ghost use Rattle.cqlp_decode.specs.Standing.{HasParts, HasRoom, HoldsGiven, IsConsistent, IsFresh, IsLawful, PartsState};
+    ghost use Rattle.cqlp_decode.specs.Standing.{HasParts, HasRoom, HoldsGiven, IsConsistent, IsFresh, IsLawful, IsNoPage, PartsState};
     ghost use Rattle.cqlp_decode.specs.Standing.{IsAsked, IsAt, IsBounded, IsWanted, asked};
     ghost use Rattle.cqlp_decode.specs.Standing.{first_state, refusal_in, rest_of, state_of, state_with, symbols_at};
     ghost use Rattle.cqlp_decode.specs.Pages.{IsPage, cells_after, given_of, node_by};
@@ -152,6 +152,17 @@ impl StreamStanding {
         ensures { IsTrue result ↔ ((self.now.stage ≡ stage.Header) × (self.now.came ≡ 0)) }
     {
         matches!(self.stage, StreamStage::Header) && self.came == 0
+    }
+
+    /// Whether a cell is due or under way.
+    #[inline]
+    pub fn is_in_page(&self) -> bool
+        ensures { IsFalse result ↔ IsNoPage self.now.stage }
+    {
+        matches!(
+            self.stage,
+            StreamStage::BeforeCell(_) | StreamStage::InCell(_)
+        )
     }
 
     /// The next step, where there was no refusal.
