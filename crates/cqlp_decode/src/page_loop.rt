@@ -42,6 +42,7 @@ pub enum Bare {
 
 /// Hands the cells that are due to the sink, as far as the loop takes them, and answers how many bytes of the input they
 /// take.
+#[inline(never)]
 pub fn take_cells<S: Sink, A: Allocator>(
     standing: &mut StreamStanding,
     parts: &Parts<A>,
