@@ -1,21 +1,20 @@
 -- Items that lie whole at the front of the input.
-use Rattle.std.specs.Prelude.{◌≡◌, ℕ, false, List, [], Option, Some, None}
+use Rattle.std.specs.Prelude.{◌≡◌, ℕ, List, [], length, Option, Some, None, ⊤}
 use Rattle.cqlp_note.specs.Partial.{FieldState}
 use Rattle.cqlp_kind.specs.declared.node.Node.{Node}
-use Rattle.cqlp_kind.specs.CellStep.{Leaf}
-use Rattle.cqlp_kind.specs.Contents.{value_of}
 use Rattle.cqlp_cell.specs.declared.advance.CellOutline.{CellOutline}
 use Rattle.cqlp_cell.specs.declared.advance.CellOutline.TheVariants as outline
 use Rattle.cqlp_cell.specs.declared.advance.CellAdvance.TheVariants as advance
+use Rattle.cqlp_cell.specs.declared.standing.CellDue.TheVariants as due
+use Rattle.cqlp_cell.specs.declared.standing.NextInCell.TheVariants as next
 use Rattle.cqlp_cell.specs.declared.standing.Under.TheVariants as under
-use Rattle.cqlp_cell.specs.declared.whole.ScalarItem.{ScalarItem}
+use Rattle.cqlp_cell.specs.declared.whole.DueItem.{DueItem}
 use Rattle.cqlp_cell.specs.declared.whole.BareItem.{BareItem}
 use Rattle.cqlp_cell.specs.declared.whole.BarePart.{BarePart}
 use Rattle.cqlp_cell.specs.declared.whole.BarePart.TheVariants as bare
-use Rattle.cqlp_cell.specs.Items.{event_at}
-use Rattle.cqlp_cell.specs.Standing.{CellState}
+use Rattle.cqlp_cell.specs.Standing.{CellState, due_of, due_value}
+use Rattle.cqlp_cell.specs.Coming.{room_of}
 use Rattle.cqlp_cell.specs.Reading.{Joined, Moves}
-use Rattle.cqlp_cell.specs.Pushing.{is_done}
 
 abbrev pub outline_of : BarePart → CellOutline
 outline_of (bare.Null level) = outline.Null level
@@ -30,12 +29,20 @@ pub record IsWhole (nodes : List Node) (old : CellState) (input : List ℕ) (at 
   pub fresh : old.under ≡ under.Nothing
   pub moves : (p : FieldState) → Joined nodes old p → p.content ≡ [] → Moves nodes old p input (advance.Item at used i) new p
 
--- The next item is this scalar, and the value around it is still open; or nothing is done.
-abbrev pub TakesScalar : List Node → CellState → List ℕ → Option ScalarItem → CellState → Type 0
-TakesScalar nodes old input None new = new ≡ old
-TakesScalar nodes old input (Some t) new =
-    (i : CellOutline) × ((buffer : List ℕ) → event_at i input buffer ≡ Leaf t.level (value_of t.scalar))
-    × IsWhole nodes old input t.at t.used i new × (is_done new ≡ false)
+-- The next item of the innermost value, of which nothing has come: it begins there, is of this kind, and has this much
+-- room.
+pub record IsDue (nodes : List Node) (d : CellState) (t : DueItem) : Type 0 where
+  pub fresh : d.under ≡ under.Nothing
+  pub items : d.next ≡ next.Items
+  pub due : due_of d ≡ due.Value
+  pub at : t.at ≡ d.offset
+  pub kind : t.kind ≡ (due_value nodes d).kind
+  pub room : t.room ≡ room_of nodes d
+  pub level : t.level ≡ length d.open_values
+
+abbrev pub IsDueItem : List Node → CellState → Option DueItem → Type 0
+IsDueItem nodes d None = ⊤
+IsDueItem nodes d (Some t) = IsDue nodes d t
 
 -- What is next is this part, which has no content; or nothing is done.
 abbrev pub TakesBare : List Node → CellState → List ℕ → Option BareItem → CellState → Type 0

@@ -17,4 +17,4 @@ pub use advance::{CellAdvance, CellOutline};
 pub use front::{FrontScalar, front_scalar};
 pub use item::{CellItem, CellPush};
 pub use reader::CellReader;
-pub use whole::{BareItem, BarePart, ScalarItem};
+pub use whole::{BareItem, BarePart, DueItem};

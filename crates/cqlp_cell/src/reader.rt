@@ -1,6 +1,6 @@
 //! A cell out of pieces of any size.
 
-ghost use Rattle.std.specs.Prelude.{◌≡◌, ℕ, ◌+◌, ◌≤◌, List, true, false, length, IfOk};
+ghost use Rattle.std.specs.Prelude.{◌≡◌, ℕ, ◌+◌, ◌^◌, ◌<◌, ◌≤◌, List, true, false, length, IfOk};
 ghost use Rattle.std.specs.Borrow.{sem};
 ghost use Rattle.cqlp_note.specs.Limits.{rules_of};
 
@@ -8,7 +8,7 @@ use crate::advance::CellAdvance;
 use crate::item::CellPush;
 use crate::open_values::OpenValues;
 use crate::standing::{CellStanding, NextInCell, Under};
-use crate::whole::{BareItem, ScalarItem};
+use crate::whole::{BareItem, DueItem};
 use cqlp_note::{Limits, NoMemory, Partial};
 use cqlp_type::TypeTable;
 use std::alloc::{Allocator, Global};
@@ -33,11 +33,12 @@ impl<A: Allocator> Model for CellReader<A> {
 
 impl<A: Allocator> CellReader<A> {
     ghost use Rattle.cqlp_note.specs.Lending.{LeavesField};
-    ghost use Rattle.cqlp_cell.specs.Standing.{Stands, ended, is_under_way};
+    ghost use Rattle.cqlp_cell.specs.Standing.{Stands, due_of, ended, is_under_way, state_after};
+    ghost use Rattle.cqlp_cell.specs.declared.standing.CellDue.TheVariants as due;
     ghost use Rattle.cqlp_kind.specs.declared.node.Node.{Node};
     ghost use Rattle.cqlp_cell.specs.Reading.{Answers, Empties, HaveCome, Joined, Moves};
     ghost use Rattle.cqlp_cell.specs.Pushing.{Continues, Pushes, Uses, begun, is_done, new_reader};
-    ghost use Rattle.cqlp_cell.specs.Whole.{TakesBare, TakesScalar};
+    ghost use Rattle.cqlp_cell.specs.Whole.{IsDueItem, TakesBare};
 
     /// With room for the nesting that the limits allow. Parts have at least one byte.
     pub fn new(alloc: A, limits: &Limits) -> Result<Self, NoMemory>
@@ -130,18 +131,24 @@ impl<A: Allocator> CellReader<A> {
         self.standing.advance(partial, table, input)
     }
 
-    /// Takes the next item of the innermost value that is open, where it is a scalar that `advance` would hand out of
-    /// the input alone, and all its bytes lie in it; else it does nothing. Section 6 of `native_protocol_v4.spec`.
+    /// The next item of the innermost value that is open, if nothing of it has come.
     #[inline(always)]
-    pub fn take_scalar<'a>(
-        &mut self,
-        table: &TypeTable<A>,
-        input: &'a [u8],
-    ) -> Option<ScalarItem<'a>>
-        requires { Stands table.now.nodes self.old }
-        ensures { TakesScalar table.now.nodes self.old input.now result self.new }
+    pub fn due_item(&self, table: &TypeTable<A>) -> Option<DueItem>
+        requires { Stands table.now.nodes self.now }
+        ensures { IsDueItem table.now.nodes self.now result }
     {
-        self.standing.take_scalar(table, input)
+        self.standing.due_item(table)
+    }
+
+    /// Goes on after the value that is next, which takes this many bytes, where the caller has read it as a scalar.
+    #[inline(always)]
+    pub fn pass_scalar(&mut self, used: usize, table: &TypeTable<A>)
+        requires stands { Stands table.now.nodes self.old }
+        requires due { due_of self.old ≡ due.Value }
+        requires place { self.old.offset + used < 2 ^ 64 }
+        ensures { self.new ≡ state_after table.now.nodes self.old used }
+    {
+        self.standing.pass(used as u64, table);
     }
 
     /// Takes what is next of the cell that is under way, where it has no content, `advance` would hand it out of the

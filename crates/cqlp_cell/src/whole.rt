@@ -8,23 +8,24 @@ ghost use Rattle.cqlp_cell.specs.declared.standing.Under.TheVariants as under;
 ghost use Rattle.cqlp_cell.specs.Coming.{room_of};
 ghost use Rattle.cqlp_cell.specs.Reading.{Decided};
 ghost use Rattle.cqlp_cell.specs.Standing.{Stands, due_of, due_value, state_of};
-ghost use Rattle.cqlp_cell.specs.Whole.{TakesBare, TakesScalar};
+ghost use Rattle.cqlp_cell.specs.Whole.{IsDueItem, TakesBare};
 
-use crate::front::front_scalar;
 use crate::size::{Sized, size_up};
 use crate::standing::{CellDue, CellStanding, DueValue, NextInCell, Under};
+use cqlp_kind::Kind;
 use cqlp_kind::content::first;
-use cqlp_kind::{Kind, Scalar};
 use cqlp_type::TypeTable;
 use std::alloc::Allocator;
 
-/// A scalar in a value that is open, which began at this offset, and how many bytes it takes with its length.
+/// The next item of the innermost value that is open, of which nothing has come.
 #[derive(Clone, Copy, Debug, PartialEq, Eq)]
-pub struct ScalarItem<'a> {
+pub struct DueItem {
+    /// Where it begins.
     pub at: u64,
-    pub used: usize,
+    pub kind: Kind,
+    /// How many bytes there are from there to the end of the value around it.
+    pub room: u64,
     pub level: u32,
-    pub scalar: Scalar<'a>,
 }
 
 /// A part of a cell that has no content, which began at this offset, and how many bytes it takes.
@@ -49,17 +50,11 @@ pub enum BarePart {
 }
 
 impl<A: Allocator> CellStanding<A> {
-    /// Takes the next item of the innermost value, where it is a scalar and all its bytes lie in the input.
+    /// The next item of the innermost value, if nothing of it has come.
     #[inline(always)]
-    pub(crate) fn take_scalar<'a>(
-        &mut self,
-        table: &TypeTable<A>,
-        input: &'a [u8],
-    ) -> Option<ScalarItem<'a>>
-        requires stands { Stands table.now.nodes (state_of self.old) }
-        ensures takes { TakesScalar table.now.nodes (state_of self.old) input.now result (state_of self.new) }
-        ensures room { self.new.open_values.room ≡ self.old.open_values.room }
-        ensures limits { self.new.limits ≡ self.old.limits }
+    pub(crate) fn due_item(&self, table: &TypeTable<A>) -> Option<DueItem>
+        requires stands { Stands table.now.nodes (state_of self.now) }
+        ensures { IsDueItem table.now.nodes (state_of self.now) result }
     {
         let Under::Nothing = self.under else {
             return None;
@@ -71,17 +66,12 @@ impl<A: Allocator> CellStanding<A> {
             return None;
         };
         let value = self.value(table);
-        let at = self.offset;
-        let Some(front) = front_scalar(&self.limits, value.kind, value.stop - at, input) else {
-            return None;
-        };
-        let level = self.open_values.len();
-        self.pass(front.used as u64, table);
-        Some(ScalarItem {
-            at,
-            used: front.used,
-            level,
-            scalar: front.scalar,
+        let room = value.stop - self.offset;
+        Some(DueItem {
+            at: self.offset,
+            kind: value.kind,
+            room,
+            level: self.open_values.len(),
         })
     }
 

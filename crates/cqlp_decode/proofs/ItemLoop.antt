@@ -1,19 +1,23 @@
 -- The loop over the items of cells.
-use Rattle.std.proofs.Common.{◌≡◌, ℕ, ◌+◌, ◌-◌, ◌*◌, ◌<◌, ◌≤◌, true, false, List, [], ◌∷◌, ◌++◌, length, take, drop, refl, sym, ap, subst, ◌∙◌, arith}
+use Rattle.std.proofs.Common.{◌≡◌, ℕ, ◌+◌, ◌-◌, ◌*◌, ◌^◌, ◌<◌, ◌≤◌, true, false, List, [], ◌∷◌, ◌++◌, length, take, drop, refl, sym, ap, subst, ◌∙◌, arith}
 use Rattle.std.specs.Prelude.{Option, Some, None}
 use Rattle.cqlp_note.specs.declared.refusal.Refusal.{Refusal}
 use Rattle.cqlp_kind.specs.declared.node.Node.{Node}
-use Rattle.cqlp_kind.specs.CellStep.{CellEvent}
+use Rattle.cqlp_note.specs.Limits.{Rules, rules_of}
+use Rattle.cqlp_kind.specs.CellStep.{CellEvent, Leaf}
 use Rattle.cqlp_cell.specs.declared.whole.BareItem.{BareItem}
 use Rattle.cqlp_cell.specs.declared.whole.BarePart.{BarePart}
 use Rattle.cqlp_cell.specs.declared.whole.BarePart.TheVariants as bare
-use Rattle.cqlp_cell.specs.declared.whole.ScalarItem.{ScalarItem}
+use Rattle.cqlp_cell.specs.declared.whole.DueItem.{DueItem}
 use Rattle.cqlp_cell.specs.declared.advance.CellAdvance.TheVariants as cell_advance
 use Rattle.cqlp_cell.specs.Items.{event_at}
-use Rattle.cqlp_cell.specs.Standing.{CellState, ended, is_under_way}
+use Rattle.cqlp_cell.specs.Standing.{CellState, due_value, ended, is_under_way, state_after}
 use Rattle.cqlp_cell.specs.Reading as taking
 use Rattle.cqlp_cell.specs.Pushing.{is_done}
-use Rattle.cqlp_cell.specs.Whole.{IsWhole, TakesScalar, outline_of}
+use Rattle.cqlp_cell.specs.Coming.{room_of}
+use Rattle.cqlp_cell.specs.Fronts.{SaysScalar}
+use Rattle.cqlp_cell.specs.Whole.{IsDue, IsWhole, outline_of}
+use Rattle.cqlp_cell.proofs.WholeItems.{scalar_outline, scalar_is, scalar_whole, scalar_place}
 use Rattle.cqlp_decode.specs.declared.page.CellCursor.{CellCursor}
 use Rattle.cqlp_decode.specs.declared.standing.StreamStage.{StreamStage}
 use Rattle.cqlp_decode.specs.declared.standing.StreamStage.TheVariants as stage
@@ -23,7 +27,7 @@ use Rattle.cqlp_decode.specs.Pages.{cells_after}
 use Rattle.cqlp_decode.specs.Standing.{StreamState, PartsState, Hands, GoesOn, IsAt, IsCell, IsConsistent, StageHolds, nodes_of, parts, state_of}
 use Rattle.cqlp_decode.specs.Streams.{AfterBy, AfterGifts}
 use Rattle.cqlp_decode.specs.Draining.{Drains, Fails}
-use Rattle.cqlp_decode.specs.Items.{TakesItem, TakesLeaf, bare_event, leaf_told, part_told}
+use Rattle.cqlp_decode.specs.Items.{SaysLeaf, TakesItem, bare_event, part_told}
 use Rattle.cqlp_decode.proofs.CellSteps.{going_hands, ended_hands, cell_going_lawful, cell_ended_lawful}
 use Rattle.cqlp_decode.proofs.Leads.{hands_stands}
 use Rattle.cqlp_decode.proofs.Gets.{drains_one, fails_one}
@@ -48,18 +52,28 @@ module _ (s : StreamStanding) (q : PartsState) (p : CellCursor) (here : s.stage 
 
   -- ---- a scalar
 
-  pub leaf_lawful : (r : Option ScalarItem) → TakesScalar typed q.cells input r d → IsConsistent s beside
-  leaf_lawful None h = subst (λ (z : CellState). IsConsistent s (parts q.partial q.types z q.table q.given)) (sym h) law
-  leaf_lawful (Some t) h =
-      let m = h.2.moves q.partial cell_is.joined empty in
-      cell_going_lawful s q p here cell_is law.parts.cells input t.at t.used h.0 d q.partial m law h.3
+  module _ (t : DueItem) (t_is : IsDue typed q.cells t) (used : ℕ) (Holds : Event → Type 0) (says : SaysLeaf (rules_of s.limits) t.kind t.room t.level input p.row p.column used Holds) where
+    same : q.cells.rules.part ≡ q.cells.rules.cell
+    same = ap (λ (l : Rules). l.part) law.parts.cells ∙ sym (ap (λ (l : Rules). l.cell) law.parts.cells)
 
-  pub leaf_takes : (r : Option ScalarItem) → TakesScalar typed q.cells input r d → TakesLeaf (state_of s q) input p.row p.column r (state_of s beside)
-  leaf_takes None h = ap (λ (z : CellState). state_of s (parts q.partial q.types z q.table q.given)) h
-  leaf_takes (Some t) h =
-      let m = h.2.moves q.partial cell_is.joined empty in
-      let going = going_hands s q p here cell_is law.parts.cells input t.at t.used h.0 d q.partial m h.3 in
-      (refl, refl, refl, subst (λ (e : CellEvent). Hands (state_of s q) input t.at t.used (cell_event p.row p.column e) (state_of s beside)) (h.1 q.partial.content) going.1)
+    front : SaysScalar q.cells.rules (due_value typed q.cells).kind (room_of typed q.cells) input used says.value
+    front = rw law.parts.cells (rw (t_is.kind, t_is.room) at says.says)
+
+    pub leaf_place : q.cells.offset + used < 2 ^ 64
+    leaf_place = scalar_place typed q.cells input used says.value cell_is.stands t_is.fresh t_is.items t_is.due same front
+
+    module _ (goes : d ≡ state_after typed q.cells used) where
+      whole : IsWhole typed q.cells input q.cells.offset used (scalar_outline typed q.cells input used says.value cell_is.stands t_is.fresh t_is.items t_is.due same front) d × (is_done d ≡ false)
+      whole = scalar_whole typed q.cells input used says.value cell_is.stands t_is.fresh t_is.items t_is.due same front d goes
+
+      pub leaf_lawful : IsConsistent s beside
+      leaf_lawful = cell_going_lawful s q p here cell_is law.parts.cells input q.cells.offset used (scalar_outline typed q.cells input used says.value cell_is.stands t_is.fresh t_is.items t_is.due same front) d q.partial (whole.0.moves q.partial cell_is.joined empty) law whole.1
+
+      pub leaf_takes : TakesItem (state_of s q) input t.at used (cell_event p.row p.column (Leaf t.level says.value)) (state_of s beside)
+      leaf_takes =
+          let going = going_hands s q p here cell_is law.parts.cells input q.cells.offset used (scalar_outline typed q.cells input used says.value cell_is.stands t_is.fresh t_is.items t_is.due same front) d q.partial (whole.0.moves q.partial cell_is.joined empty) whole.1 in
+          let is = scalar_is typed q.cells input used says.value cell_is.stands t_is.fresh t_is.items t_is.due same front q.partial.content in
+          rw (t_is.at, t_is.level) (refl, refl, refl, subst (λ (e : CellEvent). Hands (state_of s q) input q.cells.offset used (cell_event p.row p.column e) (state_of s beside)) is going.1)
 
   -- ---- a part without a content
 

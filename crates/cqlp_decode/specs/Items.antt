@@ -1,12 +1,16 @@
 -- The items of cells, handed straight to a sink.
 use Rattle.std.specs.Prelude.{◌≡◌, ℕ, false, List, Option, Some, None, ⊤}
-use Rattle.cqlp_kind.specs.Contents.{value_of}
+use Rattle.cqlp_note.specs.Limits.{Rules}
+use Rattle.cqlp_kind.specs.declared.kind.Kind.{Kind}
+use Rattle.cqlp_kind.specs.Scalars.{ScalarValue}
 use Rattle.cqlp_kind.specs.CellStep.{CellEvent}
 use Rattle.cqlp_kind.specs.CellStep as cell
-use Rattle.cqlp_cell.specs.declared.whole.ScalarItem.{ScalarItem}
+use Rattle.cqlp_cell.specs.Fronts.{SaysScalar}
 use Rattle.cqlp_cell.specs.declared.whole.BarePart.{BarePart}
 use Rattle.cqlp_cell.specs.declared.whole.BarePart.TheVariants as bare
 use Rattle.cqlp_decode.specs.declared.item_loop.PartTaken.{PartTaken}
+use Rattle.cqlp_decode.specs.declared.page_loop.Handed.{Handed}
+use Rattle.cqlp_decode.specs.declared.page_loop.Handed.TheVariants as handed
 use Rattle.cqlp_decode.specs.declared.page.CellCursor.{CellCursor}
 use Rattle.cqlp_decode.specs.declared.standing.StreamStage.{StreamStage}
 use Rattle.cqlp_decode.specs.declared.standing.StreamStage.TheVariants as stage
@@ -24,19 +28,40 @@ bare_event (bare.Leave level n) = cell.Leave level n
 abbrev pub part_told : (row column : ℕ) → BarePart → Event
 part_told row column part = cell_event row column (bare_event part)
 
--- the event of a scalar in such a cell
-abbrev pub leaf_told : (row column : ℕ) → ScalarItem → Event
-leaf_told row column t = cell_event row column (cell.Leaf t.level (value_of t.scalar))
-
 -- The first bytes of the input end an item, which is this event; what the caller asked for and gave stands.
 abbrev pub TakesItem : StreamState → List ℕ → (at used : ℕ) → Event → StreamState → Type 0
 TakesItem old input at used e new =
     (new.refusal ≡ old.refusal) × (new.rules ≡ old.rules) × (new.given ≡ old.given) × Hands old input at used e new
 
--- The next item is this scalar, or nothing is done.
-abbrev pub TakesLeaf : StreamState → List ℕ → (row column : ℕ) → Option ScalarItem → StreamState → Type 0
-TakesLeaf old input row column None new = new ≡ old
-TakesLeaf old input row column (Some t) new = TakesItem old input t.at t.used (leaf_told row column t) new
+-- Bytes say that an item of this kind, in a value with this much room, is a scalar, of whose event this holds.
+pub record SaysLeaf (l : Rules) (k : Kind) (room level : ℕ) (input : List ℕ) (row column used : ℕ) (Holds : Event → Type 0)
+    : Type 0 where
+  pub value : ScalarValue
+  pub says : SaysScalar l k room input used value
+  pub holds : Holds (cell_event row column (cell.Leaf level value))
+
+-- What became of an item: it was handed out as a scalar, and the sink has got it, or it failed there.
+abbrev pub HandsLeaf : Rules → Kind → (room level : ℕ) → List ℕ → (row column : ℕ) → (HasGot Failed : Event → Type 0)
+    → Handed → Type 0
+HandsLeaf l k room level input row column HasGot Failed handed.Left = ⊤
+HandsLeaf l k room level input row column HasGot Failed (handed.Cell used) =
+    SaysLeaf l k room level input row column used HasGot
+HandsLeaf l k room level input row column HasGot Failed (handed.Fault used) =
+    SaysLeaf l k room level input row column used Failed
+
+-- An item was taken, and of its offset and its event this holds.
+pub record TakesOne (old : StreamState) (input : List ℕ) (used : ℕ) (Holds : ℕ → Event → Type 0) (new : StreamState)
+    : Type 0 where
+  pub at : ℕ
+  pub event : Event
+  pub takes : TakesItem old input at used event new
+  pub holds : Holds at event
+
+-- What became of the next item: it was taken, and the sink has got it, or it failed there; or nothing is done.
+abbrev pub HandsItem : StreamState → List ℕ → (HasGot Failed : ℕ → Event → Type 0) → Handed → StreamState → Type 0
+HandsItem old input HasGot Failed handed.Left new = new ≡ old
+HandsItem old input HasGot Failed (handed.Cell used) new = TakesOne old input used HasGot new
+HandsItem old input HasGot Failed (handed.Fault used) new = TakesOne old input used Failed new
 
 -- What is next is this part, which has no content, or nothing is done.
 abbrev pub TakesPart : StreamState → List ℕ → (row column : ℕ) → Option PartTaken → StreamState → Type 0

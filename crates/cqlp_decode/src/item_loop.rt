@@ -6,17 +6,21 @@
 //! that no rule stands here alone.
 
 ghost use Rattle.std.specs.Prelude.{◌≡◌, Ok, OnErr, OnOk, None, Some, []};
+ghost use Rattle.cqlp_note.specs.Limits.{rules_of};
 ghost use Rattle.cqlp_note.specs.declared.refusal.Refusal.{Refusal};
 ghost use Rattle.cqlp_decode.specs.declared.standing.StreamStage.TheVariants as stage;
 ghost use Rattle.cqlp_decode.specs.Cells.{DrainsCells, StaysWithin};
-ghost use Rattle.cqlp_decode.specs.Items.{IsIn, StaysIn, TakesLeaf, TakesPart, leaf_told, part_told};
+ghost use Rattle.cqlp_decode.specs.Items.{HandsItem, HandsLeaf, IsIn, StaysIn, TakesPart, part_told};
 ghost use Rattle.cqlp_decode.specs.Standing.{IsLawful, state_with};
 
 use crate::page::{CellCursor, page_table};
+use crate::page_loop::Handed;
 use crate::parts::Parts;
 use crate::standing::{StreamStage, StreamStanding};
-use cqlp_cell::{BareItem, BarePart, ScalarItem};
+use cqlp_cell::{BareItem, BarePart, DueItem, front_scalar};
 use cqlp_grammar::{Event, Sink, SinkFault};
+use cqlp_kind::Kind;
+use cqlp_note::Limits;
 use std::alloc::Allocator;
 
 /// A part of a cell that has no content, and whether the cell is over.
@@ -53,12 +57,13 @@ pub fn take_items<S: Sink, A: Allocator>(
     let mut page = first;
     let mut used = 0;
     'items: loop {
-        if let Some(item) = standing.take_leaf(parts, page, &input[used..]) {
-            match hand_leaf(page, item, sink) {
-                Ok(()) => used += item.used,
-                Err(SinkFault) => return Err(SinkFault),
+        match standing.hand_item(parts, page, &input[used..], sink) {
+            Handed::Left => {}
+            Handed::Cell(taken) => {
+                used += taken;
+                continue 'items;
             }
-            continue 'items;
+            Handed::Fault(_) => return Err(SinkFault),
         }
         let Some(taken) = standing.take_part(parts, page, &input[used..]) else {
             return Ok(used);
@@ -76,23 +81,78 @@ pub fn take_items<S: Sink, A: Allocator>(
     }
 }
 
-/// Hands a scalar to the sink.
+/// Hands the item at the front of the input to the sink, if it is a scalar and all its bytes are there.
 #[inline(always)]
-fn hand_leaf<S: Sink>(page: CellCursor, item: ScalarItem<'_>, sink: &mut S) -> Result<(), SinkFault>
-    ensures ok { OnOk result (S.tells sink.old → S.tells sink.new
-        × (S.view sink.new ≡ S.after (S.view sink.old) item.entry.at (leaf_told page.row page.column item.entry))) }
-    ensures err { OnErr result (S.tells sink.old →
-        S.faulted (S.view sink.old) item.entry.at (leaf_told page.row page.column item.entry) (S.view sink.new)) }
+fn hand_leaf<S: Sink>(
+    limits: &Limits,
+    due: DueItem,
+    page: CellCursor,
+    input: &[u8],
+    sink: &mut S,
+) -> Handed
+    ensures left { result ≡ Handed.Left → sink.new ≡ sink.old }
+    ensures hands { HandsLeaf (rules_of limits.now) due.kind due.room due.level input.now page.row page.column
+        (λ e. S.tells sink.old → S.tells sink.new × (S.view sink.new ≡ S.after (S.view sink.old) due.at e))
+        (λ e. S.tells sink.old → S.faulted (S.view sink.old) due.at e (S.view sink.new)) result }
 {
-    sink.take(
-        item.at,
-        &Event::Leaf {
-            row: page.row,
-            column: page.column,
-            level: item.level,
-            scalar: item.scalar,
-        },
-    )
+    // An arm for each kind, so that each has code of its own.
+    match due.kind {
+        Kind::Int => hand_kind(limits, Kind::Int, due, page, input, sink),
+        Kind::Bigint => hand_kind(limits, Kind::Bigint, due, page, input, sink),
+        Kind::Varchar => hand_kind(limits, Kind::Varchar, due, page, input, sink),
+        Kind::Boolean => hand_kind(limits, Kind::Boolean, due, page, input, sink),
+        Kind::Ascii => hand_kind(limits, Kind::Ascii, due, page, input, sink),
+        Kind::Blob => hand_kind(limits, Kind::Blob, due, page, input, sink),
+        Kind::Counter => hand_kind(limits, Kind::Counter, due, page, input, sink),
+        Kind::Custom => hand_kind(limits, Kind::Custom, due, page, input, sink),
+        Kind::Date => hand_kind(limits, Kind::Date, due, page, input, sink),
+        Kind::Decimal => hand_kind(limits, Kind::Decimal, due, page, input, sink),
+        Kind::Double => hand_kind(limits, Kind::Double, due, page, input, sink),
+        Kind::Float => hand_kind(limits, Kind::Float, due, page, input, sink),
+        Kind::Inet => hand_kind(limits, Kind::Inet, due, page, input, sink),
+        Kind::Raw => hand_kind(limits, Kind::Raw, due, page, input, sink),
+        Kind::Smallint => hand_kind(limits, Kind::Smallint, due, page, input, sink),
+        Kind::Time => hand_kind(limits, Kind::Time, due, page, input, sink),
+        Kind::Timestamp => hand_kind(limits, Kind::Timestamp, due, page, input, sink),
+        Kind::Timeuuid => hand_kind(limits, Kind::Timeuuid, due, page, input, sink),
+        Kind::Tinyint => hand_kind(limits, Kind::Tinyint, due, page, input, sink),
+        Kind::Uuid => hand_kind(limits, Kind::Uuid, due, page, input, sink),
+        Kind::Varint => hand_kind(limits, Kind::Varint, due, page, input, sink),
+        Kind::List | Kind::Map | Kind::Set | Kind::Udt | Kind::Tuple => Handed::Left,
+    }
+}
+
+/// The same of an item of this kind.
+#[inline(always)]
+fn hand_kind<S: Sink>(
+    limits: &Limits,
+    kind: Kind,
+    due: DueItem,
+    page: CellCursor,
+    input: &[u8],
+    sink: &mut S,
+) -> Handed
+    ensures left { result ≡ Handed.Left → sink.new ≡ sink.old }
+    ensures hands { HandsLeaf (rules_of limits.now) kind due.room due.level input.now page.row page.column
+        (λ e. S.tells sink.old → S.tells sink.new × (S.view sink.new ≡ S.after (S.view sink.old) due.at e))
+        (λ e. S.tells sink.old → S.faulted (S.view sink.old) due.at e (S.view sink.new)) result }
+{
+    let Some(front) = front_scalar(limits, kind, due.room, input) else {
+        return Handed::Left;
+    };
+    let CellCursor { row, column, .. } = page;
+    let DueItem { at, level, .. } = due;
+    let scalar = front.scalar;
+    let event = Event::Leaf {
+        row,
+        column,
+        level,
+        scalar,
+    };
+    match sink.take(at, &event) {
+        Ok(()) => Handed::Cell(front.used),
+        Err(SinkFault) => Handed::Fault(front.used),
+    }
 }
 
 /// Hands a part without a content to the sink.
@@ -150,24 +210,41 @@ impl StreamStanding {
         }
     }
 
-    /// Takes the next scalar of the cell that is under way, where all its bytes lie in the input.
+    /// Hands the next item of the cell that is under way to the sink, if it is a scalar and all its bytes lie in the input.
     #[inline(always)]
-    fn take_leaf<'a, A: Allocator>(
+    fn hand_item<S: Sink, A: Allocator>(
         &self,
         parts: &mut Parts<A>,
         page: CellCursor,
-        input: &'a [u8],
-    ) -> Option<ScalarItem<'a>>
+        input: &[u8],
+        sink: &mut S,
+    ) -> Handed
         requires lawful { IsLawful self.now parts.old }
         requires here { self.now.stage ≡ stage.InCell page }
         requires empty { parts.old.partial.content ≡ [] }
         ensures lawful { IsLawful self.now parts.new }
         ensures empty { parts.new.partial.content ≡ [] }
-        ensures takes { TakesLeaf (state_with self.now parts.old) input.now page.row page.column result
+        ensures left { result ≡ Handed.Left → sink.new ≡ sink.old }
+        ensures hands { HandsItem (state_with self.now parts.old) input.now
+            (λ at e. S.tells sink.old → S.tells sink.new × (S.view sink.new ≡ S.after (S.view sink.old) at e))
+            (λ at e. S.tells sink.old → S.faulted (S.view sink.old) at e (S.view sink.new)) result
             (state_with self.now parts.new) }
     {
         let table = page_table(page.columns, &parts.table, &parts.given);
-        parts.cells.take_scalar(table, input)
+        let Some(due) = parts.cells.due_item(table) else {
+            return Handed::Left;
+        };
+        match hand_leaf(&self.limits, due, page, input, sink) {
+            Handed::Left => Handed::Left,
+            Handed::Cell(used) => {
+                parts.cells.pass_scalar(used, table);
+                Handed::Cell(used)
+            }
+            Handed::Fault(used) => {
+                parts.cells.pass_scalar(used, table);
+                Handed::Fault(used)
+            }
+        }
     }
 
     /// Takes what is next of the cell that is under way, where it has no content and all its bytes lie in the input.

@@ -2,27 +2,24 @@ use Rattle.std.proofs.Common.{◌≡◌, ◌+◌, ◌-◌, ◌≤◌, [], length
 use Rattle.std.proofs.lemmas.List.{length-drop}
 use Rattle.cqlp_decode.specs.Draining.{Drains}
 use Rattle.cqlp_decode.specs.Standing.{StreamState, state_with}
-use Rattle.cqlp_decode.specs.Items.{TakesItem, leaf_told, part_told}
+use Rattle.cqlp_decode.specs.Items.{TakesItem, part_told}
 use Rattle.cqlp_decode.proofs.Gets.{rest_is}
 use Rattle.cqlp_decode.proofs.ItemLoop.{item_drains, item_fails}
 use Rattle.cqlp_decode.proofs.item_loop.take_items.Goals as goal
 
-pub returns-in-Err-clause-drains : goal.returns-in-Err-clause-drains
-returns-in-Err-clause-drains g c = λ tells.
+pub returns-in-Fault-clause-drains : goal.returns-in-Fault-clause-drains
+returns-in-Fault-clause-drains g c = λ tells.
     let i = c.items.invariant in
-    let t = c.in-Some-take_leaf.item in
-    let p = c.items.page in
     let old = state_with c.items.standing c.items.parts in
-    let new = state_with c.items.standing c.take_leaf.new.parts in
+    let new = state_with c.items.standing c.hand_item.new.parts in
     let input = c.args.input.now in
-    let told = leaf_told p.row p.column t in
-    let h : TakesItem old (drop c.items.used input) t.at t.used told new = rw rest_is at c.in-Some-take_leaf.ensures.takes in (
-      c.items.used + t.used,
-      λ gifts s es a. item_fails g.S.Sink.after gifts old new s input c.items.used es _ _ (i.drained tells gifts s es a) i.unrefused t.at t.used told h g.S.Sink.faulted _ (c.in-Err.ensures.err (i.tells tells)),
+    let one = rw rest_is at c.in-Fault.ensures.hands in (
+      c.items.used + c.in-Fault.field-0,
+      λ gifts s es a. item_fails g.S.Sink.after gifts old new s input c.items.used es _ _ (i.drained tells gifts s es a) i.unrefused one.at c.in-Fault.field-0 one.event one.takes g.S.Sink.faulted _ (one.holds (i.tells tells)),
     )
 
-pub returns-in-Err-hand_part-clause-drains : goal.returns-in-Err-hand_part-clause-drains
-returns-in-Err-hand_part-clause-drains g c = λ tells.
+pub returns-in-Err-clause-drains : goal.returns-in-Err-clause-drains
+returns-in-Err-clause-drains g c = λ tells.
     let i = c.items.invariant in
     let t = c.in-Some-take_part.taken.item in
     let p = c.items.page in
@@ -30,34 +27,32 @@ returns-in-Err-hand_part-clause-drains g c = λ tells.
     let new = state_with c.take_part.new.self c.take_part.new.parts in
     let input = c.args.input.now in
     let told = part_told p.row p.column t.part in
-    let none = c.in_default-take_leaf.ensures.takes in
-    let given : TakesItem (state_with c.items.standing c.take_leaf.new.parts) (drop c.items.used input) t.at t.used told new = rw rest_is at c.in-Some-take_part.ensures.takes in
+    let none = c.in-Left.ensures.hands in
+    let given : TakesItem (state_with c.items.standing c.hand_item.new.parts) (drop c.items.used input) t.at t.used told new = rw rest_is at c.in-Some-take_part.ensures.takes in
     let h : TakesItem old (drop c.items.used input) t.at t.used told new = subst (λ (z : StreamState). TakesItem z (drop c.items.used input) t.at t.used told new) none given in (
       c.items.used + t.used,
-      λ gifts s es a. item_fails g.S.Sink.after gifts old new s input c.items.used es _ _ (i.drained tells gifts s es a) i.unrefused t.at t.used told h g.S.Sink.faulted _ (c.in-Err-hand_part.ensures.err (i.tells tells)),
+      λ gifts s es a. item_fails g.S.Sink.after gifts old new s input c.items.used es _ _ (i.drained tells gifts s es a) i.unrefused t.at t.used told h g.S.Sink.faulted _ ((rw (c.in-Left.ensures.left refl) at c.in-Err.ensures.err) (i.tells tells)),
     )
 
-pub items-preserved-in-Some-take_leaf : goal.items-preserved-in-Some-take_leaf
-items-preserved-in-Some-take_leaf g c =
+pub items-preserved-in-Cell : goal.items-preserved-in-Cell
+items-preserved-in-Cell g c =
     let i = c.items.invariant in
-    let t = c.in-Some-take_leaf.item in
-    let p = c.items.page in
     let old = state_with c.items.standing c.items.parts in
-    let new = state_with c.items.standing c.take_leaf.new.parts in
+    let new = state_with c.items.standing c.hand_item.new.parts in
     let input = c.args.input.now in
-    let told = leaf_told p.row p.column t in
-    let h : TakesItem old (drop c.items.used input) t.at t.used told new = rw rest_is at c.in-Some-take_leaf.ensures.takes in
+    let one = rw rest_is at c.in-Cell.ensures.hands in
+    let h = one.takes in
     record {
       within = omega (arith, i.within, h.3.within, length-drop c.items.used input);
-      lawful = c.in-Some-take_leaf.ensures.lawful;
+      lawful = c.in-Cell.ensures.lawful;
       here = i.here;
       unrefused = i.unrefused;
-      empty = c.in-Some-take_leaf.ensures.empty;
+      empty = c.in-Cell.ensures.empty;
       rules = i.rules;
       given = h.2 ∙ i.given;
       pays = omega (arith, h.3.pays, i.pays);
-      tells = λ tells. (c.in-Ok.ensures.ok (i.tells tells)).0;
-      drained = λ tells gifts s es a. item_drains g.S.Sink.after gifts old new s input c.items.used es _ _ (i.drained tells gifts s es a) i.unrefused t.at t.used told h _ (c.in-Ok.ensures.ok (i.tells tells)).1;
+      tells = λ tells. (one.holds (i.tells tells)).0;
+      drained = λ tells gifts s es a. item_drains g.S.Sink.after gifts old new s input c.items.used es _ _ (i.drained tells gifts s es a) i.unrefused one.at c.in-Cell.taken one.event h _ (one.holds (i.tells tells)).1;
     }
 
 pub items-preserved : goal.items-preserved
@@ -69,8 +64,8 @@ items-preserved g c =
     let new = state_with c.take_part.new.self c.take_part.new.parts in
     let input = c.args.input.now in
     let told = part_told p.row p.column t.part in
-    let none = c.in_default-take_leaf.ensures.takes in
-    let given : TakesItem (state_with c.items.standing c.take_leaf.new.parts) (drop c.items.used input) t.at t.used told new = rw rest_is at c.in-Some-take_part.ensures.takes in
+    let none = c.in-Left.ensures.hands in
+    let given : TakesItem (state_with c.items.standing c.hand_item.new.parts) (drop c.items.used input) t.at t.used told new = rw rest_is at c.in-Some-take_part.ensures.takes in
     let h : TakesItem old (drop c.items.used input) t.at t.used told new = subst (λ (z : StreamState). TakesItem z (drop c.items.used input) t.at t.used told new) none given in
     record {
       within = omega (arith, i.within, h.3.within, length-drop c.items.used input);
@@ -81,8 +76,8 @@ items-preserved g c =
       rules = h.1 ∙ i.rules;
       given = h.2 ∙ i.given;
       pays = omega (arith, h.3.pays, i.pays);
-      tells = λ tells. (c.in-Ok-hand_part.ensures.ok (i.tells tells)).0;
-      drained = λ tells gifts s es a. item_drains g.S.Sink.after gifts old new s input c.items.used es _ _ (i.drained tells gifts s es a) i.unrefused t.at t.used told h _ (c.in-Ok-hand_part.ensures.ok (i.tells tells)).1;
+      tells = λ tells. ((rw (c.in-Left.ensures.left refl) at c.in-Ok.ensures.ok) (i.tells tells)).0;
+      drained = λ tells gifts s es a. item_drains g.S.Sink.after gifts old new s input c.items.used es _ _ (i.drained tells gifts s es a) i.unrefused t.at t.used told h _ ((rw (c.in-Left.ensures.left refl) at c.in-Ok.ensures.ok) (i.tells tells)).1;
     }
 
 pub items-preserved-then-taken : goal.items-preserved-then-taken
@@ -96,8 +91,8 @@ items-preserved-then-taken g c =
     let same : new ≡ mid = c.in-Some-enter_cell.ensures.same in
     let input = c.args.input.now in
     let told = part_told p.row p.column t.part in
-    let none = c.in_default-take_leaf.ensures.takes in
-    let given : TakesItem (state_with c.items.standing c.take_leaf.new.parts) (drop c.items.used input) t.at t.used told mid = rw rest_is at c.in-Some-take_part.ensures.takes in
+    let none = c.in-Left.ensures.hands in
+    let given : TakesItem (state_with c.items.standing c.hand_item.new.parts) (drop c.items.used input) t.at t.used told mid = rw rest_is at c.in-Some-take_part.ensures.takes in
     let h : TakesItem old (drop c.items.used input) t.at t.used told mid = subst (λ (z : StreamState). TakesItem z (drop c.items.used input) t.at t.used told mid) none given in
     let k : TakesItem old (drop c.items.used input) t.at t.used told new = subst (λ (z : StreamState). TakesItem old (drop c.items.used input) t.at t.used told z) (sym same) h in
     record {
@@ -109,8 +104,8 @@ items-preserved-then-taken g c =
       rules = k.1 ∙ i.rules;
       given = k.2 ∙ i.given;
       pays = omega (arith, k.3.pays, i.pays);
-      tells = λ tells. (c.in-Ok-hand_part.ensures.ok (i.tells tells)).0;
-      drained = λ tells gifts s es a. item_drains g.S.Sink.after gifts old new s input c.items.used es _ _ (i.drained tells gifts s es a) i.unrefused t.at t.used told k _ (c.in-Ok-hand_part.ensures.ok (i.tells tells)).1;
+      tells = λ tells. ((rw (c.in-Left.ensures.left refl) at c.in-Ok.ensures.ok) (i.tells tells)).0;
+      drained = λ tells gifts s es a. item_drains g.S.Sink.after gifts old new s input c.items.used es _ _ (i.drained tells gifts s es a) i.unrefused t.at t.used told k _ ((rw (c.in-Left.ensures.left refl) at c.in-Ok.ensures.ok) (i.tells tells)).1;
     }
 
 pub returns-in_default-enter_cell-clause-drains : goal.returns-in_default-enter_cell-clause-drains
@@ -124,8 +119,8 @@ returns-in_default-enter_cell-clause-drains g c = λ tells gifts s es a.
     let same : new ≡ mid = c.in_default-enter_cell.ensures.same in
     let input = c.args.input.now in
     let told = part_told p.row p.column t.part in
-    let none = c.in_default-take_leaf.ensures.takes in
-    let given : TakesItem (state_with c.items.standing c.take_leaf.new.parts) (drop c.items.used input) t.at t.used told mid = rw rest_is at c.in-Some-take_part.ensures.takes in
+    let none = c.in-Left.ensures.hands in
+    let given : TakesItem (state_with c.items.standing c.hand_item.new.parts) (drop c.items.used input) t.at t.used told mid = rw rest_is at c.in-Some-take_part.ensures.takes in
     let h : TakesItem old (drop c.items.used input) t.at t.used told mid = subst (λ (z : StreamState). TakesItem z (drop c.items.used input) t.at t.used told mid) none given in
     let k : TakesItem old (drop c.items.used input) t.at t.used told new = subst (λ (z : StreamState). TakesItem old (drop c.items.used input) t.at t.used told z) (sym same) h in
-    item_drains g.S.Sink.after gifts old new s input c.items.used es _ _ (i.drained tells gifts s es a) i.unrefused t.at t.used told k _ (c.in-Ok-hand_part.ensures.ok (i.tells tells)).1
+    item_drains g.S.Sink.after gifts old new s input c.items.used es _ _ (i.drained tells gifts s es a) i.unrefused t.at t.used told k _ ((rw (c.in-Left.ensures.left refl) at c.in-Ok.ensures.ok) (i.tells tells)).1
