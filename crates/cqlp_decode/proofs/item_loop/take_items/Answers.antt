@@ -1,6 +1,5 @@
-use Rattle.std.proofs.Common.{◌≡◌, ◌+◌, ◌-◌, ◌≤◌, [], length, drop, refl, sym, ap, subst, ◌∙◌, arith}
+use Rattle.std.proofs.Common.{◌≡◌, ◌+◌, drop, refl, sym, ap, subst, ◌∙◌, arith}
 use Rattle.std.proofs.lemmas.List.{length-drop}
-use Rattle.cqlp_decode.specs.Draining.{Drains}
 use Rattle.cqlp_decode.specs.Standing.{StreamState, state_with}
 use Rattle.cqlp_decode.specs.Items.{TakesItem, part_told}
 use Rattle.cqlp_decode.proofs.Gets.{rest_is}

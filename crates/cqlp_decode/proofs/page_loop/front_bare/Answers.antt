@@ -1,8 +1,5 @@
-use Rattle.std.proofs.Common.{◌≡◌, List, ℕ, take, ap, ◌∙◌, arith}
+use Rattle.std.proofs.Common.{List, ℕ, ap, ◌∙◌, arith}
 use Rattle.std.specs.Int.{w32, from_be_bytes}
-use Rattle.std.specs.Prelude.{Bool, true, false, Some, None, Option}
-use Rattle.cqlp_decode.specs.Cells.{IsBare}
-use Rattle.cqlp_decode.specs.declared.page_loop.Bare.{Bare}
 use Rattle.cqlp_decode.proofs.PageLoop.{says_null, says_empty}
 use Rattle.cqlp_decode.proofs.page_loop.front_bare.Goals as goal
 

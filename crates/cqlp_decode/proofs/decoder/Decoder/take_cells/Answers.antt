@@ -1,4 +1,4 @@
-use Rattle.std.proofs.Common.{◌+◌, ◌∙◌}
+use Rattle.std.proofs.Common.{◌+◌}
 use Rattle.cqlp_decode.specs.Standing.{state_with}
 use Rattle.cqlp_decode.proofs.Gets.{rest_is, drains_rest, fails_rest}
 use Rattle.cqlp_decode.proofs.decoder.Decoder.take_cells.Goals as goal
