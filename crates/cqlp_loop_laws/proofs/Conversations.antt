@@ -1,0 +1,168 @@
+-- Two conversations over the same bytes, turn by turn.
+use Rattle.std.proofs.Common.{◌≡◌, ℕ, ◌⊎◌, List, [], ◌∷◌, ◌++◌, refl, sym, ap, subst, ◌∙◌, inl, inr}
+use Rattle.std.specs.Prelude.{Some, Result, Ok, Err}
+use Rattle.cqlp_note.specs.declared.limits.TheConstants.Limits.{DEFAULT}
+use Rattle.cqlp_note.specs.Limits.{Rules, rules_of}
+use Rattle.cqlp_loop.specs.declared.fault.LoopFault.{LoopFault}
+use Rattle.cqlp_loop.specs.declared.fault.LoopFault.TheVariants as fault
+use Rattle.cqlp_loop.specs.Hearing.{idle}
+use Rattle.cqlp_loop.specs.Inboxes.{Supply, InboxState, IsNew}
+use Rattle.cqlp_loop.specs.Script.{End, Wires, Scene, Turn, Comes, Does, Ends, IsFresh, Talks, script}
+use Rattle.cqlp_loop.specs.Script as turn
+use Rattle.cqlp_loop_laws.specs.OneAnswer.{IsSound, IsDecided, SaidTheSame, AreAllThatCome}
+use Rattle.cqlp_loop_laws.proofs.Receipts.{Stood}
+use Rattle.cqlp_loop_laws.proofs.Turns.{Alike, given_nothing, once, said_then}
+
+-- ---- a turn that is done leaves the counts of failures
+
+-- no read and no write of a socket failed, as many as are counted
+record CountsKept (a b : Wires) : Type 0 where
+  pub client_source : b.client.source.failures ≡ a.client.source.failures
+  pub client_target : b.client.target.failures ≡ a.client.target.failures
+  pub server_source : b.server.source.failures ≡ a.server.source.failures
+  pub server_target : b.server.target.failures ≡ a.server.target.failures
+
+counts_kept : (t : Turn) (a b : Scene) → Does t a b → CountsKept a.wires b.wires
+counts_kept (turn.Asks q) a b (inl (t, ok, new, w), e) = record {
+  client_source = ap (λ (z : Scene). z.wires.client.source.failures) e;
+  client_target = w.1;
+  server_source = ap (λ (z : Scene). z.wires.server.source.failures) e;
+  server_target = ap (λ (z : Scene). z.wires.server.target.failures) e;
+}
+counts_kept (turn.Asks q) a b (inr (f, err, is, new, s), e) = absurd cc
+counts_kept turn.Takes a b (inl (h, ok, x, ids), e) = record {
+  client_source = ap (λ (z : Scene). z.wires.client.source.failures) e;
+  client_target = ap (λ (z : Scene). z.wires.client.target.failures) e;
+  server_source = x.0.1.reads.failures;
+  server_target = ap (λ (z : Scene). z.wires.server.target.failures) e;
+}
+counts_kept turn.Takes a b (inr (f, is, x, ids), e) = absurd cc
+counts_kept (turn.Answers q) a b (id, ids, inl (k, ok, new, w), e) = record {
+  client_source = ap (λ (z : Scene). z.wires.client.source.failures) e;
+  client_target = ap (λ (z : Scene). z.wires.client.target.failures) e;
+  server_source = ap (λ (z : Scene). z.wires.server.source.failures) e;
+  server_target = w.1;
+}
+counts_kept (turn.Answers q) a b (id, ids, inr (f, err, is, new, s), e) = absurd cc
+counts_kept turn.Hears a b (inl (x, (h, is_answer, opcode, got, new), p), e) = record {
+  client_source = got.1.reads.failures;
+  client_target = ap (λ (z : Scene). z.wires.client.target.failures) e;
+  server_source = ap (λ (z : Scene). z.wires.server.source.failures) e;
+  server_target = ap (λ (z : Scene). z.wires.server.target.failures) e;
+}
+counts_kept turn.Hears a b (inr (f, is, x, s), e) = absurd cc
+counts_kept (turn.Closes count) a b (p, e) = record {
+  client_source = ap (λ (z : Scene). z.wires.client.source.failures) e;
+  client_target = ap (λ (z : Scene). z.wires.client.target.failures) e;
+  server_source = ap (λ (z : Scene). z.wires.server.source.failures) e;
+  server_target = ap (λ (z : Scene). z.wires.server.target.failures) e;
+}
+
+sound_from : (x y z : ℕ) → y ≡ x → IsSound x z → IsSound y z
+sound_from x y z same s = rw same s
+
+-- what the bytes decided of all turns, they decided of those after the first
+decided_on : (r : Result (Unit {0}) LoopFault) (a b c : Wires) → CountsKept a b → IsDecided r a c → IsDecided r b c
+decided_on (Ok u) a b c k d = tt
+decided_on (Err fault.BadReply) a b c k d = tt
+decided_on (Err fault.SocketFault) a b c k d = (
+  (sound_from _ _ _ k.client_source d.0.0, sound_from _ _ _ k.client_target d.0.1),
+  (sound_from _ _ _ k.server_source d.1.0, sound_from _ _ _ k.server_target d.1.1),
+)
+decided_on (Err fault.TooManyTurns) a b c k d = absurd d
+decided_on (Err fault.NoMemory) a b c k d = absurd d
+decided_on (Err fault.WriteFault) a b c k d = absurd d
+
+-- ---- turn by turn
+
+-- the first turn is done, and the others come; or it ends the conversation
+abbrev First : Turn → List Turn → Scene → Result (Unit {0}) LoopFault → Scene → Type 0
+First t turns a r b =
+    ((mid : Scene) × Does t a mid × Ends turns mid r b)
+    ⊎ ((e : LoopFault) × (stop : Scene) × (r ≡ Err e) × Comes t a (Err e) stop × (stop.wires ≡ b.wires))
+
+first : (t : Turn) (turns : List Turn) (a b : Scene) (r : Result (Unit {0}) LoopFault) → Ends (t ∷ turns) a r b → First t turns a r b
+first t turns a b (Ok u) p = inl p
+first t turns a b (Err e) (inl p) = inr (e, p.0, refl, p.1, p.2)
+first t turns a b (Err e) (inr p) = inl p
+
+said_nothing : (a b a' b' : Wires) → b ≡ a → b' ≡ a' → SaidTheSame a b a' b'
+said_nothing a b a' b' same same' = record {
+  client = given_nothing _ _ _ _ (ap (λ (z : Wires). z.client.target) same) (ap (λ (z : Wires). z.client.target) same');
+  server = given_nothing _ _ _ _ (ap (λ (z : Wires). z.server.target) same) (ap (λ (z : Wires). z.server.target) same');
+  lines = given_nothing _ _ _ _ (ap (λ (z : Wires). z.out) same) (ap (λ (z : Wires). z.out) same');
+}
+
+module _ (l : Rules) (to_client to_server : List ℕ) where
+  abbrev AreOne : (r r' : Result (Unit {0}) LoopFault) (a b a' b' : Wires) → Type 0
+  AreOne r r' a b a' b' = (r' ≡ r) × SaidTheSame a b a' b'
+
+  stopped : (t : Turn) (a b a' b' : Scene) (r r' : Result (Unit {0}) LoopFault) (e e' : LoopFault) (stop stop' : Scene) → Alike l to_client to_server a a' → r ≡ Err e → r' ≡ Err e' → Comes t a (Err e) stop → Comes t a' (Err e') stop' → stop.wires ≡ b.wires → stop'.wires ≡ b'.wires → IsDecided r a.wires b.wires → IsDecided r' a'.wires b'.wires → AreOne r r' a.wires b.wires a'.wires b'.wires
+  stopped t a b a' b' r r' e e' stop stop' al is is' c c' same same' d d' =
+      let o = once l to_client to_server (Err e) (Err e') a stop a' stop' al (rw (← same, is) at d) (rw (← same', is') at d') t c c' in
+      (is' ∙ o.answer ∙ sym is, rw (same, same') at o.said)
+
+  -- all conversations of these turns
+  abbrev Plays_once : List Turn → Type 0
+  Plays_once turns =
+      (a b a' b' : Scene) (r r' : Result (Unit {0}) LoopFault) → Alike l to_client to_server a a'
+      → Ends turns a r b → Ends turns a' r' b' → IsDecided r a.wires b.wires → IsDecided r' a'.wires b'.wires
+      → AreOne r r' a.wires b.wires a'.wires b'.wires
+
+  first_once : (t : Turn) (turns : List Turn) (on : Plays_once turns) (a b a' b' : Scene) (r r' : Result (Unit {0}) LoopFault) → Alike l to_client to_server a a' → First t turns a r b → First t turns a' r' b' → IsDecided r a.wires b.wires → IsDecided r' a'.wires b'.wires → AreOne r r' a.wires b.wires a'.wires b'.wires
+  first_once t turns on a b a' b' r r' al (inl (mid, x, q)) (inl (mid', x', q')) d d' =
+      let o = once l to_client to_server (Ok tt) (Ok tt) a mid a' mid' al tt tt t x x' in
+      let later = on mid b mid' b' r r' (o.alike refl) q q' (decided_on r a.wires mid.wires b.wires (counts_kept t a mid x) d) (decided_on r' a'.wires mid'.wires b'.wires (counts_kept t a' mid' x') d') in
+      (later.0, said_then a.wires mid.wires b.wires a'.wires mid'.wires b'.wires o.said later.1)
+  first_once t turns on a b a' b' r r' al (inl (mid, x, q)) (inr (e', stop', is', c', same')) d d' =
+      let o = once l to_client to_server (Ok tt) (Err e') a mid a' stop' al tt (rw (← same', is') at d') t x c' in
+      let wrong = o.answer in
+      absurd cc
+  first_once t turns on a b a' b' r r' al (inr (e, stop, is, c, same)) (inl (mid', x', q')) d d' =
+      let o = once l to_client to_server (Err e) (Ok tt) a stop a' mid' al (rw (← same, is) at d) tt t c x' in
+      let wrong = o.answer in
+      absurd cc
+  first_once t turns on a b a' b' r r' al (inr (e, stop, is, c, same)) (inr (e', stop', is', c', same')) d d' = stopped t a b a' b' r r' e e' stop stop' al is is' c c' same same' d d'
+
+  plays_once : (turns : List Turn) → Plays_once turns
+  plays_once [] a b a' b' (Ok u) (Ok u') al p p' d d' = (refl, said_nothing a.wires b.wires a'.wires b'.wires (ap (λ (z : Scene). z.wires) p) (ap (λ (z : Scene). z.wires) p'))
+  plays_once [] a b a' b' (Ok u) (Err e') al p p' d d' = absurd p'
+  plays_once [] a b a' b' (Err e) r' al p p' d d' = absurd p
+  plays_once (t ∷ turns) a b a' b' r r' al p p' d d' = first_once t turns (plays_once turns) a b a' b' r r' al (first t turns a b r p) (first t turns a' b' r' p') d d'
+
+-- ---- from the start
+
+new_stands : (i : InboxState) (from : Supply) (xs : List ℕ) → IsNew i → from.left ≡ Some xs → Stood (rules_of DEFAULT) xs i from (idle [])
+new_stands i from xs new left = record {
+  used = [];
+  events = [];
+  rest = xs;
+  told = new.told;
+  rules = new.rules;
+  left = left;
+  stream = ap (λ (z : List ℕ). z ++ xs) (sym new.waiting);
+  heard = refl;
+}
+
+fresh_alike : (to_client to_server : List ℕ) (a a' : Scene) → IsFresh a → IsFresh a' → AreAllThatCome to_client to_server a.wires → AreAllThatCome to_client to_server a'.wires → Alike (rules_of DEFAULT) to_client to_server a a'
+fresh_alike to_client to_server a a' f f' all all' = (
+  record {
+    core = f'.client ∙ sym f.client;
+    heard = [];
+    here = new_stands a.caller.inbox a.wires.client.source to_client f.client_inbox all.0;
+    there = new_stands a'.caller.inbox a'.wires.client.source to_client f'.client_inbox all'.0;
+  },
+  record {
+    core = f'.server ∙ sym f.server;
+    ids = f'.unanswered ∙ sym f.unanswered;
+    heard = [];
+    here = new_stands a.host.inbox a.wires.server.source to_server f.server_inbox all.1;
+    there = new_stands a'.host.inbox a'.wires.server.source to_server f'.server_inbox all'.1;
+  },
+)
+
+pub one_answer : (count : ℕ) (to_client to_server : List ℕ) (r r' : Result (Unit {0}) LoopFault) (before after before' after' : Wires) → AreAllThatCome to_client to_server before → AreAllThatCome to_client to_server before' → Talks count before r after → Talks count before' r' after' → IsDecided r before after → IsDecided r' before' after' → (r' ≡ r) × SaidTheSame before after before' after'
+one_answer count to_client to_server r r' before after before' after' all all' (inl (a, b, fresh, from, to, p)) (inl (a', b', fresh', from', to', p')) d d' =
+    rw (from, to, from', to') at (plays_once (rules_of DEFAULT) to_client to_server (script count) a b a' b' r r' (fresh_alike to_client to_server a a' fresh fresh' (rw (← from) at all) (rw (← from') at all')) p p' (rw (← from, ← to) at d) (rw (← from', ← to') at d'))
+one_answer count to_client to_server r r' before after before' after' all all' (inr (is, same)) t' d d' = absurd (subst (λ (x : Result (Unit {0}) LoopFault). IsDecided x before after) is d)
+one_answer count to_client to_server r r' before after before' after' all all' (inl t) (inr (is, same)) d d' = absurd (subst (λ (x : Result (Unit {0}) LoopFault). IsDecided x before' after') is d')

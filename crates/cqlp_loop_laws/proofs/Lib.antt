@@ -1,0 +1,4 @@
+mod Fronts
+mod Receipts
+mod Turns
+mod Conversations

@@ -1,0 +1,10 @@
+//! Laws of one answer: what comes of a conversation is decided by the bytes that come, but for what only the outside
+//! decides.
+
+ghost use Rattle.cqlp_loop_laws.specs.OneAnswer.{IsOneAnswerOfTalk};
+
+/// Two conversations with the same number of queries, in which the same bytes come to both ends, end alike and send and
+/// print the same, unless memory was wanting, a stream failed or a message took too many reads.
+pub fn one_answer_of_talk()
+    ensures { IsOneAnswerOfTalk }
+{}

@@ -1,0 +1,4 @@
+//! Laws of a conversation, over what `talk` of cqlp_loop promises. No code needs them.
+#![tactic(auto)]
+
+pub mod conversation;
