@@ -9,9 +9,10 @@ use Rattle.cqlp_loop.specs.Hearing.{idle}
 use Rattle.cqlp_loop.specs.Inboxes.{Supply, InboxState, IsNew}
 use Rattle.cqlp_loop.specs.Script.{End, Wires, Scene, Turn, Comes, Does, Ends, IsFresh, Talks, script}
 use Rattle.cqlp_loop.specs.Script as turn
-use Rattle.cqlp_loop_laws.specs.OneAnswer.{IsSound, IsDecided, SaidTheSame, AreAllThatCome}
+use Rattle.cqlp_loop_laws.specs.OneAnswer.{IsSound, IsDecided, SaidTheSame, SaidMore, AreAllThatCome, OneGoesOnFromOther, DecidedGoesFurthest}
 use Rattle.cqlp_loop_laws.proofs.Receipts.{Stood}
 use Rattle.cqlp_loop_laws.proofs.Turns.{Alike, given_nothing, once, said_then}
+use Rattle.cqlp_loop_laws.proofs.Stops.{Gave, gave_as, gave_then, gave_in, furthest, either_front, more_than_nothing, said_more_then, said_same_then}
 
 -- ---- a turn that is done leaves the counts of failures
 
@@ -93,6 +94,29 @@ said_nothing a b a' b' same same' = record {
   lines = given_nothing _ _ _ _ (ap (λ (z : Wires). z.out) same) (ap (λ (z : Wires). z.out) same');
 }
 
+gave_first : (t : Turn) (turns : List Turn) (on : (a b : Scene) (r : Result (Unit {0}) LoopFault) → Ends turns a r b → Gave a.wires b.wires) (a b : Scene) (r : Result (Unit {0}) LoopFault) → First t turns a r b → Gave a.wires b.wires
+gave_first t turns on a b r (inl (mid, x, q)) = gave_then a.wires mid.wires b.wires (gave_in t a mid (Ok tt) x) (on mid b r q)
+gave_first t turns on a b r (inr (e, stop, is, c, same)) = subst (λ (z : Wires). Gave a.wires z) same (gave_in t a stop (Err e) c)
+
+-- each target was given something
+gave_on : (turns : List Turn) (a b : Scene) (r : Result (Unit {0}) LoopFault) → Ends turns a r b → Gave a.wires b.wires
+gave_on [] a b (Ok u) p = gave_as a.wires b.wires (ap (λ (z : Scene). z.wires) p)
+gave_on [] a b (Err e) p = absurd p
+gave_on (t ∷ turns) a b r p = gave_first t turns (gave_on turns) a b r (first t turns a b r p)
+
+same_swapped : (a b a' b' : Wires) → SaidTheSame a b a' b' → SaidTheSame a' b' a b
+same_swapped a b a' b' s = record {
+  client = (s.client.0, s.client.2, s.client.1);
+  server = (s.server.0, s.server.2, s.server.1);
+  lines = (s.lines.0, s.lines.2, s.lines.1);
+}
+
+alike_swapped : (l : Rules) (to_client to_server : List ℕ) (a a' : Scene) → Alike l to_client to_server a a' → Alike l to_client to_server a' a
+alike_swapped l to_client to_server a a' al = (
+  record { core = sym al.0.core; heard = al.0.heard; here = al.0.there; there = al.0.here },
+  record { core = sym al.1.core; ids = sym al.1.ids; heard = al.1.heard; here = al.1.there; there = al.1.here },
+)
+
 module _ (l : Rules) (to_client to_server : List ℕ) where
   abbrev AreOne : (r r' : Result (Unit {0}) LoopFault) (a b a' b' : Wires) → Type 0
   AreOne r r' a b a' b' = (r' ≡ r) × SaidTheSame a b a' b'
@@ -130,6 +154,50 @@ module _ (l : Rules) (to_client to_server : List ℕ) where
   plays_once [] a b a' b' (Err e) r' al p p' d d' = absurd p
   plays_once (t ∷ turns) a b a' b' r r' al p p' d d' = first_once t turns (plays_once turns) a b a' b' r r' al (first t turns a b r p) (first t turns a' b' r' p') d d'
 
+  -- the same of what each said: one is a front of the other, and so it is of each with one that the bytes decided
+  abbrev Fronts_of : List Turn → Type 0
+  Fronts_of turns =
+      (a b a' b' : Scene) (r r' : Result (Unit {0}) LoopFault) → Alike l to_client to_server a a'
+      → Ends turns a r b → Ends turns a' r' b'
+      → (SaidMore a.wires b.wires a'.wires b'.wires ⊎ SaidMore a'.wires b'.wires a.wires b.wires)
+      × (IsDecided r' a'.wires b'.wires → SaidMore a.wires b.wires a'.wires b'.wires)
+
+  decided_stop : (e : LoopFault) (t : Turn) (a mid a' stop' b' : Scene) (r' : Result (Unit {0}) LoopFault) → Alike l to_client to_server a a' → Does t a mid → Comes t a' (Err e) stop' → r' ≡ Err e → stop'.wires ≡ b'.wires → IsDecided r' a'.wires b'.wires → ⊥
+  decided_stop e t a mid a' stop' b' r' al x c' is' same' d' =
+      let o = once l to_client to_server (Ok tt) (Err e) a mid a' stop' al tt (rw (← same', is') at d') t x c' in
+      let wrong = o.answer in
+      cc
+
+  first_fronts : (t : Turn) (turns : List Turn) (on : Fronts_of turns) (a b a' b' : Scene) (r r' : Result (Unit {0}) LoopFault) → Alike l to_client to_server a a' → First t turns a r b → First t turns a' r' b' → (SaidMore a.wires b.wires a'.wires b'.wires ⊎ SaidMore a'.wires b'.wires a.wires b.wires) × (IsDecided r' a'.wires b'.wires → SaidMore a.wires b.wires a'.wires b'.wires)
+  first_fronts t turns on a b a' b' r r' al (inl (mid, x, q)) (inl (mid', x', q')) =
+      let o = once l to_client to_server (Ok tt) (Ok tt) a mid a' mid' al tt tt t x x' in
+      let later = on mid b mid' b' r r' (o.alike refl) q q' in (
+        elim later.0 [
+          | inl m ↦ inl (said_same_then a.wires mid.wires b.wires a'.wires mid'.wires b'.wires o.said m)
+          | inr m ↦ inr (said_same_then a'.wires mid'.wires b'.wires a.wires mid.wires b.wires (same_swapped a.wires mid.wires a'.wires mid'.wires o.said) m)
+        ],
+        λ d'. said_same_then a.wires mid.wires b.wires a'.wires mid'.wires b'.wires o.said (later.1 (decided_on r' a'.wires mid'.wires b'.wires (counts_kept t a' mid' x') d')),
+      )
+  first_fronts t turns on a b a' b' r r' al (inl (mid, x, q)) (inr (e', stop', is', c', same')) =
+      let more = furthest l to_client to_server (Err e') (Ok tt) a' stop' a mid (alike_swapped l to_client to_server a a' al) t c' x tt in
+      (inr (said_more_then a'.wires stop'.wires b'.wires a.wires mid.wires b.wires more same' (gave_on turns mid b r q)), λ d'. absurd (decided_stop e' t a mid a' stop' b' r' al x c' is' same' d'))
+  first_fronts t turns on a b a' b' r r' al (inr (e, stop, is, c, same)) (inl (mid', x', q')) =
+      let more = furthest l to_client to_server (Err e) (Ok tt) a stop a' mid' al t c x' tt in
+      let all = said_more_then a.wires stop.wires b.wires a'.wires mid'.wires b'.wires more same (gave_on turns mid' b' r' q') in
+      (inl all, λ d'. all)
+  first_fronts t turns on a b a' b' r r' al (inr (e, stop, is, c, same)) (inr (e', stop', is', c', same')) = (
+    rw (same, same') at (either_front l to_client to_server (Err e) (Err e') a stop a' stop' al t c c'),
+    λ d'. rw (same, same') at (furthest l to_client to_server (Err e) (Err e') a stop a' stop' al t c c' (rw (← same', is') at d')),
+  )
+
+  plays_fronts : (turns : List Turn) → Fronts_of turns
+  plays_fronts [] a b a' b' (Ok u) (Ok u') al p p' =
+      let all = more_than_nothing a.wires b.wires a'.wires b'.wires (ap (λ (z : Scene). z.wires) p) (gave_as a'.wires b'.wires (ap (λ (z : Scene). z.wires) p')) in
+      (inl all, λ d'. all)
+  plays_fronts [] a b a' b' (Ok u) (Err e') al p p' = absurd p'
+  plays_fronts [] a b a' b' (Err e) r' al p p' = absurd p
+  plays_fronts (t ∷ turns) a b a' b' r r' al p p' = first_fronts t turns (plays_fronts turns) a b a' b' r r' al (first t turns a b r p) (first t turns a' b' r' p')
+
 -- ---- from the start
 
 new_stands : (i : InboxState) (from : Supply) (xs : List ℕ) → IsNew i → from.left ≡ Some xs → Stood (rules_of DEFAULT) xs i from (idle [])
@@ -166,3 +234,22 @@ one_answer count to_client to_server r r' before after before' after' all all' (
     rw (from, to, from', to') at (plays_once (rules_of DEFAULT) to_client to_server (script count) a b a' b' r r' (fresh_alike to_client to_server a a' fresh fresh' (rw (← from) at all) (rw (← from') at all')) p p' (rw (← from, ← to) at d) (rw (← from', ← to') at d'))
 one_answer count to_client to_server r r' before after before' after' all all' (inr (is, same)) t' d d' = absurd (subst (λ (x : Result (Unit {0}) LoopFault). IsDecided x before after) is d)
 one_answer count to_client to_server r r' before after before' after' all all' (inl t) (inr (is, same)) d d' = absurd (subst (λ (x : Result (Unit {0}) LoopFault). IsDecided x before' after') is d')
+
+gave_all : (count : ℕ) (r : Result (Unit {0}) LoopFault) (before after : Wires) → Talks count before r after → Gave before after
+gave_all count r before after (inl (a, b, fresh, from, to, p)) = rw (from, to) at (gave_on (script count) a b r p)
+gave_all count r before after (inr (is, same)) = gave_as before after same
+
+fronts_of : (count : ℕ) (to_client to_server : List ℕ) (r r' : Result (Unit {0}) LoopFault) (before after before' after' : Wires) → AreAllThatCome to_client to_server before → AreAllThatCome to_client to_server before' → Talks count before r after → Talks count before' r' after' → (SaidMore before after before' after' ⊎ SaidMore before' after' before after) × (IsDecided r' before' after' → SaidMore before after before' after')
+fronts_of count to_client to_server r r' before after before' after' all all' (inl (a, b, fresh, from, to, p)) (inl (a', b', fresh', from', to', p')) =
+    rw (from, to, from', to') at (plays_fronts (rules_of DEFAULT) to_client to_server (script count) a b a' b' r r' (fresh_alike to_client to_server a a' fresh fresh' (rw (← from) at all) (rw (← from') at all')) p p')
+fronts_of count to_client to_server r r' before after before' after' all all' (inr (is, same)) t' =
+    let more = more_than_nothing before after before' after' same (gave_all count r' before' after' t') in
+    (inl more, λ d'. more)
+fronts_of count to_client to_server r r' before after before' after' all all' (inl t) (inr (is, same)) =
+    (inr (more_than_nothing before' after' before after same (gave_all count r before after (inl t))), λ d'. absurd (subst (λ (x : Result (Unit {0}) LoopFault). IsDecided x before' after') is d'))
+
+pub one_goes_on : OneGoesOnFromOther
+one_goes_on count to_client to_server r r' before after before' after' all all' t t' = (fronts_of count to_client to_server r r' before after before' after' all all' t t').0
+
+pub decided_goes_furthest : DecidedGoesFurthest
+decided_goes_furthest count to_client to_server r r' before after before' after' all all' t t' = (fronts_of count to_client to_server r r' before after before' after' all all' t t').1

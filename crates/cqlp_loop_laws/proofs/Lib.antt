@@ -1,4 +1,5 @@
 mod Fronts
 mod Receipts
 mod Turns
+mod Stops
 mod Conversations

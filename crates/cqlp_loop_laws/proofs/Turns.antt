@@ -35,7 +35,7 @@ use Rattle.cqlp_loop_laws.proofs.Receipts.{Stood, IsDecidedBy, counts_up, stood_
 
 -- ---- what was given
 
-kept_given : (o n : Output) → n ≡ o → Appends o.given n.given []
+pub kept_given : (o n : Output) → n ≡ o → Appends o.given n.given []
 kept_given o n same = subst (λ (z : Output). Appends o.given z.given []) (sym same) (Appends-nil o.given)
 
 pub given_nothing : (o n o' n' : Output) → n ≡ o → n' ≡ o' → AreGivenTheSame o n o' n'
@@ -53,16 +53,16 @@ said_then a b c a' b' c' p q = record {
 
 -- ---- what the bytes decided
 
-not_memory : (r : Result (Unit {0}) LoopFault) (w v : Wires) → IsDecided r w v → r ≡ Err fault.NoMemory → ⊥
+pub not_memory : (r : Result (Unit {0}) LoopFault) (w v : Wires) → IsDecided r w v → r ≡ Err fault.NoMemory → ⊥
 not_memory r w v d is = subst (λ (x : Result (Unit {0}) LoopFault). IsDecided x w v) is d
 
-not_output : (r : Result (Unit {0}) LoopFault) (w v : Wires) → IsDecided r w v → r ≡ Err fault.WriteFault → ⊥
+pub not_output : (r : Result (Unit {0}) LoopFault) (w v : Wires) → IsDecided r w v → r ≡ Err fault.WriteFault → ⊥
 not_output r w v d is = subst (λ (x : Result (Unit {0}) LoopFault). IsDecided x w v) is d
 
-both_sound : (r : Result (Unit {0}) LoopFault) (w v : Wires) → IsDecided r w v → r ≡ Err fault.SocketFault → IsSoundEnd w.client v.client × IsSoundEnd w.server v.server
+pub both_sound : (r : Result (Unit {0}) LoopFault) (w v : Wires) → IsDecided r w v → r ≡ Err fault.SocketFault → IsSoundEnd w.client v.client × IsSoundEnd w.server v.server
 both_sound r w v d is = subst (λ (x : Result (Unit {0}) LoopFault). IsDecided x w v) is d
 
-client_decided : (r : Result (Unit {0}) LoopFault) (e : LoopFault) (w v : Wires) → r ≡ Err e → IsDecided r w v → IsDecidedBy e w.client.source v.client.source
+pub client_decided : (r : Result (Unit {0}) LoopFault) (e : LoopFault) (w v : Wires) → r ≡ Err e → IsDecided r w v → IsDecidedBy e w.client.source v.client.source
 client_decided r e w v is d = by_fault e (subst (λ (x : Result (Unit {0}) LoopFault). IsDecided x w v) is d) where
   by_fault : (e : LoopFault) → IsDecided (Err e) w v → IsDecidedBy e w.client.source v.client.source
   by_fault fault.BadReply d = tt
@@ -80,7 +80,7 @@ server_decided r e w v is d = by_fault e (subst (λ (x : Result (Unit {0}) LoopF
   by_fault fault.NoMemory d = absurd d
   by_fault fault.WriteFault d = absurd d
 
-wrote : (f : FrameValue) (o n : Output) (r : Result (Unit {0}) LoopFault) → (r ≡ Err fault.NoMemory → ⊥) → (r ≡ Err fault.SocketFault → IsSound o.failures n.failures) → Writes f o r n → (r ≡ Ok tt) × Appends o.given n.given (frame_bytes f)
+pub wrote : (f : FrameValue) (o n : Output) (r : Result (Unit {0}) LoopFault) → (r ≡ Err fault.NoMemory → ⊥) → (r ≡ Err fault.SocketFault → IsSound o.failures n.failures) → Writes f o r n → (r ≡ Ok tt) × Appends o.given n.given (frame_bytes f)
 wrote f o n (Ok u) memory sound w = (refl, w.0)
 wrote f o n (Err fault.SocketFault) memory sound (k, within, given) =
     let s = sound refl in
@@ -90,11 +90,11 @@ wrote f o n (Err fault.BadReply) memory sound w = absurd w
 wrote f o n (Err fault.TooManyTurns) memory sound w = absurd w
 wrote f o n (Err fault.WriteFault) memory sound w = absurd w
 
-appended : (given : Option (List ℕ)) (failures : ℕ) (n : Output) (line : List ℕ) → (IsSome given → n ≡ with_text (output given failures) line) → Appends given n.given line
+pub appended : (given : Option (List ℕ)) (failures : ℕ) (n : Output) (line : List ℕ) → (IsSome given → n ≡ with_text (output given failures) line) → Appends given n.given line
 appended None failures n line p = tt
 appended (Some x) failures n line p = subst (λ (z : Output). Appends (Some x) z.given line) (sym (p refl)) refl
 
-printed : (line : List ℕ) (o n : Output) (r : Result (Unit {0}) LoopFault) → (r ≡ Err fault.NoMemory → ⊥) → (r ≡ Err fault.WriteFault → ⊥) → Prints line o r n → (r ≡ Ok tt) × Appends o.given n.given line
+pub printed : (line : List ℕ) (o n : Output) (r : Result (Unit {0}) LoopFault) → (r ≡ Err fault.NoMemory → ⊥) → (r ≡ Err fault.WriteFault → ⊥) → Prints line o r n → (r ≡ Ok tt) × Appends o.given n.given line
 printed line o n (Ok u) memory sound p = (refl, appended o.given o.failures n line p)
 printed line o n (Err fault.WriteFault) memory sound p = absurd (sound refl)
 printed line o n (Err fault.NoMemory) memory sound p = absurd (memory refl)
@@ -104,22 +104,22 @@ printed line o n (Err fault.SocketFault) memory sound p = absurd p
 
 -- ---- the cores
 
-client_never : (c : ClientCore) (h : Header) → caller.Takes c h → caller.Refuses c h → ⊥
+pub client_never : (c : ClientCore) (h : Header) → caller.Takes c h → caller.Refuses c h → ⊥
 client_never c h t r = subst (λ (x : Result Reply Stray). IsNoAnswerIn x) t.1.1 r
 
 server_never : (c : ServerCore) (h : Header) → host.Takes c h → host.Refuses c h → ⊥
 server_never c h t r = let ok = t.1 in let err = r.1 in cc
 
-same_ok : {A E : Type 0} (x y : A) (r : Result A E) → r ≡ Ok x → r ≡ Ok y → y ≡ x
+pub same_ok : {A E : Type 0} (x y : A) (r : Result A E) → r ≡ Ok x → r ≡ Ok y → y ≡ x
 same_ok x y r a b = cc
 
-ok_or_err : {A E : Type 0} (x : A) (e : E) (r : Result A E) → r ≡ Ok x → r ≡ Err e → ⊥
+pub ok_or_err : {A E : Type 0} (x : A) (e : E) (r : Result A E) → r ≡ Ok x → r ≡ Err e → ⊥
 ok_or_err x e r a b = cc
 
-same_ticket : (t u : Ticket) (k j : RequestKind) → ◌≡◌ {A = Reply} (Answer u j) (Answer t k) → u ≡ t
+pub same_ticket : (t u : Ticket) (k j : RequestKind) → ◌≡◌ {A = Reply} (Answer u j) (Answer t k) → u ≡ t
 same_ticket t u k j same = cc
 
-same_cons : (x y : ℤ) (xs ys : List ℤ) → x ∷ xs ≡ y ∷ ys → (x ≡ y) × (xs ≡ ys)
+pub same_cons : (x y : ℤ) (xs ys : List ℤ) → x ∷ xs ≡ y ∷ ys → (x ≡ y) × (xs ≡ ys)
 same_cons x y xs ys same = (cc, cc)
 
 -- ---- two scenes

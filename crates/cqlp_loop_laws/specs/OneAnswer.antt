@@ -1,6 +1,6 @@
 -- Laws of one answer: what comes of a conversation is decided by the bytes that come, but for what only the outside
 -- decides: whether there is memory, whether a stream fails, and how many bytes a read gives.
-use Rattle.std.specs.Prelude.{◌≡◌, ℕ, ◌-◌, ◌^◌, ◌<◌, List, Some, Result, Ok, Err}
+use Rattle.std.specs.Prelude.{◌≡◌, ℕ, ◌-◌, ◌^◌, ◌<◌, List, ◌++◌, Some, Result, Ok, Err, ◌⊎◌}
 use Rattle.std.specs.Io.KnownBytes.{Appends}
 use Rattle.cqlp_note.specs.Outputs.{Output}
 use Rattle.cqlp_loop.specs.declared.fault.LoopFault.{LoopFault}
@@ -40,6 +40,19 @@ pub record SaidTheSame (before after before' after' : Wires) : Type 0 where
   pub server : AreGivenTheSame before.server.target after.server.target before'.server.target after'.server.target
   pub lines : AreGivenTheSame before.out after.out before'.out after'.out
 
+-- The second target was given what the first was, and then perhaps more, where it is known what they were given.
+abbrev pub IsGivenMore : (old new old' new' : Output) → Type 0
+IsGivenMore old new old' new' =
+    (bytes : List ℕ) × (more : List ℕ) × Appends old.given new.given bytes
+    × Appends old'.given new'.given (bytes ++ more)
+
+-- In the second of two conversations the ends sent what they sent in the first, and then perhaps more, and so it is of
+-- what was printed.
+pub record SaidMore (before after before' after' : Wires) : Type 0 where
+  pub client : IsGivenMore before.client.target after.client.target before'.client.target after'.client.target
+  pub server : IsGivenMore before.server.target after.server.target before'.server.target after'.server.target
+  pub lines : IsGivenMore before.out after.out before'.out after'.out
+
 -- These bytes are all that come to the client and to the server.
 abbrev pub AreAllThatCome : (to_client to_server : List ℕ) → Wires → Type 0
 AreAllThatCome to_client to_server before =
@@ -55,3 +68,21 @@ IsOneAnswerOfTalk =
     → Talks count before r after → Talks count before' r' after'
     → IsDecided r before after → IsDecided r' before' after'
     → (r' ≡ r) × SaidTheSame before after before' after'
+
+-- Of any two conversations of one count, over the same bytes, one said what the other did, and then perhaps more.
+abbrev pub OneGoesOnFromOther : Type 0
+OneGoesOnFromOther =
+    (count : ℕ) (to_client to_server : List ℕ) (r r' : Result (Unit {0}) LoopFault)
+    (before after before' after' : Wires)
+    → AreAllThatCome to_client to_server before → AreAllThatCome to_client to_server before'
+    → Talks count before r after → Talks count before' r' after'
+    → SaidMore before after before' after' ⊎ SaidMore before' after' before after
+
+-- And it is the one of which the bytes decided the answer.
+abbrev pub DecidedGoesFurthest : Type 0
+DecidedGoesFurthest =
+    (count : ℕ) (to_client to_server : List ℕ) (r r' : Result (Unit {0}) LoopFault)
+    (before after before' after' : Wires)
+    → AreAllThatCome to_client to_server before → AreAllThatCome to_client to_server before'
+    → Talks count before r after → Talks count before' r' after'
+    → IsDecided r' before' after' → SaidMore before after before' after'
