@@ -9,7 +9,7 @@ use Rattle.cqlp_loop.specs.Hearing.{idle}
 use Rattle.cqlp_loop.specs.Inboxes.{Supply, InboxState, IsNew}
 use Rattle.cqlp_loop.specs.Script.{End, Wires, Scene, Turn, Comes, Does, Ends, IsFresh, Talks, script}
 use Rattle.cqlp_loop.specs.Script as turn
-use Rattle.cqlp_loop_laws.specs.OneAnswer.{IsSound, IsDecided, SaidTheSame, SaidMore, AreAllThatCome, OneGoesOnFromOther, DecidedGoesFurthest}
+use Rattle.cqlp_loop_laws.specs.OneAnswer.{IsSound, IsDecided, SaidTheSame, SaidMore, TalksOver, IsOneAnswerOfTalk, OneGoesOnFromOther, DecidedGoesFurthest}
 use Rattle.cqlp_loop_laws.proofs.Receipts.{Stood}
 use Rattle.cqlp_loop_laws.proofs.Turns.{Alike, given_nothing, once, said_then}
 use Rattle.cqlp_loop_laws.proofs.Stops.{Gave, gave_as, gave_then, gave_in, furthest, either_front, more_than_nothing, said_more_then, said_same_then}
@@ -212,6 +212,14 @@ new_stands i from xs new left = record {
   heard = refl;
 }
 
+-- these bytes are all that come to the client and to the server
+abbrev AreAllThatCome : (to_client to_server : List ℕ) → Wires → Type 0
+AreAllThatCome to_client to_server before =
+    (before.client.source.left ≡ Some to_client) × (before.server.source.left ≡ Some to_server)
+
+all_that_come : (count : ℕ) (to_client to_server : List ℕ) (before after w : Wires) (r : Result (Unit {0}) LoopFault) → TalksOver count to_client to_server before r after → w ≡ before → AreAllThatCome to_client to_server w
+all_that_come count to_client to_server before after w r over from = subst (λ (z : Wires). AreAllThatCome to_client to_server z) (sym from) (over.client, over.server)
+
 fresh_alike : (to_client to_server : List ℕ) (a a' : Scene) → IsFresh a → IsFresh a' → AreAllThatCome to_client to_server a.wires → AreAllThatCome to_client to_server a'.wires → Alike (rules_of DEFAULT) to_client to_server a a'
 fresh_alike to_client to_server a a' f f' all all' = (
   record {
@@ -229,27 +237,35 @@ fresh_alike to_client to_server a a' f f' all all' = (
   },
 )
 
-pub one_answer : (count : ℕ) (to_client to_server : List ℕ) (r r' : Result (Unit {0}) LoopFault) (before after before' after' : Wires) → AreAllThatCome to_client to_server before → AreAllThatCome to_client to_server before' → Talks count before r after → Talks count before' r' after' → IsDecided r before after → IsDecided r' before' after' → (r' ≡ r) × SaidTheSame before after before' after'
-one_answer count to_client to_server r r' before after before' after' all all' (inl (a, b, fresh, from, to, p)) (inl (a', b', fresh', from', to', p')) d d' =
-    rw (from, to, from', to') at (plays_once (rules_of DEFAULT) to_client to_server (script count) a b a' b' r r' (fresh_alike to_client to_server a a' fresh fresh' (rw (← from) at all) (rw (← from') at all')) p p' (rw (← from, ← to) at d) (rw (← from', ← to') at d'))
-one_answer count to_client to_server r r' before after before' after' all all' (inr (is, same)) t' d d' = absurd (subst (λ (x : Result (Unit {0}) LoopFault). IsDecided x before after) is d)
-one_answer count to_client to_server r r' before after before' after' all all' (inl t) (inr (is, same)) d d' = absurd (subst (λ (x : Result (Unit {0}) LoopFault). IsDecided x before' after') is d')
+not_decided : (r : Result (Unit {0}) LoopFault) (before after : Wires) → r ≡ Err fault.NoMemory → IsDecided r before after → ⊥
+not_decided r before after is d = subst (λ (x : Result (Unit {0}) LoopFault). IsDecided x before after) is d
 
 gave_all : (count : ℕ) (r : Result (Unit {0}) LoopFault) (before after : Wires) → Talks count before r after → Gave before after
 gave_all count r before after (inl (a, b, fresh, from, to, p)) = rw (from, to) at (gave_on (script count) a b r p)
 gave_all count r before after (inr (is, same)) = gave_as before after same
 
-fronts_of : (count : ℕ) (to_client to_server : List ℕ) (r r' : Result (Unit {0}) LoopFault) (before after before' after' : Wires) → AreAllThatCome to_client to_server before → AreAllThatCome to_client to_server before' → Talks count before r after → Talks count before' r' after' → (SaidMore before after before' after' ⊎ SaidMore before' after' before after) × (IsDecided r' before' after' → SaidMore before after before' after')
-fronts_of count to_client to_server r r' before after before' after' all all' (inl (a, b, fresh, from, to, p)) (inl (a', b', fresh', from', to', p')) =
-    rw (from, to, from', to') at (plays_fronts (rules_of DEFAULT) to_client to_server (script count) a b a' b' r r' (fresh_alike to_client to_server a a' fresh fresh' (rw (← from) at all) (rw (← from') at all')) p p')
-fronts_of count to_client to_server r r' before after before' after' all all' (inr (is, same)) t' =
-    let more = more_than_nothing before after before' after' same (gave_all count r' before' after' t') in
-    (inl more, λ d'. more)
-fronts_of count to_client to_server r r' before after before' after' all all' (inl t) (inr (is, same)) =
-    (inr (more_than_nothing before' after' before after same (gave_all count r before after (inl t))), λ d'. absurd (subst (λ (x : Result (Unit {0}) LoopFault). IsDecided x before' after') is d'))
+module _ (count : ℕ) (to_client to_server : List ℕ) (r r' : Result (Unit {0}) LoopFault) (before after before' after' : Wires) (over : TalksOver count to_client to_server before r after) (over' : TalksOver count to_client to_server before' r' after') where
+  alike : (a a' : Scene) → IsFresh a → IsFresh a' → a.wires ≡ before → a'.wires ≡ before' → Alike (rules_of DEFAULT) to_client to_server a a'
+  alike a a' fresh fresh' from from' =
+      fresh_alike to_client to_server a a' fresh fresh' (all_that_come count to_client to_server before after a.wires r over from) (all_that_come count to_client to_server before' after' a'.wires r' over' from')
+
+  answers : Talks count before r after → Talks count before' r' after' → IsDecided r before after → IsDecided r' before' after' → (r' ≡ r) × SaidTheSame before after before' after'
+  answers (inl (a, b, fresh, from, to, p)) (inl (a', b', fresh', from', to', p')) d d' =
+      rw (from, to, from', to') at (plays_once (rules_of DEFAULT) to_client to_server (script count) a b a' b' r r' (alike a a' fresh fresh' from from') p p' (rw (← from, ← to) at d) (rw (← from', ← to') at d'))
+  answers (inr (is, same)) t' d d' = absurd (not_decided r before after is d)
+  answers (inl t) (inr (is, same)) d d' = absurd (not_decided r' before' after' is d')
+
+  fronts_of : Talks count before r after → Talks count before' r' after' → (SaidMore before after before' after' ⊎ SaidMore before' after' before after) × (IsDecided r' before' after' → SaidMore before after before' after')
+  fronts_of (inl (a, b, fresh, from, to, p)) (inl (a', b', fresh', from', to', p')) =
+      rw (from, to, from', to') at (plays_fronts (rules_of DEFAULT) to_client to_server (script count) a b a' b' r r' (alike a a' fresh fresh' from from') p p')
+  fronts_of (inr (is, same)) t' = let more = more_than_nothing before after before' after' same (gave_all count r' before' after' t') in (inl more, λ d'. more)
+  fronts_of (inl t) (inr (is, same)) = (inr (more_than_nothing before' after' before after same (gave_all count r before after (inl t))), λ d'. absurd (not_decided r' before' after' is d'))
+
+pub one_answer : IsOneAnswerOfTalk
+one_answer count to_client to_server r r' before after before' after' over over' = answers count to_client to_server r r' before after before' after' over over' over.talks over'.talks
 
 pub one_goes_on : OneGoesOnFromOther
-one_goes_on count to_client to_server r r' before after before' after' all all' t t' = (fronts_of count to_client to_server r r' before after before' after' all all' t t').0
+one_goes_on count to_client to_server r r' before after before' after' over over' = (fronts_of count to_client to_server r r' before after before' after' over over' over.talks over'.talks).0
 
 pub decided_goes_furthest : DecidedGoesFurthest
-decided_goes_furthest count to_client to_server r r' before after before' after' all all' t t' = (fronts_of count to_client to_server r r' before after before' after' all all' t t').1
+decided_goes_furthest count to_client to_server r r' before after before' after' over over' = (fronts_of count to_client to_server r r' before after before' after' over over' over.talks over'.talks).1
