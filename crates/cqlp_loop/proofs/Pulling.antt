@@ -10,8 +10,10 @@ use Rattle.cqlp_decode.specs.Streams.{state}
 use Rattle.cqlp_loop.specs.declared.fault.LoopFault.{LoopFault}
 use Rattle.cqlp_loop.specs.declared.fault.LoopFault.TheVariants as fault
 use Rattle.cqlp_loop.specs.declared.inbox.Edge.{Edge}
+use Rattle.cqlp_loop.specs.declared.inbox.Mark.{Mark}
+use Rattle.cqlp_loop.specs.declared.inbox.Mark.TheVariants as mark
 use Rattle.cqlp_loop.specs.Hearing.{Hearing, idle, amid}
-use Rattle.cqlp_loop.specs.Inboxes.{Supply, InboxState, Tells, SaysAll, IsWithout, Uses, Fills, Reads, IsShort, AreNeeded, Hears, Lacks, Misses, Receives, awaiting, for_next}
+use Rattle.cqlp_loop.specs.Inboxes.{Supply, InboxState, Tells, SaysAll, IsWithout, Uses, Fills, Reads, IsShort, AreNeeded, Hears, Lacks, Misses, HearsRest, Receives, StopsAt, awaiting, for_next}
 use Rattle.cqlp_loop.proofs.Seeking.{tells_none, tells_then, says_then}
 
 -- the bytes that wait, once some of them are used
@@ -149,11 +151,18 @@ fill_misses fault.BadReply old mid new from left x reads says f = absurd f
 fill_misses fault.NoMemory old mid new from left x reads says f = absurd f
 fill_misses fault.WriteFault old mid new from left x reads says f = absurd f
 
+-- after what was heard before
+stops_then : (old mid new : InboxState) (m : Mark) (from at : Supply) (x y : Hearing) → Hears old from mid at x y → StopsAt mid m new → StopsAt old m new
+stops_then old mid new m from at x y h at_mark = record { stops = λ s es told. at_mark.stops (s ++ h.used) (es ++ h.tells.more) (h.tells.leads s es told); waiting = at_mark.waiting }
+
 -- ---- what comes of waiting for an edge, after some reads that did not lead to it
 
 module _ (edge : Edge) (old cur : InboxState) (from at : Supply) (so_far : (hs : List Header) → Hears old from cur at (awaiting edge hs) (awaiting edge hs)) where
   pub used_last : (new : InboxState) (hs : List Header) (y : Hearing) → new.reads ≡ cur.reads → Uses cur new (awaiting edge hs) y → Hears old from new at (awaiting edge hs) y
   used_last new hs y reads u = hears_then old cur new from at at _ _ y (inl refl) (so_far hs) (uses_hears cur new at _ y reads u)
+
+  pub stops_last : (m : Mark) (new : InboxState) → StopsAt cur m new → StopsAt old m new
+  stops_last m new at_mark = stops_then old cur new m from at _ _ (so_far []) at_mark
 
   pub refused_last : (r : Refusal) → IsWithout edge (state cur.decoder) cur.waiting (Refused r.at r.why) → (hs : List Header) → Misses old from fault.BadReply at (awaiting edge hs) (awaiting edge hs)
   refused_last r says hs = (r, cur.reads, lacks_then old cur from at at _ cur.reads _ _ _ (inl refl) (so_far hs) (lacks_now cur at _ cur.reads _ refl (says hs)))
@@ -167,8 +176,12 @@ module _ (edge : Edge) (old cur : InboxState) (from at : Supply) (so_far : (hs :
 -- ---- one message
 
 module _ (takes refuses : Header → Type 0) (old mid : InboxState) (from at : Supply) (h : Header) (head : (hs : List Header) → Hears (for_next old) from mid at (idle hs) (amid (hs ++ h ∷ []))) where
-  pub received : (new : InboxState) (left : Supply) → takes h → ((hs : List Header) → Hears mid at new left (amid hs) (idle hs)) → Receives takes refuses old from (Ok h) new left
-  received new left taken rest = (taken, hears_then (for_next old) mid new from at left (idle []) (amid (h ∷ [])) (idle (h ∷ [])) (inr refl) (head []) (rest (h ∷ [])))
+  pub received : (new : InboxState) (left : Supply) → takes h → HearsRest mid at (Ok tt) new left → Receives takes refuses old from (Ok h) new left
+  received new left taken rest = (
+    taken,
+    stops_then (for_next old) mid new mark.Tail from at _ _ (head []) rest.0,
+    hears_then (for_next old) mid new from at left (idle []) (amid (h ∷ [])) (idle (h ∷ [])) (inr refl) (head []) (rest.1 (h ∷ [])),
+  )
 
   pub cut_short : (e : LoopFault) (new : InboxState) (left : Supply) → takes h → ((hs : List Header) → Misses mid at e left (amid hs) (amid hs)) → Receives takes refuses old from (Err e) new left
   cut_short e new left taken rest = inr (inl (h, taken, misses_then e (for_next old) mid from at left (idle []) (amid (h ∷ [])) (amid (h ∷ [])) (inr refl) (head []) (rest (h ∷ []))))

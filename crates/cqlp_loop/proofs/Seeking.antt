@@ -1,6 +1,6 @@
 -- What the bytes of a piece lead to, event by event.
-use Rattle.std.proofs.Common.{◌≡◌, ℕ, ◌+◌, List, [], ◌∷◌, ◌++◌, take, drop, refl, ap, ◌∙◌, append_assoc}
-use Rattle.std.specs.Prelude.{Some, None}
+use Rattle.std.proofs.Common.{◌≡◌, ℕ, ◌+◌, Bool, false, List, [], ◌∷◌, ◌++◌, take, drop, refl, ap, subst, ◌∙◌, append_assoc}
+use Rattle.std.specs.Prelude.{Option, Some, None, if◌then◌else◌}
 use Rattle.std.proofs.lemmas.List.{append-nil, take-append-drop}
 use Rattle.cqlp_note.specs.declared.header.Header.{Header}
 use Rattle.cqlp_note.specs.declared.refusal.Refusal.{Refusal}
@@ -10,14 +10,14 @@ use Rattle.cqlp_grammar.specs.Events.{Event, Frame, End, event_of}
 use Rattle.cqlp_decode.specs.declared.step.Step.TheVariants as steps
 use Rattle.cqlp_decode.specs.Reading.{Verdict, Waits, Refused}
 use Rattle.cqlp_decode.specs.Standing.{StreamState}
-use Rattle.cqlp_decode.specs.Streams.{Goes, LeadsOn}
+use Rattle.cqlp_decode.specs.Streams.{AfterBy, Goes, LeadsOn, Stands, open_after, open_from}
 use Rattle.cqlp_decode.proofs.Gets.{take_two}
 use Rattle.cqlp_loop.specs.declared.inbox.Edge.{Edge}
 use Rattle.cqlp_loop.specs.declared.inbox.Edge.TheVariants.{Begin, Finish}
 use Rattle.cqlp_loop.specs.declared.inbox.Mark.{Mark}
 use Rattle.cqlp_loop.specs.declared.inbox.Mark.TheVariants as mark
 use Rattle.cqlp_loop.specs.Hearing.{Hearing, with_event, with_events}
-use Rattle.cqlp_loop.specs.Inboxes.{Tells, SaysAll, mark_of, awaiting, past, IsAt}
+use Rattle.cqlp_loop.specs.Inboxes.{Tells, SaysAll, Stops, mark_of, awaiting, past, due_at, IsAt}
 
 pub events_then : (h : Hearing) (es fs : List (ℕ × Event)) → with_events h (es ++ fs) ≡ with_events (with_events h es) fs
 events_then h [] fs = refl
@@ -66,6 +66,26 @@ is_at Finish (told.Holds f v) m is = absurd cc
 is_at Finish (told.Node_of k) m is = absurd cc
 is_at Finish (told.Cell_at r c x) m is = absurd cc
 is_at Finish (told.Leave l i) m is = absurd cc
+
+-- what is due after the mark
+due_is : (edge : Edge) (e : Event) (m : Mark) → mark_of edge e ≡ Some m → (if open_after e then 1 else 0) ≡ due_at m
+due_is Begin (Frame h) m is = let same : m ≡ mark.Head h = cc in rw same refl
+due_is Begin (End n) m is = absurd cc
+due_is Begin (told.Holds f v) m is = absurd cc
+due_is Begin (told.Node_of k) m is = absurd cc
+due_is Begin (told.Cell_at r c x) m is = absurd cc
+due_is Begin (told.Leave l i) m is = absurd cc
+due_is Finish (Frame h) m is = absurd cc
+due_is Finish (End n) m is = let same : m ≡ mark.Tail = cc in rw same refl
+due_is Finish (told.Holds f v) m is = absurd cc
+due_is Finish (told.Node_of k) m is = absurd cc
+due_is Finish (told.Cell_at r c x) m is = absurd cc
+due_is Finish (told.Leave l i) m is = absurd cc
+
+-- a frame is open, by the last event
+open_last : (b : Bool) (es : List (ℕ × Event)) (e : ℕ × Event) → open_from b (es ++ e ∷ []) ≡ open_after e.1
+open_last b [] e = refl
+open_last b (x ∷ es) e = open_last (open_after x.1) es e
 
 pub tells_none : (d : StreamState) (h : Hearing) → Tells d [] d h h
 tells_none d h = record { more = []; leads = λ s es a. rw (append-nil s, append-nil es) a; heard = refl; rules = refl }
@@ -127,6 +147,15 @@ module _ (old mid new : StreamState) (piece : List ℕ) (used : ℕ) (edge : Edg
 
   pub tells_mark : (at taken : ℕ) (e : handed_out.Event) (m : Mark) → Goes mid (steps.Event at taken e) new → LeadsOn mid (drop used piece) (steps.Event at taken e) new → mark_of edge (event_of e) ≡ Some m → Tells old (take (used + taken) piece) new (awaiting edge hs) (past m hs)
   tells_mark at taken e m goes leads is = rw (passed edge (event_of e) m hs is) at (joined at taken e goes leads)
+
+  pub stops_mark : (at taken : ℕ) (e : handed_out.Event) (m : Mark) → LeadsOn mid (drop used piece) (steps.Event at taken e) new → mark_of edge (event_of e) ≡ Some m → Stops old m new
+  stops_mark at taken e m leads is s es told_before =
+      let there = so_far.leads s es told_before in
+      let next = leads [] (s ++ take used piece) (es ++ so_far.more) there.1 in
+      let events = es ++ so_far.more ++ (at, event_of e) ∷ [] in
+      let bytes = s ++ take used piece ++ take taken (drop used piece) in
+      let stands : Stands [] new bytes events = subst (λ (o : Option Refusal). AfterBy o [] new bytes events) next.1 next.3 in
+      (next.2, stands.due ∙ ap (λ (b : Bool). if b then 1 else 0) (open_last false (es ++ so_far.more) (at, event_of e)) ∙ due_is edge (event_of e) m is)
 
   whole : take used piece ++ drop used piece ≡ piece
   whole = take-append-drop used piece

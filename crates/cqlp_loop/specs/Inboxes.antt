@@ -9,7 +9,7 @@ use Rattle.cqlp_note.specs.Limits.{rules_of}
 use Rattle.cqlp_note.specs.Streams.{counted}
 use Rattle.cqlp_grammar.specs.Events.{Event, Frame, End}
 use Rattle.cqlp_decode.specs.Reading.{Verdict, Waits, Refused, Says, start}
-use Rattle.cqlp_decode.specs.Standing.{StreamState}
+use Rattle.cqlp_decode.specs.Standing.{StreamState, IsPending, ends_due}
 use Rattle.cqlp_decode.specs.Streams.{Decoding, After, state}
 use Rattle.cqlp_loop.specs.declared.fault.LoopFault.{LoopFault}
 use Rattle.cqlp_loop.specs.declared.fault.LoopFault.TheVariants as fault
@@ -80,6 +80,17 @@ IsAt Begin (mark.Head h) = ⊤
 IsAt Finish mark.Tail = ⊤
 IsAt edge m = ⊥
 
+-- the ends of frames that are due after it
+abbrev pub due_at : Mark → ℕ
+due_at (mark.Head h) = 1
+due_at mark.Tail = 0
+
+-- Whatever led to the first, at the second nothing is under way: no byte was used that is behind the mark.
+abbrev pub Stops : StreamState → Mark → StreamState → Type 0
+Stops old m new =
+    (s : List ℕ) (es : List (ℕ × Event))
+    → HasTold old s es → IsPending new.pending [] × (ends_due new.place.symbols ≡ due_at m)
+
 -- All of these bytes do not lead to the mark that is waited for.
 abbrev pub IsWithout : Edge → StreamState → List ℕ → Verdict → Type 0
 IsWithout edge old bytes v = (hs : List Header) → SaysAll old bytes v (awaiting edge hs) (awaiting edge hs)
@@ -88,7 +99,7 @@ IsWithout edge old bytes v = (hs : List Header) → SaysAll old bytes v (awaitin
 -- is refused before that.
 abbrev pub Seeks : Edge → StreamState → List ℕ → Sought → StreamState → Type 0
 Seeks edge old piece (sought.Found used m) new =
-    (used ≤ length piece) × IsAt edge m
+    (used ≤ length piece) × IsAt edge m × Stops old m new
     × ((hs : List Header) → Tells old (take used piece) new (awaiting edge hs) (past m hs))
 Seeks edge old piece sought.More new =
     IsWithout edge old piece Waits
@@ -109,10 +120,16 @@ pub record Uses (old new : InboxState) (before after : Hearing) : Type 0 where
   pub split : old.waiting ≡ used ++ new.waiting
   pub tells : Tells (state old.decoder) used (state new.decoder) before after
 
+-- The decoder stopped at a mark, and no more bytes wait than a read may give.
+pub record StopsAt (old : InboxState) (m : Mark) (new : InboxState) : Type 0 where
+  pub stops : Stops (state old.decoder) m (state new.decoder)
+  pub waiting : length new.waiting ≤ 4096
+
 -- What waits leads to the mark; or all of it was used before that; or it is refused before that.
 abbrev pub Finds : Edge → InboxState → Found → InboxState → Type 0
 Finds edge old (found.Mark m) new =
-    (new.reads ≡ old.reads) × IsAt edge m × ((hs : List Header) → Uses old new (awaiting edge hs) (past m hs))
+    (new.reads ≡ old.reads) × IsAt edge m × StopsAt old m new
+    × ((hs : List Header) → Uses old new (awaiting edge hs) (past m hs))
 Finds edge old found.More new =
     (new.reads ≡ old.reads) × (new.waiting ≡ []) × IsWithout edge (state old.decoder) old.waiting Waits
     × ((hs : List Header)
@@ -195,7 +212,8 @@ Misses old from e left before after = ⊥
 -- What comes of waiting for an edge.
 abbrev pub Pulls : Edge → InboxState → Supply → Result Mark LoopFault → InboxState → Supply → Type 0
 Pulls edge old from (Ok m) new left =
-    IsAt edge m × ((hs : List Header) → Hears old from new left (awaiting edge hs) (past m hs))
+    IsAt edge m × StopsAt old m new
+    × ((hs : List Header) → Hears old from new left (awaiting edge hs) (past m hs))
 Pulls edge old from (Err e) new left =
     (hs : List Header) → Misses old from e left (awaiting edge hs) (awaiting edge hs)
 
@@ -211,7 +229,8 @@ HearsHeader old from (Err e) new left = (hs : List Header) → Misses (for_next 
 
 -- What comes of waiting for the rest of a message.
 abbrev pub HearsRest : InboxState → Supply → Result (Unit {0}) LoopFault → InboxState → Supply → Type 0
-HearsRest old from (Ok u) new left = (hs : List Header) → Hears old from new left (amid hs) (idle hs)
+HearsRest old from (Ok u) new left =
+    StopsAt old mark.Tail new × ((hs : List Header) → Hears old from new left (amid hs) (idle hs))
 HearsRest old from (Err e) new left = (hs : List Header) → Misses old from e left (amid hs) (amid hs)
 
 -- ---- one message
@@ -221,7 +240,7 @@ HearsRest old from (Err e) new left = (hs : List Header) → Misses old from e l
 abbrev pub Receives : (takes refuses : Header → Type 0)
     → InboxState → Supply → Result Header LoopFault → InboxState → Supply → Type 0
 Receives takes refuses old from (Ok h) new left =
-    takes h × Hears (for_next old) from new left (idle []) (idle (h ∷ []))
+    takes h × StopsAt (for_next old) mark.Tail new × Hears (for_next old) from new left (idle []) (idle (h ∷ []))
 Receives takes refuses old from (Err e) new left =
     Misses (for_next old) from e left (idle []) (idle [])
     ⊎ ((h : Header) × takes h × Misses (for_next old) from e left (idle []) (amid (h ∷ [])))

@@ -1,15 +1,15 @@
 -- Two conversations over the same bytes, turn by turn.
-use Rattle.std.proofs.Common.{◌≡◌, ℕ, ◌⊎◌, List, [], ◌∷◌, ◌++◌, refl, sym, ap, subst, ◌∙◌, inl, inr}
+use Rattle.std.proofs.Common.{◌≡◌, ℕ, ◌⊎◌, List, [], ◌∷◌, ◌++◌, refl, sym, ap, subst, ◌∙◌, inl, inr, ◌≤◌, length, arith}
 use Rattle.std.specs.Prelude.{Some, Result, Ok, Err}
 use Rattle.cqlp_note.specs.declared.limits.TheConstants.Limits.{DEFAULT}
 use Rattle.cqlp_note.specs.Limits.{Rules, rules_of}
 use Rattle.cqlp_loop.specs.declared.fault.LoopFault.{LoopFault}
 use Rattle.cqlp_loop.specs.declared.fault.LoopFault.TheVariants as fault
-use Rattle.cqlp_loop.specs.Hearing.{idle}
+use Rattle.cqlp_loop.specs.Hearing.{Hearing, idle}
 use Rattle.cqlp_loop.specs.Inboxes.{Supply, InboxState, IsNew}
 use Rattle.cqlp_loop.specs.Script.{End, Wires, Scene, Turn, Comes, Does, Ends, IsFresh, Talks, script}
 use Rattle.cqlp_loop.specs.Script as turn
-use Rattle.cqlp_loop_laws.specs.OneAnswer.{IsSound, IsDecided, SaidTheSame, SaidMore, TalksOver, IsOneAnswerOfTalk, OneGoesOnFromOther, DecidedGoesFurthest}
+use Rattle.cqlp_loop_laws.specs.OneAnswer.{IsSound, ReadTo, BothReadTheSame, IsDecided, SaidTheSame, SaidMore, TalksOver, IsOneAnswerOfTalk, OneGoesOnFromOther, DecidedGoesFurthest}
 use Rattle.cqlp_loop_laws.proofs.Receipts.{Stood}
 use Rattle.cqlp_loop_laws.proofs.Turns.{Alike, given_nothing, once, said_then}
 use Rattle.cqlp_loop_laws.proofs.Stops.{Gave, gave_as, gave_then, gave_in, furthest, either_front, more_than_nothing, said_more_then, said_same_then}
@@ -34,7 +34,7 @@ counts_kept (turn.Asks q) a b (inr (f, err, is, new, s), e) = absurd cc
 counts_kept turn.Takes a b (inl (h, ok, x, ids), e) = record {
   client_source = ap (λ (z : Scene). z.wires.client.source.failures) e;
   client_target = ap (λ (z : Scene). z.wires.client.target.failures) e;
-  server_source = x.0.1.reads.failures;
+  server_source = x.0.2.reads.failures;
   server_target = ap (λ (z : Scene). z.wires.server.target.failures) e;
 }
 counts_kept turn.Takes a b (inr (f, is, x, ids), e) = absurd cc
@@ -46,7 +46,7 @@ counts_kept (turn.Answers q) a b (id, ids, inl (k, ok, new, w), e) = record {
 }
 counts_kept (turn.Answers q) a b (id, ids, inr (f, err, is, new, s), e) = absurd cc
 counts_kept turn.Hears a b (inl (x, (h, is_answer, opcode, got, new), p), e) = record {
-  client_source = got.1.reads.failures;
+  client_source = got.2.reads.failures;
   client_target = ap (λ (z : Scene). z.wires.client.target.failures) e;
   server_source = ap (λ (z : Scene). z.wires.server.source.failures) e;
   server_target = ap (λ (z : Scene). z.wires.server.target.failures) e;
@@ -113,18 +113,27 @@ same_swapped a b a' b' s = record {
 
 alike_swapped : (l : Rules) (to_client to_server : List ℕ) (a a' : Scene) → Alike l to_client to_server a a' → Alike l to_client to_server a' a
 alike_swapped l to_client to_server a a' al = (
-  record { core = sym al.0.core; heard = al.0.heard; here = al.0.there; there = al.0.here },
-  record { core = sym al.1.core; ids = sym al.1.ids; heard = al.1.heard; here = al.1.there; there = al.1.here },
+  record { core = sym al.0.core; heard = al.0.heard; used = al.0.used; here = al.0.there; there = al.0.here; waiting = al.0.waiting'; waiting' = al.0.waiting },
+  record { core = sym al.1.core; ids = sym al.1.ids; heard = al.1.heard; used = al.1.used; here = al.1.there; there = al.1.here; waiting = al.1.waiting'; waiting' = al.1.waiting },
+)
+
+read_to : (l : Rules) (xs used : List ℕ) (i : InboxState) (at : Supply) (x : Hearing) → Stood l xs used i at x → length i.waiting ≤ 4096 → ReadTo xs used at
+read_to l xs used i at x st few = record { ahead = i.waiting; rest = st.rest; split = st.stream; few = few; left = st.left }
+
+both_read : (l : Rules) (to_client to_server : List ℕ) (a a' : Scene) → Alike l to_client to_server a a' → BothReadTheSame to_client to_server a.wires a'.wires
+both_read l to_client to_server a a' al = (
+  (al.0.used, read_to l to_client al.0.used a.caller.inbox a.wires.client.source _ al.0.here al.0.waiting, read_to l to_client al.0.used a'.caller.inbox a'.wires.client.source _ al.0.there al.0.waiting'),
+  (al.1.used, read_to l to_server al.1.used a.host.inbox a.wires.server.source _ al.1.here al.1.waiting, read_to l to_server al.1.used a'.host.inbox a'.wires.server.source _ al.1.there al.1.waiting'),
 )
 
 module _ (l : Rules) (to_client to_server : List ℕ) where
   abbrev AreOne : (r r' : Result (Unit {0}) LoopFault) (a b a' b' : Wires) → Type 0
-  AreOne r r' a b a' b' = (r' ≡ r) × SaidTheSame a b a' b'
+  AreOne r r' a b a' b' = (r' ≡ r) × SaidTheSame a b a' b' × (r ≡ Ok tt → BothReadTheSame to_client to_server b b')
 
   stopped : (t : Turn) (a b a' b' : Scene) (r r' : Result (Unit {0}) LoopFault) (e e' : LoopFault) (stop stop' : Scene) → Alike l to_client to_server a a' → r ≡ Err e → r' ≡ Err e' → Comes t a (Err e) stop → Comes t a' (Err e') stop' → stop.wires ≡ b.wires → stop'.wires ≡ b'.wires → IsDecided r a.wires b.wires → IsDecided r' a'.wires b'.wires → AreOne r r' a.wires b.wires a'.wires b'.wires
   stopped t a b a' b' r r' e e' stop stop' al is is' c c' same same' d d' =
       let o = once l to_client to_server (Err e) (Err e') a stop a' stop' al (rw (← same, is) at d) (rw (← same', is') at d') t c c' in
-      (is' ∙ o.answer ∙ sym is, rw (same, same') at o.said)
+      (is' ∙ o.answer ∙ sym is, rw (same, same') at o.said, λ ok. absurd cc)
 
   -- all conversations of these turns
   abbrev Plays_once : List Turn → Type 0
@@ -137,7 +146,7 @@ module _ (l : Rules) (to_client to_server : List ℕ) where
   first_once t turns on a b a' b' r r' al (inl (mid, x, q)) (inl (mid', x', q')) d d' =
       let o = once l to_client to_server (Ok tt) (Ok tt) a mid a' mid' al tt tt t x x' in
       let later = on mid b mid' b' r r' (o.alike refl) q q' (decided_on r a.wires mid.wires b.wires (counts_kept t a mid x) d) (decided_on r' a'.wires mid'.wires b'.wires (counts_kept t a' mid' x') d') in
-      (later.0, said_then a.wires mid.wires b.wires a'.wires mid'.wires b'.wires o.said later.1)
+      (later.0, said_then a.wires mid.wires b.wires a'.wires mid'.wires b'.wires o.said later.1, later.2)
   first_once t turns on a b a' b' r r' al (inl (mid, x, q)) (inr (e', stop', is', c', same')) d d' =
       let o = once l to_client to_server (Ok tt) (Err e') a mid a' stop' al tt (rw (← same', is') at d') t x c' in
       let wrong = o.answer in
@@ -149,7 +158,7 @@ module _ (l : Rules) (to_client to_server : List ℕ) where
   first_once t turns on a b a' b' r r' al (inr (e, stop, is, c, same)) (inr (e', stop', is', c', same')) d d' = stopped t a b a' b' r r' e e' stop stop' al is is' c c' same same' d d'
 
   plays_once : (turns : List Turn) → Plays_once turns
-  plays_once [] a b a' b' (Ok u) (Ok u') al p p' d d' = (refl, said_nothing a.wires b.wires a'.wires b'.wires (ap (λ (z : Scene). z.wires) p) (ap (λ (z : Scene). z.wires) p'))
+  plays_once [] a b a' b' (Ok u) (Ok u') al p p' d d' = (refl, said_nothing a.wires b.wires a'.wires b'.wires (ap (λ (z : Scene). z.wires) p) (ap (λ (z : Scene). z.wires) p'), λ ok. rw (p, p') (both_read l to_client to_server a a' al))
   plays_once [] a b a' b' (Ok u) (Err e') al p p' d d' = absurd p'
   plays_once [] a b a' b' (Err e) r' al p p' d d' = absurd p
   plays_once (t ∷ turns) a b a' b' r r' al p p' d d' = first_once t turns (plays_once turns) a b a' b' r r' al (first t turns a b r p) (first t turns a' b' r' p') d d'
@@ -200,9 +209,8 @@ module _ (l : Rules) (to_client to_server : List ℕ) where
 
 -- ---- from the start
 
-new_stands : (i : InboxState) (from : Supply) (xs : List ℕ) → IsNew i → from.left ≡ Some xs → Stood (rules_of DEFAULT) xs i from (idle [])
+new_stands : (i : InboxState) (from : Supply) (xs : List ℕ) → IsNew i → from.left ≡ Some xs → Stood (rules_of DEFAULT) xs [] i from (idle [])
 new_stands i from xs new left = record {
-  used = [];
   events = [];
   rest = xs;
   told = new.told;
@@ -220,20 +228,29 @@ AreAllThatCome to_client to_server before =
 all_that_come : (count : ℕ) (to_client to_server : List ℕ) (before after w : Wires) (r : Result (Unit {0}) LoopFault) → TalksOver count to_client to_server before r after → w ≡ before → AreAllThatCome to_client to_server w
 all_that_come count to_client to_server before after w r over from = subst (λ (z : Wires). AreAllThatCome to_client to_server z) (sym from) (over.client, over.server)
 
+none_wait : (i : InboxState) → IsNew i → length i.waiting ≤ 4096
+none_wait i new = omega (arith, ap (λ (z : List ℕ). length z) new.waiting)
+
 fresh_alike : (to_client to_server : List ℕ) (a a' : Scene) → IsFresh a → IsFresh a' → AreAllThatCome to_client to_server a.wires → AreAllThatCome to_client to_server a'.wires → Alike (rules_of DEFAULT) to_client to_server a a'
 fresh_alike to_client to_server a a' f f' all all' = (
   record {
     core = f'.client ∙ sym f.client;
     heard = [];
+    used = [];
     here = new_stands a.caller.inbox a.wires.client.source to_client f.client_inbox all.0;
     there = new_stands a'.caller.inbox a'.wires.client.source to_client f'.client_inbox all'.0;
+    waiting = none_wait a.caller.inbox f.client_inbox;
+    waiting' = none_wait a'.caller.inbox f'.client_inbox;
   },
   record {
     core = f'.server ∙ sym f.server;
     ids = f'.unanswered ∙ sym f.unanswered;
     heard = [];
+    used = [];
     here = new_stands a.host.inbox a.wires.server.source to_server f.server_inbox all.1;
     there = new_stands a'.host.inbox a'.wires.server.source to_server f'.server_inbox all'.1;
+    waiting = none_wait a.host.inbox f.server_inbox;
+    waiting' = none_wait a'.host.inbox f'.server_inbox;
   },
 )
 
@@ -249,7 +266,7 @@ module _ (count : ℕ) (to_client to_server : List ℕ) (r r' : Result (Unit {0}
   alike a a' fresh fresh' from from' =
       fresh_alike to_client to_server a a' fresh fresh' (all_that_come count to_client to_server before after a.wires r over from) (all_that_come count to_client to_server before' after' a'.wires r' over' from')
 
-  answers : Talks count before r after → Talks count before' r' after' → IsDecided r before after → IsDecided r' before' after' → (r' ≡ r) × SaidTheSame before after before' after'
+  answers : Talks count before r after → Talks count before' r' after' → IsDecided r before after → IsDecided r' before' after' → (r' ≡ r) × SaidTheSame before after before' after' × (r ≡ Ok tt → BothReadTheSame to_client to_server after after')
   answers (inl (a, b, fresh, from, to, p)) (inl (a', b', fresh', from', to', p')) d d' =
       rw (from, to, from', to') at (plays_once (rules_of DEFAULT) to_client to_server (script count) a b a' b' r r' (alike a a' fresh fresh' from from') p p' (rw (← from, ← to) at d) (rw (← from', ← to') at d'))
   answers (inr (is, same)) t' d d' = absurd (not_decided r before after is d)

@@ -1,20 +1,28 @@
 -- Fronts of what a stream says, and the messages that they tell.
-use Rattle.std.proofs.Common.{◌≡◌, ℕ, ◌+◌, ◌*◌, ◌≤◌, ◌⊎◌, Bool, true, false, List, [], ◌∷◌, ◌++◌, length, refl, sym, ap, subst, ◌∙◌, append_assoc, inl, inr, arith}
+use Rattle.std.proofs.Common.{◌≡◌, ℕ, ◌+◌, ◌*◌, ◌≤◌, ◌^◌, ◌⊎◌, ltb, Bool, true, false, List, [], ◌∷◌, ◌++◌, length, refl, sym, ap, subst, ◌∙◌, append_assoc, inl, inr, arith}
 use Rattle.std.specs.Prelude.{if◌then◌else◌}
 use Rattle.std.proofs.lemmas.Bool.{cases_lt}
 use Rattle.std.proofs.lemmas.List.{append-nil, append_cancel_left, length-append}
 use Rattle.cqlp_note.specs.declared.header.Header.{Header}
 use Rattle.cqlp_note.specs.declared.refusal.Reason.{Reason}
 use Rattle.cqlp_note.specs.Limits.{Rules}
-use Rattle.cqlp_note.specs.Reader.{Bad, says}
+use Rattle.cqlp_note.specs.Reader.{Bad, Takes, says}
 use Rattle.cqlp_note.proofs.Readers.{says_stays}
 use Rattle.cqlp_note.proofs.Runs.{runs_compare, runs_stay, stays_bad}
 use Rattle.cqlp_grammar.specs.Events as told
 use Rattle.cqlp_grammar.specs.Events.{Event, Frame, End}
-use Rattle.cqlp_decode.specs.Reading.{Place, Verdict, Refused, Reads, Says, start, step}
+use Rattle.cqlp_decode.specs.Reading.{Place, Verdict, Refused, Reads, Says, header_step, settled, start, step, step_at}
 use Rattle.cqlp_loop.specs.Hearing.{Hearing, idle, amid, with_event, with_events}
 use Rattle.cqlp_laws.proofs.Whole.{is_bad, says_once}
 use Rattle.cqlp_laws.proofs.OneAnswer.{no_further}
+use Rattle.cqlp_laws.proofs.RunsBack.{passed, taken}
+use Rattle.cqlp_note.proofs.Yields.{Yields}
+use Rattle.cqlp_note.specs.Step.{Emitted}
+use Rattle.cqlp_note.specs.Heading.{Heading, heading}
+use Rattle.cqlp_note.specs.declared.refusal.Reason.TheVariants.{StreamTooLong}
+use Rattle.cqlp_grammar.specs.Productions.{Symbol, Stream}
+use Rattle.cqlp_decode.specs.Standing.{ends_due}
+use Rattle.std.specs.Prelude.{Ok, Err}
 use Rattle.cqlp_loop.proofs.Seeking.{events_then}
 
 -- ---- hearings
@@ -142,6 +150,46 @@ module _ (l : Rules) (xs : List ℕ) where
 
   pub one_verdict : (v w : Verdict) (x y : Hearing) → Ended v x → Ended w y → w ≡ v
   one_verdict v w x y a b = (says_once l start xs a.events b.events v w a.says b.says).1
+
+-- ---- between frames
+
+header_only : (p : Place) (x : Emitted Event Place) (d : Heading) (b : List ℕ) → Yields (header_step p d) x b → (h : Header) × (x.event ≡ Frame h)
+header_only p x (Ok h) b y = (h, sym (ap (λ (z : Emitted Event Place). z.event) y.0))
+header_only p x (Err e) b y = absurd y
+
+-- where no frame's end is due, a header comes next
+stream_only : (l : Rules) (p : Place) (x : Emitted Event Place) (ss : List Symbol) (b : List ℕ) → ends_due ss ≡ 0 → Yields (step_at l p ss) x b → (h : Header) × (x.event ≡ Frame h)
+stream_only l p x [] b none y = absurd y
+stream_only l p x (Stream ∷ rest) b none y = let t = passed (ltb (2 ^ 63) p.offset) (p.offset, StreamTooLong) (Takes 9 (λ c. header_step p (heading c))) x b y in header_only p x (heading t.1.0) t.1.1 t.1.4
+stream_only l p x (s ∷ rest) b none y = absurd cc
+
+next_is_header : (l : Rules) (p q : Place) (b left : List ℕ) (e : ℕ × Event) (es : List (ℕ × Event)) → ends_due p.symbols ≡ 0 → Reads l p b (e ∷ es) q left → (h : Header) × (e.1 ≡ Frame h)
+next_is_header l p q b left e es none run =
+    let x : Emitted Event Place = record { at = e.0; event = e.1; after = run.1 } in
+    let t = taken (step l p) x run.0 b run.2 in
+    stream_only l (settled p) x p.symbols t.front none t.yields
+
+-- so from between two frames no event leaves the hearing as it is
+none_between : (l : Rules) (p q : Place) (b left : List ℕ) (hs : List Header) (es : List (ℕ × Event)) → ends_due p.symbols ≡ 0 → Reads l p b es q left → with_events (idle hs) es ≡ idle hs → es ≡ []
+none_between l p q b left hs [] none run same = refl
+none_between l p q b left hs (e ∷ es) none run same =
+    let h = next_is_header l p q b left e es none run in
+    let first : with_event (idle hs) e.1 ≡ amid (hs ++ h.0 ∷ []) = ap (λ (z : Event). with_event (idle hs) z) h.1 in
+    let f : Follows (amid (hs ++ h.0 ∷ [])) (idle hs) = subst (λ (z : Hearing). Follows (amid (hs ++ h.0 ∷ [])) z) (ap (λ (z : Hearing). with_events z es) (sym first) ∙ same) (follows_events (amid (hs ++ h.0 ∷ [])) es) in
+    absurd (omega (arith, f.order, length-append hs (h.0 ∷ [])))
+
+-- A stream's front that ends between two frames, in which just these messages came, is one.
+between_after : (l : Rules) (xs : List ℕ) (p q : Place) (rest rest' : List ℕ) (es fs : List (ℕ × Event)) (hs : List Header) → ends_due p.symbols ≡ 0 → Reads l start xs es p rest → Reads l start xs fs q rest' → with_events (idle []) es ≡ idle hs → with_events (idle []) fs ≡ idle hs → length es ≤ length fs → rest' ≡ rest
+between_after l xs p q rest rest' es fs hs none x y here there le =
+    let r = runs_compare (step l) start p q xs rest rest' es fs x y le in
+    let same : with_events (idle hs) r.0 ≡ idle hs = ap (λ (z : Hearing). with_events z r.0) (sym here) ∙ sym (events_then (idle []) es r.0) ∙ sym (ap (λ (w : List (ℕ × Event)). with_events (idle []) w) r.1) ∙ there in
+    (rw (none_between l p q rest rest' hs r.0 none r.2 same) at r.2).1
+
+pub one_between : (l : Rules) (xs : List ℕ) (p q : Place) (rest rest' : List ℕ) (es fs : List (ℕ × Event)) (hs : List Header) → ends_due p.symbols ≡ 0 → ends_due q.symbols ≡ 0 → Reads l start xs es p rest → Reads l start xs fs q rest' → with_events (idle []) es ≡ idle hs → with_events (idle []) fs ≡ idle hs → rest' ≡ rest
+one_between l xs p q rest rest' es fs hs none none' x y here there = elim (cases_lt (length es) (length fs)) [
+  | inl lt ↦ between_after l xs p q rest rest' es fs hs none x y here there (omega arith)
+  | inr le ↦ sym (between_after l xs q p rest' rest fs es hs none' y x there here le)
+]
 
 -- a refusal stays, whatever bytes follow
 pub refused_on : (l : Rules) (p : Place) (bytes t : List ℕ) (es : List (ℕ × Event)) (k : ℕ) (why : Reason) → Says l p bytes es (Refused k why) → Says l p (bytes ++ t) es (Refused k why)

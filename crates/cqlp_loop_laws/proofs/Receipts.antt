@@ -1,7 +1,7 @@
 -- One message: two that wait for it over the same bytes hear the same, but for what only the outside decides.
-use Rattle.std.proofs.Common.{◌≡◌, ℕ, ◌<◌, ◌-◌, ◌^◌, ◌⊎◌, true, List, [], ◌∷◌, ◌++◌, refl, sym, ap, subst, ◌∙◌, append_assoc, inl, inr, arith}
+use Rattle.std.proofs.Common.{◌≡◌, ℕ, ◌<◌, ◌-◌, ◌^◌, ◌⊎◌, true, List, [], ◌∷◌, ◌++◌, refl, sym, ap, subst, ◌∙◌, append_assoc, inl, inr, arith, length, ◌≤◌}
 use Rattle.std.specs.Prelude.{Option, Some, None, Result, Ok, Err}
-use Rattle.std.proofs.lemmas.List.{append-nil}
+use Rattle.std.proofs.lemmas.List.{append-nil, append_cancel_right}
 use Rattle.std.specs.Io.KnownBytes.{Consumes, Keeps, IsAtEnd}
 use Rattle.cqlp_note.specs.declared.header.Header.{Header}
 use Rattle.cqlp_note.specs.declared.refusal.Refusal.{Refusal}
@@ -10,7 +10,9 @@ use Rattle.cqlp_note.specs.Limits.{Rules}
 use Rattle.cqlp_note.specs.Streams.{counted}
 use Rattle.cqlp_note.proofs.Runs.{runs_stay}
 use Rattle.cqlp_grammar.specs.Events.{Event}
-use Rattle.cqlp_decode.specs.Reading.{Verdict, Waits, Refused, Reads, Says, start, step}
+use Rattle.cqlp_decode.specs.Reading.{Place, Verdict, Waits, Refused, Reads, Says, start, step}
+use Rattle.cqlp_decode.specs.Standing.{IsPending, ends_due}
+use Rattle.cqlp_laws.proofs.OneAnswer.{pending_none}
 use Rattle.cqlp_decode.specs.Streams.{AfterBy, Stands, state}
 use Rattle.cqlp_loop.specs.declared.fault.LoopFault.{LoopFault}
 use Rattle.cqlp_loop.specs.declared.fault.LoopFault.TheVariants as fault
@@ -18,7 +20,7 @@ use Rattle.cqlp_loop.specs.Hearing.{Hearing, idle, amid, with_events}
 use Rattle.cqlp_loop.specs.Inboxes.{Supply, InboxState, HasTold, Hears, Lacks, Misses, Receives, for_next}
 use Rattle.cqlp_loop.proofs.Seeking.{events_then}
 use Rattle.cqlp_loop_laws.specs.OneAnswer.{IsSound}
-use Rattle.cqlp_loop_laws.proofs.Fronts.{Told, Ended, behind, behind_events, either, within, one_verdict, same_header, whole_not_amid, whole_not_before, begun_not_before, refused_on}
+use Rattle.cqlp_loop_laws.proofs.Fronts.{Told, Ended, behind, behind_events, either, within, one_between, one_verdict, same_header, whole_not_amid, whole_not_before, begun_not_before, refused_on}
 
 -- a count of failures that is not at its end goes up
 pub counts_up : (n : ℕ) → n < 2 ^ 64 - 1 → counted true n ≡ n → ⊥
@@ -47,9 +49,8 @@ regroup u w read used nw rest same =
     ap (λ (z : List ℕ). u ++ z) (sym (append_assoc w read rest) ∙ ap (λ (z : List ℕ). z ++ rest) same ∙ append_assoc used nw rest) ∙ sym (append_assoc u used (nw ++ rest))
 
 module _ (l : Rules) (xs : List ℕ) where
-  -- An inbox stands within the stream: its decoder used the first bytes, others wait, and the source has the rest.
-  pub record Stood (i : InboxState) (at : Supply) (x : Hearing) : Type 0 where
-    pub used : List ℕ
+  -- An inbox stands within the stream: its decoder used these bytes, others wait, and the source has the rest.
+  pub record Stood (used : List ℕ) (i : InboxState) (at : Supply) (x : Hearing) : Type 0 where
     pub events : List (ℕ × Event)
     pub rest : List ℕ
     pub told : HasTold (state i.decoder) used events
@@ -58,22 +59,34 @@ module _ (l : Rules) (xs : List ℕ) where
     pub stream : xs ≡ used ++ (i.waiting ++ rest)
     pub heard : with_events (idle []) events ≡ x
 
-  pub stood_as : (i i' : InboxState) (s s' : Supply) (x : Hearing) → i' ≡ i → s' ≡ s → Stood i s x → Stood i' s' x
-  stood_as i i' s s' x same_inbox same_source st = subst (λ (z : InboxState). Stood z s' x) (sym same_inbox) (subst (λ (z : Supply). Stood i z x) (sym same_source) st)
+  pub stood_as : (used : List ℕ) (i i' : InboxState) (s s' : Supply) (x : Hearing) → i' ≡ i → s' ≡ s → Stood used i s x → Stood used i' s' x
+  stood_as used i i' s s' x same_inbox same_source st = subst (λ (z : InboxState). Stood used z s' x) (sym same_inbox) (subst (λ (z : Supply). Stood used i z x) (sym same_source) st)
 
-  pub stood_told : (i : InboxState) (at : Supply) (x : Hearing) → Stood i at x → Told l xs x
-  stood_told i at x st =
-      let stands : Stands [] (state i.decoder) st.used st.events = subst (λ (o : Option Refusal). AfterBy o [] (state i.decoder) st.used st.events) st.told.0 st.told.1 in
-      let read : Reads l start st.used st.events stands.place stands.bytes = subst (λ (z : Rules). Reads z start st.used st.events stands.place stands.bytes) st.rules stands.read in
-      let rest = st.rest in
-      let on = runs_stay (step l) start st.used (i.waiting ++ rest) st.events stands.place stands.bytes read in
-      record {
-        events = st.events;
-        place = stands.place;
-        rest = stands.bytes ++ (i.waiting ++ rest);
-        read = subst (λ (z : List ℕ). Reads l start z st.events stands.place (stands.bytes ++ (i.waiting ++ rest))) (sym st.stream) on;
-        heard = st.heard;
-      }
+  module _ (used : List ℕ) (i : InboxState) (at : Supply) (x : Hearing) (st : Stood used i at x) where
+    stands : Stands [] (state i.decoder) used st.events
+    stands = subst (λ (o : Option Refusal). AfterBy o [] (state i.decoder) used st.events) st.told.0 st.told.1
+
+    read_on : Reads l start xs st.events stands.place (stands.bytes ++ (i.waiting ++ st.rest))
+    read_on =
+        let read : Reads l start used st.events stands.place stands.bytes = subst (λ (z : Rules). Reads z start used st.events stands.place stands.bytes) st.rules stands.read in
+        let on = runs_stay (step l) start used (i.waiting ++ st.rest) st.events stands.place stands.bytes read in
+        subst (λ (z : List ℕ). Reads l start z st.events stands.place (stands.bytes ++ (i.waiting ++ st.rest))) (sym st.stream) on
+
+    pub stood_told : Told l xs x
+    stood_told = record { events = st.events; place = stands.place; rest = stands.bytes ++ (i.waiting ++ st.rest); read = read_on; heard = st.heard }
+
+    none_before : IsPending (state i.decoder).pending [] → stands.bytes ++ (i.waiting ++ st.rest) ≡ i.waiting ++ st.rest
+    none_before none = ap (λ (z : List ℕ). z ++ (i.waiting ++ st.rest)) (pending_none (state i.decoder).pending stands.bytes none stands.pending)
+
+    due_there : ends_due (state i.decoder).place.symbols ≡ 0 → ends_due stands.place.symbols ≡ 0
+    due_there due = ap (λ (z : Place). ends_due z.symbols) (sym stands.here) ∙ due
+
+  -- two that stand between two frames, where the same messages came, used the same bytes
+  one_used : (u u' : List ℕ) (i i' : InboxState) (at at' : Supply) (hs : List Header) (st : Stood u i at (idle hs)) (st' : Stood u' i' at' (idle hs)) → IsPending (state i.decoder).pending [] × (ends_due (state i.decoder).place.symbols ≡ 0) → IsPending (state i'.decoder).pending [] × (ends_due (state i'.decoder).place.symbols ≡ 0) → u' ≡ u
+  one_used u u' i i' at at' hs st st' stop stop' =
+      let same = one_between l xs (stands u i at (idle hs) st).place (stands u' i' at' (idle hs) st').place _ _ st.events st'.events hs (due_there u i at (idle hs) st stop.1) (due_there u' i' at' (idle hs) st' stop'.1) (read_on u i at (idle hs) st) (read_on u' i' at' (idle hs) st') st.heard st'.heard in
+      let rest : i'.waiting ++ st'.rest ≡ i.waiting ++ st.rest = sym (none_before u' i' at' (idle hs) st' stop'.0) ∙ same ∙ none_before u i at (idle hs) st stop.0 in
+      append_cancel_right u' u (i.waiting ++ st.rest) (ap (λ (z : List ℕ). u' ++ z) (sym rest) ∙ sym st'.stream ∙ st.stream)
 
   -- behind the headers that were heard, what more events tell
   heard_behind : (hs : List Header) (y : Hearing) (es more : List (ℕ × Event)) → with_events (idle []) es ≡ idle hs → with_events (idle []) more ≡ y → with_events (idle []) (es ++ more) ≡ behind hs y
@@ -82,16 +95,15 @@ module _ (l : Rules) (xs : List ℕ) where
       ∙ behind_events hs (idle []) more ∙ ap (λ (z : Hearing). behind hs z) there
 
   -- an inbox that heard more stands there
-  pub heard_on : (old new : InboxState) (from left : Supply) (hs : List Header) (y : Hearing) → Stood old from (idle hs) → Hears (for_next old) from new left (idle []) y → Stood new left (behind hs y)
-  heard_on old new from left hs y st h =
+  pub heard_on : (used : List ℕ) (old new : InboxState) (from left : Supply) (hs : List Header) (y : Hearing) → Stood used old from (idle hs) → (h : Hears (for_next old) from new left (idle []) y) → Stood (used ++ h.used) new left (behind hs y)
+  heard_on used old new from left hs y st h =
       let c = consumed from.left left.left st.rest h.read st.left h.reads.taken in record {
-        used = st.used ++ h.used;
         events = st.events ++ h.tells.more;
         rest = c.0;
-        told = h.tells.leads st.used st.events st.told;
+        told = h.tells.leads used st.events st.told;
         rules = h.tells.rules ∙ st.rules;
         left = c.1;
-        stream = st.stream ∙ ap (λ (z : List ℕ). st.used ++ (old.waiting ++ z)) c.2 ∙ regroup st.used old.waiting h.read h.used new.waiting c.0 h.split;
+        stream = st.stream ∙ ap (λ (z : List ℕ). used ++ (old.waiting ++ z)) c.2 ∙ regroup used old.waiting h.read h.used new.waiting c.0 h.split;
         heard = heard_behind hs y st.events h.tells.more st.heard h.tells.heard;
       }
 
@@ -105,15 +117,15 @@ module _ (l : Rules) (xs : List ℕ) where
     pub stream : xs ≡ bytes ++ rest
     pub heard : with_events (idle []) events ≡ y
 
-  lacked : (old : InboxState) (from at : Supply) (v : Verdict) (n : ℕ) (hs : List Header) (y : Hearing) → Stood old from (idle hs) → Lacks (for_next old) from v n at (idle []) y → Said v at (behind hs y)
-  lacked old from at v n hs y st k =
+  lacked : (used : List ℕ) (old : InboxState) (from at : Supply) (v : Verdict) (n : ℕ) (hs : List Header) (y : Hearing) → Stood used old from (idle hs) → Lacks (for_next old) from v n at (idle []) y → Said v at (behind hs y)
+  lacked used old from at v n hs y st k =
       let c = consumed from.left at.left st.rest k.read st.left k.reads.taken in record {
-        bytes = st.used ++ (old.waiting ++ k.read);
+        bytes = used ++ (old.waiting ++ k.read);
         rest = c.0;
         events = st.events ++ k.says.more;
-        says = subst (λ (z : Rules). Says z start (st.used ++ (old.waiting ++ k.read)) (st.events ++ k.says.more) v) st.rules (k.says.says st.used st.events st.told);
+        says = subst (λ (z : Rules). Says z start (used ++ (old.waiting ++ k.read)) (st.events ++ k.says.more) v) st.rules (k.says.says used st.events st.told);
         left = c.1;
-        stream = st.stream ∙ ap (λ (z : List ℕ). st.used ++ (old.waiting ++ z)) c.2 ∙ ap (λ (z : List ℕ). st.used ++ z) (sym (append_assoc old.waiting k.read c.0)) ∙ sym (append_assoc st.used (old.waiting ++ k.read) c.0);
+        stream = st.stream ∙ ap (λ (z : List ℕ). used ++ (old.waiting ++ z)) c.2 ∙ ap (λ (z : List ℕ). used ++ z) (sym (append_assoc old.waiting k.read c.0)) ∙ sym (append_assoc used (old.waiting ++ k.read) c.0);
         heard = heard_behind hs y st.events k.says.more st.heard k.says.heard;
       }
 
@@ -154,33 +166,33 @@ module _ (l : Rules) (xs : List ℕ) where
     Failed fault.SocketFault = Cut Waits
     Failed e = ⊥
 
-    whole : (old new : InboxState) (from left : Supply) (h : Header) → Stood old from (idle hs) → Receives takes refuses old from (Ok h) new left → Whole h
-    whole old new from left h st r = (r.0, stood_told new left (idle (hs ++ h ∷ [])) (heard_on old new from left hs (idle (h ∷ [])) st r.1))
+    whole : (used : List ℕ) (old new : InboxState) (from left : Supply) (h : Header) → Stood used old from (idle hs) → Receives takes refuses old from (Ok h) new left → Whole h
+    whole used old new from left h st r = (r.0, stood_told (used ++ r.2.used) new left (idle (hs ++ h ∷ [])) (heard_on used old new from left hs (idle (h ∷ [])) st r.2))
 
-    cut_bad : (old : InboxState) (from left : Supply) (y : Hearing) → Stood old from (idle hs) → IsCut (behind hs y) → Misses (for_next old) from fault.BadReply left (idle []) y → Failed fault.BadReply
-    cut_bad old from left y st cut m =
+    cut_bad : (used : List ℕ) (old : InboxState) (from left : Supply) (y : Hearing) → Stood used old from (idle hs) → IsCut (behind hs y) → Misses (for_next old) from fault.BadReply left (idle []) y → Failed fault.BadReply
+    cut_bad used old from left y st cut m =
         let r = m.0 in
-        inl (r.at, r.why, (behind hs y, refused r.at r.why left (behind hs y) (lacked old from left (Refused r.at r.why) m.1 hs y st m.2), cut))
+        inl (r.at, r.why, (behind hs y, refused r.at r.why left (behind hs y) (lacked used old from left (Refused r.at r.why) m.1 hs y st m.2), cut))
 
-    cut_end : (old : InboxState) (from left : Supply) (y : Hearing) → IsSound from.failures left.failures → Stood old from (idle hs) → IsCut (behind hs y) → Misses (for_next old) from fault.SocketFault left (idle []) y → Failed fault.SocketFault
-    cut_end old from left y sound st cut m =
-        let s = lacked old from m.1 Waits m.0 hs y st m.2 in
+    cut_end : (used : List ℕ) (old : InboxState) (from left : Supply) (y : Hearing) → IsSound from.failures left.failures → Stood used old from (idle hs) → IsCut (behind hs y) → Misses (for_next old) from fault.SocketFault left (idle []) y → Failed fault.SocketFault
+    cut_end used old from left y sound st cut m =
+        let s = lacked used old from m.1 Waits m.0 hs y st m.2 in
         let same = m.2.reads.failures in
         elim m.4 [
           | inl failed ↦ absurd (counts_up from.failures sound.0 (ap (λ (n : ℕ). counted true n) (sym same) ∙ sym failed ∙ sound.1))
           | inr none ↦ (behind hs y, ended m.1 (behind hs y) s (at_end m.1.left left.left s.rest s.left m.3 none.1), cut)
         ]
 
-    failed : (old new : InboxState) (from left : Supply) (e : LoopFault) → Stood old from (idle hs) → Receives takes refuses old from (Err e) new left → IsDecidedBy e from left → Failed e
-    failed old new from left fault.BadReply st (inl m) d = cut_bad old from left (idle []) st (inl refl) m
-    failed old new from left fault.BadReply st (inr (inl m)) d = cut_bad old from left (amid (m.0 ∷ [])) st (inr (m.0, m.1, refl)) m.2
-    failed old new from left fault.BadReply st (inr (inr m)) d = inr (m.0, m.1, stood_told new left (amid (hs ++ m.0 ∷ [])) (heard_on old new from left hs (amid (m.0 ∷ [])) st m.3))
-    failed old new from left fault.SocketFault st (inl m) d = cut_end old from left (idle []) d st (inl refl) m
-    failed old new from left fault.SocketFault st (inr (inl m)) d = cut_end old from left (amid (m.0 ∷ [])) d st (inr (m.0, m.1, refl)) m.2
-    failed old new from left fault.SocketFault st (inr (inr m)) d = absurd (let is = m.2 in cc)
-    failed old new from left fault.TooManyTurns st r d = absurd d
-    failed old new from left fault.NoMemory st r d = absurd d
-    failed old new from left fault.WriteFault st r d = absurd d
+    failed : (used : List ℕ) (old new : InboxState) (from left : Supply) (e : LoopFault) → Stood used old from (idle hs) → Receives takes refuses old from (Err e) new left → IsDecidedBy e from left → Failed e
+    failed used old new from left fault.BadReply st (inl m) d = cut_bad used old from left (idle []) st (inl refl) m
+    failed used old new from left fault.BadReply st (inr (inl m)) d = cut_bad used old from left (amid (m.0 ∷ [])) st (inr (m.0, m.1, refl)) m.2
+    failed used old new from left fault.BadReply st (inr (inr m)) d = inr (m.0, m.1, stood_told (used ++ m.3.used) new left (amid (hs ++ m.0 ∷ [])) (heard_on used old new from left hs (amid (m.0 ∷ [])) st m.3))
+    failed used old new from left fault.SocketFault st (inl m) d = cut_end used old from left (idle []) d st (inl refl) m
+    failed used old new from left fault.SocketFault st (inr (inl m)) d = cut_end used old from left (amid (m.0 ∷ [])) d st (inr (m.0, m.1, refl)) m.2
+    failed used old new from left fault.SocketFault st (inr (inr m)) d = absurd (let is = m.2 in cc)
+    failed used old new from left fault.TooManyTurns st r d = absurd d
+    failed used old new from left fault.NoMemory st r d = absurd d
+    failed used old new from left fault.WriteFault st r d = absurd d
 
     -- ---- two of them
 
@@ -236,7 +248,7 @@ module _ (l : Rules) (xs : List ℕ) where
 
 -- ---- two ends with the same core
 
-module _ (l : Rules) (xs : List ℕ) {C : Type 0} (takes refuses : C → Header → Type 0) (never : (c : C) (h : Header) → takes c h → refuses c h → ⊥) (c c' : C) (same : c' ≡ c) (i j i' j' : InboxState) (from left from' left' : Supply) (hs : List Header) (here : Stood l xs i from (idle hs)) (there : Stood l xs i' from' (idle hs)) where
+module _ (l : Rules) (xs : List ℕ) {C : Type 0} (takes refuses : C → Header → Type 0) (never : (c : C) (h : Header) → takes c h → refuses c h → ⊥) (c c' : C) (same : c' ≡ c) (i j i' j' : InboxState) (from left from' left' : Supply) (hs : List Header) (used : List ℕ) (here : Stood l xs used i from (idle hs)) (there : Stood l xs used i' from' (idle hs)) where
   abbrev Got : Result Header LoopFault → Type 0
   Got r = Receives (takes c) (refuses c) i from r j left
 
@@ -247,19 +259,28 @@ module _ (l : Rules) (xs : List ℕ) {C : Type 0} (takes refuses : C → Header 
   too r x = subst (λ (z : C). Receives (takes z) (refuses z) i' from' r j' left') same x
 
   pub one_header : (h h' : Header) → Got (Ok h) → GotToo (Ok h') → h' ≡ h
-  one_header h h' x y = one_whole l xs (takes c) (refuses c) hs h h' (whole l xs (takes c) (refuses c) hs i j from left h here x) (whole l xs (takes c) (refuses c) hs i' j' from' left' h' there (too (Ok h') y))
+  one_header h h' x y = one_whole l xs (takes c) (refuses c) hs h h' (whole l xs (takes c) (refuses c) hs used i j from left h here x) (whole l xs (takes c) (refuses c) hs used i' j' from' left' h' there (too (Ok h') y))
 
-  pub stand_on : (h h' : Header) → Got (Ok h) → GotToo (Ok h') → Stood l xs j left (idle (hs ++ h ∷ [])) × Stood l xs j' left' (idle (hs ++ h ∷ []))
-  stand_on h h' x y = (
-    heard_on l xs i j from left hs (idle (h ∷ [])) here x.1,
-    subst (λ (z : Header). Stood l xs j' left' (idle (hs ++ z ∷ []))) (one_header h h' x y) (heard_on l xs i' j' from' left' hs (idle (h' ∷ [])) there y.1),
-  )
+  -- Both stand there, have used the same bytes, and have no more waiting than a read may give.
+  pub record StandOn (h : Header) : Type 0 where
+    pub bytes : List ℕ
+    pub near : Stood l xs bytes j left (idle (hs ++ h ∷ []))
+    pub far : Stood l xs bytes j' left' (idle (hs ++ h ∷ []))
+    pub waiting : length j.waiting ≤ 4096
+    pub waiting' : length j'.waiting ≤ 4096
+
+  pub stand_on : (h h' : Header) → Got (Ok h) → GotToo (Ok h') → StandOn h
+  stand_on h h' x y =
+      let near = heard_on l xs used i j from left hs (idle (h ∷ [])) here x.2 in
+      let far = subst (λ (z : Header). Stood l xs (used ++ y.2.used) j' left' (idle (hs ++ z ∷ []))) (one_header h h' x y) (heard_on l xs used i' j' from' left' hs (idle (h' ∷ [])) there y.2) in
+      let same = one_used l xs (used ++ x.2.used) (used ++ y.2.used) j j' left left' (hs ++ h ∷ []) near far (x.1.stops used here.events here.told) (y.1.stops used there.events there.told) in
+      record { bytes = used ++ x.2.used; near = near; far = subst (λ (z : List ℕ). Stood l xs z j' left' (idle (hs ++ h ∷ []))) same far; waiting = x.1.waiting; waiting' = y.1.waiting }
 
   pub not_other : (h : Header) (e' : LoopFault) → Got (Ok h) → GotToo (Err e') → IsDecidedBy e' from' left' → ⊥
-  not_other h e' x y d = whole_failed l xs (takes c) (refuses c) hs (never c) h e' (whole l xs (takes c) (refuses c) hs i j from left h here x) (failed l xs (takes c) (refuses c) hs i' j' from' left' e' there (too (Err e') y) d)
+  not_other h e' x y d = whole_failed l xs (takes c) (refuses c) hs (never c) h e' (whole l xs (takes c) (refuses c) hs used i j from left h here x) (failed l xs (takes c) (refuses c) hs used i' j' from' left' e' there (too (Err e') y) d)
 
   pub not_one : (e : LoopFault) (h' : Header) → Got (Err e) → GotToo (Ok h') → IsDecidedBy e from left → ⊥
-  not_one e h' x y d = whole_failed l xs (takes c) (refuses c) hs (never c) h' e (whole l xs (takes c) (refuses c) hs i' j' from' left' h' there (too (Ok h') y)) (failed l xs (takes c) (refuses c) hs i j from left e here x d)
+  not_one e h' x y d = whole_failed l xs (takes c) (refuses c) hs (never c) h' e (whole l xs (takes c) (refuses c) hs used i' j' from' left' h' there (too (Ok h') y)) (failed l xs (takes c) (refuses c) hs used i j from left e here x d)
 
   pub one_fault : (e e' : LoopFault) → Got (Err e) → GotToo (Err e') → IsDecidedBy e from left → IsDecidedBy e' from' left' → e' ≡ e
-  one_fault e e' x y d d' = one_failed l xs (takes c) (refuses c) hs (never c) e e' (failed l xs (takes c) (refuses c) hs i j from left e here x d) (failed l xs (takes c) (refuses c) hs i' j' from' left' e' there (too (Err e') y) d')
+  one_fault e e' x y d d' = one_failed l xs (takes c) (refuses c) hs (never c) e e' (failed l xs (takes c) (refuses c) hs used i j from left e here x d) (failed l xs (takes c) (refuses c) hs used i' j' from' left' e' there (too (Err e') y) d')

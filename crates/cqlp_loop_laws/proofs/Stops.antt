@@ -216,7 +216,7 @@ module _ (l : Rules) (to_client to_server : List ℕ) (r r' : Result (Unit {0}) 
   same_line : (x x' : Ticket × Opcode) → Listens a.caller a.wires.client.source (Ok x) b.caller b.wires.client.source → Listens a'.caller a'.wires.client.source (Ok x') b'.caller b'.wires.client.source → reply_line x'.0 x'.1 ≡ reply_line x.0 x.1
   same_line x x' (h, (k, is_answer), opcode, got, new) (h', (k', is_answer'), opcode', got', new') =
       let core = a.caller.core in
-      let same : h' ≡ h = one_header l to_client caller.Takes caller.Refuses client_never core a'.caller.core al.0.core a.caller.inbox b.caller.inbox a'.caller.inbox b'.caller.inbox a.wires.client.source b.wires.client.source a'.wires.client.source b'.wires.client.source al.0.heard al.0.here al.0.there h h' got got' in
+      let same : h' ≡ h = one_header l to_client caller.Takes caller.Refuses client_never core a'.caller.core al.0.core a.caller.inbox b.caller.inbox a'.caller.inbox b'.caller.inbox a.wires.client.source b.wires.client.source a'.wires.client.source b'.wires.client.source al.0.heard al.0.used al.0.here al.0.there h h' got got' in
       let there : reply_to core (signal_of h) ≡ Ok (Answer x'.0 k') = ap (λ (c : ClientCore). reply_to c (signal_of h)) (sym al.0.core) ∙ ap (λ (y : Header). reply_to a'.caller.core (signal_of y)) (sym same) ∙ is_answer' in
       let ticket : x'.0 ≡ x.0 = same_ticket x.0 x'.0 k k' (same_ok (Answer x.0 k) (Answer x'.0 k') (reply_to core (signal_of h)) is_answer there) in
       let code : x'.1 ≡ x.1 = opcode' ∙ ap (λ (y : Header). y.opcode) same ∙ sym opcode in
@@ -273,7 +273,7 @@ module _ (l : Rules) (to_client to_server : List ℕ) (r r' : Result (Unit {0}) 
         lines = more_whole (reply_line x.0 x.1) a.wires.out b.wires.out a'.wires.out b'.wires.out (printed_part (reply_line x.0 x.1) a.wires.out b.wires.out r p) (subst (λ (z : List ℕ). Appends a'.wires.out.given b'.wires.out.given z) (same_line x x' heard heard') whole.1);
       }
   furthest turn.Hears (inl (x, (h, is_answer, opcode, got, new), p), e) (inr (f', is', x', s'), e') d =
-      absurd (not_other l to_client caller.Takes caller.Refuses client_never a.caller.core a'.caller.core al.0.core a.caller.inbox b.caller.inbox a'.caller.inbox b'.caller.inbox a.wires.client.source b.wires.client.source a'.wires.client.source b'.wires.client.source al.0.heard al.0.here al.0.there h f' got x' (client_decided r' f' a'.wires b'.wires is' d))
+      absurd (not_other l to_client caller.Takes caller.Refuses client_never a.caller.core a'.caller.core al.0.core a.caller.inbox b.caller.inbox a'.caller.inbox b'.caller.inbox a.wires.client.source b.wires.client.source a'.wires.client.source b'.wires.client.source al.0.heard al.0.used al.0.here al.0.there h f' got x' (client_decided r' f' a'.wires b'.wires is' d))
   furthest turn.Hears (inr (f, is, x, s), e) c' d =
       let g = gave_in turn.Hears a' b' r' c' in
       record {

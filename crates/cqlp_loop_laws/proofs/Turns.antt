@@ -1,5 +1,5 @@
 -- Two conversations that stand alike, over the same bytes, make the same next turn.
-use Rattle.std.proofs.Common.{◌≡◌, ℕ, ℤ, Bool, List, [], ◌∷◌, ◌++◌, length, refl, sym, ap, subst, ◌∙◌, inl, inr}
+use Rattle.std.proofs.Common.{◌≡◌, ℕ, ℤ, Bool, List, [], ◌∷◌, ◌++◌, length, refl, sym, ap, subst, ◌∙◌, inl, inr, ◌≤◌, arith}
 use Rattle.std.specs.Prelude.{Option, Some, None, IsSome, Result, Ok, Err}
 use Rattle.std.proofs.lemmas.Bool.{lt-ltb}
 use Rattle.std.specs.Io.KnownBytes.{Appends}
@@ -25,6 +25,7 @@ use Rattle.cqlp_loop.specs.declared.request.Request.{Request}
 use Rattle.cqlp_loop.specs.Hearing.{idle}
 use Rattle.cqlp_loop.specs.Exchanges.{Writes, kind_of, opcode_of, request_frame, reply_frame}
 use Rattle.cqlp_loop.specs.Callers.{CallerState, Prints, IsNoAnswerIn, reply_line, done_line}
+use Rattle.cqlp_loop.specs.Inboxes.{InboxState}
 use Rattle.cqlp_loop.specs.Callers as caller
 use Rattle.cqlp_loop.specs.Hosts.{HostState}
 use Rattle.cqlp_loop.specs.Hosts as host
@@ -122,6 +123,9 @@ same_ticket t u k j same = cc
 pub same_cons : (x y : ℤ) (xs ys : List ℤ) → x ∷ xs ≡ y ∷ ys → (x ≡ y) × (xs ≡ ys)
 same_cons x y xs ys same = (cc, cc)
 
+fewer : {m n : ℕ} → m ≡ n → n ≤ 4096 → m ≤ 4096
+fewer same few = omega (arith, same, few)
+
 -- ---- two scenes
 
 module _ (l : Rules) (to_client to_server : List ℕ) where
@@ -129,16 +133,22 @@ module _ (l : Rules) (to_client to_server : List ℕ) where
   pub record ClientsAlike (a a' : Scene) : Type 0 where
     pub core : a'.caller.core ≡ a.caller.core
     pub heard : List Header
-    pub here : Stood l to_client a.caller.inbox a.wires.client.source (idle heard)
-    pub there : Stood l to_client a'.caller.inbox a'.wires.client.source (idle heard)
+    pub used : List ℕ
+    pub here : Stood l to_client used a.caller.inbox a.wires.client.source (idle heard)
+    pub there : Stood l to_client used a'.caller.inbox a'.wires.client.source (idle heard)
+    pub waiting : length a.caller.inbox.waiting ≤ 4096
+    pub waiting' : length a'.caller.inbox.waiting ≤ 4096
 
   -- the same of the servers
   pub record ServersAlike (a a' : Scene) : Type 0 where
     pub core : a'.host.core ≡ a.host.core
     pub ids : a'.unanswered ≡ a.unanswered
     pub heard : List Header
-    pub here : Stood l to_server a.host.inbox a.wires.server.source (idle heard)
-    pub there : Stood l to_server a'.host.inbox a'.wires.server.source (idle heard)
+    pub used : List ℕ
+    pub here : Stood l to_server used a.host.inbox a.wires.server.source (idle heard)
+    pub there : Stood l to_server used a'.host.inbox a'.wires.server.source (idle heard)
+    pub waiting : length a.host.inbox.waiting ≤ 4096
+    pub waiting' : length a'.host.inbox.waiting ≤ 4096
 
   abbrev pub Alike : (a a' : Scene) → Type 0
   Alike a a' = ClientsAlike a a' × ServersAlike a a'
@@ -153,8 +163,11 @@ module _ (l : Rules) (to_client to_server : List ℕ) where
   clients_kept a b a' b' c c' s s' al = record {
     core = ap (λ (z : CallerState). z.core) c' ∙ al.core ∙ sym (ap (λ (z : CallerState). z.core) c);
     heard = al.heard;
-    here = stood_as l to_client a.caller.inbox b.caller.inbox a.wires.client.source b.wires.client.source (idle al.heard) (ap (λ (z : CallerState). z.inbox) c) s al.here;
-    there = stood_as l to_client a'.caller.inbox b'.caller.inbox a'.wires.client.source b'.wires.client.source (idle al.heard) (ap (λ (z : CallerState). z.inbox) c') s' al.there;
+    used = al.used;
+    here = stood_as l to_client al.used a.caller.inbox b.caller.inbox a.wires.client.source b.wires.client.source (idle al.heard) (ap (λ (z : CallerState). z.inbox) c) s al.here;
+    there = stood_as l to_client al.used a'.caller.inbox b'.caller.inbox a'.wires.client.source b'.wires.client.source (idle al.heard) (ap (λ (z : CallerState). z.inbox) c') s' al.there;
+    waiting = fewer (ap (λ (z : InboxState). length z.waiting) (ap (λ (z : CallerState). z.inbox) c)) al.waiting;
+    waiting' = fewer (ap (λ (z : InboxState). length z.waiting) (ap (λ (z : CallerState). z.inbox) c')) al.waiting';
   }
 
   servers_kept : (a b a' b' : Scene) → b.host ≡ a.host → b'.host ≡ a'.host → b.unanswered ≡ a.unanswered → b'.unanswered ≡ a'.unanswered → b.wires.server.source ≡ a.wires.server.source → b'.wires.server.source ≡ a'.wires.server.source → ServersAlike a a' → ServersAlike b b'
@@ -162,8 +175,11 @@ module _ (l : Rules) (to_client to_server : List ℕ) where
     core = ap (λ (z : HostState). z.core) h' ∙ al.core ∙ sym (ap (λ (z : HostState). z.core) h);
     ids = i' ∙ al.ids ∙ sym i;
     heard = al.heard;
-    here = stood_as l to_server a.host.inbox b.host.inbox a.wires.server.source b.wires.server.source (idle al.heard) (ap (λ (z : HostState). z.inbox) h) s al.here;
-    there = stood_as l to_server a'.host.inbox b'.host.inbox a'.wires.server.source b'.wires.server.source (idle al.heard) (ap (λ (z : HostState). z.inbox) h') s' al.there;
+    used = al.used;
+    here = stood_as l to_server al.used a.host.inbox b.host.inbox a.wires.server.source b.wires.server.source (idle al.heard) (ap (λ (z : HostState). z.inbox) h) s al.here;
+    there = stood_as l to_server al.used a'.host.inbox b'.host.inbox a'.wires.server.source b'.wires.server.source (idle al.heard) (ap (λ (z : HostState). z.inbox) h') s' al.there;
+    waiting = fewer (ap (λ (z : InboxState). length z.waiting) (ap (λ (z : HostState). z.inbox) h)) al.waiting;
+    waiting' = fewer (ap (λ (z : InboxState). length z.waiting) (ap (λ (z : HostState). z.inbox) h')) al.waiting';
   }
 
   module _ (r r' : Result (Unit {0}) LoopFault) (a b a' b' : Scene) (al : Alike a a') (d : IsDecided r a.wires b.wires) (d' : IsDecided r' a'.wires b'.wires) where
@@ -184,8 +200,11 @@ module _ (l : Rules) (to_client to_server : List ℕ) where
             record {
               core = ap (λ (z : CallerState). z.core) new' ∙ ap (λ (c : ClientCore). begun c (kind_of q) (Ok t')) al.0.core ∙ ap (λ (u : Ticket). begun a.caller.core (kind_of q) (Ok u)) same ∙ sym (ap (λ (z : CallerState). z.core) new);
               heard = al.0.heard;
-              here = stood_as l to_client a.caller.inbox b.caller.inbox a.wires.client.source b.wires.client.source (idle al.0.heard) (ap (λ (z : CallerState). z.inbox) new) (ap (λ (z : Scene). z.wires.client.source) e) al.0.here;
-              there = stood_as l to_client a'.caller.inbox b'.caller.inbox a'.wires.client.source b'.wires.client.source (idle al.0.heard) (ap (λ (z : CallerState). z.inbox) new') (ap (λ (z : Scene). z.wires.client.source) e') al.0.there;
+              used = al.0.used;
+              here = stood_as l to_client al.0.used a.caller.inbox b.caller.inbox a.wires.client.source b.wires.client.source (idle al.0.heard) (ap (λ (z : CallerState). z.inbox) new) (ap (λ (z : Scene). z.wires.client.source) e) al.0.here;
+              there = stood_as l to_client al.0.used a'.caller.inbox b'.caller.inbox a'.wires.client.source b'.wires.client.source (idle al.0.heard) (ap (λ (z : CallerState). z.inbox) new') (ap (λ (z : Scene). z.wires.client.source) e') al.0.there;
+              waiting = fewer (ap (λ (z : InboxState). length z.waiting) (ap (λ (z : CallerState). z.inbox) new)) al.0.waiting;
+              waiting' = fewer (ap (λ (z : InboxState). length z.waiting) (ap (λ (z : CallerState). z.inbox) new')) al.0.waiting';
             },
             servers_kept a b a' b' (ap (λ (z : Scene). z.host) e) (ap (λ (z : Scene). z.host) e') (ap (λ (z : Scene). z.unanswered) e) (ap (λ (z : Scene). z.unanswered) e') (ap (λ (z : Scene). z.wires.server.source) e) (ap (λ (z : Scene). z.wires.server.source) e') al.1,
           );
@@ -210,8 +229,8 @@ module _ (l : Rules) (to_client to_server : List ℕ) where
     pub takes : Comes turn.Takes a r b → Comes turn.Takes a' r' b' → Once r r' a b a' b'
     takes (inl (h, ok, x, ids), e) (inl (h', ok', x', ids'), e') =
         let core = a.host.core in
-        let same : h' ≡ h = one_header l to_server host.Takes host.Refuses server_never core a'.host.core al.1.core a.host.inbox b.host.inbox a'.host.inbox b'.host.inbox a.wires.server.source b.wires.server.source a'.wires.server.source b'.wires.server.source al.1.heard al.1.here al.1.there h h' x.0 x'.0 in
-        let stand = stand_on l to_server host.Takes host.Refuses server_never core a'.host.core al.1.core a.host.inbox b.host.inbox a'.host.inbox b'.host.inbox a.wires.server.source b.wires.server.source a'.wires.server.source b'.wires.server.source al.1.heard al.1.here al.1.there h h' x.0 x'.0 in
+        let same : h' ≡ h = one_header l to_server host.Takes host.Refuses server_never core a'.host.core al.1.core a.host.inbox b.host.inbox a'.host.inbox b'.host.inbox a.wires.server.source b.wires.server.source a'.wires.server.source b'.wires.server.source al.1.heard al.1.used al.1.here al.1.there h h' x.0 x'.0 in
+        let stand = stand_on l to_server host.Takes host.Refuses server_never core a'.host.core al.1.core a.host.inbox b.host.inbox a'.host.inbox b'.host.inbox a.wires.server.source b.wires.server.source a'.wires.server.source b'.wires.server.source al.1.heard al.1.used al.1.here al.1.there h h' x.0 x'.0 in
         record {
           answer = ok' ∙ sym ok;
           said = record {
@@ -225,18 +244,21 @@ module _ (l : Rules) (to_client to_server : List ℕ) where
               core = x'.1 ∙ ap (λ (c : ServerCore). accepted c (signal_of h') (accept_of c (signal_of h'))) al.1.core ∙ ap (λ (y : Header). accepted core (signal_of y) (accept_of core (signal_of y))) same ∙ sym x.1;
               ids = ids' ∙ ids_kept h'.stream h.stream (ap (λ (y : Header). y.stream) same) ∙ sym ids;
               heard = al.1.heard ++ h ∷ [];
-              here = stand.0;
-              there = stand.1;
+              used = stand.bytes;
+              here = stand.near;
+              there = stand.far;
+              waiting = stand.waiting;
+              waiting' = stand.waiting';
             },
           );
         }
     takes (inl (h, ok, x, ids), e) (inr (f', is', x', ids'), e') =
-        absurd (not_other l to_server host.Takes host.Refuses server_never a.host.core a'.host.core al.1.core a.host.inbox b.host.inbox a'.host.inbox b'.host.inbox a.wires.server.source b.wires.server.source a'.wires.server.source b'.wires.server.source al.1.heard al.1.here al.1.there h f' x.0 x' (server_decided r' f' a'.wires b'.wires is' d'))
+        absurd (not_other l to_server host.Takes host.Refuses server_never a.host.core a'.host.core al.1.core a.host.inbox b.host.inbox a'.host.inbox b'.host.inbox a.wires.server.source b.wires.server.source a'.wires.server.source b'.wires.server.source al.1.heard al.1.used al.1.here al.1.there h f' x.0 x' (server_decided r' f' a'.wires b'.wires is' d'))
     takes (inr (f, is, x, ids), e) (inl (h', ok', x', ids'), e') =
-        absurd (not_one l to_server host.Takes host.Refuses server_never a.host.core a'.host.core al.1.core a.host.inbox b.host.inbox a'.host.inbox b'.host.inbox a.wires.server.source b.wires.server.source a'.wires.server.source b'.wires.server.source al.1.heard al.1.here al.1.there f h' x x'.0 (server_decided r f a.wires b.wires is d))
+        absurd (not_one l to_server host.Takes host.Refuses server_never a.host.core a'.host.core al.1.core a.host.inbox b.host.inbox a'.host.inbox b'.host.inbox a.wires.server.source b.wires.server.source a'.wires.server.source b'.wires.server.source al.1.heard al.1.used al.1.here al.1.there f h' x x'.0 (server_decided r f a.wires b.wires is d))
     takes (inr (f, is, x, ids), e) (inr (f', is', x', ids'), e') = record {
       answer =
-          is' ∙ ap (λ (y : LoopFault). Err y) (one_fault l to_server host.Takes host.Refuses server_never a.host.core a'.host.core al.1.core a.host.inbox b.host.inbox a'.host.inbox b'.host.inbox a.wires.server.source b.wires.server.source a'.wires.server.source b'.wires.server.source al.1.heard al.1.here al.1.there f f' x x' (server_decided r f a.wires b.wires is d) (server_decided r' f' a'.wires b'.wires is' d'))
+          is' ∙ ap (λ (y : LoopFault). Err y) (one_fault l to_server host.Takes host.Refuses server_never a.host.core a'.host.core al.1.core a.host.inbox b.host.inbox a'.host.inbox b'.host.inbox a.wires.server.source b.wires.server.source a'.wires.server.source b'.wires.server.source al.1.heard al.1.used al.1.here al.1.there f f' x x' (server_decided r f a.wires b.wires is d) (server_decided r' f' a'.wires b'.wires is' d'))
           ∙ sym is;
       said = record {
         client = given_nothing _ _ _ _ (ap (λ (z : Scene). z.wires.client.target) e) (ap (λ (z : Scene). z.wires.client.target) e');
@@ -268,8 +290,11 @@ module _ (l : Rules) (to_client to_server : List ℕ) where
               core = ap (λ (z : HostState). z.core) new' ∙ ap (λ (c : ServerCore). answered c id' (opcode_of q) (Ok k')) al.1.core ∙ ap (λ (z : ℤ). answered a.host.core z (opcode_of q) (Ok k')) both.0 ∙ ap (λ (z : RequestKind). answered a.host.core id (opcode_of q) (Ok z)) same ∙ sym (ap (λ (z : HostState). z.core) new);
               ids = both.1;
               heard = al.1.heard;
-              here = stood_as l to_server a.host.inbox b.host.inbox a.wires.server.source b.wires.server.source (idle al.1.heard) (ap (λ (z : HostState). z.inbox) new) (ap (λ (z : Scene). z.wires.server.source) e) al.1.here;
-              there = stood_as l to_server a'.host.inbox b'.host.inbox a'.wires.server.source b'.wires.server.source (idle al.1.heard) (ap (λ (z : HostState). z.inbox) new') (ap (λ (z : Scene). z.wires.server.source) e') al.1.there;
+              used = al.1.used;
+              here = stood_as l to_server al.1.used a.host.inbox b.host.inbox a.wires.server.source b.wires.server.source (idle al.1.heard) (ap (λ (z : HostState). z.inbox) new) (ap (λ (z : Scene). z.wires.server.source) e) al.1.here;
+              there = stood_as l to_server al.1.used a'.host.inbox b'.host.inbox a'.wires.server.source b'.wires.server.source (idle al.1.heard) (ap (λ (z : HostState). z.inbox) new') (ap (λ (z : Scene). z.wires.server.source) e') al.1.there;
+              waiting = fewer (ap (λ (z : InboxState). length z.waiting) (ap (λ (z : HostState). z.inbox) new)) al.1.waiting;
+              waiting' = fewer (ap (λ (z : InboxState). length z.waiting) (ap (λ (z : HostState). z.inbox) new')) al.1.waiting';
             },
           );
         }
@@ -296,8 +321,8 @@ module _ (l : Rules) (to_client to_server : List ℕ) where
     pub hears : Comes turn.Hears a r b → Comes turn.Hears a' r' b' → Once r r' a b a' b'
     hears (inl (x, (h, (k, is_answer), opcode, got, new), p), e) (inl (x', (h', (k', is_answer'), opcode', got', new'), p'), e') =
         let core = a.caller.core in
-        let same : h' ≡ h = one_header l to_client caller.Takes caller.Refuses client_never core a'.caller.core al.0.core a.caller.inbox b.caller.inbox a'.caller.inbox b'.caller.inbox a.wires.client.source b.wires.client.source a'.wires.client.source b'.wires.client.source al.0.heard al.0.here al.0.there h h' got got' in
-        let stand = stand_on l to_client caller.Takes caller.Refuses client_never core a'.caller.core al.0.core a.caller.inbox b.caller.inbox a'.caller.inbox b'.caller.inbox a.wires.client.source b.wires.client.source a'.wires.client.source b'.wires.client.source al.0.heard al.0.here al.0.there h h' got got' in
+        let same : h' ≡ h = one_header l to_client caller.Takes caller.Refuses client_never core a'.caller.core al.0.core a.caller.inbox b.caller.inbox a'.caller.inbox b'.caller.inbox a.wires.client.source b.wires.client.source a'.wires.client.source b'.wires.client.source al.0.heard al.0.used al.0.here al.0.there h h' got got' in
+        let stand = stand_on l to_client caller.Takes caller.Refuses client_never core a'.caller.core al.0.core a.caller.inbox b.caller.inbox a'.caller.inbox b'.caller.inbox a.wires.client.source b.wires.client.source a'.wires.client.source b'.wires.client.source al.0.heard al.0.used al.0.here al.0.there h h' got got' in
         let there : reply_to core (signal_of h) ≡ Ok (Answer x'.0 k') = ap (λ (c : ClientCore). reply_to c (signal_of h)) (sym al.0.core) ∙ ap (λ (y : Header). reply_to a'.caller.core (signal_of y)) (sym same) ∙ is_answer' in
         let ticket : x'.0 ≡ x.0 = same_ticket x.0 x'.0 k k' (same_ok (Answer x.0 k) (Answer x'.0 k') (reply_to core (signal_of h)) is_answer there) in
         let code : x'.1 ≡ x.1 = opcode' ∙ ap (λ (y : Header). y.opcode) same ∙ sym opcode in
@@ -315,19 +340,22 @@ module _ (l : Rules) (to_client to_server : List ℕ) where
             record {
               core = new' ∙ ap (λ (c : ClientCore). replied c (signal_of h') (reply_to c (signal_of h'))) al.0.core ∙ ap (λ (y : Header). replied core (signal_of y) (reply_to core (signal_of y))) same ∙ sym new;
               heard = al.0.heard ++ h ∷ [];
-              here = stand.0;
-              there = stand.1;
+              used = stand.bytes;
+              here = stand.near;
+              there = stand.far;
+              waiting = stand.waiting;
+              waiting' = stand.waiting';
             },
             servers_kept a b a' b' (ap (λ (z : Scene). z.host) e) (ap (λ (z : Scene). z.host) e') (ap (λ (z : Scene). z.unanswered) e) (ap (λ (z : Scene). z.unanswered) e') (ap (λ (z : Scene). z.wires.server.source) e) (ap (λ (z : Scene). z.wires.server.source) e') al.1,
           );
         }
     hears (inl (x, (h, is_answer, opcode, got, new), p), e) (inr (f', is', x', s'), e') =
-        absurd (not_other l to_client caller.Takes caller.Refuses client_never a.caller.core a'.caller.core al.0.core a.caller.inbox b.caller.inbox a'.caller.inbox b'.caller.inbox a.wires.client.source b.wires.client.source a'.wires.client.source b'.wires.client.source al.0.heard al.0.here al.0.there h f' got x' (client_decided r' f' a'.wires b'.wires is' d'))
+        absurd (not_other l to_client caller.Takes caller.Refuses client_never a.caller.core a'.caller.core al.0.core a.caller.inbox b.caller.inbox a'.caller.inbox b'.caller.inbox a.wires.client.source b.wires.client.source a'.wires.client.source b'.wires.client.source al.0.heard al.0.used al.0.here al.0.there h f' got x' (client_decided r' f' a'.wires b'.wires is' d'))
     hears (inr (f, is, x, s), e) (inl (x', (h', is_answer', opcode', got', new'), p'), e') =
-        absurd (not_one l to_client caller.Takes caller.Refuses client_never a.caller.core a'.caller.core al.0.core a.caller.inbox b.caller.inbox a'.caller.inbox b'.caller.inbox a.wires.client.source b.wires.client.source a'.wires.client.source b'.wires.client.source al.0.heard al.0.here al.0.there f h' x got' (client_decided r f a.wires b.wires is d))
+        absurd (not_one l to_client caller.Takes caller.Refuses client_never a.caller.core a'.caller.core al.0.core a.caller.inbox b.caller.inbox a'.caller.inbox b'.caller.inbox a.wires.client.source b.wires.client.source a'.wires.client.source b'.wires.client.source al.0.heard al.0.used al.0.here al.0.there f h' x got' (client_decided r f a.wires b.wires is d))
     hears (inr (f, is, x, s), e) (inr (f', is', x', s'), e') = record {
       answer =
-          is' ∙ ap (λ (y : LoopFault). Err y) (one_fault l to_client caller.Takes caller.Refuses client_never a.caller.core a'.caller.core al.0.core a.caller.inbox b.caller.inbox a'.caller.inbox b'.caller.inbox a.wires.client.source b.wires.client.source a'.wires.client.source b'.wires.client.source al.0.heard al.0.here al.0.there f f' x x' (client_decided r f a.wires b.wires is d) (client_decided r' f' a'.wires b'.wires is' d'))
+          is' ∙ ap (λ (y : LoopFault). Err y) (one_fault l to_client caller.Takes caller.Refuses client_never a.caller.core a'.caller.core al.0.core a.caller.inbox b.caller.inbox a'.caller.inbox b'.caller.inbox a.wires.client.source b.wires.client.source a'.wires.client.source b'.wires.client.source al.0.heard al.0.used al.0.here al.0.there f f' x x' (client_decided r f a.wires b.wires is d) (client_decided r' f' a'.wires b'.wires is' d'))
           ∙ sym is;
       said = record {
         client = given_nothing _ _ _ _ (ap (λ (z : Scene). z.wires.client.target) e) (ap (λ (z : Scene). z.wires.client.target) e');

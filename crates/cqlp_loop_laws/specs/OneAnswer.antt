@@ -1,10 +1,11 @@
 -- Laws of one answer: what comes of a conversation is decided by the bytes that come, but for what only the outside
 -- decides: whether there is memory, whether a stream fails, and how many bytes a read gives.
-use Rattle.std.specs.Prelude.{◌≡◌, ℕ, ◌-◌, ◌^◌, ◌<◌, List, ◌++◌, Some, Result, Ok, Err, ◌⊎◌}
+use Rattle.std.specs.Prelude.{◌≡◌, ℕ, ◌-◌, ◌^◌, ◌<◌, ◌≤◌, List, ◌++◌, length, Some, Result, Ok, Err, ◌⊎◌}
 use Rattle.std.specs.Io.KnownBytes.{Appends}
 use Rattle.cqlp_note.specs.Outputs.{Output}
 use Rattle.cqlp_loop.specs.declared.fault.LoopFault.{LoopFault}
 use Rattle.cqlp_loop.specs.declared.fault.LoopFault.TheVariants as fault
+use Rattle.cqlp_loop.specs.Inboxes.{Supply}
 use Rattle.cqlp_loop.specs.Script.{End, Wires, Talks}
 
 -- ---- what the outside decides
@@ -48,6 +49,24 @@ pub record SaidTheSame (before after before' after' : Wires) : Type 0 where
   pub server : AreGivenTheSame before.server.target after.server.target before'.server.target after'.server.target
   pub lines : AreGivenTheSame before.out after.out before'.out after'.out
 
+-- Of all bytes that come, a source gave these and at most 4,096 more, as many as a read may give.
+pub record ReadTo (all used : List ℕ) (source : Supply) : Type 0 where
+  pub ahead : List ℕ
+  pub rest : List ℕ
+  pub split : all ≡ used ++ (ahead ++ rest)
+  pub few : length ahead ≤ 4096
+  pub left : source.left ≡ Some rest
+
+-- Two sources gave the same bytes, but for what was read ahead.
+abbrev pub ReadTheSame : (all : List ℕ) (source source' : Supply) → Type 0
+ReadTheSame all source source' = (used : List ℕ) × ReadTo all used source × ReadTo all used source'
+
+-- So it is of the sources of both ends.
+abbrev pub BothReadTheSame : (to_client to_server : List ℕ) (after after' : Wires) → Type 0
+BothReadTheSame to_client to_server after after' =
+    ReadTheSame to_client after.client.source after'.client.source
+    × ReadTheSame to_server after.server.source after'.server.source
+
 -- The second target was given what the first was, and then perhaps more, where it is known what they were given.
 abbrev pub IsGivenMore : (old new old' new' : Output) → Type 0
 IsGivenMore old new old' new' =
@@ -64,7 +83,7 @@ pub record SaidMore (before after before' after' : Wires) : Type 0 where
 -- ---- the laws
 
 -- Two conversations of one count, over the same bytes, of which the bytes decided the answers: these are one, and both
--- said the same.
+-- said the same; where they are Ok, both read the same.
 abbrev pub IsOneAnswerOfTalk : Type 0
 IsOneAnswerOfTalk =
     (count : ℕ) (to_client to_server : List ℕ) (r r' : Result (Unit {0}) LoopFault)
@@ -72,6 +91,7 @@ IsOneAnswerOfTalk =
     → TalksOver count to_client to_server before r after → TalksOver count to_client to_server before' r' after'
     → IsDecided r before after → IsDecided r' before' after'
     → (r' ≡ r) × SaidTheSame before after before' after'
+    × (r ≡ Ok tt → BothReadTheSame to_client to_server after after')
 
 -- Whatever the outside decides, one of them said what the other did, and then perhaps more.
 abbrev pub OneGoesOnFromOther : Type 0

@@ -1,9 +1,9 @@
-use Rattle.std.proofs.Common.{◌≤◌, length, drop, sym, ◌∙◌, arith}
+use Rattle.std.proofs.Common.{◌≤◌, [], length, drop, sym, ◌∙◌, arith}
 use Rattle.std.proofs.lemmas.List.{length-drop}
 use Rattle.cqlp_decode.specs.Streams.{state}
 use Rattle.cqlp_decode.proofs.Gets.{rest_is}
 use Rattle.cqlp_loop.specs.Inboxes.{awaiting}
-use Rattle.cqlp_loop.proofs.Seeking.{is_at, tells_none, tells_skipped, tells_mark, tells_more, says_more, says_refused}
+use Rattle.cqlp_loop.proofs.Seeking.{is_at, tells_none, tells_skipped, tells_mark, tells_more, says_more, says_refused, stops_mark}
 use Rattle.cqlp_loop.proofs.inbox.seek.Goals as goal
 
 pub events-init : goal.events-init
@@ -30,6 +30,7 @@ returns-in-Some c =
     let is = sym c.mark_in.ensures ∙ c.in-Some.is in (
       omega arith,
       is_at c.args.edge _ c.in-Some.mark is,
+      stops_mark (state c.args.decoder.now) (state c.events.decoder) (state c.next.follows.lender-at-none) c.args.piece.now c.events.used c.args.edge [] (c.events.invariant.tells []) c.in-Event.at c.in-Event.taken c.in-Event.event c.in-Some.mark leads is,
       λ hs. tells_mark (state c.args.decoder.now) (state c.events.decoder) (state c.next.follows.lender-at-none) c.args.piece.now c.events.used c.args.edge hs (c.events.invariant.tells hs) c.in-Event.at c.in-Event.taken c.in-Event.event c.in-Some.mark goes leads is,
     )
 

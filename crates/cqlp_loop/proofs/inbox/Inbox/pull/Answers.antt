@@ -1,6 +1,6 @@
 use Rattle.std.proofs.Common.{◌≡◌, rules}
 use Rattle.std.specs.Prelude.{Err}
-use Rattle.cqlp_loop.proofs.Pulling.{hears_none, used_last, refused_last, filled_last, failed_last}
+use Rattle.cqlp_loop.proofs.Pulling.{hears_none, stops_last, used_last, refused_last, filled_last, failed_last}
 use Rattle.cqlp_loop.proofs.inbox.Inbox.pull.Goals as goal
 
 pub reads-init : goal.reads-init
@@ -9,7 +9,7 @@ reads-init g c = record { heard = λ hs. hears_none _ _ _ }
 pub returns-in-Mark : goal.returns-in-Mark
 returns-in-Mark g c =
     let e = c.in-Mark.ensures in
-    (e.1, λ hs. used_last c.args.edge c.args.self.now c.reads.self _ _ c.reads.invariant.heard c.find.new.self hs _ e.0 (e.2 hs))
+    (e.1, stops_last c.args.edge c.args.self.now c.reads.self _ _ c.reads.invariant.heard _ c.find.new.self e.2, λ hs. used_last c.args.edge c.args.self.now c.reads.self _ _ c.reads.invariant.heard c.find.new.self hs _ e.0 (e.3 hs))
 
 pub returns-in-Refused : goal.returns-in-Refused
 returns-in-Refused g c =
