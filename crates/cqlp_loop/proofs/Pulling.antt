@@ -1,5 +1,5 @@
 -- What an inbox hears, read by read.
-use Rattle.std.proofs.Common.{◌≡◌, ℕ, ◌+◌, ◌-◌, ◌≤◌, List, [], ◌∷◌, ◌++◌, length, take, drop, inl, inr, refl, sym, ap, ◌∙◌, append_assoc, arith}
+use Rattle.std.proofs.Common.{◌≡◌, ℕ, true, ◌+◌, ◌-◌, ◌≤◌, List, [], ◌∷◌, ◌++◌, length, take, drop, inl, inr, refl, sym, ap, ◌∙◌, append_assoc, arith}
 use Rattle.std.proofs.lemmas.List.{append-nil, take-append-drop, length-append, length-take, drop-take, drop-drop}
 use Rattle.std.proofs.KnownBytes.{Consumes-nil, Consumes-trans}
 use Rattle.std.specs.Prelude.{Ok, Err}
@@ -43,9 +43,10 @@ reads_then n m k from at left a b p q = record {
 -- ---- what is needed
 
 short_then : (x y z : Hearing) → IsShort x y → IsShort y z → IsShort x z
-short_then x y z first (inr within) = inr within
 short_then x y z (inl same) (inl again) = inl (again ∙ same)
-short_then x y z (inr within) (inl again) = inr (rw again within)
+short_then x y z (inl same) (inr w) = inr (ap (λ (v : Hearing). v.under_way) (sym same) ∙ w.0, w.1, w.2 ∙ ap (λ (v : Hearing). amid (v.headers ++ w.1 ∷ [])) same)
+short_then x y z (inr w) (inl again) = inr (w.0, w.1, again ∙ w.2)
+short_then x y z (inr w) (inr v) = let within : y.under_way ≡ true = ap (λ (u : Hearing). u.under_way) w.2 in absurd (let without = v.0 in cc)
 
 -- what was needed before some of the bytes were used, and more were read
 needed_then : (old mid : InboxState) (used a b : List ℕ) (x y : Hearing) → old.waiting ++ a ≡ used ++ mid.waiting → Tells (state old.decoder) used (state mid.decoder) x y → IsShort x y → AreNeeded old a x → AreNeeded mid b y → AreNeeded old (a ++ b) x
@@ -180,11 +181,11 @@ module _ (takes refuses : Header → Type 0) (old mid : InboxState) (from at : S
   received new left taken rest = (
     taken,
     stops_then (for_next old) mid new mark.Tail from at _ _ (head []) rest.0,
-    hears_then (for_next old) mid new from at left (idle []) (amid (h ∷ [])) (idle (h ∷ [])) (inr refl) (head []) (rest.1 (h ∷ [])),
+    hears_then (for_next old) mid new from at left (idle []) (amid (h ∷ [])) (idle (h ∷ [])) (inr (refl, h, refl)) (head []) (rest.1 (h ∷ [])),
   )
 
   pub cut_short : (e : LoopFault) (new : InboxState) (left : Supply) → takes h → ((hs : List Header) → Misses mid at e left (amid hs) (amid hs)) → Receives takes refuses old from (Err e) new left
-  cut_short e new left taken rest = inr (inl (h, taken, misses_then e (for_next old) mid from at left (idle []) (amid (h ∷ [])) (amid (h ∷ [])) (inr refl) (head []) (rest (h ∷ []))))
+  cut_short e new left taken rest = inr (inl (h, taken, misses_then e (for_next old) mid from at left (idle []) (amid (h ∷ [])) (amid (h ∷ [])) (inr (refl, h, refl)) (head []) (rest (h ∷ []))))
 
   pub turned_away : refuses h → Receives takes refuses old from (Err fault.BadReply) mid at
   turned_away refused = inr (inr (h, refused, refl, head []))

@@ -1,5 +1,5 @@
 -- What an inbox hears of what a source gives.
-use Rattle.std.specs.Prelude.{◌≡◌, ℕ, ◌+◌, ◌*◌, ◌≤◌, true, List, [], ◌∷◌, ◌++◌, length, take, Option, Some, None, Result, Ok, Err, ⊤, ◌⊎◌}
+use Rattle.std.specs.Prelude.{◌≡◌, ℕ, ◌+◌, ◌*◌, ◌≤◌, true, false, List, [], ◌∷◌, ◌++◌, length, take, Option, Some, None, Result, Ok, Err, ⊤, ◌⊎◌}
 use Rattle.std.specs.Io.KnownBytes.{Consumes, Keeps, IsAtEnd}
 use Rattle.cqlp_note.specs.declared.streams.Source.{Ghosts}
 use Rattle.cqlp_note.specs.declared.header.Header.{Header}
@@ -161,9 +161,11 @@ pub record Reads (before : ℕ) (from : Supply) (bytes : List ℕ) (after : ℕ)
   pub least : before ≤ length bytes + after
   pub most : length bytes + 4096 * after ≤ 4096 * before
 
--- No message is whole: what was heard before, and perhaps a header.
+-- The next message is not whole: what was heard before, and perhaps its header.
 abbrev pub IsShort : (before stands : Hearing) → Type 0
-IsShort before stands = (stands ≡ before) ⊎ (stands.under_way ≡ true)
+IsShort before stands =
+    (stands ≡ before)
+    ⊎ ((before.under_way ≡ false) × (h : Header) × (stands ≡ amid (before.headers ++ h ∷ [])))
 
 -- The last read was made only once what waited, and all bytes of the reads before it, were seen not to hold the rest of
 -- the message.
