@@ -4,7 +4,8 @@
 ghost use Rattle.cqlp_loop_laws.specs.OneAnswer.{DecidedGoesFurthest, IsOneAnswerOfTalk, OneGoesOnFromOther};
 
 /// Two conversations with the same number of queries, in which the same bytes come to both ends, end alike and send and
-/// print the same, unless memory was wanting, a stream failed or a message took too many reads.
+/// print the same, unless memory was wanting, a stream failed or a message took too many reads. Where they are Ok, both
+/// read the same, but for at most 4,096 bytes of each source that were read ahead.
 pub fn one_answer_of_talk()
     ensures { IsOneAnswerOfTalk }
 {}
