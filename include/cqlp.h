@@ -25,12 +25,30 @@
  *     cqlp_finish(&decoder, &end);
  *     cqlp_free(&decoder);
  *
+ * A client's core knows which requests are open on a connection: it gives each a stream id, and says which of them a response
+ * answers. It sends and receives nothing. After a frame's event came from a server:
+ *
+ *     cqlp_client client = CQLP_NO_CLIENT_YET;
+ *     cqlp_ticket ticket = {0};
+ *     cqlp_reply reply = {0};
+ *     if (cqlp_client_new(1024, &client) != CQLP_DONE) return;
+ *     if (cqlp_client_begin(&client, CQLP_OPCODE_STARTUP, &ticket) == CQLP_DONE) {
+ *       cqlp_header fields = {length, ticket.id, CQLP_OPCODE_STARTUP, 0, 0};
+ *       cqlp_write_header(&fields, bytes);
+ *       send(fd, bytes, 9, 0); and then the body, of `length` bytes
+ *     }
+ *     ...
+ *     if (event->tag == CQLP_TAG_FRAME && cqlp_client_reply(&client, event, &reply) == CQLP_DONE)
+ *       take_reply(reply.what, reply.number);
+ *     cqlp_client_free(&client);
+ *
  * What the caller owes:
  *
  * - No pointer is null, also where the length or the room beside it is 0. Each points to as much as its type and the number
  *   after it say, aligned for its type, and no two that are given to one call overlap.
- * - A handle is CQLP_NO_DECODER_YET before cqlp_new. Nothing but these calls writes or copies it from then on until
- *   cqlp_free, and it is not given to another call of this library while one runs on it.
+ * - A handle is CQLP_NO_DECODER_YET before cqlp_new, and CQLP_NO_CLIENT_YET before cqlp_client_new. Nothing but these calls
+ *   writes or copies it from then on until it is freed, and it is not given to another call of this library while one runs
+ *   on it.
  * - The array of events and the other structs that calls write are memory that may be written; what was in them does not
  *   matter, but it must have been set once (zeros will do).
  * - The program has malloc, realloc and free of one allocator, that align as C says. Calls are not made from a signal
@@ -41,7 +59,7 @@
  * live longer. The batch ends after an event whose content is in the decoder, so all contents of one batch can be read
  * together.
  *
- * Threads: a decoder has no thread of its own and takes no lock. Keep a handle on the thread that made it. Different handles
+ * Threads: a decoder and a core have no thread of their own and take no lock. Keep a handle on the thread that made it. Different handles
  * share nothing, and may be used at the same time.
  *
  * The numbers below never change; new ones come at the end of their group, so take a number that you do not know as one to
@@ -65,7 +83,22 @@ extern "C" {
 #define CQLP_BAD_DEPTH 4             /* `depth` is not from 1 to 64 */
 #define CQLP_NO_MEMORY 5             /* malloc gave none */
 #define CQLP_NO_DECODER 6            /* the handle has no decoder */
-#define CQLP_IN_USE 7                /* the handle has a decoder already */
+#define CQLP_IN_USE 7                /* the handle has a decoder, or a core, already */
+#define CQLP_NO_CLIENT 8             /* the handle has no core */
+#define CQLP_BAD_SLOTS 9             /* the number of slots is not from 1 to 32768 */
+#define CQLP_NO_REQUEST 10           /* the opcode is no request's */
+#define CQLP_BAD_PHASE 11            /* requests of this kind may not begin in the phase that stands */
+#define CQLP_SPENT 12                /* 2^64 - 1 requests have begun */
+#define CQLP_FULL 13                 /* each slot has a request that waits for its reply */
+#define CQLP_NO_FRAME 14             /* the event is none that begins a frame */
+#define CQLP_NOT_RESPONSE 15         /* a request came */
+#define CQLP_NO_SUCH_STREAM 16       /* no request is open under the stream id of what came */
+#define CQLP_WRONG_OPCODE 17         /* what came answers no request of the kind that is open under its stream id */
+#define CQLP_NOT_CANCELLED 18        /* the request does not wait, was cancelled before, or sets up the connection */
+#define CQLP_COMPRESSED 19           /* the flag 01 is set */
+#define CQLP_BAD_OPCODE 20           /* no opcode has this number */
+#define CQLP_BAD_DIRECTION 21        /* a request's opcode in a response, or the other way round */
+#define CQLP_BAD_LENGTH 22           /* the body is longer than 268435456 bytes */
 
 /* Why a batch of events ends. */
 #define CQLP_STOP_MORE 0             /* all of the input was used, and more is wanted */
@@ -104,6 +137,24 @@ extern "C" {
 #define CQLP_MARK_NULL 2             /* null, not bytes */
 #define CQLP_MARK_UNSET 3            /* not set, not bytes */
 #define CQLP_MARK_LAST 4             /* the last part */
+
+/* Opcodes: what a message is, section 2.4. */
+#define CQLP_OPCODE_ERROR 0x00       /* a response: the request failed */
+#define CQLP_OPCODE_STARTUP 0x01     /* a request: the first that opens a connection */
+#define CQLP_OPCODE_READY 0x02       /* a response: the connection is open, or REGISTER was done */
+#define CQLP_OPCODE_AUTHENTICATE 0x03 /* a response: the client is to authenticate */
+#define CQLP_OPCODE_OPTIONS 0x05     /* a request: which options are there? */
+#define CQLP_OPCODE_SUPPORTED 0x06   /* a response: the options that are there */
+#define CQLP_OPCODE_QUERY 0x07       /* a request: a statement, to be run */
+#define CQLP_OPCODE_RESULT 0x08      /* a response: what came of a statement */
+#define CQLP_OPCODE_PREPARE 0x09     /* a request: a statement, to be prepared */
+#define CQLP_OPCODE_EXECUTE 0x0A     /* a request: a prepared statement, to be run */
+#define CQLP_OPCODE_REGISTER 0x0B    /* a request: events are asked for */
+#define CQLP_OPCODE_EVENT 0x0C       /* a response that no request asked for: something happened */
+#define CQLP_OPCODE_BATCH 0x0D       /* a request: several statements, to be run */
+#define CQLP_OPCODE_AUTH_CHALLENGE 0x0E /* a response: the client is to say more */
+#define CQLP_OPCODE_AUTH_RESPONSE 0x0F /* a request: what the client says to authenticate */
+#define CQLP_OPCODE_AUTH_SUCCESS 0x10 /* a response: the client is known */
 
 /* Fields of messages. */
 #define CQLP_FIELD_TRACE_ID 1        /* The id of the tracing session, a [uuid], where the header has the flag 02. Section 2.2. */
@@ -213,6 +264,18 @@ extern "C" {
 #define CQLP_REASON_EXTRA_IN_VALUE 19 /* Bytes of a value after its last item. */
 #define CQLP_REASON_STREAM_TOO_LONG 20 /* A frame that would begin past offset 2^63. */
 
+/* Phases: how far the setting up of a connection has come. Sections 4.1.1 and 4.1.2. */
+#define CQLP_PHASE_FRESH 1           /* no STARTUP yet: OPTIONS and STARTUP may begin */
+#define CQLP_PHASE_OPENING 2         /* a STARTUP or AUTH_RESPONSE waits for its reply: nothing may begin */
+#define CQLP_PHASE_CHALLENGED 3      /* the server asked for AUTH_RESPONSE, which alone may begin */
+#define CQLP_PHASE_READY 4           /* set up: all but STARTUP and AUTH_RESPONSE may begin */
+#define CQLP_PHASE_FAILED 5          /* setting up ended by an ERROR: nothing may begin */
+
+/* What a response says to a client. */
+#define CQLP_REPLY_EVENT 1           /* the server pushed an event: it is the reply to nothing */
+#define CQLP_REPLY_ANSWER 2          /* it is the reply to the request of this ticket */
+#define CQLP_REPLY_DROPPED 3         /* the same, and the request was cancelled */
+
 /* What a decoder holds at most, and what it reads. */
 typedef struct cqlp_limits {
   uint32_t text;    /* the bytes of one [string] or [long string]: 32 to 16777216 */
@@ -248,7 +311,7 @@ typedef struct cqlp_event {
   uint8_t tag;       /* CQLP_TAG_.. */
   uint8_t field;     /* CQLP_FIELD_.. */
   uint8_t kind;      /* CQLP_KIND_.. */
-  uint8_t opcode;    /* of a frame: section 2.4 */
+  uint8_t opcode;    /* of a frame: CQLP_OPCODE_.. */
   uint8_t flags;     /* of a frame: section 2.2 */
   uint8_t mark;      /* CQLP_MARK_.. */
   uint8_t octets;    /* how many of `bytes` are the event's: 4, 8 or 16 */
@@ -277,6 +340,37 @@ typedef struct cqlp_holding {
   uint32_t entries; /* the type options of the metadata begun last: no more than `entries` */
   uint32_t levels;  /* the types or values around the one that is read: no more than `depth` */
 } cqlp_holding;
+
+/* A client's core, or none: which requests are open on one connection. The members are the library's own. */
+typedef struct cqlp_client {
+  uint64_t live;
+  void *place;
+} cqlp_client;
+
+#define CQLP_NO_CLIENT_YET {0, NULL}
+
+/* A request that has begun; 16 bytes. */
+typedef struct cqlp_ticket {
+  uint64_t number; /* its place among all requests that the core began, from 1 on: no two have the same */
+  int16_t id;      /* the stream id, which its header has and its reply's will have: 0 to 32767 */
+} cqlp_ticket;
+
+/* What a response says to a client; 16 bytes. */
+typedef struct cqlp_reply {
+  uint64_t number; /* with `id` the request's ticket; 0 of an event */
+  int16_t id;
+  uint8_t what;    /* CQLP_REPLY_.. */
+  uint8_t request; /* of an answer what was asked for: CQLP_OPCODE_..; else 0 */
+} cqlp_reply;
+
+/* The fields of a header, section 2; 12 bytes. The version is 4. */
+typedef struct cqlp_header {
+  uint32_t length;  /* the bytes of the body: 0 to 268435456 */
+  int16_t stream;   /* the stream id: a request's is its ticket's */
+  uint8_t opcode;   /* CQLP_OPCODE_.. */
+  uint8_t flags;    /* 02 tracing, 04 custom payload, 08 warnings: section 2.2; not 01, compression */
+  uint8_t response; /* 0: a request; else a response */
+} cqlp_header;
 
 /* Makes a decoder in a handle that has none, at the start of a stream. All of its memory is asked for here, so no later call
  * runs out of memory.
@@ -312,6 +406,44 @@ uint32_t cqlp_free(cqlp_decoder *decoder);
 /* How a stream ends that is there whole: what a decoder with these limits says of it. It keeps nothing.
  * Answers CQLP_DONE; else `end` is as it was: a bad limit as in cqlp_new, or CQLP_NO_MEMORY. */
 uint32_t cqlp_check(const cqlp_limits *limits, const uint8_t *stream, size_t length, cqlp_end *end);
+
+/* Makes a client's core in a handle that has none, of a connection on which nothing was sent yet. `slots` is how many requests
+ * may be open at a time; their stream ids are those below it. All of its memory is asked for here.
+ * Answers CQLP_DONE; else the handle is as it was: CQLP_BAD_SLOTS, CQLP_NO_MEMORY, or CQLP_IN_USE where the handle has a
+ * core. */
+uint32_t cqlp_client_new(uint32_t slots, cqlp_client *client);
+
+/* Begins a request of the kind that has this opcode, and puts its ticket: the least stream id that is free, and the next
+ * number. Send its message, whose header has this id, in the order in which requests begin.
+ * Answers CQLP_DONE; else nothing changes, and the first of these that is so: CQLP_NO_CLIENT, CQLP_NO_REQUEST,
+ * CQLP_BAD_PHASE, CQLP_SPENT, CQLP_FULL. */
+uint32_t cqlp_client_begin(cqlp_client *client, uint8_t opcode, cqlp_ticket *ticket);
+
+/* Takes the event of a frame that came, one with CQLP_TAG_FRAME as cqlp_next put it, and says which request it answers. Its
+ * stream id is free again from then on, and the phase goes on where the request set up the connection. An EVENT with a
+ * negative stream id is CQLP_REPLY_EVENT, and changes nothing.
+ * Answers CQLP_DONE; else nothing changes, and the first of these that is so: CQLP_NO_CLIENT, CQLP_NO_FRAME,
+ * CQLP_NOT_RESPONSE, CQLP_NO_SUCH_STREAM, CQLP_WRONG_OPCODE. */
+uint32_t cqlp_client_reply(cqlp_client *client, const cqlp_event *frame, cqlp_reply *reply);
+
+/* Gives up a request that waits for its reply. Its stream id stays taken until the reply comes, which is then
+ * CQLP_REPLY_DROPPED. A STARTUP and an AUTH_RESPONSE cannot be given up.
+ * Answers CQLP_DONE; else nothing changes: CQLP_NO_CLIENT, or CQLP_NOT_CANCELLED, also where the ticket is none of this core's
+ * or its reply came. */
+uint32_t cqlp_client_cancel(cqlp_client *client, const cqlp_ticket *ticket);
+
+/* Puts the phase, CQLP_PHASE_... It changes nothing.
+ * Answers CQLP_DONE, or CQLP_NO_CLIENT, with `phase` as it was. */
+uint32_t cqlp_client_phase(cqlp_client *client, uint8_t *phase);
+
+/* Frees the core, and leaves a handle that has none, in which another may be made. Requests that are open are forgotten.
+ * Answers CQLP_DONE, or CQLP_NO_CLIENT where there was none, which does nothing. */
+uint32_t cqlp_client_free(cqlp_client *client);
+
+/* Writes the nine bytes of a header, of which the decoder reads these fields again.
+ * Answers CQLP_DONE; else the bytes are as they were, and the first of these that is so: CQLP_COMPRESSED, CQLP_BAD_OPCODE,
+ * CQLP_BAD_DIRECTION, CQLP_BAD_LENGTH. */
+uint32_t cqlp_write_header(const cqlp_header *fields, uint8_t bytes[9]);
 
 #ifdef __cplusplus
 }

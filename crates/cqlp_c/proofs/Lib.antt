@@ -1,4 +1,6 @@
 pub mod Checked
+pub mod Cored
+pub mod Cores
 pub mod Fills
 pub mod Made
 pub mod OneBatch

@@ -1,15 +1,22 @@
--- The laws of one answer.
-use Rattle.std.specs.Prelude.{◌≡◌, ℕ, ◌++◌, List, drop, map, take}
+-- Laws of the calls.
+use Rattle.std.specs.Prelude.{◌≡◌, ◌↔◌, ℕ, ◌++◌, true, List, drop, map, take, Option, Some}
 use Rattle.std.specs.Ptr.{null_ptr}
+use Rattle.cqlp_note.specs.declared.header.Header.{Header}
 use Rattle.cqlp_note.specs.Limits.{Rules}
 use Rattle.cqlp_grammar.specs.declared.event.Finish.{Finish}
 use Rattle.cqlp_decode.specs.Reading.{Event}
 use Rattle.cqlp_decode.specs.Standing.{StreamState}
 use Rattle.cqlp_decode.specs.Streams.{After}
+use Rattle.cqlp_session.specs.Client.{ClientCore}
+use Rattle.cqlp_session.specs.Signal.{signal_of}
 use Rattle.cqlp_c.specs.declared.batch.Batch.{Batch}
 use Rattle.cqlp_c.specs.declared.event.CqlpEvent.{CqlpEvent}
+use Rattle.cqlp_c.specs.declared.numbers.TheConstants as numbers
 use Rattle.cqlp_c.specs.Checks.{HasVerdict}
+use Rattle.cqlp_c.specs.Clients.{Starts}
+use Rattle.cqlp_c.specs.Events.{of_frame}
 use Rattle.cqlp_c.specs.Handle.{PutsInto}
+use Rattle.cqlp_c.specs.Talked.{is_stream, signal_in}
 
 -- what C is told by an event, wherever its content lies
 abbrev pub unplaced : CqlpEvent → CqlpEvent
@@ -39,3 +46,15 @@ IsOneAnswerOfNext =
 abbrev pub IsOneAnswerOfCheck : Type 0
 IsOneAnswerOfCheck =
     (l : Rules) (stream : List ℕ) (f f' : Finish) → HasVerdict l stream f → HasVerdict l stream f' → f' ≡ f
+
+-- Where memory is granted, a core that is made is one, and a handle that is in use is refused.
+abbrev pub IsOneAnswerOfClientNew : Type 0
+IsOneAnswerOfClientNew =
+    (slots : ℕ) (old : Option ClientCore) (code code' : ℕ) (new new' : Option ClientCore)
+    → Starts slots old code new → Starts slots old code' new'
+    → ((code ≡ numbers.NO_MEMORY) ↔ (code' ≡ numbers.NO_MEMORY)) → (code' ≡ code) × (new' ≡ new)
+
+-- The event of a frame shows a core what the header of the frame does.
+abbrev pub FramesAreHeard : Type 0
+FramesAreHeard =
+    (at : ℕ) (h : Header) → is_stream h.stream ≡ true → signal_in (of_frame at h) ≡ Some (signal_of h)

@@ -1,7 +1,10 @@
 pub mod Batches
 pub mod Checks
+pub mod Clients
 pub mod Events
 pub mod Handle
+pub mod Headers
 pub mod Laws
 pub mod Numbers
 pub mod Shown
+pub mod Talked

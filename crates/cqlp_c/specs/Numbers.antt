@@ -1,4 +1,4 @@
--- The numbers of fields, kinds and reasons.
+-- The numbers of fields, kinds, reasons and phases. That of an opcode is its own (`code_of` of cqlp_note).
 use Rattle.std.specs.Prelude.{ℕ}
 use Rattle.cqlp_note.specs.declared.limits.BadLimits.{BadLimits}
 use Rattle.cqlp_note.specs.declared.limits.BadLimits.TheVariants as limit
@@ -10,6 +10,8 @@ use Rattle.cqlp_kind.specs.declared.kind.Kind.{Kind}
 use Rattle.cqlp_kind.specs.declared.kind.Kind.TheVariants as kind
 use Rattle.cqlp_decode.specs.declared.decoder.NewError.{NewError}
 use Rattle.cqlp_decode.specs.declared.decoder.NewError.TheVariants as error
+use Rattle.cqlp_session.specs.declared.phase.Phase.{Phase}
+use Rattle.cqlp_session.specs.declared.phase.Phase.TheVariants as phase
 use Rattle.cqlp_c.specs.declared.numbers.TheConstants as numbers
 
 -- the code for a limit that is out of its range
@@ -134,3 +136,11 @@ number_of_reason reason.StreamTooLong = numbers.REASON_STREAM_TOO_LONG
 abbrev pub code_of_error : NewError → ℕ
 code_of_error (error.BadLimits b) = code_of_limit b
 code_of_error error.NoMemory = numbers.NO_MEMORY
+
+-- the number of a phase
+abbrev pub number_of_phase : Phase → ℕ
+number_of_phase phase.Fresh = numbers.PHASE_FRESH
+number_of_phase phase.Opening = numbers.PHASE_OPENING
+number_of_phase phase.Challenged = numbers.PHASE_CHALLENGED
+number_of_phase phase.Ready = numbers.PHASE_READY
+number_of_phase phase.Failed = numbers.PHASE_FAILED

@@ -218,7 +218,7 @@ impl CqlpEvent {
             tag: TAG_FRAME,
             number: i64::from(header.length),
             extra: i32::from(header.stream),
-            opcode: header.opcode.number(),
+            opcode: opcode_number(header.opcode),
             flags: header.flags,
             mark: if header.response {
                 MARK_RESPONSE

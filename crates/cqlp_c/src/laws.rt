@@ -1,6 +1,6 @@
 //! Laws of the calls. No code needs them.
 
-ghost use Rattle.cqlp_c.specs.Laws.{IsOneAnswerOfCheck, IsOneAnswerOfNext};
+ghost use Rattle.cqlp_c.specs.Laws.{FramesAreHeard, IsOneAnswerOfCheck, IsOneAnswerOfClientNew, IsOneAnswerOfNext};
 
 /// After the same bytes and events, over the same input and with the same room, there is one answer: the same batch with
 /// the same events, up to where their contents lie.
@@ -11,4 +11,15 @@ pub fn one_answer_of_next()
 /// A stream has one verdict, so that of a check is the one that a decoder gives that is given the stream in pieces.
 pub fn one_answer_of_check()
     ensures { IsOneAnswerOfCheck }
+{}
+
+/// Where memory is granted, `cqlp_client_new` has one answer. So have the other calls on a core, and `cqlp_write_header`, whose
+/// clauses are equations.
+pub fn one_answer_of_client_new()
+    ensures { IsOneAnswerOfClientNew }
+{}
+
+/// The event of a frame shows a core what the header of the frame does.
+pub fn frames_are_heard()
+    ensures { FramesAreHeard }
 {}

@@ -1,11 +1,13 @@
-//! The numbers by which C is told of codes, tags, marks, fields, kinds and reasons. They never change; new ones are added
+//! The numbers by which C is told of codes, tags, marks, opcodes, fields, kinds, reasons, phases and replies. They never change; new ones are added
 //! at the end of their group. `include/cqlp.h` has the same, with `CQLP_` before each name.
 
 ghost use Rattle.std.specs.Prelude.{◌≡◌};
+ghost use Rattle.cqlp_note.specs.Heading.{code_of};
 ghost use Rattle.cqlp_c.specs.Numbers as numbers;
 
 use cqlp_kind::Kind;
-use cqlp_note::{BadLimits, Field, Reason};
+use cqlp_note::{BadLimits, Field, Opcode, Reason};
+use cqlp_session::Phase;
 
 // ---- codes: what a call answers
 
@@ -24,6 +26,36 @@ pub const NO_MEMORY: u32 = 5;
 pub const NO_DECODER: u32 = 6;
 
 pub const IN_USE: u32 = 7;
+
+pub const NO_CLIENT: u32 = 8;
+
+pub const BAD_SLOTS: u32 = 9;
+
+pub const NO_REQUEST: u32 = 10;
+
+pub const BAD_PHASE: u32 = 11;
+
+pub const SPENT: u32 = 12;
+
+pub const FULL: u32 = 13;
+
+pub const NO_FRAME: u32 = 14;
+
+pub const NOT_RESPONSE: u32 = 15;
+
+pub const NO_SUCH_STREAM: u32 = 16;
+
+pub const WRONG_OPCODE: u32 = 17;
+
+pub const NOT_CANCELLED: u32 = 18;
+
+pub const COMPRESSED: u32 = 19;
+
+pub const BAD_OPCODE: u32 = 20;
+
+pub const BAD_DIRECTION: u32 = 21;
+
+pub const BAD_LENGTH: u32 = 22;
 
 // ---- why a batch of events ends
 
@@ -92,6 +124,40 @@ pub const MARK_NULL: u8 = 2;
 pub const MARK_UNSET: u8 = 3;
 
 pub const MARK_LAST: u8 = 4;
+
+// ---- opcodes: what a message is (section 2.4 of `native_protocol_v4.spec`)
+
+pub const OPCODE_ERROR: u8 = 0x00;
+
+pub const OPCODE_STARTUP: u8 = 0x01;
+
+pub const OPCODE_READY: u8 = 0x02;
+
+pub const OPCODE_AUTHENTICATE: u8 = 0x03;
+
+pub const OPCODE_OPTIONS: u8 = 0x05;
+
+pub const OPCODE_SUPPORTED: u8 = 0x06;
+
+pub const OPCODE_QUERY: u8 = 0x07;
+
+pub const OPCODE_RESULT: u8 = 0x08;
+
+pub const OPCODE_PREPARE: u8 = 0x09;
+
+pub const OPCODE_EXECUTE: u8 = 0x0A;
+
+pub const OPCODE_REGISTER: u8 = 0x0B;
+
+pub const OPCODE_EVENT: u8 = 0x0C;
+
+pub const OPCODE_BATCH: u8 = 0x0D;
+
+pub const OPCODE_AUTH_CHALLENGE: u8 = 0x0E;
+
+pub const OPCODE_AUTH_RESPONSE: u8 = 0x0F;
+
+pub const OPCODE_AUTH_SUCCESS: u8 = 0x10;
 
 // ---- fields, in the order of `Field`; 0 is no field
 
@@ -303,6 +369,26 @@ pub const REASON_EXTRA_IN_VALUE: u8 = 19;
 
 pub const REASON_STREAM_TOO_LONG: u8 = 20;
 
+// ---- phases of a connection, in the order of `Phase`
+
+pub const PHASE_FRESH: u8 = 1;
+
+pub const PHASE_OPENING: u8 = 2;
+
+pub const PHASE_CHALLENGED: u8 = 3;
+
+pub const PHASE_READY: u8 = 4;
+
+pub const PHASE_FAILED: u8 = 5;
+
+// ---- what a response says to a client
+
+pub const REPLY_EVENT: u8 = 1;
+
+pub const REPLY_ANSWER: u8 = 2;
+
+pub const REPLY_DROPPED: u8 = 3;
+
 /// The code for a limit that is out of its range.
 pub fn limit_code(limit: BadLimits) -> u32
     ensures { result ≡ numbers.code_of_limit limit }
@@ -312,6 +398,30 @@ pub fn limit_code(limit: BadLimits) -> u32
         BadLimits::Cell => BAD_CELL,
         BadLimits::Entries => BAD_ENTRIES,
         BadLimits::Depth => BAD_DEPTH,
+    }
+}
+
+/// The number of an opcode, which its headers have.
+pub fn opcode_number(opcode: Opcode) -> u8
+    ensures { result ≡ code_of opcode }
+{
+    match opcode {
+        Opcode::Error => OPCODE_ERROR,
+        Opcode::Startup => OPCODE_STARTUP,
+        Opcode::Ready => OPCODE_READY,
+        Opcode::Authenticate => OPCODE_AUTHENTICATE,
+        Opcode::Options => OPCODE_OPTIONS,
+        Opcode::Supported => OPCODE_SUPPORTED,
+        Opcode::Query => OPCODE_QUERY,
+        Opcode::Result => OPCODE_RESULT,
+        Opcode::Prepare => OPCODE_PREPARE,
+        Opcode::Execute => OPCODE_EXECUTE,
+        Opcode::Register => OPCODE_REGISTER,
+        Opcode::Event => OPCODE_EVENT,
+        Opcode::Batch => OPCODE_BATCH,
+        Opcode::AuthChallenge => OPCODE_AUTH_CHALLENGE,
+        Opcode::AuthResponse => OPCODE_AUTH_RESPONSE,
+        Opcode::AuthSuccess => OPCODE_AUTH_SUCCESS,
     }
 }
 
@@ -438,5 +548,18 @@ pub fn reason_number(why: Reason) -> u8
         Reason::BadScalar => REASON_BAD_SCALAR,
         Reason::ExtraInValue => REASON_EXTRA_IN_VALUE,
         Reason::StreamTooLong => REASON_STREAM_TOO_LONG,
+    }
+}
+
+/// The number of a phase.
+pub fn phase_number(phase: Phase) -> u8
+    ensures { result ≡ numbers.number_of_phase phase }
+{
+    match phase {
+        Phase::Fresh => PHASE_FRESH,
+        Phase::Opening => PHASE_OPENING,
+        Phase::Challenged => PHASE_CHALLENGED,
+        Phase::Ready => PHASE_READY,
+        Phase::Failed => PHASE_FAILED,
     }
 }

@@ -1,0 +1,49 @@
+-- A core that is made, and what it sees of a frame.
+use Rattle.std.proofs.Common.{◌≡◌, ◌↔◌, ℕ, Bool, true, false, Option, None, Some, refl, sym, ◌∙◌, inl, inr, if◌then◌else◌}
+use Rattle.std.specs.Prelude.{◌==◌}
+use Rattle.cqlp_note.specs.declared.header.Header.{Header}
+use Rattle.cqlp_note.specs.declared.opcode.Opcode.{Opcode}
+use Rattle.cqlp_note.specs.declared.opcode.Opcode.TheVariants as opcode
+use Rattle.cqlp_note.specs.Heading.{beside_number, code_of, opcodes}
+use Rattle.cqlp_session.specs.Client.{ClientCore}
+use Rattle.cqlp_session.specs.Signal.{signal_of}
+use Rattle.cqlp_c.specs.declared.numbers.TheConstants as numbers
+use Rattle.cqlp_c.specs.Clients.{Starts, StartsAnew, is_slot_count}
+use Rattle.cqlp_c.specs.Events.{of_frame}
+use Rattle.cqlp_c.specs.Talked.{is_stream, signal_in}
+
+started : (slots : ℕ) (b : Bool) (code code' : ℕ) (new new' : Option ClientCore) → StartsAnew slots b code new → StartsAnew slots b code' new' → ((code ≡ numbers.NO_MEMORY) ↔ (code' ≡ numbers.NO_MEMORY)) → (code' ≡ code) × (new' ≡ new)
+started slots false code code' new new' x y same = (y.0 ∙ sym x.0, y.1 ∙ sym x.1)
+started slots true code code' new new' (inl x) (inl y) same = (y.0 ∙ sym x.0, y.1 ∙ sym x.1)
+started slots true code code' new new' (inr x) (inr y) same = (y.0 ∙ sym x.0, y.1 ∙ sym x.1)
+started slots true code code' new new' (inl x) (inr y) same = absurd (let e = same.0 x.0 in let f = y.0 in cc)
+started slots true code code' new new' (inr x) (inl y) same = absurd (let e = same.1 y.0 in let f = x.0 in cc)
+
+pub one_core : (slots : ℕ) (old : Option ClientCore) (code code' : ℕ) (new new' : Option ClientCore) → Starts slots old code new → Starts slots old code' new' → ((code ≡ numbers.NO_MEMORY) ↔ (code' ≡ numbers.NO_MEMORY)) → (code' ≡ code) × (new' ≡ new)
+one_core slots None code code' new new' x y same = started slots (is_slot_count slots) code code' new new' x y same
+one_core slots (Some c) code code' new new' x y same = (y.0 ∙ sym x.0, y.1 ∙ sym x.1)
+
+code_stands : (o : Opcode) → beside_number (code_of o) opcodes ≡ Some o
+code_stands opcode.Error = refl
+code_stands opcode.Startup = refl
+code_stands opcode.Ready = refl
+code_stands opcode.Authenticate = refl
+code_stands opcode.Options = refl
+code_stands opcode.Supported = refl
+code_stands opcode.Query = refl
+code_stands opcode.Result = refl
+code_stands opcode.Prepare = refl
+code_stands opcode.Execute = refl
+code_stands opcode.Register = refl
+code_stands opcode.Event = refl
+code_stands opcode.Batch = refl
+code_stands opcode.AuthChallenge = refl
+code_stands opcode.AuthResponse = refl
+code_stands opcode.AuthSuccess = refl
+
+marked : (r : Bool) → ((if r then numbers.MARK_RESPONSE else numbers.MARK_NONE) == numbers.MARK_RESPONSE) ≡ r
+marked true = refl
+marked false = refl
+
+pub heard : (at : ℕ) (h : Header) → is_stream h.stream ≡ true → signal_in (of_frame at h) ≡ Some (signal_of h)
+heard at h is = rw is (rw (code_stands h.opcode) (rw (marked h.response) refl))
