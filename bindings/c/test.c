@@ -1,18 +1,12 @@
 /* What a caller in C sees: the events of a page, a refusal, handles that are made and freed, and every cut of a stream. It
  * prints, and bindings/c/expected is what it must print. */
-#include "cqlp.h"
-
-#include <assert.h>
-#include <stdio.h>
-#include <string.h>
+#include "give.h"
 
 static_assert(sizeof(cqlp_event) == 56 + 2 * sizeof(void *), "as in crates/cqlp_c/src/event.rt");
 static_assert(offsetof(cqlp_event, bytes) == 32 + 2 * sizeof(void *), "as in crates/cqlp_c/src/event.rt");
 static_assert(offsetof(cqlp_event, octets) == 54 + 2 * sizeof(void *), "as in crates/cqlp_c/src/event.rt");
 static_assert(sizeof(cqlp_limits) == 20, "as in crates/cqlp_c/src/shown.rt");
 static_assert(sizeof(cqlp_holding) == 12, "as in crates/cqlp_c/src/shown.rt");
-
-enum { ROOM = 64 };
 
 /* A response with one page, of one row with one list<int>, whose elements are 1 and null. */
 static const uint8_t page[] = {0x84, 0, 0, 0, 8, 0, 0, 0, 49, 0, 0, 0, 2, 0, 0, 0, 1, 0, 0, 0, 1, 0, 1, 'k', 0, 1, 't', 0, 1,
@@ -42,35 +36,6 @@ static void print_event(const cqlp_event *e) {
   printf("\n");
 }
 
-/* An event without where its content lies: a sum of all that it tells. */
-static uint64_t sum_of(uint64_t sum, const cqlp_event *e) {
-  cqlp_event plain = *e;
-  plain.content = NULL;
-  const uint8_t *bytes = (const uint8_t *)&plain;
-  size_t size = offsetof(cqlp_event, octets) + 1;
-  for (size_t i = 0; i < size; i++) sum = (sum ^ bytes[i]) * 1099511628211u;
-  for (size_t i = 0; i < e->length; i++) sum = (sum ^ e->content[i]) * 1099511628211u;
-  return sum;
-}
-
-/* Gives a piece to the decoder; each event goes into the sum, after the batch that it came in. */
-static uint8_t give(cqlp_decoder *decoder, const uint8_t *piece, size_t length, size_t room, uint64_t *sum, size_t *count) {
-  cqlp_event events[ROOM];
-  cqlp_batch batch;
-  size_t used = 0;
-  memset(events, 0, sizeof events);
-  memset(&batch, 0, sizeof batch);
-  do {
-    uint32_t code = cqlp_next(decoder, piece + used, length - used, events, room, &batch);
-    assert(code == CQLP_DONE && batch.used <= length - used && batch.events <= room);
-    assert(batch.stop != CQLP_STOP_FULL || batch.events > 0);
-    used += batch.used;
-    *count += batch.events;
-    for (size_t i = 0; i < batch.events; i++) *sum = sum_of(*sum, &events[i]);
-  } while (batch.stop == CQLP_STOP_FULL);
-  return batch.stop;
-}
-
 static void print_stream(const char *name, const uint8_t *stream, size_t length) {
   cqlp_limits limits = CQLP_DEFAULT_LIMITS;
   cqlp_decoder decoder = CQLP_NO_DECODER_YET;
@@ -80,47 +45,45 @@ static void print_stream(const char *name, const uint8_t *stream, size_t length)
   memset(events, 0, sizeof events);
   memset(&batch, 0, sizeof batch);
   memset(&end, 0, sizeof end);
-  assert(cqlp_new(&limits, &decoder) == CQLP_DONE);
-  assert(cqlp_next(&decoder, stream, length, events, ROOM, &batch) == CQLP_DONE);
+  CHECK(cqlp_new(&limits, &decoder) == CQLP_DONE);
+  CHECK(cqlp_next(&decoder, stream, length, events, ROOM, &batch) == CQLP_DONE);
   printf("%s\n", name);
   for (size_t i = 0; i < batch.events; i++) print_event(&events[i]);
   printf("used %zu stop %u reason %u at %llu\n", batch.used, batch.stop, batch.reason, (unsigned long long)batch.at);
-  assert(cqlp_finish(&decoder, &end) == CQLP_DONE);
+  CHECK(cqlp_finish(&decoder, &end) == CQLP_DONE);
   printf("verdict %u at %llu bytes %llu reason %u\n", end.verdict, (unsigned long long)end.at,
          (unsigned long long)end.bytes, end.reason);
   cqlp_end whole;
   memset(&whole, 0, sizeof whole);
-  assert(cqlp_check(&limits, stream, length, &whole) == CQLP_DONE);
-  assert(whole.verdict == end.verdict && whole.at == end.at && whole.bytes == end.bytes && whole.reason == end.reason);
-  assert(cqlp_free(&decoder) == CQLP_DONE);
+  CHECK(cqlp_check(&limits, stream, length, &whole) == CQLP_DONE);
+  CHECK(whole.verdict == end.verdict && whole.at == end.at && whole.bytes == end.bytes && whole.reason == end.reason);
+  CHECK(cqlp_free(&decoder) == CQLP_DONE);
 }
 
 /* Each cut of a stream, and each room, gives the same events. */
 static void cut_everywhere(const uint8_t *stream, size_t length) {
   cqlp_limits limits = CQLP_DEFAULT_LIMITS;
-  uint64_t wanted = 0;
-  size_t wanted_count = 0;
+  seen wanted = {0, 0};
   cqlp_decoder decoder = CQLP_NO_DECODER_YET;
-  assert(cqlp_new(&limits, &decoder) == CQLP_DONE);
-  give(&decoder, stream, length, ROOM, &wanted, &wanted_count);
+  CHECK(cqlp_new(&limits, &decoder) == CQLP_DONE);
+  give(&decoder, stream, length, ROOM, &wanted);
   cqlp_free(&decoder);
   for (size_t first = 0; first <= length; first++)
     for (size_t second = first; second <= length; second++)
       for (size_t room = 1; room <= 3; room++) {
-        uint64_t sum = 0;
-        size_t count = 0;
+        seen seen = {0, 0};
         cqlp_end end;
         memset(&end, 0, sizeof end);
-        assert(cqlp_new(&limits, &decoder) == CQLP_DONE);
-        give(&decoder, stream, first, room, &sum, &count);
-        give(&decoder, stream + first, second - first, room, &sum, &count);
-        give(&decoder, stream + second, length - second, room, &sum, &count);
-        assert(sum == wanted && count == wanted_count);
-        assert(cqlp_finish(&decoder, &end) == CQLP_DONE);
-        assert(end.verdict == CQLP_END_WHOLE && end.bytes == length);
-        assert(cqlp_free(&decoder) == CQLP_DONE);
+        CHECK(cqlp_new(&limits, &decoder) == CQLP_DONE);
+        give(&decoder, stream, first, room, &seen);
+        give(&decoder, stream + first, second - first, room, &seen);
+        give(&decoder, stream + second, length - second, room, &seen);
+        CHECK(seen.sum == wanted.sum && seen.events == wanted.events);
+        CHECK(cqlp_finish(&decoder, &end) == CQLP_DONE);
+        CHECK(end.verdict == CQLP_END_WHOLE && end.bytes == length);
+        CHECK(cqlp_free(&decoder) == CQLP_DONE);
       }
-  printf("each cut of %zu bytes: %zu events\n", length, wanted_count);
+  printf("each cut of %zu bytes: %zu events\n", length, wanted.events);
 }
 
 static void print_handles(void) {
@@ -142,22 +105,22 @@ static void print_handles(void) {
   printf("bad text first: %u\n", cqlp_new(&limits, &decoder));
   cqlp_limits good = CQLP_DEFAULT_LIMITS;
   for (int i = 0; i < 10000; i++) {
-    assert(cqlp_new(&good, &decoder) == CQLP_DONE);
-    assert(cqlp_new(&good, &decoder) == CQLP_IN_USE);
-    assert(cqlp_next(&decoder, query, 15, &event, 1, &batch) == CQLP_DONE);
-    assert(cqlp_free(&decoder) == CQLP_DONE);
+    CHECK(cqlp_new(&good, &decoder) == CQLP_DONE);
+    CHECK(cqlp_new(&good, &decoder) == CQLP_IN_USE);
+    CHECK(cqlp_next(&decoder, query, 15, &event, 1, &batch) == CQLP_DONE);
+    CHECK(cqlp_free(&decoder) == CQLP_DONE);
   }
-  assert(cqlp_new(&good, &decoder) == CQLP_DONE);
-  assert(cqlp_next(&decoder, query, 15, &event, 1, &batch) == CQLP_DONE && batch.stop == CQLP_STOP_FULL);
-  assert(cqlp_next(&decoder, query + 9, 6, &event, 1, &batch) == CQLP_DONE && batch.stop == CQLP_STOP_MORE);
-  assert(cqlp_held(&decoder, &held) == CQLP_DONE);
+  CHECK(cqlp_new(&good, &decoder) == CQLP_DONE);
+  CHECK(cqlp_next(&decoder, query, 15, &event, 1, &batch) == CQLP_DONE && batch.stop == CQLP_STOP_FULL);
+  CHECK(cqlp_next(&decoder, query + 9, 6, &event, 1, &batch) == CQLP_DONE && batch.stop == CQLP_STOP_MORE);
+  CHECK(cqlp_held(&decoder, &held) == CQLP_DONE);
   printf("held: %u bytes %u entries %u levels\n", held.bytes, held.entries, held.levels);
-  assert(cqlp_next(&decoder, query + 15, 7, &event, 1, &batch) == CQLP_DONE);
+  CHECK(cqlp_next(&decoder, query + 15, 7, &event, 1, &batch) == CQLP_DONE);
   printf("a text of two pieces: %.*s used %zu stop %u\n", (int)event.length, (const char *)event.content, batch.used,
          batch.stop);
   printf("no room: %u", cqlp_next(&decoder, query + 19, 3, &event, 0, &batch));
   printf(" stop %u used %zu events %zu\n", batch.stop, batch.used, batch.events);
-  assert(cqlp_free(&decoder) == CQLP_DONE);
+  CHECK(cqlp_free(&decoder) == CQLP_DONE);
 }
 
 int main(void) {

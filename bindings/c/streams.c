@@ -1,0 +1,140 @@
+/* Streams as data: the lines of crates/cqlp_vectors/stdin come on standard input, each a name, `--raw` or `--parts`, `|` and
+ * hexadecimal digits. Of each stream the offset and the tag of its events and its verdict are printed, as they stand in
+ * crates/cqlp_vectors/stdout, and each cut of it has to give the same. Then each byte of each stream is replaced by others,
+ * so that lengths and counts lie: however it is cut, the events and the verdict are those of the whole, and no byte past a piece
+ * or past the array is read or written. */
+#include "give.h"
+
+static const char *const TAGS[] = {"",     "Frame", "Byte", "Short", "Int",  "Long",  "Uuid",  "Count", "Text", "Bytes",
+                                   "Bound", "Inet", "TypeNode", "Leaf", "Null", "Empty", "Enter", "Leave", "Part", "End"};
+
+static const char *const REASONS[] = {"", "BadVersion", "Compressed", "BadOpcode", "BadDirection", "BadLength", "Overrun",
+                                      "TooLong", "BadUtf8", "BadValueLength", "BadInet", "BadCount", "BadType", "TooDeep",
+                                      "TooMany", "BadBatchKind", "BadBatchFlags", "BadSize", "BadScalar", "ExtraInValue",
+                                      "StreamTooLong"};
+
+static void print_whole(const cqlp_limits *limits, const uint8_t *stream, size_t length) {
+  cqlp_decoder decoder = CQLP_NO_DECODER_YET;
+  cqlp_event event;
+  cqlp_batch batch;
+  cqlp_end end;
+  size_t used = 0;
+  memset(&event, 0, sizeof event);
+  memset(&batch, 0, sizeof batch);
+  memset(&end, 0, sizeof end);
+  CHECK(cqlp_new(limits, &decoder) == CQLP_DONE);
+  do {
+    CHECK(cqlp_next(&decoder, stream + used, length - used, &event, 1, &batch) == CQLP_DONE);
+    used += batch.used;
+    if (batch.events) printf("%llu %s\n", (unsigned long long)event.at, TAGS[event.tag]);
+  } while (batch.stop == CQLP_STOP_FULL);
+  CHECK(cqlp_finish(&decoder, &end) == CQLP_DONE);
+  if (end.verdict == CQLP_END_WHOLE) printf("whole %llu\n", (unsigned long long)end.bytes);
+  if (end.verdict == CQLP_END_CUT)
+    printf("cut %llu %llu\n", (unsigned long long)end.at, (unsigned long long)end.bytes);
+  if (end.verdict == CQLP_END_REFUSED) printf("refused %llu %s\n", (unsigned long long)end.at, REASONS[end.reason]);
+  CHECK(cqlp_free(&decoder) == CQLP_DONE);
+}
+
+/* What two pieces of a stream, cut here, give, with this much room. */
+static seen seen_of(const cqlp_limits *limits, const uint8_t *stream, size_t length, size_t cut, size_t room, cqlp_end *end) {
+  cqlp_decoder decoder = CQLP_NO_DECODER_YET;
+  seen seen = {0, 0};
+  memset(end, 0, sizeof *end);
+  CHECK(cqlp_new(limits, &decoder) == CQLP_DONE);
+  give(&decoder, stream, cut, room, &seen);
+  give(&decoder, stream + cut, length - cut, room, &seen);
+  CHECK(cqlp_finish(&decoder, end) == CQLP_DONE);
+  CHECK(cqlp_free(&decoder) == CQLP_DONE);
+  return seen;
+}
+
+/* The same byte by byte. */
+static seen seen_by_byte(const cqlp_limits *limits, const uint8_t *stream, size_t length, cqlp_end *end) {
+  cqlp_decoder decoder = CQLP_NO_DECODER_YET;
+  seen seen = {0, 0};
+  memset(end, 0, sizeof *end);
+  CHECK(cqlp_new(limits, &decoder) == CQLP_DONE);
+  for (size_t i = 0; i < length; i++) give(&decoder, stream + i, 1, 2, &seen);
+  CHECK(cqlp_finish(&decoder, end) == CQLP_DONE);
+  CHECK(cqlp_free(&decoder) == CQLP_DONE);
+  return seen;
+}
+
+static void check_same(seen a, seen b, const cqlp_end *end, const cqlp_end *whole) {
+  CHECK(a.sum == b.sum && a.events == b.events && same_end(end, whole));
+}
+
+static void cut_everywhere(const cqlp_limits *limits, const uint8_t *stream, size_t length) {
+  cqlp_end whole, end;
+  seen wanted = seen_of(limits, stream, length, length, ROOM, &whole);
+  memset(&end, 0, sizeof end);
+  CHECK(cqlp_check(limits, stream, length, &end) == CQLP_DONE && same_end(&end, &whole));
+  for (size_t cut = 0; cut <= length; cut++)
+    for (size_t room = 1; room <= ROOM; room += ROOM - 1) {
+      seen cut_there = seen_of(limits, stream, length, cut, room, &end);
+      check_same(cut_there, wanted, &end, &whole);
+    }
+  seen by_byte = seen_by_byte(limits, stream, length, &end);
+  check_same(by_byte, wanted, &end, &whole);
+}
+
+/* Each byte of the stream lies in turn. */
+static void lie_everywhere(const cqlp_limits *limits, uint8_t *stream, size_t length) {
+  static const uint8_t lies[] = {0x00, 0x01, 0x7F, 0x80, 0xFF};
+  for (size_t at = 0; at < length; at++) {
+    uint8_t truth = stream[at];
+    for (size_t i = 0; i < sizeof lies; i++) {
+      cqlp_end whole, end;
+      stream[at] = lies[i];
+      seen wanted = seen_of(limits, stream, length, length, ROOM, &whole);
+      seen by_byte = seen_by_byte(limits, stream, length, &end);
+      check_same(by_byte, wanted, &end, &whole);
+      seen cut_there = seen_of(limits, stream, length, at, 1, &end);
+      check_same(cut_there, wanted, &end, &whole);
+    }
+    stream[at] = truth;
+  }
+}
+
+static int digit(char c) {
+  if (c >= '0' && c <= '9') return c - '0';
+  if (c >= 'a' && c <= 'f') return c - 'a' + 10;
+  return -1;
+}
+
+static size_t bytes_of(const char *digits, uint8_t *bytes, size_t room) {
+  size_t count = 0;
+  int high = -1;
+  for (; *digits; digits++) {
+    int value = digit(*digits);
+    if (value < 0) continue;
+    if (high < 0) {
+      high = value;
+    } else {
+      CHECK(count < room);
+      bytes[count++] = (uint8_t)(high * 16 + value);
+      high = -1;
+    }
+  }
+  CHECK(high < 0);
+  return count;
+}
+
+int main(void) {
+  static char line[8192];
+  static uint8_t stream[4096];
+  while (fgets(line, sizeof line, stdin)) {
+    char *bar = strchr(line, '|');
+    if (!bar) continue;
+    size_t length = bytes_of(bar + 1, stream, sizeof stream);
+    while (bar > line && bar[-1] == ' ') bar--;
+    *bar = 0;
+    printf("== %s\n", line);
+    cqlp_limits limits = {64, 64, 8, 3, !strstr(line, "--raw"), strstr(line, "--parts") != NULL};
+    print_whole(&limits, stream, length);
+    cut_everywhere(&limits, stream, length);
+    lie_everywhere(&limits, stream, length);
+  }
+  return 0;
+}
