@@ -5,7 +5,7 @@ ghost use Rattle.cqlp_note.specs.declared.refusal.Refusal.{Refusal as Refused};
 ghost use Rattle.cqlp_decode.specs.Streams.{state};
 ghost use Rattle.cqlp_c.specs.Batches.{FillsOn, GoesOn, RepeatsRefusal};
 
-use crate::event::{CqlpEvent, told};
+use crate::event::{CqlpEvent, tell};
 use cqlp_decode::{Decoder, Step};
 use cqlp_note::Refusal;
 use std::alloc::Global;
@@ -67,11 +67,12 @@ pub fn fill(decoder: &mut Decoder<Global>, input: &[u8], events: &mut [CqlpEvent
                 used: taken,
                 event,
             } => {
-                let event = told(at, &event);
-                events[count] = event;
+                let slot = &mut events[count];
+                tell(slot, at, &event);
+                let gathered = slot.is_gathered(taken);
                 used += taken;
                 count += 1;
-                if event.is_gathered(taken) {
+                if gathered {
                     return Batch {
                         used,
                         events: count,

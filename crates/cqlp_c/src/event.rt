@@ -115,117 +115,80 @@ impl CqlpEvent {
         }
     }
 
-    /// The event with this content.
-    fn lending(self, bytes: &[u8]) -> CqlpEvent
-        ensures { LendsFrom self bytes.now result }
+    /// Puts this content.
+    fn lend(&mut self, bytes: &[u8])
+        ensures { LendsFrom self.old bytes.now self.new }
     {
-        CqlpEvent {
-            content: start_of(bytes),
-            length: bytes.len(),
-            ..self
-        }
+        self.content = start_of(bytes);
+        self.length = bytes.len();
     }
 
-    /// The event with this address.
-    fn address(self, address: Address) -> CqlpEvent
-        ensures { result ≡ has_address self address }
+    /// Puts this address.
+    fn put_address(&mut self, address: Address)
+        ensures { self.new ≡ has_address self.old address }
     {
         match address {
-            Address::V4(bytes) => CqlpEvent {
-                bytes: widen_four(bytes),
-                octets: 4,
-                ..self
-            },
-            Address::V6(bytes) => CqlpEvent {
-                bytes,
-                octets: 16,
-                ..self
-            },
+            Address::V4(bytes) => self.put_bytes(widen_four(bytes), 4),
+            Address::V6(bytes) => self.put_bytes(bytes, 16),
         }
     }
 
-    /// An event that is a field.
-    fn of_field(at: u64, tag: u8, field: Field) -> CqlpEvent
-        ensures { result ≡ of_field at tag field }
+    /// Puts these bytes, of which so many are its own.
+    fn put_bytes(&mut self, bytes: [u8; 16], octets: u8)
+        ensures { self.new ≡ record self.old { bytes = bytes; octets = octets } }
     {
-        CqlpEvent {
-            tag,
-            field: field_number(field),
-            ..CqlpEvent::blank(at)
-        }
+        self.bytes = bytes;
+        self.octets = octets;
     }
 
-    /// An event that is a value, or a part of one.
-    fn of_value(at: u64, tag: u8, row: u32, column: u32, level: u32) -> CqlpEvent
-        ensures { result ≡ of_value at tag row column level }
+    /// Puts a number of a scalar of this kind.
+    fn put_number(&mut self, kind: Kind, number: i64)
+        ensures { self.new ≡ record self.old { kind = number_of_kind kind; number = number } }
     {
-        CqlpEvent {
-            tag,
-            row,
-            column,
-            level,
-            ..CqlpEvent::blank(at)
-        }
+        self.kind = kind_number(kind);
+        self.number = number;
     }
 
-    /// The event of this kind.
-    fn of_kind(self, kind: Kind) -> CqlpEvent
-        ensures { result ≡ record self { kind = number_of_kind kind } }
+    /// Begins an event that is a field.
+    fn begin_field(&mut self, at: u64, tag: u8, field: Field)
+        ensures { self.new ≡ of_field at tag field }
     {
-        CqlpEvent {
-            kind: kind_number(kind),
-            ..self
-        }
+        *self = CqlpEvent::blank(at);
+        self.tag = tag;
+        self.field = field_number(field);
     }
 
-    /// The event with this number.
-    fn numbered(self, number: i64) -> CqlpEvent
-        ensures { result ≡ record self { number = number } }
+    /// Begins an event that is a field with this number.
+    fn put_field(&mut self, at: u64, tag: u8, field: Field, number: i64)
+        ensures { self.new ≡ record (of_field at tag field) { number = number } }
     {
-        CqlpEvent { number, ..self }
+        self.begin_field(at, tag, field);
+        self.number = number;
     }
 
-    /// The event with these bytes, of which so many are its own.
-    fn spelled(self, bytes: [u8; 16], octets: u8) -> CqlpEvent
-        ensures { result ≡ record self { bytes = bytes; octets = octets } }
+    /// Begins an event that is a value, or a part of one.
+    fn begin_value(&mut self, at: u64, tag: u8, row: u32, column: u32, level: u32)
+        ensures { self.new ≡ of_value at tag row column level }
     {
-        CqlpEvent {
-            bytes,
-            octets,
-            ..self
-        }
-    }
-
-    /// The event with this mark.
-    fn marked(self, mark: u8) -> CqlpEvent
-        ensures { result ≡ record self { mark = mark } }
-    {
-        CqlpEvent { mark, ..self }
-    }
-
-    /// The event with this port or scale.
-    fn with_extra(self, extra: i32) -> CqlpEvent
-        ensures { result ≡ record self { extra = extra } }
-    {
-        CqlpEvent { extra, ..self }
+        *self = CqlpEvent::blank(at);
+        self.tag = tag;
+        self.row = row;
+        self.column = column;
+        self.level = level;
     }
 
     /// A frame begins.
-    fn of_frame(at: u64, header: &Header) -> CqlpEvent
-        ensures { result ≡ of_frame at header.now }
+    fn put_frame(&mut self, at: u64, header: &Header)
+        ensures { self.new ≡ of_frame at header.now }
     {
-        CqlpEvent {
-            tag: TAG_FRAME,
-            number: i64::from(header.length),
-            extra: i32::from(header.stream),
-            opcode: opcode_number(header.opcode),
-            flags: header.flags,
-            mark: if header.response {
-                MARK_RESPONSE
-            } else {
-                MARK_NONE
-            },
-            ..CqlpEvent::blank(at)
+        *self = CqlpEvent::blank(at);
+        self.tag = TAG_FRAME;
+        self.number = i64::from(header.length);
+        self.extra = i32::from(header.stream);
+        self.opcode = opcode_number(header.opcode);
+        self.flags = header.flags;
+        if header.response {
+            self.mark = MARK_RESPONSE;
         }
     }
 
@@ -243,116 +206,166 @@ impl CqlpEvent {
 }
 
 /// A scalar of a cell.
-fn leaf(at: u64, row: u32, column: u32, level: u32, scalar: &Scalar<'_>) -> CqlpEvent
-    ensures { Tells result at (Cell_at row column (cell.Leaf level (value_of scalar.now))) }
+fn tell_scalar(
+    slot: &mut CqlpEvent,
+    at: u64,
+    row: u32,
+    column: u32,
+    level: u32,
+    scalar: &Scalar<'_>,
+)
+    ensures { Tells slot.new at (Cell_at row column (cell.Leaf level (value_of scalar.now))) }
 {
-    let leaf = CqlpEvent::of_value(at, TAG_LEAF, row, column, level);
+    slot.begin_value(at, TAG_LEAF, row, column, level);
     match *scalar {
-        Scalar::Custom(bytes) => leaf.of_kind(Kind::Custom).lending(bytes),
-        Scalar::Ascii(text) => leaf.of_kind(Kind::Ascii).lending(text.as_bytes()),
-        Scalar::Bigint(number) => leaf.of_kind(Kind::Bigint).numbered(number),
-        Scalar::Blob(bytes) => leaf.of_kind(Kind::Blob).lending(bytes),
-        Scalar::Boolean(truth) => leaf
-            .of_kind(Kind::Boolean)
-            .numbered(if truth { 1 } else { 0 }),
-        Scalar::Counter(number) => leaf.of_kind(Kind::Counter).numbered(number),
-        Scalar::Decimal { scale, unscaled } => leaf
-            .of_kind(Kind::Decimal)
-            .with_extra(scale)
-            .lending(unscaled),
-        Scalar::Double(bytes) => leaf.of_kind(Kind::Double).spelled(widen_eight(bytes), 8),
-        Scalar::Float(bytes) => leaf.of_kind(Kind::Float).spelled(widen_four(bytes), 4),
-        Scalar::Int(number) => leaf.of_kind(Kind::Int).numbered(i64::from(number)),
-        Scalar::Timestamp(number) => leaf.of_kind(Kind::Timestamp).numbered(number),
-        Scalar::Uuid(bytes) => leaf.of_kind(Kind::Uuid).spelled(bytes, 16),
-        Scalar::Varchar(text) => leaf.of_kind(Kind::Varchar).lending(text.as_bytes()),
-        Scalar::Varint(bytes) => leaf.of_kind(Kind::Varint).lending(bytes),
-        Scalar::Timeuuid(bytes) => leaf.of_kind(Kind::Timeuuid).spelled(bytes, 16),
-        Scalar::Inet(address) => leaf.of_kind(Kind::Inet).address(address),
-        Scalar::Date(number) => leaf.of_kind(Kind::Date).numbered(i64::from(number)),
-        Scalar::Time(number) => leaf.of_kind(Kind::Time).numbered(number),
-        Scalar::Smallint(number) => leaf.of_kind(Kind::Smallint).numbered(i64::from(number)),
-        Scalar::Tinyint(number) => leaf.of_kind(Kind::Tinyint).numbered(i64::from(number)),
-        Scalar::Raw(bytes) => leaf.of_kind(Kind::Raw).lending(bytes),
+        Scalar::Custom(bytes) => {
+            slot.kind = KIND_CUSTOM;
+            slot.lend(bytes);
+        }
+        Scalar::Ascii(text) => {
+            slot.kind = KIND_ASCII;
+            slot.lend(text.as_bytes());
+        }
+        Scalar::Bigint(number) => slot.put_number(Kind::Bigint, number),
+        Scalar::Blob(bytes) => {
+            slot.kind = KIND_BLOB;
+            slot.lend(bytes);
+        }
+        Scalar::Boolean(truth) => slot.put_number(Kind::Boolean, if truth { 1 } else { 0 }),
+        Scalar::Counter(number) => slot.put_number(Kind::Counter, number),
+        Scalar::Decimal { scale, unscaled } => {
+            slot.kind = KIND_DECIMAL;
+            slot.extra = scale;
+            slot.lend(unscaled);
+        }
+        Scalar::Double(bytes) => {
+            slot.kind = KIND_DOUBLE;
+            slot.put_bytes(widen_eight(bytes), 8);
+        }
+        Scalar::Float(bytes) => {
+            slot.kind = KIND_FLOAT;
+            slot.put_bytes(widen_four(bytes), 4);
+        }
+        Scalar::Int(number) => slot.put_number(Kind::Int, i64::from(number)),
+        Scalar::Timestamp(number) => slot.put_number(Kind::Timestamp, number),
+        Scalar::Uuid(bytes) => {
+            slot.kind = KIND_UUID;
+            slot.put_bytes(bytes, 16);
+        }
+        Scalar::Varchar(text) => {
+            slot.kind = KIND_VARCHAR;
+            slot.lend(text.as_bytes());
+        }
+        Scalar::Varint(bytes) => {
+            slot.kind = KIND_VARINT;
+            slot.lend(bytes);
+        }
+        Scalar::Timeuuid(bytes) => {
+            slot.kind = KIND_TIMEUUID;
+            slot.put_bytes(bytes, 16);
+        }
+        Scalar::Inet(address) => {
+            slot.kind = KIND_INET;
+            slot.put_address(address);
+        }
+        Scalar::Date(number) => slot.put_number(Kind::Date, i64::from(number)),
+        Scalar::Time(number) => slot.put_number(Kind::Time, number),
+        Scalar::Smallint(number) => slot.put_number(Kind::Smallint, i64::from(number)),
+        Scalar::Tinyint(number) => slot.put_number(Kind::Tinyint, i64::from(number)),
+        Scalar::Raw(bytes) => {
+            slot.kind = KIND_RAW;
+            slot.lend(bytes);
+        }
     }
 }
 
-/// The event at an offset, as C sees it.
-pub fn told(at: u64, event: &Event<'_>) -> CqlpEvent
-    ensures { Tells result at (event_of event.now) }
+/// Puts the event at an offset, as C sees it.
+pub fn tell(slot: &mut CqlpEvent, at: u64, event: &Event<'_>)
+    ensures { Tells slot.new at (event_of event.now) }
 {
     match *event {
-        Event::Frame(header) => CqlpEvent::of_frame(at, &header),
-        Event::Byte { field, value } => CqlpEvent::of_field(at, TAG_BYTE, field).numbered(i64::from(
-            value,
-        )),
-        Event::Short { field, value } => CqlpEvent::of_field(at, TAG_SHORT, field).numbered(
-            i64::from(value),
-        ),
-        Event::Int { field, value } => CqlpEvent::of_field(at, TAG_INT, field).numbered(i64::from(
-            value,
-        )),
-        Event::Long { field, value } => CqlpEvent::of_field(at, TAG_LONG, field).numbered(value),
-        Event::Uuid { field, value } => CqlpEvent::of_field(at, TAG_UUID, field).spelled(value, 16),
-        Event::Count { field, count } => CqlpEvent::of_field(at, TAG_COUNT, field).numbered(
-            i64::from(count),
-        ),
-        Event::Text { field, text } => CqlpEvent::of_field(at, TAG_TEXT, field).lending(
-            text.as_bytes(),
-        ),
+        Event::Frame(header) => slot.put_frame(at, &header),
+        Event::Byte { field, value } => slot.put_field(at, TAG_BYTE, field, i64::from(value)),
+        Event::Short { field, value } => slot.put_field(at, TAG_SHORT, field, i64::from(value)),
+        Event::Int { field, value } => slot.put_field(at, TAG_INT, field, i64::from(value)),
+        Event::Long { field, value } => slot.put_field(at, TAG_LONG, field, value),
+        Event::Uuid { field, value } => {
+            slot.begin_field(at, TAG_UUID, field);
+            slot.put_bytes(value, 16);
+        }
+        Event::Count { field, count } => slot.put_field(at, TAG_COUNT, field, i64::from(count)),
+        Event::Text { field, text } => {
+            slot.begin_field(at, TAG_TEXT, field);
+            slot.lend(text.as_bytes());
+        }
         Event::Bytes {
             field,
             bytes: Some(bytes),
-        } => CqlpEvent::of_field(at, TAG_BYTES, field).lending(bytes),
-        Event::Bytes { field, bytes: None } => CqlpEvent::of_field(at, TAG_BYTES, field).marked(
-            MARK_NULL,
-        ),
+        } => {
+            slot.begin_field(at, TAG_BYTES, field);
+            slot.lend(bytes);
+        }
+        Event::Bytes { field, bytes: None } => {
+            slot.begin_field(at, TAG_BYTES, field);
+            slot.mark = MARK_NULL;
+        }
         Event::Bound {
             field,
             value: BoundValue::Bytes(bytes),
-        } => CqlpEvent::of_field(at, TAG_BOUND, field).lending(bytes),
+        } => {
+            slot.begin_field(at, TAG_BOUND, field);
+            slot.lend(bytes);
+        }
         Event::Bound {
             field,
             value: BoundValue::Null,
-        } => CqlpEvent::of_field(at, TAG_BOUND, field).marked(MARK_NULL),
+        } => {
+            slot.begin_field(at, TAG_BOUND, field);
+            slot.mark = MARK_NULL;
+        }
         Event::Bound {
             field,
             value: BoundValue::Unset,
-        } => CqlpEvent::of_field(at, TAG_BOUND, field).marked(MARK_UNSET),
+        } => {
+            slot.begin_field(at, TAG_BOUND, field);
+            slot.mark = MARK_UNSET;
+        }
         Event::Inet {
             field,
             address,
             port,
-        } => CqlpEvent::of_field(at, TAG_INET, field)
-            .with_extra(port)
-            .address(address),
-        Event::TypeNode(kind) => CqlpEvent {
-            tag: TAG_TYPE_NODE,
-            ..CqlpEvent::blank(at)
+        } => {
+            slot.begin_field(at, TAG_INET, field);
+            slot.extra = port;
+            slot.put_address(address);
         }
-        .of_kind(kind),
+        Event::TypeNode(kind) => {
+            *slot = CqlpEvent::blank(at);
+            slot.tag = TAG_TYPE_NODE;
+            slot.kind = kind_number(kind);
+        }
         Event::Leaf {
             row,
             column,
             level,
             scalar,
-        } => leaf(at, row, column, level, &scalar),
-        Event::Null { row, column, level } => CqlpEvent::of_value(at, TAG_NULL, row, column, level),
-        Event::Empty { row, column, level } => CqlpEvent::of_value(
-            at, TAG_EMPTY, row, column, level,
-        ),
+        } => tell_scalar(slot, at, row, column, level, &scalar),
+        Event::Null { row, column, level } => slot.begin_value(at, TAG_NULL, row, column, level),
+        Event::Empty { row, column, level } => slot.begin_value(at, TAG_EMPTY, row, column, level),
         Event::Enter {
             row,
             column,
             level,
             kind,
             items,
-        } => CqlpEvent::of_value(at, TAG_ENTER, row, column, level)
-            .of_kind(kind)
-            .numbered(i64::from(items)),
-        Event::Leave { level, items } => CqlpEvent::of_value(at, TAG_LEAVE, 0, 0, level).numbered(
-            i64::from(items),
-        ),
+        } => {
+            slot.begin_value(at, TAG_ENTER, row, column, level);
+            slot.put_number(kind, i64::from(items));
+        }
+        Event::Leave { level, items } => {
+            slot.begin_value(at, TAG_LEAVE, 0, 0, level);
+            slot.number = i64::from(items);
+        }
         Event::Part {
             row,
             column,
@@ -361,13 +374,14 @@ pub fn told(at: u64, event: &Event<'_>) -> CqlpEvent
             bytes,
             last,
         } => {
-            CqlpEvent::of_value(at, TAG_PART, row, column, level)
-                .numbered(i64::from(offset))
-                .marked(if last { MARK_LAST } else { MARK_NONE })
-                .lending(bytes)
+            slot.begin_value(at, TAG_PART, row, column, level);
+            slot.number = i64::from(offset);
+            slot.mark = if last { MARK_LAST } else { MARK_NONE };
+            slot.lend(bytes);
         }
-        Event::End { extra } => CqlpEvent::of_value(at, TAG_END, 0, 0, 0).numbered(i64::from(
-            extra,
-        )),
+        Event::End { extra } => {
+            slot.begin_value(at, TAG_END, 0, 0, 0);
+            slot.number = i64::from(extra);
+        }
     }
 }
