@@ -1,7 +1,7 @@
 /* Streams as data: the lines of crates/cqlp_vectors/stdin come on standard input, each a name, `--raw` or `--parts`, `|` and
  * hexadecimal digits. Of each stream the offset and the tag of its events and its verdict are printed, as they stand in
- * crates/cqlp_vectors/stdout, and each cut of it has to give the same. Then each byte of each stream is replaced by others,
- * so that lengths and counts lie: however it is cut, the events and the verdict are those of the whole, and no byte past a piece
+ * crates/cqlp_vectors/stdout, and each cut of it has to give the same. Then bytes of each stream are replaced by others, one
+ * and four at each place, so that lengths and counts lie: however it is cut, the events and the verdict are those of the whole, and no byte past a piece
  * or past the array is read or written. */
 #include "give.h"
 
@@ -79,22 +79,31 @@ static void cut_everywhere(const cqlp_limits *limits, const uint8_t *stream, siz
   check_same(by_byte, wanted, &end, &whole);
 }
 
-/* Each byte of the stream lies in turn. */
+/* Bytes that stand in place of others. */
+typedef struct lie {
+  size_t width;
+  uint8_t bytes[4];
+} lie;
+
+static const lie LIES[] = {{1, {0x00}}, {1, {0x01}}, {1, {0x7F}}, {1, {0x80}}, {1, {0xFF}}, {4, {0x7F, 0xFF, 0xFF, 0xFF}},
+                           {4, {0x80, 0, 0, 0}}, {4, {0xFF, 0xFF, 0xFF, 0xFE}}, {4, {0xFF, 0xFF, 0xFF, 0xFD}},
+                           {4, {0x10, 0, 0, 1}}};
+
+/* Each place of the stream lies in turn, by each lie. */
 static void lie_everywhere(const cqlp_limits *limits, uint8_t *stream, size_t length) {
-  static const uint8_t lies[] = {0x00, 0x01, 0x7F, 0x80, 0xFF};
-  for (size_t at = 0; at < length; at++) {
-    uint8_t truth = stream[at];
-    for (size_t i = 0; i < sizeof lies; i++) {
+  for (size_t at = 0; at < length; at++)
+    for (size_t i = 0; i < sizeof LIES / sizeof LIES[0] && at + LIES[i].width <= length; i++) {
+      uint8_t truth[4];
       cqlp_end whole, end;
-      stream[at] = lies[i];
+      memcpy(truth, stream + at, LIES[i].width);
+      memcpy(stream + at, LIES[i].bytes, LIES[i].width);
       seen wanted = seen_of(limits, stream, length, length, ROOM, &whole);
       seen by_byte = seen_by_byte(limits, stream, length, &end);
       check_same(by_byte, wanted, &end, &whole);
       seen cut_there = seen_of(limits, stream, length, at, 1, &end);
       check_same(cut_there, wanted, &end, &whole);
+      memcpy(stream + at, truth, LIES[i].width);
     }
-    stream[at] = truth;
-  }
 }
 
 static int digit(char c) {
