@@ -15,8 +15,8 @@ use Rattle.cqlp_c.specs.Talked.{code_of_begin, code_of_reply, given_ticket, repl
 abbrev pub is_slot_count : ℕ → Bool
 is_slot_count n = nat_lt 0 n && nat_lt n 32769
 
--- A core is made where memory is there and the number of slots is in its range; else the code says what is not so, and the
--- handle stays empty.
+-- A core is made where memory is there and the number of slots is in its range; else the code says what is not so, and
+-- the handle stays empty.
 abbrev pub StartsAnew : (slots : ℕ) → Bool → (code : ℕ) → (new : Option ClientCore) → Type 0
 StartsAnew slots false code new = (code ≡ numbers.BAD_SLOTS) × (new ≡ None)
 StartsAnew slots true code new =

@@ -31,7 +31,8 @@ code_of_bad bad.Opcode = numbers.BAD_OPCODE
 code_of_bad bad.Direction = numbers.BAD_DIRECTION
 code_of_bad bad.Length = numbers.BAD_LENGTH
 
--- The bytes are the header's, which is read from them again; or the code says why there is none, and they are as they were.
+-- The bytes are the header's, which is read from them again; or the code says why there is none, and they are as they
+-- were.
 abbrev pub Writes : Result Header BadHeader → (code : ℕ) → (was told : List ℕ) → Type 0
 Writes (Ok h) code was told = (code ≡ numbers.DONE) × (told ≡ header_bytes h) × (heading told ≡ Ok h)
 Writes (Err why) code was told = (code ≡ code_of_bad why) × (told ≡ was)

@@ -1,6 +1,7 @@
 //! Laws of the calls. No code needs them.
 
-ghost use Rattle.cqlp_c.specs.Laws.{FramesAreHeard, IsOneAnswerOfCheck, IsOneAnswerOfClientNew, IsOneAnswerOfNext};
+ghost use Rattle.cqlp_c.specs.Laws.{FramesAreHeard, IsOneAnswerOfCheck, IsOneAnswerOfClientNew};
+ghost use Rattle.cqlp_c.specs.Laws.{IsOneAnswerOfNext};
 
 /// After the same bytes and events, over the same input and with the same room, there is one answer: the same batch with
 /// the same events, up to where their contents lie.
@@ -13,8 +14,8 @@ pub fn one_answer_of_check()
     ensures { IsOneAnswerOfCheck }
 {}
 
-/// Where memory is granted, `cqlp_client_new` has one answer. So have the other calls on a core, and `cqlp_write_header`, whose
-/// clauses are equations.
+/// Where memory is granted, `cqlp_client_new` has one answer. So have the other calls on a core, and `cqlp_write_header`,
+/// whose clauses are equations.
 pub fn one_answer_of_client_new()
     ensures { IsOneAnswerOfClientNew }
 {}
