@@ -1,6 +1,7 @@
 pub mod Checked
 pub mod Cored
 pub mod Cores
+pub mod Crosses
 pub mod Fills
 pub mod Made
 pub mod OneBatch

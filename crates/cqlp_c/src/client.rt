@@ -18,7 +18,7 @@ use crate::numbers::*;
 use crate::talked::*;
 use cqlp_session::{Client, SlotsOrMemory};
 use std::alloc::Global;
-use std::marker::Model;
+use std::marker::{Model, Send};
 
 /// Where a client's core lies, or none.
 #[repr(C)]
@@ -32,6 +32,9 @@ pub struct CqlpCore {
 impl Model for CqlpCore {
     ghost also_owns = { λ h. owned_in (box_owns (ghosts.dealloc_token h.alloc) (client.the_row heap.the_row ghosts) h.at) h.value };
 }
+
+// What it owns, a core and the right to free it, is the same to every thread.
+unsafe impl Send for CqlpCore {}
 
 impl CqlpCore {
     /// The place of none.

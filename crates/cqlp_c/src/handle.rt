@@ -20,7 +20,7 @@ use crate::shown::*;
 use cqlp_decode::{Decoder, NewError};
 use cqlp_note::Limits;
 use std::alloc::Global;
-use std::marker::Model;
+use std::marker::{Model, Send};
 
 /// Where a decoder lies, or none.
 #[repr(C)]
@@ -34,6 +34,9 @@ pub struct CqlpPlace {
 impl Model for CqlpPlace {
     ghost also_owns = { λ h. owned_in (box_owns (ghosts.dealloc_token h.alloc) (decoder.the_row heap.the_row ghosts) h.at) h.value };
 }
+
+// What it owns, a decoder and the right to free it, is the same to every thread.
+unsafe impl Send for CqlpPlace {}
 
 impl CqlpPlace {
     /// The place of none.

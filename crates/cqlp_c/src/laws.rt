@@ -1,7 +1,14 @@
 //! Laws of the calls. No code needs them.
 
+ghost use Rattle.std.specs.Thread.{IsSend};
 ghost use Rattle.cqlp_c.specs.Laws.{FramesAreHeard, IsOneAnswerOfCheck, IsOneAnswerOfClientNew};
 ghost use Rattle.cqlp_c.specs.Laws.{IsOneAnswerOfNext};
+ghost use Rattle.cqlp_c.specs.contracts.client.CqlpClient as client;
+ghost use Rattle.cqlp_c.specs.contracts.handle.CqlpDecoder as decoder;
+
+use crate::client::CqlpClient;
+use crate::handle::CqlpDecoder;
+use std::marker::Send;
 
 /// After the same bytes and events, over the same input and with the same room, there is one answer: the same batch with
 /// the same events, up to where their contents lie.
@@ -23,4 +30,18 @@ pub fn one_answer_of_client_new()
 /// The event of a frame shows a core what the header of the frame does.
 pub fn frames_are_heard()
     ensures { FramesAreHeard }
+{}
+
+/// What a handle owns is the same to every thread, so a handle may go from one to another between two calls.
+pub fn handles_cross()
+    ensures decoder { IsSend decoder.the_row }
+    ensures client { IsSend client.the_row }
+{
+    crosses::<CqlpDecoder>();
+    crosses::<CqlpClient>();
+}
+
+/// A type whose values may go from one thread to another.
+fn crosses<T: Send>()
+    ensures { IsSend T.row }
 {}
