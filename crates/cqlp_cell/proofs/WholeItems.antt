@@ -1,10 +1,9 @@
 -- An item that lies whole at the front of the input.
-use Rattle.std.proofs.Common.{◌≡◌, ℕ, ◌+◌, ◌-◌, ◌*◌, ◌^◌, ◌<◌, ◌≤◌, false, List, [], ◌∷◌, ◌++◌, length, take, drop, Some, refl, sym, ap, ◌∙◌, arith}
+use Rattle.std.proofs.Common.{◌≡◌, ℕ, ◌+◌, ◌-◌, ◌^◌, ◌<◌, ◌≤◌, false, List, [], ◌∷◌, ◌++◌, length, take, drop, refl, ap, ◌∙◌, arith}
 use Rattle.std.specs.Int.{w32, from_be_bytes}
 use Rattle.std.proofs.lemmas.List.{length-append, length-drop, length-take-le, take_all}
 use Rattle.cqlp_note.specs.declared.head.ContentForm.TheVariants as form
 use Rattle.cqlp_note.specs.declared.advance.ContentPlace.TheVariants as lies
-use Rattle.cqlp_note.specs.declared.advance.FieldOutline.{FieldOutline}
 use Rattle.cqlp_note.specs.declared.advance.FieldOutline.TheVariants as item
 use Rattle.cqlp_note.specs.Reader.{says}
 use Rattle.cqlp_note.specs.Step.{Step}
@@ -26,7 +25,7 @@ use Rattle.cqlp_cell.specs.Numbers.{IsCounted}
 use Rattle.cqlp_cell.specs.OpenValues.{but_last}
 use Rattle.cqlp_cell.specs.Standing.{CellState, place, due_value, open_after, state_after, rest_of, due_of, Stands}
 use Rattle.cqlp_cell.specs.Coming.{inner_of, room_of}
-use Rattle.cqlp_cell.specs.Reading.{step_says, sized_of, Decided, Hands, LengthCame, EntersCounted, EntersFields}
+use Rattle.cqlp_cell.specs.Reading.{step_says, sized_of, Decided, Hands, EntersCounted, EntersFields}
 use Rattle.cqlp_cell.specs.Pushing.{done_by, is_done}
 use Rattle.cqlp_cell.specs.Whole.{IsWhole}
 use Rattle.cqlp_cell.proofs.Opened.{value_next}

@@ -1,4 +1,4 @@
-use Rattle.std.proofs.Common.{◌≡◌, ◌-◌, ◌<◌, length, ap, List, Some, arith}
+use Rattle.std.proofs.Common.{◌≡◌, ◌<◌, length, ap, List, Some, arith}
 use Rattle.cqlp_cell.specs.declared.open_values.OpenValue.{OpenValue}
 use Rattle.cqlp_cell.specs.OpenValues.{last_open}
 use Rattle.cqlp_cell.proofs.Nesting.{last_item, passed_is}

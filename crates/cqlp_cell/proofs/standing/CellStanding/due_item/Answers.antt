@@ -1,5 +1,4 @@
-use Rattle.std.proofs.Common.{◌≡◌, ◌-◌, ◌∙◌, ap, refl, sym}
-use Rattle.cqlp_cell.specs.declared.standing.DueValue.{DueValue}
+use Rattle.std.proofs.Common.{◌∙◌, sym}
 use Rattle.cqlp_cell.specs.Standing.{state_of}
 use Rattle.cqlp_cell.proofs.Coming.{value_due}
 use Rattle.cqlp_cell.proofs.standing.CellStanding.due_item.Goals as goal

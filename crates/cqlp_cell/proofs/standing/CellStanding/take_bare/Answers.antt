@@ -1,4 +1,4 @@
-use Rattle.std.proofs.Common.{◌∙◌, ap, refl, sym, arith}
+use Rattle.std.proofs.Common.{◌∙◌, refl, sym}
 use Rattle.cqlp_cell.specs.Standing.{state_of}
 use Rattle.cqlp_cell.proofs.WholeItems.{leave_whole}
 use Rattle.cqlp_cell.proofs.standing.CellStanding.take_bare.Goals as goal

@@ -1,4 +1,4 @@
-use Rattle.std.proofs.Common.{◌≡◌, ◌∙◌, ap, refl, sym, take, drop, length, ◌-◌, List, ℕ, arith}
+use Rattle.std.proofs.Common.{◌≡◌, ◌∙◌, ap, take, drop, length, ◌-◌, List, ℕ, arith}
 use Rattle.std.specs.Int.{w32, from_be_bytes}
 use Rattle.cqlp_cell.specs.Standing.{state_of}
 use Rattle.cqlp_cell.proofs.WholeItems.{counted_whole, rest_all}
