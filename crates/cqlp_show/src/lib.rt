@@ -2,6 +2,7 @@
 #![tactic(auto)]
 
 mod buffered;
+mod form;
 mod render;
 mod showing;
 mod text_form;

@@ -6,37 +6,37 @@ ghost use Rattle.cqlp_note.specs.declared.refusal.Refusal.{Refusal};
 ghost use Rattle.cqlp_decode.specs.Streams.{After, state};
 
 use crate::buffered::Buffered;
-use crate::text_form::TextForm;
+use crate::form::{Form, Lines};
 use cqlp_decode::{Decoder, Event, Finish, Outcome, Sink, SinkFault, run};
 use cqlp_note::{IoFault, Source, Target};
-use cqlp_text::{PagePlace, event_line, page_part};
+use cqlp_text::PagePlace;
 use std::alloc::Allocator;
 use std::marker::Model;
 
 /// Writes the text of each event to a target. No part of a text waits between two events.
 #[derive(Drop)]
-pub(crate) struct TextSink<W: Target> {
+pub(crate) struct TextSink<W: Target, F: Form> {
     target: W,
-    form: TextForm,
+    form: F,
 }
 
-impl<W: Target> Model for TextSink<W> {
+impl<W: Target, F: Form> Model for TextSink<W, F> {
     ghost use Rattle.std.specs.Prelude.{◌≡◌, []};
     ghost use Rattle.cqlp_text.specs.Outputs.{written};
     ghost use Rattle.cqlp_show.specs.Rendering.{Rendering, rendering};
 
     ghost Value = { Rendering };
 
-    ghost view = { λ s. rendering (written W.Target s.target) s.form };
+    ghost view = { λ s. rendering (written W.Target s.target) (F.form s.form) };
 }
 
-impl<W: Target> TextSink<W> {
+impl<W: Target, F: Form + Drop> TextSink<W, F> {
     ghost use Rattle.cqlp_text.specs.Outputs.{written};
     ghost use Rattle.cqlp_show.specs.Rendering.{rendering};
 
     /// Over a target, in a form.
-    pub fn new(target: W, form: TextForm) -> Self
-        ensures { result ≡ rendering (written W.Target target) form }
+    pub fn new(target: W, form: F) -> Self
+        ensures { result ≡ rendering (written W.Target target) (F.form form) }
     {
         TextSink { target, form }
     }
@@ -50,7 +50,7 @@ impl<W: Target> TextSink<W> {
     }
 }
 
-impl<W: Target, A: Allocator> TextSink<Buffered<W, A>> {
+impl<W: Target, A: Allocator, F: Form> TextSink<Buffered<W, A>, F> {
     ghost use Rattle.std.specs.Prelude.{OnOk, OnErr};
     ghost use Rattle.cqlp_text.specs.Outputs.{HasFailed};
 
@@ -64,7 +64,7 @@ impl<W: Target, A: Allocator> TextSink<Buffered<W, A>> {
     }
 }
 
-impl<W: Target> Sink for TextSink<W> {
+impl<W: Target, F: Form> Sink for TextSink<W, F> {
     ghost use Rattle.cqlp_show.specs.Rendering.{Rendering, with_event, StopsWithinEvent};
 
     ghost View = { Rendering };
@@ -78,11 +78,7 @@ impl<W: Target> Sink for TextSink<W> {
     ghost faulted = { StopsWithinEvent };
 
     fn take(&mut self, at: u64, event: &Event<'_>) -> Result<(), SinkFault> {
-        match &mut self.form {
-            TextForm::Lines => event_line(at, event, &mut self.target),
-            TextForm::Pages(place) => page_part(place, event, &mut self.target),
-            TextForm::Nothing => Ok(()),
-        }
+        self.form.put(at, event, &mut self.target)
     }
 }
 
@@ -112,7 +108,7 @@ pub fn render_events<R: Source, W: Target, A: Allocator>(
     ensures failures { Counts result.0 (R.failures reader.old) (R.failures reader.new) }
     ensures rules { (state decoder.new).rules ≡ (state decoder.old).rules }
 {
-    let mut sink = TextSink::new(w, TextForm::Lines);
+    let mut sink = TextSink::new(w, Lines);
     let outcome = run(decoder, reader, &mut sink, turns);
     (outcome, sink.into_inner())
 }
@@ -137,17 +133,17 @@ pub fn render_rows<R: Source, W: Target, A: Allocator>(
     ensures failures { Counts result.0 (R.failures reader.old) (R.failures reader.new) }
     ensures rules { (state decoder.new).rules ≡ (state decoder.old).rules }
 {
-    let mut sink = TextSink::new(w, TextForm::Pages(PagePlace::new()));
+    let mut sink = TextSink::new(w, PagePlace::new());
     let outcome = run(decoder, reader, &mut sink, turns);
     (outcome, sink.into_inner())
 }
 
 /// Hands all events of a reader's bytes to a sink over a buffer, from at most `turns` reads, as `run` does. Before each
 /// read, the text of the events so far is passed on.
-pub(crate) fn run_flushing<R: Source, W: Target, A: Allocator, B: Allocator>(
+pub(crate) fn run_flushing<R: Source, W: Target, F: Form, A: Allocator, B: Allocator>(
     decoder: &mut Decoder<A>,
     reader: &mut R,
-    sink: &mut TextSink<Buffered<W, B>>,
+    sink: &mut TextSink<Buffered<W, B>, F>,
     turns: u64,
 ) -> Outcome
     ensures renders { IfKnown (unread R.Source reader.old) sink.old.output (λ xs. After (state decoder.old) [] [] →

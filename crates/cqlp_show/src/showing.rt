@@ -1,8 +1,8 @@
 //! A whole stream, shown or checked.
 
-ghost use Rattle.std.specs.Prelude.{◌≡◌, []};
+ghost use Rattle.std.specs.Prelude.{◌≡◌, [], IfSome};
 ghost use Rattle.cqlp_decode.specs.Streams.{After, state};
-ghost use Rattle.cqlp_note.specs.Limits.{first_bad};
+ghost use Rattle.cqlp_note.specs.Limits.{first_bad, rules_of};
 ghost use Rattle.cqlp_text.specs.Endings.{IsStatusOfTask};
 ghost use Rattle.cqlp_text.specs.PageText.{no_page};
 ghost use Rattle.cqlp_text.specs.Outputs.{Output, written};
@@ -13,9 +13,9 @@ ghost use Rattle.cqlp_text.specs.declared.ending.Ending.{Ending};
 ghost use Rattle.cqlp_show.specs.declared.text_form.TextForm.TheVariants as forms;
 
 use crate::buffered::Buffered;
+use crate::form::{Form, Lines, Nothing};
 use crate::render::{TextSink, run_flushing};
-use crate::text_form::TextForm;
-use cqlp_decode::{Decoder, NewError, Outcome, SinkFault};
+use cqlp_decode::{Decoder, NewError, Outcome, SinkFault, run};
 use cqlp_note::{IoFault, Limits, Source, Target};
 use cqlp_text::status::FAULT;
 use cqlp_text::{Ending, PagePlace, ending_line};
@@ -41,7 +41,7 @@ pub fn show<R: Source, O: Target, E: Target, A: Allocator>(
     ensures shows { let view = streams R.Source O.Target E.Target in
         ShowsAndReports forms.Lines limits TURNS (view input.old out err) result.0 (view input.new result.1 result.2) }
 {
-    let (ending, out) = write_text(alloc, limits, TextForm::Lines, input, out);
+    let (ending, out) = write_text(alloc, limits, Lines, input, out);
     let (status, err) = conclude(ending, err);
     (status, out, err)
 }
@@ -61,7 +61,7 @@ pub fn rows<R: Source, O: Target, E: Target, A: Allocator>(
         ShowsAndReports (forms.Pages no_page) limits TURNS
         (view input.old out err) result.0 (view input.new result.1 result.2) }
 {
-    let (ending, out) = write_text(alloc, limits, TextForm::Pages(PagePlace::new()), input, out);
+    let (ending, out) = write_text(alloc, limits, PagePlace::new(), input, out);
     let (status, err) = conclude(ending, err);
     (status, out, err)
 }
@@ -80,7 +80,7 @@ pub fn check<R: Source, O: Target, E: Target, A: Allocator>(
     ensures checks { let view = streams R.Source O.Target E.Target in
         ChecksAndReports limits TURNS (view input.old out err) result.0 (view input.new result.1 result.2) }
 {
-    let (ending, mut out) = write_text(alloc, limits, TextForm::Nothing, input, out);
+    let (ending, mut out) = read_through(alloc, limits, input, out);
     let Ending::Finished(_) = ending else {
         let (status, err) = conclude(ending, err);
         return (status, out, err);
@@ -92,29 +92,63 @@ pub fn check<R: Source, O: Target, E: Target, A: Allocator>(
     (status, out, err)
 }
 
-/// Writes the text of the events of a stream within these limits, in a form.
-fn write_text<R: Source, O: Target, A: Allocator>(
+/// Reads a stream within these limits, and writes nothing of it.
+fn read_through<R: Source, O: Target, A: Allocator>(
     alloc: &A,
     limits: Limits,
-    form: TextForm,
     input: &mut R,
     out: O,
 ) -> (Ending, O)
     requires { first_bad limits ≡ Ok tt }
     ensures shows { IfKnown (unread R.Source input.old) (written O.Target out) (λ xs.
-        ShowsTo form limits TURNS result.0 xs (R.left input.new) (written O.Target out) (written O.Target result.1)) }
+        ShowsTo forms.Nothing limits TURNS result.0 xs (R.left input.new) (written O.Target out)
+        (written O.Target result.1)) }
     ensures failures { CountsReads result.0 (R.failures input.old) (R.failures input.new) }
 {
-    let mut decoder = match Decoder::new(alloc, limits) {
-        Ok(decoder) => decoder,
-        Err(NewError::NoMemory) => return (Ending::NoMemory, out),
-        Err(NewError::BadLimits(_)) => unreachable!(),
+    let Some(mut decoder) = decoder_within(alloc, limits) else {
+        return (Ending::NoMemory, out);
+    };
+    let mut sink = TextSink::new(out, Nothing);
+    let outcome = run(&mut decoder, input, &mut sink, TURNS);
+    (ending_of(outcome), sink.into_inner())
+}
+
+/// Writes the text of the events of a stream within these limits, in a form.
+fn write_text<R: Source, O: Target, F: Form + Drop, A: Allocator>(
+    alloc: &A,
+    limits: Limits,
+    form: F,
+    input: &mut R,
+    out: O,
+) -> (Ending, O)
+    requires { first_bad limits ≡ Ok tt }
+    ensures shows { IfKnown (unread R.Source input.old) (written O.Target out) (λ xs.
+        ShowsTo (F.form form) limits TURNS result.0 xs (R.left input.new) (written O.Target out)
+        (written O.Target result.1)) }
+    ensures failures { CountsReads result.0 (R.failures input.old) (R.failures input.new) }
+{
+    let Some(mut decoder) = decoder_within(alloc, limits) else {
+        return (Ending::NoMemory, out);
     };
     let Ok(buffer) = Vec::with_capacity(alloc, ROOM) else {
         return (Ending::NoMemory, out);
     };
     let (outcome, out) = render_buffered(&mut decoder, input, out, form, buffer);
     (ending_of(outcome), out)
+}
+
+/// A decoder at the start of a stream, within these limits; none where memory was wanting.
+fn decoder_within<'a, A: Allocator>(alloc: &'a A, limits: Limits) -> Option<Decoder<&'a A>>
+    requires { first_bad limits ≡ Ok tt }
+    ensures fresh { IfSome result (λ d. After (state d) [] []) }
+    ensures unrefused { IfSome result (λ d. (state d).refusal ≡ None) }
+    ensures rules { IfSome result (λ d. (state d).rules ≡ rules_of limits) }
+{
+    match Decoder::new(alloc, limits) {
+        Ok(decoder) => Some(decoder),
+        Err(NewError::NoMemory) => None,
+        Err(NewError::BadLimits(_)) => unreachable!(),
+    }
 }
 
 /// How the command ends where a run does.
@@ -130,16 +164,16 @@ fn ending_of(outcome: Outcome) -> Ending
 }
 
 /// Writes the text of the events of a reader's bytes, in pieces as large as the buffer where the input does not stop.
-fn render_buffered<R: Source, O: Target, A: Allocator, B: Allocator>(
+fn render_buffered<R: Source, O: Target, F: Form + Drop, A: Allocator, B: Allocator>(
     decoder: &mut Decoder<A>,
     input: &mut R,
     out: O,
-    form: TextForm,
+    form: F,
     buffer: Vec<u8, B>,
 ) -> (Outcome, O)
     ensures renders { IfKnown (unread R.Source input.old) (written O.Target out) (λ xs.
-        After (state decoder.old) [] [] → RendersOrFails form TURNS result.0 (state decoder.old) (state decoder.new) xs
-        (R.left input.new) (written O.Target out) (written O.Target result.1)) }
+        After (state decoder.old) [] [] → RendersOrFails (F.form form) TURNS result.0 (state decoder.old)
+        (state decoder.new) xs (R.left input.new) (written O.Target out) (written O.Target result.1)) }
     ensures failures { CountsReads (ending_of result.0) (R.failures input.old) (R.failures input.new) }
     ensures rules { (state decoder.new).rules ≡ (state decoder.old).rules }
 {
