@@ -1,5 +1,5 @@
 -- Texts in parts.
-use Rattle.std.proofs.Common.{◌≡◌, ℕ, List, [], ◌∷◌, ◌++◌, map, codes, decimal, suc, ◌+◌, Bool, true, false, not, cond, if◌then◌else◌, nat_lt, Option, Some, None, unwrap_or, inl, inr, ◌<◌, ◌≤◌, ◌-◌, ◌*◌, length, take, drop, slice_index, refl, sym, ap, ◌∙◌, append-nil, arith, length-append, length-drop}
+use Rattle.std.proofs.Common.{◌≡◌, ℕ, List, [], ◌∷◌, ◌++◌, map, codes, decimal, suc, ◌+◌, Bool, true, false, not, cond, if◌then◌else◌, nat_lt, Option, Some, None, unwrap_or, inl, inr, ◌<◌, ◌≤◌, ◌-◌, ◌*◌, length, take, drop, slice_index, refl, sym, ap, ◌∙◌, append-nil, append_assoc, arith, length-append, length-drop}
 use Rattle.hex.proofs.HexLemmas.{length-encode_with}
 use Rattle.cqlp_text.specs.declared.word.Word.{Word}
 use Rattle.cqlp_text.specs.Lines.{spaced}
@@ -120,6 +120,14 @@ plain_front xs found n is_first is_n =
     plain_prefix xs ∙ ap (λ k. take k xs ++ flat_map escaped (drop k xs)) (sym count) ∙ ap (λ t. take n xs ++ flat_map escaped t) (sym later)
 
 -- ---- words
+
+-- the words of a value's place, and those after them
+pub place_words : (name row column level : List ℕ) (more : List (List ℕ)) → name ++ (row ++ spaced (column ∷ level ∷ more)) ≡ (name ++ (row ++ spaced (column ∷ level ∷ []))) ++ spaced more
+place_words name row column level more =
+    ap (λ t. name ++ (row ++ 32 ∷ (column ++ 32 ∷ (t ++ spaced more)))) (sym (append-nil level))
+    ∙ ap (λ t. name ++ (row ++ 32 ∷ t)) (sym (append_assoc column (32 ∷ (level ++ [])) (spaced more)))
+    ∙ ap (λ t. name ++ t) (sym (append_assoc row (spaced (column ∷ level ∷ [])) (spaced more)))
+    ∙ sym (append_assoc name (row ++ spaced (column ∷ level ∷ [])) (spaced more))
 
 pub words_at : (words : List Word) (i : ℕ) (none : Word) → i < length words → spaced (map word_text (drop i words)) ≡ codes " " ++ (word_text (get_or words i none) ++ spaced (map word_text (drop (i + 1) words)))
 words_at words i none within = rw (drop-cons words i none within, add-one)

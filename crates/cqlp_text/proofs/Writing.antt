@@ -1,5 +1,5 @@
 -- Writing one text after another.
-use Rattle.std.proofs.Common.{◌≡◌, nat_lt, ℕ, ◌-◌, Bool, ◌<◌, drop, true, List, [], ◌∷◌, ◌++◌, length, take, Option, Some, None, IsSome, Result, Ok, Err, IsErr, refl, sym, ◌∙◌, ap, subst, append_assoc, append-nil, arith, length-drop, ◌≤◌}
+use Rattle.std.proofs.Common.{◌≡◌, nat_lt, ℕ, ◌+◌, ◌-◌, Bool, ◌<◌, drop, true, List, [], ◌∷◌, ◌++◌, length, take, Option, Some, None, IsSome, Result, Ok, Err, IsErr, refl, sym, ◌∙◌, ap, subst, append_assoc, append-nil, arith, length-drop, ◌≤◌}
 use Rattle.std.proofs.lemmas.Grind.{common_steps}
 use Rattle.std.proofs.lemmas.List.{take-append-drop}
 use Rattle.std.proofs.lemmas.Bool.{lt-ltb, le-ltb}
@@ -24,6 +24,14 @@ known_then (Some t) x y = ap (λ k. Some k) (append_assoc t x y)
 pub takes_nothing : (w : Written) → Receives w [] w
 takes_nothing w = record {
   passed = λ text given. ([], given ∙ ap (λ t. Some t) (sym (append-nil text)), sym (append-nil w.waiting));
+  failures = refl;
+  lender = refl;
+}
+
+-- a text that waits
+pub kept : (w : Written) (x : List ℕ) → Receives w x (record w { waiting = w.waiting ++ x })
+kept w x = record {
+  passed = λ text given. ([], given ∙ ap (λ t. Some t) (sym (append-nil text)), refl);
   failures = refl;
   lender = refl;
 }
@@ -126,6 +134,30 @@ progress_stops later (Err e) stops here parts breaks = progress_breaks later her
 pub progress_writes : {a b : Written} (c : Written) {text left : List ℕ} (r : Result (Unit {0}) SinkFault) → Progress a text left b → Writes b left r c → Writes a text r c
 progress_writes {a} {b} c {text} {left} (Ok u) here writes = progress_ends (progress_goes_on [] here (sym (append-nil left)) writes) refl
 progress_writes {a} {b} c {text} {left} (Err e) here writes = progress_breaks [] here (sym (append-nil left)) writes
+
+-- the last part, with nothing after it
+pub progress_last : {a b : Written} (c : Written) {text left : List ℕ} (x : List ℕ) (r : Result (Unit {0}) SinkFault) → Progress a text left b → left ≡ x ++ [] → Writes b x r c → Writes a text r c
+progress_last {a} {b} c {text} {left} x r here is writes = progress_writes c r here (subst (λ (t : List ℕ). Writes b t r c) (sym (is ∙ append-nil x)) writes)
+
+-- what was kept after some of a text
+pub keeps_then : (a b c : Written) (x : List ℕ) → Receives a [] b → c ≡ record b { waiting = b.waiting ++ x } → Receives a x c
+keeps_then a b c x none same = rw same (takes_then_takes a b (record b { waiting = b.waiting ++ x }) [] x none (kept b x))
+
+pub room_left : (xs : List ℕ) (len n room : ℕ) → len ≤ room → length xs ≡ room → length (take len xs) + n ≤ room → len + n ≤ length xs
+room_left xs len n room within size some = grind (arith, common_steps)
+
+front_of : (xs ys : List ℕ) (k : ℕ) → length xs ≡ k → take k (xs ++ ys) ≡ xs
+front_of xs ys k long = grind (arith, common_steps)
+
+-- digits that were written where a buffer was not yet in use
+pub digits_kept : (old new digits : List ℕ) (len n start : ℕ) → start + length digits ≡ len + n → n ≡ length digits → len + n ≤ length old → drop start new ≡ digits ++ drop (len + n) old → take start new ≡ take start old → take (len + n) new ≡ take len old ++ digits
+digits_kept old new digits len n start ends long fits written before =
+    let same : start ≡ len = omega arith in
+    let front : take len new ≡ take len old = subst (λ (k : ℕ). take k new ≡ take k old) same before in
+    let later : drop len new ≡ digits ++ drop (len + n) old = subst (λ (k : ℕ). drop k new ≡ digits ++ drop (len + n) old) same written in
+    let whole : new ≡ (take len old ++ digits) ++ drop (len + n) old = sym (take-append-drop len new) ∙ ap (λ t. t ++ drop len new) front ∙ ap (λ t. take len old ++ t) later ∙ sym (append_assoc (take len old) digits (drop (len + n) old)) in
+    let size : length (take len old ++ digits) ≡ len + n = grind (arith, common_steps) in
+    ap (take (len + n)) whole ∙ front_of (take len old ++ digits) (drop (len + n) old) (len + n) size
 
 -- what is left after the first n
 pub rest_after : (rest : List ℕ) (n : ℕ) → rest ≡ take n rest ++ take (length rest - n) (drop n rest)

@@ -1,11 +1,12 @@
 //! Text on its way to a target.
 
-ghost use Rattle.std.specs.Prelude.{◌≡◌, ◌+◌, ◌≤◌, ◌++◌, [], length, IsSome, OnOk};
+ghost use Rattle.std.specs.Prelude.{◌≡◌, ◌+◌, ◌≤◌, ◌++◌, [], decimal, length, IsSome, OnOk};
 ghost use Rattle.cqlp_text.specs.Outputs.{AppendsText, written};
 ghost use Rattle.cqlp_text.specs.Written.{Writes, unbuffered};
 
 use cqlp_grammar::SinkFault;
 use cqlp_note::{Target, offer};
+use itoa::write_digits;
 use std::marker::Model;
 
 /// How many bytes wait at most before they are passed on.
@@ -56,13 +57,23 @@ impl<'a, W: Target> TextWriter<'a, W> {
     }
 
     /// Takes a text.
+    #[inline(always)]
     pub fn put(&mut self, bytes: &[u8]) -> Result<(), SinkFault>
         ensures { Writes self.old bytes.now result self.new }
     {
         if bytes.len() <= ROOM - self.len {
             self.keep(bytes);
-            return Ok(());
+            Ok(())
+        } else {
+            self.put_afresh(bytes)
         }
+    }
+
+    /// Takes a text after what waits was passed on.
+    #[inline(never)]
+    fn put_afresh(&mut self, bytes: &[u8]) -> Result<(), SinkFault>
+        ensures { Writes self.old bytes.now result self.new }
+    {
         self.flush()?;
         if bytes.len() <= ROOM {
             self.keep(bytes);
@@ -90,7 +101,45 @@ impl<'a, W: Target> TextWriter<'a, W> {
         send(self.target, bytes)
     }
 
+    /// Takes a number as decimal digits.
+    #[inline(always)]
+    pub fn put_number(&mut self, number: u64) -> Result<(), SinkFault>
+        ensures { Writes self.old (decimal number) result self.new }
+    {
+        let len = decimal_len(number);
+        self.make_room(len)?;
+        self.keep_number(number, len);
+        Ok(())
+    }
+
+    /// Passes what waits on where there is no room for this many bytes more.
+    #[inline(always)]
+    fn make_room(&mut self, count: usize) -> Result<(), SinkFault>
+        requires { count ≤ 128 }
+        ensures writes { Writes self.old [] result self.new }
+        ensures room { OnOk result (length self.new.waiting + count ≤ 128) }
+    {
+        if count <= ROOM - self.len {
+            Ok(())
+        } else {
+            self.flush()
+        }
+    }
+
+    /// Takes a number that there is room for, as this many decimal digits.
+    #[inline(always)]
+    fn keep_number(&mut self, number: u64, len: usize)
+        requires len { len ≡ length (decimal number) }
+        requires room { length self.old.waiting + len ≤ 128 }
+        ensures { self.new ≡ record self.old { waiting = self.old.waiting ++ decimal number } }
+    {
+        let end = self.len + len;
+        write_digits(number, &mut self.buffer, end);
+        self.len = end;
+    }
+
     /// Takes a text that there is room for.
+    #[inline(always)]
     fn keep(&mut self, bytes: &[u8])
         requires { length self.old.waiting + length bytes.now ≤ 128 }
         ensures { self.new ≡ record self.old { waiting = self.old.waiting ++ bytes.now } }
@@ -99,6 +148,20 @@ impl<'a, W: Target> TextWriter<'a, W> {
         self.buffer[self.len..end].copy_from_slice(bytes);
         self.len = end;
     }
+}
+
+/// How many decimal digits a number has.
+#[inline]
+fn decimal_len(number: u64) -> usize
+    ensures { result ≡ length (decimal number) }
+{
+    if number < 10 {
+        return 1;
+    }
+    if number < 100 {
+        return 2;
+    }
+    2 + decimal_len(number / 100)
 }
 
 /// Appends a text as it is. A fault is the writer's own.

@@ -18,20 +18,40 @@ use uuid::Uuid;
 const CHUNK: usize = 64;
 
 impl<W: Target> TextWriter<'_, W> {
-    /// Takes a number as decimal digits.
-    pub fn put_number(&mut self, number: u64) -> Result<(), SinkFault>
-        ensures { Writes self.old (decimal number) result self.new }
-    {
-        let mut buffer = itoa::Buffer::new();
-        self.put(buffer.format(number).as_bytes())
-    }
-
     /// Takes a number as decimal digits, after a `-` where it is negative.
+    #[inline]
     pub fn put_signed(&mut self, number: i64) -> Result<(), SinkFault>
         ensures { Writes self.old (signed_decimal number) result self.new }
     {
-        let mut digits = itoa::Buffer::new();
-        self.put(digits.format(number).as_bytes())
+        if number >= 0 {
+            return self.put_number(number.unsigned_abs());
+        }
+        self.put(b"-")?;
+        self.put_number(number.unsigned_abs())
+    }
+
+    /// Takes a number as decimal digits, after a `-` where it is negative.
+    #[inline(always)]
+    pub fn put_int(&mut self, number: i32) -> Result<(), SinkFault>
+        ensures { Writes self.old (signed_decimal number) result self.new }
+    {
+        self.put_signed(i64::from(number))
+    }
+
+    /// Takes a number as decimal digits.
+    #[inline(always)]
+    pub fn put_count(&mut self, number: u32) -> Result<(), SinkFault>
+        ensures { Writes self.old (decimal number) result self.new }
+    {
+        self.put_number(u64::from(number))
+    }
+
+    /// Takes a text as it is.
+    #[inline(always)]
+    pub fn put_str(&mut self, text: &str) -> Result<(), SinkFault>
+        ensures { Writes self.old text.now result self.new }
+    {
+        self.put(text.as_bytes())
     }
 
     /// Takes bytes as two lower case hexadecimal digits each.

@@ -43,6 +43,7 @@ impl<W: Target> TextWriter<'_, W> {
     }
 
     /// Takes the text of a word.
+    #[inline(always)]
     pub fn put_word(&mut self, word: Word<'_>) -> Result<(), SinkFault>
         ensures { Writes self.old (word_text word.entry) result self.new }
     {

@@ -1,0 +1,25 @@
+use Rattle.std.proofs.Common.{refl}
+use Rattle.cqlp_text.proofs.Writing.{progress_starts, progress_goes_on, progress_stops, progress_last}
+use Rattle.cqlp_text.proofs.text_writer.TextWriter.put_leave_words.Goals as goal
+
+pub returns-in_err-put : goal.returns-in_err-put
+returns-in_err-put g c =
+    progress_stops _ c.from_residual.result c.from_residual.ensures.0 (progress_starts _ _) refl c.in_err-put.ensures
+
+pub returns-in_err-put_count : goal.returns-in_err-put_count
+returns-in_err-put_count g c =
+    let s1 = progress_goes_on _ (progress_starts _ _) refl c.in_ok-put.ensures in
+    progress_stops _ c.from_residual-in_err-put_count.result c.from_residual-in_err-put_count.ensures.0 s1 refl c.in_err-put_count.ensures
+
+pub returns-in_err-put-2 : goal.returns-in_err-put-2
+returns-in_err-put-2 g c =
+    let s1 = progress_goes_on _ (progress_starts _ _) refl c.in_ok-put.ensures in
+    let s2 = progress_goes_on _ s1 refl c.in_ok-put_count.ensures in
+    progress_stops _ c.from_residual-in_err-put-2.result c.from_residual-in_err-put-2.ensures.0 s2 refl c.in_err-put-2.ensures
+
+pub returns : goal.returns
+returns g c =
+    let s1 = progress_goes_on _ (progress_starts _ _) refl c.in_ok-put.ensures in
+    let s2 = progress_goes_on _ s1 refl c.in_ok-put_count.ensures in
+    let s3 = progress_goes_on _ s2 refl c.in_ok-put-2.ensures in
+    progress_last _ _ c.put_count-2.result s3 refl c.put_count-2.ensures
