@@ -1,9 +1,10 @@
 #!/usr/bin/env python3
-"""Writes a stream of one result page to standard output: pages.py rows|collections|columns|blobs [bare] [ROWS]
+"""Writes a stream of one result page to standard output: pages.py rows|collections|columns|kinds|blobs [bare] [ROWS]
 
 rows         1,000,000 rows of int, bigint, varchar of 16 letters, boolean
 collections  200,000 rows of list<int> of 8 and map<varchar, int> of 3
 columns      5,000 rows of 200 columns of int
+kinds        50,000 rows of a column of each kind without items
 blobs        96 rows of one blob of 1 MiB
 
 A page of more than 256 MB does not fit in a frame. The same words give the same bytes. A bare page has no metadata; the
@@ -49,6 +50,34 @@ def columns(i):
     return b"".join(cell(int_(i + k)) for k in range(200))
 
 
+# the kinds without items, with what a row has of each
+KINDS = [
+    (0x0001, letters),
+    (BIGINT, lambda i: struct.pack(">q", i * 1_000_003 - (1 << 40))),
+    (BLOB, lambda i: struct.pack(">Q", i * 0x9E3779B97F4A7C15 % (1 << 64)) * 2),
+    (BOOLEAN, lambda i: bytes([i & 1])),
+    (0x0005, lambda i: struct.pack(">q", i * i)),
+    (0x0006, lambda i: int_(i % 9) + struct.pack(">q", i * 7919 - 5_000_000)),
+    (0x0007, lambda i: struct.pack(">d", i / 7)),
+    (0x0008, lambda i: struct.pack(">f", i / 3)),
+    (INT, lambda i: int_(i * 7919 % 2_000_003 - 1_000_000)),
+    (0x000B, lambda i: struct.pack(">q", 1_600_000_000_000 + i * 61_001)),
+    (0x000C, lambda i: struct.pack(">QQ", i * 0x9E3779B97F4A7C15 % (1 << 64), i)),
+    (VARCHAR, lambda i: b"name \"%d\"\n" % i if i % 16 == 0 else b"name of %d" % i),
+    (0x000E, lambda i: struct.pack(">qq", i - 25_000, i)[: 9 + i % 8]),
+    (0x000F, lambda i: struct.pack(">IHHQ", i, i % 65_536, 0x1000 + i % 4096, i + (1 << 63))),
+    (0x0010, lambda i: struct.pack(">I", i * 40_503 % (1 << 32)) if i & 1 else struct.pack(">QQ", i, i * i)),
+    (0x0011, lambda i: struct.pack(">I", (1 << 31) + i * 3 - 60_000)),
+    (0x0012, lambda i: struct.pack(">q", i * 1_727_999_999 % 86_400_000_000_000)),
+    (0x0013, lambda i: struct.pack(">h", i % 65_536 - 32_768)),
+    (0x0014, lambda i: struct.pack(">b", i % 256 - 128)),
+]
+
+
+def kinds(i):
+    return b"".join(int_(-1) if (i + k) % 37 == 0 else cell(make(i)) for k, (_, make) in enumerate(KINDS))
+
+
 MEGABYTE = bytes(range(256)) * 4096
 
 # the options of the columns, how many rows, one row
@@ -56,6 +85,7 @@ PAGES = {
     "rows": ([short(INT), short(BIGINT), short(VARCHAR), short(BOOLEAN)], 1_000_000, scalars),
     "collections": ([short(LIST, INT), short(MAP, VARCHAR, INT)], 200_000, collections),
     "columns": ([short(INT)] * 200, 5_000, columns),
+    "kinds": ([short(kind) for kind, _ in KINDS], 50_000, kinds),
     "blobs": ([short(BLOB)], 96, lambda _: cell(MEGABYTE)),
 }
 
@@ -80,8 +110,8 @@ def main():
     bare = words[:1] == ["bare"]
     rows = int((words[bare:] or [rows])[0])
     first = head(options, rows, bare)
-    # every row of a page is as long as every other
-    length = len(first) + rows * len(row(0))
+    # every row of a page is as long as every other, but for those of all kinds
+    length = len(first) + (sum(len(row(i)) for i in range(rows)) if row is kinds else rows * len(row(0)))
     if length > 0x10000000:
         sys.exit("longer than a frame may be")
     out = sys.stdout.buffer

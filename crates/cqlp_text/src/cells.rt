@@ -27,7 +27,7 @@ pub fn cell_text<W: Target>(scalar: &Scalar<'_>, w: &mut W) -> Result<(), SinkFa
 impl<W: Target> TextWriter<'_, W> {
     ghost use Rattle.std.specs.Prelude.{◌-ℤ◌, [], pos};
     ghost use Rattle.std.specs.Fmt.{signed_decimal};
-    ghost use Rattle.cqlp_text.specs.CellText.{decimal_text, digits, time_text, varint_text};
+    ghost use Rattle.cqlp_text.specs.CellText.{decimal_text, time_text, varint_text};
     ghost use Rattle.cqlp_text.specs.Text.{hex_text};
     ghost use Rattle.cqlp_text.specs.Written.{Writes};
 
@@ -124,17 +124,6 @@ impl<W: Target> TextWriter<'_, W> {
         self.put_digits(2, nanoseconds / 1_000_000_000 % 60)?;
         self.put(b".")?;
         self.put_digits(9, nanoseconds % 1_000_000_000)
-    }
-
-    /// Takes this many digits of a number, with leading zeros.
-    pub fn put_digits(&mut self, count: u32, number: u64) -> Result<(), SinkFault>
-        ensures { Writes self.old (digits count number) result self.new }
-    {
-        if count == 0 {
-            return Ok(());
-        }
-        self.put_digits(count - 1, number / 10)?;
-        self.put(&[b'0' + (number % 10) as u8])
     }
 }
 

@@ -1,6 +1,7 @@
 //! Text on its way to a target.
 
 ghost use Rattle.std.specs.Prelude.{◌≡◌, ◌+◌, ◌≤◌, ◌++◌, [], decimal, length, IsSome, OnOk};
+ghost use Rattle.cqlp_text.specs.CellText.{digits};
 ghost use Rattle.cqlp_text.specs.Outputs.{AppendsText, written};
 ghost use Rattle.cqlp_text.specs.Written.{Writes, unbuffered};
 
@@ -138,6 +139,28 @@ impl<'a, W: Target> TextWriter<'a, W> {
         self.len = end;
     }
 
+    /// Takes this many digits of a number, with leading zeros.
+    #[inline(always)]
+    pub fn put_digits(&mut self, count: usize, number: u64) -> Result<(), SinkFault>
+        requires { count ≤ 128 }
+        ensures { Writes self.old (digits count number) result self.new }
+    {
+        self.make_room(count)?;
+        self.keep_digits(count, number);
+        Ok(())
+    }
+
+    /// Takes this many digits of a number, which there is room for.
+    #[inline(always)]
+    fn keep_digits(&mut self, count: usize, number: u64)
+        requires { length self.old.waiting + count ≤ 128 }
+        ensures { self.new ≡ record self.old { waiting = self.old.waiting ++ digits count number } }
+    {
+        let end = self.len + count;
+        fill_with_digits(number, &mut self.buffer[self.len..end]);
+        self.len = end;
+    }
+
     /// Takes a text that there is room for.
     #[inline(always)]
     fn keep(&mut self, bytes: &[u8])
@@ -147,6 +170,20 @@ impl<'a, W: Target> TextWriter<'a, W> {
         let end = self.len + bytes.len();
         self.buffer[self.len..end].copy_from_slice(bytes);
         self.len = end;
+    }
+}
+
+/// Fills all room with the last digits of a number, after zeros where it has fewer.
+#[inline(always)]
+fn fill_with_digits(number: u64, room: &mut [u8])
+    ensures { room.new ≡ digits (length room.old) number }
+{
+    let mut left = number;
+    let mut at = room.len();
+    while at > 0 {
+        at -= 1;
+        room[at] = b'0' + (left % 10) as u8;
+        left /= 10;
     }
 }
 
