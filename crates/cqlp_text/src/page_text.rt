@@ -85,7 +85,7 @@ impl Model for PagePlace {
 }
 
 impl PagePlace {
-    ghost use Rattle.std.specs.Prelude.{false};
+    ghost use Rattle.std.specs.Prelude.{false, if◌then◌else◌, codes};
     ghost use Rattle.cqlp_note.specs.Field.{Count as CountValue, Int as IntValue};
     ghost use Rattle.cqlp_text.specs.PageText.{no_page, before, after, innermost, with_item, with_item_if};
     ghost use Rattle.cqlp_text.specs.PageText.{with_open, without_open, place_after_field};
@@ -162,6 +162,17 @@ impl PagePlace {
         } else {
             row_end(self.columns, column)
         }
+    }
+
+    /// Whether a row ends after a cell of this column, which no item of an open value is.
+    #[inline(always)]
+    fn ends_row(&self, column: u32) -> bool
+        ensures { after self.now.columns column self.now.open_values ≡ (if result then codes "\n" else []) }
+    {
+        if self.free < ROOM {
+            return false;
+        }
+        u64::from(column) + 1 == u64::from(self.columns)
     }
 
     /// What stands after the innermost open value.
@@ -284,7 +295,7 @@ impl PagePlace {
 impl<W: Target> TextWriter<'_, W> {
     ghost use Rattle.cqlp_note.specs.Field.{Count as CountValue, Text as TextValue};
     ghost use Rattle.cqlp_kind.specs.CellStep as cell;
-    ghost use Rattle.cqlp_text.specs.PageText.{before, after, column_line, page_line, event_part, field_part};
+    ghost use Rattle.cqlp_text.specs.PageText.{before, after, column_line, page_line, event_part, field_part, separator};
     ghost use Rattle.cqlp_text.specs.PageText.{value_part, whole_value, part_start, part_end, end_part, opening};
     ghost use Rattle.cqlp_text.specs.Words.{word_text};
     ghost use Rattle.cqlp_text.specs.Written.{Writes};
@@ -380,12 +391,49 @@ impl<W: Target> TextWriter<'_, W> {
     }
 
     /// Takes a value without items, with what stands before and after it.
+    #[inline(always)]
     fn put_value(&mut self, place: &PagePlace, column: u32, word: Word<'_>) -> Result<(), SinkFault>
         ensures { Writes self.old (whole_value place.now column (word_text word.entry)) result self.new }
     {
-        self.put(place.before(column).as_bytes())?;
+        self.put_before(place, column)?;
         self.put_word(word)?;
-        self.put(place.after(column).as_bytes())
+        self.put_after(place, column)
+    }
+
+    /// Takes what stands before a cell of this column, or before an item of the open value.
+    #[inline(always)]
+    fn put_before(&mut self, place: &PagePlace, column: u32) -> Result<(), SinkFault>
+        ensures { Writes self.old (before column place.now.open_values) result self.new }
+    {
+        match place.innermost() {
+            None if column == 0 => Ok(()),
+            None => self.put(b" | "),
+            Some(open) => self.put_separator(open.turn),
+        }
+    }
+
+    /// Takes what stands before an item of an open value.
+    #[inline(always)]
+    fn put_separator(&mut self, turn: Turn) -> Result<(), SinkFault>
+        ensures { Writes self.old (separator turn) result self.new }
+    {
+        match turn {
+            Turn::First => Ok(()),
+            Turn::Paired => self.put(b": "),
+            Turn::Another => self.put(b", "),
+        }
+    }
+
+    /// Takes what stands after a cell of this column, or after an item of the open value.
+    #[inline(always)]
+    fn put_after(&mut self, place: &PagePlace, column: u32) -> Result<(), SinkFault>
+        ensures { Writes self.old (after place.now.columns column place.now.open_values) result self.new }
+    {
+        if place.ends_row(column) {
+            self.put(b"\n")
+        } else {
+            Ok(())
+        }
     }
 
     fn put_opening(&mut self, place: &PagePlace, column: u32, kind: Kind) -> Result<(), SinkFault>

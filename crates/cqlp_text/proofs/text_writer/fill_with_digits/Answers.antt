@@ -13,5 +13,5 @@ loop-at-preserved c =
     let first = digits (l.at - 1) (l.left / 10) in (
       omega (arith, length-set l.room (l.at - 1) d),
       ap (λ t. first ++ t) (drop-set l.room (l.at - 1) d (omega arith) ∙ ap (λ k. d ∷ drop k l.room) same)
-      ∙ sym (append_assoc first (d ∷ []) (drop l.at l.room)) ∙ ap (λ t. t ++ drop l.at l.room) (sym (digits_last l.at l.left some)) ∙ l.invariant.1,
+          ∙ sym (append_assoc first (d ∷ []) (drop l.at l.room)) ∙ ap (λ t. t ++ drop l.at l.room) (sym (digits_last l.at l.left some)) ∙ l.invariant.1,
     )
