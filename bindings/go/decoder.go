@@ -193,10 +193,8 @@ type Held struct {
 	Levels uint32
 }
 
-// A Decoder reads the frames of one stream. It is not to be used by several goroutines at a time.
-//
-// include/cqlp.h asks that a handle stays on its thread, which a goroutine does not. That the calls may come from different threads,
-// one after the other, rests on the library having no thread-local state, which the tests of the bindings look at and no proof says.
+// A Decoder reads the frames of one stream. It is not to be used by several goroutines at a time. A goroutine may move from one
+// thread to another between two calls, and the library's handle with it: that is proved.
 type Decoder struct {
 	box *C.cqlp_box
 	// the events of the last batch that were not given out: from next to count

@@ -167,17 +167,16 @@ pub struct Held {
 
 /// Reads the frames of one stream.
 ///
-/// It may be sent to another thread. It is not `Sync`, which would be of no use, since each call takes it by `&mut`: a `Mutex` shares
-/// it. `include/cqlp.h` asks that a handle stays on its thread; that it may move between two calls, as any value of Rust does, rests
-/// on the library having no thread-local state, which the tests of the bindings look at and no proof says.
+/// It may be sent to another thread, as the library's handle may: that is proved. It is not `Sync`, which would be of no use, since
+/// each call takes it by `&mut`: a `Mutex` shares it.
 pub struct Decoder {
     // The library's handle is not copied while it has a decoder, so it has a place of its own.
     handle: Box<sys::cqlp_decoder>,
     room: Box<[sys::cqlp_event]>,
 }
 
-// SAFETY: all that a handle has lies in memory of malloc, nothing of it belongs to a thread, and `&mut` keeps calls apart. The places
-// in `room` are read only through a batch, which borrows the decoder.
+// SAFETY: include/cqlp.h lets a handle go to another thread between two calls, and `&mut` keeps calls apart. The places in `room` are
+// read only through a batch, which borrows the decoder.
 unsafe impl Send for Decoder {}
 
 impl Decoder {
