@@ -48,8 +48,8 @@ pub record HandsCell (l : Rules) (k : Kind) (room : ℕ) (input : List ℕ) (row
   pub holds : Holds (cell_event row column event)
 
 -- What became of the cell that is due: it was handed out, and the sink has got it, or it failed there.
-abbrev pub HandsFront : Rules → Kind → (room : ℕ) → (input : List ℕ) → (row column : ℕ) → (HasGot Failed : Event → Type 0)
-    → Handed → Type 0
+abbrev pub HandsFront : Rules → Kind → (room : ℕ) → (input : List ℕ) → (row column : ℕ)
+    → (HasGot Failed : Event → Type 0) → Handed → Type 0
 HandsFront l k room input row column HasGot Failed handed.Left = ⊤
 HandsFront l k room input row column HasGot Failed (handed.Cell used) = HandsCell l k room input row column used HasGot
 HandsFront l k room input row column HasGot Failed (handed.Fault used) = HandsCell l k room input row column used Failed

@@ -1,9 +1,9 @@
 //! The cells of a page, handed straight to a sink.
 //!
-//! The loop takes nulls, empty values and scalars, while each lies whole in the input and a cell of the page follows it.
-//! It leaves all else to `Decoder::next`, which alone decides it: a page's last cell, a value with items, a cut, a part,
-//! and each refusal. It may, since it is proved to hand out what the reading of the bytes says, and to stand where that
-//! does; and it reads a scalar by the very function by which `next` does, so that no rule stands here alone.
+//! The loop takes nulls, empty values and scalars, while each lies whole in the input and a cell of the page follows.
+//! It leaves all else to `Decoder::next`, which alone decides it: a page's last cell, a value with items, a cut, a
+//! part, and each refusal. It may, since it is proved to hand out what the reading of the bytes says, and to stand
+//! where that does; and it reads a scalar by the very function by which `next` does, so that no rule stands here alone.
 
 ghost use Rattle.std.specs.Prelude.{◌≡◌, ◌*◌, Ok, OnOk, Some};
 ghost use Rattle.cqlp_note.specs.Limits.{rules_of};
@@ -40,8 +40,8 @@ pub enum Bare {
     Empty,
 }
 
-/// Hands the cells that are due to the sink, as far as the loop takes them, and answers how many bytes of the input they
-/// take.
+/// Hands the cells that are due to the sink, as far as the loop takes them, and answers how many bytes of the input
+/// they take.
 #[inline(never)]
 pub fn take_cells<S: Sink, A: Allocator>(
     standing: &mut StreamStanding,
@@ -51,7 +51,8 @@ pub fn take_cells<S: Sink, A: Allocator>(
 ) -> Result<usize, SinkFault>
     requires lawful { IsLawful standing.old parts.now }
     ensures lawful { IsLawful standing.new parts.now }
-    ensures stays { StaysWithin (state_with standing.old parts.now) input.now result (state_with standing.new parts.now) }
+    ensures stays { StaysWithin (state_with standing.old parts.now) input.now result
+        (state_with standing.new parts.now) }
     ensures refused { (r : Refusal) → standing.old.refusal ≡ Some r
         → (standing.new ≡ standing.old) × (sink.new ≡ sink.old) × (result ≡ Ok 0) }
     ensures tells { S.tells sink.old → OnOk result (S.tells sink.new) }
@@ -120,27 +121,10 @@ fn hand_cell<S: Sink>(
     if room < 4 || input.len() < 4 {
         return Handed::Left;
     }
+    let level = 0;
     match front_bare(room, input) {
-        Some(Bare::Null) => return hand(
-            at,
-            &Event::Null {
-                row,
-                column,
-                level: 0,
-            },
-            4,
-            sink,
-        ),
-        Some(Bare::Empty) => return hand(
-            at,
-            &Event::Empty {
-                row,
-                column,
-                level: 0,
-            },
-            4,
-            sink,
-        ),
+        Some(Bare::Null) => return hand(at, &Event::Null { row, column, level }, 4, sink),
+        Some(Bare::Empty) => return hand(at, &Event::Empty { row, column, level }, 4, sink),
         None => {}
     }
     // An arm for each kind, so that each has code of its own.
@@ -207,7 +191,8 @@ fn hand_scalar<S: Sink>(
 /// Hands an event that takes this many bytes to the sink.
 #[inline(always)]
 fn hand<S: Sink>(at: u64, event: &Event<'_>, used: usize, sink: &mut S) -> Handed
-    ensures { HasHanded (S.tells sink.old → S.tells sink.new × (S.view sink.new ≡ S.after (S.view sink.old) at (event_of event.now)))
+    ensures { HasHanded
+        (S.tells sink.old → S.tells sink.new × (S.view sink.new ≡ S.after (S.view sink.old) at (event_of event.now)))
         (S.tells sink.old → S.faulted (S.view sink.old) at (event_of event.now) (S.view sink.new)) used result }
 {
     match sink.take(at, event) {
