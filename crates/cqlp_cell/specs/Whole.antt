@@ -27,7 +27,8 @@ outline_of (bare.Leave level n) = outline.Leave level n
 pub record IsWhole (nodes : List Node) (old : CellState) (input : List ℕ) (at used : ℕ) (i : CellOutline)
     (new : CellState) : Type 0 where
   pub fresh : old.under ≡ under.Nothing
-  pub moves : (p : FieldState) → Joined nodes old p → p.content ≡ [] → Moves nodes old p input (advance.Item at used i) new p
+  pub moves : (p : FieldState) → Joined nodes old p → p.content ≡ []
+      → Moves nodes old p input (advance.Item at used i) new p
 
 -- The next item of the innermost value, of which nothing has come: it begins there, is of this kind, and has this much
 -- room.

@@ -34,8 +34,8 @@ TakesItem old input at used e new =
     (new.refusal ≡ old.refusal) × (new.rules ≡ old.rules) × (new.given ≡ old.given) × Hands old input at used e new
 
 -- Bytes say that an item of this kind, in a value with this much room, is a scalar, of whose event this holds.
-pub record SaysLeaf (l : Rules) (k : Kind) (room level : ℕ) (input : List ℕ) (row column used : ℕ) (Holds : Event → Type 0)
-    : Type 0 where
+pub record SaysLeaf (l : Rules) (k : Kind) (room level : ℕ) (input : List ℕ) (row column used : ℕ)
+    (Holds : Event → Type 0) : Type 0 where
   pub value : ScalarValue
   pub says : SaysScalar l k room input used value
   pub holds : Holds (cell_event row column (cell.Leaf level value))

@@ -1,9 +1,9 @@
 //! The items of cells, handed straight to a sink.
 //!
 //! The loop takes what has no content, and scalars, while each lies whole in the input. It leaves all else to
-//! `Decoder::next`, which alone decides it: a cut, a part, and each refusal. It may, since it is proved to hand out what
-//! the reading of the bytes says, and to stand where that does; and it reads by the functions by which `next` does, so
-//! that no rule stands here alone.
+//! `Decoder::next`, which alone decides it: a cut, a part, and each refusal. It may, since it is proved to hand out
+//! what the reading of the bytes says, and to stand where that does; and it reads by the functions by which `next`
+//! does, so that no rule stands here alone.
 
 ghost use Rattle.std.specs.Prelude.{◌≡◌, Ok, OnErr, OnOk, None, Some, []};
 ghost use Rattle.cqlp_note.specs.Limits.{rules_of};
@@ -40,7 +40,8 @@ pub fn take_items<S: Sink, A: Allocator>(
 ) -> Result<usize, SinkFault>
     requires lawful { IsLawful standing.old parts.old }
     ensures lawful { IsLawful standing.new parts.new }
-    ensures stays { StaysWithin (state_with standing.old parts.old) input.now result (state_with standing.new parts.new) }
+    ensures stays { StaysWithin (state_with standing.old parts.old) input.now result
+        (state_with standing.new parts.new) }
     ensures refused { (r : Refusal) → standing.old.refusal ≡ Some r
         → (standing.new ≡ standing.old) × (parts.new ≡ parts.old) × (sink.new ≡ sink.old) × (result ≡ Ok 0) }
     ensures tells { S.tells sink.old → OnOk result (S.tells sink.new) }
@@ -210,7 +211,8 @@ impl StreamStanding {
         }
     }
 
-    /// Hands the next item of the cell that is under way to the sink, if it is a scalar and all its bytes lie in the input.
+    /// Hands the next item of the cell that is under way to the sink, if it is a scalar and all its bytes lie in the
+    /// input.
     #[inline(always)]
     fn hand_item<S: Sink, A: Allocator>(
         &self,
