@@ -24,8 +24,8 @@ pub(crate) trait Form {
         event: &Event<'_>,
         target: &mut W,
     ) -> Result<(), SinkFault>
-        ensures text { AppendsText (written W.Target target.old) (text_of (form self.old) at (event_of event.now)) result
-            (written W.Target target.new) }
+        ensures text { AppendsText (written W.Target target.old) (text_of (form self.old) at (event_of event.now))
+            result (written W.Target target.new) }
         ensures form { form self.new ≡ form_after (form self.old) (event_of event.now) };
 }
 

@@ -185,7 +185,8 @@ impl<W: Target> TextWriter<'_, W> {
         level: u32,
         scalar: &Scalar<'_>,
     ) -> Result<(), SinkFault>
-        ensures { Writes self.old (spaced (cell_words row column (cell.Leaf level (value_of scalar.now)))) result self.new }
+        ensures { Writes self.old (spaced (cell_words row column (cell.Leaf level (value_of scalar.now))))
+            result self.new }
     {
         self.put_place(" Leaf ", row, column, level)?;
         self.put(b" ")?;
@@ -229,7 +230,8 @@ impl<W: Target> TextWriter<'_, W> {
         bytes: &[u8],
         last: bool,
     ) -> Result<(), SinkFault>
-        ensures { Writes self.old (spaced (cell_words row column (cell.Part level offset bytes.now last))) result self.new }
+        ensures { Writes self.old (spaced (cell_words row column (cell.Part level offset bytes.now last)))
+            result self.new }
     {
         self.put_place(" Part ", row, column, level)?;
         self.put(b" ")?;

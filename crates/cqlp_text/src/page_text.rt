@@ -295,7 +295,8 @@ impl PagePlace {
 impl<W: Target> TextWriter<'_, W> {
     ghost use Rattle.cqlp_note.specs.Field.{Count as CountValue, Text as TextValue};
     ghost use Rattle.cqlp_kind.specs.CellStep as cell;
-    ghost use Rattle.cqlp_text.specs.PageText.{before, after, column_line, page_line, event_part, field_part, separator};
+    ghost use Rattle.cqlp_text.specs.PageText.{before, after, column_line, page_line, event_part, field_part};
+    ghost use Rattle.cqlp_text.specs.PageText.{separator};
     ghost use Rattle.cqlp_text.specs.PageText.{value_part, whole_value, part_start, part_end, end_part, opening};
     ghost use Rattle.cqlp_text.specs.Words.{word_text};
     ghost use Rattle.cqlp_text.specs.Written.{Writes};
