@@ -47,7 +47,7 @@ enum { PIECE, EVENTS, AREAS };
 /* The last bytes, this many, of an area after which no byte may be read or written, so that a step outside ends the test, also
  * one of code that no sanitizer was built into. */
 static inline void *edge(int area, size_t size) {
-  enum { AREA = 65536 };
+  enum { AREA = 1 << 22 };
   static uint8_t *ends[AREAS];
   if (!ends[area]) {
     uint8_t *all = mmap(NULL, 2 * AREA, PROT_READ | PROT_WRITE, MAP_PRIVATE | MAP_ANONYMOUS, -1, 0);
