@@ -10,3 +10,4 @@ pub mod Tables
 pub mod Gets
 pub mod PageLoop
 pub mod ItemLoop
+pub mod FieldLoop

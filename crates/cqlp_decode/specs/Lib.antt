@@ -7,3 +7,4 @@ pub mod Giving
 pub mod Draining
 pub mod Cells
 pub mod Items
+pub mod Fields

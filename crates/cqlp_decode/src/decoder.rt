@@ -13,6 +13,7 @@ ghost use Rattle.cqlp_note.specs.declared.limits.BadLimits.{BadLimits as Bad};
 ghost use Rattle.cqlp_note.specs.declared.refusal.Refusal.{Refusal};
 
 use crate::advance::{EventAdvance, EventOutline, ScalarCell};
+use crate::field_loop::take_fields;
 use crate::given::{GiveError, GiveReason, GivenUse};
 use crate::item_loop::take_items;
 use crate::page_loop::take_cells;
@@ -255,10 +256,55 @@ impl<A: Allocator> Decoder<A> {
         self.standing.take_scalar(&self.parts, input)
     }
 
+    /// Hands what lies whole in the input to the sink, as far as the loops over fields and over the cells of a page take
+    /// it, and answers how many bytes of the input it takes.
+    #[inline]
+    pub(crate) fn take_whole<S: Sink>(
+        &mut self,
+        input: &[u8],
+        sink: &mut S,
+    ) -> Result<usize, SinkFault>
+        ensures stays { StaysWithin (state self.old) input.now result (state self.new) }
+        ensures refused { (r : Refusal) → (state self.old).refusal ≡ Some r
+            → (state self.new ≡ state self.old) × (sink.new ≡ sink.old) × (result ≡ Ok 0) }
+        ensures tells { S.tells sink.old → OnOk result (S.tells sink.new) }
+        ensures drains { S.tells sink.old →
+            DrainsCells S.after S.faulted (state self.old) input.now result (state self.new)
+            (S.view sink.old) (S.view sink.new) }
+    {
+        let used = match self.take_fields(input, sink) {
+            Ok(used) => used,
+            Err(SinkFault) => return Err(SinkFault),
+        };
+        let more = match self.take_cells(&input[used..], sink) {
+            Ok(more) => more,
+            Err(SinkFault) => return Err(SinkFault),
+        };
+        Ok(used + more)
+    }
+
+    /// Hands headers, fields and ends of frames to the sink, as far as the loop over them takes them, and answers how
+    /// many bytes of the input they take.
+    #[inline]
+    fn take_fields<S: Sink>(&mut self, input: &[u8], sink: &mut S) -> Result<usize, SinkFault>
+        ensures stays { StaysWithin (state self.old) input.now result (state self.new) }
+        ensures refused { (r : Refusal) → (state self.old).refusal ≡ Some r
+            → (state self.new ≡ state self.old) × (sink.new ≡ sink.old) × (result ≡ Ok 0) }
+        ensures tells { S.tells sink.old → OnOk result (S.tells sink.new) }
+        ensures drains { S.tells sink.old →
+            DrainsCells S.after S.faulted (state self.old) input.now result (state self.new)
+            (S.view sink.old) (S.view sink.new) }
+    {
+        if self.standing.is_in_page() {
+            return Ok(0);
+        }
+        take_fields(&mut self.standing, &mut self.parts, input, sink)
+    }
+
     /// Hands cells to the sink, as far as the loops over a page and over the items of its cells take them, and answers how
     /// many bytes of the input they take.
     #[inline]
-    pub(crate) fn take_cells<S: Sink>(
+    fn take_cells<S: Sink>(
         &mut self,
         input: &[u8],
         sink: &mut S,
@@ -360,7 +406,8 @@ fn event_in(row: u32, column: u32, part: CellItem<'_>) -> Event<'_>
 }
 
 /// The event that a field holds a value.
-fn event_with(field: Field, value: Prim<'_>) -> Event<'_>
+#[inline(always)]
+pub(crate) fn event_with(field: Field, value: Prim<'_>) -> Event<'_>
     ensures { event_of result ≡ reading.Holds field (value_of value.entry) }
 {
     match value {

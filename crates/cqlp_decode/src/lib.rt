@@ -3,6 +3,7 @@
 
 mod advance;
 mod decoder;
+mod field_loop;
 mod given;
 mod item_loop;
 mod metadata;

@@ -89,7 +89,7 @@ fn drain<S: Sink, A: Allocator>(decoder: &mut Decoder<A>, input: &[u8], sink: &m
 {
     let mut used = 0;
     'events: loop {
-        match decoder.take_cells(&input[used..], sink) {
+        match decoder.take_whole(&input[used..], sink) {
             Ok(taken) => used += taken,
             Err(SinkFault) => return Drained::Fault,
         }

@@ -4,7 +4,7 @@ ghost use Rattle.std.specs.Prelude.{◌≡◌, ◌↔◌, ◌+◌, ◌-◌, ◌<
 ghost use Rattle.std.specs.Prelude.{[], IsFalse, IsTrue, None, Some, false, length, take, true};
 ghost use Rattle.cqlp_note.specs.Limits.{limit_of, rules_of};
 ghost use Rattle.cqlp_note.specs.declared.refusal.Refusal.{Refusal as Refusing};
-ghost use Rattle.cqlp_decode.specs.Standing.{came_of, stage_with};
+ghost use Rattle.cqlp_decode.specs.Standing.{came_of};
 
 use crate::advance::{EventAdvance, EventOutline, ScalarCell};
 use crate::given::GivenUse;
@@ -257,7 +257,7 @@ impl StreamStanding {
     }
 
     /// Goes on after a header.
-    fn enter(&mut self, header: &Header)
+    pub fn enter(&mut self, header: &Header)
         requires bounded { IsBounded self.old }
         requires here { self.old.stage ≡ stage.Header }
         requires early { self.old.offset ≤ 2 ^ 63 }
@@ -286,7 +286,11 @@ impl StreamStanding {
         ensures room { HasRoom self.new.stage self.new.upcoming }
         ensures rest { self.new ≡ record self.old { stage = self.new.stage; upcoming = self.new.upcoming } }
     {
-        self.stage = stage_of(self.upcoming.pop());
+        match self.upcoming.pop() {
+            Some(Expected::Field(want)) => self.stage = StreamStage::Field(want),
+            Some(Expected::Option) => self.stage = StreamStage::BeforeType,
+            None => self.stage = StreamStage::Extra,
+        }
     }
 
     fn advance_field<A: Allocator>(
@@ -336,7 +340,7 @@ impl StreamStanding {
     }
 
     /// Sees that the field has begun.
-    fn ask<A: Allocator>(&self, partial: &mut Partial<A>, want: Want)
+    pub fn ask<A: Allocator>(&self, partial: &mut Partial<A>, want: Want)
         requires inside { self.now.offset ≤ self.now.stop }
         requires room { partial.old.room ≡ max self.now.limits.text self.now.limits.cell }
         requires field { partial.old.under_way ≡ true → partial.old.field ≡ asked self.now want }
@@ -350,7 +354,7 @@ impl StreamStanding {
 
     /// Goes on after a field: with the cells of a page, which a given table may type, or with what is due next in the
     /// message.
-    fn follow<A: Allocator>(
+    pub fn follow<A: Allocator>(
         &mut self,
         role: Role,
         value: Prim<'_>,
@@ -597,17 +601,6 @@ fn count_field_bytes<A: Allocator>(partial: &Partial<A>) -> u64
         partial.came()
     } else {
         0
-    }
-}
-
-/// What is read next, where this is due next in a message.
-fn stage_of(next: Option<Expected>) -> StreamStage
-    ensures { result ≡ stage_with next }
-{
-    match next {
-        Some(Expected::Field(want)) => StreamStage::Field(want),
-        Some(Expected::Option) => StreamStage::BeforeType,
-        None => StreamStage::Extra,
     }
 }
 

@@ -6,7 +6,7 @@ use Rattle.cqlp_decode.proofs.Leads.{repeated}
 use Rattle.cqlp_decode.proofs.Gets.{rest_is, drains_event, drains_all, drains_refused, drains_rest, fails_event, fails_rest}
 use Rattle.cqlp_decode.proofs.running.drain.Goals as goal
 
--- the cells of a page
+-- what lies whole in the input
 
 pub returns-in-Err-clause-refused : goal.returns-in-Err-clause-refused
 returns-in-Err-clause-refused g c = λ r is.
@@ -19,7 +19,7 @@ returns-in-Err-clause-drains g c = λ tells.
       c.events.used + cells.0,
       λ gifts s es a.
           let d = c.events.invariant.drained tells gifts s es a in
-          fails_rest g.S.Sink.after g.S.Sink.faulted gifts (state c.events.decoder) (state c.take_cells.new.self) s c.args.input.now c.events.used cells.0 es _ _ _ d (cells.1 gifts _ _ d.stands),
+          fails_rest g.S.Sink.after g.S.Sink.faulted gifts (state c.events.decoder) (state c.take_whole.new.self) s c.args.input.now c.events.used cells.0 es _ _ _ d (cells.1 gifts _ _ d.stands),
     )
 
 -- all else
@@ -32,13 +32,13 @@ returns-in-More-clause-refused g c = λ r is.
     let before = c.events.invariant.refused r is in
     let cells = c.in-Ok.ensures.refused r (ap (λ (z : StreamState). z.refusal) before.0 ∙ is) in
     let same = cells.0 ∙ before.0 in
-    let again = repeated (state c.take_cells.new.self) (state c.next.follows.lender-at-none) _ (state c.take_cells.new.self).refusal r (ap (λ (z : StreamState). z.refusal) same ∙ is) c.next.follows.holds-at-none.2 in
+    let again = repeated (state c.take_whole.new.self) (state c.next.follows.lender-at-none) _ (state c.take_whole.new.self).refusal r (ap (λ (z : StreamState). z.refusal) same ∙ is) c.next.follows.holds-at-none.2 in
     absurd (let e = sym c.in-More.is ∙ again.0 in cc)
 
 pub returns-in-More-clause-drains : goal.returns-in-More-clause-drains
 returns-in-More-clause-drains g c = λ tells gifts s es a.
     let old = state c.events.decoder in
-    let mid = state c.take_cells.new.self in
+    let mid = state c.take_whole.new.self in
     let used = c.events.used + c.in-Ok.taken in
     let input = c.args.input.now in
     let cells = (rw rest_is at c.in-Ok.ensures.drains) (c.events.invariant.tells tells) in
@@ -56,13 +56,13 @@ returns-in-Refused-clause-refused g c = λ r is.
     let before = c.events.invariant.refused r is in
     let cells = c.in-Ok.ensures.refused r (ap (λ (z : StreamState). z.refusal) before.0 ∙ is) in
     let same = cells.0 ∙ before.0 in
-    let again = repeated (state c.take_cells.new.self) (state c.next.follows.lender-at-none) _ (state c.take_cells.new.self).refusal r (ap (λ (z : StreamState). z.refusal) same ∙ is) c.next.follows.holds-at-none.2 in
+    let again = repeated (state c.take_whole.new.self) (state c.next.follows.lender-at-none) _ (state c.take_whole.new.self).refusal r (ap (λ (z : StreamState). z.refusal) same ∙ is) c.next.follows.holds-at-none.2 in
     (refl, again.1 ∙ same, cells.1 ∙ before.1)
 
 pub returns-in-Refused-clause-drains : goal.returns-in-Refused-clause-drains
 returns-in-Refused-clause-drains g c = λ tells.
     let old = state c.events.decoder in
-    let mid = state c.take_cells.new.self in
+    let mid = state c.take_whole.new.self in
     let used = c.events.used + c.in-Ok.taken in
     let input = c.args.input.now in
     let cells = (rw rest_is at c.in-Ok.ensures.drains) (c.events.invariant.tells tells) in (
@@ -80,13 +80,13 @@ returns-in-Err-take-clause-refused g c = λ r is.
     let before = c.events.invariant.refused r is in
     let cells = c.in-Ok.ensures.refused r (ap (λ (z : StreamState). z.refusal) before.0 ∙ is) in
     let same = cells.0 ∙ before.0 in
-    let again = repeated (state c.take_cells.new.self) (state c.next.follows.lender-at-none) _ (state c.take_cells.new.self).refusal r (ap (λ (z : StreamState). z.refusal) same ∙ is) c.next.follows.holds-at-none.2 in
+    let again = repeated (state c.take_whole.new.self) (state c.next.follows.lender-at-none) _ (state c.take_whole.new.self).refusal r (ap (λ (z : StreamState). z.refusal) same ∙ is) c.next.follows.holds-at-none.2 in
     absurd (let e = sym c.in-Event.is ∙ again.0 in cc)
 
 pub returns-in-Err-take-clause-drains : goal.returns-in-Err-take-clause-drains
 returns-in-Err-take-clause-drains g c = λ tells.
     let old = state c.events.decoder in
-    let mid = state c.take_cells.new.self in
+    let mid = state c.take_whole.new.self in
     let used = c.events.used + c.in-Ok.taken in
     let input = c.args.input.now in
     let cells = (rw rest_is at c.in-Ok.ensures.drains) (c.events.invariant.tells tells) in (
@@ -110,7 +110,7 @@ events-smaller g c =
 pub events-preserved : goal.events-preserved
 events-preserved g c =
     let old = state c.events.decoder in
-    let mid = state c.take_cells.new.self in
+    let mid = state c.take_whole.new.self in
     let used = c.events.used + c.in-Ok.taken in
     let input = c.args.input.now in
     let goes = rw c.in-Event.is at c.next.follows.holds-at-none.0 in record {
@@ -126,7 +126,7 @@ events-preserved g c =
           let before = c.events.invariant.refused r is in
           let cells = c.in-Ok.ensures.refused r (ap (λ (z : StreamState). z.refusal) before.0 ∙ is) in
           let same = cells.0 ∙ before.0 in
-          let again = repeated (state c.take_cells.new.self) (state c.next.follows.lender-at-none) _ (state c.take_cells.new.self).refusal r (ap (λ (z : StreamState). z.refusal) same ∙ is) c.next.follows.holds-at-none.2 in
+          let again = repeated (state c.take_whole.new.self) (state c.next.follows.lender-at-none) _ (state c.take_whole.new.self).refusal r (ap (λ (z : StreamState). z.refusal) same ∙ is) c.next.follows.holds-at-none.2 in
           absurd (let e = sym c.in-Event.is ∙ again.0 in cc);
       clear = λ none. goes.3;
       tells = λ tells. (c.in-Ok-take.ensures.ok (c.in-Ok.ensures.tells (c.events.invariant.tells tells))).0;

@@ -1,0 +1,25 @@
+use Rattle.std.proofs.Common.{◌≡◌, ◌+◌, ◌-◌, ◌*◌, ◌≤◌, List, ℕ, length, take}
+use Rattle.std.specs.Prelude.{None}
+use Rattle.cqlp_decode.specs.Reading.{Event, Gifts}
+use Rattle.cqlp_decode.specs.Standing.{IsLawful, ends_due, state_with}
+use Rattle.cqlp_decode.specs.Streams.{AfterGifts}
+use Rattle.cqlp_decode.specs.Draining.{Drains}
+use Rattle.cqlp_decode.proofs.field_loop.take_fields.Given as goal
+
+-- what is used is read, and the sink has got its events
+abbrev pub invariant-fields : goal.invariant-fields
+invariant-fields g l = record {
+  within : l.used ≤ length l.input;
+  lawful : IsLawful l.standing l.parts;
+  unrefused : l.standing.refusal ≡ None;
+  rules : (state_with l.standing l.parts).rules ≡ (state_with l.fn.standing l.fn.parts).rules;
+  given : (state_with l.standing l.parts).given ≡ (state_with l.fn.standing l.fn.parts).given;
+  pays : ends_due (state_with l.standing l.parts).place.symbols + (state_with l.standing l.parts).open_values ≤ ends_due (state_with l.fn.standing l.fn.parts).place.symbols + (state_with l.fn.standing l.fn.parts).open_values + 2 * l.used;
+  tells : g.S.Sink.tells l.fn.sink → g.S.Sink.tells l.sink;
+  drained : g.S.Sink.tells l.fn.sink → (gifts : Gifts) (s : List ℕ) (es : List (ℕ × Event)) → AfterGifts gifts (state_with l.fn.standing l.fn.parts) s es
+      → Drains g.S.Sink.after gifts (state_with l.standing l.parts) s es (take l.used l.input) (g.S.Sink.view l.fn.sink) (g.S.Sink.view l.sink);
+}
+
+-- what is taken has some byte, or is the end of a frame
+abbrev pub decreases-fields : goal.decreases-fields
+decreases-fields g l = ends_due (state_with l.standing l.parts).place.symbols + (state_with l.standing l.parts).open_values + 2 * (length l.input - l.used)

@@ -1,0 +1,213 @@
+//! Headers, fields and ends of frames, handed straight to a sink.
+//!
+//! The loop takes each header, field and end that lies whole in the input, and what there is of a field that is cut.
+//! It leaves all else to `Decoder::next`, which alone decides it: a type option, a cell, a header that is cut, and each
+//! refusal. It may, since it is proved to hand out what the reading of the bytes says, and to stand where that does;
+//! and it reads by the functions by which `next` does, so that no rule stands here alone.
+
+ghost use Rattle.std.specs.Prelude.{◌≡◌, ◌-◌, ◌≤◌, Ok, OnOk, None, Some, max};
+ghost use Rattle.cqlp_note.specs.declared.refusal.Refusal.{Refusal};
+ghost use Rattle.cqlp_type.specs.Forests.{Forest};
+ghost use Rattle.cqlp_decode.specs.declared.standing.StreamStage.TheVariants as stage;
+ghost use Rattle.cqlp_decode.specs.Cells.{DrainsCells, StaysWithin};
+ghost use Rattle.cqlp_decode.specs.Fields.{HandsDue};
+ghost use Rattle.cqlp_decode.specs.Standing.{HoldsGiven, IsBounded, IsConsistent, IsIdle, IsLawful, IsWanted, PartsState, state_of, state_with};
+
+use crate::decoder::event_with;
+use crate::metadata::begin_metadata;
+use crate::parts::Parts;
+use crate::standing::{StreamStage, StreamStanding};
+use cqlp_grammar::{Event, Sink, SinkFault, Want, fault_in};
+use cqlp_kind::content::first;
+use cqlp_note::{FieldAdvance, Header};
+use std::alloc::Allocator;
+
+/// What became of what is due.
+#[derive(Clone, Copy, Debug, PartialEq, Eq)]
+pub enum DueTaken {
+    /// Nothing: it is left.
+    Left,
+    /// It was handed out, and takes this many bytes.
+    Whole(usize),
+    /// The same, but the sink failed.
+    Fault(usize),
+    /// All of the input belongs to it, and more is wanted.
+    Cut,
+}
+
+/// Hands what is due to the sink, as far as the loop takes it, and answers how many bytes of the input it takes.
+pub fn take_fields<S: Sink, A: Allocator>(
+    standing: &mut StreamStanding,
+    parts: &mut Parts<A>,
+    input: &[u8],
+    sink: &mut S,
+) -> Result<usize, SinkFault>
+    requires lawful { IsLawful standing.old parts.old }
+    ensures lawful { IsLawful standing.new parts.new }
+    ensures stays { StaysWithin (state_with standing.old parts.old) input.now result
+        (state_with standing.new parts.new) }
+    ensures refused { (r : Refusal) → standing.old.refusal ≡ Some r
+        → (standing.new ≡ standing.old) × (parts.new ≡ parts.old) × (sink.new ≡ sink.old) × (result ≡ Ok 0) }
+    ensures tells { S.tells sink.old → OnOk result (S.tells sink.new) }
+    ensures drains { S.tells sink.old →
+        DrainsCells S.after S.faulted (state_with standing.old parts.old) input.now result
+        (state_with standing.new parts.new) (S.view sink.old) (S.view sink.new) }
+{
+    if standing.refusal.is_some() {
+        return Ok(0);
+    }
+    let mut used = 0;
+    'fields: loop {
+        match standing.hand_due(parts, &input[used..], sink) {
+            DueTaken::Left => return Ok(used),
+            DueTaken::Whole(taken) => used += taken,
+            DueTaken::Fault(_) => return Err(SinkFault),
+            DueTaken::Cut => return Ok(input.len()),
+        }
+    }
+}
+
+impl StreamStanding {
+    /// Hands what is due to the sink, if the loop takes it.
+    #[inline(always)]
+    fn hand_due<S: Sink, A: Allocator>(
+        &mut self,
+        parts: &mut Parts<A>,
+        input: &[u8],
+        sink: &mut S,
+    ) -> DueTaken
+        requires lawful { IsLawful self.old parts.old }
+        requires unrefused { self.old.refusal ≡ None }
+        ensures lawful { IsLawful self.new parts.new }
+        ensures left { result ≡ DueTaken.Left → sink.new ≡ sink.old }
+        ensures cut { result ≡ DueTaken.Cut → sink.new ≡ sink.old }
+        ensures hands { HandsDue (state_with self.old parts.old) input.now
+            (λ at e. S.tells sink.old → S.tells sink.new × (S.view sink.new ≡ S.after (S.view sink.old) at e))
+            (λ at e. S.tells sink.old → S.faulted (S.view sink.old) at e (S.view sink.new)) result
+            (state_with self.new parts.new) }
+    {
+        match self.stage {
+            StreamStage::Field(want) => self.hand_field(parts, want, input, sink),
+            StreamStage::Header => self.hand_header(input, sink),
+            StreamStage::Extra => self.hand_end(input, sink),
+            StreamStage::BeforeType
+            | StreamStage::InType
+            | StreamStage::BeforeCell(_)
+            | StreamStage::InCell(_) => DueTaken::Left,
+        }
+    }
+
+    /// Hands the header at the front of the input to the sink, if it lies whole there and is lawful.
+    #[inline(always)]
+    fn hand_header<S: Sink>(&mut self, input: &[u8], sink: &mut S) -> DueTaken
+        requires bounded { IsBounded self.old }
+        requires here { self.old.stage ≡ stage.Header }
+        requires unrefused { self.old.refusal ≡ None }
+        ensures lawful { (q : PartsState) → IsConsistent self.old q → IsConsistent self.new q }
+        ensures left { result ≡ DueTaken.Left → sink.new ≡ sink.old }
+        ensures cut { result ≡ DueTaken.Cut → sink.new ≡ sink.old }
+        ensures hands { (q : PartsState) → IsIdle q → HandsDue (state_of self.old q) input.now
+            (λ at e. S.tells sink.old → S.tells sink.new × (S.view sink.new ≡ S.after (S.view sink.old) at e))
+            (λ at e. S.tells sink.old → S.faulted (S.view sink.old) at e (S.view sink.new)) result
+            (state_of self.new q) }
+    {
+        if self.came > 0 || self.offset > 1 << 63 || input.len() < 9 {
+            return DueTaken::Left;
+        }
+        let Ok(header) = Header::read(&first(input), self.offset) else {
+            return DueTaken::Left;
+        };
+        let at = self.offset;
+        self.enter(&header);
+        match sink.take(at, &Event::Frame(header)) {
+            Ok(()) => DueTaken::Whole(9),
+            Err(SinkFault) => DueTaken::Fault(9),
+        }
+    }
+
+    /// Hands the end of the frame to the sink, if the bytes before it are there.
+    #[inline(always)]
+    fn hand_end<S: Sink>(&mut self, input: &[u8], sink: &mut S) -> DueTaken
+        requires bounded { IsBounded self.old }
+        requires here { self.old.stage ≡ stage.Extra }
+        requires came { self.old.came ≤ self.old.stop - self.old.offset }
+        requires unrefused { self.old.refusal ≡ None }
+        ensures lawful { (q : PartsState) → IsConsistent self.old q → IsConsistent self.new q }
+        ensures left { result ≡ DueTaken.Left → sink.new ≡ sink.old }
+        ensures cut { result ≡ DueTaken.Cut → sink.new ≡ sink.old }
+        ensures hands { (q : PartsState) → IsIdle q → HandsDue (state_of self.old q) input.now
+            (λ at e. S.tells sink.old → S.tells sink.new × (S.view sink.new ≡ S.after (S.view sink.old) at e))
+            (λ at e. S.tells sink.old → S.faulted (S.view sink.old) at e (S.view sink.new)) result
+            (state_of self.new q) }
+    {
+        let extra = self.stop - self.offset;
+        let missing = extra - self.came;
+        if (input.len() as u64) < missing {
+            return DueTaken::Left;
+        }
+        let at = self.stop;
+        self.frame = self.stop;
+        self.offset = self.stop;
+        self.came = 0;
+        self.stage = StreamStage::Header;
+        self.given_use = self.given_use.ended();
+        let used = missing as usize;
+        match sink.take(
+            at,
+            &Event::End {
+                extra: extra as u32,
+            },
+        ) {
+            Ok(()) => DueTaken::Whole(used),
+            Err(SinkFault) => DueTaken::Fault(used),
+        }
+    }
+
+    /// Hands the field that is due to the sink, if no byte of it has come, it lies whole in the input and is lawful.
+    #[inline(always)]
+    fn hand_field<S: Sink, A: Allocator>(
+        &mut self,
+        parts: &mut Parts<A>,
+        want: Want,
+        input: &[u8],
+        sink: &mut S,
+    ) -> DueTaken
+        requires bounded { IsBounded self.old }
+        requires here { self.old.stage ≡ stage.Field want }
+        requires wanted { IsWanted self.old parts.old.partial want }
+        requires room { parts.old.partial.room ≡ max self.old.limits.text self.old.limits.cell }
+        requires forest { Forest parts.old.table.nodes 0 self.old.limits.depth }
+        requires given { HoldsGiven self.old.limits parts.old.given }
+        requires unrefused { self.old.refusal ≡ None }
+        ensures lawful { IsLawful self.old parts.old → IsLawful self.new parts.new }
+        ensures left { result ≡ DueTaken.Left → sink.new ≡ sink.old }
+        ensures cut { result ≡ DueTaken.Cut → sink.new ≡ sink.old }
+        ensures hands { HandsDue (state_with self.old parts.old) input.now
+            (λ at e. S.tells sink.old → S.tells sink.new × (S.view sink.new ≡ S.after (S.view sink.old) at e))
+            (λ at e. S.tells sink.old → S.faulted (S.view sink.old) at e (S.view sink.new)) result
+            (state_with self.new parts.new) }
+    {
+        if parts.partial.is_under_way() || parts.partial.held() > 0 {
+            return DueTaken::Left;
+        }
+        self.ask(&mut parts.partial, want);
+        match parts.partial.advance(input) {
+            FieldAdvance::More { .. } => DueTaken::Cut,
+            FieldAdvance::Refused(_) => DueTaken::Left,
+            FieldAdvance::Got { used, item } => {
+                let value = parts.partial.lend(input, item);
+                if let Some(_) = fault_in(want.role, value) {
+                    return DueTaken::Left;
+                }
+                let at = self.offset;
+                self.offset += used as u64;
+                begin_metadata(want.role, &mut parts.table);
+                self.follow(want.role, value, &parts.table, &parts.given);
+                match sink.take(at, &event_with(want.field, value)) {
+                    Ok(()) => DueTaken::Whole(used),
+                    Err(SinkFault) => DueTaken::Fault(used),
+                }
+            }
+        }
+    }
+}
