@@ -1,22 +1,33 @@
 -- The loop over headers, fields and ends of frames.
-use Rattle.std.proofs.Common.{◌≡◌, ℕ, ◌+◌, ◌-◌, ◌^◌, ◌≤◌, ◌<◌, List, [], ◌++◌, length, take, drop, append_assoc, refl, sym, ap, subst, ◌∙◌, arith}
-use Rattle.std.specs.Prelude.{Option, Some, None, Ok, false}
+use Rattle.std.proofs.Common.{◌≡◌, ℕ, ◌+◌, ◌-◌, ◌^◌, ◌≤◌, ◌<◌, List, [], ◌++◌, length, take, drop, append_assoc, zero-add, refl, sym, ap, subst, ◌∙◌, arith}
+use Rattle.std.specs.Prelude.{Bool, Option, Some, None, Ok, false}
 use Rattle.std.proofs.lemmas.List.{take-append-drop, take_all}
 use Rattle.cqlp_note.specs.declared.header.Header.{Header}
 use Rattle.cqlp_note.specs.declared.refusal.Refusal.{Refusal}
 use Rattle.cqlp_note.specs.Heading.{heading}
 use Rattle.cqlp_note.specs.Partial.{FieldState}
-use Rattle.cqlp_grammar.specs.Productions.{message}
+use Rattle.cqlp_note.specs.Field.{FieldValue}
+use Rattle.cqlp_note.specs.Limits.{limit_of, rules_of}
+use Rattle.cqlp_note.specs.Whole.{SaysField}
+use Rattle.cqlp_note.proofs.Yields.{got_inside}
+use Rattle.cqlp_grammar.specs.declared.grammar.Role.TheVariants as role
+use Rattle.cqlp_grammar.specs.declared.table.Want.{Want}
+use Rattle.cqlp_grammar.specs.Productions.{Symbol, fault_in, following, message}
+use Rattle.cqlp_kind.specs.declared.node.Node.{Node}
+use Rattle.cqlp_grammar.specs.declared.grammar.Role.{Role}
+use Rattle.cqlp_decode.specs.declared.standing.StreamStage.{StreamStage}
 use Rattle.cqlp_decode.specs.declared.standing.StreamStage.TheVariants as stage
 use Rattle.cqlp_decode.specs.declared.standing.StreamStanding.{StreamStanding}
 use Rattle.cqlp_decode.specs.Reading as reading
-use Rattle.cqlp_decode.specs.Reading.{Event, Gifts}
-use Rattle.cqlp_decode.specs.Standing.{StreamState, PartsState, Hands, HasRoom, came_of, IsIdle, Waits, state_of, symbols_at}
+use Rattle.cqlp_decode.specs.Reading.{Event, Gifts, Given, types_for, nodes_after, given_after}
+use Rattle.cqlp_decode.specs.Pages.{given_of}
+use Rattle.cqlp_decode.specs.Standing.{StreamState, PartsState, Hands, HasRoom, IsConsistent, IsIdle, IsPending, StageHolds, came_of, parts, place_at, rest_of, state_of, symbols_at}
 use Rattle.cqlp_decode.specs.Streams.{AfterBy, AfterGifts}
 use Rattle.cqlp_decode.specs.Draining.{Drains}
 use Rattle.cqlp_decode.specs.Items.{TakesOne}
 use Rattle.cqlp_decode.specs.Fields.{KeepsAll}
-use Rattle.cqlp_decode.proofs.Steps.{header_hands}
+use Rattle.cqlp_decode.proofs.Steps.{begun_bare, header_hands, offset_is_bare, one_due_bare, starts_bare}
+use Rattle.cqlp_decode.proofs.FieldSteps.{field_gives, fixed_got, goes_on_lawful}
 use Rattle.cqlp_decode.proofs.Leads.{more_leads}
 use Rattle.cqlp_decode.proofs.Gets.{take_two}
 
@@ -51,3 +62,62 @@ module _ {V : Type 0} (f : V → ℕ → Event → V) (gifts : Gifts) (old new :
       let stands = (more_leads old new (drop used input) (bytes ++ take used input) (es ++ d.more) gifts None (length (drop used input)) (h.4, h.0 ∙ unrefused, h.1, h.2, tt) after).2 in
       let all : take used input ++ drop used input ≡ take (length input) input = take-append-drop used input ∙ sym (take_all (length input) input (omega arith)) in
       record { more = d.more; stands = rw all at (rw (append_assoc bytes (take used input) (drop used input)) at stands); got = d.got }
+
+-- nothing follows from a field that stands alone
+place_alone : (r : Role) → r ≡ role.Alone → (offset stop : ℕ) (types : Bool) (nodes : List Node) (held : Given) (v : FieldValue) (rest : List Symbol) → place_at offset stop (following (types_for types r nodes held) r v ++ rest) (nodes_after r nodes) (given_after r held) ≡ place_at offset stop rest nodes held
+place_alone r alone offset stop types nodes held v rest = rw alone refl
+
+fault_alone : (r : Role) → r ≡ role.Alone → (v : FieldValue) → fault_in r v ≡ None
+fault_alone r alone v = rw alone refl
+
+-- a field that lies whole in the input, from whose value nothing follows
+module _ (s : StreamStanding) (q : PartsState) (w : Want) (here : s.stage ≡ stage.Field w) (alone : w.role ≡ role.Alone) (law : IsConsistent s q) (unrefused : s.refusal ≡ None) (idle : q.partial.under_way ≡ false) (empty : q.partial.content ≡ []) (input : List ℕ) (used : ℕ) (v : FieldValue)
+    (says : SaysField w.notation (limit_of (rules_of s.limits) w.notation) (s.stop - s.offset) input used v) where
+  stage_is : StageHolds s q (stage.Field w)
+  stage_is = subst (λ (t : StreamStage). StageHolds s q t) here law.stage
+
+  pub alone_inside : s.offset + used ≤ s.stop
+  alone_inside = let r = got_inside w.notation (limit_of (rules_of s.limits) w.notation) (s.stop - s.offset) input v used says.is says.within in omega (arith, r, law.bounded.inside)
+
+  module _ (e : StreamStanding) (is : e ≡ record s { offset = s.offset + used; stage = e.stage; upcoming = e.upcoming }) (symbols : symbols_at e.stage q e.upcoming ≡ rest_of s.upcoming) (room : HasRoom e.stage e.upcoming) where
+    came : e.came ≡ 0
+    came = ap (λ (z : StreamStanding). z.came) is ∙ stage_is.0.came
+
+    offset : e.offset ≡ s.offset + used
+    offset = ap (λ (z : StreamStanding). z.offset) is
+
+    same_parts : parts q.partial q.types q.cells q.table q.given ≡ q
+    same_parts = refl
+
+    pub alone_lawful : IsConsistent e q
+    alone_lawful = goes_on_lawful s e q q.partial q.types q.cells q.table used law offset alone_inside (ap (λ (z : StreamStanding). z.stop) is) (ap (λ (z : StreamStanding). z.limits) is) (ap (λ (z : StreamStanding). z.header) is) came
+        refl idle refl stage_is.1 refl stage_is.2 refl (rw here at (law.table unrefused)) (starts_bare e q e.stage room) (record { types = law.quiet.types; cells = law.quiet.cells })
+
+    abbrev held : Given
+    held = given_of s.given_use q.given
+
+    there : (state_of e q).place.offset ≡ s.offset + used
+    there = offset_is_bare e.stage e.offset q e.upcoming room ∙ offset
+
+    pub alone_hands : Hands (state_of s q) input s.offset used (reading.Holds w.field v) (state_of e q)
+    alone_hands =
+        let nothing : came_of q.partial ≡ [] = rw idle refl in
+        let none : (b : List ℕ) → IsPending (state_of s q).pending b → b ≡ [] = λ b pending. rw here at pending ∙ nothing in
+        let x = field_gives s q w here input v used says.is (fault_alone w.role alone v) in
+        let place : place_at (s.offset + used) s.stop (rest_of s.upcoming) q.table.nodes held ≡ (state_of e q).place = λ j. place_at (sym there j) (sym (ap (λ (z : StreamStanding). z.stop) is) j) (sym symbols j) q.table.nodes (given_of (sym (ap (λ (z : StreamStanding). z.given_use) is) j) q.given) in
+        let fixed = fixed_got w.notation (limit_of (rules_of s.limits) w.notation) (s.stop - s.offset) input v used says.is in
+        record {
+          within = says.within;
+          begun = begun_bare e.stage e.upcoming e.header e.came q room came idle;
+          frame = ap (λ (z : StreamStanding). z.frame) is;
+          lent = λ _. empty;
+          gives = λ b pending. rw (none b pending, zero-add) (x.0, x.1, x.2, x.3, x.4 ∙ place_alone w.role alone (s.offset + used) s.stop s.limits.types q.table.nodes held v (rest_of s.upcoming) ∙ place);
+          gifts = refl;
+          offset = λ b pending. rw (none b pending, zero-add, there, here) refl;
+          due = one_due_bare e.stage q e.upcoming room;
+          pays = rw (here, one_due_bare e.stage q e.upcoming room) (omega (arith, fixed, stage_is.0.read));
+        }
+
+    module _ (Holds : ℕ → Event → Type 0) (told : Holds s.offset (reading.Holds w.field v)) where
+      pub alone_takes : TakesOne (state_of s q) input used Holds (state_of e q)
+      alone_takes = takes_one (state_of s q) (state_of e q) input s.offset used (reading.Holds w.field v) (reading.Holds w.field v) alone_hands refl (ap (λ (z : StreamStanding). z.refusal) is) (ap (λ (z : StreamStanding). rules_of z.limits) is) refl Holds told

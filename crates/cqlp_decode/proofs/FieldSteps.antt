@@ -65,7 +65,7 @@ module _ (n : Notation) (limit room : ℕ) (bytes : List ℕ) (v : FieldValue) (
   ]
 
   -- a field takes its fixed part
-  fixed_got : fixed_of n ≤ k
+  pub fixed_got : fixed_of n ≤ k
   fixed_got = got_from (after_fixed n limit room (take (fixed_of n) bytes)) (fixed_of n) (drop (fixed_of n) bytes ++ []) v k (sym (rw (append-nil bytes) at (fixed_taken n limit room bytes has_room has_fixed [])) ∙ got)
 
 -- bytes that were not enough are more with those that end the field
@@ -108,7 +108,7 @@ module _ (s : StreamStanding) (q : PartsState) (w : Want) (here : s.stage ≡ st
   abbrev behind_field : ℕ → FieldValue → Place
   behind_field k v = place_at (s.offset + k) s.stop (following types w.role v ++ rest) (nodes_after w.role q.table.nodes) (given_after w.role held)
 
-  field_gives : (v : FieldValue) (k : ℕ) → says (reader_of (asked s w)) 0 bytes ≡ Got v k → fault_in w.role v ≡ None → Gives (state_of s q) bytes s.offset (reading.Holds w.field v) k (behind_field k v)
+  pub field_gives : (v : FieldValue) (k : ℕ) → says (reader_of (asked s w)) 0 bytes ≡ Got v k → fault_in w.role v ≡ None → Gives (state_of s q) bytes s.offset (reading.Holds w.field v) k (behind_field k v)
   field_gives v k m fine =
       let x : Emitted reading.Event Place = record { at = s.offset; event = reading.Holds w.field v; after = λ used. record { offset = s.offset + used; stop = s.stop; symbols = following types w.role v ++ rest; nodes = nodes_after w.role q.table.nodes; given = given_after w.role held; gifts = [] } } in
       (x, told_is ∙ (after_got s.offset (reader_of (asked s w)) next_step 0 bytes v k m).1 ∙ rw fine refl, refl, refl, refl)

@@ -6,20 +6,22 @@
 //! and it reads by the functions by which `next` does, so that no rule stands here alone.
 
 ghost use Rattle.std.specs.Prelude.{◌≡◌, ◌-◌, ◌≤◌, Ok, OnOk, None, Some, max};
+ghost use Rattle.cqlp_note.specs.Limits.{limit_of, rules_of};
 ghost use Rattle.cqlp_note.specs.declared.refusal.Refusal.{Refusal};
 ghost use Rattle.cqlp_type.specs.Forests.{Forest};
 ghost use Rattle.cqlp_decode.specs.declared.standing.StreamStage.TheVariants as stage;
 ghost use Rattle.cqlp_decode.specs.Cells.{DrainsCells, StaysWithin};
-ghost use Rattle.cqlp_decode.specs.Fields.{HandsDue};
+ghost use Rattle.cqlp_decode.specs.Fields.{HandsDue, HandsField};
 ghost use Rattle.cqlp_decode.specs.Standing.{HoldsGiven, IsBounded, IsConsistent, IsIdle, IsLawful, IsWanted, PartsState, state_of, state_with};
 
 use crate::decoder::event_with;
 use crate::metadata::begin_metadata;
+use crate::page_loop::Handed;
 use crate::parts::Parts;
-use crate::standing::{StreamStage, StreamStanding};
-use cqlp_grammar::{Event, Sink, SinkFault, Want, fault_in};
+use crate::standing::{StreamStage, StreamStanding, limit_on};
+use cqlp_grammar::{Event, Role, Sink, SinkFault, Want, fault_in};
 use cqlp_kind::content::first;
-use cqlp_note::{FieldAdvance, Header};
+use cqlp_note::{Field, FieldAdvance, Header, Limits, Notation, front_field};
 use std::alloc::Allocator;
 
 /// What became of what is due.
@@ -67,6 +69,64 @@ pub fn take_fields<S: Sink, A: Allocator>(
     }
 }
 
+/// Hands the field at the front of the input to the sink, if all its bytes are there and it is lawful. It begins at an
+/// offset, and has room for this many bytes.
+#[inline(always)]
+fn hand_plain<S: Sink>(
+    limits: &Limits,
+    notation: Notation,
+    field: Field,
+    room: u64,
+    at: u64,
+    input: &[u8],
+    sink: &mut S,
+) -> Handed
+    ensures left { result ≡ Handed.Left → sink.new ≡ sink.old }
+    ensures hands { HandsField notation (limit_of (rules_of limits.now) notation) room input.now field
+        (λ e. S.tells sink.old → S.tells sink.new × (S.view sink.new ≡ S.after (S.view sink.old) at e))
+        (λ e. S.tells sink.old → S.faulted (S.view sink.old) at e (S.view sink.new)) result }
+{
+    // An arm for each notation, so that each has code of its own.
+    match notation {
+        Notation::Bound => hand_front(limits, Notation::Bound, field, room, at, input, sink),
+        Notation::Text16 => hand_front(limits, Notation::Text16, field, room, at, input, sink),
+        Notation::Text32 => hand_front(limits, Notation::Text32, field, room, at, input, sink),
+        Notation::Bytes16 => hand_front(limits, Notation::Bytes16, field, room, at, input, sink),
+        Notation::Bytes32 => hand_front(limits, Notation::Bytes32, field, room, at, input, sink),
+        Notation::Byte => hand_front(limits, Notation::Byte, field, room, at, input, sink),
+        Notation::Short => hand_front(limits, Notation::Short, field, room, at, input, sink),
+        Notation::Count16 => hand_front(limits, Notation::Count16, field, room, at, input, sink),
+        Notation::Int => hand_front(limits, Notation::Int, field, room, at, input, sink),
+        Notation::Long => hand_front(limits, Notation::Long, field, room, at, input, sink),
+        Notation::Uuid | Notation::Count32 | Notation::Inet | Notation::Content(_) => Handed::Left,
+    }
+}
+
+/// The same of a field of this notation.
+#[inline(always)]
+fn hand_front<S: Sink>(
+    limits: &Limits,
+    notation: Notation,
+    field: Field,
+    room: u64,
+    at: u64,
+    input: &[u8],
+    sink: &mut S,
+) -> Handed
+    ensures left { result ≡ Handed.Left → sink.new ≡ sink.old }
+    ensures hands { HandsField notation (limit_of (rules_of limits.now) notation) room input.now field
+        (λ e. S.tells sink.old → S.tells sink.new × (S.view sink.new ≡ S.after (S.view sink.old) at e))
+        (λ e. S.tells sink.old → S.faulted (S.view sink.old) at e (S.view sink.new)) result }
+{
+    let Some(whole) = front_field(notation, limit_on(limits, notation), room, input) else {
+        return Handed::Left;
+    };
+    match sink.take(at, &event_with(field, whole.value)) {
+        Ok(()) => Handed::Cell(whole.used),
+        Err(SinkFault) => Handed::Fault(whole.used),
+    }
+}
+
 impl StreamStanding {
     /// Hands what is due to the sink, if the loop takes it.
     #[inline(always)]
@@ -87,7 +147,10 @@ impl StreamStanding {
             (state_with self.new parts.new) }
     {
         match self.stage {
-            StreamStage::Field(want) => self.hand_field(parts, want, input, sink),
+            StreamStage::Field(want) => match want.role {
+                Role::Alone => self.hand_alone(parts, want, input, sink),
+                _ => self.hand_field(parts, want, input, sink),
+            },
             StreamStage::Header => self.hand_header(input, sink),
             StreamStage::Extra => self.hand_end(input, sink),
             StreamStage::BeforeType
@@ -160,6 +223,49 @@ impl StreamStanding {
         ) {
             Ok(()) => DueTaken::Whole(used),
             Err(SinkFault) => DueTaken::Fault(used),
+        }
+    }
+
+    /// Hands the field that is due to the sink, from whose value nothing follows, if no byte of it has come and it lies
+    /// whole in the input.
+    #[inline(always)]
+    fn hand_alone<S: Sink, A: Allocator>(
+        &mut self,
+        parts: &Parts<A>,
+        want: Want,
+        input: &[u8],
+        sink: &mut S,
+    ) -> DueTaken
+        requires lawful { IsLawful self.old parts.now }
+        requires here { self.old.stage ≡ stage.Field want }
+        requires alone { want.role ≡ Role.Alone }
+        requires unrefused { self.old.refusal ≡ None }
+        ensures lawful { IsLawful self.new parts.now }
+        ensures left { result ≡ DueTaken.Left → sink.new ≡ sink.old }
+        ensures cut { result ≡ DueTaken.Cut → sink.new ≡ sink.old }
+        ensures hands { HandsDue (state_with self.old parts.now) input.now
+            (λ at e. S.tells sink.old → S.tells sink.new × (S.view sink.new ≡ S.after (S.view sink.old) at e))
+            (λ at e. S.tells sink.old → S.faulted (S.view sink.old) at e (S.view sink.new)) result
+            (state_with self.new parts.now) }
+    {
+        if parts.partial.is_under_way() || parts.partial.held() > 0 {
+            return DueTaken::Left;
+        }
+        let Want { field, notation, .. } = want;
+        let at = self.offset;
+        let room = self.stop - at;
+        match hand_plain(&self.limits, notation, field, room, at, input, sink) {
+            Handed::Left => DueTaken::Left,
+            Handed::Cell(used) => {
+                self.offset += used as u64;
+                self.go_on();
+                DueTaken::Whole(used)
+            }
+            Handed::Fault(used) => {
+                self.offset += used as u64;
+                self.go_on();
+                DueTaken::Fault(used)
+            }
         }
     }
 

@@ -281,7 +281,7 @@ impl StreamStanding {
 
     /// Goes on to what is due next in the message.
     #[tactic(auto, using(crate::proofs::Steps::next_symbols, crate::proofs::Steps::next_room))]
-    fn go_on(&mut self)
+    pub fn go_on(&mut self)
         ensures symbols { (q : PartsState) → symbols_at self.new.stage q self.new.upcoming ≡ rest_of self.old.upcoming }
         ensures room { HasRoom self.new.stage self.new.upcoming }
         ensures rest { self.new ≡ record self.old { stage = self.new.stage; upcoming = self.new.upcoming } }
@@ -604,7 +604,9 @@ fn count_field_bytes<A: Allocator>(partial: &Partial<A>) -> u64
     }
 }
 
-fn limit_on(limits: &Limits, notation: Notation) -> u32
+/// The most bytes of a content in this notation.
+#[inline(always)]
+pub fn limit_on(limits: &Limits, notation: Notation) -> u32
     ensures { result ≡ limit_of (rules_of limits.now) notation }
 {
     match notation {

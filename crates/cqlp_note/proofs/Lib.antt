@@ -12,3 +12,4 @@ pub mod WrittenFields
 pub mod OneAnswer
 pub mod Appended
 pub mod Texts
+pub mod Wholes

@@ -10,3 +10,4 @@ pub mod Lending
 pub mod Streams
 pub mod Outputs
 pub mod Laws
+pub mod Whole

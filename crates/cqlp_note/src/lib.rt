@@ -15,6 +15,7 @@ mod prim;
 mod refusal;
 mod streams;
 mod text;
+mod whole;
 
 pub use advance::{ContentPlace, FieldAdvance, FieldOutline, Push};
 pub use field::{Field, Notation};
@@ -29,3 +30,4 @@ pub use prim::{Address, BoundValue, Primitive as Prim};
 pub use refusal::{NoMemory, Reason, Refusal};
 pub use streams::{IoFault, OfStd, Source, Target};
 pub use text::is_text;
+pub use whole::{WholeField, front_field};

@@ -405,7 +405,7 @@ impl ContentForm {
 
     /// What such a content is.
     #[tactic(auto, using(crate::proofs::Texts::utf8_known))]
-    fn prim<'a>(self, bytes: &'a [u8]) -> Primitive<'a>
+    pub(crate) fn prim<'a>(self, bytes: &'a [u8]) -> Primitive<'a>
         requires { accepts self bytes.now ≡ true }
         ensures { value_of result ≡ content_value self bytes.now }
     {
@@ -419,7 +419,7 @@ impl ContentForm {
 
     /// Whether these bytes may stand in such a content.
     #[inline]
-    fn accepts(self, bytes: &[u8]) -> bool
+    pub(crate) fn accepts(self, bytes: &[u8]) -> bool
         ensures { result ≡ accepts self bytes.now }
     {
         match self {
@@ -444,7 +444,7 @@ fn read_head_of_pieces(wanted: Wanted, front: &FieldFront, input: &[u8]) -> Resu
 /// Where the content of a field begins, how long it is, and what is made of it.
 #[tactic(auto, using(crate::proofs::Fronts::bound_known))]
 #[inline(always)]
-fn read_content_head(notation: Notation, input: &[u8]) -> Option<(usize, u32, ContentForm)>
+pub(crate) fn read_content_head(notation: Notation, input: &[u8]) -> Option<(usize, u32, ContentForm)>
     ensures { IfSome result (λ head. LeadsToContent notation input.now head.0 head.1 head.2) }
 {
     match notation {
