@@ -1,17 +1,17 @@
 -- The loop over headers, fields and ends of frames.
 use Rattle.std.proofs.Common.{◌≡◌, ℕ, ◌+◌, ◌-◌, ◌^◌, ◌≤◌, ◌<◌, List, [], ◌++◌, length, take, drop, append_assoc, zero-add, refl, sym, ap, subst, ◌∙◌, arith}
 use Rattle.std.specs.Prelude.{Bool, Option, Some, None, Ok, false}
-use Rattle.std.proofs.lemmas.List.{take-append-drop, take_all}
 use Rattle.cqlp_note.specs.declared.header.Header.{Header}
-use Rattle.cqlp_note.specs.declared.refusal.Refusal.{Refusal}
 use Rattle.cqlp_note.specs.Heading.{heading}
-use Rattle.cqlp_note.specs.Partial.{FieldState}
 use Rattle.cqlp_note.specs.Field.{FieldValue}
 use Rattle.cqlp_note.specs.Limits.{limit_of, rules_of}
 use Rattle.cqlp_note.specs.Whole.{SaysField}
 use Rattle.cqlp_note.proofs.Yields.{got_inside}
 use Rattle.cqlp_grammar.specs.declared.grammar.Role.TheVariants as role
 use Rattle.cqlp_grammar.specs.declared.table.Want.{Want}
+use Rattle.cqlp_grammar.specs.Upcoming.{room_after}
+use Rattle.cqlp_type.specs.Table.{Table}
+use Rattle.cqlp_type.specs.Forests.{Forest}
 use Rattle.cqlp_grammar.specs.Productions.{Symbol, fault_in, following, message}
 use Rattle.cqlp_kind.specs.declared.node.Node.{Node}
 use Rattle.cqlp_grammar.specs.declared.grammar.Role.{Role}
@@ -21,19 +21,10 @@ use Rattle.cqlp_decode.specs.declared.standing.StreamStanding.{StreamStanding}
 use Rattle.cqlp_decode.specs.Reading as reading
 use Rattle.cqlp_decode.specs.Reading.{Event, Gifts, Given, types_for, nodes_after, given_after}
 use Rattle.cqlp_decode.specs.Pages.{given_of}
-use Rattle.cqlp_decode.specs.Standing.{StreamState, PartsState, Hands, HasRoom, IsConsistent, IsIdle, IsPending, StageHolds, came_of, parts, place_at, rest_of, state_of, symbols_at}
-use Rattle.cqlp_decode.specs.Streams.{AfterBy, AfterGifts}
-use Rattle.cqlp_decode.specs.Draining.{Drains}
+use Rattle.cqlp_decode.specs.Standing.{StreamState, PartsState, GoesOnAfter, Hands, HasRoom, Starts, IsConsistent, IsIdle, IsPending, StageHolds, came_of, parts, place_at, rest_of, state_of, symbols_at}
 use Rattle.cqlp_decode.specs.Items.{TakesOne}
-use Rattle.cqlp_decode.specs.Fields.{KeepsAll}
-use Rattle.cqlp_decode.proofs.Steps.{begun_bare, header_hands, offset_is_bare, one_due_bare, starts_bare}
-use Rattle.cqlp_decode.proofs.FieldSteps.{field_gives, fixed_got, goes_on_lawful}
-use Rattle.cqlp_decode.proofs.Leads.{more_leads}
-use Rattle.cqlp_decode.proofs.Gets.{take_two}
-
--- of a field that is asked for now nothing has come
-pub none_came : (old p : FieldState) → p.seen ≡ came_of old → old.under_way ≡ false → length p.seen ≡ 0
-none_came old p seen idle = let none : came_of old ≡ [] = rw idle refl in rw (seen, none) refl
+use Rattle.cqlp_decode.proofs.Steps.{begun, begun_bare, header_hands, offset_is, offset_is_bare, one_due, one_due_bare, starts_bare}
+use Rattle.cqlp_decode.proofs.FieldSteps.{field_gives, fixed_got, following_there, goes_on_lawful, metadata_forest}
 
 -- an event was taken
 pub takes_one : (old new : StreamState) (input : List ℕ) (at used : ℕ) (e told : Event) → Hands old input at used e new → e ≡ told → new.refusal ≡ old.refusal → new.rules ≡ old.rules → new.given ≡ old.given → (Holds : ℕ → Event → Type 0) → Holds at told → TakesOne old input used Holds new
@@ -52,16 +43,6 @@ module _ (s : StreamStanding) (q : PartsState) (input : List ℕ) (here : s.stag
       let nine : take s.came s.header ++ take (9 - s.came) input ≡ take 9 input = rw none refl in
       let moves = header_hands s q input here early long (omega arith) (omega arith) new h (ap heading nine ∙ is) at stop symbols room frame came same_use idle in
       subst (λ (k : ℕ). Hands (state_of s q) input s.offset (9 - k) (reading.Frame h) (state_of new q)) none moves.1
-
--- all that is left of an input belongs to what is under way
-module _ {V : Type 0} (f : V → ℕ → Event → V) (gifts : Gifts) (old new : StreamState) (bytes input : List ℕ) (used : ℕ) (es : List (ℕ × Event)) (v w : V) (d : Drains f gifts old bytes es (take used input) v w) (unrefused : old.refusal ≡ None) (within : used ≤ length input)
-    (h : KeepsAll old (drop used input) new) where
-  pub keeps_drains : Drains f gifts new bytes es (take (length input) input) v w
-  keeps_drains =
-      let after = subst (λ (o : Option Refusal). AfterBy o gifts old (bytes ++ take used input) (es ++ d.more)) unrefused d.stands in
-      let stands = (more_leads old new (drop used input) (bytes ++ take used input) (es ++ d.more) gifts None (length (drop used input)) (h.4, h.0 ∙ unrefused, h.1, h.2, tt) after).2 in
-      let all : take used input ++ drop used input ≡ take (length input) input = take-append-drop used input ∙ sym (take_all (length input) input (omega arith)) in
-      record { more = d.more; stands = rw all at (rw (append_assoc bytes (take used input) (drop used input)) at stands); got = d.got }
 
 -- nothing follows from a field that stands alone
 place_alone : (r : Role) → r ≡ role.Alone → (offset stop : ℕ) (types : Bool) (nodes : List Node) (held : Given) (v : FieldValue) (rest : List Symbol) → place_at offset stop (following (types_for types r nodes held) r v ++ rest) (nodes_after r nodes) (given_after r held) ≡ place_at offset stop rest nodes held
@@ -121,3 +102,69 @@ module _ (s : StreamStanding) (q : PartsState) (w : Want) (here : s.stage ≡ st
     module _ (Holds : ℕ → Event → Type 0) (told : Holds s.offset (reading.Holds w.field v)) where
       pub alone_takes : TakesOne (state_of s q) input used Holds (state_of e q)
       alone_takes = takes_one (state_of s q) (state_of e q) input s.offset used (reading.Holds w.field v) (reading.Holds w.field v) alone_hands refl (ap (λ (z : StreamStanding). z.refusal) is) (ap (λ (z : StreamStanding). rules_of z.limits) is) refl Holds told
+
+-- a field that lies whole in the input
+module _ (s : StreamStanding) (q : PartsState) (w : Want) (here : s.stage ≡ stage.Field w) (law : IsConsistent s q) (unrefused : s.refusal ≡ None) (idle : q.partial.under_way ≡ false) (empty : q.partial.content ≡ []) (input : List ℕ) (used : ℕ) (v : FieldValue)
+    (says : SaysField w.notation (limit_of (rules_of s.limits) w.notation) (s.stop - s.offset) input used v) where
+  field_is : StageHolds s q (stage.Field w)
+  field_is = subst (λ (t : StreamStage). StageHolds s q t) here law.stage
+
+  pub whole_room : length s.upcoming + room_after w.role ≤ 16
+  whole_room = field_is.0.room
+
+  pub whole_forest : Forest q.table.nodes 0 s.limits.depth
+  whole_forest = rw here at (law.table unrefused)
+
+  pub whole_inside : s.offset + used ≤ s.stop
+  whole_inside = let r = got_inside w.notation (limit_of (rules_of s.limits) w.notation) (s.stop - s.offset) input v used says.is says.within in omega (arith, r, law.bounded.inside)
+
+  module _ (t : Table) (e : StreamStanding) (table : t ≡ record { nodes = nodes_after w.role q.table.nodes; room = q.table.room }) (is : e ≡ record s { offset = s.offset + used; stage = e.stage; upcoming = e.upcoming; given_use = e.given_use })
+      (goes : GoesOnAfter (record s { offset = s.offset + used }) e t.nodes q.given w.role v) (given : given_of e.given_use q.given ≡ given_after w.role (given_of s.given_use q.given)) where
+    abbrev beside : PartsState
+    beside = parts q.partial q.types q.cells t q.given
+
+    none_came : e.came ≡ 0
+    none_came = ap (λ (z : StreamStanding). z.came) is ∙ field_is.0.came
+
+    reached : e.offset ≡ s.offset + used
+    reached = ap (λ (z : StreamStanding). z.offset) is
+
+    starts : Starts e beside e.stage
+    starts = (goes beside refl refl).1
+
+    nodes : t.nodes ≡ nodes_after w.role q.table.nodes
+    nodes = ap (λ (z : Table). z.nodes) table
+
+    pub whole_lawful : IsConsistent e beside
+    whole_lawful = goes_on_lawful s e q q.partial q.types q.cells t used law reached whole_inside (ap (λ (z : StreamStanding). z.stop) is) (ap (λ (z : StreamStanding). z.limits) is) (ap (λ (z : StreamStanding). z.header) is) none_came
+        refl idle refl field_is.1 refl field_is.2 (ap (λ (z : Table). z.room) table) (rw nodes (metadata_forest w.role q.table.nodes s.limits.depth whole_forest)) starts (record { types = law.quiet.types; cells = law.quiet.cells })
+
+    abbrev held_then : Given
+    held_then = given_of s.given_use q.given
+
+    reached_there : (state_of e beside).place.offset ≡ s.offset + used
+    reached_there = offset_is e e.stage beside starts ∙ reached
+
+    symbols_there : symbols_at e.stage beside e.upcoming ≡ following (types_for s.limits.types w.role q.table.nodes held_then) w.role v ++ rest_of s.upcoming
+    symbols_there = (goes beside refl refl).0 ∙ following_there w.role v s.limits.types held_then q.table.nodes t.nodes (rest_of s.upcoming) nodes
+
+    pub whole_hands : fault_in w.role v ≡ None → Hands (state_of s q) input s.offset used (reading.Holds w.field v) (state_of e beside)
+    whole_hands fine =
+        let nothing : came_of q.partial ≡ [] = rw idle refl in
+        let none : (b : List ℕ) → IsPending (state_of s q).pending b → b ≡ [] = λ b pending. rw here at pending ∙ nothing in
+        let x = field_gives s q w here input v used says.is fine in
+        let fixed = fixed_got w.notation (limit_of (rules_of s.limits) w.notation) (s.stop - s.offset) input v used says.is in
+        record {
+          within = says.within;
+          begun = begun e e.stage e.header e.came beside starts none_came idle;
+          frame = ap (λ (z : StreamStanding). z.frame) is;
+          lent = λ _. empty;
+          gives = λ b pending. rw (none b pending, zero-add) (x.0, x.1, x.2, x.3, x.4 ∙ (λ j. place_at (sym reached_there j) (sym (ap (λ (z : StreamStanding). z.stop) is) j) (sym symbols_there j) (sym nodes j) (sym given j)));
+          gifts = refl;
+          offset = λ b pending. rw (none b pending, zero-add, reached_there, here) refl;
+          due = one_due e e.stage beside starts;
+          pays = rw (here, one_due e e.stage beside starts) (omega (arith, fixed, field_is.0.read));
+        }
+
+    pub whole_takes : fault_in w.role v ≡ None → (Holds : ℕ → Event → Type 0) → Holds s.offset (reading.Holds w.field v) → TakesOne (state_of s q) input used Holds (state_of e beside)
+    whole_takes fine Holds told = takes_one (state_of s q) (state_of e beside) input s.offset used (reading.Holds w.field v) (reading.Holds w.field v) (whole_hands fine) refl (ap (λ (z : StreamStanding). z.refusal) is) (ap (λ (z : StreamStanding). rules_of z.limits) is) refl Holds told

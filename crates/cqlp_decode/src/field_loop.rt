@@ -1,18 +1,18 @@
 //! Headers, fields and ends of frames, handed straight to a sink.
 //!
-//! The loop takes each header, field and end that lies whole in the input, and what there is of a field that is cut.
-//! It leaves all else to `Decoder::next`, which alone decides it: a type option, a cell, a header that is cut, and each
-//! refusal. It may, since it is proved to hand out what the reading of the bytes says, and to stand where that does;
-//! and it reads by the functions by which `next` does, so that no rule stands here alone.
+//! The loop takes each header, field and end that lies whole in the input. It leaves all else to `Decoder::next`, which
+//! alone decides it: a type option, a cell, a cut, and each refusal. It may, since it is proved to hand out what the
+//! reading of the bytes says, and to stand where that does; and it reads by the functions by which `next` does, so that
+//! no rule stands here alone.
 
-ghost use Rattle.std.specs.Prelude.{◌≡◌, ◌-◌, ◌≤◌, Ok, OnOk, None, Some, max};
+ghost use Rattle.std.specs.Prelude.{◌≡◌, ◌-◌, ◌≤◌, Ok, OnOk, None, Some};
 ghost use Rattle.cqlp_note.specs.Limits.{limit_of, rules_of};
 ghost use Rattle.cqlp_note.specs.declared.refusal.Refusal.{Refusal};
-ghost use Rattle.cqlp_type.specs.Forests.{Forest};
 ghost use Rattle.cqlp_decode.specs.declared.standing.StreamStage.TheVariants as stage;
 ghost use Rattle.cqlp_decode.specs.Cells.{DrainsCells, StaysWithin};
-ghost use Rattle.cqlp_decode.specs.Fields.{HandsDue, HandsField};
-ghost use Rattle.cqlp_decode.specs.Standing.{HoldsGiven, IsBounded, IsConsistent, IsIdle, IsLawful, IsWanted, PartsState, state_of, state_with};
+ghost use Rattle.cqlp_decode.specs.Fields.{HandsField};
+ghost use Rattle.cqlp_decode.specs.Items.{HandsItem};
+ghost use Rattle.cqlp_decode.specs.Standing.{IsBounded, IsConsistent, IsIdle, IsLawful, PartsState, state_of, state_with};
 
 use crate::decoder::event_with;
 use crate::metadata::begin_metadata;
@@ -21,21 +21,8 @@ use crate::parts::Parts;
 use crate::standing::{StreamStage, StreamStanding, limit_on};
 use cqlp_grammar::{Event, Role, Sink, SinkFault, Want, fault_in};
 use cqlp_kind::content::first;
-use cqlp_note::{Field, FieldAdvance, Header, Limits, Notation, front_field};
+use cqlp_note::{Field, Header, Limits, Notation, front_field};
 use std::alloc::Allocator;
-
-/// What became of what is due.
-#[derive(Clone, Copy, Debug, PartialEq, Eq)]
-pub enum DueTaken {
-    /// Nothing: it is left.
-    Left,
-    /// It was handed out, and takes this many bytes.
-    Whole(usize),
-    /// The same, but the sink failed.
-    Fault(usize),
-    /// All of the input belongs to it, and more is wanted.
-    Cut,
-}
 
 /// Hands what is due to the sink, as far as the loop takes it, and answers how many bytes of the input it takes.
 pub fn take_fields<S: Sink, A: Allocator>(
@@ -61,10 +48,9 @@ pub fn take_fields<S: Sink, A: Allocator>(
     let mut used = 0;
     'fields: loop {
         match standing.hand_due(parts, &input[used..], sink) {
-            DueTaken::Left => return Ok(used),
-            DueTaken::Whole(taken) => used += taken,
-            DueTaken::Fault(_) => return Err(SinkFault),
-            DueTaken::Cut => return Ok(input.len()),
+            Handed::Left => return Ok(used),
+            Handed::Cell(taken) => used += taken,
+            Handed::Fault(_) => return Err(SinkFault),
         }
     }
 }
@@ -135,13 +121,12 @@ impl StreamStanding {
         parts: &mut Parts<A>,
         input: &[u8],
         sink: &mut S,
-    ) -> DueTaken
+    ) -> Handed
         requires lawful { IsLawful self.old parts.old }
         requires unrefused { self.old.refusal ≡ None }
         ensures lawful { IsLawful self.new parts.new }
-        ensures left { result ≡ DueTaken.Left → sink.new ≡ sink.old }
-        ensures cut { result ≡ DueTaken.Cut → sink.new ≡ sink.old }
-        ensures hands { HandsDue (state_with self.old parts.old) input.now
+        ensures left { result ≡ Handed.Left → sink.new ≡ sink.old }
+        ensures hands { HandsItem (state_with self.old parts.old) input.now
             (λ at e. S.tells sink.old → S.tells sink.new × (S.view sink.new ≡ S.after (S.view sink.old) at e))
             (λ at e. S.tells sink.old → S.faulted (S.view sink.old) at e (S.view sink.new)) result
             (state_with self.new parts.new) }
@@ -156,49 +141,47 @@ impl StreamStanding {
             StreamStage::BeforeType
             | StreamStage::InType
             | StreamStage::BeforeCell(_)
-            | StreamStage::InCell(_) => DueTaken::Left,
+            | StreamStage::InCell(_) => Handed::Left,
         }
     }
 
     /// Hands the header at the front of the input to the sink, if it lies whole there and is lawful.
     #[inline(always)]
-    fn hand_header<S: Sink>(&mut self, input: &[u8], sink: &mut S) -> DueTaken
+    fn hand_header<S: Sink>(&mut self, input: &[u8], sink: &mut S) -> Handed
         requires bounded { IsBounded self.old }
         requires here { self.old.stage ≡ stage.Header }
         requires unrefused { self.old.refusal ≡ None }
         ensures lawful { (q : PartsState) → IsConsistent self.old q → IsConsistent self.new q }
-        ensures left { result ≡ DueTaken.Left → sink.new ≡ sink.old }
-        ensures cut { result ≡ DueTaken.Cut → sink.new ≡ sink.old }
-        ensures hands { (q : PartsState) → IsIdle q → HandsDue (state_of self.old q) input.now
+        ensures left { result ≡ Handed.Left → sink.new ≡ sink.old }
+        ensures hands { (q : PartsState) → IsIdle q → HandsItem (state_of self.old q) input.now
             (λ at e. S.tells sink.old → S.tells sink.new × (S.view sink.new ≡ S.after (S.view sink.old) at e))
             (λ at e. S.tells sink.old → S.faulted (S.view sink.old) at e (S.view sink.new)) result
             (state_of self.new q) }
     {
         if self.came > 0 || self.offset > 1 << 63 || input.len() < 9 {
-            return DueTaken::Left;
+            return Handed::Left;
         }
         let Ok(header) = Header::read(&first(input), self.offset) else {
-            return DueTaken::Left;
+            return Handed::Left;
         };
         let at = self.offset;
         self.enter(&header);
         match sink.take(at, &Event::Frame(header)) {
-            Ok(()) => DueTaken::Whole(9),
-            Err(SinkFault) => DueTaken::Fault(9),
+            Ok(()) => Handed::Cell(9),
+            Err(SinkFault) => Handed::Fault(9),
         }
     }
 
     /// Hands the end of the frame to the sink, if the bytes before it are there.
     #[inline(always)]
-    fn hand_end<S: Sink>(&mut self, input: &[u8], sink: &mut S) -> DueTaken
+    fn hand_end<S: Sink>(&mut self, input: &[u8], sink: &mut S) -> Handed
         requires bounded { IsBounded self.old }
         requires here { self.old.stage ≡ stage.Extra }
         requires came { self.old.came ≤ self.old.stop - self.old.offset }
         requires unrefused { self.old.refusal ≡ None }
         ensures lawful { (q : PartsState) → IsConsistent self.old q → IsConsistent self.new q }
-        ensures left { result ≡ DueTaken.Left → sink.new ≡ sink.old }
-        ensures cut { result ≡ DueTaken.Cut → sink.new ≡ sink.old }
-        ensures hands { (q : PartsState) → IsIdle q → HandsDue (state_of self.old q) input.now
+        ensures left { result ≡ Handed.Left → sink.new ≡ sink.old }
+        ensures hands { (q : PartsState) → IsIdle q → HandsItem (state_of self.old q) input.now
             (λ at e. S.tells sink.old → S.tells sink.new × (S.view sink.new ≡ S.after (S.view sink.old) at e))
             (λ at e. S.tells sink.old → S.faulted (S.view sink.old) at e (S.view sink.new)) result
             (state_of self.new q) }
@@ -206,7 +189,7 @@ impl StreamStanding {
         let extra = self.stop - self.offset;
         let missing = extra - self.came;
         if (input.len() as u64) < missing {
-            return DueTaken::Left;
+            return Handed::Left;
         }
         let at = self.stop;
         self.frame = self.stop;
@@ -221,8 +204,8 @@ impl StreamStanding {
                 extra: extra as u32,
             },
         ) {
-            Ok(()) => DueTaken::Whole(used),
-            Err(SinkFault) => DueTaken::Fault(used),
+            Ok(()) => Handed::Cell(used),
+            Err(SinkFault) => Handed::Fault(used),
         }
     }
 
@@ -235,36 +218,35 @@ impl StreamStanding {
         want: Want,
         input: &[u8],
         sink: &mut S,
-    ) -> DueTaken
+    ) -> Handed
         requires lawful { IsLawful self.old parts.now }
         requires here { self.old.stage ≡ stage.Field want }
         requires alone { want.role ≡ Role.Alone }
         requires unrefused { self.old.refusal ≡ None }
         ensures lawful { IsLawful self.new parts.now }
-        ensures left { result ≡ DueTaken.Left → sink.new ≡ sink.old }
-        ensures cut { result ≡ DueTaken.Cut → sink.new ≡ sink.old }
-        ensures hands { HandsDue (state_with self.old parts.now) input.now
+        ensures left { result ≡ Handed.Left → sink.new ≡ sink.old }
+        ensures hands { HandsItem (state_with self.old parts.now) input.now
             (λ at e. S.tells sink.old → S.tells sink.new × (S.view sink.new ≡ S.after (S.view sink.old) at e))
             (λ at e. S.tells sink.old → S.faulted (S.view sink.old) at e (S.view sink.new)) result
             (state_with self.new parts.now) }
     {
         if parts.partial.is_under_way() || parts.partial.held() > 0 {
-            return DueTaken::Left;
+            return Handed::Left;
         }
         let Want { field, notation, .. } = want;
         let at = self.offset;
         let room = self.stop - at;
         match hand_plain(&self.limits, notation, field, room, at, input, sink) {
-            Handed::Left => DueTaken::Left,
+            Handed::Left => Handed::Left,
             Handed::Cell(used) => {
                 self.offset += used as u64;
                 self.go_on();
-                DueTaken::Whole(used)
+                Handed::Cell(used)
             }
             Handed::Fault(used) => {
                 self.offset += used as u64;
                 self.go_on();
-                DueTaken::Fault(used)
+                Handed::Fault(used)
             }
         }
     }
@@ -277,43 +259,37 @@ impl StreamStanding {
         want: Want,
         input: &[u8],
         sink: &mut S,
-    ) -> DueTaken
-        requires bounded { IsBounded self.old }
+    ) -> Handed
+        requires lawful { IsLawful self.old parts.old }
         requires here { self.old.stage ≡ stage.Field want }
-        requires wanted { IsWanted self.old parts.old.partial want }
-        requires room { parts.old.partial.room ≡ max self.old.limits.text self.old.limits.cell }
-        requires forest { Forest parts.old.table.nodes 0 self.old.limits.depth }
-        requires given { HoldsGiven self.old.limits parts.old.given }
         requires unrefused { self.old.refusal ≡ None }
-        ensures lawful { IsLawful self.old parts.old → IsLawful self.new parts.new }
-        ensures left { result ≡ DueTaken.Left → sink.new ≡ sink.old }
-        ensures cut { result ≡ DueTaken.Cut → sink.new ≡ sink.old }
-        ensures hands { HandsDue (state_with self.old parts.old) input.now
+        ensures lawful { IsLawful self.new parts.new }
+        ensures left { result ≡ Handed.Left → sink.new ≡ sink.old }
+        ensures hands { HandsItem (state_with self.old parts.old) input.now
             (λ at e. S.tells sink.old → S.tells sink.new × (S.view sink.new ≡ S.after (S.view sink.old) at e))
             (λ at e. S.tells sink.old → S.faulted (S.view sink.old) at e (S.view sink.new)) result
             (state_with self.new parts.new) }
     {
         if parts.partial.is_under_way() || parts.partial.held() > 0 {
-            return DueTaken::Left;
+            return Handed::Left;
         }
-        self.ask(&mut parts.partial, want);
-        match parts.partial.advance(input) {
-            FieldAdvance::More { .. } => DueTaken::Cut,
-            FieldAdvance::Refused(_) => DueTaken::Left,
-            FieldAdvance::Got { used, item } => {
-                let value = parts.partial.lend(input, item);
-                if let Some(_) = fault_in(want.role, value) {
-                    return DueTaken::Left;
-                }
-                let at = self.offset;
-                self.offset += used as u64;
-                begin_metadata(want.role, &mut parts.table);
-                self.follow(want.role, value, &parts.table, &parts.given);
-                match sink.take(at, &event_with(want.field, value)) {
-                    Ok(()) => DueTaken::Whole(used),
-                    Err(SinkFault) => DueTaken::Fault(used),
-                }
-            }
+        let limit = limit_on(&self.limits, want.notation);
+        let room = self.stop - self.offset;
+        let Some(whole) = front_field(want.notation, limit, room, input) else {
+            return Handed::Left;
+        };
+        let used = whole.used;
+        let value = whole.value;
+        if let Some(_) = fault_in(want.role, value) {
+            return Handed::Left;
+        }
+        let at = self.offset;
+        self.offset += used as u64;
+        begin_metadata(want.role, &mut parts.table);
+        self.follow(want.role, value, &parts.table, &parts.given);
+        match sink.take(at, &event_with(want.field, value)) {
+            Ok(()) => Handed::Cell(used),
+            Err(SinkFault) => Handed::Fault(used),
         }
     }
 }

@@ -3,7 +3,6 @@ use Rattle.std.proofs.lemmas.List.{length-drop}
 use Rattle.cqlp_decode.specs.Standing.{state_with}
 use Rattle.cqlp_decode.proofs.Gets.{rest_is}
 use Rattle.cqlp_decode.proofs.ItemLoop.{item_drains, item_fails}
-use Rattle.cqlp_decode.proofs.FieldLoop.{keeps_drains}
 use Rattle.cqlp_decode.proofs.field_loop.take_fields.Goals as goal
 
 pub fields-preserved : goal.fields-preserved
@@ -12,17 +11,17 @@ fields-preserved g c =
     let old = state_with c.fields.standing c.fields.parts in
     let new = state_with c.hand_due.new.self c.hand_due.new.parts in
     let input = c.args.input.now in
-    let one = rw rest_is at c.in-Whole.ensures.hands in
+    let one = rw rest_is at c.in-Cell.ensures.hands in
     let h = one.takes in
     record {
       within = omega (arith, i.within, h.3.within, length-drop c.fields.used input);
-      lawful = c.in-Whole.ensures.lawful;
+      lawful = c.in-Cell.ensures.lawful;
       unrefused = h.0 ∙ i.unrefused;
       rules = h.1 ∙ i.rules;
       given = h.2 ∙ i.given;
       pays = omega (arith, h.3.pays, i.pays);
       tells = λ tells. (one.holds (i.tells tells)).0;
-      drained = λ tells gifts s es a. item_drains g.S.Sink.after gifts old new s input c.fields.used es _ _ (i.drained tells gifts s es a) i.unrefused one.at c.in-Whole.taken one.event h _ (one.holds (i.tells tells)).1;
+      drained = λ tells gifts s es a. item_drains g.S.Sink.after gifts old new s input c.fields.used es _ _ (i.drained tells gifts s es a) i.unrefused one.at c.in-Cell.taken one.event h _ (one.holds (i.tells tells)).1;
     }
 
 pub returns-in-Fault-clause-drains : goal.returns-in-Fault-clause-drains
@@ -35,11 +34,3 @@ returns-in-Fault-clause-drains g c = λ tells.
       c.fields.used + c.in-Fault.field-0,
       λ gifts s es a. item_fails g.S.Sink.after gifts old new s input c.fields.used es _ _ (i.drained tells gifts s es a) i.unrefused one.at c.in-Fault.field-0 one.event one.takes g.S.Sink.faulted _ (one.holds (i.tells tells)),
     )
-
-pub returns-in-Cut-clause-drains : goal.returns-in-Cut-clause-drains
-returns-in-Cut-clause-drains g c = λ tells gifts s es a.
-    let i = c.fields.invariant in
-    let old = state_with c.fields.standing c.fields.parts in
-    let new = state_with c.hand_due.new.self c.hand_due.new.parts in
-    let keeps = rw rest_is at c.in-Cut.ensures.hands in
-    rw (c.in-Cut.ensures.cut refl) (keeps_drains g.S.Sink.after gifts old new s c.args.input.now c.fields.used es _ _ (i.drained tells gifts s es a) i.unrefused i.within keeps)
