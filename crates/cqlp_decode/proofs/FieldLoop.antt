@@ -1,6 +1,6 @@
 -- The loop over headers, fields and ends of frames.
-use Rattle.std.proofs.Common.{◌≡◌, ℕ, ◌+◌, ◌-◌, ◌^◌, ◌≤◌, ◌<◌, List, [], ◌++◌, length, take, drop, append_assoc, zero-add, refl, sym, ap, subst, ◌∙◌, arith}
-use Rattle.std.specs.Prelude.{Bool, Option, Some, None, Ok, false}
+use Rattle.std.proofs.Common.{◌≡◌, ℕ, ◌+◌, ◌-◌, ◌^◌, ◌≤◌, List, [], ◌++◌, length, take, zero-add, refl, sym, ap, subst, ◌∙◌, arith}
+use Rattle.std.specs.Prelude.{Bool, None, Ok, false}
 use Rattle.cqlp_note.specs.declared.header.Header.{Header}
 use Rattle.cqlp_note.specs.Heading.{heading}
 use Rattle.cqlp_note.specs.Field.{FieldValue}

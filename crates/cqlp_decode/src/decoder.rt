@@ -304,11 +304,7 @@ impl<A: Allocator> Decoder<A> {
     /// Hands cells to the sink, as far as the loops over a page and over the items of its cells take them, and answers how
     /// many bytes of the input they take.
     #[inline]
-    fn take_cells<S: Sink>(
-        &mut self,
-        input: &[u8],
-        sink: &mut S,
-    ) -> Result<usize, SinkFault>
+    fn take_cells<S: Sink>(&mut self, input: &[u8], sink: &mut S) -> Result<usize, SinkFault>
         ensures stays { StaysWithin (state self.old) input.now result (state self.new) }
         ensures refused { (r : Refusal) → (state self.old).refusal ≡ Some r
             → (state self.new ≡ state self.old) × (sink.new ≡ sink.old) × (result ≡ Ok 0) }

@@ -233,7 +233,11 @@ impl StreamStanding {
         if parts.partial.is_under_way() || parts.partial.held() > 0 {
             return Handed::Left;
         }
-        let Want { field, notation, .. } = want;
+        let Want {
+            field,
+            notation,
+            ..
+        } = want;
         let at = self.offset;
         let room = self.stop - at;
         match hand_plain(&self.limits, notation, field, room, at, input, sink) {

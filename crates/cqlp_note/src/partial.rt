@@ -444,7 +444,10 @@ fn read_head_of_pieces(wanted: Wanted, front: &FieldFront, input: &[u8]) -> Resu
 /// Where the content of a field begins, how long it is, and what is made of it.
 #[tactic(auto, using(crate::proofs::Fronts::bound_known))]
 #[inline(always)]
-pub(crate) fn read_content_head(notation: Notation, input: &[u8]) -> Option<(usize, u32, ContentForm)>
+pub(crate) fn read_content_head(
+    notation: Notation,
+    input: &[u8],
+) -> Option<(usize, u32, ContentForm)>
     ensures { IfSome result (λ head. LeadsToContent notation input.now head.0 head.1 head.2) }
 {
     match notation {

@@ -1,5 +1,4 @@
-use Rattle.std.proofs.Common.{◌≡◌, sym, ap, ◌∙◌, arith}
-use Rattle.cqlp_decode.specs.Reading as reading
+use Rattle.std.proofs.Common.{sym, ◌∙◌, arith}
 use Rattle.cqlp_decode.specs.Standing.{parts_state}
 use Rattle.cqlp_decode.proofs.CellSteps.{nothing_held}
 use Rattle.cqlp_decode.proofs.FieldLoop.{whole_inside, whole_lawful, whole_takes}
