@@ -16,7 +16,8 @@ pub record HasField (n : Notation) (limit room : ℕ) (input : List ℕ) (f : Fi
   pub told : IsTold (Holds f value)
 
 -- What became of the field that is due: it was handed out, and the sink has got it, or it failed there.
-abbrev pub HandsField : Notation → (limit room : ℕ) → List ℕ → Field → (HasGot Failed : Event → Type 0) → Handed → Type 0
+abbrev pub HandsField : Notation → (limit room : ℕ) → List ℕ → Field → (HasGot Failed : Event → Type 0) → Handed
+    → Type 0
 HandsField n limit room input f HasGot Failed handed.Left = ⊤
 HandsField n limit room input f HasGot Failed (handed.Cell used) = HasField n limit room input f used HasGot
 HandsField n limit room input f HasGot Failed (handed.Fault used) = HasField n limit room input f used Failed

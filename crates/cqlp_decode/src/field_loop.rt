@@ -1,9 +1,9 @@
 //! Headers, fields and ends of frames, handed straight to a sink.
 //!
 //! The loop takes each header, field and end that lies whole in the input. It leaves all else to `Decoder::next`, which
-//! alone decides it: a type option, a cell, a cut, and each refusal. It may, since it is proved to hand out what the
-//! reading of the bytes says, and to stand where that does; and it reads by the functions by which `next` does, so that
-//! no rule stands here alone.
+//! alone decides it: a type option, a cell, a cut, and each refusal; and so it does the notations that few messages have.
+//! It may, since it is proved to hand out what the reading of the bytes says, and to stand where that does: no rule
+//! stands here alone. What follows a field, and where a message goes on, is found by the functions by which `next` does.
 
 ghost use Rattle.std.specs.Prelude.{◌≡◌, ◌-◌, ◌≤◌, Ok, OnOk, None, Some};
 ghost use Rattle.cqlp_note.specs.Limits.{limit_of, rules_of};
