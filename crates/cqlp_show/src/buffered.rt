@@ -44,6 +44,7 @@ impl<W: Target, A: Allocator> Buffered<W, A> {
     }
 
     /// Passes on all that waits.
+    #[inline(never)]
     pub fn flush(&mut self) -> Result<(), IoFault>
         ensures keeps { Keeps (taken self.old) (taken self.new) }
         ensures ok { OnOk result (self.new.waiting ≡ []) }
@@ -59,6 +60,7 @@ impl<W: Target, A: Allocator> Buffered<W, A> {
     }
 
     /// Takes bytes where nothing waits: those that the buffer has room for wait, and others are passed on at once.
+    #[inline(never)]
     fn restart(&mut self, bytes: &[u8]) -> Result<usize, IoFault>
         requires { self.old.waiting ≡ [] }
         ensures bound { IfOk result (λ n. n ≤ length bytes.now) }

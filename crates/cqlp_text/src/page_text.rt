@@ -6,9 +6,8 @@ ghost use Rattle.cqlp_text.specs.PageText.{page_part as text_of, place_after};
 ghost use Rattle.cqlp_text.specs.Outputs.{AppendsText, written};
 
 use crate::text_writer::TextWriter;
-use crate::word::Word;
 use cqlp_grammar::{Event, SinkFault};
-use cqlp_kind::Kind;
+use cqlp_kind::{Kind, Scalar};
 use cqlp_note::{Field, Target};
 use std::marker::Model;
 
@@ -298,7 +297,8 @@ impl<W: Target> TextWriter<'_, W> {
     ghost use Rattle.cqlp_text.specs.PageText.{before, after, column_line, page_line, event_part, field_part};
     ghost use Rattle.cqlp_text.specs.PageText.{separator};
     ghost use Rattle.cqlp_text.specs.PageText.{value_part, whole_value, part_start, part_end, end_part, opening};
-    ghost use Rattle.cqlp_text.specs.Words.{word_text};
+    ghost use Rattle.cqlp_kind.specs.Contents.{value_of};
+    ghost use Rattle.cqlp_text.specs.CellText.{cell_text};
     ghost use Rattle.cqlp_text.specs.Written.{Writes};
 
     /// Takes what is written of an event of a page, goes to the place after it, also at a fault, and passes all on.
@@ -327,11 +327,13 @@ impl<W: Target> TextWriter<'_, W> {
         match *event {
             Event::Text { field, text } => self.put_text_part(place, field, text),
             Event::Count { field, count } => self.put_count_part(place, field, count),
-            Event::Leaf { column, scalar, .. } => {
-                self.put_value(place, column, Word::Cell(scalar))
-            }
-            Event::Null { column, .. } => self.put_value(place, column, Word::Name("null")),
-            Event::Empty { column, .. } => self.put_value(place, column, Word::Name("empty")),
+            Event::Leaf {
+                column,
+                ref scalar,
+                ..
+            } => self.put_leaf(place, column, scalar),
+            Event::Null { column, .. } => self.put_named(place, column, "null"),
+            Event::Empty { column, .. } => self.put_named(place, column, "empty"),
             Event::Enter { column, kind, .. } => self.put_opening(place, column, kind),
             Event::Leave { .. } => self.put_closing(place),
             Event::Part {
@@ -391,13 +393,27 @@ impl<W: Target> TextWriter<'_, W> {
         self.put(b" rows\n")
     }
 
-    /// Takes a value without items, with what stands before and after it.
+    /// Takes a cell or an item that has no items, with what stands before and after it.
     #[inline(always)]
-    fn put_value(&mut self, place: &PagePlace, column: u32, word: Word<'_>) -> Result<(), SinkFault>
-        ensures { Writes self.old (whole_value place.now column (word_text word.entry)) result self.new }
+    fn put_leaf(
+        &mut self,
+        place: &PagePlace,
+        column: u32,
+        scalar: &Scalar<'_>,
+    ) -> Result<(), SinkFault>
+        ensures { Writes self.old (whole_value place.now column (cell_text (value_of scalar.now))) result self.new }
     {
         self.put_before(place, column)?;
-        self.put_word(word)?;
+        self.put_cell(scalar)?;
+        self.put_after(place, column)
+    }
+
+    /// Takes a name in place of a value, with what stands before and after it.
+    fn put_named(&mut self, place: &PagePlace, column: u32, name: &str) -> Result<(), SinkFault>
+        ensures { Writes self.old (whole_value place.now column name.now) result self.new }
+    {
+        self.put_before(place, column)?;
+        self.put_str(name)?;
         self.put_after(place, column)
     }
 

@@ -1,18 +1,18 @@
 use Rattle.std.proofs.Common.{refl}
 use Rattle.cqlp_text.proofs.Writing.{progress_starts, progress_goes_on, progress_stops, progress_writes}
-use Rattle.cqlp_text.proofs.text_writer.TextWriter.put_value.Goals as goal
+use Rattle.cqlp_text.proofs.text_writer.TextWriter.put_leaf.Goals as goal
 
 pub returns-in_err-put_before : goal.returns-in_err-put_before
 returns-in_err-put_before g c =
     progress_stops _ c.from_residual.result c.from_residual.ensures.0 (progress_starts _ _) refl c.in_err-put_before.ensures
 
-pub returns-in_err-put_word : goal.returns-in_err-put_word
-returns-in_err-put_word g c =
+pub returns-in_err-put_cell : goal.returns-in_err-put_cell
+returns-in_err-put_cell g c =
     let s1 = progress_goes_on _ (progress_starts _ _) refl c.in_ok-put_before.ensures in
-    progress_stops _ c.from_residual-in_err-put_word.result c.from_residual-in_err-put_word.ensures.0 s1 refl c.in_err-put_word.ensures
+    progress_stops _ c.from_residual-in_err-put_cell.result c.from_residual-in_err-put_cell.ensures.0 s1 refl c.in_err-put_cell.ensures
 
 pub returns : goal.returns
 returns g c =
     let s1 = progress_goes_on _ (progress_starts _ _) refl c.in_ok-put_before.ensures in
-    let s2 = progress_goes_on _ s1 refl c.in_ok-put_word.ensures in
+    let s2 = progress_goes_on _ s1 refl c.in_ok-put_cell.ensures in
     progress_writes _ c.put_after.result s2 c.put_after.ensures

@@ -1,0 +1,18 @@
+use Rattle.std.proofs.Common.{refl}
+use Rattle.cqlp_text.proofs.Writing.{progress_starts, progress_goes_on, progress_stops, progress_writes}
+use Rattle.cqlp_text.proofs.text_writer.TextWriter.put_named.Goals as goal
+
+pub returns-in_err-put_before : goal.returns-in_err-put_before
+returns-in_err-put_before g c =
+    progress_stops _ c.from_residual.result c.from_residual.ensures.0 (progress_starts _ _) refl c.in_err-put_before.ensures
+
+pub returns-in_err-put_str : goal.returns-in_err-put_str
+returns-in_err-put_str g c =
+    let s1 = progress_goes_on _ (progress_starts _ _) refl c.in_ok-put_before.ensures in
+    progress_stops _ c.from_residual-in_err-put_str.result c.from_residual-in_err-put_str.ensures.0 s1 refl c.in_err-put_str.ensures
+
+pub returns : goal.returns
+returns g c =
+    let s1 = progress_goes_on _ (progress_starts _ _) refl c.in_ok-put_before.ensures in
+    let s2 = progress_goes_on _ s1 refl c.in_ok-put_str.ensures in
+    progress_writes _ c.put_after.result s2 c.put_after.ensures
