@@ -85,6 +85,7 @@ impl<'a, W: Target> TextWriter<'a, W> {
     }
 
     /// Passes on all that waits; after a fault nothing waits either.
+    #[inline(always)]
     pub fn flush(&mut self) -> Result<(), SinkFault>
         ensures writes { Writes self.old [] result self.new }
         ensures empty { self.new.waiting ≡ [] }
@@ -123,8 +124,17 @@ impl<'a, W: Target> TextWriter<'a, W> {
         if count <= ROOM - self.len {
             Ok(())
         } else {
-            self.flush()
+            self.flush_apart()
         }
+    }
+
+    /// Passes on all that waits, in code of its own.
+    #[inline(never)]
+    fn flush_apart(&mut self) -> Result<(), SinkFault>
+        ensures writes { Writes self.old [] result self.new }
+        ensures empty { self.new.waiting ≡ [] }
+    {
+        self.flush()
     }
 
     /// Takes a number that there is room for, as this many decimal digits.
@@ -198,7 +208,13 @@ fn decimal_len(number: u64) -> usize
     if number < 100 {
         return 2;
     }
-    2 + decimal_len(number / 100)
+    if number < 1_000 {
+        return 3;
+    }
+    if number < 10_000 {
+        return 4;
+    }
+    4 + decimal_len(number / 10_000)
 }
 
 /// Appends a text as it is. A fault is the writer's own.
@@ -209,6 +225,7 @@ pub fn put_text<W: Target>(text: &str, w: &mut W) -> Result<(), SinkFault>
 }
 
 /// Passes on all of the bytes.
+#[inline(always)]
 fn send<W: Target>(target: &mut W, bytes: &[u8]) -> Result<(), SinkFault>
     ensures { Writes (unbuffered W.Target target.old) bytes.now result (unbuffered W.Target target.new) }
 {
