@@ -105,7 +105,7 @@ fn taken(client: CqlpClient, alloc: Global) -> Option<Box<Client<Global>>>
     }
 }
 
-/// A core with so many slots, on the heap.
+/// A core with this many slots, on the heap.
 fn make(alloc: Global, slots: u32) -> Result<Box<Client<Global>>, SlotsOrMemory>
     ensures bad { IsErrOf result error.BadSlots ↔ (is_slot_count slots ≡ false) }
     ensures fresh { IfOk result (λ b. b.value ≡ new_client slots) }

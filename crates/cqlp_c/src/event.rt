@@ -133,7 +133,7 @@ impl CqlpEvent {
         }
     }
 
-    /// Puts these bytes, of which so many are its own.
+    /// Puts these bytes, of which this many are its own.
     fn put_bytes(&mut self, bytes: [u8; 16], octets: u8)
         ensures { self.new ≡ record self.old { bytes = bytes; octets = octets } }
     {

@@ -31,7 +31,7 @@ impl Invocation<'_> {
         Pieces::new(self.bytes, [size; 3])
     }
 
-    /// With this standard input, and room for so many bytes in each output.
+    /// With this standard input, and room for this many bytes in each output.
     pub fn done(&self, rt: &HostRuntime, input: &mut impl Source, out: usize, err: usize) -> Done {
         let out = Narrow::new(rt.alloc(), out, 7);
         let err = Narrow::new(rt.alloc(), err, 7);

@@ -1,7 +1,7 @@
 //! Headers, fields and ends of frames, handed straight to a sink.
 //!
 //! The loop takes each header, field and end that lies whole in the input. It leaves all else to `Decoder::next`, which
-//! alone decides it: a type option, a cell, a cut, and each refusal; and so it does the notations that few messages have.
+//! alone decides it: a type option, a cell, a cut, and each refusal; and so it does an \[inet\], which few messages have.
 //! It may, since it is proved to hand out what the reading of the bytes says, and to stand where that does: no rule
 //! stands here alone. What follows a field, and where a message goes on, is found by the functions by which `next` does.
 
@@ -84,7 +84,9 @@ fn hand_plain<S: Sink>(
         Notation::Count16 => hand_front(limits, Notation::Count16, field, room, at, input, sink),
         Notation::Int => hand_front(limits, Notation::Int, field, room, at, input, sink),
         Notation::Long => hand_front(limits, Notation::Long, field, room, at, input, sink),
-        Notation::Uuid | Notation::Count32 | Notation::Inet | Notation::Content(_) => Handed::Left,
+        Notation::Uuid => hand_front(limits, Notation::Uuid, field, room, at, input, sink),
+        Notation::Count32 => hand_front(limits, Notation::Count32, field, room, at, input, sink),
+        Notation::Inet | Notation::Content(_) => Handed::Left,
     }
 }
 

@@ -1,6 +1,7 @@
 //! A field out of pieces of any size.
 
-ghost use Rattle.std.specs.Prelude.{◌≡◌, ◌+◌, ◌-◌, ◌<◌, ◌≤◌, ◌^◌, ◌++◌, List, [], ℕ, true, false, length, drop, IfOk, IfSome, IsTrue};
+ghost use Rattle.std.specs.Prelude.{◌≡◌, ◌+◌, ◌-◌, ◌<◌, ◌≤◌, ◌^◌, ◌++◌};
+ghost use Rattle.std.specs.Prelude.{List, [], ℕ, true, false, length, drop, IfOk, IfSome, IsTrue};
 ghost use Rattle.std.specs.Borrow.{sem};
 ghost use Rattle.cqlp_note.specs.Head.{Tells, front_of, reader_of, value_of};
 ghost use Rattle.cqlp_note.specs.Partial.{LeadsToContent};

@@ -19,7 +19,7 @@ pub struct WholeField<'a> {
 
 /// The field at the front of the input, whose content may have up to `limit` bytes, in a container with room for this
 /// many bytes, where all its bytes are there and it is lawful. It is the field that a `Partial` would make of them.
-/// An \[inet\], a \[uuid\], a count of four bytes and a content without a length are left to that.
+/// An \[inet\] and a content without a length are left to that.
 #[inline(always)]
 pub fn front_field<'a>(
     notation: Notation,
@@ -94,6 +94,17 @@ fn front_plain<'a>(wanted: Wanted, input: &[u8]) -> Option<WholeField<'a>>
             used: 8,
             value: Primitive::Long(i64::from_be_bytes(first(input))),
         }),
+        Notation::Uuid if has_whole(wanted, 16, input) => Some(WholeField {
+            used: 16,
+            value: Primitive::Uuid(first(input)),
+        }),
+        Notation::Count32 if has_whole(wanted, 4, input) => match read_natural(input) {
+            Some(count) => Some(WholeField {
+                used: 4,
+                value: Primitive::Count(count),
+            }),
+            None => None,
+        },
         Notation::Bytes32 if has_whole(wanted, 4, input) => match read_natural(input) {
             Some(_) => None,
             None => Some(WholeField {
