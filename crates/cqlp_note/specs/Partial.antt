@@ -1,8 +1,11 @@
 -- A field out of pieces.
-use Rattle.std.specs.Prelude.{◌≡◌, ℕ, ◌+◌, ◌++◌, ◌<◌, ◌≤◌, Bool, true, false, List, [], length, take, drop, Some, ⊤}
+use Rattle.std.specs.Prelude.{◌≡◌, ℕ, ◌+◌, ◌-◌, ◌^◌, ◌==◌, ◌++◌, ◌<◌, ◌≤◌, if◌then◌else◌, Bool, true, false, List, [], length, take, drop, Option, Some, None, ⊤}
+use Rattle.std.specs.Int.{w32, from_be_bytes}
 use Rattle.std.specs.Str.{is_utf8}
 use Rattle.cqlp_note.specs.declared.field.Notation.{Notation}
+use Rattle.cqlp_note.specs.declared.field.Notation.TheVariants as notation
 use Rattle.cqlp_note.specs.declared.head.Wanted.{Wanted}
+use Rattle.cqlp_note.specs.declared.whole.WholeField.{WholeField}
 use Rattle.cqlp_note.specs.declared.head.ContentForm.{ContentForm}
 use Rattle.cqlp_note.specs.declared.head.ContentForm.TheVariants as form
 use Rattle.cqlp_note.specs.declared.advance.ContentPlace.{ContentPlace}
@@ -15,9 +18,11 @@ use Rattle.cqlp_note.specs.declared.advance.Push.{Push}
 use Rattle.cqlp_note.specs.declared.advance.Push.TheVariants as push
 use Rattle.cqlp_note.specs.declared.advance.FieldStage.{FieldStage}
 use Rattle.cqlp_note.specs.declared.advance.FieldStage.TheVariants as stage
+use Rattle.cqlp_note.specs.declared.prim.BoundValue.{BoundValue}
+use Rattle.cqlp_note.specs.declared.prim.BoundValue.TheVariants as bound
 use Rattle.cqlp_note.specs.declared.prim.Primitive.{Primitive}
 use Rattle.cqlp_note.specs.Reader.{More, Bad, Got, Gives, Takes, says}
-use Rattle.cqlp_note.specs.Field.{FieldValue, Text, Bytes, Bound, Known, content_length, content_of}
+use Rattle.cqlp_note.specs.Field.{FieldValue, Text, Bytes, Bound, Known, content_length, content_of, is_negative}
 use Rattle.cqlp_note.specs.Head.{HasNoContent, after_fixed, fixed_of, reader_of, value_of, made, front_of}
 
 -- What a caller knows of a `Partial`: the room for a content; whether a field is under way, which was asked for
@@ -95,6 +100,30 @@ IsPlain w bytes used v =
     (used ≡ fixed_of w.notation) × (used ≤ w.room) × (used ≤ length bytes) × HasNoContent v
     × (after_fixed w.notation w.limit w.room (take used bytes) ≡ Gives (value_of v))
 
+-- a [value] of a request that its length says whole (section 3)
+abbrev pub bare_value : ℕ → Option BoundValue
+bare_value n =
+    if n == (2 ^ 32 - 1) then Some bound.Null
+    else if n == (2 ^ 32 - 2) then Some bound.Unset
+    else None
+
+-- no field that ends with its fixed part is at the front of these bytes
+abbrev pub IsNoPlain : Notation → (bytes : List ℕ) → Type 0
+IsNoPlain n bytes =
+    (limit room : ℕ) (v : FieldValue) → ¬ (after_fixed n limit room (take (fixed_of n) bytes) ≡ Gives v)
+
+-- the value of a field that ends with its fixed part, if it does
+abbrev pub IsPlainValue : Notation → (bytes : List ℕ) → Option Primitive → Type 0
+IsPlainValue n bytes None = IsNoPlain n bytes
+IsPlainValue n bytes (Some v) =
+    HasNoContent v × ((limit room : ℕ) → after_fixed n limit room (take (fixed_of n) bytes) ≡ Gives (value_of v))
+
+-- a field that ends with its fixed part, if there is one
+abbrev pub IsPlainFront : Wanted → (bytes : List ℕ) → Option WholeField → Type 0
+IsPlainFront w bytes None =
+    fixed_of w.notation ≤ w.room → fixed_of w.notation ≤ length bytes → IsNoPlain w.notation bytes
+IsPlainFront w bytes (Some f) = IsPlain w bytes f.used f.value
+
 -- ---- what is handed out
 
 abbrev pub accepts : ContentForm → List ℕ → Bool
@@ -107,6 +136,20 @@ abbrev pub LeadsToContent : Notation → (bytes : List ℕ) → (start len : ℕ
 LeadsToContent n bytes start len f =
     (start ≤ 4) × (start ≡ fixed_of n)
     × ((limit room : ℕ) → after_fixed n limit room (take start bytes) ≡ content_of start len limit room (made f))
+
+-- no content begins by this fixed part of a field, since its length is negative or it has none
+abbrev pub HasNoLength : Notation → List ℕ → Type 0
+HasNoLength notation.Text16 c = ⊥
+HasNoLength notation.Bytes16 c = ⊥
+HasNoLength notation.Text32 c = is_negative (from_be_bytes w32 c) ≡ true
+HasNoLength notation.Bytes32 c = is_negative (from_be_bytes w32 c) ≡ true
+HasNoLength notation.Bound c = is_negative (from_be_bytes w32 c) ≡ true
+HasNoLength n c = ⊤
+
+-- Where a content begins after these bytes, if one does.
+abbrev pub IsContentHead : Notation → (bytes : List ℕ) → Option (ℕ × ℕ × ContentForm) → Type 0
+IsContentHead n bytes None = fixed_of n ≤ length bytes → HasNoLength n (take (fixed_of n) bytes)
+IsContentHead n bytes (Some h) = LeadsToContent n bytes h.0 h.1 h.2
 
 -- Such a content is within the limit, fits its container, lies whole in the bytes, and may stand there.
 abbrev pub HasContent : Wanted → (bytes : List ℕ) → (start len : ℕ) → ContentForm → Type 0

@@ -58,7 +58,8 @@ pub(crate) enum Stop {
 
 impl Notation {
     /// The bytes that each field in this notation has.
-    fn fixed(self) -> usize
+    #[inline(always)]
+    pub(crate) fn fixed(self) -> usize
         ensures { result ≡ fixed_of self }
     {
         match self {

@@ -4,7 +4,7 @@ ghost use Rattle.std.specs.Prelude.{◌≡◌, ◌+◌, ◌-◌, ◌<◌, ◌≤
 ghost use Rattle.std.specs.Prelude.{List, [], ℕ, true, false, length, drop, IfOk, IfSome, IsTrue};
 ghost use Rattle.std.specs.Borrow.{sem};
 ghost use Rattle.cqlp_note.specs.Head.{Tells, front_of, reader_of, value_of};
-ghost use Rattle.cqlp_note.specs.Partial.{LeadsToContent};
+ghost use Rattle.cqlp_note.specs.Partial.{IsContentHead, LeadsToContent};
 ghost use Rattle.cqlp_note.specs.Reader.{More, says};
 
 use crate::advance::{ContentPlace, FieldAdvance, FieldOutline, FieldStage, Push};
@@ -449,7 +449,7 @@ pub(crate) fn read_content_head(
     notation: Notation,
     input: &[u8],
 ) -> Option<(usize, u32, ContentForm)>
-    ensures { IfSome result (λ head. LeadsToContent notation input.now head.0 head.1 head.2) }
+    ensures { IsContentHead notation input.now result }
 {
     match notation {
         Notation::Text16 if input.len() >= 2 => Some((2, read_short(input), ContentForm::Text)),

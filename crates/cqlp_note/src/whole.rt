@@ -1,9 +1,9 @@
 //! Fields that lie whole at the front of the input.
 
-ghost use Rattle.std.specs.Prelude.{◌≡◌, ◌≤◌, IfSome, IsTrue, length};
-ghost use Rattle.cqlp_note.specs.Head.{value_of};
-ghost use Rattle.cqlp_note.specs.Partial.{HasContent, IsPlain, LeadsToContent};
-ghost use Rattle.cqlp_note.specs.Whole.{SaysField};
+ghost use Rattle.std.specs.Prelude.{◌≡◌, ◌≤◌, length};
+ghost use Rattle.cqlp_note.specs.Head.{fixed_of};
+ghost use Rattle.cqlp_note.specs.Partial.{HasContent, IsPlainFront, IsPlainValue, LeadsToContent, bare_value};
+ghost use Rattle.cqlp_note.specs.Whole.{IsFront};
 
 use crate::field::Notation;
 use crate::head::{ContentForm, Wanted, read_first as first, read_natural};
@@ -18,8 +18,8 @@ pub struct WholeField<'a> {
 }
 
 /// The field at the front of the input, whose content may have up to `limit` bytes, in a container with room for this
-/// many bytes, where all its bytes are there and it is lawful. It is the field that a `Partial` would make of them.
-/// An \[inet\] and a content without a length are left to that.
+/// many bytes, where all its bytes are there and it is lawful: the field that a `Partial` would make of them. An \[inet\]
+/// and a content without a length are left to that.
 #[inline(always)]
 pub fn front_field<'a>(
     notation: Notation,
@@ -27,7 +27,7 @@ pub fn front_field<'a>(
     room: u64,
     input: &'a [u8],
 ) -> Option<WholeField<'a>>
-    ensures { IfSome result (λ whole. SaysField notation limit room input.now whole.used (value_of whole.value)) }
+    ensures { IsFront notation limit room input.now result }
 {
     let wanted = Wanted {
         notation,
@@ -51,8 +51,7 @@ fn front_content<'a>(
     input: &'a [u8],
 ) -> Option<WholeField<'a>>
     requires { LeadsToContent wanted.notation input.now start len form }
-    ensures { IfSome result (λ whole.
-        SaysField wanted.notation wanted.limit wanted.room input.now whole.used (value_of whole.value)) }
+    ensures { IsFront wanted.notation wanted.limit wanted.room input.now result }
 {
     let used = start + len as usize;
     if len > wanted.limit || used as u64 > wanted.room || used > input.len() {
@@ -71,66 +70,59 @@ fn front_content<'a>(
 /// The field without a content.
 #[inline(always)]
 fn front_plain<'a>(wanted: Wanted, input: &[u8]) -> Option<WholeField<'a>>
-    ensures { IfSome result (λ whole. IsPlain wanted input.now whole.used whole.value) }
+    ensures { IsPlainFront wanted input.now result }
 {
-    match wanted.notation {
-        Notation::Byte if has_whole(wanted, 1, input) => Some(WholeField {
-            used: 1,
-            value: Primitive::Byte(u8::from_be_bytes(first(input))),
-        }),
-        Notation::Short if has_whole(wanted, 2, input) => Some(WholeField {
-            used: 2,
-            value: Primitive::Short(u16::from_be_bytes(first(input))),
-        }),
-        Notation::Count16 if has_whole(wanted, 2, input) => Some(WholeField {
-            used: 2,
-            value: Primitive::Count(u16::from_be_bytes(first(input)).into()),
-        }),
-        Notation::Int if has_whole(wanted, 4, input) => Some(WholeField {
-            used: 4,
-            value: Primitive::Int(i32::from_be_bytes(first(input))),
-        }),
-        Notation::Long if has_whole(wanted, 8, input) => Some(WholeField {
-            used: 8,
-            value: Primitive::Long(i64::from_be_bytes(first(input))),
-        }),
-        Notation::Uuid if has_whole(wanted, 16, input) => Some(WholeField {
-            used: 16,
-            value: Primitive::Uuid(first(input)),
-        }),
-        Notation::Count32 if has_whole(wanted, 4, input) => match read_natural(input) {
-            Some(count) => Some(WholeField {
-                used: 4,
-                value: Primitive::Count(count),
-            }),
+    let used = wanted.notation.fixed();
+    if used as u64 > wanted.room || used > input.len() {
+        return None;
+    }
+    let value = plain_value(wanted.notation, input)?;
+    Some(WholeField { used, value })
+}
+
+/// The value of a field in this notation, where it ends with its fixed part.
+#[inline(always)]
+fn plain_value<'a>(notation: Notation, input: &[u8]) -> Option<Primitive<'a>>
+    requires { fixed_of notation ≤ length input.now }
+    ensures { IsPlainValue notation input.now result }
+{
+    match notation {
+        Notation::Byte => Some(Primitive::Byte(u8::from_be_bytes(first(input)))),
+        Notation::Short => Some(Primitive::Short(u16::from_be_bytes(first(input)))),
+        Notation::Count16 => Some(Primitive::Count(u16::from_be_bytes(first(input)).into())),
+        Notation::Int => Some(Primitive::Int(i32::from_be_bytes(first(input)))),
+        Notation::Long => Some(Primitive::Long(i64::from_be_bytes(first(input)))),
+        Notation::Uuid => Some(Primitive::Uuid(first(input))),
+        Notation::Count32 => match read_natural(input) {
+            Some(count) => Some(Primitive::Count(count)),
             None => None,
         },
-        Notation::Bytes32 if has_whole(wanted, 4, input) => match read_natural(input) {
+        Notation::Bytes32 => match read_natural(input) {
             Some(_) => None,
-            None => Some(WholeField {
-                used: 4,
-                value: Primitive::Bytes(None),
-            }),
+            None => Some(Primitive::Bytes(None)),
         },
-        Notation::Bound if has_whole(wanted, 4, input) => match i32::from_be_bytes(first(input)) {
-            -1 => Some(WholeField {
-                used: 4,
-                value: Primitive::Bound(BoundValue::Null),
-            }),
-            -2 => Some(WholeField {
-                used: 4,
-                value: Primitive::Bound(BoundValue::Unset),
-            }),
-            _ => None,
+        Notation::Bound => match bare_value(u32::from_be_bytes(first(input))) {
+            Some(value) => Some(Primitive::Bound(value)),
+            None => None,
         },
-        _ => None,
+        Notation::Text16
+        | Notation::Text32
+        | Notation::Bytes16
+        | Notation::Inet
+        | Notation::Content(_) => None,
     }
 }
 
-/// Whether a field of this many bytes fits its container and lies whole in the input.
+/// The value of a request without a content, by its length: null is -1, and not set is -2.
 #[inline(always)]
-fn has_whole(wanted: Wanted, size: usize, input: &[u8]) -> bool
-    ensures { IsTrue result → (size ≤ wanted.room) × (size ≤ length input.now) }
+fn bare_value<'a>(len: u32) -> Option<BoundValue<'a>>
+    ensures { result ≡ bare_value len }
 {
-    size as u64 <= wanted.room && size <= input.len()
+    if len == u32::MAX {
+        Some(BoundValue::Null)
+    } else if len == u32::MAX - 1 {
+        Some(BoundValue::Unset)
+    } else {
+        None
+    }
 }
