@@ -13,8 +13,9 @@ use Rattle.cqlp_note.specs.declared.head.ContentForm.{ContentForm}
 use Rattle.cqlp_note.specs.declared.whole.WholeField.{WholeField}
 use Rattle.cqlp_note.specs.Reader.{Said, Gives, Refuses, Takes, More, Bad, Got, says}
 use Rattle.cqlp_note.specs.Field.{FieldReader, FieldValue, Count, Bytes, Bound, Null, Unset, content_of, field_of, is_negative}
-use Rattle.cqlp_note.specs.Head.{after_fixed, fixed_of, made}
+use Rattle.cqlp_note.specs.Head.{after_fixed, fixed_of, made, value_of}
 use Rattle.cqlp_note.specs.Partial.{accepts, HasContent, HasNoLength, IsContentHead, IsNoPlain, IsPlainFront, LeadsToContent, bare_value}
+use Rattle.cqlp_note.specs.Laws.{AreSameFront}
 use Rattle.cqlp_note.specs.Whole.{IsFront, IsLeft, SaysField}
 use Rattle.cqlp_note.proofs.Fronts.{fixed_overruns, fixed_taken, fixed_wanting, natural_some, plain_is}
 use Rattle.cqlp_note.proofs.Pieces.{content_bad, content_waits}
@@ -175,3 +176,11 @@ none_said w input none plain whole used v said =
 pub plain_said : (w : Wanted) (input : List ℕ) (o : Option WholeField) → IsContentHead w.notation input None → IsPlainFront w input o → IsFront w.notation w.limit w.room input o
 plain_said w input None none p = none_said w input none p
 plain_said w input (Some f) none p = record { is = plain_is w input f.used f.value p; within = p.2 }
+
+pub one_front : (n : Notation) (limit room : ℕ) (input : List ℕ) (a b : Option WholeField) → ¬ (IsLeft n) → IsFront n limit room input a → IsFront n limit room input b → AreSameFront a b
+one_front n limit room input None None whole x y = tt
+one_front n limit room input None (Some g) whole x y = x whole g.used (value_of g.value) y
+one_front n limit room input (Some f) None whole x y = y whole f.used (value_of f.value) x
+one_front n limit room input (Some f) (Some g) whole x y =
+    let both : ◌≡◌ {A = Said FieldValue _} (Got (value_of f.value) f.used) (Got (value_of g.value) g.used) = sym x.is ∙ y.is in
+    (cc, cc)

@@ -1,5 +1,5 @@
 -- Laws of fields and of headers.
-use Rattle.std.specs.Prelude.{◌≡◌, ℕ, ◌<◌, ◌≤◌, ◌↔◌, ◌++◌, Bool, true, IsTrue, List, All, length, take, FitsSigned, Option, Some, Result, Ok, IfOk, is_err}
+use Rattle.std.specs.Prelude.{◌≡◌, ℕ, ◌<◌, ◌≤◌, ◌↔◌, ◌++◌, Bool, true, IsTrue, List, All, length, take, FitsSigned, Option, Some, None, ⊤, Result, Ok, IfOk, is_err}
 use Rattle.std.specs.Int.{w16}
 use Rattle.std.specs.Io.KnownBytes.{ReadConsumes, WriteAppends}
 use Rattle.cqlp_note.specs.declared.advance.Push.{Push}
@@ -11,6 +11,8 @@ use Rattle.cqlp_note.specs.declared.field.Notation.{Notation}
 use Rattle.cqlp_note.specs.declared.header.Header.{Header}
 use Rattle.cqlp_note.specs.declared.refusal.Reason.{Reason}
 use Rattle.cqlp_note.specs.declared.streams.IoFault.{IoFault}
+use Rattle.cqlp_note.specs.declared.whole.WholeField.{WholeField}
+use Rattle.cqlp_note.specs.Whole.{IsFront, IsLeft}
 use Rattle.cqlp_note.specs.Streams.{counted, took_none}
 use Rattle.cqlp_note.specs.Reader.{Bad, Got, says}
 use Rattle.cqlp_note.specs.Field.{FieldValue, field_of}
@@ -119,6 +121,18 @@ abbrev pub OneAnswerOfHeaderRead : Type 0
 OneAnswerOfHeaderRead =
     (at : ℕ) (bytes : List ℕ) (a b : Result Header Refusal)
     → Headed at bytes a → Headed at bytes b → a ≡ b
+
+-- the same field, or none
+abbrev pub AreSameFront : Option WholeField → Option WholeField → Type 0
+AreSameFront None None = ⊤
+AreSameFront (Some f) (Some g) = (f.used ≡ g.used) × (value_of f.value ≡ value_of g.value)
+AreSameFront a b = ⊥
+
+-- Of the same input `front_field` gives the same field, or none, but where it may leave the field to a `Partial`.
+abbrev pub OneAnswerOfFrontField : Type 0
+OneAnswerOfFrontField =
+    (n : Notation) (limit room : ℕ) (input : List ℕ) (a b : Option WholeField)
+    → ¬ (IsLeft n) → IsFront n limit room input a → IsFront n limit room input b → AreSameFront a b
 
 abbrev pub OneAnswerOfLawful : Type 0
 OneAnswerOfLawful = (h : Header) (a b : Bool) → (IsTrue a ↔ IsLawful h) → (IsTrue b ↔ IsLawful h) → a ≡ b
