@@ -15,8 +15,8 @@ use Rattle.cqlp_note.specs.Reader.{Said, Gives, Refuses, Takes, More, Bad, Got, 
 use Rattle.cqlp_note.specs.Field.{FieldReader, FieldValue, Count, Bytes, Bound, Null, Unset, content_of, field_of, is_negative}
 use Rattle.cqlp_note.specs.Head.{after_fixed, fixed_of, made, value_of}
 use Rattle.cqlp_note.specs.Partial.{accepts, HasContent, HasNoLength, IsContentHead, IsNoPlain, IsPlainFront, LeadsToContent, bare_value}
-use Rattle.cqlp_note.specs.Laws.{AreSameFront}
-use Rattle.cqlp_note.specs.Whole.{IsFront, IsLeft, SaysField}
+use Rattle.cqlp_note.specs.Laws.{AreSameFrontFields}
+use Rattle.cqlp_note.specs.Whole.{IsFrontField, IsLeft, SaysField}
 use Rattle.cqlp_note.proofs.Fronts.{fixed_overruns, fixed_taken, fixed_wanting, natural_some, plain_is}
 use Rattle.cqlp_note.proofs.Pieces.{content_bad, content_waits}
 
@@ -165,7 +165,7 @@ no_plain notation.Bytes32 bytes long limit room v gives = long
 no_plain notation.Bound bytes long limit room v gives = long
 
 -- no field is said where none ends with its fixed part and no content begins after it
-pub none_said : (w : Wanted) (input : List ℕ) → IsContentHead w.notation input None → IsPlainFront w input None → IsFront w.notation w.limit w.room input None
+pub none_said : (w : Wanted) (input : List ℕ) → IsContentHead w.notation input None → IsPlainFront w input None → IsFrontField w.notation w.limit w.room input None
 none_said w input none plain whole used v said =
     let room = got_in_room w.notation w.limit w.room input used v said.is in
     let there = got_there w.notation w.limit w.room input used v said.is in
@@ -173,11 +173,11 @@ none_said w input none plain whole used v said =
     ends_plain w.notation w.limit w.room (take (fixed_of w.notation) input) (fixed_of w.notation) (drop (fixed_of w.notation) input) used v whole (none there) (plain room there w.limit w.room) after
 
 -- a field that ends with its fixed part
-pub plain_said : (w : Wanted) (input : List ℕ) (o : Option WholeField) → IsContentHead w.notation input None → IsPlainFront w input o → IsFront w.notation w.limit w.room input o
+pub plain_said : (w : Wanted) (input : List ℕ) (o : Option WholeField) → IsContentHead w.notation input None → IsPlainFront w input o → IsFrontField w.notation w.limit w.room input o
 plain_said w input None none p = none_said w input none p
 plain_said w input (Some f) none p = record { is = plain_is w input f.used f.value p; within = p.2 }
 
-pub one_front : (n : Notation) (limit room : ℕ) (input : List ℕ) (a b : Option WholeField) → ¬ (IsLeft n) → IsFront n limit room input a → IsFront n limit room input b → AreSameFront a b
+pub one_front : (n : Notation) (limit room : ℕ) (input : List ℕ) (a b : Option WholeField) → ¬ (IsLeft n) → IsFrontField n limit room input a → IsFrontField n limit room input b → AreSameFrontFields a b
 one_front n limit room input None None whole x y = tt
 one_front n limit room input None (Some g) whole x y = x whole g.used (value_of g.value) y
 one_front n limit room input (Some f) None whole x y = y whole f.used (value_of f.value) x

@@ -12,7 +12,7 @@ use Rattle.cqlp_note.specs.declared.header.Header.{Header}
 use Rattle.cqlp_note.specs.declared.refusal.Reason.{Reason}
 use Rattle.cqlp_note.specs.declared.streams.IoFault.{IoFault}
 use Rattle.cqlp_note.specs.declared.whole.WholeField.{WholeField}
-use Rattle.cqlp_note.specs.Whole.{IsFront, IsLeft}
+use Rattle.cqlp_note.specs.Whole.{IsFrontField, IsLeft}
 use Rattle.cqlp_note.specs.Streams.{counted, took_none}
 use Rattle.cqlp_note.specs.Reader.{Bad, Got, says}
 use Rattle.cqlp_note.specs.Field.{FieldValue, field_of}
@@ -123,16 +123,16 @@ OneAnswerOfHeaderRead =
     → Headed at bytes a → Headed at bytes b → a ≡ b
 
 -- the same field, or none
-abbrev pub AreSameFront : Option WholeField → Option WholeField → Type 0
-AreSameFront None None = ⊤
-AreSameFront (Some f) (Some g) = (f.used ≡ g.used) × (value_of f.value ≡ value_of g.value)
-AreSameFront a b = ⊥
+abbrev pub AreSameFrontFields : Option WholeField → Option WholeField → Type 0
+AreSameFrontFields None None = ⊤
+AreSameFrontFields (Some f) (Some g) = (f.used ≡ g.used) × (value_of f.value ≡ value_of g.value)
+AreSameFrontFields a b = ⊥
 
 -- Of the same input `front_field` gives the same field, or none, but where it may leave the field to a `Partial`.
 abbrev pub OneAnswerOfFrontField : Type 0
 OneAnswerOfFrontField =
     (n : Notation) (limit room : ℕ) (input : List ℕ) (a b : Option WholeField)
-    → ¬ (IsLeft n) → IsFront n limit room input a → IsFront n limit room input b → AreSameFront a b
+    → ¬ (IsLeft n) → IsFrontField n limit room input a → IsFrontField n limit room input b → AreSameFrontFields a b
 
 abbrev pub OneAnswerOfLawful : Type 0
 OneAnswerOfLawful = (h : Header) (a b : Bool) → (IsTrue a ↔ IsLawful h) → (IsTrue b ↔ IsLawful h) → a ≡ b

@@ -3,7 +3,7 @@
 ghost use Rattle.std.specs.Prelude.{◌≡◌, ◌≤◌, length};
 ghost use Rattle.cqlp_note.specs.Head.{fixed_of};
 ghost use Rattle.cqlp_note.specs.Partial.{HasContent, IsPlainFront, IsPlainValue, LeadsToContent, bare_value};
-ghost use Rattle.cqlp_note.specs.Whole.{IsFront};
+ghost use Rattle.cqlp_note.specs.Whole.{IsFrontField};
 
 use crate::field::Notation;
 use crate::head::{ContentForm, Wanted, read_first as first, read_natural};
@@ -27,7 +27,7 @@ pub fn front_field<'a>(
     room: u64,
     input: &'a [u8],
 ) -> Option<WholeField<'a>>
-    ensures { IsFront notation limit room input.now result }
+    ensures { IsFrontField notation limit room input.now result }
 {
     let wanted = Wanted {
         notation,
@@ -51,7 +51,7 @@ fn front_content<'a>(
     input: &'a [u8],
 ) -> Option<WholeField<'a>>
     requires { LeadsToContent wanted.notation input.now start len form }
-    ensures { IsFront wanted.notation wanted.limit wanted.room input.now result }
+    ensures { IsFrontField wanted.notation wanted.limit wanted.room input.now result }
 {
     let used = start + len as usize;
     if len > wanted.limit || used as u64 > wanted.room || used > input.len() {
