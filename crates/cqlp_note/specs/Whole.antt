@@ -20,5 +20,6 @@ IsLeft n = ⊥
 
 -- A field at the front of the input, and just where these bytes say one.
 abbrev pub IsFrontField : Notation → (limit room : ℕ) → (input : List ℕ) → Option WholeField → Type 0
-IsFrontField n limit room input None = ¬ (IsLeft n) → (used : ℕ) (v : FieldValue) → ¬ (SaysField n limit room input used v)
+IsFrontField n limit room input None =
+    ¬ (IsLeft n) → (used : ℕ) (v : FieldValue) → ¬ (SaysField n limit room input used v)
 IsFrontField n limit room input (Some f) = SaysField n limit room input f.used (value_of f.value)

@@ -18,8 +18,8 @@ pub struct WholeField<'a> {
 }
 
 /// The field at the front of the input, whose content may have up to `limit` bytes, in a container with room for this
-/// many bytes, where all its bytes are there and it is lawful: the field that a `Partial` would make of them. An \[inet\]
-/// and a content without a length are left to that.
+/// many bytes, where all its bytes are there and it is lawful: the field that a `Partial` would make of them. An
+/// \[inet\] and a content without a length are left to that.
 #[inline(always)]
 pub fn front_field<'a>(
     notation: Notation,
