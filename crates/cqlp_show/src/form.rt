@@ -36,6 +36,7 @@ pub(crate) struct Lines;
 impl Form for Lines {
     ghost form = { λ _. forms.Lines };
 
+    #[inline]
     fn put<W: Target>(
         &mut self,
         at: u64,
@@ -50,6 +51,7 @@ impl Form for Lines {
 impl Form for PagePlace {
     ghost form = { λ place. forms.Pages place };
 
+    #[inline]
     fn put<W: Target>(
         &mut self,
         _at: u64,
@@ -67,6 +69,7 @@ pub(crate) struct Nothing;
 impl Form for Nothing {
     ghost form = { λ _. forms.Nothing };
 
+    #[inline]
     fn put<W: Target>(
         &mut self,
         _at: u64,

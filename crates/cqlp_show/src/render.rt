@@ -77,6 +77,7 @@ impl<W: Target, F: Form> Sink for TextSink<W, F> {
 
     ghost faulted = { StopsWithinEvent };
 
+    #[inline]
     fn take(&mut self, at: u64, event: &Event<'_>) -> Result<(), SinkFault> {
         self.form.put(at, event, &mut self.target)
     }

@@ -41,6 +41,7 @@ impl<W: Target> TextWriter<'_, W> {
     }
 
     /// Takes the text of a cell.
+    #[inline(always)]
     pub fn put_cell(&mut self, scalar: &Scalar<'_>) -> Result<(), SinkFault>
         ensures { Writes self.old (text_of (value_of scalar.now)) result self.new }
     {
@@ -127,6 +128,7 @@ impl<W: Target> TextWriter<'_, W> {
     }
 }
 
+#[inline(always)]
 fn boolean_name(value: bool) -> &'static str
     ensures { result.now ≡ boolean_text value }
 {

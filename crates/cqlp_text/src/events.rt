@@ -13,6 +13,7 @@ use cqlp_kind::{Kind, Scalar};
 use cqlp_note::{Address, BoundValue, Field, Header, Target};
 
 /// Appends the line of an event at an offset. A fault is the writer's own.
+#[inline]
 pub fn event_line<W: Target>(at: u64, event: &Event<'_>, w: &mut W) -> Result<(), SinkFault>
     ensures { AppendsText (written W.Target w.old) (line_of at (event_of event.now)) result (written W.Target w.new) }
 {
@@ -33,6 +34,7 @@ impl<W: Target> TextWriter<'_, W> {
     ghost use Rattle.cqlp_text.specs.Written.{Writes};
 
     /// Takes the line of an event at an offset, and passes all on.
+    #[inline]
     pub fn put_event(&mut self, at: u64, event: &Event<'_>) -> Result<(), SinkFault>
         ensures line { Writes self.old (line at (event_of event.now)) result self.new }
         ensures passed { self.new.waiting ≡ [] }
@@ -43,6 +45,7 @@ impl<W: Target> TextWriter<'_, W> {
         self.flush()
     }
 
+    #[inline]
     fn put_event_words(&mut self, event: &Event<'_>) -> Result<(), SinkFault>
         ensures { Writes self.old (spaced (words (event_of event.now))) result self.new }
     {

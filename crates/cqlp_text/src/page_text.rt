@@ -19,6 +19,7 @@ const ROWS: i32 = 2;
 
 /// Appends what is written of an event of a page, which nothing is of an event of another frame, and goes to the place
 /// after it, also at a fault, which is the writer's own.
+#[inline]
 pub fn page_part<W: Target>(
     place: &mut PagePlace,
     event: &Event<'_>,
@@ -105,6 +106,7 @@ impl PagePlace {
         }
     }
 
+    #[inline]
     fn is_page(&self) -> bool
         ensures { result ≡ self.now.is_page }
     {
@@ -112,6 +114,7 @@ impl PagePlace {
     }
 
     /// Whether anything may be written of an event.
+    #[inline]
     fn shows(&self, event: &Event<'_>) -> bool
         ensures { result ≡ false → text_of self.now (event_of event.now) ≡ [] }
     {
@@ -128,6 +131,7 @@ impl PagePlace {
         }
     }
 
+    #[inline]
     fn columns(&self) -> u32
         ensures { result ≡ self.now.columns }
     {
@@ -135,6 +139,7 @@ impl PagePlace {
     }
 
     /// The innermost open value.
+    #[inline(always)]
     fn innermost(&self) -> Option<WrittenValue>
         ensures { result ≡ innermost self.now.open_values }
     {
@@ -142,6 +147,7 @@ impl PagePlace {
     }
 
     /// What stands before a cell of this column, or before an item of the open value.
+    #[inline]
     fn before(&self, column: u32) -> &'static str
         ensures { result.now ≡ before column self.now.open_values }
     {
@@ -153,6 +159,7 @@ impl PagePlace {
     }
 
     /// What stands after a cell of this column, or after an item of the open value.
+    #[inline]
     fn after(&self, column: u32) -> &'static str
         ensures { result.now ≡ after self.now.columns column self.now.open_values }
     {
@@ -175,6 +182,7 @@ impl PagePlace {
     }
 
     /// What stands after the innermost open value.
+    #[inline]
     fn after_innermost(&self) -> &'static str
         ensures { result.now ≡ after self.now.columns self.now.column (without_open self.now.open_values) }
     {
@@ -186,6 +194,7 @@ impl PagePlace {
     }
 
     /// Goes to the place after an event.
+    #[inline(always)]
     fn pass(&mut self, event: &Event<'_>)
         ensures { self.new ≡ place_after self.old (event_of event.now) }
     {
@@ -212,6 +221,7 @@ impl PagePlace {
         self.free = ROOM;
     }
 
+    #[inline]
     fn pass_int(&mut self, field: Field, value: i32)
         ensures { self.new ≡ place_after_field self.old field (IntValue value) }
     {
@@ -222,6 +232,7 @@ impl PagePlace {
         }
     }
 
+    #[inline]
     fn pass_count(&mut self, field: Field, count: u32)
         ensures { self.new ≡ place_after_field self.old field (CountValue count) }
     {
@@ -231,6 +242,7 @@ impl PagePlace {
     }
 
     /// Goes to the place after a cell of this column, or after an item of the open value.
+    #[inline(always)]
     fn pass_item(&mut self, column: u32)
         ensures { self.new ≡ record self.old { column = column; open_values = with_item self.old.open_values } }
     {
@@ -238,6 +250,7 @@ impl PagePlace {
         self.count_item();
     }
 
+    #[inline]
     fn pass_part(&mut self, column: u32, last: bool)
         ensures { self.new ≡ record self.old { column = column; open_values = with_item_if last self.old.open_values } }
     {
@@ -248,6 +261,7 @@ impl PagePlace {
     }
 
     /// Goes to the place after an item of the open value, if there is one.
+    #[inline(always)]
     fn count_item(&mut self)
         ensures { self.new ≡ record self.old { open_values = with_item self.old.open_values } }
     {
@@ -261,6 +275,7 @@ impl PagePlace {
     }
 
     /// Goes into a value of this kind, an item of the one that was open.
+    #[inline]
     fn enter(&mut self, column: u32, kind: Kind)
         ensures { self.new ≡
             record self.old { column = column; open_values = with_open kind (with_item self.old.open_values) } }
@@ -269,6 +284,7 @@ impl PagePlace {
         self.push(kind);
     }
 
+    #[inline]
     fn push(&mut self, kind: Kind)
         ensures { self.new ≡ record self.old { open_values = with_open kind self.old.open_values } }
     {
@@ -282,6 +298,7 @@ impl PagePlace {
         };
     }
 
+    #[inline]
     fn leave(&mut self)
         ensures { self.new ≡ record self.old { open_values = without_open self.old.open_values } }
     {
@@ -302,6 +319,7 @@ impl<W: Target> TextWriter<'_, W> {
     ghost use Rattle.cqlp_text.specs.Written.{Writes};
 
     /// Takes what is written of an event of a page, goes to the place after it, also at a fault, and passes all on.
+    #[inline]
     pub fn put_page_part(
         &mut self,
         place: &mut PagePlace,
@@ -321,6 +339,7 @@ impl<W: Target> TextWriter<'_, W> {
         self.flush()
     }
 
+    #[inline(always)]
     fn put_event_part(&mut self, place: &PagePlace, event: &Event<'_>) -> Result<(), SinkFault>
         ensures { Writes self.old (event_part place.now (event_of event.now)) result self.new }
     {
@@ -409,6 +428,7 @@ impl<W: Target> TextWriter<'_, W> {
     }
 
     /// Takes a name in place of a value, with what stands before and after it.
+    #[inline]
     fn put_named(&mut self, place: &PagePlace, column: u32, name: &str) -> Result<(), SinkFault>
         ensures { Writes self.old (whole_value place.now column name.now) result self.new }
     {
@@ -453,6 +473,7 @@ impl<W: Target> TextWriter<'_, W> {
         }
     }
 
+    #[inline]
     fn put_opening(&mut self, place: &PagePlace, column: u32, kind: Kind) -> Result<(), SinkFault>
         ensures { Writes self.old (before column place.now.open_values ++ opening kind) result self.new }
     {
@@ -460,6 +481,7 @@ impl<W: Target> TextWriter<'_, W> {
         self.put(opening(kind).as_bytes())
     }
 
+    #[inline]
     fn put_closing(&mut self, place: &PagePlace) -> Result<(), SinkFault>
         ensures { Writes self.old (end_part place.now.columns place.now.column place.now.open_values) result self.new }
     {
@@ -522,6 +544,7 @@ ghost use Rattle.cqlp_text.specs.PageText.{after as text_after, closing as text_
 ghost use Rattle.cqlp_text.specs.PageText.{separator as text_between, turn_after as next_turn};
 
 /// What stands before an item of an open value.
+#[inline]
 fn separator(turn: Turn) -> &'static str
     ensures { result.now ≡ text_between turn }
 {
@@ -533,6 +556,7 @@ fn separator(turn: Turn) -> &'static str
 }
 
 /// What stands after a cell of this column.
+#[inline]
 fn row_end(columns: u32, column: u32) -> &'static str
     ensures { result.now ≡ text_after columns column [] }
 {
@@ -543,6 +567,7 @@ fn row_end(columns: u32, column: u32) -> &'static str
     }
 }
 
+#[inline]
 fn opening(kind: Kind) -> &'static str
     ensures { result.now ≡ text_opening kind }
 {
@@ -553,6 +578,7 @@ fn opening(kind: Kind) -> &'static str
     }
 }
 
+#[inline]
 fn closing(kind: Kind) -> &'static str
     ensures { result.now ≡ text_closing kind }
 {
@@ -564,6 +590,7 @@ fn closing(kind: Kind) -> &'static str
 }
 
 /// What comes next after an item of a value of this kind.
+#[inline(always)]
 fn turn_after(kind: Kind, turn: Turn) -> Turn
     ensures { result ≡ next_turn kind turn }
 {

@@ -19,7 +19,7 @@ const CHUNK: usize = 64;
 
 impl<W: Target> TextWriter<'_, W> {
     /// Takes a number as decimal digits, after a `-` where it is negative.
-    #[inline]
+    #[inline(always)]
     pub fn put_signed(&mut self, number: i64) -> Result<(), SinkFault>
         ensures { Writes self.old (signed_decimal number) result self.new }
     {
@@ -89,6 +89,7 @@ impl<W: Target> TextWriter<'_, W> {
     }
 
     /// Takes a text in quotes, where a quote, a backslash and each byte that does not print is escaped.
+    #[inline(always)]
     pub fn put_quoted(&mut self, text: &str) -> Result<(), SinkFault>
         ensures { Writes self.old (quoted text.now) result self.new }
     {
@@ -98,6 +99,7 @@ impl<W: Target> TextWriter<'_, W> {
     }
 
     /// Takes bytes as they stand between quotes; those that need no escape are taken as they are, many at once.
+    #[inline]
     fn put_escaped(&mut self, bytes: &[u8]) -> Result<(), SinkFault>
         ensures { Writes self.old (flat_map escaped bytes.now) result self.new }
     {
@@ -192,6 +194,7 @@ impl<W: Target> TextWriter<'_, W> {
 }
 
 /// Where the first byte stands that needs an escape.
+#[inline(always)]
 fn first_escape(bytes: &[u8]) -> Option<usize>
     ensures { result ≡ position (λ b. not (is_plain b)) bytes.now }
 {
@@ -199,6 +202,7 @@ fn first_escape(bytes: &[u8]) -> Option<usize>
 }
 
 /// Whether a byte stands as itself between quotes.
+#[inline(always)]
 fn is_plain(byte: u8) -> bool
     ensures { result ≡ is_plain byte }
 {
