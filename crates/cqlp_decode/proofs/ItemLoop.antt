@@ -1,7 +1,6 @@
 -- The loop over the items of cells.
-use Rattle.std.proofs.Common.{◌≡◌, ℕ, ◌+◌, ◌^◌, ◌<◌, true, false, List, [], ◌∷◌, ◌++◌, take, drop, refl, sym, ap, subst, ◌∙◌}
-use Rattle.std.specs.Prelude.{Option, None}
-use Rattle.cqlp_note.specs.declared.refusal.Refusal.{Refusal}
+use Rattle.std.proofs.Common.{◌≡◌, ℕ, ◌+◌, ◌^◌, ◌<◌, true, false, List, [], refl, sym, ap, subst, ◌∙◌}
+use Rattle.std.specs.Prelude.{None}
 use Rattle.cqlp_kind.specs.declared.node.Node.{Node}
 use Rattle.cqlp_note.specs.Limits.{Rules, rules_of}
 use Rattle.cqlp_kind.specs.CellStep.{CellEvent, Leaf}
@@ -22,15 +21,11 @@ use Rattle.cqlp_decode.specs.declared.page.CellCursor.{CellCursor}
 use Rattle.cqlp_decode.specs.declared.standing.StreamStage.{StreamStage}
 use Rattle.cqlp_decode.specs.declared.standing.StreamStage.TheVariants as stage
 use Rattle.cqlp_decode.specs.declared.standing.StreamStanding.{StreamStanding}
-use Rattle.cqlp_decode.specs.Reading.{Event, Gifts, cell_event}
+use Rattle.cqlp_decode.specs.Reading.{Event, cell_event}
 use Rattle.cqlp_decode.specs.Pages.{cells_after}
-use Rattle.cqlp_decode.specs.Standing.{StreamState, PartsState, Hands, GoesOn, IsAt, IsCell, IsConsistent, StageHolds, nodes_of, parts, state_of}
-use Rattle.cqlp_decode.specs.Streams.{AfterBy, AfterGifts}
-use Rattle.cqlp_decode.specs.Draining.{Drains, Fails}
+use Rattle.cqlp_decode.specs.Standing.{PartsState, Hands, GoesOn, IsAt, IsCell, IsConsistent, StageHolds, nodes_of, parts, state_of}
 use Rattle.cqlp_decode.specs.Items.{SaysLeaf, TakesItem, bare_event, part_told}
 use Rattle.cqlp_decode.proofs.CellSteps.{going_hands, ended_hands, cell_going_lawful, cell_ended_lawful}
-use Rattle.cqlp_decode.proofs.Leads.{hands_stands}
-use Rattle.cqlp_decode.proofs.Gets.{drains_one, fails_one}
 
 -- ---- one item
 
@@ -110,18 +105,3 @@ module _ (s : StreamStanding) (q : PartsState) (p : CellCursor) (here : s.stage 
             refl,
             subst (λ (x : CellEvent). Hands (state_of s q) input t.at t.used (cell_event p.row p.column x) (state_of e after)) (part_is t.part input q.partial.content) hands.1,
           )
-
--- ---- one more item for a sink
-
-module _ {V : Type 0} (f : V → ℕ → Event → V) (gifts : Gifts) (old new : StreamState) (bytes input : List ℕ) (used : ℕ) (es : List (ℕ × Event)) (v w : V) (d : Drains f gifts old bytes es (take used input) v w) (unrefused : old.refusal ≡ None) (at taken : ℕ) (told : Event)
-    (h : TakesItem old (drop used input) at taken told new) where
-  stands : AfterGifts gifts new ((bytes ++ take used input) ++ take taken (drop used input)) ((es ++ d.more) ++ (at, told) ∷ [])
-  stands =
-      let after = subst (λ (o : Option Refusal). AfterBy o gifts old (bytes ++ take used input) (es ++ d.more)) unrefused d.stands in
-      hands_stands old new (drop used input) (bytes ++ take used input) (es ++ d.more) gifts at taken told h.3 (h.0 ∙ unrefused) h.1 after
-
-  pub item_drains : (w' : V) → w' ≡ f w at told → Drains f gifts new bytes es (take (used + taken) input) v w'
-  item_drains w' is = drains_one f gifts old new bytes input used es v w d at taken told w' stands is
-
-  pub item_fails : (faulted : V → ℕ → Event → V → Type 0) (w' : V) → faulted w at told w' → Fails f faulted gifts new bytes es (take (used + taken) input) v w'
-  item_fails faulted w' fault = fails_one f gifts old new bytes input used es v w d faulted at taken told w' stands fault

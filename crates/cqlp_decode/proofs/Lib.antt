@@ -8,6 +8,7 @@ pub mod Leads
 pub mod Ends
 pub mod Tables
 pub mod Gets
+pub mod Taken
 pub mod PageLoop
 pub mod ItemLoop
 pub mod FieldLoop

@@ -1,11 +1,10 @@
 -- The loop over the cells of a page.
-use Rattle.std.proofs.Common.{◌≡◌, ℕ, ◌+◌, ◌-◌, ◌^◌, ◌≤◌, List, [], ◌∷◌, ◌++◌, length, take, drop, refl, sym, subst, arith}
-use Rattle.std.specs.Prelude.{Option, Some, None}
+use Rattle.std.proofs.Common.{◌≡◌, ℕ, ◌+◌, ◌-◌, ◌^◌, ◌≤◌, List, [], length, take, drop, refl, sym, arith}
+use Rattle.std.specs.Prelude.{Some, None}
 use Rattle.std.specs.Int.{w32, from_be_bytes}
 use Rattle.std.proofs.lemmas.Bool.{le-ltb}
 use Rattle.cqlp_note.specs.Reader.{number_of}
 use Rattle.cqlp_note.specs.Limits.{Rules, rules_of}
-use Rattle.cqlp_note.specs.declared.refusal.Refusal.{Refusal}
 use Rattle.cqlp_kind.specs.declared.kind.Kind.{Kind}
 use Rattle.cqlp_kind.specs.CellStep.{CellEvent, Null, Empty}
 use Rattle.cqlp_cell.proofs.Sizing.{null_is, empty_is}
@@ -14,15 +13,13 @@ use Rattle.cqlp_decode.specs.declared.page_loop.Handed.TheVariants as handed
 use Rattle.cqlp_decode.specs.declared.page.CellCursor.{CellCursor}
 use Rattle.cqlp_decode.specs.declared.standing.StreamStage.TheVariants as stage
 use Rattle.cqlp_decode.specs.declared.standing.StreamStanding.{StreamStanding}
-use Rattle.cqlp_decode.specs.Reading.{Event, Gifts, cell_event}
+use Rattle.cqlp_decode.specs.Reading.{Event, cell_event}
 use Rattle.cqlp_decode.specs.Pages.{IsKind, Turns}
 use Rattle.cqlp_decode.specs.Standing.{StreamState, PartsState, IsConsistent, nodes_of, state_of}
-use Rattle.cqlp_decode.specs.Streams.{AfterBy, AfterGifts}
-use Rattle.cqlp_decode.specs.Draining.{Drains, Fails}
-use Rattle.cqlp_decode.specs.Cells.{SaysCell, HandsCell, HandsFront, HasHanded}
+use Rattle.cqlp_decode.specs.Items.{TakesItem}
+use Rattle.cqlp_decode.specs.Cells.{SaysCell, HandsCell, HandsFront, HasHanded, HandsOut, FailsAfter}
 use Rattle.cqlp_decode.proofs.CellSteps.{onward_hands, onward_lawful}
-use Rattle.cqlp_decode.proofs.Leads.{hands_stands}
-use Rattle.cqlp_decode.proofs.Gets.{drains_one, fails_one}
+use Rattle.cqlp_decode.proofs.Taken.{item_drains, item_fails}
 
 -- ---- a value without a content
 
@@ -75,15 +72,12 @@ module _ (s : StreamStanding) (q : PartsState) (p p' : CellCursor) (offset : ℕ
   pub cell_lawful : IsConsistent (at_cell s p' (offset + taken)) q
   cell_lawful = onward_lawful (at_cell s p offset) q p p' refl law unrefused (drop used input) taken k kind h.event h.says empty turns
 
-  module _ {V : Type 0} (f : V → ℕ → Event → V) (gifts : Gifts) (bytes : List ℕ) (es : List (ℕ × Event)) (v w w' : V) (d : Drains f gifts old bytes es (take used input) v w) where
-    stands : AfterGifts gifts new ((bytes ++ take used input) ++ take taken (drop used input)) ((es ++ d.more) ++ (offset, told) ∷ [])
-    stands =
-        let hands = onward_hands (at_cell s p offset) q p p' refl law unrefused (drop used input) taken k kind h.event h.says empty turns in
-        let after = subst (λ (o : Option Refusal). AfterBy o gifts old (bytes ++ take used input) (es ++ d.more)) unrefused d.stands in
-        hands_stands old new (drop used input) (bytes ++ take used input) (es ++ d.more) gifts offset taken told hands unrefused refl after
+  cell_takes : TakesItem old (drop used input) offset taken told new
+  cell_takes = (refl, refl, refl, onward_hands (at_cell s p offset) q p p' refl law unrefused (drop used input) taken k kind h.event h.says empty turns)
 
-    pub cell_drains : w' ≡ f w offset told → Drains f gifts new bytes es (take (used + taken) input) v w'
-    cell_drains is = drains_one f gifts old new bytes input used es v w d offset taken told w' stands is
+  module _ {V : Type 0} (f : V → ℕ → Event → V) (first : StreamState) (v w w' : V) (d : HandsOut f first old input used v w) where
+    pub cell_drains : w' ≡ f w offset told → HandsOut f first new input (used + taken) v w'
+    cell_drains is = item_drains f first old new input used v w d unrefused offset taken told cell_takes w' is
 
-    pub cell_fails : (faulted : V → ℕ → Event → V → Type 0) → faulted w offset told w' → Fails f faulted gifts new bytes es (take (used + taken) input) v w'
-    cell_fails faulted fault = fails_one f gifts old new bytes input used es v w d faulted offset taken told w' stands fault
+    pub cell_fails : (faulted : V → ℕ → Event → V → Type 0) → faulted w offset told w' → FailsAfter f faulted first new input (used + taken) v w'
+    cell_fails faulted fault = item_fails f first old new input used v w d unrefused offset taken told cell_takes faulted w' fault

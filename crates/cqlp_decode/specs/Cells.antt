@@ -1,19 +1,19 @@
 -- The cells of a page, handed straight to a sink.
-use Rattle.std.specs.Prelude.{◌≡◌, ℕ, ◌+◌, ◌≤◌, ◌<◌, ◌*◌, List, [], length, take, Option, Some, None, Result, Ok, Err, ⊤}
+use Rattle.std.specs.Prelude.{◌≡◌, ℕ, ◌+◌, ◌≤◌, ◌<◌, ◌*◌, List, [], ◌∷◌, ◌++◌, length, drop, Option, Some, None, Result, Ok, Err, ⊤}
 use Rattle.cqlp_note.specs.Reader.{Got, says}
 use Rattle.cqlp_note.specs.Limits.{Rules}
 use Rattle.cqlp_kind.specs.declared.kind.Kind.{Kind}
 use Rattle.cqlp_kind.specs.Types.{Types}
 use Rattle.cqlp_kind.specs.CellStep.{CellEvent, CellSymbol, CellPlace, Null, Empty, place_after, value_step}
-use Rattle.cqlp_grammar.specs.declared.sink.SinkFault.{SinkFault}
+use Rattle.cqlp_decode.specs.declared.step.FaultAfter.{FaultAfter}
 use Rattle.cqlp_decode.specs.declared.page_loop.Handed.{Handed}
 use Rattle.cqlp_decode.specs.declared.page_loop.Handed.TheVariants as handed
 use Rattle.cqlp_decode.specs.declared.page_loop.Bare.{Bare}
 use Rattle.cqlp_decode.specs.declared.page_loop.Bare.TheVariants as bare
-use Rattle.cqlp_decode.specs.Reading.{Event, Gifts, cell_event}
+use Rattle.cqlp_decode.specs.Reading.{Event, cell_event}
 use Rattle.cqlp_decode.specs.Standing.{StreamState, ends_due}
-use Rattle.cqlp_decode.specs.Streams.{AfterGifts}
-use Rattle.cqlp_decode.specs.Draining.{Drains, FailsWithin}
+use Rattle.cqlp_decode.specs.Draining.{fold_events}
+use Rattle.cqlp_decode.specs.Items.{TakesItem}
 
 -- Where a cell of this kind is read, in a frame with this much room: these bytes say that all of it is this event.
 pub record SaysCell (l : Rules) (k : Kind) (room : ℕ) (input : List ℕ) (used : ℕ) (e : CellEvent) : Type 0 where
@@ -55,23 +55,59 @@ HandsFront l k room input row column HasGot Failed (handed.Cell used) = HandsCel
 HandsFront l k room input row column HasGot Failed (handed.Fault used) = HandsCell l k room input row column used Failed
 
 -- No more bytes are used than there are, and two for each value that was opened.
-abbrev pub UsesWithin : StreamState → List ℕ → Result ℕ SinkFault → StreamState → Type 0
+abbrev pub UsesWithin : StreamState → List ℕ → Result ℕ FaultAfter → StreamState → Type 0
 UsesWithin old input (Ok used) new =
     (used ≤ length input)
     × (ends_due new.place.symbols + new.open_values ≤ ends_due old.place.symbols + old.open_values + 2 * used)
-UsesWithin old input (Err fault) new = ⊤
+UsesWithin old input (Err fault) new = fault.used ≤ length input
 
 -- the same, where what the caller asked for and gave stands, and nothing is refused
-abbrev pub StaysWithin : StreamState → List ℕ → Result ℕ SinkFault → StreamState → Type 0
+abbrev pub StaysWithin : StreamState → List ℕ → Result ℕ FaultAfter → StreamState → Type 0
 StaysWithin old input result new =
     UsesWithin old input result new × (new.refusal ≡ old.refusal) × (new.rules ≡ old.rules) × (new.given ≡ old.given)
 
+-- ---- one item after the other
+
+-- An item that was taken: its offset, how many bytes it takes, and its event.
+pub record Item : Type 0 where
+  pub at : ℕ
+  pub used : ℕ
+  pub event : Event
+
+abbrev pub bytes_of : List Item → ℕ
+bytes_of [] = 0
+bytes_of (x ∷ xs) = x.used + bytes_of xs
+
+abbrev pub told_of : List Item → List (ℕ × Event)
+told_of [] = []
+told_of (x ∷ xs) = (x.at, x.event) ∷ told_of xs
+
+-- These items were taken one after the other, the first from the first byte of the input on.
+abbrev pub TakesItems : StreamState → List ℕ → List Item → StreamState → Type 0
+TakesItems old input [] new = new ≡ old
+TakesItems old input (x ∷ xs) new =
+    (mid : StreamState) × (old.refusal ≡ None) × TakesItem old input x.at x.used x.event mid
+    × TakesItems mid (drop x.used input) xs new
+
 -- What a sink has got: f is what it makes of an event, and `faulted` which faults one may lead to.
-module _ {V : Type 0} (f : V → ℕ → Event → V) (faulted : V → ℕ → Event → V → Type 0) where
-  -- the bytes that were used are read, and the sink has got just their events, or it failed at the last of some
-  abbrev pub DrainsCells : StreamState → List ℕ → Result ℕ SinkFault → StreamState → (before after : V) → Type 0
-  DrainsCells old input (Ok used) new before after =
-      (gifts : Gifts) (s : List ℕ) (es : List (ℕ × Event)) → AfterGifts gifts old s es
-      → Drains f gifts new s es (take used input) before after
-  DrainsCells old input (Err fault) new before after =
-      (used : ℕ) × FailsWithin f faulted old new (take used input) before after
+module _ {V : Type 0} (f : V → ℕ → Event → V) where
+  -- These items were taken, of this many bytes, and the sink has got just their events.
+  pub record HandsOut (old new : StreamState) (input : List ℕ) (used : ℕ) (before after : V) : Type 0 where
+    pub items : List Item
+    pub takes : TakesItems old input items new
+    pub all : used ≡ bytes_of items
+    pub got : after ≡ fold_events f before (told_of items)
+
+  module _ (faulted : V → ℕ → Event → V → Type 0) where
+    -- The same, and then one more item, at whose event the sink failed.
+    pub record FailsAfter (old new : StreamState) (input : List ℕ) (used : ℕ) (before after : V) : Type 0 where
+      pub items : List Item
+      pub last : Item
+      pub takes : TakesItems old input (items ++ last ∷ []) new
+      pub all : used ≡ bytes_of (items ++ last ∷ [])
+      pub fault : faulted (fold_events f before (told_of items)) last.at last.event after
+
+    -- what was handed out, by how it ends
+    abbrev pub DrainsCells : StreamState → List ℕ → Result ℕ FaultAfter → StreamState → (before after : V) → Type 0
+    DrainsCells old input (Ok used) new before after = HandsOut old new input used before after
+    DrainsCells old input (Err fault) new before after = FailsAfter old new input fault.used before after

@@ -5,6 +5,6 @@ pub mod Streams
 pub mod Lending
 pub mod Giving
 pub mod Draining
-pub mod Cells
 pub mod Items
+pub mod Cells
 pub mod Fields

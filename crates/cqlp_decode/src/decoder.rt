@@ -20,9 +20,9 @@ use crate::item_loop::take_items;
 use crate::page_loop::take_cells;
 use crate::parts::Parts;
 use crate::standing::StreamStanding;
-use crate::step::{Held, Step};
+use crate::step::{FaultAfter, Held, Step};
 use cqlp_cell::{CellItem, CellReader};
-use cqlp_grammar::{Event, Finish, Sink, SinkFault};
+use cqlp_grammar::{Event, Finish, Sink};
 use cqlp_note::{BadLimits, Field, Limits, NoMemory, Partial, Prim};
 use cqlp_type::{TypeItem, TypeReader, TypeTable};
 use std::alloc::{Allocator, Global};
@@ -257,14 +257,12 @@ impl<A: Allocator> Decoder<A> {
         self.standing.take_scalar(&self.parts, input)
     }
 
-    /// Hands what lies whole in the input to the sink, as far as the loops over fields and over the cells of a page take
-    /// it, and answers how many bytes of the input it takes.
+    /// Hands events of the input to the sink that lie whole in it, as far as the loops over fields, over the cells of a page
+    /// and over their items take them, and answers how many bytes of the input they take. It may stop before any of them:
+    /// the next call is `next`, which decides what is left. At a sink's fault the event at which it failed was taken too.
+    /// After a refusal nothing is handed out.
     #[inline]
-    pub(crate) fn take_whole<S: Sink>(
-        &mut self,
-        input: &[u8],
-        sink: &mut S,
-    ) -> Result<usize, SinkFault>
+    pub fn hand_whole<S: Sink>(&mut self, input: &[u8], sink: &mut S) -> Result<usize, FaultAfter>
         ensures stays { StaysWithin (state self.old) input.now result (state self.new) }
         ensures refused { (r : Refusal) → (state self.old).refusal ≡ Some r
             → (state self.new ≡ state self.old) × (sink.new ≡ sink.old) × (result ≡ Ok 0) }
@@ -275,11 +273,14 @@ impl<A: Allocator> Decoder<A> {
     {
         let used = match self.take_fields(input, sink) {
             Ok(used) => used,
-            Err(SinkFault) => return Err(SinkFault),
+            Err(fault) => return Err(fault),
         };
         let more = match self.take_cells(&input[used..], sink) {
             Ok(more) => more,
-            Err(SinkFault) => return Err(SinkFault),
+            Err(fault) => {
+                let used = used + fault.used;
+                return Err(FaultAfter { used });
+            }
         };
         Ok(used + more)
     }
@@ -287,7 +288,7 @@ impl<A: Allocator> Decoder<A> {
     /// Hands headers, fields and ends of frames to the sink, as far as the loop over them takes them, and answers how
     /// many bytes of the input they take.
     #[inline]
-    fn take_fields<S: Sink>(&mut self, input: &[u8], sink: &mut S) -> Result<usize, SinkFault>
+    fn take_fields<S: Sink>(&mut self, input: &[u8], sink: &mut S) -> Result<usize, FaultAfter>
         ensures stays { StaysWithin (state self.old) input.now result (state self.new) }
         ensures refused { (r : Refusal) → (state self.old).refusal ≡ Some r
             → (state self.new ≡ state self.old) × (sink.new ≡ sink.old) × (result ≡ Ok 0) }
@@ -305,7 +306,7 @@ impl<A: Allocator> Decoder<A> {
     /// Hands cells to the sink, as far as the loops over a page and over the items of its cells take them, and answers how
     /// many bytes of the input they take.
     #[inline]
-    fn take_cells<S: Sink>(&mut self, input: &[u8], sink: &mut S) -> Result<usize, SinkFault>
+    fn take_cells<S: Sink>(&mut self, input: &[u8], sink: &mut S) -> Result<usize, FaultAfter>
         ensures stays { StaysWithin (state self.old) input.now result (state self.new) }
         ensures refused { (r : Refusal) → (state self.old).refusal ≡ Some r
             → (state self.new ≡ state self.old) × (sink.new ≡ sink.old) × (result ≡ Ok 0) }
@@ -319,11 +320,14 @@ impl<A: Allocator> Decoder<A> {
         }
         let used = match take_cells(&mut self.standing, &self.parts, input, sink) {
             Ok(used) => used,
-            Err(SinkFault) => return Err(SinkFault),
+            Err(fault) => return Err(fault),
         };
         let more = match take_items(&mut self.standing, &mut self.parts, &input[used..], sink) {
             Ok(more) => more,
-            Err(SinkFault) => return Err(SinkFault),
+            Err(fault) => {
+                let used = used + fault.used;
+                return Err(FaultAfter { used });
+            }
         };
         Ok(used + more)
     }

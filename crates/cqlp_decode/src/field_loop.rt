@@ -19,6 +19,7 @@ use crate::metadata::begin_metadata;
 use crate::page_loop::Handed;
 use crate::parts::Parts;
 use crate::standing::{StreamStage, StreamStanding, limit_on};
+use crate::step::FaultAfter;
 use cqlp_grammar::{Event, Role, Sink, SinkFault, Want, fault_in};
 use cqlp_kind::content::first;
 use cqlp_note::{Field, Header, Limits, Notation, front_field};
@@ -30,7 +31,7 @@ pub fn take_fields<S: Sink, A: Allocator>(
     parts: &mut Parts<A>,
     input: &[u8],
     sink: &mut S,
-) -> Result<usize, SinkFault>
+) -> Result<usize, FaultAfter>
     requires lawful { IsLawful standing.old parts.old }
     ensures lawful { IsLawful standing.new parts.new }
     ensures stays { StaysWithin (state_with standing.old parts.old) input.now result
@@ -50,7 +51,10 @@ pub fn take_fields<S: Sink, A: Allocator>(
         match standing.hand_due(parts, &input[used..], sink) {
             Handed::Left => return Ok(used),
             Handed::Cell(taken) => used += taken,
-            Handed::Fault(_) => return Err(SinkFault),
+            Handed::Fault(taken) => {
+                let used = used + taken;
+                return Err(FaultAfter { used });
+            }
         }
     }
 }

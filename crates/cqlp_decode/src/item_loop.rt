@@ -17,6 +17,7 @@ use crate::page::{CellCursor, page_table};
 use crate::page_loop::Handed;
 use crate::parts::Parts;
 use crate::standing::{StreamStage, StreamStanding};
+use crate::step::FaultAfter;
 use cqlp_cell::{BareItem, BarePart, DueItem, front_scalar};
 use cqlp_grammar::{Event, Sink, SinkFault};
 use cqlp_kind::Kind;
@@ -37,7 +38,7 @@ pub fn take_items<S: Sink, A: Allocator>(
     parts: &mut Parts<A>,
     input: &[u8],
     sink: &mut S,
-) -> Result<usize, SinkFault>
+) -> Result<usize, FaultAfter>
     requires lawful { IsLawful standing.old parts.old }
     ensures lawful { IsLawful standing.new parts.new }
     ensures stays { StaysWithin (state_with standing.old parts.old) input.now result
@@ -64,14 +65,20 @@ pub fn take_items<S: Sink, A: Allocator>(
                 used += taken;
                 continue 'items;
             }
-            Handed::Fault(_) => return Err(SinkFault),
+            Handed::Fault(taken) => {
+                let used = used + taken;
+                return Err(FaultAfter { used });
+            }
         }
         let Some(taken) = standing.take_part(parts, page, &input[used..]) else {
             return Ok(used);
         };
         match hand_part(page, taken.item, sink) {
             Ok(()) => used += taken.item.used,
-            Err(SinkFault) => return Err(SinkFault),
+            Err(SinkFault) => {
+                let used = used + taken.item.used;
+                return Err(FaultAfter { used });
+            }
         }
         if taken.over {
             let Some(following) = standing.enter_cell(parts) else {

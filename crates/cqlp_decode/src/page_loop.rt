@@ -15,6 +15,7 @@ ghost use Rattle.cqlp_decode.specs.Standing.{IsLawful, state_with};
 use crate::page::{CellCursor, page_table};
 use crate::parts::Parts;
 use crate::standing::{StreamStage, StreamStanding};
+use crate::step::FaultAfter;
 use cqlp_cell::front_scalar;
 use cqlp_grammar::{Event, Sink, SinkFault};
 use cqlp_kind::Kind;
@@ -48,7 +49,7 @@ pub fn take_cells<S: Sink, A: Allocator>(
     parts: &Parts<A>,
     input: &[u8],
     sink: &mut S,
-) -> Result<usize, SinkFault>
+) -> Result<usize, FaultAfter>
     requires lawful { IsLawful standing.old parts.now }
     ensures lawful { IsLawful standing.new parts.now }
     ensures stays { StaysWithin (state_with standing.old parts.now) input.now result
@@ -91,7 +92,8 @@ pub fn take_cells<S: Sink, A: Allocator>(
             Handed::Fault(taken) => {
                 standing.offset = offset + taken as u64;
                 standing.stage = StreamStage::BeforeCell(following);
-                return Err(SinkFault);
+                let used = used + taken;
+                return Err(FaultAfter { used });
             }
         }
     }

@@ -89,9 +89,9 @@ fn drain<S: Sink, A: Allocator>(decoder: &mut Decoder<A>, input: &[u8], sink: &m
 {
     let mut used = 0;
     'events: loop {
-        match decoder.take_whole(&input[used..], sink) {
+        match decoder.hand_whole(&input[used..], sink) {
             Ok(taken) => used += taken,
-            Err(SinkFault) => return Drained::Fault,
+            Err(_) => return Drained::Fault,
         }
         match decoder.next(&input[used..]) {
             Step::More { .. } => return Drained::More,

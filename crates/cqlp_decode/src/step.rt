@@ -2,6 +2,7 @@
 
 use cqlp_grammar::Event;
 use cqlp_note::Refusal;
+use thiserror::Error;
 
 /// What one call makes of the input.
 #[derive(Clone, Copy, Debug, PartialEq, Eq)]
@@ -19,6 +20,13 @@ pub enum Step<'a> {
     },
     /// The stream is refused, here and at every later call; nothing was used.
     Refused(Refusal),
+}
+
+/// A sink failed at an event, which ends this many bytes after the start of the input.
+#[derive(Clone, Copy, Debug, PartialEq, Eq, Error)]
+#[error("the sink gave up after {used} bytes")]
+pub struct FaultAfter {
+    pub used: usize,
 }
 
 /// What a decoder holds of the stream.

@@ -1,8 +1,8 @@
-use Rattle.std.proofs.Common.{◌+◌, ◌∙◌, arith}
+use Rattle.std.proofs.Common.{◌∙◌, arith}
 use Rattle.std.proofs.lemmas.List.{length-drop}
 use Rattle.cqlp_decode.specs.Standing.{state_with}
 use Rattle.cqlp_decode.proofs.Gets.{rest_is}
-use Rattle.cqlp_decode.proofs.ItemLoop.{item_drains, item_fails}
+use Rattle.cqlp_decode.proofs.Taken.{item_drains, item_fails}
 use Rattle.cqlp_decode.proofs.field_loop.take_fields.Goals as goal
 
 pub fields-preserved : goal.fields-preserved
@@ -21,7 +21,7 @@ fields-preserved g c =
       given = h.2 ∙ i.given;
       pays = omega (arith, h.3.pays, i.pays);
       tells = λ tells. (one.holds (i.tells tells)).0;
-      drained = λ tells gifts s es a. item_drains g.S.Sink.after gifts old new s input c.fields.used es _ _ (i.drained tells gifts s es a) i.unrefused one.at c.in-Cell.taken one.event h _ (one.holds (i.tells tells)).1;
+      drained = λ tells. item_drains g.S.Sink.after (state_with c.args.standing.now c.args.parts.now) old new input c.fields.used _ _ (i.drained tells) i.unrefused one.at c.in-Cell.taken one.event h _ (one.holds (i.tells tells)).1;
     }
 
 pub returns-in-Fault-clause-drains : goal.returns-in-Fault-clause-drains
@@ -30,7 +30,5 @@ returns-in-Fault-clause-drains g c = λ tells.
     let old = state_with c.fields.standing c.fields.parts in
     let new = state_with c.hand_due.new.self c.hand_due.new.parts in
     let input = c.args.input.now in
-    let one = rw rest_is at c.in-Fault.ensures.hands in (
-      c.fields.used + c.in-Fault.field-0,
-      λ gifts s es a. item_fails g.S.Sink.after gifts old new s input c.fields.used es _ _ (i.drained tells gifts s es a) i.unrefused one.at c.in-Fault.field-0 one.event one.takes g.S.Sink.faulted _ (one.holds (i.tells tells)),
-    )
+    let one = rw rest_is at c.in-Fault.ensures.hands in
+    item_fails g.S.Sink.after (state_with c.args.standing.now c.args.parts.now) old new input c.fields.used _ _ (i.drained tells) i.unrefused one.at c.in-Fault.taken one.event one.takes g.S.Sink.faulted _ (one.holds (i.tells tells))

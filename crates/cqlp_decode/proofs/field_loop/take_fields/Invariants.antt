@@ -1,9 +1,7 @@
-use Rattle.std.proofs.Common.{◌≡◌, ◌+◌, ◌-◌, ◌*◌, ◌≤◌, List, ℕ, length, take}
+use Rattle.std.proofs.Common.{◌≡◌, ◌+◌, ◌-◌, ◌*◌, ◌≤◌, length}
 use Rattle.std.specs.Prelude.{None}
-use Rattle.cqlp_decode.specs.Reading.{Event, Gifts}
 use Rattle.cqlp_decode.specs.Standing.{IsLawful, ends_due, state_with}
-use Rattle.cqlp_decode.specs.Streams.{AfterGifts}
-use Rattle.cqlp_decode.specs.Draining.{Drains}
+use Rattle.cqlp_decode.specs.Cells.{HandsOut}
 use Rattle.cqlp_decode.proofs.field_loop.take_fields.Given as goal
 
 -- what is used is read, and the sink has got its events
@@ -16,8 +14,7 @@ invariant-fields g l = record {
   given : (state_with l.standing l.parts).given ≡ (state_with l.fn.standing l.fn.parts).given;
   pays : ends_due (state_with l.standing l.parts).place.symbols + (state_with l.standing l.parts).open_values ≤ ends_due (state_with l.fn.standing l.fn.parts).place.symbols + (state_with l.fn.standing l.fn.parts).open_values + 2 * l.used;
   tells : g.S.Sink.tells l.fn.sink → g.S.Sink.tells l.sink;
-  drained : g.S.Sink.tells l.fn.sink → (gifts : Gifts) (s : List ℕ) (es : List (ℕ × Event)) → AfterGifts gifts (state_with l.fn.standing l.fn.parts) s es
-      → Drains g.S.Sink.after gifts (state_with l.standing l.parts) s es (take l.used l.input) (g.S.Sink.view l.fn.sink) (g.S.Sink.view l.sink);
+  drained : g.S.Sink.tells l.fn.sink → HandsOut g.S.Sink.after (state_with l.fn.standing l.fn.parts) (state_with l.standing l.parts) l.input l.used (g.S.Sink.view l.fn.sink) (g.S.Sink.view l.sink);
 }
 
 -- what is taken has some byte, or is the end of a frame

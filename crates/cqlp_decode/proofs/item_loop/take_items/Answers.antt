@@ -1,9 +1,9 @@
-use Rattle.std.proofs.Common.{◌≡◌, ◌+◌, drop, refl, sym, ap, subst, ◌∙◌, arith}
+use Rattle.std.proofs.Common.{◌≡◌, drop, refl, sym, ap, subst, ◌∙◌, arith}
 use Rattle.std.proofs.lemmas.List.{length-drop}
 use Rattle.cqlp_decode.specs.Standing.{StreamState, state_with}
 use Rattle.cqlp_decode.specs.Items.{TakesItem, part_told}
 use Rattle.cqlp_decode.proofs.Gets.{rest_is}
-use Rattle.cqlp_decode.proofs.ItemLoop.{item_drains, item_fails}
+use Rattle.cqlp_decode.proofs.Taken.{item_drains, item_fails}
 use Rattle.cqlp_decode.proofs.item_loop.take_items.Goals as goal
 
 pub returns-in-Fault-clause-drains : goal.returns-in-Fault-clause-drains
@@ -12,10 +12,8 @@ returns-in-Fault-clause-drains g c = λ tells.
     let old = state_with c.items.standing c.items.parts in
     let new = state_with c.items.standing c.hand_item.new.parts in
     let input = c.args.input.now in
-    let one = rw rest_is at c.in-Fault.ensures.hands in (
-      c.items.used + c.in-Fault.field-0,
-      λ gifts s es a. item_fails g.S.Sink.after gifts old new s input c.items.used es _ _ (i.drained tells gifts s es a) i.unrefused one.at c.in-Fault.field-0 one.event one.takes g.S.Sink.faulted _ (one.holds (i.tells tells)),
-    )
+    let one = rw rest_is at c.in-Fault.ensures.hands in
+    item_fails g.S.Sink.after (state_with c.args.standing.now c.args.parts.now) old new input c.items.used _ _ (i.drained tells) i.unrefused one.at c.in-Fault.taken one.event one.takes g.S.Sink.faulted _ (one.holds (i.tells tells))
 
 pub returns-in-Err-clause-drains : goal.returns-in-Err-clause-drains
 returns-in-Err-clause-drains g c = λ tells.
@@ -28,10 +26,8 @@ returns-in-Err-clause-drains g c = λ tells.
     let told = part_told p.row p.column t.part in
     let none = c.in-Left.ensures.hands in
     let given : TakesItem (state_with c.items.standing c.hand_item.new.parts) (drop c.items.used input) t.at t.used told new = rw rest_is at c.in-Some-take_part.ensures.takes in
-    let h : TakesItem old (drop c.items.used input) t.at t.used told new = subst (λ (z : StreamState). TakesItem z (drop c.items.used input) t.at t.used told new) none given in (
-      c.items.used + t.used,
-      λ gifts s es a. item_fails g.S.Sink.after gifts old new s input c.items.used es _ _ (i.drained tells gifts s es a) i.unrefused t.at t.used told h g.S.Sink.faulted _ ((rw (c.in-Left.ensures.left refl) at c.in-Err.ensures.err) (i.tells tells)),
-    )
+    let h : TakesItem old (drop c.items.used input) t.at t.used told new = subst (λ (z : StreamState). TakesItem z (drop c.items.used input) t.at t.used told new) none given in
+    item_fails g.S.Sink.after (state_with c.args.standing.now c.args.parts.now) old new input c.items.used _ _ (i.drained tells) i.unrefused t.at t.used told h g.S.Sink.faulted _ ((rw (c.in-Left.ensures.left refl) at c.in-Err.ensures.err) (i.tells tells))
 
 pub items-preserved-in-Cell : goal.items-preserved-in-Cell
 items-preserved-in-Cell g c =
@@ -51,7 +47,7 @@ items-preserved-in-Cell g c =
       given = h.2 ∙ i.given;
       pays = omega (arith, h.3.pays, i.pays);
       tells = λ tells. (one.holds (i.tells tells)).0;
-      drained = λ tells gifts s es a. item_drains g.S.Sink.after gifts old new s input c.items.used es _ _ (i.drained tells gifts s es a) i.unrefused one.at c.in-Cell.taken one.event h _ (one.holds (i.tells tells)).1;
+      drained = λ tells. item_drains g.S.Sink.after (state_with c.args.standing.now c.args.parts.now) old new input c.items.used _ _ (i.drained tells) i.unrefused one.at c.in-Cell.taken one.event h _ (one.holds (i.tells tells)).1;
     }
 
 pub items-preserved : goal.items-preserved
@@ -76,7 +72,7 @@ items-preserved g c =
       given = h.2 ∙ i.given;
       pays = omega (arith, h.3.pays, i.pays);
       tells = λ tells. ((rw (c.in-Left.ensures.left refl) at c.in-Ok.ensures.ok) (i.tells tells)).0;
-      drained = λ tells gifts s es a. item_drains g.S.Sink.after gifts old new s input c.items.used es _ _ (i.drained tells gifts s es a) i.unrefused t.at t.used told h _ ((rw (c.in-Left.ensures.left refl) at c.in-Ok.ensures.ok) (i.tells tells)).1;
+      drained = λ tells. item_drains g.S.Sink.after (state_with c.args.standing.now c.args.parts.now) old new input c.items.used _ _ (i.drained tells) i.unrefused t.at t.used told h _ ((rw (c.in-Left.ensures.left refl) at c.in-Ok.ensures.ok) (i.tells tells)).1;
     }
 
 pub items-preserved-then-taken : goal.items-preserved-then-taken
@@ -104,11 +100,11 @@ items-preserved-then-taken g c =
       given = k.2 ∙ i.given;
       pays = omega (arith, k.3.pays, i.pays);
       tells = λ tells. ((rw (c.in-Left.ensures.left refl) at c.in-Ok.ensures.ok) (i.tells tells)).0;
-      drained = λ tells gifts s es a. item_drains g.S.Sink.after gifts old new s input c.items.used es _ _ (i.drained tells gifts s es a) i.unrefused t.at t.used told k _ ((rw (c.in-Left.ensures.left refl) at c.in-Ok.ensures.ok) (i.tells tells)).1;
+      drained = λ tells. item_drains g.S.Sink.after (state_with c.args.standing.now c.args.parts.now) old new input c.items.used _ _ (i.drained tells) i.unrefused t.at t.used told k _ ((rw (c.in-Left.ensures.left refl) at c.in-Ok.ensures.ok) (i.tells tells)).1;
     }
 
 pub returns-in_default-enter_cell-clause-drains : goal.returns-in_default-enter_cell-clause-drains
-returns-in_default-enter_cell-clause-drains g c = λ tells gifts s es a.
+returns-in_default-enter_cell-clause-drains g c = λ tells.
     let i = c.items.invariant in
     let t = c.in-Some-take_part.taken.item in
     let p = c.items.page in
@@ -122,4 +118,4 @@ returns-in_default-enter_cell-clause-drains g c = λ tells gifts s es a.
     let given : TakesItem (state_with c.items.standing c.hand_item.new.parts) (drop c.items.used input) t.at t.used told mid = rw rest_is at c.in-Some-take_part.ensures.takes in
     let h : TakesItem old (drop c.items.used input) t.at t.used told mid = subst (λ (z : StreamState). TakesItem z (drop c.items.used input) t.at t.used told mid) none given in
     let k : TakesItem old (drop c.items.used input) t.at t.used told new = subst (λ (z : StreamState). TakesItem old (drop c.items.used input) t.at t.used told z) (sym same) h in
-    item_drains g.S.Sink.after gifts old new s input c.items.used es _ _ (i.drained tells gifts s es a) i.unrefused t.at t.used told k _ ((rw (c.in-Left.ensures.left refl) at c.in-Ok.ensures.ok) (i.tells tells)).1
+    item_drains g.S.Sink.after (state_with c.args.standing.now c.args.parts.now) old new input c.items.used _ _ (i.drained tells) i.unrefused t.at t.used told k _ ((rw (c.in-Left.ensures.left refl) at c.in-Ok.ensures.ok) (i.tells tells)).1

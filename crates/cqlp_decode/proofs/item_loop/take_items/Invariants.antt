@@ -1,10 +1,8 @@
-use Rattle.std.proofs.Common.{◌≡◌, ◌+◌, ◌-◌, ◌*◌, ◌≤◌, List, [], ℕ, length, take}
+use Rattle.std.proofs.Common.{◌≡◌, ◌+◌, ◌-◌, ◌*◌, ◌≤◌, [], length}
 use Rattle.std.specs.Prelude.{None}
 use Rattle.cqlp_decode.specs.declared.standing.StreamStage.TheVariants as stage
-use Rattle.cqlp_decode.specs.Reading.{Event, Gifts}
 use Rattle.cqlp_decode.specs.Standing.{IsLawful, ends_due, state_with}
-use Rattle.cqlp_decode.specs.Streams.{AfterGifts}
-use Rattle.cqlp_decode.specs.Draining.{Drains}
+use Rattle.cqlp_decode.specs.Cells.{HandsOut}
 use Rattle.cqlp_decode.proofs.item_loop.take_items.Given as goal
 
 -- what is used is read, a cell is under way with nothing in the buffer, and the sink has got its events
@@ -19,8 +17,7 @@ invariant-items g l = record {
   given : (state_with l.standing l.parts).given ≡ (state_with l.fn.standing l.fn.parts).given;
   pays : ends_due (state_with l.standing l.parts).place.symbols + (state_with l.standing l.parts).open_values ≤ ends_due (state_with l.fn.standing l.fn.parts).place.symbols + (state_with l.fn.standing l.fn.parts).open_values + 2 * l.used;
   tells : g.S.Sink.tells l.fn.sink → g.S.Sink.tells l.sink;
-  drained : g.S.Sink.tells l.fn.sink → (gifts : Gifts) (s : List ℕ) (es : List (ℕ × Event)) → AfterGifts gifts (state_with l.fn.standing l.fn.parts) s es
-      → Drains g.S.Sink.after gifts (state_with l.standing l.parts) s es (take l.used l.input) (g.S.Sink.view l.fn.sink) (g.S.Sink.view l.sink);
+  drained : g.S.Sink.tells l.fn.sink → HandsOut g.S.Sink.after (state_with l.fn.standing l.fn.parts) (state_with l.standing l.parts) l.input l.used (g.S.Sink.view l.fn.sink) (g.S.Sink.view l.sink);
 }
 
 -- an item takes some byte, or is the end of a value that is open

@@ -1,14 +1,15 @@
-use Rattle.std.proofs.Common.{◌≡◌, ◌+◌, [], take, refl, sym, ap, subst, ◌∙◌, arith}
+use Rattle.std.proofs.Common.{◌≡◌, ◌+◌, refl, sym, ap, subst, ◌∙◌, arith}
 use Rattle.std.proofs.lemmas.List.{length-drop}
 use Rattle.cqlp_note.specs.Limits.{rules_of}
-use Rattle.cqlp_decode.specs.Draining.{Drains, Fails}
+use Rattle.cqlp_decode.specs.Cells.{HandsOut, FailsAfter}
 use Rattle.cqlp_decode.specs.Standing.{IsConsistent, ends_due, nodes_of, parts_state, rest_of, state_of, symbols_at}
 use Rattle.cqlp_decode.specs.declared.standing.StreamStage.TheVariants as stage
 use Rattle.cqlp_decode.specs.declared.page.Columns.{Columns}
 use Rattle.cqlp_decode.specs.declared.standing.StreamStanding.{StreamStanding}
 use Rattle.cqlp_decode.proofs.CellSteps.{nothing_held}
 use Rattle.cqlp_decode.proofs.Columns.{cells_due}
-use Rattle.cqlp_decode.proofs.Gets.{drains_none, rest_is}
+use Rattle.cqlp_decode.proofs.Gets.{rest_is}
+use Rattle.cqlp_decode.proofs.Taken.{hands_none}
 use Rattle.cqlp_decode.proofs.PageLoop.{at_cell, at_first, cell_lawful, cell_drains, cell_fails}
 use Rattle.cqlp_decode.proofs.page_loop.take_cells.Goals as goal
 
@@ -24,7 +25,7 @@ cells-init g c =
       columns = refl;
       lawful = subst (λ (z : StreamStanding). IsConsistent z q) (sym first) c.requires.lawful;
       tells = λ tells. tells;
-      drained = λ tells gifts bytes es a. subst (λ (z : StreamStanding). Drains g.S.Sink.after gifts (state_of z q) bytes es [] v v) (sym first) (drains_none g.S.Sink.after gifts (state_of s q) bytes es v a);
+      drained = λ tells. subst (λ (z : StreamStanding). HandsOut g.S.Sink.after (state_of s q) (state_of z q) c.args.input.now 0 v v) (sym first) (hands_none g.S.Sink.after (state_of s q) c.args.input.now v);
     }
 
 pub cells-preserved : goal.cells-preserved
@@ -46,8 +47,8 @@ cells-preserved g c =
       columns = turns.2 ∙ i.columns;
       lawful = cell_lawful s q p next c.cells.offset i.lawful c.in_default-refusal.is empty c.kind-kind.result kind turns input c.cells.used c.in-Cell.taken _ hands;
       tells = λ tells. (hands.holds (i.tells tells)).0;
-      drained = λ tells gifts bytes es a.
-          cell_drains s q p next c.cells.offset i.lawful c.in_default-refusal.is empty c.kind-kind.result kind turns input c.cells.used c.in-Cell.taken _ hands g.S.Sink.after gifts bytes es _ _ _ (i.drained tells gifts bytes es a) (hands.holds (i.tells tells)).1;
+      drained = λ tells.
+          cell_drains s q p next c.cells.offset i.lawful c.in_default-refusal.is empty c.kind-kind.result kind turns input c.cells.used c.in-Cell.taken _ hands g.S.Sink.after (state_of s q) _ _ _ (i.drained tells) (hands.holds (i.tells tells)).1;
     }
 
 pub returns-in-Fault-clause-drains : goal.returns-in-Fault-clause-drains
@@ -63,12 +64,9 @@ returns-in-Fault-clause-drains g c = λ tells.
     let turns = (rw nodes at c.in-Some-next.ensures) s.limits.depth i.lawful.stage.0 in
     let empty = nothing_held q.partial.content (omega (arith, c.if-held-gt0.false, c.held.ensures.is)) in
     let hands = rw rest_is at c.in-Fault.ensures.hands in
-    let offset = c.cells.offset + c.in-Fault.taken in (
-      c.cells.used + c.in-Fault.taken,
-      λ gifts bytes es a.
-          subst (λ (z : StreamStanding). Fails g.S.Sink.after g.S.Sink.faulted gifts (state_of (at_cell z next offset) q) bytes es (take (c.cells.used + c.in-Fault.taken) input) (g.S.Sink.view c.args.sink.now) (g.S.Sink.view c.hand_cell.new.sink)) (sym i.standing)
-          (cell_fails s q p next c.cells.offset i.lawful c.in_default-refusal.is empty c.kind-kind.result kind turns input c.cells.used c.in-Fault.taken _ hands g.S.Sink.after gifts bytes es _ _ _ (i.drained tells gifts bytes es a) g.S.Sink.faulted (hands.holds (i.tells tells))),
-    )
+    let offset = c.cells.offset + c.in-Fault.taken in
+    subst (λ (z : StreamStanding). FailsAfter g.S.Sink.after g.S.Sink.faulted (state_of s q) (state_of (at_cell z next offset) q) input (c.cells.used + c.in-Fault.taken) (g.S.Sink.view c.args.sink.now) (g.S.Sink.view c.hand_cell.new.sink)) (sym i.standing)
+    (cell_fails s q p next c.cells.offset i.lawful c.in_default-refusal.is empty c.kind-kind.result kind turns input c.cells.used c.in-Fault.taken _ hands g.S.Sink.after (state_of s q) _ _ _ (i.drained tells) g.S.Sink.faulted (hands.holds (i.tells tells)))
 
 pub returns-clause-stays : goal.returns-clause-stays
 returns-clause-stays g c =

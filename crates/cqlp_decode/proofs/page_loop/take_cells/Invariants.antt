@@ -1,8 +1,6 @@
-use Rattle.std.proofs.Common.{◌≡◌, ◌-◌, ◌≤◌, List, ℕ, length, take}
-use Rattle.cqlp_decode.specs.Reading.{Event, Gifts}
+use Rattle.std.proofs.Common.{◌≡◌, ◌-◌, ◌≤◌, length}
 use Rattle.cqlp_decode.specs.Standing.{IsConsistent, parts_state, state_of, state_with}
-use Rattle.cqlp_decode.specs.Streams.{AfterGifts}
-use Rattle.cqlp_decode.specs.Draining.{Drains}
+use Rattle.cqlp_decode.specs.Cells.{HandsOut}
 use Rattle.cqlp_decode.proofs.PageLoop.{at_cell}
 use Rattle.cqlp_decode.proofs.page_loop.take_cells.Given as goal
 
@@ -14,8 +12,7 @@ invariant-cells g l = record {
   columns : l.page.columns ≡ l.initial.page.columns;
   lawful : IsConsistent (at_cell l.fn.standing l.page l.offset) (parts_state l.fn.parts);
   tells : g.S.Sink.tells l.fn.sink → g.S.Sink.tells l.sink;
-  drained : g.S.Sink.tells l.fn.sink → (gifts : Gifts) (s : List ℕ) (es : List (ℕ × Event)) → AfterGifts gifts (state_with l.fn.standing l.fn.parts) s es
-      → Drains g.S.Sink.after gifts (state_of (at_cell l.fn.standing l.page l.offset) (parts_state l.fn.parts)) s es (take l.used l.input) (g.S.Sink.view l.fn.sink) (g.S.Sink.view l.sink);
+  drained : g.S.Sink.tells l.fn.sink → HandsOut g.S.Sink.after (state_with l.fn.standing l.fn.parts) (state_of (at_cell l.fn.standing l.page l.offset) (parts_state l.fn.parts)) l.input l.used (g.S.Sink.view l.fn.sink) (g.S.Sink.view l.sink);
 }
 
 -- each cell takes some byte

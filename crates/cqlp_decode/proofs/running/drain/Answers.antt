@@ -4,6 +4,7 @@ use Rattle.cqlp_decode.specs.Standing.{StreamState}
 use Rattle.cqlp_decode.specs.Streams.{state}
 use Rattle.cqlp_decode.proofs.Leads.{repeated}
 use Rattle.cqlp_decode.proofs.Gets.{rest_is, drains_event, drains_all, drains_refused, drains_rest, fails_event, fails_rest}
+use Rattle.cqlp_decode.proofs.Taken.{drained, failed}
 use Rattle.cqlp_decode.proofs.running.drain.Goals as goal
 
 -- what lies whole in the input
@@ -15,11 +16,12 @@ returns-in-Err-clause-refused g c = λ r is.
 
 pub returns-in-Err-clause-drains : goal.returns-in-Err-clause-drains
 returns-in-Err-clause-drains g c = λ tells.
-    let cells = (rw rest_is at c.in-Err.ensures.drains) (c.events.invariant.tells tells) in (
-      c.events.used + cells.0,
+    let cells = (rw rest_is at c.in-Err.ensures.drains) (c.events.invariant.tells tells) in
+    let taken = c.in-Err.field-0.used in (
+      c.events.used + taken,
       λ gifts s es a.
           let d = c.events.invariant.drained tells gifts s es a in
-          fails_rest g.S.Sink.after g.S.Sink.faulted gifts (state c.events.decoder) (state c.take_whole.new.self) s c.args.input.now c.events.used cells.0 es _ _ _ d (cells.1 gifts _ _ d.stands),
+          fails_rest g.S.Sink.after g.S.Sink.faulted gifts (state c.events.decoder) (state c.hand_whole.new.self) s c.args.input.now c.events.used taken es _ _ _ d (failed _ _ _ _ _ _ _ _ cells gifts _ _ d.stands),
     )
 
 -- all else
@@ -32,16 +34,16 @@ returns-in-More-clause-refused g c = λ r is.
     let before = c.events.invariant.refused r is in
     let cells = c.in-Ok.ensures.refused r (ap (λ (z : StreamState). z.refusal) before.0 ∙ is) in
     let same = cells.0 ∙ before.0 in
-    let again = repeated (state c.take_whole.new.self) (state c.next.follows.lender-at-none) _ (state c.take_whole.new.self).refusal r (ap (λ (z : StreamState). z.refusal) same ∙ is) c.next.follows.holds-at-none.2 in
+    let again = repeated (state c.hand_whole.new.self) (state c.next.follows.lender-at-none) _ (state c.hand_whole.new.self).refusal r (ap (λ (z : StreamState). z.refusal) same ∙ is) c.next.follows.holds-at-none.2 in
     absurd (let e = sym c.in-More.is ∙ again.0 in cc)
 
 pub returns-in-More-clause-drains : goal.returns-in-More-clause-drains
 returns-in-More-clause-drains g c = λ tells gifts s es a.
     let old = state c.events.decoder in
-    let mid = state c.take_whole.new.self in
+    let mid = state c.hand_whole.new.self in
     let used = c.events.used + c.in-Ok.taken in
     let input = c.args.input.now in
-    let cells = (rw rest_is at c.in-Ok.ensures.drains) (c.events.invariant.tells tells) in
+    let cells = drained _ _ _ _ _ _ _ ((rw rest_is at c.in-Ok.ensures.drains) (c.events.invariant.tells tells)) in
     let d0 = c.events.invariant.drained tells gifts s es a in
     let d = drains_rest g.S.Sink.after gifts old mid s input c.events.used c.in-Ok.taken es _ _ _ d0 (cells gifts _ _ d0.stands) in
     let leads = c.next.follows.holds-at-none.1 gifts _ _ d.stands in
@@ -56,16 +58,16 @@ returns-in-Refused-clause-refused g c = λ r is.
     let before = c.events.invariant.refused r is in
     let cells = c.in-Ok.ensures.refused r (ap (λ (z : StreamState). z.refusal) before.0 ∙ is) in
     let same = cells.0 ∙ before.0 in
-    let again = repeated (state c.take_whole.new.self) (state c.next.follows.lender-at-none) _ (state c.take_whole.new.self).refusal r (ap (λ (z : StreamState). z.refusal) same ∙ is) c.next.follows.holds-at-none.2 in
+    let again = repeated (state c.hand_whole.new.self) (state c.next.follows.lender-at-none) _ (state c.hand_whole.new.self).refusal r (ap (λ (z : StreamState). z.refusal) same ∙ is) c.next.follows.holds-at-none.2 in
     (refl, again.1 ∙ same, cells.1 ∙ before.1)
 
 pub returns-in-Refused-clause-drains : goal.returns-in-Refused-clause-drains
 returns-in-Refused-clause-drains g c = λ tells.
     let old = state c.events.decoder in
-    let mid = state c.take_whole.new.self in
+    let mid = state c.hand_whole.new.self in
     let used = c.events.used + c.in-Ok.taken in
     let input = c.args.input.now in
-    let cells = (rw rest_is at c.in-Ok.ensures.drains) (c.events.invariant.tells tells) in (
+    let cells = drained _ _ _ _ _ _ _ ((rw rest_is at c.in-Ok.ensures.drains) (c.events.invariant.tells tells)) in (
       used,
       λ gifts s es a.
           let d0 = c.events.invariant.drained tells gifts s es a in
@@ -80,16 +82,16 @@ returns-in-Err-take-clause-refused g c = λ r is.
     let before = c.events.invariant.refused r is in
     let cells = c.in-Ok.ensures.refused r (ap (λ (z : StreamState). z.refusal) before.0 ∙ is) in
     let same = cells.0 ∙ before.0 in
-    let again = repeated (state c.take_whole.new.self) (state c.next.follows.lender-at-none) _ (state c.take_whole.new.self).refusal r (ap (λ (z : StreamState). z.refusal) same ∙ is) c.next.follows.holds-at-none.2 in
+    let again = repeated (state c.hand_whole.new.self) (state c.next.follows.lender-at-none) _ (state c.hand_whole.new.self).refusal r (ap (λ (z : StreamState). z.refusal) same ∙ is) c.next.follows.holds-at-none.2 in
     absurd (let e = sym c.in-Event.is ∙ again.0 in cc)
 
 pub returns-in-Err-take-clause-drains : goal.returns-in-Err-take-clause-drains
 returns-in-Err-take-clause-drains g c = λ tells.
     let old = state c.events.decoder in
-    let mid = state c.take_whole.new.self in
+    let mid = state c.hand_whole.new.self in
     let used = c.events.used + c.in-Ok.taken in
     let input = c.args.input.now in
-    let cells = (rw rest_is at c.in-Ok.ensures.drains) (c.events.invariant.tells tells) in (
+    let cells = drained _ _ _ _ _ _ _ ((rw rest_is at c.in-Ok.ensures.drains) (c.events.invariant.tells tells)) in (
       used + c.in-Event.taken,
       λ gifts s es a.
           let d0 = c.events.invariant.drained tells gifts s es a in
@@ -110,7 +112,7 @@ events-smaller g c =
 pub events-preserved : goal.events-preserved
 events-preserved g c =
     let old = state c.events.decoder in
-    let mid = state c.take_whole.new.self in
+    let mid = state c.hand_whole.new.self in
     let used = c.events.used + c.in-Ok.taken in
     let input = c.args.input.now in
     let goes = rw c.in-Event.is at c.next.follows.holds-at-none.0 in record {
@@ -126,12 +128,12 @@ events-preserved g c =
           let before = c.events.invariant.refused r is in
           let cells = c.in-Ok.ensures.refused r (ap (λ (z : StreamState). z.refusal) before.0 ∙ is) in
           let same = cells.0 ∙ before.0 in
-          let again = repeated (state c.take_whole.new.self) (state c.next.follows.lender-at-none) _ (state c.take_whole.new.self).refusal r (ap (λ (z : StreamState). z.refusal) same ∙ is) c.next.follows.holds-at-none.2 in
+          let again = repeated (state c.hand_whole.new.self) (state c.next.follows.lender-at-none) _ (state c.hand_whole.new.self).refusal r (ap (λ (z : StreamState). z.refusal) same ∙ is) c.next.follows.holds-at-none.2 in
           absurd (let e = sym c.in-Event.is ∙ again.0 in cc);
       clear = λ none. goes.3;
       tells = λ tells. (c.in-Ok-take.ensures.ok (c.in-Ok.ensures.tells (c.events.invariant.tells tells))).0;
       drained = λ tells gifts s es a.
-          let cells = (rw rest_is at c.in-Ok.ensures.drains) (c.events.invariant.tells tells) in
+          let cells = drained _ _ _ _ _ _ _ ((rw rest_is at c.in-Ok.ensures.drains) (c.events.invariant.tells tells)) in
           let d0 = c.events.invariant.drained tells gifts s es a in
           let d = drains_rest g.S.Sink.after gifts old mid s input c.events.used c.in-Ok.taken es _ _ _ d0 (cells gifts _ _ d0.stands) in
           let leads = c.next.follows.holds-at-none.1 gifts _ _ d.stands in

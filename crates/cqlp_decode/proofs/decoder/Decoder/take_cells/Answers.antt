@@ -1,6 +1,6 @@
-use Rattle.std.proofs.Common.{◌+◌}
 use Rattle.cqlp_decode.specs.Standing.{state_with}
-use Rattle.cqlp_decode.proofs.Gets.{rest_is, drains_rest, fails_rest}
+use Rattle.cqlp_decode.proofs.Gets.{rest_is}
+use Rattle.cqlp_decode.proofs.Taken.{hands_then, fails_then}
 use Rattle.cqlp_decode.proofs.decoder.Decoder.take_cells.Goals as goal
 
 pub returns-in-Err-clause-drains : goal.returns-in-Err-clause-drains
@@ -8,18 +8,14 @@ returns-in-Err-clause-drains g c = rw (← c.self.view_is) c.in-Err.ensures.drai
 
 pub returns-in-Err-take_items-clause-drains : goal.returns-in-Err-take_items-clause-drains
 returns-in-Err-take_items-clause-drains g c = rw (← c.self.view_is) (λ tells.
+    let old = state_with c.self.inside.standing c.self.inside.parts in
     let mid = state_with c.take_cells.new.standing c.self.inside.parts in
-    let first = c.in-Ok.ensures.drains tells in
-    let more = (rw rest_is at c.in-Err-take_items.ensures.drains) (c.in-Ok.ensures.tells tells) in (
-      c.in-Ok.used + more.0,
-      λ gifts s es a.
-          let d = first gifts s es a in
-          fails_rest g.S.Sink.after g.S.Sink.faulted gifts mid (state_with c.take_items.new.standing c.take_items.new.parts) s c.args.input.now c.in-Ok.used more.0 es _ _ _ d (more.1 gifts _ _ d.stands),
-    ))
+    let more = (rw rest_is at c.in-Err-take_items.ensures.drains) (c.in-Ok.ensures.tells tells) in
+    fails_then g.S.Sink.after g.S.Sink.faulted old mid (state_with c.take_items.new.standing c.take_items.new.parts) c.args.input.now c.in-Ok.used c.in-Err-take_items.fault.used _ _ _ (c.in-Ok.ensures.drains tells) more)
 
 pub returns-clause-drains : goal.returns-clause-drains
-returns-clause-drains g c = rw (← c.self.view_is) (λ tells gifts s es a.
+returns-clause-drains g c = rw (← c.self.view_is) (λ tells.
+    let old = state_with c.self.inside.standing c.self.inside.parts in
     let mid = state_with c.take_cells.new.standing c.self.inside.parts in
-    let d = c.in-Ok.ensures.drains tells gifts s es a in
     let more = (rw rest_is at c.in-Ok-take_items.ensures.drains) (c.in-Ok.ensures.tells tells) in
-    drains_rest g.S.Sink.after gifts mid (state_with c.take_items.new.standing c.take_items.new.parts) s c.args.input.now c.in-Ok.used c.in-Ok-take_items.more es _ _ _ d (more gifts _ _ d.stands))
+    hands_then g.S.Sink.after old mid (state_with c.take_items.new.standing c.take_items.new.parts) c.args.input.now c.in-Ok.used c.in-Ok-take_items.more _ _ _ (c.in-Ok.ensures.drains tells) more)
