@@ -52,6 +52,7 @@ pub struct CqlpEvent {
 }
 
 /// Where these bytes lie.
+#[inline(always)]
 fn address_of(bytes: &[u8]) -> *const u8
     ensures { result ≡ as_ptr bytes.entry }
 {
@@ -59,6 +60,7 @@ fn address_of(bytes: &[u8]) -> *const u8
 }
 
 /// Where these bytes begin; null where there are none.
+#[inline(always)]
 fn start_of(bytes: &[u8]) -> *const u8
     ensures { IsStart bytes.now result }
 {
@@ -70,6 +72,7 @@ fn start_of(bytes: &[u8]) -> *const u8
 }
 
 /// Four bytes, and zeros.
+#[inline(always)]
 fn widen_four(bytes: [u8; 4]) -> [u8; 16]
     ensures { result ≡ bytes ++ zeros 12 }
 {
@@ -80,6 +83,7 @@ fn widen_four(bytes: [u8; 4]) -> [u8; 16]
 }
 
 /// Eight bytes, and zeros.
+#[inline(always)]
 fn widen_eight(bytes: [u8; 8]) -> [u8; 16]
     ensures { result ≡ bytes ++ zeros 8 }
 {
@@ -92,6 +96,7 @@ impl CqlpEvent {
     ghost use Rattle.cqlp_c.specs.Numbers.{number_of_kind};
 
     /// An event of which only the offset is known.
+    #[inline(always)]
     pub fn blank(at: u64) -> CqlpEvent
         ensures { result ≡ blank at }
     {
@@ -116,6 +121,7 @@ impl CqlpEvent {
     }
 
     /// Puts this content.
+    #[inline(always)]
     fn lend(&mut self, bytes: &[u8])
         ensures { LendsFrom self.old bytes.now self.new }
     {
@@ -124,6 +130,7 @@ impl CqlpEvent {
     }
 
     /// Puts this address.
+    #[inline(always)]
     fn put_address(&mut self, address: Address)
         ensures { self.new ≡ has_address self.old address }
     {
@@ -134,6 +141,7 @@ impl CqlpEvent {
     }
 
     /// Puts these bytes, of which this many are its own.
+    #[inline(always)]
     fn put_bytes(&mut self, bytes: [u8; 16], octets: u8)
         ensures { self.new ≡ record self.old { bytes = bytes; octets = octets } }
     {
@@ -142,6 +150,7 @@ impl CqlpEvent {
     }
 
     /// Puts a number of a scalar of this kind.
+    #[inline(always)]
     fn put_number(&mut self, kind: Kind, number: i64)
         ensures { self.new ≡ record self.old { kind = number_of_kind kind; number = number } }
     {
@@ -150,6 +159,7 @@ impl CqlpEvent {
     }
 
     /// Begins an event that is a field.
+    #[inline(always)]
     fn begin_field(&mut self, at: u64, tag: u8, field: Field)
         ensures { self.new ≡ of_field at tag field }
     {
@@ -159,6 +169,7 @@ impl CqlpEvent {
     }
 
     /// Begins an event that is a field with this number.
+    #[inline(always)]
     fn put_field(&mut self, at: u64, tag: u8, field: Field, number: i64)
         ensures { self.new ≡ record (of_field at tag field) { number = number } }
     {
@@ -167,6 +178,7 @@ impl CqlpEvent {
     }
 
     /// Begins an event that is a value, or a part of one.
+    #[inline(always)]
     fn begin_value(&mut self, at: u64, tag: u8, row: u32, column: u32, level: u32)
         ensures { self.new ≡ of_value at tag row column level }
     {
@@ -178,6 +190,7 @@ impl CqlpEvent {
     }
 
     /// A frame begins.
+    #[inline(always)]
     fn put_frame(&mut self, at: u64, header: &Header)
         ensures { self.new ≡ of_frame at header.now }
     {
@@ -194,6 +207,7 @@ impl CqlpEvent {
 
     /// Whether a content lies not whole in the bytes that the call used, so that it lies in the decoder. Of a decimal the
     /// four bytes of the scale are gathered with it.
+    #[inline(always)]
     pub fn is_gathered(&self, used: usize) -> bool
         ensures { result ≡ nat_lt used (span_in self.now) }
     {
@@ -206,6 +220,7 @@ impl CqlpEvent {
 }
 
 /// A scalar of a cell.
+#[inline(always)]
 fn tell_scalar(
     slot: &mut CqlpEvent,
     at: u64,
@@ -280,6 +295,7 @@ fn tell_scalar(
 }
 
 /// Puts the event at an offset, as C sees it.
+#[inline(always)]
 pub fn tell(slot: &mut CqlpEvent, at: u64, event: &Event<'_>)
     ensures { Tells slot.new at (event_of event.now) }
 {

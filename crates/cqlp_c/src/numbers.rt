@@ -402,6 +402,7 @@ pub fn limit_code(limit: BadLimits) -> u32
 }
 
 /// The number of an opcode, which its headers have.
+#[inline(always)]
 pub fn opcode_number(opcode: Opcode) -> u8
     ensures { result ≡ code_of opcode }
 {
@@ -426,6 +427,7 @@ pub fn opcode_number(opcode: Opcode) -> u8
 }
 
 /// The number of a field.
+#[inline(always)]
 pub fn field_number(field: Field) -> u8
     ensures { result ≡ numbers.number_of_field field }
 {
@@ -490,6 +492,7 @@ pub fn field_number(field: Field) -> u8
 }
 
 /// The number of a kind of types.
+#[inline(always)]
 pub fn kind_number(kind: Kind) -> u8
     ensures { result ≡ numbers.number_of_kind kind }
 {
