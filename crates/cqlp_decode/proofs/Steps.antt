@@ -21,7 +21,7 @@ use Rattle.cqlp_decode.specs.declared.standing.StreamStage.TheVariants as stage
 use Rattle.cqlp_decode.specs.declared.standing.StreamStanding.{StreamStanding}
 use Rattle.cqlp_decode.specs.declared.advance.EventAdvance.TheVariants as advance
 use Rattle.cqlp_decode.specs.declared.advance.EventOutline.TheVariants as what
-use Rattle.cqlp_grammar.specs.Upcoming.{Pops}
+use Rattle.cqlp_grammar.specs.Upcoming.{IsDue, Pops}
 use Rattle.cqlp_decode.specs.Reading as reading
 use Rattle.cqlp_decode.specs.Reading.{Given, Place, retired}
 use Rattle.cqlp_decode.specs.Pages.{given_of, ended_use}
@@ -202,6 +202,17 @@ pub next_room : (old new : List Slot) (o : Option Expected) → Pops old o new �
 next_room old new None n = tt
 next_room old new (Some (due.Field w)) n = (n.1, n.2)
 next_room old new (Some due.Option) n = tt
+
+-- the reading goes on with what is due, and passes it
+module _ (s mid : StreamStanding) (new : List Slot) (o : Option Expected) (is : mid ≡ record s { stage = stage_with o }) (d : IsDue s.upcoming o) (passes : (o : Option Expected) → IsDue mid.upcoming o → Pops mid.upcoming o new) where
+  passed : Pops s.upcoming o new
+  passed = (rw is at passes) o d
+
+  pub passed_symbols : (q : PartsState) → symbols_at mid.stage q new ≡ rest_of s.upcoming
+  passed_symbols q = rw is (next_symbols s.upcoming new o passed q)
+
+  pub passed_room : HasRoom mid.stage new
+  passed_room = rw is (next_room s.upcoming new o passed)
 
 pub placed : (s : StreamStanding) (q : PartsState) (t : StreamStage) → StageHolds s q t → IsPlaced s q t
 placed s q stage.Header h = (h.0, h.2)

@@ -280,17 +280,17 @@ impl StreamStanding {
     }
 
     /// Goes on to what is due next in the message.
-    #[tactic(auto, using(crate::proofs::Steps::next_symbols, crate::proofs::Steps::next_room))]
     pub fn go_on(&mut self)
         ensures symbols { (q : PartsState) → symbols_at self.new.stage q self.new.upcoming ≡ rest_of self.old.upcoming }
         ensures room { HasRoom self.new.stage self.new.upcoming }
         ensures rest { self.new ≡ record self.old { stage = self.new.stage; upcoming = self.new.upcoming } }
     {
-        match self.upcoming.pop() {
-            Some(Expected::Field(want)) => self.stage = StreamStage::Field(want),
+        match self.upcoming.due() {
+            Some(Expected::Field(want)) => self.stage = StreamStage::Field(*want),
             Some(Expected::Option) => self.stage = StreamStage::BeforeType,
             None => self.stage = StreamStage::Extra,
         }
+        self.upcoming.pass();
     }
 
     fn advance_field<A: Allocator>(

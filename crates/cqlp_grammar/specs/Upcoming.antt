@@ -1,5 +1,5 @@
 -- What is still to be read of a message, as it is kept.
-use Rattle.std.specs.Prelude.{◌≡◌, ℕ, ◌+◌, ◌<◌, ◌≤◌, ◌++◌, ◌-◌, List, [], ◌∷◌, length, slice_index_or, Option, Some, None, max, ⊤}
+use Rattle.std.specs.Prelude.{◌≡◌, ℕ, ◌+◌, ◌<◌, ◌≤◌, ◌++◌, ◌-◌, List, [], ◌∷◌, drop, length, slice_index_or, Option, Some, None, max, ⊤}
 use Rattle.cqlp_grammar.specs.declared.grammar.Group.{Group}
 use Rattle.cqlp_grammar.specs.declared.grammar.Group.TheVariants as group_of
 use Rattle.cqlp_grammar.specs.declared.grammar.Role.{Role}
@@ -113,6 +113,15 @@ Popped old (Some s) new = (old ≡ new ++ s ∷ []) × (length new + need s ≤ 
 abbrev pub PutsFollowing : Role → (number : ℕ) → List Slot → List Slot → Type 0
 PutsFollowing r number old new =
     (types : Types) (v : FieldValue) → number_in v ≡ number → symbols_in new ≡ following types r v ++ symbols_in old
+
+-- these symbols begin with this one
+abbrev pub IsFirst : Symbol → List Symbol → Type 0
+IsFirst s symbols = symbols ≡ s ∷ drop 1 symbols
+
+-- what is due next
+abbrev pub IsDue : List Slot → Option Expected → Type 0
+IsDue slots None = slots ≡ []
+IsDue slots (Some w) = IsFirst (wanted w) (symbols_in slots) × IsRead w
 
 -- the next field, and room for what follows it
 abbrev pub Pops : List Slot → Option Expected → List Slot → Type 0

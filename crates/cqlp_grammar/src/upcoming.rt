@@ -1,6 +1,6 @@
 //! What is still to be read of a message.
 
-ghost use Rattle.std.specs.Prelude.{◌≡◌, ◌+◌, ◌≤◌, ◌++◌, ◌∷◌, [], length, max, if◌then◌else◌};
+ghost use Rattle.std.specs.Prelude.{◌≡◌, ◌+◌, ◌≤◌, ◌++◌, ◌∷◌, [], Option, drop, length, max, option_map, if◌then◌else◌};
 
 use crate::grammar::Group;
 use crate::table::{Expected, group_fields};
@@ -34,7 +34,7 @@ impl Model for Upcoming {
 }
 
 impl Upcoming {
-    ghost use Rattle.cqlp_grammar.specs.Upcoming.{Popped, Pops, IsSlot, IsRead, AreRead, need, opened, room_after_due, room_for, symbols_in, wanted, wants};
+    ghost use Rattle.cqlp_grammar.specs.Upcoming.{IsDue, IsFirst, Popped, Pops, IsSlot, IsRead, AreRead, need, opened, room_after_due, room_for, symbols_in, wanted, wants};
     ghost use Rattle.cqlp_grammar.specs.Productions.{copies, group as symbols_of_group};
 
     pub fn new() -> Self
@@ -52,16 +52,31 @@ impl Upcoming {
         self.len = 0;
     }
 
-    /// The next field.
-    #[tactic(auto, using(crate::proofs::Stack::next_one, crate::proofs::Stack::next_many))]
-    pub fn pop(&mut self) -> Option<Expected>
-        ensures { Pops self.old result self.new }
+    /// What is due next.
+    #[inline(always)]
+    pub fn due(&self) -> Option<&Expected>
+        ensures { IsDue self.now (option_map (λ d. d.now) result) }
     {
-        match self.pop_slot()? {
+        if self.len == 0 {
+            return None;
+        }
+        match &self.slots[self.len - 1] {
             Slot::One(due) => Some(due),
-            Slot::Many(group, left) => {
+            Slot::Many(group, _) => Some(&group_fields(*group)[0]),
+        }
+    }
+
+    /// Goes past what is due next.
+    #[inline(always)]
+    #[tactic(auto, using(crate::proofs::Stack::passes_none, crate::proofs::Stack::passes_one, crate::proofs::Stack::passes_many))]
+    pub fn pass(&mut self)
+        ensures { (o : Option Expected) → IsDue self.old o → Pops self.old o self.new }
+    {
+        match self.pop_slot() {
+            None | Some(Slot::One(_)) => {}
+            Some(Slot::Many(group, left)) => {
                 self.push_many(group, left - 1);
-                Some(self.open(group))
+                self.push_others(group);
             }
         }
     }
@@ -116,16 +131,15 @@ impl Upcoming {
         }
     }
 
-    /// The first field of a group; the others come next.
-    fn open(&mut self, group: Group) -> Expected
+    /// Puts the fields of a group but the first before all else.
+    #[tactic(auto, using(crate::proofs::Stack::others_wanted, crate::proofs::Stack::others_have_room))]
+    fn push_others(&mut self, group: Group)
         requires { length self.old + opened group ≤ 16 }
-        ensures symbols { wanted result ∷ symbols_in self.new ≡ symbols_of_group group ++ symbols_in self.old }
-        ensures room { length self.new + room_after_due result ≤ 16 }
-        ensures read { IsRead result }
+        ensures symbols { symbols_in self.new ≡ drop 1 (symbols_of_group group) ++ symbols_in self.old }
+        ensures room { (w : Expected) → IsFirst (wanted w) (symbols_of_group group)
+            → length self.new + room_after_due w ≤ 16 }
     {
-        let fields = group_fields(group);
-        self.push_fields(&fields[1..]);
-        fields[0]
+        self.push_fields(&group_fields(group)[1..]);
     }
 
     fn push_slot(&mut self, slot: Slot)
