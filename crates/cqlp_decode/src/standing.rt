@@ -354,6 +354,7 @@ impl StreamStanding {
 
     /// Goes on after a field: with the cells of a page, which a given table may type, or with what is due next in the
     /// message.
+    #[inline(always)]
     pub fn follow<A: Allocator>(
         &mut self,
         role: Role,

@@ -39,6 +39,7 @@ impl Upcoming {
     }
 
     /// Puts what follows a field of this role, that has this value, before all else, but for the cells of a page.
+    #[inline(always)]
     pub fn follow(&mut self, role: Role, value: Prim<'_>)
         requires { length self.old + room_after role ≤ 16 }
         ensures { symbols_in self.new ≡ following NoMore role (value_of value.entry) ++ symbols_in self.old }
