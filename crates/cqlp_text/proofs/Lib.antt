@@ -1,5 +1,6 @@
 pub mod Calendar
 pub mod CellTexts
 pub mod Pages
+pub mod Settled
 pub mod Texts
 pub mod Writing

@@ -71,7 +71,7 @@ known_grown None new text more grows known = cc
 known_grown (Some xs) None text more grows known = absurd grows
 known_grown (Some xs) (Some ys) text more grows known = let e : xs ≡ text = cc in ap (λ t. Some t) (grows ∙ ap (λ t. t ++ more) e)
 
-first_and_rest : (xs : List ℕ) → 0 < length xs → (x : ℕ) × (rest : List ℕ) × (xs ≡ x ∷ rest)
+pub first_and_rest : (xs : List ℕ) → 0 < length xs → (x : ℕ) × (rest : List ℕ) × (xs ≡ x ∷ rest)
 first_and_rest [] some = absurd (omega arith)
 first_and_rest (x ∷ xs) some = (x, xs, refl)
 
@@ -146,7 +146,7 @@ keeps_then a b c x none same = rw same (takes_then_takes a b (record b { waiting
 pub room_left : (xs : List ℕ) (len n room : ℕ) → len ≤ room → length xs ≡ room → length (take len xs) + n ≤ room → len + n ≤ length xs
 room_left xs len n room within size some = grind (arith, common_steps)
 
-front_of : (xs ys : List ℕ) (k : ℕ) → length xs ≡ k → take k (xs ++ ys) ≡ xs
+pub front_of : (xs ys : List ℕ) (k : ℕ) → length xs ≡ k → take k (xs ++ ys) ≡ xs
 front_of xs ys k long = grind (arith, common_steps)
 
 -- digits that were written where a buffer was not yet in use

@@ -5,6 +5,8 @@ ghost use Rattle.cqlp_text.specs.CellText.{boolean_text, cell_text as text_of, e
 ghost use Rattle.cqlp_text.specs.Outputs.{AppendsText, written};
 ghost use Rattle.cqlp_kind.specs.Contents.{value_of};
 
+use crate::line_pen::LinePen;
+use crate::pen::Pen;
 use crate::text_writer::TextWriter;
 use cqlp_grammar::SinkFault;
 use cqlp_kind::Scalar;
@@ -18,17 +20,14 @@ const WIDE: usize = 16;
 pub fn cell_text<W: Target>(scalar: &Scalar<'_>, w: &mut W) -> Result<(), SinkFault>
     ensures { AppendsText (written W.Target w.old) (text_of (value_of scalar.now)) result (written W.Target w.new) }
 {
-    let mut writer = TextWriter::new(w);
+    let mut writer = TextWriter::over(w);
     let written = writer.put_whole_cell(scalar);
-    let _ = writer.into_inner();
+    let _ = writer.into_target();
     written
 }
 
-impl<W: Target> TextWriter<'_, W> {
-    ghost use Rattle.std.specs.Prelude.{◌-ℤ◌, [], pos};
-    ghost use Rattle.std.specs.Fmt.{signed_decimal};
-    ghost use Rattle.cqlp_text.specs.CellText.{decimal_text, time_text, varint_text};
-    ghost use Rattle.cqlp_text.specs.Text.{hex_text};
+impl<W: Target> TextWriter<LinePen<'_, W>> {
+    ghost use Rattle.std.specs.Prelude.{[]};
     ghost use Rattle.cqlp_text.specs.Written.{Writes};
 
     /// Takes the text of a cell, and passes all on.
@@ -39,6 +38,14 @@ impl<W: Target> TextWriter<'_, W> {
         self.put_cell(scalar)?;
         self.flush()
     }
+}
+
+impl<P: Pen> TextWriter<P> {
+    ghost use Rattle.std.specs.Prelude.{◌-ℤ◌, pos};
+    ghost use Rattle.std.specs.Fmt.{signed_decimal};
+    ghost use Rattle.cqlp_text.specs.CellText.{decimal_text, time_text, varint_text};
+    ghost use Rattle.cqlp_text.specs.Text.{hex_text};
+    ghost use Rattle.cqlp_text.specs.Written.{Writes};
 
     /// Takes the text of a cell.
     #[inline(always)]

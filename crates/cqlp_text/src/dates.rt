@@ -3,9 +3,9 @@
 ghost use Rattle.std.specs.Prelude.{◌≡◌, ◌<◌, pos, ◌-ℤ◌, unsigned_abs};
 ghost use Rattle.jiff_core.specs.Date.{epoch_day};
 
+use crate::pen::Pen;
 use crate::text_writer::TextWriter;
 use cqlp_grammar::SinkFault;
-use cqlp_note::Target;
 use jiff_core::civil::Date;
 
 /// The number of the first of January 1970 in a cell.
@@ -17,7 +17,7 @@ const FIRST: u32 = EPOCH - 719_528;
 /// How many days the years 0 to 9999 have.
 const DAYS: u32 = 3_652_425;
 
-impl<W: Target> TextWriter<'_, W> {
+impl<P: Pen> TextWriter<P> {
     ghost use Rattle.std.specs.Prelude.{◌++◌, ◌^◌, codes};
     ghost use Rattle.std.specs.Fmt.{signed_decimal};
     ghost use Rattle.cqlp_text.specs.CellText.{civil_text, date_text};

@@ -4,6 +4,7 @@ ghost use Rattle.std.specs.Prelude.{◌≡◌, IsSome};
 ghost use Rattle.cqlp_text.specs.Endings.{cannot_open_line as cannot_open_line_of, ending_line as line_of};
 ghost use Rattle.cqlp_text.specs.Outputs.{AppendsText, written};
 
+use crate::line_pen::LinePen;
 use crate::names::reason_name;
 use crate::status::{DONE, FAULT, NOT_WHOLE};
 use crate::text_writer::TextWriter;
@@ -55,9 +56,9 @@ impl Ending {
 pub fn ending_line<W: Target>(ending: Ending, w: &mut W) -> Result<(), SinkFault>
     ensures { AppendsText (written W.Target w.old) (line_of ending) result (written W.Target w.new) }
 {
-    let mut writer = TextWriter::new(w);
+    let mut writer = TextWriter::over(w);
     let written = writer.put_ending(ending);
-    let _ = writer.into_inner();
+    let _ = writer.into_target();
     written
 }
 
@@ -65,13 +66,13 @@ pub fn ending_line<W: Target>(ending: Ending, w: &mut W) -> Result<(), SinkFault
 pub fn cannot_open_line<W: Target>(file: &str, w: &mut W) -> Result<(), SinkFault>
     ensures { AppendsText (written W.Target w.old) (cannot_open_line_of file.now) result (written W.Target w.new) }
 {
-    let mut writer = TextWriter::new(w);
+    let mut writer = TextWriter::over(w);
     let written = writer.put_cannot_open(file);
-    let _ = writer.into_inner();
+    let _ = writer.into_target();
     written
 }
 
-impl<W: Target> TextWriter<'_, W> {
+impl<W: Target> TextWriter<LinePen<'_, W>> {
     ghost use Rattle.std.specs.Prelude.{◌++◌, [], map, codes};
     ghost use Rattle.cqlp_text.specs.Endings.{cannot_open_line, ending_line, verdict};
     ghost use Rattle.cqlp_text.specs.Lines.{spaced};

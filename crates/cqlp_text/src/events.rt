@@ -5,7 +5,9 @@ ghost use Rattle.cqlp_grammar.specs.Events.{bound_of, event_of};
 ghost use Rattle.cqlp_text.specs.Lines.{line as line_of};
 ghost use Rattle.cqlp_text.specs.Outputs.{AppendsText, written};
 
+use crate::line_pen::LinePen;
 use crate::names::{field_name, kind_name, opcode_name};
+use crate::pen::Pen;
 use crate::text_writer::TextWriter;
 use crate::word::Word;
 use cqlp_grammar::{Event, SinkFault};
@@ -17,13 +19,27 @@ use cqlp_note::{Address, BoundValue, Field, Header, Target};
 pub fn event_line<W: Target>(at: u64, event: &Event<'_>, w: &mut W) -> Result<(), SinkFault>
     ensures { AppendsText (written W.Target w.old) (line_of at (event_of event.now)) result (written W.Target w.new) }
 {
-    let mut writer = TextWriter::new(w);
-    let written = writer.put_event(at, event);
-    let _ = writer.into_inner();
+    let mut writer = TextWriter::over(w);
+    let written = writer.put_whole_event(at, event);
+    let _ = writer.into_target();
     written
 }
 
-impl<W: Target> TextWriter<'_, W> {
+impl<W: Target> TextWriter<LinePen<'_, W>> {
+    ghost use Rattle.cqlp_text.specs.Written.{Writes};
+
+    /// Takes the line of an event at an offset, and passes all on.
+    #[inline]
+    fn put_whole_event(&mut self, at: u64, event: &Event<'_>) -> Result<(), SinkFault>
+        ensures line { Writes self.old (line_of at (event_of event.now)) result self.new }
+        ensures passed { self.new.waiting ≡ [] }
+    {
+        self.put_event(at, event)?;
+        self.flush()
+    }
+}
+
+impl<P: Pen> TextWriter<P> {
     ghost use Rattle.cqlp_grammar.specs.Events as reading;
     ghost use Rattle.std.specs.Prelude.{◌∷◌, ◌++◌, decimal};
     ghost use Rattle.cqlp_kind.specs.CellStep as cell;
@@ -33,16 +49,14 @@ impl<W: Target> TextWriter<'_, W> {
     ghost use Rattle.cqlp_text.specs.Names.{field_name, kind_name};
     ghost use Rattle.cqlp_text.specs.Written.{Writes};
 
-    /// Takes the line of an event at an offset, and passes all on.
+    /// Takes the line of an event at an offset.
     #[inline]
     pub fn put_event(&mut self, at: u64, event: &Event<'_>) -> Result<(), SinkFault>
-        ensures line { Writes self.old (line at (event_of event.now)) result self.new }
-        ensures passed { self.new.waiting ≡ [] }
+        ensures { Writes self.old (line at (event_of event.now)) result self.new }
     {
         self.put_number(at)?;
         self.put_event_words(event)?;
-        self.put(b"\n")?;
-        self.flush()
+        self.put(b"\n")
     }
 
     #[inline]

@@ -5,6 +5,8 @@ ghost use Rattle.cqlp_grammar.specs.Events.{event_of};
 ghost use Rattle.cqlp_text.specs.PageText.{page_part as text_of, place_after};
 ghost use Rattle.cqlp_text.specs.Outputs.{AppendsText, written};
 
+use crate::line_pen::LinePen;
+use crate::pen::Pen;
 use crate::text_writer::TextWriter;
 use cqlp_grammar::{Event, SinkFault};
 use cqlp_kind::{Kind, Scalar};
@@ -33,9 +35,9 @@ pub fn page_part<W: Target>(
         place.pass(event);
         return Ok(());
     }
-    let mut writer = TextWriter::new(w);
-    let written = writer.put_page_part(place, event);
-    let _ = writer.into_inner();
+    let mut writer = TextWriter::over(w);
+    let written = writer.put_whole_page_part(place, event);
+    let _ = writer.into_target();
     written
 }
 
@@ -308,7 +310,25 @@ impl PagePlace {
     }
 }
 
-impl<W: Target> TextWriter<'_, W> {
+impl<W: Target> TextWriter<LinePen<'_, W>> {
+    ghost use Rattle.cqlp_text.specs.Written.{Writes};
+
+    /// Takes what is written of an event of a page, goes to the place after it, also at a fault, and passes all on.
+    fn put_whole_page_part(
+        &mut self,
+        place: &mut PagePlace,
+        event: &Event<'_>,
+    ) -> Result<(), SinkFault>
+        ensures part { Writes self.old (text_of place.old (event_of event.now)) result self.new }
+        ensures passed { self.new.waiting ≡ [] }
+        ensures place { place.new ≡ place_after place.old (event_of event.now) }
+    {
+        self.put_page_part(place, event)?;
+        self.flush()
+    }
+}
+
+impl<P: Pen> TextWriter<P> {
     ghost use Rattle.cqlp_note.specs.Field.{Count as CountValue, Text as TextValue};
     ghost use Rattle.cqlp_kind.specs.CellStep as cell;
     ghost use Rattle.cqlp_text.specs.PageText.{before, after, column_line, page_line, event_part, field_part};
@@ -318,7 +338,7 @@ impl<W: Target> TextWriter<'_, W> {
     ghost use Rattle.cqlp_text.specs.CellText.{cell_text};
     ghost use Rattle.cqlp_text.specs.Written.{Writes};
 
-    /// Takes what is written of an event of a page, goes to the place after it, also at a fault, and passes all on.
+    /// Takes what is written of an event of a page, and goes to the place after it, also at a fault.
     #[inline]
     pub fn put_page_part(
         &mut self,
@@ -326,17 +346,15 @@ impl<W: Target> TextWriter<'_, W> {
         event: &Event<'_>,
     ) -> Result<(), SinkFault>
         ensures part { Writes self.old (text_of place.old (event_of event.now)) result self.new }
-        ensures passed { self.new.waiting ≡ [] }
         ensures place { place.new ≡ place_after place.old (event_of event.now) }
     {
         if !place.is_page() {
             place.pass(event);
-            return self.flush();
+            return Ok(());
         }
         let written = self.put_event_part(place, event);
         place.pass(event);
-        written?;
-        self.flush()
+        written
     }
 
     #[inline(always)]

@@ -1,60 +1,47 @@
 //! Text on its way to a target.
 
-ghost use Rattle.std.specs.Prelude.{◌≡◌, ◌+◌, ◌≤◌, ◌++◌, [], decimal, length, IsSome, OnOk};
+ghost use Rattle.std.specs.Prelude.{◌≡◌, ◌≤◌, [], decimal, true, OnOk, OnErr};
+ghost use Rattle.std.specs.Io.KnownBytes.{Keeps};
+ghost use Rattle.cqlp_note.specs.Streams.{counted};
 ghost use Rattle.cqlp_text.specs.CellText.{digits};
-ghost use Rattle.cqlp_text.specs.Outputs.{AppendsText, written};
 ghost use Rattle.cqlp_text.specs.Written.{Writes, unbuffered};
 
+use crate::buffered::Buffered;
+use crate::line_pen::LinePen;
+use crate::pen::Pen;
 use cqlp_grammar::SinkFault;
-use cqlp_note::{Target, offer};
-use itoa::write_digits;
+use cqlp_note::{IoFault, Target};
+use std::alloc::Allocator;
 use std::marker::Model;
 
-/// How many bytes wait at most before they are passed on.
-const ROOM: usize = 128;
-
-/// Gathers short texts, so that a target gets them in few calls. Nothing waits after a `flush`.
+/// Writes texts with a pen.
 #[derive(Drop)]
-pub struct TextWriter<'a, W: Target> {
-    target: &'a mut W,
-    buffer: [u8; ROOM],
-    len: usize,
+pub struct TextWriter<P: Pen> {
+    pen: P,
 }
 
-impl<'a, W: Target> Model for TextWriter<'a, W> {
-    ghost use Rattle.std.specs.Prelude.{◌≡◌, ◌≤◌, length, take};
-    ghost use Rattle.cqlp_text.specs.Written.{Written, buffered};
+impl<P: Pen> Model for TextWriter<P> {
+    ghost use Rattle.cqlp_text.specs.Written.{Written};
 
     ghost Value = { Written };
 
-    ghost view = { λ w. buffered W.Target w.target.now (take w.len w.buffer) w.target.ghost_name };
-
-    ghost invariant = { λ w. (w.len ≤ 128) × (length w.buffer ≡ 128) };
+    ghost view = { λ w. P.state w.pen };
 }
 
-impl<'a, W: Target> TextWriter<'a, W> {
-    /// With nothing that waits.
-    pub fn new(target: &'a mut W) -> Self
-        ensures { result ≡ record (unbuffered W.Target target.old) { lender = target.entry.ghost_name } }
+impl<P: Pen> TextWriter<P> {
+    /// With this pen.
+    pub fn new(pen: P) -> Self
+        ensures { result ≡ P.state pen }
     {
-        TextWriter {
-            target,
-            buffer: [0; ROOM],
-            len: 0,
-        }
+        TextWriter { pen }
     }
 
-    /// The target, which did not get what waits.
-    pub fn into_inner(self) -> &'a mut W
-        ensures lender { result.ghost_name ≡ self.entry.lender }
-        ensures given { unbuffered W.Target result.now ≡ record self.entry { waiting = []; lender = 0 } }
+    /// The pen.
+    pub fn into_inner(self) -> P
+        ensures { P.state result ≡ self }
     {
-        let TextWriter {
-            target,
-            buffer: _,
-            len: _,
-        } = self;
-        target
+        let TextWriter { pen } = self;
+        pen
     }
 
     /// Takes a text.
@@ -62,45 +49,7 @@ impl<'a, W: Target> TextWriter<'a, W> {
     pub fn put(&mut self, bytes: &[u8]) -> Result<(), SinkFault>
         ensures { Writes self.old bytes.now result self.new }
     {
-        if bytes.len() <= ROOM - self.len {
-            self.keep(bytes);
-            Ok(())
-        } else {
-            self.put_afresh(bytes)
-        }
-    }
-
-    /// Takes a text after what waits was passed on.
-    #[inline(never)]
-    fn put_afresh(&mut self, bytes: &[u8]) -> Result<(), SinkFault>
-        ensures { Writes self.old bytes.now result self.new }
-    {
-        self.flush()?;
-        if bytes.len() <= ROOM {
-            self.keep(bytes);
-            Ok(())
-        } else {
-            self.pass_on(bytes)
-        }
-    }
-
-    /// Passes on all that waits; after a fault nothing waits either.
-    #[inline(always)]
-    pub fn flush(&mut self) -> Result<(), SinkFault>
-        ensures writes { Writes self.old [] result self.new }
-        ensures empty { self.new.waiting ≡ [] }
-    {
-        let len = self.len;
-        self.len = 0;
-        send(self.target, &self.buffer[..len])
-    }
-
-    /// Passes a text on, where nothing waits.
-    fn pass_on(&mut self, bytes: &[u8]) -> Result<(), SinkFault>
-        requires { self.old.waiting ≡ [] }
-        ensures { Writes self.old bytes.now result self.new }
-    {
-        send(self.target, bytes)
+        self.pen.put(bytes)
     }
 
     /// Takes a number as decimal digits.
@@ -108,45 +57,7 @@ impl<'a, W: Target> TextWriter<'a, W> {
     pub fn put_number(&mut self, number: u64) -> Result<(), SinkFault>
         ensures { Writes self.old (decimal number) result self.new }
     {
-        let len = decimal_len(number);
-        self.make_room(len)?;
-        self.keep_number(number, len);
-        Ok(())
-    }
-
-    /// Passes what waits on where there is no room for this many bytes more.
-    #[inline(always)]
-    fn make_room(&mut self, count: usize) -> Result<(), SinkFault>
-        requires { count ≤ 128 }
-        ensures writes { Writes self.old [] result self.new }
-        ensures room { OnOk result (length self.new.waiting + count ≤ 128) }
-    {
-        if count <= ROOM - self.len {
-            Ok(())
-        } else {
-            self.flush_apart()
-        }
-    }
-
-    /// Passes on all that waits, in code of its own.
-    #[inline(never)]
-    fn flush_apart(&mut self) -> Result<(), SinkFault>
-        ensures writes { Writes self.old [] result self.new }
-        ensures empty { self.new.waiting ≡ [] }
-    {
-        self.flush()
-    }
-
-    /// Takes a number that there is room for, as this many decimal digits.
-    #[inline(always)]
-    fn keep_number(&mut self, number: u64, len: usize)
-        requires len { len ≡ length (decimal number) }
-        requires room { length self.old.waiting + len ≤ 128 }
-        ensures { self.new ≡ record self.old { waiting = self.old.waiting ++ decimal number } }
-    {
-        let end = self.len + len;
-        write_digits(number, &mut self.buffer, end);
-        self.len = end;
+        self.pen.put_number(number)
     }
 
     /// Takes this many digits of a number, with leading zeros.
@@ -155,83 +66,43 @@ impl<'a, W: Target> TextWriter<'a, W> {
         requires { count ≤ 128 }
         ensures { Writes self.old (digits count number) result self.new }
     {
-        self.make_room(count)?;
-        self.keep_digits(count, number);
-        Ok(())
+        self.pen.put_digits(count, number)
     }
+}
 
-    /// Takes this many digits of a number, which there is room for.
-    #[inline(always)]
-    fn keep_digits(&mut self, count: usize, number: u64)
-        requires { length self.old.waiting + count ≤ 128 }
-        ensures { self.new ≡ record self.old { waiting = self.old.waiting ++ digits count number } }
+impl<'a, W: Target> TextWriter<LinePen<'a, W>> {
+    /// In front of a target, with nothing that waits.
+    pub fn over(target: &'a mut W) -> Self
+        ensures { result ≡ record (unbuffered W.Target target.old) { lender = target.entry.ghost_name } }
     {
-        let end = self.len + count;
-        fill_with_digits(number, &mut self.buffer[self.len..end]);
-        self.len = end;
+        TextWriter::new(LinePen::new(target))
     }
 
-    /// Takes a text that there is room for.
-    #[inline(always)]
-    fn keep(&mut self, bytes: &[u8])
-        requires { length self.old.waiting + length bytes.now ≤ 128 }
-        ensures { self.new ≡ record self.old { waiting = self.old.waiting ++ bytes.now } }
+    /// The target, which did not get what waits.
+    pub fn into_target(self) -> &'a mut W
+        ensures lender { result.ghost_name ≡ self.entry.lender }
+        ensures given { unbuffered W.Target result.now ≡ record self.entry { waiting = []; lender = 0 } }
     {
-        let end = self.len + bytes.len();
-        self.buffer[self.len..end].copy_from_slice(bytes);
-        self.len = end;
+        self.into_inner().into_inner()
+    }
+
+    /// Passes on all that waits; after a fault nothing waits either.
+    #[inline(always)]
+    pub fn flush(&mut self) -> Result<(), SinkFault>
+        ensures writes { Writes self.old [] result self.new }
+        ensures empty { self.new.waiting ≡ [] }
+    {
+        self.pen.flush()
     }
 }
 
-/// Fills all room with the last digits of a number, after zeros where it has fewer.
-#[inline(always)]
-fn fill_with_digits(number: u64, room: &mut [u8])
-    ensures { room.new ≡ digits (length room.old) number }
-{
-    let mut left = number;
-    let mut at = room.len();
-    while at > 0 {
-        at -= 1;
-        room[at] = b'0' + (left % 10) as u8;
-        left /= 10;
-    }
-}
-
-/// How many decimal digits a number has.
-#[inline]
-fn decimal_len(number: u64) -> usize
-    ensures { result ≡ length (decimal number) }
-{
-    if number < 10 {
-        return 1;
-    }
-    if number < 100 {
-        return 2;
-    }
-    if number < 1_000 {
-        return 3;
-    }
-    if number < 10_000 {
-        return 4;
-    }
-    4 + decimal_len(number / 10_000)
-}
-
-/// Appends a text as it is. A fault is the writer's own.
-pub fn put_text<W: Target>(text: &str, w: &mut W) -> Result<(), SinkFault>
-    ensures { AppendsText (written W.Target w.old) text.now result (written W.Target w.new) }
-{
-    send(w, text.as_bytes())
-}
-
-/// Passes on all of the bytes.
-#[inline(always)]
-fn send<W: Target>(target: &mut W, bytes: &[u8]) -> Result<(), SinkFault>
-    ensures { Writes (unbuffered W.Target target.old) bytes.now result (unbuffered W.Target target.new) }
-{
-    if offer(target, bytes) < bytes.len() {
-        Err(SinkFault)
-    } else {
-        Ok(())
+impl<W: Target, A: Allocator> TextWriter<Buffered<W, A>> {
+    /// Passes on all that waits in the buffer.
+    pub fn pass_on(&mut self) -> Result<(), IoFault>
+        ensures keeps { Keeps self.old.given self.new.given }
+        ensures sound { OnOk result (self.new.failures ≡ self.old.failures) }
+        ensures err { OnErr result (self.new.failures ≡ counted true self.old.failures) }
+    {
+        self.pen.flush()
     }
 }

@@ -9,15 +9,16 @@ ghost use Rattle.cqlp_text.specs.Text.{hex_text, quoted, escaped, is_plain, prin
 ghost use Rattle.cqlp_note.specs.declared.prim.Address.TheVariants.{V4, V6};
 ghost use Rattle.cqlp_text.specs.Written.{Writes};
 
+use crate::pen::Pen;
 use crate::text_writer::TextWriter;
 use cqlp_grammar::SinkFault;
-use cqlp_note::{Address, Target};
+use cqlp_note::Address;
 use uuid::Uuid;
 
 /// How many bytes become hex digits at once.
 const CHUNK: usize = 64;
 
-impl<W: Target> TextWriter<'_, W> {
+impl<P: Pen> TextWriter<P> {
     /// Takes a number as decimal digits, after a `-` where it is negative.
     #[inline(always)]
     pub fn put_signed(&mut self, number: i64) -> Result<(), SinkFault>

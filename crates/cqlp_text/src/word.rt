@@ -2,10 +2,11 @@
 
 ghost use Rattle.std.specs.Prelude.{◌≡◌, map};
 
+use crate::pen::Pen;
 use crate::text_writer::TextWriter;
 use cqlp_grammar::SinkFault;
 use cqlp_kind::Scalar;
-use cqlp_note::{Address, Target};
+use cqlp_note::Address;
 
 /// A word of a line.
 #[derive(Clone, Copy, Debug, PartialEq, Eq)]
@@ -26,7 +27,7 @@ pub enum Word<'a> {
     Cell(Scalar<'a>),
 }
 
-impl<W: Target> TextWriter<'_, W> {
+impl<P: Pen> TextWriter<P> {
     ghost use Rattle.cqlp_text.specs.Lines.{spaced};
     ghost use Rattle.cqlp_text.specs.Words.{word_text};
     ghost use Rattle.cqlp_text.specs.Written.{Writes};

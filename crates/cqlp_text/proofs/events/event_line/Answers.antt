@@ -3,4 +3,4 @@ use Rattle.cqlp_text.proofs.Writing.{writes_text}
 use Rattle.cqlp_text.proofs.events.event_line.Goals as goal
 
 pub returns : goal.returns
-returns g c = writes_text g.W.Target.contents g.W.Target.failures c.args.w.now c.into_inner.result.now _ _ c.put_event-written.new.self _ _ c.put_event-written.result c.new-writer.ensures c.into_inner.ensures.given c.put_event-written.ensures.passed c.put_event-written.ensures.line (λ e. grind arith)
+returns g c = writes_text g.W.Target.contents g.W.Target.failures c.args.w.now c.into_target.result.now _ _ c.put_whole_event-written.new.self _ _ c.put_whole_event-written.result c.over-writer.ensures c.into_target.ensures.given c.put_whole_event-written.ensures.passed c.put_whole_event-written.ensures.line (λ e. grind arith)

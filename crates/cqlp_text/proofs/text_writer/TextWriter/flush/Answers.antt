@@ -1,6 +1,0 @@
-use Rattle.std.proofs.Common.{refl}
-use Rattle.cqlp_text.proofs.Writing.{passes_waiting}
-use Rattle.cqlp_text.proofs.text_writer.TextWriter.flush.Goals as goal
-
-pub returns-clause-writes : goal.returns-clause-writes
-returns-clause-writes g c = rw (← c.self.view_is) (passes_waiting _ _ _ _ _ _ _ c.send.result refl c.send.ensures)

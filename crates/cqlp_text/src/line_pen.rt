@@ -1,0 +1,180 @@
+//! A pen for one line.
+
+ghost use Rattle.std.specs.Prelude.{◌≡◌, ◌+◌, ◌≤◌, ◌++◌, [], decimal, length, OnOk};
+ghost use Rattle.cqlp_text.specs.CellText.{digits};
+ghost use Rattle.cqlp_text.specs.Written.{Writes, unbuffered};
+
+use crate::digits::{decimal_len, fill_with_digits};
+use crate::pen::Pen;
+use crate::sending::send;
+use cqlp_grammar::SinkFault;
+use cqlp_note::Target;
+use itoa::write_digits;
+use std::marker::Model;
+
+/// How many bytes wait at most before they are passed on.
+const ROOM: usize = 128;
+
+/// Gathers short texts, so that a target gets them in few calls. Nothing waits after a `flush`.
+#[derive(Drop)]
+pub struct LinePen<'a, W: Target> {
+    target: &'a mut W,
+    buffer: [u8; ROOM],
+    len: usize,
+}
+
+impl<'a, W: Target> Model for LinePen<'a, W> {
+    ghost use Rattle.std.specs.Prelude.{◌≡◌, ◌≤◌, length, take};
+    ghost use Rattle.cqlp_text.specs.Written.{Written, buffered};
+
+    ghost Value = { Written };
+
+    ghost view = { λ w. buffered W.Target w.target.now (take w.len w.buffer) w.target.ghost_name };
+
+    ghost invariant = { λ w. (w.len ≤ 128) × (length w.buffer ≡ 128) };
+}
+
+impl<'a, W: Target> LinePen<'a, W> {
+    /// With nothing that waits.
+    pub fn new(target: &'a mut W) -> Self
+        ensures { result ≡ record (unbuffered W.Target target.old) { lender = target.entry.ghost_name } }
+    {
+        LinePen {
+            target,
+            buffer: [0; ROOM],
+            len: 0,
+        }
+    }
+
+    /// The target, which did not get what waits.
+    pub fn into_inner(self) -> &'a mut W
+        ensures lender { result.ghost_name ≡ self.entry.lender }
+        ensures given { unbuffered W.Target result.now ≡ record self.entry { waiting = []; lender = 0 } }
+    {
+        let LinePen {
+            target,
+            buffer: _,
+            len: _,
+        } = self;
+        target
+    }
+
+    /// Takes a text after what waits was passed on.
+    #[inline(never)]
+    fn put_afresh(&mut self, bytes: &[u8]) -> Result<(), SinkFault>
+        ensures { Writes self.old bytes.now result self.new }
+    {
+        self.flush()?;
+        if bytes.len() <= ROOM {
+            self.keep(bytes);
+            Ok(())
+        } else {
+            self.pass_on(bytes)
+        }
+    }
+
+    /// Passes on all that waits; after a fault nothing waits either.
+    #[inline(always)]
+    pub fn flush(&mut self) -> Result<(), SinkFault>
+        ensures writes { Writes self.old [] result self.new }
+        ensures empty { self.new.waiting ≡ [] }
+    {
+        let len = self.len;
+        self.len = 0;
+        send(self.target, &self.buffer[..len])
+    }
+
+    /// Passes a text on, where nothing waits.
+    fn pass_on(&mut self, bytes: &[u8]) -> Result<(), SinkFault>
+        requires { self.old.waiting ≡ [] }
+        ensures { Writes self.old bytes.now result self.new }
+    {
+        send(self.target, bytes)
+    }
+
+    /// Passes what waits on where there is no room for this many bytes more.
+    #[inline(always)]
+    fn make_room(&mut self, count: usize) -> Result<(), SinkFault>
+        requires { count ≤ 128 }
+        ensures writes { Writes self.old [] result self.new }
+        ensures room { OnOk result (length self.new.waiting + count ≤ 128) }
+    {
+        if count <= ROOM - self.len {
+            Ok(())
+        } else {
+            self.flush_apart()
+        }
+    }
+
+    /// Passes on all that waits, in code of its own.
+    #[inline(never)]
+    fn flush_apart(&mut self) -> Result<(), SinkFault>
+        ensures writes { Writes self.old [] result self.new }
+        ensures empty { self.new.waiting ≡ [] }
+    {
+        self.flush()
+    }
+
+    /// Takes a number that there is room for, as this many decimal digits.
+    #[inline(always)]
+    fn keep_number(&mut self, number: u64, len: usize)
+        requires len { len ≡ length (decimal number) }
+        requires room { length self.old.waiting + len ≤ 128 }
+        ensures { self.new ≡ record self.old { waiting = self.old.waiting ++ decimal number } }
+    {
+        let end = self.len + len;
+        write_digits(number, &mut self.buffer, end);
+        self.len = end;
+    }
+
+    /// Takes this many digits of a number, which there is room for.
+    #[inline(always)]
+    fn keep_digits(&mut self, count: usize, number: u64)
+        requires { length self.old.waiting + count ≤ 128 }
+        ensures { self.new ≡ record self.old { waiting = self.old.waiting ++ digits count number } }
+    {
+        let end = self.len + count;
+        fill_with_digits(number, &mut self.buffer[self.len..end]);
+        self.len = end;
+    }
+
+    /// Takes a text that there is room for.
+    #[inline(always)]
+    fn keep(&mut self, bytes: &[u8])
+        requires { length self.old.waiting + length bytes.now ≤ 128 }
+        ensures { self.new ≡ record self.old { waiting = self.old.waiting ++ bytes.now } }
+    {
+        let end = self.len + bytes.len();
+        self.buffer[self.len..end].copy_from_slice(bytes);
+        self.len = end;
+    }
+}
+
+impl<W: Target> Pen for LinePen<'_, W> {
+    ghost state = { λ p. p };
+
+    #[inline(always)]
+    fn put(&mut self, bytes: &[u8]) -> Result<(), SinkFault> {
+        if bytes.len() <= ROOM - self.len {
+            self.keep(bytes);
+            Ok(())
+        } else {
+            self.put_afresh(bytes)
+        }
+    }
+
+    #[inline(always)]
+    fn put_number(&mut self, number: u64) -> Result<(), SinkFault> {
+        let len = decimal_len(number);
+        self.make_room(len)?;
+        self.keep_number(number, len);
+        Ok(())
+    }
+
+    #[inline(always)]
+    fn put_digits(&mut self, count: usize, number: u64) -> Result<(), SinkFault> {
+        self.make_room(count)?;
+        self.keep_digits(count, number);
+        Ok(())
+    }
+}

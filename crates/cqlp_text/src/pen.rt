@@ -1,0 +1,29 @@
+//! What texts are written with.
+
+ghost use Rattle.std.specs.Prelude.{decimal};
+ghost use Rattle.cqlp_text.specs.CellText.{digits};
+ghost use Rattle.cqlp_text.specs.Written.{Writes};
+
+use cqlp_grammar::SinkFault;
+
+/// What takes short texts and numbers, one after the other, on their way to a target.
+pub trait Pen {
+    ghost use Rattle.std.specs.Prelude.{◌≤◌};
+    ghost use Rattle.cqlp_text.specs.Written.{Written};
+
+    /// What was passed on, and what waits and would be lost at a fault.
+    ghost state: { Self → Written };
+
+    /// Takes a text.
+    fn put(&mut self, bytes: &[u8]) -> Result<(), SinkFault>
+        ensures { Writes (state self.old) bytes.now result (state self.new) };
+
+    /// Takes a number as decimal digits.
+    fn put_number(&mut self, number: u64) -> Result<(), SinkFault>
+        ensures { Writes (state self.old) (decimal number) result (state self.new) };
+
+    /// Takes this many digits of a number, with leading zeros.
+    fn put_digits(&mut self, count: usize, number: u64) -> Result<(), SinkFault>
+        requires { count ≤ 128 }
+        ensures { Writes (state self.old) (digits count number) result (state self.new) };
+}
