@@ -1,4 +1,3 @@
-pub mod Passing
 pub mod Renders
 pub mod Shows
 pub mod Turns

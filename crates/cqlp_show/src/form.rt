@@ -3,12 +3,13 @@
 ghost use Rattle.std.specs.Prelude.{◌≡◌, IsSome};
 ghost use Rattle.cqlp_grammar.specs.Events.{event_of};
 ghost use Rattle.cqlp_text.specs.Outputs.{AppendsText, written};
+ghost use Rattle.cqlp_text.specs.Written.{Writes};
 ghost use Rattle.cqlp_show.specs.Forms.{form_after, text_of};
 ghost use Rattle.cqlp_show.specs.declared.text_form.TextForm.TheVariants as forms;
 
 use cqlp_decode::{Event, SinkFault};
 use cqlp_note::Target;
-use cqlp_text::{PagePlace, event_line, page_part};
+use cqlp_text::{PagePlace, Pen, TextWriter, event_line, page_part};
 
 /// A form of text. Each has a type of its own, so that no event asks for its form.
 pub(crate) trait Form {
@@ -26,6 +27,16 @@ pub(crate) trait Form {
     ) -> Result<(), SinkFault>
         ensures text { AppendsText (written W.Target target.old) (text_of (form self.old) at (event_of event.now))
             result (written W.Target target.new) }
+        ensures form { form self.new ≡ form_after (form self.old) (event_of event.now) };
+
+    /// Has a writer take the text of the event at an offset.
+    fn write<P: Pen>(
+        &mut self,
+        at: u64,
+        event: &Event<'_>,
+        writer: &mut TextWriter<P>,
+    ) -> Result<(), SinkFault>
+        ensures text { Writes writer.old (text_of (form self.old) at (event_of event.now)) result writer.new }
         ensures form { form self.new ≡ form_after (form self.old) (event_of event.now) };
 }
 
@@ -45,6 +56,16 @@ impl Form for Lines {
     ) -> Result<(), SinkFault> {
         event_line(at, event, target)
     }
+
+    #[inline]
+    fn write<P: Pen>(
+        &mut self,
+        at: u64,
+        event: &Event<'_>,
+        writer: &mut TextWriter<P>,
+    ) -> Result<(), SinkFault> {
+        writer.put_event(at, event)
+    }
 }
 
 /// The text of pages, from a place in a page.
@@ -59,6 +80,16 @@ impl Form for PagePlace {
         target: &mut W,
     ) -> Result<(), SinkFault> {
         page_part(self, event, target)
+    }
+
+    #[inline]
+    fn write<P: Pen>(
+        &mut self,
+        _at: u64,
+        event: &Event<'_>,
+        writer: &mut TextWriter<P>,
+    ) -> Result<(), SinkFault> {
+        writer.put_page_part(self, event)
     }
 }
 
@@ -75,6 +106,16 @@ impl Form for Nothing {
         _at: u64,
         _event: &Event<'_>,
         _target: &mut W,
+    ) -> Result<(), SinkFault> {
+        Ok(())
+    }
+
+    #[inline]
+    fn write<P: Pen>(
+        &mut self,
+        _at: u64,
+        _event: &Event<'_>,
+        _writer: &mut TextWriter<P>,
     ) -> Result<(), SinkFault> {
         Ok(())
     }

@@ -1,7 +1,7 @@
 //! A stream as text, with what is reported of it.
 #![tactic(auto)]
 
-mod buffered;
+mod buffered_sink;
 mod form;
 mod render;
 mod showing;

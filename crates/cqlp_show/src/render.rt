@@ -5,10 +5,10 @@ ghost use Rattle.cqlp_decode.specs.Draining.{Counts, ReadsAtMost, WaitsAt};
 ghost use Rattle.cqlp_note.specs.declared.refusal.Refusal.{Refusal};
 ghost use Rattle.cqlp_decode.specs.Streams.{After, state};
 
-use crate::buffered::Buffered;
+use crate::buffered_sink::BufferedSink;
 use crate::form::{Form, Lines};
 use cqlp_decode::{Decoder, Event, Finish, Outcome, Sink, SinkFault, run};
-use cqlp_note::{IoFault, Source, Target};
+use cqlp_note::{Source, Target};
 use cqlp_text::PagePlace;
 use std::alloc::Allocator;
 use std::marker::Model;
@@ -47,20 +47,6 @@ impl<W: Target, F: Form + Drop> TextSink<W, F> {
     {
         let TextSink { target, form: _ } = self;
         target
-    }
-}
-
-impl<W: Target, A: Allocator, F: Form> TextSink<Buffered<W, A>, F> {
-    ghost use Rattle.std.specs.Prelude.{OnOk, OnErr};
-    ghost use Rattle.cqlp_text.specs.Outputs.{HasFailed};
-
-    /// Passes on all text that waits.
-    pub fn flush(&mut self) -> Result<(), IoFault>
-        ensures ok { IsSome self.old.output.given → OnOk result (self.new ≡ self.old) }
-        ensures keeps { IsSome self.old.output.given → self.new.output.given ≡ self.old.output.given }
-        ensures err { OnErr result (HasFailed self.old.output self.new.output) }
-    {
-        self.target.flush()
     }
 }
 
@@ -144,7 +130,7 @@ pub fn render_rows<R: Source, W: Target, A: Allocator>(
 pub(crate) fn run_flushing<R: Source, W: Target, F: Form, A: Allocator, B: Allocator>(
     decoder: &mut Decoder<A>,
     reader: &mut R,
-    sink: &mut TextSink<Buffered<W, B>, F>,
+    sink: &mut BufferedSink<W, B, F>,
     turns: u64,
 ) -> Outcome
     ensures renders { IfKnown (unread R.Source reader.old) sink.old.output (λ xs. After (state decoder.old) [] [] →

@@ -1,6 +1,6 @@
 //! A whole stream, shown or checked.
 
-ghost use Rattle.std.specs.Prelude.{◌≡◌, [], IfSome};
+ghost use Rattle.std.specs.Prelude.{◌≡◌, ◌≤◌, [], IfSome, vec_len};
 ghost use Rattle.cqlp_decode.specs.Streams.{After, state};
 ghost use Rattle.cqlp_note.specs.Limits.{first_bad, rules_of};
 ghost use Rattle.cqlp_text.specs.Endings.{IsStatusOfTask};
@@ -12,13 +12,13 @@ ghost use Rattle.cqlp_show.specs.Showing.{ShowsAndReports, ShowsTo};
 ghost use Rattle.cqlp_text.specs.declared.ending.Ending.{Ending};
 ghost use Rattle.cqlp_show.specs.declared.text_form.TextForm.TheVariants as forms;
 
-use crate::buffered::Buffered;
+use crate::buffered_sink::BufferedSink;
 use crate::form::{Form, Lines, Nothing};
 use crate::render::{TextSink, run_flushing};
 use cqlp_decode::{Decoder, NewError, Outcome, SinkFault, run};
 use cqlp_note::{IoFault, Limits, Source, Target};
 use cqlp_text::status::FAULT;
-use cqlp_text::{Ending, PagePlace, ending_line};
+use cqlp_text::{Buffered, Ending, PagePlace, ending_line};
 use std::alloc::Allocator;
 
 /// How many reads the program makes at most.
@@ -130,7 +130,7 @@ fn write_text<R: Source, O: Target, F: Form + Drop, A: Allocator>(
     let Some(mut decoder) = decoder_within(alloc, limits) else {
         return (Ending::NoMemory, out);
     };
-    let Ok(buffer) = Vec::with_capacity(alloc, ROOM) else {
+    let Ok(buffer) = vec![in alloc; 0; ROOM] else {
         return (Ending::NoMemory, out);
     };
     let (outcome, out) = render_buffered(&mut decoder, input, out, form, buffer);
@@ -171,13 +171,14 @@ fn render_buffered<R: Source, O: Target, F: Form + Drop, A: Allocator, B: Alloca
     form: F,
     buffer: Vec<u8, B>,
 ) -> (Outcome, O)
+    requires { 128 ≤ vec_len buffer }
     ensures renders { IfKnown (unread R.Source input.old) (written O.Target out) (λ xs.
         After (state decoder.old) [] [] → RendersOrFails (F.form form) TURNS result.0 (state decoder.old)
         (state decoder.new) xs (R.left input.new) (written O.Target out) (written O.Target result.1)) }
     ensures failures { CountsReads (ending_of result.0) (R.failures input.old) (R.failures input.new) }
     ensures rules { (state decoder.new).rules ≡ (state decoder.old).rules }
 {
-    let mut sink = TextSink::new(Buffered::new(out, buffer), form);
+    let mut sink = BufferedSink::new(Buffered::new(out, buffer), form);
     let outcome = run_flushing(decoder, input, &mut sink, TURNS);
     let mut buffered = sink.into_inner();
     if let Outcome::SinkFault = outcome {

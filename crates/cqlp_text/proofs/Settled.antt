@@ -7,7 +7,9 @@ use Rattle.cqlp_note.specs.Streams.{counted}
 use Rattle.cqlp_grammar.specs.declared.sink.SinkFault.{SinkFault}
 use Rattle.cqlp_text.specs.CellText.{digits}
 use Rattle.cqlp_text.specs.Written.{Written, Receives, BreaksOff, Writes, bare, settled, taken}
-use Rattle.cqlp_text.proofs.Writing.{first_and_rest, front_of, known_then, takes_then_takes, takes_then_breaks}
+use Rattle.std.proofs.Common.{IsSome}
+use Rattle.cqlp_text.specs.Outputs.{output, AppendsText}
+use Rattle.cqlp_text.proofs.Writing.{known_text, first_and_rest, front_of, known_then, takes_then_takes, takes_then_breaks}
 
 front_in_use : (buffer : List ℕ) (p len : ℕ) → p ≤ len → len ≤ length buffer → drop p (take len buffer) ≡ take (len - p) (drop p buffer)
 front_in_use buffer p len within fits =
@@ -99,3 +101,7 @@ writes_after a b c bytes (Err e) keeps same writes = takes_then_breaks (settled 
 pub length-digits : (k n : ℕ) → k ≡ length (digits k n)
 length-digits zero n = refl
 length-digits (suc k) n = omega (arith, length-digits k (n / 10), length-append (digits k (n / 10)) ((48 + n % 10) ∷ []))
+
+-- a text that was written where nothing waits to be lost
+pub appends_settled : (a b : Written) (text : List ℕ) (r : Result (Unit {0}) SinkFault) → a.waiting ≡ [] → b.waiting ≡ [] → Writes a text r b → AppendsText (output a.given a.failures) text r (output b.given b.failures)
+appends_settled a b text r first last writes = λ known. known_text a b a.given b.given a.failures b.failures a.lender text r (ap (λ k. record a { waiting = k }) first) refl last writes known

@@ -97,6 +97,14 @@ impl<'a, W: Target> TextWriter<LinePen<'a, W>> {
 }
 
 impl<W: Target, A: Allocator> TextWriter<Buffered<W, A>> {
+    /// A buffer loses nothing of what waits in it, so none of it waits to be lost.
+    #[inline(always)]
+    pub fn loses_nothing(&self)
+        ensures { self.now.waiting ≡ [] }
+    {
+        let _pen = &self.pen;
+    }
+
     /// Passes on all that waits in the buffer.
     pub fn pass_on(&mut self) -> Result<(), IoFault>
         ensures keeps { Keeps self.old.given self.new.given }
