@@ -1,4 +1,4 @@
-use Rattle.std.proofs.Common.{length, arith}
+use Rattle.std.proofs.Common.{length}
 use Rattle.cqlp_grammar.specs.Upcoming.{opened}
 use Rattle.cqlp_grammar.proofs.Stack.{others_have_room}
 use Rattle.cqlp_grammar.proofs.upcoming.Upcoming.push_others.Goals as goal
