@@ -26,18 +26,12 @@ use Rattle.cqlp_kind.specs.CellStep as cell
 use Rattle.cqlp_cell.proofs.ScalarSizes.{scalar_sized}
 use Rattle.cqlp_grammar.specs.declared.grammar.Role.{Role}
 use Rattle.cqlp_grammar.specs.Productions.{Symbol, Stream, In, In_type, Cell_due, In_cell, Extra, fault_in}
-use Rattle.cqlp_grammar.specs.Events.{Event, Holds, Cell_at, type_event, cell_event}
+use Rattle.cqlp_grammar.specs.Events.{Event, type_event, cell_event}
 use Rattle.cqlp_decode.specs.Reading as stream
 use Rattle.cqlp_decode.specs.Reading.{Place, header_step, page_step, place_of_cells, place_of_types, settled, step, step_at}
+use Rattle.cqlp_laws.specs.Reading.{content_size_of}
 use Rattle.cqlp_laws.proofs.EventCounts.{after_always, map_always}
 use Rattle.cqlp_laws.proofs.RunsBack.{yields_always}
-
--- how many bytes of its step the content of an event takes
-abbrev pub size_of : Event → ℕ
-size_of (Holds f v) = content_length v
-size_of (Cell_at row column (Leaf level v)) = content_size v
-size_of (Cell_at row column (Part level offset c last)) = length c
-size_of e = 0
 
 -- ---- fields
 
@@ -167,11 +161,11 @@ always_imp P Q to (Refuses why) before h = tt
 always_imp P Q to Idles before h = tt
 always_imp P Q to (Takes n next) before h = λ c long. always_imp P Q to (next c) (before ++ c) (h c long)
 
-type_span : (e : TypeEvent) (b : List ℕ) (l : Rules) → ItemInside l e b → size_of (type_event e) ≤ length b
+type_span : (e : TypeEvent) (b : List ℕ) (l : Rules) → ItemInside l e b → content_size_of (type_event e) ≤ length b
 type_span (IsNode k) b l h = omega arith
 type_span (IsField f v) b l h = h
 
-cell_span : (row column : ℕ) (e : CellEvent) (b : List ℕ) (l : Rules) → CellInside l e b → size_of (cell_event row column e) ≤ length b
+cell_span : (row column : ℕ) (e : CellEvent) (b : List ℕ) (l : Rules) → CellInside l e b → content_size_of (cell_event row column e) ≤ length b
 cell_span row column (Leaf level v) b l h = h
 cell_span row column (Part level offset c last) b l h = h
 cell_span row column (cell.Null level) b l h = omega arith
@@ -181,7 +175,7 @@ cell_span row column (cell.Leave level n) b l h = omega arith
 
 module _ (l : Rules) (p : Place) where
   abbrev Spanned : Emitted Event Place → List ℕ → Type 0
-  Spanned x b = size_of x.event ≤ length b
+  Spanned x b = content_size_of x.event ≤ length b
 
   value_spanned : (f : Field) (r : Role) (rest : List Symbol) (v : FieldValue) (o : Option Reason) (b : List ℕ) → content_length v ≤ length b → Always Spanned (stream.value_step l.types p f r rest v o) b
   value_spanned f r rest v None b le = le
@@ -211,7 +205,7 @@ module _ (l : Rules) (p : Place) where
   step_spanned (Extra ∷ rest) = λ c long. omega arith
 
 -- The content of an event lies in the bytes that its step takes.
-pub content_within : (l : Rules) (p : Place) (bytes : List ℕ) (x : Emitted Event Place) (n : ℕ) → says (step l p) 0 bytes ≡ Got x n → size_of x.event ≤ n
+pub content_within : (l : Rules) (p : Place) (bytes : List ℕ) (x : Emitted Event Place) (n : ℕ) → says (step l p) 0 bytes ≡ Got x n → content_size_of x.event ≤ n
 content_within l p bytes x n s =
     let y = says_yields (step l p) 0 x n bytes s in
     omega (arith, y.3, yields_always (Spanned l (settled p)) (step l p) x [] y.0 (step_spanned l (settled p) p.symbols) y.4)

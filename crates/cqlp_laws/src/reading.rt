@@ -1,6 +1,6 @@
 //! Laws of what bytes say: one list of events with one verdict, which goes on where more bytes come.
 
-ghost use Rattle.cqlp_laws.specs.Reading.{GoesOn, IsSaid, IsSaidOnce};
+ghost use Rattle.cqlp_laws.specs.Reading.{GoesOn, IsSaid, IsSaidOnce, LiesInItsStep};
 ghost use Rattle.cqlp_laws.specs.Reading.{HandsOutNoMoreEventsThanBytes, HasNoMoreEventsThanBytes};
 
 /// Of any bytes there is one list of events, and one verdict.
@@ -20,4 +20,10 @@ pub fn goes_on()
 pub fn no_more_events_than_bytes()
     ensures stream { HasNoMoreEventsThanBytes }
     ensures decoder { HandsOutNoMoreEventsThanBytes }
+{}
+
+/// The content of an event lies in the bytes of the step that says it: so where no byte of a step came before, a content can
+/// be lent from the input.
+pub fn content_lies_in_its_step()
+    ensures { LiesInItsStep }
 {}
