@@ -17,3 +17,4 @@ pub mod Parting
 pub mod Leavings
 pub mod Fronts
 pub mod WholeItems
+pub mod Levels

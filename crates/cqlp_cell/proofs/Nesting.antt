@@ -39,7 +39,7 @@ front_is [] = refl
 front_is (o ∷ []) = refl
 front_is (o ∷ p ∷ os) = let e : suc (suc (length os)) - 1 ≡ suc (suc (length os) - 1) = omega arith in rw e (ap (λ (m : List OpenValue). o ∷ m) (front_is (p ∷ os)))
 
-last_set : (os : List OpenValue) (p : OpenValue) → set os (length os - 1) p ≡ with_last p os
+pub last_set : (os : List OpenValue) (p : OpenValue) → set os (length os - 1) p ≡ with_last p os
 last_set [] p = refl
 last_set (o ∷ []) p = refl
 last_set (o ∷ q ∷ os) p = let e : suc (suc (length os)) - 1 ≡ suc (suc (length os) - 1) = omega arith in rw e (ap (λ (m : List OpenValue). o ∷ m) (last_set (q ∷ os) p))

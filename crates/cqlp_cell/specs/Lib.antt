@@ -9,3 +9,4 @@ pub mod Standing
 pub mod OpenValues
 pub mod Fronts
 pub mod Whole
+pub mod Levels

@@ -1,5 +1,5 @@
 -- Items that lie whole at the front of the input.
-use Rattle.std.specs.Prelude.{◌≡◌, ℕ, List, [], length, Option, Some, None, ⊤}
+use Rattle.std.specs.Prelude.{◌≡◌, ℕ, List, [], length, Option, Some, None}
 use Rattle.cqlp_note.specs.Partial.{FieldState}
 use Rattle.cqlp_kind.specs.declared.node.Node.{Node}
 use Rattle.cqlp_cell.specs.declared.advance.CellOutline.{CellOutline}
@@ -40,10 +40,6 @@ pub record IsDue (nodes : List Node) (d : CellState) (t : DueItem) : Type 0 wher
   pub kind : t.kind ≡ (due_value nodes d).kind
   pub room : t.room ≡ room_of nodes d
   pub level : t.level ≡ length d.open_values
-
-abbrev pub IsDueItem : List Node → CellState → Option DueItem → Type 0
-IsDueItem nodes d None = ⊤
-IsDueItem nodes d (Some t) = IsDue nodes d t
 
 -- What is next is this part, which has no content; or nothing is done.
 abbrev pub TakesBare : List Node → CellState → List ℕ → Option BareItem → CellState → Type 0

@@ -55,7 +55,7 @@ impl<A: Allocator> Model for OpenValues<A> {
 }
 
 impl<A: Allocator> OpenValues<A> {
-    ghost use Rattle.cqlp_cell.specs.OpenValues.{but_last, last_open};
+    ghost use Rattle.cqlp_cell.specs.OpenValues.{but_last, last_open, with_last};
     ghost use Rattle.cqlp_cell.specs.Standing.{HasNext, after_item_in};
 
     /// With room for this many.
@@ -105,6 +105,17 @@ impl<A: Allocator> OpenValues<A> {
         ensures { self.new ≡ record { open_values = but_last self.old.open_values; room = self.old.room } }
     {
         self.values.pop();
+    }
+
+    /// Puts this in the place of the innermost value, if there is one.
+    #[inline(always)]
+    pub(crate) fn set_last(&mut self, value: OpenValue)
+        ensures { self.new ≡ record { open_values = with_last value self.old.open_values; room = self.old.room } }
+    {
+        let len = self.values.len();
+        if len > 0 {
+            self.values[len - 1] = value;
+        }
     }
 
     /// Goes on after the next item of the innermost value.

@@ -6,9 +6,10 @@ ghost use Rattle.cqlp_note.specs.Limits.{rules_of};
 
 use crate::advance::CellAdvance;
 use crate::item::CellPush;
+use crate::level::Level;
 use crate::open_values::OpenValues;
 use crate::standing::{CellStanding, NextInCell, Under};
-use crate::whole::{BareItem, DueItem};
+use crate::whole::BareItem;
 use cqlp_note::{Limits, NoMemory, Partial};
 use cqlp_type::TypeTable;
 use std::alloc::{Allocator, Global};
@@ -33,12 +34,12 @@ impl<A: Allocator> Model for CellReader<A> {
 
 impl<A: Allocator> CellReader<A> {
     ghost use Rattle.cqlp_note.specs.Lending.{LeavesField};
-    ghost use Rattle.cqlp_cell.specs.Standing.{Stands, due_of, ended, is_under_way, state_after};
-    ghost use Rattle.cqlp_cell.specs.declared.standing.CellDue.TheVariants as due;
+    ghost use Rattle.cqlp_cell.specs.Standing.{Stands, ended, is_under_way};
     ghost use Rattle.cqlp_kind.specs.declared.node.Node.{Node};
     ghost use Rattle.cqlp_cell.specs.Reading.{Answers, Empties, HaveCome, Joined, Moves};
     ghost use Rattle.cqlp_cell.specs.Pushing.{Continues, Pushes, Uses, begun, is_done, new_reader};
-    ghost use Rattle.cqlp_cell.specs.Whole.{IsDueItem, TakesBare};
+    ghost use Rattle.cqlp_cell.specs.Levels.{level_of, with_level};
+    ghost use Rattle.cqlp_cell.specs.Whole.{TakesBare};
 
     /// With room for the nesting that the limits allow. Parts have at least one byte.
     pub fn new(alloc: A, limits: &Limits) -> Result<Self, NoMemory>
@@ -131,24 +132,20 @@ impl<A: Allocator> CellReader<A> {
         self.standing.advance(partial, table, input)
     }
 
-    /// The next item of the innermost value that is open, if nothing of it has come.
+    /// A copy of the innermost value that is open, where what is read next stands in it and nothing of that has come.
     #[inline(always)]
-    pub fn due_item(&self, table: &TypeTable<A>) -> Option<DueItem>
-        requires { Stands table.now.nodes self.now }
-        ensures { IsDueItem table.now.nodes self.now result }
+    pub fn level(&self) -> Option<Level>
+        ensures { result ≡ level_of self.now }
     {
-        self.standing.due_item(table)
+        self.standing.level()
     }
 
-    /// Goes on after the value that is next, which takes this many bytes, where the caller has read it as a scalar.
+    /// Goes on where a level stands: it is the innermost value from now on, if one is open.
     #[inline(always)]
-    pub fn pass_scalar(&mut self, used: usize, table: &TypeTable<A>)
-        requires stands { Stands table.now.nodes self.old }
-        requires due { due_of self.old ≡ due.Value }
-        requires place { self.old.offset + used < 2 ^ 64 }
-        ensures { self.new ≡ state_after table.now.nodes self.old used }
+    pub fn set_level(&mut self, level: Level)
+        ensures { self.new ≡ with_level self.old level }
     {
-        self.standing.pass(used as u64, table);
+        self.standing.set_level(level);
     }
 
     /// Takes what is next of the cell that is under way, where it has no content, `advance` would hand it out of the

@@ -186,7 +186,7 @@ impl OpenValue {
 
     /// Whether no further item begins at this offset.
     #[inline]
-    fn is_over(self, offset: u64) -> bool
+    pub(crate) fn is_over(self, offset: u64) -> bool
         ensures { result ≡ is_over self offset }
     {
         match self.order {

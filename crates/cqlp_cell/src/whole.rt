@@ -8,8 +8,10 @@ ghost use Rattle.cqlp_cell.specs.declared.standing.Under.TheVariants as under;
 ghost use Rattle.cqlp_cell.specs.Coming.{room_of};
 ghost use Rattle.cqlp_cell.specs.Reading.{Decided};
 ghost use Rattle.cqlp_cell.specs.Standing.{Stands, due_of, due_value, state_of};
-ghost use Rattle.cqlp_cell.specs.Whole.{IsDueItem, TakesBare};
+ghost use Rattle.cqlp_cell.specs.Levels.{level_of, with_level};
+ghost use Rattle.cqlp_cell.specs.Whole.{TakesBare};
 
+use crate::level::Level;
 use crate::size::{Sized, size_up};
 use crate::standing::{CellDue, CellStanding, DueValue, NextInCell, Under};
 use cqlp_kind::Kind;
@@ -50,11 +52,10 @@ pub enum BarePart {
 }
 
 impl<A: Allocator> CellStanding<A> {
-    /// The next item of the innermost value, if nothing of it has come.
+    /// The innermost value that is open, where what is read next stands in it and nothing of that has come.
     #[inline(always)]
-    pub(crate) fn due_item(&self, table: &TypeTable<A>) -> Option<DueItem>
-        requires stands { Stands table.now.nodes (state_of self.now) }
-        ensures { IsDueItem table.now.nodes (state_of self.now) result }
+    pub(crate) fn level(&self) -> Option<Level>
+        ensures { result ≡ level_of (state_of self.now) }
     {
         let Under::Nothing = self.under else {
             return None;
@@ -62,17 +63,25 @@ impl<A: Allocator> CellStanding<A> {
         let NextInCell::Items = self.next else {
             return None;
         };
-        let CellDue::Value = self.due() else {
+        let Some(value) = self.open_values.last() else {
             return None;
         };
-        let value = self.value(table);
-        let room = value.stop - self.offset;
-        Some(DueItem {
-            at: self.offset,
-            kind: value.kind,
-            room,
+        Some(Level {
+            value,
             level: self.open_values.len(),
+            offset: self.offset,
         })
+    }
+
+    /// Goes on where a level stands, which is the innermost value from now on.
+    #[inline(always)]
+    pub(crate) fn set_level(&mut self, level: Level)
+        ensures state { state_of self.new ≡ with_level (state_of self.old) level }
+        ensures room { self.new.open_values.room ≡ self.old.open_values.room }
+        ensures limits { self.new.limits ≡ self.old.limits }
+    {
+        self.offset = level.offset;
+        self.open_values.set_last(level.value);
     }
 
     /// Takes what is next, where it has no content and all its bytes lie in the input.

@@ -1,6 +1,8 @@
 -- The loop over the items of cells.
-use Rattle.std.proofs.Common.{◌≡◌, ℕ, ◌+◌, ◌^◌, ◌<◌, true, false, List, [], refl, sym, ap, subst, ◌∙◌}
-use Rattle.std.specs.Prelude.{None}
+use Rattle.std.proofs.Common.{◌≡◌, ℕ, ◌+◌, ◌^◌, ◌<◌, true, false, List, [], refl, sym, ap, subst, ◌∙◌, ◌-◌, Bool, arith}
+use Rattle.std.proofs.lemmas.Bool.{eqb-true}
+use Rattle.std.specs.Prelude.{Some, None, ◌==◌}
+use Rattle.cqlp_kind.specs.declared.kind.Kind.{Kind}
 use Rattle.cqlp_kind.specs.declared.node.Node.{Node}
 use Rattle.cqlp_note.specs.Limits.{Rules, rules_of}
 use Rattle.cqlp_kind.specs.CellStep.{CellEvent, Leaf}
@@ -10,10 +12,14 @@ use Rattle.cqlp_cell.specs.declared.whole.BarePart.TheVariants as bare
 use Rattle.cqlp_cell.specs.declared.whole.DueItem.{DueItem}
 use Rattle.cqlp_cell.specs.declared.advance.CellAdvance.TheVariants as cell_advance
 use Rattle.cqlp_cell.specs.Items.{event_at}
-use Rattle.cqlp_cell.specs.Standing.{CellState, due_value, ended, is_under_way, state_after}
+use Rattle.cqlp_cell.specs.declared.level.Level.{Level}
+use Rattle.cqlp_cell.specs.Standing.{CellState, HasNext, due_value, ended, is_over, is_under_way, state_after}
+use Rattle.cqlp_cell.specs.Levels.{IsInLevel, NextFits, due_at, due_element, due_if, element_if, passed, with_level}
+use Rattle.cqlp_cell.proofs.Levels.{level_due, level_passed, next_fits}
 use Rattle.cqlp_cell.specs.Reading as taking
 use Rattle.cqlp_cell.specs.Pushing.{is_done}
 use Rattle.cqlp_cell.specs.Coming.{room_of}
+use Rattle.cqlp_type.specs.Forests.{node_at}
 use Rattle.cqlp_cell.specs.Fronts.{SaysScalar}
 use Rattle.cqlp_cell.specs.Whole.{IsDue, IsWhole, outline_of}
 use Rattle.cqlp_cell.proofs.WholeItems.{scalar_outline, scalar_is, scalar_whole, scalar_place}
@@ -24,7 +30,7 @@ use Rattle.cqlp_decode.specs.declared.standing.StreamStanding.{StreamStanding}
 use Rattle.cqlp_decode.specs.Reading.{Event, cell_event}
 use Rattle.cqlp_decode.specs.Pages.{cells_after}
 use Rattle.cqlp_decode.specs.Standing.{PartsState, Hands, GoesOn, IsAt, IsCell, IsConsistent, StageHolds, nodes_of, parts, state_of}
-use Rattle.cqlp_decode.specs.Items.{SaysLeaf, TakesItem, bare_event, part_told}
+use Rattle.cqlp_decode.specs.Items.{SaysLeaf, TakesItem, at_level, bare_event, part_told}
 use Rattle.cqlp_decode.proofs.CellSteps.{going_hands, ended_hands, cell_going_lawful, cell_ended_lawful}
 
 -- ---- one item
@@ -105,3 +111,55 @@ module _ (s : StreamStanding) (q : PartsState) (p : CellCursor) (here : s.stage 
             refl,
             subst (λ (x : CellEvent). Hands (state_of s q) input t.at t.used (cell_event p.row p.column x) (state_of e after)) (part_is t.part input q.partial.content) hands.1,
           )
+
+-- ---- the innermost value in a loop's hands
+
+module _ (s : StreamStanding) (q : PartsState) (p : CellCursor) (here : s.stage ≡ stage.InCell p) (l : Level) (inside : IsInLevel q.cells l) (law : IsConsistent s (at_level q l)) where
+  pub level_fits : is_over l.value l.offset ≡ false → NextFits (nodes_of q p.columns) l
+  level_fits = next_fits (nodes_of q p.columns) q.cells l inside (subst (λ (t : StreamStage). StageHolds s (at_level q l) t) here law.stage).0.stands
+
+  module _ (empty : q.partial.content ≡ []) (input : List ℕ) (t : DueItem) (found : due_at (nodes_of q p.columns) l ≡ Some t) where
+    abbrev item_due : IsDue (nodes_of q p.columns) (with_level q.cells l) t × (is_over l.value l.offset ≡ false)
+    item_due = level_due (nodes_of q p.columns) q.cells l inside t found
+
+    pub item_next : HasNext (nodes_of q p.columns) l.value l.value.order
+    item_next = (level_fits item_due.1).next
+
+    module _ (used : ℕ) (Holds : Event → Type 0) (says : SaysLeaf (rules_of s.limits) t.kind t.room t.level input p.row p.column used Holds) where
+      abbrev pub behind : Level
+      behind = passed (nodes_of q p.columns) l used
+
+      pub item_place : l.offset + used < 2 ^ 64
+      item_place = leaf_place s (at_level q l) p here law empty input (with_level q.cells behind) t item_due.0 used Holds says
+
+      pub item_lawful : IsConsistent s (at_level q behind)
+      item_lawful = leaf_lawful s (at_level q l) p here law empty input (with_level q.cells behind) t item_due.0 used Holds says (level_passed (nodes_of q p.columns) q.cells l inside used)
+
+      pub item_takes : TakesItem (state_of s (at_level q l)) input t.at used (cell_event p.row p.column (Leaf t.level says.value)) (state_of s (at_level q behind))
+      item_takes = leaf_takes s (at_level q l) p here law empty input (with_level q.cells behind) t item_due.0 used Holds says (level_passed (nodes_of q p.columns) q.cells l inside used)
+
+-- a list that is not at its end
+some_by : (n : ℕ) (b : Bool) → 0 < n → (n == 0) ≡ b → (n == 0) ≡ false
+some_by n true lt e = absurd (omega (arith, lt, eqb-true n 0 e))
+some_by n false lt e = e
+
+pub some_left : (n : ℕ) → 0 < n → (n == 0) ≡ false
+some_left n lt = some_by n (n == 0) lt refl
+
+kind_by : (l : Level) (k : Kind) (t : DueItem) (b : Bool) → element_if l k b ≡ Some t → t.kind ≡ k
+kind_by l k t true e = absurd cc
+kind_by l k t false e =
+    let same : record { at = l.offset; kind = k; room = l.value.stop - l.offset; level = l.level } ≡ t = cc in
+    sym (ap (λ (u : DueItem). u.kind) same)
+
+due_kind_by : (nodes : List Node) (l : Level) (t : DueItem) (b : Bool) → due_if nodes l b ≡ Some t → t.kind ≡ (node_at nodes l.value.node).kind
+due_kind_by nodes l t true e = absurd cc
+due_kind_by nodes l t false e =
+    let same : record { at = l.offset; kind = (node_at nodes l.value.node).kind; room = l.value.stop - l.offset; level = l.level } ≡ t = cc in
+    sym (ap (λ (u : DueItem). u.kind) same)
+
+pub due_kind : (nodes : List Node) (l : Level) (t : DueItem) → due_at nodes l ≡ Some t → t.kind ≡ (node_at nodes l.value.node).kind
+due_kind nodes l t e = due_kind_by nodes l t (is_over l.value l.offset) e
+
+pub element_kind : (l : Level) (k : Kind) (t : DueItem) → due_element l k ≡ Some t → t.kind ≡ k
+element_kind l k t e = kind_by l k t (l.value.left == 0) e

@@ -1,11 +1,12 @@
 -- The cells of a page, handed straight to a sink.
-use Rattle.std.specs.Prelude.{◌≡◌, ℕ, ◌+◌, ◌≤◌, ◌<◌, ◌*◌, List, [], ◌∷◌, ◌++◌, length, drop, Option, Some, None, Result, Ok, Err, ⊤}
+use Rattle.std.specs.Prelude.{◌≡◌, ℕ, ◌+◌, ◌≤◌, ◌<◌, ◌*◌, Bool, true, false, List, [], ◌∷◌, ◌++◌, length, drop, Option, Some, None, Result, Ok, Err, ⊤}
 use Rattle.cqlp_note.specs.Reader.{Got, says}
 use Rattle.cqlp_note.specs.Limits.{Rules}
 use Rattle.cqlp_kind.specs.declared.kind.Kind.{Kind}
 use Rattle.cqlp_kind.specs.Types.{Types}
 use Rattle.cqlp_kind.specs.CellStep.{CellEvent, CellSymbol, CellPlace, Null, Empty, place_after, value_step}
 use Rattle.cqlp_decode.specs.declared.step.FaultAfter.{FaultAfter}
+use Rattle.cqlp_decode.specs.declared.item_loop.ItemsHanded.{ItemsHanded}
 use Rattle.cqlp_decode.specs.declared.page_loop.Handed.{Handed}
 use Rattle.cqlp_decode.specs.declared.page_loop.Handed.TheVariants as handed
 use Rattle.cqlp_decode.specs.declared.page_loop.Bare.{Bare}
@@ -111,3 +112,11 @@ module _ {V : Type 0} (f : V → ℕ → Event → V) where
     abbrev pub DrainsCells : StreamState → List ℕ → Result ℕ FaultAfter → StreamState → (before after : V) → Type 0
     DrainsCells old input (Ok used) new before after = HandsOut old new input used before after
     DrainsCells old input (Err fault) new before after = FailsAfter old new input fault.used before after
+
+    abbrev pub EndsBy : (failed : Bool) → (old new : StreamState) → List ℕ → (used : ℕ) → (before after : V) → Type 0
+    EndsBy false old new input used before after = HandsOut old new input used before after
+    EndsBy true old new input used before after = FailsAfter old new input used before after
+
+    -- the same of items of one value
+    abbrev pub DrainsItems : StreamState → List ℕ → ItemsHanded → StreamState → (before after : V) → Type 0
+    DrainsItems old input items new before after = EndsBy items.failed old new input items.used before after

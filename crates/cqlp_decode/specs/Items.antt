@@ -6,6 +6,8 @@ use Rattle.cqlp_kind.specs.Scalars.{ScalarValue}
 use Rattle.cqlp_kind.specs.CellStep.{CellEvent}
 use Rattle.cqlp_kind.specs.CellStep as cell
 use Rattle.cqlp_cell.specs.Fronts.{SaysScalar}
+use Rattle.cqlp_cell.specs.Levels.{with_level}
+use Rattle.cqlp_cell.specs.declared.level.Level.{Level}
 use Rattle.cqlp_cell.specs.declared.whole.BarePart.{BarePart}
 use Rattle.cqlp_cell.specs.declared.whole.BarePart.TheVariants as bare
 use Rattle.cqlp_decode.specs.declared.item_loop.PartTaken.{PartTaken}
@@ -15,7 +17,7 @@ use Rattle.cqlp_decode.specs.declared.page.CellCursor.{CellCursor}
 use Rattle.cqlp_decode.specs.declared.standing.StreamStage.{StreamStage}
 use Rattle.cqlp_decode.specs.declared.standing.StreamStage.TheVariants as stage
 use Rattle.cqlp_decode.specs.Reading.{Event, cell_event}
-use Rattle.cqlp_decode.specs.Standing.{StreamState, Hands}
+use Rattle.cqlp_decode.specs.Standing.{StreamState, PartsState, Hands, parts}
 
 -- the event of a part of a cell that has no content
 abbrev pub bare_event : BarePart → CellEvent
@@ -62,6 +64,10 @@ abbrev pub HandsItem : StreamState → List ℕ → (HasGot Failed : ℕ → Eve
 HandsItem old input HasGot Failed handed.Left new = new ≡ old
 HandsItem old input HasGot Failed (handed.Cell used) new = TakesOne old input used HasGot new
 HandsItem old input HasGot Failed (handed.Fault used) new = TakesOne old input used Failed new
+
+-- the parts of a decoder, where the innermost value is this
+abbrev pub at_level : PartsState → Level → PartsState
+at_level q l = parts q.partial q.types (with_level q.cells l) q.table q.given
 
 -- What is next is this part, which has no content, or nothing is done.
 abbrev pub TakesPart : StreamState → List ℕ → (row column : ℕ) → Option PartTaken → StreamState → Type 0

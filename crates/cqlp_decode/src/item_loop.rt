@@ -5,20 +5,23 @@
 //! what the reading of the bytes says, and to stand where that does; and it reads by the functions by which `next`
 //! does, so that no rule stands here alone.
 
-ghost use Rattle.std.specs.Prelude.{◌≡◌, Ok, OnErr, OnOk, None, Some, []};
+ghost use Rattle.std.specs.Prelude.{◌≡◌, Ok, OnErr, OnOk, None, Some, [], false};
 ghost use Rattle.cqlp_note.specs.Limits.{rules_of};
 ghost use Rattle.cqlp_note.specs.declared.refusal.Refusal.{Refusal};
 ghost use Rattle.cqlp_decode.specs.declared.standing.StreamStage.TheVariants as stage;
-ghost use Rattle.cqlp_decode.specs.Cells.{DrainsCells, StaysWithin};
-ghost use Rattle.cqlp_decode.specs.Items.{HandsItem, HandsLeaf, IsIn, StaysIn, TakesPart, part_told};
-ghost use Rattle.cqlp_decode.specs.Standing.{IsLawful, state_with};
+ghost use Rattle.cqlp_decode.specs.Cells.{DrainsCells, DrainsItems, StaysWithin, UsesWithin};
+ghost use Rattle.cqlp_decode.specs.Items.{HandsLeaf, IsIn, StaysIn, TakesPart, at_level, part_told};
+ghost use Rattle.cqlp_type.specs.Forests.{node_at};
+ghost use Rattle.cqlp_cell.specs.declared.open_values.Order.TheVariants as order;
+ghost use Rattle.cqlp_cell.specs.Levels.{IsInLevel};
+ghost use Rattle.cqlp_decode.specs.Standing.{IsConsistent, IsLawful, nodes_of, parts_state, state_of, state_with};
 
 use crate::page::{CellCursor, page_table};
 use crate::page_loop::Handed;
 use crate::parts::Parts;
 use crate::standing::{StreamStage, StreamStanding};
 use crate::step::FaultAfter;
-use cqlp_cell::{BareItem, BarePart, DueItem, front_scalar};
+use cqlp_cell::{BareItem, BarePart, DueItem, Level, front_scalar};
 use cqlp_grammar::{Event, Sink, SinkFault};
 use cqlp_kind::Kind;
 use cqlp_note::Limits;
@@ -29,6 +32,13 @@ use std::alloc::Allocator;
 pub struct PartTaken {
     pub item: BareItem,
     pub over: bool,
+}
+
+/// How many bytes the items take that were handed out, and whether the sink failed at the last of them.
+#[derive(Clone, Copy, Debug, PartialEq, Eq)]
+pub struct ItemsHanded {
+    pub used: usize,
+    pub failed: bool,
 }
 
 /// Hands the items of cells to the sink, as far as the loop takes them, and answers how many bytes of the input they
@@ -59,16 +69,10 @@ pub fn take_items<S: Sink, A: Allocator>(
     let mut page = first;
     let mut used = 0;
     'items: loop {
-        match standing.hand_item(parts, page, &input[used..], sink) {
-            Handed::Left => {}
-            Handed::Cell(taken) => {
-                used += taken;
-                continue 'items;
-            }
-            Handed::Fault(taken) => {
-                let used = used + taken;
-                return Err(FaultAfter { used });
-            }
+        let handed = standing.hand_items(parts, page, &input[used..], sink);
+        used += handed.used;
+        if handed.failed {
+            return Err(FaultAfter { used });
         }
         let Some(taken) = standing.take_part(parts, page, &input[used..]) else {
             return Ok(used);
@@ -218,41 +222,212 @@ impl StreamStanding {
         }
     }
 
-    /// Hands the next item of the cell that is under way to the sink, if it is a scalar and all its bytes lie in the
-    /// input.
+    /// Hands the items of the innermost value to the sink, as long as each is a scalar, all whose bytes lie in the input.
     #[inline(always)]
-    fn hand_item<S: Sink, A: Allocator>(
+    fn hand_items<S: Sink, A: Allocator>(
         &self,
         parts: &mut Parts<A>,
         page: CellCursor,
         input: &[u8],
         sink: &mut S,
-    ) -> Handed
+    ) -> ItemsHanded
         requires lawful { IsLawful self.now parts.old }
         requires here { self.now.stage ≡ stage.InCell page }
+        requires unrefused { self.now.refusal ≡ None }
         requires empty { parts.old.partial.content ≡ [] }
         ensures lawful { IsLawful self.now parts.new }
         ensures empty { parts.new.partial.content ≡ [] }
-        ensures left { result ≡ Handed.Left → sink.new ≡ sink.old }
-        ensures hands { HandsItem (state_with self.now parts.old) input.now
-            (λ at e. S.tells sink.old → S.tells sink.new × (S.view sink.new ≡ S.after (S.view sink.old) at e))
-            (λ at e. S.tells sink.old → S.faulted (S.view sink.old) at e (S.view sink.new)) result
+        ensures given { (state_with self.now parts.new).given ≡ (state_with self.now parts.old).given }
+        ensures within { UsesWithin (state_with self.now parts.old) input.now (Ok result.used)
             (state_with self.now parts.new) }
+        ensures tells { S.tells sink.old → result.failed ≡ false → S.tells sink.new }
+        ensures drains { S.tells sink.old →
+            DrainsItems S.after S.faulted (state_with self.now parts.old) input.now result
+            (state_with self.now parts.new) (S.view sink.old) (S.view sink.new) }
     {
-        let table = page_table(page.columns, &parts.table, &parts.given);
-        let Some(due) = parts.cells.due_item(table) else {
-            return Handed::Left;
+        if let Some(first) = parts.cells.level() {
+            let table = page_table(page.columns, &parts.table, &parts.given);
+            let mut level = first;
+            if level.is_list() {
+                if let Some(due) = level.due_item(table) {
+                    let handed = self.hand_list(parts, due.kind, &mut level, page, input, sink);
+                    parts.cells.set_level(level);
+                    return handed;
+                }
+            }
+        }
+        self.hand_scalars(parts, page, input, sink)
+    }
+
+    /// The same of any value, whose items may be of many kinds.
+    #[inline(always)]
+    fn hand_scalars<S: Sink, A: Allocator>(
+        &self,
+        parts: &mut Parts<A>,
+        page: CellCursor,
+        input: &[u8],
+        sink: &mut S,
+    ) -> ItemsHanded
+        requires lawful { IsLawful self.now parts.old }
+        requires here { self.now.stage ≡ stage.InCell page }
+        requires unrefused { self.now.refusal ≡ None }
+        requires empty { parts.old.partial.content ≡ [] }
+        ensures lawful { IsLawful self.now parts.new }
+        ensures empty { parts.new.partial.content ≡ [] }
+        ensures given { (state_with self.now parts.new).given ≡ (state_with self.now parts.old).given }
+        ensures within { UsesWithin (state_with self.now parts.old) input.now (Ok result.used)
+            (state_with self.now parts.new) }
+        ensures tells { S.tells sink.old → result.failed ≡ false → S.tells sink.new }
+        ensures drains { S.tells sink.old →
+            DrainsItems S.after S.faulted (state_with self.now parts.old) input.now result
+            (state_with self.now parts.new) (S.view sink.old) (S.view sink.new) }
+    {
+        let Some(first) = parts.cells.level() else {
+            return ItemsHanded {
+                used: 0,
+                failed: false,
+            };
         };
-        match hand_leaf(&self.limits, due, page, input, sink) {
-            Handed::Left => Handed::Left,
-            Handed::Cell(used) => {
-                parts.cells.pass_scalar(used, table);
-                Handed::Cell(used)
+        let table = page_table(page.columns, &parts.table, &parts.given);
+        let limits = self.limits;
+        let mut level = first;
+        let mut used = 0;
+        'scalars: loop {
+            let Some(due) = level.due_item(table) else {
+                break 'scalars;
+            };
+            match hand_leaf(&limits, due, page, &input[used..], sink) {
+                Handed::Left => break 'scalars,
+                Handed::Cell(taken) => {
+                    level.pass(taken, table);
+                    used += taken;
+                }
+                Handed::Fault(taken) => {
+                    level.pass(taken, table);
+                    parts.cells.set_level(level);
+                    return ItemsHanded {
+                        used: used + taken,
+                        failed: true,
+                    };
+                }
             }
-            Handed::Fault(used) => {
-                parts.cells.pass_scalar(used, table);
-                Handed::Fault(used)
+        }
+        parts.cells.set_level(level);
+        ItemsHanded {
+            used,
+            failed: false,
+        }
+    }
+
+    /// The same of a list or a set, whose items are of this kind.
+    #[inline(always)]
+    fn hand_list<S: Sink, A: Allocator>(
+        &self,
+        parts: &Parts<A>,
+        kind: Kind,
+        level: &mut Level,
+        page: CellCursor,
+        input: &[u8],
+        sink: &mut S,
+    ) -> ItemsHanded
+        requires lawful { IsConsistent self.now (at_level (parts_state parts.now) level.old) }
+        requires inside { IsInLevel parts.now.cells level.old }
+        requires list { level.old.value.order ≡ order.Elements }
+        requires kind { kind ≡ (node_at (nodes_of (parts_state parts.now) page.columns) level.old.value.node).kind }
+        requires here { self.now.stage ≡ stage.InCell page }
+        requires unrefused { self.now.refusal ≡ None }
+        requires empty { parts.now.partial.content ≡ [] }
+        ensures lawful { IsConsistent self.now (at_level (parts_state parts.now) level.new) }
+        ensures within { UsesWithin (state_of self.now (at_level (parts_state parts.now) level.old)) input.now
+            (Ok result.used) (state_of self.now (at_level (parts_state parts.now) level.new)) }
+        ensures tells { S.tells sink.old → result.failed ≡ false → S.tells sink.new }
+        ensures drains { S.tells sink.old →
+            DrainsItems S.after S.faulted (state_of self.now (at_level (parts_state parts.now) level.old)) input.now result
+            (state_of self.now (at_level (parts_state parts.now) level.new)) (S.view sink.old) (S.view sink.new) }
+    {
+        // An arm for each kind, so that each has a loop of its own.
+        match kind {
+            Kind::Int => self.hand_elements(parts, Kind::Int, level, page, input, sink),
+            Kind::Bigint => self.hand_elements(parts, Kind::Bigint, level, page, input, sink),
+            Kind::Varchar => self.hand_elements(parts, Kind::Varchar, level, page, input, sink),
+            Kind::Boolean => self.hand_elements(parts, Kind::Boolean, level, page, input, sink),
+            Kind::Ascii => self.hand_elements(parts, Kind::Ascii, level, page, input, sink),
+            Kind::Blob => self.hand_elements(parts, Kind::Blob, level, page, input, sink),
+            Kind::Counter => self.hand_elements(parts, Kind::Counter, level, page, input, sink),
+            Kind::Custom => self.hand_elements(parts, Kind::Custom, level, page, input, sink),
+            Kind::Date => self.hand_elements(parts, Kind::Date, level, page, input, sink),
+            Kind::Decimal => self.hand_elements(parts, Kind::Decimal, level, page, input, sink),
+            Kind::Double => self.hand_elements(parts, Kind::Double, level, page, input, sink),
+            Kind::Float => self.hand_elements(parts, Kind::Float, level, page, input, sink),
+            Kind::Inet => self.hand_elements(parts, Kind::Inet, level, page, input, sink),
+            Kind::Raw => self.hand_elements(parts, Kind::Raw, level, page, input, sink),
+            Kind::Smallint => self.hand_elements(parts, Kind::Smallint, level, page, input, sink),
+            Kind::Time => self.hand_elements(parts, Kind::Time, level, page, input, sink),
+            Kind::Timestamp => self.hand_elements(parts, Kind::Timestamp, level, page, input, sink),
+            Kind::Timeuuid => self.hand_elements(parts, Kind::Timeuuid, level, page, input, sink),
+            Kind::Tinyint => self.hand_elements(parts, Kind::Tinyint, level, page, input, sink),
+            Kind::Uuid => self.hand_elements(parts, Kind::Uuid, level, page, input, sink),
+            Kind::Varint => self.hand_elements(parts, Kind::Varint, level, page, input, sink),
+            Kind::List | Kind::Map | Kind::Set | Kind::Udt | Kind::Tuple => ItemsHanded {
+                used: 0,
+                failed: false,
+            },
+        }
+    }
+
+    /// Hands the items of a list or a set of scalars of this kind to the sink, as long as all bytes of each lie in the input.
+    #[inline(always)]
+    fn hand_elements<S: Sink, A: Allocator>(
+        &self,
+        parts: &Parts<A>,
+        kind: Kind,
+        level: &mut Level,
+        page: CellCursor,
+        input: &[u8],
+        sink: &mut S,
+    ) -> ItemsHanded
+        requires lawful { IsConsistent self.now (at_level (parts_state parts.now) level.old) }
+        requires inside { IsInLevel parts.now.cells level.old }
+        requires list { level.old.value.order ≡ order.Elements }
+        requires kind { kind ≡ (node_at (nodes_of (parts_state parts.now) page.columns) level.old.value.node).kind }
+        requires here { self.now.stage ≡ stage.InCell page }
+        requires unrefused { self.now.refusal ≡ None }
+        requires empty { parts.now.partial.content ≡ [] }
+        ensures lawful { IsConsistent self.now (at_level (parts_state parts.now) level.new) }
+        ensures within { UsesWithin (state_of self.now (at_level (parts_state parts.now) level.old)) input.now
+            (Ok result.used) (state_of self.now (at_level (parts_state parts.now) level.new)) }
+        ensures tells { S.tells sink.old → result.failed ≡ false → S.tells sink.new }
+        ensures drains { S.tells sink.old →
+            DrainsItems S.after S.faulted (state_of self.now (at_level (parts_state parts.now) level.old)) input.now result
+            (state_of self.now (at_level (parts_state parts.now) level.new)) (S.view sink.old) (S.view sink.new) }
+    {
+        let limits = self.limits;
+        let mut here = *level;
+        let mut used = 0;
+        'elements: loop {
+            let Some(due) = here.due_element(kind) else {
+                break 'elements;
+            };
+            match hand_kind(&limits, kind, due, page, &input[used..], sink) {
+                Handed::Left => break 'elements,
+                Handed::Cell(taken) => {
+                    here.pass_element(taken);
+                    used += taken;
+                }
+                Handed::Fault(taken) => {
+                    here.pass_element(taken);
+                    *level = here;
+                    return ItemsHanded {
+                        used: used + taken,
+                        failed: true,
+                    };
+                }
             }
+        }
+        *level = here;
+        ItemsHanded {
+            used,
+            failed: false,
         }
     }
 

@@ -1,121 +1,125 @@
-use Rattle.std.proofs.Common.{◌≡◌, drop, refl, sym, ap, subst, ◌∙◌, arith}
+use Rattle.std.proofs.Common.{◌≡◌, ◌+◌, drop, sym, ap, subst, ◌∙◌, arith}
 use Rattle.std.proofs.lemmas.List.{length-drop}
 use Rattle.cqlp_decode.specs.Standing.{StreamState, state_with}
 use Rattle.cqlp_decode.specs.Items.{TakesItem, part_told}
 use Rattle.cqlp_decode.proofs.Gets.{rest_is}
-use Rattle.cqlp_decode.proofs.Taken.{item_drains, item_fails}
+use Rattle.cqlp_decode.proofs.Taken.{fails_then, hands_then, item_drains, item_fails}
 use Rattle.cqlp_decode.proofs.item_loop.take_items.Goals as goal
 
-pub returns-in-Fault-clause-drains : goal.returns-in-Fault-clause-drains
-returns-in-Fault-clause-drains g c = λ tells.
+pub returns-then-handed-clause-drains : goal.returns-then-handed-clause-drains
+returns-then-handed-clause-drains g c = λ tells.
     let i = c.items.invariant in
-    let old = state_with c.items.standing c.items.parts in
-    let new = state_with c.items.standing c.hand_item.new.parts in
+    let u = c.items.used in
+    let m = c.hand_items-handed in
+    let n = m.result.used in
     let input = c.args.input.now in
-    let one = rw rest_is at c.in-Fault.ensures.hands in
-    item_fails g.S.Sink.after (state_with c.args.standing.now c.args.parts.now) old new input c.items.used _ _ (i.drained tells) i.unrefused one.at c.in-Fault.taken one.event one.takes g.S.Sink.faulted _ (one.holds (i.tells tells))
+    let old = state_with c.items.standing c.items.parts in
+    let mid = state_with c.items.standing m.new.parts in
+    fails_then g.S.Sink.after g.S.Sink.faulted (state_with c.args.standing.now c.args.parts.now) old mid input u n _ _ _ (i.drained tells) ((rw (rest_is, c.if-handed.true) at m.ensures.drains) (i.tells tells))
+
+pub returns-in_default-take_part-clause-drains : goal.returns-in_default-take_part-clause-drains
+returns-in_default-take_part-clause-drains g c = λ tells.
+    let i = c.items.invariant in
+    let u = c.items.used in
+    let m = c.hand_items-handed in
+    let n = m.result.used in
+    let input = c.args.input.now in
+    let old = state_with c.items.standing c.items.parts in
+    let mid = state_with c.items.standing m.new.parts in
+    rw c.in_default-take_part.ensures.takes (hands_then g.S.Sink.after (state_with c.args.standing.now c.args.parts.now) old mid input u n _ _ _ (i.drained tells) ((rw (rest_is, c.if-handed.false) at m.ensures.drains) (i.tells tells)))
 
 pub returns-in-Err-clause-drains : goal.returns-in-Err-clause-drains
 returns-in-Err-clause-drains g c = λ tells.
     let i = c.items.invariant in
+    let u = c.items.used in
+    let m = c.hand_items-handed in
+    let n = m.result.used in
+    let input = c.args.input.now in
+    let old = state_with c.items.standing c.items.parts in
+    let mid = state_with c.items.standing m.new.parts in
     let t = c.in-Some-take_part.taken.item in
     let p = c.items.page in
-    let old = state_with c.items.standing c.items.parts in
-    let new = state_with c.take_part.new.self c.take_part.new.parts in
-    let input = c.args.input.now in
     let told = part_told p.row p.column t.part in
-    let none = c.in-Left.ensures.hands in
-    let given : TakesItem (state_with c.items.standing c.hand_item.new.parts) (drop c.items.used input) t.at t.used told new = rw rest_is at c.in-Some-take_part.ensures.takes in
-    let h : TakesItem old (drop c.items.used input) t.at t.used told new = subst (λ (z : StreamState). TakesItem z (drop c.items.used input) t.at t.used told new) none given in
-    item_fails g.S.Sink.after (state_with c.args.standing.now c.args.parts.now) old new input c.items.used _ _ (i.drained tells) i.unrefused t.at t.used told h g.S.Sink.faulted _ ((rw (c.in-Left.ensures.left refl) at c.in-Err.ensures.err) (i.tells tells))
+    let new = state_with c.take_part.new.self c.take_part.new.parts in
+    let h : TakesItem mid (drop (u + n) input) t.at t.used told new = rw rest_is at c.in-Some-take_part.ensures.takes in
+    item_fails g.S.Sink.after (state_with c.args.standing.now c.args.parts.now) mid new input (u + n) _ _ (hands_then g.S.Sink.after (state_with c.args.standing.now c.args.parts.now) old mid input u n _ _ _ (i.drained tells) ((rw (rest_is, c.if-handed.false) at m.ensures.drains) (i.tells tells))) i.unrefused t.at t.used told h g.S.Sink.faulted _ (c.in-Err.ensures.err (m.ensures.tells (i.tells tells) c.if-handed.false))
 
-pub items-preserved-in-Cell : goal.items-preserved-in-Cell
-items-preserved-in-Cell g c =
+pub returns-in_default-enter_cell-clause-drains : goal.returns-in_default-enter_cell-clause-drains
+returns-in_default-enter_cell-clause-drains g c = λ tells.
     let i = c.items.invariant in
-    let old = state_with c.items.standing c.items.parts in
-    let new = state_with c.items.standing c.hand_item.new.parts in
+    let u = c.items.used in
+    let m = c.hand_items-handed in
+    let n = m.result.used in
     let input = c.args.input.now in
-    let one = rw rest_is at c.in-Cell.ensures.hands in
-    let h = one.takes in
+    let old = state_with c.items.standing c.items.parts in
+    let mid = state_with c.items.standing m.new.parts in
+    let t = c.in-Some-take_part.taken.item in
+    let p = c.items.page in
+    let told = part_told p.row p.column t.part in
+    let over = state_with c.take_part.new.self c.take_part.new.parts in
+    let new = state_with c.enter_cell-then-taken.new.self c.enter_cell-then-taken.new.parts in
+    let same : new ≡ over = c.in_default-enter_cell.ensures.same in
+    let taken : TakesItem mid (drop (u + n) input) t.at t.used told over = rw rest_is at c.in-Some-take_part.ensures.takes in
+    let h : TakesItem mid (drop (u + n) input) t.at t.used told new = subst (λ (z : StreamState). TakesItem mid (drop (u + n) input) t.at t.used told z) (sym same) taken in
+    item_drains g.S.Sink.after (state_with c.args.standing.now c.args.parts.now) mid new input (u + n) _ _ (hands_then g.S.Sink.after (state_with c.args.standing.now c.args.parts.now) old mid input u n _ _ _ (i.drained tells) ((rw (rest_is, c.if-handed.false) at m.ensures.drains) (i.tells tells))) i.unrefused t.at t.used told h _ (c.in-Ok.ensures.ok (m.ensures.tells (i.tells tells) c.if-handed.false)).1
+
+pub items-preserved-then-taken : goal.items-preserved-then-taken
+items-preserved-then-taken g c =
+    let i = c.items.invariant in
+    let u = c.items.used in
+    let m = c.hand_items-handed in
+    let n = m.result.used in
+    let input = c.args.input.now in
+    let old = state_with c.items.standing c.items.parts in
+    let mid = state_with c.items.standing m.new.parts in
+    let t = c.in-Some-take_part.taken.item in
+    let p = c.items.page in
+    let told = part_told p.row p.column t.part in
+    let over = state_with c.take_part.new.self c.take_part.new.parts in
+    let new = state_with c.enter_cell-then-taken.new.self c.enter_cell-then-taken.new.parts in
+    let same : new ≡ over = c.in-Some-enter_cell.ensures.same in
+    let taken : TakesItem mid (drop (u + n) input) t.at t.used told over = rw rest_is at c.in-Some-take_part.ensures.takes in
+    let h : TakesItem mid (drop (u + n) input) t.at t.used told new = subst (λ (z : StreamState). TakesItem mid (drop (u + n) input) t.at t.used told z) (sym same) taken in
+    let w = rw rest_is at m.ensures.within in
     record {
-      within = omega (arith, i.within, h.3.within, length-drop c.items.used input);
-      lawful = c.in-Cell.ensures.lawful;
-      here = i.here;
-      unrefused = i.unrefused;
-      empty = c.in-Cell.ensures.empty;
-      rules = i.rules;
-      given = h.2 ∙ i.given;
-      pays = omega (arith, h.3.pays, i.pays);
-      tells = λ tells. (one.holds (i.tells tells)).0;
-      drained = λ tells. item_drains g.S.Sink.after (state_with c.args.standing.now c.args.parts.now) old new input c.items.used _ _ (i.drained tells) i.unrefused one.at c.in-Cell.taken one.event h _ (one.holds (i.tells tells)).1;
+      within = omega (arith, i.within, w.0, h.3.within, length-drop u input, length-drop (u + n) input);
+      lawful = c.in-Some-enter_cell.ensures.lawful;
+      here = c.in-Some-enter_cell.ensures.here;
+      unrefused = h.0 ∙ i.unrefused;
+      empty = ap (λ (z : StreamState). z.held) same ∙ c.in-Some-take_part.ensures.empty;
+      rules = h.1 ∙ i.rules;
+      given = h.2 ∙ m.ensures.given ∙ i.given;
+      pays = omega (arith, h.3.pays, w.1, i.pays);
+      tells = λ tells. (c.in-Ok.ensures.ok (m.ensures.tells (i.tells tells) c.if-handed.false)).0;
+      drained = λ tells.
+          item_drains g.S.Sink.after (state_with c.args.standing.now c.args.parts.now) mid new input (u + n) _ _ (hands_then g.S.Sink.after (state_with c.args.standing.now c.args.parts.now) old mid input u n _ _ _ (i.drained tells) ((rw (rest_is, c.if-handed.false) at m.ensures.drains) (i.tells tells))) i.unrefused t.at t.used told h _ (c.in-Ok.ensures.ok (m.ensures.tells (i.tells tells) c.if-handed.false)).1;
     }
 
 pub items-preserved : goal.items-preserved
 items-preserved g c =
     let i = c.items.invariant in
+    let u = c.items.used in
+    let m = c.hand_items-handed in
+    let n = m.result.used in
+    let input = c.args.input.now in
+    let old = state_with c.items.standing c.items.parts in
+    let mid = state_with c.items.standing m.new.parts in
     let t = c.in-Some-take_part.taken.item in
     let p = c.items.page in
-    let old = state_with c.items.standing c.items.parts in
-    let new = state_with c.take_part.new.self c.take_part.new.parts in
-    let input = c.args.input.now in
     let told = part_told p.row p.column t.part in
-    let none = c.in-Left.ensures.hands in
-    let given : TakesItem (state_with c.items.standing c.hand_item.new.parts) (drop c.items.used input) t.at t.used told new = rw rest_is at c.in-Some-take_part.ensures.takes in
-    let h : TakesItem old (drop c.items.used input) t.at t.used told new = subst (λ (z : StreamState). TakesItem z (drop c.items.used input) t.at t.used told new) none given in
+    let new = state_with c.take_part.new.self c.take_part.new.parts in
+    let h : TakesItem mid (drop (u + n) input) t.at t.used told new = rw rest_is at c.in-Some-take_part.ensures.takes in
+    let w = rw rest_is at m.ensures.within in
     record {
-      within = omega (arith, i.within, h.3.within, length-drop c.items.used input);
+      within = omega (arith, i.within, w.0, h.3.within, length-drop u input, length-drop (u + n) input);
       lawful = c.in-Some-take_part.ensures.lawful;
       here = c.in-Some-take_part.ensures.here c.if-taken.false;
       unrefused = h.0 ∙ i.unrefused;
       empty = c.in-Some-take_part.ensures.empty;
       rules = h.1 ∙ i.rules;
-      given = h.2 ∙ i.given;
-      pays = omega (arith, h.3.pays, i.pays);
-      tells = λ tells. ((rw (c.in-Left.ensures.left refl) at c.in-Ok.ensures.ok) (i.tells tells)).0;
-      drained = λ tells. item_drains g.S.Sink.after (state_with c.args.standing.now c.args.parts.now) old new input c.items.used _ _ (i.drained tells) i.unrefused t.at t.used told h _ ((rw (c.in-Left.ensures.left refl) at c.in-Ok.ensures.ok) (i.tells tells)).1;
+      given = h.2 ∙ m.ensures.given ∙ i.given;
+      pays = omega (arith, h.3.pays, w.1, i.pays);
+      tells = λ tells. (c.in-Ok.ensures.ok (m.ensures.tells (i.tells tells) c.if-handed.false)).0;
+      drained = λ tells.
+          item_drains g.S.Sink.after (state_with c.args.standing.now c.args.parts.now) mid new input (u + n) _ _ (hands_then g.S.Sink.after (state_with c.args.standing.now c.args.parts.now) old mid input u n _ _ _ (i.drained tells) ((rw (rest_is, c.if-handed.false) at m.ensures.drains) (i.tells tells))) i.unrefused t.at t.used told h _ (c.in-Ok.ensures.ok (m.ensures.tells (i.tells tells) c.if-handed.false)).1;
     }
-
-pub items-preserved-then-taken : goal.items-preserved-then-taken
-items-preserved-then-taken g c =
-    let i = c.items.invariant in
-    let t = c.in-Some-take_part.taken.item in
-    let p = c.items.page in
-    let old = state_with c.items.standing c.items.parts in
-    let mid = state_with c.take_part.new.self c.take_part.new.parts in
-    let new = state_with c.enter_cell-then-taken.new.self c.enter_cell-then-taken.new.parts in
-    let same : new ≡ mid = c.in-Some-enter_cell.ensures.same in
-    let input = c.args.input.now in
-    let told = part_told p.row p.column t.part in
-    let none = c.in-Left.ensures.hands in
-    let given : TakesItem (state_with c.items.standing c.hand_item.new.parts) (drop c.items.used input) t.at t.used told mid = rw rest_is at c.in-Some-take_part.ensures.takes in
-    let h : TakesItem old (drop c.items.used input) t.at t.used told mid = subst (λ (z : StreamState). TakesItem z (drop c.items.used input) t.at t.used told mid) none given in
-    let k : TakesItem old (drop c.items.used input) t.at t.used told new = subst (λ (z : StreamState). TakesItem old (drop c.items.used input) t.at t.used told z) (sym same) h in
-    record {
-      within = omega (arith, i.within, h.3.within, length-drop c.items.used input);
-      lawful = c.in-Some-enter_cell.ensures.lawful;
-      here = c.in-Some-enter_cell.ensures.here;
-      unrefused = k.0 ∙ i.unrefused;
-      empty = ap (λ (z : StreamState). z.held) same ∙ c.in-Some-take_part.ensures.empty;
-      rules = k.1 ∙ i.rules;
-      given = k.2 ∙ i.given;
-      pays = omega (arith, k.3.pays, i.pays);
-      tells = λ tells. ((rw (c.in-Left.ensures.left refl) at c.in-Ok.ensures.ok) (i.tells tells)).0;
-      drained = λ tells. item_drains g.S.Sink.after (state_with c.args.standing.now c.args.parts.now) old new input c.items.used _ _ (i.drained tells) i.unrefused t.at t.used told k _ ((rw (c.in-Left.ensures.left refl) at c.in-Ok.ensures.ok) (i.tells tells)).1;
-    }
-
-pub returns-in_default-enter_cell-clause-drains : goal.returns-in_default-enter_cell-clause-drains
-returns-in_default-enter_cell-clause-drains g c = λ tells.
-    let i = c.items.invariant in
-    let t = c.in-Some-take_part.taken.item in
-    let p = c.items.page in
-    let old = state_with c.items.standing c.items.parts in
-    let mid = state_with c.take_part.new.self c.take_part.new.parts in
-    let new = state_with c.enter_cell-then-taken.new.self c.enter_cell-then-taken.new.parts in
-    let same : new ≡ mid = c.in_default-enter_cell.ensures.same in
-    let input = c.args.input.now in
-    let told = part_told p.row p.column t.part in
-    let none = c.in-Left.ensures.hands in
-    let given : TakesItem (state_with c.items.standing c.hand_item.new.parts) (drop c.items.used input) t.at t.used told mid = rw rest_is at c.in-Some-take_part.ensures.takes in
-    let h : TakesItem old (drop c.items.used input) t.at t.used told mid = subst (λ (z : StreamState). TakesItem z (drop c.items.used input) t.at t.used told mid) none given in
-    let k : TakesItem old (drop c.items.used input) t.at t.used told new = subst (λ (z : StreamState). TakesItem old (drop c.items.used input) t.at t.used told z) (sym same) h in
-    item_drains g.S.Sink.after (state_with c.args.standing.now c.args.parts.now) old new input c.items.used _ _ (i.drained tells) i.unrefused t.at t.used told k _ ((rw (c.in-Left.ensures.left refl) at c.in-Ok.ensures.ok) (i.tells tells)).1
