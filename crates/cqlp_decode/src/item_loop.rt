@@ -342,8 +342,9 @@ impl StreamStanding {
             (Ok result.used) (state_of self.now (at_level (parts_state parts.now) level.new)) }
         ensures tells { S.tells sink.old → result.failed ≡ false → S.tells sink.new }
         ensures drains { S.tells sink.old →
-            DrainsItems S.after S.faulted (state_of self.now (at_level (parts_state parts.now) level.old)) input.now result
-            (state_of self.now (at_level (parts_state parts.now) level.new)) (S.view sink.old) (S.view sink.new) }
+            DrainsItems S.after S.faulted (state_of self.now (at_level (parts_state parts.now) level.old)) input.now
+            result (state_of self.now (at_level (parts_state parts.now) level.new)) (S.view sink.old)
+            (S.view sink.new) }
     {
         // An arm for each kind, so that each has a loop of its own.
         match kind {
@@ -398,8 +399,9 @@ impl StreamStanding {
             (Ok result.used) (state_of self.now (at_level (parts_state parts.now) level.new)) }
         ensures tells { S.tells sink.old → result.failed ≡ false → S.tells sink.new }
         ensures drains { S.tells sink.old →
-            DrainsItems S.after S.faulted (state_of self.now (at_level (parts_state parts.now) level.old)) input.now result
-            (state_of self.now (at_level (parts_state parts.now) level.new)) (S.view sink.old) (S.view sink.new) }
+            DrainsItems S.after S.faulted (state_of self.now (at_level (parts_state parts.now) level.old)) input.now
+            result (state_of self.now (at_level (parts_state parts.now) level.new)) (S.view sink.old)
+            (S.view sink.new) }
     {
         let limits = self.limits;
         let mut here = *level;
