@@ -14,6 +14,7 @@ use Rattle.cqlp_grammar.specs.declared.table.Expected.TheVariants as due
 use Rattle.cqlp_grammar.specs.declared.upcoming.Slot.{Slot}
 use Rattle.cqlp_grammar.specs.declared.upcoming.Slot.TheVariants.{One, Many}
 use Rattle.cqlp_grammar.specs.Upcoming.{symbols_of, symbols_in, need, room_after, room_after_due, room_for, wanted, wants, FirstFits, IsDue, IsFirst, IsSlot, IsRead, AreRead, Fits, Popped, Pops}
+use Rattle.cqlp_grammar.specs.Opening.{Opens}
 
 pub symbols_pushed : (ss : List Slot) (s : Slot) → symbols_in (ss ++ s ∷ []) ≡ symbols_of s ++ symbols_in ss
 symbols_pushed [] s = sym (append-nil (symbols_of s))
@@ -53,6 +54,17 @@ module _ (slots : List Slot) (n : ℕ) (d : Slot) (some : 0 < n) (within : n ≤
   popped_last s is f =
       let p : Popped (take n slots) (Some (get_or slots (n - 1) d)) (take (n - 1) slots) = (popped-is, (popped-fits f).2, (popped-fits f).1) in
       rw is at p
+
+  -- one fewer of several groups
+  pub fewer-is : (g : Group) (k : ℕ) → take n (set slots (n - 1) (Many g (k - 1))) ≡ take (n - 1) slots ++ Many g (k - 1) ∷ []
+  fewer-is g k =
+      let e : n ≡ (n - 1) + 1 = omega arith in
+      ap (λ (i : ℕ). take i (set slots (n - 1) (Many g (k - 1)))) e ∙ take_more_set slots (n - 1) (Many g (k - 1)) (omega arith)
+
+  pub fewer-fits : (g : Group) (k : ℕ) → get_or slots (n - 1) d ≡ Many g k → 1 < k → Fits 0 (take n slots) → Fits 0 (take n (set slots (n - 1) (Many g (k - 1))))
+  fewer-fits g k is many f =
+      let p = popped_last (Many g k) is f in
+      rw (fewer-is g k) (fits-push 0 (take (n - 1) slots) (Many g (k - 1)) (popped-fits f).0 (omega arith) (omega (arith, p.1)))
 
 -- ---- several fields
 
@@ -155,17 +167,30 @@ drop_first : (xs ys : List Symbol) → 0 < length xs → drop 1 (xs ++ ys) ≡ d
 drop_first [] ys some = absurd (omega arith)
 drop_first (x ∷ xs) ys some = refl
 
-pub passes_many : (old mid rest new : List Slot) (g : Group) (n : ℕ) → Popped old (Some (Many g n)) mid → symbols_in rest ≡ copies (n - 1) (group g) ++ symbols_in mid → symbols_in new ≡ drop 1 (group g) ++ symbols_in rest
+not_none : (old new : List Slot) (g : Group) → symbols_in old ≡ group g ++ symbols_in new → old ≡ [] → ⊥
+not_none old new g is none = omega (arith, group_some g, length-append (group g) (symbols_in new), ap length (sym is ∙ ap symbols_in none))
+
+pub passes_group : (old rest new : List Slot) (g : Group) → Opens old (Some g) rest → symbols_in new ≡ drop 1 (group g) ++ symbols_in rest
     → ((w : Expected) → IsFirst (wanted w) (group g) → length new + room_after_due w ≤ 16) → (o : Option Expected) → IsDue old o → Pops old o new
-passes_many old mid rest new g n p others next room None d = absurd (not_empty old mid (Many g n) p.0 d)
-passes_many old mid rest new g n p others next room (Some w) d =
-    let more : n ≡ suc (n - 1) = omega (arith, p.2) in
-    let is : symbols_in old ≡ group g ++ symbols_in rest =
-    ap symbols_in p.0 ∙ symbols_pushed mid (Many g n) ∙ ap (λ (k : ℕ). copies k (group g) ++ symbols_in mid) more
-    ∙ append_assoc (group g) (copies (n - 1) (group g)) (symbols_in mid) ∙ ap (λ (x : List Symbol). group g ++ x) (sym others) in
+passes_group old rest new g opens next room None d = absurd (not_none old rest g opens.0 d)
+passes_group old rest new g opens next room (Some w) d =
     let after : drop 1 (symbols_in old) ≡ symbols_in new =
-    ap (λ (x : List Symbol). drop 1 x) is ∙ drop_first (group g) (symbols_in rest) (group_some g) ∙ sym next in
-    (d.0 ∙ ap (λ (x : List Symbol). wanted w ∷ x) after, room w (first_of (wanted w) (group g) (symbols_in rest) (group_some g) (rw is at d.0)), d.1)
+    ap (λ (x : List Symbol). drop 1 x) opens.0 ∙ drop_first (group g) (symbols_in rest) (group_some g) ∙ sym next in
+    (d.0 ∙ ap (λ (x : List Symbol). wanted w ∷ x) after, room w (first_of (wanted w) (group g) (symbols_in rest) (group_some g) (rw opens.0 at d.0)), d.1)
+
+-- one of several groups is opened
+pub opens_one : (old new : List Slot) (g : Group) (n : ℕ) → Popped old (Some (Many g n)) new → n ≤ 1 → Opens old (Some g) new
+opens_one old new g n p few =
+    let one : n ≡ 1 = omega (arith, p.2) in
+    (ap symbols_in p.0 ∙ symbols_pushed new (Many g n) ∙ ap (λ (k : ℕ). copies k (group g) ++ symbols_in new) one ∙ ap (λ (x : List Symbol). x ++ symbols_in new) (append-nil (group g)), omega (arith, p.1))
+
+pub opens_many : (old mid : List Slot) (g : Group) (n : ℕ) → Popped old (Some (Many g n)) mid → 1 < n → Opens old (Some g) (mid ++ Many g (n - 1) ∷ [])
+opens_many old mid g n p many =
+    let more : n ≡ suc (n - 1) = omega (arith, p.2) in (
+      ap symbols_in p.0 ∙ symbols_pushed mid (Many g n) ∙ ap (λ (k : ℕ). copies k (group g) ++ symbols_in mid) more
+          ∙ append_assoc (group g) (copies (n - 1) (group g)) (symbols_in mid) ∙ ap (λ (x : List Symbol). group g ++ x) (sym (symbols_pushed mid (Many g (n - 1)))),
+      omega (arith, p.1, length-append mid (Many g (n - 1) ∷ [])),
+    )
 
 -- ---- pages
 

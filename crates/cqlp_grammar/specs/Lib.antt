@@ -1,3 +1,4 @@
 pub mod Events
+pub mod Opening
 pub mod Productions
 pub mod Upcoming

@@ -34,7 +34,8 @@ impl Model for Upcoming {
 }
 
 impl Upcoming {
-    ghost use Rattle.cqlp_grammar.specs.Upcoming.{IsDue, IsFirst, Popped, Pops, IsSlot, IsRead, AreRead, need, opened, room_after_due, room_for, symbols_in, wanted, wants};
+    ghost use Rattle.cqlp_grammar.specs.Upcoming.{IsDue, IsFirst, IsSlot, Pops, IsRead, AreRead, need, opened, room_after_due, room_for, symbols_in, wanted, wants};
+    ghost use Rattle.cqlp_grammar.specs.Opening.{Opens};
     ghost use Rattle.cqlp_grammar.specs.Productions.{copies, group as symbols_of_group};
 
     pub fn new() -> Self
@@ -68,15 +69,36 @@ impl Upcoming {
 
     /// Goes past what is due next.
     #[inline(always)]
-    #[tactic(auto, using(crate::proofs::Stack::passes_none, crate::proofs::Stack::passes_one, crate::proofs::Stack::passes_many))]
+    #[tactic(auto, using(crate::proofs::Stack::passes_group))]
     pub fn pass(&mut self)
         ensures { (o : Option Expected) → IsDue self.old o → Pops self.old o self.new }
     {
-        match self.pop_slot() {
-            None | Some(Slot::One(_)) => {}
-            Some(Slot::Many(group, left)) => {
-                self.push_many(group, left - 1);
-                self.push_others(group);
+        if let Some(group) = self.open_group() {
+            self.push_others(group);
+        }
+    }
+
+    /// Takes off the field that is due next, or the group that it begins, and answers which group that is.
+    #[inline(always)]
+    fn open_group(&mut self) -> Option<Group>
+        ensures { Opens self.old result self.new }
+    {
+        if self.len == 0 {
+            return None;
+        }
+        let last = self.len - 1;
+        match self.slots[last] {
+            Slot::Many(group, left) => {
+                if left > 1 {
+                    self.slots[last] = Slot::Many(group, left - 1);
+                } else {
+                    self.len = last;
+                }
+                Some(group)
+            }
+            Slot::One(_) => {
+                self.len = last;
+                None
             }
         }
     }
@@ -149,15 +171,5 @@ impl Upcoming {
     {
         self.slots[self.len] = slot;
         self.len += 1;
-    }
-
-    fn pop_slot(&mut self) -> Option<Slot>
-        ensures { Popped self.old result self.new }
-    {
-        if self.len == 0 {
-            return None;
-        }
-        self.len -= 1;
-        Some(self.slots[self.len])
     }
 }
