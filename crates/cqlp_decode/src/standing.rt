@@ -280,6 +280,7 @@ impl StreamStanding {
     }
 
     /// Goes on to what is due next in the message.
+    #[inline(always)]
     pub fn go_on(&mut self)
         ensures symbols { (q : PartsState) → symbols_at self.new.stage q self.new.upcoming ≡ rest_of self.old.upcoming }
         ensures room { HasRoom self.new.stage self.new.upcoming }
