@@ -40,6 +40,15 @@ module _ (slots : List Slot) (n : ℕ) (s : Slot) (within : n < length slots) wh
   pub pushed-fits : Fits 0 (take n slots) → IsSlot s → n + need s ≤ 16 → Fits 0 (take (n + 1) (set slots n s))
   pushed-fits f law le = rw pushed-is (fits-push 0 (take n slots) s f law (omega (arith, length-take-le n slots (omega arith))))
 
+-- one of several groups is opened
+pub opens_many : (old mid : List Slot) (g : Group) (n : ℕ) → Popped old (Some (Many g n)) mid → 1 < n → Opens old (Some g) (mid ++ Many g (n - 1) ∷ [])
+opens_many old mid g n p many =
+    let more : n ≡ suc (n - 1) = omega (arith, p.2) in (
+      ap symbols_in p.0 ∙ symbols_pushed mid (Many g n) ∙ ap (λ (k : ℕ). copies k (group g) ++ symbols_in mid) more
+          ∙ append_assoc (group g) (copies (n - 1) (group g)) (symbols_in mid) ∙ ap (λ (x : List Symbol). group g ++ x) (sym (symbols_pushed mid (Many g (n - 1)))),
+      omega (arith, p.1, length-append mid (Many g (n - 1) ∷ [])),
+    )
+
 -- the last of n slots is read
 module _ (slots : List Slot) (n : ℕ) (d : Slot) (some : 0 < n) (within : n ≤ length slots) where
   pub popped-is : take n slots ≡ take (n - 1) slots ++ get_or slots (n - 1) d ∷ []
@@ -55,16 +64,21 @@ module _ (slots : List Slot) (n : ℕ) (d : Slot) (some : 0 < n) (within : n ≤
       let p : Popped (take n slots) (Some (get_or slots (n - 1) d)) (take (n - 1) slots) = (popped-is, (popped-fits f).2, (popped-fits f).1) in
       rw is at p
 
-  -- one fewer of several groups
-  pub fewer-is : (g : Group) (k : ℕ) → take n (set slots (n - 1) (Many g (k - 1))) ≡ take (n - 1) slots ++ Many g (k - 1) ∷ []
-  fewer-is g k =
-      let e : n ≡ (n - 1) + 1 = omega arith in
-      ap (λ (i : ℕ). take i (set slots (n - 1) (Many g (k - 1)))) e ∙ take_more_set slots (n - 1) (Many g (k - 1)) (omega arith)
+  -- of several groups there is one fewer
+  module _ (g : Group) (k : ℕ) (s : Slot) (less : s ≡ Many g (k - 1)) (is : get_or slots (n - 1) d ≡ Many g k) (many : 1 < k) (f : Fits 0 (take n slots)) where
+    last : Popped (take n slots) (Some (Many g k)) (take (n - 1) slots)
+    last = popped_last (Many g k) is f
 
-  pub fewer-fits : (g : Group) (k : ℕ) → get_or slots (n - 1) d ≡ Many g k → 1 < k → Fits 0 (take n slots) → Fits 0 (take n (set slots (n - 1) (Many g (k - 1))))
-  fewer-fits g k is many f =
-      let p = popped_last (Many g k) is f in
-      rw (fewer-is g k) (fits-push 0 (take (n - 1) slots) (Many g (k - 1)) (popped-fits f).0 (omega arith) (omega (arith, p.1)))
+    fewer-is : take n (set slots (n - 1) s) ≡ take (n - 1) slots ++ Many g (k - 1) ∷ []
+    fewer-is =
+        let e : n ≡ (n - 1) + 1 = omega arith in
+        ap (λ (i : ℕ). take i (set slots (n - 1) s)) e ∙ take_more_set slots (n - 1) s (omega arith) ∙ ap (λ (t : Slot). take (n - 1) slots ++ t ∷ []) less
+
+    pub fewer-fits : Fits 0 (take n (set slots (n - 1) s))
+    fewer-fits = rw fewer-is (fits-push 0 (take (n - 1) slots) (Many g (k - 1)) (popped-fits f).0 (omega arith) (omega (arith, last.1)))
+
+    pub fewer-opens : Opens (take n slots) (Some g) (take n (set slots (n - 1) s))
+    fewer-opens = rw fewer-is (opens_many (take n slots) (take (n - 1) slots) g k last many)
 
 -- ---- several fields
 
@@ -178,19 +192,11 @@ passes_group old rest new g opens next room (Some w) d =
     ap (λ (x : List Symbol). drop 1 x) opens.0 ∙ drop_first (group g) (symbols_in rest) (group_some g) ∙ sym next in
     (d.0 ∙ ap (λ (x : List Symbol). wanted w ∷ x) after, room w (first_of (wanted w) (group g) (symbols_in rest) (group_some g) (rw opens.0 at d.0)), d.1)
 
--- one of several groups is opened
+-- a group is opened that is the last
 pub opens_one : (old new : List Slot) (g : Group) (n : ℕ) → Popped old (Some (Many g n)) new → n ≤ 1 → Opens old (Some g) new
 opens_one old new g n p few =
     let one : n ≡ 1 = omega (arith, p.2) in
     (ap symbols_in p.0 ∙ symbols_pushed new (Many g n) ∙ ap (λ (k : ℕ). copies k (group g) ++ symbols_in new) one ∙ ap (λ (x : List Symbol). x ++ symbols_in new) (append-nil (group g)), omega (arith, p.1))
-
-pub opens_many : (old mid : List Slot) (g : Group) (n : ℕ) → Popped old (Some (Many g n)) mid → 1 < n → Opens old (Some g) (mid ++ Many g (n - 1) ∷ [])
-opens_many old mid g n p many =
-    let more : n ≡ suc (n - 1) = omega (arith, p.2) in (
-      ap symbols_in p.0 ∙ symbols_pushed mid (Many g n) ∙ ap (λ (k : ℕ). copies k (group g) ++ symbols_in mid) more
-          ∙ append_assoc (group g) (copies (n - 1) (group g)) (symbols_in mid) ∙ ap (λ (x : List Symbol). group g ++ x) (sym (symbols_pushed mid (Many g (n - 1)))),
-      omega (arith, p.1, length-append mid (Many g (n - 1) ∷ [])),
-    )
 
 -- ---- pages
 

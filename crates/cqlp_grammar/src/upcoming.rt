@@ -14,6 +14,24 @@ pub enum Slot {
     Many(Group, u32),
 }
 
+impl Slot {
+    ghost use Rattle.std.specs.Prelude.{ℕ, ◌-◌, ◌<◌};
+    ghost use Rattle.cqlp_grammar.specs.declared.grammar.Group.{Group as Counted};
+    ghost use Rattle.cqlp_grammar.specs.declared.upcoming.Slot.TheVariants.{Many as Several};
+
+    /// One group fewer, where there are several.
+    #[inline(always)]
+    fn count_down(&mut self)
+        ensures { (g : Counted) (n : ℕ) → self.old ≡ Several g n → 1 < n → self.new ≡ Several g (n - 1) }
+    {
+        if let Slot::Many(_, left) = self
+            && *left > 1
+        {
+            *left -= 1;
+        }
+    }
+}
+
 /// The fields that are still to be read, the next ones last. No message ever needs more room than there is.
 #[derive(Drop)]
 pub struct Upcoming {
@@ -90,7 +108,7 @@ impl Upcoming {
         match self.slots[last] {
             Slot::Many(group, left) => {
                 if left > 1 {
-                    self.slots[last] = Slot::Many(group, left - 1);
+                    self.slots[last].count_down();
                 } else {
                     self.len = last;
                 }
