@@ -147,10 +147,6 @@ pub others_have_room : (ws : List Expected) (most height : ℕ) (w : Expected) �
 others_have_room [] most height w some fits le first = absurd (omega arith)
 others_have_room (v ∷ ws) most height w some fits le first = omega (arith, fits v, length-take (length (v ∷ ws) - 1) ws, first_wanted (wants (v ∷ ws)) (wants ws) v w refl first)
 
-pub passes_none : (old new : List Slot) → Popped old None new → (o : Option Expected) → IsDue old o → Pops old o new
-passes_none old new p None d = (ap symbols_in p.0, p.1)
-passes_none old new p (Some w) d = absurd cc
-
 pub passes_one : (old new : List Slot) (v : Expected) → Popped old (Some (One v)) new → (o : Option Expected) → IsDue old o → Pops old o new
 passes_one old new v p None d = absurd (not_empty old new (One v) p.0 d)
 passes_one old new v p (Some w) d =
