@@ -1,3 +1,4 @@
+pub mod Blocks
 pub mod Calendar
 pub mod CellTexts
 pub mod Pages

@@ -1,5 +1,5 @@
 -- Texts in parts.
-use Rattle.std.proofs.Common.{◌≡◌, ℕ, List, [], ◌∷◌, ◌++◌, map, codes, decimal, suc, ◌+◌, Bool, true, false, not, cond, if◌then◌else◌, nat_lt, Option, Some, None, unwrap_or, inl, inr, ◌<◌, ◌≤◌, ◌-◌, ◌*◌, length, take, drop, slice_index, refl, sym, ap, ◌∙◌, append-nil, append_assoc, arith, length-append, length-drop}
+use Rattle.std.proofs.Common.{◌≡◌, ℕ, List, [], ◌∷◌, ◌++◌, map, codes, decimal, suc, ◌+◌, Bool, true, false, cond, if◌then◌else◌, ◌<◌, ◌≤◌, ◌-◌, ◌*◌, length, take, drop, slice_index, refl, sym, ap, ◌∙◌, append-nil, append_assoc, arith, length-append, length-drop}
 use Rattle.hex.proofs.HexLemmas.{length-encode_with}
 use Rattle.cqlp_text.specs.declared.word.Word.{Word}
 use Rattle.cqlp_text.specs.Lines.{spaced}
@@ -8,9 +8,7 @@ use Rattle.std.proofs.Math.Seq.{drop-cons}
 use Rattle.std.proofs.Common.{get_or, add-one}
 use Rattle.cqlp_text.proofs.Writing.{rest_after}
 use Rattle.std.proofs.lemmas.Grind.{common_steps}
-use Rattle.std.proofs.lemmas.Bool.{cases_lt, lt-ltb, le-ltb}
-use Rattle.std.specs.List.{join_with_byte, flat_map, position, prefix_len}
-use Rattle.std.proofs.lemmas.List.Sums.{prefix_len-le-length}
+use Rattle.std.specs.List.{join_with_byte, flat_map, prefix_len}
 use Rattle.hex.specs.Hex.{encode_lower, encode_with, lower_digits}
 use Rattle.cqlp_text.specs.Text.{pairs, is_plain, escaped, printed, in_one_line}
 
@@ -90,11 +88,11 @@ abbrev plain_count : List ℕ → ℕ
 plain_count [] = 0
 plain_count (b ∷ xs) = if is_plain b then suc (plain_count xs) else 0
 
-count_by : (d : Bool) (p k : ℕ) → p ≡ k → cond (not (not d)) (1 + p) 0 ≡ (if d then suc k else 0)
+count_by : (d : Bool) (p k : ℕ) → p ≡ k → cond d (1 + p) 0 ≡ (if d then suc k else 0)
 count_by true p k same = omega arith
 count_by false p k same = refl
 
-prefix_is_count : (xs : List ℕ) → prefix_len (λ b. not (not (is_plain b))) xs ≡ plain_count xs
+prefix_is_count : (xs : List ℕ) → prefix_len is_plain xs ≡ plain_count xs
 prefix_is_count [] = refl
 prefix_is_count (b ∷ xs) = count_by (is_plain b) _ _ (prefix_is_count xs)
 
@@ -108,14 +106,10 @@ plain_prefix : (xs : List ℕ) → flat_map escaped xs ≡ take (plain_count xs)
 plain_prefix [] = refl
 plain_prefix (b ∷ xs) = plain_step b xs (plain_count xs) (is_plain b) refl (plain_prefix xs)
 
-first_or_all : (p len : ℕ) → p ≤ len → unwrap_or (cond (nat_lt p len) (Some p) None) len ≡ p
-first_or_all p len within = elim (cases_lt p len) [ inl lt ↦ rw (lt-ltb _ _ lt) refl | inr le ↦ rw (le-ltb _ _ le) (omega arith) ]
-
 -- the bytes before the first that needs an escape stand as themselves
-pub plain_front : (xs : List ℕ) (found : Option ℕ) (n : ℕ) → found ≡ position (λ b. not (is_plain b)) xs → n ≡ unwrap_or found (length xs) → flat_map escaped xs ≡ take n xs ++ flat_map escaped (take (length xs - n) (drop n xs))
-plain_front xs found n is_first is_n =
-    let p = prefix_len (λ b. not (not (is_plain b))) xs in
-    let count : n ≡ plain_count xs = is_n ∙ ap (λ o. unwrap_or o (length xs)) is_first ∙ first_or_all p (length xs) (prefix_len-le-length _ xs) ∙ prefix_is_count xs in
+pub plain_front : (xs : List ℕ) (n : ℕ) → n ≡ prefix_len is_plain xs → flat_map escaped xs ≡ take n xs ++ flat_map escaped (take (length xs - n) (drop n xs))
+plain_front xs n is_n =
+    let count : n ≡ plain_count xs = is_n ∙ prefix_is_count xs in
     let later : take (length xs - n) (drop n xs) ≡ drop n xs = grind (arith, common_steps) in
     plain_prefix xs ∙ ap (λ k. take k xs ++ flat_map escaped (drop k xs)) (sym count) ∙ ap (λ t. take n xs ++ flat_map escaped t) (sym later)
 

@@ -11,6 +11,7 @@ mod line_pen;
 mod names;
 mod page_text;
 mod pen;
+mod plain;
 mod sending;
 pub mod status;
 mod text_writer;

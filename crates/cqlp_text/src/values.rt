@@ -1,15 +1,16 @@
 //! Values as text.
 
-ghost use Rattle.std.specs.Prelude.{◌≡◌, not, length, decimal, position};
+ghost use Rattle.std.specs.Prelude.{◌≡◌, length, decimal};
 ghost use Rattle.std.specs.Fmt.{signed_decimal};
 ghost use Rattle.std.specs.List.{flat_map};
 ghost use Rattle.hex.specs.Hex.{encode_lower};
 ghost use Rattle.uuid.specs.Text.{hyphenated_text, lower};
-ghost use Rattle.cqlp_text.specs.Text.{hex_text, quoted, escaped, is_plain, prints, printed, in_one_line, address_text};
+ghost use Rattle.cqlp_text.specs.Text.{hex_text, quoted, escaped, prints, printed, in_one_line, address_text};
 ghost use Rattle.cqlp_note.specs.declared.prim.Address.TheVariants.{V4, V6};
 ghost use Rattle.cqlp_text.specs.Written.{Writes};
 
 use crate::pen::Pen;
+use crate::plain::{is_plain, plain_len};
 use crate::text_writer::TextWriter;
 use cqlp_grammar::SinkFault;
 use cqlp_note::Address;
@@ -106,7 +107,7 @@ impl<P: Pen> TextWriter<P> {
     {
         let mut rest = bytes;
         while !rest.is_empty() {
-            let plain = first_escape(rest).unwrap_or(rest.len());
+            let plain = plain_len(rest);
             self.put(&rest[..plain])?;
             let Some((byte, after)) = rest[plain..].split_first() else {
                 return Ok(());
@@ -192,22 +193,6 @@ impl<P: Pen> TextWriter<P> {
         }
         Ok(())
     }
-}
-
-/// Where the first byte stands that needs an escape.
-#[inline(always)]
-fn first_escape(bytes: &[u8]) -> Option<usize>
-    ensures { result ≡ position (λ b. not (is_plain b)) bytes.now }
-{
-    bytes.iter().position(|byte| !is_plain(*byte))
-}
-
-/// Whether a byte stands as itself between quotes.
-#[inline(always)]
-fn is_plain(byte: u8) -> bool
-    ensures { result ≡ is_plain byte }
-{
-    byte >= 32 && byte != b'"' && byte != b'\\' && byte != 127
 }
 
 /// Whether a byte stands as itself in a line.

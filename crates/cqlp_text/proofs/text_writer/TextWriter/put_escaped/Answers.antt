@@ -8,19 +8,19 @@ use Rattle.cqlp_text.proofs.text_writer.TextWriter.put_escaped.Goals as goal
 
 pub returns-in_err-put : goal.returns-in_err-put
 returns-in_err-put g c =
-    progress_stops _ c.from_residual.result c.from_residual.ensures.0 c.loop-rest.invariant (plain_front c.loop-rest.rest.now _ _ c.first_escape.ensures c.unwrap_or-plain.ensures) c.in_err-put.ensures
+    progress_stops _ c.from_residual.result c.from_residual.ensures.0 c.loop-rest.invariant (plain_front c.loop-rest.rest.now _ c.plain_len-plain.ensures) c.in_err-put.ensures
 
 pub returns-in_default : goal.returns-in_default
 returns-in_default g c =
-    let none : take (length c.loop-rest.rest.now - c.unwrap_or-plain.result) (drop c.unwrap_or-plain.result c.loop-rest.rest.now) ≡ [] = grind (arith, common_steps, c.in_default.ensures.cases) in
-    progress_ends (progress_goes_on _ c.loop-rest.invariant (plain_front c.loop-rest.rest.now _ _ c.first_escape.ensures c.unwrap_or-plain.ensures) c.in_ok-put.ensures) (ap (flat_map escaped) none)
+    let none : take (length c.loop-rest.rest.now - c.plain_len-plain.result) (drop c.plain_len-plain.result c.loop-rest.rest.now) ≡ [] = grind (arith, common_steps, c.in_default.ensures.cases) in
+    progress_ends (progress_goes_on _ c.loop-rest.invariant (plain_front c.loop-rest.rest.now _ c.plain_len-plain.ensures) c.in_ok-put.ensures) (ap (flat_map escaped) none)
 
 pub returns-in_err-put_byte : goal.returns-in_err-put_byte
 returns-in_err-put_byte g c =
-    let some : take (length c.loop-rest.rest.now - c.unwrap_or-plain.result) (drop c.unwrap_or-plain.result c.loop-rest.rest.now) ≡ c.in-Some.byte.now ∷ c.in-Some.after.now = c.in-Some.ensures.cases.0 in
-    progress_stops _ c.from_residual-in_err-put_byte.result c.from_residual-in_err-put_byte.ensures.0 (progress_goes_on _ c.loop-rest.invariant (plain_front c.loop-rest.rest.now _ _ c.first_escape.ensures c.unwrap_or-plain.ensures) c.in_ok-put.ensures) (ap (flat_map escaped) some) c.in_err-put_byte.ensures
+    let some : take (length c.loop-rest.rest.now - c.plain_len-plain.result) (drop c.plain_len-plain.result c.loop-rest.rest.now) ≡ c.in-Some.byte.now ∷ c.in-Some.after.now = c.in-Some.ensures.cases.0 in
+    progress_stops _ c.from_residual-in_err-put_byte.result c.from_residual-in_err-put_byte.ensures.0 (progress_goes_on _ c.loop-rest.invariant (plain_front c.loop-rest.rest.now _ c.plain_len-plain.ensures) c.in_ok-put.ensures) (ap (flat_map escaped) some) c.in_err-put_byte.ensures
 
 pub loop-rest-preserved : goal.loop-rest-preserved
 loop-rest-preserved g c =
-    let some : take (length c.loop-rest.rest.now - c.unwrap_or-plain.result) (drop c.unwrap_or-plain.result c.loop-rest.rest.now) ≡ c.in-Some.byte.now ∷ c.in-Some.after.now = c.in-Some.ensures.cases.0 in
-    progress_goes_on _ (progress_goes_on _ c.loop-rest.invariant (plain_front c.loop-rest.rest.now _ _ c.first_escape.ensures c.unwrap_or-plain.ensures) c.in_ok-put.ensures) (ap (flat_map escaped) some) c.in_ok-put_byte.ensures
+    let some : take (length c.loop-rest.rest.now - c.plain_len-plain.result) (drop c.plain_len-plain.result c.loop-rest.rest.now) ≡ c.in-Some.byte.now ∷ c.in-Some.after.now = c.in-Some.ensures.cases.0 in
+    progress_goes_on _ (progress_goes_on _ c.loop-rest.invariant (plain_front c.loop-rest.rest.now _ c.plain_len-plain.ensures) c.in_ok-put.ensures) (ap (flat_map escaped) some) c.in_ok-put_byte.ensures

@@ -1,0 +1,69 @@
+//! The bytes of a text that need no escape.
+
+ghost use Rattle.std.specs.Prelude.{◌≡◌, ◌+◌, ◌<◌, ◌≤◌, ◌==◌, ℕ, true, false, length, slice_index, nat_lt, IsTrue};
+ghost use Rattle.std.specs.List.{prefix_len};
+ghost use Rattle.cqlp_text.specs.Text.{is_plain};
+
+use std::simd::prelude::*;
+
+/// How many bytes are looked at at once.
+const BLOCK: usize = 16;
+
+/// How many bytes at the front need no escape.
+#[inline(always)]
+pub(crate) fn plain_len(bytes: &[u8]) -> usize
+    ensures { result ≡ prefix_len is_plain bytes.now }
+{
+    let mut at = plain_blocks(bytes);
+    while at < bytes.len() && is_plain(bytes[at]) {
+        at += 1;
+    }
+    at
+}
+
+/// How many blocks at the front need no escape, in bytes.
+#[inline(always)]
+fn plain_blocks(bytes: &[u8]) -> usize
+    ensures within { result ≤ length bytes.now }
+    ensures plain { (k : ℕ) → k < result → is_plain (slice_index bytes.now k) ≡ true }
+{
+    let mut at = 0;
+    while bytes.len() - at >= BLOCK && is_plain_block(bytes, at) {
+        at += BLOCK;
+    }
+    at
+}
+
+/// Whether none of the bytes of a block needs an escape.
+#[inline(always)]
+fn is_plain_block(bytes: &[u8], at: usize) -> bool
+    requires { at + 16 ≤ length bytes.now }
+    ensures { IsTrue result → (k : ℕ) → at ≤ k → k < at + 16 → is_plain (slice_index bytes.now k) ≡ true }
+{
+    let block = u8x16::from_slice(&bytes[at..]);
+    none_below(block, 32) & lacks(block, b'"') & lacks(block, b'\\') & lacks(block, 127)
+}
+
+/// Whether no byte of a block is below this one.
+#[inline(always)]
+fn none_below(block: u8x16, byte: u8) -> bool
+    ensures { IsTrue result → (k : ℕ) → k < 16 → nat_lt (slice_index block k) byte ≡ false }
+{
+    block.simd_lt(u8x16::splat(byte)).to_bitmask() == 0
+}
+
+/// Whether this byte is not in a block.
+#[inline(always)]
+fn lacks(block: u8x16, byte: u8) -> bool
+    ensures { IsTrue result → (k : ℕ) → k < 16 → (slice_index block k == byte) ≡ false }
+{
+    block.simd_eq(u8x16::splat(byte)).to_bitmask() == 0
+}
+
+/// Whether a byte stands as itself between quotes.
+#[inline(always)]
+pub(crate) fn is_plain(byte: u8) -> bool
+    ensures { result ≡ is_plain byte }
+{
+    byte >= 32 && byte != b'"' && byte != b'\\' && byte != 127
+}
