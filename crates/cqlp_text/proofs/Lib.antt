@@ -2,6 +2,8 @@ pub mod Blocks
 pub mod Calendar
 pub mod CellTexts
 pub mod Pages
+pub mod Pairs
+pub mod Placed
 pub mod Settled
 pub mod Texts
 pub mod Writing

@@ -7,7 +7,6 @@ use Rattle.cqlp_note.specs.Streams.{counted}
 use Rattle.cqlp_grammar.specs.declared.sink.SinkFault.{SinkFault}
 use Rattle.cqlp_text.specs.CellText.{digits}
 use Rattle.cqlp_text.specs.Written.{Written, Receives, BreaksOff, Writes, bare, settled, taken}
-use Rattle.std.proofs.Common.{IsSome}
 use Rattle.cqlp_text.specs.Outputs.{output, AppendsText}
 use Rattle.cqlp_text.proofs.Writing.{known_text, first_and_rest, front_of, known_then, takes_then_takes, takes_then_breaks}
 

@@ -149,16 +149,6 @@ room_left xs len n room within size some = grind (arith, common_steps)
 pub front_of : (xs ys : List ℕ) (k : ℕ) → length xs ≡ k → take k (xs ++ ys) ≡ xs
 front_of xs ys k long = grind (arith, common_steps)
 
--- digits that were written where a buffer was not yet in use
-pub digits_kept : (old new digits : List ℕ) (len n start : ℕ) → start + length digits ≡ len + n → n ≡ length digits → len + n ≤ length old → drop start new ≡ digits ++ drop (len + n) old → take start new ≡ take start old → take (len + n) new ≡ take len old ++ digits
-digits_kept old new digits len n start ends long fits written before =
-    let same : start ≡ len = omega arith in
-    let front : take len new ≡ take len old = subst (λ (k : ℕ). take k new ≡ take k old) same before in
-    let later : drop len new ≡ digits ++ drop (len + n) old = subst (λ (k : ℕ). drop k new ≡ digits ++ drop (len + n) old) same written in
-    let whole : new ≡ (take len old ++ digits) ++ drop (len + n) old = sym (take-append-drop len new) ∙ ap (λ t. t ++ drop len new) front ∙ ap (λ t. take len old ++ t) later ∙ sym (append_assoc (take len old) digits (drop (len + n) old)) in
-    let size : length (take len old ++ digits) ≡ len + n = grind (arith, common_steps) in
-    ap (take (len + n)) whole ∙ front_of (take len old ++ digits) (drop (len + n) old) (len + n) size
-
 -- what is left after the first n
 pub rest_after : (rest : List ℕ) (n : ℕ) → rest ≡ take n rest ++ take (length rest - n) (drop n rest)
 rest_after rest n =

@@ -7,7 +7,7 @@ ghost use Rattle.cqlp_text.specs.CellText.{digits};
 ghost use Rattle.cqlp_text.specs.Outputs.{output, written};
 ghost use Rattle.cqlp_text.specs.Written.{Writes, bare, settled, taken, unbuffered};
 
-use crate::digits::{decimal_len, fill_with_digits, place, place_digits, place_number};
+use crate::digits::{DECIMAL_ROOM, fill_with_digits, place, place_digits, place_number};
 use crate::pen::Pen;
 use crate::sending::send;
 use cqlp_grammar::SinkFault;
@@ -147,11 +147,10 @@ impl<W: Target, A: Allocator> Pen for Buffered<W, A> {
 
     #[inline(always)]
     fn put_number(&mut self, number: u64) -> Result<(), SinkFault> {
-        let len = decimal_len(number);
-        if len > self.buffer.len() - self.len {
+        if DECIMAL_ROOM > self.buffer.len() - self.len {
             return self.put_number_afresh(number);
         }
-        place_number(number, len, &mut self.buffer, self.len);
+        let len = place_number(number, &mut self.buffer, self.len);
         self.len += len;
         Ok(())
     }

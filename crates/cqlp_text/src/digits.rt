@@ -1,9 +1,14 @@
 //! Numbers as decimal digits.
 
-ghost use Rattle.std.specs.Prelude.{◌≡◌, ◌+◌, ◌≤◌, ◌++◌, decimal, drop, length, take};
+ghost use Rattle.std.specs.Prelude.{◌≡◌, ◌+◌, ◌<◌, ◌≤◌, ◌/◌, ◌%◌, ◌∷◌, ◌++◌, [], decimal, drop, length, take};
 ghost use Rattle.cqlp_text.specs.CellText.{digits};
 
-use itoa::write_digits;
+/// How many decimal digits a number has at most.
+pub(crate) const DECIMAL_ROOM: usize = 20;
+
+/// The two digits of each number below 100, one after the other.
+static PAIRS: [u8; 200] =
+    *b"00010203040506070809101112131415161718192021222324252627282930313233343536373839404142434445464748495051525354555657585960616263646566676869707172737475767778798081828384858687888990919293949596979899";
 
 /// Fills all room with the last digits of a number, after zeros where it has fewer.
 #[inline(always)]
@@ -19,34 +24,81 @@ pub(crate) fn fill_with_digits(number: u64, room: &mut [u8])
     }
 }
 
-/// How many decimal digits a number has.
-#[inline]
-pub(crate) fn decimal_len(number: u64) -> usize
-    ensures { result ≡ length (decimal number) }
+/// Puts a number, as decimal digits, into a buffer, and answers how many there are.
+#[inline(never)]
+pub(crate) fn place_number(number: u64, buffer: &mut [u8], at: usize) -> usize
+    requires { at + length (decimal number) ≤ length buffer.old }
+    ensures len { result ≡ length (decimal number) }
+    ensures placed { buffer.new ≡ take at buffer.old ++ (decimal number ++ drop (at + result) buffer.old) }
 {
-    if number < 10 {
-        return 1;
-    }
-    if number < 100 {
-        return 2;
-    }
-    if number < 1_000 {
-        return 3;
-    }
     if number < 10_000 {
-        return 4;
+        place_short(number, buffer, at)
+    } else {
+        place_long(number, buffer, at)
     }
-    4 + decimal_len(number / 10_000)
 }
 
-/// Puts a number, as this many decimal digits, into a buffer.
-#[inline(always)]
-pub(crate) fn place_number(number: u64, len: usize, buffer: &mut [u8], at: usize)
-    requires len { len ≡ length (decimal number) }
-    requires room { at + len ≤ length buffer.old }
-    ensures { buffer.new ≡ take at buffer.old ++ (decimal number ++ drop (at + len) buffer.old) }
+/// Puts a number into a buffer, its last four digits behind those before them, and answers how many there are.
+#[inline(never)]
+fn place_long(number: u64, buffer: &mut [u8], at: usize) -> usize
+    requires { at + length (decimal number) ≤ length buffer.old }
+    ensures len { result ≡ length (decimal number) }
+    ensures placed { buffer.new ≡ take at buffer.old ++ (decimal number ++ drop (at + result) buffer.old) }
 {
-    write_digits(number, buffer, at + len);
+    if number < 10_000 {
+        return place_short(number, buffer, at);
+    }
+    let len = place_long(number / 10_000, buffer, at);
+    let last = number % 10_000;
+    place_pair(last / 100, buffer, at + len);
+    place_pair(last % 100, buffer, at + len + 2);
+    len + 4
+}
+
+/// Puts a number of at most four digits into a buffer, and answers how many there are.
+#[inline(always)]
+fn place_short(number: u64, buffer: &mut [u8], at: usize) -> usize
+    requires short { number < 10_000 }
+    requires room { at + length (decimal number) ≤ length buffer.old }
+    ensures len { result ≡ length (decimal number) }
+    ensures placed { buffer.new ≡ take at buffer.old ++ (decimal number ++ drop (at + result) buffer.old) }
+{
+    if number < 100 {
+        return place_front(number, buffer, at);
+    }
+    let len = place_front(number / 100, buffer, at);
+    place_pair(number % 100, buffer, at + len);
+    len + 2
+}
+
+/// Puts a number of at most two digits into a buffer, and answers how many there are.
+#[inline(always)]
+fn place_front(number: u64, buffer: &mut [u8], at: usize) -> usize
+    requires short { number < 100 }
+    requires room { at + length (decimal number) ≤ length buffer.old }
+    ensures len { result ≡ length (decimal number) }
+    ensures placed { buffer.new ≡ take at buffer.old ++ (decimal number ++ drop (at + result) buffer.old) }
+{
+    if number < 10 {
+        buffer[at] = b'0' + number as u8;
+        return 1;
+    }
+    place_pair(number, buffer, at);
+    2
+}
+
+/// Puts a number below 100, as two digits, into a buffer.
+#[inline(always)]
+fn place_pair(number: u64, buffer: &mut [u8], at: usize)
+    requires short { number < 100 }
+    requires room { at + 2 ≤ length buffer.old }
+    ensures { buffer.new ≡ take at buffer.old
+        ++ ((48 + number / 10) ∷ (48 + number % 10) ∷ [] ++ drop (at + 2) buffer.old) }
+{
+    let from = number as usize * 2;
+    let (tens, ones) = (PAIRS[from], PAIRS[from + 1]);
+    buffer[at] = tens;
+    buffer[at + 1] = ones;
 }
 
 /// Puts this many digits of a number, with leading zeros, into a buffer.
@@ -58,11 +110,22 @@ pub(crate) fn place_digits(number: u64, count: usize, buffer: &mut [u8], at: usi
     fill_with_digits(number, &mut buffer[at..at + count]);
 }
 
-/// Puts bytes into a buffer.
+/// Puts bytes into a buffer. What stands between two values has two or three, which take less when they are not copied.
 #[inline(always)]
 pub(crate) fn place(bytes: &[u8], buffer: &mut [u8], at: usize)
     requires { at + length bytes.now ≤ length buffer.old }
     ensures { buffer.new ≡ take at buffer.old ++ (bytes.now ++ drop (at + length bytes.now) buffer.old) }
 {
-    buffer[at..at + bytes.len()].copy_from_slice(bytes);
+    match bytes {
+        [first, second] => {
+            buffer[at] = *first;
+            buffer[at + 1] = *second;
+        }
+        [first, second, third] => {
+            buffer[at] = *first;
+            buffer[at + 1] = *second;
+            buffer[at + 2] = *third;
+        }
+        _ => buffer[at..at + bytes.len()].copy_from_slice(bytes),
+    }
 }

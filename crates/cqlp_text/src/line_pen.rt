@@ -4,12 +4,11 @@ ghost use Rattle.std.specs.Prelude.{◌≡◌, ◌+◌, ◌≤◌, ◌++◌, [],
 ghost use Rattle.cqlp_text.specs.CellText.{digits};
 ghost use Rattle.cqlp_text.specs.Written.{Writes, unbuffered};
 
-use crate::digits::{decimal_len, fill_with_digits};
+use crate::digits::{DECIMAL_ROOM, fill_with_digits, place_number};
 use crate::pen::Pen;
 use crate::sending::send;
 use cqlp_grammar::SinkFault;
 use cqlp_note::Target;
-use itoa::write_digits;
 use std::marker::Model;
 
 /// How many bytes wait at most before they are passed on.
@@ -115,16 +114,14 @@ impl<'a, W: Target> LinePen<'a, W> {
         self.flush()
     }
 
-    /// Takes a number that there is room for, as this many decimal digits.
+    /// Takes a number that there is room for, as decimal digits.
     #[inline(always)]
-    fn keep_number(&mut self, number: u64, len: usize)
-        requires len { len ≡ length (decimal number) }
-        requires room { length self.old.waiting + len ≤ 128 }
+    fn keep_number(&mut self, number: u64)
+        requires { length self.old.waiting + 20 ≤ 128 }
         ensures { self.new ≡ record self.old { waiting = self.old.waiting ++ decimal number } }
     {
-        let end = self.len + len;
-        write_digits(number, &mut self.buffer, end);
-        self.len = end;
+        let len = place_number(number, &mut self.buffer, self.len);
+        self.len += len;
     }
 
     /// Takes this many digits of a number, which there is room for.
@@ -165,9 +162,8 @@ impl<W: Target> Pen for LinePen<'_, W> {
 
     #[inline(always)]
     fn put_number(&mut self, number: u64) -> Result<(), SinkFault> {
-        let len = decimal_len(number);
-        self.make_room(len)?;
-        self.keep_number(number, len);
+        self.make_room(DECIMAL_ROOM)?;
+        self.keep_number(number);
         Ok(())
     }
 
