@@ -83,6 +83,7 @@ impl<P: Pen> TextWriter<P> {
     }
 
     /// Takes a number of any length: in decimal digits up to 16 bytes, and else its bytes.
+    #[inline(never)]
     pub fn put_varint(&mut self, bytes: &[u8]) -> Result<(), SinkFault>
         ensures { Writes self.old (varint_text bytes.now) result self.new }
     {
@@ -98,6 +99,7 @@ impl<P: Pen> TextWriter<P> {
     }
 
     /// Takes a decimal: the unscaled number, `e`, and the negated scale.
+    #[inline(never)]
     pub fn put_decimal(&mut self, scale: i32, unscaled: &[u8]) -> Result<(), SinkFault>
         ensures { Writes self.old (decimal_text scale unscaled.now) result self.new }
     {
@@ -113,6 +115,7 @@ impl<P: Pen> TextWriter<P> {
     }
 
     /// Takes a time of day in nanoseconds since midnight; a negative number, which no cell has, as a number.
+    #[inline(never)]
     pub fn put_time(&mut self, nanoseconds: i64) -> Result<(), SinkFault>
         ensures { Writes self.old (time_text nanoseconds) result self.new }
     {

@@ -25,6 +25,7 @@ impl<P: Pen> TextWriter<P> {
 
     /// Takes the date of a day: of the years 0 to 9999 as year, month and day, and else as the number
     /// of days from 1970.
+    #[inline(never)]
     pub fn put_date(&mut self, number: u32) -> Result<(), SinkFault>
         ensures { Writes self.old (date_text number) result self.new }
     {

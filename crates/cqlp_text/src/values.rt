@@ -57,6 +57,7 @@ impl<P: Pen> TextWriter<P> {
     }
 
     /// Takes bytes as two lower case hexadecimal digits each.
+    #[inline(never)]
     pub fn put_hex(&mut self, bytes: &[u8]) -> Result<(), SinkFault>
         ensures { Writes self.old (encode_lower bytes.now) result self.new }
     {
@@ -72,6 +73,7 @@ impl<P: Pen> TextWriter<P> {
     }
 
     /// Takes bytes as `0x` and two lower case hexadecimal digits each.
+    #[inline(never)]
     pub fn put_hex_text(&mut self, bytes: &[u8]) -> Result<(), SinkFault>
         ensures { Writes self.old (hex_text bytes.now) result self.new }
     {
@@ -80,6 +82,7 @@ impl<P: Pen> TextWriter<P> {
     }
 
     /// Takes a uuid as lower case hexadecimal digits with hyphens.
+    #[inline(never)]
     pub fn put_uuid(&mut self, bytes: [u8; 16]) -> Result<(), SinkFault>
         ensures { Writes self.old (hyphenated_text lower bytes) result self.new }
     {
@@ -157,6 +160,7 @@ impl<P: Pen> TextWriter<P> {
     }
 
     /// Takes an address: four decimal numbers with dots, or eight groups of four hexadecimal digits with colons.
+    #[inline(never)]
     pub fn put_address(&mut self, address: Address) -> Result<(), SinkFault>
         ensures { Writes self.old (address_text address) result self.new }
     {
