@@ -47,9 +47,23 @@ impl<P: Pen> TextWriter<P> {
     ghost use Rattle.cqlp_text.specs.Text.{hex_text};
     ghost use Rattle.cqlp_text.specs.Written.{Writes};
 
-    /// Takes the text of a cell.
+    /// Takes the text of a cell. Those of the most common kinds are written in line.
     #[inline(always)]
     pub fn put_cell(&mut self, scalar: &Scalar<'_>) -> Result<(), SinkFault>
+        ensures { Writes self.old (text_of (value_of scalar.now)) result self.new }
+    {
+        match *scalar {
+            Scalar::Int(number) => self.put_signed(i64::from(number)),
+            Scalar::Bigint(number) => self.put_signed(number),
+            Scalar::Varchar(text) => self.put_quoted(text),
+            Scalar::Boolean(value) => self.put(boolean_name(value).as_bytes()),
+            _ => self.put_any_cell(scalar),
+        }
+    }
+
+    /// Takes the text of a cell of any kind, in code of its own.
+    #[inline(never)]
+    fn put_any_cell(&mut self, scalar: &Scalar<'_>) -> Result<(), SinkFault>
         ensures { Writes self.old (text_of (value_of scalar.now)) result self.new }
     {
         match *scalar {

@@ -333,7 +333,7 @@ impl<P: Pen> TextWriter<P> {
     ghost use Rattle.cqlp_kind.specs.CellStep as cell;
     ghost use Rattle.cqlp_text.specs.PageText.{before, after, column_line, page_line, event_part, field_part};
     ghost use Rattle.cqlp_text.specs.PageText.{separator};
-    ghost use Rattle.cqlp_text.specs.PageText.{value_part, whole_value, part_start, part_end, end_part, opening};
+    ghost use Rattle.cqlp_text.specs.PageText.{value_part, whole_value, part_start, part_end, end_part, opening, with_item};
     ghost use Rattle.cqlp_kind.specs.Contents.{value_of};
     ghost use Rattle.cqlp_text.specs.CellText.{cell_text};
     ghost use Rattle.cqlp_text.specs.Written.{Writes};
@@ -352,6 +352,26 @@ impl<P: Pen> TextWriter<P> {
             place.pass(event);
             return Ok(());
         }
+        match *event {
+            Event::Leaf {
+                column,
+                ref scalar,
+                ..
+            } => self.put_leaf(place, column, scalar),
+            _ => self.put_other_part(place, event),
+        }
+    }
+
+    /// Takes what is written of an event within a page, and goes to the place after it, also at a fault.
+    #[inline(always)]
+    fn put_other_part(
+        &mut self,
+        place: &mut PagePlace,
+        event: &Event<'_>,
+    ) -> Result<(), SinkFault>
+        ensures part { Writes self.old (event_part place.old (event_of event.now)) result self.new }
+        ensures place { place.new ≡ place_after place.old (event_of event.now) }
+    {
         let written = self.put_event_part(place, event);
         place.pass(event);
         written
@@ -368,7 +388,7 @@ impl<P: Pen> TextWriter<P> {
                 column,
                 ref scalar,
                 ..
-            } => self.put_leaf(place, column, scalar),
+            } => self.put_value(place, column, scalar),
             Event::Null { column, .. } => self.put_named(place, column, "null"),
             Event::Empty { column, .. } => self.put_named(place, column, "empty"),
             Event::Enter { column, kind, .. } => self.put_opening(place, column, kind),
@@ -430,9 +450,26 @@ impl<P: Pen> TextWriter<P> {
         self.put(b" rows\n")
     }
 
-    /// Takes a cell or an item that has no items, with what stands before and after it.
+    /// Takes a cell or an item that has no items, with what stands before and after it, and goes to the place after it,
+    /// also at a fault.
     #[inline(always)]
     fn put_leaf(
+        &mut self,
+        place: &mut PagePlace,
+        column: u32,
+        scalar: &Scalar<'_>,
+    ) -> Result<(), SinkFault>
+        ensures part { Writes self.old (whole_value place.old column (cell_text (value_of scalar.now))) result self.new }
+        ensures place { place.new ≡ record place.old { column = column; open_values = with_item place.old.open_values } }
+    {
+        let written = self.put_value(place, column, scalar);
+        place.pass_item(column);
+        written
+    }
+
+    /// Takes a cell or an item that has no items, with what stands before and after it.
+    #[inline(always)]
+    fn put_value(
         &mut self,
         place: &PagePlace,
         column: u32,

@@ -1,6 +1,6 @@
 use Rattle.std.proofs.Common.{refl}
 use Rattle.cqlp_text.proofs.Writing.{progress_starts, progress_goes_on, progress_stops, progress_writes}
-use Rattle.cqlp_text.proofs.text_writer.TextWriter.put_leaf.Goals as goal
+use Rattle.cqlp_text.proofs.text_writer.TextWriter.put_value.Goals as goal
 
 pub returns-in_err-put_before : goal.returns-in_err-put_before
 returns-in_err-put_before g c =
