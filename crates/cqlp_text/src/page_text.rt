@@ -363,7 +363,7 @@ impl<P: Pen> TextWriter<P> {
     }
 
     /// Takes what is written of an event within a page, and goes to the place after it, also at a fault.
-    #[inline(always)]
+    #[inline(never)]
     fn put_other_part(
         &mut self,
         place: &mut PagePlace,
