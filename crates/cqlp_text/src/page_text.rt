@@ -364,11 +364,7 @@ impl<P: Pen> TextWriter<P> {
 
     /// Takes what is written of an event within a page, and goes to the place after it, also at a fault.
     #[inline(never)]
-    fn put_other_part(
-        &mut self,
-        place: &mut PagePlace,
-        event: &Event<'_>,
-    ) -> Result<(), SinkFault>
+    fn put_other_part(&mut self, place: &mut PagePlace, event: &Event<'_>) -> Result<(), SinkFault>
         ensures part { Writes self.old (event_part place.old (event_of event.now)) result self.new }
         ensures place { place.new ≡ place_after place.old (event_of event.now) }
     {
