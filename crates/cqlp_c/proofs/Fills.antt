@@ -4,8 +4,6 @@ use Rattle.std.specs.Prelude.{Option, Some, None}
 use Rattle.std.proofs.lemmas.List.{append-nil, length-append, length-drop, take-append-drop, take_all}
 use Rattle.cqlp_note.specs.Limits.{Rules}
 use Rattle.cqlp_note.specs.declared.refusal.Refusal.{Refusal}
-use Rattle.cqlp_grammar.specs.declared.event.Event as handed
-use Rattle.cqlp_grammar.specs.Events.{event_of}
 use Rattle.cqlp_decode.specs.declared.step.Step.TheVariants as steps
 use Rattle.cqlp_decode.specs.Reading.{Event, Reads, start}
 use Rattle.cqlp_decode.specs.Standing.{StreamState, IsPending}
@@ -69,8 +67,13 @@ tells_snoc (d ∷ cs) (q ∷ ps) c p all is = (all.0, tells_snoc cs ps c p all.1
 
 -- ---- a batch so far
 
+-- what a step leads to that takes this many bytes of the input and ends in this event
+abbrev pub LeadsTo : (s : List ℕ) → (es : List (ℕ × Event)) → (input : List ℕ) → (at used : ℕ) → Event → StreamState → Type 0
+LeadsTo s es input at used e new =
+    (used ≤ length input) × (new.refusal ≡ None) × IsPending new.pending [] × After new (s ++ take used input) (es ++ (at, e) ∷ [])
+
 -- what was read, where nothing has come of what is next
-is_read : (l : Rules) (d : StreamState) (s : List ℕ) (es : List (ℕ × Event)) → d.rules ≡ l → d.refusal ≡ None → IsPending d.pending [] → After d s es → IsRead l s es
+pub is_read : (l : Rules) (d : StreamState) (s : List ℕ) (es : List (ℕ × Event)) → d.rules ≡ l → d.refusal ≡ None → IsPending d.pending [] → After d s es → IsRead l s es
 is_read l d s es rules none begun a =
     let st : Stands [] d s es = subst (λ (o : Option Refusal). AfterBy o [] d s es) none a in (
       st.place,
@@ -95,22 +98,22 @@ module _ (l : Rules) (old new : StreamState) (s input : List ℕ) (es : List (�
   all = append_assoc s (take used input) (drop used input) ∙ ap (λ (z : List ℕ). s ++ z) (take-append-drop used input)
 
   -- the event of a step
-  module _ (at taken : ℕ) (e : handed.Event) (rules : new.rules ≡ l) (within : used ≤ length input)
-      (leads : Leads old (s ++ take used input) (es ++ events_of f.puts) (drop used input) (steps.Event at taken e) new)
-      (c : CqlpEvent) (tells : Tells c at (event_of e)) where
+  module _ (at taken : ℕ) (e : Event) (rules : new.rules ≡ l) (within : used ≤ length input)
+      (leads : LeadsTo (s ++ take used input) (es ++ events_of f.puts) (drop used input) at taken e new)
+      (c : CqlpEvent) (tells : Tells c at e) where
     abbrev pub next_put : Put
-    next_put = record { at = at; event = event_of e; from = used; end = used + taken }
+    next_put = record { at = at; event = e; from = used; end = used + taken }
 
-    there : After new (s ++ take (used + taken) input) ((es ++ events_of f.puts) ++ (at, event_of e) ∷ [])
+    there : After new (s ++ take (used + taken) input) ((es ++ events_of f.puts) ++ (at, e) ∷ [])
     there = rw (take_two used taken input, ← (append_assoc s (take used input) (take taken (drop used input)))) leads.3
 
     put_more : Puts l s input es 0 (f.puts ++ next_put ∷ [])
     put_more =
         puts_snoc l s input es 0 f.puts next_put f.put f.ends (omega (arith, leads.0, within, length-drop used input))
-        (is_read l new (s ++ take (used + taken) input) ((es ++ events_of f.puts) ++ (at, event_of e) ∷ []) rules leads.1 leads.2 there)
+        (is_read l new (s ++ take (used + taken) input) ((es ++ events_of f.puts) ++ (at, e) ∷ []) rules leads.1 leads.2 there)
 
     after_more : After new (s ++ take (used + taken) input) (es ++ events_of (f.puts ++ next_put ∷ []))
-    after_more = rw (events_snoc f.puts next_put, ← (append_assoc es (events_of f.puts) ((at, event_of e) ∷ []))) there
+    after_more = rw (events_snoc f.puts next_put, ← (append_assoc es (events_of f.puts) ((at, e) ∷ []))) there
 
     pub filled_more : (ds : List CqlpEvent) → ds ≡ cs ++ c ∷ [] → IsInInput next_put → IsFilled l new s input es (used + taken) ds
     filled_more ds is lies = record {

@@ -3,9 +3,11 @@ pub mod Cored
 pub mod Cores
 pub mod Crosses
 pub mod Fills
+pub mod Handed
 pub mod Made
 pub mod OneBatch
 pub mod OneVerdict
 pub mod Places
+pub mod Slots
 pub mod Spans
 pub mod Values

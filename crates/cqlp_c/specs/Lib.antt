@@ -7,4 +7,5 @@ pub mod Headers
 pub mod Laws
 pub mod Numbers
 pub mod Shown
+pub mod Slots
 pub mod Talked

@@ -6,6 +6,7 @@ ghost use Rattle.cqlp_decode.specs.Streams.{state};
 ghost use Rattle.cqlp_c.specs.Batches.{FillsOn, GoesOn, RepeatsRefusal};
 
 use crate::event::{CqlpEvent, tell};
+use crate::slots::put_whole;
 use cqlp_decode::{Decoder, Step};
 use cqlp_note::Refusal;
 use std::alloc::Global;
@@ -81,6 +82,9 @@ pub fn fill(decoder: &mut Decoder<Global>, input: &[u8], events: &mut [CqlpEvent
                 }
             }
         }
+        let put = put_whole(decoder, &input[used..], events, count);
+        used += put.used;
+        count = put.count;
     }
     Batch {
         used,

@@ -11,6 +11,7 @@ mod laws;
 mod loose;
 mod numbers;
 mod shown;
+mod slots;
 mod talked;
 
 pub use check::cqlp_check;

@@ -75,9 +75,9 @@ module _ (s : StreamStanding) (q : PartsState) (p p' : CellCursor) (offset : ℕ
   cell_takes : TakesItem old (drop used input) offset taken told new
   cell_takes = (refl, refl, refl, onward_hands (at_cell s p offset) q p p' refl law unrefused (drop used input) taken k kind h.event h.says empty turns)
 
-  module _ {V : Type 0} (f : V → ℕ → Event → V) (first : StreamState) (v w w' : V) (d : HandsOut f first old input used v w) where
-    pub cell_drains : w' ≡ f w offset told → HandsOut f first new input (used + taken) v w'
-    cell_drains is = item_drains f first old new input used v w d unrefused offset taken told cell_takes w' is
+  module _ {S : Type 0} (Gets : S → ℕ → Event → S → Type 0) (first : StreamState) (t u v : S) (d : HandsOut Gets first old input used t u) where
+    pub cell_drains : Gets u offset told v → HandsOut Gets first new input (used + taken) t v
+    cell_drains got = item_drains Gets first old new input used t u d unrefused offset taken told cell_takes v got
 
-    pub cell_fails : (faulted : V → ℕ → Event → V → Type 0) → faulted w offset told w' → FailsAfter f faulted first new input (used + taken) v w'
-    cell_fails faulted fault = item_fails f first old new input used v w d unrefused offset taken told cell_takes faulted w' fault
+    pub cell_fails : (Fails : S → ℕ → Event → S → Type 0) → Fails u offset told v → FailsAfter Gets Fails first new input (used + taken) t v
+    cell_fails Fails fault = item_fails Gets first old new input used t u d unrefused offset taken told cell_takes Fails v fault

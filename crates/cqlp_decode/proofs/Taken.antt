@@ -8,9 +8,11 @@ use Rattle.cqlp_decode.specs.Standing.{StreamState, ends_due}
 use Rattle.cqlp_decode.specs.Streams.{AfterBy, AfterGifts}
 use Rattle.cqlp_decode.specs.Draining.{Drains, FailsWithin, fold_events}
 use Rattle.cqlp_decode.specs.Items.{TakesItem}
-use Rattle.cqlp_decode.specs.Cells.{Item, TakesItems, HandsOut, FailsAfter, bytes_of, told_of}
+use Rattle.cqlp_grammar.specs.declared.sink.Sink as sink
+use Rattle.cqlp_decode.specs.Sinks.{Gets, Fails}
+use Rattle.cqlp_decode.specs.Cells.{Item, TakesItems, GetsAll, HandsOut, FailsAfter, bytes_of, told_of}
 use Rattle.cqlp_decode.proofs.Leads.{hands_stands}
-use Rattle.cqlp_decode.proofs.Gets.{take_two, fold_append}
+use Rattle.cqlp_decode.proofs.Gets.{take_two}
 
 -- ---- lists of items
 
@@ -55,55 +57,76 @@ takes_stands gifts old new s input es (x ∷ xs) t a =
     let more = takes_stands gifts t.0 new (s ++ take x.used input) (drop x.used input) (es ++ (x.at, x.event) ∷ []) xs t.3 first in
     rw (take_two x.used (bytes_of xs) input, ← (append_assoc s (take x.used input) (take (bytes_of xs) (drop x.used input))), ← (append_assoc es ((x.at, x.event) ∷ []) (told_of xs))) more
 
-module _ {V : Type 0} (f : V → ℕ → Event → V) where
-  -- ---- over the whole stream
+-- ---- what a sink has got
 
-  pub drained : (old new : StreamState) (input : List ℕ) (used : ℕ) (v w : V) → HandsOut f old new input used v w → (gifts : Gifts) (s : List ℕ) (es : List (ℕ × Event)) → AfterGifts gifts old s es → Drains f gifts new s es (take used input) v w
-  drained old new input used v w h gifts s es a = record { more = told_of h.items; stands = rw h.all (takes_stands gifts old new s input es h.items h.takes a); got = h.got }
-
-  pub failed : (faulted : V → ℕ → Event → V → Type 0) (old new : StreamState) (input : List ℕ) (used : ℕ) (v w : V) → FailsAfter f faulted old new input used v w → FailsWithin f faulted old new (take used input) v w
-  failed faulted old new input used v w h = λ gifts s es a. record {
-    more = told_of h.items;
-    at = h.last.at;
-    event = h.last.event;
-    stands = rw (h.all, append_assoc es (told_of h.items) ((h.last.at, h.last.event) ∷ []), ← (told_append h.items (h.last ∷ []))) (takes_stands gifts old new s input es (h.items ++ h.last ∷ []) h.takes a);
-    fault = h.fault;
-  }
+module _ {S : Type 0} (Gets : S → ℕ → Event → S → Type 0) where
+  gets_append : (s t u : S) (xs ys : List Item) → GetsAll Gets s xs t → GetsAll Gets t ys u → GetsAll Gets s (xs ++ ys) u
+  gets_append s t u [] ys a b = subst (λ (z : S). GetsAll Gets z ys u) a b
+  gets_append s t u (x ∷ xs) ys a b = (a.0, a.1, gets_append a.0 t u xs ys a.2 b)
 
   -- ---- one after the other
 
-  pub hands_none : (d : StreamState) (input : List ℕ) (v : V) → HandsOut f d d input 0 v v
-  hands_none d input v = record { items = []; takes = refl; all = refl; got = refl }
+  pub hands_none : (d : StreamState) (input : List ℕ) (s : S) → HandsOut Gets d d input 0 s s
+  hands_none d input s = record { items = []; takes = refl; all = refl; got = refl }
 
-  pub hands_then : (old mid new : StreamState) (input : List ℕ) (used taken : ℕ) (v w x : V) → HandsOut f old mid input used v w → HandsOut f mid new (drop used input) taken w x → HandsOut f old new input (used + taken) v x
-  hands_then old mid new input used taken v w x d e = record {
+  pub hands_then : (old mid new : StreamState) (input : List ℕ) (used taken : ℕ) (s t u : S) → HandsOut Gets old mid input used s t → HandsOut Gets mid new (drop used input) taken t u → HandsOut Gets old new input (used + taken) s u
+  hands_then old mid new input used taken s t u d e = record {
     items = d.items ++ e.items;
     takes = takes_append old mid new input d.items e.items d.takes (subst (λ (n : ℕ). TakesItems mid (drop n input) e.items new) d.all e.takes);
     all = omega (arith, d.all, e.all, bytes_append d.items e.items);
-    got = e.got ∙ ap (λ (z : V). fold_events f z (told_of e.items)) d.got ∙ sym (fold_append f v (told_of d.items) (told_of e.items)) ∙ ap (fold_events f v) (sym (told_append d.items e.items));
+    got = gets_append s t u d.items e.items d.got e.got;
   }
 
-  pub fails_then : (faulted : V → ℕ → Event → V → Type 0) (old mid new : StreamState) (input : List ℕ) (used taken : ℕ) (v w x : V) → HandsOut f old mid input used v w → FailsAfter f faulted mid new (drop used input) taken w x → FailsAfter f faulted old new input (used + taken) v x
-  fails_then faulted old mid new input used taken v w x d e =
+  pub fails_then : (Fails : S → ℕ → Event → S → Type 0) (old mid new : StreamState) (input : List ℕ) (used taken : ℕ) (s t u : S) → HandsOut Gets old mid input used s t → FailsAfter Gets Fails mid new (drop used input) taken t u → FailsAfter Gets Fails old new input (used + taken) s u
+  fails_then Fails old mid new input used taken s t u d e =
       let items : (d.items ++ e.items) ++ e.last ∷ [] ≡ d.items ++ (e.items ++ e.last ∷ []) = append_assoc d.items e.items (e.last ∷ []) in record {
         items = d.items ++ e.items;
         last = e.last;
         takes = rw items (takes_append old mid new input d.items (e.items ++ e.last ∷ []) d.takes (subst (λ (n : ℕ). TakesItems mid (drop n input) (e.items ++ e.last ∷ []) new) d.all e.takes));
         all = rw items (omega (arith, d.all, e.all, bytes_append d.items (e.items ++ e.last ∷ [])));
-        fault = rw (told_append d.items e.items, fold_append f v (told_of d.items) (told_of e.items), ← d.got) e.fault;
+        mid = e.mid;
+        got = gets_append s t e.mid d.items e.items d.got e.got;
+        fault = e.fault;
       }
 
   -- ---- one more
 
-  module _ (old mid new : StreamState) (input : List ℕ) (used : ℕ) (v w : V) (d : HandsOut f old mid input used v w) (unrefused : mid.refusal ≡ None) (at taken : ℕ) (told : Event) (t : TakesItem mid (drop used input) at taken told new) where
+  module _ (old mid new : StreamState) (input : List ℕ) (used : ℕ) (s t : S) (d : HandsOut Gets old mid input used s t) (unrefused : mid.refusal ≡ None) (at taken : ℕ) (told : Event) (h : TakesItem mid (drop used input) at taken told new) where
     abbrev one : Item
     one = record { at = at; used = taken; event = told }
 
     takes_one : TakesItems mid (drop used input) (one ∷ []) new
-    takes_one = (new, unrefused, t, refl)
+    takes_one = (new, unrefused, h, refl)
 
-    pub item_drains : (w' : V) → w' ≡ f w at told → HandsOut f old new input (used + taken) v w'
-    item_drains w' is = hands_then old mid new input used taken v w w' d (record { items = one ∷ []; takes = takes_one; all = omega arith; got = is })
+    pub item_drains : (u : S) → Gets t at told u → HandsOut Gets old new input (used + taken) s u
+    item_drains u got = hands_then old mid new input used taken s t u d (record { items = one ∷ []; takes = takes_one; all = omega arith; got = (u, got, refl) })
 
-    pub item_fails : (faulted : V → ℕ → Event → V → Type 0) (w' : V) → faulted w at told w' → FailsAfter f faulted old new input (used + taken) v w'
-    item_fails faulted w' fault = fails_then faulted old mid new input used taken v w w' d (record { items = []; last = one; takes = takes_one; all = omega arith; fault = fault })
+    pub item_fails : (Fails : S → ℕ → Event → S → Type 0) (u : S) → Fails t at told u → FailsAfter Gets Fails old new input (used + taken) s u
+    item_fails Fails u fault = fails_then Fails old mid new input used taken s t u d (record { items = []; last = one; takes = takes_one; all = omega arith; mid = t; got = refl; fault = fault })
+
+-- ---- over the whole stream, where the sink tells what it has got
+
+module _ {S : Type 0} (m : sink.Ghosts S) where
+  gets_told : (s t : S) (xs : List Item) → GetsAll (Gets m) s xs t → m.tells s → m.tells t × (m.view t ≡ fold_events m.after (m.view s) (told_of xs))
+  gets_told s t [] g is = rw g (is, refl)
+  gets_told s t (x ∷ xs) g is =
+      let first = g.1.0 is in
+      let more = gets_told g.0 t xs g.2 first.0 in (more.0, more.1 ∙ ap (λ (z : m.View). fold_events m.after z (told_of xs)) first.1)
+
+  module _ (old new : StreamState) (input : List ℕ) (used : ℕ) (s t : S) where
+    pub still_tells : HandsOut (Gets m) old new input used s t → m.tells s → m.tells t
+    still_tells h is = (gets_told s t h.items h.got is).0
+
+    pub drained : HandsOut (Gets m) old new input used s t → m.tells s → (gifts : Gifts) (bytes : List ℕ) (es : List (ℕ × Event)) → AfterGifts gifts old bytes es → Drains m.after gifts new bytes es (take used input) (m.view s) (m.view t)
+    drained h is gifts bytes es a = record { more = told_of h.items; stands = rw h.all (takes_stands gifts old new bytes input es h.items h.takes a); got = (gets_told s t h.items h.got is).1 }
+
+    pub failed : FailsAfter (Gets m) (Fails m) old new input used s t → m.tells s → FailsWithin m.after m.faulted old new (take used input) (m.view s) (m.view t)
+    failed h is =
+        let got = gets_told s h.mid h.items h.got is in
+        λ gifts bytes es a. record {
+          more = told_of h.items;
+          at = h.last.at;
+          event = h.last.event;
+          stands = rw (h.all, append_assoc es (told_of h.items) ((h.last.at, h.last.event) ∷ []), ← (told_append h.items (h.last ∷ []))) (takes_stands gifts old new bytes input es (h.items ++ h.last ∷ []) h.takes a);
+          fault = rw (← got.1) (h.fault.0 got.0);
+        }

@@ -13,7 +13,6 @@ use Rattle.cqlp_decode.specs.declared.page_loop.Bare.{Bare}
 use Rattle.cqlp_decode.specs.declared.page_loop.Bare.TheVariants as bare
 use Rattle.cqlp_decode.specs.Reading.{Event, cell_event}
 use Rattle.cqlp_decode.specs.Standing.{StreamState, ends_due}
-use Rattle.cqlp_decode.specs.Draining.{fold_events}
 use Rattle.cqlp_decode.specs.Items.{TakesItem}
 
 -- Where a cell of this kind is read, in a frame with this much room: these bytes say that all of it is this event.
@@ -90,33 +89,40 @@ TakesItems old input (x ∷ xs) new =
     (mid : StreamState) × (old.refusal ≡ None) × TakesItem old input x.at x.used x.event mid
     × TakesItems mid (drop x.used input) xs new
 
--- What a sink has got: f is what it makes of an event, and `faulted` which faults one may lead to.
-module _ {V : Type 0} (f : V → ℕ → Event → V) where
+-- What a sink has got: `Gets` says which sinks one leads to that gets an event.
+module _ {S : Type 0} (Gets : S → ℕ → Event → S → Type 0) where
+  -- It has got the events of these items, one after the other.
+  abbrev pub GetsAll : S → List Item → S → Type 0
+  GetsAll before [] after = after ≡ before
+  GetsAll before (x ∷ xs) after = (mid : S) × Gets before x.at x.event mid × GetsAll mid xs after
+
   -- These items were taken, of this many bytes, and the sink has got just their events.
-  pub record HandsOut (old new : StreamState) (input : List ℕ) (used : ℕ) (before after : V) : Type 0 where
+  pub record HandsOut (old new : StreamState) (input : List ℕ) (used : ℕ) (before after : S) : Type 0 where
     pub items : List Item
     pub takes : TakesItems old input items new
     pub all : used ≡ bytes_of items
-    pub got : after ≡ fold_events f before (told_of items)
+    pub got : GetsAll before items after
 
-  module _ (faulted : V → ℕ → Event → V → Type 0) where
+  module _ (Fails : S → ℕ → Event → S → Type 0) where
     -- The same, and then one more item, at whose event the sink failed.
-    pub record FailsAfter (old new : StreamState) (input : List ℕ) (used : ℕ) (before after : V) : Type 0 where
+    pub record FailsAfter (old new : StreamState) (input : List ℕ) (used : ℕ) (before after : S) : Type 0 where
       pub items : List Item
       pub last : Item
       pub takes : TakesItems old input (items ++ last ∷ []) new
       pub all : used ≡ bytes_of (items ++ last ∷ [])
-      pub fault : faulted (fold_events f before (told_of items)) last.at last.event after
+      pub mid : S
+      pub got : GetsAll before items mid
+      pub fault : Fails mid last.at last.event after
 
     -- what was handed out, by how it ends
-    abbrev pub DrainsCells : StreamState → List ℕ → Result ℕ FaultAfter → StreamState → (before after : V) → Type 0
+    abbrev pub DrainsCells : StreamState → List ℕ → Result ℕ FaultAfter → StreamState → (before after : S) → Type 0
     DrainsCells old input (Ok used) new before after = HandsOut old new input used before after
     DrainsCells old input (Err fault) new before after = FailsAfter old new input fault.used before after
 
-    abbrev pub EndsBy : (failed : Bool) → (old new : StreamState) → List ℕ → (used : ℕ) → (before after : V) → Type 0
+    abbrev pub EndsBy : (failed : Bool) → (old new : StreamState) → List ℕ → (used : ℕ) → (before after : S) → Type 0
     EndsBy false old new input used before after = HandsOut old new input used before after
     EndsBy true old new input used before after = FailsAfter old new input used before after
 
     -- the same of items of one value
-    abbrev pub DrainsItems : StreamState → List ℕ → ItemsHanded → StreamState → (before after : V) → Type 0
+    abbrev pub DrainsItems : StreamState → List ℕ → ItemsHanded → StreamState → (before after : S) → Type 0
     DrainsItems old input items new before after = EndsBy items.failed old new input items.used before after

@@ -7,4 +7,5 @@ pub mod Giving
 pub mod Draining
 pub mod Items
 pub mod Cells
+pub mod Sinks
 pub mod Fields

@@ -110,6 +110,7 @@ impl<A: Allocator> Decoder<A> {
     ghost use Rattle.cqlp_decode.specs.Cells.{DrainsCells, StaysWithin};
     ghost use Rattle.cqlp_decode.specs.Giving.{GivesAlso, GivesBack, TakesAlso, after_taking, free_table, once_given, reason_against};
     ghost use Rattle.cqlp_decode.specs.Reading.{Gives, is_in_use};
+    ghost use Rattle.cqlp_decode.specs.Sinks.{Gets, Fails};
     ghost use Rattle.cqlp_decode.specs.Standing.{Advances, HoldsGiven, LeavesTypes, Takes, WhatThere, event_at};
     ghost use Rattle.cqlp_decode.specs.Streams.{EndsAs, IsWithin, Uses, given_nodes, state};
     ghost use Rattle.cqlp_decode.specs.declared.given.GiveReason.{GiveReason as Why};
@@ -266,10 +267,8 @@ impl<A: Allocator> Decoder<A> {
         ensures stays { StaysWithin (state self.old) input.now result (state self.new) }
         ensures refused { (r : Refusal) → (state self.old).refusal ≡ Some r
             → (state self.new ≡ state self.old) × (sink.new ≡ sink.old) × (result ≡ Ok 0) }
-        ensures tells { S.tells sink.old → OnOk result (S.tells sink.new) }
-        ensures drains { S.tells sink.old →
-            DrainsCells S.after S.faulted (state self.old) input.now result (state self.new)
-            (S.view sink.old) (S.view sink.new) }
+        ensures drains { DrainsCells (Gets S.Sink) (Fails S.Sink) (state self.old) input.now result (state self.new)
+            sink.old sink.new }
     {
         let used = match self.take_fields(input, sink) {
             Ok(used) => used,
@@ -292,10 +291,8 @@ impl<A: Allocator> Decoder<A> {
         ensures stays { StaysWithin (state self.old) input.now result (state self.new) }
         ensures refused { (r : Refusal) → (state self.old).refusal ≡ Some r
             → (state self.new ≡ state self.old) × (sink.new ≡ sink.old) × (result ≡ Ok 0) }
-        ensures tells { S.tells sink.old → OnOk result (S.tells sink.new) }
-        ensures drains { S.tells sink.old →
-            DrainsCells S.after S.faulted (state self.old) input.now result (state self.new)
-            (S.view sink.old) (S.view sink.new) }
+        ensures drains { DrainsCells (Gets S.Sink) (Fails S.Sink) (state self.old) input.now result (state self.new)
+            sink.old sink.new }
     {
         if self.standing.is_in_page() {
             return Ok(0);
@@ -310,10 +307,8 @@ impl<A: Allocator> Decoder<A> {
         ensures stays { StaysWithin (state self.old) input.now result (state self.new) }
         ensures refused { (r : Refusal) → (state self.old).refusal ≡ Some r
             → (state self.new ≡ state self.old) × (sink.new ≡ sink.old) × (result ≡ Ok 0) }
-        ensures tells { S.tells sink.old → OnOk result (S.tells sink.new) }
-        ensures drains { S.tells sink.old →
-            DrainsCells S.after S.faulted (state self.old) input.now result (state self.new)
-            (S.view sink.old) (S.view sink.new) }
+        ensures drains { DrainsCells (Gets S.Sink) (Fails S.Sink) (state self.old) input.now result (state self.new)
+            sink.old sink.new }
     {
         if !self.standing.is_in_page() {
             return Ok(0);

@@ -12,6 +12,7 @@ ghost use Rattle.cqlp_decode.specs.declared.standing.StreamStage.TheVariants as 
 ghost use Rattle.cqlp_decode.specs.Cells.{DrainsCells, StaysWithin};
 ghost use Rattle.cqlp_decode.specs.Fields.{HandsField};
 ghost use Rattle.cqlp_decode.specs.Items.{HandsItem};
+ghost use Rattle.cqlp_decode.specs.Sinks.{Gets, Fails};
 ghost use Rattle.cqlp_decode.specs.Standing.{IsBounded, IsConsistent, IsIdle, IsLawful, PartsState, state_of, state_with};
 
 use crate::decoder::event_with;
@@ -38,10 +39,8 @@ pub fn take_fields<S: Sink, A: Allocator>(
         (state_with standing.new parts.new) }
     ensures refused { (r : Refusal) → standing.old.refusal ≡ Some r
         → (standing.new ≡ standing.old) × (parts.new ≡ parts.old) × (sink.new ≡ sink.old) × (result ≡ Ok 0) }
-    ensures tells { S.tells sink.old → OnOk result (S.tells sink.new) }
-    ensures drains { S.tells sink.old →
-        DrainsCells S.after S.faulted (state_with standing.old parts.old) input.now result
-        (state_with standing.new parts.new) (S.view sink.old) (S.view sink.new) }
+    ensures drains { DrainsCells (Gets S.Sink) (Fails S.Sink) (state_with standing.old parts.old) input.now result
+        (state_with standing.new parts.new) sink.old sink.new }
 {
     if standing.refusal.is_some() {
         return Ok(0);
@@ -73,8 +72,8 @@ fn hand_plain<S: Sink>(
 ) -> Handed
     ensures left { result ≡ Handed.Left → sink.new ≡ sink.old }
     ensures hands { HandsField notation (limit_of (rules_of limits.now) notation) room input.now field
-        (λ e. S.tells sink.old → S.tells sink.new × (S.view sink.new ≡ S.after (S.view sink.old) at e))
-        (λ e. S.tells sink.old → S.faulted (S.view sink.old) at e (S.view sink.new)) result }
+        (λ e. Gets S.Sink sink.old at e sink.new)
+        (λ e. Fails S.Sink sink.old at e sink.new) result }
 {
     // An arm for each notation, so that each has code of its own.
     match notation {
@@ -107,8 +106,8 @@ fn hand_front<S: Sink>(
 ) -> Handed
     ensures left { result ≡ Handed.Left → sink.new ≡ sink.old }
     ensures hands { HandsField notation (limit_of (rules_of limits.now) notation) room input.now field
-        (λ e. S.tells sink.old → S.tells sink.new × (S.view sink.new ≡ S.after (S.view sink.old) at e))
-        (λ e. S.tells sink.old → S.faulted (S.view sink.old) at e (S.view sink.new)) result }
+        (λ e. Gets S.Sink sink.old at e sink.new)
+        (λ e. Fails S.Sink sink.old at e sink.new) result }
 {
     let Some(whole) = front_field(notation, limit_on(limits, notation), room, input) else {
         return Handed::Left;
@@ -133,8 +132,8 @@ impl StreamStanding {
         ensures lawful { IsLawful self.new parts.new }
         ensures left { result ≡ Handed.Left → sink.new ≡ sink.old }
         ensures hands { HandsItem (state_with self.old parts.old) input.now
-            (λ at e. S.tells sink.old → S.tells sink.new × (S.view sink.new ≡ S.after (S.view sink.old) at e))
-            (λ at e. S.tells sink.old → S.faulted (S.view sink.old) at e (S.view sink.new)) result
+            (λ at e. Gets S.Sink sink.old at e sink.new)
+            (λ at e. Fails S.Sink sink.old at e sink.new) result
             (state_with self.new parts.new) }
     {
         match self.stage {
@@ -160,8 +159,8 @@ impl StreamStanding {
         ensures lawful { (q : PartsState) → IsConsistent self.old q → IsConsistent self.new q }
         ensures left { result ≡ Handed.Left → sink.new ≡ sink.old }
         ensures hands { (q : PartsState) → IsIdle q → HandsItem (state_of self.old q) input.now
-            (λ at e. S.tells sink.old → S.tells sink.new × (S.view sink.new ≡ S.after (S.view sink.old) at e))
-            (λ at e. S.tells sink.old → S.faulted (S.view sink.old) at e (S.view sink.new)) result
+            (λ at e. Gets S.Sink sink.old at e sink.new)
+            (λ at e. Fails S.Sink sink.old at e sink.new) result
             (state_of self.new q) }
     {
         if self.came > 0 || self.offset > 1 << 63 || input.len() < 9 {
@@ -188,8 +187,8 @@ impl StreamStanding {
         ensures lawful { (q : PartsState) → IsConsistent self.old q → IsConsistent self.new q }
         ensures left { result ≡ Handed.Left → sink.new ≡ sink.old }
         ensures hands { (q : PartsState) → IsIdle q → HandsItem (state_of self.old q) input.now
-            (λ at e. S.tells sink.old → S.tells sink.new × (S.view sink.new ≡ S.after (S.view sink.old) at e))
-            (λ at e. S.tells sink.old → S.faulted (S.view sink.old) at e (S.view sink.new)) result
+            (λ at e. Gets S.Sink sink.old at e sink.new)
+            (λ at e. Fails S.Sink sink.old at e sink.new) result
             (state_of self.new q) }
     {
         let extra = self.stop - self.offset;
@@ -232,8 +231,8 @@ impl StreamStanding {
         ensures lawful { IsLawful self.new parts.now }
         ensures left { result ≡ Handed.Left → sink.new ≡ sink.old }
         ensures hands { HandsItem (state_with self.old parts.now) input.now
-            (λ at e. S.tells sink.old → S.tells sink.new × (S.view sink.new ≡ S.after (S.view sink.old) at e))
-            (λ at e. S.tells sink.old → S.faulted (S.view sink.old) at e (S.view sink.new)) result
+            (λ at e. Gets S.Sink sink.old at e sink.new)
+            (λ at e. Fails S.Sink sink.old at e sink.new) result
             (state_with self.new parts.now) }
     {
         if parts.partial.is_under_way() || parts.partial.held() > 0 {
@@ -276,8 +275,8 @@ impl StreamStanding {
         ensures lawful { IsLawful self.new parts.new }
         ensures left { result ≡ Handed.Left → sink.new ≡ sink.old }
         ensures hands { HandsItem (state_with self.old parts.old) input.now
-            (λ at e. S.tells sink.old → S.tells sink.new × (S.view sink.new ≡ S.after (S.view sink.old) at e))
-            (λ at e. S.tells sink.old → S.faulted (S.view sink.old) at e (S.view sink.new)) result
+            (λ at e. Gets S.Sink sink.old at e sink.new)
+            (λ at e. Fails S.Sink sink.old at e sink.new) result
             (state_with self.new parts.new) }
     {
         if parts.partial.is_under_way() || parts.partial.held() > 0 {

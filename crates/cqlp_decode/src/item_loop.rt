@@ -5,7 +5,7 @@
 //! what the reading of the bytes says, and to stand where that does; and it reads by the functions by which `next`
 //! does, so that no rule stands here alone.
 
-ghost use Rattle.std.specs.Prelude.{◌≡◌, Ok, OnErr, OnOk, None, Some, [], false};
+ghost use Rattle.std.specs.Prelude.{◌≡◌, Ok, OnErr, OnOk, None, Some, []};
 ghost use Rattle.cqlp_note.specs.Limits.{rules_of};
 ghost use Rattle.cqlp_note.specs.declared.refusal.Refusal.{Refusal};
 ghost use Rattle.cqlp_decode.specs.declared.standing.StreamStage.TheVariants as stage;
@@ -14,6 +14,7 @@ ghost use Rattle.cqlp_decode.specs.Items.{HandsLeaf, IsIn, StaysIn, TakesPart, a
 ghost use Rattle.cqlp_type.specs.Forests.{node_at};
 ghost use Rattle.cqlp_cell.specs.declared.open_values.Order.TheVariants as order;
 ghost use Rattle.cqlp_cell.specs.Levels.{IsInLevel};
+ghost use Rattle.cqlp_decode.specs.Sinks.{Gets, Fails};
 ghost use Rattle.cqlp_decode.specs.Standing.{IsConsistent, IsLawful, nodes_of, parts_state, state_of, state_with};
 
 use crate::page::{CellCursor, page_table};
@@ -55,10 +56,8 @@ pub fn take_items<S: Sink, A: Allocator>(
         (state_with standing.new parts.new) }
     ensures refused { (r : Refusal) → standing.old.refusal ≡ Some r
         → (standing.new ≡ standing.old) × (parts.new ≡ parts.old) × (sink.new ≡ sink.old) × (result ≡ Ok 0) }
-    ensures tells { S.tells sink.old → OnOk result (S.tells sink.new) }
-    ensures drains { S.tells sink.old →
-        DrainsCells S.after S.faulted (state_with standing.old parts.old) input.now result
-        (state_with standing.new parts.new) (S.view sink.old) (S.view sink.new) }
+    ensures drains { DrainsCells (Gets S.Sink) (Fails S.Sink) (state_with standing.old parts.old) input.now result
+        (state_with standing.new parts.new) sink.old sink.new }
 {
     if parts.partial.held() > 0 || standing.refusal.is_some() {
         return Ok(0);
@@ -104,8 +103,8 @@ fn hand_leaf<S: Sink>(
 ) -> Handed
     ensures left { result ≡ Handed.Left → sink.new ≡ sink.old }
     ensures hands { HandsLeaf (rules_of limits.now) due.kind due.room due.level input.now page.row page.column
-        (λ e. S.tells sink.old → S.tells sink.new × (S.view sink.new ≡ S.after (S.view sink.old) due.at e))
-        (λ e. S.tells sink.old → S.faulted (S.view sink.old) due.at e (S.view sink.new)) result }
+        (λ e. Gets S.Sink sink.old due.at e sink.new)
+        (λ e. Fails S.Sink sink.old due.at e sink.new) result }
 {
     // An arm for each kind, so that each has code of its own.
     match due.kind {
@@ -146,8 +145,8 @@ fn hand_kind<S: Sink>(
 ) -> Handed
     ensures left { result ≡ Handed.Left → sink.new ≡ sink.old }
     ensures hands { HandsLeaf (rules_of limits.now) kind due.room due.level input.now page.row page.column
-        (λ e. S.tells sink.old → S.tells sink.new × (S.view sink.new ≡ S.after (S.view sink.old) due.at e))
-        (λ e. S.tells sink.old → S.faulted (S.view sink.old) due.at e (S.view sink.new)) result }
+        (λ e. Gets S.Sink sink.old due.at e sink.new)
+        (λ e. Fails S.Sink sink.old due.at e sink.new) result }
 {
     let Some(front) = front_scalar(limits, kind, due.room, input) else {
         return Handed::Left;
@@ -170,10 +169,8 @@ fn hand_kind<S: Sink>(
 /// Hands a part without a content to the sink.
 #[inline(always)]
 fn hand_part<S: Sink>(page: CellCursor, item: BareItem, sink: &mut S) -> Result<(), SinkFault>
-    ensures ok { OnOk result (S.tells sink.old → S.tells sink.new
-        × (S.view sink.new ≡ S.after (S.view sink.old) item.at (part_told page.row page.column item.part))) }
-    ensures err { OnErr result (S.tells sink.old →
-        S.faulted (S.view sink.old) item.at (part_told page.row page.column item.part) (S.view sink.new)) }
+    ensures ok { OnOk result (Gets S.Sink sink.old item.at (part_told page.row page.column item.part) sink.new) }
+    ensures err { OnErr result (Fails S.Sink sink.old item.at (part_told page.row page.column item.part) sink.new) }
 {
     let CellCursor { row, column, .. } = page;
     let at = item.at;
@@ -240,10 +237,8 @@ impl StreamStanding {
         ensures given { (state_with self.now parts.new).given ≡ (state_with self.now parts.old).given }
         ensures within { UsesWithin (state_with self.now parts.old) input.now (Ok result.used)
             (state_with self.now parts.new) }
-        ensures tells { S.tells sink.old → result.failed ≡ false → S.tells sink.new }
-        ensures drains { S.tells sink.old →
-            DrainsItems S.after S.faulted (state_with self.now parts.old) input.now result
-            (state_with self.now parts.new) (S.view sink.old) (S.view sink.new) }
+        ensures drains { DrainsItems (Gets S.Sink) (Fails S.Sink) (state_with self.now parts.old) input.now result
+            (state_with self.now parts.new) sink.old sink.new }
     {
         if let Some(first) = parts.cells.level() {
             let table = page_table(page.columns, &parts.table, &parts.given);
@@ -277,10 +272,8 @@ impl StreamStanding {
         ensures given { (state_with self.now parts.new).given ≡ (state_with self.now parts.old).given }
         ensures within { UsesWithin (state_with self.now parts.old) input.now (Ok result.used)
             (state_with self.now parts.new) }
-        ensures tells { S.tells sink.old → result.failed ≡ false → S.tells sink.new }
-        ensures drains { S.tells sink.old →
-            DrainsItems S.after S.faulted (state_with self.now parts.old) input.now result
-            (state_with self.now parts.new) (S.view sink.old) (S.view sink.new) }
+        ensures drains { DrainsItems (Gets S.Sink) (Fails S.Sink) (state_with self.now parts.old) input.now result
+            (state_with self.now parts.new) sink.old sink.new }
     {
         let Some(first) = parts.cells.level() else {
             return ItemsHanded {
@@ -340,11 +333,8 @@ impl StreamStanding {
         ensures lawful { IsConsistent self.now (at_level (parts_state parts.now) level.new) }
         ensures within { UsesWithin (state_of self.now (at_level (parts_state parts.now) level.old)) input.now
             (Ok result.used) (state_of self.now (at_level (parts_state parts.now) level.new)) }
-        ensures tells { S.tells sink.old → result.failed ≡ false → S.tells sink.new }
-        ensures drains { S.tells sink.old →
-            DrainsItems S.after S.faulted (state_of self.now (at_level (parts_state parts.now) level.old)) input.now
-            result (state_of self.now (at_level (parts_state parts.now) level.new)) (S.view sink.old)
-            (S.view sink.new) }
+        ensures drains { DrainsItems (Gets S.Sink) (Fails S.Sink) (state_of self.now (at_level (parts_state parts.now) level.old)) input.now
+            result (state_of self.now (at_level (parts_state parts.now) level.new)) sink.old sink.new }
     {
         // An arm for each kind, so that each has a loop of its own.
         match kind {
@@ -397,11 +387,8 @@ impl StreamStanding {
         ensures lawful { IsConsistent self.now (at_level (parts_state parts.now) level.new) }
         ensures within { UsesWithin (state_of self.now (at_level (parts_state parts.now) level.old)) input.now
             (Ok result.used) (state_of self.now (at_level (parts_state parts.now) level.new)) }
-        ensures tells { S.tells sink.old → result.failed ≡ false → S.tells sink.new }
-        ensures drains { S.tells sink.old →
-            DrainsItems S.after S.faulted (state_of self.now (at_level (parts_state parts.now) level.old)) input.now
-            result (state_of self.now (at_level (parts_state parts.now) level.new)) (S.view sink.old)
-            (S.view sink.new) }
+        ensures drains { DrainsItems (Gets S.Sink) (Fails S.Sink) (state_of self.now (at_level (parts_state parts.now) level.old)) input.now
+            result (state_of self.now (at_level (parts_state parts.now) level.new)) sink.old sink.new }
     {
         let limits = self.limits;
         let mut here = *level;

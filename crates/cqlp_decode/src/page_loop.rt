@@ -10,6 +10,7 @@ ghost use Rattle.cqlp_note.specs.Limits.{rules_of};
 ghost use Rattle.cqlp_note.specs.declared.refusal.Refusal.{Refusal};
 ghost use Rattle.cqlp_decode.specs.Cells.{DrainsCells, HandsFront, HasHanded, IsBare, StaysWithin};
 ghost use Rattle.cqlp_grammar.specs.Events.{event_of};
+ghost use Rattle.cqlp_decode.specs.Sinks.{Gets, Fails};
 ghost use Rattle.cqlp_decode.specs.Standing.{IsLawful, state_with};
 
 use crate::page::{CellCursor, page_table};
@@ -56,10 +57,8 @@ pub fn take_cells<S: Sink, A: Allocator>(
         (state_with standing.new parts.now) }
     ensures refused { (r : Refusal) → standing.old.refusal ≡ Some r
         → (standing.new ≡ standing.old) × (sink.new ≡ sink.old) × (result ≡ Ok 0) }
-    ensures tells { S.tells sink.old → OnOk result (S.tells sink.new) }
-    ensures drains { S.tells sink.old →
-        DrainsCells S.after S.faulted (state_with standing.old parts.now) input.now result
-        (state_with standing.new parts.now) (S.view sink.old) (S.view sink.new) }
+    ensures drains { DrainsCells (Gets S.Sink) (Fails S.Sink) (state_with standing.old parts.now) input.now result
+        (state_with standing.new parts.now) sink.old sink.new }
 {
     let StreamStage::BeforeCell(due) = standing.stage else {
         return Ok(0);
@@ -116,8 +115,8 @@ fn hand_cell<S: Sink>(
 ) -> Handed
     ensures left { result ≡ Handed.Left → sink.new ≡ sink.old }
     ensures hands { HandsFront (rules_of limits.now) kind room input.now page.row page.column
-        (λ e. S.tells sink.old → S.tells sink.new × (S.view sink.new ≡ S.after (S.view sink.old) at e))
-        (λ e. S.tells sink.old → S.faulted (S.view sink.old) at e (S.view sink.new)) result }
+        (λ e. Gets S.Sink sink.old at e sink.new)
+        (λ e. Fails S.Sink sink.old at e sink.new) result }
 {
     let CellCursor { row, column, .. } = page;
     if room < 4 || input.len() < 4 {
@@ -169,8 +168,8 @@ fn hand_scalar<S: Sink>(
 ) -> Handed
     ensures left { result ≡ Handed.Left → sink.new ≡ sink.old }
     ensures hands { HandsFront (rules_of limits.now) kind room input.now page.row page.column
-        (λ e. S.tells sink.old → S.tells sink.new × (S.view sink.new ≡ S.after (S.view sink.old) at e))
-        (λ e. S.tells sink.old → S.faulted (S.view sink.old) at e (S.view sink.new)) result }
+        (λ e. Gets S.Sink sink.old at e sink.new)
+        (λ e. Fails S.Sink sink.old at e sink.new) result }
 {
     let Some(front) = front_scalar(limits, kind, room, input) else {
         return Handed::Left;
@@ -194,8 +193,8 @@ fn hand_scalar<S: Sink>(
 #[inline(always)]
 fn hand<S: Sink>(at: u64, event: &Event<'_>, used: usize, sink: &mut S) -> Handed
     ensures { HasHanded
-        (S.tells sink.old → S.tells sink.new × (S.view sink.new ≡ S.after (S.view sink.old) at (event_of event.now)))
-        (S.tells sink.old → S.faulted (S.view sink.old) at (event_of event.now) (S.view sink.new)) used result }
+        (Gets S.Sink sink.old at (event_of event.now) sink.new) (Fails S.Sink sink.old at (event_of event.now) sink.new)
+        used result }
 {
     match sink.take(at, event) {
         Ok(()) => Handed::Cell(used),

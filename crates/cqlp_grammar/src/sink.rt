@@ -29,8 +29,12 @@ pub trait Sink {
     /// What a fault at an event may leave.
     ghost faulted: { View → ℕ → told.Event → View → Type 0 };
 
+    /// What more holds of one before and after an event at an offset, which it takes or fails at.
+    ghost also: { Self → ℕ → told.Event → Self → Type 0 } = { λ _ _ _ _. Unit {0} };
+
     /// Takes the event at an offset.
     fn take(&mut self, at: u64, event: &Event<'_>) -> Result<(), SinkFault>
         ensures ok { OnOk result (tells self.old → tells self.new × (view self.new ≡ after (view self.old) at (event_of event.now))) }
-        ensures err { OnErr result (tells self.old → faulted (view self.old) at (event_of event.now) (view self.new)) };
+        ensures err { OnErr result (tells self.old → faulted (view self.old) at (event_of event.now) (view self.new)) }
+        ensures also { also self.old at (event_of event.now) self.new };
 }

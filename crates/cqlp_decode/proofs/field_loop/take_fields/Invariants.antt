@@ -1,5 +1,6 @@
 use Rattle.std.proofs.Common.{◌≡◌, ◌+◌, ◌-◌, ◌*◌, ◌≤◌, length}
 use Rattle.std.specs.Prelude.{None}
+use Rattle.cqlp_decode.specs.Sinks.{Gets}
 use Rattle.cqlp_decode.specs.Standing.{IsLawful, ends_due, state_with}
 use Rattle.cqlp_decode.specs.Cells.{HandsOut}
 use Rattle.cqlp_decode.proofs.field_loop.take_fields.Given as goal
@@ -13,8 +14,7 @@ invariant-fields g l = record {
   rules : (state_with l.standing l.parts).rules ≡ (state_with l.fn.standing l.fn.parts).rules;
   given : (state_with l.standing l.parts).given ≡ (state_with l.fn.standing l.fn.parts).given;
   pays : ends_due (state_with l.standing l.parts).place.symbols + (state_with l.standing l.parts).open_values ≤ ends_due (state_with l.fn.standing l.fn.parts).place.symbols + (state_with l.fn.standing l.fn.parts).open_values + 2 * l.used;
-  tells : g.S.Sink.tells l.fn.sink → g.S.Sink.tells l.sink;
-  drained : g.S.Sink.tells l.fn.sink → HandsOut g.S.Sink.after (state_with l.fn.standing l.fn.parts) (state_with l.standing l.parts) l.input l.used (g.S.Sink.view l.fn.sink) (g.S.Sink.view l.sink);
+  drained : HandsOut (Gets g.S.Sink) (state_with l.fn.standing l.fn.parts) (state_with l.standing l.parts) l.input l.used l.fn.sink l.sink;
 }
 
 -- what is taken has some byte, or is the end of a frame

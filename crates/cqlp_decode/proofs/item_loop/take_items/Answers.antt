@@ -2,12 +2,13 @@ use Rattle.std.proofs.Common.{◌≡◌, ◌+◌, drop, sym, ap, subst, ◌∙�
 use Rattle.std.proofs.lemmas.List.{length-drop}
 use Rattle.cqlp_decode.specs.Standing.{StreamState, state_with}
 use Rattle.cqlp_decode.specs.Items.{TakesItem, part_told}
+use Rattle.cqlp_decode.specs.Sinks.{Gets, Fails}
 use Rattle.cqlp_decode.proofs.Gets.{rest_is}
 use Rattle.cqlp_decode.proofs.Taken.{fails_then, hands_then, item_drains, item_fails}
 use Rattle.cqlp_decode.proofs.item_loop.take_items.Goals as goal
 
 pub returns-then-handed-clause-drains : goal.returns-then-handed-clause-drains
-returns-then-handed-clause-drains g c = λ tells.
+returns-then-handed-clause-drains g c =
     let i = c.items.invariant in
     let u = c.items.used in
     let m = c.hand_items-handed in
@@ -15,10 +16,10 @@ returns-then-handed-clause-drains g c = λ tells.
     let input = c.args.input.now in
     let old = state_with c.items.standing c.items.parts in
     let mid = state_with c.items.standing m.new.parts in
-    fails_then g.S.Sink.after g.S.Sink.faulted (state_with c.args.standing.now c.args.parts.now) old mid input u n _ _ _ (i.drained tells) ((rw (rest_is, c.if-handed.true) at m.ensures.drains) (i.tells tells))
+    fails_then (Gets g.S.Sink) (Fails g.S.Sink) (state_with c.args.standing.now c.args.parts.now) old mid input u n _ _ _ i.drained (rw (rest_is, c.if-handed.true) at m.ensures.drains)
 
 pub returns-in_default-take_part-clause-drains : goal.returns-in_default-take_part-clause-drains
-returns-in_default-take_part-clause-drains g c = λ tells.
+returns-in_default-take_part-clause-drains g c =
     let i = c.items.invariant in
     let u = c.items.used in
     let m = c.hand_items-handed in
@@ -26,10 +27,10 @@ returns-in_default-take_part-clause-drains g c = λ tells.
     let input = c.args.input.now in
     let old = state_with c.items.standing c.items.parts in
     let mid = state_with c.items.standing m.new.parts in
-    rw c.in_default-take_part.ensures.takes (hands_then g.S.Sink.after (state_with c.args.standing.now c.args.parts.now) old mid input u n _ _ _ (i.drained tells) ((rw (rest_is, c.if-handed.false) at m.ensures.drains) (i.tells tells)))
+    rw c.in_default-take_part.ensures.takes (hands_then (Gets g.S.Sink) (state_with c.args.standing.now c.args.parts.now) old mid input u n _ _ _ i.drained (rw (rest_is, c.if-handed.false) at m.ensures.drains))
 
 pub returns-in-Err-clause-drains : goal.returns-in-Err-clause-drains
-returns-in-Err-clause-drains g c = λ tells.
+returns-in-Err-clause-drains g c =
     let i = c.items.invariant in
     let u = c.items.used in
     let m = c.hand_items-handed in
@@ -42,10 +43,10 @@ returns-in-Err-clause-drains g c = λ tells.
     let told = part_told p.row p.column t.part in
     let new = state_with c.take_part.new.self c.take_part.new.parts in
     let h : TakesItem mid (drop (u + n) input) t.at t.used told new = rw rest_is at c.in-Some-take_part.ensures.takes in
-    item_fails g.S.Sink.after (state_with c.args.standing.now c.args.parts.now) mid new input (u + n) _ _ (hands_then g.S.Sink.after (state_with c.args.standing.now c.args.parts.now) old mid input u n _ _ _ (i.drained tells) ((rw (rest_is, c.if-handed.false) at m.ensures.drains) (i.tells tells))) i.unrefused t.at t.used told h g.S.Sink.faulted _ (c.in-Err.ensures.err (m.ensures.tells (i.tells tells) c.if-handed.false))
+    item_fails (Gets g.S.Sink) (state_with c.args.standing.now c.args.parts.now) mid new input (u + n) _ _ (hands_then (Gets g.S.Sink) (state_with c.args.standing.now c.args.parts.now) old mid input u n _ _ _ i.drained (rw (rest_is, c.if-handed.false) at m.ensures.drains)) i.unrefused t.at t.used told h (Fails g.S.Sink) _ c.in-Err.ensures.err
 
 pub returns-in_default-enter_cell-clause-drains : goal.returns-in_default-enter_cell-clause-drains
-returns-in_default-enter_cell-clause-drains g c = λ tells.
+returns-in_default-enter_cell-clause-drains g c =
     let i = c.items.invariant in
     let u = c.items.used in
     let m = c.hand_items-handed in
@@ -61,7 +62,7 @@ returns-in_default-enter_cell-clause-drains g c = λ tells.
     let same : new ≡ over = c.in_default-enter_cell.ensures.same in
     let taken : TakesItem mid (drop (u + n) input) t.at t.used told over = rw rest_is at c.in-Some-take_part.ensures.takes in
     let h : TakesItem mid (drop (u + n) input) t.at t.used told new = subst (λ (z : StreamState). TakesItem mid (drop (u + n) input) t.at t.used told z) (sym same) taken in
-    item_drains g.S.Sink.after (state_with c.args.standing.now c.args.parts.now) mid new input (u + n) _ _ (hands_then g.S.Sink.after (state_with c.args.standing.now c.args.parts.now) old mid input u n _ _ _ (i.drained tells) ((rw (rest_is, c.if-handed.false) at m.ensures.drains) (i.tells tells))) i.unrefused t.at t.used told h _ (c.in-Ok.ensures.ok (m.ensures.tells (i.tells tells) c.if-handed.false)).1
+    item_drains (Gets g.S.Sink) (state_with c.args.standing.now c.args.parts.now) mid new input (u + n) _ _ (hands_then (Gets g.S.Sink) (state_with c.args.standing.now c.args.parts.now) old mid input u n _ _ _ i.drained (rw (rest_is, c.if-handed.false) at m.ensures.drains)) i.unrefused t.at t.used told h _ c.in-Ok.ensures.ok
 
 pub items-preserved-then-taken : goal.items-preserved-then-taken
 items-preserved-then-taken g c =
@@ -90,9 +91,8 @@ items-preserved-then-taken g c =
       rules = h.1 ∙ i.rules;
       given = h.2 ∙ m.ensures.given ∙ i.given;
       pays = omega (arith, h.3.pays, w.1, i.pays);
-      tells = λ tells. (c.in-Ok.ensures.ok (m.ensures.tells (i.tells tells) c.if-handed.false)).0;
-      drained = λ tells.
-          item_drains g.S.Sink.after (state_with c.args.standing.now c.args.parts.now) mid new input (u + n) _ _ (hands_then g.S.Sink.after (state_with c.args.standing.now c.args.parts.now) old mid input u n _ _ _ (i.drained tells) ((rw (rest_is, c.if-handed.false) at m.ensures.drains) (i.tells tells))) i.unrefused t.at t.used told h _ (c.in-Ok.ensures.ok (m.ensures.tells (i.tells tells) c.if-handed.false)).1;
+      drained =
+          item_drains (Gets g.S.Sink) (state_with c.args.standing.now c.args.parts.now) mid new input (u + n) _ _ (hands_then (Gets g.S.Sink) (state_with c.args.standing.now c.args.parts.now) old mid input u n _ _ _ i.drained (rw (rest_is, c.if-handed.false) at m.ensures.drains)) i.unrefused t.at t.used told h _ c.in-Ok.ensures.ok;
     }
 
 pub items-preserved : goal.items-preserved
@@ -119,7 +119,6 @@ items-preserved g c =
       rules = h.1 ∙ i.rules;
       given = h.2 ∙ m.ensures.given ∙ i.given;
       pays = omega (arith, h.3.pays, w.1, i.pays);
-      tells = λ tells. (c.in-Ok.ensures.ok (m.ensures.tells (i.tells tells) c.if-handed.false)).0;
-      drained = λ tells.
-          item_drains g.S.Sink.after (state_with c.args.standing.now c.args.parts.now) mid new input (u + n) _ _ (hands_then g.S.Sink.after (state_with c.args.standing.now c.args.parts.now) old mid input u n _ _ _ (i.drained tells) ((rw (rest_is, c.if-handed.false) at m.ensures.drains) (i.tells tells))) i.unrefused t.at t.used told h _ (c.in-Ok.ensures.ok (m.ensures.tells (i.tells tells) c.if-handed.false)).1;
+      drained =
+          item_drains (Gets g.S.Sink) (state_with c.args.standing.now c.args.parts.now) mid new input (u + n) _ _ (hands_then (Gets g.S.Sink) (state_with c.args.standing.now c.args.parts.now) old mid input u n _ _ _ i.drained (rw (rest_is, c.if-handed.false) at m.ensures.drains)) i.unrefused t.at t.used told h _ c.in-Ok.ensures.ok;
     }

@@ -6,6 +6,7 @@ use Rattle.cqlp_decode.specs.Standing.{IsConsistent, ends_due, nodes_of, parts_s
 use Rattle.cqlp_decode.specs.declared.standing.StreamStage.TheVariants as stage
 use Rattle.cqlp_decode.specs.declared.page.Columns.{Columns}
 use Rattle.cqlp_decode.specs.declared.standing.StreamStanding.{StreamStanding}
+use Rattle.cqlp_decode.specs.Sinks.{Gets, Fails}
 use Rattle.cqlp_decode.proofs.CellSteps.{nothing_held}
 use Rattle.cqlp_decode.proofs.Columns.{cells_due}
 use Rattle.cqlp_decode.proofs.Gets.{rest_is}
@@ -18,14 +19,13 @@ cells-init g c =
     let s = c.args.standing.now in
     let q = parts_state c.args.parts.now in
     let first = at_first s c.in-BeforeCell.due c.in-BeforeCell.is in
-    let v = g.S.Sink.view c.args.sink.now in
+    let v = c.args.sink.now in
     record {
       within = omega arith;
       standing = refl;
       columns = refl;
       lawful = subst (λ (z : StreamStanding). IsConsistent z q) (sym first) c.requires.lawful;
-      tells = λ tells. tells;
-      drained = λ tells. subst (λ (z : StreamStanding). HandsOut g.S.Sink.after (state_of s q) (state_of z q) c.args.input.now 0 v v) (sym first) (hands_none g.S.Sink.after (state_of s q) c.args.input.now v);
+      drained = subst (λ (z : StreamStanding). HandsOut (Gets g.S.Sink) (state_of s q) (state_of z q) c.args.input.now 0 v v) (sym first) (hands_none (Gets g.S.Sink) (state_of s q) c.args.input.now v);
     }
 
 pub cells-preserved : goal.cells-preserved
@@ -46,13 +46,12 @@ cells-preserved g c =
       standing = i.standing;
       columns = turns.2 ∙ i.columns;
       lawful = cell_lawful s q p next c.cells.offset i.lawful c.in_default-refusal.is empty c.kind-kind.result kind turns input c.cells.used c.in-Cell.taken _ hands;
-      tells = λ tells. (hands.holds (i.tells tells)).0;
-      drained = λ tells.
-          cell_drains s q p next c.cells.offset i.lawful c.in_default-refusal.is empty c.kind-kind.result kind turns input c.cells.used c.in-Cell.taken _ hands g.S.Sink.after (state_of s q) _ _ _ (i.drained tells) (hands.holds (i.tells tells)).1;
+      drained =
+          cell_drains s q p next c.cells.offset i.lawful c.in_default-refusal.is empty c.kind-kind.result kind turns input c.cells.used c.in-Cell.taken _ hands (Gets g.S.Sink) (state_of s q) _ _ _ i.drained hands.holds;
     }
 
 pub returns-in-Fault-clause-drains : goal.returns-in-Fault-clause-drains
-returns-in-Fault-clause-drains g c = λ tells.
+returns-in-Fault-clause-drains g c =
     let s = c.args.standing.now in
     let q = parts_state c.args.parts.now in
     let input = c.args.input.now in
@@ -65,8 +64,8 @@ returns-in-Fault-clause-drains g c = λ tells.
     let empty = nothing_held q.partial.content (omega (arith, c.if-held-gt0.false, c.held.ensures.is)) in
     let hands = rw rest_is at c.in-Fault.ensures.hands in
     let offset = c.cells.offset + c.in-Fault.taken in
-    subst (λ (z : StreamStanding). FailsAfter g.S.Sink.after g.S.Sink.faulted (state_of s q) (state_of (at_cell z next offset) q) input (c.cells.used + c.in-Fault.taken) (g.S.Sink.view c.args.sink.now) (g.S.Sink.view c.hand_cell.new.sink)) (sym i.standing)
-    (cell_fails s q p next c.cells.offset i.lawful c.in_default-refusal.is empty c.kind-kind.result kind turns input c.cells.used c.in-Fault.taken _ hands g.S.Sink.after (state_of s q) _ _ _ (i.drained tells) g.S.Sink.faulted (hands.holds (i.tells tells)))
+    subst (λ (z : StreamStanding). FailsAfter (Gets g.S.Sink) (Fails g.S.Sink) (state_of s q) (state_of (at_cell z next offset) q) input (c.cells.used + c.in-Fault.taken) c.args.sink.now c.hand_cell.new.sink) (sym i.standing)
+    (cell_fails s q p next c.cells.offset i.lawful c.in_default-refusal.is empty c.kind-kind.result kind turns input c.cells.used c.in-Fault.taken _ hands (Gets g.S.Sink) (state_of s q) _ _ _ i.drained (Fails g.S.Sink) hands.holds)
 
 pub returns-clause-stays : goal.returns-clause-stays
 returns-clause-stays g c =

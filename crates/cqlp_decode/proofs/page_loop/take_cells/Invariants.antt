@@ -1,4 +1,5 @@
 use Rattle.std.proofs.Common.{◌≡◌, ◌-◌, ◌≤◌, length}
+use Rattle.cqlp_decode.specs.Sinks.{Gets}
 use Rattle.cqlp_decode.specs.Standing.{IsConsistent, parts_state, state_of, state_with}
 use Rattle.cqlp_decode.specs.Cells.{HandsOut}
 use Rattle.cqlp_decode.proofs.PageLoop.{at_cell}
@@ -11,8 +12,7 @@ invariant-cells g l = record {
   standing : l.standing ≡ l.fn.standing;
   columns : l.page.columns ≡ l.initial.page.columns;
   lawful : IsConsistent (at_cell l.fn.standing l.page l.offset) (parts_state l.fn.parts);
-  tells : g.S.Sink.tells l.fn.sink → g.S.Sink.tells l.sink;
-  drained : g.S.Sink.tells l.fn.sink → HandsOut g.S.Sink.after (state_with l.fn.standing l.fn.parts) (state_of (at_cell l.fn.standing l.page l.offset) (parts_state l.fn.parts)) l.input l.used (g.S.Sink.view l.fn.sink) (g.S.Sink.view l.sink);
+  drained : HandsOut (Gets g.S.Sink) (state_with l.fn.standing l.fn.parts) (state_of (at_cell l.fn.standing l.page l.offset) (parts_state l.fn.parts)) l.input l.used l.fn.sink l.sink;
 }
 
 -- each cell takes some byte

@@ -4,7 +4,7 @@ use Rattle.cqlp_decode.specs.Standing.{StreamState}
 use Rattle.cqlp_decode.specs.Streams.{state}
 use Rattle.cqlp_decode.proofs.Leads.{repeated}
 use Rattle.cqlp_decode.proofs.Gets.{rest_is, drains_event, drains_all, drains_refused, drains_rest, fails_event, fails_rest}
-use Rattle.cqlp_decode.proofs.Taken.{drained, failed}
+use Rattle.cqlp_decode.proofs.Taken.{drained, failed, still_tells}
 use Rattle.cqlp_decode.proofs.running.drain.Goals as goal
 
 -- what lies whole in the input
@@ -16,12 +16,12 @@ returns-in-Err-clause-refused g c = λ r is.
 
 pub returns-in-Err-clause-drains : goal.returns-in-Err-clause-drains
 returns-in-Err-clause-drains g c = λ tells.
-    let cells = (rw rest_is at c.in-Err.ensures.drains) (c.events.invariant.tells tells) in
+    let cells = failed g.S.Sink _ _ _ _ _ _ (rw rest_is at c.in-Err.ensures.drains) (c.events.invariant.tells tells) in
     let taken = c.in-Err.field-0.used in (
       c.events.used + taken,
       λ gifts s es a.
           let d = c.events.invariant.drained tells gifts s es a in
-          fails_rest g.S.Sink.after g.S.Sink.faulted gifts (state c.events.decoder) (state c.hand_whole.new.self) s c.args.input.now c.events.used taken es _ _ _ d (failed _ _ _ _ _ _ _ _ cells gifts _ _ d.stands),
+          fails_rest g.S.Sink.after g.S.Sink.faulted gifts (state c.events.decoder) (state c.hand_whole.new.self) s c.args.input.now c.events.used taken es _ _ _ d (cells gifts _ _ d.stands),
     )
 
 -- all else
@@ -43,7 +43,7 @@ returns-in-More-clause-drains g c = λ tells gifts s es a.
     let mid = state c.hand_whole.new.self in
     let used = c.events.used + c.in-Ok.taken in
     let input = c.args.input.now in
-    let cells = drained _ _ _ _ _ _ _ ((rw rest_is at c.in-Ok.ensures.drains) (c.events.invariant.tells tells)) in
+    let cells = drained g.S.Sink _ _ _ _ _ _ (rw rest_is at c.in-Ok.ensures.drains) (c.events.invariant.tells tells) in
     let d0 = c.events.invariant.drained tells gifts s es a in
     let d = drains_rest g.S.Sink.after gifts old mid s input c.events.used c.in-Ok.taken es _ _ _ d0 (cells gifts _ _ d0.stands) in
     let leads = c.next.follows.holds-at-none.1 gifts _ _ d.stands in
@@ -67,7 +67,7 @@ returns-in-Refused-clause-drains g c = λ tells.
     let mid = state c.hand_whole.new.self in
     let used = c.events.used + c.in-Ok.taken in
     let input = c.args.input.now in
-    let cells = drained _ _ _ _ _ _ _ ((rw rest_is at c.in-Ok.ensures.drains) (c.events.invariant.tells tells)) in (
+    let cells = drained g.S.Sink _ _ _ _ _ _ (rw rest_is at c.in-Ok.ensures.drains) (c.events.invariant.tells tells) in (
       used,
       λ gifts s es a.
           let d0 = c.events.invariant.drained tells gifts s es a in
@@ -91,13 +91,13 @@ returns-in-Err-take-clause-drains g c = λ tells.
     let mid = state c.hand_whole.new.self in
     let used = c.events.used + c.in-Ok.taken in
     let input = c.args.input.now in
-    let cells = drained _ _ _ _ _ _ _ ((rw rest_is at c.in-Ok.ensures.drains) (c.events.invariant.tells tells)) in (
+    let cells = drained g.S.Sink _ _ _ _ _ _ (rw rest_is at c.in-Ok.ensures.drains) (c.events.invariant.tells tells) in (
       used + c.in-Event.taken,
       λ gifts s es a.
           let d0 = c.events.invariant.drained tells gifts s es a in
           let d = drains_rest g.S.Sink.after gifts old mid s input c.events.used c.in-Ok.taken es _ _ _ d0 (cells gifts _ _ d0.stands) in
           let leads = c.next.follows.holds-at-none.1 gifts _ _ d.stands in
-          fails_event g.S.Sink.after gifts mid (state c.next.follows.lender-at-none) s input used es _ _ d g.S.Sink.faulted c.in-Event.at c.in-Event.taken c.in-Event.event _ (rw (c.in-Event.is, rest_is) at leads) (c.in-Err-take.ensures.err (c.in-Ok.ensures.tells (c.events.invariant.tells tells))),
+          fails_event g.S.Sink.after gifts mid (state c.next.follows.lender-at-none) s input used es _ _ d g.S.Sink.faulted c.in-Event.at c.in-Event.taken c.in-Event.event _ (rw (c.in-Event.is, rest_is) at leads) (c.in-Err-take.ensures.err (still_tells g.S.Sink _ _ _ _ _ _ c.in-Ok.ensures.drains (c.events.invariant.tells tells))),
     )
 
 pub events-smaller : goal.events-smaller
@@ -131,11 +131,11 @@ events-preserved g c =
           let again = repeated (state c.hand_whole.new.self) (state c.next.follows.lender-at-none) _ (state c.hand_whole.new.self).refusal r (ap (λ (z : StreamState). z.refusal) same ∙ is) c.next.follows.holds-at-none.2 in
           absurd (let e = sym c.in-Event.is ∙ again.0 in cc);
       clear = λ none. goes.3;
-      tells = λ tells. (c.in-Ok-take.ensures.ok (c.in-Ok.ensures.tells (c.events.invariant.tells tells))).0;
+      tells = λ tells. (c.in-Ok-take.ensures.ok (still_tells g.S.Sink _ _ _ _ _ _ c.in-Ok.ensures.drains (c.events.invariant.tells tells))).0;
       drained = λ tells gifts s es a.
-          let cells = drained _ _ _ _ _ _ _ ((rw rest_is at c.in-Ok.ensures.drains) (c.events.invariant.tells tells)) in
+          let cells = drained g.S.Sink _ _ _ _ _ _ (rw rest_is at c.in-Ok.ensures.drains) (c.events.invariant.tells tells) in
           let d0 = c.events.invariant.drained tells gifts s es a in
           let d = drains_rest g.S.Sink.after gifts old mid s input c.events.used c.in-Ok.taken es _ _ _ d0 (cells gifts _ _ d0.stands) in
           let leads = c.next.follows.holds-at-none.1 gifts _ _ d.stands in
-          drains_event g.S.Sink.after gifts mid (state c.next.follows.lender-at-none) s input used es _ _ d c.in-Event.at c.in-Event.taken c.in-Event.event _ (rw (c.in-Event.is, rest_is) at leads) (c.in-Ok-take.ensures.ok (c.in-Ok.ensures.tells (c.events.invariant.tells tells))).1;
+          drains_event g.S.Sink.after gifts mid (state c.next.follows.lender-at-none) s input used es _ _ d c.in-Event.at c.in-Event.taken c.in-Event.event _ (rw (c.in-Event.is, rest_is) at leads) (c.in-Ok-take.ensures.ok (still_tells g.S.Sink _ _ _ _ _ _ c.in-Ok.ensures.drains (c.events.invariant.tells tells))).1;
     }

@@ -9,6 +9,7 @@ use Rattle.cqlp_cell.proofs.Levels.{element_due, element_passed}
 use Rattle.cqlp_decode.specs.Reading.{cell_event}
 use Rattle.cqlp_decode.specs.Items.{at_level}
 use Rattle.cqlp_decode.specs.Standing.{nodes_of, parts_state, state_of}
+use Rattle.cqlp_decode.specs.Sinks.{Gets, Fails}
 use Rattle.cqlp_decode.proofs.Gets.{rest_is}
 use Rattle.cqlp_decode.proofs.Taken.{hands_none, item_drains, item_fails}
 use Rattle.cqlp_decode.proofs.ItemLoop.{element_kind, some_left, level_fits, item_next, item_place, item_lawful, item_takes}
@@ -25,8 +26,7 @@ elements-init g c =
       inside = c.requires.inside;
       lawful = c.requires.lawful;
       pays = omega arith;
-      tells = λ tells. tells;
-      drained = λ tells. hands_none g.S.Sink.after (state_of s (at_level q c.args.level.now)) c.args.input.now (g.S.Sink.view c.args.sink.now);
+      drained = hands_none (Gets g.S.Sink) (state_of s (at_level q c.args.level.now)) c.args.input.now c.args.sink.now;
     }
 
 pub due_element-requires-clause-inside : goal.due_element-requires-clause-inside
@@ -125,9 +125,8 @@ elements-preserved g c =
       inside = rw goes (record { fresh = i.inside.fresh; items = i.inside.items; some = i.inside.some; level = i.inside.level });
       lawful = rw goes (item_lawful s q p c.requires.here l i.inside i.lawful c.requires.empty rest t found n _ one);
       pays = rw goes (omega (arith, h.3.pays, i.pays));
-      tells = λ tells. (one.holds (i.tells tells)).0;
-      drained = λ tells.
-          rw goes (item_drains g.S.Sink.after (state_of s (at_level q c.args.level.now)) (state_of s (at_level q l)) (state_of s (at_level q behind)) c.args.input.now c.elements.used _ _ (i.drained tells) c.requires.unrefused t.at n told h _ (one.holds (i.tells tells)).1);
+      drained =
+          rw goes (item_drains (Gets g.S.Sink) (state_of s (at_level q c.args.level.now)) (state_of s (at_level q l)) (state_of s (at_level q behind)) c.args.input.now c.elements.used _ _ i.drained c.requires.unrefused t.at n told h _ one.holds);
     }
 
 pub returns-in-Fault-clause-lawful : goal.returns-in-Fault-clause-lawful
@@ -173,7 +172,7 @@ returns-in-Fault-clause-within g c =
     rw goes (omega (arith, i.within, h.3.within, length-drop c.elements.used c.args.input.now), omega (arith, h.3.pays, i.pays))
 
 pub returns-in-Fault-clause-drains : goal.returns-in-Fault-clause-drains
-returns-in-Fault-clause-drains g c = λ tells.
+returns-in-Fault-clause-drains g c =
     let s = c.args.self.now in
     let q = parts_state c.args.parts.now in
     let p = c.args.page in
@@ -191,4 +190,4 @@ returns-in-Fault-clause-drains g c = λ tells.
     let behind = passed nodes l n in
     let told = cell_event p.row p.column (Leaf t.level one.value) in
     let h = item_takes s q p c.requires.here l i.inside i.lawful c.requires.empty rest t found n _ one in
-    rw goes (item_fails g.S.Sink.after (state_of s (at_level q c.args.level.now)) (state_of s (at_level q l)) (state_of s (at_level q behind)) c.args.input.now c.elements.used _ _ (i.drained tells) c.requires.unrefused t.at n told h g.S.Sink.faulted _ (one.holds (i.tells tells)))
+    rw goes (item_fails (Gets g.S.Sink) (state_of s (at_level q c.args.level.now)) (state_of s (at_level q l)) (state_of s (at_level q behind)) c.args.input.now c.elements.used _ _ i.drained c.requires.unrefused t.at n told h (Fails g.S.Sink) _ one.holds)

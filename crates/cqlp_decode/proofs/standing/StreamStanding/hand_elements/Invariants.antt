@@ -1,6 +1,7 @@
 use Rattle.std.proofs.Common.{◌≡◌, ◌+◌, ◌-◌, ◌*◌, ◌≤◌, length}
 use Rattle.cqlp_cell.specs.declared.open_values.Order.TheVariants as order
 use Rattle.cqlp_cell.specs.Levels.{IsInLevel}
+use Rattle.cqlp_decode.specs.Sinks.{Gets}
 use Rattle.cqlp_decode.specs.Standing.{IsConsistent, ends_due, parts_state, state_of}
 use Rattle.cqlp_decode.specs.Cells.{HandsOut}
 use Rattle.cqlp_decode.specs.Items.{at_level}
@@ -15,8 +16,7 @@ invariant-elements g l = record {
   inside : IsInLevel l.fn.parts.cells l.here;
   lawful : IsConsistent l.fn.self (at_level (parts_state l.fn.parts) l.here);
   pays : ends_due (state_of l.fn.self (at_level (parts_state l.fn.parts) l.here)).place.symbols + (state_of l.fn.self (at_level (parts_state l.fn.parts) l.here)).open_values ≤ ends_due (state_of l.fn.self (at_level (parts_state l.fn.parts) l.fn.level)).place.symbols + (state_of l.fn.self (at_level (parts_state l.fn.parts) l.fn.level)).open_values + 2 * l.used;
-  tells : g.S.Sink.tells l.fn.sink → g.S.Sink.tells l.sink;
-  drained : g.S.Sink.tells l.fn.sink → HandsOut g.S.Sink.after (state_of l.fn.self (at_level (parts_state l.fn.parts) l.fn.level)) (state_of l.fn.self (at_level (parts_state l.fn.parts) l.here)) l.input l.used (g.S.Sink.view l.fn.sink) (g.S.Sink.view l.sink);
+  drained : HandsOut (Gets g.S.Sink) (state_of l.fn.self (at_level (parts_state l.fn.parts) l.fn.level)) (state_of l.fn.self (at_level (parts_state l.fn.parts) l.here)) l.input l.used l.fn.sink l.sink;
 }
 
 -- each item takes some byte

@@ -5,6 +5,7 @@ use Rattle.cqlp_cell.specs.Levels.{with_level}
 use Rattle.cqlp_decode.specs.Cells.{DrainsItems, UsesWithin}
 use Rattle.cqlp_decode.specs.Items.{at_level}
 use Rattle.cqlp_decode.specs.Standing.{IsConsistent, PartsState, parts, parts_state, state_of}
+use Rattle.cqlp_decode.specs.Sinks.{Gets, Fails}
 use Rattle.cqlp_decode.proofs.ItemLoop.{level_fits}
 use Rattle.cqlp_decode.proofs.standing.StreamStanding.hand_items.Goals as goal
 
@@ -35,12 +36,12 @@ returns-in-Some-due_item-clause-within g c =
     subst (λ (y : CellState). P q y) (sym c.set_level.ensures) (subst (λ (z : PartsState). P z (with_level q.cells m.new.level)) (sym back) m.ensures.within)
 
 pub returns-in-Some-due_item-clause-drains : goal.returns-in-Some-due_item-clause-drains
-returns-in-Some-due_item-clause-drains g c = λ tells.
+returns-in-Some-due_item-clause-drains g c =
     let s = c.args.self.now in
     let q = parts_state c.args.parts.now in
     let own = level_own q.cells c.in-Some.first (sym c.in-Some.ensures) in
     let back : q ≡ at_level q c.in-Some.first = ap (λ (z : CellState). parts q.partial q.types z q.table q.given) (sym own.1) in
     let m = c.hand_list-handed in
     let P : PartsState → CellState → Type 0 = λ z y.
-    DrainsItems g.S.Sink.after g.S.Sink.faulted (state_of s z) c.args.input.now m.result (state_of s (parts q.partial q.types y q.table q.given)) (g.S.Sink.view c.args.sink.now) (g.S.Sink.view m.new.sink) in
-    subst (λ (y : CellState). P q y) (sym c.set_level.ensures) (subst (λ (z : PartsState). P z (with_level q.cells m.new.level)) (sym back) (m.ensures.drains tells))
+    DrainsItems (Gets g.S.Sink) (Fails g.S.Sink) (state_of s z) c.args.input.now m.result (state_of s (parts q.partial q.types y q.table q.given)) c.args.sink.now m.new.sink in
+    subst (λ (y : CellState). P q y) (sym c.set_level.ensures) (subst (λ (z : PartsState). P z (with_level q.cells m.new.level)) (sym back) m.ensures.drains)

@@ -9,6 +9,7 @@ use Rattle.cqlp_decode.specs.Reading.{cell_event}
 use Rattle.cqlp_decode.specs.Items.{at_level}
 use Rattle.cqlp_decode.specs.Cells.{HandsOut}
 use Rattle.cqlp_decode.specs.Standing.{IsConsistent, PartsState, ends_due, nodes_of, parts, parts_state, state_of, state_with}
+use Rattle.cqlp_decode.specs.Sinks.{Gets, Fails}
 use Rattle.cqlp_decode.proofs.Gets.{rest_is}
 use Rattle.cqlp_decode.proofs.Taken.{hands_none, item_drains, item_fails}
 use Rattle.cqlp_decode.proofs.ItemLoop.{level_fits, item_next, item_place, item_lawful, item_takes}
@@ -20,15 +21,14 @@ scalars-init g c =
     let q = parts_state c.args.parts.now in
     let own = level_own q.cells c.in-Some.first (sym c.in-Some.ensures) in
     let back : q ≡ at_level q c.in-Some.first = ap (λ (z : CellState). parts q.partial q.types z q.table q.given) (sym own.1) in
-    let v = g.S.Sink.view c.args.sink.now in
+    let v = c.args.sink.now in
     let due = ends_due (state_of s q).place.symbols + (state_of s q).open_values in
     record {
       within = omega arith;
       inside = own.0;
       lawful = subst (λ (z : PartsState). IsConsistent s z) back c.requires.lawful;
       pays = subst (λ (z : PartsState). ends_due (state_of s z).place.symbols + (state_of s z).open_values ≤ due + 2 * 0) back (omega arith);
-      tells = λ tells. tells;
-      drained = λ tells. subst (λ (z : PartsState). HandsOut g.S.Sink.after (state_of s q) (state_of s z) c.args.input.now 0 v v) back (hands_none g.S.Sink.after (state_of s q) c.args.input.now v);
+      drained = subst (λ (z : PartsState). HandsOut (Gets g.S.Sink) (state_of s q) (state_of s z) c.args.input.now 0 v v) back (hands_none (Gets g.S.Sink) (state_of s q) c.args.input.now v);
     }
 
 pub due_item-requires : goal.due_item-requires
@@ -105,9 +105,8 @@ scalars-preserved g c =
       inside = record { fresh = i.inside.fresh; items = i.inside.items; some = i.inside.some; level = i.inside.level };
       lawful = item_lawful s q p c.requires.here l i.inside i.lawful c.requires.empty rest t found n _ one;
       pays = omega (arith, h.3.pays, i.pays);
-      tells = λ tells. (one.holds (i.tells tells)).0;
-      drained = λ tells.
-          item_drains g.S.Sink.after (state_with c.args.self.now c.args.parts.now) (state_of s (at_level q l)) (state_of s (at_level q behind)) c.args.input.now c.scalars.used _ _ (i.drained tells) c.requires.unrefused t.at n told h _ (one.holds (i.tells tells)).1;
+      drained =
+          item_drains (Gets g.S.Sink) (state_with c.args.self.now c.args.parts.now) (state_of s (at_level q l)) (state_of s (at_level q behind)) c.args.input.now c.scalars.used _ _ i.drained c.requires.unrefused t.at n told h _ one.holds;
     })
 
 pub returns-in-Fault-clause-lawful : goal.returns-in-Fault-clause-lawful
@@ -147,7 +146,7 @@ returns-in-Fault-clause-within g c =
     rw (c.set_level.ensures, goes) (omega (arith, i.within, h.3.within, length-drop c.scalars.used c.args.input.now), omega (arith, h.3.pays, i.pays))
 
 pub returns-in-Fault-clause-drains : goal.returns-in-Fault-clause-drains
-returns-in-Fault-clause-drains g c = λ tells.
+returns-in-Fault-clause-drains g c =
     let s = c.args.self.now in
     let q = parts_state c.args.parts.now in
     let p = c.args.page in
@@ -162,4 +161,4 @@ returns-in-Fault-clause-drains g c = λ tells.
     let behind = passed (nodes_of q p.columns) l n in
     let told = cell_event p.row p.column (Leaf t.level one.value) in
     let h = item_takes s q p c.requires.here l i.inside i.lawful c.requires.empty rest t found n _ one in
-    rw (c.set_level.ensures, goes) (item_fails g.S.Sink.after (state_with c.args.self.now c.args.parts.now) (state_of s (at_level q l)) (state_of s (at_level q behind)) c.args.input.now c.scalars.used _ _ (i.drained tells) c.requires.unrefused t.at n told h g.S.Sink.faulted _ (one.holds (i.tells tells)))
+    rw (c.set_level.ensures, goes) (item_fails (Gets g.S.Sink) (state_with c.args.self.now c.args.parts.now) (state_of s (at_level q l)) (state_of s (at_level q behind)) c.args.input.now c.scalars.used _ _ i.drained c.requires.unrefused t.at n told h (Fails g.S.Sink) _ one.holds)

@@ -1,5 +1,6 @@
 use Rattle.std.proofs.Common.{◌+◌, ◌-◌, ◌*◌, ◌≤◌, length}
 use Rattle.cqlp_cell.specs.Levels.{IsInLevel}
+use Rattle.cqlp_decode.specs.Sinks.{Gets}
 use Rattle.cqlp_decode.specs.Standing.{IsConsistent, ends_due, parts_state, state_of, state_with}
 use Rattle.cqlp_decode.specs.Cells.{HandsOut}
 use Rattle.cqlp_decode.specs.Items.{at_level}
@@ -12,8 +13,7 @@ invariant-scalars g l = record {
   inside : IsInLevel l.fn.parts.cells l.level;
   lawful : IsConsistent l.fn.self (at_level (parts_state l.fn.parts) l.level);
   pays : ends_due (state_of l.fn.self (at_level (parts_state l.fn.parts) l.level)).place.symbols + (state_of l.fn.self (at_level (parts_state l.fn.parts) l.level)).open_values ≤ ends_due (state_with l.fn.self l.fn.parts).place.symbols + (state_with l.fn.self l.fn.parts).open_values + 2 * l.used;
-  tells : g.S.Sink.tells l.fn.sink → g.S.Sink.tells l.sink;
-  drained : g.S.Sink.tells l.fn.sink → HandsOut g.S.Sink.after (state_with l.fn.self l.fn.parts) (state_of l.fn.self (at_level (parts_state l.fn.parts) l.level)) l.input l.used (g.S.Sink.view l.fn.sink) (g.S.Sink.view l.sink);
+  drained : HandsOut (Gets g.S.Sink) (state_with l.fn.self l.fn.parts) (state_of l.fn.self (at_level (parts_state l.fn.parts) l.level)) l.input l.used l.fn.sink l.sink;
 }
 
 -- each item takes some byte

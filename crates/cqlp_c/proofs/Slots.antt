@@ -1,0 +1,60 @@
+-- Events that a sink put into an array.
+use Rattle.std.proofs.Common.{◌≡◌, ℕ, ◌+◌, ◌≤◌, ◌<◌, List, [], ◌∷◌, ◌++◌, length, take, drop, drop-drop, refl, sym, ap, subst, ◌∙◌, append_assoc, arith}
+use Rattle.std.specs.Prelude.{set}
+use Rattle.std.proofs.lemmas.List.{append-nil, length-append, length-set, take_more_set, drop-set-lt}
+use Rattle.cqlp_decode.specs.Reading.{Event}
+use Rattle.cqlp_decode.specs.Cells.{Item, GetsAll}
+use Rattle.cqlp_c.specs.declared.event.CqlpEvent.{CqlpEvent}
+use Rattle.cqlp_c.specs.declared.slots.Slots.{Slots}
+use Rattle.cqlp_c.specs.Slots.{HasRoom, PutsOne, TellsItems}
+
+-- These events were put, behind those that were there, into the same array.
+pub record PutsAll (before : Slots) (xs : List Item) (after : Slots) : Type 0 where
+  pub events : List CqlpEvent
+  pub told : TellsItems events xs
+  pub first : take after.count after.events.now ≡ take before.count before.events.now ++ events
+  pub others : drop after.count after.events.now ≡ drop after.count before.events.now
+  pub long : length after.events.now ≡ length before.events.now
+  pub count : after.count ≡ before.count + length xs
+  pub fits : after.count ≤ length after.events.now
+  pub same : after.events.ghost_name ≡ before.events.ghost_name
+
+puts_none : (s : Slots) → s.count ≤ length s.events.now → PutsAll s [] s
+puts_none s fits = record { events = []; told = tt; first = sym (append-nil (take s.count s.events.now)); others = refl; long = refl; count = omega arith; fits = fits; same = refl }
+
+pub drops_more : {X : Type 0} (n k : ℕ) (xs ys : List X) → drop n xs ≡ drop n ys → drop (n + k) xs ≡ drop (n + k) ys
+drops_more n k xs ys same = sym (drop-drop k n xs) ∙ ap (λ (z : List X). drop k z) same ∙ drop-drop k n ys
+
+pub puts_then : (s t u : Slots) (x : Item) (ys : List Item) → HasRoom s → PutsOne s x.at x.event t → PutsAll t ys u → PutsAll s (x ∷ ys) u
+puts_then s t u x ys room one more = record {
+  events = one.told ∷ more.events;
+  told = (one.tells, more.told);
+  first =
+      more.first ∙ ap (λ (z : List CqlpEvent). z ++ more.events) (ap (λ (n : ℕ). take n t.events.now) one.count ∙ ap (take (s.count + 1)) one.events ∙ take_more_set s.events.now s.count one.told room)
+      ∙ append_assoc (take s.count s.events.now) (one.told ∷ []) more.events;
+  others =
+      let behind : drop (s.count + 1) t.events.now ≡ drop (s.count + 1) s.events.now = ap (drop (s.count + 1)) one.events ∙ drop-set-lt (s.count + 1) s.events.now s.count one.told (omega arith) in
+      let at : u.count ≡ (s.count + 1) + length ys = omega (arith, more.count, one.count) in
+      more.others ∙ rw at (drops_more (s.count + 1) (length ys) t.events.now s.events.now behind);
+  long = more.long ∙ ap length one.events ∙ length-set s.events.now s.count one.told;
+  count = omega (arith, more.count, one.count);
+  fits = more.fits;
+  same = more.same ∙ one.same;
+}
+
+module _ (Gets : Slots → ℕ → Event → Slots → Type 0) (puts : (s t : Slots) (at : ℕ) (e : Event) → Gets s at e t → HasRoom s → HasRoom t × PutsOne s at e t) where
+  pub puts_all : (s t : Slots) (xs : List Item) → GetsAll Gets s xs t → HasRoom s → HasRoom t × PutsAll s xs t
+  puts_all s t [] g room = rw g (room, puts_none s (omega (arith, room)))
+  puts_all s t (x ∷ xs) g room =
+      let one = puts s g.0 x.at x.event g.1 room in
+      let more = puts_all g.0 t xs g.2 one.0 in (more.0, puts_then s g.0 t x xs room one.1 more.1)
+
+  -- the last of them, too
+  pub puts_last : (s t u : Slots) (xs : List Item) (y : Item) → GetsAll Gets s xs t → HasRoom s → (HasRoom t → PutsOne t y.at y.event u) → PutsAll s (xs ++ y ∷ []) u
+  puts_last s t u [] y g room last =
+      let one : PutsOne s y.at y.event u = subst (λ (z : Slots). PutsOne z y.at y.event u) g (last (subst HasRoom (sym g) room)) in
+      let long : length u.events.now ≡ length s.events.now = ap length one.events ∙ length-set s.events.now s.count one.told in
+      puts_then s u u y [] room one (puts_none u (omega (arith, one.count, long, room)))
+  puts_last s t u (x ∷ xs) y g room last =
+      let one = puts s g.0 x.at x.event g.1 room in
+      puts_then s g.0 u x (xs ++ y ∷ []) room one.1 (puts_last g.0 t u xs y g.2 one.0 last)
