@@ -37,6 +37,9 @@ returns-in-More-clause-refused g c = λ r is.
     let again = repeated (state c.hand_whole.new.self) (state c.next.follows.lender-at-none) _ (state c.hand_whole.new.self).refusal r (ap (λ (z : StreamState). z.refusal) same ∙ is) c.next.follows.holds-at-none.2 in
     absurd (let e = sym c.in-More.is ∙ again.0 in cc)
 
+pub returns-in-More-clause-tells : goal.returns-in-More-clause-tells
+returns-in-More-clause-tells g c = λ tells more. still_tells g.S.Sink _ _ _ _ _ _ c.in-Ok.ensures.drains (c.events.invariant.tells tells)
+
 pub returns-in-More-clause-drains : goal.returns-in-More-clause-drains
 returns-in-More-clause-drains g c = λ tells gifts s es a.
     let old = state c.events.decoder in
