@@ -20,6 +20,7 @@ use Rattle.cqlp_laws.specs.Reading.{content_size_of}
 use Rattle.cqlp_laws.proofs.Within.{content_within}
 use Rattle.cqlp_c.specs.declared.event.CqlpEvent.{CqlpEvent}
 use Rattle.cqlp_c.specs.Events.{Tells, content_span}
+use Rattle.cqlp_c.specs.Batches.{events_of}
 use Rattle.cqlp_c.specs.Slots.{TellsItems}
 use Rattle.cqlp_c.proofs.Fills.{IsFilled, LeadsTo, filled_more}
 
@@ -79,13 +80,13 @@ module _ (l : Rules) (s input : List ℕ) (es : List (ℕ × Event)) where
     lies : content_span x.event ≤ x.used
     lies =
         let g = t.3.gives [] begun in
-        let size = content_within old.rules old.place (drop used input) g.0 x.used g.1 in
-        omega (arith, span_size x.event, subst (λ (e : Event). content_size_of e ≤ x.used) g.3 size)
+        let size = content_within old.rules old.place (drop used input) g.0 (0 + x.used) g.1 in
+        omega (arith, span_size x.event, subst (λ (e : Event). content_size_of e ≤ 0 + x.used) g.3 size)
 
     pub filled_item : IsFilled l new s input es (used + x.used) (cs ++ c ∷ [])
     filled_item =
-        let after = subst (λ (o : Option Refusal). AfterBy o [] old (s ++ take used input) (es ++ _)) none f.after in
-        let leads : LeadsTo (s ++ take used input) (es ++ _) (drop used input) x.at x.used x.event new = (t.3.within, t.0 ∙ none, t.3.begun, hands_stands old new (drop used input) (s ++ take used input) (es ++ _) [] x.at x.used x.event t.3 (t.0 ∙ none) t.1 after) in
+        let after = subst (λ (o : Option Refusal). AfterBy o [] old (s ++ take used input) (es ++ events_of f.puts)) none f.after in
+        let leads : LeadsTo (s ++ take used input) (es ++ events_of f.puts) (drop used input) x.at x.used x.event new = (t.3.within, t.0 ∙ none, t.3.begun, hands_stands old new (drop used input) (s ++ take used input) (es ++ events_of f.puts) [] x.at x.used x.event t.3 (t.0 ∙ none) t.1 after) in
         filled_more l old new s input es used cs f x.at x.used x.event (t.1 ∙ rules) within leads c tells (cs ++ c ∷ []) refl (omega (arith, lies))
 
   pub filled_items : (old new : StreamState) (used : ℕ) (cs ds : List CqlpEvent) (xs : List Item) → IsFilled l old s input es used cs → old.rules ≡ l → IsPending old.pending [] → used ≤ length input → TakesItems old (drop used input) xs new → TellsItems ds xs

@@ -8,6 +8,6 @@ pub mod Made
 pub mod OneBatch
 pub mod OneVerdict
 pub mod Places
-pub mod Slots
+pub mod Putting
 pub mod Spans
 pub mod Values

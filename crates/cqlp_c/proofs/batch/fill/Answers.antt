@@ -12,7 +12,7 @@ use Rattle.cqlp_c.specs.declared.batch.Stop.TheVariants as stop
 use Rattle.cqlp_decode.proofs.Taken.{takes_pays}
 use Rattle.cqlp_c.proofs.Fills.{filled_more, fills_gathered, fills_full}
 use Rattle.cqlp_c.proofs.Handed.{filled_items}
-use Rattle.cqlp_c.proofs.Slots.{drops_more}
+use Rattle.cqlp_c.proofs.Putting.{drops_more}
 use Rattle.cqlp_c.proofs.Spans.{span_told}
 use Rattle.cqlp_c.proofs.batch.fill.Goals as goal
 
@@ -59,8 +59,8 @@ slots-preserved c =
     let far : used ≤ length input = omega (arith, taken, i.within, length-drop c.slots.used input) in
     let pays = takes_pays mid new (drop used input) p.items p.takes in
     let same = same_refusal old.refusal (state c.args.decoder.now).refusal i.same mid.refusal goes.3 (λ r is.
-        let again = (repeated old mid _ old.refusal r is c.next.follows.holds-at-none.2).0 in
-        let e = sym c.in-Event.is ∙ again in cc) in
+    let again = (repeated old mid _ old.refusal r is c.next.follows.holds-at-none.2).0 in
+    let e = sym c.in-Event.is ∙ again in cc) in
     record {
       within = omega (arith, w.0, far, length-drop used input);
       room = omega (arith, w.1, p.long);
@@ -82,9 +82,9 @@ slots-preserved c =
           let free = ltb-false _ _ (sym c.is_gathered-gathered.ensures ∙ c.if-gathered.false) in
           let rules = goes.2 ∙ i.rules in
           let one =
-              filled_more (state c.args.decoder.now).rules old mid s input es c.slots.used (take c.slots.count c.slots.events) f c.in-Event.at c.in-Event.taken (event_of c.in-Event.event) rules i.within leads c.tell.new.slot c.tell.ensures _
-              (take_more_set c.slots.events c.slots.count c.tell.new.slot c.slots-test.true)
-              (omega (arith, free, span_told _ _ _ c.tell.ensures)) in
+          filled_more (state c.args.decoder.now).rules old mid s input es c.slots.used (take c.slots.count c.slots.events) f c.in-Event.at c.in-Event.taken (event_of c.in-Event.event) rules i.within leads c.tell.new.slot c.tell.ensures _
+          (take_more_set c.slots.events c.slots.count c.tell.new.slot c.slots-test.true)
+          (omega (arith, free, span_told _ _ _ c.tell.ensures)) in
           let all = filled_items (state c.args.decoder.now).rules s input es mid new used (take count there) p.events p.items one rules leads.2 far p.takes p.told in
           rw (p.all, p.first) all;
     }

@@ -3,7 +3,8 @@ use Rattle.std.proofs.Common.{◌≡◌, ℕ, ◌+◌, ◌≤◌, ◌<◌, List,
 use Rattle.std.specs.Prelude.{set}
 use Rattle.std.proofs.lemmas.List.{append-nil, length-append, length-set, take_more_set, drop-set-lt}
 use Rattle.cqlp_decode.specs.Reading.{Event}
-use Rattle.cqlp_decode.specs.Cells.{Item, GetsAll}
+use Rattle.cqlp_decode.specs.Standing.{StreamState}
+use Rattle.cqlp_decode.specs.Cells.{Item, TakesItems, GetsAll, HandsOut, FailsAfter, bytes_of}
 use Rattle.cqlp_c.specs.declared.event.CqlpEvent.{CqlpEvent}
 use Rattle.cqlp_c.specs.declared.slots.Slots.{Slots}
 use Rattle.cqlp_c.specs.Slots.{HasRoom, PutsOne, TellsItems}
@@ -23,7 +24,7 @@ puts_none : (s : Slots) → s.count ≤ length s.events.now → PutsAll s [] s
 puts_none s fits = record { events = []; told = tt; first = sym (append-nil (take s.count s.events.now)); others = refl; long = refl; count = omega arith; fits = fits; same = refl }
 
 pub drops_more : {X : Type 0} (n k : ℕ) (xs ys : List X) → drop n xs ≡ drop n ys → drop (n + k) xs ≡ drop (n + k) ys
-drops_more n k xs ys same = sym (drop-drop k n xs) ∙ ap (λ (z : List X). drop k z) same ∙ drop-drop k n ys
+drops_more {X = X} n k xs ys same = sym (drop-drop k n xs) ∙ ap (λ (z : List X). drop k z) same ∙ drop-drop k n ys
 
 pub puts_then : (s t u : Slots) (x : Item) (ys : List Item) → HasRoom s → PutsOne s x.at x.event t → PutsAll t ys u → PutsAll s (x ∷ ys) u
 puts_then s t u x ys room one more = record {
@@ -42,15 +43,21 @@ puts_then s t u x ys room one more = record {
   same = more.same ∙ one.same;
 }
 
+-- Items were taken, of this many bytes, and their events were put.
+pub record PutsItems (old new : StreamState) (input : List ℕ) (used : ℕ) (before after : Slots) : Type 0 where
+  pub items : List Item
+  pub takes : TakesItems old input items new
+  pub all : used ≡ bytes_of items
+  pub puts : PutsAll before items after
+
 module _ (Gets : Slots → ℕ → Event → Slots → Type 0) (puts : (s t : Slots) (at : ℕ) (e : Event) → Gets s at e t → HasRoom s → HasRoom t × PutsOne s at e t) where
-  pub puts_all : (s t : Slots) (xs : List Item) → GetsAll Gets s xs t → HasRoom s → HasRoom t × PutsAll s xs t
-  puts_all s t [] g room = rw g (room, puts_none s (omega (arith, room)))
+  puts_all : (s t : Slots) (xs : List Item) → GetsAll Gets s xs t → HasRoom s → PutsAll s xs t
+  puts_all s t [] g room = rw g (puts_none s (omega (arith, room)))
   puts_all s t (x ∷ xs) g room =
-      let one = puts s g.0 x.at x.event g.1 room in
-      let more = puts_all g.0 t xs g.2 one.0 in (more.0, puts_then s g.0 t x xs room one.1 more.1)
+      let one = puts s g.0 x.at x.event g.1 room in puts_then s g.0 t x xs room one.1 (puts_all g.0 t xs g.2 one.0)
 
   -- the last of them, too
-  pub puts_last : (s t u : Slots) (xs : List Item) (y : Item) → GetsAll Gets s xs t → HasRoom s → (HasRoom t → PutsOne t y.at y.event u) → PutsAll s (xs ++ y ∷ []) u
+  puts_last : (s t u : Slots) (xs : List Item) (y : Item) → GetsAll Gets s xs t → HasRoom s → (HasRoom t → PutsOne t y.at y.event u) → PutsAll s (xs ++ y ∷ []) u
   puts_last s t u [] y g room last =
       let one : PutsOne s y.at y.event u = subst (λ (z : Slots). PutsOne z y.at y.event u) g (last (subst HasRoom (sym g) room)) in
       let long : length u.events.now ≡ length s.events.now = ap length one.events ∙ length-set s.events.now s.count one.told in
@@ -58,3 +65,10 @@ module _ (Gets : Slots → ℕ → Event → Slots → Type 0) (puts : (s t : Sl
   puts_last s t u (x ∷ xs) y g room last =
       let one = puts s g.0 x.at x.event g.1 room in
       puts_then s g.0 u x (xs ++ y ∷ []) room one.1 (puts_last g.0 t u xs y g.2 one.0 last)
+
+  module _ (old new : StreamState) (input : List ℕ) (used taken : ℕ) (is : used ≡ taken) (s t : Slots) (room : HasRoom s) where
+    pub puts_whole : HandsOut Gets old new input taken s t → PutsItems old new input used s t
+    puts_whole h = record { items = h.items; takes = h.takes; all = is ∙ h.all; puts = puts_all s t h.items h.got room }
+
+    pub puts_full : (Fails : Slots → ℕ → Event → Slots → Type 0) → ((u v : Slots) (at : ℕ) (e : Event) → Fails u at e v → HasRoom u → PutsOne u at e v) → FailsAfter Gets Fails old new input taken s t → PutsItems old new input used s t
+    puts_full Fails last h = record { items = h.items ++ h.last ∷ []; takes = h.takes; all = is ∙ h.all; puts = puts_last s h.mid t h.items h.last h.got room (last h.mid t h.last.at h.last.event h.fault) }
