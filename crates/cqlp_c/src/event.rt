@@ -294,9 +294,27 @@ fn tell_scalar(
     }
 }
 
-/// Puts the event at an offset, as C sees it.
+/// Puts the event at an offset, as C sees it. A scalar is put in line, so that the code for one kind is as short as it can be.
 #[inline(always)]
 pub fn tell(slot: &mut CqlpEvent, at: u64, event: &Event<'_>)
+    ensures { Tells slot.new at (event_of event.now) }
+{
+    if let Event::Leaf {
+        row,
+        column,
+        level,
+        scalar,
+    } = event
+    {
+        tell_scalar(slot, at, *row, *column, *level, scalar);
+    } else {
+        tell_any(slot, at, event);
+    }
+}
+
+/// The same of any event.
+#[inline(never)]
+fn tell_any(slot: &mut CqlpEvent, at: u64, event: &Event<'_>)
     ensures { Tells slot.new at (event_of event.now) }
 {
     match *event {
