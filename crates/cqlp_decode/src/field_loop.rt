@@ -5,7 +5,7 @@
 //! It may, since it is proved to hand out what the reading of the bytes says, and to stand where that does: no rule
 //! stands here alone. What follows a field, and where a message goes on, is found by the functions by which `next` does.
 
-ghost use Rattle.std.specs.Prelude.{◌≡◌, ◌-◌, ◌≤◌, Ok, OnOk, None, Some};
+ghost use Rattle.std.specs.Prelude.{◌≡◌, ◌-◌, ◌≤◌, Ok, None, Some};
 ghost use Rattle.cqlp_note.specs.Limits.{limit_of, rules_of};
 ghost use Rattle.cqlp_note.specs.declared.refusal.Refusal.{Refusal};
 ghost use Rattle.cqlp_decode.specs.declared.standing.StreamStage.TheVariants as stage;

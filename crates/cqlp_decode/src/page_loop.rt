@@ -5,7 +5,7 @@
 //! part, and each refusal. It may, since it is proved to hand out what the reading of the bytes says, and to stand
 //! where that does; and it reads a scalar by the very function by which `next` does, so that no rule stands here alone.
 
-ghost use Rattle.std.specs.Prelude.{◌≡◌, ◌*◌, Ok, OnOk, Some};
+ghost use Rattle.std.specs.Prelude.{◌≡◌, ◌*◌, Ok, Some};
 ghost use Rattle.cqlp_note.specs.Limits.{rules_of};
 ghost use Rattle.cqlp_note.specs.declared.refusal.Refusal.{Refusal};
 ghost use Rattle.cqlp_decode.specs.Cells.{DrainsCells, HandsFront, HasHanded, IsBare, StaysWithin};

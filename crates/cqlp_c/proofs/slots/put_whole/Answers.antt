@@ -1,8 +1,7 @@
-use Rattle.std.proofs.Common.{◌≡◌, ◌<◌, ◌++◌, List, [], length, refl, sym, ◌∙◌, arith}
+use Rattle.std.proofs.Common.{◌≡◌, ◌<◌, [], length, refl, sym, arith}
 use Rattle.std.proofs.lemmas.List.{append-nil}
 use Rattle.cqlp_decode.specs.Streams.{state}
 use Rattle.cqlp_decode.proofs.Taken.{takes_within}
-use Rattle.cqlp_c.specs.declared.event.CqlpEvent.{CqlpEvent}
 use Rattle.cqlp_c.proofs.Putting.{PutsItems, puts_whole, puts_full}
 use Rattle.cqlp_c.proofs.slots.put_whole.Goals.{in-Ok, in-Err}
 use Rattle.cqlp_c.proofs.slots.put_whole.Goals as goal
