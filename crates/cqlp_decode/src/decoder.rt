@@ -1,7 +1,7 @@
 //! The decoder of a stream of frames.
 
 ghost use Rattle.std.specs.Prelude.{◌≡◌, ◌+◌, ◌<◌, ◌≤◌, ◌^◌, ◌*◌, ◌↔◌};
-ghost use Rattle.std.specs.Prelude.{[], length, IfOk, OnOk, IsErrOf, Err, Ok, max, None, Some};
+ghost use Rattle.std.specs.Prelude.{[], length, IfOk, IsErrOf, Err, Ok, max, None, Some};
 ghost use Rattle.std.specs.Borrow.{sem};
 ghost use Rattle.cqlp_note.specs.Limits.{first_bad, rules_of};
 ghost use Rattle.cqlp_note.specs.Head.{value_of};
