@@ -294,21 +294,26 @@ fn tell_scalar(
     }
 }
 
-/// Puts the event at an offset, as C sees it. A scalar is put in line, so that the code for one kind is as short as it can be.
+/// Puts the event at an offset, as C sees it. What most cells of a page are is put in line, so that the code for one kind of cell
+/// is as short as it can be.
 #[inline(always)]
 pub fn tell(slot: &mut CqlpEvent, at: u64, event: &Event<'_>)
     ensures { Tells slot.new at (event_of event.now) }
 {
-    if let Event::Leaf {
-        row,
-        column,
-        level,
-        scalar,
-    } = event
-    {
-        tell_scalar(slot, at, *row, *column, *level, scalar);
-    } else {
-        tell_any(slot, at, event);
+    match event {
+        Event::Leaf {
+            row,
+            column,
+            level,
+            scalar,
+        } => tell_scalar(slot, at, *row, *column, *level, scalar),
+        Event::Null { row, column, level } => {
+            slot.begin_value(at, TAG_NULL, *row, *column, *level);
+        }
+        Event::Empty { row, column, level } => {
+            slot.begin_value(at, TAG_EMPTY, *row, *column, *level);
+        }
+        _ => tell_any(slot, at, event),
     }
 }
 
