@@ -294,8 +294,8 @@ fn tell_scalar(
     }
 }
 
-/// Puts the event at an offset, as C sees it. What most cells of a page are is put in line, so that the code for one kind of cell
-/// is as short as it can be.
+/// Puts the event at an offset, as C sees it. Those of cells are put in line, so that the code for one kind of cell is as short as it
+/// can be.
 #[inline(always)]
 pub fn tell(slot: &mut CqlpEvent, at: u64, event: &Event<'_>)
     ensures { Tells slot.new at (event_of event.now) }
@@ -312,6 +312,20 @@ pub fn tell(slot: &mut CqlpEvent, at: u64, event: &Event<'_>)
         }
         Event::Empty { row, column, level } => {
             slot.begin_value(at, TAG_EMPTY, *row, *column, *level);
+        }
+        Event::Enter {
+            row,
+            column,
+            level,
+            kind,
+            items,
+        } => {
+            slot.begin_value(at, TAG_ENTER, *row, *column, *level);
+            slot.put_number(*kind, i64::from(*items));
+        }
+        Event::Leave { level, items } => {
+            slot.begin_value(at, TAG_LEAVE, 0, 0, *level);
+            slot.number = i64::from(*items);
         }
         _ => tell_any(slot, at, event),
     }
