@@ -1,6 +1,6 @@
 #!/usr/bin/env bash
-# Times the wrappers for Rust and Python on pages that pages.py makes, beside `cqlp check` of the same file and a plain loop in
-# Python over the same cells; and that for Go, where it is there, on small pages.
+# Times the library from C, an event a call and in batches, and the wrappers for Rust and Python on pages that pages.py makes, beside
+# `cqlp check` of the same file and a plain loop in Python over the same cells; and the wrapper for Go, where it is there, on small pages.
 set -eu
 
 here=$(dirname -- "$(readlink -f -- "${BASH_SOURCE[0]}")")
@@ -11,6 +11,7 @@ trap 'rm -rf "$room"' EXIT
 "$bindings/build"
 "$here/../cqlp" check - </dev/null >/dev/null # builds the program
 export CARGO_TARGET_DIR=$bindings/out/rust PYTHONPATH=$bindings/python
+cc -O2 -I"$here/../include" -o "$room/speed" "$bindings/c/speed.c" "$bindings/out/libcqlp.a"
 cargo build -q --offline --release --manifest-path "$bindings/rust/Cargo.toml" --example count
 
 for page in 'rows 200000' 'collections 40000' 'columns 1000' 'blobs 32'; do
@@ -25,6 +26,7 @@ for page in 'rows 200000' 'collections 40000' 'columns 1000' 'blobs 32'; do
         echo "  cqlp check, with its start: $((spent / 1000000)) ms, $((size * 1000 / (spent + 1))) MB/s"
         "$CARGO_TARGET_DIR/release/examples/count" "$room/page"
     done
+    python3 "$here/batches.py" "$here/../crates/cqlp/out/cqlp" "$room/speed" "$room/page"
     python3 "$here/bindings.py" "$room/page"
 done
 if command -v go >/dev/null; then
