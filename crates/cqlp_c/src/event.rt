@@ -182,11 +182,13 @@ impl CqlpEvent {
     fn begin_value(&mut self, at: u64, tag: u8, row: u32, column: u32, level: u32)
         ensures { self.new ≡ of_value at tag row column level }
     {
-        *self = CqlpEvent::blank(at);
-        self.tag = tag;
-        self.row = row;
-        self.column = column;
-        self.level = level;
+        *self = CqlpEvent {
+            row,
+            column,
+            level,
+            tag,
+            ..CqlpEvent::blank(at)
+        };
     }
 
     /// A frame begins.
