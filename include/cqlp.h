@@ -388,7 +388,7 @@ uint32_t cqlp_new(const cqlp_limits *limits, cqlp_decoder *decoder);
  * - CQLP_STOP_REFUSED: the bytes after those used are no frame of the protocol, or past a limit. The events before them are
  *   in the array. Every later call answers the same, and no event.
  * How the stream is cut into pieces, and how much room there is, changes no event and no refusal. Room for some 256 events, 18 KiB,
- * costs the least; an event a call costs about three times as much.
+ * costs the least; an event a call costs three to seven times as much.
  * Answers CQLP_DONE, or CQLP_NO_DECODER, with the array and the batch as they were. */
 uint32_t cqlp_next(cqlp_decoder *decoder, const uint8_t *input, size_t length, cqlp_event *events, size_t room,
                    cqlp_batch *batch);
