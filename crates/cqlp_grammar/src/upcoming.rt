@@ -52,7 +52,8 @@ impl Model for Upcoming {
 }
 
 impl Upcoming {
-    ghost use Rattle.cqlp_grammar.specs.Upcoming.{IsDue, IsFirst, IsSlot, Pops, IsRead, AreRead, need, opened, room_after_due, room_for, symbols_in, wanted, wants};
+    ghost use Rattle.cqlp_grammar.specs.Upcoming.{IsDue, IsFirst, IsSlot, Pops, IsRead, AreRead};
+    ghost use Rattle.cqlp_grammar.specs.Upcoming.{need, opened, room_after_due, room_for, symbols_in, wanted, wants};
     ghost use Rattle.cqlp_grammar.specs.Opening.{Opens};
     ghost use Rattle.cqlp_grammar.specs.Productions.{copies, group as symbols_of_group};
 
