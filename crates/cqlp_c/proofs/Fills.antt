@@ -73,7 +73,7 @@ LeadsTo s es input at used e new =
     (used ≤ length input) × (new.refusal ≡ None) × IsPending new.pending [] × After new (s ++ take used input) (es ++ (at, e) ∷ [])
 
 -- what was read, where nothing has come of what is next
-pub is_read : (l : Rules) (d : StreamState) (s : List ℕ) (es : List (ℕ × Event)) → d.rules ≡ l → d.refusal ≡ None → IsPending d.pending [] → After d s es → IsRead l s es
+is_read : (l : Rules) (d : StreamState) (s : List ℕ) (es : List (ℕ × Event)) → d.rules ≡ l → d.refusal ≡ None → IsPending d.pending [] → After d s es → IsRead l s es
 is_read l d s es rules none begun a =
     let st : Stands [] d s es = subst (λ (o : Option Refusal). AfterBy o [] d s es) none a in (
       st.place,

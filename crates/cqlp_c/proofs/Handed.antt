@@ -82,7 +82,7 @@ module _ (l : Rules) (s input : List ℕ) (es : List (ℕ × Event)) where
         let size = content_within old.rules old.place (drop used input) g.0 (0 + x.used) g.1 in
         omega (arith, span_size x.event, subst (λ (e : Event). content_size_of e ≤ 0 + x.used) g.3 size)
 
-    pub filled_item : IsFilled l new s input es (used + x.used) (cs ++ c ∷ [])
+    filled_item : IsFilled l new s input es (used + x.used) (cs ++ c ∷ [])
     filled_item =
         let after = subst (λ (o : Option Refusal). AfterBy o [] old (s ++ take used input) (es ++ events_of f.puts)) none f.after in
         let leads : LeadsTo (s ++ take used input) (es ++ events_of f.puts) (drop used input) x.at x.used x.event new = (t.3.within, t.0 ∙ none, t.3.begun, hands_stands old new (drop used input) (s ++ take used input) (es ++ events_of f.puts) [] x.at x.used x.event t.3 (t.0 ∙ none) t.1 after) in

@@ -25,7 +25,7 @@ puts_none s fits = record { events = []; told = tt; first = sym (append-nil (tak
 pub drops_more : {X : Type 0} (n k : ℕ) (xs ys : List X) → drop n xs ≡ drop n ys → drop (n + k) xs ≡ drop (n + k) ys
 drops_more {X = X} n k xs ys same = sym (drop-drop k n xs) ∙ ap (λ (z : List X). drop k z) same ∙ drop-drop k n ys
 
-pub puts_then : (s t u : Slots) (x : Item) (ys : List Item) → HasRoom s → PutsOne s x.at x.event t → PutsAll t ys u → PutsAll s (x ∷ ys) u
+puts_then : (s t u : Slots) (x : Item) (ys : List Item) → HasRoom s → PutsOne s x.at x.event t → PutsAll t ys u → PutsAll s (x ∷ ys) u
 puts_then s t u x ys room one more = record {
   events = one.told ∷ more.events;
   told = (one.tells, more.told);
