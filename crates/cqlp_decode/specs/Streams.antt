@@ -5,6 +5,7 @@ use Rattle.cqlp_decode.specs.declared.step.Step.{Step}
 use Rattle.cqlp_decode.specs.declared.step.Step.TheVariants as step
 use Rattle.cqlp_grammar.specs.declared.event.Finish.{Finish}
 use Rattle.cqlp_grammar.specs.declared.event.Finish.TheVariants as finish
+use Rattle.cqlp_decode.specs.declared.step.Capacity.{Capacity}
 use Rattle.cqlp_decode.specs.declared.step.Held.{Held}
 use Rattle.cqlp_note.specs.Limits.{Rules}
 use Rattle.cqlp_kind.specs.declared.node.Node.{Node}
@@ -167,6 +168,15 @@ given_nodes (Some t) = t.nodes
 -- no content, no type and no level
 abbrev pub HoldsNothing : Decoding → Type 0
 HoldsNothing d = ((state d).held ≡ []) × ((state d).place.nodes ≡ []) × (levels_of d.parts ≡ 0)
+
+-- places for the longest content, for the types of one metadata, and for both kinds of nesting
+abbrev pub capacity_within : Rules → Capacity
+capacity_within l = record {
+  bytes = max l.text l.cell;
+  entries = l.entries;
+  open_types = l.depth;
+  open_values = l.depth;
+}
 
 -- no more than the rules allow, of two tables
 abbrev pub IsWithin : Held → Rules → Type 0
