@@ -157,6 +157,11 @@ Finishes d s es f = FinishesBy d.refusal s es f
 abbrev pub EndsAs : StreamState → Finish → Type 0
 EndsAs d f = (gifts : Gifts) (s : List ℕ) (es : List (ℕ × Event)) → AfterGifts gifts d s es → Finishes d s es f
 
+-- not that of a refusal
+abbrev pub IsUnrefused : Finish → Type 0
+IsUnrefused (finish.Refused r) = ⊥
+IsUnrefused f = ⊤
+
 -- ---- what is held
 
 -- the nodes of the table that the caller gave

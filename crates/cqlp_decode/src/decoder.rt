@@ -112,7 +112,7 @@ impl<A: Allocator> Decoder<A> {
     ghost use Rattle.cqlp_decode.specs.Reading.{Gives, is_in_use};
     ghost use Rattle.cqlp_decode.specs.Sinks.{Gets, Fails};
     ghost use Rattle.cqlp_decode.specs.Standing.{Advances, HoldsGiven, LeavesTypes, Takes, WhatThere, event_at};
-    ghost use Rattle.cqlp_decode.specs.Streams.{EndsAs, IsWithin, Uses, given_nodes, state};
+    ghost use Rattle.cqlp_decode.specs.Streams.{EndsAs, IsUnrefused, IsWithin, Uses, given_nodes, state};
     ghost use Rattle.cqlp_decode.specs.declared.given.GiveReason.{GiveReason as Why};
     ghost use Rattle.cqlp_kind.specs.Types.{types_of};
 
@@ -182,6 +182,7 @@ impl<A: Allocator> Decoder<A> {
     /// How the stream ends, if it ends after the bytes that were used.
     pub fn finish(&self) -> Finish
         ensures refused { (r : Refusal) → (state self.now).refusal ≡ Some r → result ≡ Finish.Refused r }
+        ensures unrefused { (state self.now).refusal ≡ None → IsUnrefused result }
         ensures ends { EndsAs (state self.now) result }
     {
         self.standing.finish(&self.parts)

@@ -7,12 +7,17 @@ use cqlp_note::{IoFault, Source};
 pub struct Pieces<'a> {
     bytes: &'a [u8],
     sizes: [usize; 3],
+    reads: u64,
 }
 
 impl<'a> Pieces<'a> {
     /// Of these bytes.
     pub fn new(bytes: &'a [u8], sizes: [usize; 3]) -> Pieces<'a> {
-        Pieces { bytes, sizes }
+        Pieces {
+            bytes,
+            sizes,
+            reads: 0,
+        }
     }
 
     /// How many bytes it has still to give.
@@ -24,7 +29,10 @@ impl<'a> Pieces<'a> {
 impl Source for Pieces<'_> {
     ghost failures = { λ _. 0 };
 
+    ghost reads = { λ source. source.reads };
+
     fn read(&mut self, buffer: &mut [u8]) -> Result<usize, IoFault> {
+        self.reads = self.reads.saturating_add(1);
         let [first, second, last] = self.sizes;
         let count = first.min(self.bytes.len()).min(buffer.len());
         buffer[..count].copy_from_slice(&self.bytes[..count]);
@@ -66,9 +74,12 @@ impl<'a> FailsOnce<'a> {
 impl Source for FailsOnce<'_> {
     ghost failures = { λ source. source.failures };
 
+    ghost reads = { λ source. source.pieces.reads };
+
     fn read(&mut self, buffer: &mut [u8]) -> Result<usize, IoFault> {
         if self.before == Some(0) {
             self.before = None;
+            self.pieces.reads = self.pieces.reads.saturating_add(1);
             self.failures = self.failures.saturating_add(1);
             return Err(IoFault);
         }

@@ -53,8 +53,8 @@ module _ {V : Type 0} (f : V → ℕ → Event → V) (faulted : V → ℕ → E
   })
 
   -- the event at which the sink failed is one that the bytes say
-  pub fails_reading : FeedsInto f faulted (state d) new xs before after → FailsReading f faulted (rules_of limits) xs before after
-  fails_reading fed es v says =
+  pub fails_reading : (left : Option (List ℕ)) → FeedsInto f faulted (state d) new xs left before after → FailsReading f faulted (rules_of limits) xs before after
+  fails_reading left fed es v says =
       let l = rules_of limits in
       let e = fed.failed [] [] [] fresh.fresh in
       let all = e.more ++ (e.at, e.event) ∷ [] in
