@@ -1,6 +1,7 @@
 //! Readers.
 
 use cqlp_note::{IoFault, Source};
+use std::cell::Cell;
 
 /// Gives pieces of these sizes, and then pieces of the last size.
 #[derive(Drop)]
@@ -85,6 +86,51 @@ impl Source for FailsOnce<'_> {
         }
         if let Some(before) = self.before {
             self.before = Some(before.saturating_sub(1));
+        }
+        self.pieces.read(buffer)
+    }
+}
+
+/// Gives pieces, and looks before each what else has come out by then.
+#[derive(Drop)]
+pub struct Looks<'a> {
+    pieces: Pieces<'a>,
+    out: &'a Cell<usize>,
+    wanted: &'a [usize],
+    wrong: usize,
+}
+
+impl<'a> Looks<'a> {
+    /// Gives these pieces. Before each read this much is to be out.
+    pub fn new(pieces: Pieces<'a>, out: &'a Cell<usize>, wanted: &'a [usize]) -> Looks<'a> {
+        Looks {
+            pieces,
+            out,
+            wanted,
+            wrong: 0,
+        }
+    }
+
+    /// How many reads came before all was out, or were not wanted, and how many are still wanted.
+    pub fn wrong(&self) -> usize {
+        self.wrong.saturating_add(self.wanted.len())
+    }
+}
+
+impl Source for Looks<'_> {
+    ghost failures = { λ _. 0 };
+
+    ghost reads = { λ source. source.pieces.reads };
+
+    fn read(&mut self, buffer: &mut [u8]) -> Result<usize, IoFault> {
+        match self.wanted.split_first() {
+            Some((wanted, later)) => {
+                if *wanted != self.out.get() {
+                    self.wrong = self.wrong.saturating_add(1);
+                }
+                self.wanted = later;
+            }
+            None => self.wrong = self.wrong.saturating_add(1),
         }
         self.pieces.read(buffer)
     }

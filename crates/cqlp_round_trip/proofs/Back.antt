@@ -1,6 +1,6 @@
 -- What is read of bytes in memory, and that a frame within the limits is back.
 use Rattle.std.proofs.Common.{◌≡◌, ℕ, ◌+◌, ◌<◌, List, [], ◌∷◌, ◌++◌, length, false, Bool, refl, sym, ap, subst, ◌∙◌, append_assoc, arith}
-use Rattle.std.specs.Prelude.{Option, None}
+use Rattle.std.specs.Prelude.{Option, Some, None}
 use Rattle.std.proofs.lemmas.List.{length-append}
 use Rattle.cqlp_note.specs.declared.limits.Limits.{Limits}
 use Rattle.cqlp_note.specs.Limits.{Rules, rules_of}
@@ -15,7 +15,7 @@ use Rattle.cqlp_decode.specs.declared.running.Outcome.TheVariants as outcome
 use Rattle.cqlp_decode.specs.Reading.{Event, Waits, Frame, End, Reads, start, step}
 use Rattle.cqlp_decode.specs.Standing.{StreamState}
 use Rattle.cqlp_decode.specs.Streams.{Decoding, state, FinishesBy, open_from, frame_from}
-use Rattle.cqlp_decode.specs.Draining.{FeedsInto, RunsTo}
+use Rattle.cqlp_decode.specs.Draining.{FeedsInto, MakesReads, RunsTo}
 use Rattle.cqlp_laws.specs.OneAnswer.{IsNew}
 use Rattle.cqlp_laws.proofs.OneAnswer.{no_further}
 use Rattle.cqlp_laws.proofs.OneRun.{after_reads, runs_right}
@@ -43,9 +43,12 @@ whole_end bytes es at n (finish.Refused r) long h = absurd h
 -- ---- what was read
 
 module _ {V : Type 0} (f : V → ℕ → Event → V) (faulted : V → ℕ → Event → V → Type 0) (limits : Limits) (d : Decoding) (new : StreamState) (turns : ℕ) (xs : List ℕ) (left : Option (List ℕ)) (before after : V) (fresh : IsNew limits d) (rules : new.rules ≡ (state d).rules) (given : new.given ≡ (state d).given) where
-  pub reads_all : (end : Finish) → RunsTo f faulted turns (outcome.Finished end) (state d) new xs left before after → ReadsAll f (rules_of limits) xs end before after
-  reads_all end runs es v says = runs_right f faulted limits d new turns xs left before after es v end fresh says (record {
+  pub reads_all : (end : Finish) (calls calls' : ℕ) → MakesReads turns (outcome.Finished end) calls calls' (Some xs) left → RunsTo f faulted turns (outcome.Finished end) (state d) new xs left before after → ReadsAll f (rules_of limits) xs end before after
+  reads_all end calls calls' reads runs es v says = runs_right f faulted limits d new turns xs left before after es v end fresh says (record {
     runs = runs;
+    calls = calls;
+    calls_after = calls';
+    reads = reads;
     waits = tt;
     refused = λ r is. absurd (let e = sym fresh.unrefused ∙ is in cc);
     rules = rules;
@@ -53,8 +56,8 @@ module _ {V : Type 0} (f : V → ℕ → Event → V) (faulted : V → ℕ → E
   })
 
   -- the event at which the sink failed is one that the bytes say
-  pub fails_reading : (left : Option (List ℕ)) → FeedsInto f faulted (state d) new xs left before after → FailsReading f faulted (rules_of limits) xs before after
-  fails_reading left fed es v says =
+  pub fails_reading : FeedsInto f faulted (state d) new xs left before after → FailsReading f faulted (rules_of limits) xs before after
+  fails_reading fed es v says =
       let l = rules_of limits in
       let e = fed.failed [] [] [] fresh.fresh in
       let all = e.more ++ (e.at, e.event) ∷ [] in
