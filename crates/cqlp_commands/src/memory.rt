@@ -52,8 +52,8 @@ pub fn print_answers(rt: &HostRuntime, task: &str, bytes: &[u8]) -> io::Result<(
     print_early_reads(rt, bytes)
 }
 
-/// Prints how many reads of nine bytes `show` makes before the text of all bytes before them is out; where none is,
-/// nothing.
+/// Prints how many reads of nine bytes `show` makes before the text of all bytes before them is out, and whether it
+/// reads on where no text can be written; where it does neither, nothing.
 fn print_early_reads(rt: &HostRuntime, bytes: &[u8]) -> io::Result<()> {
     let mut wanted = Vec::new(rt.alloc());
     for piece in 0..=bytes.len().div_ceil(9) {
@@ -68,6 +68,12 @@ fn print_early_reads(rt: &HostRuntime, bytes: &[u8]) -> io::Result<()> {
     show(&rt.alloc(), LIMITS, &mut input, Adds::new(&out), Calls::new());
     if input.wrong() != 0 {
         println!(rt; "{} reads before the text is out", input.wrong())?;
+    }
+    let mut input = Pieces::new(bytes, [9; 3]);
+    let full = Narrow::new(rt.alloc(), 0, 1);
+    show(&rt.alloc(), LIMITS, &mut input, full, Calls::new());
+    if input.left() + 9 < bytes.len() {
+        println!(rt; "reads on after a write fault")?;
     }
     Ok(())
 }
