@@ -65,7 +65,13 @@ fn print_early_reads(rt: &HostRuntime, bytes: &[u8]) -> io::Result<()> {
     }
     let out = Cell::new(0);
     let mut input = Looks::new(Pieces::new(bytes, [9; 3]), &out, &wanted);
-    show(&rt.alloc(), LIMITS, &mut input, Adds::new(&out), Calls::new());
+    show(
+        &rt.alloc(),
+        LIMITS,
+        &mut input,
+        Adds::new(&out),
+        Calls::new(),
+    );
     if input.wrong() != 0 {
         println!(rt; "{} reads before the text is out", input.wrong())?;
     }

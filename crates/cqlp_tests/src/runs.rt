@@ -102,7 +102,8 @@ fn runs_that_do_not_finish(rt: HostRuntime) -> Result<(), Fail> {
 }
 
 /// Three READY frames, of two events each.
-static THREE_READY: [u8; 27] = *b"\x84\0\0\x01\x02\0\0\0\0\x84\0\0\x02\x02\0\0\0\0\x84\0\0\x03\x02\0\0\0\0";
+static THREE_READY: [u8; 27] =
+    *b"\x84\0\0\x01\x02\0\0\0\0\x84\0\0\x02\x02\0\0\0\0\x84\0\0\x03\x02\0\0\0\0";
 
 #[test]
 fn events_are_out_before_the_next_read(rt: HostRuntime) -> Result<(), Fail> {
