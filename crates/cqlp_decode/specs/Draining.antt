@@ -71,8 +71,8 @@ module _ {V : Type 0} (f : V → ℕ → Event → V) where
       → Says new.rules (start_with gifts) (s ++ d.bytes ++ looked) (es ++ (d.drained gifts s es a).more)
       (verdict_of new.refusal)
 
-  -- Of the bytes that were not used, the first were looked at, where they are refused, and the others are left. They are
-  -- of one read. What was handed out is all that they say, if nothing was refused before.
+  -- Of the bytes that were not used, the first were looked at, where they are refused, at most as many as one read may
+  -- give, and the others are left. What was handed out is all that they say, if nothing was refused before.
   pub record HasAll (old new : StreamState) (xs : List ℕ) (left : Option (List ℕ)) (before after : V)
       (d : Feeds old new xs before after) : Type 0 where
     pub looked : List ℕ
@@ -109,7 +109,7 @@ module _ {V : Type 0} (f : V → ℕ → Event → V) where
         (used : ℕ) × FailsWithin old new (take used input) before after
 
     -- The same as `Feeds`, but at the last of the events the sink failed. Of the bytes that were not used, the first
-    -- are lost, and the others are left. Those lost are of one read.
+    -- are lost, at most as many as one read may give, and the others are left.
     pub record FeedsInto (old new : StreamState) (xs : List ℕ) (left : Option (List ℕ)) (before after : V) : Type 0 where
       pub bytes : List ℕ
       pub rest : List ℕ

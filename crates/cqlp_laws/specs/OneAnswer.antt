@@ -32,8 +32,8 @@ answer_of (step.More used) = Wants used
 answer_of (step.Refused r) = Refuses r
 
 -- Two decoders have the same limits, the same refusal, if any, the same types of metadata, and hold the same table that
--- was given, for the same use. Which bytes and how many levels they hold is not among this: that is bounded, and what a
--- call gathers of a content is not one, since it may lend it.
+-- was given, for the same use. Which bytes and how many levels they hold is not among this: that is bounded by the
+-- limits, but no clause of `next` decides it.
 pub record AreAlike (d d' : StreamState) : Type 0 where
   pub rules : d'.rules ≡ d.rules
   pub refusal : d'.refusal ≡ d.refusal
