@@ -1,7 +1,6 @@
 -- What a command line does, and what is written where it starts no task.
-use Rattle.std.specs.Prelude.{◌≡◌, ◌≢◌, ◌≤◌, ℕ, List, [], Result, Ok, Err, IsSome, ◌⊎◌, codes, string_bytes}
+use Rattle.std.specs.Prelude.{◌≡◌, ◌≢◌, ◌≤◌, true, false, ℕ, List, [], Result, Ok, Err, IsSome, ◌⊎◌, codes, string_bytes}
 use Rattle.cqlp_note.specs.declared.limits.Limits.{Limits}
-use Rattle.cqlp_note.specs.declared.limits.TheConstants.Limits.{DEFAULT}
 use Rattle.cqlp_options.specs.declared.command_line.CommandLine.{CommandLine}
 use Rattle.cqlp_options.specs.declared.command_line.CommandLine.TheVariants as line
 use Rattle.cqlp_options.specs.declared.no_task.NoTask.{NoTask}
@@ -19,7 +18,11 @@ use Rattle.cqlp_tool.specs.Conversing.{ConversesAndReports}
 
 -- the limits where none are given
 abbrev pub default_limits : Limits
-default_limits = DEFAULT
+default_limits = record { text = 1048576; cell = 1048576; entries = 4096; depth = 16; types = true; parts = false }
+
+-- how many reads the program makes at most: 2 to the power of 32
+abbrev pub turns : ℕ
+turns = 4294967296
 
 -- The line was written, and the status is that of a fault; so it is where the target failed within it.
 abbrev pub ReportsFault : (line : List ℕ) → (before : Output) → (status : ℕ) → (after : Output) → Type 0
@@ -59,24 +62,24 @@ Tells (no_task.Mistake text) out err status out' err' =
 Tells no_task.NoMemory out err status out' err' = IsSome err.given → ReportsNoMemory out err status out' err'
 
 -- What a task does with the input, within its limits.
-abbrev pub DoesTask : Task → Limits → (turns : ℕ) → (before : Streams) → (status : ℕ) → (after : Streams) → Type 0
-DoesTask task.Show limits turns before status after = ShowsAndReports forms.Lines limits turns before status after
-DoesTask task.Rows limits turns before status after =
+abbrev pub DoesTask : Task → Limits → (before : Streams) → (status : ℕ) → (after : Streams) → Type 0
+DoesTask task.Show limits before status after = ShowsAndReports forms.Lines limits turns before status after
+DoesTask task.Rows limits before status after =
     ShowsAndReports (forms.Pages no_page) limits turns before status after
-DoesTask task.Check limits turns before status after = ChecksAndReports limits turns before status after
+DoesTask task.Check limits before status after = ChecksAndReports limits turns before status after
 
 -- the stream is the input, and no file
 abbrev pub IsOfInput : Options → Type 0
 IsOfInput options = options.file.now ≡ codes "-"
 
 -- What a command line does: a task with the input, or a conversation. What a file gives is not known.
-abbrev pub Executes : Result CommandLine NoTask → (turns : ℕ)
+abbrev pub Executes : Result CommandLine NoTask
     → (before : Streams) → (status : ℕ) → (after : Streams) → Type 0
-Executes (Ok (line.Stream options)) turns before status after =
-    IsOfInput options → DoesTask options.task options.limits turns before status after
-Executes (Ok (line.Loop queries)) turns before status after =
+Executes (Ok (line.Stream options)) before status after =
+    IsOfInput options → DoesTask options.task options.limits before status after
+Executes (Ok (line.Loop queries)) before status after =
     ConversesAndReports queries before.out before.err status after.out after.err
-Executes (Err reason) turns before status after =
+Executes (Err reason) before status after =
     Tells reason before.out before.err status after.out after.err
 
 -- It is no task with the input.
@@ -87,9 +90,9 @@ NeedsNoInput (Err reason) = Unit
 
 -- What a command line of these words does: without words it shows the input, and no status is greater than that of
 -- a fault.
-abbrev pub Performs : {W : Type 0} → List W → (turns : ℕ)
+abbrev pub Performs : {W : Type 0} → List W
     → (before : Streams) → (status : ℕ) → (after : Streams) → Type 0
-Performs words turns before status after =
+Performs words before status after =
     (words ≡ [] → ShowsAndReports forms.Lines default_limits turns before status after)
     × (status ≤ 3)
     × (status ≡ 2 → IsSome before.out.given → IsSome before.err.given

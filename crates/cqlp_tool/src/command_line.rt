@@ -14,7 +14,7 @@ use crate::conversing::converse;
 use cqlp_decode::SinkFault;
 use cqlp_note::{OfStd, Source, Target};
 use cqlp_options::{CommandLine, DEFAULT_LIMITS, NoTask, Options, Task};
-use cqlp_show::{TURNS, check, conclude, rows, show};
+use cqlp_show::{check, conclude, rows, show};
 use cqlp_text::status::{BAD_COMMAND_LINE, DONE, FAULT};
 use cqlp_text::{Ending, cannot_open_line, put_text};
 use std::alloc::Allocator;
@@ -37,7 +37,7 @@ pub fn command<R, I: Source, O: Target, E: Target>(
 where
     R: Files + Net<Listener = TcpListener, Stream = TcpStream> + AllocGlobal,
     ensures performs { let view = streams I.Source O.Target E.Target in
-        Performs words.now TURNS (view input.old out err) result.0 (view input.new result.1 result.2) }
+        Performs words.now (view input.old out err) result.0 (view input.new result.1 result.2) }
     ensures untouched { result.0 ≡ 2 → input.new ≡ input.old }
 {
     if words.is_empty() {
@@ -59,7 +59,7 @@ where
     R: Files + Net<Listener = TcpListener, Stream = TcpStream> + AllocGlobal,
     requires within { IfOk line IsWithin }
     ensures executes { let view = streams I.Source O.Target E.Target in
-        Executes line.entry TURNS (view input.old out err) result.0 (view input.new result.1 result.2) }
+        Executes line.entry (view input.old out err) result.0 (view input.new result.1 result.2) }
     ensures status { IfOk line.entry (λ _. IsStatusOfTask result.0) }
     ensures fault_at_most { result.0 ≤ 3 }
     ensures wrong { result.0 ≡ 2 → IsSome (O.contents out) → IsSome (E.contents err) →
@@ -84,7 +84,7 @@ fn stream<R: Files + AllocGlobal, I: Source, O: Target, E: Target>(
 ) -> (u8, O, E)
     requires { first_bad options.limits ≡ Ok tt }
     ensures task { let view = streams I.Source O.Target E.Target in
-        IsOfInput options.entry → DoesTask options.entry.task options.entry.limits TURNS
+        IsOfInput options.entry → DoesTask options.entry.task options.entry.limits
         (view input.old out err) result.0 (view input.new result.1 result.2) }
     ensures status { IsStatusOfTask result.0 }
     ensures untouched { options.entry.file.now ≢ codes "-" → input.new ≡ input.old }
@@ -112,7 +112,7 @@ fn perform<A: Allocator, I: Source, O: Target, E: Target>(
 ) -> (u8, O, E)
     requires { first_bad options.limits ≡ Ok tt }
     ensures task { let view = streams I.Source O.Target E.Target in
-        DoesTask options.entry.task options.entry.limits TURNS
+        DoesTask options.entry.task options.entry.limits
         (view input.old out err) result.0 (view input.new result.1 result.2) }
     ensures status { IsStatusOfTask result.0 }
 {
