@@ -188,8 +188,11 @@ fn renders_pages(
     Ok(writer.text() == text && ended == outcome)
 }
 
-/// Whether `rows` does, and ends with the status of a fault where that is one.
+/// Whether `rows` does, within limits that are in their ranges, and ends with the status of a fault where that is one.
 fn writes_pages(alloc: Global, stream: &Stream<'_>, text: &[u8], outcome: Outcome) -> bool {
+    let Ok(()) = stream.limits.check() else {
+        return false;
+    };
     let mut reader = stream.pieces([usize::MAX; 3]);
     let out = Narrow::new(alloc, text.len(), 7);
     let err = Narrow::new(alloc, usize::MAX, 7);
