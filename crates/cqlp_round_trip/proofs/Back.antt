@@ -9,7 +9,7 @@ use Rattle.cqlp_grammar.specs.declared.event.Finish.{Finish}
 use Rattle.cqlp_grammar.specs.declared.event.Finish.TheVariants as finish
 use Rattle.cqlp_message.specs.FrameValues.{FrameValue}
 use Rattle.cqlp_message.specs.Parts.{parts_size, parts_events}
-use Rattle.cqlp_message.specs.Frames.{Flat, frame_bytes, frame_parts, frame_size, header_of, unfit_of}
+use Rattle.cqlp_message.specs.Frames.{Flat, FrameIsInRange, frame_bytes, frame_parts, frame_size, header_of, unfit_of}
 use Rattle.cqlp_message.proofs.FramesWritten.{frame_written}
 use Rattle.cqlp_decode.specs.declared.running.Outcome.TheVariants as outcome
 use Rattle.cqlp_decode.specs.Reading.{Event, Waits, Frame, End, Reads, start, step}
@@ -77,12 +77,12 @@ module _ {V : Type 0} (f : V → ℕ → Event → V) (faulted : V → ℕ → E
 
 -- ---- a frame
 
-module _ {V : Type 0} (f : V → ℕ → Event → V) (limits : Limits) (frame : FrameValue) (fits : unfit_of frame ≡ None) (before after : V) where
+module _ {V : Type 0} (f : V → ℕ → Event → V) (limits : Limits) (frame : FrameValue) (fits : unfit_of frame ≡ None) (range : FrameIsInRange frame) (before after : V) where
   pub comes_back : (end : Finish) → ReadsAll f (rules_of limits) (frame_bytes frame) end before after → ComesBack f limits frame end before after
-  comes_back end reads range within =
+  comes_back end reads within =
       let l = rules_of limits in
       let n = parts_size (frame_parts frame) in
-      let r = reads (Flat l 0 frame 0) Waits (written_is_read l frame range fits within) in
+      let r = reads (Flat l 0 frame 0) Waits (written_is_read frame range l fits within) in
       let long = (frame_written frame range fits).1 in
       let front = (0, Frame (header_of frame (n + 0))) ∷ parts_events l (0 + 9) (frame_parts frame) in
       let same : 0 + frame_size frame 0 ≡ frame_size frame 0 = omega arith in record {
@@ -91,7 +91,7 @@ module _ {V : Type 0} (f : V → ℕ → Event → V) (limits : Limits) (frame :
       }
 
   pub fails_within : (faulted : V → ℕ → Event → V → Type 0) → FailsReading f faulted (rules_of limits) (frame_bytes frame) before after → FailsWithin f faulted limits frame error.SinkFault before after
-  fails_within faulted fails range within = fails (Flat (rules_of limits) 0 frame 0) Waits (written_is_read (rules_of limits) frame range fits within)
+  fails_within faulted fails within = fails (Flat (rules_of limits) 0 frame 0) Waits (written_is_read frame range (rules_of limits) fits within)
 
 -- ---- errors
 
