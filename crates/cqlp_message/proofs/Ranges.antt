@@ -1,6 +1,6 @@
 -- What the parts of a frame hold is in the ranges of the types of the code.
-use Rattle.std.proofs.Common.{◌≡◌, ℕ, zero, suc, ◌+◌, Bool, true, false, List, [], ◌∷◌, ◌++◌, length, drop, None, subst, sym}
-use Rattle.std.specs.Prelude.{string_bytes, Option, Some}
+use Rattle.std.proofs.Common.{◌≡◌, ℕ, zero, suc, ◌+◌, Bool, true, false, List, [], ◌∷◌, ◌++◌, drop, subst, sym}
+use Rattle.std.specs.Prelude.{string_bytes}
 use Rattle.std.specs.List.{All}
 use Rattle.std.specs.Str.{is_utf8}
 use Rattle.std.specs.declared.string.String.{String}
@@ -17,9 +17,9 @@ use Rattle.cqlp_type.specs.Trees.{Head, Trees, kind_in, trees_in, has_names, hea
 use Rattle.cqlp_type.specs.TypeTrees.{head_of, inner_of, types_in_row, fields_in_row, tree_of}
 use Rattle.cqlp_value.specs.Values.{Values, AreInRange}
 use Rattle.cqlp_message.specs.FrameValues.{FrameValue}
-use Rattle.cqlp_message.specs.Parts.{Part, Cell_is, PartIsInRange}
+use Rattle.cqlp_message.specs.Parts.{Cell_is, PartIsInRange}
 use Rattle.cqlp_message.specs.Bodies.{row_parts, rows_parts}
-use Rattle.cqlp_message.specs.Frames.{FrameIsInRange, frame_parts, unfit_of}
+use Rattle.cqlp_message.specs.Frames.{FrameIsInRange}
 use Rattle.cqlp_message.specs.Pages.{is_bare, types_of_page, with_cells}
 use Rattle.cqlp_message.proofs.PageFrames.{front_parts, cell_parts, page_rows, parts_bare, parts_with}
 
