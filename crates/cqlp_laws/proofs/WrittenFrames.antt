@@ -8,7 +8,7 @@ use Rattle.cqlp_value.specs.declared.value.Value.{Value}
 use Rattle.cqlp_value.specs.Owned.{value_of}
 use Rattle.cqlp_value.specs.Values.{Values, AreInRange}
 use Rattle.cqlp_message.specs.FrameValues.{FrameValue}
-use Rattle.cqlp_message.specs.Frames.{AllSpell, Flat, FlatAll, FrameIsInRange, frame_bytes, unfit_of}
+use Rattle.cqlp_message.specs.Frames.{AllSpell, Flat, FlatAll, FrameIsInRange, frame_bytes}
 use Rattle.cqlp_message.proofs.FramesWritten.{frame_written}
 use Rattle.cqlp_message.specs.Pages.{page_unfit_of, with_cells}
 use Rattle.cqlp_message.proofs.PageFrames.{is_page, page_written}

@@ -1,5 +1,4 @@
-use Rattle.std.proofs.Common.{map, subst, sym}
-use Rattle.std.specs.List.{All}
+use Rattle.std.proofs.Common.{map, subst}
 use Rattle.std.proofs.lemmas.List.{take_all}
 use Rattle.std.proofs.lemmas.List.Elements.{All-nil, All-more}
 use Rattle.cqlp_value.specs.declared.value.Value.{Value}
