@@ -5,6 +5,7 @@ pub mod Crosses
 pub mod Fills
 pub mod Handed
 pub mod Made
+pub mod NoRoom
 pub mod OneBatch
 pub mod OneVerdict
 pub mod Places

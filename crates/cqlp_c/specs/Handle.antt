@@ -52,7 +52,7 @@ Makes l (Some d) code new = (code ≡ numbers.IN_USE) × (new ≡ Some d)
 -- were.
 pub record PutsInto (old new : StreamState) (input : List ℕ) (b : Batch) (before after : List CqlpEvent) : Type 0 where
   pub fills : FillsOn old new input (length before) b after
-  pub refused : (r : Refusal) → old.refusal ≡ Some r → 0 < length before → RepeatsRefusal r old new b
+  pub refused : (r : Refusal) → old.refusal ≡ Some r → RepeatsRefusal r old new b
   pub goes_on : GoesOn old new (length before) b
   pub within : (b.used ≤ length input) × (b.events ≤ length before)
   pub others : drop b.events after ≡ drop b.events before

@@ -4,7 +4,7 @@ use Rattle.cqlp_decode.specs.Reading.{Event}
 use Rattle.cqlp_decode.specs.Streams.{After, state}
 use Rattle.cqlp_c.specs.Batches.{due}
 use Rattle.cqlp_c.proofs.Fills.{IsFilled}
-use Rattle.cqlp_c.proofs.batch.fill.Given as goal
+use Rattle.cqlp_c.proofs.batch.fill_room.Given as goal
 
 -- what is used is of the input, and its events are in the array
 abbrev pub invariant-slots : goal.invariant-slots

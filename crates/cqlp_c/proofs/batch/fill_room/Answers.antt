@@ -14,7 +14,7 @@ use Rattle.cqlp_c.proofs.Fills.{filled_more, fills_gathered, fills_full}
 use Rattle.cqlp_c.proofs.Handed.{filled_items}
 use Rattle.cqlp_c.proofs.Putting.{drops_more}
 use Rattle.cqlp_c.proofs.Spans.{span_told}
-use Rattle.cqlp_c.proofs.batch.fill.Goals as goal
+use Rattle.cqlp_c.proofs.batch.fill_room.Goals as goal
 
 drops : {X : Type 0} (n : ℕ) (xs ys : List X) → drop n xs ≡ drop n ys → drop (n + 1) xs ≡ drop (n + 1) ys
 drops n xs ys same = drops_more n 1 xs ys same
