@@ -5,7 +5,6 @@ pub mod Crosses
 pub mod Fills
 pub mod Handed
 pub mod Made
-pub mod NoRoom
 pub mod OneBatch
 pub mod OneVerdict
 pub mod Places

@@ -34,6 +34,13 @@ pub struct Batch {
     pub stop: Stop,
 }
 
+/// Bytes that C gives: where there are none, C may give them by a null pointer, which goes no further than this.
+pub fn or_none(bytes: &[u8]) -> &[u8]
+    ensures { result.now ≡ bytes.now }
+{
+    if bytes.is_empty() { &[] } else { bytes }
+}
+
 /// Puts the next events of the input into the array, until the input is used up or refused, or there is no room. A
 /// content that lies in the decoder is put last, since the next step may overwrite it. A refusal that was made before is
 /// said again, also where there is no room.
