@@ -150,7 +150,7 @@ static void give_nothing(void) {
 
 /* After a refusal each call says it again, with room and without, so that a loop over full batches ends. */
 static void refuse_without_room(void) {
-  static const uint8_t bad[] = {5, 0, 0, 0};
+  static const uint8_t bad[] = {5, 0, 0, 0, 8, 0, 0, 0, 0};
   cqlp_limits limits = CQLP_DEFAULT_LIMITS;
   cqlp_decoder decoder = CQLP_NO_DECODER_YET;
   cqlp_event event;
