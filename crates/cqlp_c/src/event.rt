@@ -111,7 +111,8 @@ impl CqlpEvent {
     /// Puts this content.
     #[inline(always)]
     fn lend(&mut self, bytes: &[u8])
-        ensures { LendsFrom self.old (Some bytes.now) self.new }
+        ensures lends { LendsFrom self.old (Some bytes.now) self.new }
+        ensures there { self.new.content ≡ as_ptr bytes.entry }
     {
         self.content = address_of(bytes);
         self.length = bytes.len();
