@@ -73,6 +73,7 @@ fn stop_without_room(finish: &Finish) -> Stop
 }
 
 /// A batch that has no room: it says nothing but a refusal that was made before.
+#[inline(never)]
 fn without_room(decoder: &Decoder<Global>) -> Batch
     ensures fills { (input : List ℕ) (events : List Event) → FillsOn (state decoder.now) (state decoder.now) input 0 result events }
     ensures refused { (r : Refused) → (state decoder.now).refusal ≡ Some r →
@@ -88,6 +89,7 @@ fn without_room(decoder: &Decoder<Global>) -> Batch
 }
 
 /// The same as `fill`, where there is room.
+#[inline(always)]
 fn fill_room(decoder: &mut Decoder<Global>, input: &[u8], events: &mut [CqlpEvent]) -> Batch
     ensures fills { FillsOn (state decoder.old) (state decoder.new) input.now (length events.old) result events.new }
     ensures refused { (r : Refused) → (state decoder.old).refusal ≡ Some r → 0 < length events.old →
