@@ -1,7 +1,7 @@
 /* Streams as data: the lines of crates/cqlp_vectors/stdin come on standard input, each a name, `--raw` or `--parts`, `|` and
  * hexadecimal digits. Of each stream the offset and the tag of its events and its verdict are printed, as they stand in
- * crates/cqlp_vectors/stdout, and each cut of it has to give the same, with each content in its place. Then bytes of each stream are replaced by others, one
- * and four at each place, so that lengths and counts lie: however it is cut, the events and the verdict are those of the whole, and no byte past a piece
+ * crates/cqlp_vectors/stdout, and each cut of it has to give the same, with each content in its place. Then bytes of each stream are
+ * replaced by others, one and four at each place, so that lengths and counts lie: however it is cut, the events and the verdict are those of the whole, and no byte past a piece
  * or past the array is read or written. */
 #include "give.h"
 
@@ -119,8 +119,9 @@ static void find_places(const cqlp_limits *limits, const uint8_t *stream, size_t
   CHECK(cqlp_free(&decoder) == CQLP_DONE);
 }
 
-/* Gives a piece of the stream, which lies elsewhere, and looks at the contents once the call is over: one that came whole in the piece lies there
- * in its place; one whose first bytes came before lies outside, and is the last of its batch. Answers how many events there are. */
+/* Gives a piece of the stream, which lies elsewhere, and looks at the contents once the call is over: one that came whole in the piece
+ * lies there in its place; one whose first bytes came before lies outside, and is the last of its batch. Answers how many events there
+ * were so far. */
 static size_t give_and_look(cqlp_decoder *decoder, const uint8_t *stream, size_t from, size_t length, size_t room, size_t count) {
   uint8_t *piece = edge(PIECE, length);
   cqlp_event events[ROOM];
