@@ -13,6 +13,5 @@ pub struct SinkFault;
 /// What takes the events of a stream, one after the other.
 pub trait Sink {
     /// Takes the event at an offset.
-    fn take(&mut self, at: u64, event: &Event<'_>) -> Result<(), SinkFault>
-        ;
+    fn take(&mut self, at: u64, event: &Event<'_>) -> Result<(), SinkFault>;
 }

@@ -52,6 +52,5 @@ pub enum PartRef<'a> {
 /// One that fails keeps that to itself, and leaves what comes after.
 pub trait TakesParts {
     /// Takes a part.
-    fn take(&mut self, part: PartRef<'_>)
-        ;
+    fn take(&mut self, part: PartRef<'_>);
 }

@@ -8,8 +8,7 @@ use crate::cqlp_note::Field;
 /// What has parts in a frame.
 pub trait HasParts {
     /// Hands its parts over, in order.
-    fn walk<V: TakesParts>(&self, visitor: &mut V)
-        ;
+    fn walk<V: TakesParts>(&self, visitor: &mut V);
 }
 
 /// Hands the parts of each item over.

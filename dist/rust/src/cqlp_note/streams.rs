@@ -13,15 +13,13 @@ pub struct IoFault;
 /// What gives bytes, as std's `Read`.
 pub trait Source {
     /// Reads some bytes into the buffer, and answers how many; 0 where it has some room, only at the end.
-    fn read(&mut self, buffer: &mut [u8]) -> Result<usize, IoFault>
-        ;
+    fn read(&mut self, buffer: &mut [u8]) -> Result<usize, IoFault>;
 }
 
 /// What takes bytes, as std's `Write`.
 pub trait Target {
     /// Takes the first bytes, and answers how many.
-    fn write(&mut self, bytes: &[u8]) -> Result<usize, IoFault>
-        ;
+    fn write(&mut self, bytes: &[u8]) -> Result<usize, IoFault>;
 }
 
 /// A reader or a writer of std's as a [`Source`] or a [`Target`]. A call is one call of the inner reader or writer,

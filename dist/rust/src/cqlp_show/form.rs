@@ -13,8 +13,7 @@ pub(crate) trait Form {
         at: u64,
         event: &Event<'_>,
         target: &mut W,
-    ) -> Result<(), SinkFault>
-        ;
+    ) -> Result<(), SinkFault>;
 
     /// Has a writer take the text of the event at an offset.
     fn write<P: Pen>(
@@ -22,8 +21,7 @@ pub(crate) trait Form {
         at: u64,
         event: &Event<'_>,
         writer: &mut TextWriter<P>,
-    ) -> Result<(), SinkFault>
-        ;
+    ) -> Result<(), SinkFault>;
 }
 
 /// A line for each event.
