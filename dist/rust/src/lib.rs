@@ -182,6 +182,10 @@ compile_error!("each proof of these sources takes a usize to have 64 bits");
 #[macro_use]
 mod kit_std;
 
+#[cfg(doctest)]
+#[doc = include_str!("../README.md")]
+struct Readme;
+
 mod checked;
 mod cqlp_cell;
 mod cqlp_decode;

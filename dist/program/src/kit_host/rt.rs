@@ -61,15 +61,24 @@ fn unbuffered(of: impl AsFd) -> File {
 
 #[macro_export]
 macro_rules! said_in_line {
-    ($rt:expr; $($text:tt)*) => { $crate::kit_host::rt::Print::print(&$rt, format_args!("{}\n", format_args!($($text)*))) };
+    ($rt:expr; $($text:tt)*) => {{
+        use $crate::kit_host::rt::Print as _;
+        $rt.print(format_args!("{}\n", format_args!($($text)*)))
+    }};
 }
 
 #[macro_export]
 macro_rules! said {
-    ($rt:expr; $($text:tt)*) => { $crate::kit_host::rt::Print::print(&$rt, format_args!($($text)*)) };
+    ($rt:expr; $($text:tt)*) => {{
+        use $crate::kit_host::rt::Print as _;
+        $rt.print(format_args!($($text)*))
+    }};
 }
 
 #[macro_export]
 macro_rules! said_of_fault {
-    ($rt:expr; $($text:tt)*) => { $crate::kit_host::rt::Eprint::eprint(&$rt, format_args!("{}\n", format_args!($($text)*))) };
+    ($rt:expr; $($text:tt)*) => {{
+        use $crate::kit_host::rt::Eprint as _;
+        $rt.eprint(format_args!("{}\n", format_args!($($text)*)))
+    }};
 }

@@ -13,15 +13,15 @@ macro_rules! error {
     };
     ($(#[doc = $doc:literal])* #[derive($($trait:ident),*)] pub enum $name:ident { $(
         $(#[doc = $about:literal])* #[error($($text:tt)*)]
-        $variant:ident $(( $(#[from $how:tt])? $(#[$from:ident])? $of:ty ))? $({ $($field:ident: $kind:ty),* })?,
+        $variant:ident $(( $(#[$from:ident $(($how:ident))?])? $of:ty ))? $({ $($field:ident: $kind:ty),* })?,
     )* }) => {
         $(#[doc = $doc])* #[derive($($trait),*)] pub enum $name {
             $($(#[doc = $about])* $variant $(($of))? $({ $($field: $kind),* })?,)*
         }
-        error!(@of $name, me, f, { $(error!(@if me, f, $name::$variant [$($($from)? $($how)? $of)?] [$($($field),*)?] $($text)*);)* Ok(()) });
-        $($($(error!(@from $from, $name, $variant, $of);)?)?)*
+        error!(@of $name, me, f, { $(error!(@if me, f, $name::$variant [$($($(($how))?)? $of)?] [$($($field),*)?] $($text)*);)* Ok(()) });
+        $($($(error!(@$from $name, $variant, $of);)?)?)*
     };
-    (@from from, $name:ident, $variant:ident, $of:ty) => {
+    (@from $name:ident, $variant:ident, $of:ty) => {
         impl From<$of> for $name {
             fn from(error: $of) -> Self {
                 $name::$variant(error)
