@@ -1,6 +1,5 @@
 //! What the sources use of `jiff_core`: the civil date of a day.
 pub mod civil {
-    #[derive(Clone, Copy, Debug)]
     pub struct Date {
         pub year: i16,
         pub month: u8,

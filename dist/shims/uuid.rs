@@ -1,5 +1,4 @@
 //! What the sources use of `uuid`: the text with hyphens.
-
 pub struct Uuid([u8; 16]);
 
 impl Uuid {
@@ -19,9 +18,8 @@ impl Uuid {
         let mut at = 0;
         for (bytes, len) in [(0..4, 8), (4..6, 4), (6..8, 4), (8..10, 4), (10..16, 12)] {
             super::hex::encode_to_slice(&self.0[bytes], &mut room[at..at + len]).expect("two digits for a byte");
-            at += len;
-            room[at] = b'-';
-            at += 1;
+            room[at + len] = b'-';
+            at += len + 1;
         }
         std::str::from_utf8_mut(&mut room[..36]).expect("digits and hyphens")
     }

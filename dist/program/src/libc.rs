@@ -8,3 +8,13 @@ pub fn close(fd: i32) -> i32 {
     }
     unsafe { close(fd) }
 }
+
+/// Has a write to a closed pipe be a fault, and not the end of the program.
+pub fn keep_broken_pipes() {
+    const SIGPIPE: i32 = 13;
+    const IGNORED: usize = 1;
+    unsafe extern "C" {
+        fn signal(number: i32, what: usize) -> usize;
+    }
+    unsafe { signal(SIGPIPE, IGNORED) };
+}

@@ -1,37 +1,40 @@
-//! Sixteen bytes compared at once, of the portable simd that is not in stable Rust.
+//! Sixteen bytes compared at once, of the portable simd that is not in stable Rust: here in two words, where no byte changes another.
 pub mod prelude {
     pub use super::u8x16;
 }
 
+const GREATEST: u64 = 0x8080_8080_8080_8080;
+
 #[allow(non_camel_case_types)]
 #[derive(Clone, Copy)]
-pub struct u8x16([u8; 16]);
+pub struct u8x16([u64; 2]);
 
-/// All ones where a comparison holds, and else 0.
-#[derive(Clone, Copy)]
-pub struct Mask([u8; 16]);
+/// The greatest bit of each byte of which a comparison holds.
+pub struct Mask([u64; 2]);
 
 impl u8x16 {
     #[inline(always)]
     pub fn from_slice(bytes: &[u8]) -> Self {
-        let mut first = [0; 16];
-        first.copy_from_slice(&bytes[..16]);
-        u8x16(first)
+        u8x16([word(&bytes[..8]), word(&bytes[8..16])])
     }
 
     #[inline(always)]
     pub fn splat(byte: u8) -> Self {
-        u8x16([byte; 16])
+        u8x16([u64::from_le_bytes([byte; 8]); 2])
     }
 
+    /// Where the greatest bits are the same the other seven decide: their difference, from 128 more, is then below 128.
     #[inline(always)]
     pub fn simd_lt(self, other: Self) -> Mask {
-        Mask(std::array::from_fn(|i| if self.0[i] < other.0[i] { 255 } else { 0 }))
+        let less = |a: u64, b: u64| (!a & b | !(a ^ b) & !((a | GREATEST) - (b & !GREATEST))) & GREATEST;
+        Mask([less(self.0[0], other.0[0]), less(self.0[1], other.0[1])])
     }
 
+    /// A byte of the difference is 0 where its greatest bit is, and where 127 more than the other seven is below 128.
     #[inline(always)]
     pub fn simd_eq(self, other: Self) -> Mask {
-        Mask(std::array::from_fn(|i| if self.0[i] == other.0[i] { 255 } else { 0 }))
+        let none = |a: u64| !(a | (a & !GREATEST) + !GREATEST) & GREATEST;
+        Mask([none(self.0[0] ^ other.0[0]), none(self.0[1] ^ other.0[1])])
     }
 }
 
@@ -39,9 +42,12 @@ impl Mask {
     /// A bit for each byte, the lowest for the first.
     #[inline(always)]
     pub fn to_bitmask(self) -> u64 {
-        if u128::from_ne_bytes(self.0) == 0 {
-            return 0;
-        }
-        self.0.iter().rev().fold(0, |bits, byte| bits << 1 | u64::from(byte & 1))
+        let bits = |word: u64| (0..8).fold(0, |bits, i| bits | (word >> (8 * i + 7) & 1) << i);
+        if self.0 == [0, 0] { 0 } else { bits(self.0[0]) | bits(self.0[1]) << 8 }
     }
+}
+
+#[inline(always)]
+fn word(bytes: &[u8]) -> u64 {
+    bytes.first_chunk().map_or(0, |word| u64::from_le_bytes(*word))
 }

@@ -2,8 +2,9 @@
 use crate::kit_std::alloc::Global;
 use crate::kit_std::string::String;
 use std::fs::File;
-use std::io::{self, BufRead, Write};
-use std::os::fd::AsFd;
+use std::io::{self, BufRead, Read, Write};
+use std::mem::ManuallyDrop;
+use std::os::fd::FromRawFd;
 
 #[derive(Clone, Copy)]
 pub struct HostRuntime;
@@ -38,16 +39,16 @@ impl Files for HostRuntime {}
 
 impl HostRuntime {
     /// Standard input, output and error, each with no buffer.
-    pub fn stdin(&self) -> File {
-        unbuffered(io::stdin())
+    pub fn stdin(&self) -> Standard {
+        Standard::of(0)
     }
 
-    pub fn stdout(&self) -> File {
-        unbuffered(io::stdout())
+    pub fn stdout(&self) -> Standard {
+        Standard::of(1)
     }
 
-    pub fn stderr(&self) -> File {
-        unbuffered(io::stderr())
+    pub fn stderr(&self) -> Standard {
+        Standard::of(2)
     }
 
     pub fn lines(&self, alloc: Global) -> impl Iterator<Item = io::Result<String>> {
@@ -55,8 +56,62 @@ impl HostRuntime {
     }
 }
 
-fn unbuffered(of: impl AsFd) -> File {
-    File::from(of.as_fd().try_clone_to_owned().expect("a descriptor"))
+/// A standard descriptor, which may be closed: a call is then a fault of its own.
+pub struct Standard(ManuallyDrop<File>);
+
+impl Standard {
+    fn of(descriptor: i32) -> Standard {
+        // Nothing of the program closes it, but to open a file in the place of standard input.
+        Standard(ManuallyDrop::new(unsafe { File::from_raw_fd(descriptor) }))
+    }
+}
+
+impl Read for Standard {
+    fn read(&mut self, room: &mut [u8]) -> io::Result<usize> {
+        self.0.read(room)
+    }
+}
+
+impl Write for Standard {
+    fn write(&mut self, bytes: &[u8]) -> io::Result<usize> {
+        self.0.write(bytes)
+    }
+
+    fn flush(&mut self) -> io::Result<()> {
+        Ok(())
+    }
+}
+
+/// How the program ends.
+pub struct ExitCode(u8);
+
+impl ExitCode {
+    pub const SUCCESS: ExitCode = ExitCode(0);
+    pub const FAILURE: ExitCode = ExitCode(1);
+}
+
+impl From<u8> for ExitCode {
+    fn from(status: u8) -> ExitCode {
+        ExitCode(status)
+    }
+}
+
+/// What a `main` answers, as a status.
+pub trait Status {
+    fn status(self) -> i32;
+}
+
+impl Status for ExitCode {
+    fn status(self) -> i32 {
+        let _ = io::stdout().flush();
+        self.0.into()
+    }
+}
+
+impl Status for io::Result<()> {
+    fn status(self) -> i32 {
+        ExitCode(self.is_err().into()).status()
+    }
 }
 
 #[macro_export]

@@ -10,9 +10,6 @@ pub mod string;
 pub mod vec;
 
 pub mod prelude {
-    pub use super::boxed::Box;
-    pub use super::clone::Clone;
-    pub use super::string::String;
-    pub use super::vec::Vec;
+    pub use super::{boxed::Box, clone::Clone, string::String, vec::Vec};
     pub(crate) use super::vec::vec;
 }
