@@ -1,0 +1,85 @@
+//! What C calls, as include/cqlp.h has it. Not proved. Pointers are what the header asks of them; a slice of no length may be null.
+use crate::cqlp_c::*;
+use crate::kit_std::alloc::Global;
+use core::slice::{from_raw_parts, from_raw_parts_mut};
+
+unsafe fn slice<'a, T>(at: *const T, len: usize) -> &'a [T] {
+    if len == 0 { &[] } else { unsafe { from_raw_parts(at, len) } }
+}
+
+unsafe fn slice_mut<'a, T>(at: *mut T, len: usize) -> &'a mut [T] {
+    if len == 0 { &mut [] } else { unsafe { from_raw_parts_mut(at, len) } }
+}
+
+#[unsafe(no_mangle)]
+pub extern "C" fn cqlp_new(limits: &CqlpLimits, decoder: &mut CqlpDecoder) -> u32 {
+    crate::cqlp_c::cqlp_new(Global, limits, decoder)
+}
+
+#[unsafe(no_mangle)]
+pub unsafe extern "C" fn cqlp_next(
+    decoder: &mut CqlpDecoder,
+    input: *const u8,
+    length: usize,
+    events: *mut CqlpEvent,
+    room: usize,
+    batch: &mut CqlpBatch,
+) -> u32 {
+    let (input, events) = unsafe { (slice(input, length), slice_mut(events, room)) };
+    crate::cqlp_c::cqlp_next(Global, decoder, input, events, batch)
+}
+
+#[unsafe(no_mangle)]
+pub extern "C" fn cqlp_finish(decoder: &mut CqlpDecoder, end: &mut CqlpEnd) -> u32 {
+    crate::cqlp_c::cqlp_finish(Global, decoder, end)
+}
+
+#[unsafe(no_mangle)]
+pub extern "C" fn cqlp_held(decoder: &mut CqlpDecoder, held: &mut CqlpHeld) -> u32 {
+    crate::cqlp_c::cqlp_held(Global, decoder, held)
+}
+
+#[unsafe(no_mangle)]
+pub extern "C" fn cqlp_free(decoder: &mut CqlpDecoder) -> u32 {
+    crate::cqlp_c::cqlp_free(Global, decoder)
+}
+
+#[unsafe(no_mangle)]
+pub unsafe extern "C" fn cqlp_check(limits: &CqlpLimits, stream: *const u8, length: usize, end: &mut CqlpEnd) -> u32 {
+    crate::cqlp_c::cqlp_check(Global, limits, unsafe { slice(stream, length) }, end)
+}
+
+#[unsafe(no_mangle)]
+pub extern "C" fn cqlp_client_new(slots: u32, client: &mut CqlpClient) -> u32 {
+    crate::cqlp_c::cqlp_client_new(Global, slots, client)
+}
+
+#[unsafe(no_mangle)]
+pub extern "C" fn cqlp_client_begin(client: &mut CqlpClient, opcode: u8, ticket: &mut CqlpTicket) -> u32 {
+    crate::cqlp_c::cqlp_client_begin(Global, client, opcode, ticket)
+}
+
+#[unsafe(no_mangle)]
+pub extern "C" fn cqlp_client_reply(client: &mut CqlpClient, frame: &CqlpEvent, reply: &mut CqlpReply) -> u32 {
+    crate::cqlp_c::cqlp_client_reply(Global, client, frame, reply)
+}
+
+#[unsafe(no_mangle)]
+pub extern "C" fn cqlp_client_cancel(client: &mut CqlpClient, ticket: &CqlpTicket) -> u32 {
+    crate::cqlp_c::cqlp_client_cancel(Global, client, ticket)
+}
+
+#[unsafe(no_mangle)]
+pub extern "C" fn cqlp_client_phase(client: &mut CqlpClient, phase: &mut u8) -> u32 {
+    crate::cqlp_c::cqlp_client_phase(Global, client, phase)
+}
+
+#[unsafe(no_mangle)]
+pub extern "C" fn cqlp_client_free(client: &mut CqlpClient) -> u32 {
+    crate::cqlp_c::cqlp_client_free(Global, client)
+}
+
+#[unsafe(no_mangle)]
+pub extern "C" fn cqlp_write_header(fields: &CqlpHeader, bytes: &mut [u8; 9]) -> u32 {
+    crate::cqlp_c::cqlp_write_header(fields, bytes)
+}

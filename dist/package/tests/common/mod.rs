@@ -1,0 +1,76 @@
+//! Worked streams, and what is said of them.
+#![forbid(unsafe_code)]
+#![allow(dead_code)]
+
+use cqlp::text::{Ending, ending_line, event_line};
+use cqlp::{Decoder, Finish, Global, Limits, OfStd, Step};
+
+/// A stream of streams.txt, and what is said of it.
+pub struct Stream {
+    pub name: String,
+    pub limits: Limits,
+    pub bytes: Vec<u8>,
+    pub said: String,
+}
+
+pub fn streams() -> Vec<Stream> {
+    let mut streams: Vec<Stream> = Vec::new();
+    for line in include_str!("../streams.txt").lines() {
+        let (word, rest) = line.split_once(' ').unwrap_or((line, ""));
+        match (word, streams.last_mut()) {
+            ("stream", _) => streams.push(begun(rest)),
+            ("bytes", Some(stream)) => stream.bytes = bytes_of(rest),
+            ("end", Some(stream)) => stream.said += &format!("{rest}\n"),
+            (_, Some(stream)) => stream.said += &format!("{line}\n"),
+            (_, None) => unreachable!(),
+        }
+    }
+    streams
+}
+
+/// A stream whose line says its name and its limits.
+fn begun(words: &str) -> Stream {
+    let (name, numbers) = words.split_once(' ').unwrap();
+    let numbers: Vec<u32> = numbers.split(' ').map(|word| word.parse().unwrap()).collect();
+    let &[text, cell, entries, depth, types, parts] = &numbers[..] else { panic!("six numbers") };
+    let limits = Limits { text, cell, entries, depth, types: types == 1, parts: parts == 1 };
+    Stream { name: name.to_string(), limits, bytes: Vec::new(), said: String::new() }
+}
+
+fn bytes_of(digits: &str) -> Vec<u8> {
+    digits.as_bytes().chunks(2).map(|pair| u8::from_str_radix(std::str::from_utf8(pair).unwrap(), 16).unwrap()).collect()
+}
+
+/// The lines of the events of these pieces, and of the verdict.
+pub fn said<'a>(limits: Limits, pieces: impl IntoIterator<Item = &'a [u8]>) -> String {
+    let mut decoder = Decoder::new(Global, limits).unwrap();
+    let mut lines = OfStd::new(Vec::new());
+    for piece in pieces {
+        if !add(&mut decoder, piece, &mut lines) {
+            break;
+        }
+    }
+    ending_line(Ending::Finished(decoder.finish()), &mut lines).unwrap();
+    String::from_utf8(lines.into_inner()).unwrap()
+}
+
+/// Adds the lines of a piece's events, and answers whether more may come.
+fn add(decoder: &mut Decoder, piece: &[u8], lines: &mut OfStd<Vec<u8>>) -> bool {
+    let mut used = 0;
+    loop {
+        match decoder.next(&piece[used..]) {
+            Step::Event { at, used: taken, event } => {
+                event_line(at, &event, lines).unwrap();
+                used += taken;
+            }
+            Step::More { used: taken } => {
+                assert_eq!(used + taken, piece.len());
+                return true;
+            }
+            Step::Refused(refusal) => {
+                assert_eq!(decoder.finish(), Finish::Refused(refusal));
+                return false;
+            }
+        }
+    }
+}

@@ -1,0 +1,90 @@
+//! Streams whose bytes were changed at random end in no panic, and say the same whole and in pieces: by `next`, and by `run`, whose loops
+//! go over what lies whole. CQLP_STREAMS is how many, 3,000 where it is not set.
+#![forbid(unsafe_code)]
+
+mod common;
+
+use common::{said, streams};
+use cqlp::text::{Ending, ending_line, render_events, render_rows};
+use cqlp::{Decoder, Global, Limits, OfStd, Outcome};
+
+/// Numbers that look random, the same at each run.
+struct Numbers(u64);
+
+impl Numbers {
+    fn below(&mut self, end: usize) -> usize {
+        self.0 ^= self.0 << 13;
+        self.0 ^= self.0 >> 7;
+        self.0 ^= self.0 << 17;
+        (self.0 >> 11) as usize % end
+    }
+
+    fn one_of<T: Copy>(&mut self, all: &[T]) -> T {
+        all[self.below(all.len())]
+    }
+}
+
+fn mutated(numbers: &mut Numbers, bases: &[Vec<u8>]) -> Vec<u8> {
+    let mut stream = Vec::new();
+    for _ in 0..numbers.one_of(&[1, 1, 1, 2, 3]) {
+        stream.extend(&bases[numbers.below(bases.len())]);
+    }
+    for _ in 0..numbers.one_of(&[0, 1, 1, 2, 3, 8]) {
+        if !stream.is_empty() {
+            let place = numbers.below(stream.len());
+            let any = numbers.below(256) as u8;
+            stream[place] = numbers.one_of(&[0, 1, 2, 4, 0x7f, 0x80, 0xff, 0xfe, any]);
+        }
+    }
+    if numbers.below(5) == 0 {
+        stream.truncate(numbers.below(stream.len() + 1));
+    }
+    stream
+}
+
+fn limits(numbers: &mut Numbers) -> Limits {
+    Limits {
+        text: numbers.one_of(&[32, 64, 1000, 1 << 20]),
+        cell: numbers.one_of(&[32, 64, 1000, 1 << 20]),
+        entries: numbers.one_of(&[1, 8, 4096]),
+        depth: numbers.one_of(&[1, 3, 16, 64]),
+        types: numbers.below(5) > 0,
+        parts: numbers.below(5) == 0,
+    }
+}
+
+/// Pieces of a stream, each of at most this many bytes.
+fn pieces<'a>(numbers: &mut Numbers, mut rest: &'a [u8], most: usize) -> Vec<&'a [u8]> {
+    let mut pieces = Vec::new();
+    while !rest.is_empty() {
+        let (piece, after) = rest.split_at(rest.len().min(1 + numbers.below(most)));
+        pieces.push(piece);
+        rest = after;
+    }
+    pieces
+}
+
+/// What `run` has written of a stream, and its verdict.
+fn rendered(limits: Limits, stream: &[u8]) -> String {
+    let mut decoder = Decoder::new(Global, limits).unwrap();
+    let (outcome, mut lines) = render_events(&mut decoder, &mut OfStd::new(stream), OfStd::new(Vec::new()), u64::MAX);
+    let Outcome::Finished(finish) = outcome else { panic!("{outcome:?}") };
+    ending_line(Ending::Finished(finish), &mut lines).unwrap();
+    let mut again = Decoder::new(Global, limits).unwrap();
+    assert_eq!(render_rows(&mut again, &mut OfStd::new(stream), OfStd::new(Vec::new()), u64::MAX).0, outcome);
+    String::from_utf8(lines.into_inner()).unwrap()
+}
+
+#[test]
+fn mutated_streams() {
+    let count: u64 = std::env::var("CQLP_STREAMS").map_or(3_000, |text| text.parse().unwrap());
+    let bases: Vec<Vec<u8>> = streams().into_iter().map(|stream| stream.bytes).filter(|bytes| bytes.len() < 2_000).collect();
+    let mut numbers = Numbers(0x9e37_79b9_7f4a_7c15);
+    for case in 0..count {
+        let (stream, limits) = (mutated(&mut numbers, &bases), limits(&mut numbers));
+        let whole = said(limits, [&stream[..]]);
+        let most = numbers.one_of(&[1, 3, 20, 200]);
+        assert_eq!(said(limits, pieces(&mut numbers, &stream, most)), whole, "case {case}: {stream:02x?}");
+        assert_eq!(rendered(limits, &stream), whole, "case {case}: {stream:02x?}");
+    }
+}

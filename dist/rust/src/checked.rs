@@ -1,0 +1,50 @@
+//! Calls whose sources ask something of their caller, in a form that asks nothing. Written by hand, and not proved.
+use crate::cqlp_kind::{Kind, Scalar, scalar};
+use crate::cqlp_note::{Header, Reason, Refusal};
+
+impl Header {
+    /// The header that nine bytes are, or the first fault of them, whose offset is counted from the first of them: the version
+    /// (at 0), the flag 01 (1), the opcode (4), its direction (4), the length (5).
+    ///
+    /// # Errors
+    ///
+    /// `BadVersion`, `Compressed`, `BadOpcode`, `BadDirection` and `BadLength`, in this order.
+    pub fn from_bytes(bytes: &[u8; 9]) -> Result<Header, Refusal> {
+        Header::read(bytes, 0)
+    }
+
+    /// The nine bytes of the header, which [`Header::from_bytes`] takes for this header again; None where it is not
+    /// [`lawful`](Header::lawful).
+    #[must_use]
+    pub fn to_bytes(&self) -> Option<[u8; 9]> {
+        self.lawful().then(|| self.write())
+    }
+}
+
+impl Kind {
+    /// The id of its type option; None of [`Kind::Raw`], which has no type option.
+    #[must_use]
+    pub fn option_id(self) -> Option<u16> {
+        (self != Kind::Raw).then(|| self.id())
+    }
+}
+
+impl<'a> Scalar<'a> {
+    /// The scalar of this kind that these bytes spell, all of them; None of a kind whose values have items. Section 6 of
+    /// `native_protocol_v4.spec`.
+    ///
+    /// # Errors
+    ///
+    /// `BadSize` where no scalar of the kind has this many bytes, and where there are none; else `BadUtf8` for a varchar that is
+    /// not UTF-8, and `BadScalar` for an ascii with a byte above 7F, a time past the end of a day or a timeuuid that is not of
+    /// version 1.
+    pub fn from_bytes(kind: Kind, bytes: &'a [u8]) -> Option<Result<Scalar<'a>, Reason>> {
+        if !kind.is_scalar() {
+            None
+        } else if bytes.is_empty() {
+            Some(Err(Reason::BadSize))
+        } else {
+            Some(scalar(kind, bytes))
+        }
+    }
+}

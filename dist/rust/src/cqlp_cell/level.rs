@@ -1,0 +1,76 @@
+// Written by dist/erase from crates/cqlp_cell/src/level.rt.
+//! The innermost value that is open, in a caller's hands.
+
+use crate::cqlp_cell::open_values::{OpenValue, Order};
+use crate::cqlp_cell::whole::DueItem;
+use crate::cqlp_kind::Kind;
+use crate::cqlp_type::TypeTable;
+use crate::kit_std::alloc::Allocator;
+
+/// A copy of the innermost value that is open, and of where the reading stands in it. A loop over its items changes this in
+/// place of the reader, which `CellReader::set_level` then brings to where the loop stands.
+#[derive(Clone, Copy)]
+pub struct Level {
+    pub(crate) value: OpenValue,
+    /// How many values are open.
+    pub(crate) level: u32,
+    /// The offset of what is read next.
+    pub(crate) offset: u64,
+}
+
+impl Level {
+    /// The next item, if there is one.
+    #[inline(always)]
+    pub(crate) fn due_item<A: Allocator>(&self, table: &TypeTable<A>) -> Option<DueItem>
+    {
+        let value = self.value;
+        if value.is_over(self.offset) {
+            return None;
+        }
+        let head = table.node(value.node).unwrap();
+        Some(DueItem {
+            at: self.offset,
+            kind: head.kind,
+            room: value.stop - self.offset,
+            level: self.level,
+        })
+    }
+
+    /// Whether this is a list or a set, whose items are all of one type.
+    #[inline(always)]
+    pub fn is_list(&self) -> bool
+    {
+        matches!(self.value.order, Order::Elements)
+    }
+
+    /// The next item of a list or a set, whose items are of this kind, if there is one.
+    #[inline(always)]
+    pub(crate) fn due_element(&self, kind: Kind) -> Option<DueItem>
+    {
+        if self.value.left == 0 {
+            return None;
+        }
+        Some(DueItem {
+            at: self.offset,
+            kind,
+            room: self.value.stop - self.offset,
+            level: self.level,
+        })
+    }
+
+    /// Goes on after the next item of a list or a set, which takes this many bytes.
+    #[inline(always)]
+    pub(crate) fn pass_element(&mut self, used: usize)
+    {
+        self.value.left -= 1;
+        self.offset += used as u64;
+    }
+
+    /// Goes on after the next item, which takes this many bytes.
+    #[inline(always)]
+    pub(crate) fn pass<A: Allocator>(&mut self, used: usize, table: &TypeTable<A>)
+    {
+        self.value.pass_item(table);
+        self.offset += used as u64;
+    }
+}

@@ -1,0 +1,374 @@
+// Written by dist/erase from crates/cqlp_cell/src/reading.rt.
+//! The steps of reading a cell.
+
+use crate::cqlp_cell::advance::{CellAdvance, CellOutline};
+use crate::cqlp_cell::gather::{empty, gather, lend_bytes};
+use crate::cqlp_cell::number::{Number, take_number};
+use crate::cqlp_cell::open_values::{OpenValue, Order};
+use crate::cqlp_cell::size::{Sized, size_up};
+use crate::cqlp_cell::standing::{CellDue, CellStanding, DueValue, NextInCell, Under};
+use crate::cqlp_kind::Kind;
+use crate::cqlp_kind::content::{accepts, fault};
+use crate::cqlp_note::{Partial, Reason, Refusal};
+use crate::cqlp_type::TypeTable;
+use crate::kit_std::alloc::Allocator;
+
+impl<A: Allocator> CellStanding<A> {
+    /// Takes the next bytes of the cell. An item without a content, and a refusal, leave the buffer empty.
+    #[inline]
+    pub(crate) fn advance(
+        &mut self,
+        partial: &mut Partial<A>,
+        table: &TypeTable<A>,
+        input: &[u8],
+    ) -> CellAdvance
+    {
+        let answer = self.step(partial, table, input);
+        if answer.is_bare() {
+            empty(partial);
+        }
+        answer
+    }
+
+    /// Takes the next bytes of the cell.
+    fn step(&mut self, partial: &mut Partial<A>, table: &TypeTable<A>, input: &[u8]) -> CellAdvance
+    {
+        match self.under {
+            Under::Nothing => match self.due() {
+                CellDue::Nothing => {
+                    self.end();
+                    CellAdvance::Done
+                }
+                CellDue::Close(value) => self.close(value),
+                CellDue::Value => self.advance_length(false, partial, table, input),
+                CellDue::Part { offset, total } => {
+                    self.advance_part(false, offset, total, partial, table, input)
+                }
+            },
+            Under::Length => self.advance_length(true, partial, table, input),
+            Under::Scalar(len) => {
+                let value = self.value(table);
+                self.advance_scalar(true, value, len, 0, partial, table, input)
+            }
+            Under::Counted(len) => {
+                let value = self.value(table);
+                self.advance_count(true, value, len, 0, partial, table, input)
+            }
+            Under::First(total) => self.advance_first(true, total, 0, partial, table, input),
+            Under::Later => match self.next {
+                NextInCell::Part { offset, total } => {
+                    self.advance_part(true, offset, total, partial, table, input)
+                }
+                NextInCell::Nothing => unreachable!(),
+                NextInCell::Cell(_) => unreachable!(),
+                NextInCell::Items => unreachable!(),
+            },
+        }
+    }
+
+    /// Takes the next bytes of a scalar of this many bytes, whose length is read.
+    fn advance_scalar(
+        &mut self,
+        begun: bool,
+        value: DueValue,
+        len: u32,
+        start: usize,
+        partial: &mut Partial<A>,
+        table: &TypeTable<A>,
+        input: &[u8],
+    ) -> CellAdvance
+    {
+        let Some(found) = gather(partial, begun, len, self.offset + 4, start, input) else {
+            self.under = Under::Scalar(len);
+            return CellAdvance::More { used: input.len() };
+        };
+        if !accepts(value.kind, lend_bytes(partial, input, found.content)) {
+            return self.refuse(self.offset, fault(value.kind));
+        }
+        let at = self.offset;
+        let level = self.open_values.len();
+        self.pass(4 + u64::from(len), table);
+        CellAdvance::Item {
+            at,
+            used: found.used,
+            item: CellOutline::Leaf {
+                level,
+                kind: value.kind,
+                content: found.content,
+            },
+        }
+    }
+
+    /// Takes the next bytes of a list, a set or a map of this many bytes, whose length is read.
+    fn advance_count(
+        &mut self,
+        begun: bool,
+        value: DueValue,
+        len: u32,
+        start: usize,
+        partial: &mut Partial<A>,
+        table: &TypeTable<A>,
+        input: &[u8],
+    ) -> CellAdvance
+    {
+        let at = self.offset + 4;
+        match take_number(partial, begun, at, at + u64::from(len), start, input) {
+            Number::More => {
+                self.under = Under::Counted(len);
+                CellAdvance::More { used: input.len() }
+            }
+            Number::Overrun => self.refuse(at, Reason::Overrun),
+            Number::Got { used, number } => {
+                if number > i32::MAX as u32 {
+                    return self.refuse(at, Reason::BadCount);
+                }
+                let at = self.offset;
+                let item = self.enter_counted(value, len, number, table);
+                CellAdvance::Item { at, used, item }
+            }
+        }
+    }
+
+    /// Goes on inside a list, a set or a map of this many bytes, which has this many elements or pairs.
+    pub(crate) fn enter_counted(
+        &mut self,
+        value: DueValue,
+        len: u32,
+        count: u32,
+        table: &TypeTable<A>,
+    ) -> CellOutline
+    {
+        // The proof reads that the number of nodes fits in 32 bits.
+        let _nodes = table.len();
+        let level = self.open_values.len();
+        let stop = self.offset + 4 + u64::from(len);
+        let (order, other) = inner_order(value, table);
+        self.pass(8, table);
+        self.open_values.push(OpenValue {
+            order,
+            node: value.node + 1,
+            other,
+            left: count,
+            items: count,
+            stop,
+        });
+        CellOutline::Enter {
+            level,
+            kind: value.kind,
+            items: count,
+        }
+    }
+
+    /// Goes on inside a tuple or a user-defined type of this many bytes.
+    pub(crate) fn enter_fields(
+        &mut self,
+        value: DueValue,
+        len: u32,
+        table: &TypeTable<A>,
+    ) -> CellOutline
+    {
+        // The proof reads that the number of nodes fits in 32 bits.
+        let _nodes = table.len();
+        let level = self.open_values.len();
+        let stop = self.offset + 4 + u64::from(len);
+        let arity = u32::from(value.arity);
+        self.pass(4, table);
+        self.open_values.push(OpenValue {
+            order: Order::Fields,
+            node: value.node + 1,
+            other: 0,
+            left: arity,
+            items: 0,
+            stop,
+        });
+        CellOutline::Enter {
+            level,
+            kind: value.kind,
+            items: arity,
+        }
+    }
+
+    /// Takes the next bytes of the first part of a scalar of this many bytes, whose length is read.
+    fn advance_first(
+        &mut self,
+        begun: bool,
+        total: u32,
+        start: usize,
+        partial: &mut Partial<A>,
+        table: &TypeTable<A>,
+        input: &[u8],
+    ) -> CellAdvance
+    {
+        let at = self.offset + 4;
+        let size = self.limits.cell;
+        let Some(found) = gather(partial, begun, size, at, start, input) else {
+            self.under = Under::First(total);
+            return CellAdvance::More { used: input.len() };
+        };
+        let level = self.open_values.len();
+        self.pass(4 + u64::from(size), table);
+        self.next = NextInCell::Part {
+            offset: size,
+            total,
+        };
+        CellAdvance::Item {
+            at,
+            used: found.used,
+            item: CellOutline::Part {
+                level,
+                offset: 0,
+                content: found.content,
+                last: false,
+            },
+        }
+    }
+
+    /// Takes the next bytes of a later part of a scalar of `total` bytes, from this offset in it.
+    fn advance_part(
+        &mut self,
+        begun: bool,
+        offset: u32,
+        total: u32,
+        partial: &mut Partial<A>,
+        table: &TypeTable<A>,
+        input: &[u8],
+    ) -> CellAdvance
+    {
+        let left = total - offset;
+        let size = self.limits.cell.min(left);
+        let Some(found) = gather(partial, begun, size, self.offset, 0, input) else {
+            self.under = Under::Later;
+            return CellAdvance::More { used: input.len() };
+        };
+        let at = self.offset;
+        let last = left <= self.limits.cell;
+        self.offset += u64::from(size);
+        self.under = Under::Nothing;
+        self.next = next_part(last, offset + size, total);
+        CellAdvance::Item {
+            at,
+            used: found.used,
+            item: CellOutline::Part {
+                level: self.open_values.len(),
+                offset,
+                content: found.content,
+                last,
+            },
+        }
+    }
+
+    /// Goes on after the length of a value, which ends after this many bytes of the input.
+    fn settle(
+        &mut self,
+        value: DueValue,
+        len: u32,
+        start: usize,
+        partial: &mut Partial<A>,
+        table: &TypeTable<A>,
+        input: &[u8],
+    ) -> CellAdvance
+    {
+        let at = self.offset;
+        let level = self.open_values.len();
+        match size_up(&self.limits, value.kind, value.stop - at, len) {
+            Sized::Null => self.pass_length(CellOutline::Null { level }, start, table),
+            Sized::Empty => self.pass_length(CellOutline::Empty { level }, start, table),
+            Sized::Scalar(len) => {
+                self.advance_scalar(false, value, len, start, partial, table, input)
+            }
+            Sized::Parts(len) => self.advance_first(false, len, start, partial, table, input),
+            Sized::Counted(len) => {
+                self.advance_count(false, value, len, start, partial, table, input)
+            }
+            Sized::Fields(len) => {
+                let item = self.enter_fields(value, len, table);
+                CellAdvance::Item {
+                    at,
+                    used: start,
+                    item,
+                }
+            }
+            Sized::Refused(why) => self.refuse(at, why),
+        }
+    }
+
+    /// Goes on after a value that has a length alone.
+    #[inline]
+    fn pass_length(&mut self, item: CellOutline, used: usize, table: &TypeTable<A>) -> CellAdvance
+    {
+        let at = self.offset;
+        self.pass(4, table);
+        CellAdvance::Item { at, used, item }
+    }
+
+    /// Takes the next bytes of a value whose length is not read.
+    fn advance_length(
+        &mut self,
+        begun: bool,
+        partial: &mut Partial<A>,
+        table: &TypeTable<A>,
+        input: &[u8],
+    ) -> CellAdvance
+    {
+        let value = self.value(table);
+        match take_number(partial, begun, self.offset, value.stop, 0, input) {
+            Number::More => {
+                self.under = Under::Length;
+                CellAdvance::More { used: input.len() }
+            }
+            Number::Overrun => self.refuse(self.offset, Reason::Overrun),
+            Number::Got { used, number } => {
+                self.settle(value, number, used, partial, table, input)
+            }
+        }
+    }
+
+    /// Ends the innermost value.
+    fn close(&mut self, value: OpenValue) -> CellAdvance
+    {
+        let at = self.offset;
+        if at < value.stop {
+            return self.refuse(at, Reason::ExtraInValue);
+        }
+        self.open_values.pop();
+        CellAdvance::Item {
+            at,
+            used: 0,
+            item: CellOutline::Leave {
+                level: self.open_values.len(),
+                items: value.items,
+            },
+        }
+    }
+
+    /// Ends the cell by a refusal of what begins at this offset.
+    fn refuse(&mut self, at: u64, why: Reason) -> CellAdvance
+    {
+        self.end();
+        CellAdvance::Refused(Refusal { at, why })
+    }
+}
+
+/// What is read after a part.
+fn next_part(last: bool, offset: u32, total: u32) -> NextInCell
+{
+    if last {
+        NextInCell::Items
+    } else {
+        NextInCell::Part { offset, total }
+    }
+}
+
+/// How the items of a list, a set or a map follow one another, and the node of a map's second type.
+fn inner_order<A: Allocator>(value: DueValue, table: &TypeTable<A>) -> (Order, u32)
+{
+    match value.kind {
+        Kind::Map => {
+            // The proof reads that the number of nodes fits in 32 bits.
+            let _nodes = table.len();
+            let key = value.node + 1;
+            (Order::Keys, key + table.node(key).unwrap().span)
+        }
+        _ => (Order::Elements, 0),
+    }
+}

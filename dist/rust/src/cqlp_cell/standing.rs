@@ -1,0 +1,198 @@
+// Written by dist/erase from crates/cqlp_cell/src/standing.rt.
+//! What is read next of a cell.
+
+use crate::cqlp_cell::open_values::{OpenValue, OpenValues, Order};
+use crate::cqlp_kind::Kind;
+use crate::cqlp_note::{Limits};
+use crate::cqlp_type::TypeTable;
+use crate::kit_std::alloc::Allocator;
+
+/// What is read next.
+#[derive(Clone, Copy)]
+pub(crate) enum NextInCell {
+    /// No cell is under way.
+    Nothing,
+    /// The cell, of the type at this node, or of none.
+    Cell(Option<u32>),
+    /// What the open values say.
+    Items,
+    /// The bytes of a long scalar from this offset on, of this many in all.
+    Part { offset: u32, total: u32 },
+}
+
+/// How much of it has come.
+#[derive(Clone, Copy)]
+pub(crate) enum Under {
+    /// Nothing.
+    Nothing,
+    /// Some of a value's length.
+    Length,
+    /// The length of a scalar, and some of its content.
+    Scalar(u32),
+    /// The length of a list, a set or a map, and some of its count.
+    Counted(u32),
+    /// The length of a long scalar, and some of its first part.
+    First(u32),
+    /// Some of a later part.
+    Later,
+}
+
+/// What comes next, where nothing of it has come.
+#[derive(Clone, Copy)]
+pub(crate) enum CellDue {
+    Nothing,
+    Value,
+    Close(OpenValue),
+    Part { offset: u32, total: u32 },
+}
+
+/// A value that is read next: its type, and where the value around it ends.
+#[derive(Clone, Copy)]
+pub(crate) struct DueValue {
+    pub kind: Kind,
+    pub arity: u16,
+    pub node: u32,
+    pub stop: u64,
+}
+
+/// Where the reading of a cell stands.
+pub(crate) struct CellStanding<A: Allocator> {
+    pub limits: Limits,
+    /// The offset of what is read next.
+    pub offset: u64,
+    /// Where the cell's container ends.
+    pub stop: u64,
+    pub next: NextInCell,
+    pub under: Under,
+    pub open_values: OpenValues<A>,
+}
+
+impl<A: Allocator> CellStanding<A> {
+    /// What comes next, where nothing of it has come.
+    #[inline]
+    pub(crate) fn due(&self) -> CellDue
+    {
+        match self.next {
+            NextInCell::Nothing => CellDue::Nothing,
+            NextInCell::Cell(_) => CellDue::Value,
+            NextInCell::Part { offset, total } => CellDue::Part { offset, total },
+            NextInCell::Items => match self.open_values.last() {
+                None => CellDue::Nothing,
+                Some(value) => {
+                    if value.is_over(self.offset) {
+                        CellDue::Close(value)
+                    } else {
+                        CellDue::Value
+                    }
+                }
+            },
+        }
+    }
+
+    /// The value that is read next.
+    #[inline]
+    pub(crate) fn value(&self, table: &TypeTable<A>) -> DueValue
+    {
+        match self.next {
+            NextInCell::Cell(node) => cell_value(table, node, self.stop),
+            NextInCell::Items => {
+                let value = self.open_values.last().unwrap();
+                value_at(table, value.node, value.stop)
+            }
+            NextInCell::Nothing => unreachable!(),
+            NextInCell::Part { .. } => unreachable!(),
+        }
+    }
+
+    /// Goes on after this many bytes of the value that was read, or of what is known of it.
+    #[inline(always)]
+    pub(crate) fn pass(&mut self, size: u64, table: &TypeTable<A>)
+    {
+        if let NextInCell::Items = self.next {
+            self.open_values.pass_item(table);
+        }
+        self.offset += size;
+        self.next = NextInCell::Items;
+        self.under = Under::Nothing;
+    }
+
+    /// Ends the cell.
+    pub(crate) fn end(&mut self)
+    {
+        self.next = NextInCell::Nothing;
+        self.under = Under::Nothing;
+        self.open_values.clear();
+    }
+}
+
+/// The value that the cell is.
+#[inline]
+fn cell_value<A: Allocator>(table: &TypeTable<A>, node: Option<u32>, stop: u64) -> DueValue
+{
+    match node {
+        Some(node) => value_at(table, node, stop),
+        None => DueValue {
+            kind: Kind::Raw,
+            arity: 0,
+            node: 0,
+            stop,
+        },
+    }
+}
+
+/// A value of the type at this node, in a value that ends there.
+#[inline]
+fn value_at<A: Allocator>(table: &TypeTable<A>, node: u32, stop: u64) -> DueValue
+{
+    let head = table.node(node).unwrap();
+    DueValue {
+        kind: head.kind,
+        arity: head.arity,
+        node,
+        stop,
+    }
+}
+
+impl OpenValue {
+    /// Whether no further item begins at this offset.
+    #[inline]
+    pub(crate) fn is_over(self, offset: u64) -> bool
+    {
+        match self.order {
+            Order::Elements | Order::Keys => self.left == 0,
+            Order::Values => false,
+            Order::Fields => self.left == 0 || self.stop <= offset,
+        }
+    }
+
+    /// Goes on after its next item.
+    #[inline(always)]
+    pub(crate) fn pass_item<A: Allocator>(&mut self, table: &TypeTable<A>)
+    {
+        // The proof reads that the number of nodes fits in 32 bits.
+        let _nodes = table.len();
+        match self.order {
+            Order::Elements => self.left -= 1,
+            Order::Keys => {
+                self.turn(Order::Values);
+                self.left -= 1;
+            }
+            Order::Values => self.turn(Order::Keys),
+            Order::Fields => {
+                self.node += table.node(self.node).unwrap().span;
+                self.left -= 1;
+                self.items += 1;
+            }
+        }
+    }
+
+    /// Goes on with the other of a map's types.
+    #[inline(always)]
+    fn turn(&mut self, order: Order)
+    {
+        let node = self.node;
+        self.order = order;
+        self.node = self.other;
+        self.other = node;
+    }
+}

@@ -1,0 +1,341 @@
+// Written by dist/erase from crates/cqlp_decode/src/decoder.rt.
+//! The decoder of a stream of frames.
+
+use crate::kit_std::prelude::{Clone};
+use crate::cqlp_decode::advance::{EventAdvance, EventOutline, ScalarCell};
+use crate::cqlp_decode::field_loop::take_fields;
+use crate::cqlp_decode::given::{GiveError, GiveReason, GivenUse};
+use crate::cqlp_decode::item_loop::take_items;
+use crate::cqlp_decode::page_loop::take_cells;
+use crate::cqlp_decode::parts::Parts;
+use crate::cqlp_decode::standing::StreamStanding;
+use crate::cqlp_decode::step::{Capacity, FaultAfter, Held, Step};
+use crate::cqlp_cell::{CellItem, CellReader};
+use crate::cqlp_grammar::{Event, Finish, Sink};
+use crate::cqlp_note::{BadLimits, Field, Limits, NoMemory, Partial, Prim};
+use crate::cqlp_type::{TypeItem, TypeReader, TypeTable};
+use crate::kit_std::alloc::{Allocator, Global};
+
+error! {
+/// Why a decoder could not be made.
+#[derive(Clone, Copy, Debug, PartialEq, Eq)]
+pub enum NewError {
+    /// A limit is out of its range.
+    #[error(transparent)]
+    BadLimits(BadLimits),
+    #[error("no memory")]
+    NoMemory,
+}
+}
+
+/// Reads a stream of frames, one event per call, from pieces of any size. All its memory is taken when it is made, and is
+/// as large as its limits say for as long as it lives.
+pub struct Decoder<A: Allocator = Global> {
+    standing: StreamStanding,
+    parts: Parts<A>,
+}
+
+impl<A: Allocator + Clone> Decoder<A> {
+    /// A decoder at the start of a stream, with room for one content of the greatest length that the limits allow, for
+    /// the types of one metadata, for their nesting, and for that of a cell's values: four requests for memory, and the
+    /// only ones.
+    pub fn new(alloc: A, limits: Limits) -> Result<Self, NewError>
+    {
+        if let Err(bad) = limits.check() {
+            return Err(NewError::BadLimits(bad));
+        }
+        match Self::with_room(alloc, limits) {
+            Ok(decoder) => Ok(decoder),
+            Err(NoMemory) => Err(NewError::NoMemory),
+        }
+    }
+
+    fn with_room(alloc: A, limits: Limits) -> Result<Self, NoMemory>
+    {
+        let partial = Partial::new(alloc.clone()?, limits.text.max(limits.cell))?;
+        let table = TypeTable::new(alloc.clone()?, limits.entries)?;
+        let types = TypeReader::new(alloc.clone()?, &limits)?;
+        let cells = CellReader::new(alloc, &limits)?;
+        let standing = StreamStanding::new(limits);
+        let parts = Parts {
+            partial,
+            types,
+            cells,
+            table,
+            given: None,
+        };
+        Ok(Decoder { standing, parts })
+    }
+}
+
+impl<A: Allocator> Decoder<A> {
+    /// The next event that the input leads to. The caller hands in the bytes after those that were used, and goes on
+    /// until more are wanted. A refusal is final: each later call says it again.
+    pub fn next<'a>(&'a mut self, input: &'a [u8]) -> Step<'a>
+    {
+        if let Some(taken) = self.take_scalar(input) {
+            return Step::Event {
+                at: taken.at,
+                used: taken.used,
+                event: Event::Leaf {
+                    row: taken.row,
+                    column: taken.column,
+                    level: 0,
+                    scalar: taken.scalar,
+                },
+            };
+        }
+        match self.advance(input) {
+            EventAdvance::More { used } => Step::More { used },
+            EventAdvance::Refused(refusal) => Step::Refused(refusal),
+            EventAdvance::Event { at, used, what } => Step::Event {
+                at,
+                used,
+                event: self.lend(input, what),
+            },
+        }
+    }
+
+    /// Gives types for a page whose result has the flag No_metadata (0x04, section 4.2.5.2 of
+    /// `native_protocol_v4.spec`): they wait for the first page that has it and as many columns as they are, type its
+    /// cells, and type no other page unless they are given again. The table that was held before comes back. A table
+    /// that is not taken comes back with the first reason against it, and nothing changes.
+    pub fn give(&mut self, table: TypeTable<A>) -> Result<Option<TypeTable<A>>, GiveError<A>>
+    {
+        if let Some(why) = self.reason(&table) {
+            return Err(GiveError { why, table });
+        }
+        self.standing.given_use = GivenUse::Waiting;
+        Ok(self.parts.given.replace(table))
+    }
+
+    /// Takes back the table that was given, if one is held and not in use. After a refusal none is in use.
+    pub fn take_given(&mut self) -> Option<TypeTable<A>>
+    {
+        if self.is_in_use() {
+            return None;
+        }
+        self.parts.given.take()
+    }
+
+    /// How the stream ends, if it ends after the bytes that were used.
+    pub fn finish(&self) -> Finish
+    {
+        self.standing.finish(&self.parts)
+    }
+
+    /// What is held of the stream: at most as many bytes as the greater of the limits on a text and on a cell, twice as
+    /// many type options as their limit, since two tables are held, and as many levels as the limit on nesting.
+    pub fn held(&self) -> Held
+    {
+        Held {
+            bytes: self.parts.partial.held(),
+            entries: self.parts.table.len() + self.given_len(),
+            levels: self.parts.types.held() + self.parts.cells.levels(),
+        }
+    }
+
+    /// The places that the decoder has memory for. The limits alone say how many, at every moment: no length, count or
+    /// type of the stream does.
+    pub fn capacity(&self) -> Capacity
+    {
+        Capacity {
+            bytes: self.parts.partial.capacity(),
+            entries: self.parts.table.capacity(),
+            open_types: self.parts.types.capacity(),
+            open_values: self.parts.cells.capacity(),
+        }
+    }
+
+    /// The types of the metadata begun last: those handed out since the field MetaFlags was.
+    pub fn table(&self) -> &TypeTable<A>
+    {
+        &self.parts.table
+    }
+
+    /// How many type options the table has that the caller gave.
+    fn given_len(&self) -> u32
+    {
+        match &self.parts.given {
+            Some(table) => table.len(),
+            None => 0,
+        }
+    }
+
+    /// Why a table is not taken now, if so.
+    fn reason(&self, table: &TypeTable<A>) -> Option<GiveReason>
+    {
+        if self.standing.refusal.is_some() {
+            Some(GiveReason::Ended)
+        } else if !self.standing.limits.types {
+            Some(GiveReason::Off)
+        } else if self.is_in_use() {
+            Some(GiveReason::Busy)
+        } else if !table.whole() {
+            Some(GiveReason::Open)
+        } else if table.len() > self.standing.limits.entries {
+            Some(GiveReason::TooMany)
+        } else if table.depth() > self.standing.limits.depth {
+            Some(GiveReason::TooDeep)
+        } else {
+            None
+        }
+    }
+
+    /// Whether a given table types the frame under way.
+    fn is_in_use(&self) -> bool
+    {
+        self.parts.given.is_some() && matches!(self.standing.given_use, GivenUse::InUse)
+    }
+
+    /// Takes the cell that is due, where it is a scalar and all its bytes lie in the input.
+    #[inline]
+    fn take_scalar<'a>(&mut self, input: &'a [u8]) -> Option<ScalarCell<'a>>
+    {
+        self.standing.take_scalar(&self.parts, input)
+    }
+
+    /// Hands events of the input to the sink that lie whole in it, as far as the loops over fields, over the cells of a page
+    /// and over their items take them, and answers how many bytes of the input they take. It may stop before any of them:
+    /// the next call is `next`, which decides what is left. At a sink's fault the event at which it failed was taken too.
+    /// After a refusal nothing is handed out.
+    #[inline]
+    pub fn hand_whole<S: Sink>(&mut self, input: &[u8], sink: &mut S) -> Result<usize, FaultAfter>
+    {
+        let used = match self.take_fields(input, sink) {
+            Ok(used) => used,
+            Err(fault) => return Err(fault),
+        };
+        let more = match self.take_cells(&input[used..], sink) {
+            Ok(more) => more,
+            Err(fault) => {
+                let used = used + fault.used;
+                return Err(FaultAfter { used });
+            }
+        };
+        Ok(used + more)
+    }
+
+    /// Hands headers, fields and ends of frames to the sink, as far as the loop over them takes them, and answers how
+    /// many bytes of the input they take.
+    #[inline]
+    fn take_fields<S: Sink>(&mut self, input: &[u8], sink: &mut S) -> Result<usize, FaultAfter>
+    {
+        if self.standing.is_in_page() {
+            return Ok(0);
+        }
+        take_fields(&mut self.standing, &mut self.parts, input, sink)
+    }
+
+    /// Hands cells to the sink, as far as the loops over a page and over the items of its cells take them, and answers how
+    /// many bytes of the input they take.
+    #[inline]
+    fn take_cells<S: Sink>(&mut self, input: &[u8], sink: &mut S) -> Result<usize, FaultAfter>
+    {
+        if !self.standing.is_in_page() {
+            return Ok(0);
+        }
+        let used = match take_cells(&mut self.standing, &self.parts, input, sink) {
+            Ok(used) => used,
+            Err(fault) => return Err(fault),
+        };
+        let more = match take_items(&mut self.standing, &mut self.parts, &input[used..], sink) {
+            Ok(more) => more,
+            Err(fault) => {
+                let used = used + fault.used;
+                return Err(FaultAfter { used });
+            }
+        };
+        Ok(used + more)
+    }
+
+    /// The work of a call, with nothing borrowed in its result.
+    fn advance(&mut self, input: &[u8]) -> EventAdvance
+    {
+        self.standing.advance(&mut self.parts, input)
+    }
+
+    /// The event that `advance` made of this input.
+    fn lend<'a>(&'a self, input: &'a [u8], what: EventOutline) -> Event<'a>
+    {
+        match what {
+            EventOutline::Frame(header) => Event::Frame(header),
+            EventOutline::Holds(field, item) => event_with(
+                field,
+                self.parts.partial.lend(input, item),
+            ),
+            EventOutline::Option(part) => match part.lend(&self.parts.partial, input) {
+                TypeItem::Node(kind) => Event::TypeNode(kind),
+                TypeItem::Text(field, text) => Event::Text { field, text },
+                TypeItem::Count(count) => Event::Count {
+                    field: Field::Fields,
+                    count,
+                },
+            },
+            EventOutline::Cell(row, column, part) => event_in(
+                row,
+                column,
+                part.lend(&self.parts.partial, input),
+            ),
+            EventOutline::End(extra) => Event::End { extra },
+        }
+    }
+}
+
+/// The event that a cell of this row and this column holds this.
+fn event_in(row: u32, column: u32, part: CellItem<'_>) -> Event<'_>
+{
+    match part {
+        CellItem::Leaf { level, scalar } => Event::Leaf {
+            row,
+            column,
+            level,
+            scalar,
+        },
+        CellItem::Null { level } => Event::Null { row, column, level },
+        CellItem::Empty { level } => Event::Empty { row, column, level },
+        CellItem::Enter { level, kind, items } => Event::Enter {
+            row,
+            column,
+            level,
+            kind,
+            items,
+        },
+        CellItem::Leave { level, items } => Event::Leave { level, items },
+        CellItem::Part {
+            level,
+            offset,
+            bytes,
+            last,
+        } => Event::Part {
+            row,
+            column,
+            level,
+            offset,
+            bytes,
+            last,
+        },
+    }
+}
+
+/// The event that a field holds a value.
+#[inline(always)]
+pub(crate) fn event_with(field: Field, value: Prim<'_>) -> Event<'_>
+{
+    match value {
+        Prim::Byte(value) => Event::Byte { field, value },
+        Prim::Short(value) => Event::Short { field, value },
+        Prim::Int(value) => Event::Int { field, value },
+        Prim::Long(value) => Event::Long { field, value },
+        Prim::Uuid(value) => Event::Uuid { field, value },
+        Prim::Count(count) => Event::Count { field, count },
+        Prim::Text(text) => Event::Text { field, text },
+        Prim::Bytes(bytes) => Event::Bytes { field, bytes },
+        Prim::Bound(value) => Event::Bound { field, value },
+        Prim::Inet(address, port) => Event::Inet {
+            field,
+            address,
+            port,
+        },
+    }
+}

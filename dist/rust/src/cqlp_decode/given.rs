@@ -1,0 +1,64 @@
+// Written by dist/erase from crates/cqlp_decode/src/given.rt.
+//! Tables of types that the caller gives, for pages whose metadata has none.
+
+use crate::cqlp_type::TypeTable;
+use crate::kit_std::alloc::{Allocator, Global};
+
+/// What a table that the caller gave is for.
+#[derive(Clone, Copy, Debug, PartialEq, Eq)]
+pub enum GivenUse {
+    /// It waits for a page that it fits.
+    Waiting,
+    /// It types the page of the frame under way.
+    InUse,
+    /// The frame whose page it typed has ended.
+    Used,
+}
+
+error! {
+/// Why a table was not taken.
+#[derive(Clone, Copy, Debug, PartialEq, Eq)]
+pub enum GiveReason {
+    /// The stream was refused.
+    #[error("the stream was refused")]
+    Ended,
+    /// The limits say that cells are not read by their types.
+    #[error("cells are not read by their types")]
+    Off,
+    /// The table that was given before types the frame under way.
+    #[error("a given table is in use")]
+    Busy,
+    /// A type of the table is under way.
+    #[error("a type of the table is not whole")]
+    Open,
+    /// The table has more types than the limit on `entries`.
+    #[error("the table has more types than the limit")]
+    TooMany,
+    /// The types are nested deeper than the limit on `depth`.
+    #[error("the types are nested deeper than the limit")]
+    TooDeep,
+}
+}
+
+/// A table that was not taken, and why.
+pub struct GiveError<A: Allocator = Global> {
+    pub why: GiveReason,
+    pub table: TypeTable<A>,
+}
+
+impl GivenUse {
+    /// What the table is for where a page begins, which it types or not.
+    pub fn with_page(self, served: bool) -> Self
+    {
+        if served { GivenUse::InUse } else { self }
+    }
+
+    /// What the table is for after the end of a frame.
+    pub fn ended(self) -> Self
+    {
+        match self {
+            GivenUse::InUse => GivenUse::Used,
+            GivenUse::Waiting | GivenUse::Used => self,
+        }
+    }
+}

@@ -1,0 +1,362 @@
+// Written by dist/erase from crates/cqlp_decode/src/item_loop.rt.
+//! The items of cells, handed straight to a sink.
+//!
+//! The loop takes what has no content, and scalars, while each lies whole in the input. It leaves all else to
+//! `Decoder::next`, which alone decides it: a cut, a part, and each refusal. It may, since it is proved to hand out
+//! what the reading of the bytes says, and to stand where that does; and it reads by the functions by which `next`
+//! does, so that no rule stands here alone.
+
+use crate::cqlp_decode::page::{CellCursor, page_table};
+use crate::cqlp_decode::page_loop::Handed;
+use crate::cqlp_decode::parts::Parts;
+use crate::cqlp_decode::standing::{StreamStage, StreamStanding};
+use crate::cqlp_decode::step::FaultAfter;
+use crate::cqlp_cell::{BareItem, BarePart, DueItem, Level, front_scalar};
+use crate::cqlp_grammar::{Event, Sink, SinkFault};
+use crate::cqlp_kind::Kind;
+use crate::cqlp_note::Limits;
+use crate::kit_std::alloc::Allocator;
+
+/// A part of a cell that has no content, and whether the cell is over.
+#[derive(Clone, Copy, Debug, PartialEq, Eq)]
+pub struct PartTaken {
+    pub item: BareItem,
+    pub over: bool,
+}
+
+/// How many bytes the items take that were handed out, and whether the sink failed at the last of them.
+#[derive(Clone, Copy, Debug, PartialEq, Eq)]
+pub struct ItemsHanded {
+    pub used: usize,
+    pub failed: bool,
+}
+
+/// Hands the items of cells to the sink, as far as the loop takes them, and answers how many bytes of the input they
+/// take.
+pub(crate) fn take_items<S: Sink, A: Allocator>(
+    standing: &mut StreamStanding,
+    parts: &mut Parts<A>,
+    input: &[u8],
+    sink: &mut S,
+) -> Result<usize, FaultAfter>
+{
+    if parts.partial.held() > 0 || standing.refusal.is_some() {
+        return Ok(0);
+    }
+    let Some(first) = standing.enter_cell(parts) else {
+        return Ok(0);
+    };
+    let mut page = first;
+    let mut used = 0;
+    loop {
+        let handed = standing.hand_items(parts, page, &input[used..], sink);
+        used += handed.used;
+        if handed.failed {
+            return Err(FaultAfter { used });
+        }
+        let Some(taken) = standing.take_part(parts, page, &input[used..]) else {
+            return Ok(used);
+        };
+        match hand_part(page, taken.item, sink) {
+            Ok(()) => used += taken.item.used,
+            Err(SinkFault) => {
+                let used = used + taken.item.used;
+                return Err(FaultAfter { used });
+            }
+        }
+        if taken.over {
+            let Some(following) = standing.enter_cell(parts) else {
+                return Ok(used);
+            };
+            page = following;
+        }
+    }
+}
+
+/// Hands the item at the front of the input to the sink, if it is a scalar and all its bytes are there.
+#[inline(always)]
+fn hand_leaf<S: Sink>(
+    limits: &Limits,
+    due: DueItem,
+    page: CellCursor,
+    input: &[u8],
+    sink: &mut S,
+) -> Handed
+{
+    // An arm for each kind, so that each has code of its own.
+    match due.kind {
+        Kind::Int => hand_kind(limits, Kind::Int, due, page, input, sink),
+        Kind::Bigint => hand_kind(limits, Kind::Bigint, due, page, input, sink),
+        Kind::Varchar => hand_kind(limits, Kind::Varchar, due, page, input, sink),
+        Kind::Boolean => hand_kind(limits, Kind::Boolean, due, page, input, sink),
+        Kind::Ascii => hand_kind(limits, Kind::Ascii, due, page, input, sink),
+        Kind::Blob => hand_kind(limits, Kind::Blob, due, page, input, sink),
+        Kind::Counter => hand_kind(limits, Kind::Counter, due, page, input, sink),
+        Kind::Custom => hand_kind(limits, Kind::Custom, due, page, input, sink),
+        Kind::Date => hand_kind(limits, Kind::Date, due, page, input, sink),
+        Kind::Decimal => hand_kind(limits, Kind::Decimal, due, page, input, sink),
+        Kind::Double => hand_kind(limits, Kind::Double, due, page, input, sink),
+        Kind::Float => hand_kind(limits, Kind::Float, due, page, input, sink),
+        Kind::Inet => hand_kind(limits, Kind::Inet, due, page, input, sink),
+        Kind::Raw => hand_kind(limits, Kind::Raw, due, page, input, sink),
+        Kind::Smallint => hand_kind(limits, Kind::Smallint, due, page, input, sink),
+        Kind::Time => hand_kind(limits, Kind::Time, due, page, input, sink),
+        Kind::Timestamp => hand_kind(limits, Kind::Timestamp, due, page, input, sink),
+        Kind::Timeuuid => hand_kind(limits, Kind::Timeuuid, due, page, input, sink),
+        Kind::Tinyint => hand_kind(limits, Kind::Tinyint, due, page, input, sink),
+        Kind::Uuid => hand_kind(limits, Kind::Uuid, due, page, input, sink),
+        Kind::Varint => hand_kind(limits, Kind::Varint, due, page, input, sink),
+        Kind::List | Kind::Map | Kind::Set | Kind::Udt | Kind::Tuple => Handed::Left,
+    }
+}
+
+/// The same of an item of this kind.
+#[inline(always)]
+fn hand_kind<S: Sink>(
+    limits: &Limits,
+    kind: Kind,
+    due: DueItem,
+    page: CellCursor,
+    input: &[u8],
+    sink: &mut S,
+) -> Handed
+{
+    let Some(front) = front_scalar(limits, kind, due.room, input) else {
+        return Handed::Left;
+    };
+    let CellCursor { row, column, .. } = page;
+    let DueItem { at, level, .. } = due;
+    let scalar = front.scalar;
+    let event = Event::Leaf {
+        row,
+        column,
+        level,
+        scalar,
+    };
+    match sink.take(at, &event) {
+        Ok(()) => Handed::Cell(front.used),
+        Err(SinkFault) => Handed::Fault(front.used),
+    }
+}
+
+/// Hands a part without a content to the sink.
+#[inline(always)]
+fn hand_part<S: Sink>(page: CellCursor, item: BareItem, sink: &mut S) -> Result<(), SinkFault>
+{
+    let CellCursor { row, column, .. } = page;
+    let at = item.at;
+    match item.part {
+        BarePart::Null { level } => sink.take(at, &Event::Null { row, column, level }),
+        BarePart::Empty { level } => sink.take(at, &Event::Empty { row, column, level }),
+        BarePart::Leave { level, items } => sink.take(at, &Event::Leave { level, items }),
+        BarePart::Enter { level, kind, items } => sink.take(
+            at,
+            &Event::Enter {
+                row,
+                column,
+                level,
+                kind,
+                items,
+            },
+        ),
+    }
+}
+
+impl StreamStanding {
+    /// The cell that is under way. One that is due begins, if its values have items.
+    #[inline(always)]
+    fn enter_cell<A: Allocator>(&mut self, parts: &mut Parts<A>) -> Option<CellCursor>
+    {
+        match self.stage {
+            StreamStage::InCell(page) => Some(page),
+            StreamStage::BeforeCell(page) => {
+                let table = page_table(page.columns, &parts.table, &parts.given);
+                if page.kind(table).is_scalar() {
+                    return None;
+                }
+                self.begin_cell(page, &mut parts.cells);
+                Some(page)
+            }
+            StreamStage::Header
+            | StreamStage::Field(_)
+            | StreamStage::BeforeType
+            | StreamStage::InType
+            | StreamStage::Extra => None,
+        }
+    }
+
+    /// Hands the items of the innermost value to the sink, as long as each is a scalar, all whose bytes lie in the input.
+    #[inline(always)]
+    fn hand_items<S: Sink, A: Allocator>(
+        &self,
+        parts: &mut Parts<A>,
+        page: CellCursor,
+        input: &[u8],
+        sink: &mut S,
+    ) -> ItemsHanded
+    {
+        if let Some(first) = parts.cells.level() {
+            let table = page_table(page.columns, &parts.table, &parts.given);
+            let mut level = first;
+            if level.is_list() {
+                if let Some(due) = level.due_item(table) {
+                    let handed = self.hand_list(parts, due.kind, &mut level, page, input, sink);
+                    parts.cells.set_level(level);
+                    return handed;
+                }
+            }
+        }
+        self.hand_scalars(parts, page, input, sink)
+    }
+
+    /// The same of any value, whose items may be of many kinds.
+    #[inline(always)]
+    fn hand_scalars<S: Sink, A: Allocator>(
+        &self,
+        parts: &mut Parts<A>,
+        page: CellCursor,
+        input: &[u8],
+        sink: &mut S,
+    ) -> ItemsHanded
+    {
+        let Some(first) = parts.cells.level() else {
+            return ItemsHanded {
+                used: 0,
+                failed: false,
+            };
+        };
+        let table = page_table(page.columns, &parts.table, &parts.given);
+        let limits = self.limits;
+        let mut level = first;
+        let mut used = 0;
+        'scalars: loop {
+            let Some(due) = level.due_item(table) else {
+                break 'scalars;
+            };
+            match hand_leaf(&limits, due, page, &input[used..], sink) {
+                Handed::Left => break 'scalars,
+                Handed::Cell(taken) => {
+                    level.pass(taken, table);
+                    used += taken;
+                }
+                Handed::Fault(taken) => {
+                    level.pass(taken, table);
+                    parts.cells.set_level(level);
+                    return ItemsHanded {
+                        used: used + taken,
+                        failed: true,
+                    };
+                }
+            }
+        }
+        parts.cells.set_level(level);
+        ItemsHanded {
+            used,
+            failed: false,
+        }
+    }
+
+    /// The same of a list or a set, whose items are of this kind.
+    #[inline(always)]
+    fn hand_list<S: Sink, A: Allocator>(
+        &self,
+        parts: &Parts<A>,
+        kind: Kind,
+        level: &mut Level,
+        page: CellCursor,
+        input: &[u8],
+        sink: &mut S,
+    ) -> ItemsHanded
+    {
+        // An arm for each kind, so that each has a loop of its own.
+        match kind {
+            Kind::Int => self.hand_elements(parts, Kind::Int, level, page, input, sink),
+            Kind::Bigint => self.hand_elements(parts, Kind::Bigint, level, page, input, sink),
+            Kind::Varchar => self.hand_elements(parts, Kind::Varchar, level, page, input, sink),
+            Kind::Boolean => self.hand_elements(parts, Kind::Boolean, level, page, input, sink),
+            Kind::Ascii => self.hand_elements(parts, Kind::Ascii, level, page, input, sink),
+            Kind::Blob => self.hand_elements(parts, Kind::Blob, level, page, input, sink),
+            Kind::Counter => self.hand_elements(parts, Kind::Counter, level, page, input, sink),
+            Kind::Custom => self.hand_elements(parts, Kind::Custom, level, page, input, sink),
+            Kind::Date => self.hand_elements(parts, Kind::Date, level, page, input, sink),
+            Kind::Decimal => self.hand_elements(parts, Kind::Decimal, level, page, input, sink),
+            Kind::Double => self.hand_elements(parts, Kind::Double, level, page, input, sink),
+            Kind::Float => self.hand_elements(parts, Kind::Float, level, page, input, sink),
+            Kind::Inet => self.hand_elements(parts, Kind::Inet, level, page, input, sink),
+            Kind::Raw => self.hand_elements(parts, Kind::Raw, level, page, input, sink),
+            Kind::Smallint => self.hand_elements(parts, Kind::Smallint, level, page, input, sink),
+            Kind::Time => self.hand_elements(parts, Kind::Time, level, page, input, sink),
+            Kind::Timestamp => self.hand_elements(parts, Kind::Timestamp, level, page, input, sink),
+            Kind::Timeuuid => self.hand_elements(parts, Kind::Timeuuid, level, page, input, sink),
+            Kind::Tinyint => self.hand_elements(parts, Kind::Tinyint, level, page, input, sink),
+            Kind::Uuid => self.hand_elements(parts, Kind::Uuid, level, page, input, sink),
+            Kind::Varint => self.hand_elements(parts, Kind::Varint, level, page, input, sink),
+            Kind::List | Kind::Map | Kind::Set | Kind::Udt | Kind::Tuple => ItemsHanded {
+                used: 0,
+                failed: false,
+            },
+        }
+    }
+
+    /// Hands the items of a list or a set of scalars of this kind to the sink, as long as all bytes of each lie in the input.
+    #[inline(always)]
+    fn hand_elements<S: Sink, A: Allocator>(
+        &self,
+        parts: &Parts<A>,
+        kind: Kind,
+        level: &mut Level,
+        page: CellCursor,
+        input: &[u8],
+        sink: &mut S,
+    ) -> ItemsHanded
+    {
+        let limits = self.limits;
+        let mut here = *level;
+        let mut used = 0;
+        'elements: loop {
+            let Some(due) = here.due_element(kind) else {
+                break 'elements;
+            };
+            match hand_kind(&limits, kind, due, page, &input[used..], sink) {
+                Handed::Left => break 'elements,
+                Handed::Cell(taken) => {
+                    here.pass_element(taken);
+                    used += taken;
+                }
+                Handed::Fault(taken) => {
+                    here.pass_element(taken);
+                    *level = here;
+                    return ItemsHanded {
+                        used: used + taken,
+                        failed: true,
+                    };
+                }
+            }
+        }
+        *level = here;
+        ItemsHanded {
+            used,
+            failed: false,
+        }
+    }
+
+    /// Takes what is next of the cell that is under way, where it has no content and all its bytes lie in the input.
+    #[inline(always)]
+    fn take_part<A: Allocator>(
+        &mut self,
+        parts: &mut Parts<A>,
+        page: CellCursor,
+        input: &[u8],
+    ) -> Option<PartTaken>
+    {
+        let table = page_table(page.columns, &parts.table, &parts.given);
+        let Some(item) = parts.cells.take_bare(table, input) else {
+            return None;
+        };
+        let over = parts.cells.done();
+        if over {
+            self.end_cell(page, &mut parts.cells, table);
+        }
+        Some(PartTaken { item, over })
+    }
+}

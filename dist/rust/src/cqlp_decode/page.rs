@@ -1,0 +1,171 @@
+// Written by dist/erase from crates/cqlp_decode/src/page.rt.
+//! The cells of a page, in their order.
+
+use crate::cqlp_decode::given::GivenUse;
+use crate::cqlp_grammar::{Role, has, number};
+use crate::cqlp_kind::Kind;
+use crate::cqlp_note::{Limits, Prim};
+use crate::cqlp_type::TypeTable;
+use crate::kit_std::alloc::Allocator;
+
+/// The types of a page's columns.
+#[derive(Clone, Copy, Debug, PartialEq, Eq)]
+pub enum Columns {
+    /// Those of the metadata.
+    Typed,
+    /// Those of the table that the caller gave.
+    Given,
+    /// This many columns, whose types are not known.
+    Raw(u32),
+}
+
+/// A cell of a page, and how many rows there are after its own.
+#[derive(Clone, Copy, Debug, PartialEq, Eq)]
+pub struct CellCursor {
+    pub columns: Columns,
+    pub row: u32,
+    pub column: u32,
+    /// Where the type of the column stands in the table, if that is known.
+    pub index: u32,
+    pub left: u32,
+}
+
+impl Columns {
+    fn are_none<A: Allocator>(self, table: &TypeTable<A>) -> bool
+    {
+        match self {
+            Columns::Typed | Columns::Given => table.is_empty(),
+            Columns::Raw(columns) => columns == 0,
+        }
+    }
+}
+
+impl CellCursor {
+    /// The first cell of this many rows, if there is one.
+    pub fn first<A: Allocator>(columns: Columns, rows: u32, table: &TypeTable<A>) -> Option<Self>
+    {
+        if rows == 0 || columns.are_none(table) {
+            return None;
+        }
+        Some(CellCursor {
+            columns,
+            row: 0,
+            column: 0,
+            index: 0,
+            left: rows - 1,
+        })
+    }
+
+    /// The node of the column's type, if that is known.
+    pub fn node(&self) -> Option<u32>
+    {
+        match self.columns {
+            Columns::Typed | Columns::Given => Some(self.index),
+            Columns::Raw(_) => None,
+        }
+    }
+
+    /// The kind of the column's type.
+    pub(crate) fn kind<A: Allocator>(&self, table: &TypeTable<A>) -> Kind
+    {
+        match self.columns {
+            Columns::Typed | Columns::Given => table.node(self.index).unwrap().kind,
+            Columns::Raw(_) => Kind::Raw,
+        }
+    }
+
+    /// The cell after this one, if there is one.
+    pub(crate) fn next<A: Allocator>(self, table: &TypeTable<A>) -> Option<Self>
+    {
+        if let Some(index) = self.next_column(table) {
+            return Some(CellCursor {
+                column: self.column + 1,
+                index,
+                ..self
+            });
+        }
+        if self.left == 0 {
+            return None;
+        }
+        Some(CellCursor {
+            row: self.row + 1,
+            column: 0,
+            index: 0,
+            left: self.left - 1,
+            ..self
+        })
+    }
+
+    /// Where the type of the next column stands, if this row has one.
+    fn next_column<A: Allocator>(&self, table: &TypeTable<A>) -> Option<u32>
+    {
+        match self.columns {
+            Columns::Typed | Columns::Given => {
+                let end = table.len();
+                let index = self.index + table.node(self.index).unwrap().span;
+                (index < end).then_some(index)
+            }
+            Columns::Raw(columns) => (self.column + 1 < columns).then_some(0),
+        }
+    }
+}
+
+/// The table that types the columns of a page: that of the metadata, or the one that was given.
+pub fn page_table<'a, A: Allocator>(
+    columns: Columns,
+    table: &'a TypeTable<A>,
+    given: &'a Option<TypeTable<A>>,
+) -> &'a TypeTable<A>
+{
+    match (columns, given) {
+        (Columns::Given, Some(given)) => given,
+        _ => table,
+    }
+}
+
+/// Whether a given table types the page that begins after a field of this role: it waits, the metadata has no types,
+/// and as many types stand in it as the page has columns.
+pub fn serves<A: Allocator>(role: Role, given: &Option<TypeTable<A>>, given_use: GivenUse) -> bool
+{
+    match (role, given, given_use) {
+        (Role::PageRows { flags, columns }, Some(table), GivenUse::Waiting) => {
+            has(flags, 0x04) && has_types(table, columns)
+        }
+        _ => false,
+    }
+}
+
+/// Whether this many types stand side by side in a table.
+fn has_types<A: Allocator>(table: &TypeTable<A>, count: u32) -> bool
+{
+    table.roots() == count
+}
+
+/// The page that begins after a field of this role that has this value, if it has a cell. A given table types it where
+/// it was found to serve.
+pub fn find_page<A: Allocator>(
+    limits: &Limits,
+    role: Role,
+    value: Prim<'_>,
+    table: &TypeTable<A>,
+    given: &Option<TypeTable<A>>,
+    served: bool,
+) -> Option<CellCursor>
+{
+    let Role::PageRows { flags, columns } = role else {
+        return None;
+    };
+    let columns = columns_of(limits, flags, columns, served);
+    CellCursor::first(columns, number(value), page_table(columns, table, given))
+}
+
+/// The types of this many columns, whose metadata has these flags.
+fn columns_of(limits: &Limits, flags: u32, columns: u32, served: bool) -> Columns
+{
+    match (limits.types, served, has(flags, 0x04)) {
+        (true, true, _) => Columns::Given,
+        (true, false, false) => Columns::Typed,
+        (true, false, true) => Columns::Raw(columns),
+        (false, _, _) => Columns::Raw(columns),
+    }
+}

@@ -1,0 +1,194 @@
+// Written by dist/erase from crates/cqlp_decode/src/page_loop.rt.
+//! The cells of a page, handed straight to a sink.
+//!
+//! The loop takes nulls, empty values and scalars, while each lies whole in the input and a cell of the page follows.
+//! It leaves all else to `Decoder::next`, which alone decides it: a page's last cell, a value with items, a cut, a
+//! part, and each refusal. It may, since it is proved to hand out what the reading of the bytes says, and to stand
+//! where that does; and it reads a scalar by the very function by which `next` does, so that no rule stands here alone.
+
+use crate::cqlp_decode::page::{CellCursor, page_table};
+use crate::cqlp_decode::parts::Parts;
+use crate::cqlp_decode::standing::{StreamStage, StreamStanding};
+use crate::cqlp_decode::step::FaultAfter;
+use crate::cqlp_cell::front_scalar;
+use crate::cqlp_grammar::{Event, Sink, SinkFault};
+use crate::cqlp_kind::Kind;
+use crate::cqlp_kind::content::first;
+use crate::cqlp_note::Limits;
+use crate::kit_std::alloc::Allocator;
+
+/// What became of the cell that is due.
+#[derive(Clone, Copy, Debug, PartialEq, Eq)]
+pub enum Handed {
+    /// Nothing: it is left.
+    Left,
+    /// It was handed out, and takes this many bytes.
+    Cell(usize),
+    /// The same, but the sink failed.
+    Fault(usize),
+}
+
+/// A value without a content.
+#[derive(Clone, Copy, Debug, PartialEq, Eq)]
+pub enum Bare {
+    Null,
+    Empty,
+}
+
+/// Hands the cells that are due to the sink, as far as the loop takes them, and answers how many bytes of the input
+/// they take.
+#[inline(never)]
+pub(crate) fn take_cells<S: Sink, A: Allocator>(
+    standing: &mut StreamStanding,
+    parts: &Parts<A>,
+    input: &[u8],
+    sink: &mut S,
+) -> Result<usize, FaultAfter>
+{
+    let StreamStage::BeforeCell(due) = standing.stage else {
+        return Ok(0);
+    };
+    if parts.partial.held() > 0 {
+        return Ok(0);
+    }
+    if let Some(_) = standing.refusal {
+        return Ok(0);
+    }
+    let limits = standing.limits;
+    let stop = standing.stop;
+    let table = page_table(due.columns, &parts.table, &parts.given);
+    let mut page = due;
+    let mut offset = standing.offset;
+    let mut used = 0;
+    'cells: loop {
+        let Some(following) = page.next(table) else {
+            break 'cells;
+        };
+        let kind = page.kind(table);
+        let room = stop - offset;
+        match hand_cell(&limits, kind, room, page, offset, &input[used..], sink) {
+            Handed::Left => break 'cells,
+            Handed::Cell(taken) => {
+                used += taken;
+                offset += taken as u64;
+                page = following;
+            }
+            Handed::Fault(taken) => {
+                standing.offset = offset + taken as u64;
+                standing.stage = StreamStage::BeforeCell(following);
+                let used = used + taken;
+                return Err(FaultAfter { used });
+            }
+        }
+    }
+    standing.offset = offset;
+    standing.stage = StreamStage::BeforeCell(page);
+    Ok(used)
+}
+
+/// Hands the cell at the front of the input to the sink, if the loop takes it. It begins at an offset, and has room for
+/// this many bytes.
+#[inline(always)]
+fn hand_cell<S: Sink>(
+    limits: &Limits,
+    kind: Kind,
+    room: u64,
+    page: CellCursor,
+    at: u64,
+    input: &[u8],
+    sink: &mut S,
+) -> Handed
+{
+    let CellCursor { row, column, .. } = page;
+    if room < 4 || input.len() < 4 {
+        return Handed::Left;
+    }
+    let level = 0;
+    match front_bare(room, input) {
+        Some(Bare::Null) => return hand(at, &Event::Null { row, column, level }, 4, sink),
+        Some(Bare::Empty) => return hand(at, &Event::Empty { row, column, level }, 4, sink),
+        None => {}
+    }
+    // An arm for each kind, so that each has code of its own.
+    match kind {
+        Kind::Int => hand_scalar(limits, Kind::Int, room, page, at, input, sink),
+        Kind::Bigint => hand_scalar(limits, Kind::Bigint, room, page, at, input, sink),
+        Kind::Varchar => hand_scalar(limits, Kind::Varchar, room, page, at, input, sink),
+        Kind::Boolean => hand_scalar(limits, Kind::Boolean, room, page, at, input, sink),
+        Kind::Ascii => hand_scalar(limits, Kind::Ascii, room, page, at, input, sink),
+        Kind::Blob => hand_scalar(limits, Kind::Blob, room, page, at, input, sink),
+        Kind::Counter => hand_scalar(limits, Kind::Counter, room, page, at, input, sink),
+        Kind::Custom => hand_scalar(limits, Kind::Custom, room, page, at, input, sink),
+        Kind::Date => hand_scalar(limits, Kind::Date, room, page, at, input, sink),
+        Kind::Decimal => hand_scalar(limits, Kind::Decimal, room, page, at, input, sink),
+        Kind::Double => hand_scalar(limits, Kind::Double, room, page, at, input, sink),
+        Kind::Float => hand_scalar(limits, Kind::Float, room, page, at, input, sink),
+        Kind::Inet => hand_scalar(limits, Kind::Inet, room, page, at, input, sink),
+        Kind::Raw => hand_scalar(limits, Kind::Raw, room, page, at, input, sink),
+        Kind::Smallint => hand_scalar(limits, Kind::Smallint, room, page, at, input, sink),
+        Kind::Time => hand_scalar(limits, Kind::Time, room, page, at, input, sink),
+        Kind::Timestamp => hand_scalar(limits, Kind::Timestamp, room, page, at, input, sink),
+        Kind::Timeuuid => hand_scalar(limits, Kind::Timeuuid, room, page, at, input, sink),
+        Kind::Tinyint => hand_scalar(limits, Kind::Tinyint, room, page, at, input, sink),
+        Kind::Uuid => hand_scalar(limits, Kind::Uuid, room, page, at, input, sink),
+        Kind::Varint => hand_scalar(limits, Kind::Varint, room, page, at, input, sink),
+        Kind::List | Kind::Map | Kind::Set | Kind::Udt | Kind::Tuple => Handed::Left,
+    }
+}
+
+/// Hands the scalar at the front of the input to the sink, if all its bytes are there.
+#[inline(always)]
+fn hand_scalar<S: Sink>(
+    limits: &Limits,
+    kind: Kind,
+    room: u64,
+    page: CellCursor,
+    at: u64,
+    input: &[u8],
+    sink: &mut S,
+) -> Handed
+{
+    let Some(front) = front_scalar(limits, kind, room, input) else {
+        return Handed::Left;
+    };
+    let CellCursor { row, column, .. } = page;
+    let scalar = front.scalar;
+    hand(
+        at,
+        &Event::Leaf {
+            row,
+            column,
+            level: 0,
+            scalar,
+        },
+        front.used,
+        sink,
+    )
+}
+
+/// Hands an event that takes this many bytes to the sink.
+#[inline(always)]
+fn hand<S: Sink>(at: u64, event: &Event<'_>, used: usize, sink: &mut S) -> Handed
+{
+    match sink.take(at, event) {
+        Ok(()) => Handed::Cell(used),
+        Err(SinkFault) => Handed::Fault(used),
+    }
+}
+
+/// The value without a content at the front of the input, if there is one.
+#[inline(always)]
+fn front_bare(room: u64, input: &[u8]) -> Option<Bare>
+{
+    if room < 4 || input.len() < 4 {
+        return None;
+    }
+    let len = u32::from_be_bytes(first(input));
+    if len > i32::MAX as u32 {
+        return Some(Bare::Null);
+    }
+    if len == 0 {
+        return Some(Bare::Empty);
+    }
+    None
+}

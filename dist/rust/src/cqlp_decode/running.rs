@@ -1,0 +1,85 @@
+// Written by dist/erase from crates/cqlp_decode/src/running.rt.
+//! A reader's stream, drained into a sink.
+
+use crate::cqlp_decode::decoder::Decoder;
+use crate::cqlp_decode::step::Step;
+use crate::cqlp_grammar::{Finish, Sink, SinkFault};
+use crate::cqlp_note::{IoFault, Source};
+use crate::kit_std::alloc::Allocator;
+
+/// How a run ends.
+#[derive(Clone, Copy, Debug, PartialEq, Eq)]
+pub enum Outcome {
+    /// At the end of the input, or at a refusal.
+    Finished(Finish),
+    /// The reader failed. The run may be called again.
+    ReadFault,
+    /// The sink failed. The rest of the piece is lost.
+    SinkFault,
+    /// As many reads were made as the run may make. The run may be called again.
+    Turns,
+}
+
+/// How draining a piece ends.
+#[derive(Clone, Copy, Debug, PartialEq, Eq)]
+enum Drained {
+    More,
+    Refused,
+    Fault,
+}
+
+/// Hands all events of a reader's bytes to the sink, from at most `turns` reads of up to 4,096 bytes, none of which is
+/// tried again. The events of bytes that the decoder was given before come first.
+pub fn run<R: Source, S: Sink, A: Allocator>(
+    decoder: &mut Decoder<A>,
+    reader: &mut R,
+    sink: &mut S,
+    turns: u64,
+) -> Outcome
+{
+    let mut buffer = [0; 4096];
+    match drain(decoder, &[], sink) {
+        Drained::More => {}
+        Drained::Refused => return Outcome::Finished(decoder.finish()),
+        Drained::Fault => return Outcome::SinkFault,
+    }
+    for turn in 0..turns {
+        let count = match reader.read(&mut buffer) {
+            Ok(count) => count,
+            Err(IoFault) => return Outcome::ReadFault,
+        };
+        if count == 0 {
+            return Outcome::Finished(decoder.finish());
+        }
+        match drain(decoder, &buffer[..count], sink) {
+            Drained::More => {}
+            Drained::Refused => return Outcome::Finished(decoder.finish()),
+            Drained::Fault => return Outcome::SinkFault,
+        }
+    }
+    Outcome::Turns
+}
+
+/// Hands all events of the input to the sink.
+fn drain<S: Sink, A: Allocator>(decoder: &mut Decoder<A>, input: &[u8], sink: &mut S) -> Drained
+{
+    let mut used = 0;
+    loop {
+        match decoder.hand_whole(&input[used..], sink) {
+            Ok(taken) => used += taken,
+            Err(_) => return Drained::Fault,
+        }
+        match decoder.next(&input[used..]) {
+            Step::More { .. } => return Drained::More,
+            Step::Refused(_) => return Drained::Refused,
+            Step::Event {
+                at,
+                used: taken,
+                event,
+            } => match sink.take(at, &event) {
+                Ok(()) => used += taken,
+                Err(SinkFault) => return Drained::Fault,
+            },
+        }
+    }
+}

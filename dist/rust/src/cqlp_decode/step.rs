@@ -1,0 +1,56 @@
+// Written by dist/erase from crates/cqlp_decode/src/step.rt.
+//! What calls of a decoder tell.
+
+use crate::cqlp_grammar::Event;
+use crate::cqlp_note::Refusal;
+
+/// What one call makes of the input.
+#[derive(Clone, Copy, Debug, PartialEq, Eq)]
+pub enum Step<'a> {
+    /// An event, whose field begins at this offset of the stream; an end's offset is the frame's end. This many bytes of
+    /// the input were used.
+    Event {
+        at: u64,
+        used: usize,
+        event: Event<'a>,
+    },
+    /// All of the input was used, and more is wanted.
+    More {
+        used: usize,
+    },
+    /// The stream is refused, here and at every later call; nothing was used.
+    Refused(Refusal),
+}
+
+error! {
+/// A sink failed at an event, which ends this many bytes after the start of the input.
+#[derive(Clone, Copy, Debug, PartialEq, Eq)]
+#[error("the sink gave up after {used} bytes")]
+pub struct FaultAfter {
+    pub used: usize,
+}
+}
+
+/// The places that a decoder has memory for, but for those of a table that the caller gave.
+#[derive(Clone, Copy, Debug, PartialEq, Eq)]
+pub struct Capacity {
+    /// For the bytes of one content.
+    pub bytes: usize,
+    /// For the type options of one metadata.
+    pub entries: usize,
+    /// For the types around the one that is read.
+    pub open_types: usize,
+    /// For the values around the one that is read.
+    pub open_values: usize,
+}
+
+/// What a decoder holds of the stream.
+#[derive(Clone, Copy, Debug, PartialEq, Eq)]
+pub struct Held {
+    /// The bytes of a content that came in pieces.
+    pub bytes: u32,
+    /// The type options of the metadata begun last, and of the table that the caller gave.
+    pub entries: u32,
+    /// The types or values around the one that is read.
+    pub levels: u32,
+}

@@ -1,0 +1,105 @@
+// Written by dist/erase from crates/cqlp_encode/src/fields.rt.
+//! Fields in each notation, written.
+
+use crate::cqlp_encode::staged::Staged;
+use crate::cqlp_message::OwnedBound;
+use crate::cqlp_note::{Address, Target};
+
+impl<'a, W: Target> Staged<'a, W> {
+    /// Takes a \[byte\].
+    pub fn put_byte(&mut self, value: u8)
+    {
+        self.put(&[value]);
+    }
+
+    /// Takes a \[short\].
+    pub fn put_short(&mut self, value: u16)
+    {
+        self.put(&value.to_be_bytes());
+    }
+
+    /// Takes an \[int\].
+    #[inline]
+    pub fn put_int(&mut self, value: i32)
+    {
+        self.put(&value.to_be_bytes());
+    }
+
+    /// Takes a \[long\].
+    pub fn put_long(&mut self, value: i64)
+    {
+        self.put(&value.to_be_bytes());
+    }
+
+    /// Takes a \[uuid\].
+    pub fn put_uuid(&mut self, id: [u8; 16])
+    {
+        self.put(&id);
+    }
+
+    /// Takes a number of two bytes, the lowest two of this.
+    pub fn put_count16(&mut self, count: usize)
+    {
+        let bytes = count.to_be_bytes();
+        self.put(&bytes[6..]);
+    }
+
+    /// Takes a number of four bytes, the lowest four of this.
+    #[inline(always)]
+    pub fn put_count32(&mut self, count: usize)
+    {
+        let bytes = count.to_be_bytes();
+        self.put(&bytes[4..]);
+    }
+
+    /// Takes a content after its length of two bytes.
+    pub fn put_short_content(&mut self, content: &[u8])
+    {
+        self.put_count16(content.len());
+        self.put(content);
+    }
+
+    /// Takes a content after its length of four bytes.
+    #[inline(always)]
+    pub fn put_content(&mut self, content: &[u8])
+    {
+        self.put_count32(content.len());
+        self.put(content);
+    }
+
+    /// Takes \[bytes\], a null as the length -1.
+    pub fn put_bytes(&mut self, bytes: Option<&[u8]>)
+    {
+        match bytes {
+            Some(content) => self.put_content(content),
+            None => self.put_int(-1),
+        }
+    }
+
+    /// Takes a \[value\], a null as the length -1 and one that is not set as -2.
+    pub fn put_bound(&mut self, value: &OwnedBound)
+    {
+        match value {
+            OwnedBound::Null => self.put_int(-1),
+            OwnedBound::Unset => self.put_int(-2),
+            OwnedBound::Bytes(content) => self.put_content(content.as_slice()),
+        }
+    }
+
+    /// Takes an \[inet\].
+    pub fn put_inet(&mut self, address: &Address, port: i32)
+    {
+        match address {
+            Address::V4(bytes) => self.put_address(bytes),
+            Address::V6(bytes) => self.put_address(bytes),
+        }
+        self.put_int(port);
+    }
+
+    /// Takes an address after the number of its bytes, of which there are fewer than 256.
+    fn put_address(&mut self, bytes: &[u8])
+    {
+        self.put(&bytes.len().to_be_bytes()[7..]);
+        self.put(bytes);
+    }
+}

@@ -1,0 +1,181 @@
+// Written by dist/erase from crates/cqlp_encode/src/page_writer.rt.
+//! A page whose cells are written one by one.
+
+use crate::cqlp_encode::staged::Staged;
+use crate::cqlp_encode::values::put_value;
+use crate::cqlp_encode::writing::write_parts;
+use crate::cqlp_message::{Frame, Unfit};
+use crate::cqlp_note::Target;
+use crate::cqlp_value::{Value, value_size};
+
+error! {
+/// Why a page was not begun, a cell was not written, or a page is not done.
+#[derive(Clone, Copy, Debug, PartialEq, Eq)]
+pub enum PageError {
+    /// The frame is no page that can be written with its cells after it, or the value is none of its column's type. Nothing
+    /// was written.
+    #[error("{0}")]
+    Unfit(Unfit),
+    /// All cells are written.
+    #[error("all cells are written")]
+    OutOfTurn,
+    /// The cells would have more bytes than were said.
+    #[error("the cells would have more bytes than were said")]
+    PastLength,
+    /// Cells, or bytes of them, are still to come.
+    #[error("cells, or bytes of them, are still to come")]
+    NotDone,
+    /// The target failed, or took nothing, after the frame's first bytes, this many, which the targets of all calls took.
+    #[error("the target failed after {written} bytes of the frame")]
+    Write { written: u32 },
+}
+}
+
+/// Writes a page whose cells come one by one, in order, row after row. Section 4.2.5.2 of `native_protocol_v4.spec`.
+///
+/// It holds no memory of its own: the caller says before the first cell how many bytes all cells have, which the frame's
+/// header counts, and each cell goes to the target at once. `laws::page_is_as_encoded`
+/// says that it is then the frame with these cells, as [`encode`](crate::cqlp_encode::encode) writes it, where all calls are given one target.
+///
+/// Each call writes to the target that it is given, and the writer keeps none. Where calls are given several, each target gets what
+/// its own calls write; the frame is all that was written, in the order of the calls, and no target alone has it.
+pub struct PageWriter<'a> {
+    frame: &'a Frame,
+    /// How many cells are still to come.
+    left: u64,
+    /// The column of the next, the first of which is 0.
+    column: usize,
+    /// How many bytes of cells are still to come.
+    free: u32,
+    /// How many bytes of the frame targets took.
+    written: u32,
+    /// Whether a target failed.
+    failed: bool,
+}
+
+impl<'a> PageWriter<'a> {
+    /// Writes all of a page that comes before its first cell: the header, whose length counts the cells, and all other parts.
+    /// All cells together are to have `cells_len` bytes, as [`value_size`](crate::cqlp_value::value_size) counts them.
+    ///
+    /// # Errors
+    ///
+    /// [`PageError::Unfit`] where [`Frame::page_unfit`] says why the frame is no page without cells, or its body would be too
+    /// long, or no cells of its rows and columns have `cells_len` bytes, before anything is written, and [`PageError::Write`] at the
+    /// first call of the target that fails or takes nothing.
+    pub fn begin<W: Target>(
+        frame: &'a Frame,
+        cells_len: u32,
+        target: &mut W,
+    ) -> Result<PageWriter<'a>, PageError>
+    {
+        let page_len = match frame.page_measure(cells_len) {
+            Ok(len) => len,
+            Err(why) => return Err(PageError::Unfit(why)),
+        };
+        let taken = write_parts(frame, page_len - 9, target);
+        if taken < page_len - cells_len {
+            return Err(PageError::Write { written: taken });
+        }
+        Ok(PageWriter {
+            frame,
+            left: frame.cells_wanted(),
+            column: 0,
+            free: cells_len,
+            written: taken,
+            failed: false,
+        })
+    }
+
+    /// Writes the next cell to this target. A cell without bytes, as an empty text, is [`Value::Empty`], which
+    /// [`Value::scalar`] makes of a scalar; a leaf without bytes is none of any type.
+    ///
+    /// # Errors
+    ///
+    /// In this order: [`PageError::Write`] with the same number where an earlier call answered it; [`PageError::OutOfTurn`]
+    /// where all cells are written; [`PageError::Unfit`] where the value is none of its column's type;
+    /// [`PageError::PastLength`] where the cells would have more bytes than were said. Nothing is written then, and the writer
+    /// is as it was. Then [`PageError::Write`] at the first call of the target that fails or takes nothing.
+    pub fn cell<W: Target>(&mut self, value: &Value, target: &mut W) -> Result<(), PageError>
+    {
+        let size = self.check(value)?;
+        let taken = write_value(value, target);
+        if taken < size {
+            self.fail(taken);
+            return Err(PageError::Write {
+                written: self.written,
+            });
+        }
+        self.count(size);
+        Ok(())
+    }
+
+    /// How many bytes the frame has, with all its cells, all of which the targets of the calls took: where they were several, all
+    /// together. It writes nothing, and may be called again.
+    ///
+    /// # Errors
+    ///
+    /// [`PageError::Write`] where an earlier call answered it, and [`PageError::NotDone`] where cells, or bytes of them, are
+    /// still to come.
+    pub fn finish(&self) -> Result<u32, PageError>
+    {
+        if self.failed {
+            return Err(PageError::Write {
+                written: self.written,
+            });
+        }
+        if self.left > 0 || self.free > 0 {
+            return Err(PageError::NotDone);
+        }
+        Ok(self.written)
+    }
+
+    /// How many bytes the next cell has, or why the value is not it.
+    fn check(&self, value: &Value) -> Result<u32, PageError>
+    {
+        if self.failed {
+            return Err(PageError::Write {
+                written: self.written,
+            });
+        }
+        if self.left == 0 {
+            return Err(PageError::OutOfTurn);
+        }
+        if !self.frame.fits_column(self.column, value) {
+            return Err(PageError::Unfit(Unfit::CellType));
+        }
+        let size = value_size(value);
+        if size > u64::from(self.free) {
+            return Err(PageError::PastLength);
+        }
+        Ok(size as u32)
+    }
+
+    /// Counts a cell of this many bytes that was written.
+    fn count(&mut self, size: u32)
+    {
+        let columns = self.frame.columns() as usize;
+        let next = self.column + 1;
+        self.column = if next < columns { next } else { 0 };
+        self.left -= 1;
+        self.free -= size;
+        self.written += size;
+    }
+
+    /// Notes that a target failed after this many bytes of a cell.
+    fn fail(&mut self, taken: u32)
+    {
+        self.written += taken;
+        self.failed = true;
+    }
+}
+
+/// Writes a value with its length, and answers how many bytes of it the target took.
+fn write_value<W: Target>(value: &Value, target: &mut W) -> u32
+{
+    let mut out = Staged::new(target);
+    put_value(&mut out, value);
+    out.flush();
+    let taken = out.taken();
+    let _ = out.into_inner();
+    taken as u32
+}

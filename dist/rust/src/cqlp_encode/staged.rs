@@ -1,0 +1,104 @@
+// Written by dist/erase from crates/cqlp_encode/src/staged.rt.
+//! Bytes on their way to a target.
+
+use crate::cqlp_note::{Target, offer};
+
+/// How many bytes wait at most before they are passed on.
+const ROOM: usize = 256;
+
+/// Gathers small pieces, so that a target gets them in few calls, and counts what it took. After the target failed once
+/// nothing more is passed on.
+pub struct Staged<'a, W: Target> {
+    target: &'a mut W,
+    buffer: [u8; ROOM],
+    len: usize,
+    /// How many bytes the target took.
+    taken: u64,
+    failed: bool,
+}
+
+impl<'a, W: Target> Staged<'a, W> {
+    /// With nothing that waits.
+    pub fn new(target: &'a mut W) -> Self
+    {
+        Staged {
+            target,
+            buffer: [0; ROOM],
+            len: 0,
+            taken: 0,
+            failed: false,
+        }
+    }
+
+    /// How many bytes the target took, 2^64 - 1 where there are more.
+    pub fn taken(&self) -> u64
+    {
+        self.taken
+    }
+
+    /// The target, which did not get what waits.
+    pub fn into_inner(self) -> &'a mut W
+    {
+        let Staged {
+            target,
+            buffer: _,
+            len: _,
+            taken: _,
+            failed: _,
+        } = self;
+        target
+    }
+
+    /// Takes bytes.
+    #[inline(always)]
+    pub fn put(&mut self, bytes: &[u8])
+    {
+        if bytes.len() > ROOM - self.len {
+            self.put_after_flush(bytes);
+        } else {
+            self.keep(bytes);
+        }
+    }
+
+    /// Takes bytes once all that waits is passed on.
+    fn put_after_flush(&mut self, bytes: &[u8])
+    {
+        self.flush();
+        if bytes.len() > ROOM {
+            self.pass_on(bytes);
+        } else {
+            self.keep(bytes);
+        }
+    }
+
+    /// Passes on all that waits.
+    pub fn flush(&mut self)
+    {
+        let len = self.len;
+        self.len = 0;
+        if !self.failed {
+            let count = offer(self.target, &self.buffer[..len]);
+            self.taken = self.taken.saturating_add(count as u64);
+            self.failed = count < len;
+        }
+    }
+
+    /// Passes bytes on, where nothing waits.
+    fn pass_on(&mut self, bytes: &[u8])
+    {
+        if !self.failed {
+            let count = offer(self.target, bytes);
+            self.taken = self.taken.saturating_add(count as u64);
+            self.failed = count < bytes.len();
+        }
+    }
+
+    /// Takes bytes that there is room for.
+    #[inline(always)]
+    fn keep(&mut self, bytes: &[u8])
+    {
+        let end = self.len + bytes.len();
+        self.buffer[self.len..end].copy_from_slice(bytes);
+        self.len = end;
+    }
+}

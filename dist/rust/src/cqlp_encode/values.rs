@@ -1,0 +1,84 @@
+// Written by dist/erase from crates/cqlp_encode/src/values.rt.
+//! Values of cells, written.
+
+use crate::cqlp_encode::staged::Staged;
+use crate::cqlp_note::Target;
+use crate::cqlp_value::{Atom, Content, Value, content_len};
+
+/// Takes a value with its length.
+#[inline(always)]
+pub fn put_value<W: Target>(out: &mut Staged<'_, W>, value: &Value)
+{
+    match value {
+        Value::Leaf(atom) => put_atom(out, atom),
+        _ => put_any(out, value),
+    }
+}
+
+/// The same of a value that is mostly no scalar.
+fn put_any<W: Target>(out: &mut Staged<'_, W>, value: &Value)
+{
+    match value {
+        Value::Null => out.put_int(-1),
+        Value::Empty => out.put_int(0),
+        Value::Leaf(atom) => put_atom(out, atom),
+        Value::List(items) => {
+            out.put_count32(content_len(value) as usize);
+            out.put_count32(items.len());
+            put_values(out, items);
+        }
+        Value::Set(items) => {
+            out.put_count32(content_len(value) as usize);
+            out.put_count32(items.len());
+            put_values(out, items);
+        }
+        Value::Map(pairs) => {
+            out.put_count32(content_len(value) as usize);
+            out.put_count32(pairs.len());
+            put_pairs(out, pairs);
+        }
+        Value::Tuple(items) => {
+            out.put_count32(content_len(value) as usize);
+            put_values(out, items);
+        }
+        Value::Udt(items) => {
+            out.put_count32(content_len(value) as usize);
+            put_values(out, items);
+        }
+    }
+}
+
+/// Takes values, each with its length.
+fn put_values<W: Target>(out: &mut Staged<'_, W>, values: &[Value])
+{
+    for value in values {
+        put_value(out, value);
+    }
+}
+
+/// Takes pairs, of each the key and the value with their lengths.
+fn put_pairs<W: Target>(out: &mut Staged<'_, W>, pairs: &[(Value, Value)])
+{
+    for (key, value) in pairs {
+        put_value(out, key);
+        put_value(out, value);
+    }
+}
+
+/// Takes a scalar with its length.
+#[inline(always)]
+fn put_atom<W: Target>(out: &mut Staged<'_, W>, atom: &Atom)
+{
+    match atom.content() {
+        Content::One(bytes) => out.put_content(&bytes),
+        Content::Two(bytes) => out.put_content(&bytes),
+        Content::Four(bytes) => out.put_content(&bytes),
+        Content::Eight(bytes) => out.put_content(&bytes),
+        Content::Lent(bytes) => out.put_content(bytes),
+        Content::Decimal(scale, unscaled) => {
+            out.put_count32(unscaled.len().saturating_add(scale.len()));
+            out.put(&scale);
+            out.put(unscaled);
+        }
+    }
+}

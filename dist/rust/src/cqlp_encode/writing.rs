@@ -1,0 +1,55 @@
+// Written by dist/erase from crates/cqlp_encode/src/writing.rt.
+//! A frame, written.
+
+use crate::cqlp_encode::staged::Staged;
+use crate::cqlp_message::{Frame, Unfit};
+use crate::cqlp_note::Target;
+
+error! {
+/// Why a frame was not written, or not whole.
+#[derive(Clone, Copy, Debug, PartialEq, Eq)]
+pub enum EncodeError {
+    /// No bytes spell the frame, and nothing was written.
+    #[error("{0}")]
+    Unfit(Unfit),
+    /// The target failed, or took nothing, after the frame's first bytes, this many.
+    #[error("the target failed after {written} bytes of the frame")]
+    Write { written: u32 },
+}
+}
+
+/// Writes a frame, and answers how many bytes it has: its header, what its flags announce, and its message. Section 2 of
+/// `native_protocol_v4.spec`. Each null has the length -1, and each true is 01.
+///
+/// It takes no memory. Small fields go to the target together, and a content longer than 256 bytes by a call of its own.
+///
+/// # Errors
+///
+/// [`EncodeError::Unfit`] where [`Frame::unfit`] says why no bytes spell the frame, before anything is written, and
+/// [`EncodeError::Write`] at the first call of the target that fails or takes nothing.
+pub fn encode<W: Target>(frame: &Frame, target: &mut W) -> Result<u32, EncodeError>
+{
+    let len = match frame.measure() {
+        Ok(len) => len,
+        Err(why) => return Err(EncodeError::Unfit(why)),
+    };
+    let taken = write_parts(frame, len - 9, target);
+    if taken < len {
+        Err(EncodeError::Write { written: taken })
+    } else {
+        Ok(len)
+    }
+}
+
+/// Writes a frame's header, where its body has this many bytes, and its parts, and answers how many bytes the target took.
+pub(crate) fn write_parts<W: Target>(frame: &Frame, body_len: u32, target: &mut W) -> u32
+{
+    let header = frame.header(body_len);
+    let mut out = Staged::new(target);
+    out.put(&header.write());
+    frame.walk(&mut out);
+    out.flush();
+    let taken = out.taken();
+    let _ = out.into_inner();
+    taken as u32
+}

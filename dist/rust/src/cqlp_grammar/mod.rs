@@ -1,0 +1,17 @@
+// Written by dist/erase from crates/cqlp_grammar/src/lib.rt.
+//! What follows what in a stream of the CQL native protocol v4, its events, and what takes them.
+
+mod event;
+mod following;
+mod grammar;
+mod sink;
+mod table;
+mod upcoming;
+
+pub use event::{Event, Finish};
+pub use following::{fault_in, number};
+pub(crate) use following::{has};
+pub use grammar::{Group, Role};
+pub use sink::{Sink, SinkFault};
+pub use table::{Expected, Want, event_fields, target_fields};
+pub use upcoming::Upcoming;

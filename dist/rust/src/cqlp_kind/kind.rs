@@ -1,0 +1,130 @@
+// Written by dist/erase from crates/cqlp_kind/src/kind.rt.
+//! The kinds of types.
+
+/// What a type is. Section 4.2.5.2 of `native_protocol_v4.spec`.
+#[derive(Clone, Copy, Debug, PartialEq, Eq)]
+pub enum Kind {
+    Custom,
+    Ascii,
+    Bigint,
+    Blob,
+    Boolean,
+    Counter,
+    Decimal,
+    Double,
+    Float,
+    Int,
+    Timestamp,
+    Uuid,
+    Varchar,
+    Varint,
+    Timeuuid,
+    Inet,
+    Date,
+    Time,
+    Smallint,
+    Tinyint,
+    List,
+    Map,
+    Set,
+    Udt,
+    Tuple,
+    /// The kind of a cell whose type is not known; it stands in no table.
+    Raw,
+}
+
+impl Kind {
+    /// Whether a value of this kind has no items: all but lists, maps, sets, user-defined types and tuples.
+    pub fn is_scalar(self) -> bool
+    {
+        !matches!(
+            self,
+            Kind::List | Kind::Map | Kind::Set | Kind::Udt | Kind::Tuple
+        )
+    }
+
+    /// The kind whose type option has this id, if one has.
+    pub fn from_id(id: u16) -> Option<Kind>
+    {
+        match id {
+            0x00 => Some(Kind::Custom),
+            0x01 => Some(Kind::Ascii),
+            0x02 => Some(Kind::Bigint),
+            0x03 => Some(Kind::Blob),
+            0x04 => Some(Kind::Boolean),
+            0x05 => Some(Kind::Counter),
+            0x06 => Some(Kind::Decimal),
+            0x07 => Some(Kind::Double),
+            0x08 => Some(Kind::Float),
+            0x09 => Some(Kind::Int),
+            0x0B => Some(Kind::Timestamp),
+            0x0C => Some(Kind::Uuid),
+            0x0D => Some(Kind::Varchar),
+            0x0E => Some(Kind::Varint),
+            0x0F => Some(Kind::Timeuuid),
+            0x10 => Some(Kind::Inet),
+            0x11 => Some(Kind::Date),
+            0x12 => Some(Kind::Time),
+            0x13 => Some(Kind::Smallint),
+            0x14 => Some(Kind::Tinyint),
+            0x20 => Some(Kind::List),
+            0x21 => Some(Kind::Map),
+            0x22 => Some(Kind::Set),
+            0x30 => Some(Kind::Udt),
+            0x31 => Some(Kind::Tuple),
+            _ => None,
+        }
+    }
+
+    /// The id of its type option, which the kind of an unknown type has not.
+    pub(crate) fn id(self) -> u16
+    {
+        match self {
+            Kind::Custom => 0x00,
+            Kind::Ascii => 0x01,
+            Kind::Bigint => 0x02,
+            Kind::Blob => 0x03,
+            Kind::Boolean => 0x04,
+            Kind::Counter => 0x05,
+            Kind::Decimal => 0x06,
+            Kind::Double => 0x07,
+            Kind::Float => 0x08,
+            Kind::Int => 0x09,
+            Kind::Timestamp => 0x0B,
+            Kind::Uuid => 0x0C,
+            Kind::Varchar => 0x0D,
+            Kind::Varint => 0x0E,
+            Kind::Timeuuid => 0x0F,
+            Kind::Inet => 0x10,
+            Kind::Date => 0x11,
+            Kind::Time => 0x12,
+            Kind::Smallint => 0x13,
+            Kind::Tinyint => 0x14,
+            Kind::List => 0x20,
+            Kind::Map => 0x21,
+            Kind::Set => 0x22,
+            Kind::Udt => 0x30,
+            Kind::Tuple => 0x31,
+            Kind::Raw => unreachable!(),
+        }
+    }
+
+    /// How many inner types each type of this kind has; 0 where they are counted.
+    pub fn arity(self) -> u16
+    {
+        match self {
+            Kind::List | Kind::Set => 1,
+            Kind::Map => 2,
+            _ => 0,
+        }
+    }
+
+    /// Whether it is one of the 19 kinds whose options have no parameters.
+    pub fn is_plain(self) -> bool
+    {
+        !matches!(
+            self,
+            Kind::Custom | Kind::List | Kind::Map | Kind::Set | Kind::Udt | Kind::Tuple | Kind::Raw
+        )
+    }
+}

@@ -1,0 +1,14 @@
+// Written by dist/erase from crates/cqlp_kind/src/node.rt.
+//! The types of a table.
+
+use crate::cqlp_kind::kind::Kind;
+
+/// A type in a list of types in preorder, where each type stands before its inner ones.
+#[derive(Clone, Copy, Debug, PartialEq, Eq)]
+pub struct Node {
+    pub kind: Kind,
+    /// How many inner types it has; of a udt or a tuple 0 until their number is read.
+    pub arity: u16,
+    /// The number of nodes of the whole type, its own included; 0 until its option's last byte is read.
+    pub span: u32,
+}

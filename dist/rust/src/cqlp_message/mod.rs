@@ -1,0 +1,26 @@
+// Written by dist/erase from crates/cqlp_message/src/lib.rt.
+//! Frame values of the CQL native protocol v4: what they hold, and why one has no spelling.
+
+mod agreement;
+mod frame;
+mod message;
+mod message_parts;
+mod page;
+mod page_parts;
+mod part;
+mod request;
+mod request_parts;
+mod response;
+mod response_parts;
+mod tally;
+mod unfit;
+mod walk;
+
+pub use frame::Frame;
+pub use message::Message;
+pub use part::{PartRef, TakesParts};
+pub use request::{BatchEntry, OwnedBound, QueryParams};
+pub use response::{
+    ErrorExtra, Metadata, Prepared, Rows, SchemaChange, SchemaOptions, ServerEvent, Spec,
+};
+pub use unfit::Unfit;

@@ -1,0 +1,120 @@
+// Written by dist/erase from crates/cqlp_message/src/page.rt.
+//! Pages whose cells are written one by one, after all else of their frame.
+
+use crate::cqlp_message::frame::Frame;
+use crate::cqlp_message::message::Message;
+use crate::cqlp_message::response::{Metadata, Spec};
+use crate::cqlp_message::unfit::Unfit;
+use crate::cqlp_note::Header;
+use crate::cqlp_value::{Value, fits};
+
+impl Frame {
+    /// How many bytes it has, with its header and cells of this many bytes after its parts; or why it is no page that can be
+    /// written with them.
+    pub fn page_measure(&self, cells_len: u32) -> Result<u32, Unfit>
+    {
+        let tally = self.frame_tally()?;
+        if !self.message.is_bare() {
+            return Err(Unfit::RowShape);
+        }
+        let body = tally.size.saturating_add(u64::from(cells_len));
+        if body > u64::from(Header::LONGEST_BODY) {
+            return Err(Unfit::BodyTooLong);
+        }
+        if !can_have(self.cells_wanted(), cells_len) {
+            return Err(Unfit::RowShape);
+        }
+        Ok(body as u32 + 9)
+    }
+
+    /// Why it is no page that can be written with cells of this many bytes after its parts, or None where it is one.
+    ///
+    /// [`Unfit::RowShape`] comes first where it is no page or holds cells, and last where no cells of its rows and columns have
+    /// this many bytes: less than four for each, or some where there are to be none. Of longer cells nothing is said: whether
+    /// some have just this many bytes is for the caller to know.
+    pub fn page_unfit(&self, cells_len: u32) -> Option<Unfit>
+    {
+        match self.page_measure(cells_len) {
+            Ok(_) => None,
+            Err(why) => Some(why),
+        }
+    }
+
+    /// How many bytes it has, with its header and cells of this many bytes after its parts.
+    pub(crate) fn page_len(&self, cells_len: u32) -> u32
+    {
+        match self.page_measure(cells_len) {
+            Ok(len) => len,
+            Err(_) => unreachable!(),
+        }
+    }
+
+    /// How many columns the cells of its page are of; 0 where it is no page.
+    pub fn columns(&self) -> u32
+    {
+        match &self.message {
+            Message::Rows(page) => page.meta.columns,
+            _ => 0,
+        }
+    }
+
+    /// How many cells its page is to have: rows times columns; 0 where it is no page.
+    pub fn cells_wanted(&self) -> u64
+    {
+        match &self.message {
+            Message::Rows(page) => u64::from(page.rows) * u64::from(page.meta.columns),
+            _ => 0,
+        }
+    }
+
+    /// Whether a value is one of the type of this column of its page, the first of which is 0. Where no columns are told, it is
+    /// Null, Empty or a Raw leaf. False past the last column, and where it is no page.
+    pub fn fits_column(&self, column: usize, value: &Value) -> bool
+    {
+        match &self.message {
+            Message::Rows(page) => page.meta.fits_column(column, value),
+            _ => false,
+        }
+    }
+}
+
+/// Whether so many cells can have this many bytes, four or more each.
+fn can_have(cells: u64, bytes: u32) -> bool
+{
+    if cells == 0 {
+        bytes == 0
+    } else {
+        cells <= u64::from(bytes / 4)
+    }
+}
+
+impl Message {
+    /// Whether it is a page that holds no cells.
+    fn is_bare(&self) -> bool
+    {
+        match self {
+            Message::Rows(page) => page.cells.is_empty(),
+            _ => false,
+        }
+    }
+}
+
+impl Metadata {
+    /// Whether a value is one of the type of this column.
+    fn fits_column(&self, column: usize, value: &Value) -> bool
+    {
+        match &self.specs {
+            Some(specs) => fits_spec(specs, column, value),
+            None => column < self.columns as usize && fits(value, None),
+        }
+    }
+}
+
+/// Whether a value is one of the type that is told of this column.
+fn fits_spec(specs: &[Spec], column: usize, value: &Value) -> bool
+{
+    match specs.get(column) {
+        Some(spec) => fits(value, Some(&spec.tree)),
+        None => false,
+    }
+}

@@ -1,0 +1,56 @@
+// Written by dist/erase from crates/cqlp_message/src/part.rt.
+//! Parts of frames, and what takes them.
+
+use crate::cqlp_message::request::OwnedBound;
+use crate::cqlp_note::{Address, Field};
+use crate::cqlp_type::TypeTree;
+use crate::cqlp_value::Value;
+
+/// A part of a frame after its header, lent from the frame: a field in one of the notations of section 3 of
+/// `native_protocol_v4.spec`, a type option, or a cell.
+#[derive(Clone, Copy)]
+pub enum PartRef<'a> {
+    /// A \[byte\].
+    Byte(Field, u8),
+    /// A \[short\] that is no count.
+    Short(Field, u16),
+    /// An \[int\] that is no count.
+    Int(Field, i32),
+    /// A \[long\].
+    Long(Field, i64),
+    /// A \[uuid\].
+    Uuid(Field, &'a [u8; 16]),
+    /// A number of items that follow, which is to be a \[short\].
+    Count16(Field, usize),
+    /// A number of items that follow, which is to be an \[int\].
+    Count32(Field, usize),
+    /// A \[string\].
+    Text(Field, &'a str),
+    /// A \[long string\].
+    LongText(Field, &'a str),
+    /// \[short bytes\].
+    ShortBytes(Field, &'a [u8]),
+    /// \[bytes\]; None is null.
+    Bytes(Field, Option<&'a [u8]>),
+    /// A \[value\].
+    Bound(Field, &'a OwnedBound),
+    /// An \[inet\]: an address and a port.
+    Inet(Field, Address, i32),
+    /// A type option.
+    Type(&'a TypeTree),
+    /// The cell of a row and a column, both from 0, and the type of the column, if columns are told.
+    Cell {
+        row: u32,
+        column: usize,
+        tree: Option<&'a TypeTree>,
+        value: &'a Value,
+    },
+}
+
+/// What takes the parts of a frame, one after the other.
+///
+/// One that fails keeps that to itself, and leaves what comes after.
+pub trait TakesParts {
+    /// Takes a part.
+    fn take(&mut self, part: PartRef<'_>);
+}

@@ -1,0 +1,101 @@
+// Written by dist/erase from crates/cqlp_note/src/limits.rt.
+//! The limits that a caller sets.
+
+/// What a reader of frames holds at most, and what it reads.
+#[derive(Clone, Copy, Debug, PartialEq, Eq)]
+pub struct Limits {
+    /// The bytes of one \[string\] or \[long string\]: 32 to 16,777,216.
+    pub text: u32,
+    /// The bytes of one \[bytes\], \[short bytes\], \[value\] or scalar cell: 32 to 16,777,216.
+    pub cell: u32,
+    /// The type options of one metadata, nested ones counted: 1 to 65,536.
+    pub entries: u32,
+    /// The nesting of one type, a column's own option having depth 1: 1 to 64.
+    pub depth: u32,
+    /// Whether cells are read by the types of their columns. Without them, each cell is a raw scalar.
+    pub types: bool,
+    /// Whether a blob, custom or raw scalar longer than `cell` comes in parts of that size.
+    pub parts: bool,
+}
+
+/// The numbers that a limit may be.
+#[derive(Clone, Copy)]
+pub struct LimitRange {
+    pub least: u32,
+    pub greatest: u32,
+}
+
+error! {
+/// The first of the limits that is out of its range.
+#[derive(Clone, Copy, Debug, PartialEq, Eq)]
+pub enum BadLimits {
+    #[error("the limit on a text is not from 32 to 16777216")]
+    Text,
+    #[error("the limit on a cell is not from 32 to 16777216")]
+    Cell,
+    #[error("the limit on type options is not from 1 to 65536")]
+    Entries,
+    #[error("the limit on nesting is not from 1 to 64")]
+    Depth,
+}
+}
+
+impl Limits {
+    /// The range of `text`.
+    pub const TEXT: LimitRange = LimitRange {
+        least: 32,
+        greatest: 16_777_216,
+    };
+
+    /// The range of `cell`.
+    pub const CELL: LimitRange = LimitRange {
+        least: 32,
+        greatest: 16_777_216,
+    };
+
+    /// The range of `entries`.
+    pub const ENTRIES: LimitRange = LimitRange {
+        least: 1,
+        greatest: 65_536,
+    };
+
+    /// The range of `depth`.
+    pub const DEPTH: LimitRange = LimitRange {
+        least: 1,
+        greatest: 64,
+    };
+
+    /// Those where none are given.
+    pub const DEFAULT: Limits = Limits {
+        text: 1_048_576,
+        cell: 1_048_576,
+        entries: 4_096,
+        depth: 16,
+        types: true,
+        parts: false,
+    };
+
+    /// Whether the four numbers are in their ranges; else the first that is not, in the order of the fields.
+    pub fn check(&self) -> Result<(), BadLimits>
+    {
+        if !Limits::TEXT.contains(self.text) {
+            Err(BadLimits::Text)
+        } else if !Limits::CELL.contains(self.cell) {
+            Err(BadLimits::Cell)
+        } else if !Limits::ENTRIES.contains(self.entries) {
+            Err(BadLimits::Entries)
+        } else if !Limits::DEPTH.contains(self.depth) {
+            Err(BadLimits::Depth)
+        } else {
+            Ok(())
+        }
+    }
+}
+
+impl LimitRange {
+    /// Whether a limit may be this number.
+    pub fn contains(self, number: u32) -> bool
+    {
+        self.least <= number && number <= self.greatest
+    }
+}

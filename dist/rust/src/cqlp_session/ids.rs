@@ -1,0 +1,41 @@
+// Written by dist/erase from crates/cqlp_session/src/ids.rt.
+//! The free stream ids, one bit to an id, so that the least is found a word at a time.
+
+use crate::kit_std::prelude::{Vec};
+use crate::kit_std::alloc::{AllocError, Allocator};
+
+const BITS: usize = 64;
+
+/// Words with a bit for each of `len` ids and for those that fill up the last word, all set.
+pub(crate) fn all<A: Allocator>(alloc: A, len: usize) -> Result<Vec<u64, A>, AllocError>
+{
+    let len = len.div_ceil(BITS);
+    let mut words = Vec::with_capacity(alloc, len)?;
+    words.resize(len, u64::MAX).unwrap();
+    Ok(words)
+}
+
+/// The place of the first bit that is set.
+pub(crate) fn first(words: &[u64]) -> Option<usize>
+{
+    for (i, word) in words.iter().enumerate() {
+        if *word > 0 {
+            return Some(i * BITS + word.trailing_zeros() as usize);
+        }
+    }
+    None
+}
+
+/// Sets the bit at a place.
+pub(crate) fn set(words: &mut [u64], place: usize)
+{
+    let word = &mut words[place / BITS];
+    *word |= 1 << (place % BITS);
+}
+
+/// Clears the bit at a place.
+pub(crate) fn clear(words: &mut [u64], place: usize)
+{
+    let word = &mut words[place / BITS];
+    *word &= !(1 << (place % BITS));
+}

@@ -1,0 +1,20 @@
+// Written by dist/erase from crates/cqlp_session/src/lib.rt.
+//! Client and server cores of the CQL native protocol v4: which requests may be sent, under which stream id, and which
+//! request a reply answers. The cores do no input or output, and take memory only where they are made.
+
+mod client;
+mod ids;
+mod kind;
+mod phase;
+mod refusal;
+mod server;
+mod slots;
+mod streams;
+mod ticket;
+
+pub use client::Client;
+pub use kind::RequestKind;
+pub use phase::Phase;
+pub use refusal::SlotsOrMemory;
+pub use server::{AnswerError, Server, ServerRefusal};
+pub use ticket::{BeginError, Reply, Stray, Ticket};

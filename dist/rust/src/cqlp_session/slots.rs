@@ -1,0 +1,52 @@
+// Written by dist/erase from crates/cqlp_session/src/slots.rt.
+//! What stands under each stream id.
+
+use crate::kit_std::prelude::{Vec};
+use crate::kit_std::alloc::{AllocError, Allocator};
+
+/// The most stream ids that a connection has. Section 2.3 of `native_protocol_v4.spec`.
+pub(crate) const MOST: u16 = 32_768;
+
+/// The place of a stream id, which is negative for none.
+pub(crate) fn index_of(id: i16) -> Option<usize>
+{
+    if id < 0 { None } else { Some(id as usize) }
+}
+
+/// Whether this is the id of one of these slots.
+pub(crate) fn has<T>(slots: &[Option<T>], id: i16) -> bool
+{
+    match index_of(id) {
+        Some(i) => i < slots.len(),
+        None => false,
+    }
+}
+
+/// What stands under this id.
+pub(crate) fn under<T: Copy>(slots: &[Option<T>], id: i16) -> Option<T>
+{
+    match index_of(id) {
+        Some(i) if i < slots.len() => slots[i],
+        _ => None,
+    }
+}
+
+/// Puts this under an id.
+pub(crate) fn put<T: Copy>(slots: &mut [Option<T>], id: i16, what: Option<T>)
+{
+    match index_of(id) {
+        Some(i) if i < slots.len() => slots[i] = what,
+        _ => {}
+    }
+}
+
+/// This many slots, all empty.
+pub(crate) fn empty<T: Copy, A: Allocator>(
+    alloc: A,
+    len: usize,
+) -> Result<Vec<Option<T>, A>, AllocError>
+{
+    let mut slots = Vec::with_capacity(alloc, len)?;
+    slots.resize(len, None).unwrap();
+    Ok(slots)
+}

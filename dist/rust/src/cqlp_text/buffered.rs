@@ -1,0 +1,131 @@
+// Written by dist/erase from crates/cqlp_text/src/buffered.rt.
+//! A pen with a large buffer.
+
+use crate::kit_std::prelude::{Vec};
+use crate::cqlp_text::digits::{DECIMAL_ROOM, fill_with_digits, place, place_digits, place_number};
+use crate::cqlp_text::pen::Pen;
+use crate::cqlp_text::sending::send;
+use crate::cqlp_grammar::SinkFault;
+use crate::cqlp_note::{IoFault, Target, offer};
+use crate::kit_std::alloc::{Allocator, Global};
+
+/// Passes text on to a target in pieces as large as a buffer. After a fault it keeps what the target did not take.
+pub struct Buffered<W: Target, A: Allocator = Global> {
+    target: W,
+    buffer: Vec<u8, A>,
+    /// How many bytes of the buffer are in use.
+    len: usize,
+    /// How many of them were passed on.
+    passed: usize,
+}
+
+impl<W: Target, A: Allocator> Buffered<W, A> {
+    /// With nothing that waits. As much may wait as the buffer is long.
+    pub(crate) fn new(target: W, buffer: Vec<u8, A>) -> Self
+    {
+        Buffered {
+            target,
+            buffer,
+            len: 0,
+            passed: 0,
+        }
+    }
+
+    /// Passes on all that waits.
+    #[inline(never)]
+    pub fn flush(&mut self) -> Result<(), IoFault>
+    {
+        let (from, end) = (self.passed, self.len);
+        let sent = offer(&mut self.target, &self.buffer[from..end]);
+        self.passed = from + sent;
+        if from + sent < end {
+            Err(IoFault)
+        } else {
+            Ok(())
+        }
+    }
+
+    /// The target, which did not get what waits.
+    pub fn into_inner(self) -> W
+    {
+        let Buffered {
+            target,
+            buffer: _,
+            len: _,
+            passed: _,
+        } = self;
+        target
+    }
+
+    /// Takes a text after what waits was passed on.
+    #[inline(never)]
+    fn put_afresh(&mut self, bytes: &[u8]) -> Result<(), SinkFault>
+    {
+        let Ok(()) = self.flush() else {
+            return Err(SinkFault);
+        };
+        self.restart(bytes)
+    }
+
+    /// Takes a text where nothing waits: it waits where the buffer has room for it, and is passed on at once where not.
+    fn restart(&mut self, bytes: &[u8]) -> Result<(), SinkFault>
+    {
+        self.passed = 0;
+        self.len = 0;
+        if bytes.len() > self.buffer.len() {
+            return send(&mut self.target, bytes);
+        }
+        place(bytes, &mut self.buffer, 0);
+        self.len = bytes.len();
+        Ok(())
+    }
+
+    /// Takes a number as decimal digits after what waits was passed on.
+    #[inline(never)]
+    fn put_number_afresh(&mut self, number: u64) -> Result<(), SinkFault>
+    {
+        let mut room = crate::itoa::Buffer::new();
+        self.put_afresh(room.format(number).as_bytes())
+    }
+
+    /// Takes this many digits of a number after what waits was passed on.
+    #[inline(never)]
+    fn put_digits_afresh(&mut self, count: usize, number: u64) -> Result<(), SinkFault>
+    {
+        let mut room = [0; 128];
+        fill_with_digits(number, &mut room[..count]);
+        self.put_afresh(&room[..count])
+    }
+}
+
+impl<W: Target, A: Allocator> Pen for Buffered<W, A> {
+    #[inline(always)]
+    fn put(&mut self, bytes: &[u8]) -> Result<(), SinkFault> {
+        if bytes.len() > self.buffer.len() - self.len {
+            return self.put_afresh(bytes);
+        }
+        place(bytes, &mut self.buffer, self.len);
+        self.len += bytes.len();
+        Ok(())
+    }
+
+    #[inline(always)]
+    fn put_number(&mut self, number: u64) -> Result<(), SinkFault> {
+        if DECIMAL_ROOM > self.buffer.len() - self.len {
+            return self.put_number_afresh(number);
+        }
+        let len = place_number(number, &mut self.buffer, self.len);
+        self.len += len;
+        Ok(())
+    }
+
+    #[inline(always)]
+    fn put_digits(&mut self, count: usize, number: u64) -> Result<(), SinkFault> {
+        if count > self.buffer.len() - self.len {
+            return self.put_digits_afresh(count, number);
+        }
+        place_digits(number, count, &mut self.buffer, self.len);
+        self.len += count;
+        Ok(())
+    }
+}

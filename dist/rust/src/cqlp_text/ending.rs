@@ -1,0 +1,109 @@
+// Written by dist/erase from crates/cqlp_text/src/ending.rt.
+//! How a command ends.
+
+use crate::cqlp_text::line_pen::LinePen;
+use crate::cqlp_text::names::reason_name;
+use crate::cqlp_text::status::{DONE, FAULT, NOT_WHOLE};
+use crate::cqlp_text::text_writer::TextWriter;
+use crate::cqlp_text::word::Word;
+use crate::cqlp_grammar::{Finish, SinkFault};
+use crate::cqlp_note::{Refusal, Target};
+
+/// How a command ends.
+#[derive(Clone, Copy, Debug, PartialEq, Eq)]
+pub enum Ending {
+    /// The stream was read to its end, or refused.
+    Finished(Finish),
+    /// The input failed.
+    ReadFault,
+    /// The output failed.
+    WriteFault,
+    NoMemory,
+    /// The input was not at its end, or a message not whole, after the greatest number of reads.
+    TooManyTurns,
+    /// A message of a conversation was refused.
+    BadReply,
+    /// A connection could not be made, or failed, or ended within a conversation.
+    SocketFault,
+}
+
+impl Ending {
+    /// The exit status.
+    pub fn status(self) -> u8
+    {
+        match self {
+            Ending::Finished(Finish::Whole { .. }) => DONE,
+            Ending::Finished(Finish::Cut { .. }) => NOT_WHOLE,
+            Ending::Finished(Finish::Refused(_)) => NOT_WHOLE,
+            Ending::ReadFault => FAULT,
+            Ending::WriteFault => FAULT,
+            Ending::NoMemory => FAULT,
+            Ending::TooManyTurns => FAULT,
+            Ending::BadReply => NOT_WHOLE,
+            Ending::SocketFault => FAULT,
+        }
+    }
+}
+
+/// Appends the verdict line or the fault line of an ending. A fault is the writer's own.
+pub fn ending_line<W: Target>(ending: Ending, w: &mut W) -> Result<(), SinkFault>
+{
+    let mut writer = TextWriter::over(w);
+    let written = writer.put_ending(ending);
+    let _ = writer.into_target();
+    written
+}
+
+/// Appends the line of a file that cannot be opened. A fault is the writer's own.
+pub fn cannot_open_line<W: Target>(file: &str, w: &mut W) -> Result<(), SinkFault>
+{
+    let mut writer = TextWriter::over(w);
+    let written = writer.put_cannot_open(file);
+    let _ = writer.into_target();
+    written
+}
+
+impl<W: Target> TextWriter<LinePen<'_, W>> {
+    /// Takes the verdict line or the fault line, and passes all on.
+    pub fn put_ending(&mut self, ending: Ending) -> Result<(), SinkFault>
+    {
+        match ending {
+            Ending::Finished(finish) => self.put_verdict(finish),
+            Ending::ReadFault => self.put_line("cqlp: read fault", &[]),
+            Ending::WriteFault => self.put_line("cqlp: write fault", &[]),
+            Ending::NoMemory => self.put_line("cqlp: no memory", &[]),
+            Ending::TooManyTurns => self.put_line("cqlp: too many turns", &[]),
+            Ending::BadReply => self.put_line("cqlp: bad reply", &[]),
+            Ending::SocketFault => self.put_line("cqlp: socket fault", &[]),
+        }
+    }
+
+    fn put_verdict(&mut self, finish: Finish) -> Result<(), SinkFault>
+    {
+        match finish {
+            Finish::Whole { bytes } => self.put_line("whole", &[Word::Number(bytes)]),
+            Finish::Cut { frame_at, bytes } => {
+                self.put_line("cut", &[Word::Number(frame_at), Word::Number(bytes)])
+            }
+            Finish::Refused(Refusal { at, why }) => self.put_line(
+                "refused",
+                &[Word::Number(at), Word::Name(reason_name(why))],
+            ),
+        }
+    }
+
+    /// Takes the line of a file that cannot be opened, and passes all on.
+    pub fn put_cannot_open(&mut self, file: &str) -> Result<(), SinkFault>
+    {
+        self.put_line("cqlp: cannot open", &[Word::Foreign(file)])
+    }
+
+    /// Takes a line of words, and passes all on.
+    fn put_line(&mut self, first: &str, words: &[Word<'_>]) -> Result<(), SinkFault>
+    {
+        self.put(first.as_bytes())?;
+        self.put_words(words)?;
+        self.put(b"\n")?;
+        self.flush()
+    }
+}

@@ -1,0 +1,29 @@
+// Written by dist/erase from crates/cqlp_text/src/lib.rt.
+//! The text of events, cells, pages and endings, and how it goes to a target.
+
+mod buffered;
+mod cells;
+mod dates;
+mod digits;
+mod ending;
+mod events;
+mod line_pen;
+mod names;
+mod page_text;
+mod pen;
+mod plain;
+mod sending;
+pub mod status;
+mod text_writer;
+mod values;
+mod word;
+
+pub use buffered::Buffered;
+pub use cells::cell_text;
+pub use ending::{Ending, cannot_open_line, ending_line};
+pub use events::event_line;
+pub use names::opcode_name;
+pub use page_text::{PagePlace, page_part};
+pub use pen::Pen;
+pub use sending::put_text;
+pub use text_writer::TextWriter;

@@ -1,0 +1,558 @@
+// Written by dist/erase from crates/cqlp_text/src/page_text.rt.
+//! Pages as text.
+
+use crate::cqlp_text::line_pen::LinePen;
+use crate::cqlp_text::pen::Pen;
+use crate::cqlp_text::text_writer::TextWriter;
+use crate::cqlp_grammar::{Event, SinkFault};
+use crate::cqlp_kind::{Kind, Scalar};
+use crate::cqlp_note::{Field, Target};
+
+/// How many values are open at most: no type is deeper.
+const ROOM: usize = 64;
+
+/// The kind of a result that is a page.
+const ROWS: i32 = 2;
+
+/// Appends what is written of an event of a page, which nothing is of an event of another frame, and goes to the place
+/// after it, also at a fault, which is the writer's own.
+#[inline]
+pub fn page_part<W: Target>(
+    place: &mut PagePlace,
+    event: &Event<'_>,
+    w: &mut W,
+) -> Result<(), SinkFault>
+{
+    if !place.shows(event) {
+        place.pass(event);
+        return Ok(());
+    }
+    let mut writer = TextWriter::over(w);
+    let written = writer.put_whole_page_part(place, event);
+    let _ = writer.into_target();
+    written
+}
+
+/// What comes next in an open value.
+#[derive(Clone, Copy)]
+pub(crate) enum Turn {
+    /// Its first item.
+    First,
+    /// A map's value, after its key.
+    Paired,
+    /// One more item.
+    Another,
+}
+
+/// A value whose items are written.
+#[derive(Clone, Copy)]
+pub(crate) struct WrittenValue {
+    kind: Kind,
+    turn: Turn,
+}
+
+/// What the text of an event depends on of those before it.
+pub struct PagePlace {
+    is_page: bool,
+    columns: u32,
+    column: u32,
+    /// The open values from `free` on, the innermost first.
+    open_values: [WrittenValue; ROOM],
+    free: usize,
+}
+
+impl PagePlace {
+    /// Before any frame.
+    pub fn new() -> Self
+    {
+        PagePlace {
+            is_page: false,
+            columns: 0,
+            column: 0,
+            open_values: [WrittenValue {
+                kind: Kind::Raw,
+                turn: Turn::First,
+            }; ROOM],
+            free: ROOM,
+        }
+    }
+
+    #[inline]
+    fn is_page(&self) -> bool
+    {
+        self.is_page
+    }
+
+    /// Whether anything may be written of an event.
+    #[inline]
+    fn shows(&self, event: &Event<'_>) -> bool
+    {
+        match *event {
+            Event::Text { .. }
+            | Event::Count { .. }
+            | Event::Leaf { .. }
+            | Event::Null { .. }
+            | Event::Empty { .. }
+            | Event::Enter { .. }
+            | Event::Leave { .. }
+            | Event::Part { .. } => self.is_page,
+            _ => false,
+        }
+    }
+
+    #[inline]
+    fn columns(&self) -> u32
+    {
+        self.columns
+    }
+
+    /// The innermost open value.
+    #[inline(always)]
+    fn innermost(&self) -> Option<WrittenValue>
+    {
+        self.open_values.get(self.free).copied()
+    }
+
+    /// What stands before a cell of this column, or before an item of the open value.
+    #[inline]
+    fn before(&self, column: u32) -> &'static str
+    {
+        match self.innermost() {
+            None if column == 0 => "",
+            None => " | ",
+            Some(open) => separator(open.turn),
+        }
+    }
+
+    /// What stands after a cell of this column, or after an item of the open value.
+    #[inline]
+    fn after(&self, column: u32) -> &'static str
+    {
+        if self.free < ROOM {
+            ""
+        } else {
+            row_end(self.columns, column)
+        }
+    }
+
+    /// Whether a row ends after a cell of this column, which no item of an open value is.
+    #[inline(always)]
+    fn ends_row(&self, column: u32) -> bool
+    {
+        if self.free < ROOM {
+            return false;
+        }
+        u64::from(column) + 1 == u64::from(self.columns)
+    }
+
+    /// What stands after the innermost open value.
+    #[inline]
+    fn after_innermost(&self) -> &'static str
+    {
+        if self.free + 1 < ROOM {
+            ""
+        } else {
+            row_end(self.columns, self.column)
+        }
+    }
+
+    /// Goes to the place after an event.
+    #[inline(always)]
+    fn pass(&mut self, event: &Event<'_>)
+    {
+        match *event {
+            Event::Int { field, value } => self.pass_int(field, value),
+            Event::Count { field, count } => self.pass_count(field, count),
+            Event::Leaf { column, .. } | Event::Null { column, .. } | Event::Empty { column, .. } =>
+                self.pass_item(column),
+            Event::Enter { column, kind, .. } => self.enter(column, kind),
+            Event::Leave { .. } => self.leave(),
+            Event::Part { column, last, .. } => self.pass_part(column, last),
+            Event::End { .. } => self.start(false),
+            _ => {}
+        }
+    }
+
+    /// Goes to the begin of a result, which is a page or not.
+    fn start(&mut self, is_page: bool)
+    {
+        self.is_page = is_page;
+        self.columns = 0;
+        self.column = 0;
+        self.free = ROOM;
+    }
+
+    #[inline]
+    fn pass_int(&mut self, field: Field, value: i32)
+    {
+        if let Field::ResultKind = field {
+            if value == ROWS {
+                self.start(true);
+            }
+        }
+    }
+
+    #[inline]
+    fn pass_count(&mut self, field: Field, count: u32)
+    {
+        if let Field::Columns = field {
+            self.columns = count;
+        }
+    }
+
+    /// Goes to the place after a cell of this column, or after an item of the open value.
+    #[inline(always)]
+    fn pass_item(&mut self, column: u32)
+    {
+        self.column = column;
+        self.count_item();
+    }
+
+    #[inline]
+    fn pass_part(&mut self, column: u32, last: bool)
+    {
+        self.column = column;
+        if last {
+            self.count_item();
+        }
+    }
+
+    /// Goes to the place after an item of the open value, if there is one.
+    #[inline(always)]
+    fn count_item(&mut self)
+    {
+        if self.free < ROOM {
+            let open = self.open_values[self.free];
+            self.open_values[self.free] = WrittenValue {
+                kind: open.kind,
+                turn: turn_after(open.kind, open.turn),
+            };
+        }
+    }
+
+    /// Goes into a value of this kind, an item of the one that was open.
+    #[inline]
+    fn enter(&mut self, column: u32, kind: Kind)
+    {
+        self.pass_item(column);
+        self.push(kind);
+    }
+
+    #[inline]
+    fn push(&mut self, kind: Kind)
+    {
+        if self.free == 0 {
+            return;
+        }
+        self.free -= 1;
+        self.open_values[self.free] = WrittenValue {
+            kind,
+            turn: Turn::First,
+        };
+    }
+
+    #[inline]
+    fn leave(&mut self)
+    {
+        if self.free < ROOM {
+            self.free += 1;
+        }
+    }
+}
+
+impl<W: Target> TextWriter<LinePen<'_, W>> {
+    /// Takes what is written of an event of a page, goes to the place after it, also at a fault, and passes all on.
+    fn put_whole_page_part(
+        &mut self,
+        place: &mut PagePlace,
+        event: &Event<'_>,
+    ) -> Result<(), SinkFault>
+    {
+        self.put_page_part(place, event)?;
+        self.flush()
+    }
+}
+
+impl<P: Pen> TextWriter<P> {
+    /// Takes what is written of an event of a page, and goes to the place after it, also at a fault.
+    #[inline]
+    pub fn put_page_part(
+        &mut self,
+        place: &mut PagePlace,
+        event: &Event<'_>,
+    ) -> Result<(), SinkFault>
+    {
+        if !place.is_page() {
+            place.pass(event);
+            return Ok(());
+        }
+        match *event {
+            Event::Leaf {
+                column,
+                ref scalar,
+                ..
+            } => self.put_leaf(place, column, scalar),
+            _ => self.put_other_part(place, event),
+        }
+    }
+
+    /// Takes what is written of an event within a page, and goes to the place after it, also at a fault.
+    #[inline(never)]
+    fn put_other_part(&mut self, place: &mut PagePlace, event: &Event<'_>) -> Result<(), SinkFault>
+    {
+        let written = self.put_event_part(place, event);
+        place.pass(event);
+        written
+    }
+
+    #[inline(always)]
+    fn put_event_part(&mut self, place: &PagePlace, event: &Event<'_>) -> Result<(), SinkFault>
+    {
+        match *event {
+            Event::Text { field, text } => self.put_text_part(place, field, text),
+            Event::Count { field, count } => self.put_count_part(place, field, count),
+            Event::Leaf {
+                column,
+                ref scalar,
+                ..
+            } => self.put_value(place, column, scalar),
+            Event::Null { column, .. } => self.put_named(place, column, "null"),
+            Event::Empty { column, .. } => self.put_named(place, column, "empty"),
+            Event::Enter { column, kind, .. } => self.put_opening(place, column, kind),
+            Event::Leave { .. } => self.put_closing(place),
+            Event::Part {
+                column,
+                offset,
+                bytes,
+                last,
+                ..
+            } => self.put_content_part(place, column, offset, bytes, last),
+            _ => Ok(()),
+        }
+    }
+
+    fn put_text_part(
+        &mut self,
+        place: &PagePlace,
+        field: Field,
+        text: &str,
+    ) -> Result<(), SinkFault>
+    {
+        match field {
+            Field::ColumnName => self.put_column_line(text),
+            _ => Ok(()),
+        }
+    }
+
+    fn put_column_line(&mut self, name: &str) -> Result<(), SinkFault>
+    {
+        self.put(b"column ")?;
+        self.put_quoted(name)?;
+        self.put(b"\n")
+    }
+
+    fn put_count_part(
+        &mut self,
+        place: &PagePlace,
+        field: Field,
+        count: u32,
+    ) -> Result<(), SinkFault>
+    {
+        match field {
+            Field::Rows => self.put_page_line(place.columns(), count),
+            _ => Ok(()),
+        }
+    }
+
+    fn put_page_line(&mut self, columns: u32, rows: u32) -> Result<(), SinkFault>
+    {
+        self.put(b"page ")?;
+        self.put_number(u64::from(columns))?;
+        self.put(b" columns ")?;
+        self.put_number(u64::from(rows))?;
+        self.put(b" rows\n")
+    }
+
+    /// Takes a cell or an item that has no items, with what stands before and after it, and goes to the place after it,
+    /// also at a fault.
+    #[inline(always)]
+    fn put_leaf(
+        &mut self,
+        place: &mut PagePlace,
+        column: u32,
+        scalar: &Scalar<'_>,
+    ) -> Result<(), SinkFault>
+    {
+        let written = self.put_value(place, column, scalar);
+        place.pass_item(column);
+        written
+    }
+
+    /// Takes a cell or an item that has no items, with what stands before and after it.
+    #[inline(always)]
+    fn put_value(
+        &mut self,
+        place: &PagePlace,
+        column: u32,
+        scalar: &Scalar<'_>,
+    ) -> Result<(), SinkFault>
+    {
+        self.put_before(place, column)?;
+        self.put_cell(scalar)?;
+        self.put_after(place, column)
+    }
+
+    /// Takes a name in place of a value, with what stands before and after it.
+    #[inline]
+    fn put_named(&mut self, place: &PagePlace, column: u32, name: &str) -> Result<(), SinkFault>
+    {
+        self.put_before(place, column)?;
+        self.put_str(name)?;
+        self.put_after(place, column)
+    }
+
+    /// Takes what stands before a cell of this column, or before an item of the open value.
+    #[inline(always)]
+    fn put_before(&mut self, place: &PagePlace, column: u32) -> Result<(), SinkFault>
+    {
+        match place.innermost() {
+            None if column == 0 => Ok(()),
+            None => self.put(b" | "),
+            Some(open) => self.put_separator(open.turn),
+        }
+    }
+
+    /// Takes what stands before an item of an open value.
+    #[inline(always)]
+    fn put_separator(&mut self, turn: Turn) -> Result<(), SinkFault>
+    {
+        match turn {
+            Turn::First => Ok(()),
+            Turn::Paired => self.put(b": "),
+            Turn::Another => self.put(b", "),
+        }
+    }
+
+    /// Takes what stands after a cell of this column, or after an item of the open value.
+    #[inline(always)]
+    fn put_after(&mut self, place: &PagePlace, column: u32) -> Result<(), SinkFault>
+    {
+        if place.ends_row(column) {
+            self.put(b"\n")
+        } else {
+            Ok(())
+        }
+    }
+
+    #[inline]
+    fn put_opening(&mut self, place: &PagePlace, column: u32, kind: Kind) -> Result<(), SinkFault>
+    {
+        self.put(place.before(column).as_bytes())?;
+        self.put(opening(kind).as_bytes())
+    }
+
+    #[inline]
+    fn put_closing(&mut self, place: &PagePlace) -> Result<(), SinkFault>
+    {
+        let Some(open) = place.innermost() else {
+            return Ok(());
+        };
+        self.put(closing(open.kind).as_bytes())?;
+        self.put(place.after_innermost().as_bytes())
+    }
+
+    /// Takes a part of a long content, which begins with `0x`.
+    fn put_content_part(
+        &mut self,
+        place: &PagePlace,
+        column: u32,
+        offset: u32,
+        bytes: &[u8],
+        last: bool,
+    ) -> Result<(), SinkFault>
+    {
+        self.put_content_start(place, column, offset)?;
+        self.put_hex(bytes)?;
+        self.put_content_end(place, column, last)
+    }
+
+    fn put_content_start(
+        &mut self,
+        place: &PagePlace,
+        column: u32,
+        offset: u32,
+    ) -> Result<(), SinkFault>
+    {
+        if offset > 0 {
+            return Ok(());
+        }
+        self.put(place.before(column).as_bytes())?;
+        self.put(b"0x")
+    }
+
+    fn put_content_end(
+        &mut self,
+        place: &PagePlace,
+        column: u32,
+        last: bool,
+    ) -> Result<(), SinkFault>
+    {
+        if last {
+            self.put(place.after(column).as_bytes())
+        } else {
+            Ok(())
+        }
+    }
+}
+
+/// What stands before an item of an open value.
+#[inline]
+fn separator(turn: Turn) -> &'static str
+{
+    match turn {
+        Turn::First => "",
+        Turn::Paired => ": ",
+        Turn::Another => ", ",
+    }
+}
+
+/// What stands after a cell of this column.
+#[inline]
+fn row_end(columns: u32, column: u32) -> &'static str
+{
+    if u64::from(column) + 1 == u64::from(columns) {
+        "\n"
+    } else {
+        ""
+    }
+}
+
+#[inline]
+fn opening(kind: Kind) -> &'static str
+{
+    match kind {
+        Kind::List => "[",
+        Kind::Set | Kind::Map => "{",
+        _ => "(",
+    }
+}
+
+#[inline]
+fn closing(kind: Kind) -> &'static str
+{
+    match kind {
+        Kind::List => "]",
+        Kind::Set | Kind::Map => "}",
+        _ => ")",
+    }
+}
+
+/// What comes next after an item of a value of this kind.
+#[inline(always)]
+fn turn_after(kind: Kind, turn: Turn) -> Turn
+{
+    match (kind, turn) {
+        (Kind::Map, Turn::First | Turn::Another) => Turn::Paired,
+        _ => Turn::Another,
+    }
+}

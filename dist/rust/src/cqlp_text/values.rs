@@ -1,0 +1,183 @@
+// Written by dist/erase from crates/cqlp_text/src/values.rt.
+//! Values as text.
+
+use crate::cqlp_text::pen::Pen;
+use crate::cqlp_text::plain::{is_plain, plain_len};
+use crate::cqlp_text::text_writer::TextWriter;
+use crate::cqlp_grammar::SinkFault;
+use crate::cqlp_note::Address;
+use crate::uuid::Uuid;
+
+/// How many bytes become hex digits at once.
+const CHUNK: usize = 64;
+
+impl<P: Pen> TextWriter<P> {
+    /// Takes a number as decimal digits, after a `-` where it is negative.
+    #[inline(always)]
+    pub fn put_signed(&mut self, number: i64) -> Result<(), SinkFault>
+    {
+        if number >= 0 {
+            return self.put_number(number.unsigned_abs());
+        }
+        self.put(b"-")?;
+        self.put_number(number.unsigned_abs())
+    }
+
+    /// Takes a number as decimal digits, after a `-` where it is negative.
+    #[inline(always)]
+    pub fn put_int(&mut self, number: i32) -> Result<(), SinkFault>
+    {
+        self.put_signed(i64::from(number))
+    }
+
+    /// Takes a number as decimal digits.
+    #[inline(always)]
+    pub fn put_count(&mut self, number: u32) -> Result<(), SinkFault>
+    {
+        self.put_number(u64::from(number))
+    }
+
+    /// Takes a text as it is.
+    #[inline(always)]
+    pub fn put_str(&mut self, text: &str) -> Result<(), SinkFault>
+    {
+        self.put(text.as_bytes())
+    }
+
+    /// Takes bytes as two lower case hexadecimal digits each.
+    #[inline(never)]
+    pub fn put_hex(&mut self, bytes: &[u8]) -> Result<(), SinkFault>
+    {
+        let mut digits = [0; 2 * CHUNK];
+        let mut rest = bytes;
+        while !rest.is_empty() {
+            let len = rest.len().min(CHUNK);
+            crate::hex::encode_to_slice(&rest[..len], &mut digits[..2 * len]).unwrap();
+            self.put(&digits[..2 * len])?;
+            rest = &rest[len..];
+        }
+        Ok(())
+    }
+
+    /// Takes bytes as `0x` and two lower case hexadecimal digits each.
+    #[inline(never)]
+    pub fn put_hex_text(&mut self, bytes: &[u8]) -> Result<(), SinkFault>
+    {
+        self.put(b"0x")?;
+        self.put_hex(bytes)
+    }
+
+    /// Takes a uuid as lower case hexadecimal digits with hyphens.
+    #[inline(never)]
+    pub fn put_uuid(&mut self, bytes: [u8; 16]) -> Result<(), SinkFault>
+    {
+        let mut buffer = Uuid::encode_buffer();
+        let text = Uuid::from_bytes(bytes)
+            .hyphenated()
+            .encode_lower(&mut buffer);
+        self.put(text.as_bytes())
+    }
+
+    /// Takes a text in quotes, where a quote, a backslash and each byte that does not print is escaped.
+    #[inline(always)]
+    pub fn put_quoted(&mut self, text: &str) -> Result<(), SinkFault>
+    {
+        self.put(b"\"")?;
+        self.put_escaped(text.as_bytes())?;
+        self.put(b"\"")
+    }
+
+    /// Takes bytes as they stand between quotes; those that need no escape are taken as they are, many at once.
+    #[inline]
+    fn put_escaped(&mut self, bytes: &[u8]) -> Result<(), SinkFault>
+    {
+        let mut rest = bytes;
+        while !rest.is_empty() {
+            let plain = plain_len(rest);
+            self.put(&rest[..plain])?;
+            let Some((byte, after)) = rest[plain..].split_first() else {
+                return Ok(());
+            };
+            self.put_byte(*byte)?;
+            rest = after;
+        }
+        Ok(())
+    }
+
+    /// Takes a byte as it stands between quotes.
+    fn put_byte(&mut self, byte: u8) -> Result<(), SinkFault>
+    {
+        if is_plain(byte) {
+            return self.put(&[byte]);
+        }
+        match byte {
+            b'"' => self.put(b"\\\""),
+            b'\\' => self.put(b"\\\\"),
+            _ => {
+                self.put(b"\\x")?;
+                self.put_hex(&[byte])
+            }
+        }
+    }
+
+    /// Takes the bytes of a text in one line, where each that does not print is escaped.
+    pub fn put_in_one_line(&mut self, bytes: &[u8]) -> Result<(), SinkFault>
+    {
+        for byte in bytes {
+            self.put_printed(*byte)?;
+        }
+        Ok(())
+    }
+
+    /// Takes a byte as it stands in a line.
+    fn put_printed(&mut self, byte: u8) -> Result<(), SinkFault>
+    {
+        if prints(byte) {
+            self.put(&[byte])
+        } else {
+            self.put_byte(byte)
+        }
+    }
+
+    /// Takes an address: four decimal numbers with dots, or eight groups of four hexadecimal digits with colons.
+    #[inline(never)]
+    pub fn put_address(&mut self, address: Address) -> Result<(), SinkFault>
+    {
+        match address {
+            Address::V4(bytes) => self.put_dotted(bytes),
+            Address::V6(bytes) => self.put_groups(bytes),
+        }
+    }
+
+    /// Takes four bytes as decimal numbers with dots.
+    fn put_dotted(&mut self, bytes: [u8; 4]) -> Result<(), SinkFault>
+    {
+        self.put_number(u64::from(bytes[0]))?;
+        let mut rest = &bytes[1..];
+        while let [byte, after @ ..] = rest {
+            self.put(b".")?;
+            self.put_number(u64::from(*byte))?;
+            rest = after;
+        }
+        Ok(())
+    }
+
+    /// Takes sixteen bytes as groups of four hexadecimal digits with colons.
+    fn put_groups(&mut self, bytes: [u8; 16]) -> Result<(), SinkFault>
+    {
+        self.put_hex(&bytes[..2])?;
+        let mut rest = &bytes[2..];
+        while let [high, low, after @ ..] = rest {
+            self.put(b":")?;
+            self.put_hex(&[*high, *low])?;
+            rest = after;
+        }
+        Ok(())
+    }
+}
+
+/// Whether a byte stands as itself in a line.
+fn prints(byte: u8) -> bool
+{
+    byte >= 32 && byte != 127
+}

@@ -1,0 +1,47 @@
+//! `Box`, whose memory may be refused.
+use super::alloc::{AllocFailed, Allocator, Global};
+use std::ops::Deref;
+
+/// Rust's `Box`, but that [`Box::new`] may be refused memory.
+#[derive(PartialEq, Eq)]
+pub struct Box<T, A: Allocator = Global> {
+    // Stable Rust asks for the memory of a `Vec` alone, and a whole `Vec` becomes a boxed array.
+    pub(crate) of: std::boxed::Box<[T; 1]>,
+    pub(crate) alloc: A,
+}
+
+impl<T, A: Allocator> Box<T, A> {
+    /// A value in memory of its own; it comes back where that is refused.
+    pub fn new(alloc: A, item: T) -> Result<Self, AllocFailed<T>> {
+        let mut room = std::vec::Vec::new();
+        if room.try_reserve_exact(1).is_err() {
+            return Err(AllocFailed(item));
+        }
+        room.push(item);
+        match room.into_boxed_slice().try_into() {
+            Ok(of) => Ok(Box { of, alloc }),
+            Err(_) => unreachable!(),
+        }
+    }
+
+    /// The value.
+    pub fn into_inner(this: Self) -> T {
+        let [item] = *this.of;
+        item
+    }
+}
+
+impl<T: std::fmt::Debug, A: Allocator> std::fmt::Debug for Box<T, A> {
+    fn fmt(&self, f: &mut std::fmt::Formatter<'_>) -> std::fmt::Result {
+        self.of[0].fmt(f)
+    }
+}
+
+impl<T, A: Allocator> Deref for Box<T, A> {
+    type Target = T;
+
+    #[inline]
+    fn deref(&self) -> &T {
+        &self.of[0]
+    }
+}

@@ -1,0 +1,251 @@
+//! A streaming codec of the CQL binary protocol, version 4 (`native_protocol_v4.spec` of Apache Cassandra), without compression.
+//!
+//! A [`Decoder`] reads frames from pieces of any size, one [`Event`] at a time, and holds no more than its [`Limits`] say,
+//! whatever lengths and counts a peer sends. [`frame`] has values of frames and what writes them, [`session`] the cores of a
+//! client and of a server, which pair replies with requests, and [`text`] the text of events and of pages.
+//!
+//! # What is promised
+//!
+//! The sources of this package were proved: each function does what its contract says, for every input, no index is out of
+//! range, no sum wraps, and no loop goes on for ever. What you read here is the same text with the contracts left out, which
+//! `rustc` compiles. The comments beside each item say in words what its contract says. This build itself is not proved: see
+//! README.md for what that leaves to be trusted, and how to check that nothing but contracts was left out.
+//!
+//! * The events are exactly those that the protocol's definition says of the bytes so far, in any cutting into pieces.
+//! * A stream is refused exactly where and why the definition refuses it, and each later call says it again.
+//! * No length or count that a peer sends decides how much memory is taken: a decoder takes all of it when it is made.
+//! * What is written of a frame is read back as its own events.
+//! * A reply is paired with the request that it answers.
+//!
+//! # A file
+//!
+//! [`run`] reads a [`Source`], here any reader of std's, and hands each event with its offset to a [`Sink`]:
+//!
+//! ```
+//! use cqlp::{Decoder, Event, Finish, Global, Limits, OfStd, Outcome, Scalar, Sink, SinkFault, run};
+//! use std::fs::File;
+//!
+//! /// Adds the ints of all cells.
+//! struct Sum(i64);
+//!
+//! impl Sink for Sum {
+//!     fn take(&mut self, _at: u64, event: &Event<'_>) -> Result<(), SinkFault> {
+//!         if let Event::Leaf { scalar: Scalar::Int(number), .. } = event {
+//!             self.0 += i64::from(*number);
+//!         }
+//!         Ok(())
+//!     }
+//! }
+//!
+//! # let path = std::env::temp_dir().join(format!("cqlp-{}", std::process::id()));
+//! # std::fs::write(&path, b"\x84\0\0\0\x08\0\0\0\x31\0\0\0\x02\0\0\0\x01\0\0\0\x01\0\x01k\0\x01t\0\x01c\0\x20\0\x09\0\0\0\x01\
+//! #     \0\0\0\x10\0\0\0\x02\0\0\0\x04\0\0\0\x01\xff\xff\xff\xff")?;
+//! let mut file = OfStd::new(File::open(&path)?);
+//! let mut decoder = Decoder::new(Global, Limits::DEFAULT)?;
+//! let mut sum = Sum(0);
+//! let outcome = run(&mut decoder, &mut file, &mut sum, u64::MAX);
+//! assert_eq!(outcome, Outcome::Finished(Finish::Whole { bytes: 58 }));
+//! assert_eq!(sum.0, 1);
+//! # std::fs::remove_file(&path)?;
+//! # Ok::<(), Box<dyn std::error::Error>>(())
+//! ```
+//!
+//! # A socket
+//!
+//! Whoever has the bytes pulls the events out of each piece by [`Decoder::next`]. What an event lends lies in the piece, or in
+//! the decoder where a piece cut it:
+//!
+//! ```
+//! use cqlp::{Decoder, Event, Global, Limits, Refusal, Step};
+//! use std::io::{Read, Write};
+//! use std::net::{TcpListener, TcpStream};
+//!
+//! /// Prints the opcode of each frame in a piece.
+//! fn pull(decoder: &mut Decoder, piece: &[u8], seen: &mut Vec<String>) -> Result<(), Refusal> {
+//!     let mut used = 0;
+//!     loop {
+//!         match decoder.next(&piece[used..]) {
+//!             Step::Event { used: taken, event, .. } => {
+//!                 if let Event::Frame(header) = event {
+//!                     seen.push(format!("{:?} under stream id {}", header.opcode, header.stream));
+//!                 }
+//!                 used += taken;
+//!             }
+//!             Step::More { .. } => return Ok(()),
+//!             Step::Refused(refusal) => return Err(refusal),
+//!         }
+//!     }
+//! }
+//!
+//! let Ok(listener) = TcpListener::bind("127.0.0.1:0") else {
+//!     return Ok(()); // no loopback interface
+//! };
+//! let mut client = TcpStream::connect(listener.local_addr()?)?;
+//! client.write_all(&[4, 0, 0, 1, 5, 0, 0, 0, 0])?;
+//! drop(client);
+//!
+//! let mut server = listener.accept()?.0;
+//! let mut decoder = Decoder::new(Global, Limits::DEFAULT)?;
+//! let (mut piece, mut seen) = ([0; 4096], Vec::new());
+//! loop {
+//!     let count = server.read(&mut piece)?;
+//!     if count == 0 {
+//!         break;
+//!     }
+//!     pull(&mut decoder, &piece[..count], &mut seen).expect("the bytes are a request");
+//! }
+//! assert_eq!(seen, ["Options under stream id 1"]);
+//! # Ok::<(), Box<dyn std::error::Error>>(())
+//! ```
+//!
+//! # A page
+//!
+//! A [`Frame`](frame::Frame) is written whole by [`encode`](frame::encode), or cell by cell, without ever being held:
+//!
+//! ```
+//! use cqlp::frame::{Atom, Frame, Message, Metadata, PageWriter, Rows, Spec, TypeTree, Value, encode, value_size};
+//! use cqlp::{Kind, OfStd};
+//!
+//! fn page(cells: Vec<Value>) -> Frame {
+//!     let id = Spec { table: None, name: "id".to_string().into(), tree: TypeTree::Plain(Kind::Int) };
+//!     let meta = Metadata {
+//!         flags: 1,
+//!         columns: 1,
+//!         paging: None,
+//!         table: Some(("shop".to_string().into(), "item".to_string().into())),
+//!         specs: Some(vec![id].into()),
+//!     };
+//!     let message = Message::Rows(Rows { meta, rows: 2, cells: cells.into() });
+//!     Frame { flags: 0, stream: 7, tracing: None, warnings: None, payload: None, message }
+//! }
+//!
+//! let int = |number| Value::Leaf(Atom::Int(number));
+//!
+//! let mut whole = OfStd::new(Vec::new());
+//! encode(&page(vec![int(1), int(2)]), &mut whole)?;
+//!
+//! // The header says how long the cells are, so that is known before the first of them.
+//! let cells_len = 2 * value_size(&int(0)) as u32;
+//! let (bare, mut by_cell) = (page(vec![]), OfStd::new(Vec::new()));
+//! let mut writer = PageWriter::begin(&bare, cells_len, &mut by_cell)?;
+//! for number in [1, 2] {
+//!     writer.cell(&int(number), &mut by_cell)?;
+//! }
+//! writer.finish()?;
+//! assert_eq!(by_cell.into_inner(), whole.into_inner());
+//! # Ok::<(), Box<dyn std::error::Error>>(())
+//! ```
+//!
+//! # A client and a server
+//!
+//! The cores do no input or output. Each is handed the headers that a decoder gives as [`Event::Frame`]:
+//!
+//! ```
+//! use cqlp::session::{Client, Reply, RequestKind, Server};
+//! use cqlp::{Global, Header, Opcode};
+//!
+//! let header = |response, stream, opcode| Header { response, flags: 0, stream, opcode, length: 0 };
+//! let (mut client, mut server) = (Client::new(Global, 2)?, Server::new(Global, 2)?);
+//!
+//! let startup = client.begin(RequestKind::Startup)?;
+//! server.accept(&header(false, startup.id, Opcode::Startup))?;
+//! server.answer(startup.id, Opcode::Ready)?;
+//! client.reply(&header(true, startup.id, Opcode::Ready))?;
+//!
+//! // Two queries are under way, and the later is answered first.
+//! let (first, second) = (client.begin(RequestKind::Query)?, client.begin(RequestKind::Query)?);
+//! for query in [first, second] {
+//!     server.accept(&header(false, query.id, Opcode::Query))?;
+//! }
+//! server.answer(second.id, Opcode::Result)?;
+//! let reply = client.reply(&header(true, second.id, Opcode::Result))?;
+//! assert_eq!(reply, Reply::Answer { ticket: second, kind: RequestKind::Query });
+//! # Ok::<(), Box<dyn std::error::Error>>(())
+//! ```
+//!
+//! # Traits of the caller's
+//!
+//! A [`Source`] that says that it read more than it was given room for, or a [`Target`] that says that it took more than it was
+//! given, ends a call in a panic or has it answer a wrong count. Nothing that is `unsafe` rests on what they say. A [`Sink`] may
+//! do as it likes.
+
+// Each module is a whole library of the sources, of which this package exports a part.
+#![allow(dead_code, unused_imports)]
+// Arguments that contracts alone speak of.
+#![allow(unused_variables)]
+// The form of the code is what was proved: a `match` where `?` would do, say.
+#![allow(clippy::style, clippy::complexity)]
+
+#[cfg(not(target_pointer_width = "64"))]
+compile_error!("each proof of these sources takes a usize to have 64 bits");
+
+#[macro_use]
+mod kit_std;
+
+#[cfg(doctest)]
+#[doc = include_str!("../README.md")]
+struct Readme;
+
+mod checked;
+mod cqlp_cell;
+mod cqlp_decode;
+mod cqlp_encode;
+mod cqlp_grammar;
+mod cqlp_kind;
+mod cqlp_message;
+mod cqlp_note;
+mod cqlp_session;
+mod cqlp_show;
+mod cqlp_text;
+mod cqlp_type;
+mod cqlp_value;
+mod hex;
+mod itoa;
+mod jiff_core;
+mod uuid;
+
+pub use cqlp_decode::{
+    Decoder, Event, FaultAfter, Finish, GiveError, GiveReason, Held, NewError, Outcome, Sink, SinkFault, Step, run,
+};
+pub use cqlp_kind::{Kind, Node, Scalar};
+pub use cqlp_note::{
+    Address, BadLimits, BoundValue, Field, Header, IoFault, LimitRange, Limits, NoMemory, OfStd, Opcode, Reason, Refusal, Source,
+    Target,
+};
+pub use cqlp_type::TypeTable;
+pub use kit_std::alloc::Global;
+
+/// Values of frames, and what writes them.
+pub mod frame {
+    pub use crate::cqlp_encode::{EncodeError, PageError, PageWriter, encode};
+    pub use crate::cqlp_message::{
+        BatchEntry, ErrorExtra, Frame, Message, Metadata, OwnedBound, PartRef, Prepared, QueryParams, Rows, SchemaChange,
+        SchemaOptions, ServerEvent, Spec, TakesParts, Unfit,
+    };
+    pub use crate::cqlp_type::{TreeCheck, TypeTree, check_type, type_len};
+    pub use crate::cqlp_value::{Atom, Content, Value, content_len, fits, value_len, value_size};
+}
+
+/// The cores of a client and of a server.
+pub mod session {
+    pub use crate::cqlp_session::{
+        AnswerError, BeginError, Client, Phase, Reply, RequestKind, Server, ServerRefusal, SlotsOrMemory, Stray, Ticket,
+    };
+}
+
+/// The text of events, cells, pages and verdicts, as the program `cqlp` writes it.
+pub mod text {
+    pub use crate::cqlp_show::{render_events, render_rows};
+    pub use crate::cqlp_text::{Ending, PagePlace, cell_text, ending_line, event_line, opcode_name, page_part};
+}
+
+/// Memory that may be refused, and what is held in it.
+///
+/// Values own their contents in a [`Vec`](memory::Vec), a [`String`](memory::String) or a [`Box`](memory::Box) of this module, whose
+/// calls answer an error where memory is refused. Rust's own become one by `into()`, which takes no memory.
+pub mod memory {
+    pub use crate::kit_std::alloc::{AllocError, AllocFailed, Allocator, Global};
+    pub use crate::kit_std::boxed::Box;
+    pub use crate::kit_std::string::String;
+    pub use crate::kit_std::vec::Vec;
+}
