@@ -9,7 +9,7 @@ room=$(mktemp -d)
 trap 'rm -rf "$room"' EXIT
 
 "$bindings/build"
-"$here/../cqlp" check - </dev/null >/dev/null # builds the program
+"$here/../prove"
 export CARGO_TARGET_DIR=$bindings/out/rust PYTHONPATH=$bindings/python
 cc -O2 -I"$here/../include" -o "$room/speed" "$bindings/c/speed.c" "$bindings/out/libcqlp.a"
 cargo build -q --offline --release --manifest-path "$bindings/rust/Cargo.toml" --example count

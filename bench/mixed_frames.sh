@@ -10,7 +10,7 @@ trap 'rm -rf "$room"' EXIT
 
 python3 "$here/mixed_frames.py" "$frames" >"$room/frames"
 python3 "$here/mixed_frames.py" "$((frames / 10))" >"$room/fewer"
-"$here/../cqlp" <"$room/fewer" >/dev/null # builds the program
+"$here/../prove"
 echo "$frames frames, $(stat -c %s "$room/frames") bytes, $("$here/../cqlp" <"$room/frames" 2>/dev/null | wc -l) lines"
 
 for _ in 1 2 3; do

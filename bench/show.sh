@@ -9,7 +9,7 @@ program=${CQLP:-$here/../crates/cqlp/out/cqlp}
 room=$(mktemp -d)
 trap 'rm -rf "$room"' EXIT
 
-if [ -z "${CQLP:-}" ]; then "$here/../cqlp" --help >/dev/null; fi # builds the program
+if [ -z "${CQLP:-}" ]; then "$here/../prove"; fi
 rustc --edition 2021 -O -C codegen-units=1 -o "$room/by_hand" "$here/show.rs"
 
 # The milliseconds of the processor that a program takes for a page, the best of five.
