@@ -44,8 +44,9 @@
  *
  * What the caller owes:
  *
- * - No pointer is null, also where the length or the room beside it is 0. Each points to as much as its type and the number
- *   after it say, aligned for its type, and no two that are given to one call overlap.
+ * - No pointer is null, but that of an input or a stream whose length is 0, and that of an array whose room is 0, may be. Each
+ *   points to as much as its type and the number after it say, aligned for its type, and no two that are given to one call
+ *   overlap.
  * - A handle is CQLP_NO_DECODER_YET before cqlp_new, and CQLP_NO_CLIENT_YET before cqlp_client_new. Nothing but these calls
  *   writes or copies it from then on until it is freed, and it is not given to another call of this library while one runs
  *   on it.
@@ -54,10 +55,11 @@
  * - The program has malloc, realloc and free of one allocator, that align as C says. Calls are not made from a signal
  *   handler, nor in the child of a fork of a process with threads.
  *
- * How long a content lives: `content` of an event points into the input of the call that put it, or into the decoder. It
- * stays as it is until the next call on the handle, and as long as the caller leaves the input as it is. Copy what is to
- * live longer. The batch ends after an event whose content is in the decoder, so all contents of one batch can be read
- * together.
+ * How long a content lives: `content` of an event points into the input of the call that put it, where all bytes of the
+ * content came in that input (of a decimal its scale too): it ends where the event's bytes end there. Else it points into the
+ * decoder. It stays as it is until the next call on the handle, and as long as the caller leaves the input as it is. Copy what
+ * is to live longer. The batch ends after an event whose content is in the decoder, so all contents of one batch can be read
+ * together. A content of no bytes is no null pointer, so it may be copied as any other.
  *
  * Threads: a decoder and a core have no thread of their own and take no lock. A handle may go from one thread to another
  * between two calls, if the program orders them (by a lock, a thread's start or join, or a sequentially consistent
@@ -301,7 +303,7 @@ typedef struct cqlp_decoder {
  * number of values around a value, 0 for the cell itself. */
 typedef struct cqlp_event {
   uint64_t at;            /* the offset in the stream of the event's field; an end's is the frame's end */
-  const uint8_t *content; /* the content, lent as said above; null where it has no bytes */
+  const uint8_t *content; /* the content, lent as said above; null where the event has none */
   size_t length;          /* how many bytes the content has; it ends with no zero */
   int64_t number;         /* a value, a count, how many items, an offset, or how many bytes */
   uint32_t row;
@@ -384,9 +386,9 @@ uint32_t cqlp_new(const cqlp_limits *limits, cqlp_decoder *decoder);
  * - CQLP_STOP_MORE: all of the input was used. Give the bytes that come after it.
  * - CQLP_STOP_FULL: the array is full, or the last content lies in the decoder. Give the rest of the input again, from
  *   `used` on, also where nothing is left of it: an end of a frame or of a value may still be due. With a `room` over 0 there
- *   is at least one event.
+ *   is at least one event. A call with a `room` of 0 uses no byte and answers this, before a refusal.
  * - CQLP_STOP_REFUSED: the bytes after those used are no frame of the protocol, or past a limit. The events before them are
- *   in the array. Every later call answers the same, and no event.
+ *   in the array. Every later call answers the same, and no event, also one with a `room` of 0.
  * How the stream is cut into pieces, and how much room there is, changes no event and no refusal. Room for some 256 events, 18 KiB,
  * costs the least; an event a call costs three to seven times as much.
  * Answers CQLP_DONE, or CQLP_NO_DECODER, with the array and the batch as they were. */

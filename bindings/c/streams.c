@@ -1,8 +1,8 @@
 /* Streams as data: the lines of crates/cqlp_vectors/stdin come on standard input, each a name, `--raw` or `--parts`, `|` and
  * hexadecimal digits. Of each stream the offset and the tag of its events and its verdict are printed, as they stand in
- * crates/cqlp_vectors/stdout, and each cut of it has to give the same. Then bytes of each stream are replaced by others, one
- * and four at each place, so that lengths and counts lie: however it is cut, the events and the verdict are those of the whole, and no byte past a piece
- * or past the array is read or written. */
+ * crates/cqlp_vectors/stdout, and each cut of it has to give the same, with each content in its place. Then bytes of each stream are
+ * replaced by others, one and four at each place, so that lengths and counts lie: however it is cut, the events and the verdict are
+ * those of the whole, and no byte past a piece or past the array is read or written. */
 #include "give.h"
 
 static const char *const TAGS[] = {"",     "Frame", "Byte", "Short", "Int",  "Long",  "Uuid",  "Count", "Text", "Bytes",
@@ -79,6 +79,89 @@ static void cut_everywhere(const cqlp_limits *limits, const uint8_t *stream, siz
   check_same(by_byte, wanted, &end, &whole);
 }
 
+/* Whether an event lends a content. */
+static int lends(const cqlp_event *event) {
+  switch (event->tag) {
+    case CQLP_TAG_TEXT: case CQLP_TAG_PART: return 1;
+    case CQLP_TAG_BYTES: case CQLP_TAG_BOUND: return event->mark == CQLP_MARK_NONE;
+    case CQLP_TAG_LEAF: break;
+    default: return 0;
+  }
+  switch (event->kind) {
+    case CQLP_KIND_CUSTOM: case CQLP_KIND_ASCII: case CQLP_KIND_BLOB: case CQLP_KIND_DECIMAL: case CQLP_KIND_VARCHAR:
+    case CQLP_KIND_VARINT: case CQLP_KIND_RAW: return 1;
+    default: return 0;
+  }
+}
+
+/* Of each event of a stream the offset at which its content begins, as it was put alone, out of the whole stream: before the bytes that
+ * were used, as many as it has. */
+enum { PLACES = 4096 };
+static size_t places[PLACES];
+
+static void find_places(const cqlp_limits *limits, const uint8_t *stream, size_t length) {
+  cqlp_decoder decoder = CQLP_NO_DECODER_YET;
+  cqlp_event event;
+  cqlp_batch batch;
+  size_t used = 0, count = 0;
+  memset(&event, 0, sizeof event);
+  memset(&batch, 0, sizeof batch);
+  CHECK(cqlp_new(limits, &decoder) == CQLP_DONE);
+  do {
+    CHECK(cqlp_next(&decoder, stream + used, length - used, &event, 1, &batch) == CQLP_DONE);
+    used += batch.used;
+    if (!batch.events) continue;
+    CHECK(lends(&event) || (!event.content && !event.length));
+    CHECK(!lends(&event) || event.content == stream + used - event.length);
+    CHECK(count < PLACES);
+    places[count++] = used - event.length;
+  } while (batch.stop == CQLP_STOP_FULL);
+  CHECK(cqlp_free(&decoder) == CQLP_DONE);
+}
+
+/* Gives a piece of the stream, which lies elsewhere, and looks at the contents once the call is over: one that came whole in the piece
+ * lies there in its place; one whose first bytes came before lies outside, and is the last of its batch. Answers how many events there
+ * were so far. */
+static size_t give_and_look(cqlp_decoder *decoder, const uint8_t *stream, size_t from, size_t length, size_t room, size_t count) {
+  uint8_t *piece = edge(PIECE, length);
+  cqlp_event events[ROOM];
+  cqlp_batch batch;
+  size_t used = 0;
+  memcpy(piece, stream + from, length);
+  memset(events, 0, sizeof events);
+  memset(&batch, 0, sizeof batch);
+  do {
+    CHECK(cqlp_next(decoder, piece + used, length - used, events, room, &batch) == CQLP_DONE);
+    for (size_t i = 0; i < batch.events; i++, count++) {
+      const cqlp_event *event = &events[i];
+      if (!lends(event)) continue;
+      size_t place = places[count];
+      size_t scale = event->tag == CQLP_TAG_LEAF && event->kind == CQLP_KIND_DECIMAL ? 4 : 0;
+      CHECK(event->content && memcmp(event->content, stream + place, event->length) == 0);
+      if (place >= from + used + scale) {
+        CHECK(event->content == piece + (place - from));
+      } else {
+        CHECK(event->content + event->length < piece || event->content > piece + length);
+        CHECK(i + 1 == batch.events && batch.stop == CQLP_STOP_FULL);
+      }
+    }
+    used += batch.used;
+  } while (batch.stop == CQLP_STOP_FULL);
+  return count;
+}
+
+static void look_everywhere(const cqlp_limits *limits, const uint8_t *stream, size_t length) {
+  find_places(limits, stream, length);
+  for (size_t cut = 0; cut <= length; cut++)
+    for (size_t room = 1; room <= ROOM; room += ROOM - 1) {
+      cqlp_decoder decoder = CQLP_NO_DECODER_YET;
+      CHECK(cqlp_new(limits, &decoder) == CQLP_DONE);
+      size_t count = give_and_look(&decoder, stream, 0, cut, room, 0);
+      give_and_look(&decoder, stream, cut, length - cut, room, count);
+      CHECK(cqlp_free(&decoder) == CQLP_DONE);
+    }
+}
+
 /* Bytes that stand in place of others. */
 typedef struct lie {
   size_t width;
@@ -143,6 +226,7 @@ int main(void) {
     cqlp_limits limits = {64, 64, 8, 3, !strstr(line, "--raw"), strstr(line, "--parts") != NULL};
     print_whole(&limits, stream, length);
     cut_everywhere(&limits, stream, length);
+    look_everywhere(&limits, stream, length);
     lie_everywhere(&limits, stream, length);
   }
   return 0;

@@ -123,6 +123,82 @@ static void print_handles(void) {
   CHECK(cqlp_free(&decoder) == CQLP_DONE);
 }
 
+/* No byte and no room may be given by a null pointer. */
+static void give_nothing(void) {
+  cqlp_limits limits = CQLP_DEFAULT_LIMITS;
+  cqlp_decoder decoder = CQLP_NO_DECODER_YET;
+  cqlp_event event;
+  cqlp_batch batch;
+  cqlp_end end;
+  memset(&event, 0, sizeof event);
+  memset(&batch, 0, sizeof batch);
+  memset(&end, 0, sizeof end);
+  CHECK(cqlp_new(&limits, &decoder) == CQLP_DONE);
+  CHECK(cqlp_next(&decoder, NULL, 0, &event, 1, &batch) == CQLP_DONE);
+  printf("no input: stop %u used %zu events %zu\n", batch.stop, batch.used, batch.events);
+  CHECK(cqlp_next(&decoder, NULL, 0, NULL, 0, &batch) == CQLP_DONE);
+  printf("and no room: stop %u used %zu events %zu\n", batch.stop, batch.used, batch.events);
+  CHECK(cqlp_next(&decoder, query, sizeof query - 1, &event, 1, &batch) == CQLP_DONE && batch.used == 9);
+  CHECK(cqlp_next(&decoder, query + 9, 3, &event, 1, &batch) == CQLP_DONE && batch.stop == CQLP_STOP_MORE);
+  CHECK(cqlp_next(&decoder, NULL, 0, &event, 1, &batch) == CQLP_DONE && batch.stop == CQLP_STOP_MORE);
+  CHECK(cqlp_finish(&decoder, &end) == CQLP_DONE);
+  printf("within a field: verdict %u bytes %llu\n", end.verdict, (unsigned long long)end.bytes);
+  CHECK(cqlp_free(&decoder) == CQLP_DONE);
+  CHECK(cqlp_check(&limits, NULL, 0, &end) == CQLP_DONE);
+  printf("a stream of nothing: verdict %u bytes %llu\n", end.verdict, (unsigned long long)end.bytes);
+}
+
+/* After a refusal each call says it again, with room and without, so that a loop over full batches ends. */
+static void refuse_without_room(void) {
+  static const uint8_t bad[] = {5, 0, 0, 0, 8, 0, 0, 0, 0};
+  cqlp_limits limits = CQLP_DEFAULT_LIMITS;
+  cqlp_decoder decoder = CQLP_NO_DECODER_YET;
+  cqlp_event event;
+  cqlp_batch batch;
+  memset(&event, 0, sizeof event);
+  memset(&batch, 0, sizeof batch);
+  CHECK(cqlp_new(&limits, &decoder) == CQLP_DONE);
+  CHECK(cqlp_next(&decoder, bad, sizeof bad, &event, 0, &batch) == CQLP_DONE);
+  printf("no room: stop %u used %zu\n", batch.stop, batch.used);
+  for (size_t room = 2; room-- > 0;) {
+    CHECK(cqlp_next(&decoder, bad, sizeof bad, &event, room, &batch) == CQLP_DONE);
+    printf("room %zu: stop %u reason %u at %llu used %zu events %zu\n", room, batch.stop, batch.reason,
+           (unsigned long long)batch.at, batch.used, batch.events);
+  }
+  CHECK(cqlp_next(&decoder, NULL, 0, NULL, 0, &batch) == CQLP_DONE && batch.stop == CQLP_STOP_REFUSED);
+  CHECK(cqlp_free(&decoder) == CQLP_DONE);
+}
+
+/* A QUERY with an empty text, whole and byte by byte: its content is no null pointer, and may be copied. */
+static void copy_empty(void) {
+  static const uint8_t empty[] = {4, 0, 0, 7, 7, 0, 0, 0, 7, 0, 0, 0, 0, 0, 1, 0};
+  cqlp_limits limits = CQLP_DEFAULT_LIMITS;
+  size_t seen = 0;
+  for (size_t piece = 1; piece <= sizeof empty; piece += sizeof empty - 1) {
+    cqlp_decoder decoder = CQLP_NO_DECODER_YET;
+    CHECK(cqlp_new(&limits, &decoder) == CQLP_DONE);
+    for (size_t at = 0; at < sizeof empty; at += piece) {
+      cqlp_event events[ROOM];
+      cqlp_batch batch;
+      uint8_t copy[1] = {7};
+      memset(events, 0, sizeof events);
+      memset(&batch, 0, sizeof batch);
+      do {
+        CHECK(cqlp_next(&decoder, empty + at, piece, events, ROOM, &batch) == CQLP_DONE && batch.used == piece);
+        for (size_t i = 0; i < batch.events; i++) {
+          if (events[i].tag != CQLP_TAG_TEXT) continue;
+          CHECK(events[i].content != NULL && events[i].length == 0);
+          memcpy(copy, events[i].content, events[i].length);
+          CHECK(copy[0] == 7);
+          seen++;
+        }
+      } while (batch.stop == CQLP_STOP_FULL);
+    }
+    CHECK(cqlp_free(&decoder) == CQLP_DONE);
+  }
+  printf("an empty content, whole and byte by byte: %zu\n", seen);
+}
+
 int main(void) {
   static const uint8_t hostile[] = {0x84, 0, 0, 0, 8, 0x10, 0, 0, 1};
   print_stream("a page", page, sizeof page);
@@ -131,6 +207,9 @@ int main(void) {
   print_stream("a page that is cut", page, 52);
   print_stream("a length of 256 MB and a byte", hostile, sizeof hostile);
   print_handles();
+  give_nothing();
+  refuse_without_room();
+  copy_empty();
   cut_everywhere(page, sizeof page);
   cut_everywhere(query, sizeof query);
   cut_everywhere(decimal, sizeof decimal);

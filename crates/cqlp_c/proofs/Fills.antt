@@ -176,5 +176,5 @@ module _ (l : Rules) (old new : StreamState) (s input : List â„•) (es : List (â„
       put = rw same f.put;
       told = rw put f.told;
       after = rw at leads.1;
-      stops = rw (at, is) (f.ends, omega (arith, f.count, room'), f.lie, leads.0, refuses_free free.refusal rules clear still r leads.2);
+      stops = rw (at, is) (f.ends, inl (omega (arith, f.count, room')), f.lie, leads.0, refuses_free free.refusal rules clear still r leads.2);
     }

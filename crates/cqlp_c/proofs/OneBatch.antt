@@ -15,7 +15,7 @@ use Rattle.cqlp_c.specs.declared.batch.Stop.{Stop}
 use Rattle.cqlp_c.specs.declared.batch.Stop.TheVariants as stop
 use Rattle.cqlp_c.specs.declared.event.CqlpEvent.{CqlpEvent}
 use Rattle.cqlp_c.specs.Events.{Tells}
-use Rattle.cqlp_c.specs.Batches.{AllInInput, Fills, LastIsGathered, OthersInInput, Put, Puts, StopsBy, TellsAll, end_of, events_of}
+use Rattle.cqlp_c.specs.Batches.{AllInInput, Fills, LastIsGathered, MayRefuse, OthersInInput, Put, Puts, StopsBy, TellsAll, end_of, events_of}
 use Rattle.cqlp_c.specs.Handle.{PutsInto}
 use Rattle.cqlp_c.specs.Laws.{AreOneAnswer, unplaced}
 use Rattle.cqlp_c.proofs.Fills.{others_of_all}
@@ -83,6 +83,10 @@ gathered_not (p ∷ q ∷ ps) x y = gathered_not (q ∷ ps) x y.1
 
 -- ---- how a batch ends, where nothing was refused before
 
+has_room : (before : Option Refusal) → before ≡ None → (room : ℕ) (ps : List Put) (r : Refusal) → MayRefuse before room ps r → length ps < room
+has_room before none room ps r (inl lt) = lt
+has_room before none room ps r (inr is) = absurd (let e = sym none ∙ is in cc)
+
 module _ (old : StreamState) (none : old.refusal ≡ None) (s input : List ℕ) (es : List (ℕ × Event)) (room : ℕ) where
   -- more is wanted, or this is refused, after these events
   abbrev Ended : StreamState → (used : ℕ) → List Put → Verdict → Type 0
@@ -92,7 +96,7 @@ module _ (old : StreamState) (none : old.refusal ≡ None) (s input : List ℕ) 
   ended_more new used ps rules x = (x.1, x.2, rw rules at x.4)
 
   ended_refused : (new : StreamState) (used : ℕ) (ps : List Put) (r : Refusal) → StopsBy old new s input es room used ps (stop.Refused r) → Ended new used ps (Refused r.at r.why)
-  ended_refused new used ps r x = (x.1, x.2, subst (λ (o : Option Refusal). Refuses o [] old s (es ++ events_of ps) input r) none x.4)
+  ended_refused new used ps r x = (has_room old.refusal none room ps r x.1, x.2, subst (λ (o : Option Refusal). Refuses o [] old s (es ++ events_of ps) input r) none x.4)
 
   others_in : (new : StreamState) (used : ℕ) (ps : List Put) (x : Stop) → StopsBy old new s input es room used ps x → OthersInInput ps
   others_in new used ps stop.More x = others_of_all ps x.2
@@ -132,9 +136,9 @@ module _ (old : StreamState) (none : old.refusal ≡ None) (s input : List ℕ) 
   stop_once new new' used used' ps (stop.Refused r) (stop.Refused z) a b x y =
       let same = two_verdicts ps (Refused r.at r.why) (Refused z.at z.why) (ended_refused new used ps r x).2 (ended_refused new' used' ps z y).2 in
       (y.0 ∙ sym x.0, ap stop.Refused (same_refused r z same))
-  stop_once new new' used used' ps (stop.Refused r) stop.Full a b x y = absurd (full_not new' used' ps y x.1 x.2)
+  stop_once new new' used used' ps (stop.Refused r) stop.Full a b x y = absurd (full_not new' used' ps y (has_room old.refusal none room ps r x.1) x.2)
   stop_once new new' used used' ps stop.Full stop.More a b x y = absurd (full_not new used ps x y.1 y.2)
-  stop_once new new' used used' ps stop.Full (stop.Refused r) a b x y = absurd (full_not new used ps x y.1 y.2)
+  stop_once new new' used used' ps stop.Full (stop.Refused r) a b x y = absurd (full_not new used ps x (has_room old.refusal none room ps r y.1) y.2)
   stop_once new new' used used' ps stop.Full stop.Full a b x y = (y.0 ∙ sym x.0, refl)
 
   longer : (new new' : StreamState) (used used' : ℕ) (ps rest : List Put) (x y : Stop) → new.rules ≡ old.rules → length (ps ++ rest) ≤ room → Puts old.rules s input es 0 (ps ++ rest) → length ps < length (ps ++ rest)
@@ -191,30 +195,14 @@ module _ (old new new' : StreamState) (s input : List ℕ) (es : List (ℕ × Ev
     ]
   ]
 
-  -- after a refusal, with no room
-  stops_full : (z : StreamState) (used : ℕ) (ps : List Put) (t : Stop) → length before ≡ 0 → StopsBy old z s input es (length before) used ps t → (t ≡ stop.Full) × (used ≡ end_of 0 ps)
-  stops_full z used ps stop.More none st = absurd (omega (arith, none, st.1))
-  stops_full z used ps (stop.Refused r) none st = absurd (omega (arith, none, st.1))
-  stops_full z used ps stop.Full none st = (refl, st.0)
-
   refused : (r : Refusal) → old.refusal ≡ Some r → AreOneAnswer new new' s input es b b' after after'
-  refused r is = elim (cases_lt 0 (length before)) [
-    | inl some ↦
-        let p = x.refused r is some in
-        let q = y.refused r is some in
-        let batch : b' ≡ b = q.0 ∙ sym p.0 in
-        let one = nil_from_length f.puts (f.count ∙ ap (λ (z : Batch). z.events) p.0) in
-        let two = nil_from_length g.puts (g.count ∙ ap (λ (z : Batch). z.events) q.0) in
-        answer batch (two ∙ sym one)
-    | inr le ↦
-        let zero : length before ≡ 0 = omega (arith, le) in
-        let one : f.puts ≡ [] = nil_from_length f.puts (omega (arith, few, zero)) in
-        let two : g.puts ≡ [] = nil_from_length g.puts (omega (arith, few', zero)) in
-        let p = stops_full new b.used f.puts b.stop zero f.stops in
-        let q = stops_full new' b'.used g.puts b'.stop zero g.stops in
-        let puts = two ∙ sym one in
-        answer (same_batch b b' (q.1 ∙ ap (end_of 0) puts ∙ sym p.1) (sym g.count ∙ ap length puts ∙ f.count) (q.0 ∙ sym p.0)) puts
-  ]
+  refused r is =
+      let p = x.refused r is in
+      let q = y.refused r is in
+      let batch : b' ≡ b = q.0 ∙ sym p.0 in
+      let one = nil_from_length f.puts (f.count ∙ ap (λ (z : Batch). z.events) p.0) in
+      let two = nil_from_length g.puts (g.count ∙ ap (λ (z : Batch). z.events) q.0) in
+      answer batch (two ∙ sym one)
 
   by_refusal : (o : Option Refusal) → old.refusal ≡ o → AreOneAnswer new new' s input es b b' after after'
   by_refusal None is = unrefused is

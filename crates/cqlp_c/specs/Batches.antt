@@ -1,7 +1,9 @@
 -- Batches of events, as calls put them into an array.
-use Rattle.std.specs.Prelude.{◌≡◌, ℕ, ◌+◌, ◌*◌, ◌<◌, ◌≤◌, ◌++◌, List, [], ◌∷◌, length, take, Some, None, ◌⊎◌, ⊤}
+use Rattle.std.specs.Prelude.{◌≡◌, ℕ, ◌+◌, ◌*◌, ◌<◌, ◌≤◌, ◌++◌, List, [], ◌∷◌, length, take, Option, Some, None, ◌⊎◌, ⊤}
 use Rattle.cqlp_note.specs.declared.refusal.Refusal.{Refusal}
 use Rattle.cqlp_note.specs.Limits.{Rules}
+use Rattle.cqlp_grammar.specs.declared.event.Finish.{Finish}
+use Rattle.cqlp_grammar.specs.declared.event.Finish.TheVariants as finish
 use Rattle.cqlp_decode.specs.Reading.{Event, Place, start, Reads, Says, Waits}
 use Rattle.cqlp_decode.specs.Standing.{StreamState, ends_due}
 use Rattle.cqlp_decode.specs.Streams.{After, Refuses}
@@ -74,13 +76,17 @@ LastIsGathered (p ∷ q ∷ ps) = LastIsGathered (q ∷ ps)
 
 -- More is wanted, with all of the input used; or what comes next is refused, or was before; or the array is full, or the
 -- last content lies in the decoder, which the next step may overwrite.
+-- another event would have had a place, or there is a refusal that was made before and is said again
+abbrev pub MayRefuse : Option Refusal → (room : ℕ) → List Put → Refusal → Type 0
+MayRefuse before room puts r = (length puts < room) ⊎ (before ≡ Some r)
+
 abbrev pub StopsBy : (old new : StreamState) → (s input : List ℕ) → (es : List (ℕ × Event)) → (room used : ℕ)
     → List Put → Stop → Type 0
 StopsBy old new s input es room used puts stop.More =
     (used ≡ length input) × (length puts < room) × AllInInput puts
     × (new.refusal ≡ None) × Says new.rules start (s ++ input) (es ++ events_of puts) Waits
 StopsBy old new s input es room used puts (stop.Refused r) =
-    (used ≡ end_of 0 puts) × (length puts < room) × AllInInput puts
+    (used ≡ end_of 0 puts) × MayRefuse old.refusal room puts r × AllInInput puts
     × (new.refusal ≡ Some r) × Refuses old.refusal [] old s (es ++ events_of puts) input r
 StopsBy old new s input es room used puts stop.Full =
     (used ≡ end_of 0 puts) × OthersInInput puts × ((length puts ≡ room) ⊎ LastIsGathered puts)
@@ -101,9 +107,15 @@ abbrev pub FillsOn : (old new : StreamState) → (input : List ℕ) → (room : 
 FillsOn old new input room b events =
     (s : List ℕ) (es : List (ℕ × Event)) → After old s es → Fills old new s input es room b events
 
--- after a refusal a batch says it again, and changes nothing
+-- after a refusal a batch says it again, also where there is no room, and changes nothing
 abbrev pub RepeatsRefusal : Refusal → (old new : StreamState) → Batch → Type 0
 RepeatsRefusal r old new b = (b ≡ record { used = 0; events = 0; stop = stop.Refused r }) × (new ≡ old)
+
+-- why a batch ends that has no room, where the stream would end so
+abbrev pub stop_without_room : Finish → Stop
+stop_without_room (finish.Refused r) = stop.Refused r
+stop_without_room (finish.Whole bytes) = stop.Full
+stop_without_room (finish.Cut frame_at bytes) = stop.Full
 
 -- ---- progress
 

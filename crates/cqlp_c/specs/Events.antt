@@ -1,5 +1,5 @@
 -- Events, as C sees them.
-use Rattle.std.specs.Prelude.{◌≡◌, ℕ, zero, suc, ◌+◌, ◌++◌, pos, List, [], ◌∷◌, length, Some, None, ◌==◌, ◌&&◌, if◌then◌else◌}
+use Rattle.std.specs.Prelude.{◌≡◌, ℕ, zero, suc, ◌+◌, ◌++◌, pos, List, [], ◌∷◌, length, Option, Some, None, ◌==◌, ◌&&◌, if◌then◌else◌}
 use Rattle.std.specs.Borrow.{Bor}
 use Rattle.std.specs.Ptr.{Ptr, null_ptr, as_ptr}
 use Rattle.cqlp_note.specs.declared.field.Field.{Field}
@@ -45,17 +45,23 @@ blank at = record {
 
 -- ---- contents
 
--- where these bytes begin: a reference to them points there, or it is null where there are none
-abbrev pub IsStart : List ℕ → Ptr → Type 0
-IsStart [] p = p ≡ null_ptr
-IsStart (byte ∷ bytes) p = (lent : Bor (List ℕ)) × (lent.now ≡ byte ∷ bytes) × (p ≡ as_ptr lent)
+-- the bytes of what is lent, if something is
+abbrev pub bytes_in : Option (List ℕ) → List ℕ
+bytes_in None = []
+bytes_in (Some bytes) = bytes
+
+-- Where a content begins: a reference to it points there, also to one of no bytes, and no reference is null. It is null
+-- where nothing is lent.
+abbrev pub IsStart : Option (List ℕ) → Ptr → Type 0
+IsStart None p = p ≡ null_ptr
+IsStart (Some bytes) p = (lent : Bor (List ℕ)) × (lent.now ≡ bytes) × (p ≡ as_ptr lent)
 
 -- with this content, which begins there
 abbrev pub with_content : CqlpEvent → List ℕ → Ptr → CqlpEvent
 with_content c bytes p = record c { content = p; length = length bytes }
 
-abbrev pub LendsFrom : CqlpEvent → List ℕ → CqlpEvent → Type 0
-LendsFrom c bytes d = (p : Ptr) × IsStart bytes p × (d ≡ with_content c bytes p)
+abbrev pub LendsFrom : CqlpEvent → Option (List ℕ) → CqlpEvent → Type 0
+LendsFrom c content d = (p : Ptr) × IsStart content p × (d ≡ with_content c (bytes_in content) p)
 
 -- ---- addresses
 
@@ -147,28 +153,32 @@ numbers_of at (Cell_at row column e) = cell_event at row column e
 numbers_of at (Leave level items) = record (of_value at numbers.TAG_LEAVE 0 0 level) { number = pos items }
 numbers_of at (End extra) = record (of_value at numbers.TAG_END 0 0 0) { number = pos extra }
 
--- the content of a scalar; the others are told by their number or their bytes
-abbrev pub scalar_content : ScalarValue → List ℕ
-scalar_content (scalar.Custom b) = b
-scalar_content (scalar.Blob b) = b
-scalar_content (scalar.Raw b) = b
-scalar_content (scalar.Varint b) = b
-scalar_content (scalar.Ascii t) = t
-scalar_content (scalar.Varchar t) = t
-scalar_content (scalar.Decimal scale b) = b
-scalar_content v = []
+-- the content of a scalar, if it has one; the others are told by their number or their bytes
+abbrev pub scalar_content : ScalarValue → Option (List ℕ)
+scalar_content (scalar.Custom b) = Some b
+scalar_content (scalar.Blob b) = Some b
+scalar_content (scalar.Raw b) = Some b
+scalar_content (scalar.Varint b) = Some b
+scalar_content (scalar.Ascii t) = Some t
+scalar_content (scalar.Varchar t) = Some t
+scalar_content (scalar.Decimal scale b) = Some b
+scalar_content v = None
+
+-- the content that an event lends, if it lends one
+abbrev pub content_in : Event → Option (List ℕ)
+content_in (Holds f (field.Text t)) = Some t
+content_in (Holds f (field.Bytes (Some c))) = Some c
+content_in (Holds f (field.Bound (field.Known c))) = Some c
+content_in (Cell_at row column (cell.Leaf level v)) = scalar_content v
+content_in (Cell_at row column (cell.Part level offset c last)) = Some c
+content_in e = None
 
 abbrev pub content_of : Event → List ℕ
-content_of (Holds f (field.Text t)) = t
-content_of (Holds f (field.Bytes (Some c))) = c
-content_of (Holds f (field.Bound (field.Known c))) = c
-content_of (Cell_at row column (cell.Leaf level v)) = scalar_content v
-content_of (Cell_at row column (cell.Part level offset c last)) = c
-content_of e = []
+content_of e = bytes_in (content_in e)
 
 -- C is told of this event at this offset: its numbers, and where its content begins, with how many bytes.
 abbrev pub Tells : CqlpEvent → (at : ℕ) → Event → Type 0
-Tells c at e = LendsFrom (numbers_of at e) (content_of e) c
+Tells c at e = LendsFrom (numbers_of at e) (content_in e) c
 
 -- ---- where a content lies
 

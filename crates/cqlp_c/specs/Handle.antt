@@ -1,5 +1,5 @@
 -- What a handle owns, and what calls on one answer.
-use Rattle.std.specs.Prelude.{◌≡◌, ℕ, ◌<◌, ◌≤◌, List, length, drop, Option, None, Some, Result, Ok, Err, ◌⊎◌}
+use Rattle.std.specs.Prelude.{◌≡◌, ℕ, ◌≤◌, List, length, drop, Option, None, Some, Result, Ok, Err, ◌⊎◌}
 use base.Fml.{Fml, ftrue}
 use Rattle.cqlp_note.specs.declared.limits.BadLimits.{BadLimits}
 use Rattle.cqlp_note.specs.declared.limits.Limits.{Limits}
@@ -52,7 +52,7 @@ Makes l (Some d) code new = (code ≡ numbers.IN_USE) × (new ≡ Some d)
 -- were.
 pub record PutsInto (old new : StreamState) (input : List ℕ) (b : Batch) (before after : List CqlpEvent) : Type 0 where
   pub fills : FillsOn old new input (length before) b after
-  pub refused : (r : Refusal) → old.refusal ≡ Some r → 0 < length before → RepeatsRefusal r old new b
+  pub refused : (r : Refusal) → old.refusal ≡ Some r → RepeatsRefusal r old new b
   pub goes_on : GoesOn old new (length before) b
   pub within : (b.used ≤ length input) × (b.events ≤ length before)
   pub others : drop b.events after ≡ drop b.events before

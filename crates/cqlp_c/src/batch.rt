@@ -1,13 +1,14 @@
 //! Batches of events.
 
-ghost use Rattle.std.specs.Prelude.{◌≡◌, ◌<◌, ◌≤◌, drop, length, Some};
+ghost use Rattle.std.specs.Prelude.{◌≡◌, ℕ, ◌<◌, ◌≤◌, List, drop, length, Some};
 ghost use Rattle.cqlp_note.specs.declared.refusal.Refusal.{Refusal as Refused};
 ghost use Rattle.cqlp_decode.specs.Streams.{state};
-ghost use Rattle.cqlp_c.specs.Batches.{FillsOn, GoesOn, RepeatsRefusal};
+ghost use Rattle.cqlp_c.specs.declared.event.CqlpEvent.{CqlpEvent as Event};
+ghost use Rattle.cqlp_c.specs.Batches.{FillsOn, GoesOn, RepeatsRefusal, stop_without_room};
 
 use crate::event::{CqlpEvent, tell};
 use crate::slots::put_whole;
-use cqlp_decode::{Decoder, Step};
+use cqlp_decode::{Decoder, Finish, Step};
 use cqlp_note::Refusal;
 use std::alloc::Global;
 
@@ -33,9 +34,63 @@ pub struct Batch {
     pub stop: Stop,
 }
 
+/// Bytes that C gives: where there are none, C may give them by a null pointer, which goes no further than this.
+pub fn or_none(bytes: &[u8]) -> &[u8]
+    ensures { result.now ≡ bytes.now }
+{
+    if bytes.is_empty() { &[] } else { bytes }
+}
+
 /// Puts the next events of the input into the array, until the input is used up or refused, or there is no room. A
-/// content that lies in the decoder is put last, since the next step may overwrite it.
+/// content that lies in the decoder is put last, since the next step may overwrite it. A refusal that was made before is
+/// said again, also where there is no room.
 pub fn fill(decoder: &mut Decoder<Global>, input: &[u8], events: &mut [CqlpEvent]) -> Batch
+    ensures fills { FillsOn (state decoder.old) (state decoder.new) input.now (length events.old) result events.new }
+    ensures refused { (r : Refused) → (state decoder.old).refusal ≡ Some r →
+        RepeatsRefusal r (state decoder.old) (state decoder.new) result }
+    ensures goes_on { GoesOn (state decoder.old) (state decoder.new) (length events.old) result }
+    ensures within { (result.used ≤ length input.now) × (result.events ≤ length events.old) }
+    ensures others { drop result.events events.new ≡ drop result.events events.old }
+    ensures room { length events.new ≡ length events.old }
+    ensures rules { (state decoder.new).rules ≡ (state decoder.old).rules }
+{
+    if events.is_empty() {
+        without_room(decoder)
+    } else {
+        fill_room(decoder, input, events)
+    }
+}
+
+/// Why a batch ends that has no room, where the stream would end so.
+fn stop_without_room(finish: &Finish) -> Stop
+    ensures { result ≡ stop_without_room finish.now }
+{
+    match *finish {
+        Finish::Refused(refusal) => Stop::Refused(refusal),
+        Finish::Whole { .. } => Stop::Full,
+        Finish::Cut { .. } => Stop::Full,
+    }
+}
+
+/// A batch that has no room: it says nothing but a refusal that was made before.
+#[inline(never)]
+fn without_room(decoder: &Decoder<Global>) -> Batch
+    ensures fills { (input : List ℕ) (events : List Event) → FillsOn (state decoder.now) (state decoder.now) input 0 result events }
+    ensures refused { (r : Refused) → (state decoder.now).refusal ≡ Some r →
+        RepeatsRefusal r (state decoder.now) (state decoder.now) result }
+    ensures none { (result.used ≡ 0) × (result.events ≡ 0) }
+{
+    let stop = stop_without_room(&decoder.finish());
+    Batch {
+        used: 0,
+        events: 0,
+        stop,
+    }
+}
+
+/// The same as `fill`, where there is room.
+#[inline(always)]
+fn fill_room(decoder: &mut Decoder<Global>, input: &[u8], events: &mut [CqlpEvent]) -> Batch
     ensures fills { FillsOn (state decoder.old) (state decoder.new) input.now (length events.old) result events.new }
     ensures refused { (r : Refused) → (state decoder.old).refusal ≡ Some r → 0 < length events.old →
         RepeatsRefusal r (state decoder.old) (state decoder.new) result }

@@ -5,7 +5,7 @@ ghost use Rattle.cqlp_decode.specs.Streams.{state};
 ghost use Rattle.cqlp_c.specs.Checks.{Checks, Drains};
 ghost use Rattle.cqlp_c.specs.Shown as shown;
 
-use crate::batch::{Stop, fill};
+use crate::batch::{Stop, fill, or_none};
 use crate::event::CqlpEvent;
 use crate::numbers::*;
 use crate::shown::*;
@@ -29,7 +29,7 @@ fn drain(decoder: &mut Decoder<Global>, stream: &[u8])
     }
 }
 
-/// Tells how a stream ends that is there whole.
+/// Tells how a stream ends that is there whole. Where it has no bytes, its pointer may be null.
 #[unsafe(no_mangle)]
 pub extern "C" fn cqlp_check(
     alloc: Global,
@@ -41,7 +41,7 @@ pub extern "C" fn cqlp_check(
 {
     match Decoder::new(alloc, limits_of(limits)) {
         Ok(mut decoder) => {
-            drain(&mut decoder, stream);
+            drain(&mut decoder, or_none(stream));
             *end = end_of(&decoder.finish());
             DONE
         }

@@ -1,11 +1,11 @@
 //! An event, as C sees it.
 
-ghost use Rattle.std.specs.Prelude.{◌≡◌, ◌++◌, nat_lt};
+ghost use Rattle.std.specs.Prelude.{◌≡◌, ◌++◌, Some, nat_lt};
 ghost use Rattle.std.specs.Ptr.{as_ptr};
 ghost use Rattle.cqlp_kind.specs.CellStep as cell;
 ghost use Rattle.cqlp_kind.specs.Contents.{value_of};
 ghost use Rattle.cqlp_grammar.specs.Events.{Cell_at, event_of};
-ghost use Rattle.cqlp_c.specs.Events.{IsStart, LendsFrom, Tells, has_address, zeros};
+ghost use Rattle.cqlp_c.specs.Events.{LendsFrom, Tells, has_address, zeros};
 
 use crate::numbers::*;
 use cqlp_decode::Event;
@@ -18,7 +18,7 @@ use cqlp_note::{Address, BoundValue, Field, Header};
 pub struct CqlpEvent {
     /// The offset in the stream of the event's field; an end's is the frame's end.
     pub at: u64,
-    /// Where the content lies that the event lends, if it has bytes; else null.
+    /// Where the content lies that the event lends, also one of no bytes; null where it lends none.
     pub content: *const u8,
     /// How many bytes the content has.
     pub length: usize,
@@ -51,24 +51,12 @@ pub struct CqlpEvent {
     pub octets: u8,
 }
 
-/// Where these bytes lie.
+/// Where these bytes begin.
 #[inline(always)]
 fn address_of(bytes: &[u8]) -> *const u8
     ensures { result ≡ as_ptr bytes.entry }
 {
     bytes.as_ptr()
-}
-
-/// Where these bytes begin; null where there are none.
-#[inline(always)]
-fn start_of(bytes: &[u8]) -> *const u8
-    ensures { IsStart bytes.now result }
-{
-    if bytes.is_empty() {
-        std::ptr::null()
-    } else {
-        address_of(bytes)
-    }
 }
 
 /// Four bytes, and zeros.
@@ -123,9 +111,10 @@ impl CqlpEvent {
     /// Puts this content.
     #[inline(always)]
     fn lend(&mut self, bytes: &[u8])
-        ensures { LendsFrom self.old bytes.now self.new }
+        ensures lends { LendsFrom self.old (Some bytes.now) self.new }
+        ensures there { self.new.content ≡ as_ptr bytes.entry }
     {
-        self.content = start_of(bytes);
+        self.content = address_of(bytes);
         self.length = bytes.len();
     }
 

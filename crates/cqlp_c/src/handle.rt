@@ -12,7 +12,7 @@ ghost use Rattle.cqlp_laws.specs.OneAnswer.{IsNew};
 ghost use Rattle.cqlp_c.specs.Handle.{Finishes, Holds, Makes, Nexts, code_of_free, flag_of, owned_in};
 ghost use Rattle.cqlp_c.specs.Shown as shown;
 
-use crate::batch::fill;
+use crate::batch::{fill, or_none};
 use crate::event::CqlpEvent;
 use crate::loose::Loose;
 use crate::numbers::*;
@@ -138,7 +138,7 @@ pub extern "C" fn cqlp_new(alloc: Global, limits: &CqlpLimits, decoder: &mut Cql
     }
 }
 
-/// Puts the next events of the input into the array.
+/// Puts the next events of the input into the array. Where either has no members, its pointer may be null.
 #[unsafe(no_mangle)]
 pub extern "C" fn cqlp_next(
     alloc: Global,
@@ -152,7 +152,7 @@ pub extern "C" fn cqlp_next(
 {
     match taken(std::mem::replace(decoder, none(alloc)), alloc) {
         Some(mut boxed) => {
-            *batch = batch_of(&fill(&mut boxed, input, events));
+            *batch = batch_of(&fill(&mut boxed, or_none(input), events));
             *decoder = holding(boxed);
             DONE
         }

@@ -44,14 +44,14 @@ pub(crate) struct OpenValues<A: Allocator> {
 }
 
 impl<A: Allocator> Model for OpenValues<A> {
-    ghost use Rattle.std.specs.Prelude.{◌≤◌, vec_capacity};
+    ghost use Rattle.std.specs.Prelude.{◌≡◌, vec_capacity};
     ghost use Rattle.cqlp_cell.specs.OpenValues.{Nest, FitIn};
 
     ghost Value = { Nest };
 
     ghost view = { λ t. record { open_values = t.values.items; room = t.room } };
 
-    ghost invariant = { λ t. (t.room ≤ vec_capacity t.values) × FitIn t.room t.values.items };
+    ghost invariant = { λ t. (vec_capacity t.values ≡ t.room) × FitIn t.room t.values.items };
 }
 
 impl<A: Allocator> OpenValues<A> {
@@ -74,6 +74,13 @@ impl<A: Allocator> OpenValues<A> {
         ensures bound { result ≤ self.now.room }
     {
         self.values.len() as u32
+    }
+
+    /// How many values its memory has places for: the room, for as long as it lives.
+    pub(crate) fn capacity(&self) -> usize
+        ensures { result ≡ self.now.room }
+    {
+        self.values.capacity()
     }
 
     pub(crate) fn clear(&mut self)

@@ -86,6 +86,13 @@ impl<A: Allocator> CellReader<A> {
         self.standing.open_values.len()
     }
 
+    /// How many open values its memory has places for: as many as the limits allow, for as long as it lives.
+    pub fn capacity(&self) -> usize
+        ensures { result ≡ self.now.rules.depth }
+    {
+        self.standing.open_values.capacity()
+    }
+
     /// The offset of what is read next.
     pub fn offset(&self) -> u64
         ensures { result ≡ self.now.offset }

@@ -1,10 +1,11 @@
 //! Tasks in little memory, and how often they write.
 
 use crate::done::Done;
-use cqlp_fakes::{Calls, Narrow, Pieces};
+use cqlp_fakes::{Adds, Calls, Looks, Narrow, Pieces};
 use cqlp_note::Limits;
 use cqlp_tool::{check, rows, show};
 use linked_list_allocator::LocalHeap;
+use std::cell::Cell;
 use std::io;
 
 const LIMITS: Limits = Limits {
@@ -47,5 +48,38 @@ pub fn print_answers(rt: &HostRuntime, task: &str, bytes: &[u8]) -> io::Result<(
     }
     let mut input = Pieces::new(bytes, [9; 3]);
     let (_, out, _) = show(&rt.alloc(), LIMITS, &mut input, Calls::new(), Calls::new());
-    println!(rt; "{} writes", out.count())
+    println!(rt; "{} writes", out.count())?;
+    print_early_reads(rt, bytes)
+}
+
+/// Prints how many reads of nine bytes `show` makes before the text of all bytes before them is out, and whether it
+/// reads on where no text can be written; where it does neither, nothing.
+fn print_early_reads(rt: &HostRuntime, bytes: &[u8]) -> io::Result<()> {
+    let mut wanted = Vec::new(rt.alloc());
+    for piece in 0..=bytes.len().div_ceil(9) {
+        let front = &bytes[..(9 * piece).min(bytes.len())];
+        let mut input = Pieces::new(front, [9; 3]);
+        let text = Narrow::new(rt.alloc(), usize::MAX, usize::MAX);
+        let (_, text, _) = show(&rt.alloc(), LIMITS, &mut input, text, Calls::new());
+        wanted.push(text.text().len())?;
+    }
+    let out = Cell::new(0);
+    let mut input = Looks::new(Pieces::new(bytes, [9; 3]), &out, &wanted);
+    show(
+        &rt.alloc(),
+        LIMITS,
+        &mut input,
+        Adds::new(&out),
+        Calls::new(),
+    );
+    if input.wrong() != 0 {
+        println!(rt; "{} reads before the text is out", input.wrong())?;
+    }
+    let mut input = Pieces::new(bytes, [9; 3]);
+    let full = Narrow::new(rt.alloc(), 0, 1);
+    show(&rt.alloc(), LIMITS, &mut input, full, Calls::new());
+    if input.left() + 9 < bytes.len() {
+        println!(rt; "reads on after a write fault")?;
+    }
+    Ok(())
 }

@@ -1,5 +1,5 @@
 -- One more event for a sink, and the end of the input.
-use Rattle.std.proofs.Common.{◌≡◌, ℕ, ◌+◌, ◌-◌, ◌*◌, ◌<◌, ◌≤◌, List, [], ◌∷◌, ◌++◌, length, take, drop, refl, sym, ap, subst, ◌∙◌, append_assoc, arith}
+use Rattle.std.proofs.Common.{◌≡◌, ℕ, ◌+◌, ◌-◌, ◌<◌, ◌≤◌, List, [], ◌∷◌, ◌++◌, length, take, drop, refl, sym, ap, subst, ◌∙◌, append_assoc, arith}
 use Rattle.std.specs.Prelude.{Option, Some, None}
 use Rattle.std.specs.Io.KnownBytes.{Consumes, Keeps, IsAtEnd}
 use Rattle.std.proofs.lemmas.List.{append-nil, take-append-drop, take_all, take-take, drop-take, length-append, length-drop, length-take-le}
@@ -10,8 +10,11 @@ use Rattle.cqlp_decode.specs.Reading as reading
 use Rattle.cqlp_decode.specs.Reading.{Gifts, start_with, Says, Waits}
 use Rattle.cqlp_grammar.specs.Events.{event_of}
 use Rattle.cqlp_decode.specs.Standing.{StreamState}
-use Rattle.cqlp_decode.specs.Streams.{AfterGifts, LeadsAfter, Goes, Refuses}
-use Rattle.cqlp_decode.specs.Draining.{Drains, DrainsAll, Fails, Feeds, FeedsInto, HasAll, ReadsAtMost, fold_events}
+use Rattle.cqlp_grammar.specs.declared.event.Finish.{Finish}
+use Rattle.cqlp_grammar.specs.declared.event.Finish.TheVariants as finish
+use Rattle.cqlp_decode.specs.declared.running.Outcome.TheVariants as outcome
+use Rattle.cqlp_decode.specs.Streams.{AfterGifts, IsUnrefused, LeadsAfter, Goes, Refuses}
+use Rattle.cqlp_decode.specs.Draining.{Drains, DrainsAll, Fails, Feeds, FeedsInto, HasAll, InReads, fold_events, idle_reads}
 
 pub take_two : (k n : ℕ) (bytes : List ℕ) → take (k + n) bytes ≡ take k bytes ++ take n (drop k bytes)
 take_two k n bytes = sym (rw (take-take k (k + n) bytes (omega arith), drop-take k n bytes) at (take-append-drop k (take (k + n) bytes)))
@@ -121,15 +124,19 @@ module _ {V : Type 0} (f : V → ℕ → reading.Event → V) where
       drained = λ gifts s es a. let e = d.drained gifts s es a in drains_then gifts mid new s d.bytes part es v w x e (next gifts (s ++ d.bytes) (es ++ e.more) e.stands);
     }
 
+    pub end_fits : length piece ≤ 4096 → length end ≤ 4096
+    end_fits small = omega (arith, small, ap length split, length-append part end)
+
     -- of the piece, what was looked at but not used was refused
-    pub has_all : (left' : Option (List ℕ)) → left' ≡ Some left → (new.refusal ≡ None → end ≡ []) → (old.refusal ≡ None → mid.refusal ≡ None) → (next : (gifts : Gifts) (s : List ℕ) (es : List (ℕ × reading.Event)) → AfterGifts gifts mid s es → DrainsAll f gifts mid new s es piece part w x)
+    pub has_all : length piece ≤ 4096 → (left' : Option (List ℕ)) → left' ≡ Some left → (new.refusal ≡ None → end ≡ []) → (old.refusal ≡ None → mid.refusal ≡ None) → (next : (gifts : Gifts) (s : List ℕ) (es : List (ℕ × reading.Event)) → AfterGifts gifts mid s es → DrainsAll f gifts mid new s es piece part w x)
         → HasAll f old new xs left' v x (feeds_then (λ gifts s es a. (next gifts s es a).drains))
-    has_all left' is' none clear next = record {
+    has_all small left' is' none clear next = record {
       looked = end;
       unread = left;
       parts = refl;
       others = is';
       none = none;
+      few = end_fits small;
       says = λ free gifts s es a.
           let e = d.drained gifts s es a in
           let n = next gifts (s ++ d.bytes) (es ++ e.more) e.stands in
@@ -137,11 +144,16 @@ module _ {V : Type 0} (f : V → ℕ → reading.Event → V) where
           rw (bytes, ← (append_assoc es e.more n.drains.more)) (n.says (clear free));
     }
 
-    abbrev pub feeds_into : (faulted : V → ℕ → reading.Event → V → Type 0) → ((gifts : Gifts) (s : List ℕ) (es : List (ℕ × reading.Event)) → AfterGifts gifts mid s es → Fails f faulted gifts new s es part w x) → FeedsInto f faulted old new xs v x
-    feeds_into faulted next = record {
+    abbrev pub feeds_into : length piece ≤ 4096 → (left' : Option (List ℕ)) → left' ≡ Some left → (faulted : V → ℕ → reading.Event → V → Type 0) → ((gifts : Gifts) (s : List ℕ) (es : List (ℕ × reading.Event)) → AfterGifts gifts mid s es → Fails f faulted gifts new s es part w x) → FeedsInto f faulted old new xs left' v x
+    feeds_into small left' is' faulted next = record {
       bytes = d.bytes ++ part;
       rest = end ++ left;
       parts = parts_then;
+      lost = end;
+      unread = left;
+      split = refl;
+      few = end_fits small;
+      others = is';
       failed = λ gifts s es a. let e = d.drained gifts s es a in fails_then faulted gifts mid new s d.bytes part es v w x e (next gifts (s ++ d.bytes) (es ++ e.more) e.stands);
     }
 
@@ -164,26 +176,45 @@ keeps_some (Some xs) (Some ys) rest is k = let same : xs ≡ rest = cc in ap Som
 pub at_end : (rest left buffer : List ℕ) (n : ℕ) → rest ≡ take n buffer ++ left → n ≡ 0 → left ≡ [] → rest ≡ []
 at_end rest left buffer n is zero none = rw (zero, none) at is
 
-pub reads_none : (n : ℕ) (xs : List ℕ) (left : Option (List ℕ)) → left ≡ Some xs → ReadsAtMost n xs left
-reads_none n xs left is = record { read = []; rest = xs; parts = refl; few = omega arith; others = is }
+-- ---- how many reads gave how many bytes
 
-pub reads_kept : (turn turns : ℕ) (xs : List ℕ) (old new : Option (List ℕ)) → turn < turns → ReadsAtMost (4096 * turn) xs old → Keeps old new → ReadsAtMost (4096 * turns) xs new
-reads_kept turn turns xs old new within d k = record {
-  read = d.read;
-  rest = d.rest;
-  parts = d.parts;
-  few = let few = d.few in omega arith;
-  others = keeps_some old new d.rest d.others k;
-}
+pub gives_none : (xs : List ℕ) (left : Option (List ℕ)) → left ≡ Some xs → InReads 0 xs left
+gives_none xs left is = record { read = []; rest = xs; parts = refl; some = omega arith; few = omega arith; others = is }
 
--- one more read, into a buffer of 4,096 bytes
-pub reads_then : (turn turns : ℕ) (xs : List ℕ) (old new : Option (List ℕ)) (buffer : List ℕ) (n : ℕ) → turn < turns → ReadsAtMost (4096 * turn) xs old → n ≤ length buffer → length buffer ≡ 4096
-    → Consumes old new (take n buffer) × (n ≡ 0 → 0 < length buffer → IsAtEnd new) → ReadsAtMost (4096 * turns) xs new
-reads_then turn turns xs old new buffer n within d bound long reads =
-    let r = read_some old new d.rest buffer n d.others reads.0 reads.1 in record {
+pub gives_kept : (reads : ℕ) (xs : List ℕ) (old new : Option (List ℕ)) → InReads reads xs old → Keeps old new → InReads reads xs new
+gives_kept reads xs old new d k = record { read = d.read; rest = d.rest; parts = d.parts; some = d.some; few = d.few; others = keeps_some old new d.rest d.others k }
+
+-- a read at the end of the input, into a buffer with some room
+pub gives_end : (reads : ℕ) (xs : List ℕ) (old new : Option (List ℕ)) (buffer : List ℕ) (n : ℕ) → n ≡ 0 → 0 < length buffer → InReads reads xs old
+    → Consumes old new (take n buffer) × (n ≡ 0 → 0 < length buffer → IsAtEnd new) → InReads reads xs new
+gives_end reads xs old new buffer n zero long d came =
+    let r = read_some old new d.rest buffer n d.others came.0 came.1 in
+    let none = r.3 zero long in
+    let same : d.rest ≡ r.0 = at_end d.rest r.0 buffer n r.2 zero none ∙ sym none in
+    record { read = d.read; rest = d.rest; parts = d.parts; some = d.some; few = d.few; others = r.1 ∙ sym (ap (λ (z : List ℕ). Some z) same) }
+
+-- one more read that gave some bytes, into a buffer of 4,096
+pub gives_more : (reads : ℕ) (xs : List ℕ) (old new : Option (List ℕ)) (buffer : List ℕ) (n : ℕ) → 0 < n → n ≤ length buffer → length buffer ≡ 4096 → InReads reads xs old
+    → Consumes old new (take n buffer) × (n ≡ 0 → 0 < length buffer → IsAtEnd new) → InReads (reads + 1) xs new
+gives_more reads xs old new buffer n one bound long d came =
+    let r = read_some old new d.rest buffer n d.others came.0 came.1 in
+    let some = d.some in
+    let few = d.few in
+    record {
       read = d.read ++ take n buffer;
       rest = r.0;
       parts = d.parts ∙ ap (λ (z : List ℕ). d.read ++ z) r.2 ∙ sym (append_assoc d.read (take n buffer) r.0);
-      few = let few = d.few in omega (arith, length-append d.read (take n buffer), length-take-le n buffer bound);
+      some = omega (arith, length-append d.read (take n buffer), length-take-le n buffer bound);
+      few = omega (arith, length-append d.read (take n buffer), length-take-le n buffer bound);
       others = r.1;
     }
+
+-- ---- how many reads gave nothing
+
+pub idle_refused : (f : Finish) (r : Refusal) → f ≡ finish.Refused r → idle_reads (outcome.Finished f) ≡ 0
+idle_refused f r is = ap (λ (z : Finish). idle_reads (outcome.Finished z)) is
+
+pub idle_at_end : (f : Finish) → IsUnrefused f → idle_reads (outcome.Finished f) ≡ 1
+idle_at_end (finish.Whole n) unrefused = refl
+idle_at_end (finish.Cut at n) unrefused = refl
+idle_at_end (finish.Refused r) unrefused = absurd unrefused

@@ -1,11 +1,12 @@
 -- What a sink gets of a stream.
-use Rattle.std.specs.Prelude.{◌≡◌, ℕ, ◌≤◌, ◌++◌, true, List, [], ◌∷◌, length, take, Option, Some, None, ◌⊎◌, ⊤}
+use Rattle.std.specs.Prelude.{◌≡◌, ℕ, ◌+◌, ◌*◌, ◌≤◌, ◌++◌, true, List, [], ◌∷◌, length, take, Option, Some, None, ◌⊎◌, ⊤}
 use Rattle.cqlp_note.specs.declared.refusal.Refusal.{Refusal}
-use Rattle.cqlp_note.specs.Streams.{counted}
+use Rattle.cqlp_note.specs.Streams.{counted, CountsUp}
 use Rattle.cqlp_decode.specs.declared.running.Drained.{Drained}
 use Rattle.cqlp_decode.specs.declared.running.Drained.TheVariants as drained
 use Rattle.cqlp_decode.specs.declared.running.Outcome.{Outcome}
 use Rattle.cqlp_decode.specs.declared.running.Outcome.TheVariants as outcome
+use Rattle.cqlp_grammar.specs.declared.event.Finish.TheVariants as finish
 use Rattle.cqlp_decode.specs.Reading.{Event, Gifts, Verdict, start_with, Says, Waits, Refused}
 use Rattle.cqlp_decode.specs.Standing.{StreamState}
 use Rattle.cqlp_decode.specs.Streams.{AfterGifts, EndsAs}
@@ -70,8 +71,8 @@ module _ {V : Type 0} (f : V → ℕ → Event → V) where
       → Says new.rules (start_with gifts) (s ++ d.bytes ++ looked) (es ++ (d.drained gifts s es a).more)
       (verdict_of new.refusal)
 
-  -- Of the bytes that were not used, the first were looked at, where they are refused, and the others are left. What
-  -- was handed out is all that they say, if nothing was refused before.
+  -- Of the bytes that were not used, the first were looked at, where they are refused, at most as many as one read may
+  -- give, and the others are left. What was handed out is all that they say, if nothing was refused before.
   pub record HasAll (old new : StreamState) (xs : List ℕ) (left : Option (List ℕ)) (before after : V)
       (d : Feeds old new xs before after) : Type 0 where
     pub looked : List ℕ
@@ -79,6 +80,7 @@ module _ {V : Type 0} (f : V → ℕ → Event → V) where
     pub parts : d.rest ≡ looked ++ unread
     pub others : left ≡ Some unread
     pub none : new.refusal ≡ None → looked ≡ []
+    pub few : length looked ≤ 4096
     pub says : old.refusal ≡ None → SaysAll old new xs before after d looked
 
   -- Which faults an event may lead to.
@@ -106,11 +108,17 @@ module _ {V : Type 0} (f : V → ℕ → Event → V) where
     DrainsTo old input drained.Fault new before after =
         (used : ℕ) × FailsWithin old new (take used input) before after
 
-    -- The same as `Feeds`, but at the last of the events the sink failed.
-    pub record FeedsInto (old new : StreamState) (xs : List ℕ) (before after : V) : Type 0 where
+    -- The same as `Feeds`, but at the last of the events the sink failed. Of the bytes that were not used, the first
+    -- are lost, at most as many as one read may give, and the others are left.
+    pub record FeedsInto (old new : StreamState) (xs : List ℕ) (left : Option (List ℕ)) (before after : V) : Type 0 where
       pub bytes : List ℕ
       pub rest : List ℕ
       pub parts : xs ≡ bytes ++ rest
+      pub lost : List ℕ
+      pub unread : List ℕ
+      pub split : rest ≡ lost ++ unread
+      pub few : length lost ≤ 4096
+      pub others : left ≡ Some unread
       pub failed : FailsWithin old new bytes before after
 
     -- What a run leaves, by how it ends; the reader had the bytes xs. It finishes at the end of the input or at a
@@ -126,7 +134,7 @@ module _ {V : Type 0} (f : V → ℕ → Event → V) where
     RunsTo turns outcome.Turns old new xs left before after =
         (d : Feeds old new xs before after) × (left ≡ Some d.rest) × (turns ≤ length d.bytes)
         × HasAll old new xs left before after d
-    RunsTo turns outcome.SinkFault old new xs left before after = FeedsInto old new xs before after
+    RunsTo turns outcome.SinkFault old new xs left before after = FeedsInto old new xs left before after
 
 -- after a run that its reader or its turns end nothing was refused, and it may be called again
 abbrev pub WaitsAt : Outcome → StreamState → Type 0
@@ -134,13 +142,31 @@ WaitsAt outcome.ReadFault new = new.refusal ≡ None
 WaitsAt outcome.Turns new = new.refusal ≡ None
 WaitsAt o new = ⊤
 
--- Of the bytes xs of a reader, at most n were read, from the first on; the others are left.
-pub record ReadsAtMost (n : ℕ) (xs : List ℕ) (left : Option (List ℕ)) : Type 0 where
+-- Of the bytes xs of a reader this many reads gave these, from the first on, and each of them from 1 to 4,096; the
+-- others are left.
+pub record InReads (reads : ℕ) (xs : List ℕ) (left : Option (List ℕ)) : Type 0 where
   pub read : List ℕ
   pub rest : List ℕ
   pub parts : xs ≡ read ++ rest
-  pub few : length read ≤ n
+  pub some : reads ≤ length read
+  pub few : length read ≤ 4096 * reads
   pub others : left ≡ Some rest
+
+-- how many reads of a run gave nothing: the last one, where it failed or came to the end of the input
+abbrev pub idle_reads : Outcome → ℕ
+idle_reads outcome.ReadFault = 1
+idle_reads (outcome.Finished (finish.Whole bytes)) = 1
+idle_reads (outcome.Finished (finish.Cut frame_at bytes)) = 1
+idle_reads o = 0
+
+-- A run that may make so many reads made this many that gave some bytes, and those that gave nothing; and no other. Each
+-- turn was one that gave some bytes, where they ran out.
+pub record MakesReads (turns : ℕ) (o : Outcome) (old new : ℕ) (was left : Option (List ℕ)) : Type 0 where
+  pub giving : ℕ
+  pub counted : CountsUp (giving + idle_reads o) old new
+  pub within : giving + idle_reads o ≤ turns
+  pub all : o ≡ outcome.Turns → giving ≡ turns
+  pub gives : (xs : List ℕ) → was ≡ Some xs → InReads giving xs left
 
 -- a run that says that its reader failed counts a failed call
 abbrev pub Counts : Outcome → (old new : ℕ) → Type 0

@@ -379,7 +379,8 @@ pub record IsBounded (s : StreamStanding) : Type 0 where
   pub size : s.stop ≤ s.offset + LONGEST_BODY
   pub bound : s.stop ≤ 2 ^ 63 + 9 + LONGEST_BODY
 
--- The parts have just the room that the limits ask for.
+-- The parts have just the room that the limits ask for. The room of each is the capacity of its memory: that is an
+-- invariant of each, so no byte of a stream changes how much memory a decoder has.
 pub record HasParts (s : StreamStanding) (q : PartsState) : Type 0 where
   pub room : q.partial.room ≡ max s.limits.text s.limits.cell
   pub rules : q.types.rules ≡ rules_of s.limits

@@ -5,6 +5,7 @@ use Rattle.cqlp_decode.specs.declared.step.Step.{Step}
 use Rattle.cqlp_decode.specs.declared.step.Step.TheVariants as step
 use Rattle.cqlp_grammar.specs.declared.event.Finish.{Finish}
 use Rattle.cqlp_grammar.specs.declared.event.Finish.TheVariants as finish
+use Rattle.cqlp_decode.specs.declared.step.Capacity.{Capacity}
 use Rattle.cqlp_decode.specs.declared.step.Held.{Held}
 use Rattle.cqlp_note.specs.Limits.{Rules}
 use Rattle.cqlp_kind.specs.declared.node.Node.{Node}
@@ -157,6 +158,11 @@ Finishes d s es f = FinishesBy d.refusal s es f
 abbrev pub EndsAs : StreamState → Finish → Type 0
 EndsAs d f = (gifts : Gifts) (s : List ℕ) (es : List (ℕ × Event)) → AfterGifts gifts d s es → Finishes d s es f
 
+-- not that of a refusal
+abbrev pub IsUnrefused : Finish → Type 0
+IsUnrefused (finish.Refused r) = ⊥
+IsUnrefused f = ⊤
+
 -- ---- what is held
 
 -- the nodes of the table that the caller gave
@@ -167,6 +173,15 @@ given_nodes (Some t) = t.nodes
 -- no content, no type and no level
 abbrev pub HoldsNothing : Decoding → Type 0
 HoldsNothing d = ((state d).held ≡ []) × ((state d).place.nodes ≡ []) × (levels_of d.parts ≡ 0)
+
+-- places for the longest content, for the types of one metadata, and for both kinds of nesting
+abbrev pub capacity_within : Rules → Capacity
+capacity_within l = record {
+  bytes = max l.text l.cell;
+  entries = l.entries;
+  open_types = l.depth;
+  open_values = l.depth;
+}
 
 -- no more than the rules allow, of two tables
 abbrev pub IsWithin : Held → Rules → Type 0

@@ -20,7 +20,7 @@ use crate::item_loop::take_items;
 use crate::page_loop::take_cells;
 use crate::parts::Parts;
 use crate::standing::StreamStanding;
-use crate::step::{FaultAfter, Held, Step};
+use crate::step::{Capacity, FaultAfter, Held, Step};
 use cqlp_cell::{CellItem, CellReader};
 use cqlp_grammar::{Event, Finish, Sink};
 use cqlp_note::{BadLimits, Field, Limits, NoMemory, Partial, Prim};
@@ -39,7 +39,8 @@ pub enum NewError {
     NoMemory,
 }
 
-/// Reads a stream of frames, one event per call, from pieces of any size. All its memory is taken when it is made.
+/// Reads a stream of frames, one event per call, from pieces of any size. All its memory is taken when it is made, and is
+/// as large as its limits say for as long as it lives.
 #[derive(Drop)]
 pub struct Decoder<A: Allocator = Global> {
     standing: StreamStanding,
@@ -112,7 +113,7 @@ impl<A: Allocator> Decoder<A> {
     ghost use Rattle.cqlp_decode.specs.Reading.{Gives, is_in_use};
     ghost use Rattle.cqlp_decode.specs.Sinks.{Gets, Fails};
     ghost use Rattle.cqlp_decode.specs.Standing.{Advances, HoldsGiven, LeavesTypes, Takes, WhatThere, event_at};
-    ghost use Rattle.cqlp_decode.specs.Streams.{EndsAs, IsWithin, Uses, given_nodes, state};
+    ghost use Rattle.cqlp_decode.specs.Streams.{EndsAs, IsUnrefused, IsWithin, Uses, capacity_within, given_nodes, state};
     ghost use Rattle.cqlp_decode.specs.declared.given.GiveReason.{GiveReason as Why};
     ghost use Rattle.cqlp_kind.specs.Types.{types_of};
 
@@ -182,6 +183,7 @@ impl<A: Allocator> Decoder<A> {
     /// How the stream ends, if it ends after the bytes that were used.
     pub fn finish(&self) -> Finish
         ensures refused { (r : Refusal) → (state self.now).refusal ≡ Some r → result ≡ Finish.Refused r }
+        ensures unrefused { (state self.now).refusal ≡ None → IsUnrefused result }
         ensures ends { EndsAs (state self.now) result }
     {
         self.standing.finish(&self.parts)
@@ -200,6 +202,19 @@ impl<A: Allocator> Decoder<A> {
             bytes: self.parts.partial.held(),
             entries: self.parts.table.len() + self.given_len(),
             levels: self.parts.types.held() + self.parts.cells.levels(),
+        }
+    }
+
+    /// The places that the decoder has memory for. The limits alone say how many, at every moment: no length, count or
+    /// type of the stream does.
+    pub fn capacity(&self) -> Capacity
+        ensures { result ≡ capacity_within (state self.now).rules }
+    {
+        Capacity {
+            bytes: self.parts.partial.capacity(),
+            entries: self.parts.table.capacity(),
+            open_types: self.parts.types.capacity(),
+            open_values: self.parts.cells.capacity(),
         }
     }
 

@@ -1,7 +1,7 @@
 //! A reader's stream, drained into a sink.
 
-ghost use Rattle.std.specs.Prelude.{◌≡◌, ◌*◌, List, ℕ, Some};
-ghost use Rattle.cqlp_decode.specs.Draining.{Counts, DrainsBy, DrainsTo, ReadsAtMost, RunsTo, WaitsAt};
+ghost use Rattle.std.specs.Prelude.{◌≡◌, List, ℕ, Some};
+ghost use Rattle.cqlp_decode.specs.Draining.{Counts, DrainsBy, DrainsTo, MakesReads, RunsTo, WaitsAt};
 ghost use Rattle.cqlp_decode.specs.Streams.{state};
 ghost use Rattle.cqlp_note.specs.declared.refusal.Refusal.{Refusal};
 
@@ -47,7 +47,8 @@ pub fn run<R: Source, S: Sink, A: Allocator>(
     ensures refused { (r : Refusal) → (state decoder.old).refusal ≡ Some r →
         (result ≡ Outcome.Finished (Finish.Refused r)) × (state decoder.new ≡ state decoder.old)
         × (reader.new ≡ reader.old) × (sink.new ≡ sink.old) }
-    ensures reads { (xs : List ℕ) → R.left reader.old ≡ Some xs → ReadsAtMost (4096 * turns) xs (R.left reader.new) }
+    ensures reads { MakesReads turns result (R.reads reader.old) (R.reads reader.new)
+        (R.left reader.old) (R.left reader.new) }
     ensures failures { Counts result (R.failures reader.old) (R.failures reader.new) }
     ensures rules { (state decoder.new).rules ≡ (state decoder.old).rules }
     ensures given { (state decoder.new).given ≡ (state decoder.old).given }

@@ -65,7 +65,7 @@ impl StreamStanding {
     ghost use Rattle.cqlp_cell.specs.Standing as value;
     ghost use Rattle.cqlp_grammar.specs.Productions.{Extra, following, message};
     ghost use Rattle.cqlp_decode.specs.Reading.{given_after};
-    ghost use Rattle.cqlp_decode.specs.Streams.{EndsAs};
+    ghost use Rattle.cqlp_decode.specs.Streams.{EndsAs, IsUnrefused};
     ghost use Rattle.cqlp_grammar.specs.Upcoming.{room_after};
     ghost use Rattle.cqlp_decode.specs.declared.standing.StreamStage.TheVariants as stage;
     ghost use Rattle.cqlp_decode.specs.Standing.{Advances, EndsPage, GoesOn, GoesOnAfter, HasCome, LeavesTypes, Moves, MovesIdle, Takes};
@@ -119,6 +119,7 @@ impl StreamStanding {
     pub fn finish<A: Allocator>(&self, parts: &Parts<A>) -> Finish
         requires { IsLawful self.now parts.now }
         ensures refused { (r : Refusing) → self.now.refusal ≡ Some r → result ≡ Finish.Refused r }
+        ensures unrefused { self.now.refusal ≡ None → IsUnrefused result }
         ensures ends { EndsAs (state_with self.now parts.now) result }
     {
         if let Some(refusal) = self.refusal {

@@ -29,6 +29,19 @@ pub struct FaultAfter {
     pub used: usize,
 }
 
+/// The places that a decoder has memory for, but for those of a table that the caller gave.
+#[derive(Clone, Copy, Debug, PartialEq, Eq)]
+pub struct Capacity {
+    /// For the bytes of one content.
+    pub bytes: usize,
+    /// For the type options of one metadata.
+    pub entries: usize,
+    /// For the types around the one that is read.
+    pub open_types: usize,
+    /// For the values around the one that is read.
+    pub open_values: usize,
+}
+
 /// What a decoder holds of the stream.
 #[derive(Clone, Copy, Debug, PartialEq, Eq)]
 pub struct Held {

@@ -115,8 +115,8 @@ AddsAll p before (v ∷ cells) old new q =
 
 -- ---- finish
 
--- What `finish` answers after these cells: the number of bytes of the frame with them, which are those that were
--- appended; or a target failed; or cells or bytes of them are wanting.
+-- What `finish` answers after these cells: the number of bytes of the frame with them, which are those that `begin`
+-- appended to its target and then each `cell` to its own; or a target failed; or cells or bytes of them are wanting.
 abbrev pub Finishes : PageState → (n : ℕ) → List Values → Result ℕ PageError → Type 0
 Finishes p n cells (Ok size) =
     (p.failed ≡ false) × (p.left + p.free ≡ 0) × (size ≡ frame_size (with_cells (page p) cells) 0)

@@ -7,6 +7,6 @@ mod sources;
 mod targets;
 
 pub use digits::{bytes_of, number_of};
-pub use sinks::{Ends, Takes};
-pub use sources::{FailsOnce, Pieces};
+pub use sinks::{Adds, Ends, Takes};
+pub use sources::{FailsOnce, Looks, Pieces};
 pub use targets::{Calls, Narrow};

@@ -1,7 +1,9 @@
 //! Sinks.
 
 use cqlp_decode::{Event, Sink, SinkFault};
+use cqlp_note::{IoFault, Target};
 use std::alloc::Global;
+use std::cell::Cell;
 
 /// Takes this many events, and then fails.
 #[derive(Drop)]
@@ -77,5 +79,46 @@ impl Sink for Ends {
             Ok(()) => Ok(()),
             Err(_) => Err(SinkFault),
         }
+    }
+}
+
+/// Adds up the events or the bytes that it takes.
+#[derive(Drop)]
+pub struct Adds<'a> {
+    out: &'a Cell<usize>,
+}
+
+impl<'a> Adds<'a> {
+    /// To what is out already.
+    pub fn new(out: &'a Cell<usize>) -> Adds<'a> {
+        Adds { out }
+    }
+
+    fn add(&self, count: usize) {
+        self.out.set(self.out.get().saturating_add(count));
+    }
+}
+
+impl Sink for Adds<'_> {
+    ghost View = { Unit {0} };
+
+    ghost view = { λ _. tt };
+
+    ghost after = { λ _ _ _. tt };
+
+    ghost faulted = { λ _ _ _ _. Unit {0} };
+
+    fn take(&mut self, _: u64, _: &Event<'_>) -> Result<(), SinkFault> {
+        self.add(1);
+        Ok(())
+    }
+}
+
+impl Target for Adds<'_> {
+    ghost failures = { λ _. 0 };
+
+    fn write(&mut self, bytes: &[u8]) -> Result<usize, IoFault> {
+        self.add(bytes.len());
+        Ok(bytes.len())
     }
 }

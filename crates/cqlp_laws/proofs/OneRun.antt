@@ -1,5 +1,5 @@
 -- From one decoder over one reader's bytes there is one run.
-use Rattle.std.proofs.Common.{◌≡◌, ℕ, List, [], ◌∷◌, ◌++◌, length, refl, sym, ap, subst, ◌∙◌, append_assoc, inl, inr, arith}
+use Rattle.std.proofs.Common.{◌≡◌, ℕ, ◌+◌, ◌≤◌, Bool, true, false, List, [], ◌∷◌, ◌++◌, length, refl, sym, ap, subst, ◌∙◌, append_assoc, inl, inr, arith}
 use Rattle.std.specs.Prelude.{Option, Some, None}
 use Rattle.std.proofs.lemmas.Bool.{cases_lt}
 use Rattle.std.proofs.lemmas.List.{append-nil, append_cancel_left, append_cancel_right}
@@ -16,8 +16,8 @@ use Rattle.cqlp_decode.specs.declared.running.Outcome.TheVariants as outcome
 use Rattle.cqlp_decode.specs.Reading.{Event, Place, Verdict, Waits, Refused, Gifts, Reads, Says, start, start_with, step}
 use Rattle.cqlp_decode.specs.Standing.{StreamState}
 use Rattle.cqlp_decode.specs.Streams.{state, AfterGifts, AfterBy, FinishesBy}
-use Rattle.cqlp_decode.specs.Draining.{Feeds, HasAll, RunsTo, fold_events, verdict_of}
-use Rattle.cqlp_laws.specs.OneAnswer.{IsFrontEitherWay, IsSound, Ran, handed, AreOneRun, IsOneAnswerOfRun, RunsRight, EndsBy}
+use Rattle.cqlp_decode.specs.Draining.{Feeds, HasAll, RunsTo, WaitsAt, fold_events, idle_reads, verdict_of}
+use Rattle.cqlp_laws.specs.OneAnswer.{IsFrontEitherWay, IsSound, Ran, is_read_fault, handed, AreOneRun, IsOneAnswerOfRun, RunsRight, EndsBy}
 use Rattle.cqlp_laws.proofs.Whole.{is_bad, says_once}
 use Rattle.cqlp_laws.proofs.OneAnswer.{finish_by}
 
@@ -40,6 +40,13 @@ module _ (gifts : Gifts) where
         | inl lt ↦ let r = runs_compare (step l) (start_with gifts) q p (s ++ xs) (y ++ d) (x ++ b) (es ++ gs) (es ++ fs) on' on (omega arith) in inr (r.0, append_cancel_left es fs (gs ++ r.0) (r.1 ∙ append_assoc es gs r.0))
         | inr le ↦ let r = runs_compare (step l) (start_with gifts) p q (s ++ xs) (x ++ b) (y ++ d) (es ++ fs) (es ++ gs) on on' le in inl (r.0, append_cancel_left es gs (fs ++ r.0) (r.1 ∙ append_assoc es fs r.0))
       ]
+
+-- a stream that ends with no idle read is refused
+idle_is_refused : (w : Option Refusal) (s : List ℕ) (es : List (ℕ × Event)) (end : Finish) → FinishesBy w s es end → idle_reads (outcome.Finished end) ≡ 0 → w ≡ None → ⊥
+idle_is_refused (Some r) s es end h idle none = absurd (let e = none in cc)
+idle_is_refused None s es (finish.Whole n) h idle none = absurd (omega (arith, idle))
+idle_is_refused None s es (finish.Cut at n) h idle none = absurd (omega (arith, idle))
+idle_is_refused None s es (finish.Refused r) h idle none = absurd h
 
 module _ {V : Type 0} (f : V → ℕ → Event → V) (faulted : V → ℕ → Event → V → Type 0) where
   module _ (gifts : Gifts) where
@@ -170,6 +177,20 @@ module _ {V : Type 0} (f : V → ℕ → Event → V) (faulted : V → ℕ → E
     finished_with : (o : Outcome) (end : Finish) → o ≡ outcome.Finished end → (turns : ℕ) (old new : StreamState) (xs : List ℕ) (left : Option (List ℕ)) (before after : V) → RunsTo f faulted turns o old new xs left before after → RunsTo f faulted turns (outcome.Finished end) old new xs left before after
     finished_with o end is turns old new xs left before after ran = subst (λ (z : Outcome). RunsTo f faulted turns z old new xs left before after) is ran
 
+    fails_apart : (o o' : Outcome) → is_read_fault o ≡ true → is_read_fault o' ≡ false → is_read_fault o ≡ is_read_fault o' → ⊥
+    fails_apart o o' here there same = let e : ◌≡◌ {A = Bool} true false = sym here ∙ same ∙ there in cc
+
+    -- a run that finished with every turn spent was refused, and one whose turns ran out over the same bytes was not
+    spent : (turns : ℕ) (end : Finish) (o o' : Outcome) (old new new' : StreamState) (xs : List ℕ) (left left' : Option (List ℕ)) (before after after' : V) (s : List ℕ) (es : List (ℕ × Event)) (a : AfterGifts gifts old s es) (ran : Ran f faulted turns o old new xs left before after) (ran' : Ran f faulted turns o' old new' xs left' before after') → o ≡ outcome.Finished end → o' ≡ outcome.Turns → ran'.reads.giving ≡ ran.reads.giving → new'.refusal ≡ new.refusal → ⊥
+    spent turns end o o' old new new' xs left left' before after after' s es a ran ran' is is' giving refusal =
+        let fin = finished_with o end is turns old new xs left before after ran.runs in
+        let d = fin.0.drained gifts s es a in
+        let finishes : FinishesBy new.refusal (s ++ fin.0.bytes) (es ++ d.more) end = fin.2 gifts (s ++ fin.0.bytes) (es ++ d.more) d.stands in
+        let every : ran'.reads.giving ≡ turns = ran'.reads.all is' in
+        let within : ran.reads.giving + idle_reads (outcome.Finished end) ≤ turns = subst (λ (z : Outcome). ran.reads.giving + idle_reads z ≤ turns) is ran.reads.within in
+        let waits : new'.refusal ≡ None = subst (λ (z : Outcome). WaitsAt z new') is' ran'.waits in
+        idle_is_refused new.refusal (s ++ fin.0.bytes) (es ++ d.more) end finishes (omega arith) (sym refusal ∙ waits)
+
     module _ (turns : ℕ) (o o' : Outcome) (old new new' : StreamState) (xs : List ℕ) (left left' : Option (List ℕ)) (before after after' : V) (s : List ℕ) (es : List (ℕ × Event)) (a : AfterGifts gifts old s es) (ran : Ran f faulted turns o old new xs left before after) (ran' : Ran f faulted turns o' old new' xs left' before after') where
       sinks_by : (w : Option Refusal) → old.refusal ≡ w → IsSound o → IsSound o' → left' ≡ left → (after' ≡ after) × (new'.refusal ≡ new.refusal)
       sinks_by None none sound sound' same =
@@ -191,6 +212,21 @@ module _ {V : Type 0} (f : V → ℕ → Event → V) (faulted : V → ℕ → E
           let y : end' ≡ finish.Refused r = let e = sym is' ∙ q.0 in cc in
           (y ∙ sym x, q.2 ∙ sym p.2)
 
+      outcomes_by : (p p' : Outcome) → o ≡ p → o' ≡ p' → IsSound o → IsSound o' → left' ≡ left → ran'.reads.giving ≡ ran.reads.giving → is_read_fault o' ≡ is_read_fault o → o' ≡ o
+      outcomes_by (outcome.Finished e) (outcome.Finished e') is is' sound sound' same giving fails = is' ∙ ap (λ (z : Finish). outcome.Finished z) (ends_by old.refusal refl e e' is is').0 ∙ sym is
+      outcomes_by (outcome.Finished e) outcome.ReadFault is is' sound sound' same giving fails = absurd (fails_apart o' o (ap is_read_fault is') (ap is_read_fault is) fails)
+      outcomes_by (outcome.Finished e) outcome.Turns is is' sound sound' same giving fails = absurd (spent turns e o o' old new new' xs left left' before after after' s es a ran ran' is is' giving (sinks_by old.refusal refl sound sound' same).1)
+      outcomes_by (outcome.Finished e) outcome.SinkFault is is' sound sound' same giving fails = absurd (subst (λ (z : Outcome). IsSound z) is' sound')
+      outcomes_by outcome.ReadFault (outcome.Finished e) is is' sound sound' same giving fails = absurd (fails_apart o o' (ap is_read_fault is) (ap is_read_fault is') (sym fails))
+      outcomes_by outcome.ReadFault outcome.ReadFault is is' sound sound' same giving fails = is' ∙ sym is
+      outcomes_by outcome.ReadFault outcome.Turns is is' sound sound' same giving fails = absurd (fails_apart o o' (ap is_read_fault is) (ap is_read_fault is') (sym fails))
+      outcomes_by outcome.ReadFault outcome.SinkFault is is' sound sound' same giving fails = absurd (subst (λ (z : Outcome). IsSound z) is' sound')
+      outcomes_by outcome.Turns (outcome.Finished e) is is' sound sound' same giving fails = absurd (spent turns e o' o old new' new xs left' left before after' after s es a ran' ran is' is (sym giving) (sym (sinks_by old.refusal refl sound sound' same).1))
+      outcomes_by outcome.Turns outcome.ReadFault is is' sound sound' same giving fails = absurd (fails_apart o' o (ap is_read_fault is') (ap is_read_fault is) fails)
+      outcomes_by outcome.Turns outcome.Turns is is' sound sound' same giving fails = is' ∙ sym is
+      outcomes_by outcome.Turns outcome.SinkFault is is' sound sound' same giving fails = absurd (subst (λ (z : Outcome). IsSound z) is' sound')
+      outcomes_by outcome.SinkFault p' is is' sound sound' same giving fails = absurd (subst (λ (z : Outcome). IsSound z) is sound)
+
       one : AreOneRun f faulted turns o o' old new new' xs left left' before after after' gifts s es a ran ran'
       one = record {
         events =
@@ -198,6 +234,7 @@ module _ {V : Type 0} (f : V → ℕ → Event → V) (faulted : V → ℕ → E
             let y = given_by turns o' old new' xs left' before after' s es a ran'.rules ran'.runs in
             either_way gifts old.rules s x.bytes x.rest y.bytes y.rest xs es (handed f faulted turns o old new xs left before after ran.runs gifts s es a) (handed f faulted turns o' old new' xs left' before after' ran'.runs gifts s es a) x.place y.place x.left y.left x.parts y.parts x.read y.read;
         sinks = sinks_by old.refusal refl;
+        outcomes = λ sound sound' same giving fails. outcomes_by o o' refl refl sound sound' same giving fails;
         ends = ends_by old.refusal refl;
       }
 

@@ -1,6 +1,6 @@
 -- Laws of one answer: from the same history and the same input, two answers that both meet what a call promises are the
 -- same, given what only the outside decides.
-use Rattle.std.specs.Prelude.{◌≡◌, ℕ, ◌+◌, ◌++◌, List, [], ◌∷◌, length, Option, Some, None, ◌⊎◌}
+use Rattle.std.specs.Prelude.{◌≡◌, ℕ, Bool, true, false, ◌+◌, ◌++◌, List, [], ◌∷◌, length, Option, Some, None, ◌⊎◌}
 use Rattle.cqlp_note.specs.declared.limits.Limits.{Limits}
 use Rattle.cqlp_note.specs.declared.refusal.Refusal.{Refusal}
 use Rattle.cqlp_note.specs.Limits.{rules_of}
@@ -15,7 +15,7 @@ use Rattle.cqlp_decode.specs.Reading.{Event, Verdict, Waits, Refused, Gifts, Say
 use Rattle.cqlp_grammar.specs.Events.{event_of}
 use Rattle.cqlp_decode.specs.Standing.{StreamState, levels_of}
 use Rattle.cqlp_decode.specs.Streams.{Decoding, state, After, AfterGifts, Answers, Finishes, FinishesBy, given_nodes}
-use Rattle.cqlp_decode.specs.Draining.{RunsTo, WaitsAt, fold_events}
+use Rattle.cqlp_decode.specs.Draining.{MakesReads, RunsTo, WaitsAt, fold_events}
 use Rattle.cqlp_laws.specs.Reading.{BeginsWith}
 
 -- ---- the decoder
@@ -32,7 +32,8 @@ answer_of (step.More used) = Wants used
 answer_of (step.Refused r) = Refuses r
 
 -- Two decoders have the same limits, the same refusal, if any, the same types of metadata, and hold the same table that
--- was given, for the same use.
+-- was given, for the same use. Which bytes and how many levels they hold is not among this: that is bounded by the
+-- limits, but no clause of `next` decides it.
 pub record AreAlike (d d' : StreamState) : Type 0 where
   pub rules : d'.rules ≡ d.rules
   pub refusal : d'.refusal ≡ d.refusal
@@ -90,6 +91,11 @@ abbrev pub IsSound : Outcome → Type 0
 IsSound outcome.SinkFault = ⊥
 IsSound o = Unit {0}
 
+-- the reader failed
+abbrev pub is_read_fault : Outcome → Bool
+is_read_fault outcome.ReadFault = true
+is_read_fault o = false
+
 -- how a stream ends that says these events and this verdict
 abbrev pub EndsBy : Verdict → List ℕ → List (ℕ × Event) → Finish → Type 0
 EndsBy Waits bytes es end = FinishesBy None bytes es end
@@ -101,6 +107,9 @@ module _ {V : Type 0} (f : V → ℕ → Event → V) (faulted : V → ℕ → E
       (turns : ℕ) (o : Outcome) (old new : StreamState) (xs : List ℕ) (left : Option (List ℕ)) (before after : V)
       : Type 0 where
     pub runs : RunsTo f faulted turns o old new xs left before after
+    pub calls : ℕ
+    pub calls_after : ℕ
+    pub reads : MakesReads turns o calls calls_after (Some xs) left
     pub waits : WaitsAt o new
     pub refused :
         (r : Refusal) → old.refusal ≡ Some r
@@ -121,8 +130,9 @@ module _ {V : Type 0} (f : V → ℕ → Event → V) (faulted : V → ℕ → E
       d.more ++ (d.at, d.event) ∷ []
 
   -- Two runs from one decoder over one reader's bytes hand out the same events, as far as both go. Where no sink
-  -- failed, and both read the same bytes, the sinks are left alike. And where both finish, they do so alike, however
-  -- their reader cut its bytes.
+  -- failed, and both read the same bytes, the sinks are left alike; and where as many reads gave them, and a read failed
+  -- in both or in neither, the outcomes are the same. And where both finish, they do so alike, however their reader cut
+  -- its bytes.
   pub record AreOneRun
       (turns : ℕ) (o o' : Outcome) (old new new' : StreamState) (xs : List ℕ) (left left' : Option (List ℕ))
       (before after after' : V) (gifts : Gifts) (s : List ℕ) (es : List (ℕ × Event)) (a : AfterGifts gifts old s es)
@@ -133,6 +143,9 @@ module _ {V : Type 0} (f : V → ℕ → Event → V) (faulted : V → ℕ → E
         (handed turns o old new xs left before after ran.runs gifts s es a)
         (handed turns o' old new' xs left' before after' ran'.runs gifts s es a)
     pub sinks : IsSound o → IsSound o' → left' ≡ left → (after' ≡ after) × (new'.refusal ≡ new.refusal)
+    pub outcomes :
+        IsSound o → IsSound o' → left' ≡ left → ran'.reads.giving ≡ ran.reads.giving
+        → is_read_fault o' ≡ is_read_fault o → o' ≡ o
     pub ends :
         (end end' : Finish) → o ≡ outcome.Finished end → o' ≡ outcome.Finished end'
         → (end' ≡ end) × (after' ≡ after)

@@ -14,7 +14,7 @@ pub fn one_answer_of_new()
 
 /// After the same bytes and events, and the same tables given in between, there is one answer over the same input: the
 /// same event at the same offset with the same bytes used, the same refusal, or more is wanted; and the decoder is left
-/// alike.
+/// alike. How many bytes and levels it then holds is bounded, and not among this.
 pub fn one_answer_of_next()
     ensures { IsOneAnswerOfNext }
 {}
@@ -30,8 +30,9 @@ pub fn one_answer_of_held()
 {}
 
 /// From the same decoder over the same bytes of a reader a run hands the same events to its sink, as far as it goes,
-/// whatever tables were given before. Where the sink does not fail, how far that is goes by how much the reader gave;
-/// and a run that finishes ends the same way, however the reader cut its bytes.
+/// whatever tables were given before. Where the sink does not fail, how far that is goes by how much the reader gave:
+/// where as many reads gave the same bytes, and a read failed in both runs or in neither, the outcomes are the same, so
+/// the turns run out in both or in neither. And a run that finishes ends the same way, however the reader cut its bytes.
 pub fn one_answer_of_run<S: Sink>()
     ensures { IsOneAnswerOfRun S.after S.faulted }
 {}

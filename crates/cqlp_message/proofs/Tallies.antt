@@ -4,15 +4,16 @@ use Rattle.std.specs.Prelude.{nat_lt, not, Option, Some, Ok, Err}
 use Rattle.cqlp_message.specs.declared.unfit.Unfit.{Unfit}
 use Rattle.cqlp_message.specs.declared.unfit.Unfit.TheVariants as unfit
 use Rattle.std.specs.List.{list_all}
+use Rattle.std.proofs.lemmas.List.Elements.{All-push}
 use Rattle.std.proofs.lemmas.List.Folds.{list_all-append}
 use Rattle.std.proofs.lemmas.Bool.Decides.{nat_tests}
 use Rattle.cqlp_note.specs.declared.header.TheConstants.Header.{LONGEST_BODY}
 use Rattle.cqlp_message.specs.declared.tally.Tally.{Tally}
 use Rattle.cqlp_message.specs.FrameValues.{FrameValue}
-use Rattle.cqlp_message.specs.Parts.{Part, part_size, parts_size, counts_fit, texts_fit, cell_fits}
+use Rattle.cqlp_message.specs.Parts.{Part, part_size, parts_size, counts_fit, texts_fit, cell_fits, PartIsInRange}
 use Rattle.cqlp_message.specs.Frames.{frame_parts, first_obstacles, first_of, obstacles, unfit_of, if_none}
 use Rattle.cqlp_message.specs.Agreement.{has_its_cells}
-use Rattle.cqlp_message.specs.Pages.{is_bare, page_unfit_of}
+use Rattle.cqlp_message.specs.Pages.{is_bare, can_have, cells_wanted, page_unfit_of}
 use Rattle.cqlp_message.specs.Tallies.{IsTally, IsTallyOf}
 
 pub size_more : (ps : List Part) (p : Part) → parts_size (ps ++ p ∷ []) ≡ parts_size ps + part_size p
@@ -32,6 +33,7 @@ tally_more t u r ps p all one c x l s = record {
   texts = x ∙ (λ i. all.texts i && one.texts i) ∙ sym (all_more texts_fit ps p);
   cells = l ∙ (λ i. all.cells i && one.cells i) ∙ sym (all_more cell_fits ps p);
   size = let e = size_more ps p in let f = all.size in let g = one.size in omega arith;
+  range = All-push PartIsInRange ps p all.range one.range;
 }
 
 abbrev pub AllFalse : {A : Type 0} → List (Bool × A) → Type 0
@@ -63,7 +65,7 @@ first_of_frame f why e =
 
 pub first_of_page : (f : FrameValue) (n : ℕ) (why : Unfit) → first_of (first_obstacles f) ≡ Some why → page_unfit_of f n ≡ Some why
 first_of_page f n why e =
-    first_of_more (first_obstacles f) ((not (is_bare f.message), unfit.RowShape) ∷ (nat_lt LONGEST_BODY (parts_size (frame_parts f) + n), unfit.BodyTooLong) ∷ []) why e
+    first_of_more (first_obstacles f) ((not (is_bare f.message), unfit.RowShape) ∷ (nat_lt LONGEST_BODY (parts_size (frame_parts f) + n), unfit.BodyTooLong) ∷ (not (can_have (cells_wanted f.message) n), unfit.RowShape) ∷ []) why e
 
 below : (m n : ℕ) → nat_lt m n ≡ false → n ≤ m
 below m n e = grind (arith, nat_tests)

@@ -1,6 +1,6 @@
 //! Pages whose cells are written one by one, after all else of their frame.
 
-ghost use Rattle.std.specs.Prelude.{◌≡◌, None, map};
+ghost use Rattle.std.specs.Prelude.{◌≡◌, IfOk, None, map};
 ghost use Rattle.cqlp_value.specs.Owned.{value_of};
 ghost use Rattle.cqlp_message.specs.Bodies.{cell_types, column_types};
 ghost use Rattle.cqlp_message.specs.Owned.{frame_of, message_of, metadata_of, spec_of};
@@ -14,14 +14,15 @@ use cqlp_note::Header;
 use cqlp_value::{Value, fits};
 
 impl Frame {
-    ghost use Rattle.cqlp_message.specs.Frames.{frame_size, if_none};
+    ghost use Rattle.cqlp_message.specs.Frames.{FrameIsInRange, frame_size, if_none};
     ghost use Rattle.cqlp_message.specs.Pages.{page_unfit_of, types_of_page};
 
     /// How many bytes it has, with its header and cells of this many bytes after its parts; or why it is no page that can be
     /// written with them.
     pub fn page_measure(&self, cells_len: u32) -> Result<u32, Unfit>
-        ensures { let f = frame_of self.now in
+        ensures is { let f = frame_of self.now in
             result ≡ if_none (page_unfit_of f cells_len) (frame_size f cells_len) }
+        ensures range { IfOk result (λ _. FrameIsInRange (frame_of self.now)) }
     {
         let tally = self.frame_tally()?;
         if !self.message.is_bare() {
@@ -31,12 +32,20 @@ impl Frame {
         if body > u64::from(Header::LONGEST_BODY) {
             return Err(Unfit::BodyTooLong);
         }
+        if !can_have(self.cells_wanted(), cells_len) {
+            return Err(Unfit::RowShape);
+        }
         Ok(body as u32 + 9)
     }
 
     /// Why it is no page that can be written with cells of this many bytes after its parts, or None where it is one.
+    ///
+    /// [`Unfit::RowShape`] comes first where it is no page or holds cells, and last where no cells of its rows and columns have
+    /// this many bytes: less than four for each, or some where there are to be none. Of longer cells nothing is said: whether
+    /// some have just this many bytes is for the caller to know.
     pub fn page_unfit(&self, cells_len: u32) -> Option<Unfit>
-        ensures { result ≡ page_unfit_of (frame_of self.now) cells_len }
+        ensures is { result ≡ page_unfit_of (frame_of self.now) cells_len }
+        ensures range { page_unfit_of (frame_of self.now) cells_len ≡ None → FrameIsInRange (frame_of self.now) }
     {
         match self.page_measure(cells_len) {
             Ok(_) => None,
@@ -84,6 +93,17 @@ impl Frame {
             Message::Rows(page) => page.meta.fits_column(column, value),
             _ => false,
         }
+    }
+}
+
+/// Whether so many cells can have this many bytes, four or more each.
+fn can_have(cells: u64, bytes: u32) -> bool
+    ensures { result ≡ pages.can_have cells bytes }
+{
+    if cells == 0 {
+        bytes == 0
+    } else {
+        cells <= u64::from(bytes / 4)
     }
 }
 

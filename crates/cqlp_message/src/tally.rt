@@ -2,9 +2,10 @@
 
 ghost use Rattle.std.specs.Prelude.{◌≡◌, ◌+◌, ◌-◌, ◌^◌, ◌&&◌, [], length, min, nat_lt, true};
 ghost use Rattle.std.specs.Option.{option_map};
+ghost use Rattle.std.specs.Str.{is_utf8};
 ghost use Rattle.cqlp_type.specs.TypeTrees.{tree_of};
 ghost use Rattle.cqlp_value.specs.Owned.{fits_type, value_of};
-ghost use Rattle.cqlp_value.specs.Values.{values_size};
+ghost use Rattle.cqlp_value.specs.Values.{AreInRange, values_size};
 ghost use Rattle.cqlp_message.specs.Bodies.{bound};
 ghost use Rattle.cqlp_message.specs.Owned.{bound_of};
 ghost use Rattle.cqlp_message.specs.Parts.{Type_is};
@@ -71,24 +72,50 @@ impl Tally {
         ensures { IsTallyOf result (part_of part.entry) }
     {
         match part {
-            PartRef::Byte(_, _) => Tally::fixed(1),
-            PartRef::Short(_, _) => Tally::fixed(2),
-            PartRef::Int(_, _) => Tally::fixed(4),
-            PartRef::Long(_, _) => Tally::fixed(8),
-            PartRef::Uuid(_, _) => Tally::fixed(16),
+            PartRef::Byte(_, _number) => Tally::fixed(1),
+            PartRef::Short(_, _number) => Tally::fixed(2),
+            PartRef::Int(_, _number) => Tally::fixed(4),
+            PartRef::Long(_, _number) => Tally::fixed(8),
+            PartRef::Uuid(_, id) => Tally::uuid(*id),
             PartRef::Count16(_, count) => Tally::counted(is_short(count), 2),
             PartRef::Count32(_, count) => Tally::counted(is_int(count), 4),
-            PartRef::Text(_, text) => Tally::content(2, text.len(), is_short(text.len())),
-            PartRef::LongText(_, text) => Tally::content(4, text.len(), is_int(text.len())),
+            PartRef::Text(_, text) => Tally::text(text),
+            PartRef::LongText(_, text) => Tally::long_text(text),
             PartRef::ShortBytes(_, bytes) => Tally::content(2, bytes.len(), is_short(bytes.len())),
             PartRef::Bytes(_, None) => Tally::fixed(4),
             PartRef::Bytes(_, Some(bytes)) => Tally::content(4, bytes.len(), is_int(bytes.len())),
             PartRef::Bound(_, value) => Tally::bound(value),
-            PartRef::Inet(_, Address::V4(_), _) => Tally::fixed(9),
-            PartRef::Inet(_, Address::V6(_), _) => Tally::fixed(21),
+            PartRef::Inet(_, Address::V4(bytes), _port) => Tally::fixed(bytes.len() as u64 + 5),
+            PartRef::Inet(_, Address::V6(bytes), _port) => Tally::fixed(bytes.len() as u64 + 5),
             PartRef::Type(tree) => Tally::option(tree),
             PartRef::Cell { tree, value, .. } => Tally::cell(value, tree),
         }
+    }
+
+    /// That of a \[uuid\].
+    fn uuid(id: [u8; 16]) -> Tally
+        ensures is { result ≡ record { counts = true; texts = true; cells = true; size = 16 } }
+        ensures range { length id ≡ 16 }
+    {
+        Tally::fixed(id.len() as u64)
+    }
+
+    /// That of a \[string\].
+    fn text(text: &str) -> Tally
+        ensures is { let size = min (2 + length text.now) (2 ^ 64 - 1) in
+            result ≡ record { counts = true; texts = nat_lt (length text.now) (2 ^ 16); cells = true; size = size } }
+        ensures range { is_utf8 text.now ≡ true }
+    {
+        Tally::content(2, text.len(), is_short(text.len()))
+    }
+
+    /// That of a \[long string\].
+    fn long_text(text: &str) -> Tally
+        ensures is { let size = min (4 + length text.now) (2 ^ 64 - 1) in
+            result ≡ record { counts = true; texts = nat_lt (length text.now) (2 ^ 31); cells = true; size = size } }
+        ensures range { is_utf8 text.now ≡ true }
+    {
+        Tally::content(4, text.len(), is_int(text.len()))
     }
 
     /// That of a \[value\].
@@ -102,6 +129,7 @@ impl Tally {
     }
 
     /// That of a type option.
+    #[tactic(auto, using(crate::proofs::Ranges::tree_range))]
     fn option(tree: &TypeTree) -> Tally
         ensures { IsTallyOf result (Type_is (tree_of tree.now)) }
     {
@@ -121,6 +149,7 @@ impl Tally {
         ensures texts { result.texts ≡ true }
         ensures cells { result.cells ≡ fits_type value.now (option_map (λ t. t.now) tree.entry) }
         ensures size { result.size ≡ min (values_size (value_of value.now)) (2 ^ 64 - 1) }
+        ensures range { AreInRange (value_of value.now) }
     {
         Tally {
             cells: fits(value, tree),

@@ -1,6 +1,7 @@
 //! Why a frame has no spelling.
 
-ghost use Rattle.std.specs.Prelude.{◌≡◌, IfErr, IfOk, None, Some};
+ghost use Rattle.std.specs.Prelude.{◌≡◌, ◌<◌, ◌^◌, FitsSigned, IfErr, IfOk, None, Some};
+ghost use Rattle.std.specs.Int.{w16};
 ghost use Rattle.cqlp_message.specs.Owned.{frame_of};
 
 use crate::frame::Frame;
@@ -24,7 +25,8 @@ pub enum Unfit {
     /// A \[string\] or \[short bytes\] above 65,535 bytes, or a longer field above 2,147,483,647, but for those in cells.
     #[error("a text is too long")]
     TextTooLong,
-    /// There are not as many cells as rows times columns.
+    /// There are not as many cells as rows times columns. Of a page that is written cell by cell: it is none, or holds cells, or
+    /// no cells of its rows and columns have as many bytes as are said.
     #[error("a page has too few cells or too many")]
     RowShape,
     /// A cell is no value of its column's type.
@@ -36,13 +38,14 @@ pub enum Unfit {
 }
 
 impl Frame {
-    ghost use Rattle.cqlp_message.specs.Frames.{first_obstacles, first_of, frame_parts, frame_size};
+    ghost use Rattle.cqlp_message.specs.Frames.{FrameIsInRange, first_obstacles, first_of, frame_parts, frame_size};
     ghost use Rattle.cqlp_message.specs.Frames.{header_of, measure_of, unfit_of};
     ghost use Rattle.cqlp_message.specs.Tallies.{IsFrameTally, IsTally};
 
     /// How many bytes it has, with its header and nothing after its parts; or why no bytes spell it.
     pub fn measure(&self) -> Result<u32, Unfit>
-        ensures { result ≡ measure_of (frame_of self.now) }
+        ensures is { result ≡ measure_of (frame_of self.now) }
+        ensures range { IfOk result (λ _. FrameIsInRange (frame_of self.now)) }
     {
         let tally = self.frame_tally()?;
         if !self.message.has_its_cells() {
@@ -59,7 +62,8 @@ impl Frame {
 
     /// Why no bytes spell it, or None where some do.
     pub fn unfit(&self) -> Option<Unfit>
-        ensures { result ≡ unfit_of (frame_of self.now) }
+        ensures is { result ≡ unfit_of (frame_of self.now) }
+        ensures range { unfit_of (frame_of self.now) ≡ None → FrameIsInRange (frame_of self.now) }
     {
         match self.measure() {
             Ok(_) => None,
@@ -109,7 +113,18 @@ impl Frame {
         if !tally.texts {
             return Err(Unfit::TextTooLong);
         }
+        self.read_numbers();
         Ok(tally)
+    }
+
+    /// Reads the numbers of its header, which are so in the ranges of their types.
+    #[inline(always)]
+    fn read_numbers(&self)
+        ensures flags { self.now.flags < 2 ^ 8 }
+        ensures stream { FitsSigned w16 self.now.stream }
+    {
+        let _flags = self.flags;
+        let _stream = self.stream;
     }
 
     /// What is found of its parts.

@@ -1,5 +1,5 @@
 -- Laws of fields and of headers.
-use Rattle.std.specs.Prelude.{◌≡◌, ℕ, ◌<◌, ◌≤◌, ◌↔◌, ◌++◌, Bool, true, IsTrue, List, All, length, take, FitsSigned, Option, Some, None, ⊤, Result, Ok, IfOk, is_err}
+use Rattle.std.specs.Prelude.{◌≡◌, ℕ, ◌<◌, ◌≤◌, ◌↔◌, ◌++◌, Bool, true, false, IsTrue, List, All, length, take, FitsSigned, Option, Some, None, ⊤, Result, Ok, IfOk, is_err}
 use Rattle.std.specs.Int.{w16}
 use Rattle.std.specs.Io.KnownBytes.{ReadConsumes, WriteAppends}
 use Rattle.cqlp_note.specs.declared.advance.Push.{Push}
@@ -9,6 +9,9 @@ use Rattle.cqlp_note.specs.declared.advance.FieldAdvance.TheVariants as taken
 use Rattle.cqlp_note.specs.declared.refusal.Refusal.{Refusal}
 use Rattle.cqlp_note.specs.declared.field.Notation.{Notation}
 use Rattle.cqlp_note.specs.declared.header.Header.{Header}
+use Rattle.cqlp_note.specs.declared.header.TheConstants.Header.{LONGEST_BODY}
+use Rattle.cqlp_note.specs.declared.limits.LimitRange.{LimitRange}
+use Rattle.cqlp_note.specs.declared.limits.TheConstants.Limits.{TEXT, CELL, ENTRIES, DEPTH, DEFAULT}
 use Rattle.cqlp_note.specs.declared.refusal.Reason.{Reason}
 use Rattle.cqlp_note.specs.declared.streams.IoFault.{IoFault}
 use Rattle.cqlp_note.specs.declared.whole.WholeField.{WholeField}
@@ -169,3 +172,20 @@ OneAnswerOfWrite =
     (given : List ℕ) (failed : ℕ) (answer : Result ℕ IoFault) (a b : AfterCall)
     → a.buffer ≡ b.buffer → IsWritten given failed answer a → IsWritten given failed answer b
     → (a.bytes ≡ b.bytes) × (a.failures ≡ b.failures)
+
+-- The longest body is 2 to the power of 28 bytes.
+abbrev pub LongestBody : Type 0
+LongestBody = LONGEST_BODY ≡ 268435456
+
+-- The ranges of the limits: bytes of a text and of a cell, type options, and nesting.
+abbrev pub RangesOfLimits : Type 0
+RangesOfLimits =
+    (TEXT ≡ record { least = 32; greatest = 16777216 })
+    × (CELL ≡ record { least = 32; greatest = 16777216 })
+    × (ENTRIES ≡ record { least = 1; greatest = 65536 })
+    × (DEPTH ≡ record { least = 1; greatest = 64 })
+
+-- The limits where none are given.
+abbrev pub DefaultLimits : Type 0
+DefaultLimits =
+    DEFAULT ≡ record { text = 1048576; cell = 1048576; entries = 4096; depth = 16; types = true; parts = false }

@@ -4,6 +4,7 @@ pub mod Spelling
 pub mod Step
 pub mod Limits
 pub mod Heading
+pub mod Gathered
 pub mod Head
 pub mod Partial
 pub mod Lending

@@ -1,9 +1,13 @@
--- Readers and writers of bytes, and how often they failed.
-use Rattle.std.specs.Prelude.{ℕ, ◌+◌, ◌-◌, ◌^◌, Bool, true, ◌&&◌, ◌==◌, nat_lt, List, length, Result, Ok, Err, min, if◌then◌else◌}
+-- Readers and writers of bytes, how often they were called and how often they failed.
+use Rattle.std.specs.Prelude.{◌≡◌, ℕ, ◌+◌, ◌-◌, ◌^◌, ◌<◌, Bool, true, ◌&&◌, ◌==◌, nat_lt, List, length, Result, Ok, Err, min, if◌then◌else◌}
 
 -- how many calls failed, of which one more may be: the count stops at 2^64 - 1
 abbrev pub counted : (failed : Bool) → ℕ → ℕ
 counted failed n = if failed then min (n + 1) (2 ^ 64 - 1) else n
+
+-- So many calls more were counted, unless the count has come to its end.
+abbrev pub CountsUp : (calls old new : ℕ) → Type 0
+CountsUp calls old new = old + calls < 2 ^ 64 → new ≡ old + calls
 
 -- a write that failed: it has a fault, or took nothing of some bytes
 abbrev pub took_none : {E : Type 0} → Result ℕ E → List ℕ → Bool

@@ -10,6 +10,7 @@ ghost use Rattle.cqlp_note.specs.Reader.{More, says};
 use crate::advance::{ContentPlace, FieldAdvance, FieldOutline, FieldStage, Push};
 use crate::field::Notation;
 use crate::front::FieldFront;
+use crate::gathered::GatheredContent;
 use crate::head::{
     ContentForm, Head, Stop, Wanted, read_first as first, read_head, read_natural, read_short,
 };
@@ -26,20 +27,19 @@ pub struct Partial<A: Allocator = Global> {
     stage: FieldStage,
     wanted: Wanted,
     front: FieldFront,
-    content: Vec<u8, A>,
-    room: u32,
+    content: GatheredContent<A>,
 }
 
 impl<A: Allocator> Model for Partial<A> {
-    ghost use Rattle.std.specs.Prelude.{◌≤◌, length, vec_capacity};
+    ghost use Rattle.std.specs.Prelude.{◌≤◌, length};
     ghost use Rattle.cqlp_note.specs.Partial.{FieldState, progress, IsUnderWay};
 
     ghost Value = { FieldState };
 
-    ghost view = { λ p. progress p.stage p.wanted p.front p.content.items p.room };
+    ghost view = { λ p. progress p.stage p.wanted p.front p.content.items p.content.room };
 
-    ghost invariant = { λ p. (p.room ≤ vec_capacity p.content) × (length p.content.items ≤ p.room)
-        × IsUnderWay p.stage p.wanted p.front p.content.items p.room };
+    ghost invariant = { λ p. (length p.content.items ≤ p.content.room)
+        × IsUnderWay p.stage p.wanted p.front p.content.items p.content.room };
 }
 
 impl<A: Allocator> Partial<A> {
@@ -60,8 +60,7 @@ impl<A: Allocator> Partial<A> {
                 room: 0,
             },
             front: FieldFront::new(),
-            content: Vec::with_capacity(alloc, room as usize)?,
-            room,
+            content: GatheredContent::new(alloc, room)?,
         })
     }
 
@@ -271,14 +270,14 @@ impl<A: Allocator> Partial<A> {
                 self.take_content(0, len, form, input)
             }
             FieldStage::Content { len, form } => {
-                let missing = len as usize - self.content.len();
+                let missing = (len - self.content.len()) as usize;
                 if input.len() < missing {
-                    self.content.extend_from_slice(input).unwrap();
+                    self.content.append(input);
                     return FieldAdvance::More { used: input.len() };
                 }
-                self.content.extend_from_slice(&input[..missing]).unwrap();
+                self.content.append(&input[..missing]);
                 self.stage = FieldStage::Idle;
-                if !form.accepts(&self.content) {
+                if !form.accepts(self.content.as_slice()) {
                     return self.refuse(Reason::BadUtf8);
                 }
                 let lies = ContentPlace::InBuffer;
@@ -343,7 +342,7 @@ impl<A: Allocator> Partial<A> {
         let size = len as usize;
         if rest.len() < size {
             self.front = self.front.with(&input[..start]);
-            self.content.extend_from_slice(rest).unwrap();
+            self.content.append(rest);
             self.stage = FieldStage::Content { len, form };
             return FieldAdvance::More { used: input.len() };
         }
@@ -383,7 +382,6 @@ impl<A: Allocator> Partial<A> {
         ensures bound { result ≤ self.now.room + 24 }
         ensures small { result < 2 ^ 33 }
     {
-        let _room = self.room;
         match self.stage {
             FieldStage::Idle => 0,
             FieldStage::Front => self.front.len() as u64,
@@ -396,8 +394,14 @@ impl<A: Allocator> Partial<A> {
         ensures is { result ≡ length self.now.content }
         ensures bound { result ≤ self.now.room }
     {
-        let _room = self.room;
-        self.content.len() as u32
+        self.content.len()
+    }
+
+    /// How many bytes of a content its memory has places for: the room, for as long as it lives.
+    pub fn capacity(&self) -> usize
+        ensures { result ≡ self.now.room }
+    {
+        self.content.capacity()
     }
 }
 

@@ -1,6 +1,6 @@
 //! Where bytes come from, and where they go.
 
-ghost use Rattle.std.specs.Prelude.{◌≡◌, ◌≤◌, length, IfOk, is_err};
+ghost use Rattle.std.specs.Prelude.{◌≡◌, ◌≤◌, true, length, IfOk, is_err};
 ghost use Rattle.cqlp_note.specs.Streams.{counted, took_none};
 
 use std::io::{Read, Write};
@@ -22,11 +22,15 @@ pub trait Source {
     /// How many calls failed, up to 2^64 - 1.
     ghost failures: { Self → ℕ };
 
+    /// How many calls were made, failed ones among them, up to 2^64 - 1.
+    ghost reads: { Self → ℕ };
+
     /// Reads some bytes into the buffer, and answers how many; 0 where it has some room, only at the end.
     fn read(&mut self, buffer: &mut [u8]) -> Result<usize, IoFault>
         ensures bound { IfOk result (λ n. n ≤ length buffer.new) }
         ensures bytes { ReadConsumes (left self.old) (left self.new) result buffer.new }
-        ensures failures { failures self.new ≡ counted (is_err result) (failures self.old) };
+        ensures failures { failures self.new ≡ counted (is_err result) (failures self.old) }
+        ensures reads { reads self.new ≡ counted true (reads self.old) };
 }
 
 /// What takes bytes, as std's `Write`.
@@ -49,28 +53,38 @@ pub trait Target {
 
 /// A reader or a writer of std's as a [`Source`] or a [`Target`]. A call is one call of the inner reader or writer,
 /// with the whole buffer, and is not tried again. No contract of std's `Read` and `Write` counts calls, so that is
-/// tested; which bytes came or went, and how many calls failed, is in the contracts.
+/// tested; which bytes came or went, how many calls failed and how many reads were asked for is in the contracts.
 #[derive(Drop)]
 pub struct OfStd<X> {
     /// The reader or writer.
     pub inner: X,
     /// How many calls failed, or took nothing of some bytes, up to 2^64 - 1.
     pub failures: u64,
+    /// How many reads were made, up to 2^64 - 1.
+    pub reads: u64,
 }
 
 impl<X> OfStd<X> {
-    /// With no failed call.
+    /// With no call made.
     pub fn new(inner: X) -> Self
-        ensures { result ≡ record { inner = inner; failures = 0 } }
+        ensures { result ≡ record { inner = inner; failures = 0; reads = 0 } }
     {
-        OfStd { inner, failures: 0 }
+        OfStd {
+            inner,
+            failures: 0,
+            reads: 0,
+        }
     }
 
     /// The reader or writer.
     pub fn into_inner(self) -> X
         ensures { result ≡ self.inner }
     {
-        let OfStd { inner, failures: _ } = self;
+        let OfStd {
+            inner,
+            failures: _,
+            reads: _,
+        } = self;
         inner
     }
 }
@@ -80,7 +94,10 @@ impl<R: Read> Source for OfStd<R> {
 
     ghost failures = { λ reader. reader.failures };
 
+    ghost reads = { λ reader. reader.reads };
+
     fn read(&mut self, buffer: &mut [u8]) -> Result<usize, IoFault> {
+        self.reads = self.reads.saturating_add(1);
         match self.inner.read(buffer) {
             Ok(count) => Ok(count),
             Err(_) => {

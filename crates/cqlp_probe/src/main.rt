@@ -1,8 +1,8 @@
 //! Gives scripts of pieces to decoders, and prints what each decoder says.
 //!
 //! A line of the input has a name, words on how the stream is read, and its pieces, each after `|`. A line without `|` is a
-//! heading. Each decoder is made in memory of just the size that it takes when it is made. In place of bytes a piece may have
-//! `give` and a stream, whose types are given to the decoder, or `take`.
+//! heading. Each decoder is made in memory of just the size that it takes when it is made. A piece `1000 times ..` comes a
+//! thousand times. In place of bytes a piece may have `give` and a stream, whose types are given to the decoder, or `take`.
 #![tactic(auto)]
 
 mod gifts;
@@ -12,10 +12,11 @@ mod script;
 mod ways;
 
 use cqlp_decode::Decoder;
-use cqlp_fakes::bytes_of;
+use cqlp_fakes::{bytes_of, number_of};
 use linked_list_allocator::LocalHeap;
 use reading::{AMPLE, Report, take};
 use script::{Script, Shows};
+use std::alloc::Global;
 use std::io;
 
 fn main(rt: HostRuntime) -> io::Result<()> {
@@ -49,14 +50,31 @@ fn print_pieces(rt: &HostRuntime, script: &Script<'_>, pieces: &str) -> io::Resu
         if gifts::exchange(rt, &tables, &mut decoder, piece)? {
             continue;
         }
-        let bytes = bytes_of(rt.alloc(), piece)?;
-        take(&mut decoder, &bytes, &mut said)?;
+        let bytes = take_repeatedly(rt.alloc(), &mut decoder, piece, &mut said)?;
         print_said(rt, &mut said, &decoder)?;
         if bytes.len() > 1 && !pieces.contains('|') {
             ways::in_pieces(rt, script, &bytes)?;
         }
     }
     Ok(())
+}
+
+/// Writes down what a decoder says of a piece that comes once, or as often as it says, and answers its bytes.
+fn take_repeatedly(
+    alloc: Global,
+    decoder: &mut Decoder<&LocalHeap>,
+    piece: &str,
+    said: &mut Report,
+) -> io::Result<Vec<u8>> {
+    let (times, digits) = match piece.split_once(" times ") {
+        Some((times, digits)) => (number_of(times.trim()), digits),
+        None => (1, piece),
+    };
+    let bytes = bytes_of(alloc, digits)?;
+    for _ in 0..times {
+        take(decoder, &bytes, said)?;
+    }
+    Ok(bytes)
 }
 
 /// Prints what a decoder has said since the last time, and then how the stream ends here.

@@ -39,7 +39,7 @@ impl Report {
     fn put_event(&mut self, at: u64, used: usize, event: &Event<'_>) -> io::Result<()> {
         self.events = self.events.wrapping_add(1);
         self.bytes = self.bytes.wrapping_add(used as u64);
-        if self.shows == Shows::Counts {
+        if self.shows == Shows::Counts && !matches!(event, Event::End { .. }) {
             return Ok(());
         }
         let end = self.bytes;

@@ -20,7 +20,7 @@ pub enum Shows {
     Events,
     /// Its events, and after each how the stream would end there and what is held.
     Calls,
-    /// How many events it has.
+    /// How many events it has, and where its frames end.
     Counts,
     /// How a decoder is made in memory of each size.
     Memory,

@@ -1,6 +1,6 @@
 -- What is read of bytes in memory, and that a frame within the limits is back.
 use Rattle.std.proofs.Common.{◌≡◌, ℕ, ◌+◌, ◌<◌, List, [], ◌∷◌, ◌++◌, length, false, Bool, refl, sym, ap, subst, ◌∙◌, append_assoc, arith}
-use Rattle.std.specs.Prelude.{Option, None}
+use Rattle.std.specs.Prelude.{Option, Some, None}
 use Rattle.std.proofs.lemmas.List.{length-append}
 use Rattle.cqlp_note.specs.declared.limits.Limits.{Limits}
 use Rattle.cqlp_note.specs.Limits.{Rules, rules_of}
@@ -9,13 +9,13 @@ use Rattle.cqlp_grammar.specs.declared.event.Finish.{Finish}
 use Rattle.cqlp_grammar.specs.declared.event.Finish.TheVariants as finish
 use Rattle.cqlp_message.specs.FrameValues.{FrameValue}
 use Rattle.cqlp_message.specs.Parts.{parts_size, parts_events}
-use Rattle.cqlp_message.specs.Frames.{Flat, frame_bytes, frame_parts, frame_size, header_of, unfit_of}
+use Rattle.cqlp_message.specs.Frames.{Flat, FrameIsInRange, frame_bytes, frame_parts, frame_size, header_of, unfit_of}
 use Rattle.cqlp_message.proofs.FramesWritten.{frame_written}
 use Rattle.cqlp_decode.specs.declared.running.Outcome.TheVariants as outcome
 use Rattle.cqlp_decode.specs.Reading.{Event, Waits, Frame, End, Reads, start, step}
 use Rattle.cqlp_decode.specs.Standing.{StreamState}
 use Rattle.cqlp_decode.specs.Streams.{Decoding, state, FinishesBy, open_from, frame_from}
-use Rattle.cqlp_decode.specs.Draining.{FeedsInto, RunsTo}
+use Rattle.cqlp_decode.specs.Draining.{FeedsInto, MakesReads, RunsTo}
 use Rattle.cqlp_laws.specs.OneAnswer.{IsNew}
 use Rattle.cqlp_laws.proofs.OneAnswer.{no_further}
 use Rattle.cqlp_laws.proofs.OneRun.{after_reads, runs_right}
@@ -43,9 +43,12 @@ whole_end bytes es at n (finish.Refused r) long h = absurd h
 -- ---- what was read
 
 module _ {V : Type 0} (f : V → ℕ → Event → V) (faulted : V → ℕ → Event → V → Type 0) (limits : Limits) (d : Decoding) (new : StreamState) (turns : ℕ) (xs : List ℕ) (left : Option (List ℕ)) (before after : V) (fresh : IsNew limits d) (rules : new.rules ≡ (state d).rules) (given : new.given ≡ (state d).given) where
-  pub reads_all : (end : Finish) → RunsTo f faulted turns (outcome.Finished end) (state d) new xs left before after → ReadsAll f (rules_of limits) xs end before after
-  reads_all end runs es v says = runs_right f faulted limits d new turns xs left before after es v end fresh says (record {
+  pub reads_all : (end : Finish) (calls calls' : ℕ) → MakesReads turns (outcome.Finished end) calls calls' (Some xs) left → RunsTo f faulted turns (outcome.Finished end) (state d) new xs left before after → ReadsAll f (rules_of limits) xs end before after
+  reads_all end calls calls' reads runs es v says = runs_right f faulted limits d new turns xs left before after es v end fresh says (record {
     runs = runs;
+    calls = calls;
+    calls_after = calls';
+    reads = reads;
     waits = tt;
     refused = λ r is. absurd (let e = sym fresh.unrefused ∙ is in cc);
     rules = rules;
@@ -53,7 +56,7 @@ module _ {V : Type 0} (f : V → ℕ → Event → V) (faulted : V → ℕ → E
   })
 
   -- the event at which the sink failed is one that the bytes say
-  pub fails_reading : FeedsInto f faulted (state d) new xs before after → FailsReading f faulted (rules_of limits) xs before after
+  pub fails_reading : FeedsInto f faulted (state d) new xs left before after → FailsReading f faulted (rules_of limits) xs before after
   fails_reading fed es v says =
       let l = rules_of limits in
       let e = fed.failed [] [] [] fresh.fresh in
@@ -77,12 +80,12 @@ module _ {V : Type 0} (f : V → ℕ → Event → V) (faulted : V → ℕ → E
 
 -- ---- a frame
 
-module _ {V : Type 0} (f : V → ℕ → Event → V) (limits : Limits) (frame : FrameValue) (fits : unfit_of frame ≡ None) (before after : V) where
+module _ {V : Type 0} (f : V → ℕ → Event → V) (limits : Limits) (frame : FrameValue) (fits : unfit_of frame ≡ None) (range : FrameIsInRange frame) (before after : V) where
   pub comes_back : (end : Finish) → ReadsAll f (rules_of limits) (frame_bytes frame) end before after → ComesBack f limits frame end before after
-  comes_back end reads range within =
+  comes_back end reads within =
       let l = rules_of limits in
       let n = parts_size (frame_parts frame) in
-      let r = reads (Flat l 0 frame 0) Waits (written_is_read l frame range fits within) in
+      let r = reads (Flat l 0 frame 0) Waits (written_is_read frame range l fits within) in
       let long = (frame_written frame range fits).1 in
       let front = (0, Frame (header_of frame (n + 0))) ∷ parts_events l (0 + 9) (frame_parts frame) in
       let same : 0 + frame_size frame 0 ≡ frame_size frame 0 = omega arith in record {
@@ -91,7 +94,7 @@ module _ {V : Type 0} (f : V → ℕ → Event → V) (limits : Limits) (frame :
       }
 
   pub fails_within : (faulted : V → ℕ → Event → V → Type 0) → FailsReading f faulted (rules_of limits) (frame_bytes frame) before after → FailsWithin f faulted limits frame error.SinkFault before after
-  fails_within faulted fails range within = fails (Flat (rules_of limits) 0 frame 0) Waits (written_is_read (rules_of limits) frame range fits within)
+  fails_within faulted fails within = fails (Flat (rules_of limits) 0 frame 0) Waits (written_is_read frame range (rules_of limits) fits within)
 
 -- ---- errors
 

@@ -5,7 +5,7 @@ use Rattle.cqlp_note.specs.Limits.{Rules, first_bad, rules_of}
 use Rattle.cqlp_grammar.specs.declared.event.Finish.{Finish}
 use Rattle.cqlp_grammar.specs.declared.event.Finish.TheVariants as finish
 use Rattle.cqlp_message.specs.FrameValues.{FrameValue}
-use Rattle.cqlp_message.specs.Frames.{Flat, FrameIsInRange, IsWithin, frame_size, unfit_of}
+use Rattle.cqlp_message.specs.Frames.{Flat, IsWithin, frame_size, unfit_of}
 use Rattle.cqlp_decode.specs.Reading.{Event, Verdict, Says, start}
 use Rattle.cqlp_decode.specs.Draining.{fold_events}
 use Rattle.cqlp_laws.specs.OneAnswer.{EndsBy}
@@ -47,7 +47,7 @@ module _ {V : Type 0} (f : V → ℕ → Event → V) where
   -- A frame within the limits is back.
   abbrev pub ComesBack : Limits → FrameValue → Finish → (before after : V) → Type 0
   ComesBack limits frame end before after =
-      FrameIsInRange frame → IsWithin (rules_of limits) frame → IsBack (rules_of limits) frame end before after
+      IsWithin (rules_of limits) frame → IsBack (rules_of limits) frame end before after
 
   -- Within the limits or not, the sink got the events that these bytes say, just them, and the stream ends as they do.
   abbrev pub ReadsAll : Rules → (bytes : List ℕ) → Finish → (before after : V) → Type 0
@@ -70,8 +70,7 @@ module _ {V : Type 0} (f : V → ℕ → Event → V) where
     -- At a frame within the limits, a sink that failed did so at one of the frame's own events.
     abbrev pub FailsWithin : Limits → FrameValue → RoundTripError → (before after : V) → Type 0
     FailsWithin limits frame error.SinkFault before after =
-        FrameIsInRange frame → IsWithin (rules_of limits) frame
-        → FailsAmong (Flat (rules_of limits) 0 frame 0) before after
+        IsWithin (rules_of limits) frame → FailsAmong (Flat (rules_of limits) 0 frame 0) before after
     FailsWithin limits frame e before after = Unit {0}
 
     -- Within the limits or not, a sink that failed did so at one of the events that these bytes say.

@@ -8,6 +8,7 @@ use cqlp_note::{IoFault, Source};
 #[derive(Drop)]
 pub struct InMemory<'a> {
     bytes: &'a [u8],
+    reads: u64,
 }
 
 impl<'a> InMemory<'a> {
@@ -15,7 +16,7 @@ impl<'a> InMemory<'a> {
     pub fn new(bytes: &'a [u8]) -> InMemory<'a>
         ensures { result.bytes.now ≡ bytes.now }
     {
-        InMemory { bytes }
+        InMemory { bytes, reads: 0 }
     }
 }
 
@@ -24,7 +25,10 @@ impl Source for InMemory<'_> {
 
     ghost failures = { λ _. 0 };
 
+    ghost reads = { λ source. source.reads };
+
     fn read(&mut self, buffer: &mut [u8]) -> Result<usize, IoFault> {
+        self.reads = self.reads.saturating_add(1);
         let count = self.bytes.len().min(buffer.len());
         buffer[..count].copy_from_slice(&self.bytes[..count]);
         self.bytes = &self.bytes[count..];

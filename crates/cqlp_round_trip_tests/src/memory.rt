@@ -2,8 +2,8 @@
 
 use crate::frames::{LIMITS, page};
 use cqlp_fakes::Takes;
-use cqlp_grammar::Finish;
-use cqlp_round_trip::{RoundTripError, write_and_read};
+use cqlp_heaps::{Rationed, Refusals};
+use cqlp_round_trip::write_and_read;
 use linked_list_allocator::LocalHeap;
 use std::test::Fail;
 
@@ -12,20 +12,25 @@ use std::test::Fail;
 fn each_request_for_memory_may_be_refused(rt: HostRuntime) -> Result<(), Fail> {
     let page = page(rt.alloc())?;
     let mut answers = String::new(rt.alloc());
-    let mut before = Ok(Finish::Whole { bytes: 0 });
-    for blocks in 0..100usize {
-        let heap = LocalHeap::new(rt.alloc(), 16 * blocks)?;
+    for number in 1..8u64 {
+        let heap = LocalHeap::new(rt.alloc(), 1 << 16)?;
+        let rationed = Rationed::new(&heap, Refusals::At(number));
         let mut sink = Takes::new(100);
-        let now = match write_and_read(&heap, &page, LIMITS, &mut sink) {
-            Ok((_, end)) => Ok(end),
-            Err(error) => Err(error),
-        };
-        if now != before {
-            write!(answers, "{now:?} {} ", sink.taken())?;
+        match write_and_read(&rationed, &page, LIMITS, &mut sink) {
+            Ok((_, end)) => write!(answers, "{end:?} ")?,
+            Err(error) => write!(answers, "{error} ")?,
         }
-        before = now;
+        write!(
+            answers,
+            "{} {} {}, ",
+            sink.taken(),
+            rationed.requests(),
+            heap.used()
+        )?;
     }
-    let expected = "Err(NoMemory) 0 Ok(Whole { bytes: 62 }) 16 ";
+    let expected =
+        "no memory 0 1 0, no memory 0 2 0, no memory 0 3 0, no memory 0 4 0, no memory 0 5 0, \
+        Whole { bytes: 62 } 16 5 0, Whole { bytes: 62 } 16 5 0, ";
     assert_eq!(rt; answers.as_str(), expected);
     Ok(())
 }

@@ -1,5 +1,6 @@
 //! Slot counts out of range, and little memory.
 
+use cqlp_heaps::{Rationed, Refusals};
 use cqlp_session::{Client, Server, SlotsOrMemory};
 use linked_list_allocator::LocalHeap;
 use std::alloc::Allocator;
@@ -28,20 +29,20 @@ fn slots_out_of_range(rt: HostRuntime) {
     assert!(rt; refused);
 }
 
-/// A client makes two requests for memory, and a server one.
+/// A client makes two requests for memory, and a server one. With one of them refused, what it is for is not made, the
+/// other one is, and nothing is lost; with none refused both are.
 #[test]
 fn each_request_for_memory_may_be_refused(rt: HostRuntime) -> Result<(), Fail> {
     let mut answers = String::new(rt.alloc());
-    let mut before = [Ok(()); 2];
-    for blocks in 0..100usize {
-        let heap = LocalHeap::new(rt.alloc(), 16 * blocks)?;
-        let now = made(&heap, 10);
-        if now != before {
-            write!(answers, "{now:?} ")?;
-        }
-        before = now;
+    for number in 1..6u64 {
+        let heap = LocalHeap::new(rt.alloc(), 1 << 16)?;
+        let rationed = Rationed::new(&heap, Refusals::At(number));
+        let made = made(&rationed, 10);
+        write!(answers, "{made:?} {} {} ", rationed.requests(), heap.used())?;
     }
-    let expected = "[Err(NoMemory), Err(NoMemory)] [Err(NoMemory), Ok(())] [Ok(()), Ok(())] ";
+    let expected =
+        "[Err(NoMemory), Ok(())] 2 0 [Err(NoMemory), Ok(())] 3 0 [Ok(()), Err(NoMemory)] 3 0 \
+        [Ok(()), Ok(())] 3 0 [Ok(()), Ok(())] 3 0 ";
     assert_eq!(rt; answers.as_str(), expected);
     Ok(())
 }

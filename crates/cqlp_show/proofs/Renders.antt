@@ -127,8 +127,8 @@ module _ (old new : StreamState) (xs : List ℕ) (before after : Rendering) wher
     events = λ gifts s es stands. writes_events gifts new s es d.bytes before after (d.drained gifts s es stands);
   }
 
-  renders_part : FeedsInto with_event StopsWithinEvent old new xs before after → RendersPart before.form old new xs before.output after.output
-  renders_part d = record {
+  renders_part : (left : Option (List ℕ)) → FeedsInto with_event StopsWithinEvent old new xs left before after → RendersPart before.form old new xs before.output after.output
+  renders_part left d = record {
     bytes = d.bytes;
     rest = d.rest;
     parts = d.parts;
@@ -142,7 +142,7 @@ pub renders_to : (turns : ℕ) (o : Outcome) (old new : StreamState) (xs : List 
 renders_to turns (outcome.Finished end) old new xs left before after ran = (renders old new xs before after ran.0, ran.1, ran.2, renders_all old new xs before after left ran.0 ran.3)
 renders_to turns outcome.ReadFault old new xs left before after ran = (renders old new xs before after ran.0, ran.1, renders_all old new xs before after left ran.0 ran.2)
 renders_to turns outcome.Turns old new xs left before after ran = (renders old new xs before after ran.0, ran.1, ran.2, renders_all old new xs before after left ran.0 ran.3)
-renders_to turns outcome.SinkFault old new xs left before after ran = renders_part old new xs before after ran
+renders_to turns outcome.SinkFault old new xs left before after ran = renders_part old new xs before after left ran
 
 pub texts_to : (form : TextForm) (turns : ℕ) (o : Outcome) (old new : StreamState) (xs : List ℕ) (left : Option (List ℕ)) (before after : Output) → RendersTo form turns o old new xs left before after → TextsTo form turns o old new xs left before after
 texts_to form turns o old new xs left before after ran = renders_to turns o old new xs left (rendering before form) (rendering after ran.0) ran.1

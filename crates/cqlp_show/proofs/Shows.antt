@@ -13,7 +13,8 @@ use Rattle.cqlp_text.specs.Written.{Written, bare, taken}
 use Rattle.cqlp_text.specs.Outputs.{Output, output, with_text, HasFailed, StopsWithin}
 use Rattle.cqlp_text.proofs.Writing.{known_then}
 use Rattle.cqlp_show.specs.Rendering.{Rendering, with_event, StopsWithinEvent, RendersFront}
-use Rattle.cqlp_show.specs.Showing.{RendersOrFails, ShowsTo, Concludes, ConcludesCheck, ending_of}
+use Rattle.cqlp_show.specs.Streams.{Input}
+use Rattle.cqlp_show.specs.Showing.{ReadsBy, RunReads, RendersOrFails, ShowsTo, Concludes, ConcludesCheck, ending_of}
 use Rattle.cqlp_text.specs.declared.ending.Ending.{Ending}
 use Rattle.cqlp_text.specs.declared.ending.Ending.TheVariants as ending
 use Rattle.cqlp_text.specs.Endings.{ending_line, status_of}
@@ -165,6 +166,13 @@ shows_by form limits turns (outcome.Finished f) old new xs left before after fre
 shows_by form limits turns outcome.ReadFault old new xs left before after fresh unrefused rules same ran = record { old = old; new = new; fresh = fresh; unrefused = unrefused; rules = rules; same_rules = same; renders = ran }
 shows_by form limits turns outcome.Turns old new xs left before after fresh unrefused rules same ran = record { old = old; new = new; fresh = fresh; unrefused = unrefused; rules = rules; same_rules = same; renders = ran }
 shows_by form limits turns outcome.SinkFault old new xs left before after fresh unrefused rules same ran = record { old = old; new = new; fresh = fresh; unrefused = unrefused; rules = rules; same_rules = same; renders = ran }
+
+-- a run's reads are those of the command that ends as it does
+pub reads_by : (turns : ℕ) (o : Outcome) (old new : Input) → RunReads turns o old new → ReadsBy turns (ending_of o) old new
+reads_by turns (outcome.Finished f) old new reads = reads
+reads_by turns outcome.ReadFault old new reads = reads
+reads_by turns outcome.Turns old new reads = reads
+reads_by turns outcome.SinkFault old new reads = (outcome.SinkFault, reads)
 
 -- ---- how a check ends
 

@@ -1,11 +1,11 @@
 -- One run after another.
-use Rattle.std.proofs.Common.{◌≡◌, ℕ, ◌+◌, ◌≤◌, List, ◌++◌, length, Option, None, sym, ap, ◌∙◌, append_assoc, arith}
+use Rattle.std.proofs.Common.{◌≡◌, ◌≢◌, ℕ, ◌+◌, ◌≤◌, List, ◌++◌, length, Option, None, refl, sym, ap, ◌∙◌, append_assoc, arith}
 use Rattle.std.proofs.lemmas.List.{length-append}
 use Rattle.cqlp_decode.specs.declared.running.Outcome.{Outcome}
 use Rattle.cqlp_decode.specs.declared.running.Outcome.TheVariants as outcome
 use Rattle.cqlp_decode.specs.Reading.{Event}
 use Rattle.cqlp_decode.specs.Standing.{StreamState}
-use Rattle.cqlp_decode.specs.Draining.{Feeds, FeedsInto, HasAll, RunsTo}
+use Rattle.cqlp_decode.specs.Draining.{Feeds, FeedsInto, HasAll, InReads, MakesReads, RunsTo}
 use Rattle.cqlp_decode.proofs.Gets.{drains_then, fails_then}
 
 module _ {V : Type 0} (f : V → ℕ → Event → V) (old mid new : StreamState) (xs : List ℕ) (u v w : V) (d : Feeds f old mid xs u v) where
@@ -27,17 +27,23 @@ module _ {V : Type 0} (f : V → ℕ → Event → V) (old mid new : StreamState
     parts = all.parts;
     others = all.others;
     none = all.none;
+    few = all.few;
     says = λ free gifts s es a.
         let p = d.drained gifts s es a in
         rw (← (append_assoc s d.bytes e.bytes), ← (append_assoc es p.more (e.drained gifts (s ++ d.bytes) (es ++ p.more) p.stands).more)) (all.says (clear free) gifts (s ++ d.bytes) (es ++ p.more) p.stands);
   }
 
   module _ (faulted : V → ℕ → Event → V → Type 0) where
-    feeds_into_on : FeedsInto f faulted mid new d.rest v w → FeedsInto f faulted old new xs u w
-    feeds_into_on e = record {
+    feeds_into_on : (left : Option (List ℕ)) → FeedsInto f faulted mid new d.rest left v w → FeedsInto f faulted old new xs left u w
+    feeds_into_on left e = record {
       bytes = d.bytes ++ e.bytes;
       rest = e.rest;
       parts = parts_on e.bytes e.rest e.parts;
+      lost = e.lost;
+      unread = e.unread;
+      split = e.split;
+      few = e.few;
+      others = e.others;
       failed = λ gifts s es a. let p = d.drained gifts s es a in fails_then f faulted gifts mid new s d.bytes e.bytes es u v w p (e.failed gifts (s ++ d.bytes) (es ++ p.more) p.stands);
     }
 
@@ -46,4 +52,37 @@ module _ {V : Type 0} (f : V → ℕ → Event → V) (old mid new : StreamState
     runs_on clear turns more (outcome.Finished end) left long ran = (feeds_on ran.0, ran.1, ran.2, has_all_on clear left ran.0 ran.3)
     runs_on clear turns more outcome.ReadFault left long ran = (feeds_on ran.0, ran.1, has_all_on clear left ran.0 ran.2)
     runs_on clear turns more outcome.Turns left long ran = (feeds_on ran.0, ran.1, omega (arith, long, ran.2, length-append d.bytes ran.0.bytes), has_all_on clear left ran.0 ran.3)
-    runs_on clear turns more outcome.SinkFault left long ran = feeds_into_on ran
+    runs_on clear turns more outcome.SinkFault left long ran = feeds_into_on left ran
+
+-- ---- how often the reader is called
+
+joined : (m n : ℕ) (xs : List ℕ) (mid left : Option (List ℕ)) (d : InReads m xs mid) → InReads n d.rest left → InReads (m + n) xs left
+joined m n xs mid left d e = record {
+  read = d.read ++ e.read;
+  rest = e.rest;
+  parts = d.parts ∙ ap (λ (z : List ℕ). d.read ++ z) e.parts ∙ sym (append_assoc d.read e.read e.rest);
+  some = omega (arith, d.some, e.some, length-append d.read e.read);
+  few = omega (arith, d.few, e.few, length-append d.read e.read);
+  others = e.others;
+}
+
+module _ (turn : ℕ) (a b : ℕ) (was mid : Option (List ℕ)) where
+  -- one more turn
+  pub reads_on : (o : Outcome) (c : ℕ) (left : Option (List ℕ)) → MakesReads turn outcome.Turns a b was mid → MakesReads 1 o b c mid left → MakesReads (turn + 1) o a c was left
+  reads_on o c left m n =
+      let every = m.all refl in
+      let within = n.within in
+      record {
+        giving = m.giving + n.giving;
+        counted = λ fits. let first = m.counted (omega arith) in let second = n.counted (omega arith) in omega arith;
+        within = omega arith;
+        all = λ is. let one = n.all is in omega arith;
+        gives = λ xs is. let d = m.gives xs is in joined m.giving n.giving xs mid left d (n.gives d.rest d.others);
+      }
+
+  -- no more turns, though there may be some
+  pub reads_early : (turns : ℕ) (o : Outcome) → turn ≤ turns → o ≢ outcome.Turns → MakesReads turn o a b was mid → MakesReads turns o a b was mid
+  reads_early turns o few early m = let within = m.within in record { giving = m.giving; counted = m.counted; within = omega arith; all = λ is. absurd (early is); gives = m.gives }
+
+  pub reads_flushed : (turns : ℕ) → turn ≤ turns → MakesReads turn outcome.Turns a b was mid → MakesReads turns outcome.SinkFault a b was mid
+  reads_flushed turns few m = let within = m.within in record { giving = m.giving; counted = m.counted; within = omega arith; all = λ is. absurd (let e = is in cc); gives = m.gives }

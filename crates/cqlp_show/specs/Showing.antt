@@ -7,6 +7,7 @@ use Rattle.cqlp_decode.specs.declared.running.Outcome.{Outcome}
 use Rattle.cqlp_decode.specs.declared.running.Outcome.TheVariants as outcome
 use Rattle.cqlp_decode.specs.Standing.{StreamState}
 use Rattle.cqlp_decode.specs.Streams.{After}
+use Rattle.cqlp_decode.specs.Draining.{MakesReads}
 use Rattle.cqlp_text.specs.declared.ending.Ending.{Ending}
 use Rattle.cqlp_text.specs.declared.ending.Ending.TheVariants as ending
 use Rattle.cqlp_text.specs.declared.status.TheConstants.{FAULT}
@@ -15,7 +16,7 @@ use Rattle.cqlp_show.specs.declared.text_form.TextForm.{TextForm}
 use Rattle.cqlp_show.specs.declared.text_form.TextForm.TheVariants as forms
 use Rattle.cqlp_text.specs.Outputs.{Output, with_text, StopsWithin}
 use Rattle.cqlp_show.specs.Rendering.{RendersFront, RendersTo}
-use Rattle.cqlp_show.specs.Streams.{Streams, IfKnown}
+use Rattle.cqlp_show.specs.Streams.{Input, Streams, IfKnown}
 
 -- how the command ends where a run does
 abbrev pub ending_of : Outcome → Ending
@@ -58,6 +59,21 @@ CountsReads ending.ReadFault old new = new ≡ counted true old
 CountsReads ending.WriteFault old new = Unit {0}
 CountsReads e old new = new ≡ old
 
+-- the reads of a run that ends so
+abbrev pub RunReads : (turns : ℕ) → Outcome → (old new : Input) → Type 0
+RunReads turns o old new = MakesReads turns o old.reads new.reads old.left new.left
+
+-- Which reads were made, by how the command ends: those of a run, after which a write may have failed; and none where
+-- memory was wanting.
+abbrev pub ReadsBy : (turns : ℕ) → Ending → (old new : Input) → Type 0
+ReadsBy turns (ending.Finished f) old new = RunReads turns (outcome.Finished f) old new
+ReadsBy turns ending.ReadFault old new = RunReads turns outcome.ReadFault old new
+ReadsBy turns ending.TooManyTurns old new = RunReads turns outcome.Turns old new
+ReadsBy turns ending.WriteFault old new = (o : Outcome) × RunReads turns o old new
+ReadsBy turns ending.NoMemory old new = new ≡ old
+ReadsBy turns ending.BadReply old new = ⊥
+ReadsBy turns ending.SocketFault old new = ⊥
+
 -- The line of the ending was written, and the status is its own; or the target failed within it, and the status is
 -- that of a fault.
 abbrev pub Concludes : Ending → (before : Output) → (status : ℕ) → (after : Output) → Type 0
@@ -77,20 +93,21 @@ ConcludesCheck (ending.Finished f) out err status out' err' =
     ⊎ (StopsWithin out (ending_line (ending.Finished f)) out' × Concludes ending.WriteFault err status err')
 ConcludesCheck e out err status out' err' = (out' ≡ out) × Concludes e err status err'
 
--- The bytes xs of the input were shown: what was written of them, which calls of the reader failed, and the line that
--- reports how it ended.
+-- The bytes xs of the input were shown: what was written of them, which calls of the reader failed, the line that
+-- reports how it ended, and how often the reader was called.
 abbrev pub ShowsBytes : TextForm → Limits → (turns : ℕ) → List ℕ
     → (before : Streams) → (status : ℕ) → (after : Streams) → Type 0
 ShowsBytes form limits turns xs before status after =
     (e : Ending) × ShowsTo form limits turns e xs after.input.left before.out after.out
     × CountsReads e before.input.failures after.input.failures × Concludes e before.err status after.err
+    × ReadsBy turns e before.input after.input
 
 -- The bytes xs of the input were read and nothing of them written, and how it ended was reported.
 abbrev pub ChecksBytes : Limits → (turns : ℕ) → List ℕ → (before : Streams) → (status : ℕ) → (after : Streams) → Type 0
 ChecksBytes limits turns xs before status after =
     (e : Ending) × (read : Output) × ShowsTo forms.Nothing limits turns e xs after.input.left before.out read
     × CountsReads e before.input.failures after.input.failures
-    × ConcludesCheck e read before.err status after.out after.err
+    × ConcludesCheck e read before.err status after.out after.err × ReadsBy turns e before.input after.input
 
 -- A stream was shown, and how it ended was reported.
 abbrev pub ShowsAndReports : TextForm → Limits → (turns : ℕ)

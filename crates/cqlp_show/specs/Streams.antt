@@ -4,13 +4,15 @@ use Rattle.cqlp_note.specs.declared.streams.Source as source
 use Rattle.cqlp_note.specs.declared.streams.Target as target
 use Rattle.cqlp_text.specs.Outputs.{Output, written}
 
--- the bytes that a reader has left, where they are known, and how often it failed
+-- the bytes that a reader has left, where they are known, how often it failed, and how often it was called
 pub record Input : Type 0 where
   pub left : Option (List ℕ)
   pub failures : ℕ
+  pub reads : ℕ
 
 abbrev pub unread : {R : Type 0} → source.Ghosts R → R → Input
-unread members reader = record { left = members.left reader; failures = members.failures reader }
+unread members reader =
+    record { left = members.left reader; failures = members.failures reader; reads = members.reads reader }
 
 -- What holds of the bytes that a reader has left, where they are known, and it is known what a target was given.
 abbrev pub IfKnown : Input → Output → (List ℕ → Type 0) → Type 0

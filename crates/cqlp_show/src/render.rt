@@ -1,7 +1,7 @@
 //! Streams as text.
 
-ghost use Rattle.std.specs.Prelude.{◌≡◌, ◌*◌, List, ℕ, Some, IsSome, []};
-ghost use Rattle.cqlp_decode.specs.Draining.{Counts, ReadsAtMost, WaitsAt};
+ghost use Rattle.std.specs.Prelude.{◌≡◌, Some, IsSome, []};
+ghost use Rattle.cqlp_decode.specs.Draining.{Counts, MakesReads, WaitsAt};
 ghost use Rattle.cqlp_note.specs.declared.refusal.Refusal.{Refusal};
 ghost use Rattle.cqlp_decode.specs.Streams.{After, state};
 
@@ -91,7 +91,8 @@ pub fn render_events<R: Source, W: Target, A: Allocator>(
     ensures refused { (r : Refusal) → (state decoder.old).refusal ≡ Some r →
         (result.0 ≡ Outcome.Finished (Finish.Refused r)) × (state decoder.new ≡ state decoder.old)
         × (reader.new ≡ reader.old) × (written W.Target result.1 ≡ written W.Target w) }
-    ensures reads { (xs : List ℕ) → R.left reader.old ≡ Some xs → ReadsAtMost (4096 * turns) xs (R.left reader.new) }
+    ensures reads { MakesReads turns result.0 (R.reads reader.old) (R.reads reader.new)
+        (R.left reader.old) (R.left reader.new) }
     ensures failures { Counts result.0 (R.failures reader.old) (R.failures reader.new) }
     ensures rules { (state decoder.new).rules ≡ (state decoder.old).rules }
 {
@@ -116,7 +117,8 @@ pub fn render_rows<R: Source, W: Target, A: Allocator>(
     ensures refused { (r : Refusal) → (state decoder.old).refusal ≡ Some r →
         (result.0 ≡ Outcome.Finished (Finish.Refused r)) × (state decoder.new ≡ state decoder.old)
         × (reader.new ≡ reader.old) × (written W.Target result.1 ≡ written W.Target w) }
-    ensures reads { (xs : List ℕ) → R.left reader.old ≡ Some xs → ReadsAtMost (4096 * turns) xs (R.left reader.new) }
+    ensures reads { MakesReads turns result.0 (R.reads reader.old) (R.reads reader.new)
+        (R.left reader.old) (R.left reader.new) }
     ensures failures { Counts result.0 (R.failures reader.old) (R.failures reader.new) }
     ensures rules { (state decoder.new).rules ≡ (state decoder.old).rules }
 {
@@ -136,6 +138,8 @@ pub(crate) fn run_flushing<R: Source, W: Target, F: Form, A: Allocator, B: Alloc
     ensures renders { IfKnown (unread R.Source reader.old) sink.old.output (λ xs. After (state decoder.old) [] [] →
         RendersOrFails sink.old.form turns result (state decoder.old) (state decoder.new) xs (R.left reader.new)
         sink.old.output sink.new.output) }
+    ensures reads { MakesReads turns result (R.reads reader.old) (R.reads reader.new)
+        (R.left reader.old) (R.left reader.new) }
     ensures failures { Counts result (R.failures reader.old) (R.failures reader.new) }
     ensures rules { (state decoder.new).rules ≡ (state decoder.old).rules }
 {

@@ -7,7 +7,7 @@ ghost use Rattle.cqlp_text.specs.Endings.{IsStatusOfTask};
 ghost use Rattle.cqlp_text.specs.PageText.{no_page};
 ghost use Rattle.cqlp_text.specs.Outputs.{Output, written};
 ghost use Rattle.cqlp_show.specs.Streams.{IfKnown, streams, unread};
-ghost use Rattle.cqlp_show.specs.Showing.{ending_of, ChecksAndReports, ConcludesIfKnown, CountsReads, RendersOrFails};
+ghost use Rattle.cqlp_show.specs.Showing.{ending_of, ChecksAndReports, ConcludesIfKnown, CountsReads, ReadsBy, RendersOrFails};
 ghost use Rattle.cqlp_show.specs.Showing.{ShowsAndReports, ShowsTo};
 ghost use Rattle.cqlp_text.specs.declared.ending.Ending.{Ending};
 ghost use Rattle.cqlp_show.specs.declared.text_form.TextForm.TheVariants as forms;
@@ -104,6 +104,7 @@ fn read_through<R: Source, O: Target, A: Allocator>(
         ShowsTo forms.Nothing limits TURNS result.0 xs (R.left input.new) (written O.Target out)
         (written O.Target result.1)) }
     ensures failures { CountsReads result.0 (R.failures input.old) (R.failures input.new) }
+    ensures reads { ReadsBy TURNS result.0 (unread R.Source input.old) (unread R.Source input.new) }
 {
     let Some(mut decoder) = decoder_within(alloc, limits) else {
         return (Ending::NoMemory, out);
@@ -126,6 +127,7 @@ fn write_text<R: Source, O: Target, F: Form + Drop, A: Allocator>(
         ShowsTo (F.form form) limits TURNS result.0 xs (R.left input.new) (written O.Target out)
         (written O.Target result.1)) }
     ensures failures { CountsReads result.0 (R.failures input.old) (R.failures input.new) }
+    ensures reads { ReadsBy TURNS result.0 (unread R.Source input.old) (unread R.Source input.new) }
 {
     let Some(mut decoder) = decoder_within(alloc, limits) else {
         return (Ending::NoMemory, out);
@@ -176,6 +178,7 @@ fn render_buffered<R: Source, O: Target, F: Form + Drop, A: Allocator, B: Alloca
         After (state decoder.old) [] [] → RendersOrFails (F.form form) TURNS result.0 (state decoder.old)
         (state decoder.new) xs (R.left input.new) (written O.Target out) (written O.Target result.1)) }
     ensures failures { CountsReads (ending_of result.0) (R.failures input.old) (R.failures input.new) }
+    ensures reads { ReadsBy TURNS (ending_of result.0) (unread R.Source input.old) (unread R.Source input.new) }
     ensures rules { (state decoder.new).rules ≡ (state decoder.old).rules }
 {
     let mut sink = BufferedSink::new(Buffered::new(out, buffer), form);

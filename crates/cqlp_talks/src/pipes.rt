@@ -86,6 +86,7 @@ pub struct Pipe<'a> {
     wires: &'a Wires,
     wire: &'a RefCell<Wire>,
     failures: u64,
+    reads: u64,
 }
 
 impl<'a> Pipe<'a> {
@@ -95,6 +96,7 @@ impl<'a> Pipe<'a> {
             wires,
             wire: &wires.up,
             failures: 0,
+            reads: 0,
         }
     }
 
@@ -104,6 +106,7 @@ impl<'a> Pipe<'a> {
             wires,
             wire: &wires.down,
             failures: 0,
+            reads: 0,
         }
     }
 }
@@ -111,7 +114,10 @@ impl<'a> Pipe<'a> {
 impl Source for Pipe<'_> {
     ghost failures = { λ pipe. pipe.failures };
 
+    ghost reads = { λ pipe. pipe.reads };
+
     fn read(&mut self, buffer: &mut [u8]) -> Result<usize, IoFault> {
+        self.reads = self.reads.saturating_add(1);
         if !self.wires.fails() {
             if let Ok(mut wire) = self.wire.try_borrow_mut() {
                 return Ok(self.wires.take(&mut wire, buffer));

@@ -4,6 +4,8 @@
 #[cfg(test)]
 mod cells;
 #[cfg(test)]
+mod claims;
+#[cfg(test)]
 mod fields;
 #[cfg(test)]
 mod fronts;

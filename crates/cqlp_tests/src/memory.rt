@@ -1,5 +1,7 @@
 //! What is made in little memory.
 
+use cqlp_decode::{Decoder, NewError};
+use cqlp_heaps::{Rationed, Refusals};
 use cqlp_note::{Limits, Partial};
 use cqlp_type::{TypeReader, TypeTable};
 use cqlp_value::CellReader;
@@ -48,5 +50,23 @@ fn each_request_may_be_refused(rt: HostRuntime) -> Result<(), Fail> {
         before = made;
     }
     assert_eq!(rt; answers.as_str(), "0 1 2 3 4 5 ");
+    Ok(())
+}
+
+#[test]
+fn a_decoder_asks_for_memory_four_times(rt: HostRuntime) -> Result<(), Fail> {
+    for refused in 1..7u64 {
+        let heap = Rationed::new(rt.alloc(), Refusals::At(refused));
+        let error = match Decoder::new(&heap, LIMITS) {
+            Ok(_) => None,
+            Err(error) => Some(error),
+        };
+        let expected = if refused <= 4 {
+            (Some(NewError::NoMemory), refused)
+        } else {
+            (None, 4)
+        };
+        assert!(rt; (error, heap.requests()) == expected);
+    }
     Ok(())
 }

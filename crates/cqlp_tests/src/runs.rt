@@ -3,9 +3,10 @@
 ghost use Rattle.cqlp_decode.specs.Streams.{IsWithin, state};
 
 use cqlp_decode::{Decoder, Held, Outcome, Sink, run};
-use cqlp_fakes::{FailsOnce, Pieces, Takes};
+use cqlp_fakes::{Adds, FailsOnce, Looks, Pieces, Takes};
 use cqlp_note::{Limits, Source};
 use std::alloc::Global;
+use std::cell::Cell;
 use std::test::Fail;
 
 const LIMITS: Limits = Limits {
@@ -97,5 +98,20 @@ fn runs_that_do_not_finish(rt: HostRuntime) -> Result<(), Fail> {
         }
     }
     assert_eq!(rt; wrong.as_str(), "");
+    Ok(())
+}
+
+/// Three READY frames, of two events each.
+static THREE_READY: [u8; 27] =
+    *b"\x84\0\0\x01\x02\0\0\0\0\x84\0\0\x02\x02\0\0\0\0\x84\0\0\x03\x02\0\0\0\0";
+
+#[test]
+fn events_are_out_before_the_next_read(rt: HostRuntime) -> Result<(), Fail> {
+    let out = Cell::new(0);
+    let mut decoder = Decoder::new(rt.alloc(), LIMITS)?;
+    let pieces = Pieces::new(&THREE_READY, [9; 3]);
+    let mut reader = Looks::new(pieces, &out, &[0, 2, 4, 6]);
+    run(&mut decoder, &mut reader, &mut Adds::new(&out), 9);
+    assert_eq!(rt; reader.wrong(), 0);
     Ok(())
 }

@@ -6,12 +6,17 @@ use std::test::Fail;
 
 /// A set of maps from lists of ints to a class.
 fn set(alloc: Global) -> Result<TypeTree, Fail> {
-    let int = Box::new(alloc, TypeTree::Plain(Kind::Int))?;
-    let list = Box::new(alloc, TypeTree::List(int))?;
+    let list = Box::new(alloc, list(alloc)?)?;
     let class = String::from_str(alloc, "abc")?;
     let custom = Box::new(alloc, TypeTree::Custom(class))?;
     let map = Box::new(alloc, TypeTree::Map(list, custom))?;
     Ok(TypeTree::Set(map))
+}
+
+/// A list of ints.
+fn list(alloc: Global) -> Result<TypeTree, Fail> {
+    let int = Box::new(alloc, TypeTree::Plain(Kind::Int))?;
+    Ok(TypeTree::List(int))
 }
 
 /// A user-defined type of two ints and a text.
@@ -53,6 +58,7 @@ fn lengths_of_options(rt: HostRuntime) -> Result<(), Fail> {
         type_len(&TypeTree::Plain(Kind::Int)),
         type_len(&TypeTree::Plain(Kind::List)),
         type_len(&TypeTree::Plain(Kind::Raw)),
+        type_len(&list(alloc)?),
         type_len(&set(alloc)?),
         type_len(&udt(alloc)?),
         type_len(&tuple(alloc, 8)?),
@@ -65,6 +71,7 @@ fn lengths_of_options(rt: HostRuntime) -> Result<(), Fail> {
         Some(2),
         None,
         None,
+        Some(4),
         Some(15),
         Some(25),
         Some(20),

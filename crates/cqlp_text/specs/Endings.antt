@@ -4,7 +4,6 @@ use Rattle.cqlp_grammar.specs.declared.event.Finish.{Finish}
 use Rattle.cqlp_grammar.specs.declared.event.Finish.TheVariants as finish
 use Rattle.cqlp_text.specs.declared.ending.Ending.{Ending}
 use Rattle.cqlp_text.specs.declared.ending.Ending.TheVariants as ending
-use Rattle.cqlp_text.specs.declared.status.TheConstants.{DONE, NOT_WHOLE, BAD_COMMAND_LINE, FAULT}
 use Rattle.cqlp_text.specs.Lines.{spaced}
 use Rattle.cqlp_text.specs.Names.{reason_name}
 use Rattle.cqlp_text.specs.Text.{in_one_line}
@@ -30,20 +29,22 @@ ending_line e = ending_text e ++ codes "\n"
 abbrev pub cannot_open_line : (file : List ℕ) → List ℕ
 cannot_open_line file = codes "cqlp: cannot open" ++ spaced (in_one_line file ∷ []) ++ codes "\n"
 
+-- the exit status: 0 of a whole stream, 1 of one that is cut or refused
 abbrev pub finish_status : Finish → ℕ
-finish_status (finish.Whole bytes) = DONE
-finish_status (finish.Cut frame_at bytes) = NOT_WHOLE
-finish_status (finish.Refused r) = NOT_WHOLE
+finish_status (finish.Whole bytes) = 0
+finish_status (finish.Cut frame_at bytes) = 1
+finish_status (finish.Refused r) = 1
 
+-- and 1 of a refused message of a conversation, 3 of all that failed
 abbrev pub status_of : Ending → ℕ
 status_of (ending.Finished f) = finish_status f
-status_of ending.ReadFault = FAULT
-status_of ending.WriteFault = FAULT
-status_of ending.NoMemory = FAULT
-status_of ending.TooManyTurns = FAULT
-status_of ending.BadReply = NOT_WHOLE
-status_of ending.SocketFault = FAULT
+status_of ending.ReadFault = 3
+status_of ending.WriteFault = 3
+status_of ending.NoMemory = 3
+status_of ending.TooManyTurns = 3
+status_of ending.BadReply = 1
+status_of ending.SocketFault = 3
 
--- what a status can be where a task was begun
+-- what a status can be where a task was begun: not that of a bad command line, which is 2
 abbrev pub IsStatusOfTask : (status : ℕ) → Type 0
-IsStatusOfTask status = (status ≤ FAULT) × (status ≢ BAD_COMMAND_LINE)
+IsStatusOfTask status = (status ≤ 3) × (status ≢ 2)

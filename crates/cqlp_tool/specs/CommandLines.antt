@@ -1,34 +1,45 @@
 -- What a command line does, and what is written where it starts no task.
-use Rattle.std.specs.Prelude.{◌≡◌, ◌≤◌, ℕ, List, [], IsSome, ◌⊎◌}
+use Rattle.std.specs.Prelude.{◌≡◌, ◌≢◌, ◌≤◌, true, false, ℕ, List, [], Result, Ok, Err, IsSome, ◌⊎◌, codes, string_bytes}
 use Rattle.cqlp_note.specs.declared.limits.Limits.{Limits}
-use Rattle.cqlp_note.specs.declared.limits.TheConstants.Limits.{DEFAULT}
+use Rattle.cqlp_options.specs.declared.command_line.CommandLine.{CommandLine}
+use Rattle.cqlp_options.specs.declared.command_line.CommandLine.TheVariants as line
+use Rattle.cqlp_options.specs.declared.no_task.NoTask.{NoTask}
+use Rattle.cqlp_options.specs.declared.no_task.NoTask.TheVariants as no_task
+use Rattle.cqlp_options.specs.declared.options.Options.{Options}
+use Rattle.cqlp_options.specs.declared.options.Task.{Task}
+use Rattle.cqlp_options.specs.declared.options.Task.TheVariants as task
 use Rattle.cqlp_text.specs.declared.ending.Ending.TheVariants as ending
-use Rattle.cqlp_text.specs.declared.status.TheConstants.{BAD_COMMAND_LINE, DONE, FAULT}
 use Rattle.cqlp_text.specs.Outputs.{Output, with_text, StopsWithin}
+use Rattle.cqlp_text.specs.PageText.{no_page}
 use Rattle.cqlp_show.specs.declared.text_form.TextForm.TheVariants as forms
-use Rattle.cqlp_show.specs.Showing.{Concludes, ShowsAndReports}
+use Rattle.cqlp_show.specs.Showing.{ChecksAndReports, Concludes, ShowsAndReports}
 use Rattle.cqlp_show.specs.Streams.{Streams}
+use Rattle.cqlp_tool.specs.Conversing.{ConversesAndReports}
 
 -- the limits where none are given
 abbrev pub default_limits : Limits
-default_limits = DEFAULT
+default_limits = record { text = 1048576; cell = 1048576; entries = 4096; depth = 16; types = true; parts = false }
+
+-- how many reads the program makes at most: 2 to the power of 32
+abbrev pub turns : ℕ
+turns = 4294967296
 
 -- The line was written, and the status is that of a fault; so it is where the target failed within it.
 abbrev pub ReportsFault : (line : List ℕ) → (before : Output) → (status : ℕ) → (after : Output) → Type 0
 ReportsFault line before status after =
-    (status ≡ FAULT) × ((after ≡ with_text before line) ⊎ StopsWithin before line after)
+    (status ≡ 3) × ((after ≡ with_text before line) ⊎ StopsWithin before line after)
 
 -- Help was written to the output, with the status of what is done; or the output failed, and the fault line reports
 -- that.
 abbrev pub Helps : (text : List ℕ) → (out err : Output) → (status : ℕ) → (out' err' : Output) → Type 0
 Helps text out err status out' err' =
-    ((status ≡ DONE) × (out' ≡ with_text out text) × (err' ≡ err))
+    ((status ≡ 0) × (out' ≡ with_text out text) × (err' ≡ err))
     ⊎ (StopsWithin out text out' × Concludes ending.WriteFault err status err')
 
 -- What is wrong was written, with the status of that; or the target failed.
 abbrev pub Complains : (text : List ℕ) → (before : Output) → (status : ℕ) → (after : Output) → Type 0
 Complains text before status after =
-    ((status ≡ BAD_COMMAND_LINE) × (after ≡ with_text before text)) ⊎ ((status ≡ FAULT) × StopsWithin before text after)
+    ((status ≡ 2) × (after ≡ with_text before text)) ⊎ ((status ≡ 3) × StopsWithin before text after)
 
 -- The fault line of no memory was written, and nothing else.
 abbrev pub ReportsNoMemory : (out err : Output) → (status : ℕ) → (out' err' : Output) → Type 0
@@ -42,12 +53,47 @@ ReportsMistake text out err status out' err' = (out' ≡ out) × Complains text 
 abbrev pub ReportsWrong : (out err out' err' : Output) → Type 0
 ReportsWrong out err out' err' = (out' ≡ out) × ((text : List ℕ) × (err' ≡ with_text err text))
 
+-- What is written where the words start no task, by which of these it is.
+abbrev pub Tells : NoTask → (out err : Output) → (status : ℕ) → (out' err' : Output) → Type 0
+Tells (no_task.Help text) out err status out' err' =
+    IsSome out.given → IsSome err.given → Helps (string_bytes text) out err status out' err'
+Tells (no_task.Mistake text) out err status out' err' =
+    IsSome err.given → ReportsMistake (string_bytes text) out err status out' err'
+Tells no_task.NoMemory out err status out' err' = IsSome err.given → ReportsNoMemory out err status out' err'
+
+-- What a task does with the input, within its limits.
+abbrev pub DoesTask : Task → Limits → (before : Streams) → (status : ℕ) → (after : Streams) → Type 0
+DoesTask task.Show limits before status after = ShowsAndReports forms.Lines limits turns before status after
+DoesTask task.Rows limits before status after =
+    ShowsAndReports (forms.Pages no_page) limits turns before status after
+DoesTask task.Check limits before status after = ChecksAndReports limits turns before status after
+
+-- the stream is the input, and no file
+abbrev pub IsOfInput : Options → Type 0
+IsOfInput options = options.file.now ≡ codes "-"
+
+-- What a command line does: a task with the input, or a conversation. What a file gives is not known.
+abbrev pub Executes : Result CommandLine NoTask
+    → (before : Streams) → (status : ℕ) → (after : Streams) → Type 0
+Executes (Ok (line.Stream options)) before status after =
+    IsOfInput options → DoesTask options.task options.limits before status after
+Executes (Ok (line.Loop queries)) before status after =
+    ConversesAndReports queries before.out before.err status after.out after.err
+Executes (Err reason) before status after =
+    Tells reason before.out before.err status after.out after.err
+
+-- It is no task with the input.
+abbrev pub NeedsNoInput : Result CommandLine NoTask → Type 0
+NeedsNoInput (Ok (line.Stream options)) = options.file.now ≢ codes "-"
+NeedsNoInput (Ok (line.Loop queries)) = Unit
+NeedsNoInput (Err reason) = Unit
+
 -- What a command line of these words does: without words it shows the input, and no status is greater than that of
 -- a fault.
-abbrev pub Performs : {W : Type 0} → List W → (turns : ℕ)
+abbrev pub Performs : {W : Type 0} → List W
     → (before : Streams) → (status : ℕ) → (after : Streams) → Type 0
-Performs words turns before status after =
+Performs words before status after =
     (words ≡ [] → ShowsAndReports forms.Lines default_limits turns before status after)
-    × (status ≤ FAULT)
-    × (status ≡ BAD_COMMAND_LINE → IsSome before.out.given → IsSome before.err.given
+    × (status ≤ 3)
+    × (status ≡ 2 → IsSome before.out.given → IsSome before.err.given
     → ReportsWrong before.out before.err after.out after.err)

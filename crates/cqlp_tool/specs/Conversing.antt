@@ -2,7 +2,6 @@
 use Rattle.std.specs.Prelude.{◌≡◌, ℕ, Result, Ok, Err, IsSome, ◌⊎◌}
 use Rattle.cqlp_text.specs.declared.ending.Ending.{Ending}
 use Rattle.cqlp_text.specs.declared.ending.Ending.TheVariants as ending
-use Rattle.cqlp_text.specs.declared.status.TheConstants.{DONE}
 use Rattle.cqlp_text.specs.Outputs.{Output}
 use Rattle.cqlp_loop.specs.declared.fault.LoopFault.{LoopFault}
 use Rattle.cqlp_loop.specs.declared.fault.LoopFault.TheVariants as fault
@@ -28,7 +27,7 @@ ConversesWithItself queries out r out' =
 -- A conversation that came to its end has the status of what is done, and of it nothing is reported; of one that ended
 -- early the fault line was written.
 abbrev pub Reports : Result (Unit {0}) LoopFault → (err : Output) → (status : ℕ) → (err' : Output) → Type 0
-Reports (Ok u) err status err' = (status ≡ DONE) × (err' ≡ err)
+Reports (Ok u) err status err' = (status ≡ 0) × (err' ≡ err)
 Reports (Err e) err status err' = Concludes (ending_of e) err status err'
 
 -- A conversation was had, and how it ended was reported.

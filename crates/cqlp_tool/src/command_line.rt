@@ -1,21 +1,20 @@
 //! The command line, from its words to the exit status.
 
-ghost use Rattle.std.specs.Prelude.{◌≡◌, ◌≤◌, IsSome};
+ghost use Rattle.std.specs.Prelude.{◌≡◌, ◌≢◌, ◌≤◌, IfOk, IsSome, codes};
 ghost use Rattle.cqlp_note.specs.Limits.{first_bad};
-ghost use Rattle.cqlp_tool.specs.CommandLines.{Complains, Helps, Performs, ReportsFault, ReportsMistake};
-ghost use Rattle.cqlp_tool.specs.CommandLines.{ReportsNoMemory, ReportsWrong};
+ghost use Rattle.cqlp_options.specs.CommandLines.{IsWithin};
+ghost use Rattle.cqlp_tool.specs.CommandLines.{Complains, DoesTask, Executes, Helps, IsOfInput, NeedsNoInput, Performs};
+ghost use Rattle.cqlp_tool.specs.CommandLines.{ReportsFault, ReportsWrong, Tells};
 ghost use Rattle.cqlp_text.specs.Endings.{IsStatusOfTask, cannot_open_line as cannot_open_line_of};
 ghost use Rattle.cqlp_text.specs.Outputs.{written};
 ghost use Rattle.cqlp_show.specs.Streams.{streams};
 ghost use Rattle.cqlp_text.specs.declared.ending.Ending.{Ending};
-ghost use Rattle.cqlp_options.specs.NoTasks.{IfHelp, IfMistake};
-ghost use Rattle.cqlp_options.specs.declared.no_task.NoTask.TheVariants as no_tasks;
 
 use crate::conversing::converse;
 use cqlp_decode::SinkFault;
 use cqlp_note::{OfStd, Source, Target};
 use cqlp_options::{CommandLine, DEFAULT_LIMITS, NoTask, Options, Task};
-use cqlp_show::{TURNS, check, conclude, rows, show};
+use cqlp_show::{check, conclude, rows, show};
 use cqlp_text::status::{BAD_COMMAND_LINE, DONE, FAULT};
 use cqlp_text::{Ending, cannot_open_line, put_text};
 use std::alloc::Allocator;
@@ -24,7 +23,8 @@ use std::net::{Net, TcpListener, TcpStream};
 use std::rt::Files;
 
 /// What the program does: `words` are those after its name, and `input` is standard input. Without words that is what
-/// `show -` does. Answers the exit status, and the two outputs.
+/// `show -` does; with words, what `execute` does with what they are read as. Answers the exit status, and the two
+/// outputs.
 ///
 /// What is wrong with a command line is written to `err`, and help that was asked for to `out`.
 pub fn command<R, I: Source, O: Target, E: Target>(
@@ -37,14 +37,37 @@ pub fn command<R, I: Source, O: Target, E: Target>(
 where
     R: Files + Net<Listener = TcpListener, Stream = TcpStream> + AllocGlobal,
     ensures performs { let view = streams I.Source O.Target E.Target in
-        Performs words.now TURNS (view input.old out err) result.0 (view input.new result.1 result.2) }
-    ensures untouched { result.0 ≡ BAD_COMMAND_LINE → input.new ≡ input.old }
+        Performs words.now (view input.old out err) result.0 (view input.new result.1 result.2) }
+    ensures untouched { result.0 ≡ 2 → input.new ≡ input.old }
 {
-    let heap = rt.alloc();
     if words.is_empty() {
-        return show(&heap, DEFAULT_LIMITS, input, out, err);
+        return show(&rt.alloc(), DEFAULT_LIMITS, input, out, err);
     }
-    match CommandLine::parse(rt.alloc(), words) {
+    execute(rt, CommandLine::parse(rt.alloc(), words), input, out, err)
+}
+
+/// Does what a command line asks for: a task with standard input or with a file, or a conversation; or writes why it
+/// starts none. Answers the exit status, and the two outputs.
+pub fn execute<R, I: Source, O: Target, E: Target>(
+    rt: &R,
+    line: Result<CommandLine<'_>, NoTask>,
+    input: &mut I,
+    out: O,
+    err: E,
+) -> (u8, O, E)
+where
+    R: Files + Net<Listener = TcpListener, Stream = TcpStream> + AllocGlobal,
+    requires within { IfOk line IsWithin }
+    ensures executes { let view = streams I.Source O.Target E.Target in
+        Executes line.entry (view input.old out err) result.0 (view input.new result.1 result.2) }
+    ensures status { IfOk line.entry (λ _. IsStatusOfTask result.0) }
+    ensures fault_at_most { result.0 ≤ 3 }
+    ensures wrong { result.0 ≡ 2 → IsSome (O.contents out) → IsSome (E.contents err) →
+        ReportsWrong (written O.Target out) (written E.Target err)
+        (written O.Target result.1) (written E.Target result.2) }
+    ensures untouched { NeedsNoInput line.entry → input.new ≡ input.old }
+{
+    match line {
         Ok(CommandLine::Stream(options)) => stream(rt, options, input, out, err),
         Ok(CommandLine::Loop { queries }) => converse(rt, queries, out, err),
         Err(no_task) => tell(no_task, out, err),
@@ -60,7 +83,11 @@ fn stream<R: Files + AllocGlobal, I: Source, O: Target, E: Target>(
     err: E,
 ) -> (u8, O, E)
     requires { first_bad options.limits ≡ Ok tt }
-    ensures { IsStatusOfTask result.0 }
+    ensures task { let view = streams I.Source O.Target E.Target in
+        IsOfInput options.entry → DoesTask options.entry.task options.entry.limits
+        (view input.old out err) result.0 (view input.new result.1 result.2) }
+    ensures status { IsStatusOfTask result.0 }
+    ensures untouched { options.entry.file.now ≢ codes "-" → input.new ≡ input.old }
 {
     let heap = rt.alloc();
     if options.file == "-" {
@@ -84,7 +111,10 @@ fn perform<A: Allocator, I: Source, O: Target, E: Target>(
     err: E,
 ) -> (u8, O, E)
     requires { first_bad options.limits ≡ Ok tt }
-    ensures { IsStatusOfTask result.0 }
+    ensures task { let view = streams I.Source O.Target E.Target in
+        DoesTask options.entry.task options.entry.limits
+        (view input.old out err) result.0 (view input.new result.1 result.2) }
+    ensures status { IsStatusOfTask result.0 }
 {
     match options.task {
         Task::Show => show(heap, options.limits, input, out, err),
@@ -95,7 +125,7 @@ fn perform<A: Allocator, I: Source, O: Target, E: Target>(
 
 /// Reports that a file cannot be opened. Answers the exit status.
 fn cannot_open<E: Target>(file: &str, mut err: E) -> (u8, E)
-    ensures status { result.0 ≡ FAULT }
+    ensures status { result.0 ≡ 3 }
     ensures line { IsSome (E.contents err) →
         ReportsFault (cannot_open_line_of file.now) (written E.Target err) result.0 (written E.Target result.1) }
 {
@@ -106,17 +136,10 @@ fn cannot_open<E: Target>(file: &str, mut err: E) -> (u8, E)
 
 /// Writes what there is in place of options: help or the version to `out`, and a mistake to `err`.
 fn tell<O: Target, E: Target>(no_task: NoTask, out: O, err: E) -> (u8, O, E)
-    ensures help { IfHelp no_task (λ text. IsSome (O.contents out) → IsSome (E.contents err) →
-        Helps text (written O.Target out) (written E.Target err) result.0
-        (written O.Target result.1) (written E.Target result.2)) }
-    ensures mistake { IfMistake no_task (λ text. IsSome (E.contents err) →
-        ReportsMistake text (written O.Target out) (written E.Target err) result.0
-        (written O.Target result.1) (written E.Target result.2)) }
-    ensures no_memory { no_task ≡ no_tasks.NoMemory → IsSome (E.contents err) →
-        ReportsNoMemory (written O.Target out) (written E.Target err) result.0
+    ensures tells { Tells no_task (written O.Target out) (written E.Target err) result.0
         (written O.Target result.1) (written E.Target result.2) }
-    ensures status { result.0 ≤ FAULT }
-    ensures bad_command_line { result.0 ≡ BAD_COMMAND_LINE → IsSome (O.contents out) → IsSome (E.contents err) →
+    ensures status { result.0 ≤ 3 }
+    ensures bad_command_line { result.0 ≡ 2 → IsSome (O.contents out) → IsSome (E.contents err) →
         ReportsWrong (written O.Target out) (written E.Target err)
         (written O.Target result.1) (written E.Target result.2) }
 {
@@ -151,7 +174,7 @@ fn help<O: Target, E: Target>(text: &str, mut out: O, err: E) -> (u8, O, E)
 
 /// Writes what is wrong with a command line. Answers the exit status.
 fn complain<E: Target>(text: &str, mut err: E) -> (u8, E)
-    ensures status { result.0 ≤ FAULT }
+    ensures status { result.0 ≤ 3 }
     ensures complaint { IsSome (E.contents err) →
         Complains text.now (written E.Target err) result.0 (written E.Target result.1) }
 {

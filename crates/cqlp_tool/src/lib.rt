@@ -5,7 +5,7 @@ mod command_line;
 mod connection;
 mod conversing;
 
-pub use command_line::command;
+pub use command_line::{command, execute};
 pub use conversing::converse;
 pub use cqlp_options::{CommandLine, DEFAULT_LIMITS, NoTask, Options, QUERIES, Task};
 pub use cqlp_show::{TextForm, check, render_events, render_rows, rows, show};

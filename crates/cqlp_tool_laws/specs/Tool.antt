@@ -12,7 +12,6 @@ use Rattle.cqlp_decode.specs.Standing.{StreamState}
 use Rattle.cqlp_decode.specs.Streams.{AfterGifts, FinishesBy}
 use Rattle.cqlp_text.specs.declared.ending.Ending.{Ending}
 use Rattle.cqlp_text.specs.declared.ending.Ending.TheVariants as ending
-use Rattle.cqlp_text.specs.declared.status.TheConstants.{FAULT}
 use Rattle.cqlp_text.specs.Endings.{ending_line, finish_status}
 use Rattle.cqlp_tool_laws.specs.Text.{FailsAlike, GoesOnFromOther}
 use Rattle.cqlp_text.specs.Outputs.{Output, with_text, HasFailed}
@@ -61,7 +60,7 @@ pub record IsGranted (turns : ℕ) (xs : List ℕ) (before after : Streams) : Ty
 abbrev pub IsShownRightly : TextForm → Type 0
 IsShownRightly form = (limits : Limits) (turns : ℕ) (xs : List ℕ) (before : Streams) (status : ℕ) (after : Streams)
     (es : List (ℕ × Event)) (v : Verdict)
-    → Says (rules_of limits) start xs es v → IsGranted turns xs before after ⊎ (status ≢ FAULT)
+    → Says (rules_of limits) start xs es v → IsGranted turns xs before after ⊎ (status ≢ 3)
     → ShowsBytes form limits turns xs before status after
     → (f : Finish) × EndsAs xs es v f × (status ≡ finish_status f)
     × (after.out ≡ with_text before.out (text form es))
@@ -71,7 +70,7 @@ IsShownRightly form = (limits : Limits) (turns : ℕ) (xs : List ℕ) (before : 
 abbrev pub IsCheckedRightly : Type 0
 IsCheckedRightly = (limits : Limits) (turns : ℕ) (xs : List ℕ) (before : Streams) (status : ℕ) (after : Streams)
     (es : List (ℕ × Event)) (v : Verdict)
-    → Says (rules_of limits) start xs es v → IsGranted turns xs before after ⊎ (status ≢ FAULT)
+    → Says (rules_of limits) start xs es v → IsGranted turns xs before after ⊎ (status ≢ 3)
     → ChecksBytes limits turns xs before status after
     → (f : Finish) × EndsAs xs es v f × (status ≡ finish_status f)
     × (after.out ≡ with_text before.out (ending_line (ending.Finished f))) × (after.err ≡ before.err)

@@ -18,20 +18,22 @@ pub fn one_answer_of_render_rows()
     ensures once { IsRenderedOnce (forms.Pages no_page) }
 {}
 
-/// A stream has one text of lines, one verdict line and one status, also where `command` has no words; and two commands
-/// that end alike wrote the same.
+/// A stream has one text of lines, one verdict line and one status, also where `command` has no words and where `execute`
+/// shows standard input; and two commands that end alike wrote the same.
 pub fn one_answer_of_show()
     ensures right { IsShownRightly forms.Lines }
     ensures once { IsShownOnce forms.Lines }
 {}
 
-/// A stream has one text of pages, one verdict line and one status; and two commands that end alike wrote the same.
+/// A stream has one text of pages, one verdict line and one status, also where `execute` does this with standard input; and
+/// two commands that end alike wrote the same.
 pub fn one_answer_of_rows()
     ensures right { IsShownRightly (forms.Pages no_page) }
     ensures once { IsShownOnce (forms.Pages no_page) }
 {}
 
-/// A stream has one verdict line and one status; and two commands that end alike wrote the same.
+/// A stream has one verdict line and one status, also where `execute` checks standard input; and two commands that end alike
+/// wrote the same.
 pub fn one_answer_of_check()
     ensures right { IsCheckedRightly }
     ensures once { IsCheckedOnce }

@@ -36,14 +36,14 @@ pub(crate) struct OpenOptions<A: Allocator> {
 }
 
 impl<A: Allocator> Model for OpenOptions<A> {
-    ghost use Rattle.std.specs.Prelude.{◌≤◌, vec_capacity};
+    ghost use Rattle.std.specs.Prelude.{◌≡◌, vec_capacity};
     ghost use Rattle.cqlp_type.specs.OpenOptions.{Nest, FitIn, nest_of};
 
     ghost Value = { Nest };
 
     ghost view = { λ t. nest_of t.options.items t.room };
 
-    ghost invariant = { λ t. (t.room ≤ vec_capacity t.options) × FitIn t.room t.options.items };
+    ghost invariant = { λ t. (vec_capacity t.options ≡ t.room) × FitIn t.room t.options.items };
 }
 
 impl<A: Allocator> OpenOptions<A> {
@@ -64,6 +64,13 @@ impl<A: Allocator> OpenOptions<A> {
         ensures bound { result ≤ self.now.room }
     {
         self.options.len() as u32
+    }
+
+    /// How many options its memory has places for: the room, for as long as it lives.
+    pub(crate) fn capacity(&self) -> usize
+        ensures { result ≡ self.now.room }
+    {
+        self.options.capacity()
     }
 
     pub(crate) fn clear(&mut self)

@@ -96,6 +96,13 @@ impl<A: Allocator> TypeReader<A> {
         self.remaining.open_options.len()
     }
 
+    /// How many open options its memory has places for: as many as the limits allow, for as long as it lives.
+    pub fn capacity(&self) -> usize
+        ensures { result ≡ self.now.rules.depth }
+    {
+        self.remaining.open_options.capacity()
+    }
+
     /// The offset of the first byte of what is read now.
     pub fn offset(&self) -> u64
         ensures is { result ≡ self.now.offset }

@@ -1,6 +1,6 @@
 //! Tables of types.
 
-ghost use Rattle.std.specs.Prelude.{◌≡◌, ◌+◌, ◌^◌, ◌<◌, ◌≤◌, ◌++◌, ◌∷◌, [], length, slice_get, IfOk, IsTrue, ◌↔◌};
+ghost use Rattle.std.specs.Prelude.{◌≡◌, ◌+◌, ◌^◌, ◌<◌, ◌≤◌, ◌++◌, ◌∷◌, [], length, slice_get, vec_capacity, IfOk, IsTrue, ◌↔◌};
 ghost use Rattle.cqlp_type.specs.Table.{beginnings};
 
 use crate::depth::{deepest, inner_of};
@@ -18,14 +18,14 @@ pub struct TypeTable<A: Allocator = Global> {
 }
 
 impl<A: Allocator> Model for TypeTable<A> {
-    ghost use Rattle.std.specs.Prelude.{◌≤◌, ◌<◌, ◌^◌, vec_capacity};
+    ghost use Rattle.std.specs.Prelude.{◌≡◌, ◌<◌, ◌^◌, vec_capacity};
     ghost use Rattle.cqlp_type.specs.Table.{Table, HoldsUpTo};
 
     ghost Value = { Table };
 
     ghost view = { λ t. record { nodes = t.nodes.items; room = t.room } };
 
-    ghost invariant = { λ t. (t.room ≤ vec_capacity t.nodes) × (t.room < 2 ^ 32) × HoldsUpTo t.room t.nodes.items };
+    ghost invariant = { λ t. (vec_capacity t.nodes ≡ t.room) × (t.room < 2 ^ 32) × HoldsUpTo t.room t.nodes.items };
 }
 
 impl<A: Allocator> TypeTable<A> {
@@ -125,6 +125,13 @@ impl<A: Allocator> TypeTable<A> {
         self.room
     }
 
+    /// How many nodes its memory has places for: the room, for as long as it lives.
+    pub fn capacity(&self) -> usize
+        ensures { result ≡ self.now.room }
+    {
+        self.nodes.capacity()
+    }
+
     /// Adds the node of a type that is under way.
     #[tactic(auto, using(crate::proofs::OpenTypes::pushed_holds))]
     pub(crate) fn push(&mut self, node: Node)
@@ -164,11 +171,22 @@ impl<A: Allocator + Clone> TypeTable<A> {
         ensures { IfOk result (λ table. table ≡ self.now) }
     {
         let mut nodes = Vec::with_capacity(self.nodes.allocator().clone()?, self.room as usize)?;
-        nodes.extend_from_slice(&self.nodes).unwrap();
+        append(&mut nodes, &self.nodes);
         Ok(TypeTable {
             nodes,
             room: self.room,
         })
+    }
+}
+
+/// Adds these nodes, for which there are places.
+fn append<A: Allocator>(nodes: &mut Vec<Node, A>, added: &[Node])
+    requires { length nodes.old.items + length added.now ≤ vec_capacity nodes.old }
+    ensures items { nodes.new.items ≡ nodes.old.items ++ added.now }
+    ensures capacity { vec_capacity nodes.new ≡ vec_capacity nodes.old }
+{
+    for node in added {
+        nodes.push_reserved(*node);
     }
 }
 

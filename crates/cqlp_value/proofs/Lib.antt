@@ -4,6 +4,7 @@ pub mod ScalarFits
 pub mod OwnedLists
 pub mod ValueFits
 pub mod ValueSizes
+pub mod ValueRanges
 pub mod OneValue
 pub mod OneAnswer
 pub mod ScalarsWritten

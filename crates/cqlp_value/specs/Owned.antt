@@ -1,5 +1,5 @@
 -- Values as a program owns them.
-use Rattle.std.specs.Prelude.{ℕ, suc, Bool, Option, Some, None, string_bytes}
+use Rattle.std.specs.Prelude.{ℕ, suc, ◌==◌, Bool, Option, Some, None, length, string_bytes, if◌then◌else◌}
 use Rattle.cqlp_kind.specs.declared.kind.Kind.TheVariants as kind
 use Rattle.cqlp_type.specs.declared.tree.TypeTree.{TypeTree}
 use Rattle.cqlp_kind.specs.Types.{Types, NoMore, Type_and}
@@ -8,7 +8,7 @@ use Rattle.cqlp_type.specs.TypeTrees.{tree_of, len_if}
 use Rattle.cqlp_value.specs.declared.value.Atom.{Atom}
 use Rattle.cqlp_value.specs.declared.value.Atom.TheVariants as atom
 use Rattle.cqlp_value.specs.declared.value.Value.{Value, Null, Empty, Leaf, List', Map', Set', Tuple', Udt', Row_of-Value, end_of-Value, more_of-Value, Row_of-Value-Map-0-2, end_of-Value-Map-0-2, more_of-Value-Map-0-2}
-use Rattle.cqlp_kind.specs.Scalars.{ScalarValue, Custom, Blob, Raw, Varint, Double, Float, Uuid, Timeuuid, Ascii, Varchar, Bigint, Counter, Timestamp, Time, Int, Smallint, Tinyint, Date, Boolean, Decimal, Inet}
+use Rattle.cqlp_kind.specs.Scalars.{ScalarValue, content_of, Custom, Blob, Raw, Varint, Double, Float, Uuid, Timeuuid, Ascii, Varchar, Bigint, Counter, Timestamp, Time, Int, Smallint, Tinyint, Date, Boolean, Decimal, Inet}
 use Rattle.cqlp_value.specs.Values.{Values, NoValue, Null_and, Empty_and, Scalar_and, Counted_and, Fields_and, values_in, values_fit, values_size}
 
 abbrev pub atom_of : Atom → ScalarValue
@@ -33,6 +33,10 @@ atom_of (atom.Time z) = Time z
 atom_of (atom.Smallint z) = Smallint z
 atom_of (atom.Tinyint z) = Tinyint z
 atom_of (atom.Raw c) = Raw c.items
+
+-- a scalar as a value: empty where its content is
+abbrev pub scalar_value : Atom → Value
+scalar_value a = if length (content_of (atom_of a)) == 0 then Empty else Leaf a
 
 abbrev pub pairs_in : {m : _} → Row_of-Value-Map-0-2 m → ℕ
 pairs_in end_of-Value-Map-0-2 = 0

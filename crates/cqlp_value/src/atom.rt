@@ -100,10 +100,11 @@ impl Atom {
         }
     }
 
-    /// How many bytes its content has.
+    /// How many bytes its content has. What it holds is in the range of its types.
     #[inline(always)]
     pub fn content_len(&self) -> u64
-        ensures { result ≡ length (content_of (atom_of self.now)) }
+        ensures size { result ≡ length (content_of (atom_of self.now)) }
+        ensures range { IsInRange (atom_of self.now) }
     {
         match self.content() {
             Content::One(_) => 1,

@@ -19,8 +19,9 @@ const MOST: usize = i32::MAX as usize;
 
 /// Whether a value is one of this type, or of a cell without a type. Section 6 of `native_protocol_v4.spec`.
 ///
-/// Null and empty are of any type. A scalar is of its own kind alone, and has some bytes; an ascii is ASCII, a
-/// timeuuid of version 1, a time within a day, and a decimal has an unscaled number. A list, a set or a map has at most
+/// Null and empty are of any type. A scalar is of its own kind alone, and has some bytes: where it has none, as an empty
+/// text, the value is [`Value::Empty`], which [`Value::scalar`] makes of it. An ascii is ASCII, a timeuuid of version 1, a
+/// time within a day, and a decimal has an unscaled number. A list, a set or a map has at most
 /// 2,147,483,647 items, which fit. A tuple or a user-defined type has one field at least and no more than its type,
 /// which fit. Without a type a value is raw.
 #[inline(always)]

@@ -5,7 +5,7 @@ ghost use Rattle.cqlp_type.specs.TypeTrees.{len_if};
 ghost use Rattle.cqlp_value.specs.Measures.{listed_pairs, listed_values};
 ghost use Rattle.cqlp_value.specs.Owned.{atom_of, fits_type, spelled_value_len, value_of};
 ghost use Rattle.cqlp_kind.specs.Scalars.{content_of};
-ghost use Rattle.cqlp_value.specs.Values.{values_size};
+ghost use Rattle.cqlp_value.specs.Values.{AreInRange, values_size};
 
 use crate::fitting::fits;
 use crate::value::{Atom, Value};
@@ -38,11 +38,13 @@ pub fn content_len(value: &Value) -> u64
     value_size(value) - 4
 }
 
-/// How many bytes spell a value, the four of its length counted; 2^64 - 1 where there are more.
+/// How many bytes spell a value, the four of its length counted; 2^64 - 1 where there are more. What its scalars hold is
+/// in the range of their types.
 #[inline(always)]
 #[cycle(value_size)]
 pub fn value_size(value: &Value) -> u64
-    ensures { result ≡ min (values_size (value_of value.now)) (2 ^ 64 - 1) }
+    ensures size { result ≡ min (values_size (value_of value.now)) (2 ^ 64 - 1) }
+    ensures range { AreInRange (value_of value.now) }
 {
     match value {
         Value::Leaf(atom) => atom.content_len().saturating_add(4),
@@ -53,7 +55,8 @@ pub fn value_size(value: &Value) -> u64
 /// The same of a value that is mostly no scalar.
 #[cycle(value_size)]
 fn any_size(value: &Value) -> u64
-    ensures { result ≡ min (values_size (value_of value.now)) (2 ^ 64 - 1) }
+    ensures size { result ≡ min (values_size (value_of value.now)) (2 ^ 64 - 1) }
+    ensures range { AreInRange (value_of value.now) }
 {
     match value {
         Value::Null => 4,
@@ -70,7 +73,8 @@ fn any_size(value: &Value) -> u64
 /// The same of values side by side.
 #[cycle(value_size)]
 fn items_size(items: &[Value]) -> u64
-    ensures { result ≡ min (values_size (listed_values items.now)) (2 ^ 64 - 1) }
+    ensures size { result ≡ min (values_size (listed_values items.now)) (2 ^ 64 - 1) }
+    ensures range { AreInRange (listed_values items.now) }
 {
     let mut size: u64 = 0;
     for item in items {
@@ -82,7 +86,8 @@ fn items_size(items: &[Value]) -> u64
 /// The same of pairs.
 #[cycle(value_size)]
 fn pairs_size(pairs: &[(Value, Value)]) -> u64
-    ensures { result ≡ min (values_size (listed_pairs pairs.now)) (2 ^ 64 - 1) }
+    ensures size { result ≡ min (values_size (listed_pairs pairs.now)) (2 ^ 64 - 1) }
+    ensures range { AreInRange (listed_pairs pairs.now) }
 {
     let mut size: u64 = 0;
     for (key, value) in pairs {

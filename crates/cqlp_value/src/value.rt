@@ -1,5 +1,8 @@
 //! Values as a program owns them.
 
+ghost use Rattle.std.specs.Prelude.{◌≡◌};
+ghost use Rattle.cqlp_value.specs.Owned.{scalar_value};
+
 use cqlp_note::Address;
 
 /// A scalar with its contents, by its kind: the owned form of [`Scalar`](crate::Scalar). Section 6 of
@@ -47,8 +50,10 @@ pub enum Atom {
 pub enum Value {
     /// No value, of a negative length.
     Null,
-    /// No bytes, of any type.
+    /// No bytes, of any type: the empty text of a varchar column is this, and no leaf.
     Empty,
+    /// A scalar with some bytes. One without bytes, as an empty text or blob, fits no type; [`Value::scalar`] makes it
+    /// [`Value::Empty`].
     Leaf(Atom),
     List(Vec<Value>),
     /// Keys and their values, in order; a key may come again.
@@ -58,4 +63,18 @@ pub enum Value {
     Tuple(Vec<Value>),
     /// The first fields of a user-defined type, at least one.
     Udt(Vec<Value>),
+}
+
+impl Value {
+    /// The value of a cell that is this scalar: [`Value::Empty`] where its content has no bytes, as that of an empty text, and
+    /// else a [`Value::Leaf`]. Section 6 of `native_protocol_v4.spec`.
+    pub fn scalar(atom: Atom) -> Value
+        ensures { result ≡ scalar_value atom }
+    {
+        if atom.content_len() == 0 {
+            Value::Empty
+        } else {
+            Value::Leaf(atom)
+        }
+    }
 }

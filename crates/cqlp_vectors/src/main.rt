@@ -51,6 +51,7 @@ fn execute(rt: &HostRuntime, line: &str) -> io::Result<()> {
     ways::after_read_faults(rt, &stream, &whole)?;
     ways::after_turns(rt, &stream, &whole)?;
     ways::with_room_for_text(rt, &stream, &whole)?;
+    ways::with_room_for_pages(rt, &stream)?;
     ways::with_room_for_events(rt, &stream, &whole)
 }
 

@@ -3,12 +3,17 @@
 use crate::stream::{Said, Stream};
 use cqlp_decode::{Finish, Outcome, run};
 use cqlp_fakes::{Ends, FailsOnce, Narrow, Takes};
-use cqlp_show::render_events;
+use cqlp_show::{render_events, render_rows, rows};
 use std::alloc::Global;
 use std::io;
 
 /// How many bytes a read gives where a run stops between two reads.
 const PIECE: usize = 7;
+
+/// The status of a fault.
+const FAULT: u8 = 3;
+
+const WRITE_FAULT: &[u8] = b"cqlp: write fault\n";
 
 /// Byte by byte, in two pieces cut at each place, and in three cut at each pair of places.
 pub fn in_pieces(rt: &HostRuntime, stream: &Stream<'_>, whole: &Said) -> io::Result<()> {
@@ -150,6 +155,50 @@ fn fills_text(alloc: Global, stream: &Stream<'_>, whole: &Said, room: usize) -> 
     let (outcome, writer) = render_events(&mut decoder, &mut reader, writer, u64::MAX);
     let is_written = whole.lines.starts_with(writer.text()) && writer.text().len() == room;
     Ok(is_written && outcome == with_room(room, whole.lines.len(), whole))
+}
+
+/// The text of its pages to a writer that fails after each number of bytes, which gets that many of it, by `render_rows` and
+/// by `rows`.
+pub fn with_room_for_pages(rt: &HostRuntime, stream: &Stream<'_>) -> io::Result<()> {
+    let whole = stream.pages(rt.alloc(), [usize::MAX; 3])?;
+    for room in 0..=whole.lines.len() {
+        let front = whole.lines.get(..room).unwrap_or(&[]);
+        let outcome = with_room(room, whole.lines.len(), &whole);
+        if !renders_pages(rt.alloc(), stream, front, outcome)? {
+            println!(rt; "its pages differ with room for {room} bytes of text")?;
+        }
+        if !writes_pages(rt.alloc(), stream, front, outcome) {
+            println!(rt; "its pages differ as rows with room for {room} bytes of text")?;
+        }
+    }
+    Ok(())
+}
+
+/// Whether `render_rows` writes just this to a writer that has room for it alone, and how it ends then.
+fn renders_pages(
+    alloc: Global,
+    stream: &Stream<'_>,
+    text: &[u8],
+    outcome: Outcome,
+) -> io::Result<bool> {
+    let mut decoder = stream.decoder(alloc)?;
+    let mut reader = stream.pieces([usize::MAX; 3]);
+    let writer = Narrow::new(alloc, text.len(), 7);
+    let (ended, writer) = render_rows(&mut decoder, &mut reader, writer, u64::MAX);
+    Ok(writer.text() == text && ended == outcome)
+}
+
+/// Whether `rows` does, within limits that are in their ranges, and ends with the status of a fault where that is one.
+fn writes_pages(alloc: Global, stream: &Stream<'_>, text: &[u8], outcome: Outcome) -> bool {
+    let Ok(()) = stream.limits.check() else {
+        return false;
+    };
+    let mut reader = stream.pieces([usize::MAX; 3]);
+    let out = Narrow::new(alloc, text.len(), 7);
+    let err = Narrow::new(alloc, usize::MAX, 7);
+    let (status, out, err) = rows(&alloc, stream.limits, &mut reader, out, err);
+    let is_fault = status == FAULT && err.text() == WRITE_FAULT;
+    out.text() == text && is_fault == (outcome == Outcome::SinkFault)
 }
 
 /// To a sink that fails after each number of events, which gets that many.

@@ -205,7 +205,7 @@ mod jiff_core;
 mod uuid;
 
 pub use cqlp_decode::{
-    Decoder, Event, FaultAfter, Finish, GiveError, GiveReason, Held, NewError, Outcome, Sink, SinkFault, Step, run,
+    Capacity, Decoder, Event, FaultAfter, Finish, GiveError, GiveReason, Held, NewError, Outcome, Sink, SinkFault, Step, run,
 };
 pub use cqlp_kind::{Kind, Node, Scalar};
 pub use cqlp_note::{

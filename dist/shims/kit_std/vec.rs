@@ -62,22 +62,22 @@ impl<T, A: Allocator> Vec<T, A> {
         self.items.clear();
     }
 
+    /// How many items it has memory for.
+    pub fn capacity(&self) -> usize {
+        self.items.capacity()
+    }
+
+    pub(crate) fn slice_mut(&mut self, range: std::ops::Range<usize>) -> &mut [T] {
+        &mut self.items[range]
+    }
+
     /// Its items.
-    #[inline]
     pub fn as_slice(&self) -> &[T] {
         &self.items
     }
 }
 
 impl<T: Copy, A: Allocator> Vec<T, A> {
-    /// Adds these items at the end, all or, where memory is refused, none.
-    #[inline]
-    pub fn extend_from_slice(&mut self, items: &[T]) -> Result<(), AllocError> {
-        self.items.try_reserve(items.len()).map_err(|_| AllocError)?;
-        self.items.extend_from_slice(items);
-        Ok(())
-    }
-
     /// Has it this long, by copies of an item where it was shorter.
     pub fn resize(&mut self, len: usize, item: T) -> Result<(), AllocError> {
         self.items.try_reserve(len.saturating_sub(self.items.len())).map_err(|_| AllocError)?;

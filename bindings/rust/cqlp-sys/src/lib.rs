@@ -336,7 +336,7 @@ impl cqlp_decoder {
 pub struct cqlp_event {
     /// The offset in the stream of the event's field; an end's is the frame's end.
     pub at: u64,
-    /// The content, lent until the next call on the handle; null where it has no bytes.
+    /// The content, lent until the next call on the handle; null where the event has none.
     pub content: *const u8,
     /// How many bytes the content has.
     pub length: usize,

@@ -57,6 +57,12 @@ impl<A: Allocator> OpenValues<A> {
         self.values.len() as u32
     }
 
+    /// How many values its memory has places for: the room, for as long as it lives.
+    pub(crate) fn capacity(&self) -> usize
+    {
+        self.values.capacity()
+    }
+
     pub(crate) fn clear(&mut self)
     {
         self.values.clear();

@@ -9,7 +9,7 @@ use crate::cqlp_decode::item_loop::take_items;
 use crate::cqlp_decode::page_loop::take_cells;
 use crate::cqlp_decode::parts::Parts;
 use crate::cqlp_decode::standing::StreamStanding;
-use crate::cqlp_decode::step::{FaultAfter, Held, Step};
+use crate::cqlp_decode::step::{Capacity, FaultAfter, Held, Step};
 use crate::cqlp_cell::{CellItem, CellReader};
 use crate::cqlp_grammar::{Event, Finish, Sink};
 use crate::cqlp_note::{BadLimits, Field, Limits, NoMemory, Partial, Prim};
@@ -28,7 +28,8 @@ pub enum NewError {
 }
 }
 
-/// Reads a stream of frames, one event per call, from pieces of any size. All its memory is taken when it is made.
+/// Reads a stream of frames, one event per call, from pieces of any size. All its memory is taken when it is made, and is
+/// as large as its limits say for as long as it lives.
 pub struct Decoder<A: Allocator = Global> {
     standing: StreamStanding,
     parts: Parts<A>,
@@ -131,6 +132,18 @@ impl<A: Allocator> Decoder<A> {
             bytes: self.parts.partial.held(),
             entries: self.parts.table.len() + self.given_len(),
             levels: self.parts.types.held() + self.parts.cells.levels(),
+        }
+    }
+
+    /// The places that the decoder has memory for. The limits alone say how many, at every moment: no length, count or
+    /// type of the stream does.
+    pub fn capacity(&self) -> Capacity
+    {
+        Capacity {
+            bytes: self.parts.partial.capacity(),
+            entries: self.parts.table.capacity(),
+            open_types: self.parts.types.capacity(),
+            open_values: self.parts.cells.capacity(),
         }
     }
 

@@ -18,4 +18,4 @@ pub use crate::cqlp_grammar::{Event, Finish, Sink, SinkFault};
 pub use decoder::{Decoder, NewError};
 pub use given::{GiveError, GiveReason};
 pub use running::{Outcome, run};
-pub use step::{FaultAfter, Held, Step};
+pub use step::{Capacity, FaultAfter, Held, Step};

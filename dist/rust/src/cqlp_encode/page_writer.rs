@@ -25,7 +25,7 @@ pub enum PageError {
     /// Cells, or bytes of them, are still to come.
     #[error("cells, or bytes of them, are still to come")]
     NotDone,
-    /// The target failed, or took nothing, after the frame's first bytes, this many.
+    /// The target failed, or took nothing, after the frame's first bytes, this many, which the targets of all calls took.
     #[error("the target failed after {written} bytes of the frame")]
     Write { written: u32 },
 }
@@ -35,7 +35,10 @@ pub enum PageError {
 ///
 /// It holds no memory of its own: the caller says before the first cell how many bytes all cells have, which the frame's
 /// header counts, and each cell goes to the target at once. `laws::page_is_as_encoded`
-/// says that it is then the frame with these cells, as [`encode`](crate::cqlp_encode::encode) writes it.
+/// says that it is then the frame with these cells, as [`encode`](crate::cqlp_encode::encode) writes it, where all calls are given one target.
+///
+/// Each call writes to the target that it is given, and the writer keeps none. Where calls are given several, each target gets what
+/// its own calls write; the frame is all that was written, in the order of the calls, and no target alone has it.
 pub struct PageWriter<'a> {
     frame: &'a Frame,
     /// How many cells are still to come.
@@ -57,7 +60,8 @@ impl<'a> PageWriter<'a> {
     /// # Errors
     ///
     /// [`PageError::Unfit`] where [`Frame::page_unfit`] says why the frame is no page without cells, or its body would be too
-    /// long, before anything is written, and [`PageError::Write`] at the first call of the target that fails or takes nothing.
+    /// long, or no cells of its rows and columns have `cells_len` bytes, before anything is written, and [`PageError::Write`] at the
+    /// first call of the target that fails or takes nothing.
     pub fn begin<W: Target>(
         frame: &'a Frame,
         cells_len: u32,
@@ -82,7 +86,8 @@ impl<'a> PageWriter<'a> {
         })
     }
 
-    /// Writes the next cell.
+    /// Writes the next cell to this target. A cell without bytes, as an empty text, is [`Value::Empty`], which
+    /// [`Value::scalar`] makes of a scalar; a leaf without bytes is none of any type.
     ///
     /// # Errors
     ///
@@ -104,7 +109,8 @@ impl<'a> PageWriter<'a> {
         Ok(())
     }
 
-    /// How many bytes the frame has, with all its cells, all of which targets took. It writes nothing, and may be called again.
+    /// How many bytes the frame has, with all its cells, all of which the targets of the calls took: where they were several, all
+    /// together. It writes nothing, and may be called again.
     ///
     /// # Errors
     ///

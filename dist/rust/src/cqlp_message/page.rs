@@ -21,10 +21,17 @@ impl Frame {
         if body > u64::from(Header::LONGEST_BODY) {
             return Err(Unfit::BodyTooLong);
         }
+        if !can_have(self.cells_wanted(), cells_len) {
+            return Err(Unfit::RowShape);
+        }
         Ok(body as u32 + 9)
     }
 
     /// Why it is no page that can be written with cells of this many bytes after its parts, or None where it is one.
+    ///
+    /// [`Unfit::RowShape`] comes first where it is no page or holds cells, and last where no cells of its rows and columns have
+    /// this many bytes: less than four for each, or some where there are to be none. Of longer cells nothing is said: whether
+    /// some have just this many bytes is for the caller to know.
     pub fn page_unfit(&self, cells_len: u32) -> Option<Unfit>
     {
         match self.page_measure(cells_len) {
@@ -68,6 +75,16 @@ impl Frame {
             Message::Rows(page) => page.meta.fits_column(column, value),
             _ => false,
         }
+    }
+}
+
+/// Whether so many cells can have this many bytes, four or more each.
+fn can_have(cells: u64, bytes: u32) -> bool
+{
+    if cells == 0 {
+        bytes == 0
+    } else {
+        cells <= u64::from(bytes / 4)
     }
 }
 

@@ -54,24 +54,42 @@ impl Tally {
     fn of_any(part: PartRef<'_>) -> Tally
     {
         match part {
-            PartRef::Byte(_, _) => Tally::fixed(1),
-            PartRef::Short(_, _) => Tally::fixed(2),
-            PartRef::Int(_, _) => Tally::fixed(4),
-            PartRef::Long(_, _) => Tally::fixed(8),
-            PartRef::Uuid(_, _) => Tally::fixed(16),
+            PartRef::Byte(_, _number) => Tally::fixed(1),
+            PartRef::Short(_, _number) => Tally::fixed(2),
+            PartRef::Int(_, _number) => Tally::fixed(4),
+            PartRef::Long(_, _number) => Tally::fixed(8),
+            PartRef::Uuid(_, id) => Tally::uuid(*id),
             PartRef::Count16(_, count) => Tally::counted(is_short(count), 2),
             PartRef::Count32(_, count) => Tally::counted(is_int(count), 4),
-            PartRef::Text(_, text) => Tally::content(2, text.len(), is_short(text.len())),
-            PartRef::LongText(_, text) => Tally::content(4, text.len(), is_int(text.len())),
+            PartRef::Text(_, text) => Tally::text(text),
+            PartRef::LongText(_, text) => Tally::long_text(text),
             PartRef::ShortBytes(_, bytes) => Tally::content(2, bytes.len(), is_short(bytes.len())),
             PartRef::Bytes(_, None) => Tally::fixed(4),
             PartRef::Bytes(_, Some(bytes)) => Tally::content(4, bytes.len(), is_int(bytes.len())),
             PartRef::Bound(_, value) => Tally::bound(value),
-            PartRef::Inet(_, Address::V4(_), _) => Tally::fixed(9),
-            PartRef::Inet(_, Address::V6(_), _) => Tally::fixed(21),
+            PartRef::Inet(_, Address::V4(bytes), _port) => Tally::fixed(bytes.len() as u64 + 5),
+            PartRef::Inet(_, Address::V6(bytes), _port) => Tally::fixed(bytes.len() as u64 + 5),
             PartRef::Type(tree) => Tally::option(tree),
             PartRef::Cell { tree, value, .. } => Tally::cell(value, tree),
         }
+    }
+
+    /// That of a \[uuid\].
+    fn uuid(id: [u8; 16]) -> Tally
+    {
+        Tally::fixed(id.len() as u64)
+    }
+
+    /// That of a \[string\].
+    fn text(text: &str) -> Tally
+    {
+        Tally::content(2, text.len(), is_short(text.len()))
+    }
+
+    /// That of a \[long string\].
+    fn long_text(text: &str) -> Tally
+    {
+        Tally::content(4, text.len(), is_int(text.len()))
     }
 
     /// That of a \[value\].

@@ -22,7 +22,8 @@ pub enum Unfit {
     /// A \[string\] or \[short bytes\] above 65,535 bytes, or a longer field above 2,147,483,647, but for those in cells.
     #[error("a text is too long")]
     TextTooLong,
-    /// There are not as many cells as rows times columns.
+    /// There are not as many cells as rows times columns. Of a page that is written cell by cell: it is none, or holds cells, or
+    /// no cells of its rows and columns have as many bytes as are said.
     #[error("a page has too few cells or too many")]
     RowShape,
     /// A cell is no value of its column's type.
@@ -97,7 +98,16 @@ impl Frame {
         if !tally.texts {
             return Err(Unfit::TextTooLong);
         }
+        self.read_numbers();
         Ok(tally)
+    }
+
+    /// Reads the numbers of its header, which are so in the ranges of their types.
+    #[inline(always)]
+    fn read_numbers(&self)
+    {
+        let _flags = self.flags;
+        let _stream = self.stream;
     }
 
     /// What is found of its parts.

@@ -4,6 +4,7 @@
 mod advance;
 mod field;
 mod front;
+mod gathered;
 mod head;
 mod header;
 mod limits;

@@ -1,10 +1,10 @@
 // Written by dist/erase from crates/cqlp_note/src/partial.rt.
 //! A field out of pieces of any size.
 
-use crate::kit_std::prelude::{Vec};
 use crate::cqlp_note::advance::{ContentPlace, FieldAdvance, FieldOutline, FieldStage, Push};
 use crate::cqlp_note::field::Notation;
 use crate::cqlp_note::front::FieldFront;
+use crate::cqlp_note::gathered::GatheredContent;
 use crate::cqlp_note::head::{
     ContentForm, Head, Stop, Wanted, read_first as first, read_head, read_natural, read_short,
 };
@@ -19,8 +19,7 @@ pub struct Partial<A: Allocator = Global> {
     stage: FieldStage,
     wanted: Wanted,
     front: FieldFront,
-    content: Vec<u8, A>,
-    room: u32,
+    content: GatheredContent<A>,
 }
 
 impl<A: Allocator> Partial<A> {
@@ -37,8 +36,7 @@ impl<A: Allocator> Partial<A> {
                 room: 0,
             },
             front: FieldFront::new(),
-            content: Vec::with_capacity(alloc, room as usize)?,
-            room,
+            content: GatheredContent::new(alloc, room)?,
         })
     }
 
@@ -219,14 +217,14 @@ impl<A: Allocator> Partial<A> {
                 self.take_content(0, len, form, input)
             }
             FieldStage::Content { len, form } => {
-                let missing = len as usize - self.content.len();
+                let missing = (len - self.content.len()) as usize;
                 if input.len() < missing {
-                    self.content.extend_from_slice(input).unwrap();
+                    self.content.append(input);
                     return FieldAdvance::More { used: input.len() };
                 }
-                self.content.extend_from_slice(&input[..missing]).unwrap();
+                self.content.append(&input[..missing]);
                 self.stage = FieldStage::Idle;
-                if !form.accepts(&self.content) {
+                if !form.accepts(self.content.as_slice()) {
                     return self.refuse(Reason::BadUtf8);
                 }
                 let lies = ContentPlace::InBuffer;
@@ -275,7 +273,7 @@ impl<A: Allocator> Partial<A> {
         let size = len as usize;
         if rest.len() < size {
             self.front = self.front.with(&input[..start]);
-            self.content.extend_from_slice(rest).unwrap();
+            self.content.append(rest);
             self.stage = FieldStage::Content { len, form };
             return FieldAdvance::More { used: input.len() };
         }
@@ -309,7 +307,6 @@ impl<A: Allocator> Partial<A> {
     /// How many bytes of the field that is under way have come.
     pub fn came(&self) -> u64
     {
-        let _room = self.room;
         match self.stage {
             FieldStage::Idle => 0,
             FieldStage::Front => self.front.len() as u64,
@@ -320,8 +317,13 @@ impl<A: Allocator> Partial<A> {
     /// How many bytes the buffer holds.
     pub fn held(&self) -> u32
     {
-        let _room = self.room;
-        self.content.len() as u32
+        self.content.len()
+    }
+
+    /// How many bytes of a content its memory has places for: the room, for as long as it lives.
+    pub fn capacity(&self) -> usize
+    {
+        self.content.capacity()
     }
 }
 

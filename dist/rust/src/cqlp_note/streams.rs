@@ -24,31 +24,42 @@ pub trait Target {
 
 /// A reader or a writer of std's as a [`Source`] or a [`Target`]. A call is one call of the inner reader or writer,
 /// with the whole buffer, and is not tried again. No contract of std's `Read` and `Write` counts calls, so that is
-/// tested; which bytes came or went, and how many calls failed, is in the contracts.
+/// tested; which bytes came or went, how many calls failed and how many reads were asked for is in the contracts.
 pub struct OfStd<X> {
     /// The reader or writer.
     pub inner: X,
     /// How many calls failed, or took nothing of some bytes, up to 2^64 - 1.
     pub failures: u64,
+    /// How many reads were made, up to 2^64 - 1.
+    pub reads: u64,
 }
 
 impl<X> OfStd<X> {
-    /// With no failed call.
+    /// With no call made.
     pub fn new(inner: X) -> Self
     {
-        OfStd { inner, failures: 0 }
+        OfStd {
+            inner,
+            failures: 0,
+            reads: 0,
+        }
     }
 
     /// The reader or writer.
     pub fn into_inner(self) -> X
     {
-        let OfStd { inner, failures: _ } = self;
+        let OfStd {
+            inner,
+            failures: _,
+            reads: _,
+        } = self;
         inner
     }
 }
 
 impl<R: Read> Source for OfStd<R> {
     fn read(&mut self, buffer: &mut [u8]) -> Result<usize, IoFault> {
+        self.reads = self.reads.saturating_add(1);
         match self.inner.read(buffer) {
             Ok(count) => Ok(count),
             Err(_) => {

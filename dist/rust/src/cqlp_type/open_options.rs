@@ -48,6 +48,12 @@ impl<A: Allocator> OpenOptions<A> {
         self.options.len() as u32
     }
 
+    /// How many options its memory has places for: the room, for as long as it lives.
+    pub(crate) fn capacity(&self) -> usize
+    {
+        self.options.capacity()
+    }
+
     pub(crate) fn clear(&mut self)
     {
         self.options.clear();

@@ -87,6 +87,12 @@ impl<A: Allocator> TypeTable<A> {
         self.room
     }
 
+    /// How many nodes its memory has places for: the room, for as long as it lives.
+    pub fn capacity(&self) -> usize
+    {
+        self.nodes.capacity()
+    }
+
     /// Adds the node of a type that is under way.
     pub(crate) fn push(&mut self, node: Node)
     {
@@ -117,11 +123,19 @@ impl<A: Allocator + Clone> TypeTable<A> {
     pub fn clone_table(&self) -> Result<Self, NoMemory>
     {
         let mut nodes = Vec::with_capacity(self.nodes.allocator().clone()?, self.room as usize)?;
-        nodes.extend_from_slice(&self.nodes).unwrap();
+        append(&mut nodes, &self.nodes);
         Ok(TypeTable {
             nodes,
             room: self.room,
         })
+    }
+}
+
+/// Adds these nodes, for which there are places.
+fn append<A: Allocator>(nodes: &mut Vec<Node, A>, added: &[Node])
+{
+    for node in added {
+        nodes.push_reserved(*node);
     }
 }
 

@@ -92,7 +92,7 @@ impl Atom {
         }
     }
 
-    /// How many bytes its content has.
+    /// How many bytes its content has. What it holds is in the range of its types.
     #[inline(always)]
     pub fn content_len(&self) -> u64
     {

@@ -30,7 +30,8 @@ pub fn content_len(value: &Value) -> u64
     value_size(value) - 4
 }
 
-/// How many bytes spell a value, the four of its length counted; 2^64 - 1 where there are more.
+/// How many bytes spell a value, the four of its length counted; 2^64 - 1 where there are more. What its scalars hold is
+/// in the range of their types.
 #[inline(always)]
 pub fn value_size(value: &Value) -> u64
 {

@@ -1,10 +1,10 @@
-use Rattle.std.proofs.Common.{◌≡◌, ℕ, ◌<◌, List, [], length, take, drop, refl, sym, ap, ◌∙◌, inl, inr, Some, arith}
+use Rattle.std.proofs.Common.{◌≡◌, ℕ, ◌+◌, ◌<◌, List, [], ◌≤◌, length, take, drop, refl, sym, ap, ◌∙◌, inl, inr, Some, arith}
 use Rattle.std.proofs.lemmas.List.{append-nil, take-append-drop, length-append, length-take-le}
 use Rattle.cqlp_grammar.specs.declared.event.Finish.{Finish}
 use Rattle.cqlp_decode.specs.declared.running.Outcome.TheVariants as outcome
 use Rattle.cqlp_decode.specs.Standing.{StreamState}
 use Rattle.cqlp_decode.specs.Streams.{state}
-use Rattle.cqlp_decode.proofs.Gets.{feeds_none, feeds_then, feeds_into, has_all, has_all_still, read_some, keeps_some, at_end, reads_none, reads_kept, reads_then}
+use Rattle.cqlp_decode.proofs.Gets.{feeds_none, feeds_then, feeds_into, has_all, has_all_still, read_some, keeps_some, at_end, gives_none, gives_kept, gives_end, gives_more, idle_refused, idle_at_end}
 use Rattle.cqlp_decode.proofs.running.run.Goals as goal
 
 -- before the first read
@@ -19,7 +19,7 @@ returns-in-Refused-clause-runs g c = λ xs is tells.
       feeds_then g.S.Sink.after d d (state c.drain.new.decoder) xs [] xs v v _ (feeds_none g.S.Sink.after d xs v) refl (take e.0 []) (drop e.0 []) split (λ gifts s es a. (e.1 gifts s es a).drains),
       inr refused,
       c.finish.ensures.ends,
-      has_all g.S.Sink.after d d (state c.drain.new.decoder) xs [] xs v v _ (feeds_none g.S.Sink.after d xs v) refl (take e.0 []) (drop e.0 []) split _ is (λ none. absurd (let some = refused.1 in cc)) (λ none. none) e.1,
+      has_all g.S.Sink.after d d (state c.drain.new.decoder) xs [] xs v v _ (feeds_none g.S.Sink.after d xs v) refl (take e.0 []) (drop e.0 []) split (omega arith) _ is (λ none. absurd (let some = refused.1 in cc)) (λ none. none) e.1,
     )
 
 pub returns-in-Fault-clause-runs : goal.returns-in-Fault-clause-runs
@@ -27,7 +27,7 @@ returns-in-Fault-clause-runs g c = λ xs is tells.
     let e = c.in-Fault.ensures.drains tells in
     let d = state c.args.decoder.now in
     let v = g.S.Sink.view c.args.sink.now in
-    feeds_into g.S.Sink.after d d (state c.drain.new.decoder) xs [] xs v v _ (feeds_none g.S.Sink.after d xs v) refl (take e.0 []) (drop e.0 []) (sym (take-append-drop e.0 [])) g.S.Sink.faulted e.1
+    feeds_into g.S.Sink.after d d (state c.drain.new.decoder) xs [] xs v v _ (feeds_none g.S.Sink.after d xs v) refl (take e.0 []) (drop e.0 []) (sym (take-append-drop e.0 [])) (omega arith) _ is g.S.Sink.faulted e.1
 
 pub loop-turn-init : goal.loop-turn-init
 loop-turn-init g c = record {
@@ -35,7 +35,8 @@ loop-turn-init g c = record {
   rules = c.in-More.ensures.rules;
   given = c.in-More.ensures.given;
   failures = refl;
-  reads = λ xs is. reads_none _ xs _ is;
+  counted = λ fits. omega arith;
+  gives = λ xs is. gives_none xs _ is;
   tells = λ tells. c.in-More.ensures.tells tells refl;
   waits = c.in-More.ensures.refusal;
   unrefused = λ r is. let again = c.in-More.ensures.refused r is in let e = again.0 in cc;
@@ -46,7 +47,7 @@ loop-turn-init g c = record {
         feeds_then g.S.Sink.after d d (state c.drain.new.decoder) xs [] xs v v _ (feeds_none g.S.Sink.after d xs v) refl [] [] refl (λ gifts s es a. (e gifts s es a).drains),
         is,
         omega arith,
-        has_all g.S.Sink.after d d (state c.drain.new.decoder) xs [] xs v v _ (feeds_none g.S.Sink.after d xs v) refl [] [] refl _ is (λ _. refl) (λ none. none) e,
+        has_all g.S.Sink.after d d (state c.drain.new.decoder) xs [] xs v v _ (feeds_none g.S.Sink.after d xs v) refl [] [] refl (omega arith) _ is (λ _. refl) (λ none. none) e,
       );
 }
 
@@ -74,11 +75,12 @@ returns-in-Refused-drain-clause-runs g c = λ xs is tells.
     let e = c.in-Refused-drain.ensures.drains (c.loop-turn.invariant.tells tells) in
     let refused = c.in-Refused-drain.ensures.refusal in
     let piece = take c.in-Ok.count c.read.new.buffer in
+    let small : length piece ≤ 4096 = let a = c.read.auto.buffer in let b = c.loop-turn.invariant.long in omega (arith, length-take-le c.in-Ok.count c.read.new.buffer c.in-Ok.ensures.bound, c.in-Ok.ensures.bound) in
     let split = sym (take-append-drop e.0 piece) in (
       feeds_then g.S.Sink.after (state c.args.decoder.now) (state c.loop-turn.decoder) (state c.drain-in-loop-turn.new.decoder) xs piece r.0 _ _ _ d.0 r.2 (take e.0 piece) (drop e.0 piece) split (λ gifts s es a. (e.1 gifts s es a).drains),
       inr refused,
       c.finish-in-Refused-drain.ensures.ends,
-      has_all g.S.Sink.after (state c.args.decoder.now) (state c.loop-turn.decoder) (state c.drain-in-loop-turn.new.decoder) xs piece r.0 _ _ _ d.0 r.2 (take e.0 piece) (drop e.0 piece) split _ r.1 (λ none. absurd (let some = refused.1 in cc)) (λ none. c.loop-turn.invariant.waits) e.1,
+      has_all g.S.Sink.after (state c.args.decoder.now) (state c.loop-turn.decoder) (state c.drain-in-loop-turn.new.decoder) xs piece r.0 _ _ _ d.0 r.2 (take e.0 piece) (drop e.0 piece) split small _ r.1 (λ none. absurd (let some = refused.1 in cc)) (λ none. c.loop-turn.invariant.waits) e.1,
     )
 
 pub returns-in-Fault-drain-clause-runs : goal.returns-in-Fault-drain-clause-runs
@@ -87,7 +89,8 @@ returns-in-Fault-drain-clause-runs g c = λ xs is tells.
     let r = read_some _ _ d.0.rest c.read.new.buffer c.in-Ok.count d.1 c.in-Ok.ensures.bytes.0 c.in-Ok.ensures.bytes.1 in
     let e = c.in-Fault-drain.ensures.drains (c.loop-turn.invariant.tells tells) in
     let piece = take c.in-Ok.count c.read.new.buffer in
-    feeds_into g.S.Sink.after (state c.args.decoder.now) (state c.loop-turn.decoder) (state c.drain-in-loop-turn.new.decoder) xs piece r.0 _ _ _ d.0 r.2 (take e.0 piece) (drop e.0 piece) (sym (take-append-drop e.0 piece)) g.S.Sink.faulted e.1
+    let small : length piece ≤ 4096 = let a = c.read.auto.buffer in let b = c.loop-turn.invariant.long in omega (arith, length-take-le c.in-Ok.count c.read.new.buffer c.in-Ok.ensures.bound, c.in-Ok.ensures.bound) in
+    feeds_into g.S.Sink.after (state c.args.decoder.now) (state c.loop-turn.decoder) (state c.drain-in-loop-turn.new.decoder) xs piece r.0 _ _ _ d.0 r.2 (take e.0 piece) (drop e.0 piece) (sym (take-append-drop e.0 piece)) small _ r.1 g.S.Sink.faulted e.1
 
 pub loop-turn-preserved : goal.loop-turn-preserved
 loop-turn-preserved g c =
@@ -96,7 +99,8 @@ loop-turn-preserved g c =
       long = long;
       rules = c.in-More-drain.ensures.rules ∙ c.loop-turn.invariant.rules;
       given = c.in-More-drain.ensures.given ∙ c.loop-turn.invariant.given;
-      reads = λ xs is. reads_then c.loop-turn.turn _ xs _ _ c.read.new.buffer c.in-Ok.count (omega arith) (c.loop-turn.invariant.reads xs is) c.in-Ok.ensures.bound long c.in-Ok.ensures.bytes;
+      counted = λ fits. let before = c.loop-turn.invariant.counted (omega arith) in let one = c.in-Ok.ensures.reads in omega arith;
+      gives = λ xs is. let some = c.if-count-eq0.false in gives_more _ xs _ _ c.read.new.buffer c.in-Ok.count (omega arith) c.in-Ok.ensures.bound long (c.loop-turn.invariant.gives xs is) c.in-Ok.ensures.bytes;
       failures = let a = c.in-Ok.ensures.failures in let b = c.loop-turn.invariant.failures in cc;
       tells = λ tells. c.in-More-drain.ensures.tells (c.loop-turn.invariant.tells tells) refl;
       waits = c.in-More-drain.ensures.refusal;
@@ -111,7 +115,7 @@ loop-turn-preserved g c =
             feeds_then g.S.Sink.after (state c.args.decoder.now) (state c.loop-turn.decoder) (state c.drain-in-loop-turn.new.decoder) xs piece r.0 _ _ _ d.0 r.2 piece [] (sym (append-nil piece)) (λ gifts s es a. (e gifts s es a).drains),
             r.1,
             omega (arith, d.2, length-append d.0.bytes piece),
-            has_all g.S.Sink.after (state c.args.decoder.now) (state c.loop-turn.decoder) (state c.drain-in-loop-turn.new.decoder) xs piece r.0 _ _ _ d.0 r.2 piece [] (sym (append-nil piece)) _ r.1 (λ _. refl) (λ none. c.loop-turn.invariant.waits) e,
+            has_all g.S.Sink.after (state c.args.decoder.now) (state c.loop-turn.decoder) (state c.drain-in-loop-turn.new.decoder) xs piece r.0 _ _ _ d.0 r.2 piece [] (sym (append-nil piece)) (omega (arith, size, long, c.in-Ok.ensures.bound)) _ r.1 (λ _. refl) (λ none. c.loop-turn.invariant.waits) e,
           );
     }
 
@@ -146,22 +150,63 @@ returns-in-Refused-drain-clause-refused g c = λ r is. absurd (c.loop-turn.invar
 pub returns-in-Fault-drain-clause-refused : goal.returns-in-Fault-drain-clause-refused
 returns-in-Fault-drain-clause-refused g c = λ r is. absurd (c.loop-turn.invariant.unrefused r is)
 
--- how much is read
+-- how many reads are made
+
+pub returns-in-Refused-clause-reads : goal.returns-in-Refused-clause-reads
+returns-in-Refused-clause-reads g c =
+    let refused = c.in-Refused.ensures.refusal in
+    let idle = idle_refused c.finish.result refused.0 (c.finish.ensures.refused refused.0 refused.1) in
+    record { giving = 0; counted = λ fits. omega (arith, idle); within = omega (arith, idle); all = λ is. absurd (let e = is in cc); gives = λ xs is. gives_none xs _ is }
+
+pub returns-in-Fault-clause-reads : goal.returns-in-Fault-clause-reads
+returns-in-Fault-clause-reads g c = record { giving = 0; counted = λ fits. omega arith; within = omega arith; all = λ is. absurd (let e = is in cc); gives = λ xs is. gives_none xs _ is }
 
 pub returns-in-Err-clause-reads : goal.returns-in-Err-clause-reads
-returns-in-Err-clause-reads g c = λ xs is. reads_kept c.loop-turn.turn c.args.turns xs _ _ (let a = c.loop-turn-test.true in omega arith) (c.loop-turn.invariant.reads xs is) c.in-Err.ensures.bytes
+returns-in-Err-clause-reads g c = record {
+  giving = c.loop-turn.turn;
+  counted = λ fits. let before = c.loop-turn.invariant.counted (omega arith) in let one = c.in-Err.ensures.reads in omega arith;
+  within = let a = c.loop-turn-test.true in omega arith;
+  all = λ is. absurd (let e = is in cc);
+  gives = λ xs is. gives_kept _ xs _ _ (c.loop-turn.invariant.gives xs is) c.in-Err.ensures.bytes;
+}
 
 pub returns-then-count-eq0-clause-reads : goal.returns-then-count-eq0-clause-reads
-returns-then-count-eq0-clause-reads g c = λ xs is.
-    let long : length c.read.new.buffer ≡ 4096 = let a = c.read.auto.buffer in let b = c.loop-turn.invariant.long in omega arith in
-    reads_then c.loop-turn.turn c.args.turns xs _ _ c.read.new.buffer c.in-Ok.count (let a = c.loop-turn-test.true in omega arith) (c.loop-turn.invariant.reads xs is) c.in-Ok.ensures.bound long c.in-Ok.ensures.bytes
+returns-then-count-eq0-clause-reads g c =
+    let idle = idle_at_end c.finish-then-count-eq0.result (c.finish-then-count-eq0.ensures.unrefused c.loop-turn.invariant.waits) in
+    let long : 0 < length c.read.new.buffer = let a = c.read.auto.buffer in let b = c.loop-turn.invariant.long in omega arith in
+    record {
+      giving = c.loop-turn.turn;
+      counted = λ fits. let before = c.loop-turn.invariant.counted (omega arith) in let one = c.in-Ok.ensures.reads in omega (arith, idle);
+      within = let a = c.loop-turn-test.true in omega (arith, idle);
+      all = λ is. absurd (let e = is in cc);
+      gives = λ xs is. gives_end _ xs _ _ c.read.new.buffer c.in-Ok.count c.if-count-eq0.true long (c.loop-turn.invariant.gives xs is) c.in-Ok.ensures.bytes;
+    }
 
 pub returns-in-Refused-drain-clause-reads : goal.returns-in-Refused-drain-clause-reads
-returns-in-Refused-drain-clause-reads g c = λ xs is.
+returns-in-Refused-drain-clause-reads g c =
+    let refused = c.in-Refused-drain.ensures.refusal in
+    let idle = idle_refused c.finish-in-Refused-drain.result refused.0 (c.finish-in-Refused-drain.ensures.refused refused.0 refused.1) in
     let long : length c.read.new.buffer ≡ 4096 = let a = c.read.auto.buffer in let b = c.loop-turn.invariant.long in omega arith in
-    reads_then c.loop-turn.turn c.args.turns xs _ _ c.read.new.buffer c.in-Ok.count (let a = c.loop-turn-test.true in omega arith) (c.loop-turn.invariant.reads xs is) c.in-Ok.ensures.bound long c.in-Ok.ensures.bytes
+    record {
+      giving = c.loop-turn.turn + 1;
+      counted = λ fits. let before = c.loop-turn.invariant.counted (omega arith) in let one = c.in-Ok.ensures.reads in omega (arith, idle);
+      within = let a = c.loop-turn-test.true in omega (arith, idle);
+      all = λ is. absurd (let e = is in cc);
+      gives = λ xs is. let some = c.if-count-eq0.false in gives_more _ xs _ _ c.read.new.buffer c.in-Ok.count (omega arith) c.in-Ok.ensures.bound long (c.loop-turn.invariant.gives xs is) c.in-Ok.ensures.bytes;
+    }
 
 pub returns-in-Fault-drain-clause-reads : goal.returns-in-Fault-drain-clause-reads
-returns-in-Fault-drain-clause-reads g c = λ xs is.
+returns-in-Fault-drain-clause-reads g c =
     let long : length c.read.new.buffer ≡ 4096 = let a = c.read.auto.buffer in let b = c.loop-turn.invariant.long in omega arith in
-    reads_then c.loop-turn.turn c.args.turns xs _ _ c.read.new.buffer c.in-Ok.count (let a = c.loop-turn-test.true in omega arith) (c.loop-turn.invariant.reads xs is) c.in-Ok.ensures.bound long c.in-Ok.ensures.bytes
+    record {
+      giving = c.loop-turn.turn + 1;
+      counted = λ fits. let before = c.loop-turn.invariant.counted (omega arith) in let one = c.in-Ok.ensures.reads in omega arith;
+      within = let a = c.loop-turn-test.true in omega arith;
+      all = λ is. absurd (let e = is in cc);
+      gives = λ xs is. let some = c.if-count-eq0.false in gives_more _ xs _ _ c.read.new.buffer c.in-Ok.count (omega arith) c.in-Ok.ensures.bound long (c.loop-turn.invariant.gives xs is) c.in-Ok.ensures.bytes;
+    }
+
+pub returns-clause-reads : goal.returns-clause-reads
+returns-clause-reads g c =
+    let all : c.loop-turn.turn ≡ c.args.turns = omega arith in
+    record { giving = c.loop-turn.turn; counted = λ fits. let up = c.loop-turn.invariant.counted (omega arith) in omega arith; within = omega arith; all = λ is. all; gives = c.loop-turn.invariant.gives }

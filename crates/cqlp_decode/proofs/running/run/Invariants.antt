@@ -1,7 +1,8 @@
-use Rattle.std.proofs.Common.{◌≡◌, ◌*◌, ◌≤◌, List, ℕ, length, None, Some}
+use Rattle.std.proofs.Common.{◌≡◌, ◌≤◌, List, ℕ, length, None, Some}
 use Rattle.cqlp_note.specs.declared.refusal.Refusal.{Refusal}
+use Rattle.cqlp_note.specs.Streams.{CountsUp}
 use Rattle.cqlp_decode.specs.Streams.{state}
-use Rattle.cqlp_decode.specs.Draining.{Feeds, HasAll, ReadsAtMost}
+use Rattle.cqlp_decode.specs.Draining.{Feeds, InReads, HasAll}
 use Rattle.cqlp_decode.proofs.running.run.Given as goal
 
 -- what was read was used, and the sink has got its events
@@ -11,7 +12,8 @@ invariant-loop-turn g l = record {
   rules : (state l.decoder).rules ≡ (state l.fn.decoder).rules;
   given : (state l.decoder).given ≡ (state l.fn.decoder).given;
   failures : g.R.Source.failures l.reader ≡ g.R.Source.failures l.fn.reader;
-  reads : (xs : List ℕ) → g.R.Source.left l.fn.reader ≡ Some xs → ReadsAtMost (4096 * l.turn) xs (g.R.Source.left l.reader);
+  counted : CountsUp l.turn (g.R.Source.reads l.fn.reader) (g.R.Source.reads l.reader);
+  gives : (xs : List ℕ) → g.R.Source.left l.fn.reader ≡ Some xs → InReads l.turn xs (g.R.Source.left l.reader);
   tells : g.S.Sink.tells l.fn.sink → g.S.Sink.tells l.sink;
   waits : (state l.decoder).refusal ≡ None;
   unrefused : (r : Refusal) → (state l.fn.decoder).refusal ≡ Some r → ⊥;

@@ -5,12 +5,12 @@ use Rattle.cqlp_round_trip.proofs.trip.read.Goals as goal
 
 pub returns-in-Finished : goal.returns-in-Finished
 returns-in-Finished g c = λ limits fresh tells.
-    reads_all g.S.Sink.after g.S.Sink.faulted limits c.args.decoder.now (state c.run.new.decoder) 0 c.args.bytes.now _ _ _ fresh c.in-Finished.ensures.rules c.in-Finished.ensures.given c.in-Finished.finish
-    (c.in-Finished.ensures.runs c.args.bytes.now (ap Some c.new-source.ensures) tells)
+    reads_all g.S.Sink.after g.S.Sink.faulted limits c.args.decoder.now (state c.run.new.decoder) 18446744073709551615 c.args.bytes.now _ _ _ fresh c.in-Finished.ensures.rules c.in-Finished.ensures.given c.in-Finished.finish _ _
+    (rw c.new-source.ensures at c.in-Finished.ensures.reads) (c.in-Finished.ensures.runs c.args.bytes.now (ap Some c.new-source.ensures) tells)
 
 pub returns-in-SinkFault : goal.returns-in-SinkFault
 returns-in-SinkFault g c = λ limits fresh tells.
-    fails_reading g.S.Sink.after g.S.Sink.faulted limits c.args.decoder.now (state c.run.new.decoder) 0 c.args.bytes.now (Some c.args.bytes.now) _ _ fresh c.in-SinkFault.ensures.rules c.in-SinkFault.ensures.given
+    fails_reading g.S.Sink.after g.S.Sink.faulted limits c.args.decoder.now (state c.run.new.decoder) 0 c.args.bytes.now _ _ _ fresh c.in-SinkFault.ensures.rules c.in-SinkFault.ensures.given
     (c.in-SinkFault.ensures.runs c.args.bytes.now (ap Some c.new-source.ensures) tells)
 
 pub returns-in-Turns : goal.returns-in-Turns

@@ -1,4 +1,4 @@
-use Rattle.cqlp_show.proofs.Shows.{tells_at_first, failed_in, failed_later, passed_through}
+use Rattle.cqlp_show.proofs.Shows.{tells_at_first, failed_in, failed_later, passed_through, reads_by}
 use Rattle.cqlp_show.proofs.showing.render_buffered.Goals as goal
 
 pub returns-in-SinkFault-clause-renders : goal.returns-in-SinkFault-clause-renders
@@ -15,3 +15,12 @@ pub returns-in-Err-clause-renders : goal.returns-in-Err-clause-renders
 returns-in-Err-clause-renders g c = λ xs left known fresh.
     let ran = rw (← c.into_inner-buffered.ensures) at ((rw c.new-sink.ensures at c.run_flushing-outcome.ensures.renders) xs left (tells_at_first _ _ _ c.new.ensures known) fresh) in
     rw c.into_inner-in-Err.ensures (failed_later _ _ _ _ _ _ _ _ _ _ c.into_inner-buffered.result c.new.ensures fresh ran c.flush.new.self known c.in_default.not-SinkFault c.in-Err.ensures.keeps c.in-Err.ensures.err)
+
+pub returns-in-SinkFault-clause-reads : goal.returns-in-SinkFault-clause-reads
+returns-in-SinkFault-clause-reads g c = reads_by _ _ _ _ c.run_flushing-outcome.ensures.reads
+
+pub returns-in-Ok-clause-reads : goal.returns-in-Ok-clause-reads
+returns-in-Ok-clause-reads g c = reads_by _ _ _ _ c.run_flushing-outcome.ensures.reads
+
+pub returns-in-Err-clause-reads : goal.returns-in-Err-clause-reads
+returns-in-Err-clause-reads g c = (c.run_flushing-outcome.result, c.run_flushing-outcome.ensures.reads)

@@ -4,3 +4,6 @@ use Rattle.cqlp_show.proofs.showing.write_text.Goals as goal
 pub returns-clause-shows : goal.returns-clause-shows
 returns-clause-shows g c = λ xs left known.
     rw c.ending_of.ensures (shows_by _ _ _ _ _ _ _ _ _ _ c.in-Some.ensures.fresh c.in-Some.ensures.unrefused c.in-Some.ensures.rules c.render_buffered-outcome.ensures.rules (c.render_buffered-outcome.ensures.renders xs left known c.in-Some.ensures.fresh))
+
+pub returns-clause-reads : goal.returns-clause-reads
+returns-clause-reads g c = rw c.ending_of.ensures c.render_buffered-outcome.ensures.reads

@@ -12,7 +12,7 @@ returns g c = λ input fresh leads has.
         idle = rw (← c.self.view_is) refl;
         lent = λ _. empty;
         kept = whole_lent c.args.form c.args.len c.args.start _ _;
-        fits = rw (← c.self.view_is) c.self.invariant.1;
+        fits = rw (← c.self.view_is) c.self.invariant.0;
       },
       (has.2, has.3),
     )

@@ -15,7 +15,7 @@ returns g c = λ input fresh plain.
         idle = rw (← c.self.view_is) refl;
         lent = λ _. empty;
         kept = λ lt. absurd {A = inside.content.items ≡ content_bytes (value_of c.args.prim)} (omega (arith, lt, no_content _ plain.3));
-        fits = rw (← c.self.view_is) c.self.invariant.1;
+        fits = rw (← c.self.view_is) c.self.invariant.0;
       },
       tt,
     )

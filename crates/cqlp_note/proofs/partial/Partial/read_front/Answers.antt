@@ -30,7 +30,7 @@ returns-in-Ok-Whole g c =
         idle = rw (← c.self.view_is) refl;
         lent = λ _. empty;
         kept = λ lt. absurd (omega (arith, lt, no_content _ tells.2));
-        fits = rw (← c.self.view_is) c.self.invariant.1;
+        fits = rw (← c.self.view_is) c.self.invariant.0;
       },
       tt,
     )

@@ -1,0 +1,127 @@
+/* Memory that is refused: each call that asks for memory, as a table. With memory to spare none answers CQLP_NO_MEMORY. Then the n-th
+ * request is refused, for each n in turn: the answer is CQLP_NO_MEMORY, what the caller gave is as it was, nothing stays taken, and the
+ * next try is one as any other. The calls on a handle that is made ask for none. It is linked with --wrap for malloc, realloc and free,
+ * so these here count and refuse. It prints how many requests each call makes, and expected-memory is what it must print. */
+#include "give.h"
+
+void *__real_malloc(size_t size);
+void *__real_realloc(void *block, size_t size);
+void __real_free(void *block);
+void *__wrap_malloc(size_t size);
+void *__wrap_realloc(void *block, size_t size);
+void __wrap_free(void *block);
+
+static size_t requests; /* since the last count began */
+static size_t refused;  /* the number of the one that is refused, from 1 on; 0: none */
+static long taken;      /* blocks that are not freed */
+
+static int refuses(void) {
+  return ++requests == refused;
+}
+
+void *__wrap_malloc(size_t size) {
+  void *block = refuses() ? NULL : __real_malloc(size);
+  if (block) taken++;
+  return block;
+}
+
+void *__wrap_realloc(void *block, size_t size) {
+  void *moved = refuses() ? NULL : __real_realloc(block, size);
+  if (moved && !block) taken++;
+  return moved;
+}
+
+void __wrap_free(void *block) {
+  if (block) taken--;
+  __real_free(block);
+}
+
+/* A QUERY, whole, and one whose text is cut. */
+static const uint8_t query[] = {4, 0, 0, 7, 7, 0, 0, 0, 13, 0, 0, 0, 6, 'a', 'b', 'c', 'd', 'e', 'f', 0, 1, 0};
+
+/* A call that asks for memory, with what it is given. */
+typedef struct row {
+  const char *name;
+  cqlp_limits limits;
+  uint32_t slots; /* 0: a decoder or a check */
+  int checks;     /* a check */
+} row;
+
+static const row ROWS[] = {
+    {"cqlp_new, default limits", CQLP_DEFAULT_LIMITS, 0, 0},
+    {"cqlp_new, least limits", {32, 32, 1, 1, 0, 0}, 0, 0},
+    {"cqlp_new, greatest limits", {16777216, 16777216, 65536, 64, 1, 1}, 0, 0},
+    {"cqlp_check, default limits", CQLP_DEFAULT_LIMITS, 0, 1},
+    {"cqlp_check, least limits", {32, 32, 1, 1, 0, 0}, 0, 1},
+    {"cqlp_client_new, 1 slot", CQLP_DEFAULT_LIMITS, 1, 0},
+    {"cqlp_client_new, 32768 slots", CQLP_DEFAULT_LIMITS, 32768, 0},
+};
+
+/* What the caller gives to be written: the two handles and an end. */
+typedef struct given {
+  cqlp_decoder decoder;
+  cqlp_client client;
+  cqlp_end end;
+} given;
+
+/* Makes the call, and refuses this request. */
+static uint32_t call(const row *row, given *given, size_t refuse) {
+  uint32_t code;
+  requests = 0;
+  refused = refuse;
+  if (row->slots) code = cqlp_client_new(row->slots, &given->client);
+  else if (row->checks) code = cqlp_check(&row->limits, query, sizeof query, &given->end);
+  else code = cqlp_new(&row->limits, &given->decoder);
+  refused = 0;
+  return code;
+}
+
+/* What was made serves, and asks for no more memory; then it is freed. */
+static void serve_and_free(const row *row, given *given) {
+  cqlp_event events[ROOM];
+  cqlp_batch batch;
+  cqlp_holding held;
+  cqlp_ticket ticket = {0, 0};
+  memset(events, 0, sizeof events);
+  memset(&batch, 0, sizeof batch);
+  memset(&held, 0, sizeof held);
+  requests = 0;
+  if (row->slots) {
+    CHECK(cqlp_client_begin(&given->client, CQLP_OPCODE_STARTUP, &ticket) == CQLP_DONE && ticket.number == 1);
+    CHECK(requests == 0 && taken > 0);
+    CHECK(cqlp_client_free(&given->client) == CQLP_DONE);
+  } else if (row->checks) {
+    CHECK(given->end.verdict == CQLP_END_WHOLE && given->end.bytes == sizeof query);
+  } else {
+    for (size_t i = 0; i < sizeof query; i++)
+      CHECK(cqlp_next(&given->decoder, query + i, 1, events, ROOM, &batch) == CQLP_DONE && batch.stop != CQLP_STOP_REFUSED);
+    CHECK(cqlp_held(&given->decoder, &held) == CQLP_DONE);
+    CHECK(cqlp_finish(&given->decoder, &given->end) == CQLP_DONE && given->end.bytes == sizeof query);
+    CHECK(requests == 0 && taken > 0);
+    CHECK(cqlp_free(&given->decoder) == CQLP_DONE);
+  }
+  CHECK(taken == 0);
+}
+
+static void refuse_each(const row *row) {
+  given given, before;
+  memset(&given, 0, sizeof given);
+  before = given;
+  CHECK(call(row, &given, 0) == CQLP_DONE);
+  size_t all = requests;
+  serve_and_free(row, &given);
+  for (size_t n = 1; n <= all; n++) {
+    memset(&given, 0, sizeof given);
+    CHECK(call(row, &given, n) == CQLP_NO_MEMORY);
+    CHECK(requests == n && taken == 0);
+    CHECK(memcmp(&given, &before, sizeof given) == 0);
+    CHECK(call(row, &given, all + 1) == CQLP_DONE && requests == all);
+    serve_and_free(row, &given);
+  }
+  printf("%s: %zu requests\n", row->name, all);
+}
+
+int main(void) {
+  for (size_t i = 0; i < sizeof ROWS / sizeof ROWS[0]; i++) refuse_each(&ROWS[i]);
+  return 0;
+}

@@ -1,0 +1,102 @@
+//! The content of a field out of pieces.
+
+ghost use Rattle.std.specs.Prelude.{◌≡◌, ◌==◌, ◌+◌, ◌≤◌, ◌++◌, [], length, replicate, vec_capacity, IfOk};
+
+use crate::refusal::NoMemory;
+use std::alloc::Allocator;
+use std::marker::Model;
+
+/// The bytes so far of a content, in memory that is taken once: its capacity is the room, for as long as it lives.
+#[derive(Drop)]
+pub(crate) struct GatheredContent<A: Allocator> {
+    /// The content, and after it what is left of longer ones before it, so that a piece is copied over them at once.
+    bytes: Vec<u8, A>,
+    len: u32,
+    room: u32,
+}
+
+impl<A: Allocator> Model for GatheredContent<A> {
+    ghost use Rattle.std.specs.Prelude.{◌≡◌, ◌≤◌, length, take, vec_capacity};
+    ghost use Rattle.cqlp_note.specs.Gathered.{Gathered};
+
+    ghost Value = { Gathered };
+
+    ghost view = { λ g. record { items = take g.len g.bytes.items; room = g.room } };
+
+    ghost invariant = { λ g. (vec_capacity g.bytes ≡ g.room) × (g.len ≤ length g.bytes.items) };
+}
+
+impl<A: Allocator> GatheredContent<A> {
+    /// With room for a content of up to `room` bytes. This is the one call that takes memory.
+    pub fn new(alloc: A, room: u32) -> Result<Self, NoMemory>
+        ensures { IfOk result (λ content. content ≡ record { items = []; room = room }) }
+    {
+        Ok(GatheredContent {
+            bytes: Vec::with_capacity(alloc, room as usize)?,
+            len: 0,
+            room,
+        })
+    }
+
+    /// The bytes so far.
+    pub fn as_slice(&self) -> &[u8]
+        ensures { result.now ≡ self.now.items }
+    {
+        &self.bytes[..self.len as usize]
+    }
+
+    /// How many bytes there are.
+    pub fn len(&self) -> u32
+        ensures is { result ≡ length self.now.items }
+        ensures bound { result ≤ self.now.room }
+    {
+        self.len
+    }
+
+    /// Whether there are none.
+    pub fn is_empty(&self) -> bool
+        ensures { result ≡ (length self.now.items == 0) }
+    {
+        self.len == 0
+    }
+
+    /// How many bytes its memory has places for.
+    pub fn capacity(&self) -> usize
+        ensures { result ≡ self.now.room }
+    {
+        self.bytes.capacity()
+    }
+
+    /// Removes all bytes, and keeps the memory.
+    pub fn clear(&mut self)
+        ensures { self.new ≡ record { items = []; room = self.old.room } }
+    {
+        self.len = 0;
+    }
+
+    /// Adds a piece at the end.
+    pub fn append(&mut self, piece: &[u8])
+        requires { length self.old.items + length piece.now ≤ self.old.room }
+        ensures { self.new ≡ record { items = self.old.items ++ piece.now; room = self.old.room } }
+    {
+        let start = self.len as usize;
+        let end = start + piece.len();
+        let written = self.bytes.len();
+        if written < end {
+            add_zeros(&mut self.bytes, end - written);
+        }
+        self.bytes.slice_mut(start..end).copy_from_slice(piece);
+        self.len = end as u32;
+    }
+}
+
+/// Adds this many zeros.
+fn add_zeros<A: Allocator>(bytes: &mut Vec<u8, A>, count: usize)
+    requires { length bytes.old.items + count ≤ vec_capacity bytes.old }
+    ensures items { bytes.new.items ≡ bytes.old.items ++ replicate count 0 }
+    ensures capacity { vec_capacity bytes.new ≡ vec_capacity bytes.old }
+{
+    for _ in 0..count {
+        bytes.push_reserved(0);
+    }
+}

@@ -1,0 +1,77 @@
+// Written by dist/erase from crates/cqlp_note/src/gathered.rt.
+//! The content of a field out of pieces.
+
+use crate::kit_std::prelude::{Vec};
+use crate::cqlp_note::refusal::NoMemory;
+use crate::kit_std::alloc::Allocator;
+
+/// The bytes so far of a content, in memory that is taken once: its capacity is the room, for as long as it lives.
+pub(crate) struct GatheredContent<A: Allocator> {
+    /// The content, and after it what is left of longer ones before it, so that a piece is copied over them at once.
+    bytes: Vec<u8, A>,
+    len: u32,
+    room: u32,
+}
+
+impl<A: Allocator> GatheredContent<A> {
+    /// With room for a content of up to `room` bytes. This is the one call that takes memory.
+    pub fn new(alloc: A, room: u32) -> Result<Self, NoMemory>
+    {
+        Ok(GatheredContent {
+            bytes: Vec::with_capacity(alloc, room as usize)?,
+            len: 0,
+            room,
+        })
+    }
+
+    /// The bytes so far.
+    pub fn as_slice(&self) -> &[u8]
+    {
+        &self.bytes[..self.len as usize]
+    }
+
+    /// How many bytes there are.
+    pub fn len(&self) -> u32
+    {
+        self.len
+    }
+
+    /// Whether there are none.
+    pub fn is_empty(&self) -> bool
+    {
+        self.len == 0
+    }
+
+    /// How many bytes its memory has places for.
+    pub fn capacity(&self) -> usize
+    {
+        self.bytes.capacity()
+    }
+
+    /// Removes all bytes, and keeps the memory.
+    pub fn clear(&mut self)
+    {
+        self.len = 0;
+    }
+
+    /// Adds a piece at the end.
+    pub(crate) fn append(&mut self, piece: &[u8])
+    {
+        let start = self.len as usize;
+        let end = start + piece.len();
+        let written = self.bytes.len();
+        if written < end {
+            add_zeros(&mut self.bytes, end - written);
+        }
+        self.bytes.slice_mut(start..end).copy_from_slice(piece);
+        self.len = end as u32;
+    }
+}
+
+/// Adds this many zeros.
+fn add_zeros<A: Allocator>(bytes: &mut Vec<u8, A>, count: usize)
+{
+    for _ in 0..count {
+        bytes.push_reserved(0);
+    }
+}
