@@ -169,6 +169,7 @@
 //! given, ends a call in a panic or has it answer a wrong count. Nothing that is `unsafe` rests on what they say. A [`Sink`] may
 //! do as it likes.
 
+#![doc(test(attr(forbid(unsafe_code))))]
 // Each module is a whole library of the sources, of which this package exports a part.
 #![allow(dead_code, unused_imports)]
 // Arguments that contracts alone speak of.

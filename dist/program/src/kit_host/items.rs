@@ -23,10 +23,6 @@ impl<T, A: Allocator> Vec<T, A> {
         self.items.truncate(len);
     }
 
-    pub fn capacity(&self) -> usize {
-        self.items.capacity()
-    }
-
     pub fn try_reserve_exact(&mut self, more: usize) -> Result<(), AllocError> {
         self.items.try_reserve_exact(more).map_err(|_| AllocError)
     }
