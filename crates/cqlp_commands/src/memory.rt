@@ -78,7 +78,7 @@ fn print_early_reads(rt: &HostRuntime, bytes: &[u8]) -> io::Result<()> {
     let mut input = Pieces::new(bytes, [9; 3]);
     let full = Narrow::new(rt.alloc(), 0, 1);
     show(&rt.alloc(), LIMITS, &mut input, full, Calls::new());
-    if input.left() + 9 < bytes.len() {
+    if input.left().saturating_add(9) < bytes.len() {
         println!(rt; "reads on after a write fault")?;
     }
     Ok(())
