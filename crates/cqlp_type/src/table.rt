@@ -1,6 +1,7 @@
 //! Tables of types.
 
-ghost use Rattle.std.specs.Prelude.{◌≡◌, ◌+◌, ◌^◌, ◌<◌, ◌≤◌, ◌++◌, ◌∷◌, [], length, slice_get, vec_capacity, IfOk, IsTrue, ◌↔◌};
+ghost use Rattle.std.specs.Prelude.{◌≡◌, ◌+◌, ◌^◌, ◌<◌, ◌≤◌, ◌++◌, ◌∷◌, ◌↔◌};
+ghost use Rattle.std.specs.Prelude.{[], length, slice_get, vec_capacity, IfOk, IsTrue};
 ghost use Rattle.cqlp_type.specs.Table.{beginnings};
 
 use crate::depth::{deepest, inner_of};
