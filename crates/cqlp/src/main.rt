@@ -1,7 +1,9 @@
 //! Reads streams of the CQL native protocol v4, as its words say, and writes what is in them; or has a client and a server talk.
 #![tactic(auto)]
 
-use cqlp_arguments::{read_words, redirect, texts};
+mod words;
+
+use crate::words::{read_words, redirect, texts};
 use cqlp_note::OfStd;
 use cqlp_text::cannot_open_line;
 use cqlp_text::status::FAULT;

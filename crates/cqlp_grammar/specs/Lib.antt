@@ -1,3 +1,4 @@
+pub mod Codes
 pub mod Events
 pub mod Opening
 pub mod Productions

@@ -20,6 +20,7 @@ use Rattle.cqlp_kind.specs.declared.kind.Kind.TheVariants as kind
 use Rattle.cqlp_kind.specs.Types.{Types, NoMore, Type_and}
 use Rattle.cqlp_kind.specs.TypeStep.{TypeSymbol, Option_at}
 use Rattle.cqlp_kind.specs.CellStep.{CellSymbol}
+use Rattle.cqlp_grammar.specs.Codes as code
 use Rattle.cqlp_grammar.specs.declared.grammar.Group.{Group}
 use Rattle.cqlp_grammar.specs.declared.grammar.Group.TheVariants as group_of
 use Rattle.cqlp_grammar.specs.declared.grammar.Role.{Role}
@@ -73,9 +74,11 @@ group (group_of.Columns false) = table_name ++ plain field.ColumnName Text16 ∷
 
 -- ---- messages
 
+-- what a query has after its text or id (section 4.1.4)
 abbrev pub parameters : List Symbol
 parameters = plain field.Consistency Short ∷ In field.QueryFlags Byte role.QueryFlags ∷ []
 
+-- the fields of a message (section 4)
 abbrev pub body : Opcode → List Symbol
 body opcode.Error = In field.ErrorCode Int role.ErrorCode ∷ []
 body opcode.Startup = counted field.Options group_of.StringPairs ∷ []
@@ -99,7 +102,7 @@ body opcode.AuthSuccess = plain field.Token Bytes32 ∷ []
 abbrev pub payload : List Symbol
 payload = counted field.PayloadItems group_of.PayloadItems ∷ []
 
--- the parts that a header's flags announce
+-- the parts that a header's flags announce (section 2.2)
 abbrev pub announced : Header → List Symbol
 announced h =
     (if h.response then where_set h.flags 0x02 (plain field.TraceId Uuid ∷ [])
@@ -112,6 +115,7 @@ message h = announced h ++ body h.opcode ++ Extra ∷ []
 
 -- ---- what follows a value
 
+-- the parts that a query's flags announce (section 4.1.4)
 abbrev pub query_parts : ℕ → List Symbol
 query_parts flags =
     where_set flags 0x01 (counted field.Values (group_of.QueryValues (has flags 0x40)) ∷ [])
@@ -120,60 +124,65 @@ query_parts flags =
     ++ where_set flags 0x10 (plain field.SerialConsistency Short ∷ [])
     ++ where_set flags 0x20 (plain field.Timestamp Long ∷ [])
 
+-- the parts that a batch's flags announce (section 4.1.7)
 abbrev pub batch_parts : ℕ → List Symbol
 batch_parts flags =
     where_set flags 0x10 (plain field.SerialConsistency Short ∷ [])
     ++ where_set flags 0x20 (plain field.Timestamp Long ∷ [])
 
+-- a statement of a batch, by its text or by its id (section 4.1.7)
 abbrev pub entry_parts : ℕ → List Symbol
 entry_parts kind =
     (if kind == 0 then plain field.Query Text32 ∷ [] else plain field.StatementId Bytes16 ∷ [])
     ++ counted field.Values group_of.BatchValues ∷ []
 
--- the fields after an error's message, by its code
+-- the fields after an error's message, by its code (section 9)
 abbrev pub errors : List (ℕ × List Symbol)
 errors =
-    (0x1000, plain field.Consistency Short ∷ plain field.Required Int ∷ plain field.Alive Int ∷ [])
+    (code.unavailable, plain field.Consistency Short ∷ plain field.Required Int ∷ plain field.Alive Int ∷ [])
     ∷ (
-      0x1100,
+      code.write_timeout,
       plain field.Consistency Short ∷ plain field.Received Int ∷ plain field.BlockFor Int
           ∷ plain field.WriteType Text16 ∷ [],
     )
     ∷ (
-      0x1200,
+      code.read_timeout,
       plain field.Consistency Short ∷ plain field.Received Int ∷ plain field.BlockFor Int
           ∷ plain field.DataPresent Byte ∷ [],
     )
     ∷ (
-      0x1300,
+      code.read_failure,
       plain field.Consistency Short ∷ plain field.Received Int ∷ plain field.BlockFor Int
           ∷ plain field.Failures Int ∷ plain field.DataPresent Byte ∷ [],
     )
-    ∷ (0x1400, plain field.Keyspace Text16 ∷ plain field.Name Text16 ∷ counted field.Arguments group_of.Arguments ∷ [])
+    ∷ (code.function_failure, plain field.Keyspace Text16 ∷ plain field.Name Text16 ∷ counted field.Arguments group_of.Arguments ∷ [])
     ∷ (
-      0x1500,
+      code.write_failure,
       plain field.Consistency Short ∷ plain field.Received Int ∷ plain field.BlockFor Int
           ∷ plain field.Failures Int ∷ plain field.WriteType Text16 ∷ [],
     )
-    ∷ (0x2400, table_name)
-    ∷ (0x2500, plain field.StatementId Bytes16 ∷ [])
+    ∷ (code.already_exists, table_name)
+    ∷ (code.unprepared, plain field.StatementId Bytes16 ∷ [])
     ∷ []
 
+-- what was changed (sections 4.2.5.5 and 4.2.6)
 abbrev pub schema_change : List Symbol
 schema_change = plain field.Change Text16 ∷ In field.Target Text16 role.ChangeTarget ∷ []
 
+-- the fields after a result's kind (section 4.2.5)
 abbrev pub results : List (ℕ × List Symbol)
 results =
-    (2, In field.MetaFlags Int (role.MetaFlags true) ∷ [])
-    ∷ (3, plain field.Keyspace Text16 ∷ [])
-    ∷ (4, plain field.StatementId Bytes16 ∷ In field.MetaFlags Int role.PreparedFlags ∷ [])
-    ∷ (5, schema_change)
+    (code.rows, In field.MetaFlags Int (role.MetaFlags true) ∷ [])
+    ∷ (code.set_keyspace, plain field.Keyspace Text16 ∷ [])
+    ∷ (code.prepared, plain field.StatementId Bytes16 ∷ In field.MetaFlags Int role.PreparedFlags ∷ [])
+    ∷ (code.schema_change, schema_change)
     ∷ []
 
 abbrev pub by_text : List ℕ → List (List ℕ × List Symbol) → List Symbol
 by_text text [] = []
 by_text text (entry ∷ table) = if bytes_eq text entry.0 then entry.1 else by_text text table
 
+-- the names of what was changed, by its target (section 4.2.5.5)
 abbrev pub targets : List (List ℕ × List Symbol)
 targets =
     (codes "KEYSPACE", plain field.Keyspace Text16 ∷ [])
@@ -191,6 +200,7 @@ targets =
     )
     ∷ []
 
+-- the fields after an event's type (section 4.2.6)
 abbrev pub events : List (List ℕ × List Symbol)
 events =
     (codes "TOPOLOGY_CHANGE", plain field.Change Text16 ∷ plain field.Address Inet ∷ [])
@@ -198,7 +208,7 @@ events =
     ∷ (codes "SCHEMA_CHANGE", schema_change)
     ∷ []
 
--- the columns of a table, or of several
+-- the columns of a table, or of several (section 4.2.5.2)
 abbrev pub specs : (flags columns : ℕ) → List Symbol
 specs flags columns = where_set flags 0x01 table_name ++ copies columns (group (group_of.Columns (has flags 0x01)))
 

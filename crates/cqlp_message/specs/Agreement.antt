@@ -10,6 +10,7 @@ use Rattle.cqlp_note.specs.Field.{BoundValue}
 use Rattle.cqlp_note.specs.Heading.{has, same, answers, beside_number}
 use Rattle.cqlp_type.specs.Trees.{is_tree}
 use Rattle.cqlp_message.specs.FrameValues.{Octets, TableName, Spec, Metadata, PreparedStatement, QueryParams, ErrorExtra, Plain, Unavailable, WriteTimeout, ReadTimeout, ReadFailure, FunctionFailure, WriteFailure, AlreadyExists, Unprepared, SchemaOptions, Keyspace, Named, Callable, UnknownTarget, SchemaChange, ServerEvent, Node, Schema, UnknownEvent, Message, Startup, Options, Query, Prepare, Execute, Batch, Register, AuthResponse, Error, Ready, Authenticate, Supported, Void, SetKeyspace, Rows, Prepared, Change, UnknownResult, Event, AuthChallenge, AuthSuccess, FrameValue}
+use Rattle.cqlp_grammar.specs.Codes as error
 use Rattle.cqlp_grammar.specs.Productions.{Symbol, errors, targets, events, by_text}
 
 -- a part is there exactly where it is announced
@@ -40,14 +41,14 @@ batch_agrees flags serial timestamp =
 -- Section 9: what stands after an error's message is what its code announces. The code is the number that its bytes are.
 abbrev pub extra_agrees : (code : ℕ) → ErrorExtra → Bool
 extra_agrees code Plain = not (is_some (beside_number code errors))
-extra_agrees code (Unavailable c r a) = code == 0x1000
-extra_agrees code (WriteTimeout c r b w) = code == 0x1100
-extra_agrees code (ReadTimeout c r b d) = code == 0x1200
-extra_agrees code (ReadFailure c r b f d) = code == 0x1300
-extra_agrees code (FunctionFailure k n ts) = code == 0x1400
-extra_agrees code (WriteFailure c r b f w) = code == 0x1500
-extra_agrees code (AlreadyExists k t) = code == 0x2400
-extra_agrees code (Unprepared i) = code == 0x2500
+extra_agrees code (Unavailable c r a) = code == error.unavailable
+extra_agrees code (WriteTimeout c r b w) = code == error.write_timeout
+extra_agrees code (ReadTimeout c r b d) = code == error.read_timeout
+extra_agrees code (ReadFailure c r b f d) = code == error.read_failure
+extra_agrees code (FunctionFailure k n ts) = code == error.function_failure
+extra_agrees code (WriteFailure c r b f w) = code == error.write_failure
+extra_agrees code (AlreadyExists k t) = code == error.already_exists
+extra_agrees code (Unprepared i) = code == error.unprepared
 
 -- no text of a table
 abbrev pub is_unknown : Octets → List (Octets × List Symbol) → Bool

@@ -10,6 +10,7 @@ use Rattle.cqlp_kind.specs.Types.{Types, NoMore, Type_and, how_many, followed_by
 use Rattle.cqlp_type.specs.Trees.{types_in}
 use Rattle.cqlp_value.specs.Values.{Values}
 use Rattle.cqlp_message.specs.FrameValues.{Octets, TableName, Spec, Metadata, Page, PreparedStatement, QueryParams, BatchEntry, Text, Id, ErrorExtra, Plain, Unavailable, WriteTimeout, ReadTimeout, ReadFailure, FunctionFailure, WriteFailure, AlreadyExists, Unprepared, SchemaOptions, Keyspace, Named, Callable, UnknownTarget, SchemaChange, ServerEvent, Node, Schema, UnknownEvent, Message, Startup, Options, Query, Prepare, Execute, Batch, Register, AuthResponse, Error, Ready, Authenticate, Supported, Void, SetKeyspace, Rows, Prepared, Change, UnknownResult, Event, AuthChallenge, AuthSuccess}
+use Rattle.cqlp_grammar.specs.Codes as code
 use Rattle.cqlp_grammar.specs.Productions.{raw_types}
 use Rattle.cqlp_message.specs.Parts.{Part, Field_is, Type_is, Cell_is, PartsSpell}
 
@@ -224,11 +225,11 @@ message_parts Ready = []
 message_parts (Authenticate class) = text field.Class class ∷ []
 message_parts (Supported os) =
     counted field.Options (λ o. text field.OptionKey o.0 ∷ texts field.OptionValues field.OptionValue o.1) os
-message_parts Void = int field.ResultKind (pos 1) ∷ []
-message_parts (SetKeyspace keyspace) = int field.ResultKind (pos 3) ∷ text field.Keyspace keyspace ∷ []
-message_parts (Rows p) = int field.ResultKind (pos 2) ∷ page_parts p
-message_parts (Prepared p) = int field.ResultKind (pos 4) ∷ prepared_parts p
-message_parts (Change c) = int field.ResultKind (pos 5) ∷ change_parts c
+message_parts Void = int field.ResultKind (pos code.void) ∷ []
+message_parts (SetKeyspace keyspace) = int field.ResultKind (pos code.set_keyspace) ∷ text field.Keyspace keyspace ∷ []
+message_parts (Rows p) = int field.ResultKind (pos code.rows) ∷ page_parts p
+message_parts (Prepared p) = int field.ResultKind (pos code.prepared) ∷ prepared_parts p
+message_parts (Change c) = int field.ResultKind (pos code.schema_change) ∷ change_parts c
 message_parts (UnknownResult kind) = int field.ResultKind kind ∷ []
 message_parts (Event event told) = text field.EventType event ∷ event_parts told
 message_parts (AuthChallenge token) = bytes field.Token token ∷ []

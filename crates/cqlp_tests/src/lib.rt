@@ -1,4 +1,4 @@
-//! Tests of the libraries up to the decoder, by public calls that a script of cqlp_probe does not make.
+//! Tests of the libraries by their public calls, of what no contract says and no line of a script shows.
 #![tactic(auto)]
 
 #[cfg(test)]
@@ -6,15 +6,23 @@ mod cells;
 #[cfg(test)]
 mod claims;
 #[cfg(test)]
+mod client;
+#[cfg(test)]
 mod fields;
 #[cfg(test)]
 mod fronts;
 #[cfg(test)]
 mod headers;
 #[cfg(test)]
+mod many_requests;
+#[cfg(test)]
 mod memory;
 #[cfg(test)]
+mod page;
+#[cfg(test)]
 mod runs;
+#[cfg(test)]
+mod server;
 #[cfg(test)]
 mod streams;
 #[cfg(test)]

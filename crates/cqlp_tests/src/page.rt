@@ -1,20 +1,10 @@
-//! A page, and limits that it is within.
+//! A page.
 
 use cqlp_message::{Frame, Message, Metadata, Rows, Spec};
-use cqlp_note::Limits;
 use cqlp_type::{Kind, TypeTree};
 use cqlp_value::{Atom, Value};
 use std::alloc::Global;
 use std::test::Fail;
-
-pub const LIMITS: Limits = Limits {
-    text: 64,
-    cell: 64,
-    entries: 8,
-    depth: 3,
-    types: true,
-    parts: false,
-};
 
 /// A page of one row with one cell, a list of 1, null and nothing.
 pub fn page(alloc: Global) -> Result<Frame, Fail> {
