@@ -1,4 +1,5 @@
--- The bodies of messages: their parts in order (section 4 of native_protocol_v4.spec).
+-- The bodies of messages: their parts in order (section 4 of native_protocol_v4.spec). Read `message_parts` at the end first, a line for each
+-- message; what its lines name is above it.
 use Rattle.std.specs.Prelude.{ℕ, zero, suc, ◌+◌, ℤ, pos, ◌++◌, List, [], ◌∷◌, length, drop, Option, Some, None}
 use Rattle.std.specs.List.{flat_map}
 use Rattle.cqlp_note.specs.declared.field.Field.{Field}

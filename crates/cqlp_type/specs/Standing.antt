@@ -1,4 +1,5 @@
--- Where the reader of a type option stands, and what a call makes of it.
+-- Where the reader of a type option is, and what a call makes of it. Read the record of the reader first, then `Advances` at the end, what the
+-- input makes of an option. What a call means for the whole option is in Pushing.
 use Rattle.std.specs.Prelude.{◌≡◌, ℕ, ◌+◌, ◌-◌, ◌<◌, ◌≤◌, ◌++◌, Bool, true, false, List, [], ◌∷◌, length, if◌then◌else◌}
 use Rattle.cqlp_note.specs.declared.field.Notation.{Notation}
 use Rattle.cqlp_note.specs.declared.field.Notation.TheVariants as notation
