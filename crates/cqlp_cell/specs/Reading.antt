@@ -1,5 +1,5 @@
--- What one call makes of a cell. Read `Hands`, `Waits` and `Fails` first: a call hands out an item, waits for more or refuses, as the step of
--- cqlp_kind/specs/CellStep says of the bytes that have come and the input. The parts of a call at the end are for the proofs of its code.
+-- What one call makes of a cell. Read `Moves` first: a call hands out an item (`Hands`), waits for more (`Waits`) or refuses (`Fails`), as the
+-- step of cqlp_kind/specs/CellStep says of the bytes that have come and the input. The parts of a call at the end are for the proofs of its code.
 use Rattle.std.specs.Prelude.{◌≡◌, ◌≢◌, ℕ, ◌+◌, ◌-◌, ◌*◌, ◌^◌, ◌<◌, ◌≤◌, ◌++◌, Bool, false, List, [], ◌∷◌, length, take, drop, min, not, true, Option, Some, None, ⊤}
 use Rattle.std.specs.Int.{w32, from_be_bytes}
 use Rattle.cqlp_note.specs.declared.refusal.Reason.{Reason}
