@@ -4,6 +4,7 @@ pub mod FieldSteps
 pub mod OptionSteps
 pub mod CellSteps
 pub mod Gifts
+pub mod InTime
 pub mod Leads
 pub mod Ends
 pub mod Tables

@@ -6,7 +6,7 @@ use Rattle.cqlp_note.specs.declared.refusal.Refusal.{Refusal}
 use Rattle.cqlp_decode.specs.Reading.{Event, Gifts}
 use Rattle.cqlp_decode.specs.Standing.{StreamState, ends_due}
 use Rattle.cqlp_decode.specs.Streams.{AfterBy, AfterGifts}
-use Rattle.cqlp_decode.specs.Draining.{Drains, FailsWithin, fold_events}
+use Rattle.cqlp_decode.specs.Draining.{Drains, FailsWithin, Passes, fold_events}
 use Rattle.cqlp_decode.specs.Items.{TakesItem}
 use Rattle.cqlp_grammar.specs.declared.sink.Sink as sink
 use Rattle.cqlp_decode.specs.Sinks.{Gets, Fails}
@@ -130,3 +130,27 @@ module _ {S : Type 0} (m : sink.Ghosts S) where
           stands = rw (h.all, append_assoc es (told_of h.items) ((h.last.at, h.last.event) ∷ []), ← (told_append h.items (h.last ∷ []))) (takes_stands gifts old new bytes input es (h.items ++ h.last ∷ []) h.takes a);
           fault = rw (← got.1) (h.fault.0 got.0);
         }
+
+-- ---- from one sink to another
+
+module _ {S : Type 0} (also : S → ℕ → Event → S → Type 0) where
+  pub passes_none : (s : S) → Passes also s s
+  passes_none s = ([], refl)
+
+  pub passes_then : (s t u : S) → Passes also s t → Passes also t u → Passes also s u
+  passes_then s t u a b = (a.0 ++ b.0, gets_append also s t u a.0 b.0 a.1 b.1)
+
+  pub passes_one : (s t u : S) (at : ℕ) (e : Event) → Passes also s t → also t at e u → Passes also s u
+  passes_one s t u at e a b = passes_then s t u a (record { at = at; used = 0; event = e } ∷ [], (u, b, refl))
+
+module _ {S : Type 0} (m : sink.Ghosts S) where
+  also_all : (s t : S) (xs : List Item) → GetsAll (Gets m) s xs t → GetsAll m.also s xs t
+  also_all s t [] g = g
+  also_all s t (x ∷ xs) g = (g.0, g.1.1, also_all g.0 t xs g.2)
+
+  module _ (old new : StreamState) (input : List ℕ) (used : ℕ) (s t u : S) (before : Passes m.also s t) where
+    pub passes_handed : HandsOut (Gets m) old new input used t u → Passes m.also s u
+    passes_handed h = passes_then m.also s t u before (h.items, also_all t u h.items h.got)
+
+    pub passes_failed : FailsAfter (Gets m) (Fails m) old new input used t u → Passes m.also s u
+    passes_failed h = passes_one m.also s h.mid u h.last.at h.last.event (passes_then m.also s t h.mid before (h.items, also_all t h.mid h.items h.got)) h.fault.1

@@ -1,5 +1,5 @@
 -- What a sink gets of a stream.
-use Rattle.std.specs.Prelude.{◌≡◌, ℕ, ◌+◌, ◌*◌, ◌≤◌, ◌++◌, true, List, [], ◌∷◌, length, take, Option, Some, None, ◌⊎◌, ⊤}
+use Rattle.std.specs.Prelude.{◌≡◌, ℕ, ◌+◌, ◌-◌, ◌*◌, ◌≤◌, ◌++◌, true, List, [], ◌∷◌, length, take, Option, Some, None, ◌⊎◌, ⊤}
 use Rattle.cqlp_note.specs.declared.refusal.Refusal.{Refusal}
 use Rattle.cqlp_note.specs.Streams.{counted, CountsUp}
 use Rattle.cqlp_decode.specs.declared.running.Drained.{Drained}
@@ -10,6 +10,7 @@ use Rattle.cqlp_grammar.specs.declared.event.Finish.TheVariants as finish
 use Rattle.cqlp_decode.specs.Reading.{Event, Gifts, Verdict, start_with, Says, Waits, Refused}
 use Rattle.cqlp_decode.specs.Standing.{StreamState}
 use Rattle.cqlp_decode.specs.Streams.{AfterGifts, EndsAs}
+use Rattle.cqlp_decode.specs.Cells.{Item, GetsAll}
 
 -- the view after these events, in order
 abbrev pub fold_events : {V : Type 0} → (V → ℕ → Event → V) → V → List (ℕ × Event) → V
@@ -29,6 +30,27 @@ abbrev pub DrainsBy : Drained → StreamState → Type 0
 DrainsBy drained.More new = new.refusal ≡ None
 DrainsBy drained.Refused new = HasRefused new
 DrainsBy drained.Fault new = ⊤
+
+-- Of the bytes xs of a reader this many reads gave these, from the first on, and each of them from 1 to 4,096; the
+-- others are left.
+pub record InReads (reads : ℕ) (xs : List ℕ) (left : Option (List ℕ)) : Type 0 where
+  pub read : List ℕ
+  pub rest : List ℕ
+  pub parts : xs ≡ read ++ rest
+  pub some : reads ≤ length read
+  pub few : length read ≤ 4096 * reads
+  pub others : left ≡ Some rest
+
+-- how many reads of a run gave nothing: the last one, where it failed or came to the end of the input
+abbrev pub idle_reads : Outcome → ℕ
+idle_reads outcome.ReadFault = 1
+idle_reads (outcome.Finished (finish.Whole bytes)) = 1
+idle_reads (outcome.Finished (finish.Cut frame_at bytes)) = 1
+idle_reads o = 0
+
+-- From one sink to another, one event after the other: this holds of each step.
+abbrev pub Passes : {S : Type 0} → (S → ℕ → Event → S → Type 0) → (before after : S) → Type 0
+Passes also before after = (items : List Item) × GetsAll also before items after
 
 -- What a sink has got: f is what it makes of an event, and V is what is seen of it.
 module _ {V : Type 0} (f : V → ℕ → Event → V) where
@@ -136,28 +158,40 @@ module _ {V : Type 0} (f : V → ℕ → Event → V) where
         × HasAll old new xs left before after d
     RunsTo turns outcome.SinkFault old new xs left before after = FeedsInto old new xs left before after
 
+    -- What the last read of a run leads to: its bytes, or the first of them, were used, and the sink has got their
+    -- events, or it failed at the last of those.
+    abbrev pub GoesOnTo : Outcome → (mid new : StreamState) → (rest : List ℕ) → Option (List ℕ) → (seen after : V)
+        → Type 0
+    GoesOnTo outcome.SinkFault mid new rest left seen after = FeedsInto mid new rest left seen after
+    GoesOnTo o mid new rest left seen after = Feeds mid new rest seen after
+
+    -- Of a run the last read. The reads before it made a run of just so many turns: when it was made, all events of their
+    -- bytes had been handed out, the sink had failed at none of them, and nothing was refused.
+    pub record LastRead (turns : ℕ) (o : Outcome) (old new : StreamState) (xs : List ℕ) (was now : ℕ)
+        (left : Option (List ℕ)) (before after : V) : Type 0 where
+      pub earlier : ℕ
+      pub counted : CountsUp (earlier + 1) was now
+      pub within : earlier + 1 ≤ turns
+      pub mid : StreamState
+      pub rest : List ℕ
+      pub seen : V
+      pub ran : RunsTo earlier outcome.Turns old mid xs (Some rest) before seen
+      pub gave : InReads earlier xs (Some rest)
+      pub free : mid.refusal ≡ None
+      pub onward : GoesOnTo o mid new rest left seen after
+      pub gives : InReads (1 - idle_reads o) rest left
+
+    -- A run made no read, or its last one when all events of the bytes read before had been handed out.
+    abbrev pub ReadsInTime : (turns : ℕ) → Outcome → (old new : StreamState) → (xs : List ℕ) → (was now : ℕ)
+        → Option (List ℕ) → (before after : V) → Type 0
+    ReadsInTime turns o old new xs was now left before after =
+        ((now ≡ was) × (left ≡ Some xs)) ⊎ LastRead turns o old new xs was now left before after
+
 -- after a run that its reader or its turns end nothing was refused, and it may be called again
 abbrev pub WaitsAt : Outcome → StreamState → Type 0
 WaitsAt outcome.ReadFault new = new.refusal ≡ None
 WaitsAt outcome.Turns new = new.refusal ≡ None
 WaitsAt o new = ⊤
-
--- Of the bytes xs of a reader this many reads gave these, from the first on, and each of them from 1 to 4,096; the
--- others are left.
-pub record InReads (reads : ℕ) (xs : List ℕ) (left : Option (List ℕ)) : Type 0 where
-  pub read : List ℕ
-  pub rest : List ℕ
-  pub parts : xs ≡ read ++ rest
-  pub some : reads ≤ length read
-  pub few : length read ≤ 4096 * reads
-  pub others : left ≡ Some rest
-
--- how many reads of a run gave nothing: the last one, where it failed or came to the end of the input
-abbrev pub idle_reads : Outcome → ℕ
-idle_reads outcome.ReadFault = 1
-idle_reads (outcome.Finished (finish.Whole bytes)) = 1
-idle_reads (outcome.Finished (finish.Cut frame_at bytes)) = 1
-idle_reads o = 0
 
 -- A run that may make so many reads made this many that gave some bytes, and those that gave nothing; and no other. Each
 -- turn was one that gave some bytes, where they ran out.

@@ -1,7 +1,7 @@
 //! A reader's stream, drained into a sink.
 
 ghost use Rattle.std.specs.Prelude.{◌≡◌, List, ℕ, Some};
-ghost use Rattle.cqlp_decode.specs.Draining.{Counts, DrainsBy, DrainsTo, MakesReads, RunsTo, WaitsAt};
+ghost use Rattle.cqlp_decode.specs.Draining.{Counts, DrainsBy, DrainsTo, MakesReads, Passes, ReadsInTime, RunsTo, WaitsAt};
 ghost use Rattle.cqlp_decode.specs.Streams.{state};
 ghost use Rattle.cqlp_note.specs.declared.refusal.Refusal.{Refusal};
 
@@ -33,7 +33,8 @@ enum Drained {
 }
 
 /// Hands all events of a reader's bytes to the sink, from at most `turns` reads of up to 4,096 bytes, none of which is
-/// tried again. The events of bytes that the decoder was given before come first.
+/// tried again. The events of bytes that the decoder was given before come first. No read is made before the sink has got
+/// all events of the bytes read so far.
 pub fn run<R: Source, S: Sink, A: Allocator>(
     decoder: &mut Decoder<A>,
     reader: &mut R,
@@ -49,6 +50,10 @@ pub fn run<R: Source, S: Sink, A: Allocator>(
         × (reader.new ≡ reader.old) × (sink.new ≡ sink.old) }
     ensures reads { MakesReads turns result (R.reads reader.old) (R.reads reader.new)
         (R.left reader.old) (R.left reader.new) }
+    ensures in_time { (xs : List ℕ) → R.left reader.old ≡ Some xs → S.tells sink.old →
+        ReadsInTime S.after S.faulted turns result (state decoder.old) (state decoder.new) xs (R.reads reader.old)
+        (R.reads reader.new) (R.left reader.new) (S.view sink.old) (S.view sink.new) }
+    ensures also { Passes S.also sink.old sink.new }
     ensures failures { Counts result (R.failures reader.old) (R.failures reader.new) }
     ensures rules { (state decoder.new).rules ≡ (state decoder.old).rules }
     ensures given { (state decoder.new).given ≡ (state decoder.old).given }
@@ -85,6 +90,7 @@ fn drain<S: Sink, A: Allocator>(decoder: &mut Decoder<A>, input: &[u8], sink: &m
     ensures drains { S.tells sink.old →
         DrainsTo S.after S.faulted (state decoder.old) input.now result (state decoder.new)
         (S.view sink.old) (S.view sink.new) }
+    ensures also { Passes S.also sink.old sink.new }
     ensures rules { (state decoder.new).rules ≡ (state decoder.old).rules }
     ensures given { (state decoder.new).given ≡ (state decoder.old).given }
 {

@@ -1,3 +1,5 @@
 pub mod Renders
+pub mod Buffering
 pub mod Shows
 pub mod Turns
+pub mod Timely

@@ -1,18 +1,18 @@
 -- Rendering through a buffer.
-use Rattle.std.proofs.Common.{◌≡◌, ◌≢◌, ℕ, ◌+◌, true, List, [], ◌∷◌, ◌++◌, Option, Some, None, IsSome, refl, sym, ap, inl, inr, ◌∙◌, subst, append_assoc}
-use Rattle.std.specs.Io.KnownBytes.{Keeps, append_known}
+use Rattle.std.proofs.Common.{◌≡◌, ◌≢◌, ℕ, ◌+◌, true, List, [], ◌∷◌, ◌++◌, Option, None, IsSome, refl, sym, ap, inl, inr, ◌∙◌, subst, append_assoc}
+use Rattle.std.specs.Io.KnownBytes.{append_known}
 use Rattle.cqlp_note.specs.Streams.{counted}
 use Rattle.cqlp_decode.specs.declared.running.Outcome.{Outcome}
 use Rattle.cqlp_decode.specs.declared.running.Outcome.TheVariants as outcome
 use Rattle.cqlp_decode.specs.Standing.{StreamState}
 use Rattle.cqlp_decode.specs.Streams.{After}
-use Rattle.cqlp_decode.specs.Draining.{RunsTo}
+use Rattle.cqlp_decode.specs.Draining.{FeedsInto, RunsTo}
 use Rattle.cqlp_show.specs.declared.text_form.TextForm.{TextForm}
 use Rattle.cqlp_show.specs.Forms.{text, text_of, form_after_all}
-use Rattle.cqlp_text.specs.Written.{Written, bare, taken}
-use Rattle.cqlp_text.specs.Outputs.{Output, output, with_text, HasFailed, StopsWithin}
+use Rattle.cqlp_text.specs.Written.{Written, Receives, BreaksOff, bare, taken}
+use Rattle.cqlp_text.specs.Outputs.{Output, output, with_text, StopsWithin}
 use Rattle.cqlp_text.proofs.Writing.{known_then}
-use Rattle.cqlp_show.specs.Rendering.{Rendering, with_event, StopsWithinEvent, RendersFront}
+use Rattle.cqlp_show.specs.Rendering.{Rendering, with_event, StopsWithinEvent, FallsShort, FallsShortAtEvent, RendersFront}
 use Rattle.cqlp_show.specs.Streams.{Input}
 use Rattle.cqlp_show.specs.Showing.{ReadsBy, RunReads, RendersOrFails, ShowsTo, Concludes, ConcludesCheck, ending_of}
 use Rattle.cqlp_text.specs.declared.ending.Ending.{Ending}
@@ -21,16 +21,15 @@ use Rattle.cqlp_text.specs.Endings.{ending_line, status_of}
 use Rattle.cqlp_grammar.specs.declared.event.Finish.{Finish}
 use Rattle.cqlp_note.specs.declared.limits.Limits.{Limits}
 use Rattle.cqlp_note.specs.Limits.{rules_of}
-use Rattle.cqlp_show.proofs.Renders.{known_nothing, known_still, text-last, renders_to, texts_to, Renders, RendersPart}
+use Rattle.cqlp_show.proofs.Renders.{known_nothing, known_still, text-last, fold-text, renders_to, texts_to, Renders, RendersPart}
+use Rattle.cqlp_show.proofs.Buffering.{known_taken, breaks_short, flushes}
 use Rattle.cqlp_show.proofs.Turns.{runs_on}
 
--- known bytes that are kept are the same
-kept : (x y : Option (List ℕ)) → IsSome x → Keeps x y → x ≡ y
-kept None y known keeps = cc
-kept (Some t) None known keeps = absurd keeps
-kept (Some t) (Some u) known keeps = ap (λ k. Some k) (sym keeps)
-
 -- ---- fronts
+
+some_byte : (first : List ℕ) (x : ℕ) (rest : List ℕ) → (lost : ℕ) × (later : List ℕ) × (first ++ x ∷ rest ≡ lost ∷ later)
+some_byte [] x rest = (x, rest, refl)
+some_byte (y ∷ first) x rest = (y, first ++ x ∷ rest, refl)
 
 module _ (form : TextForm) (old new : StreamState) (xs : List ℕ) (before : Output) where
   -- a target that failed within the text of an event was given a front
@@ -45,24 +44,36 @@ module _ (form : TextForm) (old new : StreamState) (xs : List ℕ) (before : Out
         record {
           more = w.more ++ (w.at, w.event) ∷ [];
           stands = rw (← (append_assoc es w.more ((w.at, w.event) ∷ []))) w.stands;
-          lost = w.written.lost ∷ w.written.later;
-          front =
-              ap (λ g. append_known g (w.written.lost ∷ w.written.later)) w.written.given ∙ known_then (append_known before.given t) w.written.sent (w.written.lost ∷ w.written.later)
-              ∙ ap (append_known (append_known before.given t)) w.written.split ∙ known_then before.given t (text_of (form_after_all form w.more) w.at w.event)
-              ∙ ap (append_known before.given) (sym (text-last form w.more w.at w.event));
-          failures = w.written.failures;
+          short = record {
+            lost = w.written.lost;
+            later = w.written.later;
+            front =
+                ap (λ g. append_known g (w.written.lost ∷ w.written.later)) w.written.given ∙ known_then (append_known before.given t) w.written.sent (w.written.lost ∷ w.written.later)
+                ∙ ap (append_known (append_known before.given t)) w.written.split ∙ known_then before.given t (text_of (form_after_all form w.more) w.at w.event)
+                ∙ ap (append_known before.given) (sym (text-last form w.more w.at w.event));
+            failures = w.written.failures;
+          };
         };
   }
 
-  -- all text was written, and then the target failed before it was given all
-  all_is_front : (after end : Output) (waiting : List ℕ) → append_known end.given waiting ≡ after.given → HasFailed after end → Renders form old new xs before after → RendersFront form old new xs before end
-  all_is_front after end waiting is failed r = record {
+  -- all text was taken, and then the target failed before it was given all
+  all_is_front : (after end : Output) → FallsShort after [] end → Renders form old new xs before after → RendersFront form old new xs before end
+  all_is_front after end short r = record {
     bytes = r.bytes;
     rest = r.rest;
     parts = r.parts;
     events = λ gifts s es a.
         let w = r.events gifts s es a in
-        record { more = w.more; stands = w.stands; lost = waiting; front = is ∙ ap (λ o. o.given) w.written; failures = failed ∙ ap (λ o. counted true o.failures) w.written };
+        record {
+          more = w.more;
+          stands = w.stands;
+          short = record {
+            lost = short.lost;
+            later = short.later;
+            front = short.front ∙ known_nothing after.given ∙ ap (λ o. o.given) w.written;
+            failures = short.failures ∙ ap (λ o. counted true o.failures) w.written;
+          };
+        };
   }
 
   -- what waits is not given
@@ -73,45 +84,81 @@ module _ (form : TextForm) (old new : StreamState) (xs : List ℕ) (before : Out
     parts = r.parts;
     events = λ gifts s es a.
         let w = r.events gifts s es a in
-        record { more = w.more; stands = w.stands; lost = waiting ++ w.lost; front = sym (known_then given waiting w.lost) ∙ w.front; failures = w.failures };
+        let more = some_byte waiting w.short.lost w.short.later in
+        record {
+          more = w.more;
+          stands = w.stands;
+          short = record {
+            lost = more.0;
+            later = more.1;
+            front = ap (append_known given) (sym more.2) ∙ sym (known_then given waiting (w.short.lost ∷ w.short.later)) ∙ w.short.front;
+            failures = w.short.failures;
+          };
+        };
   }
+
+-- a buffer that failed at an event
+feeds_front : (old new : StreamState) (xs : List ℕ) (left : Option (List ℕ)) (before after : Rendering) → FeedsInto with_event FallsShortAtEvent old new xs left before after → RendersFront before.form old new xs before.output after.output
+feeds_front old new xs left before after p = record {
+  bytes = p.bytes;
+  rest = p.rest;
+  parts = p.parts;
+  events = λ gifts s es a.
+      let d = p.failed gifts s es a in
+      let form = before.form in
+      let t = text form d.more in
+      let last = text_of (form_after_all form d.more) d.at d.event in
+      let f : FallsShort (with_text before.output t) last after.output = subst (λ (r : Rendering). FallsShort r.output (text_of r.form d.at d.event) after.output) (fold-text before.output form d.more) d.fault in
+      record {
+        more = d.more ++ (d.at, d.event) ∷ [];
+        stands = rw (← (append_assoc es d.more ((d.at, d.event) ∷ []))) d.stands;
+        short = record {
+          lost = f.lost;
+          later = f.later;
+          front = f.front ∙ known_then before.output.given t last ∙ ap (append_known before.output.given) (sym (text-last form d.more d.at d.event));
+          failures = f.failures;
+        };
+      };
+}
 
 -- ---- runs with flushes between them
 
 module _ (old new : StreamState) (xs : List ℕ) (left : Option (List ℕ)) (before after : Rendering) (fresh : After old [] []) where
   -- what a run that stopped after its turns has written
-  module _ (turns : ℕ) (ran : RunsTo with_event StopsWithinEvent turns outcome.Turns old new xs left before after) where
+  module _ (turns : ℕ) (ran : RunsTo with_event FallsShortAtEvent turns outcome.Turns old new xs left before after) where
     pub tells_on : IsSome before.output.given → IsSome after.output.given
     tells_on known =
         let wrote = (renders_to turns outcome.Turns old new xs left before after ran).0.events [] [] [] fresh in
         subst (λ (g : Option (List ℕ)). IsSome g) (sym (ap (λ o. o.given) wrote.written)) (known_still before.output.given (text before.form wrote.more) known)
 
-    pub front_between : IsSome before.output.given → (end : Output) → (IsSome after.output.given → end.given ≡ after.output.given) → HasFailed after.output end → RendersFront before.form old new xs before.output end
-    front_between known end same failed =
-        all_is_front before.form old new xs before.output after.output end [] (known_nothing end.given ∙ same (tells_on known)) failed (renders_to turns outcome.Turns old new xs left before after ran).0
+    pub front_between : (end : Output) → FallsShort after.output [] end → RendersFront before.form old new xs before.output end
+    front_between end short = all_is_front before.form old new xs before.output after.output end short (renders_to turns outcome.Turns old new xs left before after ran).0
 
   -- a run of some turns, as one of at most this many
-  pub renders_or_fails : (turns : ℕ) (o : Outcome) → RunsTo with_event StopsWithinEvent turns o old new xs left before after → RendersOrFails before.form turns o old new xs left before.output after.output
+  pub renders_or_fails : (turns : ℕ) (o : Outcome) → RunsTo with_event FallsShortAtEvent turns o old new xs left before after → RendersOrFails before.form turns o old new xs left before.output after.output
   renders_or_fails turns (outcome.Finished f) ran = (after.form, ran)
   renders_or_fails turns outcome.ReadFault ran = (after.form, ran)
   renders_or_fails turns outcome.Turns ran = (after.form, ran)
-  renders_or_fails turns outcome.SinkFault ran = part_is_front before.form old new xs before.output after.output (renders_to turns outcome.SinkFault old new xs left before after ran)
+  renders_or_fails turns outcome.SinkFault ran = feeds_front old new xs left before after ran
 
-  pub ends_early : (turn turns : ℕ) (o : Outcome) → o ≢ outcome.Turns → RunsTo with_event StopsWithinEvent turn o old new xs left before after → RendersOrFails before.form turns o old new xs left before.output after.output
+  pub ends_early : (turn turns : ℕ) (o : Outcome) → o ≢ outcome.Turns → RunsTo with_event FallsShortAtEvent turn o old new xs left before after → RendersOrFails before.form turns o old new xs left before.output after.output
   ends_early turn turns (outcome.Finished f) early ran = renders_or_fails turns (outcome.Finished f) ran
   ends_early turn turns outcome.ReadFault early ran = renders_or_fails turns outcome.ReadFault ran
   ends_early turn turns outcome.Turns early ran = absurd (early refl)
   ends_early turn turns outcome.SinkFault early ran = renders_or_fails turns outcome.SinkFault ran
 
+  -- a run over a target
+  pub renders_at_once : (turns : ℕ) (o : Outcome) → RunsTo with_event StopsWithinEvent turns o old new xs left before after → RendersOrFails before.form turns o old new xs left before.output after.output
+  renders_at_once turns (outcome.Finished f) ran = (after.form, ran)
+  renders_at_once turns outcome.ReadFault ran = (after.form, ran)
+  renders_at_once turns outcome.Turns ran = (after.form, ran)
+  renders_at_once turns outcome.SinkFault ran = part_is_front before.form old new xs before.output after.output (renders_to turns outcome.SinkFault old new xs left before after ran)
+
 -- one more read, after a flush
-pub goes_on : (old mid new : StreamState) (xs : List ℕ) (left left' : Option (List ℕ)) (first before flushed after : Rendering) (turn : ℕ) (o : Outcome) → After old [] [] → mid.refusal ≡ None → IsSome first.output.given → RunsTo with_event StopsWithinEvent turn outcome.Turns old mid xs left first before
-    → (IsSome before.output.given → flushed ≡ before) → ((rest : List ℕ) → left ≡ Some rest → IsSome flushed.output.given → RunsTo with_event StopsWithinEvent 1 o mid new rest left' flushed after)
-    → RunsTo with_event StopsWithinEvent (turn + 1) o old new xs left' first after
-goes_on old mid new xs left left' first before flushed after turn o fresh waits known ran same next =
-    let reported = tells_on old mid xs left first before fresh turn ran known in
-    let is : flushed ≡ before = same reported in
-    let more = next ran.0.rest ran.1 (subst (λ (r : Rendering). IsSome r.output.given) (sym is) reported) in
-    runs_on with_event old mid new xs first before after ran.0 StopsWithinEvent (λ free. waits) turn 1 o left' ran.2 (subst (λ (r : Rendering). RunsTo with_event StopsWithinEvent 1 o mid new ran.0.rest left' r after) is more)
+pub goes_on : (old mid new : StreamState) (xs : List ℕ) (left left' : Option (List ℕ)) (first before flushed after : Rendering) (turn : ℕ) (o : Outcome) → mid.refusal ≡ None → (ran : RunsTo with_event FallsShortAtEvent turn outcome.Turns old mid xs left first before)
+    → flushed ≡ before → RunsTo with_event FallsShortAtEvent 1 o mid new ran.0.rest left' flushed after → RunsTo with_event FallsShortAtEvent (turn + 1) o old new xs left' first after
+goes_on old mid new xs left left' first before flushed after turn o waits ran is more =
+    runs_on with_event old mid new xs first before after ran.0 FallsShortAtEvent (λ free. waits) turn 1 o left' ran.2 (subst (λ (r : Rendering). RunsTo with_event FallsShortAtEvent 1 o mid new ran.0.rest left' r after) is more)
 
 -- ---- what goes to the output after the buffer
 
@@ -121,10 +168,6 @@ all_events form turns (outcome.Finished f) old new xs left before after sound ra
 all_events form turns outcome.ReadFault old new xs left before after sound ran = (texts_to form turns outcome.ReadFault old new xs left before after ran).0
 all_events form turns outcome.Turns old new xs left before after sound ran = (texts_to form turns outcome.Turns old new xs left before after ran).0
 all_events form turns outcome.SinkFault old new xs left before after sound ran = absurd (sound refl)
-
--- nothing is left in a buffer that was flushed
-flushed : (b c : Written) → IsSome (taken b) → Keeps (taken b) (taken c) → c.waiting ≡ [] → taken b ≡ c.given
-flushed b c known keeps none = kept (taken b) (taken c) known keeps ∙ ap (append_known c.given) none ∙ known_nothing c.given
 
 module _ (form : TextForm) (turns : ℕ) (o : Outcome) (old new : StreamState) (xs : List ℕ) (left given : Option (List ℕ)) (f : ℕ) (a b : Written) (starts : a ≡ bare given f) (fresh : After old [] []) (ran : RendersOrFails form turns o old new xs left (output (taken a) a.failures) (output (taken b) b.failures)) where
   -- what the buffer was given at first
@@ -138,24 +181,23 @@ module _ (form : TextForm) (turns : ℕ) (o : Outcome) (old new : StreamState) (
   pub failed_in : o ≡ outcome.SinkFault → RendersFront form old new xs (output given f) (output b.given b.failures)
   failed_in is = front_of_front form old new xs (output given f) b.given b.waiting b.failures (subst (λ (p : Outcome). RendersOrFails form turns p old new xs left (output given f) (output (taken b) b.failures)) is ran_from)
 
-  same_failures : o ≢ outcome.SinkFault → b.failures ≡ f
-  same_failures sound = ap (λ x. x.failures) ((all_events form turns o old new xs left _ _ sound ran_from).events [] [] [] fresh).written
-
   tells_taken : IsSome given → o ≢ outcome.SinkFault → IsSome (taken b)
   tells_taken known sound =
       let wrote = ((all_events form turns o old new xs left _ _ sound ran_from).events [] [] [] fresh) in
       subst (λ (g : Option (List ℕ)). IsSome g) (sym (ap (λ x. x.given) wrote.written)) (known_still given (text form wrote.more) known)
 
+  pub tells_given : IsSome given → o ≢ outcome.SinkFault → IsSome b.given
+  tells_given known sound = known_taken b.given b.waiting (tells_taken known sound)
+
   -- the target failed as the buffer was flushed
-  pub failed_later : (c : Written) → IsSome given → o ≢ outcome.SinkFault → Keeps (taken b) (taken c) → c.failures ≡ counted true b.failures → RendersFront form old new xs (output given f) (output c.given c.failures)
-  failed_later c known sound keeps failed =
-      all_is_front form old new xs (output given f) (output (taken b) b.failures) (output c.given c.failures) c.waiting (sym (kept (taken b) (taken c) (tells_taken known sound) keeps)) failed (all_events form turns o old new xs left _ _ sound ran_from)
+  pub failed_later : (c : Written) → IsSome given → o ≢ outcome.SinkFault → BreaksOff b [] c → RendersFront form old new xs (output given f) (output c.given c.failures)
+  failed_later c known sound breaks =
+      all_is_front form old new xs (output given f) (output (taken b) b.failures) (output c.given c.failures) (breaks_short b c [] breaks (tells_given known sound)) (all_events form turns o old new xs left _ _ sound ran_from)
 
   -- all was passed on
-  pub passed_through : (c : Written) → IsSome given → o ≢ outcome.SinkFault → Keeps (taken b) (taken c) → c.waiting ≡ [] → c.failures ≡ b.failures → RendersOrFails form turns o old new xs left (output given f) (output c.given c.failures)
-  passed_through c known sound keeps none same =
-      let after : output (taken b) b.failures ≡ output c.given c.failures = ap (λ g. output g b.failures) (flushed b c (tells_taken known sound) keeps none) ∙ ap (λ n. output c.given n) (sym same) in
-      subst (λ (x : Output). RendersOrFails form turns o old new xs left (output given f) x) after ran_from
+  pub passed_through : (c : Written) → IsSome given → o ≢ outcome.SinkFault → Receives b [] c → c.waiting ≡ [] → RendersOrFails form turns o old new xs left (output given f) (output c.given c.failures)
+  passed_through c known sound takes none =
+      subst (λ (x : Output). RendersOrFails form turns o old new xs left (output given f) x) (flushes b c takes none (tells_given known sound)) ran_from
 
 -- the buffer tells what it was given
 pub tells_at_first : (a : Written) (given : Option (List ℕ)) (f : ℕ) → a ≡ bare given f → IsSome given → IsSome (taken a)

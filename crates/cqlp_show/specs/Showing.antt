@@ -15,7 +15,7 @@ use Rattle.cqlp_text.specs.Endings.{ending_line, finish_status, status_of}
 use Rattle.cqlp_show.specs.declared.text_form.TextForm.{TextForm}
 use Rattle.cqlp_show.specs.declared.text_form.TextForm.TheVariants as forms
 use Rattle.cqlp_text.specs.Outputs.{Output, with_text, StopsWithin}
-use Rattle.cqlp_show.specs.Rendering.{RendersFront, RendersTo}
+use Rattle.cqlp_show.specs.Rendering.{ReadsOnlyAfterText, RendersFront, RendersTo}
 use Rattle.cqlp_show.specs.Streams.{Input, Streams, IfKnown}
 
 -- how the command ends where a run does
@@ -74,6 +74,15 @@ ReadsBy turns ending.NoMemory old new = new ≡ old
 ReadsBy turns ending.BadReply old new = ⊥
 ReadsBy turns ending.SocketFault old new = ⊥
 
+-- When the last read of the bytes xs was made, by a decoder that was just made with these limits: after all text of the
+-- bytes read before, or never.
+abbrev pub ReadsNew : TextForm → Limits → (turns : ℕ) → (xs : List ℕ) → (old new : Input) → (before after : Output)
+    → Type 0
+ReadsNew form limits turns xs old new before after =
+    (new ≡ old)
+    ⊎ ((start : StreamState) × After start [] [] × (start.rules ≡ rules_of limits)
+    × ReadsOnlyAfterText form turns start xs old.reads new.reads new.left before after.given)
+
 -- The line of the ending was written, and the status is its own; or the target failed within it, and the status is
 -- that of a fault.
 abbrev pub Concludes : Ending → (before : Output) → (status : ℕ) → (after : Output) → Type 0
@@ -94,13 +103,13 @@ ConcludesCheck (ending.Finished f) out err status out' err' =
 ConcludesCheck e out err status out' err' = (out' ≡ out) × Concludes e err status err'
 
 -- The bytes xs of the input were shown: what was written of them, which calls of the reader failed, the line that
--- reports how it ended, and how often the reader was called.
+-- reports how it ended, how often the reader was called, and after what.
 abbrev pub ShowsBytes : TextForm → Limits → (turns : ℕ) → List ℕ
     → (before : Streams) → (status : ℕ) → (after : Streams) → Type 0
 ShowsBytes form limits turns xs before status after =
     (e : Ending) × ShowsTo form limits turns e xs after.input.left before.out after.out
     × CountsReads e before.input.failures after.input.failures × Concludes e before.err status after.err
-    × ReadsBy turns e before.input after.input
+    × ReadsBy turns e before.input after.input × ReadsNew form limits turns xs before.input after.input before.out after.out
 
 -- The bytes xs of the input were read and nothing of them written, and how it ended was reported.
 abbrev pub ChecksBytes : Limits → (turns : ℕ) → List ℕ → (before : Streams) → (status : ℕ) → (after : Streams) → Type 0
@@ -108,6 +117,7 @@ ChecksBytes limits turns xs before status after =
     (e : Ending) × (read : Output) × ShowsTo forms.Nothing limits turns e xs after.input.left before.out read
     × CountsReads e before.input.failures after.input.failures
     × ConcludesCheck e read before.err status after.out after.err × ReadsBy turns e before.input after.input
+    × ReadsNew forms.Nothing limits turns xs before.input after.input before.out read
 
 -- A stream was shown, and how it ended was reported.
 abbrev pub ShowsAndReports : TextForm → Limits → (turns : ℕ)

@@ -71,7 +71,7 @@ impl<W: Target, F: Form> Sink for TextSink<W, F> {
 
 ghost use Rattle.cqlp_text.specs.PageText.{no_page};
 ghost use Rattle.cqlp_text.specs.Outputs.{written};
-ghost use Rattle.cqlp_show.specs.Rendering.{RendersTo};
+ghost use Rattle.cqlp_show.specs.Rendering.{ReadsOnlyAfterText, RendersInTime, RendersTo, rendered};
 ghost use Rattle.cqlp_show.specs.Streams.{IfKnown, unread};
 ghost use Rattle.cqlp_show.specs.Showing.{RendersOrFails};
 ghost use Rattle.cqlp_show.specs.declared.text_form.TextForm.TheVariants as forms;
@@ -87,6 +87,9 @@ pub fn render_events<R: Source, W: Target, A: Allocator>(
     ensures lines { IfKnown (unread R.Source reader.old) (written W.Target w) (λ xs.
         RendersTo forms.Lines turns result.0 (state decoder.old) (state decoder.new) xs (R.left reader.new)
         (written W.Target w) (written W.Target result.1)) }
+    ensures in_time { IfKnown (unread R.Source reader.old) (written W.Target w) (λ xs.
+        RendersInTime forms.Lines turns result.0 (state decoder.old) (state decoder.new) xs (R.reads reader.old)
+        (R.reads reader.new) (R.left reader.new) (written W.Target w) (written W.Target result.1)) }
     ensures waits { WaitsAt result.0 (state decoder.new) }
     ensures refused { (r : Refusal) → (state decoder.old).refusal ≡ Some r →
         (result.0 ≡ Outcome.Finished (Finish.Refused r)) × (state decoder.new ≡ state decoder.old)
@@ -113,6 +116,9 @@ pub fn render_rows<R: Source, W: Target, A: Allocator>(
     ensures text { IfKnown (unread R.Source reader.old) (written W.Target w) (λ xs.
         RendersTo (forms.Pages no_page) turns result.0 (state decoder.old) (state decoder.new) xs (R.left reader.new)
         (written W.Target w) (written W.Target result.1)) }
+    ensures in_time { IfKnown (unread R.Source reader.old) (written W.Target w) (λ xs.
+        RendersInTime (forms.Pages no_page) turns result.0 (state decoder.old) (state decoder.new) xs (R.reads reader.old)
+        (R.reads reader.new) (R.left reader.new) (written W.Target w) (written W.Target result.1)) }
     ensures waits { WaitsAt result.0 (state decoder.new) }
     ensures refused { (r : Refusal) → (state decoder.old).refusal ≡ Some r →
         (result.0 ≡ Outcome.Finished (Finish.Refused r)) × (state decoder.new ≡ state decoder.old)
@@ -135,9 +141,14 @@ pub(crate) fn run_flushing<R: Source, W: Target, F: Form, A: Allocator, B: Alloc
     sink: &mut BufferedSink<W, B, F>,
     turns: u64,
 ) -> Outcome
-    ensures renders { IfKnown (unread R.Source reader.old) sink.old.output (λ xs. After (state decoder.old) [] [] →
+    ensures renders { let first = (rendered sink.old).output in
+        IfKnown (unread R.Source reader.old) first (λ xs. After (state decoder.old) [] [] →
         RendersOrFails sink.old.form turns result (state decoder.old) (state decoder.new) xs (R.left reader.new)
-        sink.old.output sink.new.output) }
+        first (rendered sink.new).output) }
+    ensures in_time { let first = (rendered sink.old).output in
+        IfKnown (unread R.Source reader.old) first (λ xs. After (state decoder.old) [] [] →
+        ReadsOnlyAfterText sink.old.form turns (state decoder.old) xs (R.reads reader.old) (R.reads reader.new)
+        (R.left reader.new) first sink.new.written.given) }
     ensures reads { MakesReads turns result (R.reads reader.old) (R.reads reader.new)
         (R.left reader.old) (R.left reader.new) }
     ensures failures { Counts result (R.failures reader.old) (R.failures reader.new) }

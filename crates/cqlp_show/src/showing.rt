@@ -6,8 +6,9 @@ ghost use Rattle.cqlp_note.specs.Limits.{first_bad, rules_of};
 ghost use Rattle.cqlp_text.specs.Endings.{IsStatusOfTask};
 ghost use Rattle.cqlp_text.specs.PageText.{no_page};
 ghost use Rattle.cqlp_text.specs.Outputs.{Output, written};
+ghost use Rattle.cqlp_show.specs.Rendering.{ReadsOnlyAfterText};
 ghost use Rattle.cqlp_show.specs.Streams.{IfKnown, streams, unread};
-ghost use Rattle.cqlp_show.specs.Showing.{ending_of, ChecksAndReports, ConcludesIfKnown, CountsReads, ReadsBy, RendersOrFails};
+ghost use Rattle.cqlp_show.specs.Showing.{ending_of, ChecksAndReports, ConcludesIfKnown, CountsReads, ReadsBy, ReadsNew, RendersOrFails};
 ghost use Rattle.cqlp_show.specs.Showing.{ShowsAndReports, ShowsTo};
 ghost use Rattle.cqlp_text.specs.declared.ending.Ending.{Ending};
 ghost use Rattle.cqlp_show.specs.declared.text_form.TextForm.TheVariants as forms;
@@ -16,7 +17,7 @@ use crate::buffered_sink::BufferedSink;
 use crate::form::{Form, Lines, Nothing};
 use crate::render::{TextSink, run_flushing};
 use cqlp_decode::{Decoder, NewError, Outcome, SinkFault, run};
-use cqlp_note::{IoFault, Limits, Source, Target};
+use cqlp_note::{Limits, Source, Target};
 use cqlp_text::status::FAULT;
 use cqlp_text::{Buffered, Ending, PagePlace, ending_line};
 use std::alloc::Allocator;
@@ -105,6 +106,9 @@ fn read_through<R: Source, O: Target, A: Allocator>(
         (written O.Target result.1)) }
     ensures failures { CountsReads result.0 (R.failures input.old) (R.failures input.new) }
     ensures reads { ReadsBy TURNS result.0 (unread R.Source input.old) (unread R.Source input.new) }
+    ensures in_time { IfKnown (unread R.Source input.old) (written O.Target out) (λ xs.
+        ReadsNew forms.Nothing limits TURNS xs (unread R.Source input.old) (unread R.Source input.new)
+        (written O.Target out) (written O.Target result.1)) }
 {
     let Some(mut decoder) = decoder_within(alloc, limits) else {
         return (Ending::NoMemory, out);
@@ -128,6 +132,9 @@ fn write_text<R: Source, O: Target, F: Form + Drop, A: Allocator>(
         (written O.Target result.1)) }
     ensures failures { CountsReads result.0 (R.failures input.old) (R.failures input.new) }
     ensures reads { ReadsBy TURNS result.0 (unread R.Source input.old) (unread R.Source input.new) }
+    ensures in_time { IfKnown (unread R.Source input.old) (written O.Target out) (λ xs.
+        ReadsNew (F.form form) limits TURNS xs (unread R.Source input.old) (unread R.Source input.new)
+        (written O.Target out) (written O.Target result.1)) }
 {
     let Some(mut decoder) = decoder_within(alloc, limits) else {
         return (Ending::NoMemory, out);
@@ -179,6 +186,9 @@ fn render_buffered<R: Source, O: Target, F: Form + Drop, A: Allocator, B: Alloca
         (state decoder.new) xs (R.left input.new) (written O.Target out) (written O.Target result.1)) }
     ensures failures { CountsReads (ending_of result.0) (R.failures input.old) (R.failures input.new) }
     ensures reads { ReadsBy TURNS (ending_of result.0) (unread R.Source input.old) (unread R.Source input.new) }
+    ensures in_time { IfKnown (unread R.Source input.old) (written O.Target out) (λ xs.
+        After (state decoder.old) [] [] → ReadsOnlyAfterText (F.form form) TURNS (state decoder.old) xs
+        (R.reads input.old) (R.reads input.new) (R.left input.new) (written O.Target out) (O.contents result.1)) }
     ensures rules { (state decoder.new).rules ≡ (state decoder.old).rules }
 {
     let mut sink = BufferedSink::new(Buffered::new(out, buffer), form);
@@ -189,7 +199,7 @@ fn render_buffered<R: Source, O: Target, F: Form + Drop, A: Allocator, B: Alloca
     }
     match buffered.flush() {
         Ok(()) => (outcome, buffered.into_inner()),
-        Err(IoFault) => (Outcome::SinkFault, buffered.into_inner()),
+        Err(SinkFault) => (Outcome::SinkFault, buffered.into_inner()),
     }
 }
 

@@ -4,6 +4,6 @@ pub mod CellTexts
 pub mod Pages
 pub mod Pairs
 pub mod Placed
-pub mod Settled
+pub mod Waiting
 pub mod Texts
 pub mod Writing

@@ -53,7 +53,3 @@ unbuffered members target = bare (members.contents target) (members.failures tar
 -- what was given and what waits
 abbrev pub taken : Written → Option (List ℕ)
 taken w = append_known w.given w.waiting
-
--- of a writer that loses nothing of what waits: as if all that it took had been passed on
-abbrev pub settled : Written → Written
-settled w = bare (taken w) w.failures

@@ -1,8 +1,6 @@
 //! Text on its way to a target.
 
-ghost use Rattle.std.specs.Prelude.{◌≡◌, ◌≤◌, [], decimal, true, OnOk, OnErr};
-ghost use Rattle.std.specs.Io.KnownBytes.{Keeps};
-ghost use Rattle.cqlp_note.specs.Streams.{counted};
+ghost use Rattle.std.specs.Prelude.{◌≡◌, ◌≤◌, [], decimal};
 ghost use Rattle.cqlp_text.specs.CellText.{digits};
 ghost use Rattle.cqlp_text.specs.Written.{Writes, unbuffered};
 
@@ -10,7 +8,7 @@ use crate::buffered::Buffered;
 use crate::line_pen::LinePen;
 use crate::pen::Pen;
 use cqlp_grammar::SinkFault;
-use cqlp_note::{IoFault, Target};
+use cqlp_note::Target;
 use std::alloc::Allocator;
 use std::marker::Model;
 
@@ -97,19 +95,10 @@ impl<'a, W: Target> TextWriter<LinePen<'a, W>> {
 }
 
 impl<W: Target, A: Allocator> TextWriter<Buffered<W, A>> {
-    /// A buffer loses nothing of what waits in it, so none of it waits to be lost.
-    #[inline(always)]
-    pub fn loses_nothing(&self)
-        ensures { self.now.waiting ≡ [] }
-    {
-        let _pen = &self.pen;
-    }
-
-    /// Passes on all that waits in the buffer.
-    pub fn pass_on(&mut self) -> Result<(), IoFault>
-        ensures keeps { Keeps self.old.given self.new.given }
-        ensures sound { OnOk result (self.new.failures ≡ self.old.failures) }
-        ensures err { OnErr result (self.new.failures ≡ counted true self.old.failures) }
+    /// Passes on all that waits in the buffer; after a fault nothing waits either.
+    pub fn pass_on(&mut self) -> Result<(), SinkFault>
+        ensures writes { Writes self.old [] result self.new }
+        ensures empty { self.new.waiting ≡ [] }
     {
         self.pen.flush()
     }

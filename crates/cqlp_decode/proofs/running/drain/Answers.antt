@@ -4,7 +4,7 @@ use Rattle.cqlp_decode.specs.Standing.{StreamState}
 use Rattle.cqlp_decode.specs.Streams.{state}
 use Rattle.cqlp_decode.proofs.Leads.{repeated}
 use Rattle.cqlp_decode.proofs.Gets.{rest_is, drains_event, drains_all, drains_refused, drains_rest, fails_event, fails_rest}
-use Rattle.cqlp_decode.proofs.Taken.{drained, failed, still_tells}
+use Rattle.cqlp_decode.proofs.Taken.{drained, failed, still_tells, passes_handed, passes_failed, passes_one}
 use Rattle.cqlp_decode.proofs.running.drain.Goals as goal
 
 -- what lies whole in the input
@@ -24,7 +24,19 @@ returns-in-Err-clause-drains g c = λ tells.
           fails_rest g.S.Sink.after g.S.Sink.faulted gifts (state c.events.decoder) (state c.hand_whole.new.self) s c.args.input.now c.events.used taken es _ _ _ d (cells gifts _ _ d.stands),
     )
 
+pub returns-in-Err-clause-also : goal.returns-in-Err-clause-also
+returns-in-Err-clause-also g c = passes_failed g.S.Sink _ _ _ _ _ _ _ c.events.invariant.also c.in-Err.ensures.drains
+
 -- all else
+
+pub returns-in-More-clause-also : goal.returns-in-More-clause-also
+returns-in-More-clause-also g c = passes_handed g.S.Sink _ _ _ _ _ _ _ c.events.invariant.also c.in-Ok.ensures.drains
+
+pub returns-in-Refused-clause-also : goal.returns-in-Refused-clause-also
+returns-in-Refused-clause-also g c = passes_handed g.S.Sink _ _ _ _ _ _ _ c.events.invariant.also c.in-Ok.ensures.drains
+
+pub returns-in-Err-take-clause-also : goal.returns-in-Err-take-clause-also
+returns-in-Err-take-clause-also g c = passes_one g.S.Sink.also _ _ _ _ _ (passes_handed g.S.Sink _ _ _ _ _ _ _ c.events.invariant.also c.in-Ok.ensures.drains) c.in-Err-take.ensures.also
 
 pub returns-in-More-clause-refusal : goal.returns-in-More-clause-refusal
 returns-in-More-clause-refusal g c = (rw c.in-More.is at c.next.follows.holds-at-none.0).1
@@ -134,6 +146,7 @@ events-preserved g c =
           let again = repeated (state c.hand_whole.new.self) (state c.next.follows.lender-at-none) _ (state c.hand_whole.new.self).refusal r (ap (λ (z : StreamState). z.refusal) same ∙ is) c.next.follows.holds-at-none.2 in
           absurd (let e = sym c.in-Event.is ∙ again.0 in cc);
       clear = λ none. goes.3;
+      also = passes_one g.S.Sink.also _ _ _ _ _ (passes_handed g.S.Sink _ _ _ _ _ _ _ c.events.invariant.also c.in-Ok.ensures.drains) c.in-Ok-take.ensures.also;
       tells = λ tells. (c.in-Ok-take.ensures.ok (still_tells g.S.Sink _ _ _ _ _ _ c.in-Ok.ensures.drains (c.events.invariant.tells tells))).0;
       drained = λ tells gifts s es a.
           let cells = drained g.S.Sink _ _ _ _ _ _ (rw rest_is at c.in-Ok.ensures.drains) (c.events.invariant.tells tells) in

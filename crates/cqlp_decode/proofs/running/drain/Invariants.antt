@@ -3,7 +3,7 @@ use Rattle.cqlp_note.specs.declared.refusal.Refusal.{Refusal}
 use Rattle.cqlp_decode.specs.Reading.{Event, Gifts}
 use Rattle.cqlp_decode.specs.Standing.{ends_due}
 use Rattle.cqlp_decode.specs.Streams.{AfterGifts, state}
-use Rattle.cqlp_decode.specs.Draining.{Drains}
+use Rattle.cqlp_decode.specs.Draining.{Drains, Passes}
 use Rattle.cqlp_decode.proofs.running.drain.Given as goal
 
 -- what is used is read, and the sink has got its events
@@ -15,6 +15,7 @@ invariant-events g l = record {
   refused : (r : Refusal) → (state l.fn.decoder).refusal ≡ Some r → (state l.decoder ≡ state l.fn.decoder) × (l.sink ≡ l.fn.sink);
   clear : (state l.fn.decoder).refusal ≡ None → (state l.decoder).refusal ≡ None;
   tells : g.S.Sink.tells l.fn.sink → g.S.Sink.tells l.sink;
+  also : Passes g.S.Sink.also l.fn.sink l.sink;
   drained : g.S.Sink.tells l.fn.sink → (gifts : Gifts) (s : List ℕ) (es : List (ℕ × Event)) → AfterGifts gifts (state l.fn.decoder) s es → Drains g.S.Sink.after gifts (state l.decoder) s es (take l.used l.input) (g.S.Sink.view l.fn.sink) (g.S.Sink.view l.sink);
 }
 

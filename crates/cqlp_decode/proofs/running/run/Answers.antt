@@ -5,6 +5,8 @@ use Rattle.cqlp_decode.specs.declared.running.Outcome.TheVariants as outcome
 use Rattle.cqlp_decode.specs.Standing.{StreamState}
 use Rattle.cqlp_decode.specs.Streams.{state}
 use Rattle.cqlp_decode.proofs.Gets.{feeds_none, feeds_then, feeds_into, has_all, has_all_still, read_some, keeps_some, at_end, gives_none, gives_kept, gives_end, gives_more, idle_refused, idle_at_end}
+use Rattle.cqlp_decode.proofs.InTime.{last_read}
+use Rattle.cqlp_decode.proofs.Taken.{passes_then}
 use Rattle.cqlp_decode.proofs.running.run.Goals as goal
 
 -- before the first read
@@ -38,6 +40,8 @@ loop-turn-init g c = record {
   counted = λ fits. omega arith;
   gives = λ xs is. gives_none xs _ is;
   tells = λ tells. c.in-More.ensures.tells tells refl;
+  also = c.in-More.ensures.also;
+  in_time = λ xs is tells. inl (refl, is);
   waits = c.in-More.ensures.refusal;
   unrefused = λ r is. let again = c.in-More.ensures.refused r is in let e = again.0 in cc;
   fed = λ xs is tells.
@@ -103,6 +107,18 @@ loop-turn-preserved g c =
       gives = λ xs is. let some = c.if-count-eq0.false in gives_more _ xs _ _ c.read.new.buffer c.in-Ok.count (omega arith) c.in-Ok.ensures.bound long (c.loop-turn.invariant.gives xs is) c.in-Ok.ensures.bytes;
       failures = let a = c.in-Ok.ensures.failures in let b = c.loop-turn.invariant.failures in cc;
       tells = λ tells. c.in-More-drain.ensures.tells (c.loop-turn.invariant.tells tells) refl;
+      also = passes_then g.S.Sink.also _ _ _ c.loop-turn.invariant.also c.in-More-drain.ensures.also;
+      in_time = λ xs is tells.
+          let d = c.loop-turn.invariant.fed xs is tells in
+          let some = c.if-count-eq0.false in
+          let r = read_some _ _ d.0.rest c.read.new.buffer c.in-Ok.count d.1 c.in-Ok.ensures.bytes.0 c.in-Ok.ensures.bytes.1 in
+          let e = c.in-More-drain.ensures.drains (c.loop-turn.invariant.tells tells) in
+          let piece = take c.in-Ok.count c.read.new.buffer in
+          let mid = state c.loop-turn.decoder in
+          last_read g.S.Sink.after g.S.Sink.faulted c.args.turns c.loop-turn.turn _ _ (state c.args.decoder.now) mid (state c.drain-in-loop-turn.new.decoder) xs _ _ _ _ _ d (c.loop-turn.invariant.gives xs is) c.loop-turn.invariant.waits outcome.Turns (λ fits. let before = c.loop-turn.invariant.counted (omega arith) in let one = c.in-Ok.ensures.reads in omega arith)
+          (let a = c.loop-turn-test.true in omega arith)
+          (feeds_then g.S.Sink.after mid mid (state c.drain-in-loop-turn.new.decoder) d.0.rest piece r.0 _ _ _ (feeds_none g.S.Sink.after mid d.0.rest _) r.2 piece [] (sym (append-nil piece)) (λ gifts s es a. (e gifts s es a).drains))
+          (gives_more 0 d.0.rest _ _ c.read.new.buffer c.in-Ok.count (omega arith) c.in-Ok.ensures.bound long (gives_none d.0.rest _ d.1) c.in-Ok.ensures.bytes);
       waits = c.in-More-drain.ensures.refusal;
       unrefused = c.loop-turn.invariant.unrefused;
       fed = λ xs is tells.
@@ -210,3 +226,74 @@ pub returns-clause-reads : goal.returns-clause-reads
 returns-clause-reads g c =
     let all : c.loop-turn.turn ≡ c.args.turns = omega arith in
     record { giving = c.loop-turn.turn; counted = λ fits. let up = c.loop-turn.invariant.counted (omega arith) in omega arith; within = omega arith; all = λ is. all; gives = c.loop-turn.invariant.gives }
+
+-- when the last read is made
+
+pub returns-in-Refused-clause-in_time : goal.returns-in-Refused-clause-in_time
+returns-in-Refused-clause-in_time g c = λ xs is tells. inl (refl, is)
+
+pub returns-in-Fault-clause-in_time : goal.returns-in-Fault-clause-in_time
+returns-in-Fault-clause-in_time g c = λ xs is tells. inl (refl, is)
+
+pub returns-in-Err-clause-in_time : goal.returns-in-Err-clause-in_time
+returns-in-Err-clause-in_time g c = λ xs is tells.
+    let d = c.loop-turn.invariant.fed xs is tells in
+    let mid = state c.loop-turn.decoder in
+    last_read g.S.Sink.after g.S.Sink.faulted c.args.turns c.loop-turn.turn _ _ (state c.args.decoder.now) mid mid xs _ _ _ _ _ d (c.loop-turn.invariant.gives xs is) c.loop-turn.invariant.waits outcome.ReadFault (λ fits. let before = c.loop-turn.invariant.counted (omega arith) in let one = c.in-Err.ensures.reads in omega arith)
+    (let a = c.loop-turn-test.true in omega arith)
+    (feeds_none g.S.Sink.after mid d.0.rest _)
+    (gives_kept 0 d.0.rest _ _ (gives_none d.0.rest _ d.1) c.in-Err.ensures.bytes)
+
+pub returns-then-count-eq0-clause-in_time : goal.returns-then-count-eq0-clause-in_time
+returns-then-count-eq0-clause-in_time g c = λ xs is tells.
+    let d = c.loop-turn.invariant.fed xs is tells in
+    let mid = state c.loop-turn.decoder in
+    let f = c.finish-then-count-eq0.result in
+    let idle = idle_at_end f (c.finish-then-count-eq0.ensures.unrefused c.loop-turn.invariant.waits) in
+    let long : 0 < length c.read.new.buffer = let a = c.read.auto.buffer in let b = c.loop-turn.invariant.long in omega arith in
+    last_read g.S.Sink.after g.S.Sink.faulted c.args.turns c.loop-turn.turn _ _ (state c.args.decoder.now) mid mid xs _ _ _ _ _ d (c.loop-turn.invariant.gives xs is) c.loop-turn.invariant.waits (outcome.Finished f) (λ fits. let before = c.loop-turn.invariant.counted (omega arith) in let one = c.in-Ok.ensures.reads in omega arith)
+    (let a = c.loop-turn-test.true in omega arith)
+    (feeds_none g.S.Sink.after mid d.0.rest _)
+    (rw idle (gives_end 0 d.0.rest _ _ c.read.new.buffer c.in-Ok.count c.if-count-eq0.true long (gives_none d.0.rest _ d.1) c.in-Ok.ensures.bytes))
+
+pub returns-in-Refused-drain-clause-in_time : goal.returns-in-Refused-drain-clause-in_time
+returns-in-Refused-drain-clause-in_time g c = λ xs is tells.
+    let d = c.loop-turn.invariant.fed xs is tells in
+    let some = c.if-count-eq0.false in
+    let mid = state c.loop-turn.decoder in
+    let new = state c.drain-in-loop-turn.new.decoder in
+    let f = c.finish-in-Refused-drain.result in
+    let refused = c.in-Refused-drain.ensures.refusal in
+    let idle = idle_refused f refused.0 (c.finish-in-Refused-drain.ensures.refused refused.0 refused.1) in
+    let long : length c.read.new.buffer ≡ 4096 = let a = c.read.auto.buffer in let b = c.loop-turn.invariant.long in omega arith in
+    let r = read_some _ _ d.0.rest c.read.new.buffer c.in-Ok.count d.1 c.in-Ok.ensures.bytes.0 c.in-Ok.ensures.bytes.1 in
+    let e = c.in-Refused-drain.ensures.drains (c.loop-turn.invariant.tells tells) in
+    let piece = take c.in-Ok.count c.read.new.buffer in
+    last_read g.S.Sink.after g.S.Sink.faulted c.args.turns c.loop-turn.turn _ _ (state c.args.decoder.now) mid new xs _ _ _ _ _ d (c.loop-turn.invariant.gives xs is) c.loop-turn.invariant.waits (outcome.Finished f) (λ fits. let before = c.loop-turn.invariant.counted (omega arith) in let one = c.in-Ok.ensures.reads in omega arith)
+    (let a = c.loop-turn-test.true in omega arith)
+    (feeds_then g.S.Sink.after mid mid new d.0.rest piece r.0 _ _ _ (feeds_none g.S.Sink.after mid d.0.rest _) r.2 (take e.0 piece) (drop e.0 piece) (sym (take-append-drop e.0 piece)) (λ gifts s es a. (e.1 gifts s es a).drains))
+    (rw idle (gives_more 0 d.0.rest _ _ c.read.new.buffer c.in-Ok.count (omega arith) c.in-Ok.ensures.bound long (gives_none d.0.rest _ d.1) c.in-Ok.ensures.bytes))
+
+pub returns-in-Fault-drain-clause-in_time : goal.returns-in-Fault-drain-clause-in_time
+returns-in-Fault-drain-clause-in_time g c = λ xs is tells.
+    let d = c.loop-turn.invariant.fed xs is tells in
+    let some = c.if-count-eq0.false in
+    let mid = state c.loop-turn.decoder in
+    let new = state c.drain-in-loop-turn.new.decoder in
+    let long : length c.read.new.buffer ≡ 4096 = let a = c.read.auto.buffer in let b = c.loop-turn.invariant.long in omega arith in
+    let r = read_some _ _ d.0.rest c.read.new.buffer c.in-Ok.count d.1 c.in-Ok.ensures.bytes.0 c.in-Ok.ensures.bytes.1 in
+    let e = c.in-Fault-drain.ensures.drains (c.loop-turn.invariant.tells tells) in
+    let piece = take c.in-Ok.count c.read.new.buffer in
+    let small : length piece ≤ 4096 = omega (arith, length-take-le c.in-Ok.count c.read.new.buffer c.in-Ok.ensures.bound, c.in-Ok.ensures.bound) in
+    last_read g.S.Sink.after g.S.Sink.faulted c.args.turns c.loop-turn.turn _ _ (state c.args.decoder.now) mid new xs _ _ _ _ _ d (c.loop-turn.invariant.gives xs is) c.loop-turn.invariant.waits outcome.SinkFault (λ fits. let before = c.loop-turn.invariant.counted (omega arith) in let one = c.in-Ok.ensures.reads in omega arith)
+    (let a = c.loop-turn-test.true in omega arith)
+    (feeds_into g.S.Sink.after mid mid new d.0.rest piece r.0 _ _ _ (feeds_none g.S.Sink.after mid d.0.rest _) r.2 (take e.0 piece) (drop e.0 piece) (sym (take-append-drop e.0 piece)) small _ r.1 g.S.Sink.faulted e.1)
+    (gives_more 0 d.0.rest _ _ c.read.new.buffer c.in-Ok.count (omega arith) c.in-Ok.ensures.bound long (gives_none d.0.rest _ d.1) c.in-Ok.ensures.bytes)
+
+-- what a sink passed through
+
+pub returns-in-Refused-drain-clause-also : goal.returns-in-Refused-drain-clause-also
+returns-in-Refused-drain-clause-also g c = passes_then g.S.Sink.also _ _ _ c.loop-turn.invariant.also c.in-Refused-drain.ensures.also
+
+pub returns-in-Fault-drain-clause-also : goal.returns-in-Fault-drain-clause-also
+returns-in-Fault-drain-clause-also g c = passes_then g.S.Sink.also _ _ _ c.loop-turn.invariant.also c.in-Fault-drain.ensures.also

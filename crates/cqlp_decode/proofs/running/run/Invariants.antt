@@ -1,8 +1,9 @@
 use Rattle.std.proofs.Common.{◌≡◌, ◌≤◌, List, ℕ, length, None, Some}
 use Rattle.cqlp_note.specs.declared.refusal.Refusal.{Refusal}
 use Rattle.cqlp_note.specs.Streams.{CountsUp}
+use Rattle.cqlp_decode.specs.declared.running.Outcome.TheVariants as outcome
 use Rattle.cqlp_decode.specs.Streams.{state}
-use Rattle.cqlp_decode.specs.Draining.{Feeds, InReads, HasAll}
+use Rattle.cqlp_decode.specs.Draining.{Feeds, InReads, HasAll, Passes, ReadsInTime}
 use Rattle.cqlp_decode.proofs.running.run.Given as goal
 
 -- what was read was used, and the sink has got its events
@@ -15,6 +16,9 @@ invariant-loop-turn g l = record {
   counted : CountsUp l.turn (g.R.Source.reads l.fn.reader) (g.R.Source.reads l.reader);
   gives : (xs : List ℕ) → g.R.Source.left l.fn.reader ≡ Some xs → InReads l.turn xs (g.R.Source.left l.reader);
   tells : g.S.Sink.tells l.fn.sink → g.S.Sink.tells l.sink;
+  also : Passes g.S.Sink.also l.fn.sink l.sink;
+  in_time : (xs : List ℕ) → g.R.Source.left l.fn.reader ≡ Some xs → g.S.Sink.tells l.fn.sink
+      → ReadsInTime g.S.Sink.after g.S.Sink.faulted l.fn.turns outcome.Turns (state l.fn.decoder) (state l.decoder) xs (g.R.Source.reads l.fn.reader) (g.R.Source.reads l.reader) (g.R.Source.left l.reader) (g.S.Sink.view l.fn.sink) (g.S.Sink.view l.sink);
   waits : (state l.decoder).refusal ≡ None;
   unrefused : (r : Refusal) → (state l.fn.decoder).refusal ≡ Some r → ⊥;
   fed : (xs : List ℕ) → g.R.Source.left l.fn.reader ≡ Some xs → g.S.Sink.tells l.fn.sink

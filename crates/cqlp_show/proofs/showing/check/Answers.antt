@@ -10,6 +10,7 @@ returns-in_default-clause-checks g c = λ xs left known err_known. (
   c.read_through-ending.ensures.failures,
   checks_fault c.read_through-ending.result.0 c.in_default.not-Finished _ _ _ _ (c.conclude-status.ensures.concludes err_known),
   c.read_through-ending.ensures.reads,
+  c.read_through-ending.ensures.in_time xs left known,
 )
 
 pub returns-in_default-ending_line-clause-checks : goal.returns-in_default-ending_line-clause-checks
@@ -22,6 +23,7 @@ returns-in_default-ending_line-clause-checks g c = λ xs left known err_known.
       c.read_through-ending.ensures.failures,
       checks_verdict c.read_through-ending.result.0 c.in-Finished.field-0 c.in-Finished.is _ _ _ _ c.status.ensures.value (c.in_default-ending_line.ensures reported),
       c.read_through-ending.ensures.reads,
+      c.read_through-ending.ensures.in_time xs left known,
     )
 
 pub returns-clause-checks : goal.returns-clause-checks
@@ -34,4 +36,5 @@ returns-clause-checks g c = λ xs left known err_known.
       c.read_through-ending.ensures.failures,
       checks_failed c.read_through-ending.result.0 c.in-Finished.field-0 c.in-Finished.is _ _ _ _ _ (c.in-Err.ensures reported) (c.conclude-status-2.ensures.concludes err_known),
       c.read_through-ending.ensures.reads,
+      c.read_through-ending.ensures.in_time xs left known,
     )

@@ -1,3 +1,4 @@
+use Rattle.std.proofs.Common.{inr}
 use Rattle.cqlp_show.proofs.Shows.{shows_by}
 use Rattle.cqlp_show.proofs.showing.write_text.Goals as goal
 
@@ -7,3 +8,6 @@ returns-clause-shows g c = λ xs left known.
 
 pub returns-clause-reads : goal.returns-clause-reads
 returns-clause-reads g c = rw c.ending_of.ensures c.render_buffered-outcome.ensures.reads
+
+pub returns-clause-in_time : goal.returns-clause-in_time
+returns-clause-in_time g c = λ xs left known. inr (_, c.in-Some.ensures.fresh, c.in-Some.ensures.rules, c.render_buffered-outcome.ensures.in_time xs left known c.in-Some.ensures.fresh)

@@ -1,6 +1,6 @@
 use Rattle.std.proofs.Common.{arith, refl, ◌∙◌}
 use Rattle.cqlp_text.proofs.Writing.{front_of}
-use Rattle.cqlp_text.proofs.Settled.{waits_alone}
+use Rattle.cqlp_text.proofs.Waiting.{waits_alone}
 use Rattle.cqlp_text.proofs.buffered.Buffered.restart.Goals as goal
 
 pub returns : goal.returns
