@@ -1,6 +1,7 @@
 pub mod Blocks
 pub mod Calendar
 pub mod CellTexts
+pub mod Numbers
 pub mod Pages
 pub mod Pairs
 pub mod Placed

@@ -22,63 +22,112 @@ pub(crate) fn fill_with_digits(number: u64, room: &mut [u8])
     }
 }
 
-/// Puts a number, as decimal digits, into a buffer, and answers how many there are.
-#[inline(never)]
+/// Puts a number, as decimal digits, into a buffer that has room for any, and answers how many there are.
+#[inline(always)]
 pub(crate) fn place_number(number: u64, buffer: &mut [u8], at: usize) -> usize
 {
-    if number < 10_000 {
-        place_short(number, buffer, at)
-    } else {
-        place_long(number, buffer, at)
+    write_to_front(number, &mut buffer[at..])
+}
+
+/// Puts a number, as decimal digits, to the front of bytes that have room for any, and answers how many there are.
+#[inline(always)]
+fn write_to_front(number: u64, bytes: &mut [u8]) -> usize
+{
+    match bytes.first_chunk_mut::<DECIMAL_ROOM>() {
+        Some(room) => write_number(number, room),
+        None => unreachable!(),
     }
 }
 
-/// Puts a number into a buffer, its last four digits behind those before them, and answers how many there are.
+/// Puts a number, as decimal digits, to the front of a room for any, and answers how many there are.
 #[inline(never)]
-fn place_long(number: u64, buffer: &mut [u8], at: usize) -> usize
+fn write_number(number: u64, room: &mut [u8; DECIMAL_ROOM]) -> usize
 {
     if number < 10_000 {
-        return place_short(number, buffer, at);
+        write_short(number, room)
+    } else {
+        write_long(number, room)
     }
-    let len = place_long(number / 10_000, buffer, at);
-    let last = number % 10_000;
-    place_pair(last / 100, buffer, at + len);
-    place_pair(last % 100, buffer, at + len + 2);
+}
+
+/// Puts a number to the front, its last four digits behind those before them, and answers how many there are.
+#[inline(never)]
+fn write_long(number: u64, room: &mut [u8; DECIMAL_ROOM]) -> usize
+{
+    if number < 100_000_000 {
+        return write_middle(number, room);
+    }
+    let len = write_long(number / 10_000, room);
+    write_four(number % 10_000, room, len);
     len + 4
 }
 
-/// Puts a number of at most four digits into a buffer, and answers how many there are.
+/// Puts a number of at most eight digits to the front, and answers how many there are.
 #[inline(always)]
-fn place_short(number: u64, buffer: &mut [u8], at: usize) -> usize
+fn write_middle(number: u64, room: &mut [u8; DECIMAL_ROOM]) -> usize
 {
-    if number < 100 {
-        return place_front(number, buffer, at);
+    if number < 10_000 {
+        return write_short(number, room);
     }
-    let len = place_front(number / 100, buffer, at);
-    place_pair(number % 100, buffer, at + len);
-    len + 2
+    let len = write_short(number / 10_000, room);
+    write_four(number % 10_000, room, len);
+    len + 4
 }
 
-/// Puts a number of at most two digits into a buffer, and answers how many there are.
+/// Puts a number of at most four digits to the front, and answers how many there are.
 #[inline(always)]
-fn place_front(number: u64, buffer: &mut [u8], at: usize) -> usize
+fn write_short(number: u64, room: &mut [u8; DECIMAL_ROOM]) -> usize
+{
+    if number < 100 {
+        return write_front(number, room);
+    }
+    if number < 1_000 {
+        return write_three(number, room);
+    }
+    write_four(number, room, 0);
+    4
+}
+
+/// Puts a number of at most two digits to the front, and answers how many there are.
+#[inline(always)]
+fn write_front(number: u64, room: &mut [u8; DECIMAL_ROOM]) -> usize
 {
     if number < 10 {
-        buffer[at] = b'0' + number as u8;
+        room[0] = b'0' + number as u8;
         return 1;
     }
-    place_pair(number, buffer, at);
+    let [tens, ones] = pair(number);
+    room[0] = tens;
+    room[1] = ones;
     2
 }
 
-/// Puts a number below 100, as two digits, into a buffer.
+/// Puts a number of three digits to the front, and answers how many these are.
 #[inline(always)]
-fn place_pair(number: u64, buffer: &mut [u8], at: usize)
+fn write_three(number: u64, room: &mut [u8; DECIMAL_ROOM]) -> usize
+{
+    let [tens, ones] = pair(number % 100);
+    room[0] = b'0' + (number / 100) as u8;
+    room[1] = tens;
+    room[2] = ones;
+    3
+}
+
+/// Puts a number below 10,000, as four digits, into a room.
+#[inline(always)]
+fn write_four(number: u64, room: &mut [u8; DECIMAL_ROOM], at: usize)
+{
+    let [thousands, hundreds] = pair(number / 100);
+    let [tens, ones] = pair(number % 100);
+    room[at..at + 4].copy_from_slice(&[thousands, hundreds, tens, ones]);
+}
+
+/// The two digits of a number below 100.
+#[inline(always)]
+fn pair(number: u64) -> [u8; 2]
 {
     let from = number as usize * 2;
-    let (tens, ones) = (PAIRS[from], PAIRS[from + 1]);
-    buffer[at] = tens;
-    buffer[at + 1] = ones;
+    [PAIRS[from], PAIRS[from + 1]]
 }
 
 /// Puts this many digits of a number, with leading zeros, into a buffer.
@@ -92,16 +141,23 @@ pub(crate) fn place_digits(number: u64, count: usize, buffer: &mut [u8], at: usi
 #[inline(always)]
 pub(crate) fn place(bytes: &[u8], buffer: &mut [u8], at: usize)
 {
+    copy_to_front(bytes, &mut buffer[at..]);
+}
+
+/// Puts bytes to the front of others.
+#[inline(always)]
+fn copy_to_front(bytes: &[u8], room: &mut [u8])
+{
     match bytes {
         [first, second] => {
-            buffer[at] = *first;
-            buffer[at + 1] = *second;
+            room[0] = *first;
+            room[1] = *second;
         }
         [first, second, third] => {
-            buffer[at] = *first;
-            buffer[at + 1] = *second;
-            buffer[at + 2] = *third;
+            room[0] = *first;
+            room[1] = *second;
+            room[2] = *third;
         }
-        _ => buffer[at..at + bytes.len()].copy_from_slice(bytes),
+        _ => room[..bytes.len()].copy_from_slice(bytes),
     }
 }
