@@ -12,18 +12,18 @@ use Rattle.cqlp_kind.specs.declared.kind.Kind.{Kind}
 use Rattle.cqlp_kind.specs.Types.{Types, NoMore, Type_and, how_many}
 use Rattle.cqlp_kind.specs.TypeStep.{TypeEvent, IsNode, IsField}
 use Rattle.cqlp_kind.specs.CellStep.{CellEvent, Leaf, Part as Piece}
+use Rattle.cqlp_kind.specs.Scalars.{ScalarValue, content_of}
 use Rattle.cqlp_type.specs.Trees.{trees_items, placed, item_size}
 use Rattle.cqlp_value.specs.Values.{Values, NoValue, Null_and, Empty_and, Scalar_and, Counted_and, Fields_and, values_items, scalar_items, part_items, in_parts}
-use Rattle.cqlp_kind.specs.Scalars.{ScalarValue, content_of}
+use Rattle.cqlp_grammar.specs.Events.{Event, Holds, End, type_event, cell_event}
 use Rattle.cqlp_message.proofs.Agreements.{MessageAgrees, of_test}
 use Rattle.cqlp_message.proofs.Formed.{message_of as message_agrees_of}
-use Rattle.cqlp_text.specs.CellText.{cell_text}
-use Rattle.cqlp_grammar.specs.Events.{Event, Holds, End, type_event, cell_event}
 use Rattle.cqlp_message.specs.FrameValues.{Octets, TableName, Spec, Metadata, Page, Message, Rows, FrameValue}
 use Rattle.cqlp_message.specs.Parts.{Part, Type_is, Cell_is, part_events, parts_events, part_size, parts_size}
 use Rattle.cqlp_message.specs.Bodies.{int, count, text, bytes, where_some, table_parts, spec_parts, metadata_parts, cell_types, row_parts, rows_parts, page_parts, message_parts}
 use Rattle.cqlp_message.specs.Agreement.{message_agrees, has_its_cells}
 use Rattle.cqlp_message.specs.Frames.{frame_parts, announced_parts, frame_size, Flat}
+use Rattle.cqlp_text.specs.CellText.{cell_text}
 use Rattle.cqlp_text.specs.PageText.{PagePlace, no_page, opening, closing, before, after, place_after_field, page_text, column_line, page_line}
 use Rattle.cqlp_tool_laws.specs.ValueText.{joined, items_text, value_texts, row_text, rows_text, column_lines, page_of_rows, message_text}
 use Rattle.cqlp_tool_laws.specs.Rows.{nesting, NestsWithin}

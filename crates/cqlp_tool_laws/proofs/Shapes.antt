@@ -4,12 +4,12 @@ use Rattle.std.specs.Prelude.{All, ◌^◌, not, nat_lt}
 use Rattle.std.specs.List.{flat_map, list_all}
 use Rattle.std.proofs.lemmas.Bool.Decides.{nat_tests}
 use Rattle.cqlp_note.specs.Limits.{Rules}
-use Rattle.cqlp_kind.specs.Types.{Types, NoMore, Type_and, first_types, how_many, followed_by, is_kind}
-use Rattle.cqlp_type.specs.Trees.{Trees, NoTree, Tree_and, types_in, trees_in}
-use Rattle.cqlp_value.specs.Values.{Values, NoValue, Null_and, Empty_and, Scalar_and, Counted_and, Fields_and, values_in, type_copies, has_fields, values_fit, ValuesSpell}
-use Rattle.cqlp_kind.specs.Scalars.{kind_of, scalar_fits}
-use Rattle.cqlp_cell.specs.Sizes.{is_counted}
 use Rattle.cqlp_note.specs.Heading.{has}
+use Rattle.cqlp_kind.specs.Types.{Types, NoMore, Type_and, first_types, how_many, followed_by, is_kind}
+use Rattle.cqlp_kind.specs.Scalars.{kind_of, scalar_fits}
+use Rattle.cqlp_type.specs.Trees.{Trees, NoTree, Tree_and, types_in, trees_in}
+use Rattle.cqlp_cell.specs.Sizes.{is_counted}
+use Rattle.cqlp_value.specs.Values.{Values, NoValue, Null_and, Empty_and, Scalar_and, Counted_and, Fields_and, values_in, type_copies, has_fields, values_fit, ValuesSpell}
 use Rattle.cqlp_value.proofs.ScalarsWritten.{both_true}
 use Rattle.cqlp_value.proofs.ValuesWritten.{is_the_kind}
 use Rattle.cqlp_message.proofs.Agreements.{SpecAgrees, ColumnsAgree, MetadataAgrees}

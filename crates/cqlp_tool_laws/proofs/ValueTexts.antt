@@ -1,6 +1,8 @@
 -- The text of the events of a value is its text.
 use Rattle.std.proofs.Common.{◌≡◌, ℕ, zero, suc, ◌+◌, ◌≤◌, ◌<◌, ◌==◌, ◌/◌, ◌%◌, Bool, true, false, ◌&&◌, if◌then◌else◌, List, [], ◌∷◌, ◌++◌, length, take, drop, slice_index, map, refl, sym, ap, ◌∙◌, subst, append_assoc, append-nil, codes, arith, nat_lt, nat_le}
 use Rattle.std.specs.List.{flat_map}
+use Rattle.std.proofs.lemmas.Bool.Decides.{nat_tests}
+use Rattle.std.proofs.lemmas.List.{map-append, take-append-drop}
 use Rattle.hex.specs.Hex.{encode_lower, encode_with, lower_digits}
 use Rattle.cqlp_note.specs.Limits.{Rules}
 use Rattle.cqlp_kind.specs.declared.kind.Kind.{Kind}
@@ -10,8 +12,6 @@ use Rattle.cqlp_kind.specs.Scalars.{ScalarValue, kind_of, content_of}
 use Rattle.cqlp_kind.specs.Scalars as scalar
 use Rattle.cqlp_kind.specs.CellStep.{CellEvent, Leaf, Enter, Leave, Part, is_opaque}
 use Rattle.cqlp_value.specs.Values.{Values, NoValue, Null_and, Empty_and, Scalar_and, Counted_and, Fields_and, values_in, values_size, type_copies, part_items, in_parts, scalar_items, values_items}
-use Rattle.std.proofs.lemmas.Bool.Decides.{nat_tests}
-use Rattle.std.proofs.lemmas.List.{map-append, take-append-drop}
 use Rattle.cqlp_value.proofs.ScalarsWritten.{both_true}
 use Rattle.cqlp_grammar.specs.Events.{Event, cell_event}
 use Rattle.cqlp_text.specs.declared.page_text.WrittenValue.{WrittenValue}

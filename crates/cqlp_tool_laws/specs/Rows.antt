@@ -1,9 +1,10 @@
 -- Laws of rows: what is written of pages is the text of the values in them.
-use Rattle.std.specs.Prelude.{◌≡◌, ◌≢◌, ℕ, ◌+◌, ◌≤◌, max, List, ◌++◌, length, Option, None, Ok, All, ◌⊎◌}
+use Rattle.std.specs.Prelude.{◌≡◌, ◌≢◌, ℕ, ◌+◌, ◌≤◌, ◌^◌, max, List, ◌++◌, length, Option, None, Ok, All, ◌⊎◌}
 use Rattle.cqlp_note.specs.declared.limits.Limits.{Limits}
 use Rattle.cqlp_note.specs.Limits.{Rules, first_bad, rules_of}
 use Rattle.cqlp_value.specs.Values.{Values, NoValue, Null_and, Empty_and, Scalar_and, Counted_and, Fields_and}
 use Rattle.cqlp_grammar.specs.declared.event.Finish.{Finish}
+use Rattle.cqlp_grammar.specs.declared.event.Finish.TheVariants as finish
 use Rattle.cqlp_message.specs.FrameValues.{Message, Rows, FrameValue}
 use Rattle.cqlp_message.specs.Frames.{AllSpell, Flat, FlatAll, IsWithin, unfit_of}
 use Rattle.cqlp_decode.specs.declared.running.Outcome.TheVariants as outcome
@@ -12,6 +13,8 @@ use Rattle.cqlp_decode.specs.Standing.{StreamState}
 use Rattle.cqlp_decode.specs.Streams.{AfterGifts}
 use Rattle.cqlp_laws.specs.Frames.{AllWithin, AllBeginInTime}
 use Rattle.cqlp_laws.specs.Untyped.{AreWholeFrames, NoneInUse}
+use Rattle.cqlp_text.specs.declared.ending.Ending.TheVariants as ending
+use Rattle.cqlp_text.specs.Endings.{ending_line}
 use Rattle.cqlp_text.specs.Outputs.{Output, with_text}
 use Rattle.cqlp_text.specs.PageText.{no_page, page_text}
 use Rattle.cqlp_show.specs.declared.text_form.TextForm.TheVariants as forms
@@ -75,12 +78,13 @@ ValuesAreRendered =
     → after ≡ with_text before (frames_text fs)
 
 -- `rows` over bytes that spell frames within its limits, where the outside granted all, or the status is not that of a fault,
--- wrote just the text of the values in their pages.
+-- wrote just the text of the values in their pages, and reported that the stream is whole.
 abbrev pub ValuesAreShown : Type 0
 ValuesAreShown =
     (limits : Limits) (turns : ℕ) (xs : List ℕ) (before : Streams) (status : ℕ) (after : Streams)
     (fs : List (FrameValue × ℕ))
-    → first_bad limits ≡ Ok tt → AllSpell fs xs → AllWithin (rules_of limits) fs → AllBeginInTime 0 fs
+    → first_bad limits ≡ Ok tt → AllSpell fs xs → AllWithin (rules_of limits) fs → length xs ≤ 2 ^ 63
     → IsGranted turns xs before after ⊎ (status ≢ 3)
     → ShowsBytes (forms.Pages no_page) limits turns xs before status after
-    → after.out ≡ with_text before.out (frames_text fs)
+    → (status ≡ 0) × (after.out ≡ with_text before.out (frames_text fs))
+    × (after.err ≡ with_text before.err (ending_line (ending.Finished (finish.Whole (length xs)))))

@@ -13,7 +13,7 @@ use Rattle.cqlp_text.specs.PageText.{opening, closing, column_line, page_line}
 abbrev pub joined : (between : List ℕ) → List (List ℕ) → List ℕ
 joined between texts = join_by (λ text. text) between texts
 
--- keys and values two by two
+-- keys and values, two by two
 abbrev pub entries : List (List ℕ) → List (List ℕ)
 entries (key ∷ value ∷ others) = (key ++ (codes ": " ++ value)) ∷ entries others
 entries texts = texts
@@ -23,33 +23,35 @@ abbrev pub items_text : Kind → List (List ℕ) → List ℕ
 items_text kind.Map texts = joined (codes ", ") (entries texts)
 items_text _ texts = joined (codes ", ") texts
 
--- the text of each of these values: of a list, a set, a map, a tuple or a user-defined type, its items in brackets
+-- a value of this kind with these items: a list, a set, a map, a tuple or a user-defined type
+abbrev pub bracketed : Kind → List (List ℕ) → List ℕ
+bracketed k items = opening k ++ (items_text k items ++ closing k)
+
+-- the text of each of these values
 abbrev pub value_texts : Values → List (List ℕ)
 value_texts NoValue = []
 value_texts (Null_and others) = codes "null" ∷ value_texts others
 value_texts (Empty_and others) = codes "empty" ∷ value_texts others
 value_texts (Scalar_and v others) = cell_text v ∷ value_texts others
-value_texts (Counted_and k count items others) =
-    (opening k ++ (items_text k (value_texts items) ++ closing k)) ∷ value_texts others
-value_texts (Fields_and k items others) =
-    (opening k ++ (items_text k (value_texts items) ++ closing k)) ∷ value_texts others
+value_texts (Counted_and k count items others) = bracketed k (value_texts items) ∷ value_texts others
+value_texts (Fields_and k items others) = bracketed k (value_texts items) ∷ value_texts others
 
--- a line of cells, each of which is one value; no cells have no line
+-- a line of cells, each of which is one value; of no cells there is no line
 abbrev pub row_text : List Values → List ℕ
 row_text [] = []
 row_text (cell ∷ cells) = joined (codes " | ") (flat_map value_texts (cell ∷ cells)) ++ codes "\n"
 
--- as many rows, each of as many cells as there are columns
+-- this many rows, of a cell for each column
 abbrev pub rows_text : (columns rows : ℕ) → List Values → List ℕ
 rows_text columns zero cells = []
 rows_text columns (suc rows) cells = row_text (take columns cells) ++ rows_text columns rows (drop columns cells)
 
--- the lines of the columns' names, where columns are described
+-- a line for each column that is described
 abbrev pub column_lines : Option (List Spec) → List ℕ
 column_lines None = []
 column_lines (Some specs) = flat_map (λ c. column_line c.name) specs
 
--- a page: its columns, how many columns and rows it has, and its rows
+-- a page: its columns, how many columns and rows there are, and the rows
 abbrev pub page_of_rows : Page → List ℕ
 page_of_rows p =
     column_lines p.meta.specs ++ (page_line p.meta.columns p.rows ++ rows_text p.meta.columns p.rows p.cells)
