@@ -2,3 +2,9 @@ mod CellRows
 mod PageRows
 mod OneText
 mod OneAnswer
+mod Shapes
+mod Nesting
+mod ValueTexts
+mod QuietFrames
+mod PageTexts
+mod RowTexts

@@ -1,14 +1,19 @@
 -- Pages with their texts.
 use Rattle.std.proofs.Common.{◌≡◌, ℕ, List, [], ◌∷◌, ◌++◌, pos, true, false, codes, refl}
 use Rattle.std.specs.Fmt.{digits}
+use Rattle.std.specs.Prelude.{Some, None}
+use Rattle.hex.specs.Hex.{encode_with}
 use Rattle.cqlp_note.specs.Field as value
 use Rattle.cqlp_note.specs.declared.field.Field.TheVariants as field
 use Rattle.cqlp_kind.specs.declared.kind.Kind.TheVariants as kind
 use Rattle.cqlp_kind.specs.CellStep as cell
 use Rattle.cqlp_kind.specs.Scalars as scalar
+use Rattle.cqlp_type.specs.Trees.{NoTree}
+use Rattle.cqlp_value.specs.Values.{Values, NoValue, Null_and, Empty_and, Scalar_and, Counted_and, Fields_and}
 use Rattle.cqlp_grammar.specs.Events.{Event, Holds, Cell_at, Leave, End}
+use Rattle.cqlp_message.specs.FrameValues.{Spec}
 use Rattle.cqlp_text.specs.PageText.{no_page, page_text}
-use Rattle.hex.specs.Hex.{encode_with}
+use Rattle.cqlp_tool_laws.specs.ValueText.{page_of_rows}
 
 -- a page of rows begins, whose columns have no names
 abbrev begins : (columns rows : ℕ) → List (ℕ × Event)
@@ -93,3 +98,26 @@ blob_in_parts = refl
 page_of_no_columns : page_text no_page (begins 0 2147483647 ++ (25, End 0) ∷ []) ≡ codes "page 0 columns 2147483647 rows\n"
 unfolding digits
 page_of_no_columns = refl
+
+-- ---- a page by its values
+
+abbrev described : (name : List ℕ) → Spec
+described name = record { table = None; name = name; tree = NoTree }
+
+abbrev map_in_tuple : Values
+map_in_tuple =
+    Fields_and kind.Tuple
+    (Counted_and kind.Map 2 (Scalar_and (scalar.Tinyint (pos 1)) (Scalar_and (scalar.Boolean true) (Scalar_and (scalar.Tinyint (pos 2)) (Null_and NoValue))))
+    (Counted_and kind.List 1 (Empty_and NoValue) (Counted_and kind.Set 0 NoValue NoValue)))
+    NoValue
+
+two_rows :
+    page_of_rows
+    (record {
+      meta = record { flags = pos 1; columns = 2; paging = None; table = None; specs = Some (described (codes "a") ∷ described (codes "b") ∷ []) };
+      rows = 2;
+      cells = map_in_tuple ∷ Scalar_and (scalar.Raw (7 ∷ [])) NoValue ∷ Null_and NoValue ∷ Empty_and NoValue ∷ [];
+    })
+    ≡ codes "column \"a\"\ncolumn \"b\"\npage 2 columns 2 rows\n({1: true, 2: null}, [empty], {}) | 0x07\nnull | empty\n"
+unfolding digits encode_with
+two_rows = refl

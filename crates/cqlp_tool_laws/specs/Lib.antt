@@ -1,2 +1,4 @@
 pub mod Text
 pub mod Tool
+pub mod ValueText
+pub mod Rows

@@ -1,5 +1,6 @@
 //! Laws of what is written of a stream, over what the calls of cqlp_text and cqlp_show promise. No code needs them.
 #![tactic(auto)]
 
+pub mod rows;
 pub mod text;
 pub mod tool;

@@ -1,0 +1,19 @@
+//! Laws of rows: what is written of pages is the text of the values in them.
+
+ghost use Rattle.cqlp_tool_laws.specs.Rows.{FrameIsItsValues, FramesAreTheirValues, NestingIsLimited};
+ghost use Rattle.cqlp_tool_laws.specs.Rows.{ValuesAreRendered, ValuesAreShown};
+
+/// The text of the events of a frame is that of the values in it, and the same holds of frames one after the other. It
+/// has room for 64 values in one another, and no limits allow more.
+pub fn rows_are_their_values()
+    ensures frame { FrameIsItsValues }
+    ensures frames { FramesAreTheirValues }
+    ensures nesting { NestingIsLimited }
+{}
+
+/// Of a stream of whole frames within the limits, the text of the values in their pages is written, and nothing else,
+/// unless a target or the reader failed, memory was wanting or the turns ran out.
+pub fn rows_write_their_values()
+    ensures rendered { ValuesAreRendered }
+    ensures shown { ValuesAreShown }
+{}
