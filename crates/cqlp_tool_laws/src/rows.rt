@@ -11,8 +11,9 @@ pub fn rows_are_their_values()
     ensures nesting { NestingIsLimited }
 {}
 
-/// Of a stream of whole frames within the limits, the text of the values in their pages is written, and nothing else,
-/// unless a target or the reader failed, memory was wanting or the turns ran out.
+/// Of a stream of whole frames within the limits, read with types, the text of the values in their pages is written, and
+/// nothing else, unless a target or the reader failed, memory was wanting or the turns ran out. The command reports that
+/// the stream is whole.
 pub fn rows_write_their_values()
     ensures rendered { ValuesAreRendered }
     ensures shown { ValuesAreShown }
