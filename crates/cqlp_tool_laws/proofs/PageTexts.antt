@@ -140,7 +140,7 @@ module _ (l : Rules) (some : 1 ≤ l.part) where
   none_left (Counted_and k n items vs) are = absurd are
   none_left (Fields_and k items vs) are = absurd are
 
-  one_text : (k : Kind) (inner : Types) (v : Values) → AreOf (Type_and k inner NoMore) v → (t : List ℕ) × (value_texts v ≡ t ∷ [])
+  pub one_text : (k : Kind) (inner : Types) (v : Values) → AreOf (Type_and k inner NoMore) v → (t : List ℕ) × (value_texts v ≡ t ∷ [])
   one_text k inner NoValue are = absurd are
   one_text k inner (Null_and vs) are = (_, ap (λ ts. codes "null" ∷ ts) (none_left vs are))
   one_text k inner (Empty_and vs) are = (_, ap (λ ts. codes "empty" ∷ ts) (none_left vs are))
@@ -181,7 +181,7 @@ module _ (l : Rules) (some : 1 ≤ l.part) where
     value_in_column at k inner (Counted_and j n items vs) more are = refl
     value_in_column at k inner (Fields_and j items vs) more are = refl
 
-  writes_cell : (columns before_it row column : ℕ) (k : Kind) (inner : Types) (v : Values) (t : List ℕ) → AreOf (Type_and k inner NoMore) v → nesting v ≤ 64 → value_texts v ≡ t ∷ []
+  pub writes_cell : (columns before_it row column : ℕ) (k : Kind) (inner : Types) (v : Values) (t : List ℕ) → AreOf (Type_and k inner NoMore) v → nesting v ≤ 64 → value_texts v ≡ t ∷ []
       → Writes (within_page columns before_it) (Cell_is row column k inner v ∷ []) (around l columns row column [] t) (within_page columns column)
   writes_cell columns before_it row column k inner v t are nests is = record {
     text = λ at more.

@@ -1,5 +1,5 @@
 -- What is written of frames is the text of the values in them.
-use Rattle.std.proofs.Common.{◌≡◌, ℕ, suc, zero, ◌+◌, ◌<◌, ◌≤◌, Bool, true, false, if◌then◌else◌, nat_le, List, [], ◌∷◌, ◌++◌, length, get_or, Ok, Err, Result, refl, ap, ◌∙◌, arith, ◌^◌, None, subst, append_assoc}
+use Rattle.std.proofs.Common.{◌≡◌, ℕ, suc, zero, ◌+◌, ◌<◌, ◌≤◌, Bool, true, false, if◌then◌else◌, nat_le, List, [], ◌∷◌, ◌++◌, length, get_or, Ok, Err, Result, refl, ap, ◌∙◌, arith, ◌^◌, None, subst, append_assoc, sym, append-nil}
 use Rattle.std.proofs.lemmas.Bool.Decides.{nat_tests}
 use Rattle.std.specs.Prelude.{nat_lt}
 use Rattle.std.proofs.lemmas.List.{length-append}
@@ -10,13 +10,14 @@ use Rattle.cqlp_note.specs.declared.limits.BadLimits.{BadLimits}
 use Rattle.cqlp_note.specs.declared.limits.BadLimits.TheVariants as bad
 use Rattle.cqlp_note.specs.Limits.{Rules, first_bad, is_in, rules_of}
 use Rattle.cqlp_note.specs.declared.refusal.Reason.TheVariants.{StreamTooLong}
+use Rattle.cqlp_kind.specs.Types.{NoMore, Type_and}
 use Rattle.cqlp_value.proofs.ScalarsWritten.{both_true}
 use Rattle.cqlp_grammar.specs.declared.event.Finish.{Finish}
 use Rattle.cqlp_grammar.specs.declared.event.Finish.TheVariants as finish
 use Rattle.cqlp_grammar.specs.Events.{Event, Frame, End}
 use Rattle.cqlp_message.specs.FrameValues.{Message, Rows, FrameValue}
 use Rattle.cqlp_message.specs.Frames.{AllSpell, FlatAll, frame_size, Flat, frame_parts, header_of}
-use Rattle.cqlp_message.specs.Parts.{parts_size, parts_events}
+use Rattle.cqlp_message.specs.Parts.{parts_size, parts_events, Cell_is, part_events}
 use Rattle.cqlp_message.proofs.Sizes.{frame_long}
 use Rattle.cqlp_decode.specs.Reading.{Verdict, Refused, Waits, Says, start}
 use Rattle.cqlp_decode.specs.Standing.{frame_after}
@@ -24,16 +25,16 @@ use Rattle.cqlp_decode.specs.Streams.{FinishesBy, frame_from, open_after, open_f
 use Rattle.cqlp_laws.specs.Frames.{AllWithin, verdict_between, AllBeginInTime}
 use Rattle.cqlp_laws.proofs.FramesRead.{spelled_is_read, spelled_with_gifts}
 use Rattle.cqlp_text.specs.Outputs.{with_text}
-use Rattle.cqlp_text.specs.PageText.{no_page}
+use Rattle.cqlp_text.specs.PageText.{no_page, page_text}
 use Rattle.cqlp_text.specs.declared.ending.Ending.TheVariants as ending
 use Rattle.cqlp_text.specs.Endings.{ending_line, finish_status}
 use Rattle.cqlp_show.specs.declared.text_form.TextForm.TheVariants as forms
 use Rattle.cqlp_tool_laws.specs.ValueText.{message_text}
-use Rattle.cqlp_tool_laws.specs.Rows.{NestsWithin, FrameIsItsValues, FramesAreTheirValues, NestingIsLimited, ValuesAreRendered, ValuesAreShown}
+use Rattle.cqlp_tool_laws.specs.Rows.{NestsWithin, FrameIsItsValues, FramesAreTheirValues, NestingIsLimited, ValuesAreRendered, ValuesAreShown, in_column, CellIsItsValue}
 use Rattle.cqlp_tool_laws.proofs.OneAnswer.{rendered_whole, shown_rightly}
-use Rattle.cqlp_tool_laws.proofs.Shapes.{fit_ready, spelled_ready}
+use Rattle.cqlp_tool_laws.proofs.Shapes.{fit_ready, spelled_ready, fit_are}
 use Rattle.cqlp_tool_laws.proofs.Nesting.{frame_nests}
-use Rattle.cqlp_tool_laws.proofs.PageTexts.{frame_then, frame_text}
+use Rattle.cqlp_tool_laws.proofs.PageTexts.{frame_then, frame_text, one_text, writes_cell}
 
 -- ---- limits
 
@@ -72,6 +73,16 @@ frames_nest l (f ∷ fs) bytes deep spelled within zero d lt =
 frames_nest l (f ∷ fs) bytes deep spelled within (suc k) d lt = frames_nest l fs spelled.back deep spelled.that within.2 k d (omega arith)
 
 -- ---- the text of events
+
+pub cell_is_its_value : CellIsItsValue
+cell_is_its_value l at columns last row column k inner v more some fits nests =
+    let are = fit_are (Type_and k inner NoMore) v fits in
+    let one = one_text l some k inner v are in (
+      one.0,
+      one.1,
+      ap (λ es. page_text (in_column columns last) (es ++ more)) (sym (append-nil (part_events l at (Cell_is row column k inner v))))
+          ∙ (writes_cell l some columns last row column k inner v one.0 are nests one.1).text at more,
+    )
 
 pub frame_is_its_values : FrameIsItsValues
 frame_is_its_values l at x f some fits nests = frame_text l some at x f (fit_ready f fits) nests

@@ -100,7 +100,7 @@ pub record IsReady (f : FrameValue) : Type 0 where
   pub shape : has_its_cells f.message ≡ true
   pub are : Each IsOf (frame_parts f)
 
-fit_are : (ts : Types) (vs : Values) → values_fit ts vs ≡ true → AreOf ts vs
+pub fit_are : (ts : Types) (vs : Values) → values_fit ts vs ≡ true → AreOf ts vs
 fit_are NoMore NoValue e = tt
 fit_are (Type_and k inner ts) NoValue e = absurd cc
 fit_are NoMore (Null_and vs) e = absurd cc

@@ -1,11 +1,14 @@
 -- Laws of rows: what is written of pages is the text of the values in them.
-use Rattle.std.specs.Prelude.{◌≡◌, ◌≢◌, ℕ, ◌+◌, ◌≤◌, ◌^◌, max, List, ◌++◌, length, Option, None, Ok, All, ◌⊎◌}
+use Rattle.std.specs.Prelude.{◌≡◌, ◌≢◌, ℕ, ◌+◌, ◌≤◌, ◌^◌, max, List, [], ◌∷◌, ◌++◌, length, Option, None, true, Ok, All, ◌⊎◌}
 use Rattle.cqlp_note.specs.declared.limits.Limits.{Limits}
 use Rattle.cqlp_note.specs.Limits.{Rules, first_bad, rules_of}
-use Rattle.cqlp_value.specs.Values.{Values, NoValue, Null_and, Empty_and, Scalar_and, Counted_and, Fields_and}
+use Rattle.cqlp_kind.specs.declared.kind.Kind.{Kind}
+use Rattle.cqlp_kind.specs.Types.{Types}
+use Rattle.cqlp_value.specs.Values.{Values, NoValue, Null_and, Empty_and, Scalar_and, Counted_and, Fields_and, value_fits}
 use Rattle.cqlp_grammar.specs.declared.event.Finish.{Finish}
 use Rattle.cqlp_grammar.specs.declared.event.Finish.TheVariants as finish
 use Rattle.cqlp_message.specs.FrameValues.{Message, Rows, FrameValue}
+use Rattle.cqlp_message.specs.Parts.{Cell_is, part_events}
 use Rattle.cqlp_message.specs.Frames.{AllSpell, Flat, FlatAll, IsWithin, unfit_of}
 use Rattle.cqlp_decode.specs.declared.running.Outcome.TheVariants as outcome
 use Rattle.cqlp_decode.specs.Reading.{Event, Gifts}
@@ -16,13 +19,13 @@ use Rattle.cqlp_laws.specs.Untyped.{AreWholeFrames, NoneInUse}
 use Rattle.cqlp_text.specs.declared.ending.Ending.TheVariants as ending
 use Rattle.cqlp_text.specs.Endings.{ending_line}
 use Rattle.cqlp_text.specs.Outputs.{Output, with_text}
-use Rattle.cqlp_text.specs.PageText.{no_page, page_text}
+use Rattle.cqlp_text.specs.PageText.{PagePlace, no_page, page_text, whole_value}
 use Rattle.cqlp_show.specs.declared.text_form.TextForm.TheVariants as forms
 use Rattle.cqlp_show.specs.Rendering.{RendersTo}
 use Rattle.cqlp_show.specs.Showing.{ShowsBytes}
 use Rattle.cqlp_show.specs.Streams.{Streams}
 use Rattle.cqlp_tool_laws.specs.Tool.{IsGranted}
-use Rattle.cqlp_tool_laws.specs.ValueText.{message_text, frames_text}
+use Rattle.cqlp_tool_laws.specs.ValueText.{value_texts, message_text, frames_text}
 
 -- how many values with items stand in one another, at most
 abbrev pub nesting : Values → ℕ
@@ -39,6 +42,20 @@ NestsWithin depth (Rows p) = All (λ v. nesting v ≤ depth) p.cells
 NestsWithin depth m = Unit {0}
 
 -- ---- the text of events
+
+-- the place in a page in this column, with no value open
+abbrev pub in_column : (columns column : ℕ) → PagePlace
+in_column columns column = record { is_page = true; columns = columns; column = column; open_values = [] }
+
+-- A value that fits has one text. Wherever a page is between two cells, the events of a cell add the text of its value, with
+-- what stands before and after a cell of its column.
+abbrev pub CellIsItsValue : Type 0
+CellIsItsValue =
+    (l : Rules) (at columns last row column : ℕ) (k : Kind) (inner : Types) (v : Values) (more : List (ℕ × Event))
+    → 1 ≤ l.part → value_fits k inner v ≡ true → nesting v ≤ 64
+    → (text : List ℕ) × (value_texts v ≡ text ∷ [])
+    × (page_text (in_column columns last) (part_events l at (Cell_is row column k inner v) ++ more)
+    ≡ whole_value (in_column columns column) column text ++ page_text (in_column columns column) more)
 
 -- The text of the events of a frame that nothing keeps from being spelled is that of its values, where those nest no deeper
 -- than 64 and a part of a long content has any byte.
