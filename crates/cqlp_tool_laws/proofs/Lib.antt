@@ -2,3 +2,4 @@ mod CellRows
 mod PageRows
 mod OneText
 mod OneAnswer
+mod LastRead

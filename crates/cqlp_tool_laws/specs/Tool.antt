@@ -1,8 +1,10 @@
 -- Laws of one answer: what is written of a stream, and how that ends, is decided by its bytes, but for what only the
 -- outside decides: whether a target or the reader fails, whether there is memory, and whether the turns run out.
-use Rattle.std.specs.Prelude.{◌≡◌, ◌≢◌, ℕ, ◌+◌, ◌-◌, ◌^◌, ◌<◌, List, ◌++◌, length, Option, None, ◌⊎◌}
+use Rattle.std.specs.Prelude.{◌≡◌, ◌≢◌, ℕ, ◌+◌, ◌-◌, ◌^◌, ◌<◌, ◌≤◌, ◌*◌, List, ◌++◌, length, Option, None, ◌⊎◌}
 use Rattle.cqlp_note.specs.declared.limits.Limits.{Limits}
 use Rattle.cqlp_note.specs.Limits.{rules_of}
+use Rattle.cqlp_note.specs.Streams.{CountsUp}
+use Rattle.std.specs.Io.KnownBytes.{append_known}
 use Rattle.cqlp_grammar.specs.declared.event.Finish.{Finish}
 use Rattle.cqlp_grammar.specs.declared.event.Finish.TheVariants as finish
 use Rattle.cqlp_decode.specs.declared.running.Outcome.{Outcome}
@@ -17,7 +19,8 @@ use Rattle.cqlp_tool_laws.specs.Text.{FailsAlike, GoesOnFromOther}
 use Rattle.cqlp_text.specs.Outputs.{Output, with_text, HasFailed}
 use Rattle.cqlp_show.specs.declared.text_form.TextForm.{TextForm}
 use Rattle.cqlp_show.specs.Forms.{text}
-use Rattle.cqlp_show.specs.Rendering.{RendersTo}
+use Rattle.cqlp_show.specs.declared.text_form.TextForm.TheVariants as forms
+use Rattle.cqlp_show.specs.Rendering.{GoesOn, RendersTo}
 use Rattle.cqlp_show.specs.Showing.{ShowsBytes, ChecksBytes}
 use Rattle.cqlp_show.specs.Streams.{Input, Streams}
 
@@ -79,6 +82,38 @@ IsCheckedRightly = (limits : Limits) (turns : ℕ) (xs : List ℕ) (before : Str
     → ChecksBytes limits turns xs before status after
     → (f : Finish) × EndsAs xs es v f × (status ≡ finish_status f)
     × (after.out ≡ with_text before.out (ending_line (ending.Finished f))) × (after.err ≡ before.err)
+
+-- ---- when it reads
+
+-- Of a command the last read. The bytes that the reads before it gave say these events and no refusal, and before it the
+-- output had been given all their text: that is a front of what it was given in the end.
+pub record LastReadAfterText (form : TextForm) (limits : Limits) (turns : ℕ) (xs : List ℕ) (was now : Input)
+    (before after : Output) : Type 0 where
+  pub earlier : ℕ
+  pub counted : CountsUp (earlier + 1) was.reads now.reads
+  pub within : earlier + 1 ≤ turns
+  pub first : List ℕ
+  pub rest : List ℕ
+  pub parts : xs ≡ first ++ rest
+  pub some : earlier ≤ length first
+  pub few : length first ≤ 4096 * earlier
+  pub events : List (ℕ × Event)
+  pub says : Says (rules_of limits) start first events Waits
+  pub given : GoesOn (append_known before.given (text form events)) after.given
+
+-- A command that showed a stream made no read, or its last one after that text.
+abbrev pub IsReadAfterText : TextForm → Type 0
+IsReadAfterText form = (limits : Limits) (turns : ℕ) (xs : List ℕ) (before : Streams) (status : ℕ) (after : Streams)
+    → ShowsBytes form limits turns xs before status after
+    → (after.input.reads ≡ before.input.reads)
+    ⊎ LastReadAfterText form limits turns xs before.input after.input before.out after.out
+
+-- One that checked a stream made no read, or its last one when the bytes read before were refused nothing.
+abbrev pub IsReadUnrefused : Type 0
+IsReadUnrefused = (limits : Limits) (turns : ℕ) (xs : List ℕ) (before : Streams) (status : ℕ) (after : Streams)
+    → (checks : ChecksBytes limits turns xs before status after)
+    → (after.input.reads ≡ before.input.reads)
+    ⊎ LastReadAfterText forms.Nothing limits turns xs before.input after.input before.out checks.1
 
 -- ---- one answer
 

@@ -3,7 +3,7 @@
 
 ghost use Rattle.cqlp_text.specs.PageText.{no_page};
 ghost use Rattle.cqlp_tool_laws.specs.Tool.{ChecksEndOnce, EndsOnce, IsCheckedOnce, IsCheckedRightly, IsRenderedOnce, IsRenderedWhole};
-ghost use Rattle.cqlp_tool_laws.specs.Tool.{IsShownOnce, IsShownRightly};
+ghost use Rattle.cqlp_tool_laws.specs.Tool.{IsReadAfterText, IsReadUnrefused, IsShownOnce, IsShownRightly};
 ghost use Rattle.cqlp_show.specs.declared.text_form.TextForm.TheVariants as forms;
 
 /// Finished, all lines of the stream were written, and its end is reported; and two runs that end alike wrote the same.
@@ -40,4 +40,12 @@ pub fn one_answer_of_check()
     ensures right { IsCheckedRightly }
     ensures ends { ChecksEndOnce }
     ensures once { IsCheckedOnce }
+{}
+
+/// A command makes its last read only after the text of all events of the bytes read before was given to the output, and
+/// where those are refused nothing. So none follows a refusal, nor a write fault, at which some of that text is missing.
+pub fn reads_after_text()
+    ensures show { IsReadAfterText forms.Lines }
+    ensures rows { IsReadAfterText (forms.Pages no_page) }
+    ensures check { IsReadUnrefused }
 {}
