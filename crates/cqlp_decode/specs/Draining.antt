@@ -178,6 +178,7 @@ module _ {V : Type 0} (f : V → ℕ → Event → V) where
       pub ran : RunsTo earlier outcome.Turns old mid xs (Some rest) before seen
       pub gave : InReads earlier xs (Some rest)
       pub free : mid.refusal ≡ None
+      pub rules : mid.rules ≡ old.rules
       pub onward : GoesOnTo o mid new rest left seen after
       pub gives : InReads (1 - idle_reads o) rest left
 

@@ -43,15 +43,16 @@ module _ (form : TextForm) (turns : ℕ) (old : StreamState) (xs : List ℕ) (wa
     wrote = r.wrote;
     gave = r.gave;
     free = r.free;
+    rules = r.rules;
     front = goes_then r.sent.given given given' r.front goes;
     last = (r.last.0, r.last.1, subst (λ (l : Option (List ℕ)). InReads r.last.0 r.rest l) (sym here) r.last.2);
   })
 
 -- One more read, when all text so far was passed on.
 module _ (turns turn : ℕ) (old mid new : StreamState) (xs : List ℕ) (was now then : ℕ) (first before before' after : Rendering) (at_first left left' given : Option (List ℕ)) where
-  pub more_in_time : (o : Outcome) (ran : RunsTo with_event FallsShortAtEvent turn outcome.Turns old mid xs left first before) → at_first ≡ Some xs → MakesReads turn outcome.Turns was now at_first left → mid.refusal ≡ None → turn + 1 ≤ turns → LastRead with_event FallsShortAtEvent 1 o mid new ran.0.rest now then left' before' after → GoesOn before.output.given given
+  pub more_in_time : (o : Outcome) (ran : RunsTo with_event FallsShortAtEvent turn outcome.Turns old mid xs left first before) → at_first ≡ Some xs → MakesReads turn outcome.Turns was now at_first left → mid.refusal ≡ None → mid.rules ≡ old.rules → turn + 1 ≤ turns → LastRead with_event FallsShortAtEvent 1 o mid new ran.0.rest now then left' before' after → GoesOn before.output.given given
       → ReadsOnlyAfterText first.form turns old xs was then left' first.output given
-  more_in_time o ran is reads waits more last goes =
+  more_in_time o ran is reads waits rules more last goes =
       let all : reads.giving ≡ turn = reads.all refl in
       let within = last.within in
       let zero : last.earlier ≡ 0 = omega arith in
@@ -66,6 +67,7 @@ module _ (turns turn : ℕ) (old mid new : StreamState) (xs : List ℕ) (was now
         wrote = (before.form, (ran.0, refl, ran.2, has_all_still with_event old mid xs left (Some ran.0.rest) first before ran.0 ran.1 ran.3));
         gave = subst (λ (n : ℕ). InReads n xs (Some ran.0.rest)) all (subst (λ (l : Option (List ℕ)). InReads reads.giving xs l) ran.1 (reads.gives xs is));
         free = waits;
+        rules = rules;
         front = goes;
         last = (1 - idle_reads o, omega arith, subst (λ (z : List ℕ). InReads (1 - idle_reads o) z left') same last.gives);
       })
@@ -107,6 +109,7 @@ in_time_at_once turns o old new xs was now left before after fresh (inr l) =
       wrote = (l.seen.form, l.ran);
       gave = l.gave;
       free = l.free;
+      rules = l.rules;
       front = onward_goes l.mid new l.rest left l.seen after ([] ++ l.ran.0.bytes) ([] ++ w.more) w.stands o l.onward;
       last = (1 - idle_reads o, omega arith, l.gives);
     })

@@ -84,6 +84,7 @@ pub record ReadsAfterText (form : TextForm) (turns : ℕ) (old : StreamState) (x
   pub wrote : RendersTo form earlier outcome.Turns old mid xs (Some rest) before sent
   pub gave : InReads earlier xs (Some rest)
   pub free : mid.refusal ≡ None
+  pub rules : mid.rules ≡ old.rules
   pub front : GoesOn sent.given given
   pub last : (giving : ℕ) × (giving ≤ 1) × InReads giving rest left
 

@@ -80,7 +80,7 @@ abbrev pub ReadsNew : TextForm → Limits → (turns : ℕ) → (xs : List ℕ) 
     → Type 0
 ReadsNew form limits turns xs old new before after =
     (new ≡ old)
-    ⊎ ((start : StreamState) × After start [] [] × (start.rules ≡ rules_of limits)
+    ⊎ ((start : StreamState) × After start [] [] × (start.refusal ≡ None) × (start.rules ≡ rules_of limits)
     × ReadsOnlyAfterText form turns start xs old.reads new.reads new.left before after.given)
 
 -- The line of the ending was written, and the status is its own; or the target failed within it, and the status is

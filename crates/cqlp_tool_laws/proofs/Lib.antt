@@ -8,3 +8,4 @@ mod ValueTexts
 mod QuietFrames
 mod PageTexts
 mod RowTexts
+mod LastRead

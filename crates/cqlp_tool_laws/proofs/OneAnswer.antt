@@ -1,11 +1,12 @@
 -- One text and one verdict of a stream.
-use Rattle.std.proofs.Common.{◌≡◌, ◌≢◌, ℕ, List, [], ◌∷◌, ◌++◌, length, Option, Some, None, ◌⊎◌, refl, sym, ap, ◌∙◌, inl, inr, subst, append_assoc, append-nil, arith}
+use Rattle.std.proofs.Common.{◌≡◌, ◌≢◌, ℕ, true, List, [], ◌∷◌, ◌++◌, length, Option, Some, None, ◌⊎◌, refl, sym, ap, ◌∙◌, inl, inr, subst, append_assoc, append-nil, arith}
 use Rattle.std.proofs.lemmas.List.{append_cancel_left, append_cancel_right, length-append}
 use Rattle.std.proofs.lemmas.Bool.{cases_lt}
 use Rattle.std.specs.Io.KnownBytes.{append_known}
 use Rattle.cqlp_note.specs.declared.limits.Limits.{Limits}
 use Rattle.cqlp_note.specs.declared.refusal.Refusal.{Refusal}
 use Rattle.cqlp_note.specs.Limits.{Rules, rules_of}
+use Rattle.cqlp_note.specs.Streams.{counted}
 use Rattle.cqlp_note.proofs.Runs.{runs_stay, runs_compare}
 use Rattle.cqlp_grammar.specs.declared.event.Finish.{Finish}
 use Rattle.cqlp_grammar.specs.declared.event.Finish.TheVariants as finish
@@ -27,9 +28,9 @@ use Rattle.cqlp_show.specs.declared.text_form.TextForm.{TextForm}
 use Rattle.cqlp_show.specs.declared.text_form.TextForm.TheVariants as forms
 use Rattle.cqlp_show.specs.Forms.{text, form_after_all}
 use Rattle.cqlp_show.specs.Rendering.{RendersFront}
-use Rattle.cqlp_show.specs.Showing.{ShowsTo, CountsReads, Concludes, ConcludesCheck}
-use Rattle.cqlp_tool_laws.specs.Tool.{EndsAs, EndsAlike, EndAlike, IsGranted, IsOneOutput, IsRenderedOnceAfter, IsRenderedWholeAfter, IsShownRightly, IsShownOnce, IsCheckedRightly, IsCheckedOnce}
-use Rattle.cqlp_show.specs.Streams.{Streams}
+use Rattle.cqlp_show.specs.Showing.{ShowsTo, CountsReads, Concludes, ConcludesCheck, ReadsBy}
+use Rattle.cqlp_tool_laws.specs.Tool.{EndsAs, EndsAlike, EndAlike, EndsOnce, ChecksEndOnce, HasTime, IsServedAlike, IsGranted, IsOneOutput, IsRenderedOnceAfter, IsRenderedWholeAfter, IsShownRightly, IsShownOnce, IsCheckedRightly, IsCheckedOnce}
+use Rattle.cqlp_show.specs.Streams.{Input, Streams}
 use Rattle.cqlp_show.proofs.Renders.{known_nothing, text-append, texts_to, Renders, RendersAll, TextsTo}
 use Rattle.cqlp_show.proofs.Shows.{part_is_front}
 
@@ -189,17 +190,19 @@ module _ (gifts : Gifts) where
         let w' = p'.events gifts s es a' in
         let r = reads_all new p.bytes p.rest (es ++ w.more) rules p.parts w.stands in
         let r' = reads_all new' p'.bytes p'.rest (es ++ w'.more) rules' p'.parts w'.stands in
-        let same : after'.failures ≡ after.failures = w'.failures ∙ sym w.failures in
+        let lost = w.short.lost ∷ w.short.later in
+        let lost' = w'.short.lost ∷ w'.short.later in
+        let same : after'.failures ≡ after.failures = w'.short.failures ∙ sym w.short.failures in
         inr (
-          w.failures,
-          w'.failures,
+          w.short.failures,
+          w'.short.failures,
           elim (cases_lt (length (es ++ w'.more)) (length (es ++ w.more))) [
             | inl lt ↦
                 let c = runs_compare (step l) (start_with gifts) r'.0 r.0 (s ++ xs) r'.1 r.1 (es ++ w'.more) (es ++ w.more) r'.2 r.2 (omega arith) in
-                elim (more_text after'.given after.given after'.failures after.failures w'.lost w.lost w'.more w.more c.0 c.1 w'.front w.front (sym same)) [ inl m ↦ inr m | inr m ↦ inl m ]
+                elim (more_text after'.given after.given after'.failures after.failures lost' lost w'.more w.more c.0 c.1 w'.short.front w.short.front (sym same)) [ inl m ↦ inr m | inr m ↦ inl m ]
             | inr le ↦
                 let c = runs_compare (step l) (start_with gifts) r.0 r'.0 (s ++ xs) r.1 r'.1 (es ++ w.more) (es ++ w'.more) r.2 r'.2 le in
-                more_text after.given after'.given after.failures after'.failures w.lost w'.lost w.more w'.more c.0 c.1 w.front w'.front same
+                more_text after.given after'.given after.failures after'.failures lost lost' w.more w'.more c.0 c.1 w.short.front w'.short.front same
           ],
         )
 
@@ -292,20 +295,30 @@ three_of : (e : Ending) (before after : Output) (status : ℕ) → status_of e �
 three_of e before after status three (inl a) = a.0 ∙ three
 three_of e before after status three (inr a) = a.0
 
+-- the turns run out only where so many reads were made, and each gave some byte
+no_time : (form : TextForm) (limits : Limits) (turns : ℕ) (xs : List ℕ) (was now : Input) (before after : Output) → HasTime turns xs was now → ShowsTo form limits turns ending.TooManyTurns xs now.left before after → ReadsBy turns ending.TooManyTurns was now → ⊥
+no_time form limits turns xs was now before after (inl few) shows reads =
+    let ran = texts_to form turns outcome.Turns shows.old shows.new xs now.left before after shows.renders in
+    let d = ran.0 in
+    absurd (omega (arith, few, ran.2, ap length d.parts, length-append d.bytes d.rest))
+no_time form limits turns xs was now before after (inr fewer) shows reads =
+    let all = reads.all refl in
+    let fits = fewer.0 in
+    let less = fewer.1 in
+    let counted = reads.counted (omega arith) in
+    absurd (omega arith)
+
 module _ (form : TextForm) (limits : Limits) (turns : ℕ) (xs : List ℕ) (before : Streams) (status : ℕ) (after : Streams) where
-  no_fault : (e : Ending) → status_of e ≡ 3 → ShowsTo form limits turns e xs after.input.left before.out after.out → CountsReads e before.input.failures after.input.failures → Concludes e before.err status after.err → IsGranted turns xs before after ⊎ (status ≢ 3) → ⊥
-  no_fault e three shows counts ends (inr not) = not (three_of e before.err after.err status three ends)
-  no_fault (ending.Finished f) three shows counts ends (inl g) = no_finish f three
-  no_fault ending.ReadFault three shows counts ends (inl g) = counts_up before.input.failures g.reader.0 (sym counts ∙ g.reader.1)
-  no_fault ending.WriteFault three shows counts ends (inl g) = counts_up before.out.failures g.output.0 (sym (shows.renders.events [] [] [] shows.fresh).failures ∙ g.output.1)
-  no_fault ending.NoMemory three shows counts (inl reported) (inl g) = g.memory reported.1
-  no_fault ending.NoMemory three shows counts (inr reported) (inl g) = counts_up before.err.failures g.error_output.0 (sym reported.1.failures ∙ g.error_output.1)
-  no_fault ending.TooManyTurns three shows counts ends (inl g) =
-      let ran = texts_to form turns outcome.Turns shows.old shows.new xs after.input.left before.out after.out shows.renders in
-      let d = ran.0 in
-      absurd (omega (arith, g.time, ran.2, ap length d.parts, length-append d.bytes d.rest))
-  no_fault ending.BadReply three shows counts ends (inl g) = shows
-  no_fault ending.SocketFault three shows counts ends (inl g) = shows
+  no_fault : (e : Ending) → status_of e ≡ 3 → ShowsTo form limits turns e xs after.input.left before.out after.out → CountsReads e before.input.failures after.input.failures → Concludes e before.err status after.err → ReadsBy turns e before.input after.input → IsGranted turns xs before after ⊎ (status ≢ 3) → ⊥
+  no_fault e three shows counts ends reads (inr not) = not (three_of e before.err after.err status three ends)
+  no_fault (ending.Finished f) three shows counts ends reads (inl g) = no_finish f three
+  no_fault ending.ReadFault three shows counts ends reads (inl g) = counts_up before.input.failures g.reader.0 (sym counts ∙ g.reader.1)
+  no_fault ending.WriteFault three shows counts ends reads (inl g) = counts_up before.out.failures g.output.0 (sym (shows.renders.events [] [] [] shows.fresh).short.failures ∙ g.output.1)
+  no_fault ending.NoMemory three shows counts (inl reported) reads (inl g) = g.memory reported.1
+  no_fault ending.NoMemory three shows counts (inr reported) reads (inl g) = counts_up before.err.failures g.error_output.0 (sym reported.1.failures ∙ g.error_output.1)
+  no_fault ending.TooManyTurns three shows counts ends reads (inl g) = no_time form limits turns xs before.input after.input before.out after.out g.time shows reads
+  no_fault ending.BadReply three shows counts ends reads (inl g) = shows
+  no_fault ending.SocketFault three shows counts ends reads (inl g) = shows
 
   -- a verdict line that fails is the error output's fault
   told_right : (f : Finish) → Concludes (ending.Finished f) before.err status after.err → IsGranted turns xs before after ⊎ (status ≢ 3) → (status ≡ finish_status f) × (after.err ≡ with_text before.err (ending_line (ending.Finished f)))
@@ -314,21 +327,21 @@ module _ (form : TextForm) (limits : Limits) (turns : ℕ) (xs : List ℕ) (befo
   told_right f (inr reported) (inr not) = absurd (not reported.0)
 
   module _ (es : List (ℕ × Event)) (v : Verdict) (says : Says (rules_of limits) start xs es v) (granted : IsGranted turns xs before after ⊎ (status ≢ 3)) where
-    pub shown_right : (e : Ending) → ShowsTo form limits turns e xs after.input.left before.out after.out → CountsReads e before.input.failures after.input.failures → Concludes e before.err status after.err
+    pub shown_right : (e : Ending) → ShowsTo form limits turns e xs after.input.left before.out after.out → CountsReads e before.input.failures after.input.failures → Concludes e before.err status after.err → ReadsBy turns e before.input after.input
         → (f : Finish) × EndsAs xs es v f × (status ≡ finish_status f) × (after.out ≡ with_text before.out (text form es)) × (after.err ≡ with_text before.err (ending_line (ending.Finished f)))
-    shown_right (ending.Finished f) shows counts ends =
+    shown_right (ending.Finished f) shows counts ends reads =
         let whole = whole_by [] form turns f shows.old shows.new xs after.input.left before.out after.out (texts_to form turns (outcome.Finished f) shows.old shows.new xs after.input.left before.out after.out shows.renders) (rules_of limits) [] [] shows.fresh shows.unrefused (shows.same_rules ∙ shows.rules) es v says in
         let reported = told_right f ends granted in
         (f, whole.1, reported.0, whole.0, reported.1)
-    shown_right ending.ReadFault shows counts ends = absurd (no_fault ending.ReadFault refl shows counts ends granted)
-    shown_right ending.WriteFault shows counts ends = absurd (no_fault ending.WriteFault refl shows counts ends granted)
-    shown_right ending.NoMemory shows counts ends = absurd (no_fault ending.NoMemory refl shows counts ends granted)
-    shown_right ending.TooManyTurns shows counts ends = absurd (no_fault ending.TooManyTurns refl shows counts ends granted)
-    shown_right ending.BadReply shows counts ends = absurd shows
-    shown_right ending.SocketFault shows counts ends = absurd shows
+    shown_right ending.ReadFault shows counts ends reads = absurd (no_fault ending.ReadFault refl shows counts ends reads granted)
+    shown_right ending.WriteFault shows counts ends reads = absurd (no_fault ending.WriteFault refl shows counts ends reads granted)
+    shown_right ending.NoMemory shows counts ends reads = absurd (no_fault ending.NoMemory refl shows counts ends reads granted)
+    shown_right ending.TooManyTurns shows counts ends reads = absurd (no_fault ending.TooManyTurns refl shows counts ends reads granted)
+    shown_right ending.BadReply shows counts ends reads = absurd shows
+    shown_right ending.SocketFault shows counts ends reads = absurd shows
 
 pub shown_rightly : (form : TextForm) → IsShownRightly form
-shown_rightly form limits turns xs before status after es v says granted a = shown_right form limits turns xs before status after es v says granted a.0 a.1 a.2 a.3
+shown_rightly form limits turns xs before status after es v says granted a = shown_right form limits turns xs before status after es v says granted a.0 a.1 a.2 a.3 a.4
 
 module _ (limits : Limits) (turns : ℕ) (xs : List ℕ) (before : Streams) (status : ℕ) (after : Streams) (es : List (ℕ × Event)) (v : Verdict) (says : Says (rules_of limits) start xs es v) where
   verdict_right : (f : Finish) → EndsAs xs es v f → ConcludesCheck (ending.Finished f) before.out before.err status after.out after.err → IsGranted turns xs before after ⊎ (status ≢ 3)
@@ -337,21 +350,101 @@ module _ (limits : Limits) (turns : ℕ) (xs : List ℕ) (before : Streams) (sta
   verdict_right f is (inr reported) (inl g) = absurd (counts_up before.out.failures g.output.0 (sym reported.0.failures ∙ g.output.1))
   verdict_right f is (inr reported) (inr not) = absurd (not (three_of ending.WriteFault before.err after.err status refl reported.1))
 
-  fault_right : (read : Output) (e : Ending) → status_of e ≡ 3 → ShowsTo forms.Nothing limits turns e xs after.input.left before.out read → CountsReads e before.input.failures after.input.failures → (after.out ≡ read) × Concludes e before.err status after.err → IsGranted turns xs before after ⊎ (status ≢ 3) → ⊥
-  fault_right read e three shows counts ends granted =
-      no_fault forms.Nothing limits turns xs before status (record after { out = read }) e three shows counts ends.1 (subst (λ (o : Output). IsGranted turns xs before (record after { out = o }) ⊎ (status ≢ 3)) ends.0 granted)
+  fault_right : (read : Output) (e : Ending) → status_of e ≡ 3 → ShowsTo forms.Nothing limits turns e xs after.input.left before.out read → CountsReads e before.input.failures after.input.failures → (after.out ≡ read) × Concludes e before.err status after.err → ReadsBy turns e before.input after.input → IsGranted turns xs before after ⊎ (status ≢ 3) → ⊥
+  fault_right read e three shows counts ends reads granted =
+      no_fault forms.Nothing limits turns xs before status (record after { out = read }) e three shows counts ends.1 reads (subst (λ (o : Output). IsGranted turns xs before (record after { out = o }) ⊎ (status ≢ 3)) ends.0 granted)
 
-  pub checked_right : (read : Output) (e : Ending) → ShowsTo forms.Nothing limits turns e xs after.input.left before.out read → CountsReads e before.input.failures after.input.failures → ConcludesCheck e read before.err status after.out after.err → IsGranted turns xs before after ⊎ (status ≢ 3)
+  pub checked_right : (read : Output) (e : Ending) → ShowsTo forms.Nothing limits turns e xs after.input.left before.out read → CountsReads e before.input.failures after.input.failures → ConcludesCheck e read before.err status after.out after.err → ReadsBy turns e before.input after.input → IsGranted turns xs before after ⊎ (status ≢ 3)
       → (f : Finish) × EndsAs xs es v f × (status ≡ finish_status f) × (after.out ≡ with_text before.out (ending_line (ending.Finished f))) × (after.err ≡ before.err)
-  checked_right read (ending.Finished f) shows counts ends granted =
+  checked_right read (ending.Finished f) shows counts ends reads granted =
       let whole = whole_by [] forms.Nothing turns f shows.old shows.new xs after.input.left before.out read (texts_to forms.Nothing turns (outcome.Finished f) shows.old shows.new xs after.input.left before.out read shows.renders) (rules_of limits) [] [] shows.fresh shows.unrefused (shows.same_rules ∙ shows.rules) es v says in
       verdict_right f whole.1 (subst (λ (o : Output). ConcludesCheck (ending.Finished f) o before.err status after.out after.err) (nothing_written limits turns f xs after.input.left before.out read shows) ends) granted
-  checked_right read ending.ReadFault shows counts ends granted = absurd (fault_right read ending.ReadFault refl shows counts ends granted)
-  checked_right read ending.WriteFault shows counts ends granted = absurd (fault_right read ending.WriteFault refl shows counts ends granted)
-  checked_right read ending.NoMemory shows counts ends granted = absurd (fault_right read ending.NoMemory refl shows counts ends granted)
-  checked_right read ending.TooManyTurns shows counts ends granted = absurd (fault_right read ending.TooManyTurns refl shows counts ends granted)
-  checked_right read ending.BadReply shows counts ends granted = absurd shows
-  checked_right read ending.SocketFault shows counts ends granted = absurd shows
+  checked_right read ending.ReadFault shows counts ends reads granted = absurd (fault_right read ending.ReadFault refl shows counts ends reads granted)
+  checked_right read ending.WriteFault shows counts ends reads granted = absurd (fault_right read ending.WriteFault refl shows counts ends reads granted)
+  checked_right read ending.NoMemory shows counts ends reads granted = absurd (fault_right read ending.NoMemory refl shows counts ends reads granted)
+  checked_right read ending.TooManyTurns shows counts ends reads granted = absurd (fault_right read ending.TooManyTurns refl shows counts ends reads granted)
+  checked_right read ending.BadReply shows counts ends reads granted = absurd shows
+  checked_right read ending.SocketFault shows counts ends reads granted = absurd shows
 
 pub checked_rightly : IsCheckedRightly
-checked_rightly limits turns xs before status after es v says granted a = checked_right limits turns xs before status after es v says a.1 a.0 a.2 a.3 a.4 granted
+checked_rightly limits turns xs before status after es v says granted a = checked_right limits turns xs before status after es v says a.1 a.0 a.2 a.3 a.4 a.5 granted
+
+-- ---- two commands to which the outside did the same
+
+module _ (form : TextForm) (limits : Limits) (turns : ℕ) (xs : List ℕ) (was input input' : Input) (before out out' : Output) where
+  -- but for a write fault, no call of the output failed
+  no_write_failed : (e : Ending) → e ≢ ending.WriteFault → (left : Option (List ℕ)) (after : Output) → ShowsTo form limits turns e xs left before after → after.failures ≡ before.failures
+  no_write_failed (ending.Finished f) sound left after shows = ap (λ o. o.failures) ((texts_to form turns (outcome.Finished f) shows.old shows.new xs left before after shows.renders).0.events [] [] [] shows.fresh).written
+  no_write_failed ending.ReadFault sound left after shows = ap (λ o. o.failures) ((texts_to form turns outcome.ReadFault shows.old shows.new xs left before after shows.renders).0.events [] [] [] shows.fresh).written
+  no_write_failed ending.TooManyTurns sound left after shows = ap (λ o. o.failures) ((texts_to form turns outcome.Turns shows.old shows.new xs left before after shows.renders).0.events [] [] [] shows.fresh).written
+  no_write_failed ending.WriteFault sound left after shows = absurd (sound refl)
+  no_write_failed ending.NoMemory sound left after shows = ap (λ o. o.failures) shows
+  no_write_failed ending.BadReply sound left after shows = absurd shows
+  no_write_failed ending.SocketFault sound left after shows = absurd shows
+
+  write_failed : (left : Option (List ℕ)) (after : Output) → ShowsTo form limits turns ending.WriteFault xs left before after → after.failures ≡ counted true before.failures
+  write_failed left after shows = (shows.renders.events [] [] [] shows.fresh).short.failures
+
+  module _ (alike : FailsAlike before out out') where
+    only_second : (e : Ending) → e ≢ ending.WriteFault → ShowsTo form limits turns e xs input.left before out → ShowsTo form limits turns ending.WriteFault xs input'.left before out' → ⊥
+    only_second e sound shows shows' = counts_up before.failures alike.0 (sym (write_failed input'.left out' shows') ∙ alike.1 ∙ no_write_failed e sound input.left out shows)
+
+    only_first : (e : Ending) → e ≢ ending.WriteFault → ShowsTo form limits turns ending.WriteFault xs input.left before out → ShowsTo form limits turns e xs input'.left before out' → ⊥
+    only_first e sound shows shows' = counts_up before.failures alike.0 (sym (write_failed input.left out shows) ∙ sym alike.1 ∙ no_write_failed e sound input'.left out' shows')
+
+  ends_alike : (e e' : Ending) → ShowsTo form limits turns e xs input.left before out → ShowsTo form limits turns e' xs input'.left before out' → CountsReads e was.failures input.failures → CountsReads e' was.failures input'.failures → ReadsBy turns e was input → ReadsBy turns e' was input' → IsServedAlike turns xs was input input' before out out' e e' → EndAlike e e' input.left input'.left
+  ends_alike (ending.Finished f) (ending.Finished f') a b m n r r' s = tt
+  ends_alike (ending.Finished f) ending.ReadFault a b m n r r' s = absurd (counts_up was.failures s.reader.0 (sym n ∙ s.reader.1 ∙ m))
+  ends_alike (ending.Finished f) ending.TooManyTurns a b m n r r' s = absurd (elim s.time [ inl t ↦ no_time form limits turns xs was input' before out' t.1 b r' | inr t ↦ let is = t.1 refl in cc ])
+  ends_alike (ending.Finished f) ending.WriteFault a b m n r r' s = absurd (only_second s.output (ending.Finished f) (λ is. cc) a b)
+  ends_alike (ending.Finished f) ending.NoMemory a b m n r r' s = absurd (let is = s.memory.1 refl in cc)
+  ends_alike (ending.Finished f) ending.BadReply a b m n r r' s = absurd b
+  ends_alike (ending.Finished f) ending.SocketFault a b m n r r' s = absurd b
+  ends_alike ending.ReadFault (ending.Finished f') a b m n r r' s = absurd (counts_up was.failures s.reader.0 (sym m ∙ sym s.reader.1 ∙ n))
+  ends_alike ending.ReadFault ending.ReadFault a b m n r r' s = s.left (inl refl)
+  ends_alike ending.ReadFault ending.TooManyTurns a b m n r r' s = absurd (counts_up was.failures s.reader.0 (sym m ∙ sym s.reader.1 ∙ n))
+  ends_alike ending.ReadFault ending.WriteFault a b m n r r' s = absurd (only_second s.output ending.ReadFault (λ is. cc) a b)
+  ends_alike ending.ReadFault ending.NoMemory a b m n r r' s = absurd (let is = s.memory.1 refl in cc)
+  ends_alike ending.ReadFault ending.BadReply a b m n r r' s = absurd b
+  ends_alike ending.ReadFault ending.SocketFault a b m n r r' s = absurd b
+  ends_alike ending.TooManyTurns (ending.Finished f') a b m n r r' s = absurd (elim s.time [ inl t ↦ no_time form limits turns xs was input before out t.0 a r | inr t ↦ let is = t.0 refl in cc ])
+  ends_alike ending.TooManyTurns ending.ReadFault a b m n r r' s = absurd (counts_up was.failures s.reader.0 (sym n ∙ s.reader.1 ∙ m))
+  ends_alike ending.TooManyTurns ending.TooManyTurns a b m n r r' s = s.left (inr refl)
+  ends_alike ending.TooManyTurns ending.WriteFault a b m n r r' s = absurd (only_second s.output ending.TooManyTurns (λ is. cc) a b)
+  ends_alike ending.TooManyTurns ending.NoMemory a b m n r r' s = absurd (let is = s.memory.1 refl in cc)
+  ends_alike ending.TooManyTurns ending.BadReply a b m n r r' s = absurd b
+  ends_alike ending.TooManyTurns ending.SocketFault a b m n r r' s = absurd b
+  ends_alike ending.WriteFault (ending.Finished f') a b m n r r' s = absurd (only_first s.output (ending.Finished f') (λ is. cc) a b)
+  ends_alike ending.WriteFault ending.ReadFault a b m n r r' s = absurd (only_first s.output ending.ReadFault (λ is. cc) a b)
+  ends_alike ending.WriteFault ending.TooManyTurns a b m n r r' s = absurd (only_first s.output ending.TooManyTurns (λ is. cc) a b)
+  ends_alike ending.WriteFault ending.WriteFault a b m n r r' s = tt
+  ends_alike ending.WriteFault ending.NoMemory a b m n r r' s = absurd (let is = s.memory.1 refl in cc)
+  ends_alike ending.WriteFault ending.BadReply a b m n r r' s = absurd b
+  ends_alike ending.WriteFault ending.SocketFault a b m n r r' s = absurd b
+  ends_alike ending.NoMemory (ending.Finished f') a b m n r r' s = absurd (let is = s.memory.0 refl in cc)
+  ends_alike ending.NoMemory ending.ReadFault a b m n r r' s = absurd (let is = s.memory.0 refl in cc)
+  ends_alike ending.NoMemory ending.TooManyTurns a b m n r r' s = absurd (let is = s.memory.0 refl in cc)
+  ends_alike ending.NoMemory ending.WriteFault a b m n r r' s = absurd (let is = s.memory.0 refl in cc)
+  ends_alike ending.NoMemory ending.NoMemory a b m n r r' s = tt
+  ends_alike ending.NoMemory ending.BadReply a b m n r r' s = absurd b
+  ends_alike ending.NoMemory ending.SocketFault a b m n r r' s = absurd b
+  ends_alike ending.BadReply (ending.Finished f') a b m n r r' s = absurd a
+  ends_alike ending.BadReply ending.ReadFault a b m n r r' s = absurd a
+  ends_alike ending.BadReply ending.TooManyTurns a b m n r r' s = absurd a
+  ends_alike ending.BadReply ending.WriteFault a b m n r r' s = absurd a
+  ends_alike ending.BadReply ending.NoMemory a b m n r r' s = absurd a
+  ends_alike ending.BadReply ending.BadReply a b m n r r' s = absurd a
+  ends_alike ending.BadReply ending.SocketFault a b m n r r' s = absurd a
+  ends_alike ending.SocketFault (ending.Finished f') a b m n r r' s = absurd a
+  ends_alike ending.SocketFault ending.ReadFault a b m n r r' s = absurd a
+  ends_alike ending.SocketFault ending.TooManyTurns a b m n r r' s = absurd a
+  ends_alike ending.SocketFault ending.WriteFault a b m n r r' s = absurd a
+  ends_alike ending.SocketFault ending.NoMemory a b m n r r' s = absurd a
+  ends_alike ending.SocketFault ending.BadReply a b m n r r' s = absurd a
+  ends_alike ending.SocketFault ending.SocketFault a b m n r r' s = absurd a
+
+pub commands_end_once : (form : TextForm) → EndsOnce form
+commands_end_once form limits turns xs before status status' after after' a b alike = ends_alike form limits turns xs before.input after.input after'.input before.out after.out after'.out a.0 b.0 a.1 b.1 a.2 b.2 a.4 b.4 alike
+
+pub checks_end_once : ChecksEndOnce
+checks_end_once limits turns xs before status status' after after' a b alike = ends_alike forms.Nothing limits turns xs before.input after.input after'.input before.out a.1 b.1 a.0 b.0 a.2 b.2 a.3 b.3 a.5 b.5 alike

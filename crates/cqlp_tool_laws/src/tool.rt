@@ -2,8 +2,8 @@
 //! outside decides.
 
 ghost use Rattle.cqlp_text.specs.PageText.{no_page};
-ghost use Rattle.cqlp_tool_laws.specs.Tool.{IsCheckedOnce, IsCheckedRightly, IsRenderedOnce, IsRenderedWhole};
-ghost use Rattle.cqlp_tool_laws.specs.Tool.{IsShownOnce, IsShownRightly};
+ghost use Rattle.cqlp_tool_laws.specs.Tool.{ChecksEndOnce, EndsOnce, IsCheckedOnce, IsCheckedRightly, IsRenderedOnce, IsRenderedWhole};
+ghost use Rattle.cqlp_tool_laws.specs.Tool.{IsReadAfterText, IsReadUnrefused, IsShownOnce, IsShownRightly};
 ghost use Rattle.cqlp_show.specs.declared.text_form.TextForm.TheVariants as forms;
 
 /// Finished, all lines of the stream were written, and its end is reported; and two runs that end alike wrote the same.
@@ -19,22 +19,33 @@ pub fn one_answer_of_render_rows()
 {}
 
 /// A stream has one text of lines, one verdict line and one status, also where `command` has no words and where `execute`
-/// shows standard input; and two commands that end alike wrote the same.
+/// shows standard input; two commands to which the outside did the same end alike, and two that end alike wrote the same.
 pub fn one_answer_of_show()
     ensures right { IsShownRightly forms.Lines }
+    ensures ends { EndsOnce forms.Lines }
     ensures once { IsShownOnce forms.Lines }
 {}
 
-/// A stream has one text of pages, one verdict line and one status, also where `execute` does this with standard input; and
-/// two commands that end alike wrote the same.
+/// A stream has one text of pages, one verdict line and one status, also where `execute` does this with standard input;
+/// two commands to which the outside did the same end alike, and two that end alike wrote the same.
 pub fn one_answer_of_rows()
     ensures right { IsShownRightly (forms.Pages no_page) }
+    ensures ends { EndsOnce (forms.Pages no_page) }
     ensures once { IsShownOnce (forms.Pages no_page) }
 {}
 
-/// A stream has one verdict line and one status, also where `execute` checks standard input; and two commands that end alike
-/// wrote the same.
+/// A stream has one verdict line and one status, also where `execute` checks standard input; two commands to which the
+/// outside did the same end alike, and two that end alike wrote the same.
 pub fn one_answer_of_check()
     ensures right { IsCheckedRightly }
+    ensures ends { ChecksEndOnce }
     ensures once { IsCheckedOnce }
+{}
+
+/// A command makes its last read only after the text of all events of the bytes read before was given to the output, and
+/// where those are refused nothing. So none follows a refusal, nor a write fault, at which some of that text is missing.
+pub fn reads_after_text()
+    ensures show { IsReadAfterText forms.Lines }
+    ensures rows { IsReadAfterText (forms.Pages no_page) }
+    ensures check { IsReadUnrefused }
 {}

@@ -115,7 +115,7 @@ loop-turn-preserved g c =
           let e = c.in-More-drain.ensures.drains (c.loop-turn.invariant.tells tells) in
           let piece = take c.in-Ok.count c.read.new.buffer in
           let mid = state c.loop-turn.decoder in
-          last_read g.S.Sink.after g.S.Sink.faulted c.args.turns c.loop-turn.turn _ _ (state c.args.decoder.now) mid (state c.drain-in-loop-turn.new.decoder) xs _ _ _ _ _ d (c.loop-turn.invariant.gives xs is) c.loop-turn.invariant.waits outcome.Turns (λ fits. let before = c.loop-turn.invariant.counted (omega arith) in let one = c.in-Ok.ensures.reads in omega arith)
+          last_read g.S.Sink.after g.S.Sink.faulted c.args.turns c.loop-turn.turn _ _ (state c.args.decoder.now) mid (state c.drain-in-loop-turn.new.decoder) xs _ _ _ _ _ d (c.loop-turn.invariant.gives xs is) c.loop-turn.invariant.waits c.loop-turn.invariant.rules outcome.Turns (λ fits. let before = c.loop-turn.invariant.counted (omega arith) in let one = c.in-Ok.ensures.reads in omega arith)
           (let a = c.loop-turn-test.true in omega arith)
           (feeds_then g.S.Sink.after mid mid (state c.drain-in-loop-turn.new.decoder) d.0.rest piece r.0 _ _ _ (feeds_none g.S.Sink.after mid d.0.rest _) r.2 piece [] (sym (append-nil piece)) (λ gifts s es a. (e gifts s es a).drains))
           (gives_more 0 d.0.rest _ _ c.read.new.buffer c.in-Ok.count (omega arith) c.in-Ok.ensures.bound long (gives_none d.0.rest _ d.1) c.in-Ok.ensures.bytes);
@@ -239,7 +239,7 @@ pub returns-in-Err-clause-in_time : goal.returns-in-Err-clause-in_time
 returns-in-Err-clause-in_time g c = λ xs is tells.
     let d = c.loop-turn.invariant.fed xs is tells in
     let mid = state c.loop-turn.decoder in
-    last_read g.S.Sink.after g.S.Sink.faulted c.args.turns c.loop-turn.turn _ _ (state c.args.decoder.now) mid mid xs _ _ _ _ _ d (c.loop-turn.invariant.gives xs is) c.loop-turn.invariant.waits outcome.ReadFault (λ fits. let before = c.loop-turn.invariant.counted (omega arith) in let one = c.in-Err.ensures.reads in omega arith)
+    last_read g.S.Sink.after g.S.Sink.faulted c.args.turns c.loop-turn.turn _ _ (state c.args.decoder.now) mid mid xs _ _ _ _ _ d (c.loop-turn.invariant.gives xs is) c.loop-turn.invariant.waits c.loop-turn.invariant.rules outcome.ReadFault (λ fits. let before = c.loop-turn.invariant.counted (omega arith) in let one = c.in-Err.ensures.reads in omega arith)
     (let a = c.loop-turn-test.true in omega arith)
     (feeds_none g.S.Sink.after mid d.0.rest _)
     (gives_kept 0 d.0.rest _ _ (gives_none d.0.rest _ d.1) c.in-Err.ensures.bytes)
@@ -251,7 +251,7 @@ returns-then-count-eq0-clause-in_time g c = λ xs is tells.
     let f = c.finish-then-count-eq0.result in
     let idle = idle_at_end f (c.finish-then-count-eq0.ensures.unrefused c.loop-turn.invariant.waits) in
     let long : 0 < length c.read.new.buffer = let a = c.read.auto.buffer in let b = c.loop-turn.invariant.long in omega arith in
-    last_read g.S.Sink.after g.S.Sink.faulted c.args.turns c.loop-turn.turn _ _ (state c.args.decoder.now) mid mid xs _ _ _ _ _ d (c.loop-turn.invariant.gives xs is) c.loop-turn.invariant.waits (outcome.Finished f) (λ fits. let before = c.loop-turn.invariant.counted (omega arith) in let one = c.in-Ok.ensures.reads in omega arith)
+    last_read g.S.Sink.after g.S.Sink.faulted c.args.turns c.loop-turn.turn _ _ (state c.args.decoder.now) mid mid xs _ _ _ _ _ d (c.loop-turn.invariant.gives xs is) c.loop-turn.invariant.waits c.loop-turn.invariant.rules (outcome.Finished f) (λ fits. let before = c.loop-turn.invariant.counted (omega arith) in let one = c.in-Ok.ensures.reads in omega arith)
     (let a = c.loop-turn-test.true in omega arith)
     (feeds_none g.S.Sink.after mid d.0.rest _)
     (rw idle (gives_end 0 d.0.rest _ _ c.read.new.buffer c.in-Ok.count c.if-count-eq0.true long (gives_none d.0.rest _ d.1) c.in-Ok.ensures.bytes))
@@ -269,7 +269,7 @@ returns-in-Refused-drain-clause-in_time g c = λ xs is tells.
     let r = read_some _ _ d.0.rest c.read.new.buffer c.in-Ok.count d.1 c.in-Ok.ensures.bytes.0 c.in-Ok.ensures.bytes.1 in
     let e = c.in-Refused-drain.ensures.drains (c.loop-turn.invariant.tells tells) in
     let piece = take c.in-Ok.count c.read.new.buffer in
-    last_read g.S.Sink.after g.S.Sink.faulted c.args.turns c.loop-turn.turn _ _ (state c.args.decoder.now) mid new xs _ _ _ _ _ d (c.loop-turn.invariant.gives xs is) c.loop-turn.invariant.waits (outcome.Finished f) (λ fits. let before = c.loop-turn.invariant.counted (omega arith) in let one = c.in-Ok.ensures.reads in omega arith)
+    last_read g.S.Sink.after g.S.Sink.faulted c.args.turns c.loop-turn.turn _ _ (state c.args.decoder.now) mid new xs _ _ _ _ _ d (c.loop-turn.invariant.gives xs is) c.loop-turn.invariant.waits c.loop-turn.invariant.rules (outcome.Finished f) (λ fits. let before = c.loop-turn.invariant.counted (omega arith) in let one = c.in-Ok.ensures.reads in omega arith)
     (let a = c.loop-turn-test.true in omega arith)
     (feeds_then g.S.Sink.after mid mid new d.0.rest piece r.0 _ _ _ (feeds_none g.S.Sink.after mid d.0.rest _) r.2 (take e.0 piece) (drop e.0 piece) (sym (take-append-drop e.0 piece)) (λ gifts s es a. (e.1 gifts s es a).drains))
     (rw idle (gives_more 0 d.0.rest _ _ c.read.new.buffer c.in-Ok.count (omega arith) c.in-Ok.ensures.bound long (gives_none d.0.rest _ d.1) c.in-Ok.ensures.bytes))
@@ -285,7 +285,7 @@ returns-in-Fault-drain-clause-in_time g c = λ xs is tells.
     let e = c.in-Fault-drain.ensures.drains (c.loop-turn.invariant.tells tells) in
     let piece = take c.in-Ok.count c.read.new.buffer in
     let small : length piece ≤ 4096 = omega (arith, length-take-le c.in-Ok.count c.read.new.buffer c.in-Ok.ensures.bound, c.in-Ok.ensures.bound) in
-    last_read g.S.Sink.after g.S.Sink.faulted c.args.turns c.loop-turn.turn _ _ (state c.args.decoder.now) mid new xs _ _ _ _ _ d (c.loop-turn.invariant.gives xs is) c.loop-turn.invariant.waits outcome.SinkFault (λ fits. let before = c.loop-turn.invariant.counted (omega arith) in let one = c.in-Ok.ensures.reads in omega arith)
+    last_read g.S.Sink.after g.S.Sink.faulted c.args.turns c.loop-turn.turn _ _ (state c.args.decoder.now) mid new xs _ _ _ _ _ d (c.loop-turn.invariant.gives xs is) c.loop-turn.invariant.waits c.loop-turn.invariant.rules outcome.SinkFault (λ fits. let before = c.loop-turn.invariant.counted (omega arith) in let one = c.in-Ok.ensures.reads in omega arith)
     (let a = c.loop-turn-test.true in omega arith)
     (feeds_into g.S.Sink.after mid mid new d.0.rest piece r.0 _ _ _ (feeds_none g.S.Sink.after mid d.0.rest _) r.2 (take e.0 piece) (drop e.0 piece) (sym (take-append-drop e.0 piece)) small _ r.1 g.S.Sink.faulted e.1)
     (gives_more 0 d.0.rest _ _ c.read.new.buffer c.in-Ok.count (omega arith) c.in-Ok.ensures.bound long (gives_none d.0.rest _ d.1) c.in-Ok.ensures.bytes)

@@ -53,7 +53,7 @@ loop-turn-preserved g c =
                 still_in_time c.args.sink.now.form c.args.turns _ xs _ _ _ _ _ _ _ _ (c.loop-turn.invariant.in_time xs left known fresh) none.0 (none.1 ∙ sym ran.1)
                 (goes_then _ _ _ (writes_goes c.loop-turn.sink.written c.flush.new.self.written [] (Ok _) c.in-Ok.ensures.writes) onward)
             | inr last ↦
-                more_in_time c.args.turns c.loop-turn.turn _ _ (state c.run-outcome-in-loop-turn.new.decoder) xs _ _ _ (rendered c.args.sink.now) (rendered c.loop-turn.sink) _ _ _ _ _ _ c.run-outcome-in-loop-turn.result ran left (rw c.in-Turns.is at c.loop-turn.invariant.reads) waits (let a = c.loop-turn-test.true in omega arith) last
+                more_in_time c.args.turns c.loop-turn.turn _ _ (state c.run-outcome-in-loop-turn.new.decoder) xs _ _ _ (rendered c.args.sink.now) (rendered c.loop-turn.sink) _ _ _ _ _ _ c.run-outcome-in-loop-turn.result ran left (rw c.in-Turns.is at c.loop-turn.invariant.reads) waits c.loop-turn.invariant.rules (let a = c.loop-turn-test.true in omega arith) last
                 (goes_then _ _ _ (goes_same _ _ (ap (λ o. o.given) given)) onward)
           ];
     }

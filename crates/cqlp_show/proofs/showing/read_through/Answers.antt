@@ -16,4 +16,4 @@ pub returns-clause-in_time : goal.returns-clause-in_time
 returns-clause-in_time g c = λ xs left known.
     let ran = (rw c.new-sink.ensures at c.run-outcome.ensures.in_time) xs left known in
     let reads = in_time_at_once _ _ _ _ xs _ _ _ _ _ c.in-Some.ensures.fresh ran in
-    inr (_, c.in-Some.ensures.fresh, c.in-Some.ensures.rules, still_in_time _ _ _ xs _ _ _ _ _ _ _ _ reads refl refl (goes_same _ _ (sym (ap (λ o. o.given) c.into_inner.ensures))))
+    inr (_, c.in-Some.ensures.fresh, c.in-Some.ensures.unrefused, c.in-Some.ensures.rules, still_in_time _ _ _ xs _ _ _ _ _ _ _ _ reads refl refl (goes_same _ _ (sym (ap (λ o. o.given) c.into_inner.ensures))))

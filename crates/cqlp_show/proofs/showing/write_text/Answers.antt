@@ -10,4 +10,4 @@ pub returns-clause-reads : goal.returns-clause-reads
 returns-clause-reads g c = rw c.ending_of.ensures c.render_buffered-outcome.ensures.reads
 
 pub returns-clause-in_time : goal.returns-clause-in_time
-returns-clause-in_time g c = λ xs left known. inr (_, c.in-Some.ensures.fresh, c.in-Some.ensures.rules, c.render_buffered-outcome.ensures.in_time xs left known c.in-Some.ensures.fresh)
+returns-clause-in_time g c = λ xs left known. inr (_, c.in-Some.ensures.fresh, c.in-Some.ensures.unrefused, c.in-Some.ensures.rules, c.render_buffered-outcome.ensures.in_time xs left known c.in-Some.ensures.fresh)

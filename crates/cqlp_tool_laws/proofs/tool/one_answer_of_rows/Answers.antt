@@ -1,6 +1,6 @@
 use Rattle.cqlp_text.specs.PageText.{no_page}
 use Rattle.cqlp_show.specs.declared.text_form.TextForm.TheVariants as forms
-use Rattle.cqlp_tool_laws.proofs.OneAnswer.{shown_rightly, shown_once}
+use Rattle.cqlp_tool_laws.proofs.OneAnswer.{commands_end_once, shown_rightly, shown_once}
 use Rattle.cqlp_tool_laws.proofs.tool.one_answer_of_rows.Goals as goal
 
 pub returns-clause-right : goal.returns-clause-right
@@ -8,3 +8,6 @@ returns-clause-right c = shown_rightly (forms.Pages no_page)
 
 pub returns-clause-once : goal.returns-clause-once
 returns-clause-once c = shown_once (forms.Pages no_page)
+
+pub returns-clause-ends : goal.returns-clause-ends
+returns-clause-ends c = commands_end_once (forms.Pages no_page)

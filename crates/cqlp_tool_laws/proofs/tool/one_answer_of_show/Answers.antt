@@ -1,5 +1,5 @@
 use Rattle.cqlp_show.specs.declared.text_form.TextForm.TheVariants as forms
-use Rattle.cqlp_tool_laws.proofs.OneAnswer.{shown_rightly, shown_once}
+use Rattle.cqlp_tool_laws.proofs.OneAnswer.{commands_end_once, shown_rightly, shown_once}
 use Rattle.cqlp_tool_laws.proofs.tool.one_answer_of_show.Goals as goal
 
 pub returns-clause-right : goal.returns-clause-right
@@ -7,3 +7,6 @@ returns-clause-right c = shown_rightly forms.Lines
 
 pub returns-clause-once : goal.returns-clause-once
 returns-clause-once c = shown_once forms.Lines
+
+pub returns-clause-ends : goal.returns-clause-ends
+returns-clause-ends c = commands_end_once forms.Lines

@@ -1,0 +1,13 @@
+use Rattle.cqlp_show.specs.declared.text_form.TextForm.TheVariants as forms
+use Rattle.cqlp_text.specs.PageText.{no_page}
+use Rattle.cqlp_tool_laws.proofs.LastRead.{read_after_text, read_unrefused}
+use Rattle.cqlp_tool_laws.proofs.tool.reads_after_text.Goals as goal
+
+pub returns-clause-show : goal.returns-clause-show
+returns-clause-show c = read_after_text forms.Lines
+
+pub returns-clause-rows : goal.returns-clause-rows
+returns-clause-rows c = read_after_text (forms.Pages no_page)
+
+pub returns-clause-check : goal.returns-clause-check
+returns-clause-check c = read_unrefused
