@@ -12,4 +12,5 @@ pub mod Places
 pub mod Placing
 pub mod Putting
 pub mod Spans
+pub mod There
 pub mod Values

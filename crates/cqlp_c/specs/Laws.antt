@@ -1,5 +1,5 @@
 -- Laws of the calls.
-use Rattle.std.specs.Prelude.{◌≡◌, ◌↔◌, ℕ, ◌++◌, true, List, [], ◌∷◌, drop, take, Option, Some, ⊤}
+use Rattle.std.specs.Prelude.{◌≡◌, ◌↔◌, ℕ, ◌-◌, ◌≤◌, ◌++◌, true, List, [], ◌∷◌, length, drop, take, Option, Some, ⊤}
 use Rattle.std.specs.Ptr.{Ptr, null_ptr}
 use Rattle.cqlp_note.specs.declared.header.Header.{Header}
 use Rattle.cqlp_note.specs.Limits.{Rules}
@@ -7,12 +7,13 @@ use Rattle.cqlp_grammar.specs.declared.event.Finish.{Finish}
 use Rattle.cqlp_decode.specs.Reading.{Event}
 use Rattle.cqlp_decode.specs.Standing.{StreamState}
 use Rattle.cqlp_decode.specs.Streams.{After}
+use Rattle.cqlp_laws.specs.Contents.{content_in}
 use Rattle.cqlp_session.specs.Client.{ClientCore}
 use Rattle.cqlp_session.specs.Signal.{signal_of}
 use Rattle.cqlp_c.specs.declared.batch.Batch.{Batch}
 use Rattle.cqlp_c.specs.declared.event.CqlpEvent.{CqlpEvent}
 use Rattle.cqlp_c.specs.declared.numbers.TheConstants as numbers
-use Rattle.cqlp_c.specs.Batches.{IsInInput, OthersInInput, Put, events_of}
+use Rattle.cqlp_c.specs.Batches.{IsInInput, IsRead, OthersInInput, Put, events_of}
 use Rattle.cqlp_c.specs.Checks.{HasVerdict}
 use Rattle.cqlp_c.specs.Clients.{Starts}
 use Rattle.cqlp_c.specs.Events.{of_frame}
@@ -50,6 +51,14 @@ IsOneAnswerOfNext =
     (before after after' : List CqlpEvent)
     → After old s es → PutsInto old new input begins b before after → PutsInto old new' input begins b' before after'
     → AreOneAnswer new new' s input es b b' after after'
+
+-- The bytes of the input where a content lies that was put are the content.
+abbrev pub ContentsLieThere : Type 0
+ContentsLieThere =
+    (l : Rules) (s input : List ℕ) (es : List (ℕ × Event)) (p : Put) (content : List ℕ)
+    → IsRead l (s ++ take p.end input) (es ++ (p.at, p.event) ∷ []) → p.end ≤ length input → IsInInput p
+    → content_in p.event ≡ Some content
+    → (length content ≤ p.end) × (take (length content) (drop (p.end - length content) input) ≡ content)
 
 -- Of one stream there is one verdict.
 abbrev pub IsOneAnswerOfCheck : Type 0
