@@ -1,6 +1,7 @@
 -- The check of a whole stream.
 use Rattle.std.proofs.Common.{◌≡◌, ◌↔◌, ℕ, List, [], ◌++◌, take, drop, Ok, Err, refl, sym, ap, subst, ◌∙◌, inl, inr, arith}
 use Rattle.std.specs.Prelude.{Option, Some, None, Result}
+use Rattle.std.specs.Ptr.{Ptr}
 use Rattle.std.proofs.lemmas.List.{take-append-drop, take_all}
 use Rattle.cqlp_note.specs.declared.limits.BadLimits.{BadLimits}
 use Rattle.cqlp_note.specs.declared.limits.Limits.{Limits}
@@ -33,7 +34,7 @@ done_refused : (o : Option Refusal) (r : Refusal) → o ≡ Some r → (new : St
 done_refused None r some new stream es says = absurd cc
 done_refused (Some z) r some new stream es says = let same : z ≡ r = cc in rw same says
 
-module _ (mid new : StreamState) (stream : List ℕ) (used room : ℕ) (b : Batch) (events : List CqlpEvent) (es : List (ℕ × Event)) (f : Fills mid new (take used stream) (drop used stream) es room b events) where
+module _ (mid new : StreamState) (stream : List ℕ) (used room : ℕ) (begins : Ptr) (b : Batch) (events : List CqlpEvent) (es : List (ℕ × Event)) (f : Fills mid new (take used stream) (drop used stream) begins es room b events) where
   whole : take used stream ++ drop used stream ≡ stream
   whole = take-append-drop used stream
 

@@ -1,6 +1,7 @@
 -- One more event in a batch.
 use Rattle.std.proofs.Common.{◌≡◌, ℕ, ◌+◌, ◌≤◌, ◌<◌, List, [], ◌∷◌, ◌++◌, length, take, drop, refl, sym, ap, subst, ◌∙◌, append_assoc, inl, inr, arith}
 use Rattle.std.specs.Prelude.{Option, Some, None}
+use Rattle.std.specs.Ptr.{Ptr}
 use Rattle.std.proofs.lemmas.List.{append-nil, length-append, length-drop, take-append-drop, take_all}
 use Rattle.cqlp_note.specs.Limits.{Rules}
 use Rattle.cqlp_note.specs.declared.refusal.Refusal.{Refusal}
@@ -11,10 +12,9 @@ use Rattle.cqlp_decode.specs.Streams.{After, AfterBy, Stands, Leads, Refuses}
 use Rattle.cqlp_decode.proofs.Gets.{take_two, refuses_new}
 use Rattle.cqlp_laws.proofs.OneAnswer.{pending_none}
 use Rattle.cqlp_c.specs.declared.event.CqlpEvent.{CqlpEvent}
-use Rattle.cqlp_c.specs.Events.{Tells}
 use Rattle.cqlp_c.specs.declared.batch.Batch.{Batch}
 use Rattle.cqlp_c.specs.declared.batch.Stop.TheVariants as stop
-use Rattle.cqlp_c.specs.Batches.{Fills, Put, Puts, IsRead, IsInInput, AllInInput, OthersInInput, LastIsGathered, IsGathered, TellsAll, events_of, end_of}
+use Rattle.cqlp_c.specs.Batches.{Fills, Put, Puts, IsRead, IsInInput, AllInInput, OthersInInput, LastIsGathered, IsGathered, TellsAll, TellsPut, events_of, end_of}
 
 -- ---- lists of events that were put
 
@@ -59,11 +59,11 @@ last_snoc [] p is = is
 last_snoc (q ∷ []) p is = is
 last_snoc (q ∷ r ∷ ps) p is = last_snoc (r ∷ ps) p is
 
-pub tells_snoc : (cs : List CqlpEvent) (ps : List Put) (c : CqlpEvent) (p : Put) → TellsAll cs ps → Tells c p.at p.event → TellsAll (cs ++ c ∷ []) (ps ++ p ∷ [])
-tells_snoc [] [] c p all is = (is, tt)
-tells_snoc [] (q ∷ ps) c p all is = absurd all
-tells_snoc (d ∷ cs) [] c p all is = absurd all
-tells_snoc (d ∷ cs) (q ∷ ps) c p all is = (all.0, tells_snoc cs ps c p all.1 is)
+pub tells_snoc : (begins : Ptr) (cs : List CqlpEvent) (ps : List Put) (c : CqlpEvent) (p : Put) → TellsAll begins cs ps → TellsPut begins c p → TellsAll begins (cs ++ c ∷ []) (ps ++ p ∷ [])
+tells_snoc begins [] [] c p all is = (is, tt)
+tells_snoc begins [] (q ∷ ps) c p all is = absurd all
+tells_snoc begins (d ∷ cs) [] c p all is = absurd all
+tells_snoc begins (d ∷ cs) (q ∷ ps) c p all is = (all.0, tells_snoc begins cs ps c p all.1 is)
 
 -- ---- a batch so far
 
@@ -81,65 +81,66 @@ is_read l d s es rules none begun a =
     )
 
 -- These were put: the reading of the bytes used says their events, and the decoder is after them.
-pub record IsFilled (l : Rules) (d : StreamState) (s input : List ℕ) (es : List (ℕ × Event)) (used : ℕ) (cs : List CqlpEvent) : Type 0 where
+pub record IsFilled (l : Rules) (d : StreamState) (s input : List ℕ) (begins : Ptr) (es : List (ℕ × Event)) (used : ℕ) (cs : List CqlpEvent) : Type 0 where
   pub puts : List Put
   pub count : length puts ≡ length cs
   pub put : Puts l s input es 0 puts
-  pub told : TellsAll cs puts
+  pub told : TellsAll begins cs puts
   pub ends : used ≡ end_of 0 puts
   pub after : After d (s ++ take used input) (es ++ events_of puts)
   pub lie : AllInInput puts
 
-pub filled_none : (l : Rules) (d : StreamState) (s input : List ℕ) (es : List (ℕ × Event)) → After d s es → IsFilled l d s input es 0 []
-filled_none l d s input es a = record { puts = []; count = refl; put = tt; told = tt; ends = refl; after = rw (append-nil s, append-nil es) a; lie = tt }
+pub filled_none : (l : Rules) (d : StreamState) (s input : List ℕ) (begins : Ptr) (es : List (ℕ × Event)) → After d s es → IsFilled l d s input begins es 0 []
+filled_none l d s input begins es a = record { puts = []; count = refl; put = tt; told = tt; ends = refl; after = rw (append-nil s, append-nil es) a; lie = tt }
 
-module _ (l : Rules) (old new : StreamState) (s input : List ℕ) (es : List (ℕ × Event)) (used : ℕ) (cs : List CqlpEvent) (f : IsFilled l old s input es used cs) where
+module _ (l : Rules) (old new : StreamState) (s input : List ℕ) (begins : Ptr) (es : List (ℕ × Event)) (used : ℕ) (cs : List CqlpEvent) (f : IsFilled l old s input begins es used cs) where
   all : (s ++ take used input) ++ drop used input ≡ s ++ input
   all = append_assoc s (take used input) (drop used input) ∙ ap (λ (z : List ℕ). s ++ z) (take-append-drop used input)
 
   -- the event of a step
   module _ (at taken : ℕ) (e : Event) (rules : new.rules ≡ l) (within : used ≤ length input)
-      (leads : LeadsTo (s ++ take used input) (es ++ events_of f.puts) (drop used input) at taken e new)
-      (c : CqlpEvent) (tells : Tells c at e) where
+      (leads : LeadsTo (s ++ take used input) (es ++ events_of f.puts) (drop used input) at taken e new) where
     abbrev pub next_put : Put
     next_put = record { at = at; event = e; from = used; end = used + taken }
 
     there : After new (s ++ take (used + taken) input) ((es ++ events_of f.puts) ++ (at, e) ∷ [])
     there = rw (take_two used taken input, ← (append_assoc s (take used input) (take taken (drop used input)))) leads.3
 
+    pub read_more : IsRead l (s ++ take (used + taken) input) ((es ++ events_of f.puts) ++ (at, e) ∷ [])
+    read_more = is_read l new (s ++ take (used + taken) input) ((es ++ events_of f.puts) ++ (at, e) ∷ []) rules leads.1 leads.2 there
+
     put_more : Puts l s input es 0 (f.puts ++ next_put ∷ [])
-    put_more =
-        puts_snoc l s input es 0 f.puts next_put f.put f.ends (omega (arith, leads.0, within, length-drop used input))
-        (is_read l new (s ++ take (used + taken) input) ((es ++ events_of f.puts) ++ (at, e) ∷ []) rules leads.1 leads.2 there)
+    put_more = puts_snoc l s input es 0 f.puts next_put f.put f.ends (omega (arith, leads.0, within, length-drop used input)) read_more
 
     after_more : After new (s ++ take (used + taken) input) (es ++ events_of (f.puts ++ next_put ∷ []))
     after_more = rw (events_snoc f.puts next_put, ← (append_assoc es (events_of f.puts) ((at, e) ∷ []))) there
 
-    pub filled_more : (ds : List CqlpEvent) → ds ≡ cs ++ c ∷ [] → IsInInput next_put → IsFilled l new s input es (used + taken) ds
-    filled_more ds is lies = record {
-      puts = f.puts ++ next_put ∷ [];
-      count = omega (arith, length_snoc f.puts next_put, f.count, ap length is, length-append cs (c ∷ []));
-      put = put_more;
-      told = rw is (tells_snoc cs f.puts c next_put f.told tells);
-      ends = sym (end_snoc 0 f.puts next_put);
-      after = after_more;
-      lie = all_snoc f.puts next_put f.lie lies;
-    }
+    module _ (c : CqlpEvent) (tells : TellsPut begins c next_put) where
+      pub filled_more : (ds : List CqlpEvent) → ds ≡ cs ++ c ∷ [] → IsInInput next_put → IsFilled l new s input begins es (used + taken) ds
+      filled_more ds is lies = record {
+        puts = f.puts ++ next_put ∷ [];
+        count = omega (arith, length_snoc f.puts next_put, f.count, ap length is, length-append cs (c ∷ []));
+        put = put_more;
+        told = rw is (tells_snoc begins cs f.puts c next_put f.told tells);
+        ends = sym (end_snoc 0 f.puts next_put);
+        after = after_more;
+        lie = all_snoc f.puts next_put f.lie lies;
+      }
 
-    pub fills_gathered : (free : StreamState) (room : ℕ) (b : Batch) (events : List CqlpEvent) → free.rules ≡ l → b ≡ record { used = used + taken; events = length cs + 1; stop = stop.Full } → take (length cs + 1) events ≡ cs ++ c ∷ [] → IsGathered next_put
-        → Fills free new s input es room b events
-    fills_gathered free room b events same is put gathered = record {
-      puts = f.puts ++ next_put ∷ [];
-      count = rw is (omega (arith, length_snoc f.puts next_put, f.count));
-      put = rw same put_more;
-      told = rw (is, put) (tells_snoc cs f.puts c next_put f.told tells);
-      after = rw is after_more;
-      stops = rw is (sym (end_snoc 0 f.puts next_put), others_snoc f.puts next_put f.lie, inr (last_snoc f.puts next_put gathered));
-    }
+      pub fills_gathered : (free : StreamState) (room : ℕ) (b : Batch) (events : List CqlpEvent) → free.rules ≡ l → b ≡ record { used = used + taken; events = length cs + 1; stop = stop.Full } → take (length cs + 1) events ≡ cs ++ c ∷ [] → IsGathered next_put
+          → Fills free new s input begins es room b events
+      fills_gathered free room b events same is put gathered = record {
+        puts = f.puts ++ next_put ∷ [];
+        count = rw is (omega (arith, length_snoc f.puts next_put, f.count));
+        put = rw same put_more;
+        told = rw (is, put) (tells_snoc begins cs f.puts c next_put f.told tells);
+        after = rw is after_more;
+        stops = rw is (sym (end_snoc 0 f.puts next_put), others_snoc f.puts next_put f.lie, inr (last_snoc f.puts next_put gathered));
+      }
 
   -- the end of a batch
   module _ (free : StreamState) (same : free.rules ≡ l) (room : ℕ) (b : Batch) (events : List CqlpEvent) (put : take b.events events ≡ cs) (count : b.events ≡ length cs) where
-    pub fills_full : b.used ≡ used → b.stop ≡ stop.Full → old ≡ new → length cs ≡ room → Fills free new s input es room b events
+    pub fills_full : b.used ≡ used → b.stop ≡ stop.Full → old ≡ new → length cs ≡ room → Fills free new s input begins es room b events
     fills_full at is still full = record {
       puts = f.puts;
       count = f.count ∙ sym count;
@@ -149,7 +150,7 @@ module _ (l : Rules) (old new : StreamState) (s input : List ℕ) (es : List (�
       stops = rw (at, is) (f.ends, others_of_all f.puts f.lie, inl (f.count ∙ full));
     }
 
-    pub fills_all : (taken : ℕ) → b.used ≡ used + taken → used ≤ length input → b.stop ≡ stop.More → length cs < room → Leads old (s ++ take used input) (es ++ events_of f.puts) (drop used input) (steps.More taken) new → Fills free new s input es room b events
+    pub fills_all : (taken : ℕ) → b.used ≡ used + taken → used ≤ length input → b.stop ≡ stop.More → length cs < room → Leads old (s ++ take used input) (es ++ events_of f.puts) (drop used input) (steps.More taken) new → Fills free new s input begins es room b events
     fills_all taken at within is room' leads =
         let h = rw all at leads in
         let whole : b.used ≡ length input = omega (arith, at, h.0, length-drop used input, within) in
@@ -169,7 +170,7 @@ module _ (l : Rules) (old new : StreamState) (s input : List ℕ) (es : List (�
     refuses_free (Some before) rules clear still r h = subst (λ (o : Option Refusal). Refuses o [] old (s ++ take used input) (es ++ events_of f.puts) (drop used input) r) (still before refl) h
 
     pub fills_refused : (r : Refusal) → b.used ≡ used → b.stop ≡ stop.Refused r → length cs < room → old.rules ≡ free.rules → (free.refusal ≡ None → old.refusal ≡ None) → ((z : Refusal) → free.refusal ≡ Some z → old.refusal ≡ Some z)
-        → Leads old (s ++ take used input) (es ++ events_of f.puts) (drop used input) (steps.Refused r) new → Fills free new s input es room b events
+        → Leads old (s ++ take used input) (es ++ events_of f.puts) (drop used input) (steps.Refused r) new → Fills free new s input begins es room b events
     fills_refused r at is room' rules clear still leads = record {
       puts = f.puts;
       count = f.count ∙ sym count;

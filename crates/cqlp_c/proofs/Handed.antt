@@ -1,8 +1,10 @@
 -- Items whose events a sink put into the array.
-use Rattle.std.proofs.Common.{◌≡◌, ℕ, ◌+◌, ◌≤◌, List, [], ◌∷◌, ◌++◌, length, take, drop, drop-drop, refl, subst, ◌∙◌, append_assoc, arith}
+use Rattle.std.proofs.Common.{◌≡◌, ℕ, ◌+◌, ◌≤◌, List, [], ◌∷◌, ◌++◌, ◌-◌, length, take, drop, drop-drop, refl, sym, ap, subst, ◌∙◌, append_assoc, arith}
 use Rattle.std.specs.Prelude.{Option, Some, None}
+use Rattle.std.specs.Ptr.{Ptr, as_ptr}
+use denote.RawPtr.{◌+ₚ◌}
 use Rattle.std.specs.Int.{w32, to_be_bytes, cast_unsigned}
-use Rattle.std.proofs.lemmas.List.{append-nil, length-append, length-drop}
+use Rattle.std.proofs.lemmas.List.{append-nil, length-append, length-drop, length-take-le}
 use Rattle.cqlp_note.specs.declared.refusal.Refusal.{Refusal}
 use Rattle.cqlp_note.specs.Limits.{Rules}
 use Rattle.cqlp_note.specs.Field as field
@@ -16,12 +18,16 @@ use Rattle.cqlp_decode.specs.Items.{TakesItem}
 use Rattle.cqlp_decode.specs.Cells.{Item, TakesItems, bytes_of}
 use Rattle.cqlp_decode.proofs.Leads.{hands_stands}
 use Rattle.cqlp_laws.specs.Reading.{content_size_of}
+use Rattle.cqlp_laws.specs.Contents.{before_content, content_in}
+use Rattle.cqlp_laws.proofs.Heads.{ends_what_is_read}
 use Rattle.cqlp_laws.proofs.Within.{content_within}
 use Rattle.cqlp_c.specs.declared.event.CqlpEvent.{CqlpEvent}
-use Rattle.cqlp_c.specs.Events.{Tells, content_span}
-use Rattle.cqlp_c.specs.Batches.{events_of}
-use Rattle.cqlp_c.specs.Slots.{TellsItems}
-use Rattle.cqlp_c.proofs.Fills.{IsFilled, LeadsTo, filled_more}
+use Rattle.cqlp_c.specs.declared.slots.Origin.{Origin}
+use Rattle.cqlp_c.specs.Events.{content_span}
+use Rattle.cqlp_c.specs.Batches.{IsInInput, LiesBy, Put, events_of}
+use Rattle.cqlp_c.specs.Slots.{IsPlaced, TellsIn, TellsItems}
+use Rattle.cqlp_c.proofs.Fills.{IsFilled, LeadsTo, filled_more, read_more}
+use Rattle.cqlp_c.proofs.Spans.{content_spanned}
 
 -- ---- what lies in the array is no more than what lies in the bytes
 
@@ -72,25 +78,45 @@ span_size (End n) = omega arith
 
 -- ---- the batch
 
-module _ (l : Rules) (s input : List ℕ) (es : List (ℕ × Event)) where
+-- A content that is read last lies where its offset in the stream says.
+placed : (o : Origin) (s input : List ℕ) → length s ≡ o.offset → length input ≡ length o.input.now → (p : Put) (c : Option (List ℕ)) → p.end ≤ length input
+    → ((content : List ℕ) → c ≡ Some content → (before : List ℕ) × (s ++ take p.end input ≡ before ++ content) × (length before ≡ p.at + before_content p.event))
+    → ((content : List ℕ) → c ≡ Some content → length content ≤ p.end - p.from)
+    → p.from ≤ p.end → IsInInput p → (place : Ptr) → IsPlaced o p.at p.event c place → LiesBy (as_ptr o.input) p c place
+placed o s input base long p None within last short on lies place is = is
+placed o s input base long p (Some content) within last short on lies place is =
+    let there = last content refl in
+    let whole = ap length there.1 in
+    let size = short content refl in
+    let all : p.at + before_content p.event + length content ≡ length s + p.end = omega (arith, whole, there.2, length-append s (take p.end input), length-append there.0 content, length-take-le p.end input within) in
+    let at : (p.at + before_content p.event) - o.offset ≡ p.end - length content = omega (arith, all, base) in
+    (λ _. is (omega (arith, all, base, size)) (omega (arith, all, base, long, within)) ∙ ap (λ (n : ℕ). as_ptr o.input +ₚ n) at, λ gathered. absurd (omega (arith, gathered, lies)))
+
+module _ (l : Rules) (s input : List ℕ) (o : Origin) (is_input : o.input.now ≡ input) (es : List (ℕ × Event)) (base : length s ≡ o.offset) where
   -- one item
-  module _ (old new : StreamState) (used : ℕ) (cs : List CqlpEvent) (f : IsFilled l old s input es used cs) (rules : old.rules ≡ l) (none : old.refusal ≡ None) (begun : IsPending old.pending []) (within : used ≤ length input)
-      (x : Item) (t : TakesItem old (drop used input) x.at x.used x.event new) (c : CqlpEvent) (tells : Tells c x.at x.event) where
+  module _ (old new : StreamState) (used : ℕ) (cs : List CqlpEvent) (f : IsFilled l old s input (as_ptr o.input) es used cs) (rules : old.rules ≡ l) (none : old.refusal ≡ None) (begun : IsPending old.pending []) (within : used ≤ length input)
+      (x : Item) (t : TakesItem old (drop used input) x.at x.used x.event new) (c : CqlpEvent) (tells : TellsIn o c x.at x.event) where
     lies : content_span x.event ≤ x.used
     lies =
         let g = t.3.gives [] begun in
         let size = content_within old.rules old.place (drop used input) g.0 (0 + x.used) g.1 in
         omega (arith, span_size x.event, subst (λ (e : Event). content_size_of e ≤ 0 + x.used) g.3 size)
 
-    filled_item : IsFilled l new s input es (used + x.used) (cs ++ c ∷ [])
+    filled_item : IsFilled l new s input (as_ptr o.input) es (used + x.used) (cs ++ c ∷ [])
     filled_item =
         let after = subst (λ (o : Option Refusal). AfterBy o [] old (s ++ take used input) (es ++ events_of f.puts)) none f.after in
         let leads : LeadsTo (s ++ take used input) (es ++ events_of f.puts) (drop used input) x.at x.used x.event new = (t.3.within, t.0 ∙ none, t.3.begun, hands_stands old new (drop used input) (s ++ take used input) (es ++ events_of f.puts) [] x.at x.used x.event t.3 (t.0 ∙ none) t.1 after) in
-        filled_more l old new s input es used cs f x.at x.used x.event (t.1 ∙ rules) within leads c tells (cs ++ c ∷ []) refl (omega (arith, lies))
+        let put : Put = record { at = x.at; event = x.event; from = used; end = used + x.used } in
+        let read = read_more l old new s input (as_ptr o.input) es used cs f x.at x.used x.event (t.1 ∙ rules) within leads in
+        let at : LiesBy (as_ptr o.input) put (content_in x.event) tells.0 =
+        placed o s input base (ap length (sym is_input)) put (content_in x.event) (omega (arith, t.3.within, within, length-drop used input))
+        (λ content is. ends_what_is_read l [] (s ++ take (used + x.used) input) (es ++ events_of f.puts) x.at x.event read.0 content read.1 is)
+        (λ content is. omega (arith, lies, content_spanned x.event content is)) (omega arith) (omega (arith, lies)) tells.0 tells.1 in
+        filled_more l old new s input (as_ptr o.input) es used cs f x.at x.used x.event (t.1 ∙ rules) within leads c (tells.0, at, tells.2) (cs ++ c ∷ []) refl (omega (arith, lies))
 
-  pub filled_items : (old new : StreamState) (used : ℕ) (cs ds : List CqlpEvent) (xs : List Item) → IsFilled l old s input es used cs → old.rules ≡ l → IsPending old.pending [] → used ≤ length input → TakesItems old (drop used input) xs new → TellsItems ds xs
-      → IsFilled l new s input es (used + bytes_of xs) (cs ++ ds)
-  filled_items old new used cs [] [] f rules begun within t tells = rw (t, append-nil cs) (subst (λ (n : ℕ). IsFilled l old s input es n cs) (omega arith) f)
+  pub filled_items : (old new : StreamState) (used : ℕ) (cs ds : List CqlpEvent) (xs : List Item) → IsFilled l old s input (as_ptr o.input) es used cs → old.rules ≡ l → IsPending old.pending [] → used ≤ length input → TakesItems old (drop used input) xs new → TellsItems o ds xs
+      → IsFilled l new s input (as_ptr o.input) es (used + bytes_of xs) (cs ++ ds)
+  filled_items old new used cs [] [] f rules begun within t tells = rw (t, append-nil cs) (subst (λ (n : ℕ). IsFilled l old s input (as_ptr o.input) es n cs) (omega arith) f)
   filled_items old new used cs (d ∷ ds) [] f rules begun within t tells = absurd tells
   filled_items old new used cs [] (x ∷ xs) f rules begun within t tells = absurd tells
   filled_items old new used cs (d ∷ ds) (x ∷ xs) f rules begun within t tells =
@@ -100,4 +126,4 @@ module _ (l : Rules) (s input : List ℕ) (es : List (ℕ × Event)) where
       let more = filled_items t.0 new (used + x.used) (cs ++ d ∷ []) ds xs first (t.2.1 ∙ rules) t.2.3.begun far rest tells.1 in
       let at : (used + x.used) + bytes_of xs ≡ used + bytes_of (x ∷ xs) = omega arith in
       let all : (cs ++ d ∷ []) ++ ds ≡ cs ++ d ∷ ds = append_assoc cs (d ∷ []) ds in
-      subst (λ (n : ℕ). IsFilled l new s input es n (cs ++ d ∷ ds)) at (subst (λ (z : List CqlpEvent). IsFilled l new s input es ((used + x.used) + bytes_of xs) z) all more)
+      subst (λ (n : ℕ). IsFilled l new s input (as_ptr o.input) es n (cs ++ d ∷ ds)) at (subst (λ (z : List CqlpEvent). IsFilled l new s input (as_ptr o.input) es ((used + x.used) + bytes_of xs) z) all more)

@@ -5,9 +5,12 @@ pub mod Crosses
 pub mod Fills
 pub mod Handed
 pub mod Made
+pub mod Nexted
 pub mod OneBatch
 pub mod OneVerdict
 pub mod Places
+pub mod Placing
 pub mod Putting
 pub mod Spans
+pub mod There
 pub mod Values

@@ -1,40 +1,48 @@
 -- From one history, one input and one room there is one batch.
-use Rattle.std.proofs.Common.{◌≡◌, ℕ, ◌≤◌, ◌<◌, List, [], ◌∷◌, ◌++◌, length, take, drop, map, refl, sym, ap, subst, ◌∙◌, append_assoc, append-nil, inl, inr, arith}
+use Rattle.std.proofs.Common.{◌≡◌, ℕ, ◌≤◌, ◌<◌, List, [], ◌∷◌, ◌++◌, length, take, drop, refl, sym, ap, subst, ◌∙◌, append_assoc, append-nil, inl, inr, arith}
 use Rattle.std.specs.Prelude.{Option, Some, None}
 use Rattle.std.proofs.lemmas.Bool.{cases_lt}
 use Rattle.std.proofs.lemmas.List.{length-append, nil_from_length}
+use Rattle.std.specs.Ptr.{Ptr}
 use Rattle.cqlp_note.specs.declared.refusal.Refusal.{Refusal}
 use Rattle.cqlp_note.specs.Limits.{Rules}
 use Rattle.cqlp_decode.specs.Reading.{Event, Verdict, Waits, Refused, Says, start}
 use Rattle.cqlp_decode.specs.Standing.{StreamState}
 use Rattle.cqlp_decode.specs.Streams.{After, Refuses}
+use Rattle.cqlp_laws.specs.Contents.{content_in}
 use Rattle.cqlp_laws.proofs.OneAnswer.{event_once, no_event}
 use Rattle.cqlp_laws.proofs.Whole.{says_once}
 use Rattle.cqlp_c.specs.declared.batch.Batch.{Batch}
 use Rattle.cqlp_c.specs.declared.batch.Stop.{Stop}
 use Rattle.cqlp_c.specs.declared.batch.Stop.TheVariants as stop
 use Rattle.cqlp_c.specs.declared.event.CqlpEvent.{CqlpEvent}
-use Rattle.cqlp_c.specs.Events.{Tells}
-use Rattle.cqlp_c.specs.Batches.{AllInInput, Fills, LastIsGathered, MayRefuse, OthersInInput, Put, Puts, StopsBy, TellsAll, end_of, events_of}
+use Rattle.cqlp_c.specs.Events.{told_at}
+use Rattle.cqlp_c.specs.Batches.{AllInInput, Fills, IsInInput, LastIsGathered, LiesBy, MayRefuse, OthersInInput, Put, Puts, StopsBy, TellsAll, TellsPut, end_of, events_of}
 use Rattle.cqlp_c.specs.Handle.{PutsInto}
-use Rattle.cqlp_c.specs.Laws.{AreOneAnswer, unplaced}
+use Rattle.cqlp_c.specs.Laws.{AreOneAnswer, AreSame, unplaced}
 use Rattle.cqlp_c.proofs.Fills.{others_of_all}
 
 -- ---- events
 
-tells_once : (c d : CqlpEvent) (at : ℕ) (e : Event) → Tells c at e → Tells d at e → unplaced d ≡ unplaced c
-tells_once c d at e x y = ap unplaced y.2 ∙ sym (ap unplaced x.2)
+placed_once : (begins : Ptr) (p : Put) (o : Option (List ℕ)) → IsInInput p → (x y : Ptr) → LiesBy begins p o x → LiesBy begins p o y → y ≡ x
+placed_once begins p None lies x y a b = b ∙ sym a
+placed_once begins p (Some content) lies x y a b = b.0 lies ∙ sym (a.0 lies)
 
-tells_all_once : (cs ds : List CqlpEvent) (ps : List Put) → TellsAll cs ps → TellsAll ds ps → map unplaced ds ≡ map unplaced cs
-tells_all_once [] [] [] x y = refl
-tells_all_once [] (d ∷ ds) [] x y = absurd y
-tells_all_once (c ∷ cs) ds [] x y = absurd x
-tells_all_once [] ds (p ∷ ps) x y = absurd x
-tells_all_once (c ∷ cs) [] (p ∷ ps) x y = absurd y
-tells_all_once (c ∷ cs) (d ∷ ds) (p ∷ ps) x y =
-    let head = tells_once c d p.at p.event x.0 y.0 in
-    let tail = tells_all_once cs ds ps x.1 y.1 in
-    λ i. head i ∷ tail i
+tells_once : (begins : Ptr) (c d : CqlpEvent) (p : Put) → TellsPut begins c p → TellsPut begins d p → (unplaced d ≡ unplaced c) × (IsInInput p → d ≡ c)
+tells_once begins c d p x y = (
+  ap unplaced y.2 ∙ sym (ap unplaced x.2),
+  λ lies. y.2 ∙ ap (told_at p.at p.event) (placed_once begins p (content_in p.event) lies x.0 y.0 x.1 y.1) ∙ sym x.2,
+)
+
+tells_all_once : (begins : Ptr) (cs ds : List CqlpEvent) (ps : List Put) → TellsAll begins cs ps → TellsAll begins ds ps → AreSame ps cs ds
+tells_all_once begins [] [] [] x y = tt
+tells_all_once begins [] (d ∷ ds) [] x y = absurd y
+tells_all_once begins (c ∷ cs) ds [] x y = absurd x
+tells_all_once begins [] ds (p ∷ ps) x y = absurd x
+tells_all_once begins (c ∷ cs) [] (p ∷ ps) x y = absurd y
+tells_all_once begins (c ∷ cs) (d ∷ ds) (p ∷ ps) x y =
+    let head = tells_once begins c d p x.0 y.0 in
+    (head.0, head.1, tells_all_once begins cs ds ps x.1 y.1)
 
 -- ---- what was put
 
@@ -157,19 +165,20 @@ module _ (old : StreamState) (none : old.refusal ≡ None) (s input : List ℕ) 
 same_batch : (b b' : Batch) → b'.used ≡ b.used → b'.events ≡ b.events → b'.stop ≡ b.stop → b' ≡ b
 same_batch b b' used events stops = λ i. record { used = used i; events = events i; stop = stops i }
 
-module _ (old new new' : StreamState) (s input : List ℕ) (es : List (ℕ × Event)) (b b' : Batch) (before after after' : List CqlpEvent) (a : After old s es) (x : PutsInto old new input b before after) (y : PutsInto old new' input b' before after') where
-  f : Fills old new s input es (length before) b after
+module _ (old new new' : StreamState) (s input : List ℕ) (begins : Ptr) (es : List (ℕ × Event)) (b b' : Batch) (before after after' : List CqlpEvent) (a : After old s es) (x : PutsInto old new input begins b before after) (y : PutsInto old new' input begins b' before after') where
+  f : Fills old new s input begins es (length before) b after
   f = x.fills s es a
 
-  g : Fills old new' s input es (length before) b' after'
+  g : Fills old new' s input begins es (length before) b' after'
   g = y.fills s es a
 
-  answer : b' ≡ b → g.puts ≡ f.puts → AreOneAnswer new new' s input es b b' after after'
-  answer batch puts = record {
+  answer : b' ≡ b → g.puts ≡ f.puts → OthersInInput f.puts → AreOneAnswer new new' s input es b b' after after'
+  answer batch puts lie = record {
     batch = batch;
-    events = tells_all_once (take b.events after) (take b.events after') f.puts f.told (subst (λ (z : Batch). TellsAll (take z.events after') f.puts) batch (subst (λ (z : List Put). TellsAll (take b'.events after') z) puts g.told));
+    puts = f.puts;
+    events = tells_all_once begins (take b.events after) (take b.events after') f.puts f.told (subst (λ (z : Batch). TellsAll begins (take z.events after') f.puts) batch (subst (λ (z : List Put). TellsAll begins (take b'.events after') z) puts g.told));
+    lie = lie;
     others = subst (λ (z : Batch). drop z.events after' ≡ drop z.events before) batch y.others ∙ sym x.others;
-    more = events_of f.puts;
     stands = f.after;
     stands_too = subst (λ (z : Batch). After new' (s ++ take z.used input) (es ++ events_of f.puts)) batch (subst (λ (z : List Put). After new' (s ++ take b'.used input) (es ++ events_of z)) puts g.after);
     rules = y.rules ∙ sym x.rules;
@@ -191,7 +200,7 @@ module _ (old new new' : StreamState) (s input : List ℕ) (es : List (ℕ × Ev
           let empty : c.0 ≡ [] = nil_from_length c.0 (omega (arith, le, ap length c.1, length-append f.puts c.0)) in
           let puts : g.puts ≡ f.puts = c.1 ∙ ap (λ (z : List Put). f.puts ++ z) empty ∙ append-nil f.puts in
           let once = stop_once old none s input es (length before) new new' b.used b'.used f.puts b.stop b'.stop x.rules y.rules f.stops (rw puts at g.stops) in
-          answer (same_batch b b' once.0 (sym g.count ∙ ap length puts ∙ f.count) once.1) puts
+          answer (same_batch b b' once.0 (sym g.count ∙ ap length puts ∙ f.count) once.1) puts (others_in old none s input es (length before) new b.used f.puts b.stop f.stops)
     ]
   ]
 
@@ -202,7 +211,7 @@ module _ (old new new' : StreamState) (s input : List ℕ) (es : List (ℕ × Ev
       let batch : b' ≡ b = q.0 ∙ sym p.0 in
       let one = nil_from_length f.puts (f.count ∙ ap (λ (z : Batch). z.events) p.0) in
       let two = nil_from_length g.puts (g.count ∙ ap (λ (z : Batch). z.events) q.0) in
-      answer batch (two ∙ sym one)
+      answer batch (two ∙ sym one) (subst OthersInInput (sym one) tt)
 
   by_refusal : (o : Option Refusal) → old.refusal ≡ o → AreOneAnswer new new' s input es b b' after after'
   by_refusal None is = unrefused is

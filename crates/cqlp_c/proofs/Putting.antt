@@ -5,22 +5,24 @@ use Rattle.cqlp_decode.specs.Reading.{Event}
 use Rattle.cqlp_decode.specs.Standing.{StreamState}
 use Rattle.cqlp_decode.specs.Cells.{Item, TakesItems, GetsAll, HandsOut, FailsAfter, bytes_of}
 use Rattle.cqlp_c.specs.declared.event.CqlpEvent.{CqlpEvent}
+use Rattle.cqlp_c.specs.declared.slots.Origin.{Origin}
 use Rattle.cqlp_c.specs.declared.slots.Slots.{Slots}
 use Rattle.cqlp_c.specs.Slots.{HasRoom, PutsOne, TellsItems}
 
 -- These events were put, behind those that were there, into the same array.
 pub record PutsAll (before : Slots) (xs : List Item) (after : Slots) : Type 0 where
   pub events : List CqlpEvent
-  pub told : TellsItems events xs
+  pub told : TellsItems before.origin events xs
   pub first : take after.count after.events.now ≡ take before.count before.events.now ++ events
   pub others : drop after.count after.events.now ≡ drop after.count before.events.now
   pub long : length after.events.now ≡ length before.events.now
   pub count : after.count ≡ before.count + length xs
   pub fits : after.count ≤ length after.events.now
   pub same : after.events.ghost_name ≡ before.events.ghost_name
+  pub origin : after.origin ≡ before.origin
 
 puts_none : (s : Slots) → s.count ≤ length s.events.now → PutsAll s [] s
-puts_none s fits = record { events = []; told = tt; first = sym (append-nil (take s.count s.events.now)); others = refl; long = refl; count = omega arith; fits = fits; same = refl }
+puts_none s fits = record { events = []; told = tt; first = sym (append-nil (take s.count s.events.now)); others = refl; long = refl; count = omega arith; fits = fits; same = refl; origin = refl }
 
 pub drops_more : {X : Type 0} (n k : ℕ) (xs ys : List X) → drop n xs ≡ drop n ys → drop (n + k) xs ≡ drop (n + k) ys
 drops_more {X = X} n k xs ys same = sym (drop-drop k n xs) ∙ ap (λ (z : List X). drop k z) same ∙ drop-drop k n ys
@@ -28,7 +30,7 @@ drops_more {X = X} n k xs ys same = sym (drop-drop k n xs) ∙ ap (λ (z : List 
 puts_then : (s t u : Slots) (x : Item) (ys : List Item) → HasRoom s → PutsOne s x.at x.event t → PutsAll t ys u → PutsAll s (x ∷ ys) u
 puts_then s t u x ys room one more = record {
   events = one.told ∷ more.events;
-  told = (one.tells, more.told);
+  told = (one.tells, subst (λ (o : Origin). TellsItems o more.events ys) one.origin more.told);
   first =
       more.first ∙ ap (λ (z : List CqlpEvent). z ++ more.events) (ap (λ (n : ℕ). take n t.events.now) one.count ∙ ap (take (s.count + 1)) one.events ∙ take_more_set s.events.now s.count one.told room)
       ∙ append_assoc (take s.count s.events.now) (one.told ∷ []) more.events;
@@ -40,6 +42,7 @@ puts_then s t u x ys room one more = record {
   count = omega (arith, more.count, one.count);
   fits = more.fits;
   same = more.same ∙ one.same;
+  origin = more.origin ∙ one.origin;
 }
 
 -- Items were taken, of this many bytes, and their events were put.

@@ -1,5 +1,8 @@
 -- Batches of events, as calls put them into an array.
-use Rattle.std.specs.Prelude.{◌≡◌, ℕ, ◌+◌, ◌*◌, ◌<◌, ◌≤◌, ◌++◌, List, [], ◌∷◌, length, take, Option, Some, None, ◌⊎◌, ⊤}
+use Rattle.std.specs.Prelude.{◌≡◌, ℕ, ◌+◌, ◌-◌, ◌*◌, ◌<◌, ◌≤◌, ◌++◌, List, [], ◌∷◌, length, take, Option, Some, None, ◌⊎◌, ⊤}
+use Rattle.std.specs.Borrow.{Bor}
+use Rattle.std.specs.Ptr.{Ptr, as_ptr, null_ptr}
+use denote.RawPtr.{◌+ₚ◌}
 use Rattle.cqlp_note.specs.declared.refusal.Refusal.{Refusal}
 use Rattle.cqlp_note.specs.Limits.{Rules}
 use Rattle.cqlp_grammar.specs.declared.event.Finish.{Finish}
@@ -7,11 +10,12 @@ use Rattle.cqlp_grammar.specs.declared.event.Finish.TheVariants as finish
 use Rattle.cqlp_decode.specs.Reading.{Event, Place, start, Reads, Says, Waits}
 use Rattle.cqlp_decode.specs.Standing.{StreamState, ends_due}
 use Rattle.cqlp_decode.specs.Streams.{After, Refuses}
+use Rattle.cqlp_laws.specs.Contents.{content_in}
 use Rattle.cqlp_c.specs.declared.event.CqlpEvent.{CqlpEvent}
 use Rattle.cqlp_c.specs.declared.batch.Batch.{Batch}
 use Rattle.cqlp_c.specs.declared.batch.Stop.{Stop}
 use Rattle.cqlp_c.specs.declared.batch.Stop.TheVariants as stop
-use Rattle.cqlp_c.specs.Events.{Tells, content_span}
+use Rattle.cqlp_c.specs.Events.{IsStart, content_span, told_at}
 
 -- An event that was put, at this offset of the stream. Its step used the bytes of the input from `from` to `end`.
 pub record Put : Type 0 where
@@ -41,12 +45,6 @@ Puts l s input es from (p ∷ ps) =
     (p.from ≡ from) × (p.end ≤ length input) × IsRead l (s ++ take p.end input) (es ++ (p.at, p.event) ∷ [])
     × Puts l s input (es ++ (p.at, p.event) ∷ []) p.end ps
 
--- these are the events, as C sees them, one for one
-abbrev pub TellsAll : List CqlpEvent → List Put → Type 0
-TellsAll [] [] = ⊤
-TellsAll (c ∷ cs) (p ∷ ps) = Tells c p.at p.event × TellsAll cs ps
-TellsAll cs ps = ⊥
-
 -- ---- where contents lie
 
 -- the content lies whole in the bytes that its step used, so that it is not held by the decoder
@@ -56,6 +54,23 @@ IsInInput p = p.from + content_span p.event ≤ p.end
 -- part of the content came before, so that it was gathered in the decoder
 abbrev pub IsGathered : Put → Type 0
 IsGathered p = p.end < p.from + content_span p.event
+
+-- Where the content lies of an event that was put, out of an input that begins there: one that is whole in the bytes that
+-- its step used is the last of them; to one that was gathered a reference points. It is null where there is none.
+abbrev pub LiesBy : (input : Ptr) → Put → Option (List ℕ) → Ptr → Type 0
+LiesBy input p None place = place ≡ null_ptr
+LiesBy input p (Some content) place =
+    (IsInInput p → place ≡ input +ₚ (p.end - length content)) × (IsGathered p → IsStart (Some content) place)
+
+-- C is told of this event, and where its content lies.
+abbrev pub TellsPut : (input : Ptr) → CqlpEvent → Put → Type 0
+TellsPut input c p = (place : Ptr) × LiesBy input p (content_in p.event) place × (c ≡ told_at p.at p.event place)
+
+-- these are the events, as C sees them, one for one
+abbrev pub TellsAll : (input : Ptr) → List CqlpEvent → List Put → Type 0
+TellsAll input [] [] = ⊤
+TellsAll input (c ∷ cs) (p ∷ ps) = TellsPut input c p × TellsAll input cs ps
+TellsAll input cs ps = ⊥
 
 abbrev pub AllInInput : List Put → Type 0
 AllInInput [] = ⊤
@@ -92,20 +107,26 @@ StopsBy old new s input es room used puts stop.Full =
     (used ≡ end_of 0 puts) × OthersInInput puts × ((length puts ≡ room) ⊎ LastIsGathered puts)
 
 -- What a batch is, after the bytes s and the events es: this many bytes of the input were used, and the events that
--- the reading says of them are in the array. No content but the last lies in the decoder.
-pub record Fills (old new : StreamState) (s input : List ℕ) (es : List (ℕ × Event)) (room : ℕ) (b : Batch)
-    (events : List CqlpEvent) : Type 0 where
+-- the reading says of them are in the array. No content but the last lies in the decoder; the others lie in the input,
+-- which begins at `begins`.
+pub record Fills (old new : StreamState) (s input : List ℕ) (begins : Ptr) (es : List (ℕ × Event)) (room : ℕ)
+    (b : Batch) (events : List CqlpEvent) : Type 0 where
   pub puts : List Put
   pub count : length puts ≡ b.events
   pub put : Puts old.rules s input es 0 puts
-  pub told : TellsAll (take b.events events) puts
+  pub told : TellsAll begins (take b.events events) puts
   pub after : After new (s ++ take b.used input) (es ++ events_of puts)
   pub stops : StopsBy old new s input es room b.used puts b.stop
 
+-- the bytes begin at the pointer that the caller gave, which is not looked at where there are none
+abbrev pub BeginsAt : Bor (List ℕ) → Ptr → Type 0
+BeginsAt bytes begins = 0 < length bytes.now → begins ≡ as_ptr bytes
+
 -- the same of any stream that led here
-abbrev pub FillsOn : (old new : StreamState) → (input : List ℕ) → (room : ℕ) → Batch → List CqlpEvent → Type 0
-FillsOn old new input room b events =
-    (s : List ℕ) (es : List (ℕ × Event)) → After old s es → Fills old new s input es room b events
+abbrev pub FillsOn : (old new : StreamState) → (input : List ℕ) → (begins : Ptr) → (room : ℕ) → Batch
+    → List CqlpEvent → Type 0
+FillsOn old new input begins room b events =
+    (s : List ℕ) (es : List (ℕ × Event)) → After old s es → Fills old new s input begins es room b events
 
 -- after a refusal a batch says it again, also where there is no room, and changes nothing
 abbrev pub RepeatsRefusal : Refusal → (old new : StreamState) → Batch → Type 0
@@ -116,6 +137,14 @@ abbrev pub stop_without_room : Finish → Stop
 stop_without_room (finish.Refused r) = stop.Refused r
 stop_without_room (finish.Whole bytes) = stop.Full
 stop_without_room (finish.Cut frame_at bytes) = stop.Full
+
+-- an event that a step put, which used the last `taken` of the bytes up to here
+abbrev pub put_of : (at : ℕ) → Event → (end taken : ℕ) → Put
+put_of at e end taken = record { at = at; event = e; from = end - taken; end = end }
+
+-- a decoder that has refused nothing has used this many bytes, whatever led here
+abbrev pub HasUsed : StreamState → ℕ → Type 0
+HasUsed d bytes = (s : List ℕ) (es : List (ℕ × Event)) → After d s es → d.refusal ≡ None → bytes ≡ length s
 
 -- ---- progress
 

@@ -1,6 +1,7 @@
 -- Events, as C sees them.
 use Rattle.std.specs.Prelude.{◌≡◌, ℕ, zero, suc, ◌+◌, ◌++◌, pos, List, [], ◌∷◌, length, Option, Some, None, ◌==◌, ◌&&◌, if◌then◌else◌}
 use Rattle.std.specs.Borrow.{Bor}
+use Rattle.std.specs.Option.{option_map}
 use Rattle.std.specs.Ptr.{Ptr, null_ptr, as_ptr}
 use Rattle.cqlp_note.specs.declared.field.Field.{Field}
 use Rattle.cqlp_note.specs.declared.header.Header.{Header}
@@ -14,6 +15,7 @@ use Rattle.cqlp_kind.specs.CellStep as cell
 use Rattle.cqlp_kind.specs.Scalars.{ScalarValue}
 use Rattle.cqlp_kind.specs.Scalars as scalar
 use Rattle.cqlp_grammar.specs.Events.{Event, Frame, Holds, Node_of, Cell_at, Leave, End}
+use Rattle.cqlp_laws.specs.Contents.{before_content, before_scalar, content_in, scalar_content}
 use Rattle.cqlp_c.specs.declared.event.CqlpEvent.{CqlpEvent}
 use Rattle.cqlp_c.specs.declared.numbers.TheConstants as numbers
 use Rattle.cqlp_c.specs.Numbers.{number_of_field, number_of_kind}
@@ -153,28 +155,19 @@ numbers_of at (Cell_at row column e) = cell_event at row column e
 numbers_of at (Leave level items) = record (of_value at numbers.TAG_LEAVE 0 0 level) { number = pos items }
 numbers_of at (End extra) = record (of_value at numbers.TAG_END 0 0 0) { number = pos extra }
 
--- the content of a scalar, if it has one; the others are told by their number or their bytes
-abbrev pub scalar_content : ScalarValue → Option (List ℕ)
-scalar_content (scalar.Custom b) = Some b
-scalar_content (scalar.Blob b) = Some b
-scalar_content (scalar.Raw b) = Some b
-scalar_content (scalar.Varint b) = Some b
-scalar_content (scalar.Ascii t) = Some t
-scalar_content (scalar.Varchar t) = Some t
-scalar_content (scalar.Decimal scale b) = Some b
-scalar_content v = None
-
--- the content that an event lends, if it lends one
-abbrev pub content_in : Event → Option (List ℕ)
-content_in (Holds f (field.Text t)) = Some t
-content_in (Holds f (field.Bytes (Some c))) = Some c
-content_in (Holds f (field.Bound (field.Known c))) = Some c
-content_in (Cell_at row column (cell.Leaf level v)) = scalar_content v
-content_in (Cell_at row column (cell.Part level offset c last)) = Some c
-content_in e = None
-
 abbrev pub content_of : Event → List ℕ
 content_of e = bytes_in (content_in e)
+
+-- how many bytes come before the content of a scalar and of an event, from its offset on, if it has a content
+abbrev pub scalar_after : ScalarValue → Option ℕ
+scalar_after v = option_map (λ content. before_scalar v) (scalar_content v)
+
+abbrev pub content_after : Event → Option ℕ
+content_after e = option_map (λ content. before_content e) (content_in e)
+
+-- an event at an offset, with its content there
+abbrev pub told_at : (at : ℕ) → Event → Ptr → CqlpEvent
+told_at at e p = with_content (numbers_of at e) (content_of e) p
 
 -- C is told of this event at this offset: its numbers, and where its content begins, with how many bytes.
 abbrev pub Tells : CqlpEvent → (at : ℕ) → Event → Type 0

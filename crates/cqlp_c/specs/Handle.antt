@@ -1,5 +1,7 @@
 -- What a handle owns, and what calls on one answer.
 use Rattle.std.specs.Prelude.{◌≡◌, ℕ, ◌≤◌, List, length, drop, Option, None, Some, Result, Ok, Err, ◌⊎◌}
+use Rattle.std.specs.Borrow.{Bor}
+use Rattle.std.specs.Ptr.{Ptr}
 use base.Fml.{Fml, ftrue}
 use Rattle.cqlp_note.specs.declared.limits.BadLimits.{BadLimits}
 use Rattle.cqlp_note.specs.declared.limits.Limits.{Limits}
@@ -18,7 +20,7 @@ use Rattle.cqlp_c.specs.declared.shown.CqlpEnd.{CqlpEnd}
 use Rattle.cqlp_c.specs.declared.shown.CqlpHeld.{CqlpHeld}
 use Rattle.cqlp_c.specs.declared.numbers.TheConstants as numbers
 use Rattle.cqlp_c.specs.Numbers.{code_of_limit}
-use Rattle.cqlp_c.specs.Batches.{FillsOn, GoesOn, RepeatsRefusal}
+use Rattle.cqlp_c.specs.Batches.{BeginsAt, FillsOn, GoesOn, RepeatsRefusal}
 use Rattle.cqlp_c.specs.Shown.{batch_of, end_of, held_of}
 
 -- F of the value that is there
@@ -50,8 +52,9 @@ Makes l (Some d) code new = (code ≡ numbers.IN_USE) × (new ≡ Some d)
 
 -- What a call puts into the array, and how it leaves a decoder. The members of the array after the events stay as they
 -- were.
-pub record PutsInto (old new : StreamState) (input : List ℕ) (b : Batch) (before after : List CqlpEvent) : Type 0 where
-  pub fills : FillsOn old new input (length before) b after
+pub record PutsInto (old new : StreamState) (input : List ℕ) (begins : Ptr) (b : Batch) (before after : List CqlpEvent)
+    : Type 0 where
+  pub fills : FillsOn old new input begins (length before) b after
   pub refused : (r : Refusal) → old.refusal ≡ Some r → RepeatsRefusal r old new b
   pub goes_on : GoesOn old new (length before) b
   pub within : (b.used ≤ length input) × (b.events ≤ length before)
@@ -59,13 +62,13 @@ pub record PutsInto (old new : StreamState) (input : List ℕ) (b : Batch) (befo
   pub room : length after ≡ length before
   pub rules : new.rules ≡ old.rules
 
-abbrev pub Nexts : (old : Option Decoding) → (input : List ℕ) → (code : ℕ) → (new : Option Decoding)
+abbrev pub Nexts : (old : Option Decoding) → (input : Bor (List ℕ)) → (code : ℕ) → (new : Option Decoding)
     → (before after : List CqlpEvent) → (was told : CqlpBatch) → Type 0
 Nexts None input code new before after was told =
     (code ≡ numbers.NO_DECODER) × (new ≡ None) × (after ≡ before) × (told ≡ was)
 Nexts (Some d) input code new before after was told =
     (code ≡ numbers.DONE) × (e : Decoding) × (new ≡ Some e) × (b : Batch) × (told ≡ batch_of b)
-    × PutsInto (state d) (state e) input b before after
+    × (begins : Ptr) × BeginsAt input begins × PutsInto (state d) (state e) input.now begins b before after
 
 -- ---- finish and held
 

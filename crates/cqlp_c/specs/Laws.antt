@@ -1,17 +1,19 @@
 -- Laws of the calls.
-use Rattle.std.specs.Prelude.{◌≡◌, ◌↔◌, ℕ, ◌++◌, true, List, drop, map, take, Option, Some}
-use Rattle.std.specs.Ptr.{null_ptr}
+use Rattle.std.specs.Prelude.{◌≡◌, ◌↔◌, ℕ, ◌-◌, ◌≤◌, ◌++◌, true, List, [], ◌∷◌, length, drop, take, Option, Some, ⊤}
+use Rattle.std.specs.Ptr.{Ptr, null_ptr}
 use Rattle.cqlp_note.specs.declared.header.Header.{Header}
 use Rattle.cqlp_note.specs.Limits.{Rules}
 use Rattle.cqlp_grammar.specs.declared.event.Finish.{Finish}
 use Rattle.cqlp_decode.specs.Reading.{Event}
 use Rattle.cqlp_decode.specs.Standing.{StreamState}
 use Rattle.cqlp_decode.specs.Streams.{After}
+use Rattle.cqlp_laws.specs.Contents.{content_in}
 use Rattle.cqlp_session.specs.Client.{ClientCore}
 use Rattle.cqlp_session.specs.Signal.{signal_of}
 use Rattle.cqlp_c.specs.declared.batch.Batch.{Batch}
 use Rattle.cqlp_c.specs.declared.event.CqlpEvent.{CqlpEvent}
 use Rattle.cqlp_c.specs.declared.numbers.TheConstants as numbers
+use Rattle.cqlp_c.specs.Batches.{IsInInput, IsRead, OthersInInput, Put, events_of}
 use Rattle.cqlp_c.specs.Checks.{HasVerdict}
 use Rattle.cqlp_c.specs.Clients.{Starts}
 use Rattle.cqlp_c.specs.Events.{of_frame}
@@ -22,25 +24,41 @@ use Rattle.cqlp_c.specs.Talked.{is_stream, signal_in}
 abbrev pub unplaced : CqlpEvent → CqlpEvent
 unplaced c = record c { content = null_ptr }
 
--- Two calls made one answer: the same batch, the same events but for where their contents lie, and the others as they
--- were. The decoders are left after the same bytes and events, so that what they answer next is one too.
+-- Each of these events was put twice: what C is told is the same, and where the content lies too, if it lies in the input.
+abbrev pub AreSame : List Put → (events events' : List CqlpEvent) → Type 0
+AreSame [] [] [] = ⊤
+AreSame (p ∷ ps) (c ∷ cs) (d ∷ ds) = (unplaced d ≡ unplaced c) × (IsInInput p → d ≡ c) × AreSame ps cs ds
+AreSame ps cs ds = ⊥
+
+-- Two calls made one answer: the same batch, the same events, and the others as they were. The contents of all events but
+-- the last lie in the input, each in one place there, and so does that of the last, if it was not gathered. The decoders
+-- are left after the same bytes and events, so that what they answer next is one too.
 pub record AreOneAnswer (new new' : StreamState) (s input : List ℕ) (es : List (ℕ × Event)) (b b' : Batch)
     (after after' : List CqlpEvent) : Type 0 where
   pub batch : b' ≡ b
-  pub events : map unplaced (take b.events after') ≡ map unplaced (take b.events after)
+  pub puts : List Put
+  pub events : AreSame puts (take b.events after) (take b.events after')
+  pub lie : OthersInInput puts
   pub others : drop b.events after' ≡ drop b.events after
-  pub more : List (ℕ × Event)
-  pub stands : After new (s ++ take b.used input) (es ++ more)
-  pub stands_too : After new' (s ++ take b.used input) (es ++ more)
+  pub stands : After new (s ++ take b.used input) (es ++ events_of puts)
+  pub stands_too : After new' (s ++ take b.used input) (es ++ events_of puts)
   pub rules : new'.rules ≡ new.rules
 
 -- After the same bytes and events, over the same input and into the same array, there is one answer.
 abbrev pub IsOneAnswerOfNext : Type 0
 IsOneAnswerOfNext =
-    (old new new' : StreamState) (s input : List ℕ) (es : List (ℕ × Event)) (b b' : Batch)
+    (old new new' : StreamState) (s input : List ℕ) (begins : Ptr) (es : List (ℕ × Event)) (b b' : Batch)
     (before after after' : List CqlpEvent)
-    → After old s es → PutsInto old new input b before after → PutsInto old new' input b' before after'
+    → After old s es → PutsInto old new input begins b before after → PutsInto old new' input begins b' before after'
     → AreOneAnswer new new' s input es b b' after after'
+
+-- The bytes of the input where a content lies that was put are the content.
+abbrev pub ContentsLieThere : Type 0
+ContentsLieThere =
+    (l : Rules) (s input : List ℕ) (es : List (ℕ × Event)) (p : Put) (content : List ℕ)
+    → IsRead l (s ++ take p.end input) (es ++ (p.at, p.event) ∷ []) → p.end ≤ length input → IsInInput p
+    → content_in p.event ≡ Some content
+    → (length content ≤ p.end) × (take (length content) (drop (p.end - length content) input) ≡ content)
 
 -- Of one stream there is one verdict.
 abbrev pub IsOneAnswerOfCheck : Type 0

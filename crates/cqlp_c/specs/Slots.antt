@@ -1,21 +1,38 @@
 -- The array of a batch, as what takes events.
-use Rattle.std.specs.Prelude.{◌≡◌, ℕ, ◌+◌, ◌<◌, ◌++◌, List, [], ◌∷◌, length, take, drop, set, ⊤}
+use Rattle.std.specs.Prelude.{◌≡◌, ℕ, ◌+◌, ◌-◌, ◌<◌, ◌≤◌, ◌++◌, List, [], ◌∷◌, length, take, drop, set, Option, Some, None, ⊤}
+use Rattle.std.specs.Ptr.{Ptr, as_ptr, null_ptr}
+use denote.RawPtr.{◌+ₚ◌}
 use Rattle.cqlp_decode.specs.Reading.{Event}
 use Rattle.cqlp_decode.specs.Standing.{StreamState}
 use Rattle.cqlp_decode.specs.Cells.{Item, TakesItems, bytes_of}
+use Rattle.cqlp_laws.specs.Contents.{before_content, content_in}
 use Rattle.cqlp_c.specs.declared.event.CqlpEvent.{CqlpEvent}
+use Rattle.cqlp_c.specs.declared.slots.Origin.{Origin}
 use Rattle.cqlp_c.specs.declared.slots.Slots.{Slots}
 use Rattle.cqlp_c.specs.declared.slots.WholePut.{WholePut}
-use Rattle.cqlp_c.specs.Events.{Tells}
+use Rattle.cqlp_c.specs.Events.{told_at}
 
 -- there is room for another event
 abbrev pub HasRoom : Slots → Type 0
 HasRoom s = s.count < length s.events.now
 
+-- Where the content of the event at an offset lies, if it lies in the input: its offset in the stream tells its place
+-- there. It is null where there is none.
+abbrev pub IsPlaced : Origin → (at : ℕ) → Event → Option (List ℕ) → Ptr → Type 0
+IsPlaced o at e None place = place ≡ null_ptr
+IsPlaced o at e (Some content) place =
+    o.offset ≤ at + before_content e → at + before_content e ≤ o.offset + length o.input.now
+    → place ≡ as_ptr o.input +ₚ ((at + before_content e) - o.offset)
+
+-- C is told of this event at this offset, and where its content lies, if it lies in the input.
+abbrev pub TellsIn : Origin → CqlpEvent → (at : ℕ) → Event → Type 0
+TellsIn o c at e = (place : Ptr) × IsPlaced o at e (content_in e) place × (c ≡ told_at at e place)
+
 -- The event at an offset is in the next place of the array, which is the same otherwise.
 pub record PutsOne (before : Slots) (at : ℕ) (e : Event) (after : Slots) : Type 0 where
   pub told : CqlpEvent
-  pub tells : Tells told at e
+  pub tells : TellsIn before.origin told at e
+  pub origin : after.origin ≡ before.origin
   pub events : after.events.now ≡ set before.events.now before.count told
   pub count : after.count ≡ before.count + 1
   pub same : after.events.ghost_name ≡ before.events.ghost_name
@@ -24,20 +41,20 @@ abbrev pub PutsNext : Slots → (at : ℕ) → Event → Slots → Type 0
 PutsNext before at e after = HasRoom before → PutsOne before at e after
 
 -- these are the events of the items, as C sees them, one for one
-abbrev pub TellsItems : List CqlpEvent → List Item → Type 0
-TellsItems [] [] = ⊤
-TellsItems (c ∷ cs) (x ∷ xs) = Tells c x.at x.event × TellsItems cs xs
-TellsItems cs xs = ⊥
+abbrev pub TellsItems : Origin → List CqlpEvent → List Item → Type 0
+TellsItems o [] [] = ⊤
+TellsItems o (c ∷ cs) (x ∷ xs) = TellsIn o c x.at x.event × TellsItems o cs xs
+TellsItems o cs xs = ⊥
 
 -- Items were taken one after the other, of this many bytes, and their events, as C sees them, stand behind the first n
 -- of the array, which is the same otherwise.
-pub record PutsWhole (old new : StreamState) (input : List ℕ) (n : ℕ) (put : WholePut)
+pub record PutsWhole (old new : StreamState) (input : List ℕ) (o : Origin) (n : ℕ) (put : WholePut)
     (before after : List CqlpEvent) : Type 0 where
   pub items : List Item
   pub takes : TakesItems old input items new
   pub all : put.used ≡ bytes_of items
   pub events : List CqlpEvent
-  pub told : TellsItems events items
+  pub told : TellsItems o events items
   pub first : take put.count after ≡ take n before ++ events
   pub others : drop put.count after ≡ drop put.count before
   pub long : length after ≡ length before

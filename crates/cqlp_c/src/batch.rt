@@ -1,14 +1,17 @@
 //! Batches of events.
 
-ghost use Rattle.std.specs.Prelude.{◌≡◌, ℕ, ◌<◌, ◌≤◌, List, drop, length, Some};
+ghost use Rattle.std.specs.Prelude.{◌≡◌, ℕ, ◌<◌, ◌≤◌, List, drop, length, Some, nat_lt};
+ghost use Rattle.std.specs.Ptr.{Ptr, as_ptr};
 ghost use Rattle.cqlp_note.specs.declared.refusal.Refusal.{Refusal as Refused};
+ghost use Rattle.cqlp_grammar.specs.Events.{event_of};
 ghost use Rattle.cqlp_decode.specs.Streams.{state};
-ghost use Rattle.cqlp_c.specs.declared.event.CqlpEvent.{CqlpEvent as Event};
-ghost use Rattle.cqlp_c.specs.Batches.{FillsOn, GoesOn, RepeatsRefusal, stop_without_room};
+ghost use Rattle.cqlp_c.specs.declared.event.CqlpEvent.{CqlpEvent as Told};
+ghost use Rattle.cqlp_c.specs.Events.{content_span};
+ghost use Rattle.cqlp_c.specs.Batches.{BeginsAt, FillsOn, GoesOn, HasUsed, RepeatsRefusal, TellsPut, put_of, stop_without_room};
 
-use crate::event::{CqlpEvent, tell};
-use crate::slots::put_whole;
-use cqlp_decode::{Decoder, Finish, Step};
+use crate::event::{CqlpEvent, address_of, before_content, tell};
+use crate::slots::{Origin, put_whole};
+use cqlp_decode::{Decoder, Event, Finish, Step};
 use cqlp_note::Refusal;
 use std::alloc::Global;
 
@@ -36,7 +39,8 @@ pub struct Batch {
 
 /// Bytes that C gives: where there are none, C may give them by a null pointer, which goes no further than this.
 pub fn or_none(bytes: &[u8]) -> &[u8]
-    ensures { result.now ≡ bytes.now }
+    ensures bytes { result.now ≡ bytes.now }
+    ensures there { BeginsAt bytes.entry (as_ptr result) }
 {
     if bytes.is_empty() { &[] } else { bytes }
 }
@@ -45,7 +49,7 @@ pub fn or_none(bytes: &[u8]) -> &[u8]
 /// content that lies in the decoder is put last, since the next step may overwrite it. A refusal that was made before is
 /// said again, also where there is no room.
 pub fn fill(decoder: &mut Decoder<Global>, input: &[u8], events: &mut [CqlpEvent]) -> Batch
-    ensures fills { FillsOn (state decoder.old) (state decoder.new) input.now (length events.old) result events.new }
+    ensures fills { FillsOn (state decoder.old) (state decoder.new) input.now (as_ptr input.entry) (length events.old) result events.new }
     ensures refused { (r : Refused) → (state decoder.old).refusal ≡ Some r →
         RepeatsRefusal r (state decoder.old) (state decoder.new) result }
     ensures goes_on { GoesOn (state decoder.old) (state decoder.new) (length events.old) result }
@@ -75,7 +79,8 @@ fn stop_without_room(finish: &Finish) -> Stop
 /// A batch that has no room: it says nothing but a refusal that was made before.
 #[inline(never)]
 fn without_room(decoder: &Decoder<Global>) -> Batch
-    ensures fills { (input : List ℕ) (events : List Event) → FillsOn (state decoder.now) (state decoder.now) input 0 result events }
+    ensures fills { (input : List ℕ) (begins : Ptr) (events : List Told) →
+        FillsOn (state decoder.now) (state decoder.now) input begins 0 result events }
     ensures refused { (r : Refused) → (state decoder.now).refusal ≡ Some r →
         RepeatsRefusal r (state decoder.now) (state decoder.now) result }
     ensures none { (result.used ≡ 0) × (result.events ≡ 0) }
@@ -88,10 +93,37 @@ fn without_room(decoder: &Decoder<Global>) -> Batch
     }
 }
 
+/// How many bytes of the stream were used, if it is not refused.
+fn bytes_used(decoder: &Decoder<Global>) -> u64
+    ensures { HasUsed (state decoder.now) result }
+{
+    match decoder.finish() {
+        Finish::Whole { bytes } => bytes,
+        Finish::Cut { bytes, .. } => bytes,
+        Finish::Refused(_) => 0,
+    }
+}
+
+/// Puts the event of a step that used the last `taken` of these bytes, and says whether its content lies in the decoder.
+/// Else it is the last of the bytes.
+#[inline(always)]
+fn put_step(slot: &mut CqlpEvent, at: u64, event: &Event<'_>, bytes: &[u8], taken: usize) -> bool
+    requires { taken ≤ length bytes.now }
+    ensures gathered { result ≡ nat_lt taken (content_span (event_of event.now)) }
+    ensures tells { TellsPut (as_ptr bytes.entry) slot.new (put_of at (event_of event.now) (length bytes.now) taken) }
+{
+    tell(slot, at, event);
+    let gathered = slot.is_gathered(taken);
+    if !gathered && before_content(event).is_some() {
+        slot.content = address_of(&bytes[bytes.len() - slot.length..]);
+    }
+    gathered
+}
+
 /// The same as `fill`, where there is room.
 #[inline(always)]
 fn fill_room(decoder: &mut Decoder<Global>, input: &[u8], events: &mut [CqlpEvent]) -> Batch
-    ensures fills { FillsOn (state decoder.old) (state decoder.new) input.now (length events.old) result events.new }
+    ensures fills { FillsOn (state decoder.old) (state decoder.new) input.now (as_ptr input.entry) (length events.old) result events.new }
     ensures refused { (r : Refused) → (state decoder.old).refusal ≡ Some r → 0 < length events.old →
         RepeatsRefusal r (state decoder.old) (state decoder.new) result }
     ensures goes_on { GoesOn (state decoder.old) (state decoder.new) (length events.old) result }
@@ -100,6 +132,10 @@ fn fill_room(decoder: &mut Decoder<Global>, input: &[u8], events: &mut [CqlpEven
     ensures room { length events.new ≡ length events.old }
     ensures rules { (state decoder.new).rules ≡ (state decoder.old).rules }
 {
+    let origin = Origin {
+        input,
+        offset: bytes_used(decoder),
+    };
     let mut used = 0;
     let mut count = 0;
     'slots: while count < events.len() {
@@ -123,10 +159,8 @@ fn fill_room(decoder: &mut Decoder<Global>, input: &[u8], events: &mut [CqlpEven
                 used: taken,
                 event,
             } => {
-                let slot = &mut events[count];
-                tell(slot, at, &event);
-                let gathered = slot.is_gathered(taken);
                 used += taken;
+                let gathered = put_step(&mut events[count], at, &event, &input[..used], taken);
                 count += 1;
                 if gathered {
                     return Batch {
@@ -137,7 +171,7 @@ fn fill_room(decoder: &mut Decoder<Global>, input: &[u8], events: &mut [CqlpEven
                 }
             }
         }
-        let put = put_whole(decoder, &input[used..], events, count);
+        let put = put_whole(decoder, &input[used..], origin, events, count);
         used += put.used;
         count = put.count;
     }

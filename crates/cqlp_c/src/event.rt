@@ -5,7 +5,7 @@ ghost use Rattle.std.specs.Ptr.{as_ptr};
 ghost use Rattle.cqlp_kind.specs.CellStep as cell;
 ghost use Rattle.cqlp_kind.specs.Contents.{value_of};
 ghost use Rattle.cqlp_grammar.specs.Events.{Cell_at, event_of};
-ghost use Rattle.cqlp_c.specs.Events.{LendsFrom, Tells, has_address, zeros};
+ghost use Rattle.cqlp_c.specs.Events.{LendsFrom, Tells, content_after, has_address, scalar_after, zeros};
 
 use crate::numbers::*;
 use cqlp_decode::Event;
@@ -53,7 +53,7 @@ pub struct CqlpEvent {
 
 /// Where these bytes begin.
 #[inline(always)]
-fn address_of(bytes: &[u8]) -> *const u8
+pub fn address_of(bytes: &[u8]) -> *const u8
     ensures { result ≡ as_ptr bytes.entry }
 {
     bytes.as_ptr()
@@ -282,6 +282,51 @@ fn tell_scalar(
             slot.kind = KIND_RAW;
             slot.lend(bytes);
         }
+    }
+}
+
+/// How many bytes come before the content of an event, from its offset on, if it has one: those of its length, and of a
+/// decimal those of its scale. A query alone is a \[long string\], and the id of a statement alone \[short bytes\]: these two
+/// have other lengths than the texts and the bytes beside them. A part of a long content begins with it.
+#[inline(always)]
+pub fn before_content(event: &Event<'_>) -> Option<u64>
+    ensures { result ≡ content_after (event_of event.now) }
+{
+    match *event {
+        Event::Leaf { scalar, .. } => before_scalar(&scalar),
+        Event::Text {
+            field: Field::Query,
+            ..
+        } => Some(4),
+        Event::Text { .. } => Some(2),
+        Event::Bytes {
+            field: Field::StatementId,
+            bytes: Some(_),
+        } => Some(2),
+        Event::Bytes { bytes: Some(_), .. } => Some(4),
+        Event::Bound {
+            value: BoundValue::Bytes(_),
+            ..
+        } => Some(4),
+        Event::Part { .. } => Some(0),
+        _ => None,
+    }
+}
+
+/// The same of a scalar.
+#[inline(always)]
+fn before_scalar(scalar: &Scalar<'_>) -> Option<u64>
+    ensures { result ≡ scalar_after (value_of scalar.now) }
+{
+    match *scalar {
+        Scalar::Decimal { .. } => Some(8),
+        Scalar::Custom(_)
+        | Scalar::Ascii(_)
+        | Scalar::Blob(_)
+        | Scalar::Varchar(_)
+        | Scalar::Varint(_)
+        | Scalar::Raw(_) => Some(4),
+        _ => None,
     }
 }
 

@@ -147,7 +147,7 @@ pub extern "C" fn cqlp_next(
     events: &mut [CqlpEvent],
     batch: &mut CqlpBatch,
 ) -> u32
-    ensures { Nexts decoder.old.place.value input.now result decoder.new.place.value
+    ensures { Nexts decoder.old.place.value input.entry result decoder.new.place.value
         events.old events.new batch.old batch.new }
 {
     match taken(std::mem::replace(decoder, none(alloc)), alloc) {

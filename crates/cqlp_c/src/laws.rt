@@ -1,8 +1,8 @@
 //! Laws of the calls. No code needs them.
 
 ghost use Rattle.std.specs.Thread.{IsSend};
-ghost use Rattle.cqlp_c.specs.Laws.{FramesAreHeard, IsOneAnswerOfCheck, IsOneAnswerOfClientNew};
-ghost use Rattle.cqlp_c.specs.Laws.{IsOneAnswerOfNext};
+ghost use Rattle.cqlp_c.specs.Laws.{ContentsLieThere, FramesAreHeard, IsOneAnswerOfCheck};
+ghost use Rattle.cqlp_c.specs.Laws.{IsOneAnswerOfClientNew, IsOneAnswerOfNext};
 ghost use Rattle.cqlp_c.specs.contracts.client.CqlpClient as client;
 ghost use Rattle.cqlp_c.specs.contracts.handle.CqlpDecoder as decoder;
 
@@ -11,9 +11,14 @@ use crate::handle::CqlpDecoder;
 use std::marker::Send;
 
 /// After the same bytes and events, over the same input and with the same room, there is one answer: the same batch with
-/// the same events, up to where their contents lie.
+/// the same events, up to where the content of the last was gathered, if it was.
 pub fn one_answer_of_next()
     ensures { IsOneAnswerOfNext }
+{}
+
+/// The bytes of the input where `cqlp_next` says that a content lies are the content.
+pub fn contents_lie_there()
+    ensures { ContentsLieThere }
 {}
 
 /// A stream has one verdict, so that of a check is the one that a decoder gives that is given the stream in pieces.

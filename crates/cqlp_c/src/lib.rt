@@ -23,7 +23,8 @@ pub use event::CqlpEvent;
 pub use handle::{CqlpDecoder, CqlpPlace, cqlp_finish, cqlp_free, cqlp_held, cqlp_new, cqlp_next};
 pub use header::{CqlpHeader, cqlp_write_header};
 pub use laws::{
-    frames_are_heard, one_answer_of_check, one_answer_of_client_new, one_answer_of_next,
+    contents_lie_there, frames_are_heard, one_answer_of_check, one_answer_of_client_new,
+    one_answer_of_next,
 };
 pub use shown::{CqlpBatch, CqlpEnd, CqlpHeld, CqlpLimits};
 pub use talked::{CqlpReply, CqlpTicket};

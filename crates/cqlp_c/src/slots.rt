@@ -1,16 +1,55 @@
 //! The array of a batch, as a sink.
 
-ghost use Rattle.std.specs.Prelude.{◌≡◌, ◌≤◌, length};
+ghost use Rattle.std.specs.Prelude.{◌≡◌, ◌+◌, ◌-◌, ◌≤◌, length};
+ghost use Rattle.std.specs.Ptr.{as_ptr};
+ghost use denote.RawPtr.{◌+ₚ◌};
+ghost use Rattle.cqlp_grammar.specs.Events.{event_of};
 ghost use Rattle.cqlp_decode.specs.Streams.{state};
-ghost use Rattle.cqlp_c.specs.Slots.{PutsWhole};
+ghost use Rattle.cqlp_c.specs.Slots.{PutsWhole, TellsIn};
 
-use crate::event::{CqlpEvent, tell};
+use crate::event::{CqlpEvent, address_of, before_content, tell};
 use cqlp_decode::{Decoder, Event, Sink, SinkFault};
 use std::alloc::Global;
 
-/// An array, with how many events are in it. It fails once it is full, at the event that is put last.
+/// The input of a batch, and at which offset of the stream it begins.
+#[derive(Clone, Copy)]
+pub struct Origin<'a> {
+    pub input: &'a [u8],
+    pub offset: u64,
+}
+
+impl Origin<'_> {
+    /// Where the bytes lie that begin this many after an offset of the stream; `other` where the input has them not.
+    #[inline(always)]
+    fn address(self, at: u64, before: u64, other: *const u8) -> *const u8
+        ensures { self.entry.offset ≤ at + before → at + before ≤ self.entry.offset + length self.entry.input.now
+            → result ≡ as_ptr self.entry.input +ₚ ((at + before) - self.entry.offset) }
+    {
+        let from = at.wrapping_add(before).wrapping_sub(self.offset);
+        if from <= self.input.len() as u64 {
+            address_of(&self.input[from as usize..])
+        } else {
+            other
+        }
+    }
+}
+
+/// Puts the event at an offset, with the place of its content in the input.
+#[inline(always)]
+fn tell_in(origin: Origin<'_>, slot: &mut CqlpEvent, at: u64, event: &Event<'_>)
+    ensures { TellsIn origin.entry slot.new at (event_of event.now) }
+{
+    tell(slot, at, event);
+    if let Some(before) = before_content(event) {
+        slot.content = origin.address(at, before, slot.content);
+    }
+}
+
+/// An array, with how many events are in it, of which the contents lie in this input. It fails once it is full, at the
+/// event that is put last.
 #[derive(Drop)]
 struct Slots<'a> {
+    origin: Origin<'a>,
     events: &'a mut [CqlpEvent],
     count: usize,
 }
@@ -36,7 +75,7 @@ impl Sink for Slots<'_> {
         if self.count >= events.len() {
             return Err(SinkFault);
         }
-        tell(&mut events[self.count], at, event);
+        tell_in(self.origin, &mut events[self.count], at, event);
         self.count += 1;
         if self.count < events.len() {
             Ok(())
@@ -55,15 +94,16 @@ pub struct WholePut {
     pub count: usize,
 }
 
-/// Puts events that lie whole in the input behind the first `count` of the array, while there is room.
+/// Puts events that lie whole in these bytes of the input behind the first `count` of the array, while there is room.
 pub fn put_whole(
     decoder: &mut Decoder<Global>,
     input: &[u8],
+    origin: Origin<'_>,
     events: &mut [CqlpEvent],
     count: usize,
 ) -> WholePut
     requires { count ≤ length events.old }
-    ensures puts { PutsWhole (state decoder.old) (state decoder.new) input.now count result events.old events.new }
+    ensures puts { PutsWhole (state decoder.old) (state decoder.new) input.now origin.entry count result events.old events.new }
     ensures within { (result.used ≤ length input.now) × (result.count ≤ length events.old) }
     ensures stays { ((state decoder.new).refusal ≡ (state decoder.old).refusal)
         × ((state decoder.new).rules ≡ (state decoder.old).rules) }
@@ -71,7 +111,11 @@ pub fn put_whole(
     if count == events.len() {
         return WholePut { used: 0, count };
     }
-    let mut slots = Slots { events, count };
+    let mut slots = Slots {
+        origin,
+        events,
+        count,
+    };
     let used = match decoder.hand_whole(input, &mut slots) {
         Ok(used) => used,
         Err(fault) => fault.used,

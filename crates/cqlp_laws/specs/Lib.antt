@@ -1,4 +1,5 @@
 pub mod Reading
+pub mod Contents
 pub mod Untyped
 pub mod Frames
 pub mod Excess

@@ -1,5 +1,6 @@
 //! Laws of what bytes say: one list of events with one verdict, which goes on where more bytes come.
 
+ghost use Rattle.cqlp_laws.specs.Contents.{EndsWhatIsRead};
 ghost use Rattle.cqlp_laws.specs.Reading.{GoesOn, IsSaid, IsSaidOnce, LiesInItsStep};
 ghost use Rattle.cqlp_laws.specs.Reading.{HandsOutNoMoreEventsThanBytes, HasNoMoreEventsThanBytes};
 
@@ -26,4 +27,10 @@ pub fn no_more_events_than_bytes()
 /// be lent from the input.
 pub fn content_lies_in_its_step()
     ensures { LiesInItsStep }
+{}
+
+/// Where an event with a content is read, the content is the last of the bytes read so far. It begins behind the bytes of
+/// its length, whose number follows from the event: so where it lies is known from the event's offset.
+pub fn contents_end_what_is_read()
+    ensures { EndsWhatIsRead }
 {}

@@ -1,19 +1,22 @@
-use Rattle.std.proofs.Common.{◌≡◌, ℕ, ◌+◌, ◌≤◌, List, [], length, take, drop, refl, sym, ap, ◌∙◌, arith}
+use Rattle.std.proofs.Common.{◌≡◌, ℕ, ◌+◌, ◌-◌, ◌≤◌, List, [], length, take, drop, refl, sym, ap, subst, ◌∙◌, arith}
 use Rattle.std.specs.Prelude.{Option, Some, None, set}
+use Rattle.std.specs.Ptr.{Ptr, as_ptr}
 use Rattle.cqlp_note.specs.declared.refusal.Refusal.{Refusal}
 use Rattle.std.proofs.lemmas.Bool.{ltb-true, ltb-false}
 use Rattle.std.proofs.lemmas.List.{take_more_set, drop-set-lt, length-set, length-take-le, length-drop}
-use Rattle.cqlp_grammar.specs.Events.{event_of}
 use Rattle.cqlp_decode.specs.Standing.{StreamState}
 use Rattle.cqlp_decode.specs.Streams.{state}
 use Rattle.cqlp_decode.proofs.Leads.{repeated}
 use Rattle.cqlp_decode.proofs.Gets.{rest_is}
 use Rattle.cqlp_c.specs.declared.batch.Stop.TheVariants as stop
+use Rattle.cqlp_c.specs.declared.event.CqlpEvent.{CqlpEvent}
+use Rattle.cqlp_grammar.specs.Events.{Event, event_of}
+use Rattle.cqlp_c.specs.declared.slots.Origin.{Origin}
+use Rattle.cqlp_c.specs.Batches.{Put, TellsPut, put_of}
 use Rattle.cqlp_decode.proofs.Taken.{takes_pays}
 use Rattle.cqlp_c.proofs.Fills.{filled_more, fills_gathered, fills_full}
 use Rattle.cqlp_c.proofs.Handed.{filled_items}
 use Rattle.cqlp_c.proofs.Putting.{drops_more}
-use Rattle.cqlp_c.proofs.Spans.{span_told}
 use Rattle.cqlp_c.proofs.batch.fill_room.Goals as goal
 
 drops : {X : Type 0} (n : ℕ) (xs ys : List X) → drop n xs ≡ drop n ys → drop (n + 1) xs ≡ drop (n + 1) ys
@@ -23,22 +26,29 @@ same_refusal : (mid old : Option Refusal) → mid ≡ old → (new : Option Refu
 same_refusal None old is new none some = none ∙ is
 same_refusal (Some r) old is new none some = absurd (some r refl)
 
+-- the event of a step lies where it says
+put_at : (begins : Ptr) (c : CqlpEvent) (at : ℕ) (e : Event) (used taken end : ℕ) → end ≡ used + taken → TellsPut begins c (put_of at e end taken) → TellsPut begins c (record { at = at; event = e; from = used; end = used + taken })
+put_at begins c at e used taken end is tells =
+    let from : end - taken ≡ used = omega (arith, is) in
+    subst (λ (p : Put). TellsPut begins c p) (λ i. record { at = at; event = e; from = from i; end = is i }) tells
+
 pub returns-then-gathered-clause-fills : goal.returns-then-gathered-clause-fills
 returns-then-gathered-clause-fills c = λ s es a.
     let f = c.slots.invariant.filled s es a in
+    let begins = as_ptr c.args.input in
     let old = state c.slots.decoder in
     let new = state c.next.follows.lender-at-none in
     let goes = rw c.in-Event.is at c.next.follows.holds-at-none.0 in
     let leads = rw (c.in-Event.is, rest_is) at (c.next.follows.holds-at-none.1 [] _ _ f.after) in
     let long = length-take-le c.slots.count c.slots.events (omega (arith, c.slots-test.true)) in
-    let gathered = ltb-true _ _ (sym c.is_gathered-gathered.ensures ∙ c.if-gathered.true) in
-    fills_gathered (state c.args.decoder.now).rules old new s c.args.input.now es c.slots.used (take c.slots.count c.slots.events) f c.in-Event.at c.in-Event.taken (event_of c.in-Event.event) (goes.2 ∙ c.slots.invariant.rules) c.slots.invariant.within leads c.tell.new.slot c.tell.ensures (state c.args.decoder.now) (length c.args.events.now) _ _ refl
+    let gathered = ltb-true _ _ (sym c.put_step-gathered.ensures.gathered ∙ c.if-gathered.true) in
+    fills_gathered (state c.args.decoder.now).rules old new s c.args.input.now begins es c.slots.used (take c.slots.count c.slots.events) f c.in-Event.at c.in-Event.taken (event_of c.in-Event.event) (goes.2 ∙ c.slots.invariant.rules) c.slots.invariant.within leads c.put_step-gathered.new.slot (put_at (as_ptr c.args.input) c.put_step-gathered.new.slot c.in-Event.at (event_of c.in-Event.event) c.slots.used c.in-Event.taken _ (length-take-le (c.slots.used + c.in-Event.taken) c.args.input.now (omega (arith, leads.0, c.slots.invariant.within, length-drop c.slots.used c.args.input.now))) c.put_step-gathered.ensures.tells) (state c.args.decoder.now) (length c.args.events.now) _ _ refl
     (ap (λ (n : ℕ). record { used = c.slots.used + c.in-Event.taken; events = n + 1; stop = stop.Full }) (sym long))
-    (rw long (take_more_set c.slots.events c.slots.count c.tell.new.slot c.slots-test.true))
-    (omega (arith, gathered, span_told _ _ _ c.tell.ensures))
+    (rw long (take_more_set c.slots.events c.slots.count c.put_step-gathered.new.slot c.slots-test.true))
+    (omega (arith, gathered))
 
 pub put_whole-put-requires : goal.put_whole-put-requires
-put_whole-put-requires c = omega (arith, c.slots-test.true, length-set c.slots.events c.slots.count c.tell.new.slot)
+put_whole-put-requires c = omega (arith, c.slots-test.true, length-set c.slots.events c.slots.count c.put_step-gathered.new.slot)
 
 pub slots-preserved : goal.slots-preserved
 slots-preserved c =
@@ -47,9 +57,10 @@ slots-preserved c =
     let old = state c.slots.decoder in
     let mid = state c.next.follows.lender-at-none in
     let new = state c.put_whole-put.new.decoder in
-    let there = set c.slots.events c.slots.count c.tell.new.slot in
+    let there = set c.slots.events c.slots.count c.put_step-gathered.new.slot in
     let after = c.put_whole-put.new.events in
     let used = c.slots.used + c.in-Event.taken in
+    let origin : Origin = record { input = c.args.input; offset = c.bytes_used.result } in
     let count = c.slots.count + 1 in
     let taken : c.in-Event.taken ≤ length (drop c.slots.used input) = rw rest_is at c.in-Event.ensures.uses in
     let goes = rw c.in-Event.is at c.next.follows.holds-at-none.0 in
@@ -64,7 +75,7 @@ slots-preserved c =
     record {
       within = omega (arith, w.0, far, length-drop used input);
       room = omega (arith, w.1, p.long);
-      long = p.long ∙ length-set c.slots.events c.slots.count c.tell.new.slot ∙ i.long;
+      long = p.long ∙ length-set c.slots.events c.slots.count c.put_step-gathered.new.slot ∙ i.long;
       rules = stays.1 ∙ goes.2 ∙ i.rules;
       refused = λ r is.
           let before = ap (λ (z : StreamState). z.refusal) (i.refused r is).0 ∙ is in
@@ -74,32 +85,33 @@ slots-preserved c =
       same = stays.0 ∙ same;
       pays = omega (arith, pays, p.all, p.count, i.pays, goes.0);
       others =
-          let behind : drop count there ≡ drop count c.args.events.now = drop-set-lt count c.slots.events c.slots.count c.tell.new.slot (omega arith) ∙ drops c.slots.count c.slots.events c.args.events.now i.others in
+          let behind : drop count there ≡ drop count c.args.events.now = drop-set-lt count c.slots.events c.slots.count c.put_step-gathered.new.slot (omega arith) ∙ drops c.slots.count c.slots.events c.args.events.now i.others in
           p.others ∙ rw p.count (drops_more count (length p.items) there c.args.events.now behind);
       filled = λ s es a.
           let f = i.filled s es a in
           let leads = rw (c.in-Event.is, rest_is) at (c.next.follows.holds-at-none.1 [] _ _ f.after) in
-          let free = ltb-false _ _ (sym c.is_gathered-gathered.ensures ∙ c.if-gathered.false) in
+          let free = ltb-false _ _ (sym c.put_step-gathered.ensures.gathered ∙ c.if-gathered.false) in
+          let base = sym (c.bytes_used.ensures s es a (sym same ∙ goes.3)) in
           let rules = goes.2 ∙ i.rules in
           let one =
-          filled_more (state c.args.decoder.now).rules old mid s input es c.slots.used (take c.slots.count c.slots.events) f c.in-Event.at c.in-Event.taken (event_of c.in-Event.event) rules i.within leads c.tell.new.slot c.tell.ensures _
-          (take_more_set c.slots.events c.slots.count c.tell.new.slot c.slots-test.true)
-          (omega (arith, free, span_told _ _ _ c.tell.ensures)) in
-          let all = filled_items (state c.args.decoder.now).rules s input es mid new used (take count there) p.events p.items one rules leads.2 far p.takes p.told in
+          filled_more (state c.args.decoder.now).rules old mid s input (as_ptr c.args.input) es c.slots.used (take c.slots.count c.slots.events) f c.in-Event.at c.in-Event.taken (event_of c.in-Event.event) rules i.within leads c.put_step-gathered.new.slot (put_at (as_ptr c.args.input) c.put_step-gathered.new.slot c.in-Event.at (event_of c.in-Event.event) c.slots.used c.in-Event.taken _ (length-take-le (c.slots.used + c.in-Event.taken) c.args.input.now far) c.put_step-gathered.ensures.tells) _
+          (take_more_set c.slots.events c.slots.count c.put_step-gathered.new.slot c.slots-test.true)
+          (omega (arith, free)) in
+          let all = filled_items (state c.args.decoder.now).rules s input origin refl es base mid new used (take count there) p.events p.items one rules leads.2 far p.takes p.told in
           rw (p.all, p.first) all;
     }
 
 pub slots-smaller : goal.slots-smaller
 slots-smaller c =
     let p = rw rest_is at c.put_whole-put.ensures.puts in
-    omega (arith, p.long, p.count, length-set c.slots.events c.slots.count c.tell.new.slot, c.slots-test.true)
+    omega (arith, p.long, p.count, length-set c.slots.events c.slots.count c.put_step-gathered.new.slot, c.slots-test.true)
 
 pub returns-clause-fills : goal.returns-clause-fills
 returns-clause-fills c = λ s es a.
     let f = c.slots.invariant.filled s es a in
     let d = state c.slots.decoder in
     let long = length-take-le c.slots.count c.slots.events c.slots.invariant.room in
-    fills_full (state c.args.decoder.now).rules d d s c.args.input.now es c.slots.used (take c.slots.count c.slots.events) f (state c.args.decoder.now) refl (length c.args.events.now) _ _ refl (sym long) refl refl refl (omega (arith, long, c.slots.invariant.room, c.slots-test.false, c.slots.invariant.long))
+    fills_full (state c.args.decoder.now).rules d d s c.args.input.now (as_ptr c.args.input) es c.slots.used (take c.slots.count c.slots.events) f (state c.args.decoder.now) refl (length c.args.events.now) _ _ refl (sym long) refl refl refl (omega (arith, long, c.slots.invariant.room, c.slots-test.false, c.slots.invariant.long))
 
 pub returns-then-gathered-clause-goes_on : goal.returns-then-gathered-clause-goes_on
 returns-then-gathered-clause-goes_on c = λ full.

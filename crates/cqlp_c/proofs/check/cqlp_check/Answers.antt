@@ -12,7 +12,7 @@ returns-in-Ok c =
     let new = state c.drain.new.decoder in
     let rules = c.drain.ensures.rules ∙ (rw c.limits_of.ensures at c.in-Ok.ensures.rules) in
     checked l (λ b bad. absurd (let is = (c.in-Ok.ensures.bad b).1 (rw c.limits_of.ensures bad) in cc)) c.args.stream.now c.finish.result c.args.end.now c.end_of.result c.end_of.ensures
-    (verdict l new c.args.stream.now c.finish.result rules (rw c.or_none.ensures at (c.drain.ensures.drains c.in-Ok.ensures.unrefused c.in-Ok.ensures.fresh)) c.finish.ensures.ends c.finish.ensures.refused)
+    (verdict l new c.args.stream.now c.finish.result rules (rw c.or_none.ensures.bytes at (c.drain.ensures.drains c.in-Ok.ensures.unrefused c.in-Ok.ensures.fresh)) c.finish.ensures.ends c.finish.ensures.refused)
 
 pub returns-in-Err : goal.returns-in-Err
 returns-in-Err c = rw c.error_code.ensures (not_checked (limits_of c.args.limits.now) c.in-Err.error (λ b. (

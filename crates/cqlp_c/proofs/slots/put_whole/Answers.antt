@@ -20,7 +20,7 @@ returns-then-count-events-clause-puts c = record {
 }
 
 -- what the loops put, whether the array is full or not
-whole : (c : goal.After-events-1) → PutsItems (state c.args.decoder.now) (state c.hand_whole.new.self) c.args.input.now c.match-hand_whole.used (record { events = record c.args.events { ghost_name = c.slots-1.given }; count = c.args.count }) c.hand_whole.new.sink
+whole : (c : goal.After-events-1) → PutsItems (state c.args.decoder.now) (state c.hand_whole.new.self) c.args.input.now c.match-hand_whole.used (record { origin = c.args.origin; events = record c.args.events { ghost_name = c.slots-1.given }; count = c.args.count }) c.hand_whole.new.sink
 whole c =
     let room : c.args.count < length c.args.events.now = omega (arith, c.requires, c.if-count-events.false) in
     elim c.match-hand_whole.branch [
