@@ -9,7 +9,7 @@ put_number_afresh-requires g c = omega (arith, decimal_nonempty c.args.number c.
 
 pub place_number-len-requires : goal.place_number-len-requires
 place_number-len-requires g c =
-    omega (arith, c.len.ensures, c.deref_mut.ensures.len, c.self.invariant)
+    omega (arith, c.len.ensures, c.deref_mut.ensures.len, c.self.invariant, length-decimal-le 20 c.args.number (omega arith) (omega arith) c.ranges.number.fits)
 
 pub returns : goal.returns
 returns g c =
