@@ -22,21 +22,31 @@ pub(crate) fn fill_with_digits(number: u64, room: &mut [u8])
     }
 }
 
-/// Puts a number, as decimal digits, into a buffer that has room for any, and answers how many there are.
+/// Puts a number, as decimal digits, into a buffer, and answers how many there are.
 #[inline(always)]
 pub(crate) fn place_number(number: u64, buffer: &mut [u8], at: usize) -> usize
 {
     write_to_front(number, &mut buffer[at..])
 }
 
-/// Puts a number, as decimal digits, to the front of bytes that have room for any, and answers how many there are.
+/// Puts a number, as decimal digits, to the front of bytes, and answers how many there are.
 #[inline(always)]
 fn write_to_front(number: u64, bytes: &mut [u8]) -> usize
 {
     match bytes.first_chunk_mut::<DECIMAL_ROOM>() {
         Some(room) => write_number(number, room),
-        None => unreachable!(),
+        None => write_apart(number, bytes),
     }
+}
+
+/// Puts a number, as decimal digits, to the front of bytes with no room for any other, and answers how many there are.
+#[inline(never)]
+fn write_apart(number: u64, bytes: &mut [u8]) -> usize
+{
+    let mut room = [0; DECIMAL_ROOM];
+    let len = write_number(number, &mut room);
+    copy_to_front(&room[..len], bytes);
+    len
 }
 
 /// Puts a number, as decimal digits, to the front of a room for any, and answers how many there are.

@@ -3,8 +3,8 @@ use Rattle.std.proofs.lemmas.Fmt.{length-decimal-le}
 use Rattle.cqlp_text.proofs.Placed.{chunk_written}
 use Rattle.cqlp_text.proofs.digits.write_to_front.Goals as goal
 
-pub returns-clause-written : goal.returns-clause-written
-returns-clause-written c =
+pub returns-in-Some-clause-written : goal.returns-in-Some-clause-written
+returns-in-Some-clause-written c =
     let n = c.args.number in
     let w = c.write_number.ensures in
-    chunk_written c.args.bytes.now c.in-Some.room.now c.write_number.new.room (decimal n) c.write_number.result 20 (omega (arith, w.len, length-decimal-le 20 n (omega arith) (omega arith) c.ranges.number.fits)) c.requires c.in-Some.ensures.cases.same w.written
+    chunk_written c.args.bytes.now c.in-Some.room.now c.write_number.new.room (decimal n) c.write_number.result 20 (omega (arith, w.len, length-decimal-le 20 n (omega arith) (omega arith) c.ranges.number.fits)) c.in-Some.ensures.cases.enough c.in-Some.ensures.cases.same w.written

@@ -6,7 +6,7 @@ use Rattle.cqlp_text.proofs.buffered.BufferedPen.put_number.Goals as goal
 
 pub place_number-len-requires : goal.place_number-len-requires
 place_number-len-requires g c =
-    omega (arith, c.len.ensures, c.deref_mut.ensures.len, c.self.invariant)
+    omega (arith, c.len.ensures, c.deref_mut.ensures.len, c.self.invariant, length-decimal-le 20 c.args.number (omega arith) (omega arith) c.ranges.number.fits)
 
 pub returns : goal.returns
 returns g c =

@@ -9,7 +9,7 @@ pub place_number-len-requires : goal.place_number-len-requires
 place_number-len-requires g c =
     let s = c.self.inside in
     let room = room_left s.buffer s.len 20 128 c.self.invariant.0 c.self.invariant.1 (rw (← c.self.view_is) at c.requires) in
-    omega (arith, room)
+    omega (arith, room, length-decimal-le 20 c.args.number (omega arith) (omega arith) c.ranges.number.fits)
 
 pub returns : goal.returns
 returns g c =
