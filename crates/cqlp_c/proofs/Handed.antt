@@ -1,7 +1,7 @@
 -- Items whose events a sink put into the array.
 use Rattle.std.proofs.Common.{◌≡◌, ℕ, ◌+◌, ◌≤◌, List, [], ◌∷◌, ◌++◌, ◌-◌, length, take, drop, drop-drop, refl, sym, ap, subst, ◌∙◌, append_assoc, arith}
 use Rattle.std.specs.Prelude.{Option, Some, None}
-use Rattle.std.specs.Ptr.{Ptr, as_ptr}
+use Rattle.std.specs.Ptr.{Ptr, as_ptr, block_ptr, null_ptr}
 use denote.RawPtr.{◌+ₚ◌}
 use Rattle.std.specs.Int.{w32, to_be_bytes, cast_unsigned}
 use Rattle.std.proofs.lemmas.List.{append-nil, length-append, length-drop, length-take-le}
@@ -78,23 +78,29 @@ span_size (End n) = omega arith
 
 -- ---- the batch
 
--- A content that is read last lies where its offset in the stream says.
-placed : (o : Origin) (s input : List ℕ) → length s ≡ o.offset → length input ≡ length o.input.now → (p : Put) (c : Option (List ℕ)) → p.end ≤ length input
-    → ((content : List ℕ) → c ≡ Some content → (before : List ℕ) × (s ++ take p.end input ≡ before ++ content) × (length before ≡ p.at + before_content p.event))
-    → ((content : List ℕ) → c ≡ Some content → length content ≤ p.end - p.from)
-    → p.from ≤ p.end → IsInInput p → (place : Ptr) → IsPlaced o p.at p.event c place → LiesBy (as_ptr o.input) p c place
-placed o s input base long p None within last short on lies place is = is
-placed o s input base long p (Some content) within last short on lies place is =
-    let there = last content refl in
-    let whole = ap length there.1 in
-    let size = short content refl in
-    let all : p.at + before_content p.event + length content ≡ length s + p.end = omega (arith, whole, there.2, length-append s (take p.end input), length-append there.0 content, length-take-le p.end input within) in
-    let at : (p.at + before_content p.event) - o.offset ≡ p.end - length content = omega (arith, all, base) in
-    (λ _. is (omega (arith, all, base, size)) (omega (arith, all, base, long, within)) ∙ ap (λ (n : ℕ). as_ptr o.input +ₚ n) at, λ gathered. absurd (omega (arith, gathered, lies)))
+further : (p : Ptr) (m n : ℕ) → p +ₚ m +ₚ n ≡ p +ₚ (m + n)
+further (block_ptr b o) m n = ap (block_ptr b) (omega arith)
+further null_ptr m n = refl
 
-module _ (l : Rules) (s input : List ℕ) (o : Origin) (is_input : o.input.now ≡ input) (es : List (ℕ × Event)) (base : length s ≡ o.offset) where
+-- A content that is read last lies where its offset in the stream says. The bytes from `from` on were handed out.
+placed : (o : Origin) (s input : List ℕ) (begins : Ptr) (from : ℕ) → o.offset ≡ length s + from → length o.input.now ≡ length input - from → as_ptr o.input ≡ begins +ₚ from
+    → (p : Put) (c : Option (List ℕ)) → p.end ≤ length input → from ≤ p.from → p.from ≤ p.end
+    → ((content : List ℕ) → c ≡ Some content → (before : List ℕ) × (s ++ take p.end input ≡ before ++ content) × (length before ≡ p.at + before_content p.event))
+    → ((content : List ℕ) → c ≡ Some content → length content ≤ p.end - p.from) → IsInInput p → (place : Ptr) → IsPlaced o p.at p.event c place → LiesBy begins p c place
+placed o s input begins from base long there p None within later on last short lies place is = is
+placed o s input begins from base long there p (Some content) within later on last short lies place is =
+    let read = last content refl in
+    let size = short content refl in
+    let all : p.at + before_content p.event + length content ≡ length s + p.end = omega (arith, ap length read.1, read.2, length-append s (take p.end input), length-append read.0 content, length-take-le p.end input within) in
+    let at : from + ((p.at + before_content p.event) - o.offset) ≡ p.end - length content = omega (arith, all, base, size, later, on) in (
+      λ _. is (omega (arith, all, base, size, later, on)) (omega (arith, all, base, long, within, later, on))
+          ∙ ap (λ (q : Ptr). q +ₚ ((p.at + before_content p.event) - o.offset)) there ∙ further begins from ((p.at + before_content p.event) - o.offset) ∙ ap (λ (n : ℕ). begins +ₚ n) at,
+      λ gathered. absurd (omega (arith, gathered, lies)),
+    )
+
+module _ (l : Rules) (s input : List ℕ) (begins : Ptr) (es : List (ℕ × Event)) (o : Origin) (from : ℕ) (base : o.offset ≡ length s + from) (long : length o.input.now ≡ length input - from) (there : as_ptr o.input ≡ begins +ₚ from) where
   -- one item
-  module _ (old new : StreamState) (used : ℕ) (cs : List CqlpEvent) (f : IsFilled l old s input (as_ptr o.input) es used cs) (rules : old.rules ≡ l) (none : old.refusal ≡ None) (begun : IsPending old.pending []) (within : used ≤ length input)
+  module _ (old new : StreamState) (used : ℕ) (cs : List CqlpEvent) (f : IsFilled l old s input begins es used cs) (rules : old.rules ≡ l) (none : old.refusal ≡ None) (begun : IsPending old.pending []) (within : used ≤ length input) (later : from ≤ used)
       (x : Item) (t : TakesItem old (drop used input) x.at x.used x.event new) (c : CqlpEvent) (tells : TellsIn o c x.at x.event) where
     lies : content_span x.event ≤ x.used
     lies =
@@ -102,28 +108,28 @@ module _ (l : Rules) (s input : List ℕ) (o : Origin) (is_input : o.input.now �
         let size = content_within old.rules old.place (drop used input) g.0 (0 + x.used) g.1 in
         omega (arith, span_size x.event, subst (λ (e : Event). content_size_of e ≤ 0 + x.used) g.3 size)
 
-    filled_item : IsFilled l new s input (as_ptr o.input) es (used + x.used) (cs ++ c ∷ [])
+    filled_item : IsFilled l new s input begins es (used + x.used) (cs ++ c ∷ [])
     filled_item =
         let after = subst (λ (o : Option Refusal). AfterBy o [] old (s ++ take used input) (es ++ events_of f.puts)) none f.after in
         let leads : LeadsTo (s ++ take used input) (es ++ events_of f.puts) (drop used input) x.at x.used x.event new = (t.3.within, t.0 ∙ none, t.3.begun, hands_stands old new (drop used input) (s ++ take used input) (es ++ events_of f.puts) [] x.at x.used x.event t.3 (t.0 ∙ none) t.1 after) in
         let put : Put = record { at = x.at; event = x.event; from = used; end = used + x.used } in
-        let read = read_more l old new s input (as_ptr o.input) es used cs f x.at x.used x.event (t.1 ∙ rules) within leads in
-        let at : LiesBy (as_ptr o.input) put (content_in x.event) tells.0 =
-        placed o s input base (ap length (sym is_input)) put (content_in x.event) (omega (arith, t.3.within, within, length-drop used input))
+        let read = read_more l old new s input begins es used cs f x.at x.used x.event (t.1 ∙ rules) within leads in
+        let at : LiesBy begins put (content_in x.event) tells.0 =
+        placed o s input begins from base long there put (content_in x.event) (omega (arith, t.3.within, within, length-drop used input)) later (omega arith)
         (λ content is. ends_what_is_read l [] (s ++ take (used + x.used) input) (es ++ events_of f.puts) x.at x.event read.0 content read.1 is)
-        (λ content is. omega (arith, lies, content_spanned x.event content is)) (omega arith) (omega (arith, lies)) tells.0 tells.1 in
-        filled_more l old new s input (as_ptr o.input) es used cs f x.at x.used x.event (t.1 ∙ rules) within leads c (tells.0, at, tells.2) (cs ++ c ∷ []) refl (omega (arith, lies))
+        (λ content is. omega (arith, lies, content_spanned x.event content is)) (omega (arith, lies)) tells.0 tells.1 in
+        filled_more l old new s input begins es used cs f x.at x.used x.event (t.1 ∙ rules) within leads c (tells.0, at, tells.2) (cs ++ c ∷ []) refl (omega (arith, lies))
 
-  pub filled_items : (old new : StreamState) (used : ℕ) (cs ds : List CqlpEvent) (xs : List Item) → IsFilled l old s input (as_ptr o.input) es used cs → old.rules ≡ l → IsPending old.pending [] → used ≤ length input → TakesItems old (drop used input) xs new → TellsItems o ds xs
-      → IsFilled l new s input (as_ptr o.input) es (used + bytes_of xs) (cs ++ ds)
-  filled_items old new used cs [] [] f rules begun within t tells = rw (t, append-nil cs) (subst (λ (n : ℕ). IsFilled l old s input (as_ptr o.input) es n cs) (omega arith) f)
-  filled_items old new used cs (d ∷ ds) [] f rules begun within t tells = absurd tells
-  filled_items old new used cs [] (x ∷ xs) f rules begun within t tells = absurd tells
-  filled_items old new used cs (d ∷ ds) (x ∷ xs) f rules begun within t tells =
-      let first = filled_item old t.0 used cs f rules t.1 begun within x t.2 d tells.0 in
+  pub filled_items : (old new : StreamState) (used : ℕ) (cs ds : List CqlpEvent) (xs : List Item) → IsFilled l old s input begins es used cs → old.rules ≡ l → IsPending old.pending [] → used ≤ length input → from ≤ used → TakesItems old (drop used input) xs new → TellsItems o ds xs
+      → IsFilled l new s input begins es (used + bytes_of xs) (cs ++ ds)
+  filled_items old new used cs [] [] f rules begun within later t tells = rw (t, append-nil cs) (subst (λ (n : ℕ). IsFilled l old s input begins es n cs) (omega arith) f)
+  filled_items old new used cs (d ∷ ds) [] f rules begun within later t tells = absurd tells
+  filled_items old new used cs [] (x ∷ xs) f rules begun within later t tells = absurd tells
+  filled_items old new used cs (d ∷ ds) (x ∷ xs) f rules begun within later t tells =
+      let first = filled_item old t.0 used cs f rules t.1 begun within later x t.2 d tells.0 in
       let far : used + x.used ≤ length input = omega (arith, t.2.3.within, within, length-drop used input) in
       let rest = subst (λ (z : List ℕ). TakesItems t.0 z xs new) (drop-drop x.used used input) t.3 in
-      let more = filled_items t.0 new (used + x.used) (cs ++ d ∷ []) ds xs first (t.2.1 ∙ rules) t.2.3.begun far rest tells.1 in
+      let more = filled_items t.0 new (used + x.used) (cs ++ d ∷ []) ds xs first (t.2.1 ∙ rules) t.2.3.begun far (omega (arith, later)) rest tells.1 in
       let at : (used + x.used) + bytes_of xs ≡ used + bytes_of (x ∷ xs) = omega arith in
       let all : (cs ++ d ∷ []) ++ ds ≡ cs ++ d ∷ ds = append_assoc cs (d ∷ []) ds in
-      subst (λ (n : ℕ). IsFilled l new s input (as_ptr o.input) es n (cs ++ d ∷ ds)) at (subst (λ (z : List CqlpEvent). IsFilled l new s input (as_ptr o.input) es ((used + x.used) + bytes_of xs) z) all more)
+      subst (λ (n : ℕ). IsFilled l new s input begins es n (cs ++ d ∷ ds)) at (subst (λ (z : List CqlpEvent). IsFilled l new s input begins es ((used + x.used) + bytes_of xs) z) all more)

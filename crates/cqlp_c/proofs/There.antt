@@ -21,8 +21,7 @@ lie_there l s input es p content read within lies is =
     let long = length-take-le p.end input within in
     let there = ends_there s (take p.end input) last.0 content last.1 (omega (arith, long, short)) in
     let at = p.end - length content in
-    let all : at + length content ≡ p.end = omega (arith, short) in
-    (
+    let all : at + length content ≡ p.end = omega (arith, short) in (
       short,
       sym (drop-take at (length content) input) ∙ ap (λ (n : ℕ). drop at (take n input)) all ∙ ap (λ (n : ℕ). drop (n - length content) (take p.end input)) (sym long) ∙ there,
     )

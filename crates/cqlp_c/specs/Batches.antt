@@ -118,9 +118,9 @@ pub record Fills (old new : StreamState) (s input : List ℕ) (begins : Ptr) (es
   pub after : After new (s ++ take b.used input) (es ++ events_of puts)
   pub stops : StopsBy old new s input es room b.used puts b.stop
 
--- the bytes begin at the pointer that the caller gave, which is not looked at where there are none
+-- The bytes begin at the pointer that the caller gave, which is not looked at where there are none; and at no null pointer.
 abbrev pub BeginsAt : Bor (List ℕ) → Ptr → Type 0
-BeginsAt bytes begins = 0 < length bytes.now → begins ≡ as_ptr bytes
+BeginsAt bytes begins = ¬ (begins ≡ null_ptr) × (0 < length bytes.now → begins ≡ as_ptr bytes)
 
 -- the same of any stream that led here
 abbrev pub FillsOn : (old new : StreamState) → (input : List ℕ) → (begins : Ptr) → (room : ℕ) → Batch

@@ -1,9 +1,11 @@
 -- The array of a batch, as what takes events.
 use Rattle.std.specs.Prelude.{◌≡◌, ℕ, ◌+◌, ◌-◌, ◌<◌, ◌≤◌, ◌++◌, List, [], ◌∷◌, length, take, drop, set, Option, Some, None, ⊤}
+use Rattle.std.specs.Borrow.{Bor}
 use Rattle.std.specs.Ptr.{Ptr, as_ptr, null_ptr}
 use denote.RawPtr.{◌+ₚ◌}
 use Rattle.cqlp_decode.specs.Reading.{Event}
 use Rattle.cqlp_decode.specs.Standing.{StreamState}
+use Rattle.cqlp_decode.specs.Streams.{After}
 use Rattle.cqlp_decode.specs.Cells.{Item, TakesItems, bytes_of}
 use Rattle.cqlp_laws.specs.Contents.{before_content, content_in}
 use Rattle.cqlp_c.specs.declared.event.CqlpEvent.{CqlpEvent}
@@ -48,13 +50,14 @@ TellsItems o cs xs = ⊥
 
 -- Items were taken one after the other, of this many bytes, and their events, as C sees them, stand behind the first n
 -- of the array, which is the same otherwise.
-pub record PutsWhole (old new : StreamState) (input : List ℕ) (o : Origin) (n : ℕ) (put : WholePut)
+pub record PutsWhole (old new : StreamState) (input : Bor (List ℕ)) (n : ℕ) (put : WholePut)
     (before after : List CqlpEvent) : Type 0 where
   pub items : List Item
-  pub takes : TakesItems old input items new
+  pub takes : TakesItems old input.now items new
   pub all : put.used ≡ bytes_of items
   pub events : List CqlpEvent
-  pub told : TellsItems o events items
+  pub told : (s : List ℕ) (es : List (ℕ × Event)) → After old s es → old.refusal ≡ None
+      → TellsItems (record { input = input; offset = length s }) events items
   pub first : take put.count after ≡ take n before ++ events
   pub others : drop put.count after ≡ drop put.count before
   pub long : length after ≡ length before

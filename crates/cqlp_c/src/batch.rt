@@ -7,10 +7,10 @@ ghost use Rattle.cqlp_grammar.specs.Events.{event_of};
 ghost use Rattle.cqlp_decode.specs.Streams.{state};
 ghost use Rattle.cqlp_c.specs.declared.event.CqlpEvent.{CqlpEvent as Told};
 ghost use Rattle.cqlp_c.specs.Events.{content_span};
-ghost use Rattle.cqlp_c.specs.Batches.{BeginsAt, FillsOn, GoesOn, HasUsed, RepeatsRefusal, TellsPut, put_of, stop_without_room};
+ghost use Rattle.cqlp_c.specs.Batches.{BeginsAt, FillsOn, GoesOn, RepeatsRefusal, TellsPut, put_of, stop_without_room};
 
 use crate::event::{CqlpEvent, address_of, before_content, tell};
-use crate::slots::{Origin, put_whole};
+use crate::slots::put_whole;
 use cqlp_decode::{Decoder, Event, Finish, Step};
 use cqlp_note::Refusal;
 use std::alloc::Global;
@@ -93,17 +93,6 @@ fn without_room(decoder: &Decoder<Global>) -> Batch
     }
 }
 
-/// How many bytes of the stream were used, if it is not refused.
-fn bytes_used(decoder: &Decoder<Global>) -> u64
-    ensures { HasUsed (state decoder.now) result }
-{
-    match decoder.finish() {
-        Finish::Whole { bytes } => bytes,
-        Finish::Cut { bytes, .. } => bytes,
-        Finish::Refused(_) => 0,
-    }
-}
-
 /// Puts the event of a step that used the last `taken` of these bytes, and says whether its content lies in the decoder.
 /// Else it is the last of the bytes.
 #[inline(always)]
@@ -120,6 +109,12 @@ fn put_step(slot: &mut CqlpEvent, at: u64, event: &Event<'_>, bytes: &[u8], take
     gathered
 }
 
+/// The input of a call, which has one place for all of the batch.
+#[derive(Clone, Copy)]
+struct Source<'a> {
+    input: &'a [u8],
+}
+
 /// The same as `fill`, where there is room.
 #[inline(always)]
 fn fill_room(decoder: &mut Decoder<Global>, input: &[u8], events: &mut [CqlpEvent]) -> Batch
@@ -132,14 +127,11 @@ fn fill_room(decoder: &mut Decoder<Global>, input: &[u8], events: &mut [CqlpEven
     ensures room { length events.new ≡ length events.old }
     ensures rules { (state decoder.new).rules ≡ (state decoder.old).rules }
 {
-    let origin = Origin {
-        input,
-        offset: bytes_used(decoder),
-    };
+    let source = Source { input };
     let mut used = 0;
     let mut count = 0;
     'slots: while count < events.len() {
-        match decoder.next(&input[used..]) {
+        match decoder.next(&source.input[used..]) {
             Step::More { used: taken } => {
                 return Batch {
                     used: used + taken,
@@ -160,7 +152,13 @@ fn fill_room(decoder: &mut Decoder<Global>, input: &[u8], events: &mut [CqlpEven
                 event,
             } => {
                 used += taken;
-                let gathered = put_step(&mut events[count], at, &event, &input[..used], taken);
+                let gathered = put_step(
+                    &mut events[count],
+                    at,
+                    &event,
+                    &source.input[..used],
+                    taken,
+                );
                 count += 1;
                 if gathered {
                     return Batch {
@@ -171,7 +169,7 @@ fn fill_room(decoder: &mut Decoder<Global>, input: &[u8], events: &mut [CqlpEven
                 }
             }
         }
-        let put = put_whole(decoder, &input[used..], origin, events, count);
+        let put = put_whole(decoder, &source.input[used..], events, count);
         used += put.used;
         count = put.count;
     }

@@ -5,13 +5,14 @@ ghost use Rattle.std.specs.Ptr.{as_ptr};
 ghost use denote.RawPtr.{◌+ₚ◌};
 ghost use Rattle.cqlp_grammar.specs.Events.{event_of};
 ghost use Rattle.cqlp_decode.specs.Streams.{state};
+ghost use Rattle.cqlp_c.specs.Batches.{HasUsed};
 ghost use Rattle.cqlp_c.specs.Slots.{PutsWhole, TellsIn};
 
 use crate::event::{CqlpEvent, address_of, before_content, tell};
-use cqlp_decode::{Decoder, Event, Sink, SinkFault};
+use cqlp_decode::{Decoder, Event, Finish, Sink, SinkFault};
 use std::alloc::Global;
 
-/// The input of a batch, and at which offset of the stream it begins.
+/// The input, and at which offset of the stream it begins.
 #[derive(Clone, Copy)]
 pub struct Origin<'a> {
     pub input: &'a [u8],
@@ -94,16 +95,26 @@ pub struct WholePut {
     pub count: usize,
 }
 
-/// Puts events that lie whole in these bytes of the input behind the first `count` of the array, while there is room.
+/// How many bytes of the stream were used, if it is not refused.
+fn bytes_used(decoder: &Decoder<Global>) -> u64
+    ensures { HasUsed (state decoder.now) result }
+{
+    match decoder.finish() {
+        Finish::Whole { bytes } => bytes,
+        Finish::Cut { bytes, .. } => bytes,
+        Finish::Refused(_) => 0,
+    }
+}
+
+/// Puts events that lie whole in the input behind the first `count` of the array, while there is room.
 pub fn put_whole(
     decoder: &mut Decoder<Global>,
     input: &[u8],
-    origin: Origin<'_>,
     events: &mut [CqlpEvent],
     count: usize,
 ) -> WholePut
     requires { count ≤ length events.old }
-    ensures puts { PutsWhole (state decoder.old) (state decoder.new) input.now origin.entry count result events.old events.new }
+    ensures puts { PutsWhole (state decoder.old) (state decoder.new) input.entry count result events.old events.new }
     ensures within { (result.used ≤ length input.now) × (result.count ≤ length events.old) }
     ensures stays { ((state decoder.new).refusal ≡ (state decoder.old).refusal)
         × ((state decoder.new).rules ≡ (state decoder.old).rules) }
@@ -111,6 +122,10 @@ pub fn put_whole(
     if count == events.len() {
         return WholePut { used: 0, count };
     }
+    let origin = Origin {
+        input,
+        offset: bytes_used(decoder),
+    };
     let mut slots = Slots {
         origin,
         events,

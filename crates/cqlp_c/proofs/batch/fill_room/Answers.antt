@@ -1,9 +1,11 @@
-use Rattle.std.proofs.Common.{◌≡◌, ℕ, ◌+◌, ◌-◌, ◌≤◌, List, [], length, take, drop, refl, sym, ap, subst, ◌∙◌, arith}
+use Rattle.std.proofs.Common.{◌≡◌, ℕ, ◌+◌, ◌-◌, ◌≤◌, List, [], ◌++◌, length, take, drop, refl, sym, ap, subst, ◌∙◌, arith}
 use Rattle.std.specs.Prelude.{Option, Some, None, set}
-use Rattle.std.specs.Ptr.{Ptr, as_ptr}
+use Rattle.std.specs.Borrow.{Bor}
+use Rattle.std.specs.Ptr.{Ptr, as_ptr, block_ptr}
+use denote.RawPtr.{◌+ₚ◌}
 use Rattle.cqlp_note.specs.declared.refusal.Refusal.{Refusal}
 use Rattle.std.proofs.lemmas.Bool.{ltb-true, ltb-false}
-use Rattle.std.proofs.lemmas.List.{take_more_set, drop-set-lt, length-set, length-take-le, length-drop}
+use Rattle.std.proofs.lemmas.List.{take_more_set, drop-set-lt, length-set, length-take-le, length-append, length-drop}
 use Rattle.cqlp_decode.specs.Standing.{StreamState}
 use Rattle.cqlp_decode.specs.Streams.{state}
 use Rattle.cqlp_decode.proofs.Leads.{repeated}
@@ -11,8 +13,7 @@ use Rattle.cqlp_decode.proofs.Gets.{rest_is}
 use Rattle.cqlp_c.specs.declared.batch.Stop.TheVariants as stop
 use Rattle.cqlp_c.specs.declared.event.CqlpEvent.{CqlpEvent}
 use Rattle.cqlp_grammar.specs.Events.{Event, event_of}
-use Rattle.cqlp_c.specs.declared.slots.Origin.{Origin}
-use Rattle.cqlp_c.specs.Batches.{Put, TellsPut, put_of}
+use Rattle.cqlp_c.specs.Batches.{Put, TellsPut, events_of, put_of}
 use Rattle.cqlp_decode.proofs.Taken.{takes_pays}
 use Rattle.cqlp_c.proofs.Fills.{filled_more, fills_gathered, fills_full}
 use Rattle.cqlp_c.proofs.Handed.{filled_items}
@@ -57,10 +58,9 @@ slots-preserved c =
     let old = state c.slots.decoder in
     let mid = state c.next.follows.lender-at-none in
     let new = state c.put_whole-put.new.decoder in
-    let there = set c.slots.events c.slots.count c.put_step-gathered.new.slot in
+    let array = set c.slots.events c.slots.count c.put_step-gathered.new.slot in
     let after = c.put_whole-put.new.events in
     let used = c.slots.used + c.in-Event.taken in
-    let origin : Origin = record { input = c.args.input; offset = c.bytes_used.result } in
     let count = c.slots.count + 1 in
     let taken : c.in-Event.taken ≤ length (drop c.slots.used input) = rw rest_is at c.in-Event.ensures.uses in
     let goes = rw c.in-Event.is at c.next.follows.holds-at-none.0 in
@@ -85,19 +85,22 @@ slots-preserved c =
       same = stays.0 ∙ same;
       pays = omega (arith, pays, p.all, p.count, i.pays, goes.0);
       others =
-          let behind : drop count there ≡ drop count c.args.events.now = drop-set-lt count c.slots.events c.slots.count c.put_step-gathered.new.slot (omega arith) ∙ drops c.slots.count c.slots.events c.args.events.now i.others in
-          p.others ∙ rw p.count (drops_more count (length p.items) there c.args.events.now behind);
+          let behind : drop count array ≡ drop count c.args.events.now = drop-set-lt count c.slots.events c.slots.count c.put_step-gathered.new.slot (omega arith) ∙ drops c.slots.count c.slots.events c.args.events.now i.others in
+          p.others ∙ rw p.count (drops_more count (length p.items) array c.args.events.now behind);
       filled = λ s es a.
           let f = i.filled s es a in
           let leads = rw (c.in-Event.is, rest_is) at (c.next.follows.holds-at-none.1 [] _ _ f.after) in
           let free = ltb-false _ _ (sym c.put_step-gathered.ensures.gathered ∙ c.if-gathered.false) in
-          let base = sym (c.bytes_used.ensures s es a (sym same ∙ goes.3)) in
           let rules = goes.2 ∙ i.rules in
           let one =
           filled_more (state c.args.decoder.now).rules old mid s input (as_ptr c.args.input) es c.slots.used (take c.slots.count c.slots.events) f c.in-Event.at c.in-Event.taken (event_of c.in-Event.event) rules i.within leads c.put_step-gathered.new.slot (put_at (as_ptr c.args.input) c.put_step-gathered.new.slot c.in-Event.at (event_of c.in-Event.event) c.slots.used c.in-Event.taken _ (length-take-le (c.slots.used + c.in-Event.taken) c.args.input.now far) c.put_step-gathered.ensures.tells) _
           (take_more_set c.slots.events c.slots.count c.put_step-gathered.new.slot c.slots-test.true)
           (omega (arith, free)) in
-          let all = filled_items (state c.args.decoder.now).rules s input origin refl es base mid new used (take count there) p.events p.items one rules leads.2 far p.takes p.told in
+          let told = p.told (s ++ take used input) (es ++ events_of one.puts) one.after goes.3 in
+          let base : length (s ++ take used input) ≡ length s + used = omega (arith, length-append s (take used input), length-take-le used input far) in
+          let rest : Bor (List ℕ) = record { ref_ptr = (c.args.input.ref_ptr.0, used + c.args.input.ref_ptr.1); now = drop used input } in
+          let there : as_ptr rest ≡ as_ptr c.args.input +ₚ used = ap (block_ptr c.args.input.ref_ptr.0) (omega arith) in
+          let all = filled_items (state c.args.decoder.now).rules s input (as_ptr c.args.input) es (record { input = rest; offset = length (s ++ take used input) }) used base (length-drop used input) there mid new used (take count array) p.events p.items one rules leads.2 far (omega arith) p.takes told in
           rw (p.all, p.first) all;
     }
 

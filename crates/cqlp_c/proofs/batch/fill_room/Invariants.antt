@@ -10,7 +10,7 @@ use Rattle.cqlp_c.proofs.batch.fill_room.Given as goal
 -- what is used is of the input, and its events are in the array
 abbrev pub invariant-slots : goal.invariant-slots
 invariant-slots l = record {
-  within : l.used ≤ length l.input;
+  within : l.used ≤ length l.source.input.now;
   room : l.count ≤ length l.events;
   long : length l.events ≡ length l.fn.events;
   rules : (state l.decoder).rules ≡ (state l.fn.decoder).rules;
@@ -19,7 +19,7 @@ invariant-slots l = record {
   same : (state l.decoder).refusal ≡ (state l.fn.decoder).refusal;
   pays : due (state l.decoder) + l.count ≤ due (state l.fn.decoder) + 2 * l.used;
   others : drop l.count l.events ≡ drop l.count l.fn.events;
-  filled : (s : List ℕ) (es : List (ℕ × Event)) → After (state l.fn.decoder) s es → IsFilled (state l.fn.decoder).rules (state l.decoder) s l.input (as_ptr l.origin.input) es l.used (take l.count l.events);
+  filled : (s : List ℕ) (es : List (ℕ × Event)) → After (state l.fn.decoder) s es → IsFilled (state l.fn.decoder).rules (state l.decoder) s l.source.input.now (as_ptr l.source.input) es l.used (take l.count l.events);
 }
 
 abbrev pub decreases-slots : goal.decreases-slots

@@ -1,7 +1,8 @@
-use Rattle.std.proofs.Common.{◌<◌, [], length, take, drop, refl, sym, ap, ◌≡◌, ◌∙◌, arith}
+use Rattle.std.proofs.Common.{◌<◌, [], length, take, drop, refl, sym, ap, subst, ◌≡◌, ◌∙◌, ℕ, arith}
 use Rattle.std.proofs.lemmas.List.{append-nil}
 use Rattle.cqlp_decode.specs.Streams.{state}
 use Rattle.cqlp_decode.proofs.Taken.{takes_within}
+use Rattle.cqlp_c.specs.Slots.{TellsItems}
 use Rattle.cqlp_c.proofs.Putting.{PutsItems, puts_whole, puts_full}
 use Rattle.cqlp_c.proofs.slots.put_whole.Goals.{in-Ok, in-Err}
 use Rattle.cqlp_c.proofs.slots.put_whole.Goals as goal
@@ -12,7 +13,7 @@ returns-then-count-events-clause-puts c = record {
   takes = refl;
   all = refl;
   events = [];
-  told = tt;
+  told = λ s es a none. tt;
   first = sym (append-nil _);
   others = refl;
   long = refl;
@@ -20,7 +21,7 @@ returns-then-count-events-clause-puts c = record {
 }
 
 -- what the loops put, whether the array is full or not
-whole : (c : goal.After-events-1) → PutsItems (state c.args.decoder.now) (state c.hand_whole.new.self) c.args.input.now c.match-hand_whole.used (record { origin = c.args.origin; events = record c.args.events { ghost_name = c.slots-1.given }; count = c.args.count }) c.hand_whole.new.sink
+whole : (c : goal.After-events-1) → PutsItems (state c.args.decoder.now) (state c.hand_whole.new.self) c.args.input.now c.match-hand_whole.used (record { origin = record { input = c.args.input; offset = c.bytes_used.result }; events = record c.args.events { ghost_name = c.slots-1.given }; count = c.args.count }) c.hand_whole.new.sink
 whole c =
     let room : c.args.count < length c.args.events.now = omega (arith, c.requires, c.if-count-events.false) in
     elim c.match-hand_whole.branch [
@@ -37,7 +38,7 @@ returns-clause-puts c =
       takes = w.takes;
       all = w.all;
       events = w.puts.events;
-      told = w.puts.told;
+      told = λ s es a none. subst (λ (n : ℕ). TellsItems (record { input = c.args.input; offset = n }) w.puts.events w.items) (c.bytes_used.ensures s es a none) w.puts.told;
       first = ap (take c.hand_whole.new.sink.count) now ∙ w.puts.first;
       others = ap (drop c.hand_whole.new.sink.count) now ∙ w.puts.others;
       long = ap length now ∙ w.puts.long;
