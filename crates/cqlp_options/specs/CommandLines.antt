@@ -1,11 +1,15 @@
 -- What a command line asks for, with its numbers.
-use Rattle.std.specs.Prelude.{◌≡◌, true, Ok}
-use Rattle.cqlp_note.specs.Limits.{first_bad, is_in}
+use Rattle.std.specs.Prelude.{◌≡◌, ◌≤◌, Ok}
+use Rattle.cqlp_note.specs.Limits.{first_bad}
 use Rattle.cqlp_options.specs.declared.command_line.CommandLine.{CommandLine}
 use Rattle.cqlp_options.specs.declared.command_line.CommandLine.TheVariants as line
 use Rattle.cqlp_options.specs.declared.command_line.TheConstants.{QUERIES}
 
--- its numbers are in their ranges
+-- its numbers are in their ranges: a conversation has 1 to 1,000 queries
 abbrev pub IsWithin : CommandLine → Type 0
 IsWithin (line.Stream options) = first_bad options.limits ≡ Ok tt
-IsWithin (line.Loop queries) = is_in QUERIES queries ≡ true
+IsWithin (line.Loop queries) = (1 ≤ queries) × (queries ≤ 1000)
+
+-- how many queries a conversation may have
+abbrev pub RangeOfQueries : Type 0
+RangeOfQueries = QUERIES ≡ record { least = 1; greatest = 1000 }

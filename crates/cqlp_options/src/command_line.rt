@@ -1,7 +1,6 @@
 //! Command lines.
 
-ghost use Rattle.std.specs.Prelude.{◌≡◌, IfOk, IfSome, true};
-ghost use Rattle.cqlp_note.specs.Limits.{is_in};
+ghost use Rattle.std.specs.Prelude.{◌≤◌, IfOk, IfSome};
 ghost use Rattle.cqlp_options.specs.CommandLines.{IsWithin};
 
 use crate::no_task::{NoTask, no_task_of};
@@ -89,7 +88,7 @@ fn line_of<'a>(matches: &ArgMatches<'a>) -> Option<CommandLine<'a>>
 }
 
 fn queries_of(matches: &ArgMatches<'_>) -> Option<u16>
-    ensures { IfSome result (λ queries. is_in QUERIES queries ≡ true) }
+    ensures { IfSome result (λ queries. (1 ≤ queries) × (queries ≤ 1000)) }
 {
     let queries = matches.get_one::<u16>("queries")?;
     if QUERIES.contains(u32::from(queries)) {
