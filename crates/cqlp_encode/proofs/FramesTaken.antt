@@ -132,7 +132,7 @@ module _ (f : FrameValue) (old new : Output) (len taken : ℕ) (fits : unfit_of 
 
 -- ---- a value
 
--- as `write_value` leaves the target
+-- as `offer_value` leaves the target
 pub value_sent : {X : Type 0} (o : X → Output) (first last end : X) (v : Values) (lender : ℕ) (a c : Progress) → values_size v ≤ LONGEST_BODY
     → PutsWithin (values_size v) (begun (o first) lender) (values_bytes v) a → Puts a [] c → c.waiting ≡ [] → o last ≡ c.output → (c.lender ≡ lender → end ≡ last)
     → Offered (o first) (values_bytes v) c.taken (o end) × (c.taken < 2 ^ 32)

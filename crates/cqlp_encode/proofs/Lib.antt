@@ -4,6 +4,7 @@ pub mod Contents
 pub mod PartsTaken
 pub mod FramesTaken
 pub mod PageSteps
+pub mod WrittenValues
 pub mod OneAnswer
 pub mod PageAnswers
 pub mod PageWhole

@@ -1,10 +1,13 @@
--- One answer of `encode` meets its clause.
-use Rattle.std.proofs.Common.{◌≡◌, ℕ, List, Option, Some, None, IsSome, Ok, Err, take, sym, ap, ◌∙◌, arith}
+-- One answer of `encode`, and of `write_value`, meets its clause.
+use Rattle.std.proofs.Common.{◌≡◌, ℕ, List, Option, Some, None, IsSome, Ok, Err, take, refl, sym, ap, ◌∙◌, arith}
 use Rattle.std.specs.Io.KnownBytes.{Appends}
 use Rattle.cqlp_note.specs.Outputs.{Output, output, Offered}
 use Rattle.cqlp_message.specs.Frames.{frame_bytes}
 use Rattle.cqlp_encode.specs.declared.writing.EncodeError.TheVariants as error
-use Rattle.cqlp_encode.specs.Laws.{OneAnswerOfEncode}
+use Rattle.cqlp_value.specs.Owned.{value_of}
+use Rattle.cqlp_value.specs.Values.{values_bytes}
+use Rattle.cqlp_encode.specs.declared.value_writing.ValueError.TheVariants as value_error
+use Rattle.cqlp_encode.specs.Laws.{OneAnswerOfEncode, OneAnswerOfWriteValue}
 
 same_given : (o a b : Option (List ℕ)) (bytes : List ℕ) → IsSome o → Appends o a bytes → Appends o b bytes → b ≡ a
 same_given None a b bytes known s t = absurd cc
@@ -31,3 +34,21 @@ one_answer f old new new' (Err (error.Unfit why)) (Err (error.Write m)) known a 
 one_answer f old new new' (Err (error.Write n)) (Ok m) known a b e = absurd (omega (arith, a.1, b.1, e))
 one_answer f old new new' (Err (error.Write n)) (Err (error.Unfit why)) known a b e = let both = sym a.0.0 ∙ b.0 in absurd cc
 one_answer f old new new' (Err (error.Write n)) (Err (error.Write m)) known a b e = (ap (λ (k : ℕ). Err (error.Write k)) e, left_once old new new' (frame_bytes f) n m known e a.2 b.2)
+
+pub one_value_answer : OneAnswerOfWriteValue
+one_value_answer v t old new new' (Ok n) (Ok m) known a b e = (ap (λ (k : ℕ). Ok k) e, left_once old new new' (values_bytes (value_of v)) n m known e a.2 b.2)
+one_value_answer v t old new new' (Ok n) (Err value_error.Unfit) known a b e = let both = sym a.0.fits ∙ b.0 in absurd cc
+one_value_answer v t old new new' (Ok n) (Err value_error.TooLong) known a b e = absurd (omega (arith, a.0.short, b.1))
+one_value_answer v t old new new' (Ok n) (Err (value_error.Write m)) known a b e = absurd (omega (arith, a.1, b.1, e))
+one_value_answer v t old new new' (Err value_error.Unfit) (Ok m) known a b e = let both = sym a.0 ∙ b.0.fits in absurd cc
+one_value_answer v t old new new' (Err value_error.Unfit) (Err value_error.Unfit) known a b e = (refl, b.1 ∙ sym a.1)
+one_value_answer v t old new new' (Err value_error.Unfit) (Err value_error.TooLong) known a b e = let both = sym a.0 ∙ b.0 in absurd cc
+one_value_answer v t old new new' (Err value_error.Unfit) (Err (value_error.Write m)) known a b e = let both = sym a.0 ∙ b.0.fits in absurd cc
+one_value_answer v t old new new' (Err value_error.TooLong) (Ok m) known a b e = absurd (omega (arith, b.0.short, a.1))
+one_value_answer v t old new new' (Err value_error.TooLong) (Err value_error.Unfit) known a b e = let both = sym a.0 ∙ b.0 in absurd cc
+one_value_answer v t old new new' (Err value_error.TooLong) (Err value_error.TooLong) known a b e = (refl, b.2 ∙ sym a.2)
+one_value_answer v t old new new' (Err value_error.TooLong) (Err (value_error.Write m)) known a b e = absurd (omega (arith, b.0.short, a.1))
+one_value_answer v t old new new' (Err (value_error.Write n)) (Ok m) known a b e = absurd (omega (arith, a.1, b.1, e))
+one_value_answer v t old new new' (Err (value_error.Write n)) (Err value_error.Unfit) known a b e = let both = sym a.0.fits ∙ b.0 in absurd cc
+one_value_answer v t old new new' (Err (value_error.Write n)) (Err value_error.TooLong) known a b e = absurd (omega (arith, a.0.short, b.1))
+one_value_answer v t old new new' (Err (value_error.Write n)) (Err (value_error.Write m)) known a b e = (ap (λ (k : ℕ). Err (value_error.Write k)) e, left_once old new new' (values_bytes (value_of v)) n m known e a.2 b.2)

@@ -1,6 +1,8 @@
 -- The laws of the encoder.
-use Rattle.std.specs.Prelude.{◌≡◌, ℕ, List, [], IsSome, Result, Ok, Err, ⊤}
+use Rattle.std.specs.Prelude.{◌≡◌, ℕ, List, [], IsSome, Option, Result, Ok, Err, ⊤}
 use Rattle.cqlp_note.specs.Outputs.{Output}
+use Rattle.cqlp_type.specs.declared.tree.TypeTree.{TypeTree}
+use Rattle.cqlp_value.specs.declared.value.Value.{Value}
 use Rattle.cqlp_value.specs.Values.{Values}
 use Rattle.cqlp_message.specs.declared.frame.Frame.{Frame}
 use Rattle.cqlp_message.specs.FrameValues.{FrameValue}
@@ -10,7 +12,10 @@ use Rattle.cqlp_encode.specs.declared.writing.EncodeError.{EncodeError}
 use Rattle.cqlp_encode.specs.declared.writing.EncodeError.TheVariants as error
 use Rattle.cqlp_encode.specs.declared.page_writer.PageError.{PageError}
 use Rattle.cqlp_encode.specs.declared.page_writer.PageError.TheVariants as page_error
+use Rattle.cqlp_encode.specs.declared.value_writing.ValueError.{ValueError}
+use Rattle.cqlp_encode.specs.declared.value_writing.ValueError.TheVariants as value_error
 use Rattle.cqlp_encode.specs.Encoding.{Encodes}
+use Rattle.cqlp_encode.specs.ValueWriting.{WritesValue}
 use Rattle.cqlp_encode.specs.PageWriting.{PageState, Begins, Adds, AddsAll, Finishes}
 
 -- how many bytes the target took
@@ -25,6 +30,17 @@ abbrev pub OneAnswerOfEncode : Type 0
 OneAnswerOfEncode =
     (f : FrameValue) (old new new' : Output) (r r' : Result ℕ EncodeError) → IsSome old.given
     → Encodes f old r new → Encodes f old r' new' → taken r' ≡ taken r → (r' ≡ r) × (new' ≡ new)
+
+-- The same of a value that is written.
+abbrev pub value_taken : Result ℕ ValueError → ℕ
+value_taken (Ok n) = n
+value_taken (Err (value_error.Write n)) = n
+value_taken (Err e) = 0
+
+abbrev pub OneAnswerOfWriteValue : Type 0
+OneAnswerOfWriteValue =
+    (v : Value) (t : Option TypeTree) (old new new' : Output) (r r' : Result ℕ ValueError) → IsSome old.given
+    → WritesValue v t old r new → WritesValue v t old r' new' → value_taken r' ≡ value_taken r → (r' ≡ r) × (new' ≡ new)
 
 -- ---- pages
 

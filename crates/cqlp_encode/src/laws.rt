@@ -1,10 +1,15 @@
 //! The laws of the encoder.
 
-ghost use Rattle.cqlp_encode.specs.Laws.{OneAnswerOfBegin, OneAnswerOfCell, OneAnswerOfEncode, OneAnswerOfFinish, PageIsAsEncoded};
+ghost use Rattle.cqlp_encode.specs.Laws.{OneAnswerOfBegin, OneAnswerOfCell, OneAnswerOfEncode, OneAnswerOfFinish, OneAnswerOfWriteValue, PageIsAsEncoded};
 
 /// One answer of [`encode`](crate::encode) meets its clause, given how many bytes the target took.
 pub fn one_answer_of_encode()
     ensures { OneAnswerOfEncode }
+{}
+
+/// One answer of [`write_value`](crate::write_value) meets its clause, given how many bytes the target took.
+pub fn one_answer_of_write_value()
+    ensures { OneAnswerOfWriteValue }
 {}
 
 /// One answer of [`PageWriter::begin`](crate::PageWriter::begin) meets its clause, given how many bytes the target took.

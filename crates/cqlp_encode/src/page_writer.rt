@@ -2,12 +2,11 @@
 
 ghost use Rattle.std.specs.Prelude.{◌≡◌, ◌+◌, ◌<◌, ◌≤◌, List, ℕ, IfOk, false};
 ghost use Rattle.cqlp_note.specs.declared.header.TheConstants.Header.{LONGEST_BODY};
-ghost use Rattle.cqlp_note.specs.Outputs.{Offered, written};
+ghost use Rattle.cqlp_note.specs.Outputs.{written};
 ghost use Rattle.cqlp_value.specs.Owned.{value_of};
-ghost use Rattle.cqlp_value.specs.Values.{Values, values_bytes, values_size};
+ghost use Rattle.cqlp_value.specs.Values.{Values, values_size};
 
-use crate::staged::Staged;
-use crate::values::put_value;
+use crate::value_writing::offer_value;
 use crate::writing::write_parts;
 use cqlp_message::{Frame, Unfit};
 use cqlp_note::Target;
@@ -139,7 +138,7 @@ impl<'a> PageWriter<'a> {
             After self.new n (cells_after result cells (value_of value.now)) }
     {
         let size = self.check(value)?;
-        let taken = write_value(value, target);
+        let taken = offer_value(value, target);
         if taken < size {
             self.fail(taken);
             return Err(PageError::Write {
@@ -223,17 +222,4 @@ impl<'a> PageWriter<'a> {
         self.written += taken;
         self.failed = true;
     }
-}
-
-/// Writes a value with its length, and answers how many bytes of it the target took.
-fn write_value<W: Target>(value: &Value, target: &mut W) -> u32
-    requires { values_size (value_of value.now) ≤ LONGEST_BODY }
-    ensures { Offered (written W.Target target.old) (values_bytes (value_of value.now)) result (written W.Target target.new) }
-{
-    let mut out = Staged::new(target);
-    put_value(&mut out, value);
-    out.flush();
-    let taken = out.taken();
-    let _ = out.into_inner();
-    taken as u32
 }

@@ -2,7 +2,7 @@ use Rattle.std.proofs.Common.{refl, arith}
 use Rattle.cqlp_note.specs.Outputs.{written}
 use Rattle.cqlp_value.specs.Owned.{value_of}
 use Rattle.cqlp_encode.proofs.FramesTaken.{value_sent, value_offered}
-use Rattle.cqlp_encode.proofs.page_writer.write_value.Goals as goal
+use Rattle.cqlp_encode.proofs.value_writing.offer_value.Goals as goal
 
 pub overflow_cast-result : goal.overflow_cast-result
 overflow_cast-result g c =

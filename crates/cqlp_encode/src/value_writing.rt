@@ -1,0 +1,75 @@
+//! A value, written.
+
+ghost use Rattle.std.specs.Prelude.{◌≤◌, option_map};
+ghost use Rattle.cqlp_note.specs.declared.header.TheConstants.Header.{LONGEST_BODY};
+ghost use Rattle.cqlp_note.specs.Outputs.{Offered, written};
+ghost use Rattle.cqlp_value.specs.Owned.{value_of};
+ghost use Rattle.cqlp_value.specs.Values.{values_bytes, values_size};
+ghost use Rattle.cqlp_encode.specs.ValueWriting.{WritesValue};
+
+use crate::staged::Staged;
+use crate::values::put_value;
+use cqlp_note::{Header, Target};
+use cqlp_type::TypeTree;
+use cqlp_value::{Value, fits, value_size};
+use thiserror::Error;
+
+/// Why a value was not written, or not whole.
+#[derive(Clone, Copy, Debug, PartialEq, Eq, Error)]
+pub enum ValueError {
+    /// The value is none of the type, and nothing was written.
+    #[error("the value is none of its type")]
+    Unfit,
+    /// The value would have more than 268,435,456 bytes, which no body of a frame has, and nothing was written.
+    #[error("the value is longer than a frame can be")]
+    TooLong,
+    /// The target failed, or took nothing, after the value's first bytes, this many.
+    #[error("the target failed after {written} bytes of the value")]
+    Write { written: u32 },
+}
+
+/// Writes a value of this type, or of a cell without a type, as a \[bytes\] with its length, and answers how many bytes it has,
+/// the four of the length counted. Sections 3 and 6 of `native_protocol_v4.spec`. Each null has the length -1, and each true is 01.
+///
+/// It takes no memory. Small values go to the target together, and a content longer than 256 bytes by a call of its own.
+///
+/// # Errors
+///
+/// In this order: [`ValueError::Unfit`] where [`fits`] says that the value is none of the type, and [`ValueError::TooLong`],
+/// before anything is written; [`ValueError::Write`] at the first call of the target that fails or takes nothing.
+pub fn write_value<W: Target>(
+    value: &Value,
+    of: Option<&TypeTree>,
+    target: &mut W,
+) -> Result<u32, ValueError>
+    ensures { WritesValue value.now (option_map (λ t. t.now) of.entry) (written W.Target target.old) result
+        (written W.Target target.new) }
+{
+    if !fits(value, of) {
+        return Err(ValueError::Unfit);
+    }
+    let size = value_size(value);
+    if size > u64::from(Header::LONGEST_BODY) {
+        return Err(ValueError::TooLong);
+    }
+    let len = size as u32;
+    let taken = offer_value(value, target);
+    if taken < len {
+        Err(ValueError::Write { written: taken })
+    } else {
+        Ok(len)
+    }
+}
+
+/// Writes a value with its length, and answers how many bytes of it the target took.
+pub fn offer_value<W: Target>(value: &Value, target: &mut W) -> u32
+    requires { values_size (value_of value.now) ≤ LONGEST_BODY }
+    ensures { Offered (written W.Target target.old) (values_bytes (value_of value.now)) result (written W.Target target.new) }
+{
+    let mut out = Staged::new(target);
+    put_value(&mut out, value);
+    out.flush();
+    let taken = out.taken();
+    let _ = out.into_inner();
+    taken as u32
+}
