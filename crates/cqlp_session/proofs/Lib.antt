@@ -6,3 +6,4 @@ pub mod Sentences
 pub mod InStep
 pub mod Least
 pub mod OneAnswer
+pub mod Standing

@@ -1,5 +1,5 @@
 -- Two answers of `new` are the same.
-use Rattle.std.proofs.Common.{◌≡◌, ℕ, Result, Ok, Err, refl, sym, ap, ◌∙◌}
+use Rattle.std.proofs.Common.{ℕ, Result, Ok, Err, refl, sym, ap, ◌∙◌}
 use Rattle.cqlp_session.specs.declared.refusal.SlotsOrMemory.{SlotsOrMemory}
 use Rattle.cqlp_session.specs.declared.refusal.SlotsOrMemory.TheVariants.{BadSlots, NoMemory}
 use Rattle.cqlp_session.specs.Laws.{IsOneAnswer}

@@ -5,6 +5,7 @@ pub mod Ids
 pub mod Signal
 pub mod Client
 pub mod Server
+pub mod Carried
 pub mod World
 pub mod Pairing
 pub mod Laws

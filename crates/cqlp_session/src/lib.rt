@@ -2,20 +2,26 @@
 //! request a reply answers. The cores do no input or output, and take memory only where they are made.
 #![tactic(auto)]
 
+mod carried;
 mod client;
+mod client_of;
 mod ids;
 mod kind;
 pub mod laws;
 mod phase;
 mod refusal;
 mod server;
+mod server_of;
 mod slots;
 mod streams;
 mod ticket;
 
+pub use carried::Refused;
 pub use client::Client;
+pub use client_of::{ClientOf, ReplyOf};
 pub use kind::RequestKind;
 pub use phase::Phase;
 pub use refusal::SlotsOrMemory;
 pub use server::{AnswerError, Server, ServerRefusal};
+pub use server_of::ServerOf;
 pub use ticket::{BeginError, Reply, Stray, Ticket};

@@ -1,0 +1,131 @@
+//! The client's core with a value for each open request.
+
+ghost use Rattle.std.specs.Prelude.{◌≡◌, IfOk, OnErr};
+ghost use Rattle.std.specs.Bool.{OnFalse};
+
+use crate::carried::Refused;
+use crate::client::Client;
+use crate::kind::RequestKind;
+use crate::phase::Phase;
+use crate::refusal::SlotsOrMemory;
+use crate::ticket::{BeginError, Reply, Stray, Ticket};
+use crate::{carried, slots};
+use cqlp_note::Header;
+use std::alloc::{Allocator, Global};
+use std::marker::Model;
+
+/// What a response's header says to a client, with the value of the request that it answers.
+#[derive(Clone, Copy, Debug, PartialEq, Eq, Drop)]
+pub enum ReplyOf<T> {
+    /// An event that the server pushed. Section 4.2.6 of `native_protocol_v4.spec`.
+    ServerEvent,
+    /// The reply to this request, with the value that it began with.
+    Answer {
+        ticket: Ticket,
+        kind: RequestKind,
+        carried: T,
+    },
+    /// The reply to this request, which was cancelled, with the value that it began with.
+    Dropped {
+        ticket: Ticket,
+        carried: T,
+    },
+}
+
+/// A [`Client`] that carries a value of the caller's with each open request, from its `begin` to its reply.
+#[derive(Drop)]
+pub struct ClientOf<T, A: Allocator = Global> {
+    core: Client<A>,
+    /// The value of the request that is open under each stream id.
+    carried: Vec<Option<T>, A>,
+}
+
+impl<T, A: Allocator> Model for ClientOf<T, A> {
+    ghost use Rattle.cqlp_session.specs.Carried.{CarryingClient, StandWith};
+
+    ghost Value = { CarryingClient T };
+
+    ghost view = { λ c. record { core = c.core; carried = c.carried.items } };
+
+    ghost invariant = { λ c. StandWith c.core.slots c.carried.items };
+}
+
+impl<T: Drop, A: Allocator> ClientOf<T, A> {
+    ghost use Rattle.cqlp_session.specs.Carried.{answer_alone, begun_with, cancelled_with, new_carrying_client, or_back, replied_with, reply_value, StandWith};
+    ghost use Rattle.cqlp_session.specs.Client.{cancels, reply_to, ticket_for};
+    ghost use Rattle.cqlp_session.specs.Signal.{signal_of};
+    ghost use Rattle.cqlp_session.specs.Slots.{Makes, under};
+
+    /// The core of a connection on which nothing was sent yet. `slots` is how many requests may be open at a time, 1 to
+    /// 32,768, as in [`Client::new`]. All memory is taken here: that of a `Client`, and a place for each value.
+    pub fn new(alloc: A, slots: u16) -> Result<ClientOf<T, A>, SlotsOrMemory>
+    where
+        A: Clone,
+        ensures { Makes slots (new_carrying_client slots) result }
+    {
+        if !(1..=slots::MOST).contains(&slots) {
+            return Err(SlotsOrMemory::BadSlots);
+        }
+        Ok(ClientOf {
+            core: Client::new(alloc.clone()?, slots)?,
+            carried: carried::empty(alloc, slots as usize)?,
+        })
+    }
+
+    /// How far the setting up of the connection has come.
+    pub fn phase(&self) -> Phase
+        ensures { result ≡ self.now.core.phase }
+    {
+        self.core.phase()
+    }
+
+    /// Begins a request, as [`Client::begin`] does, and keeps a value until its reply. Where it is refused, the value
+    /// comes back and nothing is changed.
+    pub fn begin(&mut self, kind: RequestKind, carried: T) -> Result<Ticket, Refused<BeginError, T>>
+        ensures answer { result ≡ or_back carried (ticket_for self.old.core kind) }
+        ensures after { self.new ≡ begun_with self.old kind carried }
+        ensures refused { OnErr result (self.new ≡ self.old) }
+        ensures held { StandWith self.new.core.slots self.new.carried }
+    {
+        match self.core.begin(kind) {
+            Ok(ticket) => {
+                carried::keep(&mut self.carried, ticket.id, carried);
+                Ok(ticket)
+            }
+            Err(why) => Err(Refused { why, carried }),
+        }
+    }
+
+    /// Takes the header of a message that came, as [`Client::reply`] does. A reply hands out the value that its request
+    /// began with, given up or not.
+    pub fn reply(&mut self, header: &Header) -> Result<ReplyOf<T>, Stray>
+        ensures answer { answer_alone result ≡ reply_to self.old.core (signal_of header.now) }
+        ensures value { IfOk result (λ reply. reply_value reply ≡ under self.old.carried header.now.stream) }
+        ensures after { self.new ≡ replied_with self.old (signal_of header.now) }
+        ensures refused { OnErr result (self.new ≡ self.old) }
+        ensures held { StandWith self.new.core.slots self.new.carried }
+    {
+        let reply = self.core.reply(header)?;
+        let value = carried::take(&mut self.carried, header.stream);
+        match (reply, value) {
+            (Reply::Answer { ticket, kind }, Some(carried)) => Ok(ReplyOf::Answer {
+                ticket,
+                kind,
+                carried,
+            }),
+            (Reply::Dropped { ticket }, Some(carried)) => Ok(ReplyOf::Dropped { ticket, carried }),
+            (Reply::ServerEvent, None) => Ok(ReplyOf::ServerEvent),
+            _ => unreachable!(),
+        }
+    }
+
+    /// Gives up a request, as [`Client::cancel`] does. Its value stays until its reply comes, which hands it out.
+    pub fn cancel(&mut self, ticket: Ticket) -> bool
+        ensures answer { result ≡ cancels self.old.core ticket }
+        ensures after { self.new ≡ cancelled_with self.old ticket }
+        ensures refused { OnFalse result (self.new ≡ self.old) }
+        ensures held { StandWith self.new.core.slots self.new.carried }
+    {
+        self.core.cancel(ticket)
+    }
+}
