@@ -1,0 +1,8 @@
+use Rattle.std.proofs.Common.{◌≡◌, ◌++◌, replicate, vec_capacity}
+use Rattle.cqlp_capture.proofs.gathered.add_zeros.Given as goal
+
+abbrev pub invariant-loop : goal.invariant-loop
+invariant-loop g l = record {
+  items : l.bytes.items ≡ l.initial.bytes.items ++ replicate l.counter 0;
+  capacity : vec_capacity l.bytes ≡ vec_capacity l.initial.bytes;
+}

@@ -1,0 +1,7 @@
+pub mod Limits
+pub mod Numbers
+pub mod Reading
+pub mod Places
+pub mod Gathering
+pub mod Standing
+pub mod Lending

@@ -1,0 +1,30 @@
+//! The limits that a caller sets.
+
+ghost use Rattle.std.specs.Prelude.{◌≡◌};
+
+/// What a reader of captures holds at most.
+#[derive(Clone, Copy, Debug, PartialEq, Eq)]
+pub struct CaptureLimits {
+    /// The captured bytes of one packet: 64 to 16,777,216.
+    pub packet: u32,
+}
+
+impl CaptureLimits {
+    ghost use Rattle.cqlp_capture.specs.Limits.{is_in_range};
+
+    /// The least limit on a packet.
+    pub const LEAST_PACKET: u32 = 64;
+
+    /// The greatest limit on a packet.
+    pub const GREATEST_PACKET: u32 = 16_777_216;
+
+    /// The limit where none is given: as many bytes as a capture of whole packets takes of one.
+    pub const DEFAULT: CaptureLimits = CaptureLimits { packet: 262_144 };
+
+    /// Whether the limit is in its range.
+    pub fn is_in_range(&self) -> bool
+        ensures { result ≡ is_in_range self.now }
+    {
+        CaptureLimits::LEAST_PACKET <= self.packet && self.packet <= CaptureLimits::GREATEST_PACKET
+    }
+}
