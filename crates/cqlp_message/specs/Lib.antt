@@ -9,3 +9,5 @@ pub mod Laws
 pub mod Fitting
 pub mod Tallies
 pub mod Pages
+pub mod Plain
+pub mod VersionError
