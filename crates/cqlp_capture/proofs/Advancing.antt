@@ -1,8 +1,7 @@
 -- What a call does with the bytes that were wanted.
-use Rattle.std.proofs.Common.{◌≡◌, ℕ, ◌+◌, ◌^◌, ◌≤◌, List, [], ◌++◌, length, take, Result, Ok, Err, refl, sym, ap, ◌∙◌, arith}
+use Rattle.std.proofs.Common.{◌≡◌, ℕ, ◌+◌, List, [], length, take, Ok, Err, refl, ap, ◌∙◌, arith}
 use Rattle.std.specs.Prelude.{Option, Some, None}
 use Rattle.std.proofs.lemmas.List.{length-append, length-take-le}
-use Rattle.cqlp_note.specs.Reader.{says}
 use Rattle.cqlp_capture.specs.declared.limits.CaptureLimits.{CaptureLimits}
 use Rattle.cqlp_capture.specs.declared.event.Told.{Told}
 use Rattle.cqlp_capture.specs.declared.gathered.FoundBytes.{FoundBytes}
@@ -36,6 +35,7 @@ module _ (l : CaptureLimits) (p : Place) (g g' : Gathered) (input b : List ℕ) 
       is = rw (← are) (step_said l.packet p g.pending input b f.used found.count found.within (are ∙ found.is) ∙ ap (said_of (length g.pending + f.used) b) is);
       left = λ i. record { limit = l.packet; place = t.place; pending = found.none i; held = g'.held; refusal = None };
       lent = found.lent;
+      kept = found.kept;
     },
     found.there,
   )

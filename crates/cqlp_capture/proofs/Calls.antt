@@ -1,26 +1,22 @@
 -- What one call does, over the whole file.
 use Rattle.std.proofs.Common.{◌≡◌, ℕ, ◌+◌, ◌^◌, ◌≤◌, Bool, true, false, List, [], ◌∷◌, ◌++◌, length, take, drop, refl, sym, ap, subst, ◌∙◌, arith}
 use Rattle.std.specs.Prelude.{Option, Some, None}
-use Rattle.std.proofs.lemmas.List.{length-append, length-take-le, drop_all, nil_from_length}
-use Rattle.cqlp_note.specs.Reader.{Said, Got, says}
+use Rattle.std.proofs.lemmas.List.{length-append, length-take-le, drop_all}
 use Rattle.cqlp_note.proofs.Yields.{says_exact}
-use Rattle.cqlp_capture.specs.declared.event.CaptureEnd.{CaptureEnd}
 use Rattle.cqlp_capture.specs.declared.event.CaptureEnd.TheVariants as end
 use Rattle.cqlp_capture.specs.declared.event.CaptureEvent.{CaptureEvent}
 use Rattle.cqlp_capture.specs.declared.event.CaptureStep.{CaptureStep}
 use Rattle.cqlp_capture.specs.declared.event.CaptureStep.TheVariants as answer
 use Rattle.cqlp_capture.specs.declared.event.EventOutline.{EventOutline}
 use Rattle.cqlp_capture.specs.declared.gathered.BytesPlace.{BytesPlace}
-use Rattle.cqlp_capture.specs.declared.reader.CaptureAdvance.{CaptureAdvance}
 use Rattle.cqlp_capture.specs.declared.reader.CaptureAdvance.TheVariants as advance
 use Rattle.cqlp_capture.specs.declared.place.Stage.{Stage}
 use Rattle.cqlp_capture.specs.declared.place.Stage.TheVariants.{Magic, FileHead, RecordHead, Data}
-use Rattle.cqlp_capture.specs.declared.place.Place.{Place}
 use Rattle.cqlp_capture.specs.declared.refusal.CaptureRefusal.{CaptureRefusal}
 use Rattle.cqlp_capture.specs.Gathering.{bytes_at}
-use Rattle.cqlp_capture.specs.Places.{IsPlace, is_between, began}
+use Rattle.cqlp_capture.specs.Places.{is_between, began}
 use Rattle.cqlp_capture.specs.Reading.{Event, event_with, step, start, Reads}
-use Rattle.cqlp_capture.specs.Standing.{CaptureState, AdvancesFrom, AnswersFrom, AfterBy, After, Answers, EndsAs, FinishesBy, Goes, Hands, Fails, Leads, Refuses, Uses, begun_from, event_of}
+use Rattle.cqlp_capture.specs.Standing.{CaptureState, AdvancesFrom, AnswersFrom, AfterBy, After, Answers, EndsAs, FinishesBy, Leads, Refuses, Uses, event_of}
 use Rattle.cqlp_capture.proofs.Runs.{reads_then, reads_stay, reads_at}
 
 module _ (old new : CaptureState) (input s : List ℕ) (es : List (ℕ × Event)) where

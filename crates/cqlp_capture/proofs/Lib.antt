@@ -2,3 +2,5 @@ pub mod Steps
 pub mod Advancing
 pub mod Runs
 pub mod Calls
+pub mod Whole
+pub mod OneAnswer

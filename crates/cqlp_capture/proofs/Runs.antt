@@ -1,8 +1,8 @@
 -- Readings: one for each list of events, which goes on, and stays whatever bytes follow.
-use Rattle.std.proofs.Common.{◌≡◌, ℕ, ◌+◌, ◌^◌, ◌≤◌, List, [], ◌∷◌, ◌++◌, length, take, drop, Result, Ok, Err, refl, sym, ap, subst, ◌∙◌, inl, inr, arith}
+use Rattle.std.proofs.Common.{◌≡◌, ℕ, ◌+◌, ◌^◌, ◌≤◌, List, [], ◌∷◌, ◌++◌, length, take, drop, Result, Ok, Err, refl, sym, ap, ◌∙◌, inl, inr, arith}
 use Rattle.std.proofs.lemmas.Bool.{cases_lt}
-use Rattle.std.proofs.lemmas.List.{drop-append-le, length-append, length-drop, length-take-le}
-use Rattle.cqlp_note.specs.Reader.{Said, More, Bad, Got, says}
+use Rattle.std.proofs.lemmas.List.{drop-append-le, length-drop, length-take-le}
+use Rattle.cqlp_note.specs.Reader.{Said, More, Got, says}
 use Rattle.cqlp_note.proofs.Readers.{says_stays}
 use Rattle.cqlp_note.proofs.Runs.{stays_got, same_got}
 use Rattle.cqlp_capture.specs.declared.event.Told.{Told}
@@ -11,7 +11,7 @@ use Rattle.cqlp_capture.specs.declared.refusal.CaptureRefusal.{CaptureRefusal}
 use Rattle.cqlp_capture.specs.Places.{IsPlace, began}
 use Rattle.cqlp_capture.specs.Reading.{Event, Emitted, event_with, wanted, told, step, Reads}
 use Rattle.cqlp_capture.specs.Standing.{begun_after, begun_from}
-use Rattle.cqlp_capture.proofs.Steps.{said_of, step_waits, step_says, told_leads}
+use Rattle.cqlp_capture.proofs.Steps.{said_of, step_waits, step_says, told_leads, due}
 
 same_cons : {X : Type 0} (x y : X) (xs ys : List X) → x ≡ y → xs ≡ ys → x ∷ xs ≡ y ∷ ys
 same_cons x y xs ys a b = cc
@@ -63,14 +63,16 @@ got_tells limit p bytes x used said = elim (cases_lt (length bytes) (wanted p.st
   | inr le ↦ tells_by limit p bytes x used le (told limit p (take (wanted p.stage) bytes)) refl (sym (step_says limit p bytes le) ∙ said)
 ]
 
--- The place that a reading comes to is as far as the bytes that were read, and there began what the events say.
+-- The place that a reading comes to is as far as the bytes that were read, there began what the events say, and each event
+-- is paid.
 pub record IsAt (p : Place) (limit : ℕ) (bytes : List ℕ) (es : List (ℕ × Event)) (q : Place) (rest : List ℕ) : Type 0 where
   pub near : IsPlace limit q
   pub count : p.offset + length bytes ≡ q.offset + length rest
   pub begins : began q ≡ begun_from (began p) es
+  pub paid : length es + (due q.stage + length rest) ≤ due p.stage + length bytes
 
 pub reads_at : (limit : ℕ) → limit ≤ 2 ^ 24 → (p q : Place) (bytes rest : List ℕ) (es : List (ℕ × Event)) → IsPlace limit p → Reads limit p bytes es q rest → IsAt p limit bytes es q rest
-reads_at limit few p q bytes rest [] here r = rw (r.0, r.1) (record { near = here; count = refl; begins = refl })
+reads_at limit few p q bytes rest [] here r = rw (r.0, r.1) (record { near = here; count = refl; begins = refl; paid = omega arith })
 reads_at limit few p q bytes rest (e ∷ es) here r =
     let n = wanted p.stage in
     let t = got_tells limit p bytes _ r.0 r.2 in
@@ -87,4 +89,5 @@ reads_at limit few p q bytes rest (e ∷ es) here r =
       near = later.near;
       count = omega (arith, later.count, offset, t.count, t.within, length-drop r.0 bytes);
       begins = later.begins ∙ ap (λ (k : ℕ). begun_from k es) begins;
+      paid = omega (arith, later.paid, to.pays, ap (λ (x : Place). due x.stage) after, t.count, t.within, length-drop r.0 bytes);
     }

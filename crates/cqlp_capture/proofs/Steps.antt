@@ -1,22 +1,21 @@
 -- What the bytes of one step say.
-use Rattle.std.proofs.Common.{◌≡◌, ℕ, ◌+◌, ◌^◌, ◌<◌, ◌≤◌, ltb, eqb, cond, ◌&&◌, Bool, true, false, List, [], ◌∷◌, ◌++◌, length, take, drop, Result, Ok, Err, refl, sym, ap, subst, ◌∙◌, inl, inr, arith}
+use Rattle.std.proofs.Common.{◌≡◌, ℕ, ◌+◌, ◌^◌, ◌<◌, ◌≤◌, ltb, cond, Bool, true, false, List, ◌++◌, length, take, drop, Result, Ok, Err, refl, sym, ap, subst, ◌∙◌, arith}
 use Rattle.std.specs.Prelude.{Option, Some, None}
 use Rattle.std.proofs.Common.{lit≤}
 use Rattle.cqlp_capture.specs.declared.file.ByteOrder.TheVariants.{BigEndian}
 use Rattle.std.proofs.Math.Seq.{take-append-add}
-use Rattle.std.proofs.lemmas.Bool.{cases_lt, lt-ltb, le-ltb, ltb-false}
-use Rattle.std.proofs.lemmas.List.{length-append, length-drop, length-take-le}
-use Rattle.cqlp_note.specs.Reader.{Said, More, Bad, Got, Reader, Gives, Refuses, Takes, says}
+use Rattle.std.proofs.lemmas.Bool.{lt-ltb, le-ltb, ltb-false}
+use Rattle.std.proofs.lemmas.List.{length-append}
+use Rattle.cqlp_note.specs.Reader.{Said, More, Bad, Got, says}
 use Rattle.cqlp_capture.specs.declared.file.FileForm.{FileForm}
-use Rattle.cqlp_capture.specs.declared.event.EventOutline.TheVariants as outline
 use Rattle.cqlp_capture.specs.declared.event.Told.{Told}
 use Rattle.cqlp_capture.specs.declared.place.Stage.{Stage}
 use Rattle.cqlp_capture.specs.declared.place.Stage.TheVariants.{Magic, FileHead, RecordHead, Data}
 use Rattle.cqlp_capture.specs.declared.place.Place.{Place}
 use Rattle.cqlp_capture.specs.declared.refusal.CaptureRefusal.{CaptureRefusal}
 use Rattle.cqlp_capture.specs.Numbers.{form_of, number_32}
-use Rattle.cqlp_capture.specs.Reading.{Event, Emitted, event_with, wanted, told, told_at, told_form, told_magic, told_file_head, told_record_head, is_known_version, emitted, step}
-use Rattle.cqlp_capture.specs.Places.{IsPlace, IsNear, ComesAfterHead, began, began_at}
+use Rattle.cqlp_capture.specs.Reading.{Emitted, event_with, wanted, told, told_at, told_form, is_known_version, emitted, step}
+use Rattle.cqlp_capture.specs.Places.{IsPlace, IsNear, ComesAfterHead, began}
 use Rattle.cqlp_capture.specs.Standing.{begun_after}
 
 -- ---- what is said of a step
@@ -50,11 +49,17 @@ module _ (limit : ℕ) (p : Place) where
 
 -- ---- where a step leads
 
+-- The bytes of a packet may be none: they are paid by the header of its record, so that no event is for nothing.
+abbrev pub due : Stage → ℕ
+due (Data f n) = 1
+due s = 0
+
 -- The place after it is as far as the bytes that were read, and the event says what begins there.
 pub record Leads (limit offset : ℕ) (s : Stage) (b : List ℕ) (t : Told) : Type 0 where
   pub near : IsPlace limit t.place
   pub offset_is : t.place.offset ≡ offset + wanted s
   pub begins : began t.place ≡ begun_after t.at (event_with t.what b)
+  pub pays : 1 + due t.place.stage ≤ due s + wanted s
 
 ok_same : (t u : Told) → ◌≡◌ {A = Result Told CaptureRefusal} (Ok u) (Ok t) → u ≡ t
 ok_same t u h = cc
@@ -62,7 +67,7 @@ ok_same t u h = cc
 module _ (limit offset : ℕ) (b : List ℕ) (t : Told) where
   form_leads : (o : Option FileForm) → offset ≡ 0 → told_form o ≡ Ok t → Leads limit offset Magic b t
   form_leads None zero is = absurd cc
-  form_leads (Some f) zero is = subst (λ (u : Told). Leads limit offset Magic b u) (ok_same t _ is) (record { near = (refl, tt); offset_is = omega arith; begins = refl })
+  form_leads (Some f) zero is = subst (λ (u : Told). Leads limit offset Magic b u) (ok_same t _ is) (record { near = (refl, tt); offset_is = omega arith; begins = refl; pays = omega arith })
 
   file_leads : (f : FileForm) (known : Bool) → offset ≡ 4 → (u : Told) (r : CaptureRefusal) → Leads limit offset (FileHead f) b u → cond known (Ok u) (Err r) ≡ Ok t → Leads limit offset (FileHead f) b t
   file_leads f true four u r leads is = subst (λ (u : Told). Leads limit offset (FileHead f) b u) (ok_same t u is) leads
@@ -77,12 +82,13 @@ module _ (limit offset : ℕ) (b : List ℕ) (t : Told) where
   leads_at Magic here few long is = form_leads (form_of (number_32 BigEndian 0 b)) here.0 is
   leads_at (FileHead f) here few long is =
       let four = here.0 in
-      file_leads f (is_known_version f b) here.0 _ _ (record { near = (lit≤ tt, tt); offset_is = omega arith; begins = refl }) is
+      file_leads f (is_known_version f b) here.0 _ _ (record { near = (lit≤ tt, tt); offset_is = omega arith; begins = refl; pays = omega arith }) is
   leads_at (RecordHead f) here few long is =
       record_leads f (ltb (2 ^ 63) offset) (ltb limit (number_32 f.order 8 b)) _ _ _ (λ near within. record {
         near = ((let le : offset ≤ 2 ^ 63 = ltb-false _ _ near in omega arith, ltb-false _ _ within), omega arith);
         offset_is = refl;
         begins = omega arith;
+        pays = omega arith;
       }) is
   leads_at (Data f n) here few long is =
       let near = here.0 in
@@ -90,6 +96,7 @@ module _ (limit offset : ℕ) (b : List ℕ) (t : Told) where
         near = (omega (arith, near.0, near.1), tt);
         offset_is = refl;
         begins = omega (arith, long);
+        pays = omega arith;
       })
 
 pub told_leads : (limit : ℕ) (p : Place) (b : List ℕ) (t : Told) → IsPlace limit p → limit ≤ 2 ^ 24 → length b ≡ wanted p.stage → told limit p b ≡ Ok t → Leads limit p.offset p.stage b t

@@ -27,7 +27,8 @@ abbrev pub LieThere : BytesPlace → (input : List ℕ) → Type 0
 LieThere (InInput n) input = n ≤ length input
 LieThere Held input = ⊤
 
--- The bytes before and the first of the input are as many as were wanted. Where none came before, none are held.
+-- The bytes before and the first of the input are as many as were wanted. Where none came before, none are held; else all
+-- of them are.
 pub record Finds (old : Gathered) (wanted : ℕ) (input : List ℕ) (f : FoundBytes) (new : Gathered) : Type 0 where
   pub count : length old.pending + f.used ≡ wanted
   pub within : f.used ≤ length input
@@ -36,6 +37,7 @@ pub record Finds (old : Gathered) (wanted : ℕ) (input : List ℕ) (f : FoundBy
   pub none : new.pending ≡ []
   pub room : new.room ≡ old.room
   pub lent : old.pending ≡ [] → new.held ≡ []
+  pub kept : 0 < length old.pending → new.held ≡ old.pending ++ take f.used input
 
 -- What was wanted is there, or all of the input is held too.
 abbrev pub Gathers : Gathered → (wanted : ℕ) → (input : List ℕ) → Option FoundBytes → Gathered → Type 0

@@ -5,3 +5,4 @@ pub mod Places
 pub mod Gathering
 pub mod Standing
 pub mod Lending
+pub mod Laws

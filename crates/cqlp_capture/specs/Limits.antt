@@ -1,5 +1,5 @@
 -- The caller's limits.
-use Rattle.std.specs.Prelude.{ℕ, Bool, ◌&&◌, nat_le}
+use Rattle.std.specs.Prelude.{Bool, ◌&&◌, nat_le}
 use Rattle.cqlp_capture.specs.declared.limits.CaptureLimits.{CaptureLimits}
 
 -- 64 to 16,777,216 bytes of a packet

@@ -11,7 +11,6 @@ use Rattle.cqlp_capture.specs.declared.event.Told.{Told}
 use Rattle.cqlp_capture.specs.declared.place.Stage.{Stage}
 use Rattle.cqlp_capture.specs.declared.place.Stage.TheVariants.{Magic, FileHead, RecordHead, Data}
 use Rattle.cqlp_capture.specs.declared.place.Place.{Place}
-use Rattle.cqlp_capture.specs.declared.refusal.CaptureReason.{CaptureReason}
 use Rattle.cqlp_capture.specs.declared.refusal.CaptureReason.TheVariants.{UnknownMagic, UnknownVersion, PacketTooLong, FileTooLong}
 use Rattle.cqlp_capture.specs.declared.refusal.CaptureRefusal.{CaptureRefusal}
 use Rattle.cqlp_capture.specs.Numbers.{form_of, nanoseconds, number_16, number_32}

@@ -1,5 +1,5 @@
 -- Where a reader of captures stands, and what its calls lead to.
-use Rattle.std.specs.Prelude.{◌≡◌, ℕ, ◌+◌, ◌≤◌, ◌^◌, ◌++◌, ◌==◌, ◌&&◌, Bool, true, false, List, [], ◌∷◌, length, take, Option, Some, None, if◌then◌else◌, ⊤}
+use Rattle.std.specs.Prelude.{◌≡◌, ℕ, ◌+◌, ◌<◌, ◌≤◌, ◌^◌, ◌++◌, ◌==◌, ◌&&◌, Bool, List, [], ◌∷◌, length, take, Option, Some, None, if◌then◌else◌, ⊤}
 use Rattle.cqlp_note.specs.Reader.{More, Bad, Got, says}
 use Rattle.cqlp_capture.specs.declared.limits.CaptureLimits.{CaptureLimits}
 use Rattle.cqlp_capture.specs.declared.refusal.CaptureRefusal.{CaptureRefusal}
@@ -11,7 +11,6 @@ use Rattle.cqlp_capture.specs.declared.event.CaptureEnd.{CaptureEnd}
 use Rattle.cqlp_capture.specs.declared.event.CaptureEnd.TheVariants as end
 use Rattle.cqlp_capture.specs.declared.reader.CaptureAdvance.{CaptureAdvance}
 use Rattle.cqlp_capture.specs.declared.reader.CaptureAdvance.TheVariants as advance
-use Rattle.cqlp_capture.specs.declared.place.Stage.{Stage}
 use Rattle.cqlp_capture.specs.declared.place.Place.{Place}
 use Rattle.cqlp_capture.specs.Reading.{Event, Section, Interface, Packet, Bytes, event_with, wanted, step, start, Reads, Says, Waits, Refused}
 use Rattle.cqlp_capture.specs.Places.{IsPlace, is_between, began}
@@ -63,13 +62,14 @@ pub record Goes (old : CaptureState) (input : List ℕ) (used : ℕ) (new : Capt
     refusal = None;
   }
 
--- The first `used` bytes of the input end this event. Where all its bytes are among them, none is held.
+-- The first `used` bytes of the input end this event. Where all its bytes are among them, none is held; else all are.
 pub record Hands (old : CaptureState) (input : List ℕ) (at used : ℕ) (e : Event) (new : CaptureState) : Type 0 where
   pub within : used ≤ length input
   pub is : says (step old.limit old.place) 0 (old.pending ++ input)
       ≡ Got (record { at = at; event = e; after = new.place }) (length old.pending + used)
   pub left : new ≡ record { limit = old.limit; place = new.place; pending = []; held = new.held; refusal = None }
   pub lent : old.pending ≡ [] → new.held ≡ []
+  pub kept : 0 < length old.pending → new.held ≡ old.pending ++ take used input
 
 -- The bytes are refused.
 pub record Fails (old : CaptureState) (input : List ℕ) (r : CaptureRefusal) (new : CaptureState) : Type 0 where

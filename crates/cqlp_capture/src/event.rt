@@ -68,7 +68,9 @@ pub enum CaptureStep<'a> {
         event: CaptureEvent<'a>,
     },
     /// All of the input was used, and more is wanted.
-    More { used: usize },
+    More {
+        used: usize,
+    },
     /// The file is refused, here and at every later call; nothing was used.
     Refused(CaptureRefusal),
 }

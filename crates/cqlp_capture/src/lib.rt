@@ -4,6 +4,7 @@
 mod event;
 mod file;
 mod gathered;
+pub mod laws;
 mod limits;
 mod place;
 mod reader;

@@ -16,7 +16,9 @@ use std::marker::Model;
 #[derive(Clone, Copy)]
 pub(crate) enum CaptureAdvance {
     /// All of the input was used, and more is wanted.
-    More { used: usize },
+    More {
+        used: usize,
+    },
     /// An event at an offset, which ends after this many bytes of the input; the bytes that it is made of lie there.
     Event {
         at: u64,
@@ -154,12 +156,7 @@ impl<A: Allocator> CaptureReader<A> {
     }
 
     /// The event that `advance` made of this input.
-    fn lend<'a>(
-        &'a self,
-        input: &'a [u8],
-        what: EventOutline,
-        lies: BytesPlace,
-    ) -> CaptureEvent<'a>
+    fn lend<'a>(&'a self, input: &'a [u8], what: EventOutline, lies: BytesPlace) -> CaptureEvent<'a>
         requires { LieThere lies input.now }
         ensures { event_of result ≡ event_with what (bytes_at lies input.now self.now.held) }
     {

@@ -1,4 +1,4 @@
-use Rattle.std.proofs.Common.{◌≡◌, refl, sym, ◌∙◌}
+use Rattle.std.proofs.Common.{sym}
 use Rattle.cqlp_capture.proofs.Advancing.{told_lawful, told_hands, told_fails}
 use Rattle.cqlp_capture.proofs.reader.CaptureReader.advance.Goals as goal
 

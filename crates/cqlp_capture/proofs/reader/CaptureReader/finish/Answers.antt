@@ -1,4 +1,4 @@
-use Rattle.std.proofs.Common.{◌≡◌, refl, sym, ap, ◌∙◌, ◌+◌}
+use Rattle.std.proofs.Common.{sym, ap, ◌∙◌, ◌+◌}
 use Rattle.cqlp_capture.specs.Standing.{standing}
 use Rattle.cqlp_capture.proofs.Calls.{ends_whole, ends_cut}
 use Rattle.cqlp_capture.proofs.reader.CaptureReader.finish.Goals as goal

@@ -1,4 +1,4 @@
-use Rattle.std.proofs.Common.{◌≡◌, refl}
+use Rattle.std.proofs.Common.{refl}
 use Rattle.cqlp_capture.specs.declared.event.CaptureStep.TheVariants as answer
 use Rattle.cqlp_capture.proofs.Calls.{answers, uses, more_answers, event_answers, refused_answers}
 use Rattle.cqlp_capture.proofs.reader.CaptureReader.next.Goals as goal

@@ -1,0 +1,32 @@
+//! Laws of what a capture file says, and of what the calls of a reader answer. No code needs them.
+
+ghost use Rattle.cqlp_capture.specs.Laws.{GoesOn, IsSaid, IsSaidOnce, HasNoMoreEventsThanBytes};
+ghost use Rattle.cqlp_capture.specs.Laws.{HandsOutNoMoreEventsThanBytes, OneAnswerOfNew, OneAnswerOfNext};
+
+/// Of any bytes there is one list of events, and one verdict.
+pub fn said_once()
+    ensures some { IsSaid }
+    ensures once { IsSaidOnce }
+{}
+
+/// Whatever bytes follow, the events of a file go on, and a refusal stays. So they do not depend on how the file is cut
+/// into pieces.
+pub fn goes_on()
+    ensures { GoesOn }
+{}
+
+/// A file has no more events than bytes, and a reader hands out no more, also before it refuses.
+pub fn no_more_events_than_bytes()
+    ensures file { HasNoMoreEventsThanBytes }
+    ensures reader { HandsOutNoMoreEventsThanBytes }
+{}
+
+/// Where memory is granted, `CaptureReader::new` has one answer. The clauses of `finish` and `capacity` are equations.
+pub fn one_answer_of_new()
+    ensures { OneAnswerOfNew }
+{}
+
+/// From one reader and over the same input `CaptureReader::next` has one answer, and leaves one reader.
+pub fn one_answer_of_next()
+    ensures { OneAnswerOfNext }
+{}

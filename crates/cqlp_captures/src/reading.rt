@@ -1,0 +1,76 @@
+//! What a reader says of a capture.
+
+use cqlp_capture::{CaptureEnd, CaptureEvent, CaptureLimits, CaptureReader, CaptureStep};
+use std::alloc::Global;
+use std::io;
+
+/// More events than any capture here has.
+const AMPLE: u32 = 1_000_000;
+
+/// A line for each event, with its offset, and how the file ends, where it comes in pieces of this size.
+pub fn said_in_pieces(
+    alloc: Global,
+    limits: CaptureLimits,
+    file: &[u8],
+    size: usize,
+) -> io::Result<String> {
+    let Ok(mut reader) = CaptureReader::new(alloc, limits) else {
+        return Err(io::Error::from(io::ErrorKind::OutOfMemory));
+    };
+    let mut said = String::new(alloc);
+    for piece in file.chunks(size.max(1)) {
+        take(&mut reader, piece, &mut said)?;
+    }
+    match reader.finish() {
+        CaptureEnd::Whole { bytes } => write!(said, "whole {bytes}\n")?,
+        CaptureEnd::Cut { at, bytes } => write!(said, "cut at {at} after {bytes}\n")?,
+        CaptureEnd::Refused(refusal) => write!(said, "{} {:?}\n", refusal.at, refusal.why)?,
+    }
+    Ok(said)
+}
+
+/// Writes down what a reader says of one more piece.
+fn take(reader: &mut CaptureReader, piece: &[u8], said: &mut String) -> io::Result<()> {
+    let mut rest = piece;
+    for _ in 0..AMPLE {
+        match reader.next(rest) {
+            CaptureStep::Event { at, used, event } => {
+                put_event(at, &event, said)?;
+                rest = rest.get(used..).unwrap_or(&[]);
+            }
+            CaptureStep::More { .. } | CaptureStep::Refused(_) => break,
+        }
+    }
+    Ok(())
+}
+
+fn put_event(at: u64, event: &CaptureEvent<'_>, said: &mut String) -> io::Result<()> {
+    match event {
+        CaptureEvent::Section(form) => {
+            write!(said, "{at} section {:?} {:?}\n", form.order, form.fraction)?;
+        }
+        CaptureEvent::Interface(head) => write!(
+            said,
+            "{at} interface {} link {} snap {}\n",
+            head.number, head.link, head.snap_length
+        )?,
+        CaptureEvent::Packet(head) => write!(
+            said,
+            "{at} packet of {} at {} ns captured {} of {}\n",
+            head.interface, head.time, head.captured, head.original
+        )?,
+        CaptureEvent::Data(bytes) => {
+            write!(said, "{at} data {} sum {}\n", bytes.len(), sum_of(bytes))?;
+        }
+    }
+    Ok(())
+}
+
+/// A number that tells bytes apart: each time 31 times the number before, and the next byte.
+fn sum_of(bytes: &[u8]) -> u32 {
+    let mut sum = 0u32;
+    for byte in bytes {
+        sum = sum.wrapping_mul(31).wrapping_add(*byte as u32);
+    }
+    sum
+}
