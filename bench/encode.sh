@@ -1,11 +1,11 @@
 #!/usr/bin/env bash
-# Times the encoder on the pages that pages.py makes, as values in memory. cqlp_pages writes each page once and 21 times into a
+# Times the encoder on the pages that pages.py makes, as values in memory. cqlp_bench_pages writes each page once and 21 times into a
 # Vec, whole or cell by cell, and so does encode.rs, an encoder written by hand, with and without a check of what it writes. A
 # twentieth of the difference, in time of the processor, is the time of one writing; the best of five is told, with its MB/s.
 set -euo pipefail
 
 here=$(dirname -- "$(readlink -f -- "${BASH_SOURCE[0]}")")
-crate=$here/../crates/cqlp_pages
+crate=$here/../crates/cqlp_bench_pages
 room=$(mktemp -d)
 trap 'rm -rf "$room"' EXIT
 
@@ -40,6 +40,6 @@ for page in 'rows 1000000' 'collections 200000' 'columns 5000' 'blobs 96'; do
     echo "$page, $bytes bytes"
     tell 'by hand' "$by_hand"
     tell 'by hand, checked' "$(once "$room/by_hand" "$page" checked)"
-    tell encode "$(once "$crate/out/cqlp_pages" "$page")"
-    tell 'cell by cell' "$(once "$crate/out/cqlp_pages" "$page" cells)"
+    tell encode "$(once "$crate/out/cqlp_bench_pages" "$page")"
+    tell 'cell by cell' "$(once "$crate/out/cqlp_bench_pages" "$page" cells)"
 done

@@ -1,7 +1,7 @@
 #!/usr/bin/env python3
 """Writes bindings/streams.txt, which the tests of all wrappers read, to standard output: bindings/streams.py > bindings/streams.txt
 
-Its streams, and what is said of them, are the data of the crates cqlp_vectors and cqlp_commands, which were written by hand or taken
+Its streams, and what is said of them, are the data of the crates cqlp_test_vectors and cqlp_test_commands, which were written by hand or taken
 from the definition. Of each stream there are: a line `stream NAME` with the limits text, cell, entries, depth and the switches types and
 parts; a line `bytes` with the stream in hexadecimal digits; the lines of its events, as `cqlp show` writes them; and a line `end` with the
 verdict.
@@ -52,7 +52,7 @@ def write(name, bounds, digits, lines, verdict):
 
 
 def vectors():
-    crate = CRATES / "cqlp_vectors"
+    crate = CRATES / "cqlp_test_vectors"
     said = stanzas(crate / "stdout")
     for (words, digits), (name, lines) in zip(inputs(crate / "stdin"), said):
         assert words == name
@@ -61,7 +61,7 @@ def vectors():
 
 def commands():
     """Those command lines that show a stream from standard input."""
-    crate = CRATES / "cqlp_commands"
+    crate = CRATES / "cqlp_test_commands"
     said = {}
     for name, lines in stanzas(crate / "stdout"):
         said.setdefault(name, []).append(lines)

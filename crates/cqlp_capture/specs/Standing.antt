@@ -1,5 +1,6 @@
 -- Where a reader of captures stands, and what its calls lead to.
-use Rattle.std.specs.Prelude.{◌≡◌, ℕ, ◌+◌, ◌<◌, ◌≤◌, ◌^◌, ◌++◌, ◌==◌, ◌&&◌, Bool, List, [], ◌∷◌, length, take, Option, Some, None, if◌then◌else◌, ⊤}
+use Rattle.std.specs.Prelude.{◌≡◌, ℕ, ◌+◌, ◌<◌, ◌≤◌, ◌^◌, ◌++◌, ◌==◌, ◌&&◌, Bool, List, [], ◌∷◌, length, take, Option, Some, None}
+use Rattle.std.specs.Prelude.{if◌then◌else◌, ⊤}
 use Rattle.cqlp_note.specs.Reader.{More, Bad, Got, says}
 use Rattle.cqlp_capture.specs.declared.limits.CaptureLimits.{CaptureLimits}
 use Rattle.cqlp_capture.specs.declared.refusal.CaptureRefusal.{CaptureRefusal}
@@ -12,7 +13,8 @@ use Rattle.cqlp_capture.specs.declared.event.CaptureEnd.TheVariants as end
 use Rattle.cqlp_capture.specs.declared.reader.CaptureAdvance.{CaptureAdvance}
 use Rattle.cqlp_capture.specs.declared.reader.CaptureAdvance.TheVariants as advance
 use Rattle.cqlp_capture.specs.declared.place.Place.{Place}
-use Rattle.cqlp_capture.specs.Reading.{Event, Section, Interface, Packet, Bytes, event_with, wanted, step, start, Reads, Says, Waits, Refused}
+use Rattle.cqlp_capture.specs.Reading.{Event, Section, Interface, Packet, Bytes, event_with, wanted, step, start, Reads, Says}
+use Rattle.cqlp_capture.specs.Reading.{Waits, Refused}
 use Rattle.cqlp_capture.specs.Places.{IsPlace, is_between, began}
 use Rattle.cqlp_capture.specs.Gathering.{Gathered, LieThere, bytes_at}
 

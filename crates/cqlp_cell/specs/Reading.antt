@@ -1,6 +1,7 @@
 -- What one call makes of a cell. Read `Moves` first: a call hands out an item (`Hands`), waits for more (`Waits`) or refuses (`Fails`), as the
 -- step of cqlp_kind/specs/CellStep says of the bytes that have come and the input. The parts of a call at the end are for the proofs of its code.
-use Rattle.std.specs.Prelude.{◌≡◌, ◌≢◌, ℕ, ◌+◌, ◌-◌, ◌*◌, ◌^◌, ◌<◌, ◌≤◌, ◌++◌, Bool, false, List, [], ◌∷◌, length, take, drop, min, not, true, Option, Some, None, ⊤}
+use Rattle.std.specs.Prelude.{◌≡◌, ◌≢◌, ℕ, ◌+◌, ◌-◌, ◌*◌, ◌^◌, ◌<◌, ◌≤◌, ◌++◌, Bool, false, List, [], ◌∷◌, length, take, drop, min}
+use Rattle.std.specs.Prelude.{not, true, Option, Some, None, ⊤}
 use Rattle.std.specs.Int.{w32, from_be_bytes}
 use Rattle.cqlp_note.specs.declared.refusal.Reason.{Reason}
 use Rattle.cqlp_note.specs.declared.refusal.Refusal.{Refusal}
@@ -33,7 +34,8 @@ use Rattle.cqlp_cell.specs.Items.{content_at, event_at, CanLend}
 use Rattle.cqlp_cell.specs.Gathering.{IsGathering, seen_before}
 use Rattle.cqlp_cell.specs.Numbers.{IsCounting}
 use Rattle.cqlp_cell.specs.Sizes.{sized_as, CanBe, HasRoom}
-use Rattle.cqlp_cell.specs.Standing.{CellState, state_of, ended, is_under_way, place, due_value, state_after, rest_of, due_of, Stands}
+use Rattle.cqlp_cell.specs.Standing.{CellState, state_of, ended, is_under_way, place, due_value, state_after, rest_of, due_of}
+use Rattle.cqlp_cell.specs.Standing.{Stands}
 use Rattle.cqlp_cell.specs.Coming.{inner_of, room_of}
 
 -- what a step says

@@ -9,7 +9,8 @@ use Rattle.cqlp_kind.specs.Types.{Types, has_no_items}
 use Rattle.cqlp_cell.specs.declared.size.Sized.{Sized}
 use Rattle.cqlp_cell.specs.declared.size.Sized.TheVariants as size
 use Rattle.cqlp_kind.specs.Scalars.{allows_size, scalar_of}
-use Rattle.cqlp_kind.specs.CellStep.{CellSymbol, CellEvent, Null, Empty, CellPlace, place_after, leaf_step, part_step, counted_step, fielded_step, content_step, sized_step}
+use Rattle.cqlp_kind.specs.CellStep.{CellSymbol, CellEvent, Null, Empty, CellPlace, place_after, leaf_step, part_step, counted_step}
+use Rattle.cqlp_kind.specs.CellStep.{fielded_step, content_step, sized_step}
 
 abbrev pub is_counted : Kind → Bool
 is_counted kind.List = true

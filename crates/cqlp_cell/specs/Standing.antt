@@ -1,6 +1,7 @@
 -- Where the reading of a cell is. Read the record of the reader first, then the part on what is still to be read, which makes of it the
 -- symbols of cqlp_kind/specs/CellStep. What a call makes of it is in Reading.
-use Rattle.std.specs.Prelude.{◌≡◌, ℕ, ◌+◌, ◌-◌, ◌^◌, ◌<◌, ◌≤◌, ◌++◌, Bool, true, false, ◌||◌, List, [], ◌∷◌, length, Option, Some, None, IsSome, slice_get, nat_le, ◌==◌}
+use Rattle.std.specs.Prelude.{◌≡◌, ℕ, ◌+◌, ◌-◌, ◌^◌, ◌<◌, ◌≤◌, ◌++◌, Bool, true, false, ◌||◌, List, [], ◌∷◌, length, Option, Some}
+use Rattle.std.specs.Prelude.{None, IsSome, slice_get, nat_le, ◌==◌}
 use Rattle.cqlp_note.specs.Limits.{Rules, rules_of}
 use Rattle.cqlp_kind.specs.declared.kind.Kind.TheVariants as kind
 use Rattle.cqlp_kind.specs.declared.node.Node.{Node}

@@ -1,6 +1,7 @@
 -- Where a decoder is in its stream, and what a call makes of it. Read `StreamState` first, which is all that a decoder knows of its stream,
 -- then `Advances`, what one call does; the rest says what both are made of. What a call means for whole streams is in Streams.
-use Rattle.std.specs.Prelude.{◌≡◌, ℕ, ◌+◌, ◌-◌, ◌*◌, ◌<◌, ◌≤◌, ◌^◌, ◌++◌, true, false, List, [], ◌∷◌, length, take, Option, Some, None, max, ⊤, if◌then◌else◌}
+use Rattle.std.specs.Prelude.{◌≡◌, ℕ, ◌+◌, ◌-◌, ◌*◌, ◌<◌, ◌≤◌, ◌^◌, ◌++◌, true, false, List, [], ◌∷◌, length, take, Option, Some}
+use Rattle.std.specs.Prelude.{None, max, ⊤, if◌then◌else◌}
 use Rattle.cqlp_note.specs.declared.header.TheConstants.Header.{LONGEST_BODY}
 use Rattle.cqlp_note.specs.declared.refusal.Reason.{Reason}
 use Rattle.cqlp_note.specs.declared.refusal.Refusal.{Refusal}

@@ -1,5 +1,6 @@
 -- What calls hand out of a stream.
-use Rattle.std.specs.Prelude.{◌≡◌, ℕ, ◌+◌, ◌*◌, ◌<◌, ◌≤◌, ◌++◌, Bool, true, false, List, [], ◌∷◌, length, take, max, Option, Some, None, if◌then◌else◌, ⊤}
+use Rattle.std.specs.Prelude.{◌≡◌, ℕ, ◌+◌, ◌*◌, ◌<◌, ◌≤◌, ◌++◌, Bool, true, false, List, [], ◌∷◌, length, take, max, Option, Some}
+use Rattle.std.specs.Prelude.{None, if◌then◌else◌, ⊤}
 use Rattle.cqlp_note.specs.declared.refusal.Refusal.{Refusal}
 use Rattle.cqlp_decode.specs.declared.step.Step.{Step}
 use Rattle.cqlp_decode.specs.declared.step.Step.TheVariants as step
@@ -13,7 +14,8 @@ use Rattle.cqlp_type.specs.Table.{Table}
 use Rattle.cqlp_decode.specs.declared.standing.StreamStanding.{StreamStanding}
 use Rattle.cqlp_decode.specs.Reading as reading
 use Rattle.cqlp_note.specs.Reader.{says, Bad}
-use Rattle.cqlp_decode.specs.Reading.{Event, Place, Gift, Gifts, gifts_now, gifts_later, held_after_all, retired, settled, start_with, Reads, Says, Waits, Refused}
+use Rattle.cqlp_decode.specs.Reading.{Event, Place, Gift, Gifts, gifts_now, gifts_later, held_after_all, retired, settled}
+use Rattle.cqlp_decode.specs.Reading.{start_with, Reads, Says, Waits, Refused}
 use Rattle.cqlp_decode.specs.Reading.{step as step_of}
 use Rattle.cqlp_grammar.specs.Events.{event_of}
 use Rattle.cqlp_decode.specs.Standing.{StreamState, PartsState, IsPending, IsLent, state_of, levels_of, frame_after, ends_due}

@@ -1,12 +1,14 @@
 -- The productions of frames: what each symbol becomes (sections 2 and 4 of native_protocol_v4.spec).
-use Rattle.std.specs.Prelude.{ℕ, zero, suc, ◌+◌, ◌++◌, true, false, List, [], ◌∷◌, Option, Some, None, nat_lt, ◌==◌, if◌then◌else◌, unwrap_or}
+use Rattle.std.specs.Prelude.{ℕ, zero, suc, ◌+◌, ◌++◌, true, false, List, [], ◌∷◌, Option, Some, None, nat_lt, ◌==◌, if◌then◌else◌}
+use Rattle.std.specs.Prelude.{unwrap_or}
 use Rattle.std.specs.Int.{w32, cast_unsigned}
 use Rattle.std.specs.Str.{bytes_eq}
 use Rattle.std.specs.Prelude.{codes}
 use Rattle.cqlp_note.specs.declared.field.Field.{Field}
 use Rattle.cqlp_note.specs.declared.field.Field.TheVariants as field
 use Rattle.cqlp_note.specs.declared.field.Notation.{Notation}
-use Rattle.cqlp_note.specs.declared.field.Notation.TheVariants.{Byte, Short, Int, Long, Uuid, Count16, Count32, Text16, Text32, Bytes16, Bytes32, Bound, Inet}
+use Rattle.cqlp_note.specs.declared.field.Notation.TheVariants.{Byte, Short, Int, Long, Uuid, Count16, Count32, Text16, Text32}
+use Rattle.cqlp_note.specs.declared.field.Notation.TheVariants.{Bytes16, Bytes32, Bound, Inet}
 use Rattle.cqlp_note.specs.declared.opcode.Opcode.{Opcode}
 use Rattle.cqlp_note.specs.declared.opcode.Opcode.TheVariants as opcode
 use Rattle.cqlp_note.specs.declared.header.Header.{Header}

@@ -1,5 +1,6 @@
 -- What is still to be read of a message, as it is kept.
-use Rattle.std.specs.Prelude.{◌≡◌, ℕ, ◌+◌, ◌<◌, ◌≤◌, ◌++◌, ◌-◌, List, [], ◌∷◌, drop, length, slice_index_or, Option, Some, None, max, ⊤}
+use Rattle.std.specs.Prelude.{◌≡◌, ℕ, ◌+◌, ◌<◌, ◌≤◌, ◌++◌, ◌-◌, List, [], ◌∷◌, drop, length, slice_index_or, Option, Some, None}
+use Rattle.std.specs.Prelude.{max, ⊤}
 use Rattle.cqlp_grammar.specs.declared.grammar.Group.{Group}
 use Rattle.cqlp_grammar.specs.declared.grammar.Group.TheVariants as group_of
 use Rattle.cqlp_grammar.specs.declared.grammar.Role.{Role}

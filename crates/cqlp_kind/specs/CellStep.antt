@@ -1,5 +1,6 @@
 -- How a cell is read (section 6 of native_protocol_v4.spec).
-use Rattle.std.specs.Prelude.{ℕ, zero, suc, ◌+◌, ◌-◌, ◌++◌, Bool, true, false, ◌&&◌, List, [], ◌∷◌, Option, Some, None, nat_lt, nat_le, ◌==◌, if◌then◌else◌, min}
+use Rattle.std.specs.Prelude.{ℕ, zero, suc, ◌+◌, ◌-◌, ◌++◌, Bool, true, false, ◌&&◌, List, [], ◌∷◌, Option, Some, None, nat_lt}
+use Rattle.std.specs.Prelude.{nat_le, ◌==◌, if◌then◌else◌, min}
 use Rattle.std.specs.Int.{w32}
 use Rattle.cqlp_note.specs.declared.refusal.Reason.TheVariants.{Overrun, TooLong, BadCount, BadSize, ExtraInValue}
 use Rattle.cqlp_note.specs.Reader.{Refuses, Takes, Idles, fits, number_of}

@@ -6,7 +6,9 @@ use Rattle.cqlp_note.specs.declared.refusal.Reason.TheVariants.{BadSize}
 use Rattle.cqlp_kind.specs.declared.kind.Kind.{Kind}
 use Rattle.cqlp_kind.specs.declared.scalars.Scalar.{Scalar}
 use Rattle.cqlp_kind.specs.declared.scalars.Scalar.TheVariants as scalar
-use Rattle.cqlp_kind.specs.Scalars.{ScalarValue, Custom, Blob, Raw, Varint, Double, Float, Uuid, Timeuuid, Ascii, Varchar, Bigint, Counter, Timestamp, Time, Int, Smallint, Tinyint, Date, Boolean, Decimal, Inet, allows_size, scalar_of, fault_of}
+use Rattle.cqlp_kind.specs.Scalars.{ScalarValue, Custom, Blob, Raw, Varint, Double, Float, Uuid, Timeuuid, Ascii, Varchar, Bigint}
+use Rattle.cqlp_kind.specs.Scalars.{Counter, Timestamp, Time, Int, Smallint, Tinyint, Date, Boolean, Decimal, Inet, allows_size}
+use Rattle.cqlp_kind.specs.Scalars.{scalar_of, fault_of}
 
 -- what a scalar holds, without where its bytes lie
 abbrev pub value_of : Scalar → ScalarValue

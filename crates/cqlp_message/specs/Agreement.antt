@@ -1,6 +1,7 @@
 -- Where flags, codes and names agree with the parts that they announce (sections 2.2, 4 and 9 of
 -- native_protocol_v4.spec).
-use Rattle.std.specs.Prelude.{ℕ, ◌*◌, ℤ, Bool, true, ◌&&◌, ◌||◌, ◌==◌, not, List, length, Option, Some, None, is_some, codes, nat_lt}
+use Rattle.std.specs.Prelude.{ℕ, ◌*◌, ℤ, Bool, true, ◌&&◌, ◌||◌, ◌==◌, not, List, length, Option, Some, None, is_some, codes}
+use Rattle.std.specs.Prelude.{nat_lt}
 use Rattle.std.specs.List.{list_all}
 use Rattle.std.specs.Str.{bytes_eq}
 use Rattle.std.specs.Int.{w32, cast_unsigned}
@@ -9,7 +10,13 @@ use Rattle.cqlp_note.specs.declared.opcode.Opcode.TheVariants as opcode
 use Rattle.cqlp_note.specs.Field.{BoundValue}
 use Rattle.cqlp_note.specs.Heading.{has, same, answers, beside_number}
 use Rattle.cqlp_type.specs.Trees.{is_tree}
-use Rattle.cqlp_message.specs.FrameValues.{Octets, TableName, Spec, Metadata, PreparedStatement, QueryParams, ErrorExtra, Plain, Unavailable, WriteTimeout, ReadTimeout, ReadFailure, FunctionFailure, WriteFailure, AlreadyExists, Unprepared, SchemaOptions, Keyspace, Named, Callable, UnknownTarget, SchemaChange, ServerEvent, Node, Schema, UnknownEvent, Message, Startup, Options, Query, Prepare, Execute, Batch, Register, AuthResponse, Error, Ready, Authenticate, Supported, Void, SetKeyspace, Rows, Prepared, Change, UnknownResult, Event, AuthChallenge, AuthSuccess, FrameValue}
+use Rattle.cqlp_message.specs.FrameValues.{Octets, TableName, Spec, Metadata, PreparedStatement, QueryParams, ErrorExtra, Plain}
+use Rattle.cqlp_message.specs.FrameValues.{Unavailable, WriteTimeout, ReadTimeout, ReadFailure, FunctionFailure, WriteFailure}
+use Rattle.cqlp_message.specs.FrameValues.{AlreadyExists, Unprepared, SchemaOptions, Keyspace, Named, Callable, UnknownTarget}
+use Rattle.cqlp_message.specs.FrameValues.{SchemaChange, ServerEvent, Node, Schema, UnknownEvent, Message, Startup, Options, Query}
+use Rattle.cqlp_message.specs.FrameValues.{Prepare, Execute, Batch, Register, AuthResponse, Error, Ready, Authenticate, Supported}
+use Rattle.cqlp_message.specs.FrameValues.{Void, SetKeyspace, Rows, Prepared, Change, UnknownResult, Event, AuthChallenge}
+use Rattle.cqlp_message.specs.FrameValues.{AuthSuccess, FrameValue}
 use Rattle.cqlp_grammar.specs.Codes as error
 use Rattle.cqlp_grammar.specs.Productions.{Symbol, errors, targets, events, by_text}
 

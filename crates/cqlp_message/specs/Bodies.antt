@@ -10,7 +10,13 @@ use Rattle.cqlp_note.specs.Field as note
 use Rattle.cqlp_kind.specs.Types.{Types, NoMore, Type_and, how_many, followed_by}
 use Rattle.cqlp_type.specs.Trees.{types_in}
 use Rattle.cqlp_value.specs.Values.{Values}
-use Rattle.cqlp_message.specs.FrameValues.{Octets, TableName, Spec, Metadata, Page, PreparedStatement, QueryParams, BatchEntry, Text, Id, ErrorExtra, Plain, Unavailable, WriteTimeout, ReadTimeout, ReadFailure, FunctionFailure, WriteFailure, AlreadyExists, Unprepared, SchemaOptions, Keyspace, Named, Callable, UnknownTarget, SchemaChange, ServerEvent, Node, Schema, UnknownEvent, Message, Startup, Options, Query, Prepare, Execute, Batch, Register, AuthResponse, Error, Ready, Authenticate, Supported, Void, SetKeyspace, Rows, Prepared, Change, UnknownResult, Event, AuthChallenge, AuthSuccess}
+use Rattle.cqlp_message.specs.FrameValues.{Octets, TableName, Spec, Metadata, Page, PreparedStatement, QueryParams, BatchEntry}
+use Rattle.cqlp_message.specs.FrameValues.{Text, Id, ErrorExtra, Plain, Unavailable, WriteTimeout, ReadTimeout, ReadFailure}
+use Rattle.cqlp_message.specs.FrameValues.{FunctionFailure, WriteFailure, AlreadyExists, Unprepared, SchemaOptions, Keyspace, Named}
+use Rattle.cqlp_message.specs.FrameValues.{Callable, UnknownTarget, SchemaChange, ServerEvent, Node, Schema, UnknownEvent, Message}
+use Rattle.cqlp_message.specs.FrameValues.{Startup, Options, Query, Prepare, Execute, Batch, Register, AuthResponse, Error, Ready}
+use Rattle.cqlp_message.specs.FrameValues.{Authenticate, Supported, Void, SetKeyspace, Rows, Prepared, Change, UnknownResult, Event}
+use Rattle.cqlp_message.specs.FrameValues.{AuthChallenge, AuthSuccess}
 use Rattle.cqlp_grammar.specs.Codes as code
 use Rattle.cqlp_grammar.specs.Productions.{raw_types}
 use Rattle.cqlp_message.specs.Parts.{Part, Field_is, Type_is, Cell_is, PartsSpell}

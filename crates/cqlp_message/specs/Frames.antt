@@ -1,5 +1,6 @@
 -- Frames: what spells them, and their events (section 2 of native_protocol_v4.spec).
-use Rattle.std.specs.Prelude.{◌≡◌, ℕ, ◌+◌, ◌<◌, ◌≤◌, ◌^◌, ◌++◌, Bool, true, not, List, [], ◌∷◌, length, Option, Some, None, Result, Ok, Err, All, FitsSigned, nat_lt, if◌then◌else◌}
+use Rattle.std.specs.Prelude.{◌≡◌, ℕ, ◌+◌, ◌<◌, ◌≤◌, ◌^◌, ◌++◌, Bool, true, not, List, [], ◌∷◌, length, Option, Some, None, Result}
+use Rattle.std.specs.Prelude.{Ok, Err, All, FitsSigned, nat_lt, if◌then◌else◌}
 use Rattle.std.specs.List.{list_all}
 use Rattle.std.specs.Int.{w16}
 use Rattle.cqlp_note.specs.declared.field.Field.TheVariants as field
@@ -14,7 +15,8 @@ use Rattle.cqlp_message.specs.declared.unfit.Unfit.{Unfit}
 use Rattle.cqlp_message.specs.declared.unfit.Unfit.TheVariants as unfit
 use Rattle.cqlp_message.specs.FrameValues.{Spec, Message, Rows, Prepared, FrameValue}
 use Rattle.cqlp_grammar.specs.Events.{Event, Frame, End}
-use Rattle.cqlp_message.specs.Parts.{Part, Field_is, Joined, PartsSpell, parts_size, parts_bytes, parts_events, PartsWithin, counts_fit, texts_fit, cell_fits, PartIsInRange}
+use Rattle.cqlp_message.specs.Parts.{Part, Field_is, Joined, PartsSpell, parts_size, parts_bytes, parts_events, PartsWithin}
+use Rattle.cqlp_message.specs.Parts.{counts_fit, texts_fit, cell_fits, PartIsInRange}
 use Rattle.cqlp_message.specs.Bodies.{where_some, counted, texts, text, bytes, message_parts, BodySpells}
 use Rattle.cqlp_message.specs.Agreement.{is_response, opcode_of, is_directed, frame_agrees, has_its_cells}
 

@@ -1,5 +1,6 @@
 -- Pages whose cells are written one by one, after all else of their frame (section 4.2.5.2 of native_protocol_v4.spec).
-use Rattle.std.specs.Prelude.{◌≡◌, ℕ, zero, suc, ◌+◌, ◌*◌, ◌++◌, ◌==◌, Bool, true, false, not, List, [], ◌∷◌, length, Option, None, nat_le, nat_lt, if◌then◌else◌}
+use Rattle.std.specs.Prelude.{◌≡◌, ℕ, zero, suc, ◌+◌, ◌*◌, ◌++◌, ◌==◌, Bool, true, false, not, List, [], ◌∷◌, length, Option, None}
+use Rattle.std.specs.Prelude.{nat_le, nat_lt, if◌then◌else◌}
 use Rattle.std.specs.List.{flat_map, list_all}
 use Rattle.cqlp_note.specs.declared.header.TheConstants.Header.{LONGEST_BODY}
 use Rattle.cqlp_note.specs.Heading.{header_bytes}

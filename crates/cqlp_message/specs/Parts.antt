@@ -10,7 +10,8 @@ use Rattle.cqlp_note.specs.Limits.{Rules, limit_of}
 use Rattle.cqlp_note.specs.Spelling.{Spells, field_bytes, counts_no_more, is_short_enough, IsInRange}
 use Rattle.cqlp_kind.specs.declared.kind.Kind.{Kind}
 use Rattle.cqlp_kind.specs.Types.{Types}
-use Rattle.cqlp_type.specs.Trees.{Trees, trees_in, AreTrees, Shallow, AreShort, trees_items, placed, TreeSpells, tree_bytes, item_counts, item_is_short, ItemIsInRange}
+use Rattle.cqlp_type.specs.Trees.{Trees, trees_in, AreTrees, Shallow, AreShort, trees_items, placed, TreeSpells, tree_bytes}
+use Rattle.cqlp_type.specs.Trees.{item_counts, item_is_short, ItemIsInRange}
 use Rattle.cqlp_type.specs.TypeTrees.{trees_size}
 use Rattle.cqlp_value.specs.Values.{Values, ValueSpells, values_size, values_bytes, value_fits, value_items, AreWithin, AreInRange}
 use Rattle.cqlp_grammar.specs.Events.{Event, Holds, type_event, cell_event}

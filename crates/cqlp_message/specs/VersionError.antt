@@ -1,6 +1,7 @@
 -- What a server answers to a request of another version of the protocol: an ERROR with the code of a protocol error
 -- (sections 2.1, 4.2.1 and 9 of native_protocol_v4.spec), whose text names the versions.
-use Rattle.std.specs.Prelude.{ℕ, ◌+◌, ◌++◌, ◌==◌, ◌||◌, ℤ, pos, List, ◌∷◌, length, take, drop, slice_index, bit_and, codes, decimal, if◌then◌else◌}
+use Rattle.std.specs.Prelude.{ℕ, ◌+◌, ◌++◌, ◌==◌, ◌||◌, ℤ, pos, List, ◌∷◌, length, take, drop, slice_index, bit_and, codes, decimal}
+use Rattle.std.specs.Prelude.{if◌then◌else◌}
 use Rattle.std.specs.Int.{w8, w16, w32, cast_signed, cast_unsigned, from_be_bytes, to_be_bytes}
 use Rattle.cqlp_message.specs.FrameValues.{FrameValue, Octets, Error, Plain}
 use Rattle.cqlp_message.specs.Plain.{plain_frame}

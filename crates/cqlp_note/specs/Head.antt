@@ -1,5 +1,6 @@
 -- What the front of a field tells of it.
-use Rattle.std.specs.Prelude.{◌≡◌, ℕ, ◌+◌, ◌-◌, ◌^◌, ◌++◌, ◌<◌, ◌≤◌, ◌==◌, ◌||◌, List, length, take, drop, Some, None, Result, Ok, Err, if◌then◌else◌, ⊤}
+use Rattle.std.specs.Prelude.{◌≡◌, ℕ, ◌+◌, ◌-◌, ◌^◌, ◌++◌, ◌<◌, ◌≤◌, ◌==◌, ◌||◌, List, length, take, drop, Some, None, Result, Ok}
+use Rattle.std.specs.Prelude.{Err, if◌then◌else◌, ⊤}
 use Rattle.std.specs.Int.{w8, w16, w32, w64, from_be_bytes, cast_signed}
 use Rattle.cqlp_note.specs.declared.field.Notation.{Notation}
 use Rattle.cqlp_note.specs.declared.field.Notation.TheVariants as notation
@@ -15,7 +16,8 @@ use Rattle.cqlp_note.specs.declared.head.Head.TheVariants as head
 use Rattle.cqlp_note.specs.declared.head.Stop.{Stop}
 use Rattle.cqlp_note.specs.declared.head.Stop.TheVariants as stop
 use Rattle.cqlp_note.specs.Reader.{More, Bad, Got, Gives, Refuses, Takes, says}
-use Rattle.cqlp_note.specs.Field.{FieldValue, Byte, Short, Int, Long, Uuid, Count, Text, Bytes, Bound, Inet, Null, Unset, Known, FieldReader, text_of, field_of, content_of, inet_of, is_negative, signed}
+use Rattle.cqlp_note.specs.Field.{FieldValue, Byte, Short, Int, Long, Uuid, Count, Text, Bytes, Bound, Inet, Null, Unset, Known}
+use Rattle.cqlp_note.specs.Field.{FieldReader, text_of, field_of, content_of, inet_of, is_negative, signed}
 
 abbrev pub value_of : Primitive → FieldValue
 value_of (prim.Byte n) = Byte n

@@ -1,5 +1,6 @@
 -- Laws of fields and of headers.
-use Rattle.std.specs.Prelude.{◌≡◌, ℕ, ◌<◌, ◌≤◌, ◌↔◌, ◌++◌, Bool, true, false, IsTrue, List, All, length, take, FitsSigned, Option, Some, None, ⊤, Result, Ok, IfOk, is_err}
+use Rattle.std.specs.Prelude.{◌≡◌, ℕ, ◌<◌, ◌≤◌, ◌↔◌, ◌++◌, Bool, true, false, IsTrue, List, All, length, take, FitsSigned, Option}
+use Rattle.std.specs.Prelude.{Some, None, ⊤, Result, Ok, IfOk, is_err}
 use Rattle.std.specs.Int.{w16}
 use Rattle.std.specs.Io.KnownBytes.{ReadConsumes, WriteAppends}
 use Rattle.cqlp_note.specs.declared.advance.Push.{Push}

@@ -1,5 +1,6 @@
 -- A field out of pieces.
-use Rattle.std.specs.Prelude.{◌≡◌, ℕ, ◌+◌, ◌-◌, ◌^◌, ◌==◌, ◌++◌, ◌<◌, ◌≤◌, if◌then◌else◌, Bool, true, false, List, [], length, take, drop, Option, Some, None, ⊤}
+use Rattle.std.specs.Prelude.{◌≡◌, ℕ, ◌+◌, ◌-◌, ◌^◌, ◌==◌, ◌++◌, ◌<◌, ◌≤◌, if◌then◌else◌, Bool, true, false, List, [], length, take}
+use Rattle.std.specs.Prelude.{drop, Option, Some, None, ⊤}
 use Rattle.std.specs.Int.{w32, from_be_bytes}
 use Rattle.std.specs.Str.{is_utf8}
 use Rattle.cqlp_note.specs.declared.field.Notation.{Notation}

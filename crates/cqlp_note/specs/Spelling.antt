@@ -6,7 +6,8 @@ use Rattle.cqlp_note.specs.declared.field.Notation.{Notation}
 use Rattle.cqlp_note.specs.declared.field.Notation.TheVariants as notation
 use Rattle.cqlp_note.specs.declared.prim.Address.{Address}
 use Rattle.cqlp_note.specs.declared.prim.Address.TheVariants as address
-use Rattle.cqlp_note.specs.Field.{FieldValue, Byte, Short, Int, Long, Uuid, Count, Text, Bytes, Bound, Inet, Null, Unset, Known, signed, content_length}
+use Rattle.cqlp_note.specs.Field.{FieldValue, Byte, Short, Int, Long, Uuid, Count, Text, Bytes, Bound, Inet, Null, Unset, Known}
+use Rattle.cqlp_note.specs.Field.{signed, content_length}
 
 -- these n bytes are this number, the highest byte first
 pub record IsNumber (n : ℕ) (w : Width) (m : ℕ) (bytes : List ℕ) : Type 0 where

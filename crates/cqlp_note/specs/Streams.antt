@@ -1,5 +1,6 @@
 -- Readers and writers of bytes, how often they were called and how often they failed.
-use Rattle.std.specs.Prelude.{◌≡◌, ℕ, ◌+◌, ◌-◌, ◌^◌, ◌<◌, Bool, true, ◌&&◌, ◌==◌, nat_lt, List, length, Result, Ok, Err, min, if◌then◌else◌}
+use Rattle.std.specs.Prelude.{◌≡◌, ℕ, ◌+◌, ◌-◌, ◌^◌, ◌<◌, Bool, true, ◌&&◌, ◌==◌, nat_lt, List, length, Result, Ok, Err, min}
+use Rattle.std.specs.Prelude.{if◌then◌else◌}
 
 -- how many calls failed, of which one more may be: the count stops at 2^64 - 1
 abbrev pub counted : (failed : Bool) → ℕ → ℕ

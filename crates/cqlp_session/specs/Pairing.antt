@@ -1,5 +1,6 @@
 -- What holds of two cores that talk over one connection, whatever the steps.
-use Rattle.std.specs.Prelude.{◌≡◌, ◌≢◌, ℕ, List, [], ◌∷◌, All, AllPairs, Option, Some, None, IsSomeAnd, Result, Ok, Err, IsOk, IfOk, ⊤}
+use Rattle.std.specs.Prelude.{◌≡◌, ◌≢◌, ℕ, List, [], ◌∷◌, All, AllPairs, Option, Some, None, IsSomeAnd, Result, Ok, Err, IsOk, IfOk}
+use Rattle.std.specs.Prelude.{⊤}
 use Rattle.cqlp_note.specs.declared.opcode.Opcode.TheVariants.{Event}
 use Rattle.cqlp_session.specs.declared.kind.RequestKind.{RequestKind}
 use Rattle.cqlp_session.specs.declared.kind.RequestKind.TheVariants as kind

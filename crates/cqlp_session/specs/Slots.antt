@@ -1,5 +1,6 @@
 -- What stands under each stream id (section 2.3 of native_protocol_v4.spec): a list with a slot for each id.
-use Rattle.std.specs.Prelude.{◌≡◌, ◌<ℤ◌, ℕ, ◌≤◌, IsTrue, IsSome, ℤ, pos, negsuc, Bool, false, nat_lt, List, length, Option, Some, None, slice_index_or, slice_set, is_none, position, ◌<◌, ◌↔◌, ◌⊎◌, Result, IfOk, IsErrOf}
+use Rattle.std.specs.Prelude.{◌≡◌, ◌<ℤ◌, ℕ, ◌≤◌, IsTrue, IsSome, ℤ, pos, negsuc, Bool, false, nat_lt, List, length, Option, Some}
+use Rattle.std.specs.Prelude.{None, slice_index_or, slice_set, is_none, position, ◌<◌, ◌↔◌, ◌⊎◌, Result, IfOk, IsErrOf}
 use Rattle.cqlp_session.specs.declared.refusal.SlotsOrMemory.{SlotsOrMemory}
 use Rattle.cqlp_session.specs.declared.refusal.SlotsOrMemory.TheVariants.{BadSlots}
 

@@ -11,9 +11,9 @@ use Rattle.cqlp_options.specs.declared.options.Task.TheVariants as task
 use Rattle.cqlp_text.specs.declared.ending.Ending.TheVariants as ending
 use Rattle.cqlp_text.specs.Outputs.{Output, with_text, StopsWithin}
 use Rattle.cqlp_text.specs.PageText.{no_page}
-use Rattle.cqlp_show.specs.declared.text_form.TextForm.TheVariants as forms
-use Rattle.cqlp_show.specs.Showing.{ChecksAndReports, Concludes, ShowsAndReports}
-use Rattle.cqlp_show.specs.Streams.{Streams}
+use Rattle.cqlp_render.specs.declared.text_form.TextForm.TheVariants as forms
+use Rattle.cqlp_render.specs.Showing.{ChecksAndReports, Concludes, ShowsAndReports}
+use Rattle.cqlp_render.specs.Streams.{Streams}
 use Rattle.cqlp_tool.specs.Conversing.{ConversesAndReports}
 
 -- the limits where none are given

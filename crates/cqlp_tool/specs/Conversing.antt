@@ -7,7 +7,7 @@ use Rattle.cqlp_loop.specs.declared.fault.LoopFault.{LoopFault}
 use Rattle.cqlp_loop.specs.declared.fault.LoopFault.TheVariants as fault
 use Rattle.cqlp_loop.specs.Inboxes.{Supply}
 use Rattle.cqlp_loop.specs.Script.{Converses}
-use Rattle.cqlp_show.specs.Showing.{Concludes}
+use Rattle.cqlp_render.specs.Showing.{Concludes}
 
 -- how the command ends where a conversation ends early
 abbrev pub ending_of : LoopFault → Ending

@@ -7,14 +7,14 @@ ghost use Rattle.cqlp_tool.specs.CommandLines.{Complains, DoesTask, Executes, He
 ghost use Rattle.cqlp_tool.specs.CommandLines.{ReportsFault, ReportsWrong, Tells};
 ghost use Rattle.cqlp_text.specs.Endings.{IsStatusOfTask, cannot_open_line as cannot_open_line_of};
 ghost use Rattle.cqlp_text.specs.Outputs.{written};
-ghost use Rattle.cqlp_show.specs.Streams.{streams};
+ghost use Rattle.cqlp_render.specs.Streams.{streams};
 ghost use Rattle.cqlp_text.specs.declared.ending.Ending.{Ending};
 
 use crate::conversing::converse;
 use cqlp_decode::SinkFault;
 use cqlp_note::{OfStd, Source, Target};
 use cqlp_options::{CommandLine, DEFAULT_LIMITS, NoTask, Options, Task};
-use cqlp_show::{check, conclude, rows, show};
+use cqlp_render::{check, conclude, rows, show};
 use cqlp_text::status::{BAD_COMMAND_LINE, DONE, FAULT};
 use cqlp_text::{Ending, cannot_open_line, put_text};
 use std::alloc::Allocator;

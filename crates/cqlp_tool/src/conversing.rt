@@ -9,7 +9,7 @@ ghost use Rattle.cqlp_tool.specs.Conversing.{ending_of as ending_after};
 use crate::connection::Connection;
 use cqlp_loop::{LoopFault, Socket, talk};
 use cqlp_note::{IoFault, OfStd, Target};
-use cqlp_show::conclude;
+use cqlp_render::conclude;
 use cqlp_text::Ending;
 use cqlp_text::status::DONE;
 use std::net::{Net, TcpListener, TcpStream};

@@ -8,5 +8,5 @@ mod conversing;
 pub use command_line::{command, execute};
 pub use conversing::converse;
 pub use cqlp_options::{CommandLine, DEFAULT_LIMITS, NoTask, Options, QUERIES, Task};
-pub use cqlp_show::{TextForm, check, render_events, render_rows, rows, show};
+pub use cqlp_render::{TextForm, check, render_events, render_rows, rows, show};
 pub use cqlp_text::{Ending, cell_text};

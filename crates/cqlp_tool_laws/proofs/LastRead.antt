@@ -10,12 +10,12 @@ use Rattle.cqlp_decode.specs.Standing.{StreamState}
 use Rattle.cqlp_decode.specs.Streams.{After}
 use Rattle.cqlp_decode.specs.Draining.{verdict_of}
 use Rattle.cqlp_text.specs.Outputs.{Output}
-use Rattle.cqlp_show.specs.declared.text_form.TextForm.{TextForm}
-use Rattle.cqlp_show.specs.declared.text_form.TextForm.TheVariants as forms
-use Rattle.cqlp_show.specs.Rendering.{GoesOn, ReadsAfterText, ReadsOnlyAfterText}
-use Rattle.cqlp_show.specs.Showing.{ReadsNew}
-use Rattle.cqlp_show.specs.Streams.{Input}
-use Rattle.cqlp_show.proofs.Renders.{texts_to}
+use Rattle.cqlp_render.specs.declared.text_form.TextForm.{TextForm}
+use Rattle.cqlp_render.specs.declared.text_form.TextForm.TheVariants as forms
+use Rattle.cqlp_render.specs.Rendering.{GoesOn, ReadsAfterText, ReadsOnlyAfterText}
+use Rattle.cqlp_render.specs.Showing.{ReadsNew}
+use Rattle.cqlp_render.specs.Streams.{Input}
+use Rattle.cqlp_render.proofs.Renders.{texts_to}
 use Rattle.cqlp_tool_laws.specs.Tool.{LastReadAfterText, IsReadAfterText, IsReadUnrefused}
 
 module _ (form : TextForm) (limits : Limits) (turns : ℕ) (xs : List ℕ) (was now : Input) (before after : Output) where

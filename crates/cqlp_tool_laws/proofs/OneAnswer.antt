@@ -24,15 +24,15 @@ use Rattle.cqlp_tool_laws.specs.Text.{FailsAlike, GoesOnFromOther}
 use Rattle.cqlp_text.specs.Outputs.{Output, output, with_text}
 use Rattle.cqlp_text.proofs.Writing.{known_then}
 use Rattle.cqlp_tool_laws.proofs.OneText.{fronts, known_fronts, counts_up, stops_once}
-use Rattle.cqlp_show.specs.declared.text_form.TextForm.{TextForm}
-use Rattle.cqlp_show.specs.declared.text_form.TextForm.TheVariants as forms
-use Rattle.cqlp_show.specs.Forms.{text, form_after_all}
-use Rattle.cqlp_show.specs.Rendering.{RendersFront}
-use Rattle.cqlp_show.specs.Showing.{ShowsTo, CountsReads, Concludes, ConcludesCheck, ReadsBy}
+use Rattle.cqlp_render.specs.declared.text_form.TextForm.{TextForm}
+use Rattle.cqlp_render.specs.declared.text_form.TextForm.TheVariants as forms
+use Rattle.cqlp_render.specs.Forms.{text, form_after_all}
+use Rattle.cqlp_render.specs.Rendering.{RendersFront}
+use Rattle.cqlp_render.specs.Showing.{ShowsTo, CountsReads, Concludes, ConcludesCheck, ReadsBy}
 use Rattle.cqlp_tool_laws.specs.Tool.{EndsAs, EndsAlike, EndAlike, EndsOnce, ChecksEndOnce, HasTime, IsServedAlike, IsGranted, IsOneOutput, IsRenderedOnceAfter, IsRenderedWholeAfter, IsShownRightly, IsShownOnce, IsCheckedRightly, IsCheckedOnce}
-use Rattle.cqlp_show.specs.Streams.{Input, Streams}
-use Rattle.cqlp_show.proofs.Renders.{known_nothing, text-append, texts_to, Renders, RendersAll, TextsTo}
-use Rattle.cqlp_show.proofs.Shows.{part_is_front}
+use Rattle.cqlp_render.specs.Streams.{Input, Streams}
+use Rattle.cqlp_render.proofs.Renders.{known_nothing, text-append, texts_to, Renders, RendersAll, TextsTo}
+use Rattle.cqlp_render.proofs.Shows.{part_is_front}
 
 -- ---- the end of a stream
 

@@ -28,7 +28,7 @@ use Rattle.cqlp_text.specs.Outputs.{with_text}
 use Rattle.cqlp_text.specs.PageText.{no_page, page_text}
 use Rattle.cqlp_text.specs.declared.ending.Ending.TheVariants as ending
 use Rattle.cqlp_text.specs.Endings.{ending_line, finish_status}
-use Rattle.cqlp_show.specs.declared.text_form.TextForm.TheVariants as forms
+use Rattle.cqlp_render.specs.declared.text_form.TextForm.TheVariants as forms
 use Rattle.cqlp_tool_laws.specs.ValueText.{message_text}
 use Rattle.cqlp_tool_laws.specs.Rows.{NestsWithin, FrameIsItsValues, FramesAreTheirValues, NestingIsLimited, ValuesAreRendered, ValuesAreShown, in_column, CellIsItsValue}
 use Rattle.cqlp_tool_laws.proofs.OneAnswer.{rendered_whole, shown_rightly}

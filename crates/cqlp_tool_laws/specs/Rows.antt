@@ -20,10 +20,10 @@ use Rattle.cqlp_text.specs.declared.ending.Ending.TheVariants as ending
 use Rattle.cqlp_text.specs.Endings.{ending_line}
 use Rattle.cqlp_text.specs.Outputs.{Output, with_text}
 use Rattle.cqlp_text.specs.PageText.{PagePlace, no_page, page_text, whole_value}
-use Rattle.cqlp_show.specs.declared.text_form.TextForm.TheVariants as forms
-use Rattle.cqlp_show.specs.Rendering.{RendersTo}
-use Rattle.cqlp_show.specs.Showing.{ShowsBytes}
-use Rattle.cqlp_show.specs.Streams.{Streams}
+use Rattle.cqlp_render.specs.declared.text_form.TextForm.TheVariants as forms
+use Rattle.cqlp_render.specs.Rendering.{RendersTo}
+use Rattle.cqlp_render.specs.Showing.{ShowsBytes}
+use Rattle.cqlp_render.specs.Streams.{Streams}
 use Rattle.cqlp_tool_laws.specs.Tool.{IsGranted}
 use Rattle.cqlp_tool_laws.specs.ValueText.{value_texts, message_text, frames_text}
 

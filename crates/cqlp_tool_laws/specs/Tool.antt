@@ -17,12 +17,12 @@ use Rattle.cqlp_text.specs.declared.ending.Ending.TheVariants as ending
 use Rattle.cqlp_text.specs.Endings.{ending_line, finish_status}
 use Rattle.cqlp_tool_laws.specs.Text.{FailsAlike, GoesOnFromOther}
 use Rattle.cqlp_text.specs.Outputs.{Output, with_text, HasFailed}
-use Rattle.cqlp_show.specs.declared.text_form.TextForm.{TextForm}
-use Rattle.cqlp_show.specs.Forms.{text}
-use Rattle.cqlp_show.specs.declared.text_form.TextForm.TheVariants as forms
-use Rattle.cqlp_show.specs.Rendering.{GoesOn, RendersTo}
-use Rattle.cqlp_show.specs.Showing.{ShowsBytes, ChecksBytes}
-use Rattle.cqlp_show.specs.Streams.{Input, Streams}
+use Rattle.cqlp_render.specs.declared.text_form.TextForm.{TextForm}
+use Rattle.cqlp_render.specs.Forms.{text}
+use Rattle.cqlp_render.specs.declared.text_form.TextForm.TheVariants as forms
+use Rattle.cqlp_render.specs.Rendering.{GoesOn, RendersTo}
+use Rattle.cqlp_render.specs.Showing.{ShowsBytes, ChecksBytes}
+use Rattle.cqlp_render.specs.Streams.{Input, Streams}
 
 -- ---- the right answer
 

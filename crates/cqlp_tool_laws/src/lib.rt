@@ -1,4 +1,4 @@
-//! Laws of what is written of a stream, over what the calls of cqlp_text and cqlp_show promise. No code needs them.
+//! Laws of what is written of a stream, over what the calls of cqlp_text and cqlp_render promise. No code needs them.
 #![tactic(auto)]
 
 pub mod rows;

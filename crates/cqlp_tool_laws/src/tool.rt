@@ -4,7 +4,7 @@
 ghost use Rattle.cqlp_text.specs.PageText.{no_page};
 ghost use Rattle.cqlp_tool_laws.specs.Tool.{ChecksEndOnce, EndsOnce, IsCheckedOnce, IsCheckedRightly, IsRenderedOnce, IsRenderedWhole};
 ghost use Rattle.cqlp_tool_laws.specs.Tool.{IsReadAfterText, IsReadUnrefused, IsShownOnce, IsShownRightly};
-ghost use Rattle.cqlp_show.specs.declared.text_form.TextForm.TheVariants as forms;
+ghost use Rattle.cqlp_render.specs.declared.text_form.TextForm.TheVariants as forms;
 
 /// Finished, all lines of the stream were written, and its end is reported; and two runs that end alike wrote the same.
 pub fn one_answer_of_render_events()

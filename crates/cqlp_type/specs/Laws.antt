@@ -1,5 +1,6 @@
 -- Laws of types, of their tables and of how they are read.
-use Rattle.std.specs.Prelude.{◌≡◌, ℕ, suc, ◌+◌, ◌++◌, ◌<◌, ◌≤◌, ◌↔◌, Bool, true, false, IsTrue, List, [], ◌∷◌, All, length, max, slice_get, Some}
+use Rattle.std.specs.Prelude.{◌≡◌, ℕ, suc, ◌+◌, ◌++◌, ◌<◌, ◌≤◌, ◌↔◌, Bool, true, false, IsTrue, List, [], ◌∷◌, All, length, max}
+use Rattle.std.specs.Prelude.{slice_get, Some}
 use Rattle.std.specs.List.{list_all}
 use Rattle.cqlp_note.specs.declared.refusal.Refusal.{Refusal}
 use Rattle.cqlp_note.specs.Step.{Runs}
@@ -19,7 +20,8 @@ use Rattle.cqlp_type.specs.Forests.{depth_of, Forest}
 use Rattle.cqlp_type.specs.Depths.{IsDepth}
 use Rattle.cqlp_type.specs.Remaining.{event_at}
 use Rattle.cqlp_type.specs.Standing.{TypeState, IsShared, place_of, pending, Advances}
-use Rattle.cqlp_type.specs.Trees.{Trees, trees_in, options_in, types_in, AreTrees, is_tree, Shallow, AreShort, trees_items, placed, TreeSpells, item_counts, item_is_short, ItemIsInRange, tree_bytes}
+use Rattle.cqlp_type.specs.Trees.{Trees, trees_in, options_in, types_in, AreTrees, is_tree, Shallow, AreShort, trees_items, placed}
+use Rattle.cqlp_type.specs.Trees.{TreeSpells, item_counts, item_is_short, ItemIsInRange, tree_bytes}
 use Rattle.cqlp_type.specs.declared.tree.TypeTree.{TypeTree}
 use Rattle.cqlp_type.specs.TypeTrees.{tree_of, trees_size, spelled_len}
 use Rattle.cqlp_type.specs.Pushing.{After, ReadsInto, AdvanceLeaves, IsWhole, Uses, Continues, Fills, Pushes, event_of}

@@ -20,7 +20,9 @@ use Rattle.cqlp_type.specs.declared.remaining.OptionStage.TheVariants as stage
 use Rattle.cqlp_type.specs.declared.advance.TypeOutline.{TypeOutline}
 use Rattle.cqlp_type.specs.declared.advance.TypeOutline.TheVariants as part
 use Rattle.cqlp_kind.specs.Types.{kinds}
-use Rattle.cqlp_kind.specs.TypeStep.{TypeSymbol, Option_at, Text_of, Fields_of, Whole, TypeEvent, IsNode, IsField, TypePlace, symbol_copies, parameters_of, inner_symbols, with_arity, with_span, settled, type_place, option_step, begun_node, fields_settled}
+use Rattle.cqlp_kind.specs.TypeStep.{TypeSymbol, Option_at, Text_of, Fields_of, Whole, TypeEvent, IsNode, IsField, TypePlace}
+use Rattle.cqlp_kind.specs.TypeStep.{symbol_copies, parameters_of, inner_symbols, with_arity, with_span, settled, type_place}
+use Rattle.cqlp_kind.specs.TypeStep.{option_step, begun_node, fields_settled}
 use Rattle.cqlp_type.specs.Table.{Table, HoldsTypes}
 use Rattle.cqlp_type.specs.OpenOptions.{Nest}
 

@@ -1,5 +1,6 @@
 -- Tables of types: nodes in preorder, of which the last type may be under way.
-use Rattle.std.specs.Prelude.{◌≢◌, ◌≤◌, ℕ, zero, suc, ◌+◌, ◌-◌, List, [], ◌∷◌, All, length, take, drop, Option, option_and_then, slice_get, ◌==◌, if◌then◌else◌}
+use Rattle.std.specs.Prelude.{◌≢◌, ◌≤◌, ℕ, zero, suc, ◌+◌, ◌-◌, List, [], ◌∷◌, All, length, take, drop, Option, option_and_then}
+use Rattle.std.specs.Prelude.{slice_get, ◌==◌, if◌then◌else◌}
 use Rattle.cqlp_kind.specs.declared.node.Node.{Node}
 use Rattle.cqlp_kind.specs.Types.{IsPreorder}
 

@@ -1,7 +1,10 @@
 -- The types of a caller as trees, and how many bytes spell them.
-use Rattle.std.specs.Prelude.{ℕ, ◌+◌, List, [], length, Bool, true, false, ◌&&◌, nat_le, if◌then◌else◌, Option, Some, None, string_bytes}
+use Rattle.std.specs.Prelude.{ℕ, ◌+◌, List, [], length, Bool, true, false, ◌&&◌, nat_le, if◌then◌else◌, Option, Some, None}
+use Rattle.std.specs.Prelude.{string_bytes}
 use Rattle.cqlp_note.specs.declared.header.TheConstants.Header.{LONGEST_BODY}
-use Rattle.cqlp_type.specs.declared.tree.TypeTree.{TypeTree, Plain, Custom, List', Set', Map', Udt', Tuple', Row_of-TypeTree, end_of-TypeTree, more_of-TypeTree, Row_of-TypeTree-Udt-2-2, end_of-TypeTree-Udt-2-2, more_of-TypeTree-Udt-2-2}
+use Rattle.cqlp_type.specs.declared.tree.TypeTree.{TypeTree, Plain, Custom, List', Set', Map', Udt', Tuple', Row_of-TypeTree}
+use Rattle.cqlp_type.specs.declared.tree.TypeTree.{end_of-TypeTree, more_of-TypeTree, Row_of-TypeTree-Udt-2-2}
+use Rattle.cqlp_type.specs.declared.tree.TypeTree.{end_of-TypeTree-Udt-2-2, more_of-TypeTree-Udt-2-2}
 use Rattle.cqlp_type.specs.Trees as tree
 use Rattle.cqlp_type.specs.Trees.{Head, Trees, NoTree, Tree_and, trees_in, has_names}
 use Rattle.cqlp_kind.specs.Types.{is_plain}

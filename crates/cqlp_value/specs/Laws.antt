@@ -14,7 +14,8 @@ use Rattle.cqlp_cell.specs.declared.item.CellPush.{CellPush}
 use Rattle.cqlp_cell.specs.declared.item.CellPush.TheVariants as push
 use Rattle.cqlp_kind.specs.CellStep.{Value_of, CellEvent, CellPlace, cell_step}
 use Rattle.cqlp_kind.specs.Scalars.{ScalarValue, kind_of, content_of, scalar_fits, IsInRange}
-use Rattle.cqlp_value.specs.Values.{Values, IsScalar, ValueSpells, values_size, values_bytes, value_fits, AreInRange, value_items, AreWithin}
+use Rattle.cqlp_value.specs.Values.{Values, IsScalar, ValueSpells, values_size, values_bytes, value_fits, AreInRange, value_items}
+use Rattle.cqlp_value.specs.Values.{AreWithin}
 use Rattle.cqlp_cell.specs.declared.front.FrontScalar.{FrontScalar}
 use Rattle.cqlp_kind.specs.Contents.{value_of}
 use Rattle.cqlp_cell.specs.Fronts.{IsFront}

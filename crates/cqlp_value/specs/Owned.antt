@@ -7,9 +7,13 @@ use Rattle.cqlp_type.specs.Trees.{types_in}
 use Rattle.cqlp_type.specs.TypeTrees.{tree_of, len_if}
 use Rattle.cqlp_value.specs.declared.value.Atom.{Atom}
 use Rattle.cqlp_value.specs.declared.value.Atom.TheVariants as atom
-use Rattle.cqlp_value.specs.declared.value.Value.{Value, Null, Empty, Leaf, List', Map', Set', Tuple', Udt', Row_of-Value, end_of-Value, more_of-Value, Row_of-Value-Map-0-2, end_of-Value-Map-0-2, more_of-Value-Map-0-2}
-use Rattle.cqlp_kind.specs.Scalars.{ScalarValue, content_of, Custom, Blob, Raw, Varint, Double, Float, Uuid, Timeuuid, Ascii, Varchar, Bigint, Counter, Timestamp, Time, Int, Smallint, Tinyint, Date, Boolean, Decimal, Inet}
-use Rattle.cqlp_value.specs.Values.{Values, NoValue, Null_and, Empty_and, Scalar_and, Counted_and, Fields_and, values_in, values_fit, values_size}
+use Rattle.cqlp_value.specs.declared.value.Value.{Value, Null, Empty, Leaf, List', Map', Set', Tuple', Udt', Row_of-Value}
+use Rattle.cqlp_value.specs.declared.value.Value.{end_of-Value, more_of-Value, Row_of-Value-Map-0-2, end_of-Value-Map-0-2}
+use Rattle.cqlp_value.specs.declared.value.Value.{more_of-Value-Map-0-2}
+use Rattle.cqlp_kind.specs.Scalars.{ScalarValue, content_of, Custom, Blob, Raw, Varint, Double, Float, Uuid, Timeuuid, Ascii}
+use Rattle.cqlp_kind.specs.Scalars.{Varchar, Bigint, Counter, Timestamp, Time, Int, Smallint, Tinyint, Date, Boolean, Decimal, Inet}
+use Rattle.cqlp_value.specs.Values.{Values, NoValue, Null_and, Empty_and, Scalar_and, Counted_and, Fields_and, values_in}
+use Rattle.cqlp_value.specs.Values.{values_fit, values_size}
 
 abbrev pub atom_of : Atom → ScalarValue
 atom_of (atom.Custom c) = Custom c.items

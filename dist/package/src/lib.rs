@@ -196,7 +196,7 @@ mod cqlp_kind;
 mod cqlp_message;
 mod cqlp_note;
 mod cqlp_session;
-mod cqlp_show;
+mod cqlp_render;
 mod cqlp_text;
 mod cqlp_type;
 mod cqlp_value;
@@ -236,7 +236,7 @@ pub mod session {
 
 /// The text of events, cells, pages and verdicts, as the program `cqlp` writes it.
 pub mod text {
-    pub use crate::cqlp_show::{render_events, render_rows};
+    pub use crate::cqlp_render::{render_events, render_rows};
     pub use crate::cqlp_text::{Ending, PagePlace, cell_text, ending_line, event_line, opcode_name, page_part};
 }
 

@@ -1,9 +1,11 @@
 // Written by dist/erase from crates/cqlp_grammar/src/lib.rt.
 //! What follows what in a stream of the CQL native protocol v4, its events, and what takes them.
 
+pub mod error_code;
 mod event;
 mod following;
 mod grammar;
+pub mod result_kind;
 mod sink;
 mod table;
 mod upcoming;

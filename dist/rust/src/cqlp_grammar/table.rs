@@ -2,6 +2,7 @@
 //! The productions: which fields come, and what follows from their values.
 
 use crate::cqlp_grammar::grammar::{Group, Role};
+use crate::cqlp_grammar::{error_code, result_kind};
 use crate::cqlp_note::{Field, Notation, Opcode};
 
 /// What is to be read next.
@@ -53,7 +54,7 @@ macro_rules! counted {
     };
 }
 
-/// The fields of a message.
+/// The fields of a message. Section 4 of `native_protocol_v4.spec`.
 pub fn body_fields(opcode: Opcode) -> &'static [Expected]
 {
     match opcode {
@@ -117,67 +118,67 @@ pub fn group_fields(group: Group) -> &'static [Expected]
     }
 }
 
-/// The fields after an error's message.
+/// The fields after an error's message. Section 9.
 pub fn error_fields(code: u32) -> &'static [Expected]
 {
     match code {
-        0x1000 => &[
+        error_code::UNAVAILABLE => &[
             plain!(Consistency, Short),
             plain!(Required, Int),
             plain!(Alive, Int),
         ],
-        0x1100 => &[
+        error_code::WRITE_TIMEOUT => &[
             plain!(Consistency, Short),
             plain!(Received, Int),
             plain!(BlockFor, Int),
             plain!(WriteType, Text16),
         ],
-        0x1200 => &[
+        error_code::READ_TIMEOUT => &[
             plain!(Consistency, Short),
             plain!(Received, Int),
             plain!(BlockFor, Int),
             plain!(DataPresent, Byte),
         ],
-        0x1300 => &[
+        error_code::READ_FAILURE => &[
             plain!(Consistency, Short),
             plain!(Received, Int),
             plain!(BlockFor, Int),
             plain!(Failures, Int),
             plain!(DataPresent, Byte),
         ],
-        0x1400 => &[
+        error_code::FUNCTION_FAILURE => &[
             plain!(Keyspace, Text16),
             plain!(Name, Text16),
             counted!(Arguments, Group::Arguments),
         ],
-        0x1500 => &[
+        error_code::WRITE_FAILURE => &[
             plain!(Consistency, Short),
             plain!(Received, Int),
             plain!(BlockFor, Int),
             plain!(Failures, Int),
             plain!(WriteType, Text16),
         ],
-        0x2400 => &[plain!(Keyspace, Text16), plain!(Table, Text16)],
-        0x2500 => &[plain!(StatementId, Bytes16)],
+        error_code::ALREADY_EXISTS => &[plain!(Keyspace, Text16), plain!(Table, Text16)],
+        error_code::UNPREPARED => &[plain!(StatementId, Bytes16)],
         _ => &[],
     }
 }
 
-/// The fields of a result of this kind.
+/// The fields of a result of this kind. Section 4.2.5.
 pub fn result_fields(kind: u32) -> &'static [Expected]
 {
     match kind {
-        2 => &[Expected::Field(Want {
+        result_kind::ROWS => &[Expected::Field(Want {
             field: Field::MetaFlags,
             notation: Notation::Int,
             role: Role::MetaFlags { rows: true },
         })],
-        3 => &[plain!(Keyspace, Text16)],
-        4 => &[
+        result_kind::SET_KEYSPACE => &[plain!(Keyspace, Text16)],
+        result_kind::PREPARED => &[
             plain!(StatementId, Bytes16),
             with_role!(MetaFlags, Int, PreparedFlags),
         ],
-        5 => &[
+        result_kind::SCHEMA_CHANGE => &[
             plain!(Change, Text16),
             with_role!(Target, Text16, ChangeTarget),
         ],
@@ -185,7 +186,7 @@ pub fn result_fields(kind: u32) -> &'static [Expected]
     }
 }
 
-/// The names of a changed target.
+/// The names of a changed target. Section 4.2.5.5.
 pub fn target_fields(target: &str) -> &'static [Expected]
 {
     if target == "KEYSPACE" {
@@ -203,7 +204,7 @@ pub fn target_fields(target: &str) -> &'static [Expected]
     }
 }
 
-/// The fields of an event of this type.
+/// The fields of an event of this type. Section 4.2.6.
 pub fn event_fields(event_type: &str) -> &'static [Expected]
 {
     if event_type == "TOPOLOGY_CHANGE" || event_type == "STATUS_CHANGE" {

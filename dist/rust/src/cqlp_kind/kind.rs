@@ -1,7 +1,8 @@
 // Written by dist/erase from crates/cqlp_kind/src/kind.rt.
 //! The kinds of types.
 
-/// What a type is. Section 4.2.5.2 of `native_protocol_v4.spec`.
+/// What a type is. Section 4.2.5.2 of `native_protocol_v4.spec`. The type `duration` is none of version 4: its id, 0x0015, is that of
+/// no kind, and a type option that has it is refused as `BadType`.
 #[derive(Clone, Copy, Debug, PartialEq, Eq)]
 pub enum Kind {
     Custom,

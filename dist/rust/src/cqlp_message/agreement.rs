@@ -8,7 +8,7 @@ use crate::cqlp_message::request::{OwnedBound, QueryParams};
 use crate::cqlp_message::response::{
     ErrorExtra, Metadata, Prepared, Rows, SchemaChange, SchemaOptions, ServerEvent, Spec,
 };
-use crate::cqlp_grammar::{event_fields, has, target_fields};
+use crate::cqlp_grammar::{error_code, event_fields, has, target_fields};
 use crate::cqlp_note::Opcode;
 use crate::cqlp_type::check_type;
 
@@ -60,7 +60,14 @@ fn batch_agrees(flags: u8, serial: Option<u16>, timestamp: Option<i64>) -> bool
 fn has_extra(code: u32) -> bool
 {
     match code {
-        0x1000 | 0x1100 | 0x1200 | 0x1300 | 0x1400 | 0x1500 | 0x2400 | 0x2500 => true,
+        error_code::UNAVAILABLE
+        | error_code::WRITE_TIMEOUT
+        | error_code::READ_TIMEOUT
+        | error_code::READ_FAILURE
+        | error_code::FUNCTION_FAILURE
+        | error_code::WRITE_FAILURE
+        | error_code::ALREADY_EXISTS
+        | error_code::UNPREPARED => true,
         _ => false,
     }
 }
@@ -71,14 +78,14 @@ impl ErrorExtra {
     {
         match self {
             ErrorExtra::Plain => !has_extra(code),
-            ErrorExtra::Unavailable { .. } => code == 0x1000,
-            ErrorExtra::WriteTimeout { .. } => code == 0x1100,
-            ErrorExtra::ReadTimeout { .. } => code == 0x1200,
-            ErrorExtra::ReadFailure { .. } => code == 0x1300,
-            ErrorExtra::FunctionFailure { .. } => code == 0x1400,
-            ErrorExtra::WriteFailure { .. } => code == 0x1500,
-            ErrorExtra::AlreadyExists { .. } => code == 0x2400,
-            ErrorExtra::Unprepared { .. } => code == 0x2500,
+            ErrorExtra::Unavailable { .. } => code == error_code::UNAVAILABLE,
+            ErrorExtra::WriteTimeout { .. } => code == error_code::WRITE_TIMEOUT,
+            ErrorExtra::ReadTimeout { .. } => code == error_code::READ_TIMEOUT,
+            ErrorExtra::ReadFailure { .. } => code == error_code::READ_FAILURE,
+            ErrorExtra::FunctionFailure { .. } => code == error_code::FUNCTION_FAILURE,
+            ErrorExtra::WriteFailure { .. } => code == error_code::WRITE_FAILURE,
+            ErrorExtra::AlreadyExists { .. } => code == error_code::ALREADY_EXISTS,
+            ErrorExtra::Unprepared { .. } => code == error_code::UNPREPARED,
         }
     }
 }

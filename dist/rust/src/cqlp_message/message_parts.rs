@@ -9,6 +9,7 @@ use crate::cqlp_message::walk::{
     HasParts, walk_bytes, walk_counted, walk_query, walk_serial, walk_statement, walk_text,
     walk_texts, walk_timestamp,
 };
+use crate::cqlp_grammar::result_kind;
 use crate::cqlp_note::{Field};
 
 impl HasParts for (String, String) {
@@ -78,21 +79,21 @@ impl HasParts for Message {
             }
             Message::Authenticate(class) => walk_text(Field::Class, class, visitor),
             Message::Supported(options) => walk_counted(Field::Options, options, visitor),
-            Message::Void => walk_kind(1, visitor),
+            Message::Void => walk_kind(result_kind::VOID as i32, visitor),
             Message::SetKeyspace(keyspace) => {
-                walk_kind(3, visitor);
+                walk_kind(result_kind::SET_KEYSPACE as i32, visitor);
                 walk_text(Field::Keyspace, keyspace, visitor);
             }
             Message::Rows(page) => {
-                walk_kind(2, visitor);
+                walk_kind(result_kind::ROWS as i32, visitor);
                 page.walk(visitor);
             }
             Message::Prepared(statement) => {
-                walk_kind(4, visitor);
+                walk_kind(result_kind::PREPARED as i32, visitor);
                 statement.walk(visitor);
             }
             Message::Change(change) => {
-                walk_kind(5, visitor);
+                walk_kind(result_kind::SCHEMA_CHANGE as i32, visitor);
                 change.walk(visitor);
             }
             Message::UnknownResult(kind) => walk_kind(*kind, visitor),

@@ -8,12 +8,14 @@ mod message_parts;
 mod page;
 mod page_parts;
 mod part;
+mod plain;
 mod request;
 mod request_parts;
 mod response;
 mod response_parts;
 mod tally;
 mod unfit;
+mod version_error;
 mod walk;
 
 pub use frame::Frame;

@@ -2,19 +2,25 @@
 //! Client and server cores of the CQL native protocol v4: which requests may be sent, under which stream id, and which
 //! request a reply answers. The cores do no input or output, and take memory only where they are made.
 
+mod carried;
 mod client;
+mod client_of;
 mod ids;
 mod kind;
 mod phase;
 mod refusal;
 mod server;
+mod server_of;
 mod slots;
 mod streams;
 mod ticket;
 
+pub use carried::Refused;
 pub use client::Client;
+pub use client_of::{ClientOf, ReplyOf};
 pub use kind::RequestKind;
 pub use phase::Phase;
 pub use refusal::SlotsOrMemory;
 pub use server::{AnswerError, Server, ServerRefusal};
+pub use server_of::ServerOf;
 pub use ticket::{BeginError, Reply, Stray, Ticket};

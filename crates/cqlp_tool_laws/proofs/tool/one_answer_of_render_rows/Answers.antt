@@ -1,5 +1,5 @@
 use Rattle.cqlp_text.specs.PageText.{no_page}
-use Rattle.cqlp_show.specs.declared.text_form.TextForm.TheVariants as forms
+use Rattle.cqlp_render.specs.declared.text_form.TextForm.TheVariants as forms
 use Rattle.cqlp_tool_laws.proofs.OneAnswer.{rendered_whole, rendered_once}
 use Rattle.cqlp_tool_laws.proofs.tool.one_answer_of_render_rows.Goals as goal
 

@@ -1,4 +1,4 @@
-use Rattle.cqlp_show.specs.declared.text_form.TextForm.TheVariants as forms
+use Rattle.cqlp_render.specs.declared.text_form.TextForm.TheVariants as forms
 use Rattle.cqlp_tool_laws.proofs.OneAnswer.{commands_end_once, shown_rightly, shown_once}
 use Rattle.cqlp_tool_laws.proofs.tool.one_answer_of_show.Goals as goal
 

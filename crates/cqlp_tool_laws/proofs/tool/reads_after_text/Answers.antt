@@ -1,4 +1,4 @@
-use Rattle.cqlp_show.specs.declared.text_form.TextForm.TheVariants as forms
+use Rattle.cqlp_render.specs.declared.text_form.TextForm.TheVariants as forms
 use Rattle.cqlp_text.specs.PageText.{no_page}
 use Rattle.cqlp_tool_laws.proofs.LastRead.{read_after_text, read_unrefused}
 use Rattle.cqlp_tool_laws.proofs.tool.reads_after_text.Goals as goal

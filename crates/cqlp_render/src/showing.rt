@@ -1,0 +1,215 @@
+//! A whole stream, shown or checked.
+
+ghost use Rattle.std.specs.Prelude.{◌≡◌, ◌≤◌, [], IfSome, vec_len};
+ghost use Rattle.cqlp_decode.specs.Streams.{After, state};
+ghost use Rattle.cqlp_note.specs.Limits.{first_bad, rules_of};
+ghost use Rattle.cqlp_text.specs.Endings.{IsStatusOfTask};
+ghost use Rattle.cqlp_text.specs.PageText.{no_page};
+ghost use Rattle.cqlp_text.specs.Outputs.{Output, written};
+ghost use Rattle.cqlp_render.specs.Rendering.{ReadsOnlyAfterText};
+ghost use Rattle.cqlp_render.specs.Streams.{IfKnown, streams, unread};
+ghost use Rattle.cqlp_render.specs.Showing.{ending_of, ChecksAndReports, ConcludesIfKnown, CountsReads, ReadsBy, ReadsNew, RendersOrFails};
+ghost use Rattle.cqlp_render.specs.Showing.{ShowsAndReports, ShowsTo};
+ghost use Rattle.cqlp_text.specs.declared.ending.Ending.{Ending};
+ghost use Rattle.cqlp_render.specs.declared.text_form.TextForm.TheVariants as forms;
+
+use crate::buffered_sink::BufferedSink;
+use crate::form::{Form, Lines, Nothing};
+use crate::render::{TextSink, run_flushing};
+use cqlp_decode::{Decoder, NewError, Outcome, SinkFault, run};
+use cqlp_note::{Limits, Source, Target};
+use cqlp_text::status::FAULT;
+use cqlp_text::{Buffered, Ending, PagePlace, ending_line};
+use std::alloc::Allocator;
+
+/// How many reads the program makes at most.
+pub const TURNS: u64 = 4_294_967_296;
+
+/// How many bytes of text go to the output at once.
+const ROOM: usize = 65_536;
+
+/// Writes the lines of the events of a stream to `out`, and the verdict line or fault line to `err`. Answers the exit
+/// status, and the two outputs.
+pub fn show<R: Source, O: Target, E: Target, A: Allocator>(
+    alloc: &A,
+    limits: Limits,
+    input: &mut R,
+    out: O,
+    err: E,
+) -> (u8, O, E)
+    requires { first_bad limits ≡ Ok tt }
+    ensures status { IsStatusOfTask result.0 }
+    ensures shows { let view = streams R.Source O.Target E.Target in
+        ShowsAndReports forms.Lines limits TURNS (view input.old out err) result.0 (view input.new result.1 result.2) }
+{
+    let (ending, out) = write_text(alloc, limits, Lines, input, out);
+    let (status, err) = conclude(ending, err);
+    (status, out, err)
+}
+
+/// Writes the text of the pages of a stream to `out`, and the verdict line or fault line to `err`. Answers the exit
+/// status, and the two outputs.
+pub fn rows<R: Source, O: Target, E: Target, A: Allocator>(
+    alloc: &A,
+    limits: Limits,
+    input: &mut R,
+    out: O,
+    err: E,
+) -> (u8, O, E)
+    requires { first_bad limits ≡ Ok tt }
+    ensures status { IsStatusOfTask result.0 }
+    ensures shows { let view = streams R.Source O.Target E.Target in
+        ShowsAndReports (forms.Pages no_page) limits TURNS
+        (view input.old out err) result.0 (view input.new result.1 result.2) }
+{
+    let (ending, out) = write_text(alloc, limits, PagePlace::new(), input, out);
+    let (status, err) = conclude(ending, err);
+    (status, out, err)
+}
+
+/// Reads a stream, and writes the verdict line to `out` or the fault line to `err`. Answers the exit status, and the
+/// two outputs.
+pub fn check<R: Source, O: Target, E: Target, A: Allocator>(
+    alloc: &A,
+    limits: Limits,
+    input: &mut R,
+    out: O,
+    err: E,
+) -> (u8, O, E)
+    requires { first_bad limits ≡ Ok tt }
+    ensures status { IsStatusOfTask result.0 }
+    ensures checks { let view = streams R.Source O.Target E.Target in
+        ChecksAndReports limits TURNS (view input.old out err) result.0 (view input.new result.1 result.2) }
+{
+    let (ending, mut out) = read_through(alloc, limits, input, out);
+    let Ending::Finished(_) = ending else {
+        let (status, err) = conclude(ending, err);
+        return (status, out, err);
+    };
+    let Err(SinkFault) = ending_line(ending, &mut out) else {
+        return (ending.status(), out, err);
+    };
+    let (status, err) = conclude(Ending::WriteFault, err);
+    (status, out, err)
+}
+
+/// Reads a stream within these limits, and writes nothing of it.
+fn read_through<R: Source, O: Target, A: Allocator>(
+    alloc: &A,
+    limits: Limits,
+    input: &mut R,
+    out: O,
+) -> (Ending, O)
+    requires { first_bad limits ≡ Ok tt }
+    ensures shows { IfKnown (unread R.Source input.old) (written O.Target out) (λ xs.
+        ShowsTo forms.Nothing limits TURNS result.0 xs (R.left input.new) (written O.Target out)
+        (written O.Target result.1)) }
+    ensures failures { CountsReads result.0 (R.failures input.old) (R.failures input.new) }
+    ensures reads { ReadsBy TURNS result.0 (unread R.Source input.old) (unread R.Source input.new) }
+    ensures in_time { IfKnown (unread R.Source input.old) (written O.Target out) (λ xs.
+        ReadsNew forms.Nothing limits TURNS xs (unread R.Source input.old) (unread R.Source input.new)
+        (written O.Target out) (written O.Target result.1)) }
+{
+    let Some(mut decoder) = decoder_within(alloc, limits) else {
+        return (Ending::NoMemory, out);
+    };
+    let mut sink = TextSink::new(out, Nothing);
+    let outcome = run(&mut decoder, input, &mut sink, TURNS);
+    (ending_of(outcome), sink.into_inner())
+}
+
+/// Writes the text of the events of a stream within these limits, in a form.
+fn write_text<R: Source, O: Target, F: Form + Drop, A: Allocator>(
+    alloc: &A,
+    limits: Limits,
+    form: F,
+    input: &mut R,
+    out: O,
+) -> (Ending, O)
+    requires { first_bad limits ≡ Ok tt }
+    ensures shows { IfKnown (unread R.Source input.old) (written O.Target out) (λ xs.
+        ShowsTo (F.form form) limits TURNS result.0 xs (R.left input.new) (written O.Target out)
+        (written O.Target result.1)) }
+    ensures failures { CountsReads result.0 (R.failures input.old) (R.failures input.new) }
+    ensures reads { ReadsBy TURNS result.0 (unread R.Source input.old) (unread R.Source input.new) }
+    ensures in_time { IfKnown (unread R.Source input.old) (written O.Target out) (λ xs.
+        ReadsNew (F.form form) limits TURNS xs (unread R.Source input.old) (unread R.Source input.new)
+        (written O.Target out) (written O.Target result.1)) }
+{
+    let Some(mut decoder) = decoder_within(alloc, limits) else {
+        return (Ending::NoMemory, out);
+    };
+    let Ok(buffer) = vec![in alloc; 0; ROOM] else {
+        return (Ending::NoMemory, out);
+    };
+    let (outcome, out) = render_buffered(&mut decoder, input, out, form, buffer);
+    (ending_of(outcome), out)
+}
+
+/// A decoder at the start of a stream, within these limits; none where memory was wanting.
+fn decoder_within<'a, A: Allocator>(alloc: &'a A, limits: Limits) -> Option<Decoder<&'a A>>
+    requires { first_bad limits ≡ Ok tt }
+    ensures fresh { IfSome result (λ d. After (state d) [] []) }
+    ensures unrefused { IfSome result (λ d. (state d).refusal ≡ None) }
+    ensures rules { IfSome result (λ d. (state d).rules ≡ rules_of limits) }
+{
+    match Decoder::new(alloc, limits) {
+        Ok(decoder) => Some(decoder),
+        Err(NewError::NoMemory) => None,
+        Err(NewError::BadLimits(_)) => unreachable!(),
+    }
+}
+
+/// How the command ends where a run does.
+fn ending_of(outcome: Outcome) -> Ending
+    ensures { result ≡ ending_of outcome }
+{
+    match outcome {
+        Outcome::Finished(finish) => Ending::Finished(finish),
+        Outcome::ReadFault => Ending::ReadFault,
+        Outcome::SinkFault => Ending::WriteFault,
+        Outcome::Turns => Ending::TooManyTurns,
+    }
+}
+
+/// Writes the text of the events of a reader's bytes, in pieces as large as the buffer where the input does not stop.
+fn render_buffered<R: Source, O: Target, F: Form + Drop, A: Allocator, B: Allocator>(
+    decoder: &mut Decoder<A>,
+    input: &mut R,
+    out: O,
+    form: F,
+    buffer: Vec<u8, B>,
+) -> (Outcome, O)
+    requires { 128 ≤ vec_len buffer }
+    ensures renders { IfKnown (unread R.Source input.old) (written O.Target out) (λ xs.
+        After (state decoder.old) [] [] → RendersOrFails (F.form form) TURNS result.0 (state decoder.old)
+        (state decoder.new) xs (R.left input.new) (written O.Target out) (written O.Target result.1)) }
+    ensures failures { CountsReads (ending_of result.0) (R.failures input.old) (R.failures input.new) }
+    ensures reads { ReadsBy TURNS (ending_of result.0) (unread R.Source input.old) (unread R.Source input.new) }
+    ensures in_time { IfKnown (unread R.Source input.old) (written O.Target out) (λ xs.
+        After (state decoder.old) [] [] → ReadsOnlyAfterText (F.form form) TURNS (state decoder.old) xs
+        (R.reads input.old) (R.reads input.new) (R.left input.new) (written O.Target out) (O.contents result.1)) }
+    ensures rules { (state decoder.new).rules ≡ (state decoder.old).rules }
+{
+    let mut sink = BufferedSink::new(Buffered::new(out, buffer), form);
+    let outcome = run_flushing(decoder, input, &mut sink, TURNS);
+    let mut buffered = sink.into_inner();
+    if let Outcome::SinkFault = outcome {
+        return (outcome, buffered.into_inner());
+    }
+    match buffered.flush() {
+        Ok(()) => (outcome, buffered.into_inner()),
+        Err(SinkFault) => (Outcome::SinkFault, buffered.into_inner()),
+    }
+}
+
+/// Writes the verdict line or fault line. Answers the exit status, which is that of a fault where the target fails.
+pub fn conclude<E: Target>(ending: Ending, mut err: E) -> (u8, E)
+    ensures status { IsStatusOfTask result.0 }
+    ensures concludes { ConcludesIfKnown ending (written E.Target err) result.0 (written E.Target result.1) }
+{
+    match ending_line(ending, &mut err) {
+        Ok(()) => (ending.status(), err),
+        Err(SinkFault) => (FAULT, err),
+    }
+}

@@ -1,0 +1,171 @@
+//! Memory that is refused, of each call that asks for it.
+
+use crate::page::page;
+use cqlp_decode::{Decoder, NewError};
+use cqlp_message::Frame;
+use cqlp_note::{Limits, NoMemory, Partial};
+use cqlp_round_trip::{RoundTripError, write_and_read};
+use cqlp_session::{Client, Server, SlotsOrMemory};
+use cqlp_test_fakes::Takes;
+use cqlp_test_heaps::{Rationed, Refusals};
+use cqlp_type::{TypeReader, TypeTable};
+use cqlp_value::CellReader;
+use linked_list_allocator::LocalHeap;
+use std::alloc::Allocator;
+use std::test::Fail;
+
+pub const LIMITS: Limits = Limits {
+    text: 64,
+    cell: 64,
+    entries: 8,
+    depth: 3,
+    types: true,
+    parts: false,
+};
+
+/// A call that asks for memory.
+#[derive(Clone, Copy, Debug)]
+enum Call {
+    Partial,
+    TypeTable,
+    /// The second request is that of the copy.
+    CloneTable,
+    TypeReader,
+    CellReader,
+    Decoder,
+    Client,
+    Server,
+    /// A page is written and read.
+    WriteAndRead,
+}
+
+/// Each call, and how many requests for memory it makes.
+static CALLS: [(Call, u64); 9] = [
+    (Call::Partial, 1),
+    (Call::TypeTable, 1),
+    (Call::CloneTable, 2),
+    (Call::TypeReader, 1),
+    (Call::CellReader, 1),
+    (Call::Decoder, 4),
+    (Call::Client, 2),
+    (Call::Server, 1),
+    (Call::WriteAndRead, 5),
+];
+
+/// What a call said of memory.
+#[derive(Clone, Copy, Debug, PartialEq, Eq)]
+enum Answer {
+    Granted,
+    /// Nothing had changed.
+    NoMemory,
+    Other,
+}
+
+fn answer_of<T: Drop>(made: Result<T, NoMemory>) -> Answer {
+    match made {
+        Ok(_) => Answer::Granted,
+        Err(NoMemory) => Answer::NoMemory,
+    }
+}
+
+fn answer_of_slots<T: Drop>(made: Result<T, SlotsOrMemory>) -> Answer {
+    match made {
+        Ok(_) => Answer::Granted,
+        Err(SlotsOrMemory::NoMemory) => Answer::NoMemory,
+        Err(SlotsOrMemory::BadSlots) => Answer::Other,
+    }
+}
+
+fn decoder<A: Allocator + Clone>(heap: A) -> Answer {
+    match Decoder::new(heap, LIMITS) {
+        Ok(_) => Answer::Granted,
+        Err(NewError::NoMemory) => Answer::NoMemory,
+        Err(NewError::BadLimits(_)) => Answer::Other,
+    }
+}
+
+/// A table and its copy: without memory for the copy the table is what it was.
+fn copied_table<A: Allocator + Clone>(heap: A) -> Answer {
+    let Ok(table) = TypeTable::new(heap, LIMITS.entries) else {
+        return Answer::NoMemory;
+    };
+    let copied = answer_of(table.clone_table());
+    if table.len() == 0 {
+        copied
+    } else {
+        Answer::Other
+    }
+}
+
+/// The page of one list is 16 events, of which none is handed out before all memory is there.
+fn written_and_read<A: Allocator + Clone>(heap: A, page: &Frame) -> Answer {
+    let mut sink = Takes::new(100);
+    let made = write_and_read(heap, page, LIMITS, &mut sink);
+    match (made, sink.taken()) {
+        (Ok(_), 16) => Answer::Granted,
+        (Err(RoundTripError::NoMemory), 0) => Answer::NoMemory,
+        _ => Answer::Other,
+    }
+}
+
+fn asked<A: Allocator + Clone>(call: Call, heap: A, page: &Frame) -> Answer {
+    match call {
+        Call::Partial => answer_of(Partial::new(heap, LIMITS.text)),
+        Call::TypeTable => answer_of(TypeTable::new(heap, LIMITS.entries)),
+        Call::CloneTable => copied_table(heap),
+        Call::TypeReader => answer_of(TypeReader::new(heap, &LIMITS)),
+        Call::CellReader => answer_of(CellReader::new(heap, &LIMITS)),
+        Call::Decoder => decoder(heap),
+        Call::Client => answer_of_slots(Client::new(heap, 10)),
+        Call::Server => answer_of_slots(Server::new(heap, 10)),
+        Call::WriteAndRead => written_and_read(heap, page),
+    }
+}
+
+/// Whether a call that makes so many requests finds memory exactly where none of them is refused, asks for no more than it has to,
+/// and gives all of it back.
+fn is_right(heap: &LocalHeap, call: Call, requests: u64, refusals: Refusals, page: &Frame) -> bool {
+    let rationed = Rationed::new(heap, refusals);
+    let answer = asked(call, &rationed, page);
+    let expected = match refusals {
+        Refusals::At(number) | Refusals::From(number) if number <= requests => {
+            (Answer::NoMemory, number)
+        }
+        _ => (Answer::Granted, requests),
+    };
+    (answer, rationed.requests()) == expected && heap.used() == 0
+}
+
+#[test]
+fn memory_is_missing_just_where_it_was_refused(rt: HostRuntime) -> Result<(), Fail> {
+    let page = page(rt.alloc())?;
+    let heap = LocalHeap::new(rt.alloc(), 1 << 16)?;
+    let mut wrong = String::new(rt.alloc());
+    for (call, requests) in CALLS {
+        for number in 1..=requests + 2 {
+            for refusals in [
+                Refusals::At(number),
+                Refusals::From(number),
+                Refusals::Never,
+            ] {
+                if !is_right(&heap, call, requests, refusals, &page) {
+                    write!(wrong, "{call:?} {refusals:?}, ")?;
+                }
+            }
+        }
+    }
+    assert_eq!(rt; wrong.as_str(), "");
+    Ok(())
+}
+
+#[test]
+fn slots_out_of_range(rt: HostRuntime) -> Result<(), Fail> {
+    let mut refused = true;
+    for slots in [0, 32_769, u16::MAX] {
+        refused = refused
+            && matches!(Client::new(rt.alloc(), slots), Err(SlotsOrMemory::BadSlots))
+            && matches!(Server::new(rt.alloc(), slots), Err(SlotsOrMemory::BadSlots));
+    }
+    assert!(rt; refused);
+    Ok(())
+}

@@ -1,0 +1,81 @@
+//! Gives command lines to `command`, and prints what it writes and answers.
+//!
+//! A line of the input has the words of a command line, `|`, and the bytes of standard input in hexadecimal digits, or `?`
+//! and how the text begins that it writes. A line without these is a heading.
+#![tactic(auto)]
+
+mod done;
+mod memory;
+mod ways;
+
+use cqlp_test_fakes::bytes_of;
+use done::{Done, Invocation};
+use std::alloc::Global;
+use std::io;
+
+fn main(rt: HostRuntime) -> io::Result<()> {
+    for line in rt.lines(rt.alloc()) {
+        execute(&rt, line?.as_str())?;
+    }
+    Ok(())
+}
+
+/// Does what one line asks for.
+fn execute(rt: &HostRuntime, line: &str) -> io::Result<()> {
+    if let Some((words, digits)) = line.split_once('|') {
+        println!(rt; "== {}", words.trim_end())?;
+        let bytes = bytes_of(rt.alloc(), digits)?;
+        return match words.split_once(" in little memory") {
+            Some((task, _)) => memory::print_answers(rt, task, &bytes),
+            None => print_done(rt, words, &bytes),
+        };
+    }
+    match line.split_once('?') {
+        Some((words, start)) => print_start(rt, words.trim_end(), start.trim()),
+        None => println!(rt; "{line}"),
+    }
+}
+
+/// The words of a command line; `""` is a word without a letter.
+fn words_of<'a>(alloc: Global, line: &'a str) -> io::Result<Vec<&'a str>> {
+    let mut words = Vec::new(alloc);
+    for word in line.split_whitespace() {
+        words.push(if word == "\"\"" { "" } else { word })?;
+    }
+    Ok(words)
+}
+
+/// Prints what a command line writes, and between the two outputs its status.
+fn print_done(rt: &HostRuntime, line: &str, bytes: &[u8]) -> io::Result<()> {
+    let words = words_of(rt.alloc(), line)?;
+    let call = Invocation {
+        words: &words,
+        bytes,
+    };
+    let done = call.whole(rt);
+    done.print(rt)?;
+    ways::all(rt, &call, &done)
+}
+
+/// Prints whether a command line writes to one output alone, a text with this start, and its status.
+fn print_start(rt: &HostRuntime, line: &str, start: &str) -> io::Result<()> {
+    let words = words_of(rt.alloc(), line)?;
+    let call = Invocation {
+        words: &words,
+        bytes: &[],
+    };
+    let done = call.whole(rt);
+    let output = output_with(&done, start.as_bytes());
+    println!(rt; "== {line}\n{output}-- {}", done.status)?;
+    ways::all(rt, &call, &done)
+}
+
+fn output_with(done: &Done, start: &[u8]) -> &'static str {
+    if done.out.text().starts_with(start) && done.err.text().is_empty() {
+        "standard output\n"
+    } else if done.err.text().starts_with(start) && done.out.text().is_empty() {
+        "standard error\n"
+    } else {
+        "another text\n"
+    }
+}

@@ -1,0 +1,173 @@
+//! What is written of a frame, and what is read back.
+
+use cqlp_decode::{Decoder, Outcome, run};
+use cqlp_encode::{EncodeError, encode};
+use cqlp_message::Frame;
+use cqlp_note::{Limits, OfStd};
+use cqlp_render::render_events;
+use cqlp_test_fakes::{Narrow, Pieces, Takes};
+use cqlp_text::{Ending, ending_line};
+use std::alloc::Global;
+use std::io;
+
+const LIMITS: Limits = Limits {
+    text: 65_536,
+    cell: 65_536,
+    entries: 65_536,
+    depth: 64,
+    types: true,
+    parts: false,
+};
+
+/// How many bytes a target takes a call.
+pub const PIECE: usize = 7;
+
+/// What was answered, and the bytes that came.
+#[derive(Drop)]
+struct Written {
+    answer: Result<u32, EncodeError>,
+    bytes: Vec<u8>,
+}
+
+/// Writes a frame where there is room for all of it.
+fn write(alloc: Global, frame: &Frame) -> Written {
+    let mut target = OfStd::new(Vec::new(alloc));
+    let answer = encode(frame, &mut target);
+    Written {
+        answer,
+        bytes: target.into_inner(),
+    }
+}
+
+/// Prints the answer, the length that is told beforehand, the bytes, the lines of their events, the verdict, and how many
+/// fronts of the bytes a target is left with that fails.
+pub fn whole(rt: &HostRuntime, frame: &Frame) -> io::Result<()> {
+    let written = write(rt.alloc(), frame);
+    print_whole(rt, frame, &written)
+}
+
+fn print_whole(rt: &HostRuntime, frame: &Frame, written: &Written) -> io::Result<()> {
+    print_answer(rt, frame, written)?;
+    if written.answer.is_err() {
+        return Ok(());
+    }
+    print_bytes(rt, &written.bytes)?;
+    print_events(rt, &written.bytes)?;
+    println!(rt; "{} fronts", fronts(rt.alloc(), frame, &written.bytes))
+}
+
+/// Prints the answer, the length that is told, how many events are read of the bytes, and the verdict.
+pub fn sum(rt: &HostRuntime, frame: &Frame) -> io::Result<()> {
+    let written = write(rt.alloc(), frame);
+    print_sum(rt, frame, &written)
+}
+
+fn print_sum(rt: &HostRuntime, frame: &Frame, written: &Written) -> io::Result<()> {
+    print_answer(rt, frame, written)?;
+    if written.answer.is_err() {
+        return Ok(());
+    }
+    print_count(rt, &written.bytes)
+}
+
+/// Prints what is answered where the target fails after ten bytes, and the bytes that came.
+pub fn cut(rt: &HostRuntime, frame: &Frame) -> io::Result<()> {
+    let mut target = Narrow::new(rt.alloc(), 10, PIECE);
+    let answer = encode(frame, &mut target);
+    print_cut(rt, answer, target.text())
+}
+
+fn print_cut(rt: &HostRuntime, answer: Result<u32, EncodeError>, came: &[u8]) -> io::Result<()> {
+    println!(rt; "{answer:?}")?;
+    print_bytes(rt, came)
+}
+
+/// Prints what is answered, what is told beforehand, and how many bytes came.
+fn print_answer(rt: &HostRuntime, frame: &Frame, written: &Written) -> io::Result<()> {
+    let came = written.bytes.len();
+    match frame.unfit() {
+        None => println!(rt; "{:?}, len {}, {came} bytes", written.answer, frame.len()),
+        Some(unfit) => println!(rt; "{:?}, unfit {unfit:?}, {came} bytes", written.answer),
+    }
+}
+
+/// Prints bytes in hexadecimal digits.
+pub fn print_bytes(rt: &HostRuntime, bytes: &[u8]) -> io::Result<()> {
+    for byte in bytes {
+        print!(rt; "{byte:02X}")?;
+    }
+    println!(rt; "")
+}
+
+/// Prints the lines of the events of these bytes, and the verdict.
+fn print_events(rt: &HostRuntime, bytes: &[u8]) -> io::Result<()> {
+    match Decoder::new(rt.alloc(), LIMITS) {
+        Ok(mut decoder) => print_lines(rt, &mut decoder, bytes),
+        Err(_) => Err(io::Error::from(io::ErrorKind::OutOfMemory)),
+    }
+}
+
+fn print_lines(rt: &HostRuntime, decoder: &mut Decoder<Global>, bytes: &[u8]) -> io::Result<()> {
+    let text = OfStd::new(Vec::new(rt.alloc()));
+    let mut reader = Pieces::new(bytes, [usize::MAX; 3]);
+    let (outcome, text) = render_events(decoder, &mut reader, text, u64::MAX);
+    print_read(rt, &text.into_inner(), outcome)
+}
+
+/// Prints what was read, and how the reading ends.
+fn print_read(rt: &HostRuntime, text: &[u8], outcome: Outcome) -> io::Result<()> {
+    print(rt, text)?;
+    print_verdict(rt, outcome)
+}
+
+/// Prints how many events these bytes have, and the verdict.
+fn print_count(rt: &HostRuntime, bytes: &[u8]) -> io::Result<()> {
+    match Decoder::new(rt.alloc(), LIMITS) {
+        Ok(mut decoder) => print_number(rt, &mut decoder, bytes),
+        Err(_) => Err(io::Error::from(io::ErrorKind::OutOfMemory)),
+    }
+}
+
+fn print_number(rt: &HostRuntime, decoder: &mut Decoder<Global>, bytes: &[u8]) -> io::Result<()> {
+    let mut reader = Pieces::new(bytes, [usize::MAX; 3]);
+    let mut sink = Takes::new(usize::MAX);
+    let outcome = run(decoder, &mut reader, &mut sink, u64::MAX);
+    println!(rt; "{} events", sink.taken())?;
+    print_verdict(rt, outcome)
+}
+
+/// For how many numbers below a frame's length a target that fails after that many bytes has got just the frame's first
+/// bytes, that many, and the answer tells the number.
+fn fronts(alloc: Global, frame: &Frame, bytes: &[u8]) -> usize {
+    (0..bytes.len())
+        .filter(|room| is_front(alloc, frame, bytes, *room))
+        .count()
+}
+
+fn is_front(alloc: Global, frame: &Frame, bytes: &[u8], room: usize) -> bool {
+    let mut target = Narrow::new(alloc, room, PIECE);
+    let answer = encode(frame, &mut target);
+    let is_told = match answer {
+        Err(EncodeError::Write { written }) => written as usize == room,
+        _ => false,
+    };
+    is_told && target.text().len() == room && bytes.starts_with(target.text())
+}
+
+fn print_verdict(rt: &HostRuntime, outcome: Outcome) -> io::Result<()> {
+    let Outcome::Finished(finish) = outcome else {
+        return println!(rt; "{outcome:?}");
+    };
+    let mut verdict = OfStd::new(Vec::new(rt.alloc()));
+    match ending_line(Ending::Finished(finish), &mut verdict) {
+        Ok(()) => print(rt, &verdict.into_inner()),
+        Err(_) => Err(io::Error::from(io::ErrorKind::OutOfMemory)),
+    }
+}
+
+fn print(rt: &HostRuntime, text: &[u8]) -> io::Result<()> {
+    match str::from_utf8(text) {
+        Ok(text) => print!(rt; "{text}"),
+        Err(_) => Err(io::Error::from(io::ErrorKind::InvalidData)),
+    }
+}

@@ -1,0 +1,82 @@
+//! Tables of types that a script gives to its decoder, and takes back.
+
+use crate::reading::decoder;
+use crate::script::Script;
+use cqlp_decode::{Decoder, Step};
+use cqlp_note::Limits;
+use cqlp_test_fakes::bytes_of;
+use cqlp_type::TypeTable;
+use linked_list_allocator::LocalHeap;
+use std::alloc::Global;
+use std::io;
+
+/// The limits within which the metadata of a table that is given is read.
+const LIMITS: Limits = Limits {
+    text: 64,
+    cell: 64,
+    entries: 64,
+    depth: 64,
+    types: true,
+    parts: false,
+};
+
+/// A decoder in this memory, which is given the types that the script names.
+pub fn decoder_with<'a>(
+    alloc: Global,
+    heap: &'a LocalHeap,
+    tables: &'a LocalHeap,
+    script: &Script<'_>,
+) -> io::Result<Decoder<&'a LocalHeap>> {
+    let mut decoder = decoder(heap, script.limits)?;
+    if let Some(digits) = script.given {
+        let _ = decoder.give(table(alloc, tables, digits)?);
+    }
+    Ok(decoder)
+}
+
+/// Does what a piece asks for that has a word in place of bytes: `give`, with the stream whose last metadata has the types,
+/// or `take`. Whether it is such a piece.
+pub fn exchange<'a>(
+    rt: &HostRuntime,
+    heap: &'a LocalHeap,
+    decoder: &mut Decoder<&'a LocalHeap>,
+    piece: &str,
+) -> io::Result<bool> {
+    let piece = piece.trim();
+    if piece == "take" {
+        println!(rt;
+            "taken {:?}",
+            decoder.take_given().map(|table| table.roots())
+        )?;
+        return Ok(true);
+    }
+    let Some(digits) = piece.strip_prefix("give") else {
+        return Ok(false);
+    };
+    match decoder.give(table(rt.alloc(), heap, digits)?) {
+        Ok(before) => println!(rt; "given {:?}", before.map(|table| table.roots()))?,
+        Err(error) => println!(rt; "{:?} {}", error.why, error.table.len())?,
+    }
+    Ok(true)
+}
+
+/// The types of the last metadata of a stream, as far as it goes.
+pub fn table<'a>(
+    alloc: Global,
+    heap: &'a LocalHeap,
+    digits: &str,
+) -> io::Result<TypeTable<&'a LocalHeap>> {
+    let stream = bytes_of(alloc, digits)?;
+    let mut decoder = decoder(heap, LIMITS)?;
+    let mut rest = stream.as_slice();
+    for _ in 0..10_000u32 {
+        match decoder.next(rest) {
+            Step::Event { used, .. } => rest = rest.get(used..).unwrap_or(&[]),
+            Step::More { .. } | Step::Refused(_) => break,
+        }
+    }
+    match decoder.table().clone_table() {
+        Ok(table) => Ok(table),
+        Err(_) => Err(io::Error::from(io::ErrorKind::OutOfMemory)),
+    }
+}

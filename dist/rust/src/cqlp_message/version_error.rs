@@ -1,0 +1,43 @@
+// Written by dist/erase from crates/cqlp_message/src/version_error.rt.
+//! What a server answers to a request of another version of the protocol.
+
+use crate::cqlp_message::frame::Frame;
+use crate::cqlp_message::message::Message;
+use crate::cqlp_message::response::ErrorExtra;
+use crate::kit_std::alloc::{AllocError, Global};
+
+/// The code of a protocol error. Section 9 of `native_protocol_v4.spec`.
+const PROTOCOL_ERROR: i32 = 0x000A;
+
+impl Frame {
+    /// The answer to a request whose header `crate::cqlp_note::Header::read` refuses for its version: an ERROR of version 4, which
+    /// the nodes of other versions send too and by which drivers negotiate. It has the code 000A and names the version of
+    /// the request and those that are supported.
+    ///
+    /// The answer's stream id is the request's. In a header of version 1 or 2, which has eight bytes, the id is the third
+    /// byte; in any other it is the third and the fourth.
+    pub fn version_error(alloc: Global, header: &[u8; 9]) -> Result<Frame, AllocError>
+
+        // It has a spelling: these bytes.
+    {
+        let version = header[0] & 0x7F;
+        let message = format!(in alloc;
+            "Invalid or unsupported protocol version ({version}); the lowest supported version is 4 and the greatest is 4"
+        )?;
+        let error = Message::Error {
+            code: PROTOCOL_ERROR,
+            message,
+            extra: ErrorExtra::Plain,
+        };
+        Ok(Frame::plain(stream_under(version, header), error))
+    }
+}
+
+/// The stream id of a header of this version.
+fn stream_under(version: u8, header: &[u8; 9]) -> i16
+{
+    match version {
+        1 | 2 => i16::from(header[2].cast_signed()),
+        _ => i16::from_be_bytes([header[2], header[3]]),
+    }
+}

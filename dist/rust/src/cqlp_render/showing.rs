@@ -1,0 +1,156 @@
+// Written by dist/erase from crates/cqlp_render/src/showing.rt.
+//! A whole stream, shown or checked.
+
+use crate::kit_std::prelude::{Vec, vec};
+use crate::cqlp_render::buffered_sink::BufferedSink;
+use crate::cqlp_render::form::{Form, Lines, Nothing};
+use crate::cqlp_render::render::{TextSink, run_flushing};
+use crate::cqlp_decode::{Decoder, NewError, Outcome, SinkFault, run};
+use crate::cqlp_note::{Limits, Source, Target};
+use crate::cqlp_text::status::FAULT;
+use crate::cqlp_text::{Buffered, Ending, PagePlace, ending_line};
+use crate::kit_std::alloc::Allocator;
+
+/// How many reads the program makes at most.
+pub const TURNS: u64 = 4_294_967_296;
+
+/// How many bytes of text go to the output at once.
+const ROOM: usize = 65_536;
+
+/// Writes the lines of the events of a stream to `out`, and the verdict line or fault line to `err`. Answers the exit
+/// status, and the two outputs.
+pub(crate) fn show<R: Source, O: Target, E: Target, A: Allocator>(
+    alloc: &A,
+    limits: Limits,
+    input: &mut R,
+    out: O,
+    err: E,
+) -> (u8, O, E)
+{
+    let (ending, out) = write_text(alloc, limits, Lines, input, out);
+    let (status, err) = conclude(ending, err);
+    (status, out, err)
+}
+
+/// Writes the text of the pages of a stream to `out`, and the verdict line or fault line to `err`. Answers the exit
+/// status, and the two outputs.
+pub(crate) fn rows<R: Source, O: Target, E: Target, A: Allocator>(
+    alloc: &A,
+    limits: Limits,
+    input: &mut R,
+    out: O,
+    err: E,
+) -> (u8, O, E)
+{
+    let (ending, out) = write_text(alloc, limits, PagePlace::new(), input, out);
+    let (status, err) = conclude(ending, err);
+    (status, out, err)
+}
+
+/// Reads a stream, and writes the verdict line to `out` or the fault line to `err`. Answers the exit status, and the
+/// two outputs.
+pub(crate) fn check<R: Source, O: Target, E: Target, A: Allocator>(
+    alloc: &A,
+    limits: Limits,
+    input: &mut R,
+    out: O,
+    err: E,
+) -> (u8, O, E)
+{
+    let (ending, mut out) = read_through(alloc, limits, input, out);
+    let Ending::Finished(_) = ending else {
+        let (status, err) = conclude(ending, err);
+        return (status, out, err);
+    };
+    let Err(SinkFault) = ending_line(ending, &mut out) else {
+        return (ending.status(), out, err);
+    };
+    let (status, err) = conclude(Ending::WriteFault, err);
+    (status, out, err)
+}
+
+/// Reads a stream within these limits, and writes nothing of it.
+fn read_through<R: Source, O: Target, A: Allocator>(
+    alloc: &A,
+    limits: Limits,
+    input: &mut R,
+    out: O,
+) -> (Ending, O)
+{
+    let Some(mut decoder) = decoder_within(alloc, limits) else {
+        return (Ending::NoMemory, out);
+    };
+    let mut sink = TextSink::new(out, Nothing);
+    let outcome = run(&mut decoder, input, &mut sink, TURNS);
+    (ending_of(outcome), sink.into_inner())
+}
+
+/// Writes the text of the events of a stream within these limits, in a form.
+fn write_text<R: Source, O: Target, F: Form, A: Allocator>(
+    alloc: &A,
+    limits: Limits,
+    form: F,
+    input: &mut R,
+    out: O,
+) -> (Ending, O)
+{
+    let Some(mut decoder) = decoder_within(alloc, limits) else {
+        return (Ending::NoMemory, out);
+    };
+    let Ok(buffer) = vec![in alloc; 0; ROOM] else {
+        return (Ending::NoMemory, out);
+    };
+    let (outcome, out) = render_buffered(&mut decoder, input, out, form, buffer);
+    (ending_of(outcome), out)
+}
+
+/// A decoder at the start of a stream, within these limits; none where memory was wanting.
+fn decoder_within<'a, A: Allocator>(alloc: &'a A, limits: Limits) -> Option<Decoder<&'a A>>
+{
+    match Decoder::new(alloc, limits) {
+        Ok(decoder) => Some(decoder),
+        Err(NewError::NoMemory) => None,
+        Err(NewError::BadLimits(_)) => unreachable!(),
+    }
+}
+
+/// How the command ends where a run does.
+fn ending_of(outcome: Outcome) -> Ending
+{
+    match outcome {
+        Outcome::Finished(finish) => Ending::Finished(finish),
+        Outcome::ReadFault => Ending::ReadFault,
+        Outcome::SinkFault => Ending::WriteFault,
+        Outcome::Turns => Ending::TooManyTurns,
+    }
+}
+
+/// Writes the text of the events of a reader's bytes, in pieces as large as the buffer where the input does not stop.
+fn render_buffered<R: Source, O: Target, F: Form, A: Allocator, B: Allocator>(
+    decoder: &mut Decoder<A>,
+    input: &mut R,
+    out: O,
+    form: F,
+    buffer: Vec<u8, B>,
+) -> (Outcome, O)
+{
+    let mut sink = BufferedSink::new(Buffered::new(out, buffer), form);
+    let outcome = run_flushing(decoder, input, &mut sink, TURNS);
+    let mut buffered = sink.into_inner();
+    if let Outcome::SinkFault = outcome {
+        return (outcome, buffered.into_inner());
+    }
+    match buffered.flush() {
+        Ok(()) => (outcome, buffered.into_inner()),
+        Err(SinkFault) => (Outcome::SinkFault, buffered.into_inner()),
+    }
+}
+
+/// Writes the verdict line or fault line. Answers the exit status, which is that of a fault where the target fails.
+pub fn conclude<E: Target>(ending: Ending, mut err: E) -> (u8, E)
+{
+    match ending_line(ending, &mut err) {
+        Ok(()) => (ending.status(), err),
+        Err(SinkFault) => (FAULT, err),
+    }
+}

@@ -1,0 +1,13 @@
+// Written by dist/erase from crates/cqlp_render/src/text_form.rt.
+//! Forms of text.
+
+use crate::cqlp_text::PagePlace;
+
+/// What is written of the events of a stream. The clauses of the calls of this crate speak of it.
+pub enum TextForm {
+    /// A line for each.
+    Lines,
+    /// The text of pages, from a place in a page.
+    Pages(PagePlace),
+    Nothing,
+}

@@ -1,0 +1,46 @@
+// Written by dist/erase from crates/cqlp_session/src/carried.rt.
+//! The values that are carried with open requests.
+
+use crate::kit_std::prelude::{Vec};
+use crate::cqlp_session::slots;
+use crate::kit_std::alloc::{AllocError, Allocator};
+
+/// A call that was refused, and the value that was to be carried.
+#[derive(Clone, Copy, Debug, PartialEq, Eq)]
+pub struct Refused<E, T> {
+    /// Why it was refused.
+    pub why: E,
+    /// The value, as it was handed in.
+    pub carried: T,
+}
+
+/// This many places for values, all empty.
+pub(crate) fn empty<T, A: Allocator>(
+    alloc: A,
+    len: usize,
+) -> Result<Vec<Option<T>, A>, AllocError>
+{
+    let mut carried = Vec::with_capacity(alloc, len)?;
+    for _ in 0..len {
+        carried.push(None)?;
+    }
+    Ok(carried)
+}
+
+/// Puts a value under an id.
+pub(crate) fn keep<T>(carried: &mut [Option<T>], id: i16, value: T)
+{
+    match slots::index_of(id) {
+        Some(i) if i < carried.len() => carried[i] = Some(value),
+        _ => {}
+    }
+}
+
+/// Takes the value under an id, if one is there.
+pub(crate) fn take<T>(carried: &mut [Option<T>], id: i16) -> Option<T>
+{
+    match slots::index_of(id) {
+        Some(i) if i < carried.len() => carried[i].take(),
+        _ => None,
+    }
+}

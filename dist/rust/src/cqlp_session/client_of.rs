@@ -1,0 +1,98 @@
+// Written by dist/erase from crates/cqlp_session/src/client_of.rt.
+//! The client's core with a value for each open request.
+
+use crate::kit_std::prelude::{Clone, Vec};
+use crate::cqlp_session::carried::Refused;
+use crate::cqlp_session::client::Client;
+use crate::cqlp_session::kind::RequestKind;
+use crate::cqlp_session::phase::Phase;
+use crate::cqlp_session::refusal::SlotsOrMemory;
+use crate::cqlp_session::ticket::{BeginError, Reply, Stray, Ticket};
+use crate::cqlp_session::{carried, slots};
+use crate::cqlp_note::Header;
+use crate::kit_std::alloc::{Allocator, Global};
+
+/// What a response's header says to a client, with the value of the request that it answers.
+#[derive(Clone, Copy, Debug, PartialEq, Eq)]
+pub enum ReplyOf<T> {
+    /// An event that the server pushed. Section 4.2.6 of `native_protocol_v4.spec`.
+    ServerEvent,
+    /// The reply to this request, with the value that it began with.
+    Answer {
+        ticket: Ticket,
+        kind: RequestKind,
+        carried: T,
+    },
+    /// The reply to this request, which was cancelled, with the value that it began with.
+    Dropped {
+        ticket: Ticket,
+        carried: T,
+    },
+}
+
+/// A [`Client`] that carries a value of the caller's with each open request, from its `begin` to its reply.
+pub struct ClientOf<T, A: Allocator = Global> {
+    core: Client<A>,
+    /// The value of the request that is open under each stream id.
+    carried: Vec<Option<T>, A>,
+}
+
+impl<T, A: Allocator> ClientOf<T, A> {
+    /// The core of a connection on which nothing was sent yet. `slots` is how many requests may be open at a time, 1 to
+    /// 32,768, as in [`Client::new`]. All memory is taken here: that of a `Client`, and a place for each value.
+    pub fn new(alloc: A, slots: u16) -> Result<ClientOf<T, A>, SlotsOrMemory>
+    where
+        A: Clone,
+    {
+        if !(1..=slots::MOST).contains(&slots) {
+            return Err(SlotsOrMemory::BadSlots);
+        }
+        Ok(ClientOf {
+            core: Client::new(alloc.clone()?, slots)?,
+            carried: carried::empty(alloc, slots as usize)?,
+        })
+    }
+
+    /// How far the setting up of the connection has come.
+    pub fn phase(&self) -> Phase
+    {
+        self.core.phase()
+    }
+
+    /// Begins a request, as [`Client::begin`] does, and keeps a value until its reply. Where it is refused, the value
+    /// comes back and nothing is changed.
+    pub fn begin(&mut self, kind: RequestKind, carried: T) -> Result<Ticket, Refused<BeginError, T>>
+    {
+        match self.core.begin(kind) {
+            Ok(ticket) => {
+                carried::keep(&mut self.carried, ticket.id, carried);
+                Ok(ticket)
+            }
+            Err(why) => Err(Refused { why, carried }),
+        }
+    }
+
+    /// Takes the header of a message that came, as [`Client::reply`] does. A reply hands out the value that its request
+    /// began with, given up or not.
+    pub fn reply(&mut self, header: &Header) -> Result<ReplyOf<T>, Stray>
+    {
+        let reply = self.core.reply(header)?;
+        let value = carried::take(&mut self.carried, header.stream);
+        match (reply, value) {
+            (Reply::Answer { ticket, kind }, Some(carried)) => Ok(ReplyOf::Answer {
+                ticket,
+                kind,
+                carried,
+            }),
+            (Reply::Dropped { ticket }, Some(carried)) => Ok(ReplyOf::Dropped { ticket, carried }),
+            (Reply::ServerEvent, None) => Ok(ReplyOf::ServerEvent),
+            _ => unreachable!(),
+        }
+    }
+
+    /// Gives up a request, as [`Client::cancel`] does. Its value stays until its reply comes, which hands it out.
+    pub fn cancel(&mut self, ticket: Ticket) -> bool
+    {
+        self.core.cancel(ticket)
+    }
+}

@@ -1,0 +1,70 @@
+// Written by dist/erase from crates/cqlp_session/src/server_of.rt.
+//! The server's core with a value for each open request.
+
+use crate::kit_std::prelude::{Clone, Vec};
+use crate::cqlp_session::carried::Refused;
+use crate::cqlp_session::kind::RequestKind;
+use crate::cqlp_session::phase::Phase;
+use crate::cqlp_session::refusal::SlotsOrMemory;
+use crate::cqlp_session::server::{AnswerError, Server, ServerRefusal};
+use crate::cqlp_session::{carried, slots};
+use crate::cqlp_note::{Header, Opcode};
+use crate::kit_std::alloc::{Allocator, Global};
+
+/// A [`Server`] that carries a value of the caller's with each open request, from its `accept` to its answer.
+pub struct ServerOf<T, A: Allocator = Global> {
+    core: Server<A>,
+    /// The value of the request that is open under each stream id.
+    carried: Vec<Option<T>, A>,
+}
+
+impl<T, A: Allocator> ServerOf<T, A> {
+    /// The core of a connection on which nothing came yet. `slots` is how many requests may be open at a time, 1 to
+    /// 32,768, as in [`Server::new`]. All memory is taken here: that of a `Server`, and a place for each value.
+    pub fn new(alloc: A, slots: u16) -> Result<ServerOf<T, A>, SlotsOrMemory>
+    where
+        A: Clone,
+    {
+        if !(1..=slots::MOST).contains(&slots) {
+            return Err(SlotsOrMemory::BadSlots);
+        }
+        Ok(ServerOf {
+            core: Server::new(alloc.clone()?, slots)?,
+            carried: carried::empty(alloc, slots as usize)?,
+        })
+    }
+
+    /// How far the setting up of the connection has come.
+    pub fn phase(&self) -> Phase
+    {
+        self.core.phase()
+    }
+
+    /// Takes the header of a request that came, as [`Server::accept`] does, and keeps a value until it is answered.
+    /// Where it is refused, the value comes back and nothing is changed.
+    pub fn accept(
+        &mut self,
+        header: &Header,
+        carried: T,
+    ) -> Result<RequestKind, Refused<ServerRefusal, T>>
+    {
+        match self.core.accept(header) {
+            Ok(kind) => {
+                carried::keep(&mut self.carried, header.stream, carried);
+                Ok(kind)
+            }
+            Err(why) => Err(Refused { why, carried }),
+        }
+    }
+
+    /// Answers the request that is open under this id, as [`Server::answer`] does, and hands out the value that it was
+    /// accepted with.
+    pub fn answer(&mut self, id: i16, opcode: Opcode) -> Result<(RequestKind, T), AnswerError>
+    {
+        let kind = self.core.answer(id, opcode)?;
+        match carried::take(&mut self.carried, id) {
+            Some(carried) => Ok((kind, carried)),
+            None => unreachable!(),
+        }
+    }
+}
