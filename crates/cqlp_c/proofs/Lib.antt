@@ -9,7 +9,6 @@ pub mod Nexted
 pub mod OneBatch
 pub mod OneVerdict
 pub mod Places
-pub mod Placing
 pub mod Putting
 pub mod Spans
 pub mod There
