@@ -29,7 +29,8 @@ enum Drained {
 }
 
 /// Hands all events of a reader's bytes to the sink, from at most `turns` reads of up to 4,096 bytes, none of which is
-/// tried again. The events of bytes that the decoder was given before come first.
+/// tried again. The events of bytes that the decoder was given before come first. No read is made before the sink has got
+/// all events of the bytes read so far.
 pub fn run<R: Source, S: Sink, A: Allocator>(
     decoder: &mut Decoder<A>,
     reader: &mut R,

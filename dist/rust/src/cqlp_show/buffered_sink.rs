@@ -3,7 +3,7 @@
 
 use crate::cqlp_show::form::Form;
 use crate::cqlp_decode::{Event, Sink, SinkFault};
-use crate::cqlp_note::{IoFault, Target};
+use crate::cqlp_note::Target;
 use crate::cqlp_text::{Buffered, TextWriter};
 use crate::kit_std::alloc::Allocator;
 
@@ -32,8 +32,8 @@ impl<W: Target, A: Allocator, F: Form> BufferedSink<W, A, F> {
 }
 
 impl<W: Target, A: Allocator, F: Form> BufferedSink<W, A, F> {
-    /// Passes on all text that waits.
-    pub fn flush(&mut self) -> Result<(), IoFault>
+    /// Passes on all text that waits; after a fault nothing waits either.
+    pub fn flush(&mut self) -> Result<(), SinkFault>
     {
         self.writer.pass_on()
     }
@@ -42,21 +42,6 @@ impl<W: Target, A: Allocator, F: Form> BufferedSink<W, A, F> {
 impl<W: Target, A: Allocator, F: Form> Sink for BufferedSink<W, A, F> {
     #[inline]
     fn take(&mut self, at: u64, event: &Event<'_>) -> Result<(), SinkFault> {
-        write_event(&mut self.form, at, event, &mut self.writer)
+        self.form.write(at, event, &mut self.writer)
     }
-}
-
-/// Appends the text of the event at an offset to what a buffer holds.
-#[inline(always)]
-fn write_event<W: Target, A: Allocator, F: Form>(
-    form: &mut F,
-    at: u64,
-    event: &Event<'_>,
-    writer: &mut TextWriter<Buffered<W, A>>,
-) -> Result<(), SinkFault>
-{
-    writer.loses_nothing();
-    let written = form.write(at, event, writer);
-    writer.loses_nothing();
-    written
 }

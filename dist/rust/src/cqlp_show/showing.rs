@@ -6,7 +6,7 @@ use crate::cqlp_show::buffered_sink::BufferedSink;
 use crate::cqlp_show::form::{Form, Lines, Nothing};
 use crate::cqlp_show::render::{TextSink, run_flushing};
 use crate::cqlp_decode::{Decoder, NewError, Outcome, SinkFault, run};
-use crate::cqlp_note::{IoFault, Limits, Source, Target};
+use crate::cqlp_note::{Limits, Source, Target};
 use crate::cqlp_text::status::FAULT;
 use crate::cqlp_text::{Buffered, Ending, PagePlace, ending_line};
 use crate::kit_std::alloc::Allocator;
@@ -142,7 +142,7 @@ fn render_buffered<R: Source, O: Target, F: Form, A: Allocator, B: Allocator>(
     }
     match buffered.flush() {
         Ok(()) => (outcome, buffered.into_inner()),
-        Err(IoFault) => (Outcome::SinkFault, buffered.into_inner()),
+        Err(SinkFault) => (Outcome::SinkFault, buffered.into_inner()),
     }
 }
 

@@ -6,17 +6,15 @@ use crate::cqlp_text::digits::{DECIMAL_ROOM, fill_with_digits, place, place_digi
 use crate::cqlp_text::pen::Pen;
 use crate::cqlp_text::sending::send;
 use crate::cqlp_grammar::SinkFault;
-use crate::cqlp_note::{IoFault, Target, offer};
+use crate::cqlp_note::Target;
 use crate::kit_std::alloc::{Allocator, Global};
 
-/// Passes text on to a target in pieces as large as a buffer. After a fault it keeps what the target did not take.
+/// Passes text on to a target in pieces as large as a buffer. Nothing waits after a `flush`, nor after a fault.
 pub struct Buffered<W: Target, A: Allocator = Global> {
     target: W,
     buffer: Vec<u8, A>,
-    /// How many bytes of the buffer are in use.
+    /// How many bytes of the buffer wait.
     len: usize,
-    /// How many of them were passed on.
-    passed: usize,
 }
 
 impl<W: Target, A: Allocator> Buffered<W, A> {
@@ -27,22 +25,16 @@ impl<W: Target, A: Allocator> Buffered<W, A> {
             target,
             buffer,
             len: 0,
-            passed: 0,
         }
     }
 
-    /// Passes on all that waits.
+    /// Passes on all that waits; after a fault nothing waits either.
     #[inline(never)]
-    pub fn flush(&mut self) -> Result<(), IoFault>
+    pub fn flush(&mut self) -> Result<(), SinkFault>
     {
-        let (from, end) = (self.passed, self.len);
-        let sent = offer(&mut self.target, &self.buffer[from..end]);
-        self.passed = from + sent;
-        if from + sent < end {
-            Err(IoFault)
-        } else {
-            Ok(())
-        }
+        let len = self.len;
+        self.len = 0;
+        send(&mut self.target, &self.buffer[..len])
     }
 
     /// The target, which did not get what waits.
@@ -52,7 +44,6 @@ impl<W: Target, A: Allocator> Buffered<W, A> {
             target,
             buffer: _,
             len: _,
-            passed: _,
         } = self;
         target
     }
@@ -61,16 +52,13 @@ impl<W: Target, A: Allocator> Buffered<W, A> {
     #[inline(never)]
     fn put_afresh(&mut self, bytes: &[u8]) -> Result<(), SinkFault>
     {
-        let Ok(()) = self.flush() else {
-            return Err(SinkFault);
-        };
+        self.flush()?;
         self.restart(bytes)
     }
 
     /// Takes a text where nothing waits: it waits where the buffer has room for it, and is passed on at once where not.
     fn restart(&mut self, bytes: &[u8]) -> Result<(), SinkFault>
     {
-        self.passed = 0;
         self.len = 0;
         if bytes.len() > self.buffer.len() {
             return send(&mut self.target, bytes);

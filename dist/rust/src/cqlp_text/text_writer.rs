@@ -5,7 +5,7 @@ use crate::cqlp_text::buffered::Buffered;
 use crate::cqlp_text::line_pen::LinePen;
 use crate::cqlp_text::pen::Pen;
 use crate::cqlp_grammar::SinkFault;
-use crate::cqlp_note::{IoFault, Target};
+use crate::cqlp_note::Target;
 use crate::kit_std::alloc::Allocator;
 
 /// Writes texts with a pen.
@@ -71,15 +71,8 @@ impl<'a, W: Target> TextWriter<LinePen<'a, W>> {
 }
 
 impl<W: Target, A: Allocator> TextWriter<Buffered<W, A>> {
-    /// A buffer loses nothing of what waits in it, so none of it waits to be lost.
-    #[inline(always)]
-    pub fn loses_nothing(&self)
-    {
-        let _pen = &self.pen;
-    }
-
-    /// Passes on all that waits in the buffer.
-    pub fn pass_on(&mut self) -> Result<(), IoFault>
+    /// Passes on all that waits in the buffer; after a fault nothing waits either.
+    pub fn pass_on(&mut self) -> Result<(), SinkFault>
     {
         self.pen.flush()
     }
