@@ -6,8 +6,10 @@ mod page_writer;
 mod parts;
 mod staged;
 mod types;
+mod value_writing;
 mod values;
 mod writing;
 
 pub use page_writer::{PageError, PageWriter};
+pub use value_writing::{ValueError, write_value};
 pub use writing::{EncodeError, encode};

@@ -1,8 +1,7 @@
 // Written by dist/erase from crates/cqlp_encode/src/page_writer.rt.
 //! A page whose cells are written one by one.
 
-use crate::cqlp_encode::staged::Staged;
-use crate::cqlp_encode::values::put_value;
+use crate::cqlp_encode::value_writing::offer_value;
 use crate::cqlp_encode::writing::write_parts;
 use crate::cqlp_message::{Frame, Unfit};
 use crate::cqlp_note::Target;
@@ -98,7 +97,7 @@ impl<'a> PageWriter<'a> {
     pub fn cell<W: Target>(&mut self, value: &Value, target: &mut W) -> Result<(), PageError>
     {
         let size = self.check(value)?;
-        let taken = write_value(value, target);
+        let taken = offer_value(value, target);
         if taken < size {
             self.fail(taken);
             return Err(PageError::Write {
@@ -167,15 +166,4 @@ impl<'a> PageWriter<'a> {
         self.written += taken;
         self.failed = true;
     }
-}
-
-/// Writes a value with its length, and answers how many bytes of it the target took.
-fn write_value<W: Target>(value: &Value, target: &mut W) -> u32
-{
-    let mut out = Staged::new(target);
-    put_value(&mut out, value);
-    out.flush();
-    let taken = out.taken();
-    let _ = out.into_inner();
-    taken as u32
 }
