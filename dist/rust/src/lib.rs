@@ -195,6 +195,7 @@ mod cqlp_grammar;
 mod cqlp_kind;
 mod cqlp_message;
 mod cqlp_note;
+mod cqlp_read;
 mod cqlp_session;
 mod cqlp_render;
 mod cqlp_text;
@@ -218,11 +219,12 @@ pub use kit_std::alloc::Global;
 
 /// Values of frames, and what writes them.
 pub mod frame {
-    pub use crate::cqlp_encode::{EncodeError, PageError, PageWriter, encode};
+    pub use crate::cqlp_encode::{EncodeError, PageError, PageWriter, ValueError, encode, write_value};
     pub use crate::cqlp_message::{
         BatchEntry, ErrorExtra, Frame, Message, Metadata, OwnedBound, PartRef, Prepared, QueryParams, Rows, SchemaChange,
         SchemaOptions, ServerEvent, Spec, TakesParts, Unfit,
     };
+    pub use crate::cqlp_read::{ReadError, read_value};
     pub use crate::cqlp_type::{TreeCheck, TypeTree, check_type, type_len};
     pub use crate::cqlp_value::{Atom, Content, Value, content_len, fits, value_len, value_size};
 }

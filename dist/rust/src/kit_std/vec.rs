@@ -22,6 +22,16 @@ impl<T, A: Allocator> Vec<T, A> {
         Ok(Vec { items, alloc })
     }
 
+    /// A copy of these items.
+    pub fn from_slice(alloc: A, items: &[T]) -> Result<Self, AllocError>
+    where
+        T: Copy,
+    {
+        let mut made = Vec::with_capacity(alloc, items.len())?;
+        made.items.extend_from_slice(items);
+        Ok(made)
+    }
+
     /// As Rust's own. It takes no memory.
     pub fn into_std(self) -> std::vec::Vec<T> {
         self.items

@@ -1,0 +1,42 @@
+-- Laws of the reading of values.
+use Rattle.std.specs.Prelude.{◌≡◌, ℕ, ◌<◌, ◌^◌, true, List, length, Option, Result, Ok, Err}
+use Rattle.std.specs.List.{All}
+use Rattle.cqlp_note.specs.Limits.{Rules}
+use Rattle.cqlp_type.specs.declared.tree.TypeTree.{TypeTree}
+use Rattle.cqlp_value.specs.declared.value.Value.{Value}
+use Rattle.cqlp_value.specs.Owned.{cell_type, fits_type, value_of}
+use Rattle.cqlp_value.specs.Values.{AreInRange, AreWithin, ValuesSpell, values_bytes, values_size}
+use Rattle.cqlp_read.specs.declared.error.ReadError.{ReadError}
+use Rattle.cqlp_read.specs.declared.error.ReadError.TheVariants as error
+use Rattle.cqlp_read.specs.Reading.{Reads, is_formed}
+
+-- the same value, or the same refusal; or memory was refused to one of them
+abbrev pub AreSame : Result Value ReadError → Result Value ReadError → Type 0
+AreSame (Err error.NoMemory) s = Unit {0}
+AreSame r (Err error.NoMemory) = Unit {0}
+AreSame (Ok v) (Ok w) = value_of v ≡ value_of w
+AreSame (Err (error.Refused r)) (Err (error.Refused s)) = r ≡ s
+AreSame (Err error.Unformed) (Err error.Unformed) = Unit {0}
+AreSame r s = ⊥
+
+-- Of the same bytes, type and limits there is one answer, but where memory is refused.
+abbrev pub OneAnswerOfReadValue : Type 0
+OneAnswerOfReadValue =
+    (l : Rules) (t : Option TypeTree) (b : List ℕ) (r s : Result Value ReadError)
+    → Reads l t b r → Reads l t b s → AreSame r s
+
+-- A value that fits its type and is within the limits is what is read of the bytes that are written of it.
+abbrev pub WrittenIsRead : Type 0
+WrittenIsRead =
+    (l : Rules) (t : Option TypeTree) (v : Value) (r : Result Value ReadError)
+    → is_formed t ≡ true → fits_type v t ≡ true → AreInRange (value_of v) → AreWithin l (value_of v)
+    → values_size (value_of v) < 2 ^ 31 → Reads l t (values_bytes (value_of v)) r → AreSame r (Ok v)
+
+-- A value that is read fits its type, and the bytes that are written of it spell the same value; they are as many as
+-- those that were read.
+abbrev pub ReadIsWritten : Type 0
+ReadIsWritten =
+    (l : Rules) (t : Option TypeTree) (v : Value) (b : List ℕ)
+    → Reads l t b (Ok v) → All (λ x. x < 256) b → length b < 2 ^ 31
+    → (fits_type v t ≡ true) × (values_size (value_of v) ≡ length b)
+    × ValuesSpell (cell_type t) (value_of v) (values_bytes (value_of v))
