@@ -393,3 +393,11 @@ next_kept w (m ∷ rest) p s e = subst (λ (r : Result RequestKind ServerRefusal
 
 pub none_refused : (w : World) → IsPaired w → IsInStep w → NoneIsRefused w
 none_refused w p s = record { up = next_kept w w.up p s refl; down = replies_taken w p }
+
+next_taken : (w : World) (ms : List (Message Request)) → IsPaired w → IsInStep w → w.up ≡ ms → IfNext ms (λ m. accept_of w.server m.seen ≡ Ok m.tag.kind)
+next_taken w [] p s e = tt
+next_taken w (m ∷ rest) p s e = next_goes w m rest p s e
+
+-- the next message is accepted as the request that it is
+pub taken_as_sent : (w : World) → IsPaired w → IsInStep w → IfNext w.up (λ m. accept_of w.server m.seen ≡ Ok m.tag.kind)
+taken_as_sent w p s = next_taken w w.up p s refl

@@ -7,3 +7,4 @@ pub mod InStep
 pub mod Least
 pub mod OneAnswer
 pub mod Standing
+pub mod Carriages

@@ -24,16 +24,16 @@ use Rattle.cqlp_session.proofs.Under.{cases_int, length_put, under_new, under_pu
 
 -- ---- slots
 
-under_past : {A : Type 0} (slots : List (Option A)) (id : ℤ) → has_slot slots id ≡ false → under slots id ≡ None
+pub under_past : {A : Type 0} (slots : List (Option A)) (id : ℤ) → has_slot slots id ≡ false → under slots id ≡ None
 under_past slots (pos i) e = get_or_past slots i None (ltb-false i (length slots) e)
 under_past slots (negsuc i) e = refl
 
-has_sized : {A B : Type 0} (a : List (Option A)) (b : List (Option B)) (id : ℤ) → length a ≡ length b → has_slot a id ≡ has_slot b id
+pub has_sized : {A B : Type 0} (a : List (Option A)) (b : List (Option B)) (id : ℤ) → length a ≡ length b → has_slot a id ≡ has_slot b id
 has_sized a b (pos i) e = ap (nat_lt i) e
 has_sized a b (negsuc i) e = refl
 
 -- what stands under an id that is written is what is written, or nothing if it has no slot
-under_put : {A : Type 0} (slots : List (Option A)) (id : ℤ) (what : Option A) → under (put slots id what) id ≡ cond (has_slot slots id) what None
+pub under_put : {A : Type 0} (slots : List (Option A)) (id : ℤ) (what : Option A) → under (put slots id what) id ≡ cond (has_slot slots id) what None
 under_put slots id what = elim (cases_Bool (has_slot slots id)) [
   | inl has ↦ under_put_same slots id what has ∙ sym (ap (λ b. cond b what None) has)
   | inr hasnt ↦ under_past (put slots id what) id (has_sized (put slots id what) slots id (length_put slots id what) ∙ hasnt) ∙ sym (ap (λ b. cond b what None) hasnt)
@@ -84,7 +84,7 @@ is_to_request reply.ServerEvent = false
 is_to_request (reply.Answer t k) = true
 is_to_request (reply.Dropped t) = true
 
-event_only : (r : Reply) → ◌≡◌ {A = Result Reply Stray} (Ok reply.ServerEvent) (Ok r) → is_to_request r ≡ false
+pub event_only : (r : Reply) → ◌≡◌ {A = Result Reply Stray} (Ok reply.ServerEvent) (Ok r) → is_to_request r ≡ false
 event_only reply.ServerEvent e = refl
 event_only (reply.Answer t k) e = cc
 event_only (reply.Dropped t) e = cc
@@ -123,7 +123,7 @@ replied_open c s r e = elim (cases_Bool (is_pushed s)) [
       ]
 ]
 
-none_either : (T : Type 0) (has : Bool) → is_none (cond {A = Option T} has None None) ≡ true
+pub none_either : (T : Type 0) (has : Bool) → is_none (cond {A = Option T} has None None) ≡ true
 none_either T true = refl
 none_either T false = refl
 

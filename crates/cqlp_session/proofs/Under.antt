@@ -54,7 +54,7 @@ pub under_new : {A : Type 0} (n : ℕ) (id : ℤ) → under {A = A} (replicate n
 under_new n (pos i) = empty_under n i
 under_new n (negsuc i) = refl
 
-none_is : {A : Type 0} (o : Option A) → is_none o ≡ true → o ≡ None
+pub none_is : {A : Type 0} (o : Option A) → is_none o ≡ true → o ≡ None
 none_is None e = refl
 none_is (Some a) e = cc
 

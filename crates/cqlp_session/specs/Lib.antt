@@ -9,3 +9,5 @@ pub mod Carried
 pub mod World
 pub mod Pairing
 pub mod Laws
+pub mod Headers
+pub mod Carriage

@@ -18,7 +18,7 @@ pub enum RequestKind {
 }
 
 impl RequestKind {
-    ghost use Rattle.cqlp_session.specs.Kind.{answers, is_handshake, kind_of};
+    ghost use Rattle.cqlp_session.specs.Kind.{answers, is_handshake, kind_of, opcode_of};
 
     /// The kind of request that has this opcode, if it is a request's.
     pub(crate) fn from_opcode(opcode: Opcode) -> Option<RequestKind>
@@ -41,6 +41,22 @@ impl RequestKind {
             | Opcode::Event
             | Opcode::AuthChallenge
             | Opcode::AuthSuccess => None,
+        }
+    }
+
+    /// The opcode of a request of this kind.
+    pub fn opcode(self) -> Opcode
+        ensures { result ≡ opcode_of self }
+    {
+        match self {
+            RequestKind::Startup => Opcode::Startup,
+            RequestKind::Options => Opcode::Options,
+            RequestKind::Query => Opcode::Query,
+            RequestKind::Prepare => Opcode::Prepare,
+            RequestKind::Execute => Opcode::Execute,
+            RequestKind::Batch => Opcode::Batch,
+            RequestKind::Register => Opcode::Register,
+            RequestKind::AuthResponse => Opcode::AuthResponse,
         }
     }
 

@@ -2,7 +2,9 @@
 //! and answered. A step of the connection is a call of a core: what `Client` and `Server` ensure is what a step does.
 
 ghost use Rattle.std.specs.Prelude.{ℕ, ◌≤◌};
-ghost use Rattle.cqlp_session.specs.Laws.{OneAnswerOfClientNew, OneAnswerOfServerNew};
+ghost use Rattle.cqlp_session.specs.Carriage.{EachValueComesBack};
+ghost use Rattle.cqlp_session.specs.Headers.{OneAnswerOfAnswerWith, RequestsAreSeen, RequestsAreTaken, ResponsesAreSeen};
+ghost use Rattle.cqlp_session.specs.Laws.{OneAnswerOfAnswer, OneAnswerOfBody, OneAnswerOfClientNew, OneAnswerOfClientOfNew, OneAnswerOfReply, OneAnswerOfServerNew, OneAnswerOfServerOfNew};
 ghost use Rattle.cqlp_session.specs.Pairing.{AfterAnySteps, BeginsOnceReady, EventsChangeNothing, IdsAreApart, NoneIsRefused, RepliesArePaired};
 
 /// What holds after every list of steps from two new cores.
@@ -23,6 +25,21 @@ pub fn pairing()
     ensures accepted { (client server : ℕ) → client ≤ server → AfterAnySteps client server NoneIsRefused }
 {}
 
+/// What `Client::begin_with` and `Server::answer_with` give is what the law of pairing has on its wires.
+pub fn headers()
+    // The header of a request is its message on the wire up, and that of a response its message on the wire down.
+    ensures requests { RequestsAreSeen }
+    ensures responses { ResponsesAreSeen }
+
+    // A server with at least as many slots as its client accepts each message as the request that was begun.
+    ensures taken { RequestsAreTaken }
+{}
+
+/// What a [`ClientOf`](crate::ClientOf) hands out with a reply is what was given when its request began, under its ticket.
+pub fn carriage<T>()
+    ensures { EachValueComesBack T }
+{}
+
 /// Where memory is granted, `Client::new` has one answer. So have the other calls of a core, whose clauses are equations.
 pub fn one_answer_of_client_new()
     ensures { OneAnswerOfClientNew }
@@ -31,4 +48,34 @@ pub fn one_answer_of_client_new()
 /// The same of `Server::new`.
 pub fn one_answer_of_server_new()
     ensures { OneAnswerOfServerNew }
+{}
+
+/// The same of `ClientOf::new`.
+pub fn one_answer_of_client_of_new<T>()
+    ensures { OneAnswerOfClientOfNew T }
+{}
+
+/// The same of `ServerOf::new`.
+pub fn one_answer_of_server_of_new<T>()
+    ensures { OneAnswerOfServerOfNew T }
+{}
+
+/// `ClientOf::reply` has one answer. So have the other calls of a `ClientOf`, whose clauses are equations.
+pub fn one_answer_of_reply<T>()
+    ensures { OneAnswerOfReply T }
+{}
+
+/// `ServerOf::answer` has one answer. So have the other calls of a `ServerOf`, whose clauses are equations.
+pub fn one_answer_of_answer<T>()
+    ensures { OneAnswerOfAnswer T }
+{}
+
+/// The same of `ServerOf::answer_with`.
+pub fn one_answer_of_answer_with<T>()
+    ensures { OneAnswerOfAnswerWith T }
+{}
+
+/// `Body::new` has one answer, but for the proofs in it.
+pub fn one_answer_of_body()
+    ensures { OneAnswerOfBody }
 {}

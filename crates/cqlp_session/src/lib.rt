@@ -2,9 +2,11 @@
 //! request a reply answers. The cores do no input or output, and take memory only where they are made.
 #![tactic(auto)]
 
+mod body;
 mod carried;
 mod client;
 mod client_of;
+mod headers;
 mod ids;
 mod kind;
 pub mod laws;
@@ -16,6 +18,7 @@ mod slots;
 mod streams;
 mod ticket;
 
+pub use body::Body;
 pub use carried::Refused;
 pub use client::Client;
 pub use client_of::{ClientOf, ReplyOf};
