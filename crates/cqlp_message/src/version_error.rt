@@ -14,16 +14,13 @@ use std::alloc::{AllocError, Global};
 const PROTOCOL_ERROR: i32 = 0x000A;
 
 impl Frame {
-    /// The answer to a request whose header `cqlp_note::Header::read` refuses for its version: an ERROR of version 4, which
-    /// the nodes of other versions send too and by which drivers negotiate. It has the code 000A and names the version of
-    /// the request and those that are supported.
+    /// The answer to a request whose header `Header::read` refuses for its version: an ERROR of version 4 by which drivers
+    /// negotiate. It has the code 000A, and its text names the version of the request and those that are supported.
     ///
-    /// The answer's stream id is the request's. In a header of version 1 or 2, which has eight bytes, the id is the third
-    /// byte; in any other it is the third and the fourth.
+    /// Its stream id is the request's: the third byte of a header of version 1 or 2, which has eight bytes, and the third and
+    /// the fourth of any other. The frame has a spelling, so it can be encoded.
     pub fn version_error(alloc: Global, header: &[u8; 9]) -> Result<Frame, AllocError>
         ensures says { IfOk result (λ frame. frame_of frame ≡ version_error header.now) }
-
-        // It has a spelling: these bytes.
         ensures fits { unfit_of (version_error header.now) ≡ None }
         ensures bytes { frame_bytes (version_error header.now) ≡ version_error_bytes header.now }
     {

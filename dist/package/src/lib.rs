@@ -232,7 +232,8 @@ pub mod frame {
 /// The cores of a client and of a server.
 pub mod session {
     pub use crate::cqlp_session::{
-        AnswerError, BeginError, Client, Phase, Reply, RequestKind, Server, ServerRefusal, SlotsOrMemory, Stray, Ticket,
+        AnswerError, BeginError, Body, Client, ClientOf, Phase, Refused, Reply, ReplyOf, RequestKind, Server, ServerOf, ServerRefusal,
+        SlotsOrMemory, Stray, Ticket,
     };
 }
 
