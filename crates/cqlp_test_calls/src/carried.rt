@@ -1,8 +1,8 @@
 //! Cores that carry a value with each open request, and headers that they give.
 
-use cqlp_test_heaps::{Rationed, Refusals};
 use cqlp_note::{Header, Opcode};
 use cqlp_session::{Body, ClientOf, RequestKind, ServerOf, SlotsOrMemory, Ticket};
+use cqlp_test_heaps::{Rationed, Refusals};
 use linked_list_allocator::LocalHeap;
 use std::alloc::{Allocator, Global};
 use std::test::Fail;

@@ -229,6 +229,18 @@ pub mod frame {
     pub use crate::cqlp_value::{Atom, Content, Value, content_len, fits, value_len, value_size};
 }
 
+/// The codes of errors after whose message more fields come, by their names. Section 9 of `native_protocol_v4.spec`.
+pub mod error_code {
+    pub use crate::cqlp_grammar::error_code::{
+        ALREADY_EXISTS, FUNCTION_FAILURE, READ_FAILURE, READ_TIMEOUT, UNAVAILABLE, UNPREPARED, WRITE_FAILURE, WRITE_TIMEOUT,
+    };
+}
+
+/// The kinds of results, by their names. Section 4.2.5 of `native_protocol_v4.spec`.
+pub mod result_kind {
+    pub use crate::cqlp_grammar::result_kind::{PREPARED, ROWS, SCHEMA_CHANGE, SET_KEYSPACE, VOID};
+}
+
 /// The cores of a client and of a server.
 pub mod session {
     pub use crate::cqlp_session::{

@@ -1,6 +1,7 @@
 // Written by dist/erase from crates/cqlp_message/src/version_error.rt.
 //! What a server answers to a request of another version of the protocol.
 
+use crate::kit_std::prelude::{format};
 use crate::cqlp_message::frame::Frame;
 use crate::cqlp_message::message::Message;
 use crate::cqlp_message::response::ErrorExtra;
@@ -10,15 +11,12 @@ use crate::kit_std::alloc::{AllocError, Global};
 const PROTOCOL_ERROR: i32 = 0x000A;
 
 impl Frame {
-    /// The answer to a request whose header `crate::cqlp_note::Header::read` refuses for its version: an ERROR of version 4, which
-    /// the nodes of other versions send too and by which drivers negotiate. It has the code 000A and names the version of
-    /// the request and those that are supported.
+    /// The answer to a request whose header `Header::read` refuses for its version: an ERROR of version 4 by which drivers
+    /// negotiate. It has the code 000A, and its text names the version of the request and those that are supported.
     ///
-    /// The answer's stream id is the request's. In a header of version 1 or 2, which has eight bytes, the id is the third
-    /// byte; in any other it is the third and the fourth.
+    /// Its stream id is the request's: the third byte of a header of version 1 or 2, which has eight bytes, and the third and
+    /// the fourth of any other. The frame has a spelling, so it can be encoded.
     pub fn version_error(alloc: Global, header: &[u8; 9]) -> Result<Frame, AllocError>
-
-        // It has a spelling: these bytes.
     {
         let version = header[0] & 0x7F;
         let message = format!(in alloc;

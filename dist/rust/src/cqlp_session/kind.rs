@@ -40,6 +40,21 @@ impl RequestKind {
         }
     }
 
+    /// The opcode of a request of this kind.
+    pub fn opcode(self) -> Opcode
+    {
+        match self {
+            RequestKind::Startup => Opcode::Startup,
+            RequestKind::Options => Opcode::Options,
+            RequestKind::Query => Opcode::Query,
+            RequestKind::Prepare => Opcode::Prepare,
+            RequestKind::Execute => Opcode::Execute,
+            RequestKind::Batch => Opcode::Batch,
+            RequestKind::Register => Opcode::Register,
+            RequestKind::AuthResponse => Opcode::AuthResponse,
+        }
+    }
+
     /// Whether a message with this opcode answers a request of this kind. Section 4.2.
     pub(crate) fn is_answered_by(self, opcode: Opcode) -> bool
     {

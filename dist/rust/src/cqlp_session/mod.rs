@@ -2,9 +2,11 @@
 //! Client and server cores of the CQL native protocol v4: which requests may be sent, under which stream id, and which
 //! request a reply answers. The cores do no input or output, and take memory only where they are made.
 
+mod body;
 mod carried;
 mod client;
 mod client_of;
+mod headers;
 mod ids;
 mod kind;
 mod phase;
@@ -15,6 +17,7 @@ mod slots;
 mod streams;
 mod ticket;
 
+pub use body::Body;
 pub use carried::Refused;
 pub use client::Client;
 pub use client_of::{ClientOf, ReplyOf};

@@ -11,5 +11,5 @@ pub mod vec;
 
 pub mod prelude {
     pub use super::{boxed::Box, clone::Clone, string::String, vec::Vec};
-    pub(crate) use super::vec::vec;
+    pub(crate) use super::{string::format, vec::vec};
 }

@@ -20,6 +20,15 @@ impl<A: Allocator> String<A> {
         Ok(String { text: made, alloc })
     }
 
+    /// What is said, written out.
+    pub(crate) fn written(alloc: A, said: fmt::Arguments<'_>) -> Result<Self, AllocError> {
+        let mut text = Growing(std::string::String::new());
+        match fmt::write(&mut text, said) {
+            Ok(()) => Ok(String { text: text.0, alloc }),
+            Err(_) => Err(AllocError),
+        }
+    }
+
     /// As Rust's own. It takes no memory.
     pub fn into_std(self) -> std::string::String {
         self.text
@@ -56,3 +65,22 @@ impl<A: Allocator> Deref for String<A> {
         &self.text
     }
 }
+
+/// A text that grows in memory which may be refused.
+struct Growing(std::string::String);
+
+impl fmt::Write for Growing {
+    fn write_str(&mut self, text: &str) -> fmt::Result {
+        self.0.try_reserve(text.len()).map_err(|_| fmt::Error)?;
+        self.0.push_str(text);
+        Ok(())
+    }
+}
+
+/// `format!`, whose memory may be refused.
+macro_rules! format {
+    (in $alloc:expr; $($said:tt)*) => {
+        $crate::kit_std::string::String::written($alloc, format_args!($($said)*))
+    };
+}
+pub(crate) use format;
