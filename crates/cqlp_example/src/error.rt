@@ -1,8 +1,9 @@
 //! Why an example does not come to its end.
 
 use cqlp_decode::NewError;
-use cqlp_encode::{EncodeError, PageError};
+use cqlp_encode::{EncodeError, PageError, ValueError};
 use cqlp_note::IoFault;
+use cqlp_read::ReadError;
 use cqlp_session::{AnswerError, BeginError, ServerRefusal, SlotsOrMemory, Stray};
 use std::alloc::AllocError;
 use std::io;
@@ -23,6 +24,10 @@ pub enum ExampleError {
     Encode(#[from] EncodeError),
     #[error(transparent)]
     Page(#[from] PageError),
+    #[error(transparent)]
+    Value(#[from] ValueError),
+    #[error(transparent)]
+    Unread(#[from] ReadError),
     #[error(transparent)]
     Slots(#[from] SlotsOrMemory),
     #[error(transparent)]

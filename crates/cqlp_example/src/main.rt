@@ -7,6 +7,7 @@ mod error;
 mod page;
 mod pieces;
 mod server;
+mod value;
 
 use crate::error::ExampleError;
 use cqlp_note::{OfStd, Source};
@@ -21,7 +22,9 @@ fn run<S: Source>(rt: &(impl Print + AllocGlobal), input: &mut S) -> Result<(), 
     println!(rt; "# server")?;
     server::show(rt)?;
     println!(rt; "# page")?;
-    page::show(rt)
+    page::show(rt)?;
+    println!(rt; "# value")?;
+    value::show(rt)
 }
 
 fn main(rt: HostRuntime) -> ExitCode {

@@ -1,13 +1,11 @@
 -- Contents that are read, and those that are refused.
-use Rattle.std.proofs.Common.{◌≡◌, ◌≢◌, ℕ, zero, suc, ◌+◌, ◌-◌, ◌<◌, ◌≤◌, ◌^◌, ◌&&◌, Bool, true, false, ltb, List, [], ◌∷◌, ◌++◌, length, take, drop, Option, Some, None, Result, Ok, Err, refl, sym, ap, ◌∙◌, append_assoc, subst, arith}
+use Rattle.std.proofs.Common.{◌≡◌, ◌≢◌, ℕ, zero, suc, ◌+◌, ◌<◌, ◌≤◌, ◌^◌, ◌&&◌, Bool, true, false, ltb, List, [], ◌∷◌, ◌++◌, length, take, drop, Option, Some, None, Result, Ok, Err, refl, sym, ap, ◌∙◌, append_assoc, subst, arith}
 use Rattle.std.specs.Int.{w32}
-use Rattle.std.proofs.lemmas.Bool.{lt-ltb, le-ltb, lt-leb, ltb-true, ltb-false}
-use Rattle.std.proofs.lemmas.List.{append-nil, length-append, length-drop, length-take-le, take-append-drop, take_at, drop_at, drop-drop}
-use Rattle.cqlp_note.specs.declared.field.Notation.TheVariants as notation
+use Rattle.std.proofs.lemmas.Bool.{lt-ltb, le-ltb, lt-leb, ltb-false}
+use Rattle.std.proofs.lemmas.List.{length-append, length-drop, length-take-le, take-append-drop, take_at, drop_at, drop-drop}
 use Rattle.cqlp_note.specs.declared.refusal.Refusal.{Refusal}
 use Rattle.cqlp_note.specs.declared.refusal.Reason.{Reason}
 use Rattle.cqlp_note.specs.declared.refusal.Reason.TheVariants.{BadSize, TooLong, ExtraInValue}
-use Rattle.cqlp_note.specs.Field.{Count}
 use Rattle.cqlp_note.specs.Limits.{Rules}
 use Rattle.cqlp_note.specs.Reader.{Bad, Got, says}
 use Rattle.cqlp_note.specs.Spelling.{IsNumber, Spells}
@@ -17,13 +15,13 @@ use Rattle.cqlp_note.proofs.Spelled.{positive}
 use Rattle.cqlp_kind.specs.declared.kind.Kind.{Kind}
 use Rattle.cqlp_kind.specs.declared.kind.Kind.TheVariants as kind
 use Rattle.cqlp_kind.specs.Contents.{scalar_in}
-use Rattle.cqlp_kind.specs.Scalars.{ScalarValue, allows_size, content_of, fault_of, scalar_of}
+use Rattle.cqlp_kind.specs.Scalars.{ScalarValue, allows_size, fault_of, scalar_of}
 use Rattle.cqlp_kind.specs.Types.{Types, NoMore, Type_and, followed_by, has_no_items, how_many}
-use Rattle.cqlp_kind.specs.CellStep.{CellEvent, CellPlace, CellSymbol, Close_of, Enter, Items_of, Value_of, cell_copies, cell_step, content_step, counted_step, fielded_step, place_after, scalar_step, value_step, values_of}
+use Rattle.cqlp_kind.specs.CellStep.{CellEvent, CellPlace, CellSymbol, Close_of, Enter, Items_of, Value_of, cell_copies, cell_step, content_step, counted_step, fielded_step, place_after, scalar_step, values_of}
 use Rattle.cqlp_cell.specs.Sizes.{is_counted}
 use Rattle.cqlp_cell.proofs.Sizing.{counted_content}
 use Rattle.cqlp_cell.proofs.Fronts.{scalar_is}
-use Rattle.cqlp_value.specs.Values.{AreWithin, IsBytes, IsScalar, ValueSpells, Values, NoValue, Null_and, Empty_and, Scalar_and, Counted_and, Fields_and, ValuesSpell, has_fields, in_parts, type_copies, values_items}
+use Rattle.cqlp_value.specs.Values.{AreWithin, IsBytes, IsScalar, ValueSpells, Values, NoValue, Null_and, Empty_and, Scalar_and, Counted_and, Fields_and, ValuesSpell, has_fields, type_copies, values_items}
 use Rattle.cqlp_value.proofs.ReadBack.{Events, alone, spelled_size}
 use Rattle.cqlp_value.proofs.ScalarItems.{is_own}
 use Rattle.cqlp_value.proofs.SpelledRead.{all_read}

@@ -1,5 +1,5 @@
 -- One answer of `read_value` meets its clause, and it reads back what is written.
-use Rattle.std.proofs.Common.{◌≡◌, ℕ, ◌+◌, ◌<◌, ◌≤◌, ◌^◌, true, false, ltb, List, [], ◌∷◌, ◌++◌, length, drop, Option, Some, None, Result, Ok, Err, refl, sym, ap, ◌∙◌, subst, inl, inr, arith}
+use Rattle.std.proofs.Common.{◌≡◌, ℕ, ◌+◌, ◌<◌, ◌^◌, true, false, ltb, List, [], ◌∷◌, length, Option, Some, None, Result, Ok, Err, refl, sym, ap, ◌∙◌, subst, inl, inr, arith}
 use Rattle.std.specs.List.{All}
 use Rattle.std.proofs.lemmas.Bool.{cases_lt, le-ltb}
 use Rattle.cqlp_note.specs.declared.refusal.Refusal.{Refusal}
@@ -16,8 +16,8 @@ use Rattle.cqlp_type.specs.declared.tree.TypeTree.{TypeTree}
 use Rattle.cqlp_type.specs.Trees.{kind_in, types_in}
 use Rattle.cqlp_type.specs.TypeTrees.{head_of, inner_of}
 use Rattle.cqlp_value.specs.declared.value.Value.{Value}
-use Rattle.cqlp_value.specs.Owned.{cell_type, fits_type, value_of}
-use Rattle.cqlp_value.specs.Values.{AreInRange, AreWithin, ValueSpells, Values, ValuesSpell, value_fits, values_bytes, values_fit, values_size}
+use Rattle.cqlp_value.specs.Owned.{cell_type, value_of}
+use Rattle.cqlp_value.specs.Values.{AreInRange, AreWithin, ValueSpells, Values, ValuesSpell, values_bytes, values_fit, values_size}
 use Rattle.cqlp_value.proofs.OneValue.{one_spelled}
 use Rattle.cqlp_value.proofs.ReadBack.{Events, spelled_size}
 use Rattle.cqlp_value.proofs.SpelledRead.{all_read}

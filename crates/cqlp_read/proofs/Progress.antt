@@ -1,9 +1,7 @@
 -- How far values in a value are read.
-use Rattle.std.proofs.Common.{◌≡◌, ◌≢◌, ℕ, zero, suc, ◌+◌, ◌-◌, ◌<◌, ◌≤◌, ◌^◌, get_or, true, List, [], ◌∷◌, ◌++◌, length, take, drop, drop-cons, Some, None, refl, sym, ap, ◌∙◌, append_assoc, subst, add-one, arith}
-use Rattle.std.specs.declared.vec.Vec.{Vec}
-use Rattle.std.specs.declared.alloc.Global.{Global}
+use Rattle.std.proofs.Common.{◌≡◌, ℕ, zero, suc, ◌+◌, ◌-◌, ◌<◌, ◌≤◌, get_or, true, List, [], ◌∷◌, ◌++◌, length, take, drop, drop-cons, refl, sym, ap, ◌∙◌, subst, add-one, arith}
 use Rattle.std.proofs.Math.Seq.{take-append-add}
-use Rattle.std.proofs.lemmas.List.{append-nil, length-append, length-drop, length-take-le, take-append-drop, take_all, drop_all, drop-drop}
+use Rattle.std.proofs.lemmas.List.{length-drop, length-take-le, take-append-drop, take_all, drop_all}
 use Rattle.cqlp_note.specs.declared.field.Notation.TheVariants as notation
 use Rattle.cqlp_note.specs.declared.refusal.Refusal.{Refusal}
 use Rattle.cqlp_note.specs.declared.refusal.Reason.TheVariants.{ExtraInValue}
@@ -11,19 +9,17 @@ use Rattle.cqlp_note.specs.Field.{Count}
 use Rattle.cqlp_note.specs.Limits.{Rules}
 use Rattle.cqlp_note.specs.Spelling.{Spells}
 use Rattle.cqlp_kind.specs.declared.kind.Kind.{Kind}
-use Rattle.cqlp_kind.specs.declared.kind.Kind.TheVariants as kind
 use Rattle.cqlp_kind.specs.Types.{Types, NoMore, Type_and, first_types, followed_by}
 use Rattle.cqlp_type.specs.declared.tree.TypeTree.{TypeTree}
 use Rattle.cqlp_type.specs.Trees.{kind_in, types_in}
 use Rattle.cqlp_type.specs.TypeTrees.{head_of, inner_of}
 use Rattle.cqlp_cell.specs.Sizes.{is_counted}
-use Rattle.cqlp_value.specs.declared.value.Value.{Value, Null, Empty, Leaf, List as ListValue, Map as MapValue, Set as SetValue, Tuple as TupleValue, Udt as UdtValue, List', Map', Set', Tuple', Udt'}
+use Rattle.cqlp_value.specs.declared.value.Value.{Value, Null, Empty, Leaf, List', Map', Set', Tuple', Udt'}
 use Rattle.cqlp_value.specs.Measures.{listed_pairs, listed_values, types_by}
 use Rattle.cqlp_value.specs.Owned.{value_and, value_of}
-use Rattle.cqlp_value.specs.Values.{AreWithin, IsBytes, ValueSpells, Values, NoValue, Null_and, Empty_and, Scalar_and, Counted_and, Fields_and, ValuesSpell, has_fields, type_copies, values_in}
-use Rattle.cqlp_value.proofs.OwnedLists.{many_values, list_is, set_is, map_is, tuple_is, udt_is}
-use Rattle.cqlp_value.proofs.ReadBack.{alone, spelled_after, with_others}
-use Rattle.cqlp_read.specs.Fronts.{AreCounted, ContentRefused, FrontRefused, HasContent, ReadsFields}
+use Rattle.cqlp_value.specs.Values.{AreWithin, ValueSpells, Values, NoValue, Null_and, Empty_and, Scalar_and, Counted_and, Fields_and, ValuesSpell, has_fields, type_copies}
+use Rattle.cqlp_value.proofs.ReadBack.{spelled_after, with_others}
+use Rattle.cqlp_read.specs.Fronts.{AreCounted, ContentRefused, FrontRefused}
 use Rattle.cqlp_read.proofs.Refusals.{refusal}
 use Rattle.cqlp_read.proofs.Contents.{FieldsLead, fields_begin, fields_follow, fields_stop, fields_end, counted_stops, counted_ends}
 

@@ -1,28 +1,26 @@
 -- Where bytes are refused, in a container and inside a value.
-use Rattle.std.proofs.Common.{◌≡◌, ◌≢◌, ℕ, zero, suc, ◌+◌, ◌-◌, ◌<◌, ◌≤◌, ◌^◌, ◌&&◌, Bool, true, false, ltb, List, [], ◌∷◌, ◌++◌, length, take, drop, Some, None, Ok, Err, refl, sym, ap, ◌∙◌, append_assoc, subst, arith}
+use Rattle.std.proofs.Common.{◌≡◌, ℕ, ◌+◌, ◌-◌, ◌<◌, ◌≤◌, ◌^◌, true, List, [], ◌∷◌, ◌++◌, length, take, drop, Some, None, refl, sym, ap, ◌∙◌, append_assoc, subst, arith}
 use Rattle.std.specs.Int.{w32}
 use Rattle.std.proofs.Math.Seq.{take-append-add}
-use Rattle.std.proofs.lemmas.Bool.{lt-ltb, le-ltb, lt-leb, ne_eqb}
-use Rattle.std.proofs.lemmas.List.{append-nil, length-append, length-drop, length-take-le, take-append-drop, take_at, drop_at, drop-append-le}
+use Rattle.std.proofs.lemmas.Bool.{lt-ltb, le-ltb, ne_eqb}
+use Rattle.std.proofs.lemmas.List.{length-append, length-drop, length-take-le, take-append-drop, take_at, drop_at}
 use Rattle.cqlp_note.specs.declared.refusal.Refusal.{Refusal}
 use Rattle.cqlp_note.specs.declared.refusal.Reason.{Reason}
-use Rattle.cqlp_note.specs.declared.refusal.Reason.TheVariants.{Overrun, BadCount, BadSize, TooLong, ExtraInValue}
+use Rattle.cqlp_note.specs.declared.refusal.Reason.TheVariants.{Overrun, BadCount}
 use Rattle.cqlp_note.specs.declared.field.Notation.TheVariants as notation
 use Rattle.cqlp_note.specs.Field.{Count}
 use Rattle.cqlp_note.specs.Limits.{Rules}
-use Rattle.cqlp_note.specs.Reader.{Bad, Got, Reader, number_of, says}
+use Rattle.cqlp_note.specs.Reader.{Bad, Reader, number_of, says}
 use Rattle.cqlp_note.specs.Spelling.{IsNumber, Spells}
-use Rattle.cqlp_note.specs.Step.{Emitted, Step, Runs}
+use Rattle.cqlp_note.specs.Step.{Step, Runs}
 use Rattle.cqlp_note.proofs.Readers.{says_stays}
 use Rattle.cqlp_note.proofs.Runs.{runs_stay, runs_then, stays_bad}
 use Rattle.cqlp_note.proofs.Spelled.{positive}
 use Rattle.cqlp_kind.specs.declared.kind.Kind.{Kind}
-use Rattle.cqlp_kind.specs.declared.kind.Kind.TheVariants as kind
-use Rattle.cqlp_kind.specs.Types.{Types, NoMore, Type_and, followed_by, has_no_items, how_many}
-use Rattle.cqlp_kind.specs.CellStep.{CellEvent, CellPlace, CellSymbol, Close_of, Enter, Items_of, Value_of, cell_copies, cell_step, content_step, counted_step, fielded_step, place_after, scalar_step, sized_step, value_step, values_of}
-use Rattle.cqlp_value.specs.Values.{AreWithin, IsBytes, ValueSpells, Values, NoValue, Null_and, Empty_and, Scalar_and, Counted_and, Fields_and, ValuesSpell, has_fields, type_copies}
-use Rattle.cqlp_value.proofs.ReadBack.{Events, spelled_size}
-use Rattle.cqlp_value.proofs.SpelledRead.{all_read}
+use Rattle.cqlp_kind.specs.Types.{Types}
+use Rattle.cqlp_kind.specs.CellStep.{CellEvent, CellPlace, CellSymbol, cell_step, content_step, counted_step, sized_step}
+use Rattle.cqlp_value.specs.Values.{IsBytes}
+use Rattle.cqlp_value.proofs.ReadBack.{Events}
 use Rattle.cqlp_cell.specs.Sizes.{is_counted}
 use Rattle.cqlp_cell.proofs.Sizing.{counted_content}
 use Rattle.cqlp_read.specs.Reading.{IsRefused}

@@ -1,5 +1,5 @@
 -- The steps of the reading of values.
-use Rattle.std.proofs.Common.{◌≡◌, ◌≢◌, ℕ, zero, suc, ◌+◌, ◌-◌, ◌<◌, ◌≤◌, ◌^◌, ◌&&◌, get_or, Bool, true, false, eqb, List, [], ◌∷◌, ◌++◌, length, take, drop, Option, Some, None, Result, Ok, Err, refl, sym, ap, ◌∙◌, subst, inl, inr, arith}
+use Rattle.std.proofs.Common.{◌≡◌, ◌≢◌, ℕ, zero, suc, ◌+◌, ◌<◌, ◌≤◌, ◌^◌, ◌&&◌, get_or, Bool, true, false, eqb, List, [], ◌∷◌, ◌++◌, length, take, drop, Option, Some, None, Result, Ok, Err, refl, sym, ap, ◌∙◌, subst, inl, inr, arith}
 use Rattle.std.specs.Borrow.{Bor}
 use Rattle.std.specs.Result.{IsErr, IsErrAnd}
 use Rattle.std.specs.declared.vec.Vec.{Vec}
@@ -7,17 +7,14 @@ use Rattle.std.specs.declared.boxed.Box.{Box}
 use Rattle.std.specs.declared.string.String.{String}
 use Rattle.std.specs.declared.alloc.Global.{Global}
 use Rattle.std.proofs.lemmas.Bool.{eqb-true, eqb-false}
-use Rattle.std.proofs.lemmas.List.{append-nil, length-append, length-drop, length-take-le, take-append-drop}
-use Rattle.cqlp_note.specs.declared.field.Notation.TheVariants as notation
+use Rattle.std.proofs.lemmas.List.{length-append, length-drop, take-append-drop}
 use Rattle.cqlp_note.specs.declared.refusal.Refusal.{Refusal}
-use Rattle.cqlp_note.specs.Field.{Count}
 use Rattle.cqlp_note.specs.Limits.{Rules}
-use Rattle.cqlp_note.specs.Spelling.{Spells}
 use Rattle.cqlp_kind.specs.declared.kind.Kind.{Kind}
 use Rattle.cqlp_kind.specs.declared.kind.Kind.TheVariants as kind
 use Rattle.cqlp_kind.specs.Types.{Types, NoMore, Type_and, first_types, has_no_items, is_plain}
-use Rattle.cqlp_type.specs.declared.tree.TypeTree.{TypeTree, Plain, Custom, List as ListTree, Set as SetTree, Map as MapTree, Tuple as TupleTree, Udt as UdtTree}
-use Rattle.cqlp_type.specs.Trees.{Trees, are_trees, kind_in, types_in}
+use Rattle.cqlp_type.specs.declared.tree.TypeTree.{TypeTree, Plain, List as ListTree, Set as SetTree, Map as MapTree, Tuple as TupleTree, Udt as UdtTree}
+use Rattle.cqlp_type.specs.Trees.{are_trees, kind_in, types_in}
 use Rattle.cqlp_type.specs.TypeLists.{listed_types, listed_fields}
 use Rattle.cqlp_type.specs.TypeTrees.{head_of, inner_of, tree_of}
 use Rattle.cqlp_type.proofs.TreeLengths.{inner_tuple, inner_udt}
@@ -25,7 +22,7 @@ use Rattle.cqlp_cell.specs.Sizes.{is_counted}
 use Rattle.cqlp_value.specs.declared.value.Value.{Value, List as ListValue, Map as MapValue, Set as SetValue, Tuple as TupleValue, Udt as UdtValue}
 use Rattle.cqlp_value.specs.Measures.{listed_pairs, listed_values, types_by}
 use Rattle.cqlp_value.specs.Owned.{value_of}
-use Rattle.cqlp_value.specs.Values.{AreWithin, IsBytes, ValueSpells, Values, NoValue, Null_and, Empty_and, Counted_and, Fields_and, ValuesSpell, has_fields, values_in}
+use Rattle.cqlp_value.specs.Values.{AreWithin, IsBytes, ValueSpells, Values, NoValue, Null_and, Empty_and, Counted_and, Fields_and, ValuesSpell, has_fields}
 use Rattle.cqlp_value.proofs.OwnedLists.{many_values, list_is, set_is, map_is, tuple_is, udt_is}
 use Rattle.cqlp_value.proofs.ValueFits.{tuple_types, udt_types}
 use Rattle.cqlp_value.proofs.ReadBack.{alone, with_others}

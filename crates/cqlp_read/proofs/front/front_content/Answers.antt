@@ -1,4 +1,4 @@
-use Rattle.std.proofs.Common.{◌≡◌, ◌+◌, ◌-◌, length, take, drop, ap, sym, arith}
+use Rattle.std.proofs.Common.{take, arith}
 use Rattle.cqlp_read.proofs.Refusals.{front_short, front_past, null_front, content_front}
 use Rattle.cqlp_read.proofs.front.front_content.Goals as goal
 

@@ -1,4 +1,4 @@
-use Rattle.std.proofs.Common.{◌≡◌, arith}
+use Rattle.std.proofs.Common.{arith}
 use Rattle.cqlp_read.proofs.Refusals.{count_short, count_negative, count_front}
 use Rattle.cqlp_read.proofs.front.front_count.Goals as goal
 

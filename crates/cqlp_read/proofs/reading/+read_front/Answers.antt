@@ -1,10 +1,10 @@
-use Rattle.std.proofs.Common.{◌≡◌, ℕ, ◌+◌, ◌-◌, ◌<◌, ◌≤◌, List, [], ◌∷◌, length, drop, take, true, Result, Ok, Err, refl, sym, ap, ◌∙◌, subst, rules, arith}
+use Rattle.std.proofs.Common.{◌≡◌, ℕ, ◌+◌, ◌≤◌, List, length, drop, take, true, Ok, refl, sym, ap, ◌∙◌, subst, arith}
 use Rattle.std.proofs.lemmas.List.{length-drop}
 use Rattle.cqlp_kind.specs.declared.kind.Kind.{Kind}
 use Rattle.cqlp_kind.specs.declared.kind.Kind.TheVariants as kind
 use Rattle.cqlp_kind.specs.Types.{NoMore, Type_and}
 use Rattle.cqlp_type.specs.Trees.{kind_in, types_in}
-use Rattle.cqlp_type.specs.TypeTrees.{head_of, inner_of, tree_of}
+use Rattle.cqlp_type.specs.TypeTrees.{head_of, inner_of}
 use Rattle.cqlp_cell.specs.Sizes.{is_counted}
 use Rattle.cqlp_value.specs.Values.{has_fields}
 use Rattle.cqlp_value.specs.Measures.{listed_pairs, listed_values, types_by}
@@ -12,7 +12,7 @@ use Rattle.cqlp_value.specs.Owned.{value_of}
 use Rattle.cqlp_read.specs.Fronts.{ContentRefused, FrontRefused, ReadsContent, ReadsFields, ReadsFront, ReadsItems, ReadsPairs}
 use Rattle.cqlp_read.specs.Reading.{whole_rules}
 use Rattle.cqlp_read.proofs.Progress.{item_refused, second_refused, items_end, all_counted, field_refused, fields_over}
-use Rattle.cqlp_read.proofs.Steps.{err_of, fails_as, list_readable, set_readable, keys_readable, values_readable, tuple_readable, udt_readable, type_readable, field_readable, plain_readable, scalar_content, list_content, set_content, map_content, tuple_content, udt_content, tuple_fails, udt_fails, null_value, some_bytes, empty_value, value_refused, body_short, content_short, item_read, pair_read, field_read}
+use Rattle.cqlp_read.proofs.Steps.{err_of, fails_as, list_readable, set_readable, keys_readable, values_readable, tuple_readable, udt_readable, type_readable, field_readable, scalar_content, list_content, set_content, map_content, tuple_content, udt_content, tuple_fails, udt_fails, null_value, some_bytes, empty_value, value_refused, body_short, content_short, item_read, pair_read, field_read}
 use Rattle.cqlp_read.proofs.reading.+read_front.Goals as goal
 
 pub read_content-read_items-requires : goal.read_content-read_items-requires

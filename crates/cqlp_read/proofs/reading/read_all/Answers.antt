@@ -1,4 +1,4 @@
-use Rattle.std.proofs.Common.{◌≡◌, refl, sym, arith}
+use Rattle.std.proofs.Common.{arith}
 use Rattle.cqlp_type.specs.Trees.{kind_in, types_in}
 use Rattle.cqlp_type.specs.TypeTrees.{head_of, inner_of, tree_of}
 use Rattle.cqlp_value.specs.Owned.{value_of}

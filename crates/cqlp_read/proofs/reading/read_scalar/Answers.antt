@@ -1,9 +1,8 @@
-use Rattle.std.proofs.Common.{◌≡◌, ℕ, List, Some, refl, sym, ap, ◌∙◌, subst, arith}
+use Rattle.std.proofs.Common.{ℕ, List, Some, refl, sym, ◌∙◌, subst}
 use Rattle.cqlp_kind.specs.Contents.{value_of}
 use Rattle.cqlp_kind.specs.Scalars.{ScalarValue}
 use Rattle.cqlp_value.specs.Values.{AreWithin, IsBytes, NoValue, Scalar_and, ValueSpells}
 use Rattle.cqlp_read.specs.Reading.{whole_rules}
-use Rattle.cqlp_read.proofs.Steps.{item_read}
 use Rattle.cqlp_read.proofs.Contents.{scalar_long, scalar_fails, scalar_reads}
 use Rattle.cqlp_read.proofs.reading.read_scalar.Goals as goal
 

@@ -1,4 +1,4 @@
-use Rattle.std.proofs.Common.{◌≡◌, true, refl, sym, ap, ◌∙◌, inl}
+use Rattle.std.proofs.Common.{◌≡◌, true, sym, ap, ◌∙◌, inl}
 use Rattle.cqlp_type.specs.Trees.{are_trees}
 use Rattle.cqlp_type.specs.TypeTrees.{tree_of}
 use Rattle.cqlp_read.specs.Reading.{whole_rules}
