@@ -1,7 +1,7 @@
 -- Readings: one for each list of events, which goes on, and stays whatever bytes follow.
-use Rattle.std.proofs.Common.{◌≡◌, ℕ, ◌+◌, ◌^◌, ◌≤◌, List, [], ◌∷◌, ◌++◌, length, take, drop, Result, Ok, Err, refl, sym, ap, ◌∙◌, inl, inr, arith}
+use Rattle.std.proofs.Common.{◌≡◌, ℕ, ◌+◌, ◌-◌, ◌^◌, ◌≤◌, List, [], ◌∷◌, ◌++◌, length, take, drop, Result, Ok, Err, refl, sym, ap, ◌∙◌, inl, inr, arith}
 use Rattle.std.proofs.lemmas.Bool.{cases_lt}
-use Rattle.std.proofs.lemmas.List.{drop-append-le, length-drop, length-take-le}
+use Rattle.std.proofs.lemmas.List.{drop-drop, drop-append-le, length-drop, length-take-le}
 use Rattle.cqlp_note.specs.Reader.{Said, More, Got, says}
 use Rattle.cqlp_note.proofs.Readers.{says_stays}
 use Rattle.cqlp_note.proofs.Runs.{stays_got, same_got}
@@ -21,6 +21,13 @@ module _ (limit : ℕ) where
   pub reads_then : (p q r : Place) (bytes rest rest' : List ℕ) (es fs : List (ℕ × Event)) → Reads limit p bytes es q rest → Reads limit q rest fs r rest' → Reads limit p bytes (es ++ fs) r rest'
   reads_then p q r bytes rest rest' [] fs a b = rw (a.0, a.1) at b
   reads_then p q r bytes rest rest' (e ∷ es) fs a b = (a.0, a.1, a.2, reads_then a.1 q r (drop a.0 bytes) rest rest' es fs a.3 b)
+
+  -- and one in two
+  pub reads_split : (p r : Place) (bytes rest : List ℕ) (es fs : List (ℕ × Event)) → Reads limit p bytes (es ++ fs) r rest → (q : Place) × (mid : List ℕ) × Reads limit p bytes es q mid × Reads limit q mid fs r rest
+  reads_split p r bytes rest [] fs a = (p, bytes, (refl, refl), a)
+  reads_split p r bytes rest (e ∷ es) fs a =
+      let later = reads_split a.1 r (drop a.0 bytes) rest es fs a.3 in
+      (later.0, later.1, (a.0, a.1, a.2, later.2), later.3)
 
   -- of two readings from one place one goes on where the other ends
   pub reads_compare : (p q q' : Place) (bytes rest rest' : List ℕ) (es es' : List (ℕ × Event)) → Reads limit p bytes es q rest → Reads limit p bytes es' q' rest' → length es ≤ length es'
@@ -69,10 +76,12 @@ pub record IsAt (p : Place) (limit : ℕ) (bytes : List ℕ) (es : List (ℕ × 
   pub near : IsPlace limit q
   pub count : p.offset + length bytes ≡ q.offset + length rest
   pub begins : began q ≡ begun_from (began p) es
+  pub forward : p.offset ≤ q.offset
+  pub is : rest ≡ drop (q.offset - p.offset) bytes
   pub paid : length es + (due q.stage + length rest) ≤ due p.stage + length bytes
 
 pub reads_at : (limit : ℕ) → limit ≤ 2 ^ 24 → (p q : Place) (bytes rest : List ℕ) (es : List (ℕ × Event)) → IsPlace limit p → Reads limit p bytes es q rest → IsAt p limit bytes es q rest
-reads_at limit few p q bytes rest [] here r = rw (r.0, r.1) (record { near = here; count = refl; begins = refl; paid = omega arith })
+reads_at limit few p q bytes rest [] here r = rw (r.0, r.1) (record { near = here; count = refl; begins = refl; forward = omega arith; is = (let none : p.offset - p.offset ≡ 0 = omega arith in rw none refl); paid = omega arith })
 reads_at limit few p q bytes rest (e ∷ es) here r =
     let n = wanted p.stage in
     let t = got_tells limit p bytes _ r.0 r.2 in
@@ -89,5 +98,9 @@ reads_at limit few p q bytes rest (e ∷ es) here r =
       near = later.near;
       count = omega (arith, later.count, offset, t.count, t.within, length-drop r.0 bytes);
       begins = later.begins ∙ ap (λ (k : ℕ). begun_from k es) begins;
+      forward = omega (arith, later.forward, offset);
+      is =
+          let far : r.0 + (q.offset - r.1.offset) ≡ q.offset - p.offset = omega (arith, later.forward, offset, t.count) in
+          later.is ∙ drop-drop (q.offset - r.1.offset) r.0 bytes ∙ ap (λ (k : ℕ). drop k bytes) far;
       paid = omega (arith, later.paid, to.pays, ap (λ (x : Place). due x.stage) after, t.count, t.within, length-drop r.0 bytes);
     }

@@ -8,13 +8,14 @@ use Rattle.std.proofs.lemmas.Bool.{lt-ltb, le-ltb, ltb-false}
 use Rattle.std.proofs.lemmas.List.{length-append}
 use Rattle.cqlp_note.specs.Reader.{Said, More, Bad, Got, says}
 use Rattle.cqlp_capture.specs.declared.file.FileForm.{FileForm}
+use Rattle.cqlp_capture.specs.declared.event.PacketHead.{PacketHead}
 use Rattle.cqlp_capture.specs.declared.event.Told.{Told}
 use Rattle.cqlp_capture.specs.declared.place.Stage.{Stage}
 use Rattle.cqlp_capture.specs.declared.place.Stage.TheVariants.{Magic, FileHead, RecordHead, Data}
 use Rattle.cqlp_capture.specs.declared.place.Place.{Place}
 use Rattle.cqlp_capture.specs.declared.refusal.CaptureRefusal.{CaptureRefusal}
 use Rattle.cqlp_capture.specs.Numbers.{form_of, number_32}
-use Rattle.cqlp_capture.specs.Reading.{Emitted, event_with, wanted, told, told_at, told_form, is_known_version, emitted, step}
+use Rattle.cqlp_capture.specs.Reading.{Bytes, Packet, Emitted, event_with, wanted, told, told_at, told_form, is_known_version, emitted, step}
 use Rattle.cqlp_capture.specs.Places.{IsPlace, IsNear, ComesAfterHead, began}
 use Rattle.cqlp_capture.specs.Standing.{begun_after}
 
@@ -54,12 +55,19 @@ abbrev pub due : Stage → ℕ
 due (Data f n) = 1
 due s = 0
 
+-- this many bytes of a packet are read next
+abbrev pub IsDataOf : Stage → ℕ → Type 0
+IsDataOf (Data f n) k = n ≡ k
+IsDataOf s k = ⊥
+
 -- The place after it is as far as the bytes that were read, and the event says what begins there.
 pub record Leads (limit offset : ℕ) (s : Stage) (b : List ℕ) (t : Told) : Type 0 where
   pub near : IsPlace limit t.place
   pub offset_is : t.place.offset ≡ offset + wanted s
   pub begins : began t.place ≡ begun_after t.at (event_with t.what b)
   pub pays : 1 + due t.place.stage ≤ due s + wanted s
+  pub bytes : (c : List ℕ) → event_with t.what b ≡ Bytes c → (t.at ≡ offset) × (c ≡ b)
+  pub head : (h : PacketHead) → event_with t.what b ≡ Packet h → (t.place.offset ≡ t.at + 16) × IsDataOf t.place.stage h.captured
 
 ok_same : (t u : Told) → ◌≡◌ {A = Result Told CaptureRefusal} (Ok u) (Ok t) → u ≡ t
 ok_same t u h = cc
@@ -67,7 +75,7 @@ ok_same t u h = cc
 module _ (limit offset : ℕ) (b : List ℕ) (t : Told) where
   form_leads : (o : Option FileForm) → offset ≡ 0 → told_form o ≡ Ok t → Leads limit offset Magic b t
   form_leads None zero is = absurd cc
-  form_leads (Some f) zero is = subst (λ (u : Told). Leads limit offset Magic b u) (ok_same t _ is) (record { near = (refl, tt); offset_is = omega arith; begins = refl; pays = omega arith })
+  form_leads (Some f) zero is = subst (λ (u : Told). Leads limit offset Magic b u) (ok_same t _ is) (record { near = (refl, tt); offset_is = omega arith; begins = refl; pays = omega arith; bytes = λ c e. absurd cc; head = λ h e. absurd cc })
 
   file_leads : (f : FileForm) (known : Bool) → offset ≡ 4 → (u : Told) (r : CaptureRefusal) → Leads limit offset (FileHead f) b u → cond known (Ok u) (Err r) ≡ Ok t → Leads limit offset (FileHead f) b t
   file_leads f true four u r leads is = subst (λ (u : Told). Leads limit offset (FileHead f) b u) (ok_same t u is) leads
@@ -82,13 +90,15 @@ module _ (limit offset : ℕ) (b : List ℕ) (t : Told) where
   leads_at Magic here few long is = form_leads (form_of (number_32 BigEndian 0 b)) here.0 is
   leads_at (FileHead f) here few long is =
       let four = here.0 in
-      file_leads f (is_known_version f b) here.0 _ _ (record { near = (lit≤ tt, tt); offset_is = omega arith; begins = refl; pays = omega arith }) is
+      file_leads f (is_known_version f b) here.0 _ _ (record { near = (lit≤ tt, tt); offset_is = omega arith; begins = refl; pays = omega arith; bytes = λ c e. absurd cc; head = λ h e. absurd cc }) is
   leads_at (RecordHead f) here few long is =
       record_leads f (ltb (2 ^ 63) offset) (ltb limit (number_32 f.order 8 b)) _ _ _ (λ near within. record {
         near = ((let le : offset ≤ 2 ^ 63 = ltb-false _ _ near in omega arith, ltb-false _ _ within), omega arith);
         offset_is = refl;
         begins = omega arith;
         pays = omega arith;
+        bytes = λ c e. absurd cc;
+        head = λ h e. (refl, cc);
       }) is
   leads_at (Data f n) here few long is =
       let near = here.0 in
@@ -97,7 +107,18 @@ module _ (limit offset : ℕ) (b : List ℕ) (t : Told) where
         offset_is = refl;
         begins = omega (arith, long);
         pays = omega arith;
+        bytes = λ c e. (refl, cc);
+        head = λ h e. absurd cc;
       })
 
 pub told_leads : (limit : ℕ) (p : Place) (b : List ℕ) (t : Told) → IsPlace limit p → limit ≤ 2 ^ 24 → length b ≡ wanted p.stage → told limit p b ≡ Ok t → Leads limit p.offset p.stage b t
 told_leads limit p b t here few long is = leads_at limit p.offset b t p.stage here few long is
+
+-- where the bytes of a packet are read next, they are what is told
+pub data_told : (limit offset k : ℕ) (s : Stage) (b : List ℕ) (t : Told) → IsDataOf s k → length b ≡ wanted s → told_at limit offset s b ≡ Ok t → (event_with t.what b ≡ Bytes b) × (length b ≡ k) × (t.at ≡ offset)
+data_told limit offset k (Data f n) b t next long is =
+    let same = ok_same t _ is in
+    (sym (ap (λ (u : Told). event_with u.what b) same), long ∙ next, sym (ap (λ (u : Told). u.at) same))
+data_told limit offset k Magic b t next long is = absurd next
+data_told limit offset k (FileHead f) b t next long is = absurd next
+data_told limit offset k (RecordHead f) b t next long is = absurd next

@@ -1,15 +1,16 @@
 -- Laws: what bytes say is one list of events with one verdict, which goes on where more bytes come; and two answers of one
 -- call are the same.
-use Rattle.std.specs.Prelude.{◌≡◌, ◌↔◌, ℕ, ◌≤◌, ◌^◌, ◌++◌, false, List, length, Result, IfOk, IsErrOf}
+use Rattle.std.specs.Prelude.{◌≡◌, ◌↔◌, ℕ, ◌+◌, ◌≤◌, ◌^◌, ◌++◌, false, List, [], ◌∷◌, length, take, drop, Result, IfOk, IsErrOf}
 use Rattle.cqlp_capture.specs.declared.event.CaptureStep.{CaptureStep}
 use Rattle.cqlp_capture.specs.declared.event.CaptureStep.TheVariants as answer
+use Rattle.cqlp_capture.specs.declared.event.PacketHead.{PacketHead}
 use Rattle.cqlp_capture.specs.declared.limits.CaptureLimits.{CaptureLimits}
 use Rattle.cqlp_capture.specs.declared.place.Place.{Place}
 use Rattle.cqlp_capture.specs.declared.refusal.CaptureRefusal.{CaptureRefusal}
 use Rattle.cqlp_capture.specs.declared.refusal.NewReaderError.{NewReaderError}
 use Rattle.cqlp_capture.specs.declared.refusal.NewReaderError.TheVariants.{BadLimits, NoMemory}
 use Rattle.cqlp_capture.specs.Limits.{is_in_range}
-use Rattle.cqlp_capture.specs.Reading.{Event, Verdict, Refused, Says, start}
+use Rattle.cqlp_capture.specs.Reading.{Event, Bytes, Packet, Reads, Verdict, Refused, Says, start}
 use Rattle.cqlp_capture.specs.Standing.{CaptureState, After, Answers, event_of, new_state}
 
 -- Any bytes say some list of events and some verdict.
@@ -46,6 +47,19 @@ abbrev pub HandsOutNoMoreEventsThanBytes : Type 0
 HandsOutNoMoreEventsThanBytes =
     (d : CaptureState) (s : List ℕ) (es : List (ℕ × Event))
     → d.limit ≤ 2 ^ 24 → After d s es → length es ≤ length s
+
+-- The bytes of a packet are those of the file at their offset.
+abbrev pub AreTheFilesBytes : Type 0
+AreTheFilesBytes =
+    (limit : ℕ) (s rest : List ℕ) (es : List (ℕ × Event)) (at : ℕ) (b : List ℕ) (q : Place)
+    → limit ≤ 2 ^ 24 → Reads limit start s (es ++ (at, Bytes b) ∷ []) q rest → b ≡ take (length b) (drop at s)
+
+-- After a packet's head come its bytes, as many as were captured, right after the header of its record.
+abbrev pub FollowTheirHead : Type 0
+FollowTheirHead =
+    (limit : ℕ) (s rest : List ℕ) (es : List (ℕ × Event)) (at next : ℕ) (h : PacketHead) (e : Event) (q : Place)
+    → limit ≤ 2 ^ 24 → Reads limit start s (es ++ (at, Packet h) ∷ (next, e) ∷ []) q rest
+    → (b : List ℕ) × (e ≡ Bytes b) × (length b ≡ h.captured) × (next ≡ at + 16)
 
 -- ---- one answer
 

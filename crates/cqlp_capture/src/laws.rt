@@ -1,5 +1,6 @@
 //! Laws of what a capture file says, and of what the calls of a reader answer. No code needs them.
 
+ghost use Rattle.cqlp_capture.specs.Laws.{AreTheFilesBytes, FollowTheirHead};
 ghost use Rattle.cqlp_capture.specs.Laws.{GoesOn, IsSaid, IsSaidOnce, HasNoMoreEventsThanBytes};
 ghost use Rattle.cqlp_capture.specs.Laws.{HandsOutNoMoreEventsThanBytes, OneAnswerOfNew, OneAnswerOfNext};
 
@@ -19,6 +20,13 @@ pub fn goes_on()
 pub fn no_more_events_than_bytes()
     ensures file { HasNoMoreEventsThanBytes }
     ensures reader { HandsOutNoMoreEventsThanBytes }
+{}
+
+/// The bytes of a packet are those of the file at their offset: right after the header of its record, and as many as it says
+/// that were captured.
+pub fn bytes_of_packets()
+    ensures there { AreTheFilesBytes }
+    ensures follow { FollowTheirHead }
 {}
 
 /// Where memory is granted, `CaptureReader::new` has one answer. The clauses of `finish` and `capacity` are equations.

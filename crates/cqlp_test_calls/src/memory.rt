@@ -5,7 +5,7 @@ use cqlp_decode::{Decoder, NewError};
 use cqlp_message::Frame;
 use cqlp_note::{Limits, NoMemory, Partial};
 use cqlp_round_trip::{RoundTripError, write_and_read};
-use cqlp_session::{Client, Server, SlotsOrMemory};
+use cqlp_session::{Client, ClientOf, Server, ServerOf, SlotsOrMemory};
 use cqlp_test_fakes::Takes;
 use cqlp_test_heaps::{Rationed, Refusals};
 use cqlp_type::{TypeReader, TypeTable};
@@ -35,12 +35,14 @@ enum Call {
     Decoder,
     Client,
     Server,
+    ClientOf,
+    ServerOf,
     /// A page is written and read.
     WriteAndRead,
 }
 
 /// Each call, and how many requests for memory it makes.
-static CALLS: [(Call, u64); 9] = [
+static CALLS: [(Call, u64); 11] = [
     (Call::Partial, 1),
     (Call::TypeTable, 1),
     (Call::CloneTable, 2),
@@ -49,6 +51,8 @@ static CALLS: [(Call, u64); 9] = [
     (Call::Decoder, 4),
     (Call::Client, 2),
     (Call::Server, 1),
+    (Call::ClientOf, 3),
+    (Call::ServerOf, 2),
     (Call::WriteAndRead, 5),
 ];
 
@@ -118,6 +122,8 @@ fn asked<A: Allocator + Clone>(call: Call, heap: A, page: &Frame) -> Answer {
         Call::Decoder => decoder(heap),
         Call::Client => answer_of_slots(Client::new(heap, 10)),
         Call::Server => answer_of_slots(Server::new(heap, 10)),
+        Call::ClientOf => answer_of_slots(ClientOf::<u64, A>::new(heap, 10)),
+        Call::ServerOf => answer_of_slots(ServerOf::<u64, A>::new(heap, 10)),
         Call::WriteAndRead => written_and_read(heap, page),
     }
 }
