@@ -148,7 +148,7 @@ fn memory_is_missing_just_where_it_was_refused(rt: HostRuntime) -> Result<(), Fa
     let heap = LocalHeap::new(rt.alloc(), 1 << 16)?;
     let mut wrong = String::new(rt.alloc());
     for (call, requests) in CALLS {
-        for number in 1..=requests + 2 {
+        for number in 1..8u64 {
             for refusals in [
                 Refusals::At(number),
                 Refusals::From(number),
