@@ -6,7 +6,7 @@ mod words;
 use crate::words::{read_words, redirect, texts};
 use cqlp_note::OfStd;
 use cqlp_text::cannot_open_line;
-use cqlp_text::status::FAULT;
+use cqlp_text::exit_status::FAULT;
 use cqlp_tool::command;
 use std::alloc::AllocError;
 use std::process::ExitCode;

@@ -12,7 +12,7 @@ use Rattle.cqlp_grammar.specs.declared.event.Finish.TheVariants as finish
 use Rattle.cqlp_decode.specs.declared.decoder.NewError.{NewError}
 use Rattle.cqlp_decode.specs.declared.decoder.NewError.TheVariants as error
 use Rattle.cqlp_decode.specs.Reading.{Event, Says, Waits, Refused, start}
-use Rattle.cqlp_decode.specs.Standing.{StreamState}
+use Rattle.cqlp_decode.specs.Progress.{StreamState}
 use Rattle.cqlp_decode.specs.Streams.{After, EndsAs, FinishesBy}
 use Rattle.cqlp_decode.proofs.Gets.{refuses_new}
 use Rattle.cqlp_c.specs.declared.batch.Batch.{Batch}

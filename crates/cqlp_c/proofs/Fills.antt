@@ -7,7 +7,7 @@ use Rattle.cqlp_note.specs.Limits.{Rules}
 use Rattle.cqlp_note.specs.declared.refusal.Refusal.{Refusal}
 use Rattle.cqlp_decode.specs.declared.step.Step.TheVariants as steps
 use Rattle.cqlp_decode.specs.Reading.{Event, Reads, start}
-use Rattle.cqlp_decode.specs.Standing.{StreamState, IsPending}
+use Rattle.cqlp_decode.specs.Progress.{StreamState, IsPending}
 use Rattle.cqlp_decode.specs.Streams.{After, AfterBy, Stands, Leads, Refuses}
 use Rattle.cqlp_decode.proofs.Gets.{take_two, refuses_new}
 use Rattle.cqlp_laws.proofs.OneAnswer.{pending_none}

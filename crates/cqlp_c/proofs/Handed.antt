@@ -12,7 +12,7 @@ use Rattle.cqlp_kind.specs.CellStep as cell
 use Rattle.cqlp_kind.specs.Scalars as scalar
 use Rattle.cqlp_grammar.specs.Events.{Frame, Holds, Node_of, Cell_at, Leave, End}
 use Rattle.cqlp_decode.specs.Reading.{Event}
-use Rattle.cqlp_decode.specs.Standing.{StreamState, IsPending}
+use Rattle.cqlp_decode.specs.Progress.{StreamState, IsPending}
 use Rattle.cqlp_decode.specs.Streams.{AfterBy}
 use Rattle.cqlp_decode.specs.Items.{TakesItem}
 use Rattle.cqlp_decode.specs.Cells.{Item, TakesItems, bytes_of}

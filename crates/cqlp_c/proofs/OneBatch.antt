@@ -7,7 +7,7 @@ use Rattle.std.specs.Ptr.{Ptr}
 use Rattle.cqlp_note.specs.declared.refusal.Refusal.{Refusal}
 use Rattle.cqlp_note.specs.Limits.{Rules}
 use Rattle.cqlp_decode.specs.Reading.{Event, Verdict, Waits, Refused, Says, start}
-use Rattle.cqlp_decode.specs.Standing.{StreamState}
+use Rattle.cqlp_decode.specs.Progress.{StreamState}
 use Rattle.cqlp_decode.specs.Streams.{After, Refuses}
 use Rattle.cqlp_laws.specs.Contents.{content_in}
 use Rattle.cqlp_laws.proofs.OneAnswer.{event_once, no_event}

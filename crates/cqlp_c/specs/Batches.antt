@@ -8,7 +8,7 @@ use Rattle.cqlp_note.specs.Limits.{Rules}
 use Rattle.cqlp_grammar.specs.declared.event.Finish.{Finish}
 use Rattle.cqlp_grammar.specs.declared.event.Finish.TheVariants as finish
 use Rattle.cqlp_decode.specs.Reading.{Event, Place, start, Reads, Says, Waits}
-use Rattle.cqlp_decode.specs.Standing.{StreamState, ends_due}
+use Rattle.cqlp_decode.specs.Progress.{StreamState, ends_due}
 use Rattle.cqlp_decode.specs.Streams.{After, Refuses}
 use Rattle.cqlp_laws.specs.Contents.{content_in}
 use Rattle.cqlp_c.specs.declared.event.CqlpEvent.{CqlpEvent}

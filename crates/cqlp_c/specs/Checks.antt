@@ -6,7 +6,7 @@ use Rattle.cqlp_note.specs.declared.refusal.Refusal.{Refusal}
 use Rattle.cqlp_note.specs.Limits.{Rules, first_bad, rules_of}
 use Rattle.cqlp_grammar.specs.declared.event.Finish.{Finish}
 use Rattle.cqlp_decode.specs.Reading.{Event, Verdict, Waits, Refused, Says, start}
-use Rattle.cqlp_decode.specs.Standing.{StreamState}
+use Rattle.cqlp_decode.specs.Progress.{StreamState}
 use Rattle.cqlp_decode.specs.Streams.{After}
 use Rattle.cqlp_laws.specs.OneAnswer.{EndsBy}
 use Rattle.cqlp_c.specs.declared.shown.CqlpEnd.{CqlpEnd}

@@ -10,7 +10,7 @@ use Rattle.cqlp_note.specs.Limits.{first_bad}
 use Rattle.cqlp_grammar.specs.declared.event.Finish.{Finish}
 use Rattle.cqlp_grammar.specs.declared.event.Finish.TheVariants as finish
 use Rattle.cqlp_decode.specs.declared.step.Held.{Held}
-use Rattle.cqlp_decode.specs.Standing.{StreamState}
+use Rattle.cqlp_decode.specs.Progress.{StreamState}
 use Rattle.cqlp_decode.specs.Streams.{Decoding, EndsAs, IsWithin, state}
 use Rattle.cqlp_laws.specs.OneAnswer.{IsHeld, IsNew}
 use Rattle.cqlp_c.specs.declared.batch.Batch.{Batch}

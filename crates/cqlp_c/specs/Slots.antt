@@ -4,7 +4,7 @@ use Rattle.std.specs.Borrow.{Bor}
 use Rattle.std.specs.Ptr.{Ptr, as_ptr, null_ptr}
 use denote.RawPtr.{◌+ₚ◌}
 use Rattle.cqlp_decode.specs.Reading.{Event}
-use Rattle.cqlp_decode.specs.Standing.{StreamState}
+use Rattle.cqlp_decode.specs.Progress.{StreamState}
 use Rattle.cqlp_decode.specs.Streams.{After}
 use Rattle.cqlp_decode.specs.Cells.{Item, TakesItems, bytes_of}
 use Rattle.cqlp_laws.specs.Contents.{before_content, content_in}

@@ -10,7 +10,7 @@ use Rattle.cqlp_capture.specs.declared.reader.CaptureAdvance.TheVariants as adva
 use Rattle.cqlp_capture.specs.declared.refusal.CaptureRefusal.{CaptureRefusal}
 use Rattle.cqlp_capture.specs.Gathering.{Gathered, Finds, begun, bytes_at}
 use Rattle.cqlp_capture.specs.Reading.{wanted, told}
-use Rattle.cqlp_capture.specs.Standing.{IsLawful, Advances, standing}
+use Rattle.cqlp_capture.specs.Progress.{IsLawful, Advances, progress}
 use Rattle.cqlp_capture.proofs.Steps.{said_of, step_said, told_leads}
 
 module _ (l : CaptureLimits) (p : Place) (g g' : Gathered) (input b : List ℕ) (f : FoundBytes) (found : Finds g (wanted p.stage) input f g') (are : b ≡ bytes_at f.lies input g'.held) where
@@ -27,7 +27,7 @@ module _ (l : CaptureLimits) (p : Place) (g g' : Gathered) (input b : List ℕ) 
         fewer = rw found.none (omega arith);
       }
 
-  pub told_hands : (o : Option CaptureRefusal) (t : Told) → o ≡ None → told l.packet p b ≡ Ok t → Advances (standing l p g o) input (advance.Event t.at f.used t.what f.lies) (standing l t.place g' o)
+  pub told_hands : (o : Option CaptureRefusal) (t : Told) → o ≡ None → told l.packet p b ≡ Ok t → Advances (progress l p g o) input (advance.Event t.at f.used t.what f.lies) (progress l t.place g' o)
   told_hands (Some r) t none is = absurd cc
   told_hands None t none is = (
     record {
@@ -40,7 +40,7 @@ module _ (l : CaptureLimits) (p : Place) (g g' : Gathered) (input b : List ℕ) 
     found.there,
   )
 
-  pub told_fails : (o : Option CaptureRefusal) (r : CaptureRefusal) (room : ℕ) → o ≡ None → told l.packet p b ≡ Err r → Advances (standing l p g o) input (advance.Refused r) (standing l p (begun [] room) (Some r))
+  pub told_fails : (o : Option CaptureRefusal) (r : CaptureRefusal) (room : ℕ) → o ≡ None → told l.packet p b ≡ Err r → Advances (progress l p g o) input (advance.Refused r) (progress l p (begun [] room) (Some r))
   told_fails (Some s) r room none is = absurd cc
   told_fails None r room none is = record {
     is = step_said l.packet p g.pending input b f.used found.count found.within (are ∙ found.is) ∙ ap (said_of (length g.pending + f.used) b) is;

@@ -16,7 +16,7 @@ use Rattle.cqlp_capture.specs.declared.refusal.CaptureRefusal.{CaptureRefusal}
 use Rattle.cqlp_capture.specs.Gathering.{bytes_at}
 use Rattle.cqlp_capture.specs.Places.{is_between, began}
 use Rattle.cqlp_capture.specs.Reading.{Event, event_with, step, start, Reads}
-use Rattle.cqlp_capture.specs.Standing.{CaptureState, AdvancesFrom, AnswersFrom, AfterBy, After, Answers, EndsAs, FinishesBy, Leads, Refuses, Uses, event_of}
+use Rattle.cqlp_capture.specs.Progress.{CaptureState, AdvancesFrom, AnswersFrom, AfterBy, After, Answers, EndsAs, FinishesBy, Leads, Refuses, Uses, event_of}
 use Rattle.cqlp_capture.proofs.Runs.{reads_then, reads_stay, reads_at}
 
 module _ (old new : CaptureState) (input s : List ℕ) (es : List (ℕ × Event)) where

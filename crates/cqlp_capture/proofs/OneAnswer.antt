@@ -10,7 +10,7 @@ use Rattle.cqlp_capture.specs.declared.refusal.CaptureRefusal.{CaptureRefusal}
 use Rattle.cqlp_capture.specs.declared.refusal.NewReaderError.{NewReaderError}
 use Rattle.cqlp_capture.specs.declared.refusal.NewReaderError.TheVariants.{BadLimits, NoMemory}
 use Rattle.cqlp_capture.specs.Reading.{Event, Emitted}
-use Rattle.cqlp_capture.specs.Standing.{CaptureState, AnswersFrom, Hands, event_of}
+use Rattle.cqlp_capture.specs.Progress.{CaptureState, AnswersFrom, Hands, event_of}
 use Rattle.cqlp_capture.specs.Laws.{IsMade, Answer, answer_of}
 use Rattle.cqlp_capture.specs.Laws as laws
 

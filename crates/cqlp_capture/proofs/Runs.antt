@@ -10,7 +10,7 @@ use Rattle.cqlp_capture.specs.declared.place.Place.{Place}
 use Rattle.cqlp_capture.specs.declared.refusal.CaptureRefusal.{CaptureRefusal}
 use Rattle.cqlp_capture.specs.Places.{IsPlace, began}
 use Rattle.cqlp_capture.specs.Reading.{Event, Emitted, event_with, wanted, told, step, Reads}
-use Rattle.cqlp_capture.specs.Standing.{begun_after, begun_from}
+use Rattle.cqlp_capture.specs.Progress.{begun_after, begun_from}
 use Rattle.cqlp_capture.proofs.Steps.{said_of, step_waits, step_says, told_leads, due}
 
 same_cons : {X : Type 0} (x y : X) (xs ys : List X) → x ≡ y → xs ≡ ys → x ∷ xs ≡ y ∷ ys

@@ -17,7 +17,7 @@ use Rattle.cqlp_capture.specs.declared.refusal.CaptureRefusal.{CaptureRefusal}
 use Rattle.cqlp_capture.specs.Numbers.{form_of, number_32}
 use Rattle.cqlp_capture.specs.Reading.{Bytes, Packet, Emitted, event_with, wanted, told, told_at, told_form, is_known_version, emitted, step}
 use Rattle.cqlp_capture.specs.Places.{IsPlace, IsNear, ComesAfterHead, began}
-use Rattle.cqlp_capture.specs.Standing.{begun_after}
+use Rattle.cqlp_capture.specs.Progress.{begun_after}
 
 -- ---- what is said of a step
 

@@ -10,7 +10,7 @@ use Rattle.cqlp_capture.specs.declared.place.Place.{Place}
 use Rattle.cqlp_capture.specs.declared.refusal.CaptureRefusal.{CaptureRefusal}
 use Rattle.cqlp_capture.specs.Places.{IsPlace}
 use Rattle.cqlp_capture.specs.Reading.{Event, Emitted, wanted, step, start, Reads, Verdict, Waits, Refused, Ends, Says}
-use Rattle.cqlp_capture.specs.Standing.{CaptureState, AfterBy, After}
+use Rattle.cqlp_capture.specs.Progress.{CaptureState, AfterBy, After}
 use Rattle.cqlp_capture.proofs.Steps.{due, told_leads}
 use Rattle.cqlp_capture.proofs.Runs.{reads_stay, reads_compare, reads_at, got_tells}
 

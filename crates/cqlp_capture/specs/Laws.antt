@@ -11,7 +11,7 @@ use Rattle.cqlp_capture.specs.declared.refusal.NewReaderError.{NewReaderError}
 use Rattle.cqlp_capture.specs.declared.refusal.NewReaderError.TheVariants.{BadLimits, NoMemory}
 use Rattle.cqlp_capture.specs.Limits.{is_in_range}
 use Rattle.cqlp_capture.specs.Reading.{Event, Bytes, Packet, Reads, Verdict, Refused, Says, start}
-use Rattle.cqlp_capture.specs.Standing.{CaptureState, After, Answers, event_of, new_state}
+use Rattle.cqlp_capture.specs.Progress.{CaptureState, After, Answers, event_of, new_state}
 
 -- Any bytes say some list of events and some verdict.
 abbrev pub IsSaid : Type 0

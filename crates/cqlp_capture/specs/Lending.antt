@@ -5,7 +5,7 @@ use Rattle.std.specs.Io.BufRead.{Rests}
 use Rattle.std.specs.declared.alloc.Allocator.{Ghosts}
 use Rattle.cqlp_capture.specs.contracts.reader.CaptureReader.{the_row}
 use Rattle.cqlp_capture.specs.declared.event.CaptureStep.{CaptureStep}
-use Rattle.cqlp_capture.specs.Standing.{CaptureState, Answers}
+use Rattle.cqlp_capture.specs.Progress.{CaptureState, Answers}
 
 -- the reader is as the answer to this input leaves it
 abbrev pub LeavesAnswer : (Z : RattleType) (g : Ghosts Z.Denot) → MutBor CaptureState → CaptureState → List ℕ → CaptureStep → Fml

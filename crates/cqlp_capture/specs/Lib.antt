@@ -3,6 +3,6 @@ pub mod Numbers
 pub mod Reading
 pub mod Places
 pub mod Gathering
-pub mod Standing
+pub mod Progress
 pub mod Lending
 pub mod Laws

@@ -41,11 +41,11 @@ pub struct CaptureReader<A: Allocator = Global> {
 }
 
 impl<A: Allocator> Model for CaptureReader<A> {
-    ghost use Rattle.cqlp_capture.specs.Standing.{CaptureState, IsLawful, standing};
+    ghost use Rattle.cqlp_capture.specs.Progress.{CaptureState, IsLawful, progress};
 
     ghost Value = { CaptureState };
 
-    ghost view = { λ r. standing r.limits r.place r.gathered r.refusal };
+    ghost view = { λ r. progress r.limits r.place r.gathered r.refusal };
 
     ghost invariant = { λ r. IsLawful r.limits r.place r.gathered };
 }
@@ -54,7 +54,7 @@ impl<A: Allocator> CaptureReader<A> {
     ghost use Rattle.cqlp_capture.specs.Lending.{LeavesAnswer};
     ghost use Rattle.cqlp_capture.specs.Gathering.{LieThere, bytes_at};
     ghost use Rattle.cqlp_capture.specs.Reading.{event_with};
-    ghost use Rattle.cqlp_capture.specs.Standing.{Advances, EndsAs, Uses, ending, event_of, new_state};
+    ghost use Rattle.cqlp_capture.specs.Progress.{Advances, EndsAs, Uses, ending, event_of, new_state};
 
     /// A reader at the start of a file, with room for a packet of the greatest length that the limit allows: one request for
     /// memory, and the only one.

@@ -10,15 +10,15 @@ use Rattle.cqlp_cell.specs.declared.advance.CellAdvance.{CellAdvance}
 use Rattle.cqlp_cell.specs.declared.advance.CellAdvance.TheVariants as advance
 use Rattle.cqlp_cell.specs.declared.advance.CellOutline.TheVariants as outline
 use Rattle.cqlp_cell.specs.declared.open_values.OpenValue.{OpenValue}
-use Rattle.cqlp_cell.specs.declared.standing.NextInCell.{NextInCell}
-use Rattle.cqlp_cell.specs.declared.standing.NextInCell.TheVariants as next
-use Rattle.cqlp_cell.specs.declared.standing.Under.{Under}
-use Rattle.cqlp_cell.specs.declared.standing.Under.TheVariants as under
-use Rattle.cqlp_cell.specs.declared.standing.CellDue.{CellDue}
-use Rattle.cqlp_cell.specs.declared.standing.CellDue.TheVariants as due
+use Rattle.cqlp_cell.specs.declared.progress.NextInCell.{NextInCell}
+use Rattle.cqlp_cell.specs.declared.progress.NextInCell.TheVariants as next
+use Rattle.cqlp_cell.specs.declared.progress.Arrived.{Arrived}
+use Rattle.cqlp_cell.specs.declared.progress.Arrived.TheVariants as arrived
+use Rattle.cqlp_cell.specs.declared.progress.CellDue.{CellDue}
+use Rattle.cqlp_cell.specs.declared.progress.CellDue.TheVariants as due
 use Rattle.cqlp_kind.specs.CellStep.{Leave, place_after}
 use Rattle.cqlp_cell.specs.OpenValues.{but_last}
-use Rattle.cqlp_cell.specs.Standing.{CellState, ended, is_some_next, all_open_symbols, place, is_over, due_of, AreOpen, last_stop, Stands}
+use Rattle.cqlp_cell.specs.Progress.{CellState, ended, is_some_next, all_open_symbols, place, is_over, due_of, AreOpen, last_stop, Stands}
 use Rattle.cqlp_cell.specs.Coming.{room_of}
 use Rattle.cqlp_cell.specs.Reading.{Saying, step_says, sized_of, Hands, Fails, Settles, Moves, Answers, LengthCame, AreBytes, HaveCome}
 use Rattle.cqlp_cell.proofs.Nesting.{but_last_is}
@@ -58,7 +58,7 @@ module _ (nodes : List Node) (d : CellState) (o : OpenValue) (p : FieldState) (i
     longest = refl;
   }
 
-  pub close_hands : (new : CellState) (level : ℕ) → d.under ≡ under.Nothing → o.stop ≤ d.offset → new ≡ record d { open_values = but_last d.open_values } → level ≡ length (but_last d.open_values)
+  pub close_hands : (new : CellState) (level : ℕ) → d.arrived ≡ arrived.Nothing → o.stop ≤ d.offset → new ≡ record d { open_values = but_last d.open_values } → level ≡ length (but_last d.open_values)
       → Hands nodes d p input (step_says nodes d input) 0 d.offset 0 (outline.Leave level o.items) new p
   unfolding step_says
   close_hands new level fresh le goes at =
@@ -108,19 +108,19 @@ module _ (nodes : List Node) (old : CellState) (p : FieldState) (input : List �
       settles_as nodes old p input _ _ _ _ _ _ a new q said base (λ u seen w. come_behind n (b ++ input) (p.seen ++ input) u seen (h.0, h.1, h.2, all) w) s
 
 -- a call that settles does not end the cell
-pub moves_by : (nodes : List Node) (old : CellState) (p : FieldState) (input : List ℕ) (said : Saying) (base : ℕ) (W : Under → List ℕ → Type 0) (a : CellAdvance) (new : CellState) (q : FieldState) → Settles nodes old p input said base W a new q
-    → ((b : List ℕ) → HaveCome b old.under p.seen → Settles nodes old p input (step_says nodes old (b ++ input)) (length b) (HaveCome (b ++ input)) a new q) → Moves nodes old p input a new q
+pub moves_by : (nodes : List Node) (old : CellState) (p : FieldState) (input : List ℕ) (said : Saying) (base : ℕ) (W : Arrived → List ℕ → Type 0) (a : CellAdvance) (new : CellState) (q : FieldState) → Settles nodes old p input said base W a new q
+    → ((b : List ℕ) → HaveCome b old.arrived p.seen → Settles nodes old p input (step_says nodes old (b ++ input)) (length b) (HaveCome (b ++ input)) a new q) → Moves nodes old p input a new q
 moves_by nodes old p input said base W (advance.More used) new q h f = f
 moves_by nodes old p input said base W (advance.Item at used i) new q h f = f
 moves_by nodes old p input said base W advance.Done new q h f = absurd h
 moves_by nodes old p input said base W (advance.Refused r) new q h f = f
 
 -- where nothing had come
-pub moves_afresh : (nodes : List Node) (old : CellState) (p : FieldState) (input : List ℕ) (a : CellAdvance) (new : CellState) (q : FieldState) → old.under ≡ under.Nothing → Settles nodes old p input (step_says nodes old input) 0 (HaveCome input) a new q → Moves nodes old p input a new q
+pub moves_afresh : (nodes : List Node) (old : CellState) (p : FieldState) (input : List ℕ) (a : CellAdvance) (new : CellState) (q : FieldState) → old.arrived ≡ arrived.Nothing → Settles nodes old p input (step_says nodes old input) 0 (HaveCome input) a new q → Moves nodes old p input a new q
 moves_afresh nodes old p input a new q fresh h = moves_by nodes old p input _ _ _ a new q h (λ b come. let none : b ≡ [] = rw fresh at come in rw none h)
 
 -- such a call has not been asked to end it
-pub settles_answers : (nodes : List Node) (old : CellState) (p : FieldState) (input : List ℕ) (said : Saying) (base : ℕ) (W : Under → List ℕ → Type 0) (a : CellAdvance) (new : CellState) (q : FieldState) → Settles nodes old p input said base W a new q → due_of old ≢ due.Nothing → Answers old input a
+pub settles_answers : (nodes : List Node) (old : CellState) (p : FieldState) (input : List ℕ) (said : Saying) (base : ℕ) (W : Arrived → List ℕ → Type 0) (a : CellAdvance) (new : CellState) (q : FieldState) → Settles nodes old p input said base W a new q → due_of old ≢ due.Nothing → Answers old input a
 settles_answers nodes old p input said base W (advance.More used) new q h some = (h.0.all, some)
 settles_answers nodes old p input said base W (advance.Item at used i) new q h some = (h.within, some)
 settles_answers nodes old p input said base W advance.Done new q h some = absurd h

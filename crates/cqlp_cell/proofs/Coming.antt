@@ -9,14 +9,14 @@ use Rattle.cqlp_kind.specs.Types.{Types, NoMore, Type_and, HasInner}
 use Rattle.cqlp_cell.specs.declared.open_values.OpenValue.{OpenValue}
 use Rattle.cqlp_cell.specs.declared.open_values.Order.{Order}
 use Rattle.cqlp_cell.specs.declared.open_values.Order.TheVariants as order
-use Rattle.cqlp_cell.specs.declared.standing.NextInCell.{NextInCell}
-use Rattle.cqlp_cell.specs.declared.standing.NextInCell.TheVariants as next
-use Rattle.cqlp_cell.specs.declared.standing.CellDue.{CellDue}
-use Rattle.cqlp_cell.specs.declared.standing.CellDue.TheVariants as due
-use Rattle.cqlp_cell.specs.declared.standing.DueValue.{DueValue}
+use Rattle.cqlp_cell.specs.declared.progress.NextInCell.{NextInCell}
+use Rattle.cqlp_cell.specs.declared.progress.NextInCell.TheVariants as next
+use Rattle.cqlp_cell.specs.declared.progress.CellDue.{CellDue}
+use Rattle.cqlp_cell.specs.declared.progress.CellDue.TheVariants as due
+use Rattle.cqlp_cell.specs.declared.progress.DueValue.{DueValue}
 use Rattle.cqlp_kind.specs.CellStep.{CellSymbol, Value_of, Items_of, Close_of, CellPlace, cell_copies, cell_step, cell_step_at, value_step, close_step, part_step}
 use Rattle.cqlp_type.specs.Forests.{types_at, node_at, Stand}
-use Rattle.cqlp_cell.specs.Standing.{CellState, value_symbols, left_of, open_symbols, all_open_symbols, symbols_for, place, value_at, due_value, open_after, rest_of, after_item_by, after_item, is_over, over_by, due_of, TypesStand, Stands, HasNext}
+use Rattle.cqlp_cell.specs.Progress.{CellState, value_symbols, left_of, open_symbols, all_open_symbols, symbols_for, place, value_at, due_value, open_after, rest_of, after_item_by, after_item, is_over, over_by, due_of, TypesStand, Stands, HasNext}
 use Rattle.cqlp_cell.specs.Coming.{ValueDue}
 use Rattle.cqlp_cell.proofs.Nesting.{last_is, with_last_is}
 use Rattle.cqlp_type.proofs.Inside.{first_stands}

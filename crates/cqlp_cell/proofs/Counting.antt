@@ -9,11 +9,11 @@ use Rattle.cqlp_note.specs.Partial.{FieldState}
 use Rattle.cqlp_kind.specs.declared.node.Node.{Node}
 use Rattle.cqlp_cell.specs.declared.advance.CellOutline.TheVariants as outline
 use Rattle.cqlp_cell.specs.declared.size.Sized.TheVariants as size
-use Rattle.cqlp_cell.specs.declared.standing.Under.TheVariants as under
-use Rattle.cqlp_cell.specs.declared.standing.CellDue.TheVariants as due
+use Rattle.cqlp_cell.specs.declared.progress.Arrived.TheVariants as arrived
+use Rattle.cqlp_cell.specs.declared.progress.CellDue.TheVariants as due
 use Rattle.cqlp_kind.specs.CellStep.{CellSymbol, Close_of, Enter, cell_copies, values_of, place_after}
 use Rattle.cqlp_cell.specs.Numbers.{WantsNumber, IsCounted}
-use Rattle.cqlp_cell.specs.Standing.{CellState, ended, place, due_value, open_after, state_after, rest_of, due_of, Stands}
+use Rattle.cqlp_cell.specs.Progress.{CellState, ended, place, due_value, open_after, state_after, rest_of, due_of, Stands}
 use Rattle.cqlp_cell.specs.Coming.{inner_of}
 use Rattle.cqlp_cell.specs.Reading.{counted_open, entered, sized_of, Decided, Emits, Hands, Waits, Fails, LengthCame, EntersCounted}
 use Rattle.cqlp_cell.proofs.Coming.{value_due}
@@ -54,7 +54,7 @@ module _ (nodes : List Node) (d : CellState) (n : ℕ) (decided : Decided nodes 
 
 -- the count goes on
 pub count_waits : (nodes : List Node) (old : CellState) (n : ℕ) (p q : FieldState) (input bytes : List ℕ) → due_of old ≡ due.Value → Decided nodes old n (size.Counted n) → old.rules.cell ≤ p.room → WantsNumber (old.offset + 4) n bytes p q
-    → Waits nodes old p input (says (sized_of nodes old n) 4 bytes) (length input) (record old { under = under.Counted n }) q × LengthCame n bytes (under.Counted n) q.seen
+    → Waits nodes old p input (says (sized_of nodes old n) 4 bytes) (length input) (record old { arrived = arrived.Counted n }) q × LengthCame n bytes (arrived.Counted n) q.seen
 count_waits nodes old n p q input bytes v decided longest wants = (
   record {
     all = refl;
@@ -62,7 +62,7 @@ count_waits nodes old n p q input bytes v decided longest wants = (
     same = refl;
     under_way = wants.under_way;
     kept = wants.empty;
-    joined = record { longest = rw wants.longest longest; under_way = (v, (wants.under_way, wants.field, wants.enough, refl, rw wants.seen wants.short), same_decided nodes old (under.Counted n) n (size.Counted n) decided) };
+    joined = record { longest = rw wants.longest longest; under_way = (v, (wants.under_way, wants.field, wants.enough, refl, rw wants.seen wants.short), same_decided nodes old (arrived.Counted n) n (size.Counted n) decided) };
     longest = wants.longest;
   },
   (refl, wants.seen, decided.fits.1),

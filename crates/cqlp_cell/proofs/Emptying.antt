@@ -7,7 +7,7 @@ use Rattle.cqlp_cell.specs.declared.advance.CellOutline.TheVariants as outline
 use Rattle.cqlp_cell.specs.declared.advance.CellAdvance.{CellAdvance}
 use Rattle.cqlp_cell.specs.declared.advance.CellAdvance.TheVariants as advance
 use Rattle.cqlp_cell.specs.Items.{CanLend, event_at}
-use Rattle.cqlp_cell.specs.Standing.{CellState}
+use Rattle.cqlp_cell.specs.Progress.{CellState}
 use Rattle.cqlp_cell.specs.Reading.{Saying, step_says, Joined, IsLent, IsKept, Hands, Moves, has_content, is_bare}
 use Rattle.cqlp_cell.proofs.Leading.{some_come}
 

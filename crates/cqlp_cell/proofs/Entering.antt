@@ -8,12 +8,12 @@ use Rattle.cqlp_kind.specs.declared.node.Node.{Node}
 use Rattle.cqlp_kind.specs.Types.{has_no_items, HasInner}
 use Rattle.cqlp_cell.specs.declared.open_values.OpenValue.{OpenValue}
 use Rattle.cqlp_cell.specs.declared.size.Sized.TheVariants as size
-use Rattle.cqlp_cell.specs.declared.standing.CellDue.TheVariants as due
-use Rattle.cqlp_cell.specs.declared.standing.DueValue.{DueValue}
+use Rattle.cqlp_cell.specs.declared.progress.CellDue.TheVariants as due
+use Rattle.cqlp_cell.specs.declared.progress.DueValue.{DueValue}
 use Rattle.cqlp_kind.specs.CellStep.{Close_of, cell_copies, values_of}
 use Rattle.cqlp_cell.specs.Sizes.{is_counted}
 use Rattle.cqlp_type.specs.Forests.{types_at, node_at, Stand}
-use Rattle.cqlp_cell.specs.Standing.{CellState, open_symbols, place, due_value, open_after, state_after, rest_of, due_of, TypesStand, Stands}
+use Rattle.cqlp_cell.specs.Progress.{CellState, open_symbols, place, due_value, open_after, state_after, rest_of, due_of, TypesStand, Stands}
 use Rattle.cqlp_cell.specs.Coming.{InnerDue, ValueDue}
 use Rattle.cqlp_cell.specs.Reading.{order_by, counted_open, fields_open, entered, Decided, InnerStands}
 use Rattle.cqlp_cell.proofs.Opened.{last_stop_is, levels_symbols_is, open_join, first_there}

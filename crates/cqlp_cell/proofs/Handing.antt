@@ -10,14 +10,14 @@ use Rattle.cqlp_cell.specs.declared.gather.Found.{Found}
 use Rattle.cqlp_cell.specs.declared.advance.CellOutline.TheVariants as outline
 use Rattle.cqlp_cell.specs.declared.size.Sized.{Sized}
 use Rattle.cqlp_cell.specs.declared.size.Sized.TheVariants as size
-use Rattle.cqlp_cell.specs.declared.standing.Under.{Under}
-use Rattle.cqlp_cell.specs.declared.standing.Under.TheVariants as under
-use Rattle.cqlp_cell.specs.declared.standing.CellDue.TheVariants as due
+use Rattle.cqlp_cell.specs.declared.progress.Arrived.{Arrived}
+use Rattle.cqlp_cell.specs.declared.progress.Arrived.TheVariants as arrived
+use Rattle.cqlp_cell.specs.declared.progress.CellDue.TheVariants as due
 use Rattle.cqlp_kind.specs.Scalars.{ScalarValue, scalar_of}
 use Rattle.cqlp_kind.specs.CellStep.{CellSymbol, CellEvent, CellPlace, leaf_step}
 use Rattle.cqlp_cell.specs.Items.{content_at, leaf_event}
 use Rattle.cqlp_cell.specs.Gathering.{Wants, Finds}
-use Rattle.cqlp_cell.specs.Standing.{CellState, place, due_value, state_after, rest_of, due_of, Stands}
+use Rattle.cqlp_cell.specs.Progress.{CellState, place, due_value, state_after, rest_of, due_of, Stands}
 use Rattle.cqlp_cell.specs.Coming.{ValueDue}
 use Rattle.cqlp_cell.specs.Reading.{sized_of, Decided, Emits, Hands, Waits, LengthCame}
 use Rattle.cqlp_cell.proofs.Coming.{value_due}
@@ -34,12 +34,12 @@ leaf_known p rest level k (Some v) taken bytes t = (_, refl, refl, refl, refl)
 leaf_known p rest level k None taken bytes t = absurd cc
 
 -- how much of it has come changes no step
-module _ (nodes : List Node) (d : CellState) (u : Under) where
-  pub same_sized : (n : ℕ) → sized_of nodes (record d { under = u }) n ≡ sized_of nodes d n
+module _ (nodes : List Node) (d : CellState) (u : Arrived) where
+  pub same_sized : (n : ℕ) → sized_of nodes (record d { arrived = u }) n ≡ sized_of nodes d n
   unfolding sized_of
   same_sized n = refl
 
-  pub same_decided : (n : ℕ) (s : Sized) → Decided nodes d n s → Decided nodes (record d { under = u }) n s
+  pub same_decided : (n : ℕ) (s : Sized) → Decided nodes d n s → Decided nodes (record d { arrived = u }) n s
   same_decided n s h = record { is = same_sized n ∙ h.is; can = h.can; fits = h.fits }
 
 module _ (nodes : List Node) (d : CellState) (n : ℕ) (decided : Decided nodes d n (size.Scalar n)) (x : List ℕ) where
@@ -99,7 +99,7 @@ module _ (nodes : List Node) (old new : CellState) (n start : ℕ) (p q : FieldS
 
 -- a scalar that goes on
 pub scalar_waits : (nodes : List Node) (old : CellState) (n : ℕ) (p q : FieldState) (input bytes : List ℕ) → due_of old ≡ due.Value → Decided nodes old n (size.Scalar n) → old.rules.cell ≤ p.room → Wants n (old.offset + 4) bytes p q
-    → Waits nodes old p input (says (sized_of nodes old n) 4 bytes) (length input) (record old { under = under.Scalar n }) q × LengthCame n bytes (under.Scalar n) q.seen
+    → Waits nodes old p input (says (sized_of nodes old n) 4 bytes) (length input) (record old { arrived = arrived.Scalar n }) q × LengthCame n bytes (arrived.Scalar n) q.seen
 scalar_waits nodes old n p q input bytes v decided longest wants = (
   record {
     all = refl;
@@ -107,7 +107,7 @@ scalar_waits nodes old n p q input bytes v decided longest wants = (
     same = refl;
     under_way = wants.under_way;
     kept = wants.kept ∙ sym wants.seen;
-    joined = record { longest = rw wants.room longest; under_way = (v, (wants.under_way, wants.field, refl, rw wants.seen wants.short), same_decided nodes old (under.Scalar n) n (size.Scalar n) decided) };
+    joined = record { longest = rw wants.room longest; under_way = (v, (wants.under_way, wants.field, refl, rw wants.seen wants.short), same_decided nodes old (arrived.Scalar n) n (size.Scalar n) decided) };
     longest = wants.room;
   },
   (refl, wants.seen, decided.fits.1),

@@ -18,16 +18,16 @@ use Rattle.cqlp_cell.specs.declared.advance.CellOutline.TheVariants as outline
 use Rattle.cqlp_cell.specs.declared.advance.CellAdvance.TheVariants as advance
 use Rattle.cqlp_cell.specs.declared.item.CellPush.TheVariants as push
 use Rattle.cqlp_cell.specs.declared.open_values.OpenValue.{OpenValue}
-use Rattle.cqlp_cell.specs.declared.standing.NextInCell.{NextInCell}
-use Rattle.cqlp_cell.specs.declared.standing.NextInCell.TheVariants as next
-use Rattle.cqlp_cell.specs.declared.standing.Under.{Under}
-use Rattle.cqlp_cell.specs.declared.standing.Under.TheVariants as under
-use Rattle.cqlp_cell.specs.declared.standing.CellDue.TheVariants as due
+use Rattle.cqlp_cell.specs.declared.progress.NextInCell.{NextInCell}
+use Rattle.cqlp_cell.specs.declared.progress.NextInCell.TheVariants as next
+use Rattle.cqlp_cell.specs.declared.progress.Arrived.{Arrived}
+use Rattle.cqlp_cell.specs.declared.progress.Arrived.TheVariants as arrived
+use Rattle.cqlp_cell.specs.declared.progress.CellDue.TheVariants as due
 use Rattle.cqlp_kind.specs.CellStep.{CellEvent, Null, Empty, Enter, Leave, CellPlace, cell_step}
 use Rattle.cqlp_kind.specs.Scalars.{ScalarValue, allows_size, scalar_of}
 use Rattle.cqlp_cell.specs.Items.{CanLend, content_at, content_length, event_at, event_of, leaf_event}
 use Rattle.cqlp_cell.specs.OpenValues.{last_open}
-use Rattle.cqlp_cell.specs.Standing.{CellState, ended, is_some_next, is_under_way, symbols_for, place, close_if, is_over, due_in, due_for, due_of, Stands}
+use Rattle.cqlp_cell.specs.Progress.{CellState, ended, is_some_next, is_under_way, symbols_for, place, close_if, is_over, due_in, due_for, due_of, Stands}
 use Rattle.cqlp_cell.specs.Reading.{Saying, step_says, Joined, UnderBy, AreBytes, HaveCome, IsLent, IsKept, Moves, Empties, has_content}
 use Rattle.cqlp_cell.specs.Pushing.{is_done, done_by, Continues, Keeps, Pushes}
 use Rattle.cqlp_cell.proofs.ScalarSizes.{scalar_sized}
@@ -36,16 +36,16 @@ use Rattle.cqlp_cell.proofs.ScalarSizes.{scalar_sized}
 number_bytes : (n : ℕ) (seen : List ℕ) → n < 2 ^ 31 → (b : List ℕ) × AreBytes (Some n) seen b
 number_bytes n seen low = (to_be_bytes w32 n ++ seen, (to_be_bytes w32 n, refl, from_be_bytes-to_be_bytes_4 n (omega arith), refl))
 
-come_by : (nodes : List Node) (d : CellState) (p : FieldState) (u : Under) → UnderBy nodes d p u → (b : List ℕ) × HaveCome b u p.seen
-come_by nodes d p under.Nothing h = ([], refl)
-come_by nodes d p under.Length h = (p.seen, refl)
-come_by nodes d p (under.Scalar n) h = number_bytes n p.seen h.2.fits.1
-come_by nodes d p (under.Counted n) h = number_bytes n p.seen h.2.fits.1
-come_by nodes d p (under.First n) h = number_bytes n p.seen h.2.fits.1
-come_by nodes d p under.Later h = (p.seen, refl)
+come_by : (nodes : List Node) (d : CellState) (p : FieldState) (u : Arrived) → UnderBy nodes d p u → (b : List ℕ) × HaveCome b u p.seen
+come_by nodes d p arrived.Nothing h = ([], refl)
+come_by nodes d p arrived.Length h = (p.seen, refl)
+come_by nodes d p (arrived.Scalar n) h = number_bytes n p.seen h.2.fits.1
+come_by nodes d p (arrived.Counted n) h = number_bytes n p.seen h.2.fits.1
+come_by nodes d p (arrived.First n) h = number_bytes n p.seen h.2.fits.1
+come_by nodes d p arrived.Later h = (p.seen, refl)
 
-pub some_come : (nodes : List Node) (d : CellState) (p : FieldState) → Joined nodes d p → (b : List ℕ) × HaveCome b d.under p.seen
-some_come nodes d p j = come_by nodes d p d.under j.under_way
+pub some_come : (nodes : List Node) (d : CellState) (p : FieldState) → Joined nodes d p → (b : List ℕ) × HaveCome b d.arrived p.seen
+some_come nodes d p j = come_by nodes d p d.arrived j.under_way
 
 -- only one list of bytes has come, or the step says the same of each
 pub told_is : (nodes : List Node) (d : CellState) (bytes : List ℕ) → step_says nodes d bytes ≡ says (cell_step d.rules (place nodes d)) 0 bytes
@@ -127,11 +127,11 @@ module _ (nodes : List Node) (p q : FieldState) (input : List ℕ) (used : ℕ) 
   keeps (outline.Leave level n) can lent kept none = bare_keeps (Leave level n) refl (none refl)
 
 -- as far as the types go, it does not matter how much has come
-pub stands_under : (nodes : List Node) (d : CellState) (u : Under) → Stands nodes d → Stands nodes (record d { under = u })
+pub stands_under : (nodes : List Node) (d : CellState) (u : Arrived) → Stands nodes d → Stands nodes (record d { arrived = u })
 stands_under nodes d u s = record { open_stand = s.open_stand; within = s.within; next_stands = s.next_stands; bounded = s.bounded }
 
 module _ (nodes : List Node) (old : CellState) (p : FieldState) (input : List ℕ) (new : CellState) (q : FieldState) (under_way : is_under_way old ≡ true) (stands : Stands nodes old) (joined : Joined nodes old p) where
-  came : (b : List ℕ) × HaveCome b old.under p.seen
+  came : (b : List ℕ) × HaveCome b old.arrived p.seen
   came = some_come nodes old p joined
 
   pub more_pushes : (used : ℕ) → Moves nodes old p input (advance.More used) new q → Pushes nodes old p input (push.More used) new q × Continues nodes old (push.More used) new
@@ -149,7 +149,7 @@ module _ (nodes : List Node) (old : CellState) (p : FieldState) (input : List �
           serves = (h.0.joined, h.0.under_way, h.0.kept);
           longest = h.0.longest;
         },
-        (ap is_under_way same ∙ under_way, rules, rw same (stands_under nodes old new.under stands)),
+        (ap is_under_way same ∙ under_way, rules, rw same (stands_under nodes old new.arrived stands)),
       )
 
   pub item_lends : (at used : ℕ) (i : CellOutline) → Moves nodes old p input (advance.Item at used i) new q → CanLend i input q.content

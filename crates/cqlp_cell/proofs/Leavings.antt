@@ -8,13 +8,13 @@ use Rattle.cqlp_kind.specs.Types.{Types, NoMore, Type_and}
 use Rattle.cqlp_cell.specs.declared.open_values.OpenValue.{OpenValue}
 use Rattle.cqlp_cell.specs.declared.open_values.Order.{Order}
 use Rattle.cqlp_cell.specs.declared.open_values.Order.TheVariants as order
-use Rattle.cqlp_cell.specs.declared.standing.NextInCell.{NextInCell}
-use Rattle.cqlp_cell.specs.declared.standing.NextInCell.TheVariants as next
-use Rattle.cqlp_cell.specs.declared.standing.Under.{Under}
-use Rattle.cqlp_cell.specs.declared.standing.Under.TheVariants as under
+use Rattle.cqlp_cell.specs.declared.progress.NextInCell.{NextInCell}
+use Rattle.cqlp_cell.specs.declared.progress.NextInCell.TheVariants as next
+use Rattle.cqlp_cell.specs.declared.progress.Arrived.{Arrived}
+use Rattle.cqlp_cell.specs.declared.progress.Arrived.TheVariants as arrived
 use Rattle.cqlp_kind.specs.CellStep.{CellSymbol, Value_of}
 use Rattle.cqlp_type.specs.Forests.{types_at}
-use Rattle.cqlp_cell.specs.Standing.{CellState, left_of, open_symbols, all_open_symbols, symbols_for, place, Stands}
+use Rattle.cqlp_cell.specs.Progress.{CellState, left_of, open_symbols, all_open_symbols, symbols_for, place, Stands}
 use Rattle.cqlp_cell.specs.Reading.{IsAfterItem, UnderBy, PartUnder, Joined, HaveCome}
 use Rattle.cqlp_cell.specs.Pushing.{is_done, done_by}
 use Rattle.cqlp_cell.proofs.Opened.{last_stop_le}
@@ -22,21 +22,21 @@ use Rattle.cqlp_cell.proofs.Coming.{value_due}
 
 -- ---- how much has come
 
-abbrev pub how_much : Under → (seen : ℕ) → ℕ
-how_much under.Nothing seen = 0
-how_much under.Length seen = seen
-how_much under.Later seen = seen
-how_much (under.Scalar n) seen = 4 + seen
-how_much (under.Counted n) seen = 4 + seen
-how_much (under.First n) seen = 4 + seen
+abbrev pub how_much : Arrived → (seen : ℕ) → ℕ
+how_much arrived.Nothing seen = 0
+how_much arrived.Length seen = seen
+how_much arrived.Later seen = seen
+how_much (arrived.Scalar n) seen = 4 + seen
+how_much (arrived.Counted n) seen = 4 + seen
+how_much (arrived.First n) seen = 4 + seen
 
-pub come_long : (u : Under) (seen b : List ℕ) → HaveCome b u seen → length b ≡ how_much u (length seen)
-come_long under.Nothing seen b h = rw h refl
-come_long under.Length seen b h = rw h refl
-come_long under.Later seen b h = rw h refl
-come_long (under.Scalar n) seen b h = rw h.3 (omega (arith, length-append h.0 seen, h.1))
-come_long (under.Counted n) seen b h = rw h.3 (omega (arith, length-append h.0 seen, h.1))
-come_long (under.First n) seen b h = rw h.3 (omega (arith, length-append h.0 seen, h.1))
+pub come_long : (u : Arrived) (seen b : List ℕ) → HaveCome b u seen → length b ≡ how_much u (length seen)
+come_long arrived.Nothing seen b h = rw h refl
+come_long arrived.Length seen b h = rw h refl
+come_long arrived.Later seen b h = rw h refl
+come_long (arrived.Scalar n) seen b h = rw h.3 (omega (arith, length-append h.0 seen, h.1))
+come_long (arrived.Counted n) seen b h = rw h.3 (omega (arith, length-append h.0 seen, h.1))
+come_long (arrived.First n) seen b h = rw h.3 (omega (arith, length-append h.0 seen, h.1))
 
 -- a cell begins before it ends
 pub stop_is : (nodes : List Node) (d : CellState) → Stands nodes d → d.offset ≤ d.stop
@@ -49,17 +49,17 @@ module _ (nodes : List Node) (d : CellState) (p : FieldState) (s : Stands nodes 
   part_below next.Items e h = absurd h
   part_below (next.Part offset total) e h = omega (arith, h.3, rw e at s.within, last_stop_le nodes d.rules 0 d.stop d.open_values s.open_stand, s.bounded)
 
-  come_below : (u : Under) → UnderBy nodes d p u → d.offset + how_much u (length p.seen) < 2 ^ 64
-  come_below under.Nothing h = omega (arith, stop_is nodes d s, s.bounded)
-  come_below under.Length h = let due = value_due nodes d s h.0 in omega (arith, h.1.2, h.1.4, due.bounded, due.inside)
-  come_below under.Later h = part_below d.next refl h
-  come_below (under.Scalar n) h = let due = value_due nodes d s h.0 in omega (arith, h.1.3, h.2.fits.0, due.bounded, due.inside)
-  come_below (under.Counted n) h = let due = value_due nodes d s h.0 in omega (arith, h.1.2, h.1.4, h.2.fits.0, due.bounded, due.inside)
-  come_below (under.First n) h = let due = value_due nodes d s h.0 in omega (arith, h.1.3, h.2.can.1, h.2.fits.0, due.bounded, due.inside)
+  come_below : (u : Arrived) → UnderBy nodes d p u → d.offset + how_much u (length p.seen) < 2 ^ 64
+  come_below arrived.Nothing h = omega (arith, stop_is nodes d s, s.bounded)
+  come_below arrived.Length h = let due = value_due nodes d s h.0 in omega (arith, h.1.2, h.1.4, due.bounded, due.inside)
+  come_below arrived.Later h = part_below d.next refl h
+  come_below (arrived.Scalar n) h = let due = value_due nodes d s h.0 in omega (arith, h.1.3, h.2.fits.0, due.bounded, due.inside)
+  come_below (arrived.Counted n) h = let due = value_due nodes d s h.0 in omega (arith, h.1.2, h.1.4, h.2.fits.0, due.bounded, due.inside)
+  come_below (arrived.First n) h = let due = value_due nodes d s h.0 in omega (arith, h.1.3, h.2.can.1, h.2.fits.0, due.bounded, due.inside)
 
   -- no offset of it is past what a u64 holds
-  pub used_below : Joined nodes d p → d.offset + how_much d.under (length p.seen) < 2 ^ 64
-  used_below j = come_below d.under j.under_way
+  pub used_below : Joined nodes d p → d.offset + how_much d.arrived (length p.seen) < 2 ^ 64
+  used_below j = come_below d.arrived j.under_way
 
 -- ---- what is left
 

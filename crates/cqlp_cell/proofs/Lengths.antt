@@ -12,19 +12,19 @@ use Rattle.cqlp_cell.specs.declared.advance.CellOutline.{CellOutline}
 use Rattle.cqlp_cell.specs.declared.advance.CellOutline.TheVariants as outline
 use Rattle.cqlp_cell.specs.declared.advance.CellAdvance.{CellAdvance}
 use Rattle.cqlp_cell.specs.declared.advance.CellAdvance.TheVariants as advance
-use Rattle.cqlp_cell.specs.declared.standing.Under.{Under}
-use Rattle.cqlp_cell.specs.declared.standing.Under.TheVariants as under
-use Rattle.cqlp_cell.specs.declared.standing.CellDue.TheVariants as due
+use Rattle.cqlp_cell.specs.declared.progress.Arrived.{Arrived}
+use Rattle.cqlp_cell.specs.declared.progress.Arrived.TheVariants as arrived
+use Rattle.cqlp_cell.specs.declared.progress.CellDue.TheVariants as due
 use Rattle.cqlp_cell.specs.Numbers.{IsUnsigned, WantsNumber, IsCounted}
-use Rattle.cqlp_cell.specs.Standing.{CellState, ended, due_of, Stands}
+use Rattle.cqlp_cell.specs.Progress.{CellState, ended, due_of, Stands}
 use Rattle.cqlp_cell.specs.Coming.{room_of, ValueDue}
 use Rattle.cqlp_cell.specs.Reading.{Saying, step_says, sized_of, IsKept, Waits, Fails, Settles, LengthCame, AreBytes, HaveCome}
 use Rattle.cqlp_cell.proofs.Coming.{value_due}
 
 -- what a call does, it does where the same is said in other words
-pub settles_as : (nodes : List Node) (old : CellState) (p : FieldState) (input : List ℕ) (said said' : Saying) (base base' : ℕ) (W W' : Under → List ℕ → Type 0) (a : CellAdvance) (new : CellState) (q : FieldState)
-    → said ≡ said' → base ≡ base' → ((u : Under) (seen : List ℕ) → W u seen → W' u seen) → Settles nodes old p input said base W a new q → Settles nodes old p input said' base' W' a new q
-settles_as nodes old p input said said' base base' W W' (advance.More used) new q e f g h = (rw e at h.0, g new.under q.seen h.1)
+pub settles_as : (nodes : List Node) (old : CellState) (p : FieldState) (input : List ℕ) (said said' : Saying) (base base' : ℕ) (W W' : Arrived → List ℕ → Type 0) (a : CellAdvance) (new : CellState) (q : FieldState)
+    → said ≡ said' → base ≡ base' → ((u : Arrived) (seen : List ℕ) → W u seen → W' u seen) → Settles nodes old p input said base W a new q → Settles nodes old p input said' base' W' a new q
+settles_as nodes old p input said said' base base' W W' (advance.More used) new q e f g h = (rw e at h.0, g new.arrived q.seen h.1)
 settles_as nodes old p input said said' base base' W W' (advance.Item at used i) new q e f g h = rw (e, f) at h
 settles_as nodes old p input said said' base base' W W' advance.Done new q e f g h = h
 settles_as nodes old p input said said' base base' W W' (advance.Refused r) new q e f g h = rw e at h
@@ -55,13 +55,13 @@ same_number nodes d m n h = elim (cases_lt m (2 ^ 31)) [
 ]
 
 -- the bytes of a length, and those after it
-pub come_behind : (n : ℕ) (bytes rest : List ℕ) (u : Under) (seen : List ℕ) → AreBytes (Some n) rest bytes → LengthCame n rest u seen → HaveCome bytes u seen
-come_behind n bytes rest under.Nothing seen h b = absurd cc
-come_behind n bytes rest under.Length seen h b = absurd cc
-come_behind n bytes rest (under.Scalar m) seen h b = let e : m ≡ n = cc in rw (e, b.1) h
-come_behind n bytes rest (under.Counted m) seen h b = let e : m ≡ n = cc in rw (e, b.1) h
-come_behind n bytes rest (under.First m) seen h b = let e : m ≡ n = cc in rw (e, b.1) h
-come_behind n bytes rest under.Later seen h b = absurd cc
+pub come_behind : (n : ℕ) (bytes rest : List ℕ) (u : Arrived) (seen : List ℕ) → AreBytes (Some n) rest bytes → LengthCame n rest u seen → HaveCome bytes u seen
+come_behind n bytes rest arrived.Nothing seen h b = absurd cc
+come_behind n bytes rest arrived.Length seen h b = absurd cc
+come_behind n bytes rest (arrived.Scalar m) seen h b = let e : m ≡ n = cc in rw (e, b.1) h
+come_behind n bytes rest (arrived.Counted m) seen h b = let e : m ≡ n = cc in rw (e, b.1) h
+come_behind n bytes rest (arrived.First m) seen h b = let e : m ≡ n = cc in rw (e, b.1) h
+come_behind n bytes rest arrived.Later seen h b = absurd cc
 
 -- what follows a length that is whole
 module _ (nodes : List Node) (old : CellState) (p mid : FieldState) (seen input : List ℕ) (used n : ℕ) (stands : Stands nodes old) (v : due_of old ≡ due.Value) (found : IsCounted (room_of nodes old) 0 seen (seen ++ input) input used n p mid) where
@@ -92,7 +92,7 @@ module _ (nodes : List Node) (old : CellState) (p mid : FieldState) (seen input 
 
 -- a length that goes on
 pub length_waits : (nodes : List Node) (old : CellState) (p q : FieldState) (input bytes : List ℕ) → Stands nodes old → due_of old ≡ due.Value → old.rules.cell ≤ p.room → WantsNumber old.offset (room_of nodes old) bytes p q
-    → Waits nodes old p input (step_says nodes old bytes) (length input) (record old { under = under.Length }) q × HaveCome bytes under.Length q.seen
+    → Waits nodes old p input (step_says nodes old bytes) (length input) (record old { arrived = arrived.Length }) q × HaveCome bytes arrived.Length q.seen
 length_waits nodes old p q input bytes stands v longest wants = (
   record {
     all = refl;
@@ -119,7 +119,7 @@ still_kept nodes (outline.Enter level k n) p mid input buffer used idle h = tt
 still_kept nodes (outline.Leave level n) p mid input buffer used idle h = tt
 
 -- where a call begins with no field under way, it may as well have begun with another `Partial` of the same room
-pub settles_from : (nodes : List Node) (old : CellState) (p mid : FieldState) (input : List ℕ) (said : Saying) (base : ℕ) (W : Under → List ℕ → Type 0) (a : CellAdvance) (new : CellState) (q : FieldState)
+pub settles_from : (nodes : List Node) (old : CellState) (p mid : FieldState) (input : List ℕ) (said : Saying) (base : ℕ) (W : Arrived → List ℕ → Type 0) (a : CellAdvance) (new : CellState) (q : FieldState)
     → mid.room ≡ p.room → mid.under_way ≡ false → Settles nodes old mid input said base W a new q → Settles nodes old p input said base W a new q
 settles_from nodes old p mid input said base W (advance.More used) new q e idle h = (record { all = h.0.all; is = h.0.is; same = h.0.same; under_way = h.0.under_way; joined = h.0.joined; kept = h.0.kept; longest = h.0.longest ∙ e }, h.1)
 settles_from nodes old p mid input said base W (advance.Item at used i) new q e idle h = record {

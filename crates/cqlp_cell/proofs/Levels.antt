@@ -8,13 +8,13 @@ use Rattle.cqlp_cell.specs.declared.open_values.Order.TheVariants as order
 use Rattle.cqlp_type.specs.Forests.{node_at}
 use Rattle.cqlp_cell.specs.declared.level.Level.{Level}
 use Rattle.cqlp_cell.specs.declared.open_values.OpenValue.{OpenValue}
-use Rattle.cqlp_cell.specs.declared.standing.NextInCell.{NextInCell}
-use Rattle.cqlp_cell.specs.declared.standing.NextInCell.TheVariants as next
-use Rattle.cqlp_cell.specs.declared.standing.Under.{Under}
-use Rattle.cqlp_cell.specs.declared.standing.Under.TheVariants as under
+use Rattle.cqlp_cell.specs.declared.progress.NextInCell.{NextInCell}
+use Rattle.cqlp_cell.specs.declared.progress.NextInCell.TheVariants as next
+use Rattle.cqlp_cell.specs.declared.progress.Arrived.{Arrived}
+use Rattle.cqlp_cell.specs.declared.progress.Arrived.TheVariants as arrived
 use Rattle.cqlp_cell.specs.declared.whole.DueItem.{DueItem}
 use Rattle.cqlp_cell.specs.OpenValues.{last_open, with_last}
-use Rattle.cqlp_cell.specs.Standing.{CellState, Stands, after_item, after_item_by, close_if, due_of, is_over, over_by, state_after}
+use Rattle.cqlp_cell.specs.Progress.{CellState, Stands, after_item, after_item_by, close_if, due_of, is_over, over_by, state_after}
 use Rattle.cqlp_cell.specs.Whole.{IsDue}
 use Rattle.cqlp_cell.specs.Levels.{IsInLevel, NextFits, due_at, due_element, due_if, element_if, level_by, level_in, level_of, passed, passed_element, with_level}
 use Rattle.cqlp_cell.proofs.Opened.{has_next, node_there, value_last}
@@ -49,8 +49,8 @@ last_some (x ∷ os) o e = omega arith
 
 -- ---- a level that was read
 
-level_found : (d : CellState) (l : Level) (u : Under) (n : NextInCell) → d.under ≡ u → d.next ≡ n → level_by d u n ≡ Some l → IsInLevel d l × (with_level d l ≡ d)
-level_found d l under.Nothing next.Items fresh items e = found (last_open d.open_values) refl e
+level_found : (d : CellState) (l : Level) (u : Arrived) (n : NextInCell) → d.arrived ≡ u → d.next ≡ n → level_by d u n ≡ Some l → IsInLevel d l × (with_level d l ≡ d)
+level_found d l arrived.Nothing next.Items fresh items e = found (last_open d.open_values) refl e
   where
     found : (o : Option OpenValue) → last_open d.open_values ≡ o → level_in d o ≡ Some l → IsInLevel d l × (with_level d l ≡ d)
     found None is e = absurd cc
@@ -61,17 +61,17 @@ level_found d l under.Nothing next.Items fresh items e = found (last_open d.open
           record { fresh = fresh; items = items; some = last_some d.open_values o is; level = refl },
           ap (λ (os : List OpenValue). record d { open_values = os }) (with_own d.open_values o is),
         )
-level_found d l under.Nothing next.Nothing fresh items e = absurd cc
-level_found d l under.Nothing (next.Cell at) fresh items e = absurd cc
-level_found d l under.Nothing (next.Part offset total) fresh items e = absurd cc
-level_found d l under.Length n fresh items e = absurd cc
-level_found d l (under.Scalar len) n fresh items e = absurd cc
-level_found d l (under.Counted len) n fresh items e = absurd cc
-level_found d l (under.First total) n fresh items e = absurd cc
-level_found d l under.Later n fresh items e = absurd cc
+level_found d l arrived.Nothing next.Nothing fresh items e = absurd cc
+level_found d l arrived.Nothing (next.Cell at) fresh items e = absurd cc
+level_found d l arrived.Nothing (next.Part offset total) fresh items e = absurd cc
+level_found d l arrived.Length n fresh items e = absurd cc
+level_found d l (arrived.Scalar len) n fresh items e = absurd cc
+level_found d l (arrived.Counted len) n fresh items e = absurd cc
+level_found d l (arrived.First total) n fresh items e = absurd cc
+level_found d l arrived.Later n fresh items e = absurd cc
 
 pub level_own : (d : CellState) (l : Level) → level_of d ≡ Some l → IsInLevel d l × (with_level d l ≡ d)
-level_own d l e = level_found d l d.under d.next refl refl e
+level_own d l e = level_found d l d.arrived d.next refl refl e
 
 -- ---- the items of a level
 

@@ -4,7 +4,7 @@ use Rattle.std.specs.Prelude.{slice_get, slice_index_or}
 use Rattle.cqlp_kind.specs.declared.node.Node.{Node}
 use Rattle.cqlp_cell.specs.declared.open_values.OpenValue.{OpenValue}
 use Rattle.cqlp_cell.specs.OpenValues.{last_open, but_last, with_last}
-use Rattle.cqlp_cell.specs.Standing.{after_item, after_item_in}
+use Rattle.cqlp_cell.specs.Progress.{after_item, after_item_in}
 
 pub last_is : (os : List OpenValue) (o : OpenValue) → last_open (os ++ o ∷ []) ≡ Some o
 last_is [] o = refl

@@ -8,12 +8,12 @@ use Rattle.cqlp_kind.specs.declared.node.Node.{Node}
 use Rattle.cqlp_cell.specs.declared.open_values.OpenValue.{OpenValue}
 use Rattle.cqlp_cell.specs.declared.open_values.Order.{Order}
 use Rattle.cqlp_cell.specs.declared.open_values.Order.TheVariants as order
-use Rattle.cqlp_cell.specs.declared.standing.NextInCell.TheVariants as next
-use Rattle.cqlp_cell.specs.declared.standing.CellDue.{CellDue}
-use Rattle.cqlp_cell.specs.declared.standing.CellDue.TheVariants as due
+use Rattle.cqlp_cell.specs.declared.progress.NextInCell.TheVariants as next
+use Rattle.cqlp_cell.specs.declared.progress.CellDue.{CellDue}
+use Rattle.cqlp_cell.specs.declared.progress.CellDue.TheVariants as due
 use Rattle.cqlp_cell.specs.OpenValues.{last_open}
 use Rattle.cqlp_type.specs.Forests.{node_at, Stand}
-use Rattle.cqlp_cell.specs.Standing.{CellState, open_symbols, all_open_symbols, is_over, over_by, close_if, due_of, TypesStand, AreOpen, last_stop, CellStands, CellThere, Stands, HasNext}
+use Rattle.cqlp_cell.specs.Progress.{CellState, open_symbols, all_open_symbols, is_over, over_by, close_if, due_of, TypesStand, AreOpen, last_stop, CellStands, CellThere, Stands, HasNext}
 use Rattle.cqlp_cell.proofs.Nesting.{last_is, cases_open}
 use Rattle.cqlp_type.proofs.Inside.{First, first_stands}
 

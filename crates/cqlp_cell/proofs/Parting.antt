@@ -8,13 +8,13 @@ use Rattle.cqlp_kind.specs.declared.node.Node.{Node}
 use Rattle.cqlp_cell.specs.declared.gather.Found.{Found}
 use Rattle.cqlp_cell.specs.declared.advance.CellOutline.TheVariants as outline
 use Rattle.cqlp_cell.specs.declared.size.Sized.TheVariants as size
-use Rattle.cqlp_cell.specs.declared.standing.NextInCell.TheVariants as next
-use Rattle.cqlp_cell.specs.declared.standing.Under.TheVariants as under
-use Rattle.cqlp_cell.specs.declared.standing.CellDue.TheVariants as due
+use Rattle.cqlp_cell.specs.declared.progress.NextInCell.TheVariants as next
+use Rattle.cqlp_cell.specs.declared.progress.Arrived.TheVariants as arrived
+use Rattle.cqlp_cell.specs.declared.progress.CellDue.TheVariants as due
 use Rattle.cqlp_kind.specs.CellStep.{Content_from, Part, place_after}
 use Rattle.cqlp_cell.specs.Items.{content_at}
 use Rattle.cqlp_cell.specs.Gathering.{IsGathering, seen_before, Wants, Finds}
-use Rattle.cqlp_cell.specs.Standing.{CellState, is_some_next, all_open_symbols, place, state_after, rest_of, due_of, last_stop, Stands}
+use Rattle.cqlp_cell.specs.Progress.{CellState, is_some_next, all_open_symbols, place, state_after, rest_of, due_of, last_stop, Stands}
 use Rattle.cqlp_cell.specs.Reading.{step_says, sized_of, Decided, part_size, next_after, IsAfterItem, Emits, Hands, Waits, LengthCame, HaveCome}
 use Rattle.cqlp_cell.proofs.Opened.{last_stop_le}
 use Rattle.cqlp_cell.proofs.Coming.{value_due, part_is}
@@ -56,7 +56,7 @@ module _ (nodes : List Node) (d : CellState) (same : d.rules.part ≡ d.rules.ce
       record { open_stand = due.after; within = rw due.ends (omega (arith, decided.fits.0, due.inside, decided.can.1)); next_stands = (decided.can.1, some); bounded = s.bounded }
 
   pub first_waits : (p q : FieldState) (input bytes : List ℕ) → due_of d ≡ due.Value → d.rules.cell ≤ p.room → Wants d.rules.cell (d.offset + 4) bytes p q
-      → Waits nodes d p input (says (sized_of nodes d total) 4 bytes) (length input) (record d { under = under.First total }) q × LengthCame total bytes (under.First total) q.seen
+      → Waits nodes d p input (says (sized_of nodes d total) 4 bytes) (length input) (record d { arrived = arrived.First total }) q × LengthCame total bytes (arrived.First total) q.seen
   first_waits p q input bytes v longest wants = (
     record {
       all = refl;
@@ -64,7 +64,7 @@ module _ (nodes : List Node) (d : CellState) (same : d.rules.part ≡ d.rules.ce
       same = refl;
       under_way = wants.under_way;
       kept = wants.kept ∙ sym wants.seen;
-      joined = record { longest = rw wants.room longest; under_way = (v, (wants.under_way, wants.field, refl, rw wants.seen wants.short), same_decided nodes d (under.First total) total (size.Parts total) decided) };
+      joined = record { longest = rw wants.room longest; under_way = (v, (wants.under_way, wants.field, refl, rw wants.seen wants.short), same_decided nodes d (arrived.First total) total (size.Parts total) decided) };
       longest = wants.room;
     },
     (refl, wants.seen, decided.fits.1),
@@ -116,14 +116,14 @@ module _ (nodes : List Node) (d : CellState) (same : d.rules.part ≡ d.rules.ce
   is_last = leb (total - offset) d.rules.cell
 
   abbrev part_read : CellState
-  part_read = record d { offset = d.offset + its_size; next = next_after is_last (offset + its_size) total; under = under.Nothing }
+  part_read = record d { offset = d.offset + its_size; next = next_after is_last (offset + its_size) total; arrived = arrived.Nothing }
 
   later_short : (x : List ℕ) → length x < its_size → step_says nodes d x ≡ More
   unfolding step_says
   later_short x lt = rw (part_is nodes d offset total here, same, lt-ltb (length x) its_size lt) refl
 
   place_next : (last : Bool) → record { offset = d.offset + its_size; symbols = (cond last [] (Content_from (length d.open_values) (offset + its_size) total ∷ [])) ++ all_open_symbols nodes 0 d.open_values }
-      ≡ place nodes (record d { offset = d.offset + its_size; next = next_after last (offset + its_size) total; under = under.Nothing })
+      ≡ place nodes (record d { offset = d.offset + its_size; next = next_after last (offset + its_size) total; arrived = arrived.Nothing })
   place_next true = refl
   place_next false = refl
 
@@ -139,7 +139,7 @@ module _ (nodes : List Node) (d : CellState) (same : d.rules.part ≡ d.rules.ce
         after = place_next is_last;
       }
 
-  next_stand : (last : Bool) → is_last ≡ last → Stands nodes (record d { offset = d.offset + its_size; next = next_after last (offset + its_size) total; under = under.Nothing })
+  next_stand : (last : Bool) → is_last ≡ last → Stands nodes (record d { offset = d.offset + its_size; next = next_after last (offset + its_size) total; arrived = arrived.Nothing })
   next_stand true e =
       let le : total - offset ≤ d.rules.cell = leb-true _ _ e in
       record { open_stand = stands.open_stand; within = omega (arith, part_within); next_stands = tt; bounded = stands.bounded }
@@ -148,7 +148,7 @@ module _ (nodes : List Node) (d : CellState) (same : d.rules.part ≡ d.rules.ce
       record { open_stand = stands.open_stand; within = omega (arith, part_within); next_stands = (omega (arith, part_stands.0), part_stands.1); bounded = stands.bounded }
 
   pub later_waits : (p q : FieldState) (input bytes : List ℕ) → d.rules.cell ≤ p.room → Wants its_size d.offset bytes p q
-      → Waits nodes d p input (step_says nodes d bytes) (length input) (record d { under = under.Later }) q × HaveCome bytes under.Later q.seen
+      → Waits nodes d p input (step_says nodes d bytes) (length input) (record d { arrived = arrived.Later }) q × HaveCome bytes arrived.Later q.seen
   later_waits p q input bytes longest wants = (
     record {
       all = refl;
@@ -176,7 +176,7 @@ module _ (nodes : List Node) (d : CellState) (same : d.rules.part ≡ d.rules.ce
   goes_on_next false = refl
 
   pub later_hands : (p q : FieldState) (seen input : List ℕ) (f : Found) (new : CellState) (level : ℕ) (last : Bool) → length seen < its_size → Finds its_size 0 seen (seen ++ input) input f p q
-      → (f.used < its_size → (p.under_way ≡ true) × (q.content ≡ p.seen ++ take f.used input)) → last ≡ is_last → new ≡ record d { offset = d.offset + its_size; next = next_after last (offset + its_size) total; under = under.Nothing } → level ≡ length d.open_values
+      → (f.used < its_size → (p.under_way ≡ true) × (q.content ≡ p.seen ++ take f.used input)) → last ≡ is_last → new ≡ record d { offset = d.offset + its_size; next = next_after last (offset + its_size) total; arrived = arrived.Nothing } → level ≡ length d.open_values
       → Hands nodes d p input (step_says nodes d (seen ++ input)) (length seen) d.offset f.used (outline.Part level offset f.content last) new q
   later_hands p q seen input f new level last more found kept ends goes at =
       let got = later_got (seen ++ input) found.enough in

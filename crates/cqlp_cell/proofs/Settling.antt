@@ -8,11 +8,11 @@ use Rattle.cqlp_kind.specs.declared.node.Node.{Node}
 use Rattle.cqlp_cell.specs.declared.advance.CellOutline.TheVariants as outline
 use Rattle.cqlp_cell.specs.declared.size.Sized.{Sized}
 use Rattle.cqlp_cell.specs.declared.size.Sized.TheVariants as size
-use Rattle.cqlp_cell.specs.declared.standing.CellDue.TheVariants as due
-use Rattle.cqlp_cell.specs.declared.standing.DueValue.{DueValue}
+use Rattle.cqlp_cell.specs.declared.progress.CellDue.TheVariants as due
+use Rattle.cqlp_cell.specs.declared.progress.DueValue.{DueValue}
 use Rattle.cqlp_kind.specs.CellStep.{CellSymbol, Null, Empty, Enter, Items_of, place_after}
 use Rattle.cqlp_cell.specs.Sizes.{IsSized}
-use Rattle.cqlp_cell.specs.Standing.{CellState, ended, place, due_value, open_after, state_after, rest_of, due_of, Stands}
+use Rattle.cqlp_cell.specs.Progress.{CellState, ended, place, due_value, open_after, state_after, rest_of, due_of, Stands}
 use Rattle.cqlp_cell.specs.Coming.{inner_of, room_of}
 use Rattle.cqlp_cell.specs.Reading.{fields_open, sized_of, Decided, Emits, Hands, Fails, EntersFields}
 use Rattle.cqlp_cell.proofs.Coming.{value_due}

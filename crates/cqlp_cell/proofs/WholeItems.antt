@@ -16,14 +16,14 @@ use Rattle.cqlp_cell.specs.declared.advance.CellOutline.{CellOutline}
 use Rattle.cqlp_cell.specs.declared.advance.CellOutline.TheVariants as outline
 use Rattle.cqlp_cell.specs.declared.open_values.OpenValue.{OpenValue}
 use Rattle.cqlp_cell.specs.declared.size.Sized.TheVariants as size
-use Rattle.cqlp_cell.specs.declared.standing.CellDue.TheVariants as due
-use Rattle.cqlp_cell.specs.declared.standing.NextInCell.TheVariants as next
-use Rattle.cqlp_cell.specs.declared.standing.Under.TheVariants as under
+use Rattle.cqlp_cell.specs.declared.progress.CellDue.TheVariants as due
+use Rattle.cqlp_cell.specs.declared.progress.NextInCell.TheVariants as next
+use Rattle.cqlp_cell.specs.declared.progress.Arrived.TheVariants as arrived
 use Rattle.cqlp_cell.specs.Fronts.{SaysScalar}
 use Rattle.cqlp_cell.specs.Items.{event_at}
 use Rattle.cqlp_cell.specs.Numbers.{IsCounted}
 use Rattle.cqlp_cell.specs.OpenValues.{but_last}
-use Rattle.cqlp_cell.specs.Standing.{CellState, place, due_value, open_after, state_after, rest_of, due_of, Stands}
+use Rattle.cqlp_cell.specs.Progress.{CellState, place, due_value, open_after, state_after, rest_of, due_of, Stands}
 use Rattle.cqlp_cell.specs.Coming.{inner_of, room_of}
 use Rattle.cqlp_cell.specs.Reading.{step_says, sized_of, Decided, Hands, EntersCounted, EntersFields}
 use Rattle.cqlp_cell.specs.Pushing.{done_by, is_done}
@@ -38,7 +38,7 @@ use Rattle.cqlp_cell.proofs.Counting.{count_hands}
 use Rattle.cqlp_cell.proofs.Fronts.{front_is}
 
 module _ (nodes : List Node) (d : CellState) (input : List ℕ) (at used : ℕ) (i : CellOutline) (new : CellState) where
-  whole : d.under ≡ under.Nothing → ((p : FieldState) → p.under_way ≡ false → p.content ≡ [] → Hands nodes d p input (step_says nodes d input) 0 at used i new p) → IsWhole nodes d input at used i new
+  whole : d.arrived ≡ arrived.Nothing → ((p : FieldState) → p.under_way ≡ false → p.content ≡ [] → Hands nodes d p input (step_says nodes d input) 0 at used i new p) → IsWhole nodes d input at used i new
   whole fresh hands = record {
     fresh = fresh;
     moves = λ p joined empty. moves_afresh nodes d p input (advance.Item at used i) new p fresh (hands p (rw fresh at joined.under_way) empty);
@@ -58,7 +58,7 @@ none_over : (os : List OpenValue) → 0 < length os → done_by next.Items os �
 none_over [] some = absurd (omega (arith, some))
 none_over (o ∷ os) some = refl
 
-module _ (nodes : List Node) (d : CellState) (input : List ℕ) (used : ℕ) (v : ScalarValue) (stands : Stands nodes d) (fresh : d.under ≡ under.Nothing) (items : d.next ≡ next.Items) (now : due_of d ≡ due.Value) (same : d.rules.part ≡ d.rules.cell)
+module _ (nodes : List Node) (d : CellState) (input : List ℕ) (used : ℕ) (v : ScalarValue) (stands : Stands nodes d) (fresh : d.arrived ≡ arrived.Nothing) (items : d.next ≡ next.Items) (now : due_of d ≡ due.Value) (same : d.rules.part ≡ d.rules.cell)
     (front : SaysScalar d.rules (due_value nodes d).kind (room_of nodes d) input used v) where
   abbrev long : ℕ
   long = front_number input
@@ -116,13 +116,13 @@ module _ (nodes : List Node) (d : CellState) (input : List ℕ) (used : ℕ) (v 
 
 -- ---- the end of the innermost value
 
-pub leave_whole : (nodes : List Node) (d : CellState) (o : OpenValue) (input : List ℕ) (new : CellState) (level : ℕ) → Stands nodes d → due_of d ≡ due.Close o → d.under ≡ under.Nothing → o.stop ≤ d.offset → new ≡ record d { open_values = but_last d.open_values } → level ≡ length (but_last d.open_values)
+pub leave_whole : (nodes : List Node) (d : CellState) (o : OpenValue) (input : List ℕ) (new : CellState) (level : ℕ) → Stands nodes d → due_of d ≡ due.Close o → d.arrived ≡ arrived.Nothing → o.stop ≤ d.offset → new ≡ record d { open_values = but_last d.open_values } → level ≡ length (but_last d.open_values)
     → IsWhole nodes d input d.offset 0 (outline.Leave level o.items) new
 leave_whole nodes d o input new level stands now fresh le goes at = whole nodes d input d.offset 0 (outline.Leave level o.items) new fresh (λ p idle _. close_hands nodes d o p input stands now idle new level fresh le goes at)
 
 -- ---- a value without a content, or the beginning of one with items
 
-module _ (nodes : List Node) (d new : CellState) (n : ℕ) (input : List ℕ) (stands : Stands nodes d) (fresh : d.under ≡ under.Nothing) (now : due_of d ≡ due.Value) (room : 4 ≤ room_of nodes d) (within : 4 ≤ length input) (number : n ≡ front_number input) where
+module _ (nodes : List Node) (d new : CellState) (n : ℕ) (input : List ℕ) (stands : Stands nodes d) (fresh : d.arrived ≡ arrived.Nothing) (now : due_of d ≡ due.Value) (room : 4 ≤ room_of nodes d) (within : 4 ≤ length input) (number : n ≡ front_number input) where
   counted : (p : FieldState) → p.under_way ≡ false → IsCounted (room_of nodes d) 0 [] ([] ++ input) input 4 n p p
   counted p idle = record {
     after = omega arith;

@@ -2,11 +2,11 @@
 use Rattle.std.specs.Prelude.{◌≡◌, ℕ, ◌+◌, ◌-◌, ◌^◌, ◌<◌, ◌≤◌, false, List, length}
 use Rattle.cqlp_kind.specs.declared.node.Node.{Node}
 use Rattle.cqlp_kind.specs.Types.{Types, has_no_items, HasInner}
-use Rattle.cqlp_cell.specs.declared.standing.DueValue.{DueValue}
+use Rattle.cqlp_cell.specs.declared.progress.DueValue.{DueValue}
 use Rattle.cqlp_note.specs.Step.{Step}
 use Rattle.cqlp_kind.specs.CellStep.{CellEvent, CellPlace, cell_step, value_step}
 use Rattle.cqlp_type.specs.Forests.{types_at, Stand}
-use Rattle.cqlp_cell.specs.Standing.{CellState, place, due_value, open_after, rest_of, AreOpen, last_stop}
+use Rattle.cqlp_cell.specs.Progress.{CellState, place, due_value, open_after, rest_of, AreOpen, last_stop}
 
 -- the types in a value
 abbrev pub inner_of : List Node → DueValue → Types

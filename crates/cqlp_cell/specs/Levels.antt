@@ -6,13 +6,13 @@ use Rattle.cqlp_kind.specs.declared.node.Node.{Node}
 use Rattle.cqlp_type.specs.Forests.{node_at}
 use Rattle.cqlp_cell.specs.declared.level.Level.{Level}
 use Rattle.cqlp_cell.specs.declared.open_values.OpenValue.{OpenValue}
-use Rattle.cqlp_cell.specs.declared.standing.NextInCell.{NextInCell}
-use Rattle.cqlp_cell.specs.declared.standing.NextInCell.TheVariants as next
-use Rattle.cqlp_cell.specs.declared.standing.Under.{Under}
-use Rattle.cqlp_cell.specs.declared.standing.Under.TheVariants as under
+use Rattle.cqlp_cell.specs.declared.progress.NextInCell.{NextInCell}
+use Rattle.cqlp_cell.specs.declared.progress.NextInCell.TheVariants as next
+use Rattle.cqlp_cell.specs.declared.progress.Arrived.{Arrived}
+use Rattle.cqlp_cell.specs.declared.progress.Arrived.TheVariants as arrived
 use Rattle.cqlp_cell.specs.declared.whole.DueItem.{DueItem}
 use Rattle.cqlp_cell.specs.OpenValues.{last_open, with_last}
-use Rattle.cqlp_cell.specs.Standing.{CellState, HasNext, after_item, is_over}
+use Rattle.cqlp_cell.specs.Progress.{CellState, HasNext, after_item, is_over}
 
 -- ---- a level of a reader
 
@@ -20,13 +20,13 @@ abbrev pub level_in : CellState → Option OpenValue → Option Level
 level_in d None = None
 level_in d (Some o) = Some (record { value = o; level = length d.open_values; offset = d.offset })
 
-abbrev pub level_by : CellState → Under → NextInCell → Option Level
-level_by d under.Nothing next.Items = level_in d (last_open d.open_values)
+abbrev pub level_by : CellState → Arrived → NextInCell → Option Level
+level_by d arrived.Nothing next.Items = level_in d (last_open d.open_values)
 level_by d u n = None
 
 -- the innermost value that is open, where what is read next stands in it and nothing of that has come
 abbrev pub level_of : CellState → Option Level
-level_of d = level_by d d.under d.next
+level_of d = level_by d d.arrived d.next
 
 -- where a reader stands whose innermost value is this
 abbrev pub with_level : CellState → Level → CellState
@@ -34,7 +34,7 @@ with_level d l = record d { offset = l.offset; open_values = with_last l.value d
 
 -- A reader stands in some open value, of whose next item nothing has come, and as many are open as the level says.
 pub record IsInLevel (d : CellState) (l : Level) : Type 0 where
-  pub fresh : d.under ≡ under.Nothing
+  pub fresh : d.arrived ≡ arrived.Nothing
   pub items : d.next ≡ next.Items
   pub some : 0 < length d.open_values
   pub level : l.level ≡ length d.open_values

@@ -5,7 +5,7 @@ pub mod Sizes
 pub mod Coming
 pub mod Reading
 pub mod Pushing
-pub mod Standing
+pub mod Progress
 pub mod OpenValues
 pub mod Fronts
 pub mod Whole

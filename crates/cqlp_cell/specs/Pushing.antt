@@ -8,22 +8,22 @@ use Rattle.cqlp_kind.specs.declared.node.Node.{Node}
 use Rattle.cqlp_cell.specs.declared.item.CellPush.{CellPush}
 use Rattle.cqlp_cell.specs.declared.item.CellPush.TheVariants as push
 use Rattle.cqlp_cell.specs.declared.open_values.OpenValue.{OpenValue}
-use Rattle.cqlp_cell.specs.declared.standing.NextInCell.{NextInCell}
-use Rattle.cqlp_cell.specs.declared.standing.NextInCell.TheVariants as next
-use Rattle.cqlp_cell.specs.declared.standing.Under.TheVariants as under
+use Rattle.cqlp_cell.specs.declared.progress.NextInCell.{NextInCell}
+use Rattle.cqlp_cell.specs.declared.progress.NextInCell.TheVariants as next
+use Rattle.cqlp_cell.specs.declared.progress.Arrived.TheVariants as arrived
 use Rattle.cqlp_kind.specs.CellStep.{CellEvent, CellPlace, cell_step}
 use Rattle.cqlp_cell.specs.Items.{content_length, event_of}
-use Rattle.cqlp_cell.specs.Standing.{CellState, ended, is_under_way, place, Stands}
+use Rattle.cqlp_cell.specs.Progress.{CellState, ended, is_under_way, place, Stands}
 use Rattle.cqlp_cell.specs.Reading.{Joined, HaveCome, gathered}
 
 -- a reader that has read nothing
 abbrev pub new_reader : Rules → CellState
-new_reader l = record { rules = l; offset = 0; stop = 0; next = next.Nothing; under = under.Nothing; open_values = [] }
+new_reader l = record { rules = l; offset = 0; stop = 0; next = next.Nothing; arrived = arrived.Nothing; open_values = [] }
 
 -- a cell of the type at this node, or of none, begins here
 abbrev pub begun : CellState → Option ℕ → (at end : ℕ) → CellState
 begun d node at end =
-    record d { offset = at; stop = end; next = next.Cell node; under = under.Nothing; open_values = [] }
+    record d { offset = at; stop = end; next = next.Cell node; arrived = arrived.Nothing; open_values = [] }
 
 abbrev pub done_by : NextInCell → List OpenValue → Bool
 done_by next.Items [] = true
@@ -45,7 +45,7 @@ module _ (nodes : List Node) where
       : Type 0 where
     pub pending : List ℕ
     pub runs : Runs (cell_step d.rules) start s es (place nodes d) pending
-    pub come : HaveCome pending d.under p.seen
+    pub come : HaveCome pending d.arrived p.seen
 
   -- What a call leads to that was made after these bytes and events.
   abbrev pub Leads : (start : CellPlace) → CellState → List ℕ → List (ℕ × CellEvent) → List ℕ
@@ -74,9 +74,9 @@ module _ (nodes : List Node) where
   -- The `Partial` still serves the cell, or has no field under way. At an item nothing has come of what is read next.
   abbrev pub Serves : FieldState → (input : List ℕ) → CellPush → CellState → FieldState → Type 0
   Serves p input (push.More used) new q =
-      Joined nodes new q × (q.under_way ≡ true) × (q.content ≡ gathered new.under q.seen)
+      Joined nodes new q × (q.under_way ≡ true) × (q.content ≡ gathered new.arrived q.seen)
   Serves p input (push.Item at used e) new q =
-      Joined nodes new q × (new.under ≡ under.Nothing) × Keeps p input used (event_of e) q
+      Joined nodes new q × (new.arrived ≡ arrived.Nothing) × Keeps p input used (event_of e) q
   Serves p input push.Done new q = (q ≡ p) × (q.under_way ≡ false)
   Serves p input (push.Refused r) new q = (q.under_way ≡ false) × (q.content ≡ [])
 

@@ -20,13 +20,13 @@ use Rattle.cqlp_cell.specs.declared.open_values.Order.{Order}
 use Rattle.cqlp_cell.specs.declared.open_values.Order.TheVariants as order
 use Rattle.cqlp_cell.specs.declared.size.Sized.{Sized}
 use Rattle.cqlp_cell.specs.declared.size.Sized.TheVariants as size
-use Rattle.cqlp_cell.specs.declared.standing.NextInCell.{NextInCell}
-use Rattle.cqlp_cell.specs.declared.standing.NextInCell.TheVariants as next
-use Rattle.cqlp_cell.specs.declared.standing.Under.{Under}
-use Rattle.cqlp_cell.specs.declared.standing.Under.TheVariants as under
-use Rattle.cqlp_cell.specs.declared.standing.CellDue.TheVariants as due
-use Rattle.cqlp_cell.specs.declared.standing.DueValue.{DueValue}
-use Rattle.cqlp_cell.specs.declared.standing.CellStanding.{CellStanding}
+use Rattle.cqlp_cell.specs.declared.progress.NextInCell.{NextInCell}
+use Rattle.cqlp_cell.specs.declared.progress.NextInCell.TheVariants as next
+use Rattle.cqlp_cell.specs.declared.progress.Arrived.{Arrived}
+use Rattle.cqlp_cell.specs.declared.progress.Arrived.TheVariants as arrived
+use Rattle.cqlp_cell.specs.declared.progress.CellDue.TheVariants as due
+use Rattle.cqlp_cell.specs.declared.progress.DueValue.{DueValue}
+use Rattle.cqlp_cell.specs.declared.progress.CellProgress.{CellProgress}
 use Rattle.cqlp_type.specs.Table.{Table}
 use Rattle.cqlp_type.specs.Forests.{node_at, Stand}
 use Rattle.cqlp_kind.specs.CellStep.{CellEvent, CellPlace, cell_step, sized_step}
@@ -34,8 +34,8 @@ use Rattle.cqlp_cell.specs.Items.{content_at, event_at, CanLend}
 use Rattle.cqlp_cell.specs.Gathering.{IsGathering, seen_before}
 use Rattle.cqlp_cell.specs.Numbers.{IsCounting}
 use Rattle.cqlp_cell.specs.Sizes.{sized_as, CanBe, HasRoom}
-use Rattle.cqlp_cell.specs.Standing.{CellState, state_of, ended, is_under_way, place, due_value, state_after, rest_of, due_of}
-use Rattle.cqlp_cell.specs.Standing.{Stands}
+use Rattle.cqlp_cell.specs.Progress.{CellState, state_of, ended, is_under_way, place, due_value, state_after, rest_of, due_of}
+use Rattle.cqlp_cell.specs.Progress.{Stands}
 use Rattle.cqlp_cell.specs.Coming.{inner_of, room_of}
 
 -- what a step says
@@ -59,13 +59,13 @@ IsAfterItem next.Items = ⊤
 IsAfterItem (next.Part offset total) = ⊤
 
 -- what the buffer holds of an item that goes on: what has come of its content
-abbrev pub gathered : Under → (seen : List ℕ) → List ℕ
-gathered under.Nothing seen = []
-gathered under.Length seen = []
-gathered (under.Counted n) seen = []
-gathered (under.Scalar n) seen = seen
-gathered (under.First n) seen = seen
-gathered under.Later seen = seen
+abbrev pub gathered : Arrived → (seen : List ℕ) → List ℕ
+gathered arrived.Nothing seen = []
+gathered arrived.Length seen = []
+gathered (arrived.Counted n) seen = []
+gathered (arrived.Scalar n) seen = seen
+gathered (arrived.First n) seen = seen
+gathered arrived.Later seen = seen
 
 module _ (nodes : List Node) where
   -- what the next step says of these bytes
@@ -97,21 +97,21 @@ module _ (nodes : List Node) where
   PartUnder d p (next.Part offset total) = IsGathering true (part_size d offset total) d.offset 0 p
   PartUnder d p n = ⊥
 
-  abbrev pub UnderBy : CellState → FieldState → Under → Type 0
-  UnderBy d p under.Nothing = p.under_way ≡ false
-  UnderBy d p under.Length = (due_of d ≡ due.Value) × IsCounting true d.offset (room_of nodes d) 0 p
-  UnderBy d p (under.Scalar n) =
+  abbrev pub UnderBy : CellState → FieldState → Arrived → Type 0
+  UnderBy d p arrived.Nothing = p.under_way ≡ false
+  UnderBy d p arrived.Length = (due_of d ≡ due.Value) × IsCounting true d.offset (room_of nodes d) 0 p
+  UnderBy d p (arrived.Scalar n) =
       (due_of d ≡ due.Value) × IsGathering true n (d.offset + 4) 0 p × Decided d n (size.Scalar n)
-  UnderBy d p (under.Counted n) =
+  UnderBy d p (arrived.Counted n) =
       (due_of d ≡ due.Value) × IsCounting true (d.offset + 4) n 0 p × Decided d n (size.Counted n)
-  UnderBy d p (under.First n) =
+  UnderBy d p (arrived.First n) =
       (due_of d ≡ due.Value) × IsGathering true d.rules.cell (d.offset + 4) 0 p × Decided d n (size.Parts n)
-  UnderBy d p under.Later = PartUnder d p d.next
+  UnderBy d p arrived.Later = PartUnder d p d.next
 
   -- A `Partial` is what it is where the reader stands: it reads what the reader wants, or nothing.
   pub record Joined (d : CellState) (p : FieldState) : Type 0 where
     pub longest : d.rules.cell ≤ p.room
-    pub under_way : UnderBy d p d.under
+    pub under_way : UnderBy d p d.arrived
 
   -- ---- what a call does
 
@@ -153,7 +153,7 @@ module _ (nodes : List Node) where
     pub goes_after : IsAfterItem new.next
     pub pays : length new.open_values < length old.open_values + 2 * used
     pub goes_on : is_under_way new ≡ true
-    pub fresh : new.under ≡ under.Nothing
+    pub fresh : new.arrived ≡ arrived.Nothing
     pub idle : q.under_way ≡ false
     pub longest : q.room ≡ p.room
 
@@ -162,10 +162,10 @@ module _ (nodes : List Node) where
       (new : CellState) (q : FieldState) : Type 0 where
     pub all : used ≡ length input
     pub is : said ≡ More
-    pub same : new ≡ record old { under = new.under }
+    pub same : new ≡ record old { arrived = new.arrived }
     pub under_way : q.under_way ≡ true
     pub joined : Joined new q
-    pub kept : q.content ≡ gathered new.under q.seen
+    pub kept : q.content ≡ gathered new.arrived q.seen
     pub longest : q.room ≡ p.room
 
   -- The cell ends by this refusal.
@@ -177,9 +177,9 @@ module _ (nodes : List Node) where
     pub longest : q.room ≡ p.room
 
   -- What a call does where a step says this, with W of what waits.
-  abbrev pub Settles : CellState → FieldState → List ℕ → Saying → (base : ℕ) → (W : Under → List ℕ → Type 0)
+  abbrev pub Settles : CellState → FieldState → List ℕ → Saying → (base : ℕ) → (W : Arrived → List ℕ → Type 0)
       → CellAdvance → CellState → FieldState → Type 0
-  Settles old p input said base W (advance.More used) new q = Waits old p input said used new q × W new.under q.seen
+  Settles old p input said base W (advance.More used) new q = Waits old p input said used new q × W new.arrived q.seen
   Settles old p input said base W (advance.Item at used i) new q = Hands old p input said base at used i new q
   Settles old p input said base W advance.Done new q = ⊥
   Settles old p input said base W (advance.Refused r) new q = Fails old p said r new q
@@ -230,14 +230,14 @@ abbrev pub InnerStands : List Node → DueValue → Type 0
 InnerStands nodes v = (v.kind ≡ kind.Map) → (depth : ℕ) × Stand nodes (v.node + 1) 2 depth
 
 -- the length that has come of the item under way
-abbrev pub length_under : Under → Option ℕ
-length_under (under.Scalar n) = Some n
-length_under (under.Counted n) = Some n
-length_under (under.First n) = Some n
+abbrev pub length_under : Arrived → Option ℕ
+length_under (arrived.Scalar n) = Some n
+length_under (arrived.Counted n) = Some n
+length_under (arrived.First n) = Some n
 length_under _ = None
 
 -- The length n has come, and these bytes after it.
-abbrev pub LengthCame : (n : ℕ) → (bytes : List ℕ) → Under → (seen : List ℕ) → Type 0
+abbrev pub LengthCame : (n : ℕ) → (bytes : List ℕ) → Arrived → (seen : List ℕ) → Type 0
 LengthCame n bytes u seen = (length_under u ≡ Some n) × (seen ≡ bytes) × (n < 2 ^ 31)
 
 -- these may be the bytes of the item under way: those of its length, if that has come, and those after it
@@ -247,12 +247,12 @@ AreBytes (Some n) seen bytes =
     (head : List ℕ) × (length head ≡ 4) × (from_be_bytes w32 head ≡ n) × (bytes ≡ head ++ seen)
 
 -- what a `Partial` has seen of it
-abbrev pub seen_under : Under → (seen : List ℕ) → List ℕ
-seen_under under.Nothing seen = []
+abbrev pub seen_under : Arrived → (seen : List ℕ) → List ℕ
+seen_under arrived.Nothing seen = []
 seen_under _ seen = seen
 
 -- these bytes have come
-abbrev pub HaveCome : (bytes : List ℕ) → Under → (seen : List ℕ) → Type 0
+abbrev pub HaveCome : (bytes : List ℕ) → Arrived → (seen : List ℕ) → Type 0
 HaveCome bytes u seen = AreBytes (length_under u) (seen_under u seen) bytes
 
 -- What the end of the innermost value does, whatever table and `Partial` there are.
@@ -263,8 +263,8 @@ Closes old a new = (nodes : List Node) (p : FieldState) (input : List ℕ) → S
 -- A call ends a cell that is whole, or it does what the step says of the bytes that have come and the input.
 abbrev pub Moves : List Node → CellState → FieldState → List ℕ → CellAdvance → CellState → FieldState → Type 0
 Moves nodes old p input advance.Done new q =
-    (due_of old ≡ due.Nothing) × (old.under ≡ under.Nothing) × (new ≡ ended old) × (q ≡ p)
-Moves nodes old p input a new q = (b : List ℕ) → HaveCome b old.under p.seen
+    (due_of old ≡ due.Nothing) × (old.arrived ≡ arrived.Nothing) × (new ≡ ended old) × (q ≡ p)
+Moves nodes old p input a new q = (b : List ℕ) → HaveCome b old.arrived p.seen
     → Settles nodes old p input (step_says nodes old (b ++ input)) (length b) (HaveCome (b ++ input)) a new q
 
 -- ---- the parts of a call
@@ -278,16 +278,16 @@ abbrev pub IsPartUnder : (begun : Bool) → (offset total : ℕ) → CellState �
 IsPartUnder begun offset total d p = IsGathering begun (part_size d offset total) d.offset 0 p
 
 -- A call does what the step says of the bytes that have come and the input.
-abbrev pub Reads : {A : Type 0} → Table → (begun : Bool) → CellStanding A → FieldState → List ℕ
-    → CellAdvance → CellStanding A → FieldState → Type 0
+abbrev pub Reads : {A : Type 0} → Table → (begun : Bool) → CellProgress A → FieldState → List ℕ
+    → CellAdvance → CellProgress A → FieldState → Type 0
 Reads t begun old p input a new q =
     let bytes = seen_before begun p ++ input in
     Settles t.nodes (state_of old) p input (step_says t.nodes (state_of old) bytes) (length (seen_before begun p))
     (HaveCome bytes) a (state_of new) q
 
 -- The same after the length n, which has come, and which ends `start` bytes into the input or before it.
-abbrev pub Sizes : {A : Type 0} → Table → (begun : Bool) → (n start : ℕ) → CellStanding A → FieldState → List ℕ
-    → CellAdvance → CellStanding A → FieldState → Type 0
+abbrev pub Sizes : {A : Type 0} → Table → (begun : Bool) → (n start : ℕ) → CellProgress A → FieldState → List ℕ
+    → CellAdvance → CellProgress A → FieldState → Type 0
 Sizes t begun n start old p input a new q =
     let seen = seen_before begun p in
     let bytes = seen ++ drop start input in
@@ -295,8 +295,8 @@ Sizes t begun n start old p input a new q =
     ((4 - start) + length seen) (LengthCame n bytes) a (state_of new) q
 
 -- a whole call
-abbrev pub Steps : {A : Type 0} → Table → CellStanding A → FieldState → List ℕ
-    → CellAdvance → CellStanding A → FieldState → Type 0
+abbrev pub Steps : {A : Type 0} → Table → CellProgress A → FieldState → List ℕ
+    → CellAdvance → CellProgress A → FieldState → Type 0
 Steps t old p input a new q = Moves t.nodes (state_of old) p input a (state_of new) q
 
 -- an item that has a content

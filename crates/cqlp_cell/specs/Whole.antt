@@ -5,14 +5,14 @@ use Rattle.cqlp_kind.specs.declared.node.Node.{Node}
 use Rattle.cqlp_cell.specs.declared.advance.CellOutline.{CellOutline}
 use Rattle.cqlp_cell.specs.declared.advance.CellOutline.TheVariants as outline
 use Rattle.cqlp_cell.specs.declared.advance.CellAdvance.TheVariants as advance
-use Rattle.cqlp_cell.specs.declared.standing.CellDue.TheVariants as due
-use Rattle.cqlp_cell.specs.declared.standing.NextInCell.TheVariants as next
-use Rattle.cqlp_cell.specs.declared.standing.Under.TheVariants as under
+use Rattle.cqlp_cell.specs.declared.progress.CellDue.TheVariants as due
+use Rattle.cqlp_cell.specs.declared.progress.NextInCell.TheVariants as next
+use Rattle.cqlp_cell.specs.declared.progress.Arrived.TheVariants as arrived
 use Rattle.cqlp_cell.specs.declared.whole.DueItem.{DueItem}
 use Rattle.cqlp_cell.specs.declared.whole.BareItem.{BareItem}
 use Rattle.cqlp_cell.specs.declared.whole.BarePart.{BarePart}
 use Rattle.cqlp_cell.specs.declared.whole.BarePart.TheVariants as bare
-use Rattle.cqlp_cell.specs.Standing.{CellState, due_of, due_value}
+use Rattle.cqlp_cell.specs.Progress.{CellState, due_of, due_value}
 use Rattle.cqlp_cell.specs.Coming.{room_of}
 use Rattle.cqlp_cell.specs.Reading.{Joined, Moves}
 
@@ -26,14 +26,14 @@ outline_of (bare.Leave level n) = outline.Leave level n
 -- many bytes of the input, and leaves the `Partial` as it was.
 pub record IsWhole (nodes : List Node) (old : CellState) (input : List ℕ) (at used : ℕ) (i : CellOutline)
     (new : CellState) : Type 0 where
-  pub fresh : old.under ≡ under.Nothing
+  pub fresh : old.arrived ≡ arrived.Nothing
   pub moves : (p : FieldState) → Joined nodes old p → p.content ≡ []
       → Moves nodes old p input (advance.Item at used i) new p
 
 -- The next item of the innermost value, of which nothing has come: it begins there, is of this kind, and has this much
 -- room.
 pub record IsDue (nodes : List Node) (d : CellState) (t : DueItem) : Type 0 where
-  pub fresh : d.under ≡ under.Nothing
+  pub fresh : d.arrived ≡ arrived.Nothing
   pub items : d.next ≡ next.Items
   pub due : due_of d ≡ due.Value
   pub at : t.at ≡ d.offset

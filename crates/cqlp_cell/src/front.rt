@@ -28,7 +28,7 @@ pub fn front_scalar<'a>(
     if input.len() < 4 {
         return None;
     }
-    let len = u32::from_be_bytes(first(input));
+    let len = u32::from_be_bytes(read_array(input));
     if len == 0 || len > i32::MAX as u32 || len > limits.cell || u64::from(len) + 4 > room {
         return None;
     }

@@ -2,7 +2,7 @@
 
 ghost use Rattle.std.specs.Prelude.{◌≡◌, ◌+◌, ◌^◌, ◌<◌, ◌≤◌, ◌↔◌, IsTrue, false};
 ghost use Rattle.cqlp_cell.specs.declared.open_values.Order.TheVariants as order;
-ghost use Rattle.cqlp_cell.specs.Standing.{HasNext, is_over};
+ghost use Rattle.cqlp_cell.specs.Progress.{HasNext, is_over};
 ghost use Rattle.cqlp_cell.specs.Levels.{NextFits, due_at, due_element, passed, passed_element};
 
 use crate::open_values::{OpenValue, Order};

@@ -56,7 +56,7 @@ impl<A: Allocator> Model for OpenValues<A> {
 
 impl<A: Allocator> OpenValues<A> {
     ghost use Rattle.cqlp_cell.specs.OpenValues.{but_last, last_open, with_last};
-    ghost use Rattle.cqlp_cell.specs.Standing.{HasNext, after_item_in};
+    ghost use Rattle.cqlp_cell.specs.Progress.{HasNext, after_item_in};
 
     /// With room for this many.
     pub(crate) fn new(alloc: A, room: u32) -> Result<Self, NoMemory>

@@ -8,7 +8,7 @@ use crate::advance::CellAdvance;
 use crate::item::CellPush;
 use crate::level::Level;
 use crate::open_values::OpenValues;
-use crate::standing::{CellStanding, NextInCell, Under};
+use crate::progress::{Arrived, CellProgress, NextInCell};
 use crate::whole::BareItem;
 use cqlp_note::{Limits, NoMemory, Partial};
 use cqlp_type::TypeTable;
@@ -19,22 +19,22 @@ use std::marker::Model;
 /// the caller's table. Section 6 of `native_protocol_v4.spec`.
 #[derive(Drop)]
 pub struct CellReader<A: Allocator = Global> {
-    standing: CellStanding<A>,
+    progress: CellProgress<A>,
 }
 
 impl<A: Allocator> Model for CellReader<A> {
-    ghost use Rattle.cqlp_cell.specs.Standing.{CellState, IsLawful, state_of};
+    ghost use Rattle.cqlp_cell.specs.Progress.{CellState, IsLawful, state_of};
 
     ghost Value = { CellState };
 
-    ghost view = { λ r. state_of r.standing };
+    ghost view = { λ r. state_of r.progress };
 
-    ghost invariant = { λ r. IsLawful r.standing };
+    ghost invariant = { λ r. IsLawful r.progress };
 }
 
 impl<A: Allocator> CellReader<A> {
     ghost use Rattle.cqlp_note.specs.Lending.{LeavesField};
-    ghost use Rattle.cqlp_cell.specs.Standing.{Stands, ended, is_under_way};
+    ghost use Rattle.cqlp_cell.specs.Progress.{Stands, ended, is_under_way};
     ghost use Rattle.cqlp_kind.specs.declared.node.Node.{Node};
     ghost use Rattle.cqlp_cell.specs.Reading.{Answers, Empties, HaveCome, Joined, Moves};
     ghost use Rattle.cqlp_cell.specs.Pushing.{Continues, Pushes, Uses, begun, is_done, new_reader};
@@ -47,12 +47,12 @@ impl<A: Allocator> CellReader<A> {
         ensures { IfOk result (λ reader. reader ≡ new_reader (rules_of limits.now)) }
     {
         Ok(CellReader {
-            standing: CellStanding {
+            progress: CellProgress {
                 limits: *limits,
                 offset: 0,
                 stop: 0,
                 next: NextInCell::Nothing,
-                under: Under::Nothing,
+                arrived: Arrived::Nothing,
                 open_values: OpenValues::new(alloc, limits.depth)?,
             },
         })
@@ -64,18 +64,18 @@ impl<A: Allocator> CellReader<A> {
         requires place { at ≤ end }
         ensures { self.new ≡ begun self.old node at end }
     {
-        self.standing.offset = at;
-        self.standing.stop = end;
-        self.standing.next = NextInCell::Cell(node);
-        self.standing.under = Under::Nothing;
-        self.standing.open_values.clear();
+        self.progress.offset = at;
+        self.progress.stop = end;
+        self.progress.next = NextInCell::Cell(node);
+        self.progress.arrived = Arrived::Nothing;
+        self.progress.open_values.clear();
     }
 
     /// Whether a cell is under way and whole, so that the next push says so.
     pub fn done(&self) -> bool
         ensures { result ≡ is_done self.now }
     {
-        matches!(self.standing.next, NextInCell::Items) && self.standing.open_values.len() == 0
+        matches!(self.progress.next, NextInCell::Items) && self.progress.open_values.len() == 0
     }
 
     /// How many values are open.
@@ -83,41 +83,41 @@ impl<A: Allocator> CellReader<A> {
         ensures is { result ≡ length self.now.open_values }
         ensures bound { result ≤ self.now.rules.depth }
     {
-        self.standing.open_values.len()
+        self.progress.open_values.len()
     }
 
     /// How many open values its memory has places for: as many as the limits allow, for as long as it lives.
     pub fn capacity(&self) -> usize
         ensures { result ≡ self.now.rules.depth }
     {
-        self.standing.open_values.capacity()
+        self.progress.open_values.capacity()
     }
 
     /// The offset of what is read next.
     pub fn offset(&self) -> u64
         ensures { result ≡ self.now.offset }
     {
-        let standing = &self.standing;
-        standing.offset
+        let progress = &self.progress;
+        progress.offset
     }
 
     /// Ends the cell that is under way, whole or not, if there is one.
     pub fn stop(&mut self)
         ensures { self.new ≡ ended self.old }
     {
-        self.standing.end();
+        self.progress.end();
     }
 
     /// How many bytes of the stream were used: those before what is read next, and those of it that have come.
     pub fn bytes_used(&self, partial: &Partial<A>) -> u64
         requires { (nodes : List Node) × Stands nodes self.now × Joined nodes self.now partial.now }
-        ensures { (b : List ℕ) → HaveCome b self.now.under partial.now.seen → result ≡ self.now.offset + length b }
+        ensures { (b : List ℕ) → HaveCome b self.now.arrived partial.now.seen → result ≡ self.now.offset + length b }
     {
-        match self.standing.under {
-            Under::Nothing => self.standing.offset,
-            Under::Length | Under::Later => self.standing.offset + partial.came(),
-            Under::Scalar(_) | Under::Counted(_) | Under::First(_) => {
-                self.standing.offset + 4 + partial.came()
+        match self.progress.arrived {
+            Arrived::Nothing => self.progress.offset,
+            Arrived::Length | Arrived::Later => self.progress.offset + partial.came(),
+            Arrived::Scalar(_) | Arrived::Counted(_) | Arrived::First(_) => {
+                self.progress.offset + 4 + partial.came()
             }
         }
     }
@@ -136,7 +136,7 @@ impl<A: Allocator> CellReader<A> {
         ensures answers { Answers self.old input.now result }
         ensures empties { Empties result partial.new }
     {
-        self.standing.advance(partial, table, input)
+        self.progress.advance(partial, table, input)
     }
 
     /// A copy of the innermost value that is open, where what is read next stands in it and nothing of that has come.
@@ -144,7 +144,7 @@ impl<A: Allocator> CellReader<A> {
     pub fn level(&self) -> Option<Level>
         ensures { result ≡ level_of self.now }
     {
-        self.standing.level()
+        self.progress.level()
     }
 
     /// Goes on where a level stands: it is the innermost value from now on, if one is open.
@@ -152,7 +152,7 @@ impl<A: Allocator> CellReader<A> {
     pub fn set_level(&mut self, level: Level)
         ensures { self.new ≡ with_level self.old level }
     {
-        self.standing.set_level(level);
+        self.progress.set_level(level);
     }
 
     /// Takes what is next of the cell that is under way, where it has no content, `advance` would hand it out of the
@@ -162,7 +162,7 @@ impl<A: Allocator> CellReader<A> {
         requires { Stands table.now.nodes self.old }
         ensures { TakesBare table.now.nodes self.old input.now result self.new }
     {
-        self.standing.take_bare(table, input)
+        self.progress.take_bare(table, input)
     }
 
     /// Takes the next bytes of the cell that is under way. A content that lies whole in them is lent from them.

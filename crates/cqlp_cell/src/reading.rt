@@ -3,13 +3,13 @@
 ghost use Rattle.std.specs.Prelude.{◌≡◌, ◌≢◌, ◌+◌, ◌-◌, ◌<◌, ◌≤◌, ◌^◌, ◌++◌, List, [], length, drop, true, false};
 ghost use Rattle.cqlp_note.specs.Limits.{rules_of};
 ghost use Rattle.cqlp_cell.specs.declared.size.Sized.TheVariants as size;
-ghost use Rattle.cqlp_cell.specs.declared.standing.CellDue.TheVariants as due;
-ghost use Rattle.cqlp_cell.specs.declared.standing.NextInCell.TheVariants as next;
-ghost use Rattle.cqlp_cell.specs.declared.standing.Under.TheVariants as under;
+ghost use Rattle.cqlp_cell.specs.declared.progress.CellDue.TheVariants as due;
+ghost use Rattle.cqlp_cell.specs.declared.progress.NextInCell.TheVariants as next;
+ghost use Rattle.cqlp_cell.specs.declared.progress.Arrived.TheVariants as arrived;
 ghost use Rattle.cqlp_cell.specs.Gathering.{IsGathering, seen_before};
 ghost use Rattle.cqlp_cell.specs.Numbers.{IsCounting};
 ghost use Rattle.cqlp_cell.specs.Sizes.{is_counted};
-ghost use Rattle.cqlp_cell.specs.Standing.{Stands, due_of, due_value, ended, state_after, state_of};
+ghost use Rattle.cqlp_cell.specs.Progress.{Stands, due_of, due_value, ended, state_after, state_of};
 ghost use Rattle.cqlp_cell.specs.Coming.{room_of};
 ghost use Rattle.cqlp_cell.specs.Reading.{Answers, Closes, Decided, Empties, EntersCounted, EntersFields, InnerStands};
 ghost use Rattle.cqlp_cell.specs.Reading.{IsLengthUnder, IsPartUnder, Joined, Reads, Sizes, Steps};
@@ -19,15 +19,15 @@ use crate::advance::{CellAdvance, CellOutline};
 use crate::gather::{empty, gather, lend_bytes};
 use crate::number::{Number, take_number};
 use crate::open_values::{OpenValue, Order};
+use crate::progress::{Arrived, CellDue, CellProgress, DueValue, NextInCell};
 use crate::size::{Sized, size_up};
-use crate::standing::{CellDue, CellStanding, DueValue, NextInCell, Under};
 use cqlp_kind::Kind;
 use cqlp_kind::content::{accepts, fault};
 use cqlp_note::{Partial, Reason, Refusal};
 use cqlp_type::TypeTable;
 use std::alloc::Allocator;
 
-impl<A: Allocator> CellStanding<A> {
+impl<A: Allocator> CellProgress<A> {
     /// Takes the next bytes of the cell. An item without a content, and a refusal, leave the buffer empty.
     #[inline]
     pub(crate) fn advance(
@@ -64,8 +64,8 @@ impl<A: Allocator> CellStanding<A> {
         ensures room { self.new.open_values.room ≡ self.old.open_values.room }
         ensures limits { self.new.limits ≡ self.old.limits }
     {
-        match self.under {
-            Under::Nothing => match self.due() {
+        match self.arrived {
+            Arrived::Nothing => match self.due() {
                 CellDue::Nothing => {
                     self.end();
                     CellAdvance::Done
@@ -76,17 +76,17 @@ impl<A: Allocator> CellStanding<A> {
                     self.advance_part(false, offset, total, partial, table, input)
                 }
             },
-            Under::Length => self.advance_length(true, partial, table, input),
-            Under::Scalar(len) => {
+            Arrived::Length => self.advance_length(true, partial, table, input),
+            Arrived::Scalar(len) => {
                 let value = self.value(table);
                 self.advance_scalar(true, value, len, 0, partial, table, input)
             }
-            Under::Counted(len) => {
+            Arrived::Counted(len) => {
                 let value = self.value(table);
                 self.advance_count(true, value, len, 0, partial, table, input)
             }
-            Under::First(total) => self.advance_first(true, total, 0, partial, table, input),
-            Under::Later => match self.next {
+            Arrived::First(total) => self.advance_first(true, total, 0, partial, table, input),
+            Arrived::Later => match self.next {
                 NextInCell::Part { offset, total } => {
                     self.advance_part(true, offset, total, partial, table, input)
                 }
@@ -122,7 +122,7 @@ impl<A: Allocator> CellStanding<A> {
         ensures limits { self.new.limits ≡ self.old.limits }
     {
         let Some(found) = gather(partial, begun, len, self.offset + 4, start, input) else {
-            self.under = Under::Scalar(len);
+            self.arrived = Arrived::Scalar(len);
             return CellAdvance::More { used: input.len() };
         };
         if !accepts(value.kind, lend_bytes(partial, input, found.content)) {
@@ -170,7 +170,7 @@ impl<A: Allocator> CellStanding<A> {
         let at = self.offset + 4;
         match take_number(partial, begun, at, at + u64::from(len), start, input) {
             Number::More => {
-                self.under = Under::Counted(len);
+                self.arrived = Arrived::Counted(len);
                 CellAdvance::More { used: input.len() }
             }
             Number::Overrun => self.refuse(at, Reason::Overrun),
@@ -289,7 +289,7 @@ impl<A: Allocator> CellStanding<A> {
         let at = self.offset + 4;
         let size = self.limits.cell;
         let Some(found) = gather(partial, begun, size, at, start, input) else {
-            self.under = Under::First(total);
+            self.arrived = Arrived::First(total);
             return CellAdvance::More { used: input.len() };
         };
         let level = self.open_values.len();
@@ -331,13 +331,13 @@ impl<A: Allocator> CellStanding<A> {
         let left = total - offset;
         let size = self.limits.cell.min(left);
         let Some(found) = gather(partial, begun, size, self.offset, 0, input) else {
-            self.under = Under::Later;
+            self.arrived = Arrived::Later;
             return CellAdvance::More { used: input.len() };
         };
         let at = self.offset;
         let last = left <= self.limits.cell;
         self.offset += u64::from(size);
-        self.under = Under::Nothing;
+        self.arrived = Arrived::Nothing;
         self.next = next_part(last, offset + size, total);
         CellAdvance::Item {
             at,
@@ -352,7 +352,7 @@ impl<A: Allocator> CellStanding<A> {
     }
 
     /// Goes on after the length of a value, which ends after this many bytes of the input.
-    fn settle(
+    fn after_length(
         &mut self,
         value: DueValue,
         len: u32,
@@ -437,12 +437,12 @@ impl<A: Allocator> CellStanding<A> {
         let value = self.value(table);
         match take_number(partial, begun, self.offset, value.stop, 0, input) {
             Number::More => {
-                self.under = Under::Length;
+                self.arrived = Arrived::Length;
                 CellAdvance::More { used: input.len() }
             }
             Number::Overrun => self.refuse(self.offset, Reason::Overrun),
             Number::Got { used, number } => {
-                self.settle(value, number, used, partial, table, input)
+                self.after_length(value, number, used, partial, table, input)
             }
         }
     }
@@ -450,7 +450,7 @@ impl<A: Allocator> CellStanding<A> {
     /// Ends the innermost value.
     fn close(&mut self, value: OpenValue) -> CellAdvance
         requires due { due_of (state_of self.old) ≡ due.Close value }
-        requires fresh { self.old.under ≡ under.Nothing }
+        requires fresh { self.old.arrived ≡ arrived.Nothing }
         ensures closes { Closes (state_of self.old) result (state_of self.new) }
         ensures room { self.new.open_values.room ≡ self.old.open_values.room }
         ensures limits { self.new.limits ≡ self.old.limits }

@@ -3,19 +3,19 @@
 ghost use Rattle.std.specs.Prelude.{◌≡◌, ◌≤◌, length, take};
 ghost use Rattle.std.specs.Int.{w32, from_be_bytes};
 ghost use Rattle.cqlp_cell.specs.declared.size.Sized.TheVariants as size;
-ghost use Rattle.cqlp_cell.specs.declared.standing.CellDue.TheVariants as due;
-ghost use Rattle.cqlp_cell.specs.declared.standing.Under.TheVariants as under;
+ghost use Rattle.cqlp_cell.specs.declared.progress.CellDue.TheVariants as due;
+ghost use Rattle.cqlp_cell.specs.declared.progress.Arrived.TheVariants as arrived;
 ghost use Rattle.cqlp_cell.specs.Coming.{room_of};
 ghost use Rattle.cqlp_cell.specs.Reading.{Decided};
-ghost use Rattle.cqlp_cell.specs.Standing.{Stands, due_of, due_value, state_of};
+ghost use Rattle.cqlp_cell.specs.Progress.{Stands, due_of, due_value, state_of};
 ghost use Rattle.cqlp_cell.specs.Levels.{level_of, with_level};
 ghost use Rattle.cqlp_cell.specs.Whole.{TakesBare};
 
 use crate::level::Level;
+use crate::progress::{Arrived, CellDue, CellProgress, DueValue, NextInCell};
 use crate::size::{Sized, size_up};
-use crate::standing::{CellDue, CellStanding, DueValue, NextInCell, Under};
 use cqlp_kind::Kind;
-use cqlp_kind::content::first;
+use cqlp_kind::content::read_array;
 use cqlp_type::TypeTable;
 use std::alloc::Allocator;
 
@@ -51,13 +51,13 @@ pub enum BarePart {
     Leave { level: u32, items: u32 },
 }
 
-impl<A: Allocator> CellStanding<A> {
+impl<A: Allocator> CellProgress<A> {
     /// The innermost value that is open, where what is read next stands in it and nothing of that has come.
     #[inline(always)]
     pub(crate) fn level(&self) -> Option<Level>
         ensures { result ≡ level_of (state_of self.now) }
     {
-        let Under::Nothing = self.under else {
+        let Arrived::Nothing = self.arrived else {
             return None;
         };
         let NextInCell::Items = self.next else {
@@ -93,7 +93,7 @@ impl<A: Allocator> CellStanding<A> {
         ensures room { self.new.open_values.room ≡ self.old.open_values.room }
         ensures limits { self.new.limits ≡ self.old.limits }
     {
-        let Under::Nothing = self.under else {
+        let Arrived::Nothing = self.arrived else {
             return None;
         };
         match self.due() {
@@ -121,7 +121,7 @@ impl<A: Allocator> CellStanding<A> {
     #[inline(always)]
     fn take_front(&mut self, table: &TypeTable<A>, input: &[u8]) -> Option<BareItem>
         requires stands { Stands table.now.nodes (state_of self.old) }
-        requires fresh { self.old.under ≡ under.Nothing }
+        requires fresh { self.old.arrived ≡ arrived.Nothing }
         requires due { due_of (state_of self.old) ≡ due.Value }
         requires levels { self.old.open_values.room ≡ self.old.limits.depth }
         ensures takes { TakesBare table.now.nodes (state_of self.old) input.now result (state_of self.new) }
@@ -134,7 +134,7 @@ impl<A: Allocator> CellStanding<A> {
         if value.stop - at < 4 || input.len() < 4 {
             return None;
         }
-        let len = u32::from_be_bytes(first(input));
+        let len = u32::from_be_bytes(read_array(input));
         match size_up(&self.limits, value.kind, value.stop - at, len) {
             Sized::Null => {
                 self.pass(4, table);
@@ -179,7 +179,7 @@ impl<A: Allocator> CellStanding<A> {
         input: &[u8],
     ) -> Option<BareItem>
         requires stands { Stands table.now.nodes (state_of self.old) }
-        requires fresh { self.old.under ≡ under.Nothing }
+        requires fresh { self.old.arrived ≡ arrived.Nothing }
         requires due { due_of (state_of self.old) ≡ due.Value }
         requires value { value ≡ due_value table.now.nodes (state_of self.old) }
         requires decided { Decided table.now.nodes (state_of self.old) len (size.Counted len) }
@@ -196,7 +196,7 @@ impl<A: Allocator> CellStanding<A> {
         if len < 4 || input.len() < 8 {
             return None;
         }
-        let count = u32::from_be_bytes(first(&input[4..]));
+        let count = u32::from_be_bytes(read_array(&input[4..]));
         if count > i32::MAX as u32 {
             return None;
         }

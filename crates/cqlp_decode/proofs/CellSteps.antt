@@ -12,16 +12,16 @@ use Rattle.cqlp_kind.specs.declared.node.Node.{Node}
 use Rattle.cqlp_kind.specs.Types.{Types, Type_and}
 use Rattle.cqlp_cell.specs.declared.advance.CellOutline.{CellOutline}
 use Rattle.cqlp_cell.specs.declared.advance.CellAdvance.TheVariants as cell_advance
-use Rattle.cqlp_cell.specs.declared.standing.NextInCell.{NextInCell}
-use Rattle.cqlp_cell.specs.declared.standing.NextInCell.TheVariants as next
+use Rattle.cqlp_cell.specs.declared.progress.NextInCell.{NextInCell}
+use Rattle.cqlp_cell.specs.declared.progress.NextInCell.TheVariants as next
 use Rattle.cqlp_kind.specs.CellStep.{CellSymbol, CellEvent, CellPlace, Value_of, cell_step}
 use Rattle.cqlp_kind.specs.CellStep as cell
 use Rattle.cqlp_cell.specs.declared.advance.CellOutline.TheVariants as outline
 use Rattle.cqlp_kind.specs.Scalars.{ScalarValue, allows_size, scalar_of}
 use Rattle.cqlp_cell.specs.Items.{event_at as cell_event_at, leaf_event, content_at, CanLend}
 use Rattle.cqlp_type.specs.Forests.{Forest}
-use Rattle.cqlp_cell.specs.Standing as value
-use Rattle.cqlp_cell.specs.Standing.{CellState, place, cell_symbols, is_under_way}
+use Rattle.cqlp_cell.specs.Progress as value
+use Rattle.cqlp_cell.specs.Progress.{CellState, place, cell_symbols, is_under_way}
 use Rattle.cqlp_cell.specs.Reading.{HaveCome, IsAfterItem}
 use Rattle.cqlp_cell.specs.Reading as taking
 use Rattle.cqlp_cell.specs.Pushing.{is_done, begun as begun_at}
@@ -32,9 +32,9 @@ use Rattle.cqlp_cell.proofs.Leavings.{left_none, left_some, stop_is}
 use Rattle.cqlp_grammar.specs.Productions.{Symbol, Cell_due, In_cell}
 use Rattle.cqlp_decode.specs.declared.page.CellCursor.{CellCursor}
 use Rattle.cqlp_decode.specs.declared.page.Columns.{Columns}
-use Rattle.cqlp_decode.specs.declared.standing.StreamStage.{StreamStage}
-use Rattle.cqlp_decode.specs.declared.standing.StreamStage.TheVariants as stage
-use Rattle.cqlp_decode.specs.declared.standing.StreamStanding.{StreamStanding}
+use Rattle.cqlp_decode.specs.declared.progress.StreamStage.{StreamStage}
+use Rattle.cqlp_decode.specs.declared.progress.StreamStage.TheVariants as stage
+use Rattle.cqlp_decode.specs.declared.progress.StreamProgress.{StreamProgress}
 use Rattle.cqlp_decode.specs.declared.advance.EventAdvance.TheVariants as advance
 use Rattle.cqlp_decode.specs.declared.advance.EventOutline.TheVariants as what
 use Rattle.cqlp_decode.specs.Reading as reading
@@ -42,7 +42,7 @@ use Rattle.cqlp_decode.specs.Reading.{Given, Place, step, cell_event, cells_left
 use Rattle.cqlp_decode.specs.Cells.{SaysCell}
 use Rattle.cqlp_decode.specs.Pages.{IsKind, IsPage, Turns, cells_from, given_of, cell_symbol, page_symbols, cells_after, types_left, node_by}
 use Rattle.cqlp_decode.specs.declared.advance.EventAdvance.{EventAdvance}
-use Rattle.cqlp_decode.specs.Standing.{StreamState, IsPending, PartsState, parts, nodes_of, state_of, place_at, offset_at, symbols_at, rest_of, said, Waits, Hands, Moves, IsLent, due_after, frame_after, ends_due, IsCell, IsConsistent, StageHolds, Starts}
+use Rattle.cqlp_decode.specs.Progress.{StreamState, IsPending, PartsState, parts, nodes_of, state_of, place_at, offset_at, symbols_at, rest_of, said, Waits, Hands, Moves, IsLent, due_after, frame_after, ends_due, IsCell, IsConsistent, StageHolds, Starts}
 use Rattle.cqlp_decode.proofs.Steps.{begun, one_due, offset_is}
 use Rattle.cqlp_decode.proofs.FieldSteps.{goes_on_lawful}
 use Rattle.cqlp_decode.proofs.Columns.{FirstColumn, first_column, page_begun, page_due}
@@ -102,7 +102,7 @@ under_way_still : (nodes : List Node) (depth : ℕ) (d : CellState) (p : CellCur
     → page_symbols nodes d p ++ rest ≡ cells_left p.row p.column (place nodes d).symbols ++ (cells_after nodes p ++ rest)
 under_way_still nodes depth d p f behind some rest = rw f.is (still_by d.next p.row p.column f.first f.inner (place nodes d).symbols _ behind some)
 
-module _ (s : StreamStanding) (q : PartsState) (p : CellCursor) (here : s.stage ≡ stage.InCell p) (c : IsCell s q p) (rules : q.cells.rules ≡ rules_of s.limits) where
+module _ (s : StreamProgress) (q : PartsState) (p : CellCursor) (here : s.stage ≡ stage.InCell p) (c : IsCell s q p) (rules : q.cells.rules ≡ rules_of s.limits) where
   abbrev typed : List Node
   typed = nodes_of q p.columns
 
@@ -131,10 +131,10 @@ module _ (s : StreamStanding) (q : PartsState) (p : CellCursor) (here : s.stage 
       ∙ says_map (cell_event p.row p.column) (place_of_cells p.row p.column stands rest) (cell_step (rules_of s.limits) (place typed q.cells)) 0 bytes
       ∙ ap (λ z. map_said (cell_event p.row p.column) (place_of_cells p.row p.column stands rest) z) (rw (← rules) (sym (cell_told_is typed q.cells bytes)))
 
-  come_is : (b : List ℕ) → IsPending (state_of s q).pending b → HaveCome b q.cells.under q.partial.seen
+  come_is : (b : List ℕ) → IsPending (state_of s q).pending b → HaveCome b q.cells.arrived q.partial.seen
   come_is b is = rw here at is
 
-  came : (b : List ℕ) × HaveCome b q.cells.under q.partial.seen
+  came : (b : List ℕ) × HaveCome b q.cells.arrived q.partial.seen
   came = some_come typed q.cells q.partial c.joined
 
   pub cell_waits : (input : List ℕ) (used : ℕ) (d : CellState) (p' : FieldState) → taking.Moves typed q.cells q.partial input (cell_advance.More used) d p' → Waits (state_of s q) input used (state_of s (parts p' q.types d q.table q.given))
@@ -157,11 +157,11 @@ module _ (s : StreamStanding) (q : PartsState) (p : CellCursor) (here : s.stage 
     abbrev event : (held : List ℕ) → reading.Event
     event held = cell_event p.row p.column (cell_event_at i input held)
 
-    abbrev one : (b : List ℕ) → HaveCome b q.cells.under q.partial.seen → taking.Hands typed q.cells q.partial input (taking.step_says typed q.cells (b ++ input)) (length b) at used i d p'
+    abbrev one : (b : List ℕ) → HaveCome b q.cells.arrived q.partial.seen → taking.Hands typed q.cells q.partial input (taking.step_says typed q.cells (b ++ input)) (length b) at used i d p'
     one b come = m b come
 
     -- the place that the decoder stands at then
-    module _ (e : StreamStanding) (q' : PartsState) (content : q'.partial.content ≡ p'.content) (nodes : q'.table.nodes ≡ q.table.nodes) (given : given_of e.given_use q'.given ≡ held) (offset : offset_at e.stage e.offset q' ≡ d.offset) (stop : e.stop ≡ s.stop) (frame : e.frame ≡ s.frame)
+    module _ (e : StreamProgress) (q' : PartsState) (content : q'.partial.content ≡ p'.content) (nodes : q'.table.nodes ≡ q.table.nodes) (given : given_of e.given_use q'.given ≡ held) (offset : offset_at e.stage e.offset q' ≡ d.offset) (stop : e.stop ≡ s.stop) (frame : e.frame ≡ s.frame)
         (symbols : symbols_at e.stage q' e.upcoming ≡ cells_left p.row p.column (place typed d).symbols ++ rest) (fresh : IsPending (state_of e q').pending []) (due : ends_due (symbols_at e.stage q' e.upcoming) ≡ 1)
         (open_values : length q'.cells.open_values ≤ length d.open_values) where
       pub cell_hands : Moves (state_of s q) input (advance.Event at used (what.Cell p.row p.column i)) (state_of e q')
@@ -200,7 +200,7 @@ module _ (s : StreamStanding) (q : PartsState) (p : CellCursor) (here : s.stage 
           cell_hands s (parts p' q.types d q.table q.given) refl refl refl (rw here refl) refl refl (rw here left) (rw (here, h.fresh) refl) (rw here (page_due typed s.limits.depth d p (rest_of s.upcoming) c.page.0)) (omega arith)
 
     -- the cell is whole, and this is next
-    module _ (whole : is_done d ≡ true) (e : StreamStanding) (d' : CellState) (offset : e.offset ≡ d.offset) (stop : e.stop ≡ s.stop) (frame : e.frame ≡ s.frame) (zero : e.came ≡ 0) (symbols : symbols_at e.stage (parts p' q.types d' q.table q.given) e.upcoming ≡ rest)
+    module _ (whole : is_done d ≡ true) (e : StreamProgress) (d' : CellState) (offset : e.offset ≡ d.offset) (stop : e.stop ≡ s.stop) (frame : e.frame ≡ s.frame) (zero : e.came ≡ 0) (symbols : symbols_at e.stage (parts p' q.types d' q.table q.given) e.upcoming ≡ rest)
         (starts : Starts e (parts p' q.types d' q.table q.given) e.stage) (none : d'.open_values ≡ []) (same_use : e.given_use ≡ s.given_use) where
       pub ended_hands : Moves (state_of s q) input (advance.Event at used (what.Cell p.row p.column i)) (state_of e (parts p' q.types d' q.table q.given))
       ended_hands =
@@ -222,7 +222,7 @@ module _ (s : StreamStanding) (q : PartsState) (p : CellCursor) (here : s.stage 
       record {
         bounded = law.bounded;
         parts = record { room = h.longest ∙ law.parts.room; rules = law.parts.rules; cells = ap (λ (z : CellState). z.rules) h.same ∙ law.parts.cells; table = law.parts.table; few = law.parts.few };
-        stage = let stage = rw here at law.stage in stage_there (parts p' q.types d q.table q.given) (cell_goes d p' h.joined (rw h.same (stands_under typed q.cells d.under c.stands)) (ap (λ (z : CellState). is_under_way z) h.same ∙ c.under_way) (ap (λ (z : CellState). is_done z) h.same ∙ c.some) (λ n is. c.is n (sym (ap (λ (z : CellState). z.next) h.same) ∙ is)) (ap (λ (z : CellState). z.stop) h.same ∙ c.stop) (omega (arith, c.after, ap (λ (z : CellState). z.offset) h.same)), stage.1);
+        stage = let stage = rw here at law.stage in stage_there (parts p' q.types d q.table q.given) (cell_goes d p' h.joined (rw h.same (stands_under typed q.cells d.arrived c.stands)) (ap (λ (z : CellState). is_under_way z) h.same ∙ c.under_way) (ap (λ (z : CellState). is_done z) h.same ∙ c.some) (λ n is. c.is n (sym (ap (λ (z : CellState). z.next) h.same) ∙ is)) (ap (λ (z : CellState). z.stop) h.same ∙ c.stop) (omega (arith, c.after, ap (λ (z : CellState). z.offset) h.same)), stage.1);
         quiet = record { types = law.quiet.types; cells = λ idle. let busy = ap (λ (z : CellState). is_under_way z) h.same ∙ c.under_way in cc };
         table = λ none. rw here (rw here at (law.table none));
         given = law.given;
@@ -264,7 +264,7 @@ module _ (s : StreamStanding) (q : PartsState) (p : CellCursor) (here : s.stage 
       uses = law.uses;
     }
 
-    pub cell_ended_lawful : (e : StreamStanding) (d' : CellState) → e.offset ≡ d.offset → e.stop ≡ s.stop → e.limits ≡ s.limits → e.header ≡ s.header → e.came ≡ s.came → d'.rules ≡ d.rules → Forest q.table.nodes 0 s.limits.depth → is_under_way d' ≡ false → d'.open_values ≡ [] → Starts e (parts p' q.types d' q.table q.given) e.stage
+    pub cell_ended_lawful : (e : StreamProgress) (d' : CellState) → e.offset ≡ d.offset → e.stop ≡ s.stop → e.limits ≡ s.limits → e.header ≡ s.header → e.came ≡ s.came → d'.rules ≡ d.rules → Forest q.table.nodes 0 s.limits.depth → is_under_way d' ≡ false → d'.open_values ≡ [] → Starts e (parts p' q.types d' q.table q.given) e.stage
         → IsConsistent e (parts p' q.types d' q.table q.given)
     cell_ended_lawful e d' offset stop limits header same rules_are forest idle none starts =
         let n : ℕ = d.offset - s.offset in
@@ -299,11 +299,11 @@ begun_moves d d' input new rules place frame pending fewer (advance.Refused r) m
 
 -- ---- a cell begins
 
-module _ (s : StreamStanding) (q : PartsState) (p : CellCursor) (here : s.stage ≡ stage.BeforeCell p) where
+module _ (s : StreamProgress) (q : PartsState) (p : CellCursor) (here : s.stage ≡ stage.BeforeCell p) where
   abbrev typed_by : List Node
   typed_by = nodes_of q p.columns
 
-  abbrev begins : StreamStanding
+  abbrev begins : StreamProgress
   begins = record s { stage = stage.InCell p }
 
   abbrev beside : PartsState
@@ -367,8 +367,8 @@ lent_empty r c used (cell.Part level offset bytes last) content none = λ le. no
 pub says_leaf : (l : Rules) (k : Kind) (room : ℕ) (input : List ℕ) (used : ℕ) (v : ScalarValue) → SaysScalar l k room input used v → SaysCell l k room input used (cell.Leaf 0 v)
 says_leaf l k room input used v h = record { is = λ p rest inner. h.is p rest inner 0; within = h.within; inside = h.inside; some = h.some }
 
-module _ (s : StreamStanding) (q : PartsState) (p : CellCursor) (here : s.stage ≡ stage.BeforeCell p) (law : IsConsistent s q) (unrefused : s.refusal ≡ None) (input : List ℕ) (used : ℕ) (k : Kind) (inner others : Types) (ev : CellEvent) (is : types_left (nodes_of q p.columns) p ≡ Type_and k inner others)
-    (front : SaysCell (rules_of s.limits) k (s.stop - s.offset) input used ev) (empty : q.partial.content ≡ []) (e : StreamStanding) (symbols : symbols_at e.stage q e.upcoming ≡ cells_after (nodes_of q p.columns) p ++ rest_of s.upcoming)
+module _ (s : StreamProgress) (q : PartsState) (p : CellCursor) (here : s.stage ≡ stage.BeforeCell p) (law : IsConsistent s q) (unrefused : s.refusal ≡ None) (input : List ℕ) (used : ℕ) (k : Kind) (inner others : Types) (ev : CellEvent) (is : types_left (nodes_of q p.columns) p ≡ Type_and k inner others)
+    (front : SaysCell (rules_of s.limits) k (s.stop - s.offset) input used ev) (empty : q.partial.content ≡ []) (e : StreamProgress) (symbols : symbols_at e.stage q e.upcoming ≡ cells_after (nodes_of q p.columns) p ++ rest_of s.upcoming)
     (starts : Starts e q e.stage) (same_use : e.given_use ≡ s.given_use) (offset : e.offset ≡ s.offset + used) (stop : e.stop ≡ s.stop) (frame : e.frame ≡ s.frame) (came : e.came ≡ s.came) where
   abbrev there : List Symbol
   there = cells_after (nodes_of q p.columns) p ++ rest_of s.upcoming
@@ -419,9 +419,9 @@ module _ (s : StreamStanding) (q : PartsState) (p : CellCursor) (here : s.stage 
       goes_on_lawful s e q q.partial q.types q.cells q.table used law offset (omega (arith, front.inside, law.bounded.inside)) stop limits header (came ∙ stage_due.2) refl stage_due.1.field refl stage_due.1.types refl stage_due.1.cells refl (rw here at (law.table unrefused)) starts (record { types = law.quiet.types; cells = law.quiet.cells })
 
 -- the page goes on with another cell
-module _ (s : StreamStanding) (q : PartsState) (p p' : CellCursor) (here : s.stage ≡ stage.BeforeCell p) (law : IsConsistent s q) (unrefused : s.refusal ≡ None) (input : List ℕ) (used : ℕ) (k : Kind) (kind : IsKind (nodes_of q p.columns) p k) (ev : CellEvent)
+module _ (s : StreamProgress) (q : PartsState) (p p' : CellCursor) (here : s.stage ≡ stage.BeforeCell p) (law : IsConsistent s q) (unrefused : s.refusal ≡ None) (input : List ℕ) (used : ℕ) (k : Kind) (kind : IsKind (nodes_of q p.columns) p k) (ev : CellEvent)
     (front : SaysCell (rules_of s.limits) k (s.stop - s.offset) input used ev) (empty : q.partial.content ≡ []) (turns : Turns (nodes_of q p.columns) s.limits.depth p (Some p')) where
-  abbrev onward : StreamStanding
+  abbrev onward : StreamProgress
   onward = record s { stage = stage.BeforeCell p'; offset = s.offset + used }
 
   onward_symbols : symbols_at onward.stage q onward.upcoming ≡ cells_after (nodes_of q p.columns) p ++ rest_of s.upcoming

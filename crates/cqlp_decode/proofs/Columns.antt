@@ -10,13 +10,13 @@ use Rattle.cqlp_kind.specs.declared.kind.Kind.{Kind}
 use Rattle.cqlp_kind.specs.declared.kind.Kind.TheVariants as kind
 use Rattle.cqlp_kind.specs.declared.node.Node.{Node}
 use Rattle.cqlp_kind.specs.Types.{Types, NoMore, Type_and, how_many, types_of, other_types}
-use Rattle.cqlp_cell.specs.declared.standing.NextInCell.{NextInCell}
-use Rattle.cqlp_cell.specs.declared.standing.NextInCell.TheVariants as next
+use Rattle.cqlp_cell.specs.declared.progress.NextInCell.{NextInCell}
+use Rattle.cqlp_cell.specs.declared.progress.NextInCell.TheVariants as next
 use Rattle.cqlp_kind.specs.CellStep.{CellSymbol, Value_of, values_of}
 use Rattle.cqlp_type.specs.Forests.{Forest}
 use Rattle.cqlp_type.specs.Table.{Table, beginnings}
 use Rattle.cqlp_type.proofs.WholeTables.{whole_roots, forest_whole}
-use Rattle.cqlp_cell.specs.Standing.{CellState, place, cell_symbols, CellStands}
+use Rattle.cqlp_cell.specs.Progress.{CellState, place, cell_symbols, CellStands}
 use Rattle.cqlp_type.proofs.Columns.{Column, forest_first, forest_end}
 use Rattle.cqlp_grammar.specs.declared.grammar.Role.{Role}
 use Rattle.cqlp_grammar.specs.declared.grammar.Role.TheVariants as role
@@ -29,7 +29,7 @@ use Rattle.cqlp_decode.specs.declared.given.GivenUse.{GivenUse}
 use Rattle.cqlp_decode.specs.declared.given.GivenUse.TheVariants as uses
 use Rattle.cqlp_decode.specs.Pages.{column_types, types_from, node_by, cell_symbol, cells_from, page_symbols, given_of, use_after, page_nodes, IsColumn, IsPage, NextColumn, Turns, Begins, Follows, AreColumns, HoldsForest}
 use Rattle.cqlp_decode.specs.Reading.{Nothing, Waiting, InUse, Used, serves, serves_after, given_after, given_types}
-use Rattle.cqlp_decode.specs.Standing.{ends_due, HoldsGiven}
+use Rattle.cqlp_decode.specs.Progress.{ends_due, HoldsGiven}
 
 -- The column of a cell: its type is the first of those left, and stands in the table.
 pub record FirstColumn (nodes : List Node) (depth : ℕ) (c : Columns) (column index : ℕ) : Type 0 where

@@ -4,11 +4,11 @@ use Rattle.std.specs.Prelude.{Option, Some, None, if◌then◌else◌}
 use Rattle.cqlp_note.specs.declared.refusal.Refusal.{Refusal}
 use Rattle.cqlp_grammar.specs.declared.event.Finish.TheVariants as finish
 use Rattle.std.proofs.lemmas.List.{length-take-le}
-use Rattle.cqlp_decode.specs.declared.standing.StreamStage.{StreamStage}
-use Rattle.cqlp_decode.specs.declared.standing.StreamStage.TheVariants as stage
-use Rattle.cqlp_decode.specs.declared.standing.StreamStanding.{StreamStanding}
+use Rattle.cqlp_decode.specs.declared.progress.StreamStage.{StreamStage}
+use Rattle.cqlp_decode.specs.declared.progress.StreamStage.TheVariants as stage
+use Rattle.cqlp_decode.specs.declared.progress.StreamProgress.{StreamProgress}
 use Rattle.cqlp_decode.specs.Reading.{Event, Gifts}
-use Rattle.cqlp_decode.specs.Standing.{PartsState, nodes_of, state_of, rest_of, ends_due, IsBounded, IsPlaced, IsPending}
+use Rattle.cqlp_decode.specs.Progress.{PartsState, nodes_of, state_of, rest_of, ends_due, IsBounded, IsPlaced, IsPending}
 use Rattle.cqlp_decode.proofs.Columns.{cells_due, page_due}
 use Rattle.cqlp_decode.specs.Streams.{AfterBy, Stands, FinishesBy, is_open, frame_of}
 
@@ -20,7 +20,7 @@ opened : (b : Bool) → ◌≡◌ {A = ℕ} 1 (if b then 1 else 0) → b ≡ fal
 opened true e shut = cc
 opened false e shut = omega arith
 
-module _ (s : StreamStanding) (q : PartsState) (gifts : Gifts) (bytes : List ℕ) (es : List (ℕ × Event)) (st : Stands gifts (state_of s q) bytes es) where
+module _ (s : StreamProgress) (q : PartsState) (gifts : Gifts) (bytes : List ℕ) (es : List (ℕ × Event)) (st : Stands gifts (state_of s q) bytes es) where
   -- between two frames
   pub whole_is : s.stage ≡ stage.Header → s.came ≡ 0 → s.frame ≡ s.offset → (s.offset ≡ length bytes) × (is_open es ≡ false) × (length bytes ≡ frame_of es)
   whole_is here none start =
@@ -45,7 +45,7 @@ module _ (s : StreamStanding) (q : PartsState) (gifts : Gifts) (bytes : List ℕ
       absurd (opened (is_open es) (sym one ∙ st.due) shut)
   cut_is stage.Extra here h bounded some shut = absurd (opened (is_open es) (rw here at st.due) shut)
 
-module _ (s : StreamStanding) (q : PartsState) (gifts : Gifts) (bytes : List ℕ) (es : List (ℕ × Event)) where
+module _ (s : StreamProgress) (q : PartsState) (gifts : Gifts) (bytes : List ℕ) (es : List (ℕ × Event)) where
   pub finishes_whole : (o : Option Refusal) → o ≡ None → s.stage ≡ stage.Header → s.came ≡ 0 → s.frame ≡ s.offset → AfterBy o gifts (state_of s q) bytes es → FinishesBy o bytes es (finish.Whole s.offset)
   finishes_whole (Some r) none here came start after = absurd cc
   finishes_whole None none here came start after = whole_is s q gifts bytes es after here came start

@@ -17,26 +17,26 @@ use Rattle.cqlp_note.proofs.Yields.{after_more, after_bad, after_got, got_inside
 use Rattle.cqlp_note.proofs.Fronts.{fixed_overruns, fixed_wanting, fixed_taken}
 use Rattle.cqlp_kind.specs.Types.{Types}
 use Rattle.cqlp_type.specs.Table.{Table}
-use Rattle.cqlp_type.specs.Standing as type
+use Rattle.cqlp_type.specs.Progress as type
 use Rattle.cqlp_kind.specs.declared.node.Node.{Node}
-use Rattle.cqlp_cell.specs.Standing as value
-use Rattle.cqlp_cell.specs.Standing.{is_under_way}
+use Rattle.cqlp_cell.specs.Progress as value
+use Rattle.cqlp_cell.specs.Progress.{is_under_way}
 use Rattle.cqlp_type.specs.Forests.{Forest}
 use Rattle.cqlp_type.proofs.Columns.{forest_none}
 use Rattle.cqlp_grammar.specs.declared.grammar.Role.{Role}
 use Rattle.cqlp_grammar.specs.declared.grammar.Role.TheVariants as role
 use Rattle.cqlp_grammar.specs.Productions.{Symbol, following, fault_in}
-use Rattle.cqlp_grammar.specs.declared.table.Want.{Want}
-use Rattle.cqlp_grammar.specs.declared.table.Expected.TheVariants as due
-use Rattle.cqlp_decode.specs.declared.standing.StreamStage.TheVariants as stage
-use Rattle.cqlp_decode.specs.declared.standing.StreamStanding.{StreamStanding}
+use Rattle.cqlp_grammar.specs.declared.productions.Want.{Want}
+use Rattle.cqlp_grammar.specs.declared.productions.Expected.TheVariants as due
+use Rattle.cqlp_decode.specs.declared.progress.StreamStage.TheVariants as stage
+use Rattle.cqlp_decode.specs.declared.progress.StreamProgress.{StreamProgress}
 use Rattle.cqlp_decode.specs.declared.advance.EventAdvance.TheVariants as advance
 use Rattle.cqlp_decode.specs.declared.advance.EventOutline.TheVariants as what
 use Rattle.cqlp_grammar.specs.Upcoming.{wanted}
 use Rattle.cqlp_decode.specs.Reading as reading
 use Rattle.cqlp_decode.specs.Reading.{Given, Place, value_step, types_for, nodes_after, given_after}
 use Rattle.cqlp_decode.specs.Pages.{given_of}
-use Rattle.cqlp_decode.specs.Standing.{IsPending, PartsState, parts, state_of, place_at, offset_at, symbols_at, rest_of, came_of, said, Gives, Waits, Moves, IsAsked, IsWanted, IsBounded, IsQuiet, HasParts, IsConsistent, asked, Starts}
+use Rattle.cqlp_decode.specs.Progress.{IsPending, PartsState, parts, state_of, place_at, offset_at, symbols_at, rest_of, came_of, said, Gives, Waits, Moves, IsAsked, IsWanted, IsBounded, IsQuiet, HasParts, IsConsistent, asked, Starts}
 use Rattle.cqlp_decode.proofs.Steps.{begun, one_due, offset_is, fresh_stage, fresh_table, starts_uses}
 
 -- ---- fields
@@ -80,7 +80,7 @@ used_some r seen input v used more got = elim (cases_lt 0 used) [
 ]
 
 -- what is read of a field that is wanted
-module _ (s : StreamStanding) (q : PartsState) (w : Want) (here : s.stage ≡ stage.Field w) (bytes : List ℕ) where
+module _ (s : StreamProgress) (q : PartsState) (w : Want) (here : s.stage ≡ stage.Field w) (bytes : List ℕ) where
   abbrev rest : List Symbol
   rest = rest_of s.upcoming
 
@@ -114,7 +114,7 @@ module _ (s : StreamStanding) (q : PartsState) (w : Want) (here : s.stage ≡ st
       (x, told_is ∙ (after_got s.offset (reader_of (asked s w)) next_step 0 bytes v k m).1 ∙ rw fine refl, refl, refl, refl)
 
 -- what a piece of input makes of a field that is wanted, and was begun
-module _ (s : StreamStanding) (old p : FieldState) (r : type.TypeState) (d : value.CellState) (t : Table) (g : Option Table) (w : Want) (input : List ℕ) (here : s.stage ≡ stage.Field w) (a : IsAsked s old p w) where
+module _ (s : StreamProgress) (old p : FieldState) (r : type.TypeState) (d : value.CellState) (t : Table) (g : Option Table) (w : Want) (input : List ℕ) (here : s.stage ≡ stage.Field w) (a : IsAsked s old p w) where
   abbrev before : PartsState
   before = parts old r d t g
 
@@ -138,7 +138,7 @@ module _ (s : StreamStanding) (old p : FieldState) (r : type.TypeState) (d : val
     pub piece_faults : (why : Reason) → fault_in w.role v ≡ Some why → (b : List ℕ) → IsPending (state_of s before).pending b → said (state_of s before) (b ++ input) ≡ Bad (s.offset, why)
     piece_faults why fault b is = rw (pending_is b is) (field_faults s before w here (p.seen ++ input) v (length p.seen + used) why (rw a.field at m.is) fault)
 
-    pub piece_hands : (e : StreamStanding) (t' : Table) (i : FieldOutline) → v ≡ item_value i input new.content → CanLend i input new.content → fault_in w.role v ≡ None → IsWanted s old w
+    pub piece_hands : (e : StreamProgress) (t' : Table) (i : FieldOutline) → v ≡ item_value i input new.content → CanLend i input new.content → fault_in w.role v ≡ None → IsWanted s old w
         → e.offset ≡ s.offset + (length p.seen + used) → e.stop ≡ s.stop → e.frame ≡ s.frame → e.came ≡ 0 → Starts e (parts new r d t' g) e.stage → t'.nodes ≡ nodes_after w.role t.nodes → given_of e.given_use g ≡ given_after w.role (given_of s.given_use g)
         → symbols_at e.stage (parts new r d t' g) e.upcoming ≡ following (types_for s.limits.types w.role t.nodes (given_of s.given_use g)) w.role v ++ rest_of s.upcoming
         → Moves (state_of s before) input (advance.Event s.offset used (what.Holds w.field i)) (state_of e (parts new r d t' g))
@@ -171,7 +171,7 @@ module _ (s : StreamStanding) (old p : FieldState) (r : type.TypeState) (d : val
         ]
 
 -- the same, where types do not matter
-module _ (s : StreamStanding) (old p : FieldState) (w : Want) (input : List ℕ) (a : IsAsked s old p w) (new : FieldState) where
+module _ (s : StreamProgress) (old p : FieldState) (w : Want) (input : List ℕ) (a : IsAsked s old p w) (new : FieldState) where
   pub piece_inside : (used : ℕ) (v : FieldValue) → Ends p input used v new → s.offset ≤ s.stop → s.offset + (length p.seen + used) ≤ s.stop
   piece_inside used v m inside =
       let r = got_inside w.notation (limit_of (rules_of s.limits) w.notation) (s.stop - s.offset) (p.seen ++ input) v (length p.seen + used) (rw a.field at m.is) (omega (arith, m.within, length-append p.seen input)) in
@@ -191,7 +191,7 @@ pub following_there : (r : Role) (v : FieldValue) (types : Bool) (held : Given) 
 following_there (role.PageRows flags columns) v types held nodes after rest e = rw e refl
 following_there r v types held nodes after rest e = refl
 
-module _ (s e : StreamStanding) (q : PartsState) (p : FieldState) (r : type.TypeState) (d : value.CellState) (t : Table) (n : ℕ) (law : IsConsistent s q) (offset : e.offset ≡ s.offset + n) (inside : s.offset + n ≤ s.stop) (stop : e.stop ≡ s.stop) (limits : e.limits ≡ s.limits) (header : e.header ≡ s.header) (came : e.came ≡ 0)
+module _ (s e : StreamProgress) (q : PartsState) (p : FieldState) (r : type.TypeState) (d : value.CellState) (t : Table) (n : ℕ) (law : IsConsistent s q) (offset : e.offset ≡ s.offset + n) (inside : s.offset + n ≤ s.stop) (stop : e.stop ≡ s.stop) (limits : e.limits ≡ s.limits) (header : e.header ≡ s.header) (came : e.came ≡ 0)
     (room : p.room ≡ q.partial.room) (idle : p.under_way ≡ false) (rules : r.rules ≡ q.types.rules) (types : r.under_way ≡ false) (cells : d.rules ≡ q.cells.rules) (idle_cells : is_under_way d ≡ false) (table : t.room ≡ q.table.room) (forest : Forest t.nodes 0 s.limits.depth) (starts : Starts e (parts p r d t q.given) e.stage) (quiet : IsQuiet (parts p r d t q.given)) where
   pub goes_on_lawful : IsConsistent e (parts p r d t q.given)
   goes_on_lawful =

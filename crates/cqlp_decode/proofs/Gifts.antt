@@ -17,7 +17,7 @@ use Rattle.cqlp_grammar.specs.declared.grammar.Role.{Role}
 use Rattle.cqlp_note.specs.declared.field.Field.{Field}
 use Rattle.cqlp_grammar.specs.Productions.{Symbol, Stream, In, In_type, Cell_due, In_cell, Extra, fault_in}
 use Rattle.cqlp_decode.specs.Reading.{Event, Given, Nothing, Waiting, InUse, Used, Gift, Gives, TakesBack, Gifts, held_after, held_after_all, gifts_now, gifts_later, with_gift, Place, start_with, settled, retired, is_in_use, type_event, cell_event, header_step, value_step, place_of_types, place_of_cells, step_at, step, Reads}
-use Rattle.cqlp_decode.specs.Standing.{StreamState}
+use Rattle.cqlp_decode.specs.Progress.{StreamState}
 use Rattle.cqlp_decode.specs.Streams.{AfterBy}
 use Rattle.cqlp_decode.specs.Giving.{with_given}
 

@@ -4,7 +4,7 @@ use Rattle.std.specs.Prelude.{Option, Some, None}
 use Rattle.cqlp_note.specs.Streams.{CountsUp}
 use Rattle.cqlp_decode.specs.declared.running.Outcome.{Outcome}
 use Rattle.cqlp_decode.specs.Reading.{Event}
-use Rattle.cqlp_decode.specs.Standing.{StreamState}
+use Rattle.cqlp_decode.specs.Progress.{StreamState}
 use Rattle.cqlp_decode.specs.Draining.{Feeds, HasAll, InReads, GoesOnTo, ReadsInTime, idle_reads}
 use Rattle.cqlp_decode.proofs.Gets.{has_all_still}
 

@@ -13,7 +13,7 @@ use Rattle.cqlp_cell.specs.declared.whole.DueItem.{DueItem}
 use Rattle.cqlp_cell.specs.declared.advance.CellAdvance.TheVariants as cell_advance
 use Rattle.cqlp_cell.specs.Items.{event_at}
 use Rattle.cqlp_cell.specs.declared.level.Level.{Level}
-use Rattle.cqlp_cell.specs.Standing.{CellState, HasNext, due_value, ended, is_over, is_under_way, state_after}
+use Rattle.cqlp_cell.specs.Progress.{CellState, HasNext, due_value, ended, is_over, is_under_way, state_after}
 use Rattle.cqlp_cell.specs.Levels.{IsInLevel, NextFits, due_at, due_element, due_if, element_if, passed, with_level}
 use Rattle.cqlp_cell.proofs.Levels.{level_due, level_passed, next_fits}
 use Rattle.cqlp_cell.specs.Reading as taking
@@ -24,12 +24,12 @@ use Rattle.cqlp_cell.specs.Fronts.{SaysScalar}
 use Rattle.cqlp_cell.specs.Whole.{IsDue, IsWhole, outline_of}
 use Rattle.cqlp_cell.proofs.WholeItems.{scalar_outline, scalar_is, scalar_whole, scalar_place}
 use Rattle.cqlp_decode.specs.declared.page.CellCursor.{CellCursor}
-use Rattle.cqlp_decode.specs.declared.standing.StreamStage.{StreamStage}
-use Rattle.cqlp_decode.specs.declared.standing.StreamStage.TheVariants as stage
-use Rattle.cqlp_decode.specs.declared.standing.StreamStanding.{StreamStanding}
+use Rattle.cqlp_decode.specs.declared.progress.StreamStage.{StreamStage}
+use Rattle.cqlp_decode.specs.declared.progress.StreamStage.TheVariants as stage
+use Rattle.cqlp_decode.specs.declared.progress.StreamProgress.{StreamProgress}
 use Rattle.cqlp_decode.specs.Reading.{Event, cell_event}
 use Rattle.cqlp_decode.specs.Pages.{cells_after}
-use Rattle.cqlp_decode.specs.Standing.{PartsState, Hands, GoesOn, IsAt, IsCell, IsConsistent, StageHolds, nodes_of, parts, state_of}
+use Rattle.cqlp_decode.specs.Progress.{PartsState, Hands, GoesOn, IsAt, IsCell, IsConsistent, StageHolds, nodes_of, parts, state_of}
 use Rattle.cqlp_decode.specs.Items.{SaysLeaf, TakesItem, at_level, bare_event, part_told}
 use Rattle.cqlp_decode.proofs.CellSteps.{going_hands, ended_hands, cell_going_lawful, cell_ended_lawful}
 
@@ -41,7 +41,7 @@ part_is (bare.Empty level) input buffer = refl
 part_is (bare.Enter level k n) input buffer = refl
 part_is (bare.Leave level n) input buffer = refl
 
-module _ (s : StreamStanding) (q : PartsState) (p : CellCursor) (here : s.stage ≡ stage.InCell p) (law : IsConsistent s q) (empty : q.partial.content ≡ []) (input : List ℕ) (d : CellState) where
+module _ (s : StreamProgress) (q : PartsState) (p : CellCursor) (here : s.stage ≡ stage.InCell p) (law : IsConsistent s q) (empty : q.partial.content ≡ []) (input : List ℕ) (d : CellState) where
   abbrev beside : PartsState
   beside = parts q.partial q.types d q.table q.given
 
@@ -91,30 +91,30 @@ module _ (s : StreamStanding) (q : PartsState) (p : CellCursor) (here : s.stage 
         (refl, refl, refl, subst (λ (e : CellEvent). Hands (state_of s q) input t.at t.used (cell_event p.row p.column e) (state_of s beside)) (part_is t.part input q.partial.content) going.1)
 
     -- the cell is whole, and the page goes on
-    module _ (whole : is_done d ≡ true) (unrefused : s.refusal ≡ None) (e : StreamStanding) (d' : CellState) (goes_on : GoesOn s e p typed (cells_after typed p)) (rest : IsAt e d.offset s) (cells : d' ≡ ended d) where
+    module _ (whole : is_done d ≡ true) (unrefused : s.refusal ≡ None) (e : StreamProgress) (d' : CellState) (goes_on : GoesOn s e p typed (cells_after typed p)) (rest : IsAt e d.offset s) (cells : d' ≡ ended d) where
       abbrev after : PartsState
       after = parts q.partial q.types d' q.table q.given
 
       pub over_lawful : IsConsistent e after
       over_lawful =
           let goes = goes_on after refl (rw here at law.uses) in
-          cell_ended_lawful s q p here cell_is law.parts.cells input t.at t.used (outline_of t.part) d q.partial moves law e d' (ap (λ (z : StreamStanding). z.offset) rest) (ap (λ (z : StreamStanding). z.stop) rest) (ap (λ (z : StreamStanding). z.limits) rest) (ap (λ (z : StreamStanding). z.header) rest)
-          (ap (λ (z : StreamStanding). z.came) rest) (ap (λ (z : CellState). z.rules) cells) (rw here at (law.table unrefused)) (ap is_under_way cells) (ap (λ (z : CellState). z.open_values) cells) goes.1
+          cell_ended_lawful s q p here cell_is law.parts.cells input t.at t.used (outline_of t.part) d q.partial moves law e d' (ap (λ (z : StreamProgress). z.offset) rest) (ap (λ (z : StreamProgress). z.stop) rest) (ap (λ (z : StreamProgress). z.limits) rest) (ap (λ (z : StreamProgress). z.header) rest)
+          (ap (λ (z : StreamProgress). z.came) rest) (ap (λ (z : CellState). z.rules) cells) (rw here at (law.table unrefused)) (ap is_under_way cells) (ap (λ (z : CellState). z.open_values) cells) goes.1
 
       pub over_takes : TakesItem (state_of s q) input t.at t.used (part_told p.row p.column t.part) (state_of e after)
       over_takes =
           let goes = goes_on after refl (rw here at law.uses) in
-          let hands = ended_hands s q p here cell_is law.parts.cells input t.at t.used (outline_of t.part) d q.partial moves whole e d' (ap (λ (z : StreamStanding). z.offset) rest) (ap (λ (z : StreamStanding). z.stop) rest) (ap (λ (z : StreamStanding). z.frame) rest)
-          (ap (λ (z : StreamStanding). z.came) rest ∙ cell_is.came) goes.0 goes.1 (ap (λ (z : CellState). z.open_values) cells) (ap (λ (z : StreamStanding). z.given_use) rest) in (
-            ap (λ (z : StreamStanding). z.refusal) rest,
-            ap (λ (z : StreamStanding). (state_of z after).rules) rest,
+          let hands = ended_hands s q p here cell_is law.parts.cells input t.at t.used (outline_of t.part) d q.partial moves whole e d' (ap (λ (z : StreamProgress). z.offset) rest) (ap (λ (z : StreamProgress). z.stop) rest) (ap (λ (z : StreamProgress). z.frame) rest)
+          (ap (λ (z : StreamProgress). z.came) rest ∙ cell_is.came) goes.0 goes.1 (ap (λ (z : CellState). z.open_values) cells) (ap (λ (z : StreamProgress). z.given_use) rest) in (
+            ap (λ (z : StreamProgress). z.refusal) rest,
+            ap (λ (z : StreamProgress). (state_of z after).rules) rest,
             refl,
             subst (λ (x : CellEvent). Hands (state_of s q) input t.at t.used (cell_event p.row p.column x) (state_of e after)) (part_is t.part input q.partial.content) hands.1,
           )
 
 -- ---- the innermost value in a loop's hands
 
-module _ (s : StreamStanding) (q : PartsState) (p : CellCursor) (here : s.stage ≡ stage.InCell p) (l : Level) (inside : IsInLevel q.cells l) (law : IsConsistent s (at_level q l)) where
+module _ (s : StreamProgress) (q : PartsState) (p : CellCursor) (here : s.stage ≡ stage.InCell p) (l : Level) (inside : IsInLevel q.cells l) (law : IsConsistent s (at_level q l)) where
   pub level_fits : is_over l.value l.offset ≡ false → NextFits (nodes_of q p.columns) l
   level_fits = next_fits (nodes_of q p.columns) q.cells l inside (subst (λ (t : StreamStage). StageHolds s (at_level q l) t) here law.stage).0.stands
 

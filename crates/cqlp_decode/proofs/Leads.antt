@@ -16,7 +16,7 @@ use Rattle.cqlp_decode.specs.declared.step.Step.TheVariants as steps
 use Rattle.cqlp_decode.specs.Reading as reading
 use Rattle.cqlp_decode.specs.Reading.{Gifts, Place, gifts_now, gifts_later, settled, retired, start_with, step, Reads}
 use Rattle.cqlp_grammar.specs.Events.{event_of}
-use Rattle.cqlp_decode.specs.Standing.{StreamState, AdvancesFrom, Hands, event_at, frame_after, due_after}
+use Rattle.cqlp_decode.specs.Progress.{StreamState, AdvancesFrom, Hands, event_at, frame_after, due_after}
 use Rattle.cqlp_decode.specs.Streams.{AfterGifts, AfterBy, LeadsAfter, Goes, Refuses, Repeats, frame_from, open_after, open_from}
 use Rattle.cqlp_decode.proofs.Gifts.{settled_none, settled_step, retired_all}
 

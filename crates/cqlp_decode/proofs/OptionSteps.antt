@@ -22,23 +22,23 @@ use Rattle.cqlp_kind.specs.Types.{kinds}
 use Rattle.cqlp_type.specs.Pushing.{ReadsInto}
 use Rattle.cqlp_kind.specs.TypeStep.{TypeSymbol, TypeEvent, IsNode, IsField, TypePlace, Option_at, Text_of, Fields_of, Whole, option_step, type_step_at, type_step, type_place, settled, symbol_copies, inner_symbols, with_arity, count_in}
 use Rattle.cqlp_type.specs.Table.{Table}
-use Rattle.cqlp_type.specs.Standing as type
-use Rattle.cqlp_type.specs.Standing.{place_of, pending}
+use Rattle.cqlp_type.specs.Progress as type
+use Rattle.cqlp_type.specs.Progress.{place_of, pending}
 use Rattle.cqlp_type.specs.Remaining as part
 use Rattle.cqlp_grammar.specs.Productions.{Symbol, In_type}
-use Rattle.cqlp_decode.specs.declared.standing.StreamStage.TheVariants as stage
-use Rattle.cqlp_decode.specs.declared.standing.StreamStanding.{StreamStanding}
+use Rattle.cqlp_decode.specs.declared.progress.StreamStage.TheVariants as stage
+use Rattle.cqlp_decode.specs.declared.progress.StreamProgress.{StreamProgress}
 use Rattle.cqlp_decode.specs.declared.advance.EventAdvance.TheVariants as advance
 use Rattle.cqlp_decode.specs.declared.advance.EventOutline.TheVariants as what
 use Rattle.cqlp_decode.specs.Reading.{Place, type_event, types_left, place_of_types}
 use Rattle.cqlp_decode.specs.Pages.{given_of}
-use Rattle.cqlp_decode.specs.Standing.{IsPending, PartsState, parts, state_of, place_at, offset_at, symbols_at, rest_of, said, Gives, Waits, Moves, IsLent, due_after, frame_after, ends_due, HasRoom, IsOption, OptionWaits, OptionRuns, IsConsistent, StageHolds, TableHolds}
-use Rattle.cqlp_decode.specs.declared.standing.StreamStage.{StreamStage}
+use Rattle.cqlp_decode.specs.Progress.{IsPending, PartsState, parts, state_of, place_at, offset_at, symbols_at, rest_of, said, Gives, Waits, Moves, IsLent, due_after, frame_after, ends_due, HasRoom, IsOption, OptionWaits, OptionRuns, IsConsistent, StageHolds, TableHolds}
+use Rattle.cqlp_decode.specs.declared.progress.StreamStage.{StreamStage}
 use Rattle.cqlp_decode.proofs.Steps.{starts_bare, begun_bare, one_due_bare, offset_is_bare}
 use Rattle.cqlp_decode.proofs.FieldSteps.{used_some, goes_on_lawful}
 use Rattle.cqlp_type.proofs.Pushes.{option_begun, option_waited, option_handed, option_over}
 use Rattle.cqlp_type.specs.Forests.{Forest}
-use Rattle.cqlp_cell.specs.Standing.{is_under_way}
+use Rattle.cqlp_cell.specs.Progress.{is_under_way}
 use Rattle.cqlp_type.proofs.Columns.{forest_more}
 
 -- ---- the table that an option is read into
@@ -107,7 +107,7 @@ is_lent : (e : TypeEvent) (used : ℕ) (content : List ℕ) → (type.text_lengt
 is_lent (IsNode k) used content h = tt
 is_lent (IsField f v) used content h = h
 
-module _ (s : StreamStanding) (q : PartsState) (here : s.stage ≡ stage.InType) (o : IsOption s q.partial q.types) (rules : q.types.rules ≡ rules_of s.limits) where
+module _ (s : StreamProgress) (q : PartsState) (here : s.stage ≡ stage.InType) (o : IsOption s q.partial q.types) (rules : q.types.rules ≡ rules_of s.limits) where
   abbrev rest : List Symbol
   rest = rest_of s.upcoming
 
@@ -162,7 +162,7 @@ module _ (s : StreamStanding) (q : PartsState) (here : s.stage ≡ stage.InType)
     )
 
     -- the place that the decoder stands at then
-    module _ (e : StreamStanding) (q' : PartsState) (content : q'.partial.content ≡ p'.content) (nodes : q'.table.nodes ≡ t'.nodes) (offset : offset_at e.stage e.offset q' ≡ r'.offset) (stop : e.stop ≡ s.stop) (frame : e.frame ≡ s.frame)
+    module _ (e : StreamProgress) (q' : PartsState) (content : q'.partial.content ≡ p'.content) (nodes : q'.table.nodes ≡ t'.nodes) (offset : offset_at e.stage e.offset q' ≡ r'.offset) (stop : e.stop ≡ s.stop) (frame : e.frame ≡ s.frame)
         (symbols : symbols_at e.stage q' e.upcoming ≡ types_left r'.symbols ++ rest) (fresh : IsPending (state_of e q').pending []) (one : ends_due (symbols_at e.stage q' e.upcoming) ≡ 1) (cells : q'.cells ≡ q.cells) (given : given_of e.given_use q'.given ≡ given_of s.given_use q.given) where
       pub option_hands : Moves (state_of s q) input (advance.Event at used (what.Option x)) (state_of e q')
       option_hands = (
@@ -195,7 +195,7 @@ module _ (s : StreamStanding) (q : PartsState) (here : s.stage ≡ stage.InType)
     still_hands more = option_hands s (parts p' r' q.cells t' q.given) refl refl (rw here refl) refl refl (rw here (sym (left_some r'.symbols rest more))) (rw (here, none_pending) refl) (rw here refl) refl refl
 
     -- the option is whole
-    module _ (whole : r'.symbols ≡ []) (e : StreamStanding) (r'' : type.TypeState) (offset : e.offset ≡ r'.offset) (stop : e.stop ≡ s.stop) (frame : e.frame ≡ s.frame) (came : e.came ≡ 0) (symbols : (z : PartsState) → symbols_at e.stage z e.upcoming ≡ rest)
+    module _ (whole : r'.symbols ≡ []) (e : StreamProgress) (r'' : type.TypeState) (offset : e.offset ≡ r'.offset) (stop : e.stop ≡ s.stop) (frame : e.frame ≡ s.frame) (came : e.came ≡ 0) (symbols : (z : PartsState) → symbols_at e.stage z e.upcoming ≡ rest)
         (room : HasRoom e.stage e.upcoming) (same_use : e.given_use ≡ s.given_use) where
       pub ended_hands : Moves (state_of s q) input (advance.Event at used (what.Option x)) (state_of e (parts p' r'' q.cells t' q.given))
       ended_hands =
@@ -272,7 +272,7 @@ module _ (s : StreamStanding) (q : PartsState) (here : s.stage ≡ stage.InType)
             uses = law.uses;
           }
 
-      pub option_ended_lawful : r'.symbols ≡ [] → (e : StreamStanding) (r'' : type.TypeState) → r'' ≡ type.stopped r' → e.offset ≡ r'.offset → e.stop ≡ s.stop → e.limits ≡ s.limits → e.header ≡ s.header → e.came ≡ s.came → HasRoom e.stage e.upcoming → IsConsistent e (parts p' r'' q.cells t' q.given)
+      pub option_ended_lawful : r'.symbols ≡ [] → (e : StreamProgress) (r'' : type.TypeState) → r'' ≡ type.stopped r' → e.offset ≡ r'.offset → e.stop ≡ s.stop → e.limits ≡ s.limits → e.header ≡ s.header → e.came ≡ s.came → HasRoom e.stage e.upcoming → IsConsistent e (parts p' r'' q.cells t' q.given)
       option_ended_lawful whole e r'' over offset stop limits header came room =
           let same = m.reader in
           let rules : r'.rules ≡ rules_of s.limits = ap (λ (y : type.TypeState). y.rules) same ∙ law.parts.rules in
@@ -284,7 +284,7 @@ module _ (s : StreamStanding) (q : PartsState) (here : s.stage ≡ stage.InType)
 
 -- ---- an option begins
 
-module _ (s : StreamStanding) (q : PartsState) (here : s.stage ≡ stage.BeforeType) where
+module _ (s : StreamProgress) (q : PartsState) (here : s.stage ≡ stage.BeforeType) where
   pub option_begun_same : state_of (record s { stage = stage.InType }) (parts q.partial (type.started q.types s.offset s.stop) q.cells q.table q.given) ≡ state_of s q
   option_begun_same = rw here refl
 

@@ -11,11 +11,11 @@ use Rattle.cqlp_cell.proofs.Sizing.{null_is, empty_is}
 use Rattle.cqlp_decode.specs.declared.page_loop.Handed.{Handed}
 use Rattle.cqlp_decode.specs.declared.page_loop.Handed.TheVariants as handed
 use Rattle.cqlp_decode.specs.declared.page.CellCursor.{CellCursor}
-use Rattle.cqlp_decode.specs.declared.standing.StreamStage.TheVariants as stage
-use Rattle.cqlp_decode.specs.declared.standing.StreamStanding.{StreamStanding}
+use Rattle.cqlp_decode.specs.declared.progress.StreamStage.TheVariants as stage
+use Rattle.cqlp_decode.specs.declared.progress.StreamProgress.{StreamProgress}
 use Rattle.cqlp_decode.specs.Reading.{Event, cell_event}
 use Rattle.cqlp_decode.specs.Pages.{IsKind, Turns}
-use Rattle.cqlp_decode.specs.Standing.{StreamState, PartsState, IsConsistent, nodes_of, state_of}
+use Rattle.cqlp_decode.specs.Progress.{StreamState, PartsState, IsConsistent, nodes_of, state_of}
 use Rattle.cqlp_decode.specs.Items.{TakesItem}
 use Rattle.cqlp_decode.specs.Cells.{SaysCell, HandsCell, HandsFront, HasHanded, HandsOut, FailsAfter}
 use Rattle.cqlp_decode.proofs.CellSteps.{onward_hands, onward_lawful}
@@ -52,13 +52,13 @@ hands_said l k room input row column used e says HasGot Failed (handed.Fault n) 
 -- ---- from cell to cell
 
 -- the reading stands at a cell of a page
-abbrev pub at_cell : StreamStanding → CellCursor → (offset : ℕ) → StreamStanding
+abbrev pub at_cell : StreamProgress → CellCursor → (offset : ℕ) → StreamProgress
 at_cell s p offset = record s { stage = stage.BeforeCell p; offset = offset }
 
-pub at_first : (s : StreamStanding) (p : CellCursor) → s.stage ≡ stage.BeforeCell p → at_cell s p s.offset ≡ s
+pub at_first : (s : StreamProgress) (p : CellCursor) → s.stage ≡ stage.BeforeCell p → at_cell s p s.offset ≡ s
 at_first s p here = λ j. record s { stage = sym here j; offset = s.offset }
 
-module _ (s : StreamStanding) (q : PartsState) (p p' : CellCursor) (offset : ℕ) (law : IsConsistent (at_cell s p offset) q) (unrefused : s.refusal ≡ None) (empty : q.partial.content ≡ []) (k : Kind) (kind : IsKind (nodes_of q p.columns) p k)
+module _ (s : StreamProgress) (q : PartsState) (p p' : CellCursor) (offset : ℕ) (law : IsConsistent (at_cell s p offset) q) (unrefused : s.refusal ≡ None) (empty : q.partial.content ≡ []) (k : Kind) (kind : IsKind (nodes_of q p.columns) p k)
     (turns : Turns (nodes_of q p.columns) s.limits.depth p (Some p')) (input : List ℕ) (used taken : ℕ) (Holds : Event → Type 0) (h : HandsCell (rules_of s.limits) k (s.stop - offset) (drop used input) p.row p.column taken Holds) where
   abbrev old : StreamState
   old = state_of (at_cell s p offset) q

@@ -13,12 +13,12 @@ use Rattle.cqlp_note.specs.Heading.{heading}
 use Rattle.cqlp_note.specs.Limits.{rules_of}
 use Rattle.cqlp_type.specs.Forests.{Forest}
 use Rattle.cqlp_grammar.specs.Productions.{Stream, message}
-use Rattle.cqlp_grammar.specs.declared.table.Expected.{Expected}
-use Rattle.cqlp_grammar.specs.declared.table.Expected.TheVariants as due
+use Rattle.cqlp_grammar.specs.declared.productions.Expected.{Expected}
+use Rattle.cqlp_grammar.specs.declared.productions.Expected.TheVariants as due
 use Rattle.cqlp_grammar.specs.declared.upcoming.Slot.{Slot}
-use Rattle.cqlp_decode.specs.declared.standing.StreamStage.{StreamStage}
-use Rattle.cqlp_decode.specs.declared.standing.StreamStage.TheVariants as stage
-use Rattle.cqlp_decode.specs.declared.standing.StreamStanding.{StreamStanding}
+use Rattle.cqlp_decode.specs.declared.progress.StreamStage.{StreamStage}
+use Rattle.cqlp_decode.specs.declared.progress.StreamStage.TheVariants as stage
+use Rattle.cqlp_decode.specs.declared.progress.StreamProgress.{StreamProgress}
 use Rattle.cqlp_decode.specs.declared.advance.EventAdvance.TheVariants as advance
 use Rattle.cqlp_decode.specs.declared.advance.EventOutline.TheVariants as what
 use Rattle.cqlp_grammar.specs.Upcoming.{IsDue, Pops}
@@ -28,7 +28,7 @@ use Rattle.cqlp_decode.specs.Pages.{given_of, ended_use}
 use Rattle.cqlp_decode.specs.declared.given.GivenUse.{GivenUse}
 use Rattle.cqlp_decode.specs.declared.given.GivenUse.TheVariants as uses
 use Rattle.cqlp_type.specs.Table.{Table}
-use Rattle.cqlp_decode.specs.Standing.{IsPending, state_of, place_at, offset_at, pending_at, symbols_at, rest_of, stage_with, came_of, said, Gives, Waits, Moves, PartsState, IsIdle, ends_due, nodes_of, HasRoom, Starts, StageHolds, TableHolds, IsPlaced, IsNoPage, UsesGiven, IsConsistent}
+use Rattle.cqlp_decode.specs.Progress.{IsPending, state_of, place_at, offset_at, pending_at, symbols_at, rest_of, stage_with, came_of, said, Gives, Waits, Moves, PartsState, IsIdle, ends_due, nodes_of, HasRoom, Starts, StageHolds, TableHolds, IsPlaced, IsNoPage, UsesGiven, IsConsistent}
 use Rattle.cqlp_decode.proofs.Columns.{cells_due}
 
 -- what was given, after the end of a frame
@@ -40,7 +40,7 @@ retired_use uses.Used (Some t) = refl
 
 -- ---- what is skipped
 
-pub extra_waits : (s new : StreamStanding) (q : PartsState) (input : List ℕ) (used : ℕ) → s.stage ≡ stage.Extra → s.came ≤ s.stop - s.offset → used ≡ min (s.stop - s.offset - s.came) (length input) → s.came + used < s.stop - s.offset
+pub extra_waits : (s new : StreamProgress) (q : PartsState) (input : List ℕ) (used : ℕ) → s.stage ≡ stage.Extra → s.came ≤ s.stop - s.offset → used ≡ min (s.stop - s.offset - s.came) (length input) → s.came + used < s.stop - s.offset
     → new ≡ record s { came = s.came + used } → Waits (state_of s q) input used (state_of new q)
 extra_waits s new q input used here le is less same = rw same (record {
   all = omega arith;
@@ -52,7 +52,7 @@ extra_waits s new q input used here le is less same = rw same (record {
       (rw (here, lt-ltb _ _ short) refl, rw here (omega (arith, length-append b input)));
 })
 
-pub extra_hands : (s : StreamStanding) (q : PartsState) (input : List ℕ) (used : ℕ) (u : GivenUse) → u ≡ ended_use s.given_use → s.stage ≡ stage.Extra → s.offset ≤ s.stop → s.came ≤ s.stop - s.offset → used ≡ min (s.stop - s.offset - s.came) (length input) → s.stop - s.offset ≤ s.came + used
+pub extra_hands : (s : StreamProgress) (q : PartsState) (input : List ℕ) (used : ℕ) (u : GivenUse) → u ≡ ended_use s.given_use → s.stage ≡ stage.Extra → s.offset ≤ s.stop → s.came ≤ s.stop - s.offset → used ≡ min (s.stop - s.offset - s.came) (length input) → s.stop - s.offset ≤ s.came + used
     → Moves (state_of s q) input (advance.Event s.stop used (what.End (s.stop - s.offset))) (state_of (record s { frame = s.stop; offset = s.stop; stage = stage.Header; came = 0; given_use = u }) q)
 extra_hands s q input used u over here inside le is all = (
   tt,
@@ -86,7 +86,7 @@ begun_bare (stage.BeforeCell p) upcoming header came q room none idle = absurd r
 begun_bare (stage.InCell p) upcoming header came q room none idle = absurd room
 begun_bare stage.Extra upcoming header came q room none idle = sym none
 
-pub begun : (s : StreamStanding) (t : StreamStage) (header : List ℕ) (came : ℕ) (q : PartsState) → Starts s q t → came ≡ 0 → q.partial.under_way ≡ false → IsPending (pending_at t header came q) []
+pub begun : (s : StreamProgress) (t : StreamStage) (header : List ℕ) (came : ℕ) (q : PartsState) → Starts s q t → came ≡ 0 → q.partial.under_way ≡ false → IsPending (pending_at t header came q) []
 begun s stage.Header header came q start none idle = absurd start
 begun s (stage.Field w) header came q start none idle = rw idle refl
 begun s stage.BeforeType header came q start none idle = refl
@@ -105,7 +105,7 @@ one_due_bare (stage.BeforeCell p) q upcoming room = absurd room
 one_due_bare (stage.InCell p) q upcoming room = absurd room
 one_due_bare stage.Extra q upcoming room = refl
 
-pub one_due : (s : StreamStanding) (t : StreamStage) (q : PartsState) → Starts s q t → ends_due (symbols_at t q s.upcoming) ≡ 1
+pub one_due : (s : StreamProgress) (t : StreamStage) (q : PartsState) → Starts s q t → ends_due (symbols_at t q s.upcoming) ≡ 1
 one_due s stage.Header q start = absurd start
 one_due s (stage.Field w) q start = refl
 one_due s stage.BeforeType q start = refl
@@ -124,7 +124,7 @@ offset_is_bare (stage.BeforeCell p) offset q upcoming room = absurd room
 offset_is_bare (stage.InCell p) offset q upcoming room = absurd room
 offset_is_bare stage.Extra offset q upcoming room = refl
 
-pub offset_is : (s : StreamStanding) (t : StreamStage) (q : PartsState) → Starts s q t → offset_at t s.offset q ≡ s.offset
+pub offset_is : (s : StreamProgress) (t : StreamStage) (q : PartsState) → Starts s q t → offset_at t s.offset q ≡ s.offset
 offset_is s stage.Header q start = absurd start
 offset_is s (stage.Field w) q start = refl
 offset_is s stage.BeforeType q start = refl
@@ -134,7 +134,7 @@ offset_is s (stage.InCell p) q start = absurd start
 offset_is s stage.Extra q start = refl
 
 -- what holds of the next stage, of which nothing has come
-pub fresh_stage : (e : StreamStanding) (q : PartsState) (t : StreamStage) → Starts e q t → IsIdle q → e.came ≡ 0 → StageHolds e q t
+pub fresh_stage : (e : StreamProgress) (q : PartsState) (t : StreamStage) → Starts e q t → IsIdle q → e.came ≡ 0 → StageHolds e q t
 fresh_stage e q stage.Header start idle none = absurd start
 fresh_stage e q (stage.Field w) start idle none = (
   record {
@@ -154,7 +154,7 @@ fresh_stage e q (stage.InCell p) start idle none = absurd start
 fresh_stage e q stage.Extra start idle none = (omega arith, idle)
 
 -- the table then holds whole types alone
-pub fresh_table : (e : StreamStanding) (q : PartsState) (t : StreamStage) → Starts e q t → Forest q.table.nodes 0 e.limits.depth → TableHolds (rules_of e.limits) q t
+pub fresh_table : (e : StreamProgress) (q : PartsState) (t : StreamStage) → Starts e q t → Forest q.table.nodes 0 e.limits.depth → TableHolds (rules_of e.limits) q t
 fresh_table e q stage.Header start f = f
 fresh_table e q (stage.Field w) start f = f
 fresh_table e q stage.BeforeType start f = f
@@ -164,7 +164,7 @@ fresh_table e q (stage.InCell p) start f = f
 fresh_table e q stage.Extra start f = f
 
 -- where a message goes on without a page
-pub starts_bare : (s : StreamStanding) (q : PartsState) (t : StreamStage) → HasRoom t s.upcoming → Starts s q t
+pub starts_bare : (s : StreamProgress) (q : PartsState) (t : StreamStage) → HasRoom t s.upcoming → Starts s q t
 starts_bare s q stage.Header room = room
 starts_bare s q (stage.Field w) room = room
 starts_bare s q stage.BeforeType room = room
@@ -174,7 +174,7 @@ starts_bare s q (stage.InCell p) room = room
 starts_bare s q stage.Extra room = room
 
 -- a page that goes on is typed by the given table only while it is in use
-pub starts_uses : (s : StreamStanding) (q : PartsState) (t : StreamStage) → Starts s q t → UsesGiven (given_of s.given_use q.given) t
+pub starts_uses : (s : StreamProgress) (q : PartsState) (t : StreamStage) → Starts s q t → UsesGiven (given_of s.given_use q.given) t
 starts_uses s q stage.Header start = tt
 starts_uses s q (stage.Field w) start = tt
 starts_uses s q stage.BeforeType start = tt
@@ -204,7 +204,7 @@ next_room old new (Some (due.Field w)) n = (n.1, n.2)
 next_room old new (Some due.Option) n = tt
 
 -- the reading goes on with what is due, and passes it
-module _ (s mid : StreamStanding) (new : List Slot) (o : Option Expected) (is : mid ≡ record s { stage = stage_with o }) (d : IsDue s.upcoming o) (passes : (o : Option Expected) → IsDue mid.upcoming o → Pops mid.upcoming o new) where
+module _ (s mid : StreamProgress) (new : List Slot) (o : Option Expected) (is : mid ≡ record s { stage = stage_with o }) (d : IsDue s.upcoming o) (passes : (o : Option Expected) → IsDue mid.upcoming o → Pops mid.upcoming o new) where
   passed : Pops s.upcoming o new
   passed = (rw is at passes) o d
 
@@ -214,7 +214,7 @@ module _ (s mid : StreamStanding) (new : List Slot) (o : Option Expected) (is : 
   pub passed_room : HasRoom mid.stage new
   passed_room = rw is (next_room s.upcoming new o passed)
 
-pub placed : (s : StreamStanding) (q : PartsState) (t : StreamStage) → StageHolds s q t → IsPlaced s q t
+pub placed : (s : StreamProgress) (q : PartsState) (t : StreamStage) → StageHolds s q t → IsPlaced s q t
 placed s q stage.Header h = (h.0, h.2)
 placed s q (stage.Field w) h = tt
 placed s q stage.BeforeType h = tt
@@ -224,7 +224,7 @@ placed s q (stage.InCell p) h = h.0
 placed s q stage.Extra h = h.0
 
 -- a refusal changes nothing of the rest
-stage_refused : (s : StreamStanding) (q : PartsState) (r : Option Refusal) (u : GivenUse) (t : StreamStage) → StageHolds s q t → StageHolds (record s { refusal = r; given_use = u }) q t
+stage_refused : (s : StreamProgress) (q : PartsState) (r : Option Refusal) (u : GivenUse) (t : StreamStage) → StageHolds s q t → StageHolds (record s { refusal = r; given_use = u }) q t
 stage_refused s q r u stage.Header h = h
 stage_refused s q r u (stage.Field w) h = (record { room = h.0.room; read = h.0.read; field = h.0.field; waits = h.0.waits; came = h.0.came }, h.1, h.2)
 stage_refused s q r u stage.BeforeType h = h
@@ -233,7 +233,7 @@ stage_refused s q r u (stage.BeforeCell p) h = h
 stage_refused s q r u (stage.InCell p) h = (record { under_way = h.0.under_way; stands = h.0.stands; joined = h.0.joined; some = h.0.some; is = h.0.is; page = h.0.page; stop = h.0.stop; after = h.0.after; came = h.0.came }, h.1)
 stage_refused s q r u stage.Extra h = h
 
-pub refused_lawful : (s : StreamStanding) (q : PartsState) (r : Refusal) (u : GivenUse) → IsNoPage s.stage → IsConsistent s q → IsConsistent (record s { refusal = Some r; given_use = u }) q
+pub refused_lawful : (s : StreamProgress) (q : PartsState) (r : Refusal) (u : GivenUse) → IsNoPage s.stage → IsConsistent s q → IsConsistent (record s { refusal = Some r; given_use = u }) q
 refused_lawful s q r u none h = record {
   bounded = record { long = h.bounded.long; inside = h.bounded.inside; size = h.bounded.size; bound = h.bounded.bound };
   parts = record { room = h.parts.room; rules = h.parts.rules; cells = h.parts.cells; table = h.parts.table; few = h.parts.few };
@@ -246,19 +246,19 @@ refused_lawful s q r u none h = record {
 
 -- ---- headers
 
-module _ (s : StreamStanding) (q : PartsState) (input : List ℕ) (here : s.stage ≡ stage.Header) (early : s.offset ≤ 2 ^ 63) (long : length s.header ≡ 9) (some : s.came < 9) where
+module _ (s : StreamProgress) (q : PartsState) (input : List ℕ) (here : s.stage ≡ stage.Header) (early : s.offset ≤ 2 ^ 63) (long : length s.header ≡ 9) (some : s.came < 9) where
   kept_long : length (take s.came s.header) ≡ s.came
   kept_long = length-take-le s.came s.header (omega arith)
 
-  pub header_waits : (new : StreamStanding) → s.came + length input < 9 → take new.came new.header ≡ take s.came s.header ++ input → new ≡ record s { header = new.header; came = new.came } → Waits (state_of s q) input (length input) (state_of new q)
+  pub header_waits : (new : StreamProgress) → s.came + length input < 9 → take new.came new.header ≡ take s.came s.header ++ input → new ≡ record s { header = new.header; came = new.came } → Waits (state_of s q) input (length input) (state_of new q)
   header_waits new few kept rest = record {
     all = refl;
-    place = ap (λ (z : StreamStanding). (state_of z q).place) rest;
-    frame = ap (λ (z : StreamStanding). z.frame) rest;
+    place = ap (λ (z : StreamProgress). (state_of z q).place) rest;
+    frame = ap (λ (z : StreamProgress). z.frame) rest;
     waits = λ b is.
         let came : b ≡ take s.came s.header = rw here at is in
         let short : length (b ++ input) < 9 = rw came (omega (arith, length-append (take s.came s.header) input, kept_long)) in
-        let there : new.stage ≡ stage.Header = ap (λ (z : StreamStanding). z.stage) rest ∙ here in
+        let there : new.stage ≡ stage.Header = ap (λ (z : StreamProgress). z.stage) rest ∙ here in
         (rw (here, le-ltb _ _ early, lt-ltb _ _ short) refl, rw there (ap (λ (x : List ℕ). x ++ input) came ∙ sym kept));
   }
 
@@ -287,7 +287,7 @@ module _ (s : StreamStanding) (q : PartsState) (input : List ℕ) (here : s.stag
         let count : length b + (9 - s.came) ≡ 9 = rw came (omega (arith, kept_long)) in
         (x, rw (here, le-ltb _ _ early, le-ltb _ _ (whole b came), front b came, is) (ap (λ (k : ℕ). Got x k) (sym count)), refl, refl, rw count refl)
 
-    pub header_hands : (new : StreamStanding) (h : Header) → heading nine ≡ Ok h → new.offset ≡ s.offset + 9 → new.stop ≡ s.offset + 9 + h.length → symbols_at new.stage q new.upcoming ≡ message h
+    pub header_hands : (new : StreamProgress) (h : Header) → heading nine ≡ Ok h → new.offset ≡ s.offset + 9 → new.stop ≡ s.offset + 9 + h.length → symbols_at new.stage q new.upcoming ≡ message h
         → HasRoom new.stage new.upcoming → new.frame ≡ s.frame → new.came ≡ 0 → new.given_use ≡ s.given_use → IsIdle q → Moves (state_of s q) input (advance.Event s.offset (9 - s.came) (what.Frame h)) (state_of new q)
     header_hands new h is at stop symbols room frame none same_use idle =
         let offset : offset_at new.stage new.offset q ≡ s.offset + 9 = offset_is_bare new.stage new.offset q new.upcoming room ∙ at in (

@@ -11,14 +11,14 @@ use Rattle.cqlp_type.specs.Forests.{depth_of}
 use Rattle.cqlp_decode.specs.declared.given.GivenUse.{GivenUse}
 use Rattle.cqlp_decode.specs.declared.page.Columns.{Columns}
 use Rattle.cqlp_decode.specs.declared.page.Columns.TheVariants as columns
-use Rattle.cqlp_decode.specs.declared.standing.StreamStage.{StreamStage}
-use Rattle.cqlp_decode.specs.declared.standing.StreamStage.TheVariants as stage
-use Rattle.cqlp_decode.specs.declared.standing.StreamStanding.{StreamStanding}
+use Rattle.cqlp_decode.specs.declared.progress.StreamStage.{StreamStage}
+use Rattle.cqlp_decode.specs.declared.progress.StreamStage.TheVariants as stage
+use Rattle.cqlp_decode.specs.declared.progress.StreamProgress.{StreamProgress}
 use Rattle.cqlp_decode.specs.Reading.{Given, Nothing, Gift, TakesBack, held_after, with_gift, is_in_use}
 use Rattle.cqlp_decode.specs.Streams.{AfterGifts}
 use Rattle.cqlp_decode.proofs.Gifts.{one_more}
 use Rattle.cqlp_decode.specs.Pages.{given_of, page_nodes}
-use Rattle.cqlp_decode.specs.Standing.{PartsState, StreamState, parts, state_of, symbols_at, place_at, offset_at, pending_at, nodes_of, UsesGiven, StageHolds, TableHolds, HoldsGiven, IsConsistent}
+use Rattle.cqlp_decode.specs.Progress.{PartsState, StreamState, parts, state_of, symbols_at, place_at, offset_at, pending_at, nodes_of, UsesGiven, StageHolds, TableHolds, HoldsGiven, IsConsistent}
 use Rattle.cqlp_decode.specs.declared.given.GiveReason.{GiveReason}
 use Rattle.cqlp_decode.specs.declared.given.GiveReason.TheVariants.{Ended, Off, Busy, Open, TooMany, TooDeep}
 use Rattle.cqlp_decode.specs.Giving.{are_whole, first_reason, reason_against, with_given, once_taken, after_taking, GivesAlso, TakesAlso}
@@ -68,9 +68,9 @@ apart_nodes columns.Typed nodes g h other = refl
 apart_nodes columns.Given nodes g h other = absurd (other refl)
 apart_nodes (columns.Raw n) nodes g h other = refl
 
-module _ (s : StreamStanding) (q : PartsState) (u : GivenUse) (g : Option Table) where
+module _ (s : StreamProgress) (q : PartsState) (u : GivenUse) (g : Option Table) where
   -- the decoder with this table in place of what it held
-  abbrev there : StreamStanding
+  abbrev there : StreamProgress
   there = record s { given_use = u }
 
   abbrev beside : PartsState
@@ -167,7 +167,7 @@ pub gives_also : (x : Gift) (d new : StreamState) (table : Option Table) → new
 gives_also x d new table is gifts s es a = subst (λ (z : StreamState). AfterGifts (with_gift (length es) x gifts) z s es) (sym is) (one_more x gifts d table s es d.refusal a)
 
 -- where no table is held, nothing is
-pub nothing_held : (s : StreamStanding) (q : PartsState) → q.given ≡ None → given_of s.given_use q.given ≡ Nothing
+pub nothing_held : (s : StreamProgress) (q : PartsState) → q.given ≡ None → given_of s.given_use q.given ≡ Nothing
 nothing_held s q is = rw is refl
 
 pub taken_is : (d : StreamState) (o : Option Table) → o ≡ d.given → (d.given ≡ None → d.place.given ≡ Nothing) → once_taken d ≡ after_taking o d

@@ -4,7 +4,7 @@ use Rattle.std.specs.Prelude.{Option, None}
 use Rattle.std.proofs.lemmas.List.{append-nil, length-drop}
 use Rattle.cqlp_note.specs.declared.refusal.Refusal.{Refusal}
 use Rattle.cqlp_decode.specs.Reading.{Event, Gifts}
-use Rattle.cqlp_decode.specs.Standing.{StreamState, ends_due}
+use Rattle.cqlp_decode.specs.Progress.{StreamState, ends_due}
 use Rattle.cqlp_decode.specs.Streams.{AfterBy, AfterGifts}
 use Rattle.cqlp_decode.specs.Draining.{Drains, FailsWithin, Passes, fold_events}
 use Rattle.cqlp_decode.specs.Items.{TakesItem}

@@ -13,7 +13,7 @@ use Rattle.cqlp_decode.specs.declared.page_loop.Handed.TheVariants as handed
 use Rattle.cqlp_decode.specs.declared.page_loop.Bare.{Bare}
 use Rattle.cqlp_decode.specs.declared.page_loop.Bare.TheVariants as bare
 use Rattle.cqlp_decode.specs.Reading.{Event, cell_event}
-use Rattle.cqlp_decode.specs.Standing.{StreamState, ends_due}
+use Rattle.cqlp_decode.specs.Progress.{StreamState, ends_due}
 use Rattle.cqlp_decode.specs.Items.{TakesItem}
 
 -- Where a cell of this kind is read, in a frame with this much room: these bytes say that all of it is this event.

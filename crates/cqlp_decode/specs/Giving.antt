@@ -9,7 +9,7 @@ use Rattle.cqlp_type.specs.Table.{Table}
 use Rattle.cqlp_decode.specs.declared.given.GiveReason.{GiveReason}
 use Rattle.cqlp_decode.specs.declared.given.GiveReason.TheVariants.{Ended, Off, Busy, Open, TooMany, TooDeep}
 use Rattle.cqlp_decode.specs.Reading.{Event, Given, Nothing, Waiting, Gift, TakesBack, Gifts, is_in_use, with_gift}
-use Rattle.cqlp_decode.specs.Standing.{StreamState}
+use Rattle.cqlp_decode.specs.Progress.{StreamState}
 use Rattle.cqlp_decode.specs.Streams.{AfterGifts}
 
 -- no type of these nodes is under way

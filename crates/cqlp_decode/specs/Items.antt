@@ -14,10 +14,10 @@ use Rattle.cqlp_decode.specs.declared.item_loop.PartTaken.{PartTaken}
 use Rattle.cqlp_decode.specs.declared.page_loop.Handed.{Handed}
 use Rattle.cqlp_decode.specs.declared.page_loop.Handed.TheVariants as handed
 use Rattle.cqlp_decode.specs.declared.page.CellCursor.{CellCursor}
-use Rattle.cqlp_decode.specs.declared.standing.StreamStage.{StreamStage}
-use Rattle.cqlp_decode.specs.declared.standing.StreamStage.TheVariants as stage
+use Rattle.cqlp_decode.specs.declared.progress.StreamStage.{StreamStage}
+use Rattle.cqlp_decode.specs.declared.progress.StreamStage.TheVariants as stage
 use Rattle.cqlp_decode.specs.Reading.{Event, cell_event}
-use Rattle.cqlp_decode.specs.Standing.{StreamState, PartsState, Hands, parts}
+use Rattle.cqlp_decode.specs.Progress.{StreamState, PartsState, Hands, parts}
 
 -- the event of a part of a cell that has no content
 abbrev pub bare_event : BarePart → CellEvent

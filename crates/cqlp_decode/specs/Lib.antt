@@ -1,6 +1,6 @@
 pub mod Reading
 pub mod Pages
-pub mod Standing
+pub mod Progress
 pub mod Streams
 pub mod Lending
 pub mod Giving

@@ -5,12 +5,12 @@ use Rattle.cqlp_note.specs.Field.{FieldValue}
 use Rattle.cqlp_kind.specs.declared.kind.Kind.{Kind}
 use Rattle.cqlp_kind.specs.declared.node.Node.{Node}
 use Rattle.cqlp_kind.specs.Types.{Types, NoMore, Type_and, types_of, other_types}
-use Rattle.cqlp_cell.specs.declared.standing.NextInCell.{NextInCell}
-use Rattle.cqlp_cell.specs.declared.standing.NextInCell.TheVariants as next
+use Rattle.cqlp_cell.specs.declared.progress.NextInCell.{NextInCell}
+use Rattle.cqlp_cell.specs.declared.progress.NextInCell.TheVariants as next
 use Rattle.cqlp_kind.specs.CellStep.{CellSymbol}
 use Rattle.cqlp_type.specs.Forests.{Forest}
-use Rattle.cqlp_cell.specs.Standing as cell
-use Rattle.cqlp_cell.specs.Standing.{place}
+use Rattle.cqlp_cell.specs.Progress as cell
+use Rattle.cqlp_cell.specs.Progress.{place}
 use Rattle.cqlp_grammar.specs.declared.grammar.Role.{Role}
 use Rattle.cqlp_grammar.specs.Productions.{Symbol, Cell_due, In_cell, row_from, rows_from, raw_types, following}
 use Rattle.cqlp_decode.specs.declared.page.Columns.{Columns}

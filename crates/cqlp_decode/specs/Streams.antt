@@ -11,23 +11,23 @@ use Rattle.cqlp_decode.specs.declared.step.Held.{Held}
 use Rattle.cqlp_note.specs.Limits.{Rules}
 use Rattle.cqlp_kind.specs.declared.node.Node.{Node}
 use Rattle.cqlp_type.specs.Table.{Table}
-use Rattle.cqlp_decode.specs.declared.standing.StreamStanding.{StreamStanding}
+use Rattle.cqlp_decode.specs.declared.progress.StreamProgress.{StreamProgress}
 use Rattle.cqlp_decode.specs.Reading as reading
 use Rattle.cqlp_note.specs.Reader.{says, Bad}
 use Rattle.cqlp_decode.specs.Reading.{Event, Place, Gift, Gifts, gifts_now, gifts_later, held_after_all, retired, settled}
 use Rattle.cqlp_decode.specs.Reading.{start_with, Reads, Says, Waits, Refused}
 use Rattle.cqlp_decode.specs.Reading.{step as step_of}
 use Rattle.cqlp_grammar.specs.Events.{event_of}
-use Rattle.cqlp_decode.specs.Standing.{StreamState, PartsState, IsPending, IsLent, state_of, levels_of, frame_after, ends_due}
+use Rattle.cqlp_decode.specs.Progress.{StreamState, PartsState, IsPending, IsLent, state_of, levels_of, frame_after, ends_due}
 
 -- What contracts see of a decoder: where it stands, and its parts that own memory.
 pub record Decoding : Type 0 where
-  pub standing : StreamStanding
+  pub progress : StreamProgress
   pub parts : PartsState
 
 -- what it knows of its stream
 abbrev pub state : Decoding → StreamState
-state d = state_of d.standing d.parts
+state d = state_of d.progress d.parts
 
 -- ---- events so far
 

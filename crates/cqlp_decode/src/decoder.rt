@@ -9,7 +9,7 @@ ghost use Rattle.cqlp_cell.specs.Items as cell;
 ghost use Rattle.cqlp_grammar.specs.Events.{event_of};
 ghost use Rattle.cqlp_decode.specs.Reading as reading;
 ghost use Rattle.cqlp_decode.specs.Reading.{cell_event};
-ghost use Rattle.cqlp_decode.specs.Standing.{levels_of};
+ghost use Rattle.cqlp_decode.specs.Progress.{levels_of};
 ghost use Rattle.cqlp_note.specs.declared.limits.BadLimits.{BadLimits as Bad};
 ghost use Rattle.cqlp_note.specs.declared.refusal.Refusal.{Refusal};
 
@@ -19,7 +19,7 @@ use crate::given::{GiveError, GiveReason, GivenUse};
 use crate::item_loop::take_items;
 use crate::page_loop::take_cells;
 use crate::parts::Parts;
-use crate::standing::StreamStanding;
+use crate::progress::StreamProgress;
 use crate::step::{Capacity, FaultAfter, Held, Step};
 use cqlp_cell::{CellItem, CellReader};
 use cqlp_grammar::{Event, Finish, Sink};
@@ -43,19 +43,19 @@ pub enum NewError {
 /// as large as its limits say for as long as it lives.
 #[derive(Drop)]
 pub struct Decoder<A: Allocator = Global> {
-    standing: StreamStanding,
+    progress: StreamProgress,
     parts: Parts<A>,
 }
 
 impl<A: Allocator> Model for Decoder<A> {
-    ghost use Rattle.cqlp_decode.specs.Standing.{IsLawful, parts_state};
+    ghost use Rattle.cqlp_decode.specs.Progress.{IsLawful, parts_state};
     ghost use Rattle.cqlp_decode.specs.Streams.{Decoding};
 
     ghost Value = { Decoding };
 
-    ghost view = { λ d. record { standing = d.standing; parts = parts_state d.parts } };
+    ghost view = { λ d. record { progress = d.progress; parts = parts_state d.parts } };
 
-    ghost invariant = { λ d. IsLawful d.standing d.parts };
+    ghost invariant = { λ d. IsLawful d.progress d.parts };
 }
 
 impl<A: Allocator + Clone> Decoder<A> {
@@ -94,7 +94,7 @@ impl<A: Allocator + Clone> Decoder<A> {
         let table = TypeTable::new(alloc.clone()?, limits.entries)?;
         let types = TypeReader::new(alloc.clone()?, &limits)?;
         let cells = CellReader::new(alloc, &limits)?;
-        let standing = StreamStanding::new(limits);
+        let progress = StreamProgress::new(limits);
         let parts = Parts {
             partial,
             types,
@@ -102,7 +102,7 @@ impl<A: Allocator + Clone> Decoder<A> {
             table,
             given: None,
         };
-        Ok(Decoder { standing, parts })
+        Ok(Decoder { progress, parts })
     }
 }
 
@@ -112,7 +112,7 @@ impl<A: Allocator> Decoder<A> {
     ghost use Rattle.cqlp_decode.specs.Giving.{GivesAlso, GivesBack, TakesAlso, after_taking, free_table, once_given, reason_against};
     ghost use Rattle.cqlp_decode.specs.Reading.{Gives, is_in_use};
     ghost use Rattle.cqlp_decode.specs.Sinks.{Gets, Fails};
-    ghost use Rattle.cqlp_decode.specs.Standing.{Advances, HoldsGiven, LeavesTypes, Takes, WhatThere, event_at};
+    ghost use Rattle.cqlp_decode.specs.Progress.{Advances, HoldsGiven, LeavesTypes, Takes, WhatThere, event_at};
     ghost use Rattle.cqlp_decode.specs.Streams.{EndsAs, IsUnrefused, IsWithin, Uses, capacity_within, given_nodes, state};
     ghost use Rattle.cqlp_decode.specs.declared.given.GiveReason.{GiveReason as Why};
     ghost use Rattle.cqlp_kind.specs.Types.{types_of};
@@ -162,7 +162,7 @@ impl<A: Allocator> Decoder<A> {
         if let Some(why) = self.reason(&table) {
             return Err(GiveError { why, table });
         }
-        self.standing.given_use = GivenUse::Waiting;
+        self.progress.given_use = GivenUse::Waiting;
         Ok(self.parts.given.replace(table))
     }
 
@@ -186,7 +186,7 @@ impl<A: Allocator> Decoder<A> {
         ensures unrefused { (state self.now).refusal ≡ None → IsUnrefused result }
         ensures ends { EndsAs (state self.now) result }
     {
-        self.standing.finish(&self.parts)
+        self.progress.finish(&self.parts)
     }
 
     /// What is held of the stream: at most as many bytes as the greater of the limits on a text and on a cell, twice as
@@ -239,19 +239,19 @@ impl<A: Allocator> Decoder<A> {
     /// Why a table is not taken now, if so.
     fn reason(&self, table: &TypeTable<A>) -> Option<GiveReason>
         ensures is { result ≡ reason_against (state self.now) table.now.nodes }
-        ensures fits { result ≡ None → HoldsGiven self.now.standing.limits (Some table.now) }
+        ensures fits { result ≡ None → HoldsGiven self.now.progress.limits (Some table.now) }
     {
-        if self.standing.refusal.is_some() {
+        if self.progress.refusal.is_some() {
             Some(GiveReason::Ended)
-        } else if !self.standing.limits.types {
+        } else if !self.progress.limits.types {
             Some(GiveReason::Off)
         } else if self.is_in_use() {
             Some(GiveReason::Busy)
         } else if !table.whole() {
             Some(GiveReason::Open)
-        } else if table.len() > self.standing.limits.entries {
+        } else if table.len() > self.progress.limits.entries {
             Some(GiveReason::TooMany)
-        } else if table.depth() > self.standing.limits.depth {
+        } else if table.depth() > self.progress.limits.depth {
             Some(GiveReason::TooDeep)
         } else {
             None
@@ -262,7 +262,7 @@ impl<A: Allocator> Decoder<A> {
     fn is_in_use(&self) -> bool
         ensures { result ≡ is_in_use (state self.now).place.given }
     {
-        self.parts.given.is_some() && matches!(self.standing.given_use, GivenUse::InUse)
+        self.parts.given.is_some() && matches!(self.progress.given_use, GivenUse::InUse)
     }
 
     /// Takes the cell that is due, where it is a scalar and all its bytes lie in the input.
@@ -270,7 +270,7 @@ impl<A: Allocator> Decoder<A> {
     fn take_scalar<'a>(&mut self, input: &'a [u8]) -> Option<ScalarCell<'a>>
         ensures { Takes (state self.old) input.now result (state self.new) }
     {
-        self.standing.take_scalar(&self.parts, input)
+        self.progress.take_scalar(&self.parts, input)
     }
 
     /// Hands events of the input to the sink that lie whole in it, as far as the loops over fields, over the cells of a page
@@ -309,10 +309,10 @@ impl<A: Allocator> Decoder<A> {
         ensures drains { DrainsCells (Gets S.Sink) (Fails S.Sink) (state self.old) input.now result (state self.new)
             sink.old sink.new }
     {
-        if self.standing.is_in_page() {
+        if self.progress.is_in_page() {
             return Ok(0);
         }
-        take_fields(&mut self.standing, &mut self.parts, input, sink)
+        take_fields(&mut self.progress, &mut self.parts, input, sink)
     }
 
     /// Hands cells to the sink, as far as the loops over a page and over the items of its cells take them, and answers how
@@ -325,14 +325,14 @@ impl<A: Allocator> Decoder<A> {
         ensures drains { DrainsCells (Gets S.Sink) (Fails S.Sink) (state self.old) input.now result (state self.new)
             sink.old sink.new }
     {
-        if !self.standing.is_in_page() {
+        if !self.progress.is_in_page() {
             return Ok(0);
         }
-        let used = match take_cells(&mut self.standing, &self.parts, input, sink) {
+        let used = match take_cells(&mut self.progress, &self.parts, input, sink) {
             Ok(used) => used,
             Err(fault) => return Err(fault),
         };
-        let more = match take_items(&mut self.standing, &mut self.parts, &input[used..], sink) {
+        let more = match take_items(&mut self.progress, &mut self.parts, &input[used..], sink) {
             Ok(more) => more,
             Err(fault) => {
                 let used = used + fault.used;
@@ -347,7 +347,7 @@ impl<A: Allocator> Decoder<A> {
         ensures advances { Advances (state self.old) input.now result (state self.new) }
         ensures table { LeavesTypes result (state self.old).place.nodes (state self.new).place.nodes }
     {
-        self.standing.advance(&mut self.parts, input)
+        self.progress.advance(&mut self.parts, input)
     }
 
     /// The event that `advance` made of this input.

@@ -8,48 +8,48 @@
 ghost use Rattle.std.specs.Prelude.{◌≡◌, ◌-◌, ◌≤◌, Ok, None, Some};
 ghost use Rattle.cqlp_note.specs.Limits.{limit_of, rules_of};
 ghost use Rattle.cqlp_note.specs.declared.refusal.Refusal.{Refusal};
-ghost use Rattle.cqlp_decode.specs.declared.standing.StreamStage.TheVariants as stage;
+ghost use Rattle.cqlp_decode.specs.declared.progress.StreamStage.TheVariants as stage;
 ghost use Rattle.cqlp_decode.specs.Cells.{DrainsCells, StaysWithin};
 ghost use Rattle.cqlp_decode.specs.Fields.{HandsField};
 ghost use Rattle.cqlp_decode.specs.Items.{HandsItem};
 ghost use Rattle.cqlp_decode.specs.Sinks.{Gets, Fails};
-ghost use Rattle.cqlp_decode.specs.Standing.{IsBounded, IsConsistent, IsIdle, IsLawful, PartsState, state_of, state_with};
+ghost use Rattle.cqlp_decode.specs.Progress.{IsBounded, IsConsistent, IsIdle, IsLawful, PartsState, state_of, state_with};
 
 use crate::decoder::event_with;
 use crate::metadata::begin_metadata;
 use crate::page_loop::Handed;
 use crate::parts::Parts;
-use crate::standing::{StreamStage, StreamStanding, limit_on};
+use crate::progress::{StreamProgress, StreamStage, limit_on};
 use crate::step::FaultAfter;
 use cqlp_grammar::{Event, Role, Sink, SinkFault, Want, fault_in};
-use cqlp_kind::content::first;
+use cqlp_kind::content::read_array;
 use cqlp_note::{Field, Header, Limits, Notation, front_field};
 use std::alloc::Allocator;
 
 /// Hands what is due to the sink, as far as the loop takes it, and answers how many bytes of the input it takes.
 pub fn take_fields<S: Sink, A: Allocator>(
-    standing: &mut StreamStanding,
+    progress: &mut StreamProgress,
     parts: &mut Parts<A>,
     input: &[u8],
     sink: &mut S,
 ) -> Result<usize, FaultAfter>
-    requires lawful { IsLawful standing.old parts.old }
-    ensures lawful { IsLawful standing.new parts.new }
-    ensures stays { StaysWithin (state_with standing.old parts.old) input.now result
-        (state_with standing.new parts.new) }
-    ensures refused { (r : Refusal) → standing.old.refusal ≡ Some r
-        → (standing.new ≡ standing.old) × (parts.new ≡ parts.old) × (sink.new ≡ sink.old) × (result ≡ Ok 0) }
-    ensures drains { DrainsCells (Gets S.Sink) (Fails S.Sink) (state_with standing.old parts.old) input.now result
-        (state_with standing.new parts.new) sink.old sink.new }
+    requires lawful { IsLawful progress.old parts.old }
+    ensures lawful { IsLawful progress.new parts.new }
+    ensures stays { StaysWithin (state_with progress.old parts.old) input.now result
+        (state_with progress.new parts.new) }
+    ensures refused { (r : Refusal) → progress.old.refusal ≡ Some r
+        → (progress.new ≡ progress.old) × (parts.new ≡ parts.old) × (sink.new ≡ sink.old) × (result ≡ Ok 0) }
+    ensures drains { DrainsCells (Gets S.Sink) (Fails S.Sink) (state_with progress.old parts.old) input.now result
+        (state_with progress.new parts.new) sink.old sink.new }
 {
-    if standing.refusal.is_some() {
+    if progress.refusal.is_some() {
         return Ok(0);
     }
     let mut used = 0;
     'fields: loop {
-        match standing.hand_due(parts, &input[used..], sink) {
+        match progress.hand_due(parts, &input[used..], sink) {
             Handed::Left => return Ok(used),
-            Handed::Cell(taken) => used += taken,
+            Handed::Taken(taken) => used += taken,
             Handed::Fault(taken) => {
                 let used = used + taken;
                 return Err(FaultAfter { used });
@@ -113,12 +113,12 @@ fn hand_front<S: Sink>(
         return Handed::Left;
     };
     match sink.take(at, &event_with(field, whole.value)) {
-        Ok(()) => Handed::Cell(whole.used),
+        Ok(()) => Handed::Taken(whole.used),
         Err(SinkFault) => Handed::Fault(whole.used),
     }
 }
 
-impl StreamStanding {
+impl StreamProgress {
     /// Hands what is due to the sink, if the loop takes it.
     #[inline(always)]
     fn hand_due<S: Sink, A: Allocator>(
@@ -166,13 +166,13 @@ impl StreamStanding {
         if self.came > 0 || self.offset > 1 << 63 || input.len() < 9 {
             return Handed::Left;
         }
-        let Ok(header) = Header::read(&first(input), self.offset) else {
+        let Ok(header) = Header::read(&read_array(input), self.offset) else {
             return Handed::Left;
         };
         let at = self.offset;
         self.enter(&header);
         match sink.take(at, &Event::Frame(header)) {
-            Ok(()) => Handed::Cell(9),
+            Ok(()) => Handed::Taken(9),
             Err(SinkFault) => Handed::Fault(9),
         }
     }
@@ -209,7 +209,7 @@ impl StreamStanding {
                 extra: extra as u32,
             },
         ) {
-            Ok(()) => Handed::Cell(used),
+            Ok(()) => Handed::Taken(used),
             Err(SinkFault) => Handed::Fault(used),
         }
     }
@@ -247,14 +247,14 @@ impl StreamStanding {
         let room = self.stop - at;
         match hand_plain(&self.limits, notation, field, room, at, input, sink) {
             Handed::Left => Handed::Left,
-            Handed::Cell(used) => {
+            Handed::Taken(used) => {
                 self.offset += used as u64;
-                self.go_on();
-                Handed::Cell(used)
+                self.expect_next();
+                Handed::Taken(used)
             }
             Handed::Fault(used) => {
                 self.offset += used as u64;
-                self.go_on();
+                self.expect_next();
                 Handed::Fault(used)
             }
         }
@@ -297,7 +297,7 @@ impl StreamStanding {
         begin_metadata(want.role, &mut parts.table);
         self.follow(want.role, value, &parts.table, &parts.given);
         match sink.take(at, &event_with(want.field, value)) {
-            Ok(()) => Handed::Cell(used),
+            Ok(()) => Handed::Taken(used),
             Err(SinkFault) => Handed::Fault(used),
         }
     }

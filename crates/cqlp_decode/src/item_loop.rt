@@ -8,19 +8,19 @@
 ghost use Rattle.std.specs.Prelude.{◌≡◌, Ok, OnErr, OnOk, None, Some, []};
 ghost use Rattle.cqlp_note.specs.Limits.{rules_of};
 ghost use Rattle.cqlp_note.specs.declared.refusal.Refusal.{Refusal};
-ghost use Rattle.cqlp_decode.specs.declared.standing.StreamStage.TheVariants as stage;
+ghost use Rattle.cqlp_decode.specs.declared.progress.StreamStage.TheVariants as stage;
 ghost use Rattle.cqlp_decode.specs.Cells.{DrainsCells, DrainsItems, StaysWithin, UsesWithin};
 ghost use Rattle.cqlp_decode.specs.Items.{HandsLeaf, IsIn, StaysIn, TakesPart, at_level, part_told};
 ghost use Rattle.cqlp_type.specs.Forests.{node_at};
 ghost use Rattle.cqlp_cell.specs.declared.open_values.Order.TheVariants as order;
 ghost use Rattle.cqlp_cell.specs.Levels.{IsInLevel};
 ghost use Rattle.cqlp_decode.specs.Sinks.{Gets, Fails};
-ghost use Rattle.cqlp_decode.specs.Standing.{IsConsistent, IsLawful, nodes_of, parts_state, state_of, state_with};
+ghost use Rattle.cqlp_decode.specs.Progress.{IsConsistent, IsLawful, nodes_of, parts_state, state_of, state_with};
 
 use crate::page::{CellCursor, page_table};
 use crate::page_loop::Handed;
 use crate::parts::Parts;
-use crate::standing::{StreamStage, StreamStanding};
+use crate::progress::{StreamProgress, StreamStage};
 use crate::step::FaultAfter;
 use cqlp_cell::{BareItem, BarePart, DueItem, Level, front_scalar};
 use cqlp_grammar::{Event, Sink, SinkFault};
@@ -45,35 +45,35 @@ pub struct ItemsHanded {
 /// Hands the items of cells to the sink, as far as the loop takes them, and answers how many bytes of the input they
 /// take.
 pub fn take_items<S: Sink, A: Allocator>(
-    standing: &mut StreamStanding,
+    progress: &mut StreamProgress,
     parts: &mut Parts<A>,
     input: &[u8],
     sink: &mut S,
 ) -> Result<usize, FaultAfter>
-    requires lawful { IsLawful standing.old parts.old }
-    ensures lawful { IsLawful standing.new parts.new }
-    ensures stays { StaysWithin (state_with standing.old parts.old) input.now result
-        (state_with standing.new parts.new) }
-    ensures refused { (r : Refusal) → standing.old.refusal ≡ Some r
-        → (standing.new ≡ standing.old) × (parts.new ≡ parts.old) × (sink.new ≡ sink.old) × (result ≡ Ok 0) }
-    ensures drains { DrainsCells (Gets S.Sink) (Fails S.Sink) (state_with standing.old parts.old) input.now result
-        (state_with standing.new parts.new) sink.old sink.new }
+    requires lawful { IsLawful progress.old parts.old }
+    ensures lawful { IsLawful progress.new parts.new }
+    ensures stays { StaysWithin (state_with progress.old parts.old) input.now result
+        (state_with progress.new parts.new) }
+    ensures refused { (r : Refusal) → progress.old.refusal ≡ Some r
+        → (progress.new ≡ progress.old) × (parts.new ≡ parts.old) × (sink.new ≡ sink.old) × (result ≡ Ok 0) }
+    ensures drains { DrainsCells (Gets S.Sink) (Fails S.Sink) (state_with progress.old parts.old) input.now result
+        (state_with progress.new parts.new) sink.old sink.new }
 {
-    if parts.partial.held() > 0 || standing.refusal.is_some() {
+    if parts.partial.held() > 0 || progress.refusal.is_some() {
         return Ok(0);
     }
-    let Some(first) = standing.enter_cell(parts) else {
+    let Some(first) = progress.enter_cell(parts) else {
         return Ok(0);
     };
     let mut page = first;
     let mut used = 0;
     'items: loop {
-        let handed = standing.hand_items(parts, page, &input[used..], sink);
+        let handed = progress.hand_items(parts, page, &input[used..], sink);
         used += handed.used;
         if handed.failed {
             return Err(FaultAfter { used });
         }
-        let Some(taken) = standing.take_part(parts, page, &input[used..]) else {
+        let Some(taken) = progress.take_part(parts, page, &input[used..]) else {
             return Ok(used);
         };
         match hand_part(page, taken.item, sink) {
@@ -84,7 +84,7 @@ pub fn take_items<S: Sink, A: Allocator>(
             }
         }
         if taken.over {
-            let Some(following) = standing.enter_cell(parts) else {
+            let Some(following) = progress.enter_cell(parts) else {
                 return Ok(used);
             };
             page = following;
@@ -161,7 +161,7 @@ fn hand_kind<S: Sink>(
         scalar,
     };
     match sink.take(at, &event) {
-        Ok(()) => Handed::Cell(front.used),
+        Ok(()) => Handed::Taken(front.used),
         Err(SinkFault) => Handed::Fault(front.used),
     }
 }
@@ -191,7 +191,7 @@ fn hand_part<S: Sink>(page: CellCursor, item: BareItem, sink: &mut S) -> Result<
     }
 }
 
-impl StreamStanding {
+impl StreamProgress {
     /// The cell that is under way. One that is due begins, if its values have items.
     #[inline(always)]
     fn enter_cell<A: Allocator>(&mut self, parts: &mut Parts<A>) -> Option<CellCursor>
@@ -291,7 +291,7 @@ impl StreamStanding {
             };
             match hand_leaf(&limits, due, page, &input[used..], sink) {
                 Handed::Left => break 'scalars,
-                Handed::Cell(taken) => {
+                Handed::Taken(taken) => {
                     level.pass(taken, table);
                     used += taken;
                 }
@@ -399,7 +399,7 @@ impl StreamStanding {
             };
             match hand_kind(&limits, kind, due, page, &input[used..], sink) {
                 Handed::Left => break 'elements,
-                Handed::Cell(taken) => {
+                Handed::Taken(taken) => {
                     here.pass_element(taken);
                     used += taken;
                 }

@@ -11,16 +11,16 @@ ghost use Rattle.cqlp_note.specs.declared.refusal.Refusal.{Refusal};
 ghost use Rattle.cqlp_decode.specs.Cells.{DrainsCells, HandsFront, HasHanded, IsBare, StaysWithin};
 ghost use Rattle.cqlp_grammar.specs.Events.{event_of};
 ghost use Rattle.cqlp_decode.specs.Sinks.{Gets, Fails};
-ghost use Rattle.cqlp_decode.specs.Standing.{IsLawful, state_with};
+ghost use Rattle.cqlp_decode.specs.Progress.{IsLawful, state_with};
 
 use crate::page::{CellCursor, page_table};
 use crate::parts::Parts;
-use crate::standing::{StreamStage, StreamStanding};
+use crate::progress::{StreamProgress, StreamStage};
 use crate::step::FaultAfter;
 use cqlp_cell::front_scalar;
 use cqlp_grammar::{Event, Sink, SinkFault};
 use cqlp_kind::Kind;
-use cqlp_kind::content::first;
+use cqlp_kind::content::read_array;
 use cqlp_note::Limits;
 use std::alloc::Allocator;
 
@@ -46,34 +46,34 @@ pub enum Bare {
 /// they take.
 #[inline(never)]
 pub fn take_cells<S: Sink, A: Allocator>(
-    standing: &mut StreamStanding,
+    progress: &mut StreamProgress,
     parts: &Parts<A>,
     input: &[u8],
     sink: &mut S,
 ) -> Result<usize, FaultAfter>
-    requires lawful { IsLawful standing.old parts.now }
-    ensures lawful { IsLawful standing.new parts.now }
-    ensures stays { StaysWithin (state_with standing.old parts.now) input.now result
-        (state_with standing.new parts.now) }
-    ensures refused { (r : Refusal) → standing.old.refusal ≡ Some r
-        → (standing.new ≡ standing.old) × (sink.new ≡ sink.old) × (result ≡ Ok 0) }
-    ensures drains { DrainsCells (Gets S.Sink) (Fails S.Sink) (state_with standing.old parts.now) input.now result
-        (state_with standing.new parts.now) sink.old sink.new }
+    requires lawful { IsLawful progress.old parts.now }
+    ensures lawful { IsLawful progress.new parts.now }
+    ensures stays { StaysWithin (state_with progress.old parts.now) input.now result
+        (state_with progress.new parts.now) }
+    ensures refused { (r : Refusal) → progress.old.refusal ≡ Some r
+        → (progress.new ≡ progress.old) × (sink.new ≡ sink.old) × (result ≡ Ok 0) }
+    ensures drains { DrainsCells (Gets S.Sink) (Fails S.Sink) (state_with progress.old parts.now) input.now result
+        (state_with progress.new parts.now) sink.old sink.new }
 {
-    let StreamStage::BeforeCell(due) = standing.stage else {
+    let StreamStage::BeforeCell(due) = progress.stage else {
         return Ok(0);
     };
     if parts.partial.held() > 0 {
         return Ok(0);
     }
-    if let Some(_) = standing.refusal {
+    if let Some(_) = progress.refusal {
         return Ok(0);
     }
-    let limits = standing.limits;
-    let stop = standing.stop;
+    let limits = progress.limits;
+    let stop = progress.stop;
     let table = page_table(due.columns, &parts.table, &parts.given);
     let mut page = due;
-    let mut offset = standing.offset;
+    let mut offset = progress.offset;
     let mut used = 0;
     'cells: loop {
         let Some(following) = page.next(table) else {
@@ -83,21 +83,21 @@ pub fn take_cells<S: Sink, A: Allocator>(
         let room = stop - offset;
         match hand_cell(&limits, kind, room, page, offset, &input[used..], sink) {
             Handed::Left => break 'cells,
-            Handed::Cell(taken) => {
+            Handed::Taken(taken) => {
                 used += taken;
                 offset += taken as u64;
                 page = following;
             }
             Handed::Fault(taken) => {
-                standing.offset = offset + taken as u64;
-                standing.stage = StreamStage::BeforeCell(following);
+                progress.offset = offset + taken as u64;
+                progress.stage = StreamStage::BeforeCell(following);
                 let used = used + taken;
                 return Err(FaultAfter { used });
             }
         }
     }
-    standing.offset = offset;
-    standing.stage = StreamStage::BeforeCell(page);
+    progress.offset = offset;
+    progress.stage = StreamStage::BeforeCell(page);
     Ok(used)
 }
 
@@ -197,7 +197,7 @@ fn hand<S: Sink>(at: u64, event: &Event<'_>, used: usize, sink: &mut S) -> Hande
         used result }
 {
     match sink.take(at, event) {
-        Ok(()) => Handed::Cell(used),
+        Ok(()) => Handed::Taken(used),
         Err(SinkFault) => Handed::Fault(used),
     }
 }
@@ -210,7 +210,7 @@ fn front_bare(room: u64, input: &[u8]) -> Option<Bare>
     if room < 4 || input.len() < 4 {
         return None;
     }
-    let len = u32::from_be_bytes(first(input));
+    let len = u32::from_be_bytes(read_array(input));
     if len > i32::MAX as u32 {
         return Some(Bare::Null);
     }

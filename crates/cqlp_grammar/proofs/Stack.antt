@@ -9,8 +9,8 @@ use Rattle.cqlp_grammar.specs.declared.grammar.Group.{Group}
 use Rattle.cqlp_grammar.specs.declared.grammar.Group.TheVariants as groups
 use Rattle.std.specs.Prelude.{true, false}
 use Rattle.std.specs.Prelude.{Option, Some, None}
-use Rattle.cqlp_grammar.specs.declared.table.Expected.{Expected}
-use Rattle.cqlp_grammar.specs.declared.table.Expected.TheVariants as due
+use Rattle.cqlp_grammar.specs.declared.productions.Expected.{Expected}
+use Rattle.cqlp_grammar.specs.declared.productions.Expected.TheVariants as due
 use Rattle.cqlp_grammar.specs.declared.upcoming.Slot.{Slot}
 use Rattle.cqlp_grammar.specs.declared.upcoming.Slot.TheVariants.{One, Many}
 use Rattle.cqlp_grammar.specs.Upcoming.{symbols_of, symbols_in, need, room_after, room_after_due, room_for, wanted, wants, FirstFits, IsDue, IsFirst, IsSlot, IsRead, AreRead, Fits, Popped, Pops}

@@ -3,7 +3,7 @@ use Rattle.std.specs.Prelude.{◌≡◌, ◌+◌, ◌≤◌, ◌++◌, List, len
 use Rattle.cqlp_grammar.specs.Productions.{group}
 use Rattle.cqlp_grammar.specs.Upcoming.{IsDue, Pops, opened, symbols_in}
 use Rattle.cqlp_grammar.specs.declared.grammar.Group.{Group}
-use Rattle.cqlp_grammar.specs.declared.table.Expected.{Expected}
+use Rattle.cqlp_grammar.specs.declared.productions.Expected.{Expected}
 use Rattle.cqlp_grammar.specs.declared.upcoming.Slot.{Slot}
 
 -- Where no group is opened, the field that was due is gone. All fields of a group that is opened are still to be read.

@@ -10,8 +10,8 @@ use Rattle.cqlp_kind.specs.Types.{Types}
 use Rattle.cqlp_kind.specs.TypeStep.{Option_at}
 use Rattle.cqlp_note.specs.Field.{FieldValue}
 use Rattle.cqlp_note.specs.Head.{fixed_of}
-use Rattle.cqlp_grammar.specs.declared.table.Expected.{Expected}
-use Rattle.cqlp_grammar.specs.declared.table.Expected.TheVariants as due
+use Rattle.cqlp_grammar.specs.declared.productions.Expected.{Expected}
+use Rattle.cqlp_grammar.specs.declared.productions.Expected.TheVariants as due
 use Rattle.cqlp_grammar.specs.declared.upcoming.Slot.{Slot}
 use Rattle.cqlp_grammar.specs.declared.upcoming.Slot.TheVariants.{One, Many}
 

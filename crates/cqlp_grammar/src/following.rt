@@ -8,7 +8,7 @@ ghost use Rattle.cqlp_grammar.specs.Productions.{Extra, In, batch_parts, entry_p
 ghost use Rattle.cqlp_grammar.specs.Productions.{message, number_in, query_parts, specs, text_in};
 
 use crate::grammar::{Group, Role};
-use crate::table::{
+use crate::productions::{
     Expected, Want, body_fields, counted, error_fields, event_fields, plain, result_fields,
     target_fields,
 };

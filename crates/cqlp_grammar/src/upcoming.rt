@@ -3,7 +3,7 @@
 ghost use Rattle.std.specs.Prelude.{◌≡◌, ◌+◌, ◌≤◌, ◌++◌, ◌∷◌, [], Option, drop, length, max, option_map, if◌then◌else◌};
 
 use crate::grammar::Group;
-use crate::table::{Expected, group_fields};
+use crate::productions::{Expected, group_fields};
 use std::marker::Model;
 
 /// Fields that are still to be read.

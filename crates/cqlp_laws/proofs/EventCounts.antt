@@ -34,7 +34,7 @@ use Rattle.cqlp_grammar.specs.declared.grammar.Role.TheVariants as role
 use Rattle.cqlp_grammar.specs.Productions.{Symbol, Stream, In, In_type, Cell_due, In_cell, Extra, plain, counted, copies, where_set, group, body, announced, message, query_parts, errors, results, by_text, targets, events, specs, table_name, row_from, rows_from, or_nothing, number_in, text_in, following, fault_in}
 use Rattle.cqlp_decode.specs.Reading.{Event, Place, Gifts, settled, start_with, Reads, Says, Verdict, Waits, Refused, type_event, cell_event, types_for, nodes_after, types_left, cells_left, place_of_types, place_of_cells, header_step, step_at, step}
 use Rattle.cqlp_decode.specs.Reading as reading
-use Rattle.cqlp_decode.specs.Standing.{StreamState}
+use Rattle.cqlp_decode.specs.Progress.{StreamState}
 use Rattle.cqlp_decode.specs.Streams.{AfterGifts, AfterBy}
 
 -- ---- readers

@@ -14,7 +14,7 @@ use Rattle.cqlp_grammar.specs.declared.event.Finish.{Finish}
 use Rattle.cqlp_grammar.specs.declared.event.Finish.TheVariants as finish
 use Rattle.cqlp_decode.specs.Reading.{Event, Place, Verdict, Waits, Refused, Gifts, gifts_now, held_after_all, retired, settled, Reads, Says, start_with, step}
 use Rattle.cqlp_grammar.specs.Events.{event_of}
-use Rattle.cqlp_decode.specs.Standing.{StreamState, Pending, Kept, Skipped, Valued, IsPending}
+use Rattle.cqlp_decode.specs.Progress.{StreamState, Pending, Kept, Skipped, Valued, IsPending}
 use Rattle.cqlp_decode.specs.Streams.{state, AfterGifts, AfterBy, Stands, LeadsAfter, Goes, Answers, FinishesBy}
 use Rattle.cqlp_laws.specs.OneAnswer as one
 use Rattle.cqlp_laws.specs.OneAnswer.{answer_of, AreAlike, IsNew, IsHeld, IsOneAnswerOfNew, IsOneAnswerOfNext, IsOneAnswerOfFinish, IsOneAnswerOfHeld}

@@ -14,7 +14,7 @@ use Rattle.cqlp_grammar.specs.declared.event.Finish.TheVariants as finish
 use Rattle.cqlp_decode.specs.declared.running.Outcome.{Outcome}
 use Rattle.cqlp_decode.specs.declared.running.Outcome.TheVariants as outcome
 use Rattle.cqlp_decode.specs.Reading.{Event, Place, Verdict, Waits, Refused, Gifts, Reads, Says, start, start_with, step}
-use Rattle.cqlp_decode.specs.Standing.{StreamState}
+use Rattle.cqlp_decode.specs.Progress.{StreamState}
 use Rattle.cqlp_decode.specs.Streams.{state, AfterGifts, AfterBy, FinishesBy}
 use Rattle.cqlp_decode.specs.Draining.{Feeds, HasAll, RunsTo, WaitsAt, fold_events, idle_reads, verdict_of}
 use Rattle.cqlp_laws.specs.OneAnswer.{IsFrontEitherWay, IsSound, Ran, is_read_fault, handed, AreOneRun, IsOneAnswerOfRun, RunsRight, EndsBy}

@@ -13,7 +13,7 @@ use Rattle.cqlp_decode.specs.declared.running.Outcome.{Outcome}
 use Rattle.cqlp_decode.specs.declared.running.Outcome.TheVariants as outcome
 use Rattle.cqlp_decode.specs.Reading.{Event, Verdict, Waits, Refused, Gifts, Says, start}
 use Rattle.cqlp_grammar.specs.Events.{event_of}
-use Rattle.cqlp_decode.specs.Standing.{StreamState, levels_of}
+use Rattle.cqlp_decode.specs.Progress.{StreamState, levels_of}
 use Rattle.cqlp_decode.specs.Streams.{Decoding, state, After, AfterGifts, Answers, Finishes, FinishesBy, given_nodes}
 use Rattle.cqlp_decode.specs.Draining.{MakesReads, RunsTo, WaitsAt, fold_events}
 use Rattle.cqlp_laws.specs.Reading.{BeginsWith}

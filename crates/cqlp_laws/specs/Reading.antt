@@ -9,7 +9,7 @@ use Rattle.cqlp_kind.specs.Scalars.{content_size}
 use Rattle.cqlp_kind.specs.CellStep.{Leaf, Part}
 use Rattle.cqlp_grammar.specs.Events.{Holds, Cell_at}
 use Rattle.cqlp_decode.specs.Reading.{Place, Event, Verdict, Refused, Gifts, Says, start_with, step}
-use Rattle.cqlp_decode.specs.Standing.{StreamState}
+use Rattle.cqlp_decode.specs.Progress.{StreamState}
 use Rattle.cqlp_decode.specs.Streams.{AfterGifts}
 
 -- Any bytes say some list of events and some verdict, where a part of a long content has any byte.

@@ -8,7 +8,7 @@ use Rattle.cqlp_message.specs.FrameValues.{FrameValue}
 use Rattle.cqlp_message.specs.Frames.{AllSpell}
 use Rattle.cqlp_decode.specs.declared.step.Step.TheVariants as step
 use Rattle.cqlp_decode.specs.Reading.{Event, Refused, Gifts, Says, start, start_with}
-use Rattle.cqlp_decode.specs.Standing.{StreamState}
+use Rattle.cqlp_decode.specs.Progress.{StreamState}
 use Rattle.cqlp_decode.specs.Streams.{After, AfterGifts, Answers}
 use Rattle.cqlp_laws.specs.Limits.{IsOfLimit}
 use Rattle.cqlp_laws.specs.Untyped.{AreWholeFrames, NoneInUse}

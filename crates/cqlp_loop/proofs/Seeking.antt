@@ -9,7 +9,7 @@ use Rattle.cqlp_grammar.specs.Events as told
 use Rattle.cqlp_grammar.specs.Events.{Event, Frame, End, event_of}
 use Rattle.cqlp_decode.specs.declared.step.Step.TheVariants as steps
 use Rattle.cqlp_decode.specs.Reading.{Verdict, Waits, Refused}
-use Rattle.cqlp_decode.specs.Standing.{StreamState}
+use Rattle.cqlp_decode.specs.Progress.{StreamState}
 use Rattle.cqlp_decode.specs.Streams.{AfterBy, Goes, LeadsOn, Stands, open_after, open_from}
 use Rattle.cqlp_decode.proofs.Gets.{take_two}
 use Rattle.cqlp_loop.specs.declared.inbox.Edge.{Edge}

@@ -10,7 +10,7 @@ use Rattle.cqlp_note.specs.Limits.{rules_of}
 use Rattle.cqlp_note.specs.Streams.{counted}
 use Rattle.cqlp_grammar.specs.Events.{Event, Frame, End}
 use Rattle.cqlp_decode.specs.Reading.{Verdict, Waits, Refused, Says, start}
-use Rattle.cqlp_decode.specs.Standing.{StreamState, IsPending, ends_due}
+use Rattle.cqlp_decode.specs.Progress.{StreamState, IsPending, ends_due}
 use Rattle.cqlp_decode.specs.Streams.{Decoding, After, state}
 use Rattle.cqlp_loop.specs.declared.fault.LoopFault.{LoopFault}
 use Rattle.cqlp_loop.specs.declared.fault.LoopFault.TheVariants as fault

@@ -21,7 +21,7 @@ use Rattle.cqlp_note.specs.Step.{Emitted}
 use Rattle.cqlp_note.specs.Heading.{Heading, heading}
 use Rattle.cqlp_note.specs.declared.refusal.Reason.TheVariants.{StreamTooLong}
 use Rattle.cqlp_grammar.specs.Productions.{Symbol, Stream}
-use Rattle.cqlp_decode.specs.Standing.{ends_due}
+use Rattle.cqlp_decode.specs.Progress.{ends_due}
 use Rattle.std.specs.Prelude.{Ok, Err}
 use Rattle.cqlp_loop.proofs.Seeking.{events_then}
 

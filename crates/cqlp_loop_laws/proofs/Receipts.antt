@@ -11,7 +11,7 @@ use Rattle.cqlp_note.specs.Streams.{counted}
 use Rattle.cqlp_note.proofs.Runs.{runs_stay}
 use Rattle.cqlp_grammar.specs.Events.{Event}
 use Rattle.cqlp_decode.specs.Reading.{Place, Verdict, Waits, Refused, Reads, Says, start, step}
-use Rattle.cqlp_decode.specs.Standing.{IsPending, ends_due}
+use Rattle.cqlp_decode.specs.Progress.{IsPending, ends_due}
 use Rattle.cqlp_laws.proofs.OneAnswer.{pending_none}
 use Rattle.cqlp_decode.specs.Streams.{AfterBy, Stands, state}
 use Rattle.cqlp_loop.specs.declared.fault.LoopFault.{LoopFault}

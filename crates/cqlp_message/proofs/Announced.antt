@@ -12,7 +12,7 @@ use Rattle.cqlp_note.specs.Field.{BoundValue}
 use Rattle.cqlp_message.specs.FrameValues.{Octets}
 use Rattle.cqlp_message.specs.Owned.{bound_of}
 use Rattle.cqlp_message.specs.Agreement.{there_if}
-use Rattle.cqlp_grammar.specs.declared.table.Expected.{Expected}
+use Rattle.cqlp_grammar.specs.declared.productions.Expected.{Expected}
 use Rattle.cqlp_grammar.specs.Upcoming.{wants}
 
 pub is_some_of : {X Y : Type 0} (f : X → Y) (o : Option X) → is_some (option_map f o) ≡ is_some o

@@ -98,11 +98,11 @@ fn read_after_fixed(wanted: Wanted, bytes: &[u8]) -> Result<Head, Stop>
     ensures { TellsAfterFixed wanted wanted.notation bytes.now result }
 {
     match wanted.notation {
-        Notation::Byte => end_field(1, Primitive::Byte(u8::from_be_bytes(read_first(bytes)))),
-        Notation::Short => end_field(2, Primitive::Short(u16::from_be_bytes(read_first(bytes)))),
-        Notation::Int => end_field(4, Primitive::Int(i32::from_be_bytes(read_first(bytes)))),
-        Notation::Long => end_field(8, Primitive::Long(i64::from_be_bytes(read_first(bytes)))),
-        Notation::Uuid => end_field(16, Primitive::Uuid(read_first(bytes))),
+        Notation::Byte => end_field(1, Primitive::Byte(u8::from_be_bytes(read_array(bytes)))),
+        Notation::Short => end_field(2, Primitive::Short(u16::from_be_bytes(read_array(bytes)))),
+        Notation::Int => end_field(4, Primitive::Int(i32::from_be_bytes(read_array(bytes)))),
+        Notation::Long => end_field(8, Primitive::Long(i64::from_be_bytes(read_array(bytes)))),
+        Notation::Uuid => end_field(16, Primitive::Uuid(read_array(bytes))),
         Notation::Count16 => end_field(2, Primitive::Count(read_short(bytes))),
         Notation::Count32 => read_count(bytes),
         Notation::Text16 => admit_content(wanted, 2, read_short(bytes), ContentForm::Text),
@@ -158,7 +158,7 @@ fn read_value(wanted: Wanted, bytes: &[u8]) -> Result<Head, Stop>
 {
     match read_natural(bytes) {
         Some(len) => admit_content(wanted, 4, len, ContentForm::Bound),
-        None => match i32::from_be_bytes(read_first(bytes)) {
+        None => match i32::from_be_bytes(read_array(bytes)) {
             -1 => end_field(4, Primitive::Bound(BoundValue::Null)),
             -2 => end_field(4, Primitive::Bound(BoundValue::Unset)),
             _ => Err(Stop::Refused(Reason::BadValueLength)),
@@ -172,7 +172,7 @@ fn read_inet(wanted: Wanted, bytes: &[u8]) -> Result<Head, Stop>
     requires notation { wanted.notation ≡ Notation.Inet }
     ensures { TellsAfterFixed wanted Notation.Inet bytes.now result }
 {
-    match u8::from_be_bytes(read_first(bytes)) {
+    match u8::from_be_bytes(read_array(bytes)) {
         4 => read_address_and_port(wanted, 4, &bytes[1..]),
         16 => read_address_and_port(wanted, 16, &bytes[1..]),
         _ => Err(Stop::Refused(Reason::BadInet)),
@@ -208,7 +208,7 @@ fn read_address_and_port(wanted: Wanted, size: usize, rest: &[u8]) -> Result<Hea
     if rest.len() < size + 4 {
         return Err(Stop::Wanting);
     }
-    let port = i32::from_be_bytes(read_first(&rest[size..]));
+    let port = i32::from_be_bytes(read_array(&rest[size..]));
     end_field(size + 5, Primitive::Inet(read_address(size, rest), port))
 }
 
@@ -219,9 +219,9 @@ fn read_address(size: usize, bytes: &[u8]) -> Address
     ensures { result ≡ address_of size (take size bytes.now) }
 {
     if size == 4 {
-        Address::V4(read_first(bytes))
+        Address::V4(read_array(bytes))
     } else {
-        Address::V6(read_first(bytes))
+        Address::V6(read_array(bytes))
     }
 }
 
@@ -231,7 +231,7 @@ pub(crate) fn read_natural(bytes: &[u8]) -> Option<u32>
     requires { 4 ≤ length bytes.now }
     ensures { let n = from_be_bytes w32 (take 4 bytes.now) in result ≡ (if is_negative n then None else Some n) }
 {
-    let number = u32::from_be_bytes(read_first(bytes));
+    let number = u32::from_be_bytes(read_array(bytes));
     if number > i32::MAX as u32 {
         None
     } else {
@@ -245,7 +245,7 @@ pub(crate) fn read_short(bytes: &[u8]) -> u32
     requires { 2 ≤ length bytes.now }
     ensures { result ≡ from_be_bytes w16 (take 2 bytes.now) }
 {
-    u16::from_be_bytes(read_first(bytes)).into()
+    u16::from_be_bytes(read_array(bytes)).into()
 }
 
 /// Ends the field, which has this many bytes.
@@ -257,7 +257,7 @@ fn end_field(used: usize, prim: Primitive<'static>) -> Result<Head, Stop>
 
 /// Reads the first N bytes.
 #[inline(always)]
-pub(crate) fn read_first<const N: usize>(bytes: &[u8]) -> [u8; N]
+pub(crate) fn read_array<const N: usize>(bytes: &[u8]) -> [u8; N]
     requires { N ≤ length bytes.now }
     ensures { result ≡ take N bytes.now }
 {

@@ -12,11 +12,11 @@ use crate::field::Notation;
 use crate::front::FieldFront;
 use crate::gathered::GatheredContent;
 use crate::head::{
-    ContentForm, Head, Stop, Wanted, read_first as first, read_head, read_natural, read_short,
+    ContentForm, Head, Stop, Wanted, read_array as first, read_head, read_natural, read_short,
 };
 use crate::prim::{BoundValue, Primitive};
 use crate::refusal::{NoMemory, Reason, Refusal};
-use crate::text::is_text;
+use crate::utf8::is_text;
 use std::alloc::{Allocator, Global};
 use std::marker::Model;
 

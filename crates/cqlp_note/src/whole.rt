@@ -6,7 +6,7 @@ ghost use Rattle.cqlp_note.specs.Partial.{HasContent, IsPlainFront, IsPlainValue
 ghost use Rattle.cqlp_note.specs.Whole.{IsFrontField};
 
 use crate::field::Notation;
-use crate::head::{ContentForm, Wanted, read_first as first, read_natural};
+use crate::head::{ContentForm, Wanted, read_array as first, read_natural};
 use crate::partial::read_content_head;
 use crate::prim::{BoundValue, Primitive};
 

@@ -8,7 +8,7 @@ ghost use Rattle.cqlp_read.specs.declared.error.ReadError.TheVariants.{Refused};
 ghost use Rattle.cqlp_read.specs.Fronts.{Counts, Holds};
 
 use crate::error::ReadError;
-use cqlp_kind::content::first;
+use cqlp_kind::content::read_array;
 use cqlp_note::{Reason, Refusal};
 use cqlp_value::Value;
 
@@ -57,7 +57,7 @@ fn front_number(bytes: &[u8]) -> u32
     requires { 4 ≤ length bytes.now }
     ensures { IsNumber 4 w32 result (take 4 bytes.now) }
 {
-    u32::from_be_bytes(first(bytes))
+    u32::from_be_bytes(read_array(bytes))
 }
 
 /// The bytes after the first, this many.

@@ -4,7 +4,7 @@ use Rattle.std.specs.Io.KnownBytes.{append_known}
 use Rattle.cqlp_decode.specs.declared.running.Outcome.{Outcome}
 use Rattle.cqlp_decode.specs.declared.running.Outcome.TheVariants as outcome
 use Rattle.cqlp_decode.specs.Reading.{Event, Gifts, start_with, Says}
-use Rattle.cqlp_decode.specs.Standing.{StreamState}
+use Rattle.cqlp_decode.specs.Progress.{StreamState}
 use Rattle.cqlp_decode.specs.Streams.{AfterGifts, EndsAs}
 use Rattle.cqlp_decode.specs.Draining.{fold_events, Drains, Fails, Feeds, FeedsInto, HasAll, HasRefused, RunsTo, verdict_of}
 use Rattle.cqlp_render.specs.declared.text_form.TextForm.{TextForm}

@@ -4,7 +4,7 @@ use Rattle.cqlp_note.specs.Streams.{CountsUp}
 use Rattle.cqlp_decode.specs.declared.running.Outcome.{Outcome}
 use Rattle.cqlp_decode.specs.declared.running.Outcome.TheVariants as outcome
 use Rattle.cqlp_decode.specs.Reading.{Event}
-use Rattle.cqlp_decode.specs.Standing.{StreamState}
+use Rattle.cqlp_decode.specs.Progress.{StreamState}
 use Rattle.cqlp_decode.specs.Streams.{After, AfterGifts}
 use Rattle.cqlp_decode.specs.Draining.{Feeds, FeedsInto, GoesOnTo, InReads, LastRead, MakesReads, ReadsInTime, RunsTo, fold_events, idle_reads}
 use Rattle.cqlp_decode.proofs.Gets.{has_all_still}

@@ -5,7 +5,7 @@ use Rattle.cqlp_note.specs.Streams.{counted, CountsUp}
 use Rattle.cqlp_decode.specs.declared.running.Outcome.{Outcome}
 use Rattle.cqlp_decode.specs.declared.running.Outcome.TheVariants as outcome
 use Rattle.cqlp_decode.specs.Reading.{Event, Gifts}
-use Rattle.cqlp_decode.specs.Standing.{StreamState}
+use Rattle.cqlp_decode.specs.Progress.{StreamState}
 use Rattle.cqlp_decode.specs.Streams.{AfterGifts}
 use Rattle.cqlp_decode.specs.Draining.{InReads, ReadsInTime, RunsTo}
 use Rattle.cqlp_text.specs.Outputs.{Output, output, with_text, StopsWithin}

@@ -5,12 +5,12 @@ use Rattle.cqlp_note.specs.Limits.{rules_of}
 use Rattle.cqlp_note.specs.Streams.{counted}
 use Rattle.cqlp_decode.specs.declared.running.Outcome.{Outcome}
 use Rattle.cqlp_decode.specs.declared.running.Outcome.TheVariants as outcome
-use Rattle.cqlp_decode.specs.Standing.{StreamState}
+use Rattle.cqlp_decode.specs.Progress.{StreamState}
 use Rattle.cqlp_decode.specs.Streams.{After}
 use Rattle.cqlp_decode.specs.Draining.{MakesReads}
 use Rattle.cqlp_text.specs.declared.ending.Ending.{Ending}
 use Rattle.cqlp_text.specs.declared.ending.Ending.TheVariants as ending
-use Rattle.cqlp_text.specs.declared.status.TheConstants.{FAULT}
+use Rattle.cqlp_text.specs.declared.exit_status.TheConstants.{FAULT}
 use Rattle.cqlp_text.specs.Endings.{ending_line, finish_status, status_of}
 use Rattle.cqlp_render.specs.declared.text_form.TextForm.{TextForm}
 use Rattle.cqlp_render.specs.declared.text_form.TextForm.TheVariants as forms

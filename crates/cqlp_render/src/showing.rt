@@ -18,7 +18,7 @@ use crate::form::{Form, Lines, Nothing};
 use crate::render::{TextSink, run_flushing};
 use cqlp_decode::{Decoder, NewError, Outcome, SinkFault, run};
 use cqlp_note::{Limits, Source, Target};
-use cqlp_text::status::FAULT;
+use cqlp_text::exit_status::FAULT;
 use cqlp_text::{Buffered, Ending, PagePlace, ending_line};
 use std::alloc::Allocator;
 

@@ -13,7 +13,7 @@ use Rattle.cqlp_message.specs.Frames.{Flat, FrameIsInRange, frame_bytes, frame_p
 use Rattle.cqlp_message.proofs.FramesWritten.{frame_written}
 use Rattle.cqlp_decode.specs.declared.running.Outcome.TheVariants as outcome
 use Rattle.cqlp_decode.specs.Reading.{Event, Waits, Frame, End, Reads, start, step}
-use Rattle.cqlp_decode.specs.Standing.{StreamState}
+use Rattle.cqlp_decode.specs.Progress.{StreamState}
 use Rattle.cqlp_decode.specs.Streams.{Decoding, state, FinishesBy, open_from, frame_from}
 use Rattle.cqlp_decode.specs.Draining.{FeedsInto, MakesReads, RunsTo}
 use Rattle.cqlp_laws.specs.OneAnswer.{IsNew}

@@ -17,7 +17,7 @@ use Rattle.cqlp_session.specs.Carried.{StandWith, handed_out, kept}
 use Rattle.cqlp_session.specs.Carriage.{Carriage, ClientCall, Begin, Reply_to, Cancel, HaveOtherTickets, IsGivenUnder, IsReturned, ValuesComeBack, after_call, after_calls, empty_carriage, given_under}
 use Rattle.cqlp_session.specs.Client.{ClientCore, begun, cancelled, cancels, closed, marked, replied, reply_for, reply_to, ticket_for}
 use Rattle.cqlp_session.proofs.Paired.{ticket_found}
-use Rattle.cqlp_session.proofs.Standing.{answer_to, begun_stands, cancelled_stands, event_only, has_sized, is_to_request, none_either, replied_open, replied_stands, stand_empty, under_put}
+use Rattle.cqlp_session.proofs.Progress.{answer_to, begun_stands, cancelled_stands, event_only, has_sized, is_to_request, none_either, replied_open, replied_stands, stand_empty, under_put}
 use Rattle.cqlp_session.proofs.Under.{PairsByRecursion, all_pairs, cases_int, each_weaker, none_is, under_new, under_put_other, under_put_same}
 
 contains_first : {X : Type 0} (x : X) (xs : List X) → Contains (x ∷ xs) x

@@ -6,5 +6,5 @@ pub mod Sentences
 pub mod InStep
 pub mod Least
 pub mod OneAnswer
-pub mod Standing
+pub mod Progress
 pub mod Carriages

@@ -4,7 +4,8 @@
 ghost use Rattle.std.specs.Prelude.{ℕ, ◌≤◌};
 ghost use Rattle.cqlp_session.specs.Carriage.{EachValueComesBack};
 ghost use Rattle.cqlp_session.specs.Headers.{OneAnswerOfAnswerWith, RequestsAreSeen, RequestsAreTaken, ResponsesAreSeen};
-ghost use Rattle.cqlp_session.specs.Laws.{OneAnswerOfAnswer, OneAnswerOfBody, OneAnswerOfClientNew, OneAnswerOfClientOfNew, OneAnswerOfReply, OneAnswerOfServerNew, OneAnswerOfServerOfNew};
+ghost use Rattle.cqlp_session.specs.Laws.{OneAnswerOfAnswer, OneAnswerOfBody, OneAnswerOfClientNew, OneAnswerOfClientOfNew};
+ghost use Rattle.cqlp_session.specs.Laws.{OneAnswerOfReply, OneAnswerOfServerNew, OneAnswerOfServerOfNew};
 ghost use Rattle.cqlp_session.specs.Pairing.{AfterAnySteps, BeginsOnceReady, EventsChangeNothing, IdsAreApart, NoneIsRefused, RepliesArePaired};
 
 /// What holds after every list of steps from two new cores.

@@ -7,7 +7,6 @@ mod carried;
 mod client;
 mod client_of;
 mod headers;
-mod ids;
 mod kind;
 pub mod laws;
 mod phase;
@@ -15,6 +14,7 @@ mod refusal;
 mod server;
 mod server_of;
 mod slots;
+mod stream_ids;
 mod streams;
 mod ticket;
 

@@ -49,7 +49,7 @@ impl<A: Allocator> Streams<A> {
     {
         let len = len as usize;
         let slots = slots::empty(alloc.clone()?, len)?;
-        let free = ids::all(alloc, len)?;
+        let free = stream_ids::all(alloc, len)?;
         Ok(Streams { slots, free })
     }
 
@@ -64,7 +64,7 @@ impl<A: Allocator> Streams<A> {
     pub(crate) fn least_free(&self) -> Option<i16>
         ensures { result ≡ option_map pos (least_free self.now) }
     {
-        let place = ids::first(&self.free)?;
+        let place = stream_ids::first(&self.free)?;
         if place < self.slots.len() {
             Some(place as i16)
         } else {
@@ -84,8 +84,8 @@ impl<A: Allocator> Streams<A> {
         }
         self.slots[place] = what;
         match what {
-            Some(_) => ids::clear(&mut self.free, place),
-            None => ids::set(&mut self.free, place),
+            Some(_) => stream_ids::clear(&mut self.free, place),
+            None => stream_ids::set(&mut self.free, place),
         }
     }
 }

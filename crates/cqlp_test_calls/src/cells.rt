@@ -1,7 +1,7 @@
 //! A cell without a type, by the calls of its reader.
 
 ghost use Rattle.std.specs.Prelude.{◌≡◌, ◌≤◌, true, length, IfOk, IfSome};
-ghost use Rattle.cqlp_cell.specs.Standing.{Stands, is_under_way};
+ghost use Rattle.cqlp_cell.specs.Progress.{Stands, is_under_way};
 ghost use Rattle.cqlp_cell.specs.Reading.{Joined};
 
 use cqlp_note::{Limits, Partial};

@@ -1,7 +1,7 @@
 //! Type options, by the calls of their reader, and the table that they are kept in.
 
 ghost use Rattle.std.specs.Prelude.{◌≡◌, ◌≤◌, true, length, IfOk, IfSome};
-ghost use Rattle.cqlp_type.specs.Standing.{IsShared};
+ghost use Rattle.cqlp_type.specs.Progress.{IsShared};
 ghost use Rattle.cqlp_kind.specs.Types.{IsPreorder};
 ghost use Rattle.cqlp_type.specs.Pushing.{ReadsInto};
 

@@ -4,9 +4,9 @@ ghost use Rattle.std.specs.Prelude.{◌≡◌, IsSome};
 ghost use Rattle.cqlp_text.specs.Endings.{cannot_open_line as cannot_open_line_of, ending_line as line_of};
 ghost use Rattle.cqlp_text.specs.Outputs.{AppendsText, written};
 
+use crate::exit_status::{DONE, FAULT, NOT_WHOLE};
 use crate::line_pen::LinePen;
 use crate::names::reason_name;
-use crate::status::{DONE, FAULT, NOT_WHOLE};
 use crate::text_writer::TextWriter;
 use crate::word::Word;
 use cqlp_grammar::{Finish, SinkFault};

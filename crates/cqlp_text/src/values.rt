@@ -5,12 +5,11 @@ ghost use Rattle.std.specs.Fmt.{signed_decimal};
 ghost use Rattle.std.specs.List.{flat_map};
 ghost use Rattle.hex.specs.Hex.{encode_lower};
 ghost use Rattle.uuid.specs.Text.{hyphenated_text, lower};
-ghost use Rattle.cqlp_text.specs.Text.{hex_text, quoted, escaped, prints, printed, in_one_line, address_text};
+ghost use Rattle.cqlp_text.specs.Text.{hex_text, quoted, address_text};
 ghost use Rattle.cqlp_note.specs.declared.prim.Address.TheVariants.{V4, V6};
 ghost use Rattle.cqlp_text.specs.Written.{Writes};
 
 use crate::pen::Pen;
-use crate::plain::{is_plain, plain_len};
 use crate::text_writer::TextWriter;
 use cqlp_grammar::SinkFault;
 use cqlp_note::Address;
@@ -103,62 +102,6 @@ impl<P: Pen> TextWriter<P> {
         self.put(b"\"")
     }
 
-    /// Takes bytes as they stand between quotes; those that need no escape are taken as they are, many at once.
-    #[inline]
-    fn put_escaped(&mut self, bytes: &[u8]) -> Result<(), SinkFault>
-        ensures { Writes self.old (flat_map escaped bytes.now) result self.new }
-    {
-        let mut rest = bytes;
-        while !rest.is_empty() {
-            let plain = plain_len(rest);
-            self.put(&rest[..plain])?;
-            let Some((byte, after)) = rest[plain..].split_first() else {
-                return Ok(());
-            };
-            self.put_byte(*byte)?;
-            rest = after;
-        }
-        Ok(())
-    }
-
-    /// Takes a byte as it stands between quotes.
-    fn put_byte(&mut self, byte: u8) -> Result<(), SinkFault>
-        ensures { Writes self.old (escaped byte) result self.new }
-    {
-        if is_plain(byte) {
-            return self.put(&[byte]);
-        }
-        match byte {
-            b'"' => self.put(b"\\\""),
-            b'\\' => self.put(b"\\\\"),
-            _ => {
-                self.put(b"\\x")?;
-                self.put_hex(&[byte])
-            }
-        }
-    }
-
-    /// Takes the bytes of a text in one line, where each that does not print is escaped.
-    pub fn put_in_one_line(&mut self, bytes: &[u8]) -> Result<(), SinkFault>
-        ensures { Writes self.old (in_one_line bytes.now) result self.new }
-    {
-        for byte in bytes {
-            self.put_printed(*byte)?;
-        }
-        Ok(())
-    }
-
-    /// Takes a byte as it stands in a line.
-    fn put_printed(&mut self, byte: u8) -> Result<(), SinkFault>
-        ensures { Writes self.old (printed byte) result self.new }
-    {
-        if prints(byte) {
-            self.put(&[byte])
-        } else {
-            self.put_byte(byte)
-        }
-    }
-
     /// Takes an address: four decimal numbers with dots, or eight groups of four hexadecimal digits with colons.
     #[inline(never)]
     pub fn put_address(&mut self, address: Address) -> Result<(), SinkFault>
@@ -197,11 +140,4 @@ impl<P: Pen> TextWriter<P> {
         }
         Ok(())
     }
-}
-
-/// Whether a byte stands as itself in a line.
-fn prints(byte: u8) -> bool
-    ensures { result ≡ prints byte }
-{
-    byte >= 32 && byte != 127
 }

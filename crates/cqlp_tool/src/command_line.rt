@@ -15,7 +15,7 @@ use cqlp_decode::SinkFault;
 use cqlp_note::{OfStd, Source, Target};
 use cqlp_options::{CommandLine, DEFAULT_LIMITS, NoTask, Options, Task};
 use cqlp_render::{check, conclude, rows, show};
-use cqlp_text::status::{BAD_COMMAND_LINE, DONE, FAULT};
+use cqlp_text::exit_status::{BAD_COMMAND_LINE, DONE, FAULT};
 use cqlp_text::{Ending, cannot_open_line, put_text};
 use std::alloc::Allocator;
 use std::fs::File;

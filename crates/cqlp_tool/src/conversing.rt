@@ -11,7 +11,7 @@ use cqlp_loop::{LoopFault, Socket, talk};
 use cqlp_note::{IoFault, OfStd, Target};
 use cqlp_render::conclude;
 use cqlp_text::Ending;
-use cqlp_text::status::DONE;
+use cqlp_text::exit_status::DONE;
 use std::net::{Net, TcpListener, TcpStream};
 
 /// Has a client and a server talk over a loopback connection, with this many queries, and writes the line of each reply

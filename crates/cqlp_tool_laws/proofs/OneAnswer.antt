@@ -13,7 +13,7 @@ use Rattle.cqlp_grammar.specs.declared.event.Finish.TheVariants as finish
 use Rattle.cqlp_decode.specs.declared.running.Outcome.{Outcome}
 use Rattle.cqlp_decode.specs.declared.running.Outcome.TheVariants as outcome
 use Rattle.cqlp_decode.specs.Reading.{Event, Gifts, Place, Verdict, Waits, Refused, Says, Reads, start, start_with, step}
-use Rattle.cqlp_decode.specs.Standing.{StreamState}
+use Rattle.cqlp_decode.specs.Progress.{StreamState}
 use Rattle.cqlp_decode.specs.Streams.{AfterBy, AfterGifts, FinishesBy}
 use Rattle.cqlp_decode.specs.Draining.{verdict_of}
 use Rattle.cqlp_laws.proofs.Whole.{says_once, refusal_stays}

@@ -20,7 +20,7 @@ use Rattle.cqlp_message.specs.Frames.{AllSpell, FlatAll, frame_size, Flat, frame
 use Rattle.cqlp_message.specs.Parts.{parts_size, parts_events, Cell_is, part_events}
 use Rattle.cqlp_message.proofs.Sizes.{frame_long}
 use Rattle.cqlp_decode.specs.Reading.{Verdict, Refused, Waits, Says, start}
-use Rattle.cqlp_decode.specs.Standing.{frame_after}
+use Rattle.cqlp_decode.specs.Progress.{frame_after}
 use Rattle.cqlp_decode.specs.Streams.{FinishesBy, frame_from, open_after, open_from}
 use Rattle.cqlp_laws.specs.Frames.{AllWithin, verdict_between, AllBeginInTime}
 use Rattle.cqlp_laws.proofs.FramesRead.{spelled_is_read, spelled_with_gifts}

@@ -12,7 +12,7 @@ use Rattle.cqlp_message.specs.Parts.{Cell_is, part_events}
 use Rattle.cqlp_message.specs.Frames.{AllSpell, Flat, FlatAll, IsWithin, unfit_of}
 use Rattle.cqlp_decode.specs.declared.running.Outcome.TheVariants as outcome
 use Rattle.cqlp_decode.specs.Reading.{Event, Gifts}
-use Rattle.cqlp_decode.specs.Standing.{StreamState}
+use Rattle.cqlp_decode.specs.Progress.{StreamState}
 use Rattle.cqlp_decode.specs.Streams.{AfterGifts}
 use Rattle.cqlp_laws.specs.Frames.{AllWithin, AllBeginInTime}
 use Rattle.cqlp_laws.specs.Untyped.{AreWholeFrames, NoneInUse}

@@ -25,7 +25,7 @@ use Rattle.cqlp_type.specs.declared.advance.TypeOutline.{TypeOutline}
 use Rattle.cqlp_kind.specs.TypeStep.{TypeSymbol, Option_at, Text_of, Fields_of, Whole, TypeEvent, TypePlace, type_place}
 use Rattle.cqlp_type.specs.Table.{Table}
 use Rattle.cqlp_type.specs.Remaining.{event_at, item_step, Keeps, IsPart, number_of, short_in}
-use Rattle.cqlp_type.specs.Standing.{TypeState, stopped, place_of, notation_of, IsFor, IsShared, pending, step_says, CanLendPart, text_length, Waits, Ends}
+use Rattle.cqlp_type.specs.Progress.{TypeState, stopped, place_of, notation_of, IsFor, IsShared, pending, step_says, CanLendPart, text_length, Waits, Ends}
 use Rattle.cqlp_type.specs.Pushing.{ReadsInto}
 use Rattle.cqlp_type.proofs.OpenTypes.{keeps}
 use Rattle.cqlp_type.proofs.ReadBack.{text_is}

@@ -18,7 +18,7 @@ use Rattle.cqlp_note.proofs.Yields.{says_yields, after_more, after_bad, after_go
 use Rattle.cqlp_kind.specs.Types.{kinds}
 use Rattle.cqlp_kind.specs.TypeStep.{TypeSymbol, Option_at, Text_of, Fields_of, Whole, TypeEvent, IsField, TypePlace, symbol_copies, inner_symbols, with_arity, settled, type_place, option_step, count_in, type_step_at}
 use Rattle.cqlp_type.specs.Remaining.{short_in, item_step}
-use Rattle.cqlp_type.specs.Standing.{notation_of}
+use Rattle.cqlp_type.specs.Progress.{notation_of}
 
 -- ---- a [short], and what goes by its number
 

@@ -16,7 +16,7 @@ use Rattle.cqlp_type.specs.declared.advance.TypeAdvance.{TypeAdvance}
 use Rattle.cqlp_type.specs.declared.advance.TypeAdvance.TheVariants as advance
 use Rattle.cqlp_kind.specs.TypeStep.{TypeSymbol, Option_at, TypeEvent, TypePlace, type_step}
 use Rattle.cqlp_type.specs.Table.{Table}
-use Rattle.cqlp_type.specs.Standing.{TypeState, place_of, pending, step_says, stopped, Advances}
+use Rattle.cqlp_type.specs.Progress.{TypeState, place_of, pending, step_says, stopped, Advances}
 use Rattle.cqlp_type.specs.Pushing.{After, Uses, Continues, Fills, Pushes, event_of}
 use Rattle.cqlp_type.specs.Laws.{Answer, More, FieldOutline, Done, Refused, push_answer, advance_answer, Call, IsPush, IsAdvance, AreAlike, LeaveAlike}
 use Rattle.cqlp_type.proofs.Pushes.{waits_some, told_some}

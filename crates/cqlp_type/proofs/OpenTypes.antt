@@ -25,7 +25,7 @@ use Rattle.cqlp_kind.specs.Types.{Types, NoMore, Type_and, how_many, HasInner, A
 use Rattle.cqlp_kind.specs.TypeStep.{TypeSymbol, Option_at, Text_of, Fields_of, Whole, TypeEvent, IsNode, IsField, TypePlace, parameters_of, arity_of, inner_symbols, symbol_copies, with_arity, with_span, settled, type_place, option_step, count_in, type_step_at, type_step}
 use Rattle.cqlp_type.specs.Table.{Table, HoldsTypes}
 use Rattle.cqlp_type.specs.Remaining.{Closes, Keeps, item_step, short_in, event_at}
-use Rattle.cqlp_type.specs.Standing.{TypeState, IsShared, place_of, pending, step_says, started, Waits, Ends}
+use Rattle.cqlp_type.specs.Progress.{TypeState, IsShared, place_of, pending, step_says, started, Waits, Ends}
 use Rattle.cqlp_type.specs.Pushing.{ReadsInto, IsWhole}
 use Rattle.cqlp_type.specs.Trees.{Head, Plain, Custom, ListOf, SetOf, MapOf, TupleOf, UdtOf, Trees, NoTree, Tree_and, kind_in, types_in, IsHead, AreTrees}
 use Rattle.cqlp_kind.specs.Types.{is_plain}

@@ -18,7 +18,7 @@ use Rattle.cqlp_kind.specs.Types.{IsPreorder}
 use Rattle.cqlp_kind.specs.TypeStep.{TypeSymbol, Option_at, TypeEvent, TypePlace, type_step}
 use Rattle.cqlp_type.specs.Table.{Table}
 use Rattle.cqlp_type.specs.Remaining.{event_at}
-use Rattle.cqlp_type.specs.Standing.{TypeState, IsShared, IsFor, place_of, pending, step_says, started, stopped, Waits, Ends, Advances}
+use Rattle.cqlp_type.specs.Progress.{TypeState, IsShared, IsFor, place_of, pending, step_says, started, stopped, Waits, Ends, Advances}
 use Rattle.cqlp_type.specs.Pushing.{After, ReadsInto, IsWhole, Pushes, event_of}
 use Rattle.cqlp_type.proofs.ReadBack.{option_read}
 

@@ -19,7 +19,7 @@ use Rattle.cqlp_type.specs.Table.{Table, AreWhole, beginnings, child}
 use Rattle.cqlp_type.specs.Forests.{depth_of, Forest}
 use Rattle.cqlp_type.specs.Depths.{IsDepth}
 use Rattle.cqlp_type.specs.Remaining.{event_at}
-use Rattle.cqlp_type.specs.Standing.{TypeState, IsShared, place_of, pending, Advances}
+use Rattle.cqlp_type.specs.Progress.{TypeState, IsShared, place_of, pending, Advances}
 use Rattle.cqlp_type.specs.Trees.{Trees, trees_in, options_in, types_in, AreTrees, is_tree, Shallow, AreShort, trees_items, placed}
 use Rattle.cqlp_type.specs.Trees.{TreeSpells, item_counts, item_is_short, ItemIsInRange, tree_bytes}
 use Rattle.cqlp_type.specs.declared.tree.TypeTree.{TypeTree}

@@ -1,7 +1,7 @@
 pub mod Table
 pub mod OpenOptions
 pub mod Remaining
-pub mod Standing
+pub mod Progress
 pub mod Trees
 pub mod Pushing
 pub mod Laws

@@ -17,7 +17,7 @@ use Rattle.cqlp_kind.specs.Types.{IsPreorder, preorder}
 use Rattle.cqlp_kind.specs.TypeStep.{TypeEvent, IsNode, IsField, TypePlace, type_step, Option_at}
 use Rattle.cqlp_type.specs.Table.{Table}
 use Rattle.cqlp_type.specs.Trees.{Trees, trees_in, types_in, AreTrees, Shallow, trees_items, placed, TreeSpells}
-use Rattle.cqlp_type.specs.Standing.{TypeState, IsShared, place_of, pending, step_says, stopped, text_length}
+use Rattle.cqlp_type.specs.Progress.{TypeState, IsShared, place_of, pending, step_says, stopped, text_length}
 
 abbrev pub event_of : TypeItem → TypeEvent
 event_of (item.Node k) = IsNode k

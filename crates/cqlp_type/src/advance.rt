@@ -35,7 +35,7 @@ pub enum TypeAdvance {
 }
 
 impl TypeOutline {
-    ghost use Rattle.cqlp_type.specs.Standing.{CanLendPart};
+    ghost use Rattle.cqlp_type.specs.Progress.{CanLendPart};
     ghost use Rattle.cqlp_type.specs.Remaining.{event_at};
     ghost use Rattle.cqlp_type.specs.Pushing.{event_of};
 

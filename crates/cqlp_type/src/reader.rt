@@ -31,18 +31,18 @@ pub struct TypeReader<A: Allocator = Global> {
 
 impl<A: Allocator> Model for TypeReader<A> {
     ghost use Rattle.std.specs.Prelude.{◌≤◌};
-    ghost use Rattle.cqlp_type.specs.Standing.{TypeState, standing};
+    ghost use Rattle.cqlp_type.specs.Progress.{TypeState, progress};
     ghost use Rattle.cqlp_type.specs.Remaining.{Fits};
 
     ghost Value = { TypeState };
 
-    ghost view = { λ r. standing r.limits r.at r.end r.remaining.stage r.remaining.open_options r.begun r.taken };
+    ghost view = { λ r. progress r.limits r.at r.end r.remaining.stage r.remaining.open_options r.begun r.taken };
 
     ghost invariant = { λ r. (r.at ≤ r.end) × Fits r.limits r.remaining };
 }
 
 impl<A: Allocator> TypeReader<A> {
-    ghost use Rattle.cqlp_type.specs.Standing.{IsShared, Advances, IsFor, new_reader, pending, started, stopped};
+    ghost use Rattle.cqlp_type.specs.Progress.{IsShared, Advances, IsFor, new_reader, pending, started, stopped};
     ghost use Rattle.cqlp_note.specs.Lending.{LeavesField};
     ghost use Rattle.cqlp_type.specs.Pushing.{Uses, Continues, Fills, Pushes, ReadsInto, AdvanceLeaves};
     ghost use Rattle.cqlp_type.specs.Table.{Table};

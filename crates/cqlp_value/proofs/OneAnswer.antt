@@ -22,15 +22,15 @@ use Rattle.cqlp_cell.specs.declared.item.CellPush.TheVariants as push
 use Rattle.cqlp_cell.specs.declared.open_values.OpenValue.{OpenValue}
 use Rattle.cqlp_cell.specs.declared.open_values.Order.{Order}
 use Rattle.cqlp_cell.specs.declared.open_values.Order.TheVariants as order
-use Rattle.cqlp_cell.specs.declared.standing.NextInCell.{NextInCell}
-use Rattle.cqlp_cell.specs.declared.standing.NextInCell.TheVariants as next
-use Rattle.cqlp_cell.specs.declared.standing.Under.{Under}
-use Rattle.cqlp_cell.specs.declared.standing.Under.TheVariants as under
+use Rattle.cqlp_cell.specs.declared.progress.NextInCell.{NextInCell}
+use Rattle.cqlp_cell.specs.declared.progress.NextInCell.TheVariants as next
+use Rattle.cqlp_cell.specs.declared.progress.Arrived.{Arrived}
+use Rattle.cqlp_cell.specs.declared.progress.Arrived.TheVariants as arrived
 use Rattle.cqlp_kind.specs.CellStep.{CellSymbol, Value_of, Items_of, Close_of, Content_from, CellEvent, CellPlace, cell_copies, values_of, cell_step}
 use Rattle.cqlp_cell.specs.Items.{content_length, event_at, event_of}
 use Rattle.cqlp_cell.specs.Sizes.{is_counted}
 use Rattle.cqlp_type.specs.Forests.{types_at}
-use Rattle.cqlp_cell.specs.Standing.{CellState, value_symbols, left_of, open_symbols, all_open_symbols, symbols_for, cell_symbols, place, due_value, is_under_way, is_some_next, ended, NextStands, Stands}
+use Rattle.cqlp_cell.specs.Progress.{CellState, value_symbols, left_of, open_symbols, all_open_symbols, symbols_for, cell_symbols, place, due_value, is_under_way, is_some_next, ended, NextStands, Stands}
 use Rattle.cqlp_cell.specs.Reading.{gathered, Joined, UnderBy, PartUnder, HaveCome, Answers, Empties, Moves}
 use Rattle.cqlp_cell.specs.Pushing.{After, Continues, Keeps, Pushes, Uses, is_done, done_by}
 use Rattle.cqlp_value.specs.Laws.{Answer, More, FieldOutline, Done, Refused, push_answer, advance_answer, Call, Seen, seen, LeaveAlike, IsPush, IsAdvance, AreAlike}
@@ -177,7 +177,7 @@ module _ (nodes : List Node) (d : CellState) (p : FieldState) (stands : Stands n
   abbrev first : Option Kind
   first = first_kind (place nodes d).symbols
 
-  abbrev AreCome : Under → Type 0
+  abbrev AreCome : Arrived → Type 0
   AreCome u = (p.seen ≡ field_bytes first b) × (gathered u p.seen ≡ buffer_bytes first b)
 
   part_first : (n : NextInCell) → PartUnder nodes d p n → first_kind (symbols_for nodes d.stop d.open_values n) ≡ None
@@ -191,17 +191,17 @@ module _ (nodes : List Node) (d : CellState) (p : FieldState) (stands : Stands n
       let rest = behind_length head p.seen long in
       (rw (kind, is, rest.0, rest.1) refl, rw (kind, is, counted, rest.1) refl)
 
-  come_in : (u : Under) → UnderBy nodes d p u → p.under_way ≡ true → HaveCome b u p.seen → AreCome u
-  come_in under.Nothing h busy come = let no : ◌≡◌ {A = Bool} true false = sym busy ∙ h in absurd cc
-  come_in under.Length h busy come =
+  come_in : (u : Arrived) → UnderBy nodes d p u → p.under_way ≡ true → HaveCome b u p.seen → AreCome u
+  come_in arrived.Nothing h busy come = let no : ◌≡◌ {A = Bool} true false = sym busy ∙ h in absurd cc
+  come_in arrived.Length h busy come =
       let short : length p.seen < 4 = h.1.4 in (
         rw (value_first_is nodes d stands h.0, come, lt-ltb (length p.seen) 4 short) refl,
         rw (value_first_is nodes d stands h.0, come, drop_all 4 p.seen (omega arith)) (sym (either_none (is_counted (due_value nodes d).kind))),
       )
-  come_in (under.Scalar n) h busy come = known_come come.0 (due_value nodes d).kind false come.1 come.3 (value_first_is nodes d stands h.0) (not_counted (due_value nodes d).kind h.2.can.2)
-  come_in (under.Counted n) h busy come = known_come come.0 (due_value nodes d).kind true come.1 come.3 (value_first_is nodes d stands h.0) h.2.can.1
-  come_in (under.First n) h busy come = known_come come.0 (due_value nodes d).kind false come.1 come.3 (value_first_is nodes d stands h.0) (not_counted (due_value nodes d).kind h.2.can.3)
-  come_in under.Later h busy come = rw (part_first d.next h, come) (refl, refl)
+  come_in (arrived.Scalar n) h busy come = known_come come.0 (due_value nodes d).kind false come.1 come.3 (value_first_is nodes d stands h.0) (not_counted (due_value nodes d).kind h.2.can.2)
+  come_in (arrived.Counted n) h busy come = known_come come.0 (due_value nodes d).kind true come.1 come.3 (value_first_is nodes d stands h.0) h.2.can.1
+  come_in (arrived.First n) h busy come = known_come come.0 (due_value nodes d).kind false come.1 come.3 (value_first_is nodes d stands h.0) (not_counted (due_value nodes d).kind h.2.can.3)
+  come_in arrived.Later h busy come = rw (part_first d.next h, come) (refl, refl)
 
 -- ---- what is decided
 
@@ -263,7 +263,7 @@ module _ (nodes : List Node) where
     pub answer : x ≡ o.answer
     pub under_way : is_under_way new ≡ o.under_way
     pub place : place nodes new ≡ o.place
-    pub come : HaveCome o.come new.under q.seen
+    pub come : HaveCome o.come new.arrived q.seen
     pub field : q.under_way ≡ o.field
     pub bytes : cond q.under_way q.seen [] ≡ o.bytes
     pub buffer : q.content ≡ o.buffer
@@ -300,7 +300,7 @@ module _ (nodes : List Node) where
 
   -- ---- a call
 
-  module _ (old : CellState) (p : FieldState) (under_way : is_under_way old ≡ true) (stands : Stands nodes old) (joined : Joined nodes old p) (b input : List ℕ) (come : HaveCome b old.under p.seen) where
+  module _ (old : CellState) (p : FieldState) (under_way : is_under_way old ≡ true) (stands : Stands nodes old) (joined : Joined nodes old p) (b input : List ℕ) (come : HaveCome b old.arrived p.seen) where
     abbrev outcome : Outcome
     outcome = decided old.rules (place nodes old) b input p.content
 
@@ -329,10 +329,10 @@ module _ (nodes : List Node) where
       bad_meets r more is goes idle empty room =
           rw (decided_bad here b input p.content here.symbols said r (some_left more) is, goes) (record { answer = refl; under_way = refl; place = refl; come = refl; field = idle; bytes = rw idle refl; buffer = empty; stands = ended_stands nodes old stands; rules = refl; room = room })
 
-      more_meets : (used : ℕ) → used ≡ length input → is_done old ≡ false → said ≡ reader.More → is_under_way new ≡ true → place nodes new ≡ here → HaveCome (b ++ input) new.under q.seen → q.under_way ≡ true → Joined nodes new q → q.content ≡ gathered new.under q.seen → Stands nodes new
+      more_meets : (used : ℕ) → used ≡ length input → is_done old ≡ false → said ≡ reader.More → is_under_way new ≡ true → place nodes new ≡ here → HaveCome (b ++ input) new.arrived q.seen → q.under_way ≡ true → Joined nodes new q → q.content ≡ gathered new.arrived q.seen → Stands nodes new
           → new.rules ≡ old.rules → q.room ≡ p.room → Meets old.rules p.room outcome (More used) new q
       more_meets used all more is going at came field j kept s rules room =
-          let come = come_in nodes new q s (b ++ input) new.under j.under_way field came in
+          let come = come_in nodes new q s (b ++ input) new.arrived j.under_way field came in
           let symbols : first_kind (place nodes new).symbols ≡ first_kind here.symbols = ap (λ (z : CellPlace). first_kind z.symbols) at in
           rw (decided_more here b input p.content here.symbols said (some_left more) is)
           (record {
@@ -352,13 +352,13 @@ module _ (nodes : List Node) where
       kept_is used e k = elim (cases_lt used (content_length e)) [
         | inl lt ↦
             let h = k.kept lt in
-            let come = come_in nodes old p stands b old.under joined.under_way h.0 come in
+            let come = come_in nodes old p stands b old.arrived joined.under_way h.0 come in
             rw (lt-ltb used (content_length e) lt) (h.1 ∙ ap (λ (z : List ℕ). z ++ take used input) come.0)
         | inr le ↦ rw (le-ltb used (content_length e) le) (k.lent le)
       ]
 
       item_meets : (at used : ℕ) (e : CellEvent) (x : Emitted CellEvent CellPlace) → is_done old ≡ false → said ≡ Got x (length b + used) → x.at ≡ at → x.event ≡ e → x.after (length b + used) ≡ place nodes new → is_under_way new ≡ true
-          → new.under ≡ under.Nothing → q.under_way ≡ false → Keeps p input used e q → Stands nodes new → new.rules ≡ old.rules → q.room ≡ p.room → Meets old.rules p.room outcome (FieldOutline at used e) new q
+          → new.arrived ≡ arrived.Nothing → q.under_way ≡ false → Keeps p input used e q → Stands nodes new → new.rules ≡ old.rules → q.room ≡ p.room → Meets old.rules p.room outcome (FieldOutline at used e) new q
       item_meets at used e x more is begins event after going fresh idle keeps s rules room =
           rw (decided_item here b input p.content here.symbols said x used (some_left more) is)
           (record {
@@ -380,7 +380,7 @@ module _ (nodes : List Node) where
       advance_meets (advance.More used) m a empty =
           let w = m b come in
           let same = w.0.same in
-          more_meets used w.0.all (is_not_done old a.1) (sym (told_is nodes old (b ++ input)) ∙ w.0.is) (ap is_under_way same ∙ under_way) (ap (place nodes) same) w.1 w.0.under_way w.0.joined w.0.kept (rw same (stands_under nodes old new.under stands)) (ap (λ (d : CellState). d.rules) same) w.0.longest
+          more_meets used w.0.all (is_not_done old a.1) (sym (told_is nodes old (b ++ input)) ∙ w.0.is) (ap is_under_way same ∙ under_way) (ap (place nodes) same) w.1 w.0.under_way w.0.joined w.0.kept (rw same (stands_under nodes old new.arrived stands)) (ap (λ (d : CellState). d.rules) same) w.0.longest
       advance_meets (advance.Item at used i) m a empty =
           let h = m b come in
           item_meets at used (event_at i input q.content) h.emits.x (is_not_done old a.1) (sym (told_is nodes old (b ++ input)) ∙ h.emits.is) h.emits.offset h.emits.event h.emits.after h.goes_on h.fresh h.idle (keeps nodes p q input used i h.can_lend h.lent h.kept empty) h.stands h.rules h.longest

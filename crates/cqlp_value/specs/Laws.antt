@@ -20,7 +20,7 @@ use Rattle.cqlp_cell.specs.declared.front.FrontScalar.{FrontScalar}
 use Rattle.cqlp_kind.specs.Contents.{value_of}
 use Rattle.cqlp_cell.specs.Fronts.{IsFront}
 use Rattle.cqlp_cell.specs.Items.{event_at, event_of}
-use Rattle.cqlp_cell.specs.Standing.{CellState, Stands, is_under_way, place}
+use Rattle.cqlp_cell.specs.Progress.{CellState, Stands, is_under_way, place}
 use Rattle.cqlp_cell.specs.Reading.{Answers, Empties, HaveCome, Joined, Moves}
 use Rattle.cqlp_cell.specs.Pushing.{After, Continues, Pushes, Uses, is_done}
 
@@ -139,8 +139,8 @@ module _ (nodes : List Node) where
   pub record LeaveAlike {X : Type 0} (c d : Call X) : Type 0 where
     pub same : seen c.reader' c.partial' ≡ seen d.reader' d.partial'
     pub come : List ℕ
-    pub this : HaveCome come c.reader'.under c.partial'.seen
-    pub that : HaveCome come d.reader'.under d.partial'.seen
+    pub this : HaveCome come c.reader'.arrived c.partial'.seen
+    pub that : HaveCome come d.reader'.arrived d.partial'.seen
 
   -- what a call of either requires
   pub record IsReady {X : Type 0} (c : Call X) : Type 0 where

@@ -1,6 +1,6 @@
 use Rattle.std.proofs.Common.{◌≡◌, ◌+◌, drop, sym, ap, subst, ◌∙◌, arith}
 use Rattle.std.proofs.lemmas.List.{length-drop}
-use Rattle.cqlp_decode.specs.Standing.{StreamState, state_with}
+use Rattle.cqlp_decode.specs.Progress.{StreamState, state_with}
 use Rattle.cqlp_decode.specs.Items.{TakesItem, part_told}
 use Rattle.cqlp_decode.specs.Sinks.{Gets, Fails}
 use Rattle.cqlp_decode.proofs.Gets.{rest_is}
@@ -14,9 +14,9 @@ returns-then-handed-clause-drains g c =
     let m = c.hand_items-handed in
     let n = m.result.used in
     let input = c.args.input.now in
-    let old = state_with c.items.standing c.items.parts in
-    let mid = state_with c.items.standing m.new.parts in
-    fails_then (Gets g.S.Sink) (Fails g.S.Sink) (state_with c.args.standing.now c.args.parts.now) old mid input u n _ _ _ i.drained (rw (rest_is, c.if-handed.true) at m.ensures.drains)
+    let old = state_with c.items.progress c.items.parts in
+    let mid = state_with c.items.progress m.new.parts in
+    fails_then (Gets g.S.Sink) (Fails g.S.Sink) (state_with c.args.progress.now c.args.parts.now) old mid input u n _ _ _ i.drained (rw (rest_is, c.if-handed.true) at m.ensures.drains)
 
 pub returns-in_default-take_part-clause-drains : goal.returns-in_default-take_part-clause-drains
 returns-in_default-take_part-clause-drains g c =
@@ -25,9 +25,9 @@ returns-in_default-take_part-clause-drains g c =
     let m = c.hand_items-handed in
     let n = m.result.used in
     let input = c.args.input.now in
-    let old = state_with c.items.standing c.items.parts in
-    let mid = state_with c.items.standing m.new.parts in
-    rw c.in_default-take_part.ensures.takes (hands_then (Gets g.S.Sink) (state_with c.args.standing.now c.args.parts.now) old mid input u n _ _ _ i.drained (rw (rest_is, c.if-handed.false) at m.ensures.drains))
+    let old = state_with c.items.progress c.items.parts in
+    let mid = state_with c.items.progress m.new.parts in
+    rw c.in_default-take_part.ensures.takes (hands_then (Gets g.S.Sink) (state_with c.args.progress.now c.args.parts.now) old mid input u n _ _ _ i.drained (rw (rest_is, c.if-handed.false) at m.ensures.drains))
 
 pub returns-in-Err-clause-drains : goal.returns-in-Err-clause-drains
 returns-in-Err-clause-drains g c =
@@ -36,14 +36,14 @@ returns-in-Err-clause-drains g c =
     let m = c.hand_items-handed in
     let n = m.result.used in
     let input = c.args.input.now in
-    let old = state_with c.items.standing c.items.parts in
-    let mid = state_with c.items.standing m.new.parts in
+    let old = state_with c.items.progress c.items.parts in
+    let mid = state_with c.items.progress m.new.parts in
     let t = c.in-Some-take_part.taken.item in
     let p = c.items.page in
     let told = part_told p.row p.column t.part in
     let new = state_with c.take_part.new.self c.take_part.new.parts in
     let h : TakesItem mid (drop (u + n) input) t.at t.used told new = rw rest_is at c.in-Some-take_part.ensures.takes in
-    item_fails (Gets g.S.Sink) (state_with c.args.standing.now c.args.parts.now) mid new input (u + n) _ _ (hands_then (Gets g.S.Sink) (state_with c.args.standing.now c.args.parts.now) old mid input u n _ _ _ i.drained (rw (rest_is, c.if-handed.false) at m.ensures.drains)) i.unrefused t.at t.used told h (Fails g.S.Sink) _ c.in-Err.ensures.err
+    item_fails (Gets g.S.Sink) (state_with c.args.progress.now c.args.parts.now) mid new input (u + n) _ _ (hands_then (Gets g.S.Sink) (state_with c.args.progress.now c.args.parts.now) old mid input u n _ _ _ i.drained (rw (rest_is, c.if-handed.false) at m.ensures.drains)) i.unrefused t.at t.used told h (Fails g.S.Sink) _ c.in-Err.ensures.err
 
 pub returns-in_default-enter_cell-clause-drains : goal.returns-in_default-enter_cell-clause-drains
 returns-in_default-enter_cell-clause-drains g c =
@@ -52,8 +52,8 @@ returns-in_default-enter_cell-clause-drains g c =
     let m = c.hand_items-handed in
     let n = m.result.used in
     let input = c.args.input.now in
-    let old = state_with c.items.standing c.items.parts in
-    let mid = state_with c.items.standing m.new.parts in
+    let old = state_with c.items.progress c.items.parts in
+    let mid = state_with c.items.progress m.new.parts in
     let t = c.in-Some-take_part.taken.item in
     let p = c.items.page in
     let told = part_told p.row p.column t.part in
@@ -62,7 +62,7 @@ returns-in_default-enter_cell-clause-drains g c =
     let same : new ≡ over = c.in_default-enter_cell.ensures.same in
     let taken : TakesItem mid (drop (u + n) input) t.at t.used told over = rw rest_is at c.in-Some-take_part.ensures.takes in
     let h : TakesItem mid (drop (u + n) input) t.at t.used told new = subst (λ (z : StreamState). TakesItem mid (drop (u + n) input) t.at t.used told z) (sym same) taken in
-    item_drains (Gets g.S.Sink) (state_with c.args.standing.now c.args.parts.now) mid new input (u + n) _ _ (hands_then (Gets g.S.Sink) (state_with c.args.standing.now c.args.parts.now) old mid input u n _ _ _ i.drained (rw (rest_is, c.if-handed.false) at m.ensures.drains)) i.unrefused t.at t.used told h _ c.in-Ok.ensures.ok
+    item_drains (Gets g.S.Sink) (state_with c.args.progress.now c.args.parts.now) mid new input (u + n) _ _ (hands_then (Gets g.S.Sink) (state_with c.args.progress.now c.args.parts.now) old mid input u n _ _ _ i.drained (rw (rest_is, c.if-handed.false) at m.ensures.drains)) i.unrefused t.at t.used told h _ c.in-Ok.ensures.ok
 
 pub items-preserved-then-taken : goal.items-preserved-then-taken
 items-preserved-then-taken g c =
@@ -71,8 +71,8 @@ items-preserved-then-taken g c =
     let m = c.hand_items-handed in
     let n = m.result.used in
     let input = c.args.input.now in
-    let old = state_with c.items.standing c.items.parts in
-    let mid = state_with c.items.standing m.new.parts in
+    let old = state_with c.items.progress c.items.parts in
+    let mid = state_with c.items.progress m.new.parts in
     let t = c.in-Some-take_part.taken.item in
     let p = c.items.page in
     let told = part_told p.row p.column t.part in
@@ -92,7 +92,7 @@ items-preserved-then-taken g c =
       given = h.2 ∙ m.ensures.given ∙ i.given;
       pays = omega (arith, h.3.pays, w.1, i.pays);
       drained =
-          item_drains (Gets g.S.Sink) (state_with c.args.standing.now c.args.parts.now) mid new input (u + n) _ _ (hands_then (Gets g.S.Sink) (state_with c.args.standing.now c.args.parts.now) old mid input u n _ _ _ i.drained (rw (rest_is, c.if-handed.false) at m.ensures.drains)) i.unrefused t.at t.used told h _ c.in-Ok.ensures.ok;
+          item_drains (Gets g.S.Sink) (state_with c.args.progress.now c.args.parts.now) mid new input (u + n) _ _ (hands_then (Gets g.S.Sink) (state_with c.args.progress.now c.args.parts.now) old mid input u n _ _ _ i.drained (rw (rest_is, c.if-handed.false) at m.ensures.drains)) i.unrefused t.at t.used told h _ c.in-Ok.ensures.ok;
     }
 
 pub items-preserved : goal.items-preserved
@@ -102,8 +102,8 @@ items-preserved g c =
     let m = c.hand_items-handed in
     let n = m.result.used in
     let input = c.args.input.now in
-    let old = state_with c.items.standing c.items.parts in
-    let mid = state_with c.items.standing m.new.parts in
+    let old = state_with c.items.progress c.items.parts in
+    let mid = state_with c.items.progress m.new.parts in
     let t = c.in-Some-take_part.taken.item in
     let p = c.items.page in
     let told = part_told p.row p.column t.part in
@@ -120,5 +120,5 @@ items-preserved g c =
       given = h.2 ∙ m.ensures.given ∙ i.given;
       pays = omega (arith, h.3.pays, w.1, i.pays);
       drained =
-          item_drains (Gets g.S.Sink) (state_with c.args.standing.now c.args.parts.now) mid new input (u + n) _ _ (hands_then (Gets g.S.Sink) (state_with c.args.standing.now c.args.parts.now) old mid input u n _ _ _ i.drained (rw (rest_is, c.if-handed.false) at m.ensures.drains)) i.unrefused t.at t.used told h _ c.in-Ok.ensures.ok;
+          item_drains (Gets g.S.Sink) (state_with c.args.progress.now c.args.parts.now) mid new input (u + n) _ _ (hands_then (Gets g.S.Sink) (state_with c.args.progress.now c.args.parts.now) old mid input u n _ _ _ i.drained (rw (rest_is, c.if-handed.false) at m.ensures.drains)) i.unrefused t.at t.used told h _ c.in-Ok.ensures.ok;
     }

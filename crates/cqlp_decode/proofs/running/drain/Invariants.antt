@@ -1,7 +1,7 @@
 use Rattle.std.proofs.Common.{◌≡◌, ◌+◌, ◌-◌, ◌*◌, ◌≤◌, List, ℕ, length, take, Some, None}
 use Rattle.cqlp_note.specs.declared.refusal.Refusal.{Refusal}
 use Rattle.cqlp_decode.specs.Reading.{Event, Gifts}
-use Rattle.cqlp_decode.specs.Standing.{ends_due}
+use Rattle.cqlp_decode.specs.Progress.{ends_due}
 use Rattle.cqlp_decode.specs.Streams.{AfterGifts, state}
 use Rattle.cqlp_decode.specs.Draining.{Drains, Passes}
 use Rattle.cqlp_decode.proofs.running.drain.Given as goal

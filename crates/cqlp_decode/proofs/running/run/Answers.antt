@@ -2,7 +2,7 @@ use Rattle.std.proofs.Common.{◌≡◌, ℕ, ◌+◌, ◌<◌, List, [], ◌≤
 use Rattle.std.proofs.lemmas.List.{append-nil, take-append-drop, length-append, length-take-le}
 use Rattle.cqlp_grammar.specs.declared.event.Finish.{Finish}
 use Rattle.cqlp_decode.specs.declared.running.Outcome.TheVariants as outcome
-use Rattle.cqlp_decode.specs.Standing.{StreamState}
+use Rattle.cqlp_decode.specs.Progress.{StreamState}
 use Rattle.cqlp_decode.specs.Streams.{state}
 use Rattle.cqlp_decode.proofs.Gets.{feeds_none, feeds_then, feeds_into, has_all, has_all_still, read_some, keeps_some, at_end, gives_none, gives_kept, gives_end, gives_more, idle_refused, idle_at_end}
 use Rattle.cqlp_decode.proofs.InTime.{last_read}
@@ -31,8 +31,8 @@ returns-in-Fault-clause-runs g c = λ xs is tells.
     let v = g.S.Sink.view c.args.sink.now in
     feeds_into g.S.Sink.after d d (state c.drain.new.decoder) xs [] xs v v _ (feeds_none g.S.Sink.after d xs v) refl (take e.0 []) (drop e.0 []) (sym (take-append-drop e.0 [])) (omega arith) _ is g.S.Sink.faulted e.1
 
-pub loop-turn-init : goal.loop-turn-init
-loop-turn-init g c = record {
+pub loop-after_cell-init : goal.loop-after_cell-init
+loop-after_cell-init g c = record {
   long = refl;
   rules = c.in-More.ensures.rules;
   given = c.in-More.ensures.given;
@@ -59,85 +59,85 @@ loop-turn-init g c = record {
 
 pub returns-in-Err-clause-runs : goal.returns-in-Err-clause-runs
 returns-in-Err-clause-runs g c = λ xs is tells.
-    let d = c.loop-turn.invariant.fed xs is tells in
+    let d = c.loop-after_cell.invariant.fed xs is tells in
     let left = keeps_some _ _ d.0.rest d.1 c.in-Err.ensures.bytes in
-    (d.0, left, has_all_still g.S.Sink.after (state c.args.decoder.now) (state c.loop-turn.decoder) xs _ _ _ _ d.0 (d.1 ∙ sym left) d.3)
+    (d.0, left, has_all_still g.S.Sink.after (state c.args.decoder.now) (state c.loop-after_cell.decoder) xs _ _ _ _ d.0 (d.1 ∙ sym left) d.3)
 
 pub returns-then-count-eq0-clause-runs : goal.returns-then-count-eq0-clause-runs
 returns-then-count-eq0-clause-runs g c = λ xs is tells.
-    let d = c.loop-turn.invariant.fed xs is tells in
+    let d = c.loop-after_cell.invariant.fed xs is tells in
     let r = read_some _ _ d.0.rest c.read.new.buffer c.in-Ok.count d.1 c.in-Ok.ensures.bytes.0 c.in-Ok.ensures.bytes.1 in
-    let long : 0 < length c.read.new.buffer = let a = c.read.auto.buffer in let b = c.loop-turn.invariant.long in omega arith in
+    let long : 0 < length c.read.new.buffer = let a = c.read.auto.buffer in let b = c.loop-after_cell.invariant.long in omega arith in
     let none = at_end d.0.rest r.0 c.read.new.buffer c.in-Ok.count r.2 c.if-count-eq0.true (r.3 c.if-count-eq0.true long) in
     let same = d.1 ∙ ap (λ (z : List ℕ). Some z) (none ∙ sym (r.3 c.if-count-eq0.true long)) ∙ sym r.1 in
-    (d.0, inl none, c.finish-then-count-eq0.ensures.ends, has_all_still g.S.Sink.after (state c.args.decoder.now) (state c.loop-turn.decoder) xs _ _ _ _ d.0 same d.3)
+    (d.0, inl none, c.finish-then-count-eq0.ensures.ends, has_all_still g.S.Sink.after (state c.args.decoder.now) (state c.loop-after_cell.decoder) xs _ _ _ _ d.0 same d.3)
 
 pub returns-in-Refused-drain-clause-runs : goal.returns-in-Refused-drain-clause-runs
 returns-in-Refused-drain-clause-runs g c = λ xs is tells.
-    let d = c.loop-turn.invariant.fed xs is tells in
+    let d = c.loop-after_cell.invariant.fed xs is tells in
     let r = read_some _ _ d.0.rest c.read.new.buffer c.in-Ok.count d.1 c.in-Ok.ensures.bytes.0 c.in-Ok.ensures.bytes.1 in
-    let e = c.in-Refused-drain.ensures.drains (c.loop-turn.invariant.tells tells) in
+    let e = c.in-Refused-drain.ensures.drains (c.loop-after_cell.invariant.tells tells) in
     let refused = c.in-Refused-drain.ensures.refusal in
     let piece = take c.in-Ok.count c.read.new.buffer in
-    let small : length piece ≤ 4096 = let a = c.read.auto.buffer in let b = c.loop-turn.invariant.long in omega (arith, length-take-le c.in-Ok.count c.read.new.buffer c.in-Ok.ensures.bound, c.in-Ok.ensures.bound) in
+    let small : length piece ≤ 4096 = let a = c.read.auto.buffer in let b = c.loop-after_cell.invariant.long in omega (arith, length-take-le c.in-Ok.count c.read.new.buffer c.in-Ok.ensures.bound, c.in-Ok.ensures.bound) in
     let split = sym (take-append-drop e.0 piece) in (
-      feeds_then g.S.Sink.after (state c.args.decoder.now) (state c.loop-turn.decoder) (state c.drain-in-loop-turn.new.decoder) xs piece r.0 _ _ _ d.0 r.2 (take e.0 piece) (drop e.0 piece) split (λ gifts s es a. (e.1 gifts s es a).drains),
+      feeds_then g.S.Sink.after (state c.args.decoder.now) (state c.loop-after_cell.decoder) (state c.drain-in-loop-after_cell.new.decoder) xs piece r.0 _ _ _ d.0 r.2 (take e.0 piece) (drop e.0 piece) split (λ gifts s es a. (e.1 gifts s es a).drains),
       inr refused,
       c.finish-in-Refused-drain.ensures.ends,
-      has_all g.S.Sink.after (state c.args.decoder.now) (state c.loop-turn.decoder) (state c.drain-in-loop-turn.new.decoder) xs piece r.0 _ _ _ d.0 r.2 (take e.0 piece) (drop e.0 piece) split small _ r.1 (λ none. absurd (let some = refused.1 in cc)) (λ none. c.loop-turn.invariant.waits) e.1,
+      has_all g.S.Sink.after (state c.args.decoder.now) (state c.loop-after_cell.decoder) (state c.drain-in-loop-after_cell.new.decoder) xs piece r.0 _ _ _ d.0 r.2 (take e.0 piece) (drop e.0 piece) split small _ r.1 (λ none. absurd (let some = refused.1 in cc)) (λ none. c.loop-after_cell.invariant.waits) e.1,
     )
 
 pub returns-in-Fault-drain-clause-runs : goal.returns-in-Fault-drain-clause-runs
 returns-in-Fault-drain-clause-runs g c = λ xs is tells.
-    let d = c.loop-turn.invariant.fed xs is tells in
+    let d = c.loop-after_cell.invariant.fed xs is tells in
     let r = read_some _ _ d.0.rest c.read.new.buffer c.in-Ok.count d.1 c.in-Ok.ensures.bytes.0 c.in-Ok.ensures.bytes.1 in
-    let e = c.in-Fault-drain.ensures.drains (c.loop-turn.invariant.tells tells) in
+    let e = c.in-Fault-drain.ensures.drains (c.loop-after_cell.invariant.tells tells) in
     let piece = take c.in-Ok.count c.read.new.buffer in
-    let small : length piece ≤ 4096 = let a = c.read.auto.buffer in let b = c.loop-turn.invariant.long in omega (arith, length-take-le c.in-Ok.count c.read.new.buffer c.in-Ok.ensures.bound, c.in-Ok.ensures.bound) in
-    feeds_into g.S.Sink.after (state c.args.decoder.now) (state c.loop-turn.decoder) (state c.drain-in-loop-turn.new.decoder) xs piece r.0 _ _ _ d.0 r.2 (take e.0 piece) (drop e.0 piece) (sym (take-append-drop e.0 piece)) small _ r.1 g.S.Sink.faulted e.1
+    let small : length piece ≤ 4096 = let a = c.read.auto.buffer in let b = c.loop-after_cell.invariant.long in omega (arith, length-take-le c.in-Ok.count c.read.new.buffer c.in-Ok.ensures.bound, c.in-Ok.ensures.bound) in
+    feeds_into g.S.Sink.after (state c.args.decoder.now) (state c.loop-after_cell.decoder) (state c.drain-in-loop-after_cell.new.decoder) xs piece r.0 _ _ _ d.0 r.2 (take e.0 piece) (drop e.0 piece) (sym (take-append-drop e.0 piece)) small _ r.1 g.S.Sink.faulted e.1
 
-pub loop-turn-preserved : goal.loop-turn-preserved
-loop-turn-preserved g c =
-    let long : length c.read.new.buffer ≡ 4096 = let a = c.read.auto.buffer in let b = c.loop-turn.invariant.long in omega arith in
+pub loop-after_cell-preserved : goal.loop-after_cell-preserved
+loop-after_cell-preserved g c =
+    let long : length c.read.new.buffer ≡ 4096 = let a = c.read.auto.buffer in let b = c.loop-after_cell.invariant.long in omega arith in
     record {
       long = long;
-      rules = c.in-More-drain.ensures.rules ∙ c.loop-turn.invariant.rules;
-      given = c.in-More-drain.ensures.given ∙ c.loop-turn.invariant.given;
-      counted = λ fits. let before = c.loop-turn.invariant.counted (omega arith) in let one = c.in-Ok.ensures.reads in omega arith;
-      gives = λ xs is. let some = c.if-count-eq0.false in gives_more _ xs _ _ c.read.new.buffer c.in-Ok.count (omega arith) c.in-Ok.ensures.bound long (c.loop-turn.invariant.gives xs is) c.in-Ok.ensures.bytes;
-      failures = let a = c.in-Ok.ensures.failures in let b = c.loop-turn.invariant.failures in cc;
-      tells = λ tells. c.in-More-drain.ensures.tells (c.loop-turn.invariant.tells tells) refl;
-      also = passes_then g.S.Sink.also _ _ _ c.loop-turn.invariant.also c.in-More-drain.ensures.also;
+      rules = c.in-More-drain.ensures.rules ∙ c.loop-after_cell.invariant.rules;
+      given = c.in-More-drain.ensures.given ∙ c.loop-after_cell.invariant.given;
+      counted = λ fits. let before = c.loop-after_cell.invariant.counted (omega arith) in let one = c.in-Ok.ensures.reads in omega arith;
+      gives = λ xs is. let some = c.if-count-eq0.false in gives_more _ xs _ _ c.read.new.buffer c.in-Ok.count (omega arith) c.in-Ok.ensures.bound long (c.loop-after_cell.invariant.gives xs is) c.in-Ok.ensures.bytes;
+      failures = let a = c.in-Ok.ensures.failures in let b = c.loop-after_cell.invariant.failures in cc;
+      tells = λ tells. c.in-More-drain.ensures.tells (c.loop-after_cell.invariant.tells tells) refl;
+      also = passes_then g.S.Sink.also _ _ _ c.loop-after_cell.invariant.also c.in-More-drain.ensures.also;
       in_time = λ xs is tells.
-          let d = c.loop-turn.invariant.fed xs is tells in
+          let d = c.loop-after_cell.invariant.fed xs is tells in
           let some = c.if-count-eq0.false in
           let r = read_some _ _ d.0.rest c.read.new.buffer c.in-Ok.count d.1 c.in-Ok.ensures.bytes.0 c.in-Ok.ensures.bytes.1 in
-          let e = c.in-More-drain.ensures.drains (c.loop-turn.invariant.tells tells) in
+          let e = c.in-More-drain.ensures.drains (c.loop-after_cell.invariant.tells tells) in
           let piece = take c.in-Ok.count c.read.new.buffer in
-          let mid = state c.loop-turn.decoder in
-          last_read g.S.Sink.after g.S.Sink.faulted c.args.turns c.loop-turn.turn _ _ (state c.args.decoder.now) mid (state c.drain-in-loop-turn.new.decoder) xs _ _ _ _ _ d (c.loop-turn.invariant.gives xs is) c.loop-turn.invariant.waits c.loop-turn.invariant.rules outcome.Turns (λ fits. let before = c.loop-turn.invariant.counted (omega arith) in let one = c.in-Ok.ensures.reads in omega arith)
-          (let a = c.loop-turn-test.true in omega arith)
-          (feeds_then g.S.Sink.after mid mid (state c.drain-in-loop-turn.new.decoder) d.0.rest piece r.0 _ _ _ (feeds_none g.S.Sink.after mid d.0.rest _) r.2 piece [] (sym (append-nil piece)) (λ gifts s es a. (e gifts s es a).drains))
+          let mid = state c.loop-after_cell.decoder in
+          last_read g.S.Sink.after g.S.Sink.faulted c.args.turns c.loop-after_cell.after_cell _ _ (state c.args.decoder.now) mid (state c.drain-in-loop-after_cell.new.decoder) xs _ _ _ _ _ d (c.loop-after_cell.invariant.gives xs is) c.loop-after_cell.invariant.waits c.loop-after_cell.invariant.rules outcome.Turns (λ fits. let before = c.loop-after_cell.invariant.counted (omega arith) in let one = c.in-Ok.ensures.reads in omega arith)
+          (let a = c.loop-after_cell-test.true in omega arith)
+          (feeds_then g.S.Sink.after mid mid (state c.drain-in-loop-after_cell.new.decoder) d.0.rest piece r.0 _ _ _ (feeds_none g.S.Sink.after mid d.0.rest _) r.2 piece [] (sym (append-nil piece)) (λ gifts s es a. (e gifts s es a).drains))
           (gives_more 0 d.0.rest _ _ c.read.new.buffer c.in-Ok.count (omega arith) c.in-Ok.ensures.bound long (gives_none d.0.rest _ d.1) c.in-Ok.ensures.bytes);
       waits = c.in-More-drain.ensures.refusal;
-      unrefused = c.loop-turn.invariant.unrefused;
+      unrefused = c.loop-after_cell.invariant.unrefused;
       fed = λ xs is tells.
-          let d = c.loop-turn.invariant.fed xs is tells in
+          let d = c.loop-after_cell.invariant.fed xs is tells in
           let r = read_some _ _ d.0.rest c.read.new.buffer c.in-Ok.count d.1 c.in-Ok.ensures.bytes.0 c.in-Ok.ensures.bytes.1 in
-          let e = c.in-More-drain.ensures.drains (c.loop-turn.invariant.tells tells) in
+          let e = c.in-More-drain.ensures.drains (c.loop-after_cell.invariant.tells tells) in
           let piece = take c.in-Ok.count c.read.new.buffer in
           let size : length piece ≡ c.in-Ok.count = length-take-le c.in-Ok.count c.read.new.buffer c.in-Ok.ensures.bound in
           let some = c.if-count-eq0.false in (
-            feeds_then g.S.Sink.after (state c.args.decoder.now) (state c.loop-turn.decoder) (state c.drain-in-loop-turn.new.decoder) xs piece r.0 _ _ _ d.0 r.2 piece [] (sym (append-nil piece)) (λ gifts s es a. (e gifts s es a).drains),
+            feeds_then g.S.Sink.after (state c.args.decoder.now) (state c.loop-after_cell.decoder) (state c.drain-in-loop-after_cell.new.decoder) xs piece r.0 _ _ _ d.0 r.2 piece [] (sym (append-nil piece)) (λ gifts s es a. (e gifts s es a).drains),
             r.1,
             omega (arith, d.2, length-append d.0.bytes piece),
-            has_all g.S.Sink.after (state c.args.decoder.now) (state c.loop-turn.decoder) (state c.drain-in-loop-turn.new.decoder) xs piece r.0 _ _ _ d.0 r.2 piece [] (sym (append-nil piece)) (omega (arith, size, long, c.in-Ok.ensures.bound)) _ r.1 (λ _. refl) (λ none. c.loop-turn.invariant.waits) e,
+            has_all g.S.Sink.after (state c.args.decoder.now) (state c.loop-after_cell.decoder) (state c.drain-in-loop-after_cell.new.decoder) xs piece r.0 _ _ _ d.0 r.2 piece [] (sym (append-nil piece)) (omega (arith, size, long, c.in-Ok.ensures.bound)) _ r.1 (λ _. refl) (λ none. c.loop-after_cell.invariant.waits) e,
           );
     }
 
 pub returns-clause-runs : goal.returns-clause-runs
 returns-clause-runs g c = λ xs is tells.
-    let d = c.loop-turn.invariant.fed xs is tells in
+    let d = c.loop-after_cell.invariant.fed xs is tells in
     (d.0, d.1, omega (arith, d.2), d.3)
 
 -- after a refusal
@@ -152,19 +152,19 @@ pub returns-in-Fault-clause-refused : goal.returns-in-Fault-clause-refused
 returns-in-Fault-clause-refused g c = λ r is. absurd (let again = c.in-Fault.ensures.refused r is in let e = again.0 in cc)
 
 pub returns-then-count-eq0-clause-refused : goal.returns-then-count-eq0-clause-refused
-returns-then-count-eq0-clause-refused g c = λ r is. absurd (c.loop-turn.invariant.unrefused r is)
+returns-then-count-eq0-clause-refused g c = λ r is. absurd (c.loop-after_cell.invariant.unrefused r is)
 
 pub returns-in-Err-clause-refused : goal.returns-in-Err-clause-refused
-returns-in-Err-clause-refused g c = λ r is. absurd (c.loop-turn.invariant.unrefused r is)
+returns-in-Err-clause-refused g c = λ r is. absurd (c.loop-after_cell.invariant.unrefused r is)
 
 pub returns-clause-refused : goal.returns-clause-refused
-returns-clause-refused g c = λ r is. absurd (c.loop-turn.invariant.unrefused r is)
+returns-clause-refused g c = λ r is. absurd (c.loop-after_cell.invariant.unrefused r is)
 
 pub returns-in-Refused-drain-clause-refused : goal.returns-in-Refused-drain-clause-refused
-returns-in-Refused-drain-clause-refused g c = λ r is. absurd (c.loop-turn.invariant.unrefused r is)
+returns-in-Refused-drain-clause-refused g c = λ r is. absurd (c.loop-after_cell.invariant.unrefused r is)
 
 pub returns-in-Fault-drain-clause-refused : goal.returns-in-Fault-drain-clause-refused
-returns-in-Fault-drain-clause-refused g c = λ r is. absurd (c.loop-turn.invariant.unrefused r is)
+returns-in-Fault-drain-clause-refused g c = λ r is. absurd (c.loop-after_cell.invariant.unrefused r is)
 
 -- how many reads are made
 
@@ -179,53 +179,53 @@ returns-in-Fault-clause-reads g c = record { giving = 0; counted = λ fits. omeg
 
 pub returns-in-Err-clause-reads : goal.returns-in-Err-clause-reads
 returns-in-Err-clause-reads g c = record {
-  giving = c.loop-turn.turn;
-  counted = λ fits. let before = c.loop-turn.invariant.counted (omega arith) in let one = c.in-Err.ensures.reads in omega arith;
-  within = let a = c.loop-turn-test.true in omega arith;
+  giving = c.loop-after_cell.after_cell;
+  counted = λ fits. let before = c.loop-after_cell.invariant.counted (omega arith) in let one = c.in-Err.ensures.reads in omega arith;
+  within = let a = c.loop-after_cell-test.true in omega arith;
   all = λ is. absurd (let e = is in cc);
-  gives = λ xs is. gives_kept _ xs _ _ (c.loop-turn.invariant.gives xs is) c.in-Err.ensures.bytes;
+  gives = λ xs is. gives_kept _ xs _ _ (c.loop-after_cell.invariant.gives xs is) c.in-Err.ensures.bytes;
 }
 
 pub returns-then-count-eq0-clause-reads : goal.returns-then-count-eq0-clause-reads
 returns-then-count-eq0-clause-reads g c =
-    let idle = idle_at_end c.finish-then-count-eq0.result (c.finish-then-count-eq0.ensures.unrefused c.loop-turn.invariant.waits) in
-    let long : 0 < length c.read.new.buffer = let a = c.read.auto.buffer in let b = c.loop-turn.invariant.long in omega arith in
+    let idle = idle_at_end c.finish-then-count-eq0.result (c.finish-then-count-eq0.ensures.unrefused c.loop-after_cell.invariant.waits) in
+    let long : 0 < length c.read.new.buffer = let a = c.read.auto.buffer in let b = c.loop-after_cell.invariant.long in omega arith in
     record {
-      giving = c.loop-turn.turn;
-      counted = λ fits. let before = c.loop-turn.invariant.counted (omega arith) in let one = c.in-Ok.ensures.reads in omega (arith, idle);
-      within = let a = c.loop-turn-test.true in omega (arith, idle);
+      giving = c.loop-after_cell.after_cell;
+      counted = λ fits. let before = c.loop-after_cell.invariant.counted (omega arith) in let one = c.in-Ok.ensures.reads in omega (arith, idle);
+      within = let a = c.loop-after_cell-test.true in omega (arith, idle);
       all = λ is. absurd (let e = is in cc);
-      gives = λ xs is. gives_end _ xs _ _ c.read.new.buffer c.in-Ok.count c.if-count-eq0.true long (c.loop-turn.invariant.gives xs is) c.in-Ok.ensures.bytes;
+      gives = λ xs is. gives_end _ xs _ _ c.read.new.buffer c.in-Ok.count c.if-count-eq0.true long (c.loop-after_cell.invariant.gives xs is) c.in-Ok.ensures.bytes;
     }
 
 pub returns-in-Refused-drain-clause-reads : goal.returns-in-Refused-drain-clause-reads
 returns-in-Refused-drain-clause-reads g c =
     let refused = c.in-Refused-drain.ensures.refusal in
     let idle = idle_refused c.finish-in-Refused-drain.result refused.0 (c.finish-in-Refused-drain.ensures.refused refused.0 refused.1) in
-    let long : length c.read.new.buffer ≡ 4096 = let a = c.read.auto.buffer in let b = c.loop-turn.invariant.long in omega arith in
+    let long : length c.read.new.buffer ≡ 4096 = let a = c.read.auto.buffer in let b = c.loop-after_cell.invariant.long in omega arith in
     record {
-      giving = c.loop-turn.turn + 1;
-      counted = λ fits. let before = c.loop-turn.invariant.counted (omega arith) in let one = c.in-Ok.ensures.reads in omega (arith, idle);
-      within = let a = c.loop-turn-test.true in omega (arith, idle);
+      giving = c.loop-after_cell.after_cell + 1;
+      counted = λ fits. let before = c.loop-after_cell.invariant.counted (omega arith) in let one = c.in-Ok.ensures.reads in omega (arith, idle);
+      within = let a = c.loop-after_cell-test.true in omega (arith, idle);
       all = λ is. absurd (let e = is in cc);
-      gives = λ xs is. let some = c.if-count-eq0.false in gives_more _ xs _ _ c.read.new.buffer c.in-Ok.count (omega arith) c.in-Ok.ensures.bound long (c.loop-turn.invariant.gives xs is) c.in-Ok.ensures.bytes;
+      gives = λ xs is. let some = c.if-count-eq0.false in gives_more _ xs _ _ c.read.new.buffer c.in-Ok.count (omega arith) c.in-Ok.ensures.bound long (c.loop-after_cell.invariant.gives xs is) c.in-Ok.ensures.bytes;
     }
 
 pub returns-in-Fault-drain-clause-reads : goal.returns-in-Fault-drain-clause-reads
 returns-in-Fault-drain-clause-reads g c =
-    let long : length c.read.new.buffer ≡ 4096 = let a = c.read.auto.buffer in let b = c.loop-turn.invariant.long in omega arith in
+    let long : length c.read.new.buffer ≡ 4096 = let a = c.read.auto.buffer in let b = c.loop-after_cell.invariant.long in omega arith in
     record {
-      giving = c.loop-turn.turn + 1;
-      counted = λ fits. let before = c.loop-turn.invariant.counted (omega arith) in let one = c.in-Ok.ensures.reads in omega arith;
-      within = let a = c.loop-turn-test.true in omega arith;
+      giving = c.loop-after_cell.after_cell + 1;
+      counted = λ fits. let before = c.loop-after_cell.invariant.counted (omega arith) in let one = c.in-Ok.ensures.reads in omega arith;
+      within = let a = c.loop-after_cell-test.true in omega arith;
       all = λ is. absurd (let e = is in cc);
-      gives = λ xs is. let some = c.if-count-eq0.false in gives_more _ xs _ _ c.read.new.buffer c.in-Ok.count (omega arith) c.in-Ok.ensures.bound long (c.loop-turn.invariant.gives xs is) c.in-Ok.ensures.bytes;
+      gives = λ xs is. let some = c.if-count-eq0.false in gives_more _ xs _ _ c.read.new.buffer c.in-Ok.count (omega arith) c.in-Ok.ensures.bound long (c.loop-after_cell.invariant.gives xs is) c.in-Ok.ensures.bytes;
     }
 
 pub returns-clause-reads : goal.returns-clause-reads
 returns-clause-reads g c =
-    let all : c.loop-turn.turn ≡ c.args.turns = omega arith in
-    record { giving = c.loop-turn.turn; counted = λ fits. let up = c.loop-turn.invariant.counted (omega arith) in omega arith; within = omega arith; all = λ is. all; gives = c.loop-turn.invariant.gives }
+    let all : c.loop-after_cell.after_cell ≡ c.args.turns = omega arith in
+    record { giving = c.loop-after_cell.after_cell; counted = λ fits. let up = c.loop-after_cell.invariant.counted (omega arith) in omega arith; within = omega arith; all = λ is. all; gives = c.loop-after_cell.invariant.gives }
 
 -- when the last read is made
 
@@ -237,63 +237,63 @@ returns-in-Fault-clause-in_time g c = λ xs is tells. inl (refl, is)
 
 pub returns-in-Err-clause-in_time : goal.returns-in-Err-clause-in_time
 returns-in-Err-clause-in_time g c = λ xs is tells.
-    let d = c.loop-turn.invariant.fed xs is tells in
-    let mid = state c.loop-turn.decoder in
-    last_read g.S.Sink.after g.S.Sink.faulted c.args.turns c.loop-turn.turn _ _ (state c.args.decoder.now) mid mid xs _ _ _ _ _ d (c.loop-turn.invariant.gives xs is) c.loop-turn.invariant.waits c.loop-turn.invariant.rules outcome.ReadFault (λ fits. let before = c.loop-turn.invariant.counted (omega arith) in let one = c.in-Err.ensures.reads in omega arith)
-    (let a = c.loop-turn-test.true in omega arith)
+    let d = c.loop-after_cell.invariant.fed xs is tells in
+    let mid = state c.loop-after_cell.decoder in
+    last_read g.S.Sink.after g.S.Sink.faulted c.args.turns c.loop-after_cell.after_cell _ _ (state c.args.decoder.now) mid mid xs _ _ _ _ _ d (c.loop-after_cell.invariant.gives xs is) c.loop-after_cell.invariant.waits c.loop-after_cell.invariant.rules outcome.ReadFault (λ fits. let before = c.loop-after_cell.invariant.counted (omega arith) in let one = c.in-Err.ensures.reads in omega arith)
+    (let a = c.loop-after_cell-test.true in omega arith)
     (feeds_none g.S.Sink.after mid d.0.rest _)
     (gives_kept 0 d.0.rest _ _ (gives_none d.0.rest _ d.1) c.in-Err.ensures.bytes)
 
 pub returns-then-count-eq0-clause-in_time : goal.returns-then-count-eq0-clause-in_time
 returns-then-count-eq0-clause-in_time g c = λ xs is tells.
-    let d = c.loop-turn.invariant.fed xs is tells in
-    let mid = state c.loop-turn.decoder in
+    let d = c.loop-after_cell.invariant.fed xs is tells in
+    let mid = state c.loop-after_cell.decoder in
     let f = c.finish-then-count-eq0.result in
-    let idle = idle_at_end f (c.finish-then-count-eq0.ensures.unrefused c.loop-turn.invariant.waits) in
-    let long : 0 < length c.read.new.buffer = let a = c.read.auto.buffer in let b = c.loop-turn.invariant.long in omega arith in
-    last_read g.S.Sink.after g.S.Sink.faulted c.args.turns c.loop-turn.turn _ _ (state c.args.decoder.now) mid mid xs _ _ _ _ _ d (c.loop-turn.invariant.gives xs is) c.loop-turn.invariant.waits c.loop-turn.invariant.rules (outcome.Finished f) (λ fits. let before = c.loop-turn.invariant.counted (omega arith) in let one = c.in-Ok.ensures.reads in omega arith)
-    (let a = c.loop-turn-test.true in omega arith)
+    let idle = idle_at_end f (c.finish-then-count-eq0.ensures.unrefused c.loop-after_cell.invariant.waits) in
+    let long : 0 < length c.read.new.buffer = let a = c.read.auto.buffer in let b = c.loop-after_cell.invariant.long in omega arith in
+    last_read g.S.Sink.after g.S.Sink.faulted c.args.turns c.loop-after_cell.after_cell _ _ (state c.args.decoder.now) mid mid xs _ _ _ _ _ d (c.loop-after_cell.invariant.gives xs is) c.loop-after_cell.invariant.waits c.loop-after_cell.invariant.rules (outcome.Finished f) (λ fits. let before = c.loop-after_cell.invariant.counted (omega arith) in let one = c.in-Ok.ensures.reads in omega arith)
+    (let a = c.loop-after_cell-test.true in omega arith)
     (feeds_none g.S.Sink.after mid d.0.rest _)
     (rw idle (gives_end 0 d.0.rest _ _ c.read.new.buffer c.in-Ok.count c.if-count-eq0.true long (gives_none d.0.rest _ d.1) c.in-Ok.ensures.bytes))
 
 pub returns-in-Refused-drain-clause-in_time : goal.returns-in-Refused-drain-clause-in_time
 returns-in-Refused-drain-clause-in_time g c = λ xs is tells.
-    let d = c.loop-turn.invariant.fed xs is tells in
+    let d = c.loop-after_cell.invariant.fed xs is tells in
     let some = c.if-count-eq0.false in
-    let mid = state c.loop-turn.decoder in
-    let new = state c.drain-in-loop-turn.new.decoder in
+    let mid = state c.loop-after_cell.decoder in
+    let new = state c.drain-in-loop-after_cell.new.decoder in
     let f = c.finish-in-Refused-drain.result in
     let refused = c.in-Refused-drain.ensures.refusal in
     let idle = idle_refused f refused.0 (c.finish-in-Refused-drain.ensures.refused refused.0 refused.1) in
-    let long : length c.read.new.buffer ≡ 4096 = let a = c.read.auto.buffer in let b = c.loop-turn.invariant.long in omega arith in
+    let long : length c.read.new.buffer ≡ 4096 = let a = c.read.auto.buffer in let b = c.loop-after_cell.invariant.long in omega arith in
     let r = read_some _ _ d.0.rest c.read.new.buffer c.in-Ok.count d.1 c.in-Ok.ensures.bytes.0 c.in-Ok.ensures.bytes.1 in
-    let e = c.in-Refused-drain.ensures.drains (c.loop-turn.invariant.tells tells) in
+    let e = c.in-Refused-drain.ensures.drains (c.loop-after_cell.invariant.tells tells) in
     let piece = take c.in-Ok.count c.read.new.buffer in
-    last_read g.S.Sink.after g.S.Sink.faulted c.args.turns c.loop-turn.turn _ _ (state c.args.decoder.now) mid new xs _ _ _ _ _ d (c.loop-turn.invariant.gives xs is) c.loop-turn.invariant.waits c.loop-turn.invariant.rules (outcome.Finished f) (λ fits. let before = c.loop-turn.invariant.counted (omega arith) in let one = c.in-Ok.ensures.reads in omega arith)
-    (let a = c.loop-turn-test.true in omega arith)
+    last_read g.S.Sink.after g.S.Sink.faulted c.args.turns c.loop-after_cell.after_cell _ _ (state c.args.decoder.now) mid new xs _ _ _ _ _ d (c.loop-after_cell.invariant.gives xs is) c.loop-after_cell.invariant.waits c.loop-after_cell.invariant.rules (outcome.Finished f) (λ fits. let before = c.loop-after_cell.invariant.counted (omega arith) in let one = c.in-Ok.ensures.reads in omega arith)
+    (let a = c.loop-after_cell-test.true in omega arith)
     (feeds_then g.S.Sink.after mid mid new d.0.rest piece r.0 _ _ _ (feeds_none g.S.Sink.after mid d.0.rest _) r.2 (take e.0 piece) (drop e.0 piece) (sym (take-append-drop e.0 piece)) (λ gifts s es a. (e.1 gifts s es a).drains))
     (rw idle (gives_more 0 d.0.rest _ _ c.read.new.buffer c.in-Ok.count (omega arith) c.in-Ok.ensures.bound long (gives_none d.0.rest _ d.1) c.in-Ok.ensures.bytes))
 
 pub returns-in-Fault-drain-clause-in_time : goal.returns-in-Fault-drain-clause-in_time
 returns-in-Fault-drain-clause-in_time g c = λ xs is tells.
-    let d = c.loop-turn.invariant.fed xs is tells in
+    let d = c.loop-after_cell.invariant.fed xs is tells in
     let some = c.if-count-eq0.false in
-    let mid = state c.loop-turn.decoder in
-    let new = state c.drain-in-loop-turn.new.decoder in
-    let long : length c.read.new.buffer ≡ 4096 = let a = c.read.auto.buffer in let b = c.loop-turn.invariant.long in omega arith in
+    let mid = state c.loop-after_cell.decoder in
+    let new = state c.drain-in-loop-after_cell.new.decoder in
+    let long : length c.read.new.buffer ≡ 4096 = let a = c.read.auto.buffer in let b = c.loop-after_cell.invariant.long in omega arith in
     let r = read_some _ _ d.0.rest c.read.new.buffer c.in-Ok.count d.1 c.in-Ok.ensures.bytes.0 c.in-Ok.ensures.bytes.1 in
-    let e = c.in-Fault-drain.ensures.drains (c.loop-turn.invariant.tells tells) in
+    let e = c.in-Fault-drain.ensures.drains (c.loop-after_cell.invariant.tells tells) in
     let piece = take c.in-Ok.count c.read.new.buffer in
     let small : length piece ≤ 4096 = omega (arith, length-take-le c.in-Ok.count c.read.new.buffer c.in-Ok.ensures.bound, c.in-Ok.ensures.bound) in
-    last_read g.S.Sink.after g.S.Sink.faulted c.args.turns c.loop-turn.turn _ _ (state c.args.decoder.now) mid new xs _ _ _ _ _ d (c.loop-turn.invariant.gives xs is) c.loop-turn.invariant.waits c.loop-turn.invariant.rules outcome.SinkFault (λ fits. let before = c.loop-turn.invariant.counted (omega arith) in let one = c.in-Ok.ensures.reads in omega arith)
-    (let a = c.loop-turn-test.true in omega arith)
+    last_read g.S.Sink.after g.S.Sink.faulted c.args.turns c.loop-after_cell.after_cell _ _ (state c.args.decoder.now) mid new xs _ _ _ _ _ d (c.loop-after_cell.invariant.gives xs is) c.loop-after_cell.invariant.waits c.loop-after_cell.invariant.rules outcome.SinkFault (λ fits. let before = c.loop-after_cell.invariant.counted (omega arith) in let one = c.in-Ok.ensures.reads in omega arith)
+    (let a = c.loop-after_cell-test.true in omega arith)
     (feeds_into g.S.Sink.after mid mid new d.0.rest piece r.0 _ _ _ (feeds_none g.S.Sink.after mid d.0.rest _) r.2 (take e.0 piece) (drop e.0 piece) (sym (take-append-drop e.0 piece)) small _ r.1 g.S.Sink.faulted e.1)
     (gives_more 0 d.0.rest _ _ c.read.new.buffer c.in-Ok.count (omega arith) c.in-Ok.ensures.bound long (gives_none d.0.rest _ d.1) c.in-Ok.ensures.bytes)
 
 -- what a sink passed through
 
 pub returns-in-Refused-drain-clause-also : goal.returns-in-Refused-drain-clause-also
-returns-in-Refused-drain-clause-also g c = passes_then g.S.Sink.also _ _ _ c.loop-turn.invariant.also c.in-Refused-drain.ensures.also
+returns-in-Refused-drain-clause-also g c = passes_then g.S.Sink.also _ _ _ c.loop-after_cell.invariant.also c.in-Refused-drain.ensures.also
 
 pub returns-in-Fault-drain-clause-also : goal.returns-in-Fault-drain-clause-also
-returns-in-Fault-drain-clause-also g c = passes_then g.S.Sink.also _ _ _ c.loop-turn.invariant.also c.in-Fault-drain.ensures.also
+returns-in-Fault-drain-clause-also g c = passes_then g.S.Sink.also _ _ _ c.loop-after_cell.invariant.also c.in-Fault-drain.ensures.also

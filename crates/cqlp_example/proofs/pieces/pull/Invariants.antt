@@ -1,5 +1,5 @@
 use Rattle.std.proofs.Common.{◌+◌, ◌-◌, ◌*◌, ◌≤◌, length}
-use Rattle.cqlp_decode.specs.Standing.{ends_due}
+use Rattle.cqlp_decode.specs.Progress.{ends_due}
 use Rattle.cqlp_decode.specs.Streams.{state}
 use Rattle.cqlp_example.proofs.pieces.pull.Given as goal
 

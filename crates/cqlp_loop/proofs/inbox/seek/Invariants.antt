@@ -1,6 +1,6 @@
 use Rattle.std.proofs.Common.{◌+◌, ◌-◌, ◌*◌, ◌≤◌, List, length, take}
 use Rattle.cqlp_note.specs.declared.header.Header.{Header}
-use Rattle.cqlp_decode.specs.Standing.{ends_due}
+use Rattle.cqlp_decode.specs.Progress.{ends_due}
 use Rattle.cqlp_decode.specs.Streams.{state}
 use Rattle.cqlp_loop.specs.Inboxes.{Tells, awaiting}
 use Rattle.cqlp_loop.proofs.inbox.seek.Given as goal

@@ -27,5 +27,5 @@ returns-in-Text16 c =
 pub returns-in-None-bare_value : goal.returns-in-None-bare_value
 returns-in-None-bare_value c =
     let input = c.args.input.now in
-    let number : c.from_be_bytes-in-Bound.result ≡ from_be_bytes w32 (take 4 input) = rw c.read_first-in-Bound.ensures at c.from_be_bytes-in-Bound.ensures in
+    let number : c.from_be_bytes-in-Bound.result ≡ from_be_bytes w32 (take 4 input) = rw c.read_array-in-Bound.ensures at c.from_be_bytes-in-Bound.ensures in
     rw c.in-Bound.is (value_never input (ap (λ (n : ℕ). bare_value n) (sym number) ∙ sym c.in-None-bare_value.ensures))

@@ -1,5 +1,5 @@
 use Rattle.std.proofs.Common.{◌≡◌, ◌≤◌, true, length}
-use Rattle.cqlp_type.specs.Standing.{IsShared}
+use Rattle.cqlp_type.specs.Progress.{IsShared}
 use Rattle.cqlp_type.specs.Pushing.{ReadsInto}
 use Rattle.cqlp_test_calls.proofs.types.read.Given as goal
 

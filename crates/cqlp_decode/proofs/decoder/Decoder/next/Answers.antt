@@ -4,7 +4,7 @@ use Rattle.cqlp_note.specs.declared.refusal.Refusal.{Refusal}
 use Rattle.cqlp_grammar.specs.declared.event.Event.TheVariants as event
 use Rattle.cqlp_decode.specs.declared.step.Step.TheVariants as steps
 use Rattle.cqlp_decode.specs.declared.advance.EventAdvance.TheVariants as advance
-use Rattle.cqlp_decode.specs.Standing.{StreamState, Advances}
+use Rattle.cqlp_decode.specs.Progress.{StreamState, Advances}
 use Rattle.cqlp_decode.specs.Streams.{AfterBy, state}
 use Rattle.cqlp_decode.proofs.Leads.{more_leads, hands_leads, event_leads, refused_leads, more_uses, event_uses, more_goes, event_goes, refused_goes, more_repeats, event_repeats, refused_repeats, unrefused}
 use Rattle.cqlp_decode.proofs.decoder.Decoder.next.Goals as goal

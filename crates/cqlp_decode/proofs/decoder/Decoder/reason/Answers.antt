@@ -59,7 +59,7 @@ returns-else-depth-self-clause-is g c =
 pub returns-else-depth-self-clause-fits : goal.returns-else-depth-self-clause-fits
 returns-else-depth-self-clause-fits g c =
     let nodes = c.args.table.now.nodes in
-    let limits = c.self.inside.standing.limits in
+    let limits = c.self.inside.progress.limits in
     let shallow : c.depth.result ≤ limits.depth = c.if-depth-self.false in
     let few : length nodes ≤ limits.entries = rw c.len.ensures.is at c.if-len-self.false in
     λ _. rw (← c.self.view_is) (found_forest nodes c.depth.result limits.depth (c.whole.ensures.types c.if-not-whole.false) c.depth.ensures.is shallow, few)

@@ -1,6 +1,6 @@
 use Rattle.std.proofs.Common.{◌≡◌, true, Bool, false, None, refl, sym, ◌∙◌}
 use Rattle.cqlp_decode.specs.Reading.{is_in_use}
-use Rattle.cqlp_decode.specs.Standing.{parts_state, state_of}
+use Rattle.cqlp_decode.specs.Progress.{parts_state, state_of}
 use Rattle.cqlp_decode.specs.Streams.{state}
 use Rattle.cqlp_decode.proofs.Gifts.{refused_free}
 use Rattle.cqlp_decode.proofs.Tables.{given_lawful, given_state, taken_is, nothing_held, takes_also}
@@ -9,7 +9,7 @@ use Rattle.cqlp_decode.proofs.decoder.Decoder.take_given.Goals as goal
 pub invariant_of-self : goal.invariant_of-self
 invariant_of-self g c =
     let free : is_in_use (state c.args.self.now).place.given ≡ false = sym c.is_in_use.ensures ∙ c.if-is_in_use.false in
-    rw c.take.ensures.after (given_lawful c.self.inside.standing (parts_state c.self.inside.parts) c.self.inside.standing.given_use None c.self.invariant (rw (← c.self.view_is) at free) tt)
+    rw c.take.ensures.after (given_lawful c.self.inside.progress (parts_state c.self.inside.parts) c.self.inside.progress.given_use None c.self.invariant (rw (← c.self.view_is) at free) tt)
 
 pub returns-clause-given : goal.returns-clause-given
 returns-clause-given g c =
@@ -20,14 +20,14 @@ pub returns-clause-left : goal.returns-clause-left
 returns-clause-left g c =
     let free : is_in_use (state c.args.self.now).place.given ≡ false = sym c.is_in_use.ensures ∙ c.if-is_in_use.false in
     let q = parts_state c.self.inside.parts in
-    let s = c.self.inside.standing in
+    let s = c.self.inside.progress in
     rw (← c.self.view_is, c.take.ensures.after) (given_state s q s.given_use None c.self.invariant (rw (← c.self.view_is) at free) ∙ taken_is (state_of s q) c.take.result c.take.ensures.value (nothing_held s q))
 
 pub returns-clause-after : goal.returns-clause-after
 returns-clause-after g c =
     let free : is_in_use (state c.args.self.now).place.given ≡ false = sym c.is_in_use.ensures ∙ c.if-is_in_use.false in
     let q = parts_state c.self.inside.parts in
-    let s = c.self.inside.standing in
+    let s = c.self.inside.progress in
     takes_also c.take.result (state c.args.self.now) _
     (rw (← c.self.view_is, c.take.ensures.after) (given_state s q s.given_use None c.self.invariant (rw (← c.self.view_is) at free) ∙ taken_is (state_of s q) c.take.result c.take.ensures.value (nothing_held s q)))
 

@@ -1,8 +1,8 @@
 use Rattle.std.proofs.Common.{None, refl, ap, ◌∙◌}
 use Rattle.cqlp_type.specs.Table.{Table}
-use Rattle.cqlp_type.specs.Standing as type
-use Rattle.cqlp_cell.specs.Standing as value
-use Rattle.cqlp_decode.specs.Standing.{IsFresh, parts}
+use Rattle.cqlp_type.specs.Progress as type
+use Rattle.cqlp_cell.specs.Progress as value
+use Rattle.cqlp_decode.specs.Progress.{IsFresh, parts}
 use Rattle.cqlp_decode.proofs.decoder.Decoder.with_room.Goals as goal
 
 pub invariant_of-result : goal.invariant_of-result
@@ -11,7 +11,7 @@ invariant_of-result g c =
     let types = c.in_ok-types.ensures in
     let cells = c.in_ok-cells.ensures in
     let table = c.in_ok-table.ensures in
-    let limits = c.new-standing.ensures.limits in
+    let limits = c.new-progress.ensures.limits in
     let q = parts c.in_ok-partial.partial c.in_ok-types.types c.in_ok-cells.cells c.in_ok-table.table None in
     let fresh : IsFresh q = record {
       idle = record { field = field.idle; types = rw types refl; cells = rw cells refl };
@@ -19,5 +19,5 @@ invariant_of-result g c =
       types = ap (λ (t : Table). t.nodes) table;
       given = refl;
     } in
-    c.new-standing.ensures.lawful q fresh
+    c.new-progress.ensures.lawful q fresh
     (rw limits (record { room = field.room ∙ c.max.ensures; rules = ap (λ (r : type.TypeState). r.rules) types; cells = ap (λ (z : value.CellState). z.rules) cells; table = ap (λ (t : Table). t.room) table; few = c.requires.entries }))

@@ -2,7 +2,7 @@ use Rattle.std.proofs.Common.{◌≡◌, length, arith, rules}
 use Rattle.cqlp_note.specs.declared.field.Field.TheVariants.{TraceId}
 use Rattle.cqlp_note.specs.declared.field.Notation.TheVariants.{Byte}
 use Rattle.cqlp_grammar.specs.declared.grammar.Role.TheVariants.{Alone}
-use Rattle.cqlp_grammar.specs.declared.table.Expected.TheVariants.{Field}
+use Rattle.cqlp_grammar.specs.declared.productions.Expected.TheVariants.{Field}
 use Rattle.cqlp_grammar.specs.declared.upcoming.Slot.{Slot}
 use Rattle.cqlp_grammar.specs.declared.upcoming.Slot.TheVariants.{One, Many}
 use Rattle.cqlp_grammar.proofs.Stack.{popped_last, due_one, due_many}

@@ -1,6 +1,6 @@
 use Rattle.std.proofs.lemmas.Int.{to_z-of_z}
 use Rattle.std.proofs.Common.{rules, arith, w16, SFits}
-use Rattle.cqlp_session.proofs.Standing.{begun_through}
+use Rattle.cqlp_session.proofs.Progress.{begun_through}
 use Rattle.cqlp_session.proofs.client_of.ClientOf.begin.Goals as goal
 
 pub invariant_of-self : goal.invariant_of-self

@@ -2,7 +2,7 @@ use Rattle.std.proofs.lemmas.Int.{to_z-of_z}
 use Rattle.std.proofs.Common.{rules, arith, w16, SFits, ap, sym, ◌∙◌}
 use Rattle.cqlp_session.specs.Carried.{replied_with}
 use Rattle.cqlp_session.specs.Signal.{signal_of}
-use Rattle.cqlp_session.proofs.Standing.{replied_through, replied_view}
+use Rattle.cqlp_session.proofs.Progress.{replied_through, replied_view}
 use Rattle.cqlp_session.proofs.client_of.ClientOf.reply.Goals as goal
 
 pub invariant_of-self-2 : goal.invariant_of-self-2

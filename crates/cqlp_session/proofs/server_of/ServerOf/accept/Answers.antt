@@ -1,7 +1,7 @@
 use Rattle.std.proofs.lemmas.Int.{to_z-of_z}
 use Rattle.std.proofs.Common.{rules, arith, w16, SFits}
 use Rattle.cqlp_session.specs.Signal.{signal_of}
-use Rattle.cqlp_session.proofs.Standing.{accepted_through}
+use Rattle.cqlp_session.proofs.Progress.{accepted_through}
 use Rattle.cqlp_session.proofs.server_of.ServerOf.accept.Goals as goal
 
 pub invariant_of-self : goal.invariant_of-self

@@ -1,6 +1,6 @@
 use Rattle.std.proofs.lemmas.Int.{to_z-of_z}
 use Rattle.std.proofs.Common.{rules, arith, w16, SFits}
-use Rattle.cqlp_session.proofs.Standing.{answered_through}
+use Rattle.cqlp_session.proofs.Progress.{answered_through}
 use Rattle.cqlp_session.proofs.server_of.ServerOf.answer.Goals as goal
 
 pub invariant_of-self-2 : goal.invariant_of-self-2

@@ -3,7 +3,7 @@ use Rattle.cqlp_note.specs.Reader.{Bad}
 use Rattle.cqlp_note.specs.Partial.{FieldState}
 use Rattle.cqlp_type.specs.declared.remaining.OptionStage.{OptionStage}
 use Rattle.cqlp_type.specs.Remaining.{stage_symbols}
-use Rattle.cqlp_type.specs.Standing.{TypeState}
+use Rattle.cqlp_type.specs.Progress.{TypeState}
 use Rattle.cqlp_type.proofs.Calls.{kept, waits_fits, waits_on, field_at, stopped_is, refused_says, ends_fits, ends_on, failed, idle_after}
 use Rattle.cqlp_type.proofs.OpenTypes.{reads_waited, reads_handed, reads_over}
 use Rattle.cqlp_type.proofs.reader.TypeReader.advance.Goals as goal

@@ -1,5 +1,5 @@
 use Rattle.cqlp_note.specs.Limits.{rules_of}
-use Rattle.cqlp_type.specs.Standing.{new_reader}
+use Rattle.cqlp_type.specs.Progress.{new_reader}
 use Rattle.cqlp_type.proofs.OpenTypes.{reads_begun}
 use Rattle.cqlp_type.proofs.reader.TypeReader.begin.Goals as goal
 

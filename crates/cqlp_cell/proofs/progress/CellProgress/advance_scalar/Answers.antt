@@ -1,0 +1,25 @@
+use Rattle.std.proofs.Common.{◌+◌, ◌≡◌, ◌++◌, drop, true, is_some, ap}
+use Rattle.cqlp_kind.specs.Scalars.{scalar_of}
+use Rattle.cqlp_cell.specs.Items.{bytes_in, content_at}
+use Rattle.cqlp_cell.specs.Gathering.{seen_before}
+use Rattle.cqlp_cell.specs.Progress.{state_of}
+use Rattle.cqlp_cell.proofs.Gathered.{gathered_is}
+use Rattle.cqlp_cell.proofs.Handing.{scalar_waits, leaf_hands}
+use Rattle.cqlp_cell.proofs.progress.CellProgress.advance_scalar.Goals as goal
+
+pub returns-in_default-clause-settles : goal.returns-in_default-clause-settles
+returns-in_default-clause-settles g c =
+    let r = c.requires in
+    let seen = seen_before c.args.begun c.args.partial.now in
+    scalar_waits c.args.table.now.nodes (state_of c.args.self.now) c.args.len c.args.partial.now c.gather.new.partial c.args.input.now (seen ++ drop c.args.start c.args.input.now) r.due r.decided r.longest c.in_default.ensures
+
+pub returns-clause-settles : goal.returns-clause-settles
+returns-clause-settles g c =
+    let r = c.requires in
+    let seen = seen_before c.args.begun c.args.partial.now in
+    let nodes = c.args.table.now.nodes in
+    let old = state_of c.args.self.now in
+    let found = c.in-Some.found in
+    let there : content_at found.content c.args.input.now c.gather.new.partial.content ≡ c.lend_bytes.result.now = ap bytes_in c.lend_bytes.ensures in
+    let some : is_some (scalar_of c.args.value.kind (content_at found.content c.args.input.now c.gather.new.partial.content)) ≡ true = rw (there, ← c.accepts.ensures) c.if-not-accepts.false in
+    leaf_hands nodes old (state_of c.pass.new.self) c.args.len c.args.start c.args.partial.now c.gather.new.partial seen c.args.input.now found r.stands r.due r.decided r.front r.some c.in-Some.ensures (gathered_is c.args.begun c.args.len (c.args.self.now.offset + 4) c.args.start c.args.partial.now c.gather.new.partial c.args.input.now found r.under_way c.in-Some.ensures) c.args.value.kind c.len-level.result (ap (λ v. v.kind) r.value) c.len-level.ensures.is some (rw c.from.ensures at c.pass.ensures.state)

@@ -1,0 +1,232 @@
+//! What is read next of a cell.
+
+ghost use Rattle.std.specs.Prelude.{◌≡◌, ◌+◌, ◌-◌, ◌<◌, ◌≤◌, ◌^◌, ◌++◌, ◌∷◌, [], length, true, false, None, Some};
+ghost use Rattle.std.specs.Prelude.{IsSome, slice_get};
+ghost use Rattle.cqlp_cell.specs.Progress.{CellThere, cell_value as cell_value_of, value_at as value_of_node};
+ghost use Rattle.cqlp_cell.specs.declared.progress.NextInCell.TheVariants as next;
+ghost use Rattle.cqlp_cell.specs.declared.progress.Arrived.TheVariants as arrived;
+ghost use Rattle.cqlp_cell.specs.declared.progress.CellDue.TheVariants as due;
+
+use crate::open_values::{OpenValue, OpenValues, Order};
+use cqlp_kind::Kind;
+use cqlp_note::{Limits, Reason, Refusal};
+use cqlp_type::TypeTable;
+use std::alloc::Allocator;
+
+/// What is read next.
+#[derive(Clone, Copy)]
+pub(crate) enum NextInCell {
+    /// No cell is under way.
+    Nothing,
+    /// The cell, of the type at this node, or of none.
+    Cell(Option<u32>),
+    /// What the open values say.
+    Items,
+    /// The bytes of a long scalar from this offset on, of this many in all.
+    Part { offset: u32, total: u32 },
+}
+
+/// How much of it has come.
+#[derive(Clone, Copy)]
+pub(crate) enum Arrived {
+    /// Nothing.
+    Nothing,
+    /// Some of a value's length.
+    Length,
+    /// The length of a scalar, and some of its content.
+    Scalar(u32),
+    /// The length of a list, a set or a map, and some of its count.
+    Counted(u32),
+    /// The length of a long scalar, and some of its first part.
+    First(u32),
+    /// Some of a later part.
+    Later,
+}
+
+/// What comes next, where nothing of it has come.
+#[derive(Clone, Copy)]
+pub(crate) enum CellDue {
+    Nothing,
+    Value,
+    Close(OpenValue),
+    Part { offset: u32, total: u32 },
+}
+
+/// A value that is read next: its type, and where the value around it ends.
+#[derive(Clone, Copy)]
+pub(crate) struct DueValue {
+    pub kind: Kind,
+    pub arity: u16,
+    pub node: u32,
+    pub stop: u64,
+}
+
+/// Where the reading of a cell stands.
+#[derive(Drop)]
+pub(crate) struct CellProgress<A: Allocator> {
+    pub limits: Limits,
+    /// The offset of what is read next.
+    pub offset: u64,
+    /// Where the cell's container ends.
+    pub stop: u64,
+    pub next: NextInCell,
+    pub arrived: Arrived,
+    pub open_values: OpenValues<A>,
+}
+
+impl<A: Allocator> CellProgress<A> {
+    ghost use Rattle.cqlp_note.specs.Limits.{rules_of};
+    ghost use Rattle.cqlp_cell.specs.Progress.{state_of, due_of, due_value, state_after, ended, Stands};
+
+    /// What comes next, where nothing of it has come.
+    #[inline]
+    pub(crate) fn due(&self) -> CellDue
+        ensures { result ≡ due_of (state_of self.now) }
+    {
+        match self.next {
+            NextInCell::Nothing => CellDue::Nothing,
+            NextInCell::Cell(_) => CellDue::Value,
+            NextInCell::Part { offset, total } => CellDue::Part { offset, total },
+            NextInCell::Items => match self.open_values.last() {
+                None => CellDue::Nothing,
+                Some(value) => {
+                    if value.is_over(self.offset) {
+                        CellDue::Close(value)
+                    } else {
+                        CellDue::Value
+                    }
+                }
+            },
+        }
+    }
+
+    /// The value that is read next.
+    #[inline]
+    pub(crate) fn value(&self, table: &TypeTable<A>) -> DueValue
+        requires stands { Stands table.now.nodes (state_of self.now) }
+        requires due { due_of (state_of self.now) ≡ due.Value }
+        ensures { result ≡ due_value table.now.nodes (state_of self.now) }
+    {
+        match self.next {
+            NextInCell::Cell(node) => cell_value(table, node, self.stop),
+            NextInCell::Items => {
+                let value = self.open_values.last().unwrap();
+                value_at(table, value.node, value.stop)
+            }
+            NextInCell::Nothing => unreachable!(),
+            NextInCell::Part { .. } => unreachable!(),
+        }
+    }
+
+    /// Goes on after this many bytes of the value that was read, or of what is known of it.
+    #[inline(always)]
+    pub(crate) fn pass(&mut self, size: u64, table: &TypeTable<A>)
+        requires stands { Stands table.now.nodes (state_of self.old) }
+        requires due { due_of (state_of self.old) ≡ due.Value }
+        requires place { self.old.offset + size < 2 ^ 64 }
+        ensures state { state_of self.new ≡ state_after table.now.nodes (state_of self.old) size }
+        ensures room { self.new.open_values.room ≡ self.old.open_values.room }
+        ensures limits { self.new.limits ≡ self.old.limits }
+    {
+        if let NextInCell::Items = self.next {
+            self.open_values.pass_item(table);
+        }
+        self.offset += size;
+        self.next = NextInCell::Items;
+        self.arrived = Arrived::Nothing;
+    }
+
+    /// Ends the cell.
+    pub(crate) fn end(&mut self)
+        ensures state { state_of self.new ≡ ended (state_of self.old) }
+        ensures room { self.new.open_values.room ≡ self.old.open_values.room }
+        ensures limits { self.new.limits ≡ self.old.limits }
+    {
+        self.next = NextInCell::Nothing;
+        self.arrived = Arrived::Nothing;
+        self.open_values.clear();
+    }
+}
+
+/// The value that the cell is.
+#[inline]
+fn cell_value<A: Allocator>(table: &TypeTable<A>, node: Option<u32>, stop: u64) -> DueValue
+    requires { CellThere table.now.nodes node }
+    ensures { result ≡ cell_value_of table.now.nodes node stop }
+{
+    match node {
+        Some(node) => value_at(table, node, stop),
+        None => DueValue {
+            kind: Kind::Raw,
+            arity: 0,
+            node: 0,
+            stop,
+        },
+    }
+}
+
+/// A value of the type at this node, in a value that ends there.
+#[tactic(auto, unfolding(cqlp_type::specs::Forests::node_at))]
+#[inline]
+fn value_at<A: Allocator>(table: &TypeTable<A>, node: u32, stop: u64) -> DueValue
+    requires { IsSome (slice_get table.now.nodes node) }
+    ensures { result ≡ value_of_node table.now.nodes node stop }
+{
+    let head = table.node(node).unwrap();
+    DueValue {
+        kind: head.kind,
+        arity: head.arity,
+        node,
+        stop,
+    }
+}
+
+impl OpenValue {
+    ghost use Rattle.cqlp_cell.specs.Progress.{HasNext, is_over, after_item};
+
+    /// Whether no further item begins at this offset.
+    #[inline]
+    pub(crate) fn is_over(self, offset: u64) -> bool
+        ensures { result ≡ is_over self offset }
+    {
+        match self.order {
+            Order::Elements | Order::Keys => self.left == 0,
+            Order::Values => false,
+            Order::Fields => self.left == 0 || self.stop <= offset,
+        }
+    }
+
+    /// Goes on after its next item.
+    #[inline(always)]
+    pub(crate) fn pass_item<A: Allocator>(&mut self, table: &TypeTable<A>)
+        requires { HasNext table.now.nodes self.old self.old.order }
+        ensures { self.new ≡ after_item table.now.nodes self.old }
+    {
+        // The proof reads that the number of nodes fits in 32 bits.
+        let _nodes = table.len();
+        match self.order {
+            Order::Elements => self.left -= 1,
+            Order::Keys => {
+                self.switch_type(Order::Values);
+                self.left -= 1;
+            }
+            Order::Values => self.switch_type(Order::Keys),
+            Order::Fields => {
+                self.node += table.node(self.node).unwrap().span;
+                self.left -= 1;
+                self.items += 1;
+            }
+        }
+    }
+
+    /// Goes on with the other of a map's types.
+    #[inline(always)]
+    fn switch_type(&mut self, order: Order)
+        ensures { self.new ≡ record self.old { order = order; node = self.old.other; other = self.old.node } }
+    {
+        let node = self.node;
+        self.order = order;
+        self.node = self.other;
+        self.other = node;
+    }
+}
