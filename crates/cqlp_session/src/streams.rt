@@ -3,7 +3,7 @@
 ghost use Rattle.std.specs.Prelude.{◌≡◌, IfOk, None, option_map, pos, replicate};
 
 use crate::kind::RequestKind;
-use crate::{ids, slots};
+use crate::{slots, stream_ids};
 use std::alloc::{AllocError, Allocator, Global};
 use std::marker::Model;
 
