@@ -3,7 +3,7 @@
 ghost use Rattle.cqlp_note.specs.Limits.{rules_of};
 ghost use Rattle.cqlp_cell.specs.Fronts.{IsFront};
 
-use cqlp_kind::content::{first, scalar};
+use cqlp_kind::content::{read_array, scalar};
 use cqlp_kind::{Kind, Scalar};
 use cqlp_note::Limits;
 

@@ -46,7 +46,7 @@ module _ (l : Rules) (k : Kind) (room n : ℕ) (input : List ℕ) (number : n �
 pub hands_said : (l : Rules) (k : Kind) (room : ℕ) (input : List ℕ) (row column used : ℕ) (e : CellEvent) → SaysCell l k room input used e → (HasGot Failed : Event → Type 0) (h : Handed)
     → HasHanded (HasGot (cell_event row column e)) (Failed (cell_event row column e)) used h → HandsFront l k room input row column HasGot Failed h
 hands_said l k room input row column used e says HasGot Failed handed.Left told = absurd told
-hands_said l k room input row column used e says HasGot Failed (handed.Cell n) told = rw told.0 (record { event = e; says = says; holds = told.1 })
+hands_said l k room input row column used e says HasGot Failed (handed.Taken n) told = rw told.0 (record { event = e; says = says; holds = told.1 })
 hands_said l k room input row column used e says HasGot Failed (handed.Fault n) told = rw told.0 (record { event = e; says = says; holds = told.1 })
 
 -- ---- from cell to cell

@@ -38,7 +38,7 @@ IsBare room input (Some b) = (l : Rules) (k : Kind) → SaysCell l k room input 
 -- an event was handed out, which takes this many bytes: the sink has got it, or it failed there
 abbrev pub HasHanded : (HasGot Failed : Type 0) → (used : ℕ) → Handed → Type 0
 HasHanded HasGot Failed used handed.Left = ⊥
-HasHanded HasGot Failed used (handed.Cell n) = (n ≡ used) × HasGot
+HasHanded HasGot Failed used (handed.Taken n) = (n ≡ used) × HasGot
 HasHanded HasGot Failed used (handed.Fault n) = (n ≡ used) × Failed
 
 -- Bytes say that a cell of this row and this column is an event, of which this holds.
@@ -52,7 +52,7 @@ pub record HandsCell (l : Rules) (k : Kind) (room : ℕ) (input : List ℕ) (row
 abbrev pub HandsFront : Rules → Kind → (room : ℕ) → (input : List ℕ) → (row column : ℕ)
     → (HasGot Failed : Event → Type 0) → Handed → Type 0
 HandsFront l k room input row column HasGot Failed handed.Left = ⊤
-HandsFront l k room input row column HasGot Failed (handed.Cell used) = HandsCell l k room input row column used HasGot
+HandsFront l k room input row column HasGot Failed (handed.Taken used) = HandsCell l k room input row column used HasGot
 HandsFront l k room input row column HasGot Failed (handed.Fault used) = HandsCell l k room input row column used Failed
 
 -- No more bytes are used than there are, and two for each value that was opened.

@@ -19,5 +19,5 @@ pub record HasField (n : Notation) (limit room : ℕ) (input : List ℕ) (f : Fi
 abbrev pub HandsField : Notation → (limit room : ℕ) → List ℕ → Field → (HasGot Failed : Event → Type 0) → Handed
     → Type 0
 HandsField n limit room input f HasGot Failed handed.Left = ⊤
-HandsField n limit room input f HasGot Failed (handed.Cell used) = HasField n limit room input f used HasGot
+HandsField n limit room input f HasGot Failed (handed.Taken used) = HasField n limit room input f used HasGot
 HandsField n limit room input f HasGot Failed (handed.Fault used) = HasField n limit room input f used Failed

@@ -46,7 +46,7 @@ pub record SaysLeaf (l : Rules) (k : Kind) (room level : ℕ) (input : List ℕ)
 abbrev pub HandsLeaf : Rules → Kind → (room level : ℕ) → List ℕ → (row column : ℕ) → (HasGot Failed : Event → Type 0)
     → Handed → Type 0
 HandsLeaf l k room level input row column HasGot Failed handed.Left = ⊤
-HandsLeaf l k room level input row column HasGot Failed (handed.Cell used) =
+HandsLeaf l k room level input row column HasGot Failed (handed.Taken used) =
     SaysLeaf l k room level input row column used HasGot
 HandsLeaf l k room level input row column HasGot Failed (handed.Fault used) =
     SaysLeaf l k room level input row column used Failed
@@ -62,7 +62,7 @@ pub record TakesOne (old : StreamState) (input : List ℕ) (used : ℕ) (Holds :
 -- What became of the next item: it was taken, and the sink has got it, or it failed there; or nothing is done.
 abbrev pub HandsItem : StreamState → List ℕ → (HasGot Failed : ℕ → Event → Type 0) → Handed → StreamState → Type 0
 HandsItem old input HasGot Failed handed.Left new = new ≡ old
-HandsItem old input HasGot Failed (handed.Cell used) new = TakesOne old input used HasGot new
+HandsItem old input HasGot Failed (handed.Taken used) new = TakesOne old input used HasGot new
 HandsItem old input HasGot Failed (handed.Fault used) new = TakesOne old input used Failed new
 
 -- the parts of a decoder, where the innermost value is this

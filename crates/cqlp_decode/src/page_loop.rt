@@ -30,7 +30,7 @@ pub enum Handed {
     /// Nothing: it is left.
     Left,
     /// It was handed out, and takes this many bytes.
-    Cell(usize),
+    Taken(usize),
     /// The same, but the sink failed.
     Fault(usize),
 }

@@ -12,16 +12,16 @@ fields-preserved g c =
     let old = state_with c.fields.progress c.fields.parts in
     let new = state_with c.hand_due.new.self c.hand_due.new.parts in
     let input = c.args.input.now in
-    let one = rw rest_is at c.in-Cell.ensures.hands in
+    let one = rw rest_is at c.in-Taken.ensures.hands in
     let h = one.takes in
     record {
       within = omega (arith, i.within, h.3.within, length-drop c.fields.used input);
-      lawful = c.in-Cell.ensures.lawful;
+      lawful = c.in-Taken.ensures.lawful;
       unrefused = h.0 ∙ i.unrefused;
       rules = h.1 ∙ i.rules;
       given = h.2 ∙ i.given;
       pays = omega (arith, h.3.pays, i.pays);
-      drained = item_drains (Gets g.S.Sink) (state_with c.args.progress.now c.args.parts.now) old new input c.fields.used _ _ i.drained i.unrefused one.at c.in-Cell.taken one.event h _ one.holds;
+      drained = item_drains (Gets g.S.Sink) (state_with c.args.progress.now c.args.parts.now) old new input c.fields.used _ _ i.drained i.unrefused one.at c.in-Taken.taken one.event h _ one.holds;
     }
 
 pub returns-in-Fault-clause-drains : goal.returns-in-Fault-clause-drains

@@ -40,14 +40,14 @@ cells-preserved g c =
     let kind = (rw nodes at c.kind-kind.ensures) s.limits.depth i.lawful.stage.0 in
     let turns = (rw nodes at c.in-Some-next.ensures) s.limits.depth i.lawful.stage.0 in
     let empty = nothing_held q.partial.content (omega (arith, c.if-held-gt0.false, c.held.ensures.is)) in
-    let hands = rw rest_is at c.in-Cell.ensures.hands in
+    let hands = rw rest_is at c.in-Taken.ensures.hands in
     record {
       within = omega (arith, i.within, hands.says.within, length-drop c.cells.used input);
       progress = i.progress;
       columns = turns.2 ∙ i.columns;
-      lawful = cell_lawful s q p next c.cells.offset i.lawful c.in_default-refusal.is empty c.kind-kind.result kind turns input c.cells.used c.in-Cell.taken _ hands;
+      lawful = cell_lawful s q p next c.cells.offset i.lawful c.in_default-refusal.is empty c.kind-kind.result kind turns input c.cells.used c.in-Taken.taken _ hands;
       drained =
-          cell_drains s q p next c.cells.offset i.lawful c.in_default-refusal.is empty c.kind-kind.result kind turns input c.cells.used c.in-Cell.taken _ hands (Gets g.S.Sink) (state_of s q) _ _ _ i.drained hands.holds;
+          cell_drains s q p next c.cells.offset i.lawful c.in_default-refusal.is empty c.kind-kind.result kind turns input c.cells.used c.in-Taken.taken _ hands (Gets g.S.Sink) (state_of s q) _ _ _ i.drained hands.holds;
     }
 
 pub returns-in-Fault-clause-drains : goal.returns-in-Fault-clause-drains

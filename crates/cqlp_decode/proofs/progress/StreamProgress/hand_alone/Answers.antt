@@ -9,26 +9,26 @@ overflow_add-self g c =
     let q = parts_state c.args.parts.now in
     let idle = sym c.is_under_way.ensures ∙ c.if-is_under_way.false in
     let empty = nothing_held q.partial.content (omega (arith, c.if-held-gt0.false, c.held.ensures.is)) in
-    let has = c.in-Cell.ensures.hands in
-    let inside = alone_inside c.args.self.now q c.args.want c.requires.here c.requires.alone c.requires.lawful c.requires.unrefused idle empty c.args.input.now c.in-Cell.used has.value has.says in
+    let has = c.in-Taken.ensures.hands in
+    let inside = alone_inside c.args.self.now q c.args.want c.requires.here c.requires.alone c.requires.lawful c.requires.unrefused idle empty c.args.input.now c.in-Taken.used has.value has.says in
     let bound = c.requires.lawful.bounded.bound in
     omega arith
 
-pub returns-in-Cell-clause-lawful : goal.returns-in-Cell-clause-lawful
-returns-in-Cell-clause-lawful g c =
+pub returns-in-Taken-clause-lawful : goal.returns-in-Taken-clause-lawful
+returns-in-Taken-clause-lawful g c =
     let q = parts_state c.args.parts.now in
     let idle = sym c.is_under_way.ensures ∙ c.if-is_under_way.false in
     let empty = nothing_held q.partial.content (omega (arith, c.if-held-gt0.false, c.held.ensures.is)) in
-    let has = c.in-Cell.ensures.hands in
-    alone_lawful c.args.self.now q c.args.want c.requires.here c.requires.alone c.requires.lawful c.requires.unrefused idle empty c.args.input.now c.in-Cell.used has.value has.says c.expect_next.new.self c.expect_next.ensures.rest (c.expect_next.ensures.symbols q) c.expect_next.ensures.room
+    let has = c.in-Taken.ensures.hands in
+    alone_lawful c.args.self.now q c.args.want c.requires.here c.requires.alone c.requires.lawful c.requires.unrefused idle empty c.args.input.now c.in-Taken.used has.value has.says c.expect_next.new.self c.expect_next.ensures.rest (c.expect_next.ensures.symbols q) c.expect_next.ensures.room
 
-pub returns-in-Cell-clause-hands : goal.returns-in-Cell-clause-hands
-returns-in-Cell-clause-hands g c =
+pub returns-in-Taken-clause-hands : goal.returns-in-Taken-clause-hands
+returns-in-Taken-clause-hands g c =
     let q = parts_state c.args.parts.now in
     let idle = sym c.is_under_way.ensures ∙ c.if-is_under_way.false in
     let empty = nothing_held q.partial.content (omega (arith, c.if-held-gt0.false, c.held.ensures.is)) in
-    let has = c.in-Cell.ensures.hands in
-    alone_takes c.args.self.now q c.args.want c.requires.here c.requires.alone c.requires.lawful c.requires.unrefused idle empty c.args.input.now c.in-Cell.used has.value has.says c.expect_next.new.self c.expect_next.ensures.rest (c.expect_next.ensures.symbols q) c.expect_next.ensures.room _ has.told
+    let has = c.in-Taken.ensures.hands in
+    alone_takes c.args.self.now q c.args.want c.requires.here c.requires.alone c.requires.lawful c.requires.unrefused idle empty c.args.input.now c.in-Taken.used has.value has.says c.expect_next.new.self c.expect_next.ensures.rest (c.expect_next.ensures.symbols q) c.expect_next.ensures.room _ has.told
 
 pub overflow_add-self-in-Fault : goal.overflow_add-self-in-Fault
 overflow_add-self-in-Fault g c =

@@ -63,8 +63,8 @@ pass_element-requires-clause-place g c =
     let kind : k ≡ (node_at nodes l.value.node).kind = rw i.node c.requires.kind in
     let found : due_at nodes l ≡ Some t = sym (element_due nodes l k i.list kind) ∙ sym c.in-Some.ensures in
     let rest = drop c.elements.used c.args.input.now in
-    let n = c.in-Cell.taken in
-    let one = rw (rest_is, ← (element_kind l k t (sym c.in-Some.ensures))) at c.in-Cell.ensures.hands in
+    let n = c.in-Taken.taken in
+    let one = rw (rest_is, ← (element_kind l k t (sym c.in-Some.ensures))) at c.in-Taken.ensures.hands in
     item_place s q p c.requires.here l i.inside i.lawful c.requires.empty rest t found n _ one
 
 pub pass_element-requires-in-Fault-clause-next : goal.pass_element-requires-in-Fault-clause-next
@@ -112,8 +112,8 @@ elements-preserved g c =
     let kind : k ≡ (node_at nodes l.value.node).kind = rw i.node c.requires.kind in
     let found : due_at nodes l ≡ Some t = sym (element_due nodes l k i.list kind) ∙ sym c.in-Some.ensures in
     let rest = drop c.elements.used c.args.input.now in
-    let n = c.in-Cell.taken in
-    let one = rw (rest_is, ← (element_kind l k t (sym c.in-Some.ensures))) at c.in-Cell.ensures.hands in
+    let n = c.in-Taken.taken in
+    let one = rw (rest_is, ← (element_kind l k t (sym c.in-Some.ensures))) at c.in-Taken.ensures.hands in
     let goes : c.pass_element.new.self ≡ passed nodes l n = c.pass_element.ensures ∙ element_passed nodes l n i.list in
     let behind = passed nodes l n in
     let told = cell_event p.row p.column (Leaf t.level one.value) in

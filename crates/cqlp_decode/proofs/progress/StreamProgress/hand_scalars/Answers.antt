@@ -58,7 +58,7 @@ pass-requires-clause-place g c =
     let t = c.in-Some-due_item.due in
     let found : due_at (nodes_of q p.columns) l ≡ Some t = sym (rw c.page_table-table.ensures at c.in-Some-due_item.ensures) in
     let rest = drop c.scalars.used c.args.input.now in
-    item_place s q p c.requires.here l i.inside i.lawful c.requires.empty rest t found c.in-Cell.taken _ (rw rest_is at c.in-Cell.ensures.hands)
+    item_place s q p c.requires.here l i.inside i.lawful c.requires.empty rest t found c.in-Taken.taken _ (rw rest_is at c.in-Taken.ensures.hands)
 
 pub pass-requires-in-Fault-clause-next : goal.pass-requires-in-Fault-clause-next
 pass-requires-in-Fault-clause-next g c =
@@ -94,8 +94,8 @@ scalars-preserved g c =
     let t = c.in-Some-due_item.due in
     let found : due_at (nodes_of q p.columns) l ≡ Some t = sym (rw c.page_table-table.ensures at c.in-Some-due_item.ensures) in
     let rest = drop c.scalars.used c.args.input.now in
-    let n = c.in-Cell.taken in
-    let one = rw rest_is at c.in-Cell.ensures.hands in
+    let n = c.in-Taken.taken in
+    let one = rw rest_is at c.in-Taken.ensures.hands in
     let goes : c.pass.new.self ≡ passed (nodes_of q p.columns) l n = c.pass.ensures ∙ ap (λ (z : List Node). passed z l n) c.page_table-table.ensures in
     let behind = passed (nodes_of q p.columns) l n in
     let told = cell_event p.row p.column (Leaf t.level one.value) in
