@@ -15,7 +15,7 @@ returns-in-Ok c =
     let left : n ≤ length (drop 4 input) = omega (arith, there, length-drop 4 input) in
     let e : 4 + n - 4 ≡ n = omega arith in
     let s = scalar_is c.args.kind (take (4 + n - 4) (drop 4 input)) (value_of c.in-Ok.scalar) c.in-Ok.ensures in
-    says_scalar (rules_of c.args.limits.now) c.args.kind c.args.room n input (value_of c.in-Ok.scalar) refl (c.from_be_bytes-len.ensures ∙ ap (λ (b : List ℕ). from_be_bytes w32 b) c.first.ensures) c.if-len-eq0.false (omega (arith, c.if-len.false)) (omega (arith, c.if-len-limits.false))
+    says_scalar (rules_of c.args.limits.now) c.args.kind c.args.room n input (value_of c.in-Ok.scalar) refl (c.from_be_bytes-len.ensures ∙ ap (λ (b : List ℕ). from_be_bytes w32 b) c.read_array.ensures) c.if-len-eq0.false (omega (arith, c.if-len.false)) (omega (arith, c.if-len-limits.false))
     (omega (arith, c.if-from-room.false, c.from.ensures)) there (sym c.if-not-is_scalar.ensures) (rw (e, length-take-le n (drop 4 input) left) at s.0) (rw e at s.1)
 
 pub returns-then-input-lt4 : goal.returns-then-input-lt4
@@ -26,7 +26,7 @@ returns-then-input-lt4 c = λ used v h.
 pub returns-then-len-eq0 : goal.returns-then-len-eq0
 returns-then-len-eq0 c = λ used v h.
     let t = front_there (rules_of c.args.limits.now) c.args.kind c.args.room used c.args.input.now v h in
-    let n : c.from_be_bytes-len.result ≡ from_be_bytes w32 (take 4 c.args.input.now) = c.from_be_bytes-len.ensures ∙ ap (λ (b : List ℕ). from_be_bytes w32 b) c.first.ensures in
+    let n : c.from_be_bytes-len.result ≡ from_be_bytes w32 (take 4 c.args.input.now) = c.from_be_bytes-len.ensures ∙ ap (λ (b : List ℕ). from_be_bytes w32 b) c.read_array.ensures in
     elim c.then-len-eq0.branch [
       | then-len-eq0-via-then-len-eq0 w ↦ t.some (sym n ∙ w.if-len-eq0.true)
       | then-len-eq0-via-else-len-eq0+then-len w ↦ omega (arith, t.low, n, w.if-len.true)
@@ -37,7 +37,7 @@ returns-then-len-eq0 c = λ used v h.
 pub returns-then-input-used : goal.returns-then-input-used
 returns-then-input-used c = λ used v h.
     let t = front_there (rules_of c.args.limits.now) c.args.kind c.args.room used c.args.input.now v h in
-    let n : c.from_be_bytes-len.result ≡ from_be_bytes w32 (take 4 c.args.input.now) = c.from_be_bytes-len.ensures ∙ ap (λ (b : List ℕ). from_be_bytes w32 b) c.first.ensures in
+    let n : c.from_be_bytes-len.result ≡ from_be_bytes w32 (take 4 c.args.input.now) = c.from_be_bytes-len.ensures ∙ ap (λ (b : List ℕ). from_be_bytes w32 b) c.read_array.ensures in
     omega (arith, t.there, n, c.if-input-used.true)
 
 pub returns-then-not-is_scalar : goal.returns-then-not-is_scalar
@@ -49,7 +49,7 @@ returns-then-not-is_scalar c = λ used v h.
 pub returns-in-Err : goal.returns-in-Err
 returns-in-Err c = λ used v h.
     let t = front_there (rules_of c.args.limits.now) c.args.kind c.args.room used c.args.input.now v h in
-    let n : c.from_be_bytes-len.result ≡ from_be_bytes w32 (take 4 c.args.input.now) = c.from_be_bytes-len.ensures ∙ ap (λ (b : List ℕ). from_be_bytes w32 b) c.first.ensures in
+    let n : c.from_be_bytes-len.result ≡ from_be_bytes w32 (take 4 c.args.input.now) = c.from_be_bytes-len.ensures ∙ ap (λ (b : List ℕ). from_be_bytes w32 b) c.read_array.ensures in
     let e : 4 + c.from_be_bytes-len.result - 4 ≡ from_be_bytes w32 (take 4 c.args.input.now) = omega (arith, n) in
     let left : from_be_bytes w32 (take 4 c.args.input.now) ≤ length (drop 4 c.args.input.now) = omega (arith, t.there, length-drop 4 c.args.input.now) in
     let long = length-take-le (from_be_bytes w32 (take 4 c.args.input.now)) (drop 4 c.args.input.now) left in

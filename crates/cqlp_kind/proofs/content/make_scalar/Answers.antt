@@ -9,4 +9,4 @@ returns-in-Timeuuid c =
     let bytes = c.args.bytes.now in
     let size : length bytes ≡ 16 = eqb-true _ _ (rw c.in-Timeuuid.is at c.requires.size) in
     let whole : take 16 bytes ≡ bytes = take_all 16 bytes (omega arith) in
-    rw (c.first-in-Timeuuid.ensures, whole, c.in-Timeuuid.is) (timeuuid_known bytes (rw c.in-Timeuuid.is at c.requires.accepted))
+    rw (c.read_array-in-Timeuuid.ensures, whole, c.in-Timeuuid.is) (timeuuid_known bytes (rw c.in-Timeuuid.is at c.requires.accepted))

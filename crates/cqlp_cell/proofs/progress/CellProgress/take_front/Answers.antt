@@ -34,7 +34,7 @@ returns-in-Null-clause-takes g c =
     let nodes = c.args.table.now.nodes in
     let d = state_of c.args.self.now in
     let h = value_decided nodes d c.value-value.result c.from_be_bytes-len.result _ c.value-value.ensures c.in-Null.ensures in
-    let number = c.from_be_bytes-len.ensures ∙ ap (λ (b : List ℕ). from_be_bytes w32 b) c.first.ensures in
+    let number = c.from_be_bytes-len.ensures ∙ ap (λ (b : List ℕ). from_be_bytes w32 b) c.read_array.ensures in
     let room : 4 ≤ room_of nodes d = rw (← c.value-value.ensures) (omega (arith, c.if-value-at-lt4.false)) in
     null_whole nodes d (state_of c.pass.new.self) c.from_be_bytes-len.result c.args.input.now r.stands r.fresh r.due room (omega (arith, c.if-input-lt4.false)) number c.len-level.result h c.len-level.ensures.is c.pass.ensures.state
 
@@ -44,7 +44,7 @@ returns-in-Empty-clause-takes g c =
     let nodes = c.args.table.now.nodes in
     let d = state_of c.args.self.now in
     let h = value_decided nodes d c.value-value.result c.from_be_bytes-len.result _ c.value-value.ensures c.in-Empty.ensures in
-    let number = c.from_be_bytes-len.ensures ∙ ap (λ (b : List ℕ). from_be_bytes w32 b) c.first.ensures in
+    let number = c.from_be_bytes-len.ensures ∙ ap (λ (b : List ℕ). from_be_bytes w32 b) c.read_array.ensures in
     let room : 4 ≤ room_of nodes d = rw (← c.value-value.ensures) (omega (arith, c.if-value-at-lt4.false)) in
     empty_whole nodes d (state_of c.pass-in-Empty.new.self) c.from_be_bytes-len.result c.args.input.now r.stands r.fresh r.due room (omega (arith, c.if-input-lt4.false)) number c.len-level.result h c.len-level.ensures.is c.pass-in-Empty.ensures.state
 
@@ -55,7 +55,7 @@ returns-in-Fields-clause-takes g c =
     let d = state_of c.args.self.now in
     let sized = c.in-Fields.ensures in
     let h = value_decided nodes d c.value-value.result c.from_be_bytes-len.result _ c.value-value.ensures sized in
-    let number = c.from_be_bytes-len.ensures ∙ ap (λ (b : List ℕ). from_be_bytes w32 b) c.first.ensures in
+    let number = c.from_be_bytes-len.ensures ∙ ap (λ (b : List ℕ). from_be_bytes w32 b) c.read_array.ensures in
     let room : 4 ≤ room_of nodes d = rw (← c.value-value.ensures) (omega (arith, c.if-value-at-lt4.false)) in
     let low : (due_value nodes d).arity < 2 ^ 16 = rw (← c.value-value.ensures) (omega arith) in
     let whole = fields_whole nodes d (state_of c.enter_fields.new.self) c.from_be_bytes-len.result c.args.input.now r.stands r.fresh r.due room (omega (arith, c.if-input-lt4.false)) number (rw sized.can.0 at h) low (rw sized.can.0 at c.enter_fields.ensures.enters) in
