@@ -42,9 +42,6 @@ pub varchar_decided : (c : List ℕ) → IsUtf8 c → is_some (scalar_of kind.Va
 unfolding scalar_of
 varchar_decided c u = only_if_some (is_utf8 c) _ ∙ is_utf8-from_IsUtf8 c u
 
-pub text_known : (c : List ℕ) → is_utf8 c ≡ true → IsUtf8 c
-text_known c t = IsUtf8-from_is_utf8 c t
-
 pub varchar_known : (c : List ℕ) → is_some (scalar_of kind.Varchar c) ≡ true → IsUtf8 c
 unfolding scalar_of
 varchar_known c t = IsUtf8-from_is_utf8 c (sym (only_if_some (is_utf8 c) _) ∙ t)

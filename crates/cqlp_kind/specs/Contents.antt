@@ -1,5 +1,5 @@
 -- Scalars out of their bytes.
-use Rattle.std.specs.Prelude.{◌≡◌, ◌≢◌, ℕ, List, length, Option, Some, None, Result, Ok, Err, if◌then◌else◌}
+use Rattle.std.specs.Prelude.{ℕ, List, length, Result, Ok, Err, if◌then◌else◌}
 use Rattle.std.specs.Option.{ok_or}
 use Rattle.cqlp_note.specs.declared.refusal.Reason.{Reason}
 use Rattle.cqlp_note.specs.declared.refusal.Reason.TheVariants.{BadSize}
@@ -41,8 +41,3 @@ scalar_in k c = if allows_size k (length c) then ok_or (scalar_of k c) (fault_of
 abbrev pub value_in : Result Scalar Reason → Result ScalarValue Reason
 value_in (Ok s) = Ok (value_of s)
 value_in (Err why) = Err why
-
--- a content of n bytes, or none
-abbrev pub IsWholly : (n : ℕ) → List ℕ → Option (List ℕ) → Type 0
-IsWholly n c None = length c ≢ n
-IsWholly n c (Some b) = (length c ≡ n) × (b ≡ c)

@@ -66,6 +66,7 @@ scalar_of kind.Int c = Some (Int (signed (from_be_bytes w32 c)))
 scalar_of kind.Timestamp c = Some (Timestamp (cast_signed w64 (from_be_bytes w64 c)))
 scalar_of kind.Uuid c = Some (Uuid c)
 scalar_of kind.Varchar c = only_if (is_utf8 c) (Varchar c)
+-- any bytes: no form of a number is the least one that has to be taken
 scalar_of kind.Varint c = Some (Varint c)
 scalar_of kind.Timeuuid c = only_if (is_version_1 c) (Timeuuid c)
 scalar_of kind.Inet c = Some (Inet (address_of (length c) c))

@@ -1,11 +1,11 @@
 //! Scalars out of their bytes.
 
-ghost use Rattle.std.specs.Prelude.{◌≡◌, ◌≢◌, ◌≤◌, ◌<◌, Some, [], is_some, length, take, true};
+ghost use Rattle.std.specs.Prelude.{◌≡◌, ◌≤◌, ◌<◌, Some, is_some, length, take, true};
 ghost use Rattle.cqlp_note.specs.Field.{address_of};
 ghost use Rattle.cqlp_kind.specs.Types.{has_no_items};
 ghost use Rattle.cqlp_kind.specs.declared.kind.Kind.TheVariants as kind;
 ghost use Rattle.cqlp_kind.specs.Scalars.{allows_size, scalar_of, fault_of};
-ghost use Rattle.cqlp_kind.specs.Contents.{IsWholly, scalar_in, value_in, value_of};
+ghost use Rattle.cqlp_kind.specs.Contents.{scalar_in, value_in, value_of};
 
 use crate::kind::Kind;
 use crate::scalars::Scalar;
@@ -18,68 +18,11 @@ pub const DAY: u64 = 86_400_000_000_000;
 ///
 /// `BadSize` where no scalar of the kind has this many bytes; else `BadUtf8` for a varchar that is not UTF-8, and
 /// `BadScalar` for an ascii with a byte above 7F, a time past the end of a day or a timeuuid that is not of version 1.
+///
+/// A varint has no least form, and neither has the unscaled part of a decimal: bytes in front that only repeat the sign
+/// are taken as they are.
 #[inline(always)]
-#[tactic(auto, using(crate::proofs::Texts::text_known), unfolding(crate::specs::Scalars::scalar_of))]
 pub fn scalar(kind: Kind, bytes: &[u8]) -> Result<Scalar<'_>, Reason>
-    requires scalar { has_no_items kind ≡ true }
-    requires content { bytes.now ≢ [] }
-    ensures { value_in result ≡ scalar_in kind bytes.now }
-{
-    match kind {
-        Kind::Int => match whole(bytes) {
-            Some(bytes) => Ok(Scalar::Int(i32::from_be_bytes(bytes))),
-            None => Err(Reason::BadSize),
-        },
-        Kind::Bigint => match whole(bytes) {
-            Some(bytes) => Ok(Scalar::Bigint(i64::from_be_bytes(bytes))),
-            None => Err(Reason::BadSize),
-        },
-        Kind::Counter => match whole(bytes) {
-            Some(bytes) => Ok(Scalar::Counter(i64::from_be_bytes(bytes))),
-            None => Err(Reason::BadSize),
-        },
-        Kind::Timestamp => match whole(bytes) {
-            Some(bytes) => Ok(Scalar::Timestamp(i64::from_be_bytes(bytes))),
-            None => Err(Reason::BadSize),
-        },
-        Kind::Smallint => match whole(bytes) {
-            Some(bytes) => Ok(Scalar::Smallint(i16::from_be_bytes(bytes))),
-            None => Err(Reason::BadSize),
-        },
-        Kind::Date => match whole(bytes) {
-            Some(bytes) => Ok(Scalar::Date(u32::from_be_bytes(bytes))),
-            None => Err(Reason::BadSize),
-        },
-        Kind::Double => match whole(bytes) {
-            Some(bytes) => Ok(Scalar::Double(bytes)),
-            None => Err(Reason::BadSize),
-        },
-        Kind::Float => match whole(bytes) {
-            Some(bytes) => Ok(Scalar::Float(bytes)),
-            None => Err(Reason::BadSize),
-        },
-        Kind::Uuid => match whole(bytes) {
-            Some(bytes) => Ok(Scalar::Uuid(bytes)),
-            None => Err(Reason::BadSize),
-        },
-        Kind::Boolean => match whole::<1>(bytes) {
-            Some(bytes) => Ok(Scalar::Boolean(bytes[0] != 0)),
-            None => Err(Reason::BadSize),
-        },
-        // The bytes are a text.
-        Kind::Varchar if is_text(bytes) => Ok(Scalar::Varchar(unsafe {
-            str::from_utf8_unchecked(bytes)
-        })),
-        Kind::Varchar => Err(Reason::BadUtf8),
-        Kind::Blob => Ok(Scalar::Blob(bytes)),
-        Kind::Raw => Ok(Scalar::Raw(bytes)),
-        _ => rare_scalar(kind, bytes),
-    }
-}
-
-/// The same of any kind, its size, its content and its value one after the other.
-#[inline(always)]
-fn rare_scalar(kind: Kind, bytes: &[u8]) -> Result<Scalar<'_>, Reason>
     requires scalar { has_no_items kind ≡ true }
     ensures { value_in result ≡ scalar_in kind bytes.now }
 {
@@ -92,20 +35,8 @@ fn rare_scalar(kind: Kind, bytes: &[u8]) -> Result<Scalar<'_>, Reason>
     }
 }
 
-/// The bytes, if they are N.
-#[inline(always)]
-fn whole<const N: usize>(bytes: &[u8]) -> Option<[u8; N]>
-    ensures { IsWholly N bytes.now result }
-{
-    if bytes.len() == N {
-        Some(read_array(bytes))
-    } else {
-        None
-    }
-}
-
 /// Whether a content of a scalar kind may have this many bytes, which are not none.
-#[inline]
+#[inline(always)]
 pub fn allows(kind: Kind, len: usize) -> bool
     ensures { result ≡ allows_size kind len }
 {
@@ -123,7 +54,7 @@ pub fn allows(kind: Kind, len: usize) -> bool
 
 /// Whether a content of an allowed length is a scalar of this kind.
 #[tactic(auto, using(crate::proofs::Texts::only_if_some), unfolding(crate::specs::Scalars::scalar_of))]
-#[inline]
+#[inline(always)]
 pub fn accepts(kind: Kind, bytes: &[u8]) -> bool
     requires scalar { has_no_items kind ≡ true }
     requires size { allows_size kind (length bytes.now) ≡ true }
@@ -150,7 +81,7 @@ pub fn fault(kind: Kind) -> Reason
 
 /// The scalar that these bytes are.
 #[tactic(auto, using(crate::proofs::Texts::ascii_known, crate::proofs::Texts::varchar_known), unfolding(crate::specs::Scalars::scalar_of))]
-#[inline]
+#[inline(always)]
 pub fn make_scalar(kind: Kind, bytes: &[u8]) -> Scalar<'_>
     requires size { allows_size kind (length bytes.now) ≡ true }
     requires accepted { is_some (scalar_of kind bytes.now) ≡ true }
@@ -188,7 +119,7 @@ pub fn make_scalar(kind: Kind, bytes: &[u8]) -> Scalar<'_>
 }
 
 /// An address of 4 or 16 bytes.
-#[inline]
+#[inline(always)]
 fn address(bytes: &[u8]) -> Address
     requires { allows_size kind.Inet (length bytes.now) ≡ true }
     ensures { result ≡ address_of (length bytes.now) bytes.now }
