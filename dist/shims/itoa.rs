@@ -1,19 +1,26 @@
 //! What the sources use of `itoa`: the decimal digits of a number.
-use std::fmt::Display;
-use std::io::Write;
+use core::fmt::{Display, Error, Result, Write};
 
-/// Room for a number of 128 bits.
-pub struct Buffer([u8; 40]);
+/// Room for a number of 128 bits, and how many digits it has.
+pub struct Buffer([u8; 40], usize);
 
 impl Buffer {
     pub fn new() -> Self {
-        Buffer([0; 40])
+        Buffer([0; 40], 0)
     }
 
     pub fn format(&mut self, number: impl Display) -> &str {
-        let mut rest = &mut self.0[..];
-        write!(rest, "{number}").expect("no number has more than 40 bytes");
-        let len = 40 - rest.len();
-        std::str::from_utf8(&self.0[..len]).expect("digits")
+        self.1 = 0;
+        write!(self, "{number}").expect("no number has more than 40 bytes");
+        str::from_utf8(&self.0[..self.1]).expect("digits")
+    }
+}
+
+impl Write for Buffer {
+    fn write_str(&mut self, digits: &str) -> Result {
+        let end = self.1 + digits.len();
+        self.0.get_mut(self.1..end).ok_or(Error)?.copy_from_slice(digits.as_bytes());
+        self.1 = end;
+        Ok(())
     }
 }

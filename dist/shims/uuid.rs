@@ -21,6 +21,6 @@ impl Uuid {
             room[at + len] = b'-';
             at += len + 1;
         }
-        std::str::from_utf8_mut(&mut room[..36]).expect("digits and hyphens")
+        str::from_utf8_mut(&mut room[..36]).expect("digits and hyphens")
     }
 }

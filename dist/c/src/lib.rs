@@ -9,7 +9,6 @@ extern crate alloc;
 
 #[macro_use]
 mod kit_std;
-mod as_std;
 mod exports;
 mod memory;
 mod raw_box;

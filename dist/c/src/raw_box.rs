@@ -4,18 +4,18 @@ use crate::kit_std::boxed::Box;
 
 impl<T, A: Allocator> Box<T, A> {
     pub fn into_raw_with_allocator(this: Self) -> (*mut T, A) {
-        (std::boxed::Box::into_raw(this.of).cast(), this.alloc)
+        (alloc::boxed::Box::into_raw(this.of).cast(), this.alloc)
     }
 
     /// # Safety
     ///
     /// The pointer is one of `into_raw_with_allocator`, and is not used again. An array of one `T` lies as a `T` does.
     pub unsafe fn from_raw(alloc: A, at: *mut T) -> Self {
-        Box { of: unsafe { std::boxed::Box::from_raw(at.cast()) }, alloc }
+        Box { of: unsafe { alloc::boxed::Box::from_raw(at.cast()) }, alloc }
     }
 }
 
-impl<T, A: Allocator> std::ops::DerefMut for Box<T, A> {
+impl<T, A: Allocator> core::ops::DerefMut for Box<T, A> {
     fn deref_mut(&mut self) -> &mut T {
         &mut self.of[0]
     }

@@ -168,7 +168,13 @@
 //! A [`Source`] that says that it read more than it was given room for, or a [`Target`] that says that it took more than it was
 //! given, ends a call in a panic or has it answer a wrong count. Nothing that is `unsafe` rests on what they say. A [`Sink`] may
 //! do as it likes.
+//!
+//! # Without std
+//!
+//! The feature `std`, which is on by default, is for [`OfStd`] alone. Without it the package needs `core` and `alloc`, and reads and
+//! writes by a [`Source`] and a [`Target`] of the caller's.
 
+#![no_std]
 #![doc(test(attr(forbid(unsafe_code))))]
 // Each module is a whole library of the sources, of which this package exports a part.
 #![allow(dead_code, unused_imports)]
@@ -179,6 +185,10 @@
 
 #[cfg(not(target_pointer_width = "64"))]
 compile_error!("each proof of these sources takes a usize to have 64 bits");
+
+extern crate alloc;
+#[cfg(feature = "std")]
+extern crate std;
 
 #[macro_use]
 mod kit_std;
@@ -211,9 +221,10 @@ pub use cqlp_decode::{
 };
 pub use cqlp_kind::{Kind, Node, Scalar};
 pub use cqlp_note::{
-    Address, BadLimits, BoundValue, Field, Header, IoFault, LimitRange, Limits, NoMemory, OfStd, Opcode, Reason, Refusal, Source,
-    Target,
+    Address, BadLimits, BoundValue, Field, Header, IoFault, LimitRange, Limits, NoMemory, Opcode, Reason, Refusal, Source, Target,
 };
+#[cfg(feature = "std")]
+pub use cqlp_note::OfStd;
 pub use cqlp_type::TypeTable;
 pub use kit_std::alloc::Global;
 

@@ -5,6 +5,8 @@
 #[cfg(not(target_pointer_width = "64"))]
 compile_error!("each proof of these sources takes a usize to have 64 bits");
 
+extern crate alloc;
+
 #[macro_use]
 mod kit_std;
 // The modules.

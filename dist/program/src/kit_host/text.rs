@@ -28,9 +28,7 @@ impl<A: Allocator> String<A> {
     }
 
     pub fn push_str(&mut self, text: &str) -> Result<(), AllocError> {
-        self.text.try_reserve(text.len()).map_err(|_| AllocError)?;
-        self.text.push_str(text);
-        Ok(())
+        fmt::Write::write_str(self, text).map_err(|_| AllocError)
     }
 
     pub fn push(&mut self, c: char) -> Result<(), AllocError> {
@@ -57,12 +55,6 @@ impl<A: Allocator + PartialOrd> PartialOrd for String<A> {
 impl<A: Allocator + Ord> Ord for String<A> {
     fn cmp(&self, other: &Self) -> std::cmp::Ordering {
         self.text.cmp(&other.text)
-    }
-}
-
-impl<A: Allocator> fmt::Write for String<A> {
-    fn write_str(&mut self, text: &str) -> fmt::Result {
-        self.push_str(text).map_err(|_| fmt::Error)
     }
 }
 

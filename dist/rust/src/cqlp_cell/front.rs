@@ -1,7 +1,7 @@
 // Written by dist/erase from crates/cqlp_cell/src/front.rt.
 //! Scalars that lie whole at the front of the input.
 
-use crate::cqlp_kind::content::{first, scalar};
+use crate::cqlp_kind::content::{read_array, scalar};
 use crate::cqlp_kind::{Kind, Scalar};
 use crate::cqlp_note::Limits;
 
@@ -25,7 +25,7 @@ pub fn front_scalar<'a>(
     if input.len() < 4 {
         return None;
     }
-    let len = u32::from_be_bytes(first(input));
+    let len = u32::from_be_bytes(read_array(input));
     if len == 0 || len > i32::MAX as u32 || len > limits.cell || u64::from(len) + 4 > room {
         return None;
     }

@@ -8,10 +8,10 @@ mod item;
 mod level;
 mod number;
 mod open_values;
+mod progress;
 mod reader;
 mod reading;
 mod size;
-mod standing;
 mod whole;
 
 pub use advance::{CellAdvance, CellOutline};

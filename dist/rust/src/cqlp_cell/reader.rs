@@ -5,7 +5,7 @@ use crate::cqlp_cell::advance::CellAdvance;
 use crate::cqlp_cell::item::CellPush;
 use crate::cqlp_cell::level::Level;
 use crate::cqlp_cell::open_values::OpenValues;
-use crate::cqlp_cell::standing::{CellStanding, NextInCell, Under};
+use crate::cqlp_cell::progress::{Arrived, CellProgress, NextInCell};
 use crate::cqlp_cell::whole::BareItem;
 use crate::cqlp_note::{Limits, NoMemory, Partial};
 use crate::cqlp_type::TypeTable;
@@ -14,7 +14,7 @@ use crate::kit_std::alloc::{Allocator, Global};
 /// Reads cells, one at a time, as events. Their contents are read in the caller's `Partial`, and their types stand in
 /// the caller's table. Section 6 of `native_protocol_v4.spec`.
 pub struct CellReader<A: Allocator = Global> {
-    standing: CellStanding<A>,
+    progress: CellProgress<A>,
 }
 
 impl<A: Allocator> CellReader<A> {
@@ -22,12 +22,12 @@ impl<A: Allocator> CellReader<A> {
     pub(crate) fn new(alloc: A, limits: &Limits) -> Result<Self, NoMemory>
     {
         Ok(CellReader {
-            standing: CellStanding {
+            progress: CellProgress {
                 limits: *limits,
                 offset: 0,
                 stop: 0,
                 next: NextInCell::Nothing,
-                under: Under::Nothing,
+                arrived: Arrived::Nothing,
                 open_values: OpenValues::new(alloc, limits.depth)?,
             },
         })
@@ -36,52 +36,52 @@ impl<A: Allocator> CellReader<A> {
     /// Begins a cell of the type at this node, or of none, at an offset in a container that ends at another.
     pub(crate) fn begin(&mut self, node: Option<u32>, at: u64, end: u64)
     {
-        self.standing.offset = at;
-        self.standing.stop = end;
-        self.standing.next = NextInCell::Cell(node);
-        self.standing.under = Under::Nothing;
-        self.standing.open_values.clear();
+        self.progress.offset = at;
+        self.progress.stop = end;
+        self.progress.next = NextInCell::Cell(node);
+        self.progress.arrived = Arrived::Nothing;
+        self.progress.open_values.clear();
     }
 
     /// Whether a cell is under way and whole, so that the next push says so.
     pub fn done(&self) -> bool
     {
-        matches!(self.standing.next, NextInCell::Items) && self.standing.open_values.len() == 0
+        matches!(self.progress.next, NextInCell::Items) && self.progress.open_values.len() == 0
     }
 
     /// How many values are open.
     pub fn levels(&self) -> u32
     {
-        self.standing.open_values.len()
+        self.progress.open_values.len()
     }
 
     /// How many open values its memory has places for: as many as the limits allow, for as long as it lives.
     pub fn capacity(&self) -> usize
     {
-        self.standing.open_values.capacity()
+        self.progress.open_values.capacity()
     }
 
     /// The offset of what is read next.
     pub fn offset(&self) -> u64
     {
-        let standing = &self.standing;
-        standing.offset
+        let progress = &self.progress;
+        progress.offset
     }
 
     /// Ends the cell that is under way, whole or not, if there is one.
     pub fn stop(&mut self)
     {
-        self.standing.end();
+        self.progress.end();
     }
 
     /// How many bytes of the stream were used: those before what is read next, and those of it that have come.
     pub(crate) fn bytes_used(&self, partial: &Partial<A>) -> u64
     {
-        match self.standing.under {
-            Under::Nothing => self.standing.offset,
-            Under::Length | Under::Later => self.standing.offset + partial.came(),
-            Under::Scalar(_) | Under::Counted(_) | Under::First(_) => {
-                self.standing.offset + 4 + partial.came()
+        match self.progress.arrived {
+            Arrived::Nothing => self.progress.offset,
+            Arrived::Length | Arrived::Later => self.progress.offset + partial.came(),
+            Arrived::Scalar(_) | Arrived::Counted(_) | Arrived::First(_) => {
+                self.progress.offset + 4 + partial.came()
             }
         }
     }
@@ -94,21 +94,21 @@ impl<A: Allocator> CellReader<A> {
         input: &[u8],
     ) -> CellAdvance
     {
-        self.standing.advance(partial, table, input)
+        self.progress.advance(partial, table, input)
     }
 
     /// A copy of the innermost value that is open, where what is read next stands in it and nothing of that has come.
     #[inline(always)]
     pub fn level(&self) -> Option<Level>
     {
-        self.standing.level()
+        self.progress.level()
     }
 
     /// Goes on where a level stands: it is the innermost value from now on, if one is open.
     #[inline(always)]
     pub fn set_level(&mut self, level: Level)
     {
-        self.standing.set_level(level);
+        self.progress.set_level(level);
     }
 
     /// Takes what is next of the cell that is under way, where it has no content, `advance` would hand it out of the
@@ -116,7 +116,7 @@ impl<A: Allocator> CellReader<A> {
     #[inline(always)]
     pub(crate) fn take_bare(&mut self, table: &TypeTable<A>, input: &[u8]) -> Option<BareItem>
     {
-        self.standing.take_bare(table, input)
+        self.progress.take_bare(table, input)
     }
 
     /// Takes the next bytes of the cell that is under way. A content that lies whole in them is lent from them.

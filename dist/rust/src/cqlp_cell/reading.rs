@@ -5,15 +5,15 @@ use crate::cqlp_cell::advance::{CellAdvance, CellOutline};
 use crate::cqlp_cell::gather::{empty, gather, lend_bytes};
 use crate::cqlp_cell::number::{Number, take_number};
 use crate::cqlp_cell::open_values::{OpenValue, Order};
+use crate::cqlp_cell::progress::{Arrived, CellDue, CellProgress, DueValue, NextInCell};
 use crate::cqlp_cell::size::{Sized, size_up};
-use crate::cqlp_cell::standing::{CellDue, CellStanding, DueValue, NextInCell, Under};
 use crate::cqlp_kind::Kind;
 use crate::cqlp_kind::content::{accepts, fault};
 use crate::cqlp_note::{Partial, Reason, Refusal};
 use crate::cqlp_type::TypeTable;
 use crate::kit_std::alloc::Allocator;
 
-impl<A: Allocator> CellStanding<A> {
+impl<A: Allocator> CellProgress<A> {
     /// Takes the next bytes of the cell. An item without a content, and a refusal, leave the buffer empty.
     #[inline]
     pub(crate) fn advance(
@@ -33,8 +33,8 @@ impl<A: Allocator> CellStanding<A> {
     /// Takes the next bytes of the cell.
     fn step(&mut self, partial: &mut Partial<A>, table: &TypeTable<A>, input: &[u8]) -> CellAdvance
     {
-        match self.under {
-            Under::Nothing => match self.due() {
+        match self.arrived {
+            Arrived::Nothing => match self.due() {
                 CellDue::Nothing => {
                     self.end();
                     CellAdvance::Done
@@ -45,17 +45,17 @@ impl<A: Allocator> CellStanding<A> {
                     self.advance_part(false, offset, total, partial, table, input)
                 }
             },
-            Under::Length => self.advance_length(true, partial, table, input),
-            Under::Scalar(len) => {
+            Arrived::Length => self.advance_length(true, partial, table, input),
+            Arrived::Scalar(len) => {
                 let value = self.value(table);
                 self.advance_scalar(true, value, len, 0, partial, table, input)
             }
-            Under::Counted(len) => {
+            Arrived::Counted(len) => {
                 let value = self.value(table);
                 self.advance_count(true, value, len, 0, partial, table, input)
             }
-            Under::First(total) => self.advance_first(true, total, 0, partial, table, input),
-            Under::Later => match self.next {
+            Arrived::First(total) => self.advance_first(true, total, 0, partial, table, input),
+            Arrived::Later => match self.next {
                 NextInCell::Part { offset, total } => {
                     self.advance_part(true, offset, total, partial, table, input)
                 }
@@ -79,7 +79,7 @@ impl<A: Allocator> CellStanding<A> {
     ) -> CellAdvance
     {
         let Some(found) = gather(partial, begun, len, self.offset + 4, start, input) else {
-            self.under = Under::Scalar(len);
+            self.arrived = Arrived::Scalar(len);
             return CellAdvance::More { used: input.len() };
         };
         if !accepts(value.kind, lend_bytes(partial, input, found.content)) {
@@ -114,7 +114,7 @@ impl<A: Allocator> CellStanding<A> {
         let at = self.offset + 4;
         match take_number(partial, begun, at, at + u64::from(len), start, input) {
             Number::More => {
-                self.under = Under::Counted(len);
+                self.arrived = Arrived::Counted(len);
                 CellAdvance::More { used: input.len() }
             }
             Number::Overrun => self.refuse(at, Reason::Overrun),
@@ -202,7 +202,7 @@ impl<A: Allocator> CellStanding<A> {
         let at = self.offset + 4;
         let size = self.limits.cell;
         let Some(found) = gather(partial, begun, size, at, start, input) else {
-            self.under = Under::First(total);
+            self.arrived = Arrived::First(total);
             return CellAdvance::More { used: input.len() };
         };
         let level = self.open_values.len();
@@ -237,13 +237,13 @@ impl<A: Allocator> CellStanding<A> {
         let left = total - offset;
         let size = self.limits.cell.min(left);
         let Some(found) = gather(partial, begun, size, self.offset, 0, input) else {
-            self.under = Under::Later;
+            self.arrived = Arrived::Later;
             return CellAdvance::More { used: input.len() };
         };
         let at = self.offset;
         let last = left <= self.limits.cell;
         self.offset += u64::from(size);
-        self.under = Under::Nothing;
+        self.arrived = Arrived::Nothing;
         self.next = next_part(last, offset + size, total);
         CellAdvance::Item {
             at,
@@ -258,7 +258,7 @@ impl<A: Allocator> CellStanding<A> {
     }
 
     /// Goes on after the length of a value, which ends after this many bytes of the input.
-    fn settle(
+    fn after_length(
         &mut self,
         value: DueValue,
         len: u32,
@@ -313,12 +313,12 @@ impl<A: Allocator> CellStanding<A> {
         let value = self.value(table);
         match take_number(partial, begun, self.offset, value.stop, 0, input) {
             Number::More => {
-                self.under = Under::Length;
+                self.arrived = Arrived::Length;
                 CellAdvance::More { used: input.len() }
             }
             Number::Overrun => self.refuse(self.offset, Reason::Overrun),
             Number::Got { used, number } => {
-                self.settle(value, number, used, partial, table, input)
+                self.after_length(value, number, used, partial, table, input)
             }
         }
     }

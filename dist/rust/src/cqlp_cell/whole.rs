@@ -2,10 +2,10 @@
 //! Items that lie whole at the front of the input.
 
 use crate::cqlp_cell::level::Level;
+use crate::cqlp_cell::progress::{Arrived, CellDue, CellProgress, DueValue, NextInCell};
 use crate::cqlp_cell::size::{Sized, size_up};
-use crate::cqlp_cell::standing::{CellDue, CellStanding, DueValue, NextInCell, Under};
 use crate::cqlp_kind::Kind;
-use crate::cqlp_kind::content::first;
+use crate::cqlp_kind::content::read_array;
 use crate::cqlp_type::TypeTable;
 use crate::kit_std::alloc::Allocator;
 
@@ -41,12 +41,12 @@ pub enum BarePart {
     Leave { level: u32, items: u32 },
 }
 
-impl<A: Allocator> CellStanding<A> {
+impl<A: Allocator> CellProgress<A> {
     /// The innermost value that is open, where what is read next stands in it and nothing of that has come.
     #[inline(always)]
     pub(crate) fn level(&self) -> Option<Level>
     {
-        let Under::Nothing = self.under else {
+        let Arrived::Nothing = self.arrived else {
             return None;
         };
         let NextInCell::Items = self.next else {
@@ -74,7 +74,7 @@ impl<A: Allocator> CellStanding<A> {
     #[inline(always)]
     pub(crate) fn take_bare(&mut self, table: &TypeTable<A>, input: &[u8]) -> Option<BareItem>
     {
-        let Under::Nothing = self.under else {
+        let Arrived::Nothing = self.arrived else {
             return None;
         };
         match self.due() {
@@ -108,7 +108,7 @@ impl<A: Allocator> CellStanding<A> {
         if value.stop - at < 4 || input.len() < 4 {
             return None;
         }
-        let len = u32::from_be_bytes(first(input));
+        let len = u32::from_be_bytes(read_array(input));
         match size_up(&self.limits, value.kind, value.stop - at, len) {
             Sized::Null => {
                 self.pass(4, table);
@@ -158,7 +158,7 @@ impl<A: Allocator> CellStanding<A> {
         if len < 4 || input.len() < 8 {
             return None;
         }
-        let count = u32::from_be_bytes(first(&input[4..]));
+        let count = u32::from_be_bytes(read_array(&input[4..]));
         if count > i32::MAX as u32 {
             return None;
         }

@@ -8,7 +8,7 @@ use crate::cqlp_decode::given::{GiveError, GiveReason, GivenUse};
 use crate::cqlp_decode::item_loop::take_items;
 use crate::cqlp_decode::page_loop::take_cells;
 use crate::cqlp_decode::parts::Parts;
-use crate::cqlp_decode::standing::StreamStanding;
+use crate::cqlp_decode::progress::StreamProgress;
 use crate::cqlp_decode::step::{Capacity, FaultAfter, Held, Step};
 use crate::cqlp_cell::{CellItem, CellReader};
 use crate::cqlp_grammar::{Event, Finish, Sink};
@@ -31,7 +31,7 @@ pub enum NewError {
 /// Reads a stream of frames, one event per call, from pieces of any size. All its memory is taken when it is made, and is
 /// as large as its limits say for as long as it lives.
 pub struct Decoder<A: Allocator = Global> {
-    standing: StreamStanding,
+    progress: StreamProgress,
     parts: Parts<A>,
 }
 
@@ -56,7 +56,7 @@ impl<A: Allocator + Clone> Decoder<A> {
         let table = TypeTable::new(alloc.clone()?, limits.entries)?;
         let types = TypeReader::new(alloc.clone()?, &limits)?;
         let cells = CellReader::new(alloc, &limits)?;
-        let standing = StreamStanding::new(limits);
+        let progress = StreamProgress::new(limits);
         let parts = Parts {
             partial,
             types,
@@ -64,7 +64,7 @@ impl<A: Allocator + Clone> Decoder<A> {
             table,
             given: None,
         };
-        Ok(Decoder { standing, parts })
+        Ok(Decoder { progress, parts })
     }
 }
 
@@ -105,7 +105,7 @@ impl<A: Allocator> Decoder<A> {
         if let Some(why) = self.reason(&table) {
             return Err(GiveError { why, table });
         }
-        self.standing.given_use = GivenUse::Waiting;
+        self.progress.given_use = GivenUse::Waiting;
         Ok(self.parts.given.replace(table))
     }
 
@@ -121,7 +121,7 @@ impl<A: Allocator> Decoder<A> {
     /// How the stream ends, if it ends after the bytes that were used.
     pub fn finish(&self) -> Finish
     {
-        self.standing.finish(&self.parts)
+        self.progress.finish(&self.parts)
     }
 
     /// What is held of the stream: at most as many bytes as the greater of the limits on a text and on a cell, twice as
@@ -165,17 +165,17 @@ impl<A: Allocator> Decoder<A> {
     /// Why a table is not taken now, if so.
     fn reason(&self, table: &TypeTable<A>) -> Option<GiveReason>
     {
-        if self.standing.refusal.is_some() {
+        if self.progress.refusal.is_some() {
             Some(GiveReason::Ended)
-        } else if !self.standing.limits.types {
+        } else if !self.progress.limits.types {
             Some(GiveReason::Off)
         } else if self.is_in_use() {
             Some(GiveReason::Busy)
         } else if !table.whole() {
             Some(GiveReason::Open)
-        } else if table.len() > self.standing.limits.entries {
+        } else if table.len() > self.progress.limits.entries {
             Some(GiveReason::TooMany)
-        } else if table.depth() > self.standing.limits.depth {
+        } else if table.depth() > self.progress.limits.depth {
             Some(GiveReason::TooDeep)
         } else {
             None
@@ -185,14 +185,14 @@ impl<A: Allocator> Decoder<A> {
     /// Whether a given table types the frame under way.
     fn is_in_use(&self) -> bool
     {
-        self.parts.given.is_some() && matches!(self.standing.given_use, GivenUse::InUse)
+        self.parts.given.is_some() && matches!(self.progress.given_use, GivenUse::InUse)
     }
 
     /// Takes the cell that is due, where it is a scalar and all its bytes lie in the input.
     #[inline]
     fn take_scalar<'a>(&mut self, input: &'a [u8]) -> Option<ScalarCell<'a>>
     {
-        self.standing.take_scalar(&self.parts, input)
+        self.progress.take_scalar(&self.parts, input)
     }
 
     /// Hands events of the input to the sink that lie whole in it, as far as the loops over fields, over the cells of a page
@@ -221,10 +221,10 @@ impl<A: Allocator> Decoder<A> {
     #[inline]
     fn take_fields<S: Sink>(&mut self, input: &[u8], sink: &mut S) -> Result<usize, FaultAfter>
     {
-        if self.standing.is_in_page() {
+        if self.progress.is_in_page() {
             return Ok(0);
         }
-        take_fields(&mut self.standing, &mut self.parts, input, sink)
+        take_fields(&mut self.progress, &mut self.parts, input, sink)
     }
 
     /// Hands cells to the sink, as far as the loops over a page and over the items of its cells take them, and answers how
@@ -232,14 +232,14 @@ impl<A: Allocator> Decoder<A> {
     #[inline]
     fn take_cells<S: Sink>(&mut self, input: &[u8], sink: &mut S) -> Result<usize, FaultAfter>
     {
-        if !self.standing.is_in_page() {
+        if !self.progress.is_in_page() {
             return Ok(0);
         }
-        let used = match take_cells(&mut self.standing, &self.parts, input, sink) {
+        let used = match take_cells(&mut self.progress, &self.parts, input, sink) {
             Ok(used) => used,
             Err(fault) => return Err(fault),
         };
-        let more = match take_items(&mut self.standing, &mut self.parts, &input[used..], sink) {
+        let more = match take_items(&mut self.progress, &mut self.parts, &input[used..], sink) {
             Ok(more) => more,
             Err(fault) => {
                 let used = used + fault.used;
@@ -252,7 +252,7 @@ impl<A: Allocator> Decoder<A> {
     /// The work of a call, with nothing borrowed in its result.
     fn advance(&mut self, input: &[u8]) -> EventAdvance
     {
-        self.standing.advance(&mut self.parts, input)
+        self.progress.advance(&mut self.parts, input)
     }
 
     /// The event that `advance` made of this input.

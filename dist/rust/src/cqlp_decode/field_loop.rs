@@ -10,29 +10,29 @@ use crate::cqlp_decode::decoder::event_with;
 use crate::cqlp_decode::metadata::begin_metadata;
 use crate::cqlp_decode::page_loop::Handed;
 use crate::cqlp_decode::parts::Parts;
-use crate::cqlp_decode::standing::{StreamStage, StreamStanding, limit_on};
+use crate::cqlp_decode::progress::{StreamProgress, StreamStage, limit_on};
 use crate::cqlp_decode::step::FaultAfter;
 use crate::cqlp_grammar::{Event, Role, Sink, SinkFault, Want, fault_in};
-use crate::cqlp_kind::content::first;
+use crate::cqlp_kind::content::read_array;
 use crate::cqlp_note::{Field, Header, Limits, Notation, front_field};
 use crate::kit_std::alloc::Allocator;
 
 /// Hands what is due to the sink, as far as the loop takes it, and answers how many bytes of the input it takes.
 pub(crate) fn take_fields<S: Sink, A: Allocator>(
-    standing: &mut StreamStanding,
+    progress: &mut StreamProgress,
     parts: &mut Parts<A>,
     input: &[u8],
     sink: &mut S,
 ) -> Result<usize, FaultAfter>
 {
-    if standing.refusal.is_some() {
+    if progress.refusal.is_some() {
         return Ok(0);
     }
     let mut used = 0;
     loop {
-        match standing.hand_due(parts, &input[used..], sink) {
+        match progress.hand_due(parts, &input[used..], sink) {
             Handed::Left => return Ok(used),
-            Handed::Cell(taken) => used += taken,
+            Handed::Taken(taken) => used += taken,
             Handed::Fault(taken) => {
                 let used = used + taken;
                 return Err(FaultAfter { used });
@@ -88,12 +88,12 @@ fn hand_front<S: Sink>(
         return Handed::Left;
     };
     match sink.take(at, &event_with(field, whole.value)) {
-        Ok(()) => Handed::Cell(whole.used),
+        Ok(()) => Handed::Taken(whole.used),
         Err(SinkFault) => Handed::Fault(whole.used),
     }
 }
 
-impl StreamStanding {
+impl StreamProgress {
     /// Hands what is due to the sink, if the loop takes it.
     #[inline(always)]
     fn hand_due<S: Sink, A: Allocator>(
@@ -124,13 +124,13 @@ impl StreamStanding {
         if self.came > 0 || self.offset > 1 << 63 || input.len() < 9 {
             return Handed::Left;
         }
-        let Ok(header) = Header::read(&first(input), self.offset) else {
+        let Ok(header) = Header::read(&read_array(input), self.offset) else {
             return Handed::Left;
         };
         let at = self.offset;
         self.enter(&header);
         match sink.take(at, &Event::Frame(header)) {
-            Ok(()) => Handed::Cell(9),
+            Ok(()) => Handed::Taken(9),
             Err(SinkFault) => Handed::Fault(9),
         }
     }
@@ -157,7 +157,7 @@ impl StreamStanding {
                 extra: extra as u32,
             },
         ) {
-            Ok(()) => Handed::Cell(used),
+            Ok(()) => Handed::Taken(used),
             Err(SinkFault) => Handed::Fault(used),
         }
     }
@@ -185,14 +185,14 @@ impl StreamStanding {
         let room = self.stop - at;
         match hand_plain(&self.limits, notation, field, room, at, input, sink) {
             Handed::Left => Handed::Left,
-            Handed::Cell(used) => {
+            Handed::Taken(used) => {
                 self.offset += used as u64;
-                self.go_on();
-                Handed::Cell(used)
+                self.expect_next();
+                Handed::Taken(used)
             }
             Handed::Fault(used) => {
                 self.offset += used as u64;
-                self.go_on();
+                self.expect_next();
                 Handed::Fault(used)
             }
         }
@@ -226,7 +226,7 @@ impl StreamStanding {
         begin_metadata(want.role, &mut parts.table);
         self.follow(want.role, value, &parts.table, &parts.given);
         match sink.take(at, &event_with(want.field, value)) {
-            Ok(()) => Handed::Cell(used),
+            Ok(()) => Handed::Taken(used),
             Err(SinkFault) => Handed::Fault(used),
         }
     }

@@ -9,7 +9,7 @@
 use crate::cqlp_decode::page::{CellCursor, page_table};
 use crate::cqlp_decode::page_loop::Handed;
 use crate::cqlp_decode::parts::Parts;
-use crate::cqlp_decode::standing::{StreamStage, StreamStanding};
+use crate::cqlp_decode::progress::{StreamProgress, StreamStage};
 use crate::cqlp_decode::step::FaultAfter;
 use crate::cqlp_cell::{BareItem, BarePart, DueItem, Level, front_scalar};
 use crate::cqlp_grammar::{Event, Sink, SinkFault};
@@ -34,27 +34,27 @@ pub struct ItemsHanded {
 /// Hands the items of cells to the sink, as far as the loop takes them, and answers how many bytes of the input they
 /// take.
 pub(crate) fn take_items<S: Sink, A: Allocator>(
-    standing: &mut StreamStanding,
+    progress: &mut StreamProgress,
     parts: &mut Parts<A>,
     input: &[u8],
     sink: &mut S,
 ) -> Result<usize, FaultAfter>
 {
-    if parts.partial.held() > 0 || standing.refusal.is_some() {
+    if parts.partial.held() > 0 || progress.refusal.is_some() {
         return Ok(0);
     }
-    let Some(first) = standing.enter_cell(parts) else {
+    let Some(first) = progress.enter_cell(parts) else {
         return Ok(0);
     };
     let mut page = first;
     let mut used = 0;
     loop {
-        let handed = standing.hand_items(parts, page, &input[used..], sink);
+        let handed = progress.hand_items(parts, page, &input[used..], sink);
         used += handed.used;
         if handed.failed {
             return Err(FaultAfter { used });
         }
-        let Some(taken) = standing.take_part(parts, page, &input[used..]) else {
+        let Some(taken) = progress.take_part(parts, page, &input[used..]) else {
             return Ok(used);
         };
         match hand_part(page, taken.item, sink) {
@@ -65,7 +65,7 @@ pub(crate) fn take_items<S: Sink, A: Allocator>(
             }
         }
         if taken.over {
-            let Some(following) = standing.enter_cell(parts) else {
+            let Some(following) = progress.enter_cell(parts) else {
                 return Ok(used);
             };
             page = following;
@@ -134,7 +134,7 @@ fn hand_kind<S: Sink>(
         scalar,
     };
     match sink.take(at, &event) {
-        Ok(()) => Handed::Cell(front.used),
+        Ok(()) => Handed::Taken(front.used),
         Err(SinkFault) => Handed::Fault(front.used),
     }
 }
@@ -162,7 +162,7 @@ fn hand_part<S: Sink>(page: CellCursor, item: BareItem, sink: &mut S) -> Result<
     }
 }
 
-impl StreamStanding {
+impl StreamProgress {
     /// The cell that is under way. One that is due begins, if its values have items.
     #[inline(always)]
     fn enter_cell<A: Allocator>(&mut self, parts: &mut Parts<A>) -> Option<CellCursor>
@@ -235,7 +235,7 @@ impl StreamStanding {
             };
             match hand_leaf(&limits, due, page, &input[used..], sink) {
                 Handed::Left => break 'scalars,
-                Handed::Cell(taken) => {
+                Handed::Taken(taken) => {
                     level.pass(taken, table);
                     used += taken;
                 }
@@ -319,7 +319,7 @@ impl StreamStanding {
             };
             match hand_kind(&limits, kind, due, page, &input[used..], sink) {
                 Handed::Left => break 'elements,
-                Handed::Cell(taken) => {
+                Handed::Taken(taken) => {
                     here.pass_element(taken);
                     used += taken;
                 }

@@ -10,8 +10,8 @@ mod metadata;
 mod page;
 mod page_loop;
 mod parts;
+mod progress;
 mod running;
-mod standing;
 mod step;
 
 pub use crate::cqlp_grammar::{Event, Finish, Sink, SinkFault};

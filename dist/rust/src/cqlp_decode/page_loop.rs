@@ -8,12 +8,12 @@
 
 use crate::cqlp_decode::page::{CellCursor, page_table};
 use crate::cqlp_decode::parts::Parts;
-use crate::cqlp_decode::standing::{StreamStage, StreamStanding};
+use crate::cqlp_decode::progress::{StreamProgress, StreamStage};
 use crate::cqlp_decode::step::FaultAfter;
 use crate::cqlp_cell::front_scalar;
 use crate::cqlp_grammar::{Event, Sink, SinkFault};
 use crate::cqlp_kind::Kind;
-use crate::cqlp_kind::content::first;
+use crate::cqlp_kind::content::read_array;
 use crate::cqlp_note::Limits;
 use crate::kit_std::alloc::Allocator;
 
@@ -23,7 +23,7 @@ pub enum Handed {
     /// Nothing: it is left.
     Left,
     /// It was handed out, and takes this many bytes.
-    Cell(usize),
+    Taken(usize),
     /// The same, but the sink failed.
     Fault(usize),
 }
@@ -39,26 +39,26 @@ pub enum Bare {
 /// they take.
 #[inline(never)]
 pub(crate) fn take_cells<S: Sink, A: Allocator>(
-    standing: &mut StreamStanding,
+    progress: &mut StreamProgress,
     parts: &Parts<A>,
     input: &[u8],
     sink: &mut S,
 ) -> Result<usize, FaultAfter>
 {
-    let StreamStage::BeforeCell(due) = standing.stage else {
+    let StreamStage::BeforeCell(due) = progress.stage else {
         return Ok(0);
     };
     if parts.partial.held() > 0 {
         return Ok(0);
     }
-    if let Some(_) = standing.refusal {
+    if let Some(_) = progress.refusal {
         return Ok(0);
     }
-    let limits = standing.limits;
-    let stop = standing.stop;
+    let limits = progress.limits;
+    let stop = progress.stop;
     let table = page_table(due.columns, &parts.table, &parts.given);
     let mut page = due;
-    let mut offset = standing.offset;
+    let mut offset = progress.offset;
     let mut used = 0;
     'cells: loop {
         let Some(following) = page.next(table) else {
@@ -68,21 +68,21 @@ pub(crate) fn take_cells<S: Sink, A: Allocator>(
         let room = stop - offset;
         match hand_cell(&limits, kind, room, page, offset, &input[used..], sink) {
             Handed::Left => break 'cells,
-            Handed::Cell(taken) => {
+            Handed::Taken(taken) => {
                 used += taken;
                 offset += taken as u64;
                 page = following;
             }
             Handed::Fault(taken) => {
-                standing.offset = offset + taken as u64;
-                standing.stage = StreamStage::BeforeCell(following);
+                progress.offset = offset + taken as u64;
+                progress.stage = StreamStage::BeforeCell(following);
                 let used = used + taken;
                 return Err(FaultAfter { used });
             }
         }
     }
-    standing.offset = offset;
-    standing.stage = StreamStage::BeforeCell(page);
+    progress.offset = offset;
+    progress.stage = StreamStage::BeforeCell(page);
     Ok(used)
 }
 
@@ -171,7 +171,7 @@ fn hand_scalar<S: Sink>(
 fn hand<S: Sink>(at: u64, event: &Event<'_>, used: usize, sink: &mut S) -> Handed
 {
     match sink.take(at, event) {
-        Ok(()) => Handed::Cell(used),
+        Ok(()) => Handed::Taken(used),
         Err(SinkFault) => Handed::Fault(used),
     }
 }
@@ -183,7 +183,7 @@ fn front_bare(room: u64, input: &[u8]) -> Option<Bare>
     if room < 4 || input.len() < 4 {
         return None;
     }
-    let len = u32::from_be_bytes(first(input));
+    let len = u32::from_be_bytes(read_array(input));
     if len > i32::MAX as u32 {
         return Some(Bare::Null);
     }

@@ -44,7 +44,7 @@ pub fn run<R: Source, S: Sink, A: Allocator>(
         Drained::Refused => return Outcome::Finished(decoder.finish()),
         Drained::Fault => return Outcome::SinkFault,
     }
-    for turn in 0..turns {
+    for after_cell in 0..turns {
         let count = match reader.read(&mut buffer) {
             Ok(count) => count,
             Err(IoFault) => return Outcome::ReadFault,

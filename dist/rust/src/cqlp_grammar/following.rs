@@ -2,7 +2,7 @@
 //! What follows a header, and what follows a field.
 
 use crate::cqlp_grammar::grammar::{Group, Role};
-use crate::cqlp_grammar::table::{
+use crate::cqlp_grammar::productions::{
     Expected, Want, body_fields, counted, error_fields, event_fields, plain, result_fields,
     target_fields,
 };

@@ -5,15 +5,15 @@ pub mod error_code;
 mod event;
 mod following;
 mod grammar;
+mod productions;
 pub mod result_kind;
 mod sink;
-mod table;
 mod upcoming;
 
 pub use event::{Event, Finish};
 pub use following::{fault_in, number};
 pub(crate) use following::{has};
 pub use grammar::{Group, Role};
+pub use productions::{Expected, Want, event_fields, target_fields};
 pub use sink::{Sink, SinkFault};
-pub use table::{Expected, Want, event_fields, target_fields};
 pub use upcoming::Upcoming;

@@ -2,7 +2,7 @@
 //! What is still to be read of a message.
 
 use crate::cqlp_grammar::grammar::Group;
-use crate::cqlp_grammar::table::{Expected, group_fields};
+use crate::cqlp_grammar::productions::{Expected, group_fields};
 
 /// Fields that are still to be read.
 #[derive(Clone, Copy, Debug, PartialEq, Eq)]

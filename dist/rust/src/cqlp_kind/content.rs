@@ -85,7 +85,7 @@ fn rare_scalar(kind: Kind, bytes: &[u8]) -> Result<Scalar<'_>, Reason>
 fn whole<const N: usize>(bytes: &[u8]) -> Option<[u8; N]>
 {
     if bytes.len() == N {
-        Some(first(bytes))
+        Some(read_array(bytes))
     } else {
         None
     }
@@ -114,7 +114,7 @@ pub(crate) fn accepts(kind: Kind, bytes: &[u8]) -> bool
     match kind {
         Kind::Ascii => bytes.is_ascii(),
         Kind::Varchar => is_text(bytes),
-        Kind::Time => u64::from_be_bytes(first(bytes)) < DAY,
+        Kind::Time => u64::from_be_bytes(read_array(bytes)) < DAY,
         Kind::Timeuuid => bytes[6] >> 4 == 1,
         _ => true,
     }
@@ -137,28 +137,28 @@ pub(crate) fn make_scalar(kind: Kind, bytes: &[u8]) -> Scalar<'_>
         Kind::Custom => Scalar::Custom(bytes),
         // The bytes are text, which `accepts` found out.
         Kind::Ascii => Scalar::Ascii(unsafe { str::from_utf8_unchecked(bytes) }),
-        Kind::Bigint => Scalar::Bigint(i64::from_be_bytes(first(bytes))),
+        Kind::Bigint => Scalar::Bigint(i64::from_be_bytes(read_array(bytes))),
         Kind::Blob => Scalar::Blob(bytes),
         Kind::Boolean => Scalar::Boolean(bytes[0] != 0),
-        Kind::Counter => Scalar::Counter(i64::from_be_bytes(first(bytes))),
+        Kind::Counter => Scalar::Counter(i64::from_be_bytes(read_array(bytes))),
         Kind::Decimal => Scalar::Decimal {
-            scale: i32::from_be_bytes(first(bytes)),
+            scale: i32::from_be_bytes(read_array(bytes)),
             unscaled: &bytes[4..],
         },
-        Kind::Double => Scalar::Double(first(bytes)),
-        Kind::Float => Scalar::Float(first(bytes)),
-        Kind::Int => Scalar::Int(i32::from_be_bytes(first(bytes))),
-        Kind::Timestamp => Scalar::Timestamp(i64::from_be_bytes(first(bytes))),
-        Kind::Uuid => Scalar::Uuid(first(bytes)),
+        Kind::Double => Scalar::Double(read_array(bytes)),
+        Kind::Float => Scalar::Float(read_array(bytes)),
+        Kind::Int => Scalar::Int(i32::from_be_bytes(read_array(bytes))),
+        Kind::Timestamp => Scalar::Timestamp(i64::from_be_bytes(read_array(bytes))),
+        Kind::Uuid => Scalar::Uuid(read_array(bytes)),
         // So are these.
         Kind::Varchar => Scalar::Varchar(unsafe { str::from_utf8_unchecked(bytes) }),
         Kind::Varint => Scalar::Varint(bytes),
-        Kind::Timeuuid => Scalar::Timeuuid(first(bytes)),
+        Kind::Timeuuid => Scalar::Timeuuid(read_array(bytes)),
         Kind::Inet => Scalar::Inet(address(bytes)),
-        Kind::Date => Scalar::Date(u32::from_be_bytes(first(bytes))),
-        Kind::Time => Scalar::Time(i64::from_be_bytes(first(bytes))),
-        Kind::Smallint => Scalar::Smallint(i16::from_be_bytes(first(bytes))),
-        Kind::Tinyint => Scalar::Tinyint(i8::from_be_bytes(first(bytes))),
+        Kind::Date => Scalar::Date(u32::from_be_bytes(read_array(bytes))),
+        Kind::Time => Scalar::Time(i64::from_be_bytes(read_array(bytes))),
+        Kind::Smallint => Scalar::Smallint(i16::from_be_bytes(read_array(bytes))),
+        Kind::Tinyint => Scalar::Tinyint(i8::from_be_bytes(read_array(bytes))),
         Kind::Raw => Scalar::Raw(bytes),
         Kind::List | Kind::Map | Kind::Set | Kind::Udt | Kind::Tuple => unreachable!(),
     }
@@ -169,15 +169,15 @@ pub(crate) fn make_scalar(kind: Kind, bytes: &[u8]) -> Scalar<'_>
 fn address(bytes: &[u8]) -> Address
 {
     if bytes.len() == 4 {
-        Address::V4(first(bytes))
+        Address::V4(read_array(bytes))
     } else {
-        Address::V6(first(bytes))
+        Address::V6(read_array(bytes))
     }
 }
 
 /// The first N bytes.
 #[inline(always)]
-pub(crate) fn first<const N: usize>(bytes: &[u8]) -> [u8; N]
+pub(crate) fn read_array<const N: usize>(bytes: &[u8]) -> [u8; N]
 {
     *bytes.first_chunk().unwrap()
 }

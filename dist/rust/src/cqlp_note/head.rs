@@ -88,11 +88,11 @@ pub(crate) fn read_head(wanted: Wanted, bytes: &[u8]) -> Result<Head, Stop>
 fn read_after_fixed(wanted: Wanted, bytes: &[u8]) -> Result<Head, Stop>
 {
     match wanted.notation {
-        Notation::Byte => end_field(1, Primitive::Byte(u8::from_be_bytes(read_first(bytes)))),
-        Notation::Short => end_field(2, Primitive::Short(u16::from_be_bytes(read_first(bytes)))),
-        Notation::Int => end_field(4, Primitive::Int(i32::from_be_bytes(read_first(bytes)))),
-        Notation::Long => end_field(8, Primitive::Long(i64::from_be_bytes(read_first(bytes)))),
-        Notation::Uuid => end_field(16, Primitive::Uuid(read_first(bytes))),
+        Notation::Byte => end_field(1, Primitive::Byte(u8::from_be_bytes(read_array(bytes)))),
+        Notation::Short => end_field(2, Primitive::Short(u16::from_be_bytes(read_array(bytes)))),
+        Notation::Int => end_field(4, Primitive::Int(i32::from_be_bytes(read_array(bytes)))),
+        Notation::Long => end_field(8, Primitive::Long(i64::from_be_bytes(read_array(bytes)))),
+        Notation::Uuid => end_field(16, Primitive::Uuid(read_array(bytes))),
         Notation::Count16 => end_field(2, Primitive::Count(read_short(bytes))),
         Notation::Count32 => read_count(bytes),
         Notation::Text16 => admit_content(wanted, 2, read_short(bytes), ContentForm::Text),
@@ -137,7 +137,7 @@ fn read_value(wanted: Wanted, bytes: &[u8]) -> Result<Head, Stop>
 {
     match read_natural(bytes) {
         Some(len) => admit_content(wanted, 4, len, ContentForm::Bound),
-        None => match i32::from_be_bytes(read_first(bytes)) {
+        None => match i32::from_be_bytes(read_array(bytes)) {
             -1 => end_field(4, Primitive::Bound(BoundValue::Null)),
             -2 => end_field(4, Primitive::Bound(BoundValue::Unset)),
             _ => Err(Stop::Refused(Reason::BadValueLength)),
@@ -148,7 +148,7 @@ fn read_value(wanted: Wanted, bytes: &[u8]) -> Result<Head, Stop>
 /// Reads an \[inet\].
 fn read_inet(wanted: Wanted, bytes: &[u8]) -> Result<Head, Stop>
 {
-    match u8::from_be_bytes(read_first(bytes)) {
+    match u8::from_be_bytes(read_array(bytes)) {
         4 => read_address_and_port(wanted, 4, &bytes[1..]),
         16 => read_address_and_port(wanted, 16, &bytes[1..]),
         _ => Err(Stop::Refused(Reason::BadInet)),
@@ -176,7 +176,7 @@ fn read_address_and_port(wanted: Wanted, size: usize, rest: &[u8]) -> Result<Hea
     if rest.len() < size + 4 {
         return Err(Stop::Wanting);
     }
-    let port = i32::from_be_bytes(read_first(&rest[size..]));
+    let port = i32::from_be_bytes(read_array(&rest[size..]));
     end_field(size + 5, Primitive::Inet(read_address(size, rest), port))
 }
 
@@ -184,9 +184,9 @@ fn read_address_and_port(wanted: Wanted, size: usize, rest: &[u8]) -> Result<Hea
 fn read_address(size: usize, bytes: &[u8]) -> Address
 {
     if size == 4 {
-        Address::V4(read_first(bytes))
+        Address::V4(read_array(bytes))
     } else {
-        Address::V6(read_first(bytes))
+        Address::V6(read_array(bytes))
     }
 }
 
@@ -194,7 +194,7 @@ fn read_address(size: usize, bytes: &[u8]) -> Address
 #[inline(always)]
 pub(crate) fn read_natural(bytes: &[u8]) -> Option<u32>
 {
-    let number = u32::from_be_bytes(read_first(bytes));
+    let number = u32::from_be_bytes(read_array(bytes));
     if number > i32::MAX as u32 {
         None
     } else {
@@ -206,7 +206,7 @@ pub(crate) fn read_natural(bytes: &[u8]) -> Option<u32>
 #[inline(always)]
 pub(crate) fn read_short(bytes: &[u8]) -> u32
 {
-    u16::from_be_bytes(read_first(bytes)).into()
+    u16::from_be_bytes(read_array(bytes)).into()
 }
 
 /// Ends the field, which has this many bytes.
@@ -217,7 +217,7 @@ fn end_field(used: usize, prim: Primitive<'static>) -> Result<Head, Stop>
 
 /// Reads the first N bytes.
 #[inline(always)]
-pub(crate) fn read_first<const N: usize>(bytes: &[u8]) -> [u8; N]
+pub(crate) fn read_array<const N: usize>(bytes: &[u8]) -> [u8; N]
 {
     *bytes.first_chunk().unwrap()
 }

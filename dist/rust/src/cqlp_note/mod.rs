@@ -14,7 +14,7 @@ mod partial;
 mod prim;
 mod refusal;
 mod streams;
-mod text;
+mod utf8;
 mod whole;
 
 pub use advance::{ContentPlace, FieldAdvance, FieldOutline, Push};
@@ -29,5 +29,5 @@ pub use partial::Partial;
 pub use prim::{Address, BoundValue, Primitive as Prim};
 pub use refusal::{NoMemory, Reason, Refusal};
 pub use streams::{IoFault, OfStd, Source, Target};
-pub use text::is_text;
+pub use utf8::is_text;
 pub use whole::{WholeField, front_field};

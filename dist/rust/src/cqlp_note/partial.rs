@@ -6,11 +6,11 @@ use crate::cqlp_note::field::Notation;
 use crate::cqlp_note::front::FieldFront;
 use crate::cqlp_note::gathered::GatheredContent;
 use crate::cqlp_note::head::{
-    ContentForm, Head, Stop, Wanted, read_first as first, read_head, read_natural, read_short,
+    ContentForm, Head, Stop, Wanted, read_array as first, read_head, read_natural, read_short,
 };
 use crate::cqlp_note::prim::{BoundValue, Primitive};
 use crate::cqlp_note::refusal::{NoMemory, Reason, Refusal};
-use crate::cqlp_note::text::is_text;
+use crate::cqlp_note::utf8::is_text;
 use crate::kit_std::alloc::{Allocator, Global};
 
 /// Reads fields, one at a time. A content that lies whole in one piece is lent from there; one that does not is

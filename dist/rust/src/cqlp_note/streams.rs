@@ -1,6 +1,7 @@
 // Written by dist/erase from crates/cqlp_note/src/streams.rt.
 //! Where bytes come from, and where they go.
 
+#[cfg(feature = "std")]
 use std::io::{Read, Write};
 
 error! {
@@ -57,6 +58,7 @@ impl<X> OfStd<X> {
     }
 }
 
+#[cfg(feature = "std")]
 impl<R: Read> Source for OfStd<R> {
     fn read(&mut self, buffer: &mut [u8]) -> Result<usize, IoFault> {
         self.reads = self.reads.saturating_add(1);
@@ -70,6 +72,7 @@ impl<R: Read> Source for OfStd<R> {
     }
 }
 
+#[cfg(feature = "std")]
 impl<W: Write> Target for OfStd<W> {
     fn write(&mut self, bytes: &[u8]) -> Result<usize, IoFault> {
         match self.inner.write(bytes) {

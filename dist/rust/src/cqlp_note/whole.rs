@@ -2,7 +2,7 @@
 //! Fields that lie whole at the front of the input.
 
 use crate::cqlp_note::field::Notation;
-use crate::cqlp_note::head::{ContentForm, Wanted, read_first as first, read_natural};
+use crate::cqlp_note::head::{ContentForm, Wanted, read_array as first, read_natural};
 use crate::cqlp_note::partial::read_content_head;
 use crate::cqlp_note::prim::{BoundValue, Primitive};
 

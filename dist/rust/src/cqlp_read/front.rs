@@ -2,7 +2,7 @@
 //! What stands at the front of the bytes of a container.
 
 use crate::cqlp_read::error::ReadError;
-use crate::cqlp_kind::content::first;
+use crate::cqlp_kind::content::read_array;
 use crate::cqlp_note::{Reason, Refusal};
 use crate::cqlp_value::Value;
 
@@ -44,7 +44,7 @@ pub(crate) fn front_count(content: &[u8], at: usize) -> Result<u32, ReadError>
 /// The number that the first four bytes are.
 fn front_number(bytes: &[u8]) -> u32
 {
-    u32::from_be_bytes(first(bytes))
+    u32::from_be_bytes(read_array(bytes))
 }
 
 /// The bytes after the first, this many.

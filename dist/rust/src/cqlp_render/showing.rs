@@ -7,7 +7,7 @@ use crate::cqlp_render::form::{Form, Lines, Nothing};
 use crate::cqlp_render::render::{TextSink, run_flushing};
 use crate::cqlp_decode::{Decoder, NewError, Outcome, SinkFault, run};
 use crate::cqlp_note::{Limits, Source, Target};
-use crate::cqlp_text::status::FAULT;
+use crate::cqlp_text::exit_status::FAULT;
 use crate::cqlp_text::{Buffered, Ending, PagePlace, ending_line};
 use crate::kit_std::alloc::Allocator;
 

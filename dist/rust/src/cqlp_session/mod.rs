@@ -7,13 +7,13 @@ mod carried;
 mod client;
 mod client_of;
 mod headers;
-mod ids;
 mod kind;
 mod phase;
 mod refusal;
 mod server;
 mod server_of;
 mod slots;
+mod stream_ids;
 mod streams;
 mod ticket;
 

@@ -3,7 +3,7 @@
 
 use crate::kit_std::prelude::{Clone, Vec};
 use crate::cqlp_session::kind::RequestKind;
-use crate::cqlp_session::{ids, slots};
+use crate::cqlp_session::{slots, stream_ids};
 use crate::kit_std::alloc::{AllocError, Allocator, Global};
 
 /// A request whose reply has not come.
@@ -30,7 +30,7 @@ impl<A: Allocator> Streams<A> {
     {
         let len = len as usize;
         let slots = slots::empty(alloc.clone()?, len)?;
-        let free = ids::all(alloc, len)?;
+        let free = stream_ids::all(alloc, len)?;
         Ok(Streams { slots, free })
     }
 
@@ -43,7 +43,7 @@ impl<A: Allocator> Streams<A> {
     /// The least id that is free.
     pub(crate) fn least_free(&self) -> Option<i16>
     {
-        let place = ids::first(&self.free)?;
+        let place = stream_ids::first(&self.free)?;
         if place < self.slots.len() {
             Some(place as i16)
         } else {
@@ -62,8 +62,8 @@ impl<A: Allocator> Streams<A> {
         }
         self.slots[place] = what;
         match what {
-            Some(_) => ids::clear(&mut self.free, place),
-            None => ids::set(&mut self.free, place),
+            Some(_) => stream_ids::clear(&mut self.free, place),
+            None => stream_ids::set(&mut self.free, place),
         }
     }
 }

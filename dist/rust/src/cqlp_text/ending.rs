@@ -1,9 +1,9 @@
 // Written by dist/erase from crates/cqlp_text/src/ending.rt.
 //! How a command ends.
 
+use crate::cqlp_text::exit_status::{DONE, FAULT, NOT_WHOLE};
 use crate::cqlp_text::line_pen::LinePen;
 use crate::cqlp_text::names::reason_name;
-use crate::cqlp_text::status::{DONE, FAULT, NOT_WHOLE};
 use crate::cqlp_text::text_writer::TextWriter;
 use crate::cqlp_text::word::Word;
 use crate::cqlp_grammar::{Finish, SinkFault};

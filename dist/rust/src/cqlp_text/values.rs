@@ -2,7 +2,6 @@
 //! Values as text.
 
 use crate::cqlp_text::pen::Pen;
-use crate::cqlp_text::plain::{is_plain, plain_len};
 use crate::cqlp_text::text_writer::TextWriter;
 use crate::cqlp_grammar::SinkFault;
 use crate::cqlp_note::Address;
@@ -87,58 +86,6 @@ impl<P: Pen> TextWriter<P> {
         self.put(b"\"")
     }
 
-    /// Takes bytes as they stand between quotes; those that need no escape are taken as they are, many at once.
-    #[inline]
-    fn put_escaped(&mut self, bytes: &[u8]) -> Result<(), SinkFault>
-    {
-        let mut rest = bytes;
-        while !rest.is_empty() {
-            let plain = plain_len(rest);
-            self.put(&rest[..plain])?;
-            let Some((byte, after)) = rest[plain..].split_first() else {
-                return Ok(());
-            };
-            self.put_byte(*byte)?;
-            rest = after;
-        }
-        Ok(())
-    }
-
-    /// Takes a byte as it stands between quotes.
-    fn put_byte(&mut self, byte: u8) -> Result<(), SinkFault>
-    {
-        if is_plain(byte) {
-            return self.put(&[byte]);
-        }
-        match byte {
-            b'"' => self.put(b"\\\""),
-            b'\\' => self.put(b"\\\\"),
-            _ => {
-                self.put(b"\\x")?;
-                self.put_hex(&[byte])
-            }
-        }
-    }
-
-    /// Takes the bytes of a text in one line, where each that does not print is escaped.
-    pub fn put_in_one_line(&mut self, bytes: &[u8]) -> Result<(), SinkFault>
-    {
-        for byte in bytes {
-            self.put_printed(*byte)?;
-        }
-        Ok(())
-    }
-
-    /// Takes a byte as it stands in a line.
-    fn put_printed(&mut self, byte: u8) -> Result<(), SinkFault>
-    {
-        if prints(byte) {
-            self.put(&[byte])
-        } else {
-            self.put_byte(byte)
-        }
-    }
-
     /// Takes an address: four decimal numbers with dots, or eight groups of four hexadecimal digits with colons.
     #[inline(never)]
     pub fn put_address(&mut self, address: Address) -> Result<(), SinkFault>
@@ -174,10 +121,4 @@ impl<P: Pen> TextWriter<P> {
         }
         Ok(())
     }
-}
-
-/// Whether a byte stands as itself in a line.
-fn prints(byte: u8) -> bool
-{
-    byte >= 32 && byte != 127
 }

@@ -125,11 +125,11 @@ fn enter_option<A: Allocator, C: Allocator>(
 ) -> OptionStage
 {
     around.push(node, named, count);
-    settle(around, table)
+    close_whole_types(around, table)
 }
 
 /// Goes on to what comes next. Each type that is whole before it gets its span.
-fn settle<A: Allocator, C: Allocator>(
+fn close_whole_types<A: Allocator, C: Allocator>(
     around: &mut OpenOptions<A>,
     table: &mut TypeTable<C>,
 ) -> OptionStage

@@ -1,27 +1,25 @@
 //! `Box`, whose memory may be refused.
 use super::alloc::{AllocFailed, Allocator, Global};
-use std::ops::Deref;
+use core::ops::Deref;
 
 /// Rust's `Box`, but that [`Box::new`] may be refused memory.
 #[derive(PartialEq, Eq)]
 pub struct Box<T, A: Allocator = Global> {
     // Stable Rust asks for the memory of a `Vec` alone, and a whole `Vec` becomes a boxed array.
-    pub(crate) of: std::boxed::Box<[T; 1]>,
+    pub(crate) of: ::alloc::boxed::Box<[T; 1]>,
     pub(crate) alloc: A,
 }
 
 impl<T, A: Allocator> Box<T, A> {
     /// A value in memory of its own; it comes back where that is refused.
     pub fn new(alloc: A, item: T) -> Result<Self, AllocFailed<T>> {
-        let mut room = std::vec::Vec::new();
+        let mut room = ::alloc::vec::Vec::new();
         if room.try_reserve_exact(1).is_err() {
             return Err(AllocFailed(item));
         }
         room.push(item);
-        match room.into_boxed_slice().try_into() {
-            Ok(of) => Ok(Box { of, alloc }),
-            Err(_) => unreachable!(),
-        }
+        let Ok(of) = room.into_boxed_slice().try_into() else { unreachable!() };
+        Ok(Box { of, alloc })
     }
 
     /// The value.
@@ -31,11 +29,7 @@ impl<T, A: Allocator> Box<T, A> {
     }
 }
 
-impl<T: std::fmt::Debug, A: Allocator> std::fmt::Debug for Box<T, A> {
-    fn fmt(&self, f: &mut std::fmt::Formatter<'_>) -> std::fmt::Result {
-        self.of[0].fmt(f)
-    }
-}
+shown_as_target!(Debug for Box<T>);
 
 impl<T, A: Allocator> Deref for Box<T, A> {
     type Target = T;

@@ -1,24 +1,27 @@
 //! What `derive(Error)` of the crate thiserror does, as far as the sources use it: a message for a struct or for each variant.
 
 macro_rules! error {
-    ($(#[doc = $doc:literal])* #[derive($($trait:ident),*)] #[error($text:literal)] pub struct $name:ident;) => {
-        $(#[doc = $doc])* #[derive($($trait),*)] pub struct $name;
-        error!(@of $name, _me, f, f.write_str($text));
+    ($(#[doc = $doc:literal])* #[derive($($derived:ident),*)] #[error($text:literal)] pub struct $name:ident;) => {
+        $(#[doc = $doc])* #[derive($($derived),*)] pub struct $name;
+        error!(@display $name, _error, f, f.write_str($text));
     };
-    ($(#[doc = $doc:literal])* #[derive($($trait:ident),*)] #[error($text:literal)] pub struct $name:ident {
+    ($(#[doc = $doc:literal])* #[derive($($derived:ident),*)] #[error($text:literal)] pub struct $name:ident {
         $(pub $field:ident: $of:ty,)*
     }) => {
-        $(#[doc = $doc])* #[derive($($trait),*)] pub struct $name { $(pub $field: $of,)* }
-        error!(@of $name, me, f, { let $name { $($field),* } = me; write!(f, $text) });
+        $(#[doc = $doc])* #[derive($($derived),*)] pub struct $name { $(pub $field: $of,)* }
+        error!(@display $name, error, f, { let $name { $($field),* } = error; write!(f, $text) });
     };
-    ($(#[doc = $doc:literal])* #[derive($($trait:ident),*)] pub enum $name:ident { $(
-        $(#[doc = $about:literal])* #[error($($text:tt)*)]
+    ($(#[doc = $doc:literal])* #[derive($($derived:ident),*)] pub enum $name:ident { $(
+        $(#[doc = $about:literal])* #[error($said:tt)]
         $variant:ident $(( $(#[$from:ident $(($how:ident))?])? $of:ty ))? $({ $($field:ident: $kind:ty),* })?,
     )* }) => {
-        $(#[doc = $doc])* #[derive($($trait),*)] pub enum $name {
+        $(#[doc = $doc])* #[derive($($derived),*)] pub enum $name {
             $($(#[doc = $about])* $variant $(($of))? $({ $($field: $kind),* })?,)*
         }
-        error!(@of $name, me, f, { $(error!(@if me, f, $name::$variant [$($($(($how))?)? $of)?] [$($($field),*)?] $($text)*);)* Ok(()) });
+        error!(@display $name, error, f, match error {
+            $($name::$variant $((error!(@part of, $of)))? $({ $($field),* })? =>
+                error!(@message f, $said $(, $($(($how))?)? of, $of)?),)*
+        });
         $($($(error!(@$from $name, $variant, $of);)?)?)*
     };
     (@from $name:ident, $variant:ident, $of:ty) => {
@@ -28,38 +31,17 @@ macro_rules! error {
             }
         }
     };
-    (@of $name:ident, $me:ident, $f:ident, $said:expr) => {
-        impl std::fmt::Display for $name {
-            fn fmt(&self, $f: &mut std::fmt::Formatter<'_>) -> std::fmt::Result {
-                let $me = self;
+    (@display $name:ident, $error:ident, $f:ident, $said:expr) => {
+        impl core::fmt::Display for $name {
+            fn fmt(&self, $f: &mut core::fmt::Formatter<'_>) -> core::fmt::Result {
+                let $error = self;
                 $said
             }
         }
-        impl std::error::Error for $name {}
+        impl core::error::Error for $name {}
     };
-    (@if $me:ident, $f:ident, $name:ident::$variant:ident [] [] $text:literal) => {
-        if let $name::$variant = $me {
-            return $f.write_str($text);
-        }
-    };
-    (@if $me:ident, $f:ident, $name:ident::$variant:ident [] [$($field:ident),*] $text:literal) => {
-        if let $name::$variant { $($field),* } = $me {
-            return write!($f, $text);
-        }
-    };
-    (@if $me:ident, $f:ident, $name:ident::$variant:ident [$($of:tt)*] [] transparent) => {
-        if let $name::$variant(of) = $me {
-            return std::fmt::Display::fmt(of, $f);
-        }
-    };
-    (@if $me:ident, $f:ident, $name:ident::$variant:ident [(alloc) $($of:tt)*] [] $text:literal) => {
-        if let $name::$variant(_) = $me {
-            return $f.write_str($text);
-        }
-    };
-    (@if $me:ident, $f:ident, $name:ident::$variant:ident [$($of:tt)*] [] $text:literal) => {
-        if let $name::$variant(of) = $me {
-            return write!($f, $text, of);
-        }
-    };
+    (@part $part:ident, $of:ty) => { $part };
+    (@message $f:ident, transparent, $part:ident, $of:ty) => { core::fmt::Display::fmt($part, $f) };
+    (@message $f:ident, $text:literal, $part:ident, $of:ty) => { write!($f, $text, $part) };
+    (@message $f:ident, $text:literal $(, (alloc) $part:ident, $of:ty)?) => { write!($f, $text) };
 }

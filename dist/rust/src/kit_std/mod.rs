@@ -2,6 +2,17 @@
 #[macro_use]
 mod error;
 
+/// Has a type show itself as what it derefs to.
+macro_rules! shown_as_target {
+    ($trait:ident for $name:ident<$($item:ident)?>) => {
+        impl<$($item: core::fmt::$trait,)? A: Allocator> core::fmt::$trait for $name<$($item,)? A> {
+            fn fmt(&self, f: &mut core::fmt::Formatter<'_>) -> core::fmt::Result {
+                (**self).fmt(f)
+            }
+        }
+    };
+}
+
 pub mod alloc;
 pub mod boxed;
 pub mod clone;

@@ -15,6 +15,7 @@ pub struct Mask([u64; 2]);
 impl u8x16 {
     #[inline(always)]
     pub fn from_slice(bytes: &[u8]) -> Self {
+        let word = |bytes: &[u8]| bytes.first_chunk().map_or(0, |word| u64::from_le_bytes(*word));
         u8x16([word(&bytes[..8]), word(&bytes[8..16])])
     }
 
@@ -45,9 +46,4 @@ impl Mask {
         let bits = |word: u64| (0..8).fold(0, |bits, i| bits | (word >> (8 * i + 7) & 1) << i);
         if self.0 == [0, 0] { 0 } else { bits(self.0[0]) | bits(self.0[1]) << 8 }
     }
-}
-
-#[inline(always)]
-fn word(bytes: &[u8]) -> u64 {
-    bytes.first_chunk().map_or(0, |word| u64::from_le_bytes(*word))
 }

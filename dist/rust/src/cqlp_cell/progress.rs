@@ -1,4 +1,4 @@
-// Written by dist/erase from crates/cqlp_cell/src/standing.rt.
+// Written by dist/erase from crates/cqlp_cell/src/progress.rt.
 //! What is read next of a cell.
 
 use crate::cqlp_cell::open_values::{OpenValue, OpenValues, Order};
@@ -22,7 +22,7 @@ pub(crate) enum NextInCell {
 
 /// How much of it has come.
 #[derive(Clone, Copy)]
-pub(crate) enum Under {
+pub(crate) enum Arrived {
     /// Nothing.
     Nothing,
     /// Some of a value's length.
@@ -56,18 +56,18 @@ pub(crate) struct DueValue {
 }
 
 /// Where the reading of a cell stands.
-pub(crate) struct CellStanding<A: Allocator> {
+pub(crate) struct CellProgress<A: Allocator> {
     pub limits: Limits,
     /// The offset of what is read next.
     pub offset: u64,
     /// Where the cell's container ends.
     pub stop: u64,
     pub next: NextInCell,
-    pub under: Under,
+    pub arrived: Arrived,
     pub open_values: OpenValues<A>,
 }
 
-impl<A: Allocator> CellStanding<A> {
+impl<A: Allocator> CellProgress<A> {
     /// What comes next, where nothing of it has come.
     #[inline]
     pub(crate) fn due(&self) -> CellDue
@@ -113,14 +113,14 @@ impl<A: Allocator> CellStanding<A> {
         }
         self.offset += size;
         self.next = NextInCell::Items;
-        self.under = Under::Nothing;
+        self.arrived = Arrived::Nothing;
     }
 
     /// Ends the cell.
     pub(crate) fn end(&mut self)
     {
         self.next = NextInCell::Nothing;
-        self.under = Under::Nothing;
+        self.arrived = Arrived::Nothing;
         self.open_values.clear();
     }
 }
@@ -174,10 +174,10 @@ impl OpenValue {
         match self.order {
             Order::Elements => self.left -= 1,
             Order::Keys => {
-                self.turn(Order::Values);
+                self.switch_type(Order::Values);
                 self.left -= 1;
             }
-            Order::Values => self.turn(Order::Keys),
+            Order::Values => self.switch_type(Order::Keys),
             Order::Fields => {
                 self.node += table.node(self.node).unwrap().span;
                 self.left -= 1;
@@ -188,7 +188,7 @@ impl OpenValue {
 
     /// Goes on with the other of a map's types.
     #[inline(always)]
-    fn turn(&mut self, order: Order)
+    fn switch_type(&mut self, order: Order)
     {
         let node = self.node;
         self.order = order;

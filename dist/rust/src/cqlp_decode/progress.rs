@@ -1,4 +1,4 @@
-// Written by dist/erase from crates/cqlp_decode/src/standing.rt.
+// Written by dist/erase from crates/cqlp_decode/src/progress.rt.
 //! Where the reading of a stream stands, and one step of it.
 
 use crate::cqlp_decode::advance::{EventAdvance, EventOutline, ScalarCell};
@@ -30,7 +30,7 @@ pub enum StreamStage {
 }
 
 /// Where the reading of a stream stands, but for the field, type option or cell that is under way.
-pub struct StreamStanding {
+pub struct StreamProgress {
     pub limits: Limits,
     /// The start of the frame under way.
     pub frame: u64,
@@ -48,11 +48,11 @@ pub struct StreamStanding {
     pub given_use: GivenUse,
 }
 
-impl StreamStanding {
+impl StreamProgress {
     /// At the start of a stream.
     pub fn new(limits: Limits) -> Self
     {
-        StreamStanding {
+        StreamProgress {
             limits,
             frame: 0,
             offset: 0,
@@ -194,12 +194,12 @@ impl StreamStanding {
         self.stop = self.offset + u64::from(header.length);
         self.came = 0;
         self.upcoming.begin(header);
-        self.go_on();
+        self.expect_next();
     }
 
     /// Goes on to what is due next in the message.
     #[inline(always)]
-    pub fn go_on(&mut self)
+    pub fn expect_next(&mut self)
     {
         match self.upcoming.due() {
             Some(Expected::Field(want)) => self.stage = StreamStage::Field(*want),
@@ -269,7 +269,7 @@ impl StreamStanding {
             return;
         }
         self.upcoming.follow(role, value);
-        self.go_on();
+        self.expect_next();
     }
 
     /// Takes the cell that is due, where it is a scalar and all its bytes lie in the input.
@@ -303,16 +303,16 @@ impl StreamStanding {
             scalar: front.scalar,
         };
         self.offset += front.used as u64;
-        self.turn(page, table);
+        self.after_cell(page, table);
         Some(taken)
     }
 
     /// Goes on after a cell: with the next cell of its page, or with what is due next in the message.
-    fn turn<A: Allocator>(&mut self, page: CellCursor, table: &TypeTable<A>)
+    fn after_cell<A: Allocator>(&mut self, page: CellCursor, table: &TypeTable<A>)
     {
         match page.next(table) {
             Some(page) => self.stage = StreamStage::BeforeCell(page),
-            None => self.go_on(),
+            None => self.expect_next(),
         }
     }
 
@@ -364,7 +364,7 @@ impl StreamStanding {
     fn end_option(&mut self, offset: u64)
     {
         self.offset = offset;
-        self.go_on();
+        self.expect_next();
     }
 
     fn advance_cell<A: Allocator>(
@@ -407,7 +407,7 @@ impl StreamStanding {
     {
         self.offset = cells.offset();
         cells.stop();
-        self.turn(page, table);
+        self.after_cell(page, table);
     }
 
     fn advance_extra(&mut self, input: &[u8]) -> EventAdvance

@@ -1,4 +1,4 @@
-// Written by dist/erase from crates/cqlp_text/src/status.rt.
+// Written by dist/erase from crates/cqlp_text/src/exit_status.rt.
 //! The exit statuses of the program.
 
 /// The stream is whole, or the conversation came to its end; or help that was asked for was written.

@@ -1,4 +1,4 @@
-// Written by dist/erase from crates/cqlp_session/src/ids.rt.
+// Written by dist/erase from crates/cqlp_session/src/stream_ids.rt.
 //! The free stream ids, one bit to an id, so that the least is found a word at a time.
 
 use crate::kit_std::prelude::{Vec};

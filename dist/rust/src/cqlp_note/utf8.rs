@@ -1,4 +1,4 @@
-// Written by dist/erase from crates/cqlp_note/src/text.rt.
+// Written by dist/erase from crates/cqlp_note/src/utf8.rt.
 //! Bytes that are a text.
 
 /// Whether these bytes are UTF-8. ASCII, which most texts are, is found out eight bytes at a time.

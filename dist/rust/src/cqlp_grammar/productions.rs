@@ -1,4 +1,4 @@
-// Written by dist/erase from crates/cqlp_grammar/src/table.rt.
+// Written by dist/erase from crates/cqlp_grammar/src/productions.rt.
 //! The productions: which fields come, and what follows from their values.
 
 use crate::cqlp_grammar::grammar::{Group, Role};
