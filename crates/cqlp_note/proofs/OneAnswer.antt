@@ -18,7 +18,7 @@ use Rattle.cqlp_note.specs.Head.{reader_of}
 use Rattle.cqlp_note.specs.Partial.{FieldState, Ends, Waits, Advances, Pushes, going_on, ended, content_bytes}
 use Rattle.cqlp_note.specs.Field.{content_length}
 use Rattle.cqlp_note.specs.Heading.{Headed}
-use Rattle.cqlp_note.specs.Laws.{IsSameField, IsSamePush, IsSameTaken, AfterCall, IsRead, IsWritten}
+use Rattle.cqlp_note.specs.Laws.{moved, IsSameField, IsSamePush, IsSameTaken, AfterCall, IsRead, IsWritten}
 use Rattle.cqlp_note.proofs.Runs.{same_got}
 
 -- what is refused, at which field, and what is left
@@ -29,16 +29,16 @@ module _ (p q : FieldState) (input : List ℕ) (same : IsSameField p q) where
   said : says (reader_of p.field) 0 (p.seen ++ input) ≡ says (reader_of q.field) 0 (q.seen ++ input)
   said = rw (same.field, same.seen) refl
 
-  same_ended : (c d : List ℕ) → c ≡ d → ended p c ≡ ended q d
-  same_ended c d e = λ i. record { room = same.room i; under_way = false; field = same.field i; seen = []; content = e i }
+  same_ended : (c d : List ℕ) → c ≡ d → moved (ended p c) q.buffer ≡ ended q d
+  same_ended c d e = λ i. record { room = same.room i; under_way = false; field = same.field i; seen = []; content = e i; buffer = q.buffer }
 
-  same_going_on : (c d : List ℕ) → c ≡ d → going_on p (p.seen ++ input) c ≡ going_on q (q.seen ++ input) d
-  same_going_on c d e = λ i. record { room = same.room i; under_way = true; field = same.field i; seen = same.seen i ++ input; content = e i }
+  same_going_on : (c d : List ℕ) → c ≡ d → moved (going_on p (p.seen ++ input) c) q.buffer ≡ going_on q (q.seen ++ input) d
+  same_going_on c d e = λ i. record { room = same.room i; under_way = true; field = same.field i; seen = same.seen i ++ input; content = e i; buffer = q.buffer }
 
-  both_wait : (m n : ℕ) (new_p new_q : FieldState) → Waits p input m new_p → Waits q input n new_q → (m ≡ n) × (new_p ≡ new_q)
+  both_wait : (m n : ℕ) (new_p new_q : FieldState) → Waits p input m new_p → Waits q input n new_q → (m ≡ n) × (moved new_p q.buffer ≡ new_q)
   both_wait m n new_p new_q a b =
       let kept : new_p.content ≡ new_q.content = a.kept ∙ (rw (same.field, same.seen) (sym b.kept)) in
-      (a.all ∙ sym b.all, a.under_way ∙ same_going_on _ _ kept ∙ sym b.under_way)
+      (a.all ∙ sym b.all, ap (λ x. moved x q.buffer) a.under_way ∙ same_going_on _ _ kept ∙ sym b.under_way)
 
   module _ (m n : ℕ) (v w : FieldValue) (new_p new_q : FieldState) (a : Ends p input m v new_p) (b : Ends q input n w new_q) where
     both : (v ≡ w) × (length p.seen + m ≡ length q.seen + n)
@@ -53,15 +53,15 @@ module _ (p q : FieldState) (input : List ℕ) (same : IsSameField p q) where
       | inr le ↦ a.lent le ∙ sym (b.lent (rw (← same_used, ← both.0) le))
     ]
 
-    both_end : (m ≡ n) × (v ≡ w) × (new_p ≡ new_q)
-    both_end = (same_used, both.0, a.idle ∙ same_ended _ _ same_content ∙ sym b.idle)
+    both_end : (m ≡ n) × (v ≡ w) × (moved new_p q.buffer ≡ new_q)
+    both_end = (same_used, both.0, ap (λ x. moved x q.buffer) a.idle ∙ same_ended _ _ same_content ∙ sym b.idle)
 
-  both_fail : (r s : Refusal) (new_p new_q : FieldState) → Fails p input r new_p → Fails q input s new_q → (r ≡ s) × (new_p ≡ new_q)
+  both_fail : (r s : Refusal) (new_p new_q : FieldState) → Fails p input r new_p → Fails q input s new_q → (r ≡ s) × (moved new_p q.buffer ≡ new_q)
   both_fail r s new_p new_q a b =
       let bad : ◌≡◌ {A = Said FieldValue Reason} (Bad r.why) (Bad s.why) = sym a.1 ∙ said ∙ b.1 in
       let why : r.why ≡ s.why = cc in
       let at : r.at ≡ s.at = a.0 ∙ ap (λ w. w.at) same.field ∙ sym b.0 in
-      (λ i. record { at = at i; why = why i }, a.2 ∙ same_ended [] [] refl ∙ sym b.2)
+      (λ i. record { at = at i; why = why i }, ap (λ x. moved x q.buffer) a.2 ∙ same_ended [] [] refl ∙ sym b.2)
 
   more_or_got : (v : FieldValue) (k : ℕ) → says (reader_of p.field) 0 (p.seen ++ input) ≡ More → says (reader_of q.field) 0 (q.seen ++ input) ≡ Got v k → ⊥
   more_or_got v k a b = let no : ◌≡◌ {A = Said FieldValue Reason} More (Got v k) = sym a ∙ said ∙ b in cc
@@ -81,7 +81,7 @@ module _ (p q : FieldState) (input : List ℕ) (same : IsSameField p q) where
   bad_or_got : (why : Reason) (v : FieldValue) (k : ℕ) → says (reader_of p.field) 0 (p.seen ++ input) ≡ Bad why → says (reader_of q.field) 0 (q.seen ++ input) ≡ Got v k → ⊥
   bad_or_got why v k a b = let no : ◌≡◌ {A = Said FieldValue Reason} (Bad why) (Got v k) = sym a ∙ said ∙ b in cc
 
-  pub one_push : (a b : Push) (new_p new_q : FieldState) → Pushes p input a new_p → Pushes q input b new_q → IsSamePush a b × (new_p ≡ new_q)
+  pub one_push : (a b : Push) (new_p new_q : FieldState) → Pushes p input a new_p → Pushes q input b new_q → IsSamePush a b × (moved new_p q.buffer ≡ new_q)
   one_push (push.More m) (push.More n) new_p new_q a b = both_wait m n new_p new_q a b
   one_push (push.More m) (push.Got n w) new_p new_q a b = absurd (more_or_got _ _ a.is b.is)
   one_push (push.More m) (push.Refused s) new_p new_q a b = absurd (more_or_bad _ a.is b.1)
@@ -92,7 +92,7 @@ module _ (p q : FieldState) (input : List ℕ) (same : IsSameField p q) where
   one_push (push.Refused r) (push.Got n w) new_p new_q a b = absurd (bad_or_got _ _ _ a.1 b.is)
   one_push (push.Refused r) (push.Refused s) new_p new_q a b = both_fail r s new_p new_q a b
 
-  pub one_taken : (a b : FieldAdvance) (new_p new_q : FieldState) → Advances p input a new_p → Advances q input b new_q → IsSameTaken input a new_p b new_q × (new_p ≡ new_q)
+  pub one_taken : (a b : FieldAdvance) (new_p new_q : FieldState) → Advances p input a new_p → Advances q input b new_q → IsSameTaken input a new_p b new_q × (moved new_p q.buffer ≡ new_q)
   one_taken (taken.More m) (taken.More n) new_p new_q a b = both_wait m n new_p new_q a b
   one_taken (taken.More m) (taken.Got n j) new_p new_q a b = absurd (more_or_got _ _ a.is b.0.is)
   one_taken (taken.More m) (taken.Refused s) new_p new_q a b = absurd (more_or_bad _ a.is b.1)

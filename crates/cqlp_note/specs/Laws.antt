@@ -2,6 +2,7 @@
 use Rattle.std.specs.Prelude.{◌≡◌, ℕ, ◌<◌, ◌≤◌, ◌↔◌, ◌++◌, Bool, true, false, IsTrue, List, All, length, take, FitsSigned, Option}
 use Rattle.std.specs.Prelude.{Some, None, ⊤, Result, Ok, IfOk, is_err}
 use Rattle.std.specs.Int.{w16}
+use Rattle.std.specs.Ptr.{Ptr}
 use Rattle.std.specs.Io.KnownBytes.{ReadConsumes, WriteAppends}
 use Rattle.cqlp_note.specs.declared.advance.Push.{Push}
 use Rattle.cqlp_note.specs.declared.advance.Push.TheVariants as push
@@ -75,13 +76,17 @@ ReadIsWritten =
     → heading bytes ≡ Ok h → IsLawful h × (header_bytes h ≡ bytes)
 
 -- ---- One answer: from the same history and the same input, two answers of a call that both meet its clauses are the
--- same, and so are the states that they leave.
+-- same, and so are the states that they leave, each with the memory that it had.
 
 -- the same field, of which the same bytes have come, and the same room
 pub record IsSameField (p q : FieldState) : Type 0 where
   pub room : p.room ≡ q.room
   pub field : p.field ≡ q.field
   pub seen : p.seen ≡ q.seen
+
+-- the same, with its memory there
+abbrev pub moved : FieldState → Ptr → FieldState
+moved p buffer = record p { buffer = buffer }
 
 -- the same bytes used, and the same value or the same refusal
 abbrev pub IsSamePush : Push → Push → Type 0
@@ -93,7 +98,7 @@ IsSamePush a b = ⊥
 abbrev pub OneAnswerOfPush : Type 0
 OneAnswerOfPush =
     (p q : FieldState) (input : List ℕ) (a b : Push) (new_p new_q : FieldState)
-    → IsSameField p q → Pushes p input a new_p → Pushes q input b new_q → IsSamePush a b × (new_p ≡ new_q)
+    → IsSameField p q → Pushes p input a new_p → Pushes q input b new_q → IsSamePush a b × (moved new_p q.buffer ≡ new_q)
 
 -- the same of what `advance` answers, where a value lies in the input or in the buffer that is left
 abbrev pub IsSameTaken :
@@ -108,7 +113,7 @@ abbrev pub OneAnswerOfAdvance : Type 0
 OneAnswerOfAdvance =
     (p q : FieldState) (input : List ℕ) (a b : FieldAdvance) (new_p new_q : FieldState)
     → IsSameField p q → Advances p input a new_p → Advances q input b new_q
-    → IsSameTaken input a new_p b new_q × (new_p ≡ new_q)
+    → IsSameTaken input a new_p b new_q × (moved new_p q.buffer ≡ new_q)
 
 -- the same but for the field that was asked for last, which `begin` replaces
 pub record IsSameIdle (p q : FieldState) : Type 0 where

@@ -2,6 +2,7 @@
 use Rattle.std.specs.Prelude.{◌≡◌, ℕ, ◌+◌, ◌-◌, ◌^◌, ◌==◌, ◌++◌, ◌<◌, ◌≤◌, if◌then◌else◌, Bool, true, false, List, [], length, take}
 use Rattle.std.specs.Prelude.{drop, Option, Some, None, ⊤}
 use Rattle.std.specs.Int.{w32, from_be_bytes}
+use Rattle.std.specs.Ptr.{Ptr}
 use Rattle.std.specs.Str.{is_utf8}
 use Rattle.cqlp_note.specs.declared.field.Notation.{Notation}
 use Rattle.cqlp_note.specs.declared.field.Notation.TheVariants as notation
@@ -24,16 +25,18 @@ use Rattle.cqlp_note.specs.declared.prim.BoundValue.TheVariants as bound
 use Rattle.cqlp_note.specs.declared.prim.Primitive.{Primitive}
 use Rattle.cqlp_note.specs.Reader.{More, Bad, Got, Gives, Takes, says}
 use Rattle.cqlp_note.specs.Field.{FieldValue, Text, Bytes, Bound, Known, content_length, content_of, is_negative}
+use Rattle.cqlp_note.specs.Gathered.{Gathered}
 use Rattle.cqlp_note.specs.Head.{HasNoContent, after_fixed, fixed_of, reader_of, value_of, made, front_of}
 
 -- What a caller knows of a `Partial`: the room for a content; whether a field is under way, which was asked for
--- last, and its bytes since `begin`; and the content that the buffer holds.
+-- last, and its bytes since `begin`; the content that the buffer holds, and where the buffer begins.
 pub record FieldState : Type 0 where
   pub room : ℕ
   pub under_way : Bool
   pub field : Wanted
   pub seen : List ℕ
   pub content : List ℕ
+  pub buffer : Ptr
 
 -- room for contents of this many bytes, no field under way, and nothing in the buffer
 pub record IsNew (size : ℕ) (p : FieldState) : Type 0 where
@@ -43,15 +46,15 @@ pub record IsNew (size : ℕ) (p : FieldState) : Type 0 where
   pub empty : p.content ≡ []
 
 abbrev pub begun : FieldState → Wanted → FieldState
-begun p w = record { room = p.room; under_way = true; field = w; seen = []; content = [] }
+begun p w = record p { under_way = true; field = w; seen = []; content = [] }
 
 -- the same field, after these bytes of it
 abbrev pub going_on : FieldState → (seen content : List ℕ) → FieldState
-going_on p seen content = record { room = p.room; under_way = true; field = p.field; seen = seen; content = content }
+going_on p seen content = record p { under_way = true; seen = seen; content = content }
 
 -- no field, with this content in the buffer
 abbrev pub ended : FieldState → (content : List ℕ) → FieldState
-ended p content = record { room = p.room; under_way = false; field = p.field; seen = []; content = content }
+ended p content = record p { under_way = false; seen = []; content = content }
 
 -- ---- what is inside
 
@@ -65,13 +68,14 @@ seen_of stage.Idle front content = []
 seen_of stage.Front front content = front
 seen_of (stage.Content len f) front content = front ++ content
 
-abbrev pub progress : FieldStage → Wanted → (front content : List ℕ) → (room : ℕ) → FieldState
-progress s w front content room = record {
-  room = room;
+abbrev pub progress : FieldStage → Wanted → (front : List ℕ) → Gathered → FieldState
+progress s w front g = record {
+  room = g.room;
   under_way = is_under_way s;
   field = w;
-  seen = seen_of s front content;
-  content = content;
+  seen = seen_of s front g.items;
+  content = g.items;
+  buffer = g.buffer;
 }
 
 -- Whatever follows these bytes of a field, after `taken` of them comes a content of len bytes, which begins with

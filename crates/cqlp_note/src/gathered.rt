@@ -1,12 +1,14 @@
 //! The content of a field out of pieces.
 
 ghost use Rattle.std.specs.Prelude.{◌≡◌, ◌==◌, ◌+◌, ◌≤◌, ◌++◌, [], length, replicate, vec_capacity, IfOk};
+ghost use Rattle.std.specs.Vec.{vec_ptr};
 
 use crate::refusal::NoMemory;
 use std::alloc::Allocator;
 use std::marker::Model;
 
-/// The bytes so far of a content, in memory that is taken once: its capacity is the room, for as long as it lives.
+/// The bytes so far of a content, in memory that is taken once: its capacity is the room, and it lies in one place, for as
+/// long as it lives.
 #[derive(Drop)]
 pub(crate) struct GatheredContent<A: Allocator> {
     /// The content, and after it what is left of longer ones before it, so that a piece is copied over them at once.
@@ -17,11 +19,12 @@ pub(crate) struct GatheredContent<A: Allocator> {
 
 impl<A: Allocator> Model for GatheredContent<A> {
     ghost use Rattle.std.specs.Prelude.{◌≡◌, ◌≤◌, length, take, vec_capacity};
+    ghost use Rattle.std.specs.Vec.{vec_ptr};
     ghost use Rattle.cqlp_note.specs.Gathered.{Gathered};
 
     ghost Value = { Gathered };
 
-    ghost view = { λ g. record { items = take g.len g.bytes.items; room = g.room } };
+    ghost view = { λ g. record { items = take g.len g.bytes.items; room = g.room; buffer = vec_ptr g.bytes } };
 
     ghost invariant = { λ g. (vec_capacity g.bytes ≡ g.room) × (g.len ≤ length g.bytes.items) };
 }
@@ -29,7 +32,7 @@ impl<A: Allocator> Model for GatheredContent<A> {
 impl<A: Allocator> GatheredContent<A> {
     /// With room for a content of up to `room` bytes. This is the one call that takes memory.
     pub fn new(alloc: A, room: u32) -> Result<Self, NoMemory>
-        ensures { IfOk result (λ content. content ≡ record { items = []; room = room }) }
+        ensures { IfOk result (λ content. (content.items ≡ []) × (content.room ≡ room)) }
     {
         Ok(GatheredContent {
             bytes: Vec::with_capacity(alloc, room as usize)?,
@@ -43,6 +46,13 @@ impl<A: Allocator> GatheredContent<A> {
         ensures { result.now ≡ self.now.items }
     {
         &self.bytes[..self.len as usize]
+    }
+
+    /// Where its memory begins.
+    pub fn as_ptr(&self) -> *const u8
+        ensures { result ≡ self.now.buffer }
+    {
+        self.bytes.as_ptr()
     }
 
     /// How many bytes there are.
@@ -69,7 +79,7 @@ impl<A: Allocator> GatheredContent<A> {
 
     /// Removes all bytes, and keeps the memory.
     pub fn clear(&mut self)
-        ensures { self.new ≡ record { items = []; room = self.old.room } }
+        ensures { self.new ≡ record self.old { items = [] } }
     {
         self.len = 0;
     }
@@ -77,7 +87,7 @@ impl<A: Allocator> GatheredContent<A> {
     /// Adds a piece at the end.
     pub fn append(&mut self, piece: &[u8])
         requires { length self.old.items + length piece.now ≤ self.old.room }
-        ensures { self.new ≡ record { items = self.old.items ++ piece.now; room = self.old.room } }
+        ensures { self.new ≡ record self.old { items = self.old.items ++ piece.now } }
     {
         let start = self.len as usize;
         let end = start + piece.len();
@@ -95,6 +105,7 @@ fn add_zeros<A: Allocator>(bytes: &mut Vec<u8, A>, count: usize)
     requires { length bytes.old.items + count ≤ vec_capacity bytes.old }
     ensures items { bytes.new.items ≡ bytes.old.items ++ replicate count 0 }
     ensures capacity { vec_capacity bytes.new ≡ vec_capacity bytes.old }
+    ensures in_place { vec_ptr bytes.new ≡ vec_ptr bytes.old }
 {
     for _ in 0..count {
         bytes.push_reserved(0);

@@ -36,7 +36,7 @@ impl<A: Allocator> Model for Partial<A> {
 
     ghost Value = { FieldState };
 
-    ghost view = { λ p. progress p.stage p.wanted p.front p.content.items p.content.room };
+    ghost view = { λ p. progress p.stage p.wanted p.front p.content };
 
     ghost invariant = { λ p. (length p.content.items ≤ p.content.room)
         × IsUnderWay p.stage p.wanted p.front p.content.items p.content.room };
@@ -387,6 +387,14 @@ impl<A: Allocator> Partial<A> {
             FieldStage::Front => self.front.len() as u64,
             FieldStage::Content { .. } => self.front.len() as u64 + self.content.len() as u64,
         }
+    }
+
+    /// Where the buffer begins: there lies the content that it holds. It is one place for as long as the reader lives,
+    /// wherever that is moved, and what lies there stays until the next call that changes the reader.
+    pub fn buffer(&self) -> *const u8
+        ensures { result ≡ self.now.buffer }
+    {
+        self.content.as_ptr()
     }
 
     /// How many bytes the buffer holds.
