@@ -1,5 +1,5 @@
 -- What a call makes of an option, by what the `Partial` makes of its item.
-use Rattle.std.proofs.Common.{◌≡◌, ℕ, ◌+◌, ◌-◌, ◌≤◌, true, false, List, [], ◌∷◌, ◌++◌, length, drop, refl, sym, ap, subst, ◌∙◌, arith}
+use Rattle.std.proofs.Common.{◌≡◌, ℕ, ◌+◌, ◌-◌, ◌<◌, ◌≤◌, true, false, List, [], ◌∷◌, ◌++◌, length, drop, refl, sym, ap, subst, ◌∙◌, arith}
 use Rattle.std.proofs.lemmas.List.{length-append}
 use Rattle.cqlp_note.specs.declared.head.Wanted.{Wanted}
 use Rattle.cqlp_note.specs.declared.refusal.Reason.{Reason}
@@ -14,7 +14,7 @@ use Rattle.cqlp_note.specs.Field.{FieldValue, Short, Text, field_of}
 use Rattle.cqlp_note.specs.Limits.{Rules, limit_of}
 use Rattle.cqlp_note.specs.Head.{reader_of}
 use Rattle.cqlp_note.specs.Spelling.{Spells}
-use Rattle.cqlp_note.specs.Partial.{FieldState, item_value, CanLend, going_on, ended}
+use Rattle.cqlp_note.specs.Partial.{FieldState, item_value, CanLend, content_bytes, going_on, ended}
 use Rattle.cqlp_note.specs.Field.{content_length}
 use Rattle.cqlp_note.specs.Partial as partial
 use Rattle.cqlp_note.proofs.Readers.{says_always}
@@ -25,7 +25,7 @@ use Rattle.cqlp_type.specs.declared.advance.TypeOutline.{TypeOutline}
 use Rattle.cqlp_kind.specs.TypeStep.{TypeSymbol, Option_at, Text_of, Fields_of, Whole, TypeEvent, TypePlace, type_place}
 use Rattle.cqlp_type.specs.Table.{Table}
 use Rattle.cqlp_type.specs.Remaining.{event_at, item_step, Keeps, IsPart, number_of, short_in}
-use Rattle.cqlp_type.specs.Progress.{TypeState, stopped, place_of, notation_of, IsFor, IsShared, pending, step_says, CanLendPart, text_length, Waits, Ends}
+use Rattle.cqlp_type.specs.Progress.{TypeState, stopped, place_of, notation_of, IsFor, IsShared, pending, step_says, CanLendPart, text_length, text_bytes, Waits, Ends}
 use Rattle.cqlp_type.specs.Pushing.{ReadsInto}
 use Rattle.cqlp_type.proofs.OpenTypes.{keeps}
 use Rattle.cqlp_type.proofs.ReadBack.{text_is}
@@ -112,6 +112,14 @@ module _ (w : Wanted) (bytes : List ℕ) (k : ℕ) (i : FieldOutline) (input buf
   part_plain used l offset stop (Text_of t ∷ ss) f is g le = rw is at le
   part_plain used l offset stop (Fields_of named depth ∷ ss) f is g le = rw (short_plain (limit_of l notation.Short) (stop - offset) bytes (item_value i input buffer) k (rw f at g)) (omega arith)
   part_plain used l offset stop (Whole n ∷ ss) f is g le = absurd f
+
+  part_held : (used : ℕ) (l : Rules) (offset stop : ℕ) (ss : List TypeSymbol) → IsFor l offset stop ss w → IsPart ss i x → (used < content_length (item_value i input buffer) → buffer ≡ content_bytes (item_value i input buffer))
+      → used < text_length (event_at x input buffer) → buffer ≡ text_bytes (event_at x input buffer)
+  part_held used l offset stop [] f is h lt = absurd f
+  part_held used l offset stop (Option_at depth ∷ ss) f is h lt = absurd (let no : used < 0 = rw is.1 at lt in omega arith)
+  part_held used l offset stop (Text_of t ∷ ss) f is h lt = rw is (h (rw is at lt))
+  part_held used l offset stop (Fields_of named depth ∷ ss) f is h lt = absurd (let no : used < 0 = rw is.1 at lt in omega arith)
+  part_held used l offset stop (Whole n ∷ ss) f is h lt = absurd f
 
 -- r is the reader with its item begun
 module _ (old r : TypeState) (p q : FieldState) (t : Table) (input : List ℕ) (reader : r ≡ record old { begun = true; taken = r.taken }) (shared : IsShared r q) (same : pending r q ≡ pending old p) (room : q.room ≡ p.room) where
@@ -255,6 +263,7 @@ module _ (old r : TypeState) (p q : FieldState) (t : Table) (input : List ℕ) (
         room = idle_after.1;
         can_lend = part_lends q.field (q.seen ++ input) (length q.seen + used) i input q'.content x can r.rules r.offset r.stop r.symbols asked part_is got;
         lent = λ short. e.lent (part_plain q.field (q.seen ++ input) (length q.seen + used) i input q'.content x used r.rules r.offset r.stop r.symbols asked part_is got short);
+        held = part_held q.field (q.seen ++ input) (length q.seen + used) i input q'.content x used r.rules r.offset r.stop r.symbols asked part_is e.kept;
         table = table;
         entries = let same_rules : old.rules ≡ r.rules = ap (λ (z : TypeState). z.rules) (sym reader) in rw same_rules entries;
       }

@@ -10,7 +10,7 @@ use Rattle.cqlp_note.specs.Reader.{Said, More, Bad, Got, says}
 use Rattle.cqlp_note.specs.Field.{Text}
 use Rattle.cqlp_note.specs.Step.{Emitted}
 use Rattle.cqlp_note.specs.Limits.{Rules, rules_of, limit_of}
-use Rattle.cqlp_note.specs.Partial.{FieldState, item_value, CanLend}
+use Rattle.cqlp_note.specs.Partial.{FieldState, item_value, CanLend, content_bytes}
 use Rattle.cqlp_note.specs.Field.{content_length}
 use Rattle.cqlp_kind.specs.declared.node.Node.{Node}
 use Rattle.cqlp_type.specs.declared.remaining.OptionStage.{OptionStage}
@@ -129,6 +129,11 @@ abbrev pub text_length : TypeEvent → ℕ
 text_length (IsNode k) = 0
 text_length (IsField f v) = content_length v
 
+-- those bytes
+abbrev pub text_bytes : TypeEvent → List ℕ
+text_bytes (IsNode k) = []
+text_bytes (IsField f v) = content_bytes v
+
 -- All of the input belongs to the item, which goes on.
 pub record Waits (old : TypeState) (p : FieldState) (t : Table) (input : List ℕ) (used : ℕ)
     (new : TypeState) (p' : FieldState) (t' : Table) : Type 0 where
@@ -141,7 +146,7 @@ pub record Waits (old : TypeState) (p : FieldState) (t : Table) (input : List �
   pub table : t' ≡ t
 
 -- The first `used` bytes of the input end an item, and none of the next has come. Where the content of a text lies
--- whole in them, the buffer is empty.
+-- whole in them, the buffer is empty; else it holds the content.
 pub record Ends (old : TypeState) (p : FieldState) (t : Table) (input : List ℕ) (at used : ℕ) (q : TypeOutline)
     (new : TypeState) (p' : FieldState) (t' : Table) : Type 0 where
   pub within : used ≤ length input
@@ -156,6 +161,7 @@ pub record Ends (old : TypeState) (p : FieldState) (t : Table) (input : List ℕ
   pub room : p'.room ≡ p.room
   pub can_lend : CanLendPart q input p'.content
   pub lent : text_length (event_at q input p'.content) ≤ used → p'.content ≡ []
+  pub held : used < text_length (event_at q input p'.content) → p'.content ≡ text_bytes (event_at q input p'.content)
   pub table : t'.room ≡ t.room
   pub entries : length t.nodes ≤ old.rules.entries → length t'.nodes ≤ old.rules.entries
 
