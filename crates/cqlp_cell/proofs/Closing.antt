@@ -77,6 +77,7 @@ module _ (nodes : List Node) (d : CellState) (o : OpenValue) (p : FieldState) (i
         can_lend = tt;
         lent = tt;
         kept = tt;
+        held = tt;
         rules = refl;
         stop = refl;
         onward = omega arith;

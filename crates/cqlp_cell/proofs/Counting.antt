@@ -100,6 +100,7 @@ module _ (nodes : List Node) (old new : CellState) (n start used count : ℕ) (p
         can_lend = tt;
         lent = tt;
         kept = tt;
+        held = tt;
         rules = rw enters.0 refl;
         stop = rw enters.0 refl;
         stands = enters.1;

@@ -8,7 +8,7 @@ use Rattle.cqlp_cell.specs.declared.advance.CellAdvance.{CellAdvance}
 use Rattle.cqlp_cell.specs.declared.advance.CellAdvance.TheVariants as advance
 use Rattle.cqlp_cell.specs.Items.{CanLend, event_at}
 use Rattle.cqlp_cell.specs.Progress.{CellState}
-use Rattle.cqlp_cell.specs.Reading.{Saying, step_says, Joined, IsLent, IsKept, Hands, Moves, has_content, is_bare}
+use Rattle.cqlp_cell.specs.Reading.{Saying, step_says, Joined, IsLent, IsKept, IsHeld, Hands, Moves, has_content, is_bare}
 use Rattle.cqlp_cell.proofs.Leading.{some_come}
 
 module _ (nodes : List Node) (old : CellState) (p : FieldState) (input : List ℕ) (new : CellState) (mid : FieldState) (joined : Joined nodes old p) where
@@ -31,13 +31,13 @@ bare_event (outline.Empty level) input b c e = refl
 bare_event (outline.Enter level k n) input b c e = refl
 bare_event (outline.Leave level n) input b c e = refl
 
-bare_lends : (nodes : List Node) (i : CellOutline) (p : FieldState) (input b : List ℕ) (used : ℕ) → not (has_content i) ≡ true → CanLend i input b × IsLent nodes i input b used × IsKept nodes i p input b used
+bare_lends : (nodes : List Node) (i : CellOutline) (p : FieldState) (input b : List ℕ) (used : ℕ) → not (has_content i) ≡ true → CanLend i input b × IsLent nodes i input b used × IsKept nodes i p input b used × IsHeld nodes i input b used
 bare_lends nodes (outline.Leaf level k x) p input b used e = absurd cc
 bare_lends nodes (outline.Part level offset x last) p input b used e = absurd cc
-bare_lends nodes (outline.Null level) p input b used e = (tt, tt, tt)
-bare_lends nodes (outline.Empty level) p input b used e = (tt, tt, tt)
-bare_lends nodes (outline.Enter level k n) p input b used e = (tt, tt, tt)
-bare_lends nodes (outline.Leave level n) p input b used e = (tt, tt, tt)
+bare_lends nodes (outline.Null level) p input b used e = (tt, tt, tt, tt)
+bare_lends nodes (outline.Empty level) p input b used e = (tt, tt, tt, tt)
+bare_lends nodes (outline.Enter level k n) p input b used e = (tt, tt, tt, tt)
+bare_lends nodes (outline.Leave level n) p input b used e = (tt, tt, tt, tt)
 
 module _ (nodes : List Node) (old : CellState) (p : FieldState) (input : List ℕ) (new : CellState) (mid q : FieldState) (idle : q.under_way ≡ false) (room : q.room ≡ mid.room) where
   bare_hands : (said : Saying) (base at used : ℕ) (i : CellOutline) → not (has_content i) ≡ true → Hands nodes old p input said base at used i new mid → Hands nodes old p input said base at used i new q
@@ -50,6 +50,7 @@ module _ (nodes : List Node) (old : CellState) (p : FieldState) (input : List �
         can_lend = can.0;
         lent = can.1;
         kept = can.2;
+        held = can.3;
         rules = h.rules;
         stop = h.stop;
         stands = h.stands;

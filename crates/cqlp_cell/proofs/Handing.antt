@@ -85,6 +85,7 @@ module _ (nodes : List Node) (old new : CellState) (n start : ℕ) (p q : FieldS
         can_lend = ((found.can_lend, rw found.is refl), rw (content_is, size) decided.can.3, rw is at known);
         lent = λ le. found.lent (rw (content_is, size) at le);
         kept = λ lt. kept (rw (content_is, size) at lt);
+        held = λ lt. found.kept (rw (content_is, size) at lt) ∙ sym content_is;
         rules = refl;
         stop = refl;
         stands = moved_stands nodes old (4 + n) stands due (omega (arith, decided.fits.0, due.inside));

@@ -128,6 +128,7 @@ settles_from nodes old p mid input said base W (advance.Item at used i) new q e 
   can_lend = h.can_lend;
   lent = h.lent;
   kept = still_kept nodes i p mid input q.content used idle h.kept;
+  held = h.held;
   rules = h.rules;
   stop = h.stop;
   stands = h.stands;

@@ -85,6 +85,7 @@ module _ (nodes : List Node) (d : CellState) (same : d.rules.part ≡ d.rules.ce
         can_lend = (found.can_lend, rw found.is refl);
         lent = λ le. found.lent (rw (there, size) at le);
         kept = λ lt. kept (rw (there, size) at lt);
+        held = λ lt. found.kept (rw (there, size) at lt) ∙ sym there;
         rules = refl;
         stop = refl;
         stands = first_stands s v some;
@@ -189,6 +190,7 @@ module _ (nodes : List Node) (d : CellState) (same : d.rules.part ≡ d.rules.ce
         can_lend = (found.can_lend, rw found.is refl);
         lent = λ le. found.lent (rw (there, size) at le);
         kept = λ lt. kept (rw (there, size) at lt);
+        held = λ lt. found.kept (rw (there, size) at lt) ∙ sym there;
         rules = refl;
         stop = refl;
         stands = next_stand is_last refl;

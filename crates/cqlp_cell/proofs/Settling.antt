@@ -75,6 +75,7 @@ module _ (nodes : List Node) (d new : CellState) (n start : ℕ) (p q : FieldSta
     can_lend = tt;
     lent = tt;
     kept = tt;
+    held = tt;
     rules = refl;
     stop = refl;
     stands = stays;
@@ -94,6 +95,7 @@ module _ (nodes : List Node) (d new : CellState) (n start : ℕ) (p q : FieldSta
     can_lend = tt;
     lent = tt;
     kept = tt;
+    held = tt;
     rules = refl;
     stop = refl;
     stands = stays;
@@ -123,6 +125,7 @@ module _ (nodes : List Node) (d new : CellState) (n start : ℕ) (p q : FieldSta
         can_lend = tt;
         lent = tt;
         kept = tt;
+        held = tt;
         rules = refl;
         stop = refl;
         stands = rw enters.0 at enters.1;

@@ -92,6 +92,7 @@ module _ (nodes : List Node) (d : CellState) (input : List ℕ) (used : ℕ) (v 
         can_lend = (((f.0.there, refl), refl), rw size f.0.allows, f.0.is);
         lent = λ le. empty;
         kept = λ lt. absurd (omega (arith, size, f.1, rw size at lt));
+        held = λ lt. absurd (omega (arith, size, f.1, rw size at lt));
         rules = refl;
         stop = refl;
         stands = moved_stands nodes d used stands v' (omega (arith, front.inside, v'.inside));

@@ -137,6 +137,13 @@ module _ (nodes : List Node) where
       used < length (content_at i input buffer) → (p.under_way ≡ true) × (buffer ≡ p.seen ++ take used input)
   IsKept i p input buffer used = ⊤
 
+  -- so that it holds just the content
+  abbrev pub IsHeld : CellOutline → (input buffer : List ℕ) → (used : ℕ) → Type 0
+  IsHeld (outline.Leaf level k i) input buffer used = used < length (content_at i input buffer) → buffer ≡ content_at i input buffer
+  IsHeld (outline.Part level offset i last) input buffer used =
+      used < length (content_at i input buffer) → buffer ≡ content_at i input buffer
+  IsHeld i input buffer used = ⊤
+
   -- The first `used` bytes of the input, with `base` bytes before it, end this item. It takes some of them, or it is
   -- the end of an open value.
   pub record Hands (old : CellState) (p : FieldState) (input : List ℕ) (said : Saying) (base at used : ℕ)
@@ -146,6 +153,7 @@ module _ (nodes : List Node) where
     pub can_lend : CanLend i input q.content
     pub lent : IsLent i input q.content used
     pub kept : IsKept i p input q.content used
+    pub held : IsHeld i input q.content used
     pub rules : new.rules ≡ old.rules
     pub stop : new.stop ≡ old.stop
     pub stands : Stands nodes new
