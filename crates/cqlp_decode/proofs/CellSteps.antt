@@ -1,5 +1,5 @@
 -- One step of a cell.
-use Rattle.std.proofs.Common.{◌≡◌, ℕ, ◌+◌, ◌-◌, ◌≤◌, false, true, List, [], ◌∷◌, ◌++◌, length, refl, sym, ap, subst, ◌∙◌, arith}
+use Rattle.std.proofs.Common.{◌≡◌, ℕ, ◌+◌, ◌-◌, ◌<◌, ◌≤◌, false, true, List, [], ◌∷◌, ◌++◌, length, refl, sym, ap, subst, ◌∙◌, arith}
 use Rattle.std.specs.Prelude.{Option, Some, None}
 use Rattle.cqlp_note.specs.declared.refusal.Refusal.{Refusal}
 use Rattle.cqlp_note.specs.Reader.{Bad, says}
@@ -42,9 +42,10 @@ use Rattle.cqlp_decode.specs.Reading.{Given, Place, step, cell_event, cells_left
 use Rattle.cqlp_decode.specs.Cells.{SaysCell}
 use Rattle.cqlp_decode.specs.Pages.{IsKind, IsPage, Turns, cells_from, given_of, cell_symbol, page_symbols, cells_after, types_left, node_by}
 use Rattle.cqlp_decode.specs.declared.advance.EventAdvance.{EventAdvance}
-use Rattle.cqlp_decode.specs.Progress.{StreamState, IsPending, PartsState, parts, nodes_of, state_of, place_at, offset_at, symbols_at, rest_of, said, Waits, Hands, Moves, IsLent, due_after, frame_after, ends_due, IsCell, IsConsistent, StageHolds, Starts}
+use Rattle.cqlp_decode.specs.Progress.{StreamState, IsPending, PartsState, parts, nodes_of, state_of, place_at, offset_at, symbols_at, rest_of, said, Gives, Waits, Hands, Moves, IsLent, IsHeld, due_after, frame_after, ends_due, IsCell, IsConsistent, StageHolds, Starts}
 use Rattle.cqlp_decode.proofs.Steps.{begun, one_due, offset_is}
 use Rattle.cqlp_decode.proofs.FieldSteps.{goes_on_lawful}
+use Rattle.cqlp_decode.proofs.Within.{none_kept}
 use Rattle.cqlp_decode.proofs.Columns.{FirstColumn, first_column, page_begun, page_due}
 
 -- the step of a cell under way, or of one that has just begun, is that of what is left of it
@@ -90,6 +91,19 @@ lent_is nodes row column used (outline.Empty level) input buffer can h = tt
 lent_is nodes row column used (outline.Enter level k n) input buffer can h = tt
 lent_is nodes row column used (outline.Leave level n) input buffer can h = tt
 lent_is nodes row column used (outline.Part level offset c last) input buffer can h = h
+
+-- where it does not, it is held
+kept_leaf : (row column level used : ℕ) (k : Kind) (content buffer : List ℕ) (o : Option ScalarValue) → scalar_of k content ≡ o → allows_size k (length content) ≡ true → (used < length content → buffer ≡ content) → IsHeld (cell_event row column (leaf_event level o)) used buffer
+kept_leaf row column level used k content buffer None is allowed h = λ _. tt
+kept_leaf row column level used k content buffer (Some v) is allowed h = λ lt. (k, ap (scalar_of k) (h (rw (scalar_sized k content v allowed is) lt)) ∙ is)
+
+kept_is : (nodes : List Node) (row column used : ℕ) (i : CellOutline) (input buffer : List ℕ) → CanLend i input buffer → taking.IsHeld nodes i input buffer used → IsHeld (cell_event row column (cell_event_at i input buffer)) used buffer
+kept_is nodes row column used (outline.Leaf level k c) input buffer can h = kept_leaf row column level used k (content_at c input buffer) buffer (scalar_of k (content_at c input buffer)) refl can.1 h
+kept_is nodes row column used (outline.Null level) input buffer can h = λ _. tt
+kept_is nodes row column used (outline.Empty level) input buffer can h = λ _. tt
+kept_is nodes row column used (outline.Enter level k n) input buffer can h = λ _. tt
+kept_is nodes row column used (outline.Leave level n) input buffer can h = λ _. tt
+kept_is nodes row column used (outline.Part level offset c last) input buffer can h = h
 
 still_by : (n : NextInCell) (row column : ℕ) (k : Kind) (inner : Types) (ss : List CellSymbol) (rest : List Symbol) → IsAfterItem n → (ss ≡ [] → ⊥) → cell_symbol n row column k inner ss ∷ rest ≡ cells_left row column ss ++ rest
 still_by next.Nothing row column k inner ss rest behind some = absurd behind
@@ -173,6 +187,7 @@ module _ (s : StreamProgress) (q : PartsState) (p : CellCursor) (here : s.stage 
               begun = fresh;
               frame = frame ∙ sym (same_frame s.frame at p.row p.column (cell_event_at i input q'.partial.content));
               lent = rw content (lent_is typed p.row p.column used i input p'.content h.can_lend h.lent);
+              kept = rw content (kept_is typed p.row p.column used i input p'.content h.can_lend h.held);
               gives = λ b is.
                   let g = one b (come_is b is) in
                   let x = g.emits.x in (
@@ -288,6 +303,7 @@ begun_moves d d' input new rules place frame pending fewer (advance.Event at use
         begun = h.begun;
         frame = rw frame h.frame;
         lent = h.lent;
+        kept = h.kept;
         gives = λ b is. let g = h.gives b (pending b is) in (g.0, (λ i. says (step (rules i) (sym place i)) 0 (b ++ input)) ∙ g.1, g.2, g.3, g.4);
         offset = λ b is. rw (← place) (h.offset b (pending b is));
         gifts = h.gifts;
@@ -387,26 +403,29 @@ module _ (s : StreamProgress) (q : PartsState) (p : CellCursor) (here : s.stage 
       ap (λ (z : Place). says (step (rules_of s.limits) z) 0 b) place_due
       ∙ says_map (cell_event p.row p.column) (place_of_cells p.row p.column due_place there) (cell_step (rules_of s.limits) (record { offset = s.offset; symbols = Value_of k inner 0 s.stop ∷ [] })) 0 b
 
+  offset_after : offset_at e.stage e.offset q ≡ s.offset + used
+  offset_after = offset_is e e.stage q starts ∙ offset
+
+  one_gives : Gives (state_of s q) input s.offset (cell_event p.row p.column ev) used (state_of e q).place
+  one_gives =
+      let x : Emitted CellEvent CellPlace = record { at = s.offset; event = ev; after = cell.place_after (record { offset = s.offset; symbols = Value_of k inner 0 s.stop ∷ [] }) [] [] } in (
+        record { at = s.offset; event = cell_event p.row p.column ev; after = λ u. place_of_cells p.row p.column due_place there (x.after u) },
+        one_said input ∙ ap (λ z. map_said (cell_event p.row p.column) (place_of_cells p.row p.column due_place there) z) (front.is (record { offset = s.offset; symbols = Value_of k inner 0 s.stop ∷ [] }) [] inner),
+        refl,
+        refl,
+        λ j. place_at (sym offset_after j) (sym stop j) (sym symbols j) q.table.nodes (given_of (sym same_use j) q.given),
+      )
+
   pub one_hands : Hands (state_of s q) input s.offset used (cell_event p.row p.column ev) (state_of e q)
   one_hands =
-      let at : offset_at e.stage e.offset q ≡ s.offset + used = offset_is e e.stage q starts ∙ offset in
       record {
         within = front.within;
         begun = begun e e.stage e.header e.came q starts (came ∙ stage_due.2) stage_due.1.field;
         frame = frame ∙ sym (same_frame s.frame s.offset p.row p.column ev);
         lent = lent_empty p.row p.column used ev q.partial.content empty;
-        gives = λ b pending.
-            let none : b ≡ [] = rw here at pending in
-            let count : 0 + used ≡ used = omega arith in
-            let x : Emitted CellEvent CellPlace = record { at = s.offset; event = ev; after = cell.place_after (record { offset = s.offset; symbols = Value_of k inner 0 s.stop ∷ [] }) [] [] } in
-            rw (none, count) (
-              record { at = s.offset; event = cell_event p.row p.column ev; after = λ u. place_of_cells p.row p.column due_place there (x.after u) },
-              one_said input ∙ ap (λ z. map_said (cell_event p.row p.column) (place_of_cells p.row p.column due_place there) z) (front.is (record { offset = s.offset; symbols = Value_of k inner 0 s.stop ∷ [] }) [] inner),
-              refl,
-              refl,
-              λ j. place_at (sym at j) (sym stop j) (sym symbols j) q.table.nodes (given_of (sym same_use j) q.given),
-            );
-        offset = λ b pending. let none : b ≡ [] = rw here at pending in let count : 0 + used ≡ used = omega arith in rw (none, count, at, here) refl;
+        kept = none_kept (state_of s q) input s.offset used (cell_event p.row p.column ev) (state_of e q).place q.partial.content one_gives;
+        gives = λ b pending. let none : b ≡ [] = rw here at pending in let count : 0 + used ≡ used = omega arith in rw (none, count) one_gives;
+        offset = λ b pending. let none : b ≡ [] = rw here at pending in let count : 0 + used ≡ used = omega arith in rw (none, count, offset_after, here) refl;
         gifts = refl;
         due = one_due e e.stage q starts ∙ sym (no_end p.row p.column ev);
         pays =

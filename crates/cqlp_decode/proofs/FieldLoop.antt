@@ -21,9 +21,10 @@ use Rattle.cqlp_decode.specs.declared.progress.StreamProgress.{StreamProgress}
 use Rattle.cqlp_decode.specs.Reading as reading
 use Rattle.cqlp_decode.specs.Reading.{Event, Gifts, Given, types_for, nodes_after, given_after}
 use Rattle.cqlp_decode.specs.Pages.{given_of}
-use Rattle.cqlp_decode.specs.Progress.{StreamState, PartsState, GoesOnAfter, Hands, HasRoom, Starts, IsConsistent, IsIdle, IsPending, StageHolds, came_of, parts, place_at, rest_of, state_of, symbols_at}
+use Rattle.cqlp_decode.specs.Progress.{StreamState, PartsState, Gives, GoesOnAfter, Hands, HasRoom, Starts, IsConsistent, IsIdle, IsPending, StageHolds, came_of, parts, place_at, rest_of, state_of, symbols_at}
 use Rattle.cqlp_decode.specs.Items.{TakesOne}
 use Rattle.cqlp_decode.proofs.Steps.{begun, begun_bare, header_hands, offset_is, offset_is_bare, one_due, one_due_bare, starts_bare}
+use Rattle.cqlp_decode.proofs.Within.{none_kept}
 use Rattle.cqlp_decode.proofs.FieldSteps.{field_gives, fixed_got, following_there, goes_on_lawful, metadata_forest}
 
 -- an event was taken
@@ -87,12 +88,14 @@ module _ (s : StreamProgress) (q : PartsState) (w : Want) (here : s.stage ≡ st
         let x = field_gives s q w here input v used says.is (fault_alone w.role alone v) in
         let place : place_at (s.offset + used) s.stop (rest_of s.upcoming) q.table.nodes held ≡ (state_of e q).place = λ j. place_at (sym there j) (sym (ap (λ (z : StreamProgress). z.stop) is) j) (sym symbols j) q.table.nodes (given_of (sym (ap (λ (z : StreamProgress). z.given_use) is) j) q.given) in
         let fixed = fixed_got w.notation (limit_of (rules_of s.limits) w.notation) (s.stop - s.offset) input v used says.is in
+        let g : Gives (state_of s q) input s.offset (reading.Holds w.field v) used (state_of e q).place = (x.0, x.1, x.2, x.3, x.4 ∙ place_alone w.role alone (s.offset + used) s.stop s.limits.types q.table.nodes held v (rest_of s.upcoming) ∙ place) in
         record {
           within = says.within;
           begun = begun_bare e.stage e.upcoming e.header e.came q room came idle;
           frame = ap (λ (z : StreamProgress). z.frame) is;
           lent = λ _. empty;
-          gives = λ b pending. rw (none b pending, zero-add) (x.0, x.1, x.2, x.3, x.4 ∙ place_alone w.role alone (s.offset + used) s.stop s.limits.types q.table.nodes held v (rest_of s.upcoming) ∙ place);
+          kept = none_kept (state_of s q) input s.offset used (reading.Holds w.field v) (state_of e q).place q.partial.content g;
+          gives = λ b pending. rw (none b pending, zero-add) g;
           gifts = refl;
           offset = λ b pending. rw (none b pending, zero-add, there, here) refl;
           due = one_due_bare e.stage q e.upcoming room;
@@ -154,12 +157,14 @@ module _ (s : StreamProgress) (q : PartsState) (w : Want) (here : s.stage ≡ st
         let none : (b : List ℕ) → IsPending (state_of s q).pending b → b ≡ [] = λ b pending. rw here at pending ∙ nothing in
         let x = field_gives s q w here input v used says.is fine in
         let fixed = fixed_got w.notation (limit_of (rules_of s.limits) w.notation) (s.stop - s.offset) input v used says.is in
+        let g : Gives (state_of s q) input s.offset (reading.Holds w.field v) used (state_of e beside).place = (x.0, x.1, x.2, x.3, x.4 ∙ (λ j. place_at (sym reached_there j) (sym (ap (λ (z : StreamProgress). z.stop) is) j) (sym symbols_there j) (sym nodes j) (sym given j))) in
         record {
           within = says.within;
           begun = begun e e.stage e.header e.came beside starts none_came idle;
           frame = ap (λ (z : StreamProgress). z.frame) is;
           lent = λ _. empty;
-          gives = λ b pending. rw (none b pending, zero-add) (x.0, x.1, x.2, x.3, x.4 ∙ (λ j. place_at (sym reached_there j) (sym (ap (λ (z : StreamProgress). z.stop) is) j) (sym symbols_there j) (sym nodes j) (sym given j)));
+          kept = none_kept (state_of s q) input s.offset used (reading.Holds w.field v) (state_of e beside).place q.partial.content g;
+          gives = λ b pending. rw (none b pending, zero-add) g;
           gifts = refl;
           offset = λ b pending. rw (none b pending, zero-add, reached_there, here) refl;
           due = one_due e e.stage beside starts;

@@ -151,6 +151,7 @@ module _ (s : StreamProgress) (old p : FieldState) (r : type.TypeState) (d : val
             begun = begun e e.stage e.header e.came q start none (ap (λ (z : FieldState). z.under_way) m.idle);
             frame = frame;
             lent = rw (← is) m.lent;
+            kept = rw (← is) m.kept;
             gives = λ b pending.
                 let x = field_gives s before w here (p.seen ++ input) v (length p.seen + used) (rw a.field at m.is) fine in
                 rw (pending_is b pending, ← is) (x.0, x.1, x.2, x.3, x.4 ∙ (λ j. place_at (sym offset j) (sym stop j) (sym symbols j) (sym nodes j) (sym given j)));

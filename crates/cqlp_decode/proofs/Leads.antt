@@ -150,7 +150,7 @@ module _ (old new : StreamState) (input s : List ℕ) (es : List (ℕ × reading
 
   pub event_goes : (o : Option Refusal) (at used : ℕ) (w : EventOutline) (e : Event) → event_of e ≡ event_at new.held input w → AdvancesFrom o old input (advance.Event at used w) new → Goes old (steps.Event at used e) new
   event_goes (Some r) at used w e is a = absurd (let e = a.0 in cc)
-  event_goes None at used w e is a = (a.0.1.pays, rw is a.0.1.lent, a.2, a.1, a.3)
+  event_goes None at used w e is a = (a.0.1.pays, rw is a.0.1.lent, a.2, a.1, a.3, rw is a.0.1.kept)
 
   pub refused_goes : (o : Option Refusal) → old.refusal ≡ o → (r : Refusal) → AdvancesFrom o old input (advance.Refused r) new → Goes old (steps.Refused r) new
   refused_goes (Some before) eq r a =

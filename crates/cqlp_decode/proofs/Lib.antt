@@ -1,4 +1,6 @@
 pub mod Columns
+pub mod Always
+pub mod Within
 pub mod Steps
 pub mod FieldSteps
 pub mod OptionSteps

@@ -32,7 +32,7 @@ use Rattle.cqlp_decode.specs.declared.advance.EventAdvance.TheVariants as advanc
 use Rattle.cqlp_decode.specs.declared.advance.EventOutline.TheVariants as what
 use Rattle.cqlp_decode.specs.Reading.{Place, type_event, types_left, place_of_types}
 use Rattle.cqlp_decode.specs.Pages.{given_of}
-use Rattle.cqlp_decode.specs.Progress.{IsPending, PartsState, parts, state_of, place_at, offset_at, symbols_at, rest_of, said, Gives, Waits, Moves, IsLent, due_after, frame_after, ends_due, HasRoom, IsOption, OptionWaits, OptionRuns, IsConsistent, StageHolds, TableHolds}
+use Rattle.cqlp_decode.specs.Progress.{IsPending, PartsState, parts, state_of, place_at, offset_at, symbols_at, rest_of, said, Gives, Waits, Moves, IsLent, IsHeld, due_after, frame_after, ends_due, HasRoom, IsOption, OptionWaits, OptionRuns, IsConsistent, StageHolds, TableHolds}
 use Rattle.cqlp_decode.specs.declared.progress.StreamStage.{StreamStage}
 use Rattle.cqlp_decode.proofs.Steps.{starts_bare, begun_bare, one_due_bare, offset_is_bare}
 use Rattle.cqlp_decode.proofs.FieldSteps.{used_some, goes_on_lawful}
@@ -107,6 +107,10 @@ is_lent : (e : TypeEvent) (used : ℕ) (content : List ℕ) → (type.text_lengt
 is_lent (IsNode k) used content h = tt
 is_lent (IsField f v) used content h = h
 
+is_kept : (e : TypeEvent) (used : ℕ) (content : List ℕ) → (used < type.text_length e → content ≡ type.text_bytes e) → IsHeld (type_event e) used content
+is_kept (IsNode k) used content h = λ _. tt
+is_kept (IsField f v) used content h = h
+
 module _ (s : StreamProgress) (q : PartsState) (here : s.stage ≡ stage.InType) (o : IsOption s q.partial q.types) (rules : q.types.rules ≡ rules_of s.limits) where
   abbrev rest : List Symbol
   rest = rest_of s.upcoming
@@ -172,6 +176,7 @@ module _ (s : StreamProgress) (q : PartsState) (here : s.stage ≡ stage.InType)
           begun = fresh;
           frame = frame ∙ sym (same_frame s.frame at (part.event_at x input q'.partial.content));
           lent = is_lent (part.event_at x input q'.partial.content) used q'.partial.content (rw content m.lent);
+          kept = is_kept (part.event_at x input q'.partial.content) used q'.partial.content (rw content m.held);
           gives = λ b is.
               let g = option_gives in
               let stopped : r'.stop ≡ s.stop = ap (λ (z : type.TypeState). z.stop) m.reader ∙ o.stop in

@@ -61,6 +61,7 @@ extra_hands s q input used u over here inside le is all = (
     begun = refl;
     frame = refl;
     lent = tt;
+    kept = λ _. tt;
     gives = λ b came.
         let size : length b ≡ s.came = rw here at came in
         let long : s.stop - s.offset ≤ length (b ++ input) = omega (arith, length-append b input) in
@@ -297,6 +298,7 @@ module _ (s : StreamProgress) (q : PartsState) (input : List ℕ) (here : s.stag
             begun = begun_bare new.stage new.upcoming new.header new.came q room none idle.field;
             frame = frame;
             lent = tt;
+            kept = λ _. tt;
             gives = λ b pending. let g = header_gives h is b pending in (g.0, g.1, g.2, g.3, g.4 ∙ (λ j. place_at (sym offset j) (sym stop j) (sym symbols j) q.table.nodes (given_of (sym same_use j) q.given)));
             gifts = refl;
             offset = λ b pending.

@@ -12,7 +12,7 @@ use Rattle.cqlp_note.specs.Step.{Emitted}
 use Rattle.cqlp_note.specs.Limits.{Rules, rules_of, limit_of}
 use Rattle.cqlp_note.specs.declared.limits.Limits.{Limits}
 use Rattle.cqlp_note.specs.Field.{FieldValue}
-use Rattle.cqlp_note.specs.Partial.{FieldState, item_value, CanLend}
+use Rattle.cqlp_note.specs.Partial.{FieldState, item_value, CanLend, content_bytes}
 use Rattle.cqlp_note.specs.Field.{content_length}
 use Rattle.cqlp_kind.specs.TypeStep.{Option_at, TypeEvent, TypePlace}
 use Rattle.cqlp_kind.specs.declared.node.Node.{Node}
@@ -26,7 +26,8 @@ use Rattle.cqlp_cell.specs.declared.progress.Arrived.{Arrived}
 use Rattle.cqlp_cell.specs.declared.progress.Arrived.TheVariants as arrived
 use Rattle.cqlp_kind.specs.CellStep as cell
 use Rattle.cqlp_cell.specs.Items as cells
-use Rattle.cqlp_kind.specs.Scalars.{content_size}
+use Rattle.cqlp_kind.specs.declared.kind.Kind.{Kind}
+use Rattle.cqlp_kind.specs.Scalars.{content_size, scalar_of}
 use Rattle.cqlp_type.specs.Forests.{Forest}
 use Rattle.cqlp_cell.specs.Progress as value
 use Rattle.cqlp_cell.specs.Progress.{is_under_way}
@@ -99,12 +100,30 @@ WhatThere held input (what.Option q) = CanLendPart q input held
 WhatThere held input (what.Cell row column i) = cells.CanLend i input held
 WhatThere held input (what.End n) = ⊤
 
+-- how many bytes the content of an event has, a decimal's scale among them
+abbrev pub content_size_of : Event → ℕ
+content_size_of (reading.Holds f v) = content_length v
+content_size_of (reading.Cell_at row column (cell.Leaf level v)) = content_size v
+content_size_of (reading.Cell_at row column (cell.Part level offset c last)) = length c
+content_size_of e = 0
+
 -- a content that lies whole in the bytes that a call used is not held
 abbrev pub IsLent : Event → (used : ℕ) → (held : List ℕ) → Type 0
 IsLent (reading.Holds f v) used held = content_length v ≤ used → held ≡ []
 IsLent (reading.Cell_at row column (cell.Leaf level v)) used held = content_size v ≤ used → held ≡ []
 IsLent (reading.Cell_at row column (cell.Part level offset c last)) used held = length c ≤ used → held ≡ []
 IsLent e used held = ⊤
+
+-- what is held is the content; of a scalar it spells it
+abbrev pub IsContent : Event → (held : List ℕ) → Type 0
+IsContent (reading.Holds f v) held = held ≡ content_bytes v
+IsContent (reading.Cell_at row column (cell.Leaf level v)) held = (k : Kind) × (scalar_of k held ≡ Some v)
+IsContent (reading.Cell_at row column (cell.Part level offset c last)) held = held ≡ c
+IsContent e held = ⊤
+
+-- a content that does not is held, whole and with nothing beside it
+abbrev pub IsHeld : Event → (used : ℕ) → (held : List ℕ) → Type 0
+IsHeld e used held = used < content_size_of e → IsContent e held
 
 -- the start of the frame under way, after an event: an end's offset is the next frame's start
 abbrev pub frame_after : (frame at : ℕ) → Event → ℕ
@@ -151,6 +170,7 @@ pub record Hands (old : StreamState) (input : List ℕ) (at used : ℕ) (e : Eve
   pub begun : IsPending new.pending []
   pub frame : new.frame ≡ frame_after old.frame at e
   pub lent : IsLent e used new.held
+  pub kept : IsHeld e used new.held
   pub gives : (b : List ℕ) → IsPending old.pending b → Gives old (b ++ input) at e (length b + used) new.place
   pub offset : (b : List ℕ) → IsPending old.pending b → new.place.offset ≡ old.place.offset + (length b + used)
   pub gifts : new.place.gifts ≡ []

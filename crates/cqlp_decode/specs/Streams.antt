@@ -1,6 +1,7 @@
 -- What calls hand out of a stream.
 use Rattle.std.specs.Prelude.{◌≡◌, ℕ, ◌+◌, ◌*◌, ◌<◌, ◌≤◌, ◌++◌, Bool, true, false, List, [], ◌∷◌, length, take, max, Option, Some}
 use Rattle.std.specs.Prelude.{None, if◌then◌else◌, ⊤}
+use Rattle.std.specs.Ptr.{Ptr}
 use Rattle.cqlp_note.specs.declared.refusal.Refusal.{Refusal}
 use Rattle.cqlp_decode.specs.declared.step.Step.{Step}
 use Rattle.cqlp_decode.specs.declared.step.Step.TheVariants as step
@@ -18,7 +19,7 @@ use Rattle.cqlp_decode.specs.Reading.{Event, Place, Gift, Gifts, gifts_now, gift
 use Rattle.cqlp_decode.specs.Reading.{start_with, Reads, Says, Waits, Refused}
 use Rattle.cqlp_decode.specs.Reading.{step as step_of}
 use Rattle.cqlp_grammar.specs.Events.{event_of}
-use Rattle.cqlp_decode.specs.Progress.{StreamState, PartsState, IsPending, IsLent, state_of, levels_of, frame_after, ends_due}
+use Rattle.cqlp_decode.specs.Progress.{StreamState, PartsState, IsPending, IsLent, IsHeld, state_of, levels_of, frame_after, ends_due}
 
 -- What contracts see of a decoder: where it stands, and its parts that own memory.
 pub record Decoding : Type 0 where
@@ -119,11 +120,12 @@ Uses input (step.More used) = used ≡ length input
 Uses input (step.Refused r) = ⊤
 
 -- A call goes on: an event takes some byte, or it ends its frame or a value that is open; and a content that lies whole
--- in the bytes used is not held. Nothing was refused, or it was just now.
+-- in the bytes used is not held, and one that does not is. Nothing was refused, or it was just now.
 abbrev pub Goes : StreamState → Step → StreamState → Type 0
 Goes old (step.Event at used e) new =
     (ends_due new.place.symbols + new.open_values < ends_due old.place.symbols + old.open_values + 2 * used)
     × IsLent (event_of e) used new.held × (new.rules ≡ old.rules) × (new.refusal ≡ None) × (new.given ≡ old.given)
+    × IsHeld (event_of e) used new.held
 Goes old (step.More used) new = (new.rules ≡ old.rules) × (new.refusal ≡ None) × (new.given ≡ old.given)
 Goes old (step.Refused r) new = (new.rules ≡ old.rules) × (new.refusal ≡ Some r) × (new.given ≡ old.given)
 
@@ -171,6 +173,10 @@ IsUnrefused f = ⊤
 abbrev pub given_nodes : Option Table → List Node
 given_nodes None = []
 given_nodes (Some t) = t.nodes
+
+-- where the memory begins in which a content is held
+abbrev pub buffer_of : Decoding → Ptr
+buffer_of d = d.parts.partial.buffer
 
 -- no content, no type and no level
 abbrev pub HoldsNothing : Decoding → Type 0

@@ -113,7 +113,7 @@ impl<A: Allocator> Decoder<A> {
     ghost use Rattle.cqlp_decode.specs.Reading.{Gives, is_in_use};
     ghost use Rattle.cqlp_decode.specs.Sinks.{Gets, Fails};
     ghost use Rattle.cqlp_decode.specs.Progress.{Advances, HoldsGiven, LeavesTypes, Takes, WhatThere, event_at};
-    ghost use Rattle.cqlp_decode.specs.Streams.{EndsAs, IsUnrefused, IsWithin, Uses, capacity_within, given_nodes, state};
+    ghost use Rattle.cqlp_decode.specs.Streams.{EndsAs, IsUnrefused, IsWithin, Uses, buffer_of, capacity_within, given_nodes, state};
     ghost use Rattle.cqlp_decode.specs.declared.given.GiveReason.{GiveReason as Why};
     ghost use Rattle.cqlp_kind.specs.Types.{types_of};
 
@@ -216,6 +216,13 @@ impl<A: Allocator> Decoder<A> {
             open_types: self.parts.types.capacity(),
             open_values: self.parts.cells.capacity(),
         }
+    }
+
+    /// Where the content lies that is held, whose bytes `held` counts: it stays there until the next call that reads on.
+    pub fn buffer(&self) -> *const u8
+        ensures { result ≡ buffer_of self.now }
+    {
+        self.parts.partial.buffer()
     }
 
     /// The types of the metadata begun last: those handed out since the field MetaFlags was.

@@ -21,7 +21,7 @@ returns-in-Some g c =
         refl,
         λ _. tt,
         (
-          (takes.4.pays, takes.4.lent, takes.2, takes.1, takes.3),
+          (takes.4.pays, takes.4.lent, takes.2, takes.1, takes.3, takes.4.kept),
           λ gifts s es after. hands_leads old new input s es gifts t.at t.used e takes.4 takes.1 takes.2 (subst (λ (o : Option Refusal). AfterBy o gifts old s es) takes.0 after),
           unrefused old new (steps.Event t.at t.used e) old.refusal takes.0,
         ),
