@@ -1,6 +1,6 @@
 use Rattle.std.proofs.Common.{refl}
 use Rattle.cqlp_text.proofs.Writing.{progress_starts, progress_goes_on, progress_stops, progress_last}
-use Rattle.cqlp_text.proofs.text_writer.TextWriter.put_field_words.Goals as goal
+use Rattle.cqlp_text.proofs.text_writer.TextWriter.put_field.Goals as goal
 
 pub returns-in_err-put_str : goal.returns-in_err-put_str
 returns-in_err-put_str g c =
