@@ -1,6 +1,6 @@
 //! Values of cells whose bytes were changed at random: what `read_value` takes is written and read again as the same value, alone and as the
-//! cell of a page, and what it refuses the decoder refuses at the same byte of a page. CQLP_STREAMS is how many values there are, 3,000
-//! where it is not set.
+//! cell of a page, and what it refuses the decoder refuses at the same byte of a page, also of one without metadata whose types are given to
+//! it. CQLP_STREAMS is how many values there are, 3,000 where it is not set.
 #![forbid(unsafe_code)]
 
 mod common;
@@ -11,7 +11,7 @@ use cqlp::frame::{
 };
 use cqlp::memory::Box;
 use cqlp::text::render_rows;
-use cqlp::{Decoder, Finish, Global, Kind, Limits, OfStd, Outcome, Reason, Refusal};
+use cqlp::{Decoder, Finish, Global, Kind, Limits, OfStd, Outcome, Reason, Refusal, TypeTable};
 
 const PLAIN: [Kind; 19] = [
     Kind::Ascii,
@@ -113,7 +113,15 @@ fn page(tree: TypeTree) -> Frame {
     let text = |text: &str| text.to_string().into();
     let column = Spec { table: None, name: text("c"), tree };
     let table = Some((text("k"), text("t")));
-    let meta = Metadata { flags: 1, columns: 1, paging: None, table, specs: Some(vec![column].into()) };
+    with_metadata(Metadata { flags: 1, columns: 1, paging: None, table, specs: Some(vec![column].into()) })
+}
+
+/// The same with the flag No_metadata.
+fn bare_page() -> Frame {
+    with_metadata(Metadata { flags: 4, columns: 1, paging: None, table: None, specs: None })
+}
+
+fn with_metadata(meta: Metadata) -> Frame {
     Frame::plain(7, Message::Rows(Rows { meta, rows: 1, cells: Vec::new().into() }))
 }
 
@@ -136,12 +144,24 @@ fn with_bytes(page: &Frame, cell: &[u8]) -> (Vec<u8>, u64) {
     ([&head[..], cell].concat(), head.len() as u64)
 }
 
-/// How the decoder ends over a page, and the text of its row.
-fn read_page(stream: &[u8]) -> (Finish, Vec<u8>) {
+/// How a decoder that was given these types ends over a page, the text of the row, and the types of the metadata.
+fn read_page(stream: &[u8], given: Option<TypeTable>) -> (Finish, Vec<u8>, TypeTable) {
     let mut decoder = Decoder::new(Global, Limits::DEFAULT).unwrap();
+    if let Some(table) = given {
+        assert!(matches!(decoder.give(table), Ok(None)));
+    }
     let (outcome, text) = render_rows(&mut decoder, &mut OfStd::new(stream), OfStd::new(Vec::new()), u64::MAX);
     let Outcome::Finished(finish) = outcome else { panic!("{outcome:?}") };
-    (finish, text.into_inner())
+    let row = text.inner.split(|byte| *byte == b'\n').rev().nth(1).unwrap_or_default().to_vec();
+    (finish, row, decoder.table().clone_table().unwrap())
+}
+
+/// How a reading ends where it refuses this, or nothing, in a cell after this many bytes of a page.
+fn ending(refused: Option<Refusal>, head: u64, cell: &[u8]) -> Finish {
+    match refused {
+        Some(Refusal { at, why }) => Finish::Refused(Refusal { at: head + at, why }),
+        None => Finish::Whole { bytes: head + cell.len() as u64 },
+    }
 }
 
 /// Sees that a value of this many bytes is written as itself, alone and in its page, whose bytes come back.
@@ -173,21 +193,26 @@ fn mutated_values() {
         change(&mut numbers, &mut bytes);
         let value = read_value(Global, &Limits::DEFAULT, Some(column(&mut page)), &bytes);
         let about = format!("case {case}: {bytes:02x?} {value:?}");
+
         let (stream, head) = with_bytes(&page, &bytes);
-        let (finish, text) = read_page(&stream);
-        let whole = Finish::Whole { bytes: stream.len() as u64 };
-        match value {
+        let (finish, row, table) = read_page(&stream, None);
+        let refused = match value {
+            // The bytes after a cell are no fault of a frame.
+            Err(ReadError::Refused(Refusal { why: Reason::ExtraInValue, .. })) if finish == ending(None, head, &bytes) => None,
+            Err(ReadError::Refused(refusal)) => Some(refusal),
+            Err(error) => panic!("{error:?} {about}"),
             Ok(value) => {
                 read += 1;
-                assert_eq!(finish, whole, "{about}");
-                let written = write_again(value, &mut page, bytes.len());
-                assert_eq!(read_page(&written), (whole, text), "{about}");
+                let again = read_page(&write_again(value, &mut page, bytes.len()), None);
+                assert_eq!((again.0, &again.1), (finish, &row), "{about}");
+                None
             }
-            // The bytes after a cell are no fault of a frame.
-            Err(ReadError::Refused(Refusal { why: Reason::ExtraInValue, .. })) if finish == whole => {}
-            Err(ReadError::Refused(Refusal { at, why })) => assert_eq!(finish, Finish::Refused(Refusal { at: head + at, why }), "{about}"),
-            Err(error) => panic!("{error:?} {about}"),
-        }
+        };
+        assert_eq!(finish, ending(refused, head, &bytes), "{about}");
+
+        let (stream, head) = with_bytes(&bare_page(), &bytes);
+        let by_given = read_page(&stream, Some(table));
+        assert_eq!((by_given.0, by_given.1), (ending(refused, head, &bytes), row), "{about}");
     }
     assert!(read > count() / 4, "{read}");
 }
