@@ -12,64 +12,11 @@ pub const DAY: u64 = 86_400_000_000_000;
 ///
 /// `BadSize` where no scalar of the kind has this many bytes; else `BadUtf8` for a varchar that is not UTF-8, and
 /// `BadScalar` for an ascii with a byte above 7F, a time past the end of a day or a timeuuid that is not of version 1.
+///
+/// A varint has no least form, and neither has the unscaled part of a decimal: bytes in front that only repeat the sign
+/// are taken as they are.
 #[inline(always)]
 pub(crate) fn scalar(kind: Kind, bytes: &[u8]) -> Result<Scalar<'_>, Reason>
-{
-    match kind {
-        Kind::Int => match whole(bytes) {
-            Some(bytes) => Ok(Scalar::Int(i32::from_be_bytes(bytes))),
-            None => Err(Reason::BadSize),
-        },
-        Kind::Bigint => match whole(bytes) {
-            Some(bytes) => Ok(Scalar::Bigint(i64::from_be_bytes(bytes))),
-            None => Err(Reason::BadSize),
-        },
-        Kind::Counter => match whole(bytes) {
-            Some(bytes) => Ok(Scalar::Counter(i64::from_be_bytes(bytes))),
-            None => Err(Reason::BadSize),
-        },
-        Kind::Timestamp => match whole(bytes) {
-            Some(bytes) => Ok(Scalar::Timestamp(i64::from_be_bytes(bytes))),
-            None => Err(Reason::BadSize),
-        },
-        Kind::Smallint => match whole(bytes) {
-            Some(bytes) => Ok(Scalar::Smallint(i16::from_be_bytes(bytes))),
-            None => Err(Reason::BadSize),
-        },
-        Kind::Date => match whole(bytes) {
-            Some(bytes) => Ok(Scalar::Date(u32::from_be_bytes(bytes))),
-            None => Err(Reason::BadSize),
-        },
-        Kind::Double => match whole(bytes) {
-            Some(bytes) => Ok(Scalar::Double(bytes)),
-            None => Err(Reason::BadSize),
-        },
-        Kind::Float => match whole(bytes) {
-            Some(bytes) => Ok(Scalar::Float(bytes)),
-            None => Err(Reason::BadSize),
-        },
-        Kind::Uuid => match whole(bytes) {
-            Some(bytes) => Ok(Scalar::Uuid(bytes)),
-            None => Err(Reason::BadSize),
-        },
-        Kind::Boolean => match whole::<1>(bytes) {
-            Some(bytes) => Ok(Scalar::Boolean(bytes[0] != 0)),
-            None => Err(Reason::BadSize),
-        },
-        // The bytes are a text.
-        Kind::Varchar if is_text(bytes) => Ok(Scalar::Varchar(unsafe {
-            str::from_utf8_unchecked(bytes)
-        })),
-        Kind::Varchar => Err(Reason::BadUtf8),
-        Kind::Blob => Ok(Scalar::Blob(bytes)),
-        Kind::Raw => Ok(Scalar::Raw(bytes)),
-        _ => rare_scalar(kind, bytes),
-    }
-}
-
-/// The same of any kind, its size, its content and its value one after the other.
-#[inline(always)]
-fn rare_scalar(kind: Kind, bytes: &[u8]) -> Result<Scalar<'_>, Reason>
 {
     if !allows(kind, bytes.len()) {
         Err(Reason::BadSize)
@@ -80,19 +27,8 @@ fn rare_scalar(kind: Kind, bytes: &[u8]) -> Result<Scalar<'_>, Reason>
     }
 }
 
-/// The bytes, if they are N.
-#[inline(always)]
-fn whole<const N: usize>(bytes: &[u8]) -> Option<[u8; N]>
-{
-    if bytes.len() == N {
-        Some(read_array(bytes))
-    } else {
-        None
-    }
-}
-
 /// Whether a content of a scalar kind may have this many bytes, which are not none.
-#[inline]
+#[inline(always)]
 pub fn allows(kind: Kind, len: usize) -> bool
 {
     match kind {
@@ -108,7 +44,7 @@ pub fn allows(kind: Kind, len: usize) -> bool
 }
 
 /// Whether a content of an allowed length is a scalar of this kind.
-#[inline]
+#[inline(always)]
 pub(crate) fn accepts(kind: Kind, bytes: &[u8]) -> bool
 {
     match kind {
@@ -130,7 +66,7 @@ pub fn fault(kind: Kind) -> Reason
 }
 
 /// The scalar that these bytes are.
-#[inline]
+#[inline(always)]
 pub(crate) fn make_scalar(kind: Kind, bytes: &[u8]) -> Scalar<'_>
 {
     match kind {
@@ -165,7 +101,7 @@ pub(crate) fn make_scalar(kind: Kind, bytes: &[u8]) -> Scalar<'_>
 }
 
 /// An address of 4 or 16 bytes.
-#[inline]
+#[inline(always)]
 fn address(bytes: &[u8]) -> Address
 {
     if bytes.len() == 4 {

@@ -1,6 +1,8 @@
-//! Worked streams, and what is said of them.
+//! Worked streams, and what is said of them; numbers to change them by.
 #![forbid(unsafe_code)]
 #![allow(dead_code)]
+
+pub mod cores;
 
 use cqlp::text::{Ending, ending_line, event_line};
 use cqlp::{Decoder, Finish, Global, Limits, OfStd, Step};
@@ -72,5 +74,30 @@ fn add(decoder: &mut Decoder, piece: &[u8], lines: &mut OfStd<Vec<u8>>) -> bool 
                 return false;
             }
         }
+    }
+}
+
+/// How many cases of a test are tried: CQLP_STREAMS, or 3,000.
+pub fn count() -> u64 {
+    std::env::var("CQLP_STREAMS").map_or(3_000, |text| text.parse().unwrap())
+}
+
+/// Numbers that look random, the same at each run.
+pub struct Numbers(u64);
+
+impl Numbers {
+    pub fn new() -> Numbers {
+        Numbers(0x9e37_79b9_7f4a_7c15)
+    }
+
+    pub fn below(&mut self, end: usize) -> usize {
+        self.0 ^= self.0 << 13;
+        self.0 ^= self.0 >> 7;
+        self.0 ^= self.0 << 17;
+        (self.0 >> 11) as usize % end
+    }
+
+    pub fn one_of<T: Copy>(&mut self, all: &[T]) -> T {
+        all[self.below(all.len())]
     }
 }
