@@ -31,3 +31,7 @@ mod streams;
 mod trees;
 #[cfg(test)]
 mod types;
+#[cfg(test)]
+mod values;
+#[cfg(test)]
+mod versions;

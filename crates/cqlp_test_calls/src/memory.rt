@@ -1,6 +1,7 @@
 //! Memory that is refused, of each call that asks for it.
 
 use crate::page::page;
+use cqlp_capture::{CaptureLimits, CaptureReader, NewReaderError};
 use cqlp_decode::{Decoder, NewError};
 use cqlp_message::Frame;
 use cqlp_note::{Limits, NoMemory, Partial};
@@ -33,6 +34,7 @@ enum Call {
     TypeReader,
     CellReader,
     Decoder,
+    CaptureReader,
     Client,
     Server,
     ClientOf,
@@ -42,13 +44,14 @@ enum Call {
 }
 
 /// Each call, and how many requests for memory it makes.
-static CALLS: [(Call, u64); 11] = [
+static CALLS: [(Call, u64); 12] = [
     (Call::Partial, 1),
     (Call::TypeTable, 1),
     (Call::CloneTable, 2),
     (Call::TypeReader, 1),
     (Call::CellReader, 1),
     (Call::Decoder, 4),
+    (Call::CaptureReader, 1),
     (Call::Client, 2),
     (Call::Server, 1),
     (Call::ClientOf, 3),
@@ -88,6 +91,14 @@ fn decoder<A: Allocator + Clone>(heap: A) -> Answer {
     }
 }
 
+fn capture_reader<A: Allocator>(heap: A) -> Answer {
+    match CaptureReader::new(heap, CaptureLimits { packet: 64 }) {
+        Ok(_) => Answer::Granted,
+        Err(NewReaderError::NoMemory) => Answer::NoMemory,
+        Err(NewReaderError::BadLimits) => Answer::Other,
+    }
+}
+
 /// A table and its copy: without memory for the copy the table is what it was.
 fn copied_table<A: Allocator + Clone>(heap: A) -> Answer {
     let Ok(table) = TypeTable::new(heap, LIMITS.entries) else {
@@ -120,6 +131,7 @@ fn asked<A: Allocator + Clone>(call: Call, heap: A, page: &Frame) -> Answer {
         Call::TypeReader => answer_of(TypeReader::new(heap, &LIMITS)),
         Call::CellReader => answer_of(CellReader::new(heap, &LIMITS)),
         Call::Decoder => decoder(heap),
+        Call::CaptureReader => capture_reader(heap),
         Call::Client => answer_of_slots(Client::new(heap, 10)),
         Call::Server => answer_of_slots(Server::new(heap, 10)),
         Call::ClientOf => answer_of_slots(ClientOf::<u64, A>::new(heap, 10)),

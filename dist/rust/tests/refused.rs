@@ -1,0 +1,148 @@
+//! Memory that is refused to the calls that take it from the process: each request in turn, and each with all after it. What a call
+//! made until then is given back.
+
+use cqlp::frame::{Frame, ReadError, TypeTree, read_value};
+use cqlp::memory::{AllocError, Box, String, Vec};
+use cqlp::{Global, Kind, Limits};
+use std::alloc::{GlobalAlloc, Layout, System};
+use std::cell::Cell;
+use std::ptr::null_mut;
+
+/// The requests of a thread: how many there were, which are refused, and how many blocks are held.
+#[derive(Clone, Copy)]
+struct Ration {
+    requests: u64,
+    first: u64,
+    last: u64,
+    held: i64,
+}
+
+thread_local! {
+    static RATION: Cell<Ration> = const { Cell::new(Ration { requests: 0, first: 0, last: 0, held: 0 }) };
+}
+
+/// Counts one more request; whether it is granted.
+fn is_granted() -> bool {
+    let Ration { requests, first, last, held } = RATION.get();
+    RATION.set(Ration { requests: requests + 1, first, last, held });
+    requests + 1 < first || last < requests + 1
+}
+
+/// Counts the blocks that are held.
+fn count(more: i64) {
+    let ration = RATION.get();
+    RATION.set(Ration { held: ration.held + more, ..ration });
+}
+
+struct Rationed;
+
+// SAFETY: each call is the system's; a request that is refused answers null, and changes nothing.
+unsafe impl GlobalAlloc for Rationed {
+    unsafe fn alloc(&self, layout: Layout) -> *mut u8 {
+        if !is_granted() {
+            return null_mut();
+        }
+        count(1);
+        unsafe { System.alloc(layout) }
+    }
+
+    unsafe fn dealloc(&self, block: *mut u8, layout: Layout) {
+        count(-1);
+        unsafe { System.dealloc(block, layout) }
+    }
+
+    unsafe fn realloc(&self, block: *mut u8, layout: Layout, size: usize) -> *mut u8 {
+        if !is_granted() {
+            return null_mut();
+        }
+        unsafe { System.realloc(block, layout, size) }
+    }
+}
+
+#[global_allocator]
+static HEAP: Rationed = Rationed;
+
+/// What a call said of memory.
+#[derive(Clone, Copy, Debug, PartialEq, Eq)]
+enum Answer {
+    Granted,
+    NoMemory,
+    Other,
+}
+
+/// What a call answers where these requests are refused, how many it makes, and how many blocks it leaves.
+fn refused(first: u64, last: u64, call: impl Fn() -> Answer) -> (Answer, u64, i64) {
+    RATION.set(Ration { requests: 0, first, last, held: 0 });
+    let answer = call();
+    let Ration { requests, held, .. } = RATION.replace(Ration { requests: 0, first: 0, last: 0, held: 0 });
+    (answer, requests, held)
+}
+
+/// A call finds memory exactly where none of its requests is refused, of which it makes at least this many.
+fn finds_just_what_is_there(least: u64, call: impl Fn() -> Answer) {
+    let (answer, requests, held) = refused(0, 0, &call);
+    assert_eq!((answer, held), (Answer::Granted, 0));
+    assert!(least <= requests);
+    for number in 1..=requests {
+        assert_eq!(refused(number, number, &call), (Answer::NoMemory, number, 0));
+        assert_eq!(refused(number, u64::MAX, &call), (Answer::NoMemory, number, 0));
+    }
+    assert_eq!(refused(requests + 1, u64::MAX, &call), (Answer::Granted, requests, 0));
+}
+
+fn byte() -> Result<Box<TypeTree>, AllocError> {
+    Ok(Box::new(Global, TypeTree::Plain(Kind::Tinyint))?)
+}
+
+/// A tuple of each kind of value that owns memory.
+fn tuple() -> Result<TypeTree, AllocError> {
+    let mut fields = Vec::new(Global);
+    fields.push((String::from_str(Global, "")?, TypeTree::Plain(Kind::Tinyint)))?;
+    let mut types = Vec::new(Global);
+    for kind in [Kind::Ascii, Kind::Blob, Kind::Decimal, Kind::Varchar, Kind::Varint] {
+        types.push(TypeTree::Plain(kind))?;
+    }
+    types.push(TypeTree::Custom(String::from_str(Global, "")?))?;
+    types.push(TypeTree::List(byte()?))?;
+    types.push(TypeTree::Set(byte()?))?;
+    types.push(TypeTree::Map(byte()?, byte()?))?;
+    types.push(TypeTree::Udt { keyspace: String::from_str(Global, "")?, name: String::from_str(Global, "")?, fields })?;
+    Ok(TypeTree::Tuple(types))
+}
+
+/// The bytes of a value of that tuple: of each field its length and its content, of a container its count and its items.
+fn bytes() -> std::vec::Vec<u8> {
+    let one = [0, 0, 0, 1, 7];
+    let list = [&[0, 0, 0, 1], &one[..]].concat();
+    let map = [&[0, 0, 0, 1], &one[..], &one].concat();
+    let contents: [&[u8]; 10] = [b"a", b"b", &[0, 0, 0, 1, 2], b"d", &[3], &[4], &list, &list, &map, &one];
+    let mut fields = std::vec::Vec::new();
+    for content in contents {
+        fields.extend((content.len() as u32).to_be_bytes());
+        fields.extend(content);
+    }
+    [&(fields.len() as u32).to_be_bytes()[..], &fields].concat()
+}
+
+fn read(tree: &TypeTree, bytes: &[u8]) -> Answer {
+    match read_value(Global, &Limits::DEFAULT, Some(tree), bytes) {
+        Ok(_) => Answer::Granted,
+        Err(ReadError::NoMemory) => Answer::NoMemory,
+        Err(_) => Answer::Other,
+    }
+}
+
+/// A request at least for each of six scalars and five containers.
+#[test]
+fn values() {
+    let (tree, bytes) = (tuple().unwrap(), bytes());
+    finds_just_what_is_there(11, || read(&tree, &bytes));
+}
+
+#[test]
+fn answers_to_other_versions() {
+    finds_just_what_is_there(1, || match Frame::version_error(Global, &[5, 0, 0, 7, 5, 0, 0, 0, 0]) {
+        Ok(_) => Answer::Granted,
+        Err(AllocError) => Answer::NoMemory,
+    });
+}
