@@ -1,0 +1,17 @@
+//! TCP segments out of captured packets.
+#![tactic(auto)]
+
+mod addresses;
+mod fields;
+mod ip;
+pub mod laws;
+mod link;
+mod reason;
+mod segments;
+mod tcp;
+
+pub use addresses::{Address, Endpoint};
+pub use link::LinkType;
+pub use reason::NoSegment;
+pub use segments::{Segment, SegmentHead, read_segment};
+pub use tcp::Flags;
