@@ -25,9 +25,10 @@ use Rattle.cqlp_grammar.specs.declared.grammar.Role.{Role}
 use Rattle.cqlp_grammar.specs.declared.grammar.Role.TheVariants as role
 use Rattle.cqlp_grammar.specs.Productions.{Symbol, Stream, In, In_type, Cell_due, In_cell, Extra, plain, counted, copies, where_set, group, body, announced, message, query_parts, errors, results, by_text, targets, events, specs, table_name, row_from, rows_from, or_nothing, number_in, text_in, following, fault_in}
 use Rattle.cqlp_decode.specs.Reading.{Event, Holds, Place, Given, Nothing, Waiting, Gives as GivesTypes, TakesBack, Gift, start_with, settled, held_after_all, gifts_now, serves_after, is_in_use, types_for, type_event, cell_event, types_left, cells_left, place_of_types, place_of_cells, header_step, value_step, step_at, step, Reads}
+use Rattle.cqlp_decode.proofs.Always.{after_always, map_always, yields_always}
 use Rattle.cqlp_laws.specs.Untyped.{BringsMetadata, GivenTypesAreForPagesWithoutMetadata}
-use Rattle.cqlp_laws.proofs.EventCounts.{always_then, after_always, map_always}
-use Rattle.cqlp_laws.proofs.RunsBack.{taken, yields_always, runs_split}
+use Rattle.cqlp_laws.proofs.EventCounts.{always_then}
+use Rattle.cqlp_laws.proofs.RunsBack.{taken, runs_split}
 use Rattle.cqlp_laws.proofs.PlainRuns.{always_any, closed_due, retired_free}
 
 -- ---- what is due

@@ -36,6 +36,7 @@ use Rattle.cqlp_decode.specs.Reading.{Event, Place, Gifts, settled, start_with, 
 use Rattle.cqlp_decode.specs.Reading as reading
 use Rattle.cqlp_decode.specs.Progress.{StreamState}
 use Rattle.cqlp_decode.specs.Streams.{AfterGifts, AfterBy}
+use Rattle.cqlp_decode.proofs.Always.{after_always, map_always}
 
 -- ---- readers
 
@@ -44,20 +45,6 @@ always_then P Q (Gives v) before f h = f v before h
 always_then P Q (Refuses why) before f h = tt
 always_then P Q Idles before f h = tt
 always_then P Q (Takes n next) before f h = λ c long. always_then P Q (next c) (before ++ c) f (h c long)
-
-pub after_always : {E Q : Type 0} (F : FieldValue → List ℕ → Type 0) (P : Emitted E Q → List ℕ → Type 0) (at : ℕ) (r : FieldReader) (next : FieldValue → Step E Q) (before : List ℕ)
-    → Always F r before → ((v : FieldValue) (b : List ℕ) → F v b → Always P (next v) b) → Always P (after_field at r next) before
-after_always F P at (Gives v) next before h f = f v before h
-after_always F P at (Refuses why) next before h f = tt
-after_always F P at Idles next before h f = tt
-after_always F P at (Takes n g) next before h f = λ c long. after_always F P at (g c) next (before ++ c) (h c long) f
-
-pub map_always : {E A F B : Type 0} (f : E → F) (g : A → B) (P : Emitted F B → List ℕ → Type 0) (r : Step E A) (before : List ℕ)
-    → Always (λ x b. P (record { at = x.at; event = f x.event; after = λ used. g (x.after used) }) b) r before → Always P (map_step f g r) before
-map_always f g P (Gives x) before h = h
-map_always f g P (Refuses why) before h = tt
-map_always f g P Idles before h = tt
-map_always f g P (Takes n next) before h = λ c long. map_always f g P (next c) (before ++ c) (h c long)
 
 -- this many, and the bytes taken, are at least one
 abbrev Some_taken : {A : Type 0} → (k : ℕ) → A → List ℕ → Type 0

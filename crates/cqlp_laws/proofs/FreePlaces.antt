@@ -36,7 +36,8 @@ use Rattle.cqlp_grammar.specs.Productions.{Symbol, Stream, In, In_type, Cell_due
 use Rattle.cqlp_laws.specs.Excess.{free, IsLongField, IsLongValue, IsLongInCell, IsOver, ExceedsInType, ExceedsAt, Exceeds}
 use Rattle.cqlp_decode.specs.Reading.{Event, Place, settled as settled_place, Gifts, start_with, Reads, type_event, cell_event, types_for, nodes_after, types_left, cells_left, place_of_types, place_of_cells, header_step, step_at, step}
 use Rattle.cqlp_decode.specs.Reading as reading
-use Rattle.cqlp_laws.proofs.EventCounts.{always_then, after_always, map_always}
+use Rattle.cqlp_decode.proofs.Always.{after_always, map_always}
+use Rattle.cqlp_laws.proofs.EventCounts.{always_then}
 
 always_trivial : {A F : Type 0} (r : Reader A F) (before : List ℕ) → Always (λ v b. Unit {0}) r before
 always_trivial (Gives v) before = tt

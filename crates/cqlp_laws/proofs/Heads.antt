@@ -36,9 +36,10 @@ use Rattle.cqlp_grammar.specs.declared.grammar.Role.TheVariants as role
 use Rattle.cqlp_grammar.specs.Productions.{Symbol, Stream, In, In_type, Cell_due, In_cell, Extra, plain, counted, copies, where_set, group, body, announced, message, query_parts, errors, results, by_text, targets, events, specs, table_name, row_from, rows_from, or_nothing, number_in, text_in, following, fault_in}
 use Rattle.cqlp_decode.specs.Reading.{Event, Holds, Place, Gifts, start_with, settled, types_for, type_event, cell_event, types_left, cells_left, place_of_types, place_of_cells, header_step, page_step, step_at, step, Reads}
 use Rattle.cqlp_decode.specs.Reading as stream
+use Rattle.cqlp_decode.proofs.Always.{after_always, map_always, yields_always}
 use Rattle.cqlp_laws.specs.Contents.{EndsWhatIsRead, before_bytes, before_content, before_scalar, before_text, content_in, scalar_content}
-use Rattle.cqlp_laws.proofs.EventCounts.{always_then, after_always, map_always}
-use Rattle.cqlp_laws.proofs.RunsBack.{runs_split, taken, yields_always}
+use Rattle.cqlp_laws.proofs.EventCounts.{always_then}
+use Rattle.cqlp_laws.proofs.RunsBack.{runs_split, taken}
 use Rattle.cqlp_laws.proofs.Offsets.{offset_is}
 use Rattle.cqlp_laws.proofs.PlainRuns.{always_any}
 

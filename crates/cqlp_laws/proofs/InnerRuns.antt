@@ -22,8 +22,8 @@ use Rattle.cqlp_kind.specs.Scalars.{ScalarValue, allows_size, scalar_of}
 use Rattle.cqlp_kind.specs.CellStep.{CellSymbol, Value_of, Items_of, Close_of, Content_from, CellEvent, CellPlace, is_opaque, leaf_step, close_step, counted_step, part_step, scalar_step, content_step, value_step, cell_step_at, cell_step}
 use Rattle.cqlp_value.specs.Values.{Values, ValueSpells, value_items}
 use Rattle.cqlp_value.proofs.ReadBack.{Comes, runs_come}
-use Rattle.cqlp_laws.proofs.EventCounts.{after_always}
-use Rattle.cqlp_laws.proofs.RunsBack.{yields_always, always_yields, field_back, taken}
+use Rattle.cqlp_laws.proofs.RunsBack.{always_yields, field_back, taken}
+use Rattle.cqlp_decode.proofs.Always.{after_always, yields_always}
 
 -- ---- type options
 

@@ -28,5 +28,4 @@ pub mod ReadSpelled
 pub mod PartLimits
 pub mod FramesSpelled
 pub mod WrittenFrames
-pub mod Within
 pub mod Heads

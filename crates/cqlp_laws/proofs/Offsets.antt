@@ -22,8 +22,9 @@ use Rattle.cqlp_grammar.specs.declared.grammar.Role.{Role}
 use Rattle.cqlp_grammar.specs.Productions.{Symbol, Stream, In, In_type, Cell_due, In_cell, Extra, message, following, fault_in}
 use Rattle.cqlp_decode.specs.Reading.{Event, Place, Gifts, start_with, settled, type_event, cell_event, types_for, types_left, cells_left, place_of_types, place_of_cells, header_step, step_at, step, Reads}
 use Rattle.cqlp_decode.specs.Reading as reading
-use Rattle.cqlp_laws.proofs.EventCounts.{always_then, after_always, map_always}
-use Rattle.cqlp_laws.proofs.RunsBack.{always_yields, yields_always, field_back, taken}
+use Rattle.cqlp_decode.proofs.Always.{after_always, map_always, yields_always}
+use Rattle.cqlp_laws.proofs.EventCounts.{always_then}
+use Rattle.cqlp_laws.proofs.RunsBack.{always_yields, field_back, taken}
 use Rattle.cqlp_laws.proofs.InnerRuns.{Few, Gets, type_gets}
 use Rattle.cqlp_laws.proofs.Due.{AreDue, new_due, following_new, message_due}
 

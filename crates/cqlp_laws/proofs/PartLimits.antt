@@ -25,8 +25,8 @@ use Rattle.cqlp_kind.specs.Scalars as scalar
 use Rattle.cqlp_kind.specs.CellStep.{CellSymbol, Value_of, Items_of, Close_of, Content_from, CellEvent, Leaf, Leave, Part, CellPlace, is_opaque, leaf_step, close_step, counted_step, part_step, scalar_step, content_step, value_step, cell_step_at, cell_step}
 use Rattle.cqlp_value.specs.Values.{Values, NoValue, Null_and, Empty_and, Scalar_and, Counted_and, Fields_and, values_in, values_size, type_copies, ValuesSpell, part_items, in_parts, scalar_items, values_items, AreWithin}
 use Rattle.cqlp_cell.proofs.ScalarSizes.{scalar_sized}
-use Rattle.cqlp_laws.proofs.EventCounts.{after_always}
-use Rattle.cqlp_laws.proofs.RunsBack.{yields_always, taken}
+use Rattle.cqlp_laws.proofs.RunsBack.{taken}
+use Rattle.cqlp_decode.proofs.Always.{after_always, yields_always}
 
 -- ---- fields
 

@@ -20,12 +20,13 @@ use Rattle.cqlp_grammar.specs.Events.{Frame, Holds, type_event, cell_event}
 use Rattle.cqlp_grammar.specs.Productions.{Symbol, Stream, In, In_type, Cell_due, In_cell, Extra, fault_in}
 use Rattle.cqlp_decode.specs.Reading.{Event, Place, Given, Nothing, Waiting, InUse, Used, Gifts, is_in_use, settled, retired, gifts_now, gifts_later, held_after_all, given_after, place_of_types, place_of_cells, place_in_frame, place_after, header_step, value_step, step_at, step, start_with, Reads, Verdict, Waits, Refused, Ends, Says}
 use Rattle.cqlp_decode.specs.Streams.{open_after, open_from}
+use Rattle.cqlp_decode.proofs.Always.{after_always, map_always, yields_always}
 use Rattle.cqlp_laws.specs.Untyped.{AreWholeFrames, NoneInUse}
 use Rattle.cqlp_laws.proofs.Plain.{IsLike, Both, SaidAlike, step_plain}
 use Rattle.cqlp_laws.proofs.PartsRead.{inside, never_given}
 use Rattle.cqlp_laws.proofs.FrameEdges.{IsAtStream}
-use Rattle.cqlp_laws.proofs.EventCounts.{always_then, after_always, map_always}
-use Rattle.cqlp_laws.proofs.RunsBack.{taken, yields_always}
+use Rattle.cqlp_laws.proofs.EventCounts.{always_then}
+use Rattle.cqlp_laws.proofs.RunsBack.{taken}
 
 -- From p no given types are in use where these events are said.
 abbrev pub Free : Rules → Place → List ℕ → List (ℕ × Event) → Type 0

@@ -12,15 +12,9 @@ use Rattle.cqlp_note.proofs.Readers.{Always}
 use Rattle.cqlp_note.proofs.Fields.{field_spells}
 use Rattle.cqlp_note.proofs.Runs.{same_got}
 use Rattle.cqlp_note.proofs.Yields.{Yields, yields_says, says_yields, map_said, says_map, got_inside}
+use Rattle.cqlp_decode.proofs.Always.{yields_always}
 
 -- ---- readers
-
--- what always holds, holds of the bytes that a reader takes
-pub yields_always : {A F : Type 0} (P : A → List ℕ → Type 0) (r : Reader A F) (v : A) (before b : List ℕ) → Always P r before → Yields r v b → P v (before ++ b)
-yields_always P (Gives w) v before b h y = rw (y.1, append-nil before) (rw y.0 at h)
-yields_always P (Refuses why) v before b h y = absurd y
-yields_always P Idles v before b h y = absurd y
-yields_always P (Takes n next) v before b h y = rw (y.3, ← (append_assoc before y.0 y.1)) (yields_always P (next y.0) v (before ++ y.0) y.1 (h y.0 y.2) y.4)
 
 -- and what holds of all bytes that a reader takes, always holds
 pub always_yields : {A F : Type 0} (P : A → List ℕ → Type 0) (r : Reader A F) (before : List ℕ) → ((v : A) (b : List ℕ) → Yields r v b → P v (before ++ b)) → Always P r before

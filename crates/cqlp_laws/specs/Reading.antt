@@ -4,12 +4,8 @@ use Rattle.cqlp_note.specs.declared.refusal.Reason.{Reason}
 use Rattle.cqlp_note.specs.Limits.{Rules}
 use Rattle.cqlp_note.specs.Reader.{Got, says}
 use Rattle.cqlp_note.specs.Step.{Emitted}
-use Rattle.cqlp_note.specs.Field.{content_length}
-use Rattle.cqlp_kind.specs.Scalars.{content_size}
-use Rattle.cqlp_kind.specs.CellStep.{Leaf, Part}
-use Rattle.cqlp_grammar.specs.Events.{Holds, Cell_at}
 use Rattle.cqlp_decode.specs.Reading.{Place, Event, Verdict, Refused, Gifts, Says, start_with, step}
-use Rattle.cqlp_decode.specs.Progress.{StreamState}
+use Rattle.cqlp_decode.specs.Progress.{StreamState, content_size_of}
 use Rattle.cqlp_decode.specs.Streams.{AfterGifts}
 
 -- Any bytes say some list of events and some verdict, where a part of a long content has any byte.
@@ -47,13 +43,6 @@ abbrev pub HandsOutNoMoreEventsThanBytes : Type 0
 HandsOutNoMoreEventsThanBytes =
     (gifts : Gifts) (d : StreamState) (s : List ℕ) (es : List (ℕ × Event))
     → 1 ≤ d.rules.part → AfterGifts gifts d s es → length es ≤ length s
-
--- how many bytes the content of an event has, a decimal's scale among them
-abbrev pub content_size_of : Event → ℕ
-content_size_of (Holds f v) = content_length v
-content_size_of (Cell_at row column (Leaf level v)) = content_size v
-content_size_of (Cell_at row column (Part level offset c last)) = length c
-content_size_of e = 0
 
 -- The content of an event lies in the bytes of the step that says it.
 abbrev pub LiesInItsStep : Type 0
