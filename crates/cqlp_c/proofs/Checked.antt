@@ -22,7 +22,7 @@ use Rattle.cqlp_c.specs.declared.event.CqlpEvent.{CqlpEvent}
 use Rattle.cqlp_c.specs.declared.shown.CqlpEnd.{CqlpEnd}
 use Rattle.cqlp_c.specs.declared.numbers.TheConstants as numbers
 use Rattle.cqlp_c.specs.Numbers.{code_of_error}
-use Rattle.cqlp_c.specs.Batches.{Fills, StopsBy, events_of}
+use Rattle.cqlp_c.specs.Batches.{Buffer, Fills, StopsBy, events_of}
 use Rattle.cqlp_c.specs.Checks.{ChecksBy, HasVerdict, IsDone}
 use Rattle.cqlp_c.specs.Shown.{end_of}
 
@@ -34,7 +34,7 @@ done_refused : (o : Option Refusal) (r : Refusal) → o ≡ Some r → (new : St
 done_refused None r some new stream es says = absurd cc
 done_refused (Some z) r some new stream es says = let same : z ≡ r = cc in rw same says
 
-module _ (mid new : StreamState) (stream : List ℕ) (used room : ℕ) (begins : Ptr) (b : Batch) (events : List CqlpEvent) (es : List (ℕ × Event)) (f : Fills mid new (take used stream) (drop used stream) begins es room b events) where
+module _ (mid new : StreamState) (stream : List ℕ) (used room : ℕ) (begins : Ptr) (buffer : Buffer) (b : Batch) (events : List CqlpEvent) (es : List (ℕ × Event)) (f : Fills mid new (take used stream) (drop used stream) begins buffer es room b events) where
   whole : take used stream ++ drop used stream ≡ stream
   whole = take-append-drop used stream
 

@@ -14,7 +14,7 @@ use Rattle.cqlp_laws.proofs.OneAnswer.{pending_none}
 use Rattle.cqlp_c.specs.declared.event.CqlpEvent.{CqlpEvent}
 use Rattle.cqlp_c.specs.declared.batch.Batch.{Batch}
 use Rattle.cqlp_c.specs.declared.batch.Stop.TheVariants as stop
-use Rattle.cqlp_c.specs.Batches.{Fills, Put, Puts, IsRead, IsInInput, AllInInput, OthersInInput, LastIsGathered, IsGathered, TellsAll, TellsPut, events_of, end_of}
+use Rattle.cqlp_c.specs.Batches.{Buffer, Fills, Put, Puts, IsRead, IsInInput, AllInInput, OthersInInput, LastIsGathered, IsGathered, TellsAll, TellsPut, events_of, end_of}
 
 -- ---- lists of events that were put
 
@@ -59,11 +59,11 @@ last_snoc [] p is = is
 last_snoc (q ∷ []) p is = is
 last_snoc (q ∷ r ∷ ps) p is = last_snoc (r ∷ ps) p is
 
-pub tells_snoc : (begins : Ptr) (cs : List CqlpEvent) (ps : List Put) (c : CqlpEvent) (p : Put) → TellsAll begins cs ps → TellsPut begins c p → TellsAll begins (cs ++ c ∷ []) (ps ++ p ∷ [])
-tells_snoc begins [] [] c p all is = (is, tt)
-tells_snoc begins [] (q ∷ ps) c p all is = absurd all
-tells_snoc begins (d ∷ cs) [] c p all is = absurd all
-tells_snoc begins (d ∷ cs) (q ∷ ps) c p all is = (all.0, tells_snoc begins cs ps c p all.1 is)
+pub tells_snoc : (begins : Ptr) (b : Buffer) (cs : List CqlpEvent) (ps : List Put) (c : CqlpEvent) (p : Put) → TellsAll begins b cs ps → TellsPut begins b c p → TellsAll begins b (cs ++ c ∷ []) (ps ++ p ∷ [])
+tells_snoc begins b [] [] c p all is = (is, tt)
+tells_snoc begins b [] (q ∷ ps) c p all is = absurd all
+tells_snoc begins b (d ∷ cs) [] c p all is = absurd all
+tells_snoc begins b (d ∷ cs) (q ∷ ps) c p all is = (all.0, tells_snoc begins b cs ps c p all.1 is)
 
 -- ---- a batch so far
 
@@ -85,13 +85,13 @@ pub record IsFilled (l : Rules) (d : StreamState) (s input : List ℕ) (begins :
   pub puts : List Put
   pub count : length puts ≡ length cs
   pub put : Puts l s input es 0 puts
-  pub told : TellsAll begins cs puts
+  pub told : (b : Buffer) → TellsAll begins b cs puts
   pub ends : used ≡ end_of 0 puts
   pub after : After d (s ++ take used input) (es ++ events_of puts)
   pub lie : AllInInput puts
 
 pub filled_none : (l : Rules) (d : StreamState) (s input : List ℕ) (begins : Ptr) (es : List (ℕ × Event)) → After d s es → IsFilled l d s input begins es 0 []
-filled_none l d s input begins es a = record { puts = []; count = refl; put = tt; told = tt; ends = refl; after = rw (append-nil s, append-nil es) a; lie = tt }
+filled_none l d s input begins es a = record { puts = []; count = refl; put = tt; told = λ b. tt; ends = refl; after = rw (append-nil s, append-nil es) a; lie = tt }
 
 module _ (l : Rules) (old new : StreamState) (s input : List ℕ) (begins : Ptr) (es : List (ℕ × Event)) (used : ℕ) (cs : List CqlpEvent) (f : IsFilled l old s input begins es used cs) where
   all : (s ++ take used input) ++ drop used input ≡ s ++ input
@@ -115,42 +115,42 @@ module _ (l : Rules) (old new : StreamState) (s input : List ℕ) (begins : Ptr)
     after_more : After new (s ++ take (used + taken) input) (es ++ events_of (f.puts ++ next_put ∷ []))
     after_more = rw (events_snoc f.puts next_put, ← (append_assoc es (events_of f.puts) ((at, e) ∷ []))) there
 
-    module _ (c : CqlpEvent) (tells : TellsPut begins c next_put) where
-      pub filled_more : (ds : List CqlpEvent) → ds ≡ cs ++ c ∷ [] → IsInInput next_put → IsFilled l new s input begins es (used + taken) ds
-      filled_more ds is lies = record {
+    module _ (c : CqlpEvent) where
+      pub filled_more : ((b : Buffer) → TellsPut begins b c next_put) → (ds : List CqlpEvent) → ds ≡ cs ++ c ∷ [] → IsInInput next_put → IsFilled l new s input begins es (used + taken) ds
+      filled_more tells ds is lies = record {
         puts = f.puts ++ next_put ∷ [];
         count = omega (arith, length_snoc f.puts next_put, f.count, ap length is, length-append cs (c ∷ []));
         put = put_more;
-        told = rw is (tells_snoc begins cs f.puts c next_put f.told tells);
+        told = λ b. rw is (tells_snoc begins b cs f.puts c next_put (f.told b) (tells b));
         ends = sym (end_snoc 0 f.puts next_put);
         after = after_more;
         lie = all_snoc f.puts next_put f.lie lies;
       }
 
-      pub fills_gathered : (free : StreamState) (room : ℕ) (b : Batch) (events : List CqlpEvent) → free.rules ≡ l → b ≡ record { used = used + taken; events = length cs + 1; stop = stop.Full } → take (length cs + 1) events ≡ cs ++ c ∷ [] → IsGathered next_put
-          → Fills free new s input begins es room b events
-      fills_gathered free room b events same is put gathered = record {
+      pub fills_gathered : (buffer : Buffer) → TellsPut begins buffer c next_put → (free : StreamState) (room : ℕ) (b : Batch) (events : List CqlpEvent) → free.rules ≡ l → b ≡ record { used = used + taken; events = length cs + 1; stop = stop.Full } → take (length cs + 1) events ≡ cs ++ c ∷ [] → IsGathered next_put
+          → Fills free new s input begins buffer es room b events
+      fills_gathered buffer tells free room b events same is put gathered = record {
         puts = f.puts ++ next_put ∷ [];
         count = rw is (omega (arith, length_snoc f.puts next_put, f.count));
         put = rw same put_more;
-        told = rw (is, put) (tells_snoc begins cs f.puts c next_put f.told tells);
+        told = rw (is, put) (tells_snoc begins buffer cs f.puts c next_put (f.told buffer) tells);
         after = rw is after_more;
         stops = rw is (sym (end_snoc 0 f.puts next_put), others_snoc f.puts next_put f.lie, inr (last_snoc f.puts next_put gathered));
       }
 
   -- the end of a batch
-  module _ (free : StreamState) (same : free.rules ≡ l) (room : ℕ) (b : Batch) (events : List CqlpEvent) (put : take b.events events ≡ cs) (count : b.events ≡ length cs) where
-    pub fills_full : b.used ≡ used → b.stop ≡ stop.Full → old ≡ new → length cs ≡ room → Fills free new s input begins es room b events
+  module _ (buffer : Buffer) (free : StreamState) (same : free.rules ≡ l) (room : ℕ) (b : Batch) (events : List CqlpEvent) (put : take b.events events ≡ cs) (count : b.events ≡ length cs) where
+    pub fills_full : b.used ≡ used → b.stop ≡ stop.Full → old ≡ new → length cs ≡ room → Fills free new s input begins buffer es room b events
     fills_full at is still full = record {
       puts = f.puts;
       count = f.count ∙ sym count;
       put = rw same f.put;
-      told = rw put f.told;
+      told = rw put (f.told buffer);
       after = rw (at, ← still) f.after;
       stops = rw (at, is) (f.ends, others_of_all f.puts f.lie, inl (f.count ∙ full));
     }
 
-    pub fills_all : (taken : ℕ) → b.used ≡ used + taken → used ≤ length input → b.stop ≡ stop.More → length cs < room → Leads old (s ++ take used input) (es ++ events_of f.puts) (drop used input) (steps.More taken) new → Fills free new s input begins es room b events
+    pub fills_all : (taken : ℕ) → b.used ≡ used + taken → used ≤ length input → b.stop ≡ stop.More → length cs < room → Leads old (s ++ take used input) (es ++ events_of f.puts) (drop used input) (steps.More taken) new → Fills free new s input begins buffer es room b events
     fills_all taken at within is room' leads =
         let h = rw all at leads in
         let whole : b.used ≡ length input = omega (arith, at, h.0, length-drop used input, within) in
@@ -158,7 +158,7 @@ module _ (l : Rules) (old new : StreamState) (s input : List ℕ) (begins : Ptr)
           puts = f.puts;
           count = f.count ∙ sym count;
           put = rw same f.put;
-          told = rw put f.told;
+          told = rw put (f.told buffer);
           after = rw (whole, take_all (length input) input (omega arith)) h.2;
           stops = rw is (whole, omega (arith, f.count, room'), f.lie, h.1, h.3);
         }
@@ -170,12 +170,12 @@ module _ (l : Rules) (old new : StreamState) (s input : List ℕ) (begins : Ptr)
     refuses_free (Some before) rules clear still r h = subst (λ (o : Option Refusal). Refuses o [] old (s ++ take used input) (es ++ events_of f.puts) (drop used input) r) (still before refl) h
 
     pub fills_refused : (r : Refusal) → b.used ≡ used → b.stop ≡ stop.Refused r → length cs < room → old.rules ≡ free.rules → (free.refusal ≡ None → old.refusal ≡ None) → ((z : Refusal) → free.refusal ≡ Some z → old.refusal ≡ Some z)
-        → Leads old (s ++ take used input) (es ++ events_of f.puts) (drop used input) (steps.Refused r) new → Fills free new s input begins es room b events
+        → Leads old (s ++ take used input) (es ++ events_of f.puts) (drop used input) (steps.Refused r) new → Fills free new s input begins buffer es room b events
     fills_refused r at is room' rules clear still leads = record {
       puts = f.puts;
       count = f.count ∙ sym count;
       put = rw same f.put;
-      told = rw put f.told;
+      told = rw put (f.told buffer);
       after = rw at leads.1;
       stops = rw (at, is) (f.ends, inl (omega (arith, f.count, room')), f.lie, leads.0, refuses_free free.refusal rules clear still r leads.2);
     }

@@ -1,5 +1,5 @@
 -- Items whose events a sink put into the array.
-use Rattle.std.proofs.Common.{◌≡◌, ℕ, ◌+◌, ◌≤◌, List, [], ◌∷◌, ◌++◌, ◌-◌, length, take, drop, drop-drop, refl, sym, ap, subst, ◌∙◌, append_assoc, arith}
+use Rattle.std.proofs.Common.{◌≡◌, ℕ, ◌+◌, ◌≤◌, List, [], ◌∷◌, ◌++◌, ◌-◌, length, take, drop, drop-drop, refl, ap, subst, ◌∙◌, append_assoc, arith}
 use Rattle.std.specs.Prelude.{Option, Some, None}
 use Rattle.std.specs.Ptr.{Ptr, as_ptr, block_ptr, null_ptr}
 use denote.RawPtr.{◌+ₚ◌}
@@ -17,21 +17,21 @@ use Rattle.cqlp_decode.specs.Streams.{AfterBy}
 use Rattle.cqlp_decode.specs.Items.{TakesItem}
 use Rattle.cqlp_decode.specs.Cells.{Item, TakesItems, bytes_of}
 use Rattle.cqlp_decode.proofs.Leads.{hands_stands}
-use Rattle.cqlp_laws.specs.Reading.{content_size_of}
+use Rattle.cqlp_decode.specs.Progress.{content_size_of}
 use Rattle.cqlp_laws.specs.Contents.{before_content, content_in}
 use Rattle.cqlp_laws.proofs.Heads.{ends_what_is_read}
-use Rattle.cqlp_laws.proofs.Within.{content_within}
+use Rattle.cqlp_decode.proofs.Within.{content_within}
 use Rattle.cqlp_c.specs.declared.event.CqlpEvent.{CqlpEvent}
 use Rattle.cqlp_c.specs.declared.slots.Origin.{Origin}
 use Rattle.cqlp_c.specs.Events.{content_span}
-use Rattle.cqlp_c.specs.Batches.{IsInInput, LiesBy, Put, events_of}
+use Rattle.cqlp_c.specs.Batches.{Buffer, IsInInput, LiesBy, Put, events_of}
 use Rattle.cqlp_c.specs.Slots.{IsPlaced, TellsIn, TellsItems}
 use Rattle.cqlp_c.proofs.Fills.{IsFilled, LeadsTo, filled_more, read_more}
 use Rattle.cqlp_c.proofs.Spans.{content_spanned}
 
 -- ---- what lies in the array is no more than what lies in the bytes
 
-span_size : (e : Event) → content_span e ≤ content_size_of e
+pub span_size : (e : Event) → content_span e ≤ content_size_of e
 span_size (Frame h) = omega arith
 span_size (Holds f (field.Byte n)) = omega arith
 span_size (Holds f (field.Short n)) = omega arith
@@ -83,12 +83,12 @@ further (block_ptr b o) m n = ap (block_ptr b) (omega arith)
 further null_ptr m n = refl
 
 -- A content that is read last lies where its offset in the stream says. The bytes from `from` on were handed out.
-placed : (o : Origin) (s input : List ℕ) (begins : Ptr) (from : ℕ) → o.offset ≡ length s + from → length o.input.now ≡ length input - from → as_ptr o.input ≡ begins +ₚ from
+placed : (o : Origin) (s input : List ℕ) (begins : Ptr) (b : Buffer) (from : ℕ) → o.offset ≡ length s + from → length o.input.now ≡ length input - from → as_ptr o.input ≡ begins +ₚ from
     → (p : Put) (c : Option (List ℕ)) → p.end ≤ length input → from ≤ p.from → p.from ≤ p.end
     → ((content : List ℕ) → c ≡ Some content → (before : List ℕ) × (s ++ take p.end input ≡ before ++ content) × (length before ≡ p.at + before_content p.event))
-    → ((content : List ℕ) → c ≡ Some content → length content ≤ p.end - p.from) → IsInInput p → (place : Ptr) → IsPlaced o p.at p.event c place → LiesBy begins p c place
-placed o s input begins from base long there p None within later on last short lies place is = is
-placed o s input begins from base long there p (Some content) within later on last short lies place is =
+    → ((content : List ℕ) → c ≡ Some content → length content ≤ p.end - p.from) → IsInInput p → (place : Ptr) → IsPlaced o p.at p.event c place → LiesBy begins b p c place
+placed o s input begins b from base long there p None within later on last short lies place is = is
+placed o s input begins b from base long there p (Some content) within later on last short lies place is =
     let read = last content refl in
     let size = short content refl in
     let all : p.at + before_content p.event + length content ≡ length s + p.end = omega (arith, ap length read.1, read.2, length-append s (take p.end input), length-append read.0 content, length-take-le p.end input within) in
@@ -114,11 +114,11 @@ module _ (l : Rules) (s input : List ℕ) (begins : Ptr) (es : List (ℕ × Even
         let leads : LeadsTo (s ++ take used input) (es ++ events_of f.puts) (drop used input) x.at x.used x.event new = (t.3.within, t.0 ∙ none, t.3.begun, hands_stands old new (drop used input) (s ++ take used input) (es ++ events_of f.puts) [] x.at x.used x.event t.3 (t.0 ∙ none) t.1 after) in
         let put : Put = record { at = x.at; event = x.event; from = used; end = used + x.used } in
         let read = read_more l old new s input begins es used cs f x.at x.used x.event (t.1 ∙ rules) within leads in
-        let at : LiesBy begins put (content_in x.event) tells.0 =
-        placed o s input begins from base long there put (content_in x.event) (omega (arith, t.3.within, within, length-drop used input)) later (omega arith)
+        let at : (b : Buffer) → LiesBy begins b put (content_in x.event) tells.0 = λ b.
+        placed o s input begins b from base long there put (content_in x.event) (omega (arith, t.3.within, within, length-drop used input)) later (omega arith)
         (λ content is. ends_what_is_read l [] (s ++ take (used + x.used) input) (es ++ events_of f.puts) x.at x.event read.0 content read.1 is)
         (λ content is. omega (arith, lies, content_spanned x.event content is)) (omega (arith, lies)) tells.0 tells.1 in
-        filled_more l old new s input begins es used cs f x.at x.used x.event (t.1 ∙ rules) within leads c (tells.0, at, tells.2) (cs ++ c ∷ []) refl (omega (arith, lies))
+        filled_more l old new s input begins es used cs f x.at x.used x.event (t.1 ∙ rules) within leads c (λ b. (tells.0, at b, tells.2)) (cs ++ c ∷ []) refl (omega (arith, lies))
 
   pub filled_items : (old new : StreamState) (used : ℕ) (cs ds : List CqlpEvent) (xs : List Item) → IsFilled l old s input begins es used cs → old.rules ≡ l → IsPending old.pending [] → used ≤ length input → from ≤ used → TakesItems old (drop used input) xs new → TellsItems o ds xs
       → IsFilled l new s input begins es (used + bytes_of xs) (cs ++ ds)

@@ -3,6 +3,7 @@ pub mod Cored
 pub mod Cores
 pub mod Crosses
 pub mod Fills
+pub mod Gathering
 pub mod Handed
 pub mod Made
 pub mod Nexted

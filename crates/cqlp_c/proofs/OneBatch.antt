@@ -16,33 +16,39 @@ use Rattle.cqlp_c.specs.declared.batch.Batch.{Batch}
 use Rattle.cqlp_c.specs.declared.batch.Stop.{Stop}
 use Rattle.cqlp_c.specs.declared.batch.Stop.TheVariants as stop
 use Rattle.cqlp_c.specs.declared.event.CqlpEvent.{CqlpEvent}
-use Rattle.cqlp_c.specs.Events.{told_at}
-use Rattle.cqlp_c.specs.Batches.{AllInInput, Fills, IsInInput, LastIsGathered, LiesBy, MayRefuse, OthersInInput, Put, Puts, StopsBy, TellsAll, TellsPut, end_of, events_of}
+use Rattle.cqlp_c.specs.Events.{before_gathered, told_at}
+use Rattle.cqlp_c.specs.Batches.{AllInInput, Buffer, Fills, IsGathered, IsInInput, LastIsGathered, LiesBy, MayRefuse, OthersInInput, Put, Puts, StopsBy, TellsAll, TellsPut, end_of, events_of}
 use Rattle.cqlp_c.specs.Handle.{PutsInto}
 use Rattle.cqlp_c.specs.Laws.{AreOneAnswer, AreSame, unplaced}
 use Rattle.cqlp_c.proofs.Fills.{others_of_all}
 
 -- ---- events
 
-placed_once : (begins : Ptr) (p : Put) (o : Option (List ℕ)) → IsInInput p → (x y : Ptr) → LiesBy begins p o x → LiesBy begins p o y → y ≡ x
-placed_once begins p None lies x y a b = b ∙ sym a
-placed_once begins p (Some content) lies x y a b = b.0 lies ∙ sym (a.0 lies)
+module _ (begins : Ptr) (buffer buffer' : Buffer) where
+  placed_once : (p : Put) (o : Option (List ℕ)) → IsInInput p → (x y : Ptr) → LiesBy begins buffer p o x → LiesBy begins buffer' p o y → y ≡ x
+  placed_once p None lies x y a b = b ∙ sym a
+  placed_once p (Some content) lies x y a b = b.0 lies ∙ sym (a.0 lies)
 
-tells_once : (begins : Ptr) (c d : CqlpEvent) (p : Put) → TellsPut begins c p → TellsPut begins d p → (unplaced d ≡ unplaced c) × (IsInInput p → d ≡ c)
-tells_once begins c d p x y = (
-  ap unplaced y.2 ∙ sym (ap unplaced x.2),
-  λ lies. y.2 ∙ ap (told_at p.at p.event) (placed_once begins p (content_in p.event) lies x.0 y.0 x.1 y.1) ∙ sym x.2,
-)
+  -- where a content begins that was gathered
+  gathered_once : (p : Put) (o : Option (List ℕ)) → buffer'.at ≡ buffer.at → IsGathered p → before_gathered p.event ≡ 0 → (x y : Ptr) → LiesBy begins buffer p o x → LiesBy begins buffer' p o y → y ≡ x
+  gathered_once p None same lies first x y a b = b ∙ sym a
+  gathered_once p (Some content) same lies first x y a b = (b.1 lies).there first ∙ same ∙ sym ((a.1 lies).there first)
 
-tells_all_once : (begins : Ptr) (cs ds : List CqlpEvent) (ps : List Put) → TellsAll begins cs ps → TellsAll begins ds ps → AreSame ps cs ds
-tells_all_once begins [] [] [] x y = tt
-tells_all_once begins [] (d ∷ ds) [] x y = absurd y
-tells_all_once begins (c ∷ cs) ds [] x y = absurd x
-tells_all_once begins [] ds (p ∷ ps) x y = absurd x
-tells_all_once begins (c ∷ cs) [] (p ∷ ps) x y = absurd y
-tells_all_once begins (c ∷ cs) (d ∷ ds) (p ∷ ps) x y =
-    let head = tells_once begins c d p x.0 y.0 in
-    (head.0, head.1, tells_all_once begins cs ds ps x.1 y.1)
+  tells_once : (c d : CqlpEvent) (p : Put) → TellsPut begins buffer c p → TellsPut begins buffer' d p
+      → (unplaced d ≡ unplaced c) × (IsInInput p → d ≡ c) × (buffer'.at ≡ buffer.at → IsGathered p → before_gathered p.event ≡ 0 → d ≡ c)
+  tells_once c d p x y = (
+    ap unplaced y.2 ∙ sym (ap unplaced x.2),
+    λ lies. y.2 ∙ ap (told_at p.at p.event) (placed_once p (content_in p.event) lies x.0 y.0 x.1 y.1) ∙ sym x.2,
+    λ same lies first. y.2 ∙ ap (told_at p.at p.event) (gathered_once p (content_in p.event) same lies first x.0 y.0 x.1 y.1) ∙ sym x.2,
+  )
+
+  tells_all_once : (cs ds : List CqlpEvent) (ps : List Put) → TellsAll begins buffer cs ps → TellsAll begins buffer' ds ps → AreSame buffer.at buffer'.at ps cs ds
+  tells_all_once [] [] [] x y = tt
+  tells_all_once [] (d ∷ ds) [] x y = absurd y
+  tells_all_once (c ∷ cs) ds [] x y = absurd x
+  tells_all_once [] ds (p ∷ ps) x y = absurd x
+  tells_all_once (c ∷ cs) [] (p ∷ ps) x y = absurd y
+  tells_all_once (c ∷ cs) (d ∷ ds) (p ∷ ps) x y = let head = tells_once c d p x.0 y.0 in (head.0, head.1, head.2, tells_all_once cs ds ps x.1 y.1)
 
 -- ---- what was put
 
@@ -165,18 +171,18 @@ module _ (old : StreamState) (none : old.refusal ≡ None) (s input : List ℕ) 
 same_batch : (b b' : Batch) → b'.used ≡ b.used → b'.events ≡ b.events → b'.stop ≡ b.stop → b' ≡ b
 same_batch b b' used events stops = λ i. record { used = used i; events = events i; stop = stops i }
 
-module _ (old new new' : StreamState) (s input : List ℕ) (begins : Ptr) (es : List (ℕ × Event)) (b b' : Batch) (before after after' : List CqlpEvent) (a : After old s es) (x : PutsInto old new input begins b before after) (y : PutsInto old new' input begins b' before after') where
-  f : Fills old new s input begins es (length before) b after
+module _ (old new new' : StreamState) (s input : List ℕ) (begins : Ptr) (buffer buffer' : Buffer) (es : List (ℕ × Event)) (b b' : Batch) (before after after' : List CqlpEvent) (a : After old s es) (x : PutsInto old new input begins buffer b before after) (y : PutsInto old new' input begins buffer' b' before after') where
+  f : Fills old new s input begins buffer es (length before) b after
   f = x.fills s es a
 
-  g : Fills old new' s input begins es (length before) b' after'
+  g : Fills old new' s input begins buffer' es (length before) b' after'
   g = y.fills s es a
 
-  answer : b' ≡ b → g.puts ≡ f.puts → OthersInInput f.puts → AreOneAnswer new new' s input es b b' after after'
+  answer : b' ≡ b → g.puts ≡ f.puts → OthersInInput f.puts → AreOneAnswer new new' s input buffer buffer' es b b' after after'
   answer batch puts lie = record {
     batch = batch;
     puts = f.puts;
-    events = tells_all_once begins (take b.events after) (take b.events after') f.puts f.told (subst (λ (z : Batch). TellsAll begins (take z.events after') f.puts) batch (subst (λ (z : List Put). TellsAll begins (take b'.events after') z) puts g.told));
+    events = tells_all_once begins buffer buffer' (take b.events after) (take b.events after') f.puts f.told (subst (λ (z : Batch). TellsAll begins buffer' (take z.events after') f.puts) batch (subst (λ (z : List Put). TellsAll begins buffer' (take b'.events after') z) puts g.told));
     lie = lie;
     others = subst (λ (z : Batch). drop z.events after' ≡ drop z.events before) batch y.others ∙ sym x.others;
     stands = f.after;
@@ -190,7 +196,7 @@ module _ (old new new' : StreamState) (s input : List ℕ) (begins : Ptr) (es : 
   few' : length g.puts ≤ length before
   few' = omega (arith, g.count, y.within.1)
 
-  unrefused : old.refusal ≡ None → AreOneAnswer new new' s input es b b' after after'
+  unrefused : old.refusal ≡ None → AreOneAnswer new new' s input buffer buffer' es b b' after after'
   unrefused none = elim (cases_lt (length f.puts) (length g.puts)) [
     | inl lt ↦ absurd (fewer_not old none s input es (length before) new new' b.used b'.used f.puts g.puts b.stop b'.stop x.rules few' f.put g.put lt f.stops g.stops)
     | inr le ↦ elim (cases_lt (length g.puts) (length f.puts)) [
@@ -204,7 +210,7 @@ module _ (old new new' : StreamState) (s input : List ℕ) (begins : Ptr) (es : 
     ]
   ]
 
-  refused : (r : Refusal) → old.refusal ≡ Some r → AreOneAnswer new new' s input es b b' after after'
+  refused : (r : Refusal) → old.refusal ≡ Some r → AreOneAnswer new new' s input buffer buffer' es b b' after after'
   refused r is =
       let p = x.refused r is in
       let q = y.refused r is in
@@ -213,9 +219,9 @@ module _ (old new new' : StreamState) (s input : List ℕ) (begins : Ptr) (es : 
       let two = nil_from_length g.puts (g.count ∙ ap (λ (z : Batch). z.events) q.0) in
       answer batch (two ∙ sym one) (subst OthersInInput (sym one) tt)
 
-  by_refusal : (o : Option Refusal) → old.refusal ≡ o → AreOneAnswer new new' s input es b b' after after'
+  by_refusal : (o : Option Refusal) → old.refusal ≡ o → AreOneAnswer new new' s input buffer buffer' es b b' after after'
   by_refusal None is = unrefused is
   by_refusal (Some r) is = refused r is
 
-  pub one_answer : AreOneAnswer new new' s input es b b' after after'
+  pub one_answer : AreOneAnswer new new' s input buffer buffer' es b b' after after'
   one_answer = by_refusal old.refusal refl

@@ -10,7 +10,7 @@ use Rattle.cqlp_laws.specs.Contents.{content_in}
 use Rattle.cqlp_c.specs.declared.event.CqlpEvent.{CqlpEvent}
 use Rattle.cqlp_c.specs.Events.{Tells, bytes_in, content_of, content_span, numbers_of, span_in, with_content}
 
-span_event : (at : ℕ) (e : Event) (p : Ptr) → span_in (with_content (numbers_of at e) (content_of e) p) ≡ content_span e
+pub span_event : (at : ℕ) (e : Event) (p : Ptr) → span_in (with_content (numbers_of at e) (content_of e) p) ≡ content_span e
 span_event at (Frame h) p = refl
 span_event at (Holds f (field.Byte n)) p = refl
 span_event at (Holds f (field.Short n)) p = refl

@@ -1,5 +1,5 @@
 -- Batches of events, as calls put them into an array.
-use Rattle.std.specs.Prelude.{◌≡◌, ℕ, ◌+◌, ◌-◌, ◌*◌, ◌<◌, ◌≤◌, ◌++◌, List, [], ◌∷◌, length, take, Option, Some, None, ◌⊎◌, ⊤}
+use Rattle.std.specs.Prelude.{◌≡◌, ℕ, ◌+◌, ◌-◌, ◌*◌, ◌<◌, ◌≤◌, ◌++◌, List, [], ◌∷◌, length, take, drop, Option, Some, None, ◌⊎◌, ⊤}
 use Rattle.std.specs.Borrow.{Bor}
 use Rattle.std.specs.Ptr.{Ptr, as_ptr, null_ptr}
 use denote.RawPtr.{◌+ₚ◌}
@@ -8,14 +8,14 @@ use Rattle.cqlp_note.specs.Limits.{Rules}
 use Rattle.cqlp_grammar.specs.declared.event.Finish.{Finish}
 use Rattle.cqlp_grammar.specs.declared.event.Finish.TheVariants as finish
 use Rattle.cqlp_decode.specs.Reading.{Event, Place, start, Reads, Says, Waits}
-use Rattle.cqlp_decode.specs.Progress.{StreamState, ends_due}
-use Rattle.cqlp_decode.specs.Streams.{After, Refuses}
+use Rattle.cqlp_decode.specs.Progress.{StreamState, IsContent, ends_due}
+use Rattle.cqlp_decode.specs.Streams.{After, Decoding, Refuses, buffer_of, state}
 use Rattle.cqlp_laws.specs.Contents.{content_in}
 use Rattle.cqlp_c.specs.declared.event.CqlpEvent.{CqlpEvent}
 use Rattle.cqlp_c.specs.declared.batch.Batch.{Batch}
 use Rattle.cqlp_c.specs.declared.batch.Stop.{Stop}
 use Rattle.cqlp_c.specs.declared.batch.Stop.TheVariants as stop
-use Rattle.cqlp_c.specs.Events.{IsStart, content_span, told_at}
+use Rattle.cqlp_c.specs.Events.{IsStart, before_gathered, content_span, told_at}
 
 -- An event that was put, at this offset of the stream. Its step used the bytes of the input from `from` to `end`.
 pub record Put : Type 0 where
@@ -55,22 +55,52 @@ IsInInput p = p.from + content_span p.event ≤ p.end
 abbrev pub IsGathered : Put → Type 0
 IsGathered p = p.end < p.from + content_span p.event
 
+-- The memory in which a decoder holds a content: where it begins, and the bytes that lie there.
+pub record Buffer : Type 0 where
+  pub at : Ptr
+  pub bytes : List ℕ
+
+abbrev pub buffer_in : Decoding → Buffer
+buffer_in d = record { at = buffer_of d; bytes = (state d).held }
+
+-- A content that was gathered is what the decoder holds, and lies where its memory begins. Of a decimal the scale lies
+-- there, with the content after it, to which a reference points.
+pub record LiesInBuffer (b : Buffer) (e : Event) (content : List ℕ) (place : Ptr) : Type 0 where
+  pub is : drop (before_gathered e) b.bytes ≡ content
+  pub there : before_gathered e ≡ 0 → place ≡ b.at
+  pub points : 0 < before_gathered e → IsStart (Some content) place
+
 -- Where the content lies of an event that was put, out of an input that begins there: one that is whole in the bytes that
--- its step used is the last of them; to one that was gathered a reference points. It is null where there is none.
-abbrev pub LiesBy : (input : Ptr) → Put → Option (List ℕ) → Ptr → Type 0
-LiesBy input p None place = place ≡ null_ptr
-LiesBy input p (Some content) place =
-    (IsInInput p → place ≡ input +ₚ (p.end - length content)) × (IsGathered p → IsStart (Some content) place)
+-- its step used is the last of them; one that was gathered lies in the decoder's memory. It is null where there is none.
+abbrev pub LiesBy : (input : Ptr) → Buffer → Put → Option (List ℕ) → Ptr → Type 0
+LiesBy input b p None place = place ≡ null_ptr
+LiesBy input b p (Some content) place =
+    (IsInInput p → place ≡ input +ₚ (p.end - length content)) × (IsGathered p → LiesInBuffer b p.event content place)
 
 -- C is told of this event, and where its content lies.
-abbrev pub TellsPut : (input : Ptr) → CqlpEvent → Put → Type 0
-TellsPut input c p = (place : Ptr) × LiesBy input p (content_in p.event) place × (c ≡ told_at p.at p.event place)
+abbrev pub TellsPut : (input : Ptr) → Buffer → CqlpEvent → Put → Type 0
+TellsPut input b c p = (place : Ptr) × LiesBy input b p (content_in p.event) place × (c ≡ told_at p.at p.event place)
 
 -- these are the events, as C sees them, one for one
-abbrev pub TellsAll : (input : Ptr) → List CqlpEvent → List Put → Type 0
-TellsAll input [] [] = ⊤
-TellsAll input (c ∷ cs) (p ∷ ps) = TellsPut input c p × TellsAll input cs ps
-TellsAll input cs ps = ⊥
+abbrev pub TellsAll : (input : Ptr) → Buffer → List CqlpEvent → List Put → Type 0
+TellsAll input b [] [] = ⊤
+TellsAll input b (c ∷ cs) (p ∷ ps) = TellsPut input b c p × TellsAll input b cs ps
+TellsAll input b cs ps = ⊥
+
+-- The same of a step, before the address of a gathered content is put: a reference to the content points there.
+abbrev pub LiesByStep : (input : Ptr) → Put → Option (List ℕ) → Ptr → Type 0
+LiesByStep input p None place = place ≡ null_ptr
+LiesByStep input p (Some content) place =
+    (IsInInput p → place ≡ input +ₚ (p.end - length content)) × (IsGathered p → IsStart (Some content) place)
+
+abbrev pub TellsStep : (input : Ptr) → CqlpEvent → Put → Type 0
+TellsStep input c p = (place : Ptr) × LiesByStep input p (content_in p.event) place × (c ≡ told_at p.at p.event place)
+
+-- an event of a step that lends a content in the decoder is put with where it lies there
+abbrev pub PutsGathered : Buffer → (before after : CqlpEvent) → Type 0
+PutsGathered b before after =
+    (input : Ptr) (p : Put) → p.from ≤ p.end → IsGathered p → IsContent p.event b.bytes → TellsStep input before p
+    → TellsPut input b after p
 
 abbrev pub AllInInput : List Put → Type 0
 AllInInput [] = ⊤
@@ -107,14 +137,14 @@ StopsBy old new s input es room used puts stop.Full =
     (used ≡ end_of 0 puts) × OthersInInput puts × ((length puts ≡ room) ⊎ LastIsGathered puts)
 
 -- What a batch is, after the bytes s and the events es: this many bytes of the input were used, and the events that
--- the reading says of them are in the array. No content but the last lies in the decoder; the others lie in the input,
--- which begins at `begins`.
-pub record Fills (old new : StreamState) (s input : List ℕ) (begins : Ptr) (es : List (ℕ × Event)) (room : ℕ)
-    (b : Batch) (events : List CqlpEvent) : Type 0 where
+-- the reading says of them are in the array. No content but the last lies in the decoder, in this memory of it; the others
+-- lie in the input, which begins at `begins`.
+pub record Fills (old new : StreamState) (s input : List ℕ) (begins : Ptr) (buffer : Buffer) (es : List (ℕ × Event))
+    (room : ℕ) (b : Batch) (events : List CqlpEvent) : Type 0 where
   pub puts : List Put
   pub count : length puts ≡ b.events
   pub put : Puts old.rules s input es 0 puts
-  pub told : TellsAll begins (take b.events events) puts
+  pub told : TellsAll begins buffer (take b.events events) puts
   pub after : After new (s ++ take b.used input) (es ++ events_of puts)
   pub stops : StopsBy old new s input es room b.used puts b.stop
 
@@ -123,10 +153,10 @@ abbrev pub BeginsAt : Bor (List ℕ) → Ptr → Type 0
 BeginsAt bytes begins = ¬ (begins ≡ null_ptr) × (0 < length bytes.now → begins ≡ as_ptr bytes)
 
 -- the same of any stream that led here
-abbrev pub FillsOn : (old new : StreamState) → (input : List ℕ) → (begins : Ptr) → (room : ℕ) → Batch
+abbrev pub FillsOn : (old new : StreamState) → (input : List ℕ) → (begins : Ptr) → Buffer → (room : ℕ) → Batch
     → List CqlpEvent → Type 0
-FillsOn old new input begins room b events =
-    (s : List ℕ) (es : List (ℕ × Event)) → After old s es → Fills old new s input begins es room b events
+FillsOn old new input begins buffer room b events =
+    (s : List ℕ) (es : List (ℕ × Event)) → After old s es → Fills old new s input begins buffer es room b events
 
 -- after a refusal a batch says it again, also where there is no room, and changes nothing
 abbrev pub RepeatsRefusal : Refusal → (old new : StreamState) → Batch → Type 0

@@ -1,5 +1,5 @@
 -- Events, as C sees them.
-use Rattle.std.specs.Prelude.{◌≡◌, ℕ, zero, suc, ◌+◌, ◌++◌, pos, List, [], ◌∷◌, length, Option, Some, None, ◌==◌, ◌&&◌}
+use Rattle.std.specs.Prelude.{◌≡◌, ℕ, zero, suc, ◌+◌, ◌-◌, ◌++◌, pos, Bool, List, [], ◌∷◌, length, Option, Some, None, ◌==◌, ◌&&◌}
 use Rattle.std.specs.Prelude.{if◌then◌else◌}
 use Rattle.std.specs.Borrow.{Bor}
 use Rattle.std.specs.Option.{option_map}
@@ -181,5 +181,12 @@ abbrev pub content_span : Event → ℕ
 content_span (Cell_at row column (cell.Leaf level (scalar.Decimal scale b))) = length b + 4
 content_span e = length (content_of e)
 
+-- how many of them come before the content
+abbrev pub before_gathered : Event → ℕ
+before_gathered e = content_span e - length (content_of e)
+
+abbrev pub is_decimal : CqlpEvent → Bool
+is_decimal c = (c.tag == numbers.TAG_LEAF) && (c.kind == numbers.KIND_DECIMAL)
+
 abbrev pub span_in : CqlpEvent → ℕ
-span_in c = if (c.tag == numbers.TAG_LEAF) && (c.kind == numbers.KIND_DECIMAL) then c.length + 4 else c.length
+span_in c = if is_decimal c then c.length + 4 else c.length

@@ -20,7 +20,7 @@ use Rattle.cqlp_c.specs.declared.shown.CqlpEnd.{CqlpEnd}
 use Rattle.cqlp_c.specs.declared.shown.CqlpHeld.{CqlpHeld}
 use Rattle.cqlp_c.specs.declared.numbers.TheConstants as numbers
 use Rattle.cqlp_c.specs.Numbers.{code_of_limit}
-use Rattle.cqlp_c.specs.Batches.{BeginsAt, FillsOn, GoesOn, RepeatsRefusal}
+use Rattle.cqlp_c.specs.Batches.{BeginsAt, Buffer, FillsOn, GoesOn, RepeatsRefusal, buffer_in}
 use Rattle.cqlp_c.specs.Shown.{batch_of, end_of, held_of}
 
 -- F of the value that is there
@@ -52,9 +52,9 @@ Makes l (Some d) code new = (code ≡ numbers.IN_USE) × (new ≡ Some d)
 
 -- What a call puts into the array, and how it leaves a decoder. The members of the array after the events stay as they
 -- were.
-pub record PutsInto (old new : StreamState) (input : List ℕ) (begins : Ptr) (b : Batch) (before after : List CqlpEvent)
-    : Type 0 where
-  pub fills : FillsOn old new input begins (length before) b after
+pub record PutsInto (old new : StreamState) (input : List ℕ) (begins : Ptr) (buffer : Buffer) (b : Batch)
+    (before after : List CqlpEvent) : Type 0 where
+  pub fills : FillsOn old new input begins buffer (length before) b after
   pub refused : (r : Refusal) → old.refusal ≡ Some r → RepeatsRefusal r old new b
   pub goes_on : GoesOn old new (length before) b
   pub within : (b.used ≤ length input) × (b.events ≤ length before)
@@ -68,7 +68,8 @@ Nexts None input code new before after was told =
     (code ≡ numbers.NO_DECODER) × (new ≡ None) × (after ≡ before) × (told ≡ was)
 Nexts (Some d) input code new before after was told =
     (code ≡ numbers.DONE) × (e : Decoding) × (new ≡ Some e) × (b : Batch) × (told ≡ batch_of b)
-    × (begins : Ptr) × BeginsAt input begins × PutsInto (state d) (state e) input.now begins b before after
+    × (begins : Ptr) × BeginsAt input begins
+    × PutsInto (state d) (state e) input.now begins (buffer_in e) b before after
 
 -- ---- finish and held
 

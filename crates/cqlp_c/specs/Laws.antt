@@ -13,10 +13,10 @@ use Rattle.cqlp_session.specs.Signal.{signal_of}
 use Rattle.cqlp_c.specs.declared.batch.Batch.{Batch}
 use Rattle.cqlp_c.specs.declared.event.CqlpEvent.{CqlpEvent}
 use Rattle.cqlp_c.specs.declared.numbers.TheConstants as numbers
-use Rattle.cqlp_c.specs.Batches.{IsInInput, IsRead, OthersInInput, Put, events_of}
+use Rattle.cqlp_c.specs.Batches.{Buffer, IsGathered, IsInInput, IsRead, OthersInInput, Put, events_of}
 use Rattle.cqlp_c.specs.Checks.{HasVerdict}
 use Rattle.cqlp_c.specs.Clients.{Starts}
-use Rattle.cqlp_c.specs.Events.{of_frame}
+use Rattle.cqlp_c.specs.Events.{before_gathered, of_frame}
 use Rattle.cqlp_c.specs.Handle.{PutsInto}
 use Rattle.cqlp_c.specs.Talked.{is_stream, signal_in}
 
@@ -24,20 +24,23 @@ use Rattle.cqlp_c.specs.Talked.{is_stream, signal_in}
 abbrev pub unplaced : CqlpEvent → CqlpEvent
 unplaced c = record c { content = null_ptr }
 
--- Each of these events was put twice: what C is told is the same, and where the content lies too, if it lies in the input.
-abbrev pub AreSame : List Put → (events events' : List CqlpEvent) → Type 0
-AreSame [] [] [] = ⊤
-AreSame (p ∷ ps) (c ∷ cs) (d ∷ ds) = (unplaced d ≡ unplaced c) × (IsInInput p → d ≡ c) × AreSame ps cs ds
-AreSame ps cs ds = ⊥
+-- Each of these events was put twice: what C is told is the same, and where the content lies too, if it lies in the input,
+-- or at the beginning of a decoder's memory, and that is one place.
+abbrev pub AreSame : (buffer buffer' : Ptr) → List Put → (events events' : List CqlpEvent) → Type 0
+AreSame buffer buffer' [] [] [] = ⊤
+AreSame buffer buffer' (p ∷ ps) (c ∷ cs) (d ∷ ds) =
+    (unplaced d ≡ unplaced c) × (IsInInput p → d ≡ c) × (buffer' ≡ buffer → IsGathered p → before_gathered p.event ≡ 0 → d ≡ c)
+    × AreSame buffer buffer' ps cs ds
+AreSame buffer buffer' ps cs ds = ⊥
 
 -- Two calls made one answer: the same batch, the same events, and the others as they were. The contents of all events but
 -- the last lie in the input, each in one place there, and so does that of the last, if it was not gathered. The decoders
 -- are left after the same bytes and events, so that what they answer next is one too.
-pub record AreOneAnswer (new new' : StreamState) (s input : List ℕ) (es : List (ℕ × Event)) (b b' : Batch)
-    (after after' : List CqlpEvent) : Type 0 where
+pub record AreOneAnswer (new new' : StreamState) (s input : List ℕ) (buffer buffer' : Buffer) (es : List (ℕ × Event))
+    (b b' : Batch) (after after' : List CqlpEvent) : Type 0 where
   pub batch : b' ≡ b
   pub puts : List Put
-  pub events : AreSame puts (take b.events after) (take b.events after')
+  pub events : AreSame buffer.at buffer'.at puts (take b.events after) (take b.events after')
   pub lie : OthersInInput puts
   pub others : drop b.events after' ≡ drop b.events after
   pub stands : After new (s ++ take b.used input) (es ++ events_of puts)
@@ -47,10 +50,11 @@ pub record AreOneAnswer (new new' : StreamState) (s input : List ℕ) (es : List
 -- After the same bytes and events, over the same input and into the same array, there is one answer.
 abbrev pub IsOneAnswerOfNext : Type 0
 IsOneAnswerOfNext =
-    (old new new' : StreamState) (s input : List ℕ) (begins : Ptr) (es : List (ℕ × Event)) (b b' : Batch)
-    (before after after' : List CqlpEvent)
-    → After old s es → PutsInto old new input begins b before after → PutsInto old new' input begins b' before after'
-    → AreOneAnswer new new' s input es b b' after after'
+    (old new new' : StreamState) (s input : List ℕ) (begins : Ptr) (buffer buffer' : Buffer) (es : List (ℕ × Event))
+    (b b' : Batch) (before after after' : List CqlpEvent)
+    → After old s es → PutsInto old new input begins buffer b before after
+    → PutsInto old new' input begins buffer' b' before after'
+    → AreOneAnswer new new' s input buffer buffer' es b b' after after'
 
 -- The bytes of the input where a content lies that was put are the content.
 abbrev pub ContentsLieThere : Type 0

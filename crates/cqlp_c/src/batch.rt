@@ -7,7 +7,8 @@ ghost use Rattle.cqlp_grammar.specs.Events.{event_of};
 ghost use Rattle.cqlp_decode.specs.Streams.{state};
 ghost use Rattle.cqlp_c.specs.declared.event.CqlpEvent.{CqlpEvent as Told};
 ghost use Rattle.cqlp_c.specs.Events.{content_span};
-ghost use Rattle.cqlp_c.specs.Batches.{BeginsAt, FillsOn, GoesOn, RepeatsRefusal, TellsPut, put_of, stop_without_room};
+ghost use Rattle.cqlp_c.specs.Batches.{BeginsAt, Buffer, FillsOn, GoesOn, PutsGathered, RepeatsRefusal, TellsStep, buffer_in, put_of};
+ghost use Rattle.cqlp_c.specs.Batches.{stop_without_room};
 
 use crate::event::{CqlpEvent, address_of, before_content, tell};
 use crate::slots::put_whole;
@@ -49,7 +50,8 @@ pub fn or_none(bytes: &[u8]) -> &[u8]
 /// content that lies in the decoder is put last, since the next step may overwrite it. A refusal that was made before is
 /// said again, also where there is no room.
 pub fn fill(decoder: &mut Decoder<Global>, input: &[u8], events: &mut [CqlpEvent]) -> Batch
-    ensures fills { FillsOn (state decoder.old) (state decoder.new) input.now (as_ptr input.entry) (length events.old) result events.new }
+    ensures fills { FillsOn (state decoder.old) (state decoder.new) input.now (as_ptr input.entry) (buffer_in decoder.new)
+        (length events.old) result events.new }
     ensures refused { (r : Refused) → (state decoder.old).refusal ≡ Some r →
         RepeatsRefusal r (state decoder.old) (state decoder.new) result }
     ensures goes_on { GoesOn (state decoder.old) (state decoder.new) (length events.old) result }
@@ -79,8 +81,8 @@ fn stop_without_room(finish: &Finish) -> Stop
 /// A batch that has no room: it says nothing but a refusal that was made before.
 #[inline(never)]
 fn without_room(decoder: &Decoder<Global>) -> Batch
-    ensures fills { (input : List ℕ) (begins : Ptr) (events : List Told) →
-        FillsOn (state decoder.now) (state decoder.now) input begins 0 result events }
+    ensures fills { (input : List ℕ) (begins : Ptr) (buffer : Buffer) (events : List Told) →
+        FillsOn (state decoder.now) (state decoder.now) input begins buffer 0 result events }
     ensures refused { (r : Refused) → (state decoder.now).refusal ≡ Some r →
         RepeatsRefusal r (state decoder.now) (state decoder.now) result }
     ensures none { (result.used ≡ 0) × (result.events ≡ 0) }
@@ -99,7 +101,7 @@ fn without_room(decoder: &Decoder<Global>) -> Batch
 fn put_step(slot: &mut CqlpEvent, at: u64, event: &Event<'_>, bytes: &[u8], taken: usize) -> bool
     requires { taken ≤ length bytes.now }
     ensures gathered { result ≡ nat_lt taken (content_span (event_of event.now)) }
-    ensures tells { TellsPut (as_ptr bytes.entry) slot.new (put_of at (event_of event.now) (length bytes.now) taken) }
+    ensures tells { TellsStep (as_ptr bytes.entry) slot.new (put_of at (event_of event.now) (length bytes.now) taken) }
 {
     tell(slot, at, event);
     let gathered = slot.is_gathered(taken);
@@ -107,6 +109,16 @@ fn put_step(slot: &mut CqlpEvent, at: u64, event: &Event<'_>, bytes: &[u8], take
         slot.content = address_of(&bytes[bytes.len() - slot.length..]);
     }
     gathered
+}
+
+/// Puts where the content of an event lies in the decoder that holds it. A decimal's stays where it was lent: its scale lies
+/// before it.
+fn put_gathered(slot: &mut CqlpEvent, decoder: &Decoder<Global>)
+    ensures { PutsGathered (buffer_in decoder.now) slot.old slot.new }
+{
+    if !slot.is_decimal() {
+        slot.content = decoder.buffer();
+    }
 }
 
 /// The input of a call, which has one place for all of the batch.
@@ -118,7 +130,8 @@ struct Source<'a> {
 /// The same as `fill`, where there is room.
 #[inline(always)]
 fn fill_room(decoder: &mut Decoder<Global>, input: &[u8], events: &mut [CqlpEvent]) -> Batch
-    ensures fills { FillsOn (state decoder.old) (state decoder.new) input.now (as_ptr input.entry) (length events.old) result events.new }
+    ensures fills { FillsOn (state decoder.old) (state decoder.new) input.now (as_ptr input.entry) (buffer_in decoder.new)
+        (length events.old) result events.new }
     ensures refused { (r : Refused) → (state decoder.old).refusal ≡ Some r → 0 < length events.old →
         RepeatsRefusal r (state decoder.old) (state decoder.new) result }
     ensures goes_on { GoesOn (state decoder.old) (state decoder.new) (length events.old) result }
@@ -152,15 +165,11 @@ fn fill_room(decoder: &mut Decoder<Global>, input: &[u8], events: &mut [CqlpEven
                 event,
             } => {
                 used += taken;
-                let gathered = put_step(
-                    &mut events[count],
-                    at,
-                    &event,
-                    &source.input[..used],
-                    taken,
-                );
+                let slot = &mut events[count];
+                let gathered = put_step(slot, at, &event, &source.input[..used], taken);
                 count += 1;
                 if gathered {
+                    put_gathered(slot, decoder);
                     return Batch {
                         used,
                         events: count,

@@ -1,10 +1,13 @@
 //! An event, as C sees it.
 
-ghost use Rattle.std.specs.Prelude.{◌≡◌, ◌++◌, Some, nat_lt};
+ghost use Rattle.std.specs.Prelude.{◌≡◌, ◌++◌, Some, nat_lt, pos};
 ghost use Rattle.std.specs.Ptr.{as_ptr};
 ghost use Rattle.cqlp_kind.specs.CellStep as cell;
 ghost use Rattle.cqlp_kind.specs.Contents.{value_of};
-ghost use Rattle.cqlp_grammar.specs.Events.{Cell_at, event_of};
+ghost use Rattle.cqlp_note.specs.Field as value;
+ghost use Rattle.cqlp_note.specs.Head.{value_of as value_of_primitive};
+ghost use Rattle.cqlp_note.specs.declared.prim.Primitive.TheVariants as primitive;
+ghost use Rattle.cqlp_grammar.specs.Events.{Cell_at, Holds, event_of};
 ghost use Rattle.cqlp_c.specs.Events.{LendsFrom, Tells, content_after, has_address, scalar_after, zeros};
 
 use crate::numbers::*;
@@ -80,7 +83,7 @@ fn widen_eight(bytes: [u8; 8]) -> [u8; 16]
 }
 
 impl CqlpEvent {
-    ghost use Rattle.cqlp_c.specs.Events.{blank, of_field, of_frame, of_value, span_in};
+    ghost use Rattle.cqlp_c.specs.Events.{blank, is_decimal, of_field, of_frame, of_value, span_in};
     ghost use Rattle.cqlp_c.specs.Numbers.{number_of_kind};
 
     /// An event of which only the offset is known.
@@ -147,6 +150,24 @@ impl CqlpEvent {
         self.number = number;
     }
 
+    /// Puts the content of a scalar of this kind.
+    #[inline(always)]
+    fn lend_scalar(&mut self, kind: u8, bytes: &[u8])
+        ensures { LendsFrom (record self.old { kind = kind }) (Some bytes.now) self.new }
+    {
+        self.kind = kind;
+        self.lend(bytes);
+    }
+
+    /// Puts the bytes of a scalar of this kind, of which this many are its own.
+    #[inline(always)]
+    fn put_scalar_bytes(&mut self, kind: u8, bytes: [u8; 16], octets: u8)
+        ensures { self.new ≡ record self.old { kind = kind; bytes = bytes; octets = octets } }
+    {
+        self.kind = kind;
+        self.put_bytes(bytes, octets);
+    }
+
     /// Begins an event that is a field.
     #[inline(always)]
     fn begin_field(&mut self, at: u64, tag: u8, field: Field)
@@ -180,6 +201,34 @@ impl CqlpEvent {
         };
     }
 
+    /// A value with items ends.
+    #[inline(always)]
+    fn put_leave(&mut self, at: u64, level: u32, items: u32)
+        ensures { self.new ≡ record (of_value at TAG_LEAVE 0 0 level) { number = pos items } }
+    {
+        self.begin_value(at, TAG_LEAVE, 0, 0, level);
+        self.number = i64::from(items);
+    }
+
+    /// A frame ends.
+    #[inline(always)]
+    fn put_end(&mut self, at: u64, extra: u32)
+        ensures { self.new ≡ record (of_value at TAG_END 0 0 0) { number = pos extra } }
+    {
+        self.begin_value(at, TAG_END, 0, 0, 0);
+        self.number = i64::from(extra);
+    }
+
+    /// A type of a metadata.
+    #[inline(always)]
+    fn put_type_node(&mut self, at: u64, kind: Kind)
+        ensures { self.new ≡ record (blank at) { tag = TAG_TYPE_NODE; kind = number_of_kind kind } }
+    {
+        *self = CqlpEvent::blank(at);
+        self.tag = TAG_TYPE_NODE;
+        self.kind = kind_number(kind);
+    }
+
     /// A frame begins.
     #[inline(always)]
     fn put_frame(&mut self, at: u64, header: &Header)
@@ -196,13 +245,21 @@ impl CqlpEvent {
         }
     }
 
+    /// Whether it is a decimal, whose scale comes before its content.
+    #[inline(always)]
+    pub fn is_decimal(&self) -> bool
+        ensures { result ≡ is_decimal self.now }
+    {
+        self.tag == TAG_LEAF && self.kind == KIND_DECIMAL
+    }
+
     /// Whether a content lies not whole in the bytes that the call used, so that it lies in the decoder. Of a decimal the
     /// four bytes of the scale are gathered with it.
     #[inline(always)]
     pub fn is_gathered(&self, used: usize) -> bool
         ensures { result ≡ nat_lt used (span_in self.now) }
     {
-        if self.tag == TAG_LEAF && self.kind == KIND_DECIMAL {
+        if self.is_decimal() {
             used < 4 || used - 4 < self.length
         } else {
             used < self.length
@@ -224,52 +281,24 @@ fn tell_scalar(
 {
     slot.begin_value(at, TAG_LEAF, row, column, level);
     match *scalar {
-        Scalar::Custom(bytes) => {
-            slot.kind = KIND_CUSTOM;
-            slot.lend(bytes);
-        }
-        Scalar::Ascii(text) => {
-            slot.kind = KIND_ASCII;
-            slot.lend(text.as_bytes());
-        }
+        Scalar::Custom(bytes) => slot.lend_scalar(KIND_CUSTOM, bytes),
+        Scalar::Ascii(text) => slot.lend_scalar(KIND_ASCII, text.as_bytes()),
         Scalar::Bigint(number) => slot.put_number(Kind::Bigint, number),
-        Scalar::Blob(bytes) => {
-            slot.kind = KIND_BLOB;
-            slot.lend(bytes);
-        }
+        Scalar::Blob(bytes) => slot.lend_scalar(KIND_BLOB, bytes),
         Scalar::Boolean(truth) => slot.put_number(Kind::Boolean, if truth { 1 } else { 0 }),
         Scalar::Counter(number) => slot.put_number(Kind::Counter, number),
         Scalar::Decimal { scale, unscaled } => {
-            slot.kind = KIND_DECIMAL;
             slot.extra = scale;
-            slot.lend(unscaled);
+            slot.lend_scalar(KIND_DECIMAL, unscaled);
         }
-        Scalar::Double(bytes) => {
-            slot.kind = KIND_DOUBLE;
-            slot.put_bytes(widen_eight(bytes), 8);
-        }
-        Scalar::Float(bytes) => {
-            slot.kind = KIND_FLOAT;
-            slot.put_bytes(widen_four(bytes), 4);
-        }
+        Scalar::Double(bytes) => slot.put_scalar_bytes(KIND_DOUBLE, widen_eight(bytes), 8),
+        Scalar::Float(bytes) => slot.put_scalar_bytes(KIND_FLOAT, widen_four(bytes), 4),
         Scalar::Int(number) => slot.put_number(Kind::Int, i64::from(number)),
         Scalar::Timestamp(number) => slot.put_number(Kind::Timestamp, number),
-        Scalar::Uuid(bytes) => {
-            slot.kind = KIND_UUID;
-            slot.put_bytes(bytes, 16);
-        }
-        Scalar::Varchar(text) => {
-            slot.kind = KIND_VARCHAR;
-            slot.lend(text.as_bytes());
-        }
-        Scalar::Varint(bytes) => {
-            slot.kind = KIND_VARINT;
-            slot.lend(bytes);
-        }
-        Scalar::Timeuuid(bytes) => {
-            slot.kind = KIND_TIMEUUID;
-            slot.put_bytes(bytes, 16);
-        }
+        Scalar::Uuid(bytes) => slot.put_scalar_bytes(KIND_UUID, bytes, 16),
+        Scalar::Varchar(text) => slot.lend_scalar(KIND_VARCHAR, text.as_bytes()),
+        Scalar::Varint(bytes) => slot.lend_scalar(KIND_VARINT, bytes),
+        Scalar::Timeuuid(bytes) => slot.put_scalar_bytes(KIND_TIMEUUID, bytes, 16),
         Scalar::Inet(address) => {
             slot.kind = KIND_INET;
             slot.put_address(address);
@@ -278,10 +307,7 @@ fn tell_scalar(
         Scalar::Time(number) => slot.put_number(Kind::Time, number),
         Scalar::Smallint(number) => slot.put_number(Kind::Smallint, i64::from(number)),
         Scalar::Tinyint(number) => slot.put_number(Kind::Tinyint, i64::from(number)),
-        Scalar::Raw(bytes) => {
-            slot.kind = KIND_RAW;
-            slot.lend(bytes);
-        }
+        Scalar::Raw(bytes) => slot.lend_scalar(KIND_RAW, bytes),
     }
 }
 
@@ -359,80 +385,67 @@ pub fn tell(slot: &mut CqlpEvent, at: u64, event: &Event<'_>)
             slot.begin_value(at, TAG_ENTER, *row, *column, *level);
             slot.put_number(*kind, i64::from(*items));
         }
-        Event::Leave { level, items } => {
-            slot.begin_value(at, TAG_LEAVE, 0, 0, *level);
-            slot.number = i64::from(*items);
-        }
+        Event::Leave { level, items } => slot.put_leave(at, *level, *items),
         _ => tell_any(slot, at, event),
     }
 }
 
-/// The same of any event.
+/// Puts a field that is a \[uuid\].
+fn tell_uuid(slot: &mut CqlpEvent, at: u64, field: Field, uuid: [u8; 16])
+    ensures { Tells slot.new at (Holds field (value.Uuid uuid)) }
+{
+    slot.begin_field(at, TAG_UUID, field);
+    slot.put_bytes(uuid, 16);
+}
+
+/// Puts a field that is text with these bytes.
+fn tell_text(slot: &mut CqlpEvent, at: u64, field: Field, text: &[u8])
+    ensures { Tells slot.new at (Holds field (value.Text text.now)) }
+{
+    slot.begin_field(at, TAG_TEXT, field);
+    slot.lend(text);
+}
+
+/// Puts a field that is \[bytes\].
+fn tell_bytes(slot: &mut CqlpEvent, at: u64, field: Field, bytes: Option<&[u8]>)
+    ensures { Tells slot.new at (Holds field (value_of_primitive (primitive.Bytes bytes.entry))) }
+{
+    slot.begin_field(at, TAG_BYTES, field);
+    match bytes {
+        Some(bytes) => slot.lend(bytes),
+        None => slot.mark = MARK_NULL,
+    }
+}
+
+/// Puts a field that is a \[value\] of a request.
+fn tell_bound(slot: &mut CqlpEvent, at: u64, field: Field, value: BoundValue<'_>)
+    ensures { Tells slot.new at (Holds field (value_of_primitive (primitive.Bound value.entry))) }
+{
+    slot.begin_field(at, TAG_BOUND, field);
+    match value {
+        BoundValue::Bytes(bytes) => slot.lend(bytes),
+        BoundValue::Null => slot.mark = MARK_NULL,
+        BoundValue::Unset => slot.mark = MARK_UNSET,
+    }
+}
+
+/// Puts a field that is an \[inet\].
+fn tell_inet(slot: &mut CqlpEvent, at: u64, field: Field, address: Address, port: i32)
+    ensures { Tells slot.new at (Holds field (value_of_primitive (primitive.Inet address port))) }
+{
+    slot.begin_field(at, TAG_INET, field);
+    slot.extra = port;
+    slot.put_address(address);
+}
+
+/// Puts any event.
 #[inline(never)]
 fn tell_any(slot: &mut CqlpEvent, at: u64, event: &Event<'_>)
     ensures { Tells slot.new at (event_of event.now) }
 {
     match *event {
         Event::Frame(header) => slot.put_frame(at, &header),
-        Event::Byte { field, value } => slot.put_field(at, TAG_BYTE, field, i64::from(value)),
-        Event::Short { field, value } => slot.put_field(at, TAG_SHORT, field, i64::from(value)),
-        Event::Int { field, value } => slot.put_field(at, TAG_INT, field, i64::from(value)),
-        Event::Long { field, value } => slot.put_field(at, TAG_LONG, field, value),
-        Event::Uuid { field, value } => {
-            slot.begin_field(at, TAG_UUID, field);
-            slot.put_bytes(value, 16);
-        }
-        Event::Count { field, count } => slot.put_field(at, TAG_COUNT, field, i64::from(count)),
-        Event::Text { field, text } => {
-            slot.begin_field(at, TAG_TEXT, field);
-            slot.lend(text.as_bytes());
-        }
-        Event::Bytes {
-            field,
-            bytes: Some(bytes),
-        } => {
-            slot.begin_field(at, TAG_BYTES, field);
-            slot.lend(bytes);
-        }
-        Event::Bytes { field, bytes: None } => {
-            slot.begin_field(at, TAG_BYTES, field);
-            slot.mark = MARK_NULL;
-        }
-        Event::Bound {
-            field,
-            value: BoundValue::Bytes(bytes),
-        } => {
-            slot.begin_field(at, TAG_BOUND, field);
-            slot.lend(bytes);
-        }
-        Event::Bound {
-            field,
-            value: BoundValue::Null,
-        } => {
-            slot.begin_field(at, TAG_BOUND, field);
-            slot.mark = MARK_NULL;
-        }
-        Event::Bound {
-            field,
-            value: BoundValue::Unset,
-        } => {
-            slot.begin_field(at, TAG_BOUND, field);
-            slot.mark = MARK_UNSET;
-        }
-        Event::Inet {
-            field,
-            address,
-            port,
-        } => {
-            slot.begin_field(at, TAG_INET, field);
-            slot.extra = port;
-            slot.put_address(address);
-        }
-        Event::TypeNode(kind) => {
-            *slot = CqlpEvent::blank(at);
-            slot.tag = TAG_TYPE_NODE;
-            slot.kind = kind_number(kind);
-        }
+        Event::TypeNode(kind) => slot.put_type_node(at, kind),
         Event::Leaf {
             row,
             column,
@@ -451,10 +464,7 @@ fn tell_any(slot: &mut CqlpEvent, at: u64, event: &Event<'_>)
             slot.begin_value(at, TAG_ENTER, row, column, level);
             slot.put_number(kind, i64::from(items));
         }
-        Event::Leave { level, items } => {
-            slot.begin_value(at, TAG_LEAVE, 0, 0, level);
-            slot.number = i64::from(items);
-        }
+        Event::Leave { level, items } => slot.put_leave(at, level, items),
         Event::Part {
             row,
             column,
@@ -468,9 +478,20 @@ fn tell_any(slot: &mut CqlpEvent, at: u64, event: &Event<'_>)
             slot.mark = if last { MARK_LAST } else { MARK_NONE };
             slot.lend(bytes);
         }
-        Event::End { extra } => {
-            slot.begin_value(at, TAG_END, 0, 0, 0);
-            slot.number = i64::from(extra);
-        }
+        Event::End { extra } => slot.put_end(at, extra),
+        Event::Byte { field, value } => slot.put_field(at, TAG_BYTE, field, i64::from(value)),
+        Event::Short { field, value } => slot.put_field(at, TAG_SHORT, field, i64::from(value)),
+        Event::Int { field, value } => slot.put_field(at, TAG_INT, field, i64::from(value)),
+        Event::Long { field, value } => slot.put_field(at, TAG_LONG, field, value),
+        Event::Uuid { field, value } => tell_uuid(slot, at, field, value),
+        Event::Count { field, count } => slot.put_field(at, TAG_COUNT, field, i64::from(count)),
+        Event::Text { field, text } => tell_text(slot, at, field, text.as_bytes()),
+        Event::Bytes { field, bytes } => tell_bytes(slot, at, field, bytes),
+        Event::Bound { field, value } => tell_bound(slot, at, field, value),
+        Event::Inet {
+            field,
+            address,
+            port,
+        } => tell_inet(slot, at, field, address, port),
     }
 }

@@ -13,10 +13,11 @@ use Rattle.cqlp_decode.proofs.Gets.{rest_is}
 use Rattle.cqlp_c.specs.declared.batch.Stop.TheVariants as stop
 use Rattle.cqlp_c.specs.declared.event.CqlpEvent.{CqlpEvent}
 use Rattle.cqlp_grammar.specs.Events.{Event, event_of}
-use Rattle.cqlp_c.specs.Batches.{Put, TellsPut, events_of, put_of}
+use Rattle.cqlp_c.specs.Batches.{Put, TellsStep, buffer_in, events_of, put_of}
 use Rattle.cqlp_decode.proofs.Taken.{takes_pays}
-use Rattle.cqlp_c.proofs.Fills.{filled_more, fills_gathered, fills_full}
-use Rattle.cqlp_c.proofs.Handed.{filled_items}
+use Rattle.cqlp_c.proofs.Fills.{filled_none, filled_more, fills_gathered, fills_full}
+use Rattle.cqlp_c.proofs.Gathering.{step_put}
+use Rattle.cqlp_c.proofs.Handed.{filled_items, span_size}
 use Rattle.cqlp_c.proofs.Putting.{drops_more}
 use Rattle.cqlp_c.proofs.batch.fill_room.Goals as goal
 
@@ -28,10 +29,10 @@ same_refusal None old is new none some = none ∙ is
 same_refusal (Some r) old is new none some = absurd (some r refl)
 
 -- the event of a step lies where it says
-put_at : (begins : Ptr) (c : CqlpEvent) (at : ℕ) (e : Event) (used taken end : ℕ) → end ≡ used + taken → TellsPut begins c (put_of at e end taken) → TellsPut begins c (record { at = at; event = e; from = used; end = used + taken })
+put_at : (begins : Ptr) (c : CqlpEvent) (at : ℕ) (e : Event) (used taken end : ℕ) → end ≡ used + taken → TellsStep begins c (put_of at e end taken) → TellsStep begins c (record { at = at; event = e; from = used; end = used + taken })
 put_at begins c at e used taken end is tells =
     let from : end - taken ≡ used = omega (arith, is) in
-    subst (λ (p : Put). TellsPut begins c p) (λ i. record { at = at; event = e; from = from i; end = is i }) tells
+    subst (λ (p : Put). TellsStep begins c p) (λ i. record { at = at; event = e; from = from i; end = is i }) tells
 
 pub returns-then-gathered-clause-fills : goal.returns-then-gathered-clause-fills
 returns-then-gathered-clause-fills c = λ s es a.
@@ -43,10 +44,30 @@ returns-then-gathered-clause-fills c = λ s es a.
     let leads = rw (c.in-Event.is, rest_is) at (c.next.follows.holds-at-none.1 [] _ _ f.after) in
     let long = length-take-le c.slots.count c.slots.events (omega (arith, c.slots-test.true)) in
     let gathered = ltb-true _ _ (sym c.put_step-gathered.ensures.gathered ∙ c.if-gathered.true) in
-    fills_gathered (state c.args.decoder.now).rules old new s c.args.input.now begins es c.slots.used (take c.slots.count c.slots.events) f c.in-Event.at c.in-Event.taken (event_of c.in-Event.event) (goes.2 ∙ c.slots.invariant.rules) c.slots.invariant.within leads c.put_step-gathered.new.slot (put_at (as_ptr c.args.input) c.put_step-gathered.new.slot c.in-Event.at (event_of c.in-Event.event) c.slots.used c.in-Event.taken _ (length-take-le (c.slots.used + c.in-Event.taken) c.args.input.now (omega (arith, leads.0, c.slots.invariant.within, length-drop c.slots.used c.args.input.now))) c.put_step-gathered.ensures.tells) (state c.args.decoder.now) (length c.args.events.now) _ _ refl
+    let e = event_of c.in-Event.event in
+    let put : Put = record { at = c.in-Event.at; event = e; from = c.slots.used; end = c.slots.used + c.in-Event.taken } in
+    let far = length-take-le (c.slots.used + c.in-Event.taken) c.args.input.now (omega (arith, leads.0, c.slots.invariant.within, length-drop c.slots.used c.args.input.now)) in
+    let told = put_at begins c.put_step-gathered.new.slot c.in-Event.at e c.slots.used c.in-Event.taken _ far c.put_step-gathered.ensures.tells in
+    let held = goes.5 (omega (arith, gathered, span_size e)) in
+    let there = c.put_gathered.ensures begins put (omega arith) (omega (arith, gathered)) held told in
+    fills_gathered (state c.args.decoder.now).rules old new s c.args.input.now begins es c.slots.used (take c.slots.count c.slots.events) f c.in-Event.at c.in-Event.taken e (goes.2 ∙ c.slots.invariant.rules) c.slots.invariant.within leads c.put_gathered.new.slot (buffer_in c.next.follows.lender-at-none) there (state c.args.decoder.now) (length c.args.events.now) _ _ refl
     (ap (λ (n : ℕ). record { used = c.slots.used + c.in-Event.taken; events = n + 1; stop = stop.Full }) (sym long))
-    (rw long (take_more_set c.slots.events c.slots.count c.put_step-gathered.new.slot c.slots-test.true))
+    (rw long (take_more_set c.slots.events c.slots.count c.put_gathered.new.slot c.slots-test.true))
     (omega (arith, gathered))
+
+pub slots-init : goal.slots-init
+slots-init c = record {
+  within = omega arith;
+  room = omega arith;
+  long = refl;
+  rules = refl;
+  refused = λ r is. (refl, refl, refl);
+  clear = λ none. none;
+  same = refl;
+  pays = omega arith;
+  others = refl;
+  filled = λ s es a. filled_none (state c.args.decoder.now).rules (state c.args.decoder.now) s c.args.input.now (as_ptr c.args.input) es a;
+}
 
 pub put_whole-put-requires : goal.put_whole-put-requires
 put_whole-put-requires c = omega (arith, c.slots-test.true, length-set c.slots.events c.slots.count c.put_step-gathered.new.slot)
@@ -93,7 +114,8 @@ slots-preserved c =
           let free = ltb-false _ _ (sym c.put_step-gathered.ensures.gathered ∙ c.if-gathered.false) in
           let rules = goes.2 ∙ i.rules in
           let one =
-          filled_more (state c.args.decoder.now).rules old mid s input (as_ptr c.args.input) es c.slots.used (take c.slots.count c.slots.events) f c.in-Event.at c.in-Event.taken (event_of c.in-Event.event) rules i.within leads c.put_step-gathered.new.slot (put_at (as_ptr c.args.input) c.put_step-gathered.new.slot c.in-Event.at (event_of c.in-Event.event) c.slots.used c.in-Event.taken _ (length-take-le (c.slots.used + c.in-Event.taken) c.args.input.now far) c.put_step-gathered.ensures.tells) _
+          filled_more (state c.args.decoder.now).rules old mid s input (as_ptr c.args.input) es c.slots.used (take c.slots.count c.slots.events) f c.in-Event.at c.in-Event.taken (event_of c.in-Event.event) rules i.within leads c.put_step-gathered.new.slot
+          (λ b. step_put (as_ptr c.args.input) b c.put_step-gathered.new.slot _ (omega (arith, free)) (put_at (as_ptr c.args.input) c.put_step-gathered.new.slot c.in-Event.at (event_of c.in-Event.event) c.slots.used c.in-Event.taken _ (length-take-le (c.slots.used + c.in-Event.taken) c.args.input.now far) c.put_step-gathered.ensures.tells)) _
           (take_more_set c.slots.events c.slots.count c.put_step-gathered.new.slot c.slots-test.true)
           (omega (arith, free)) in
           let told = p.told (s ++ take used input) (es ++ events_of one.puts) one.after goes.3 in
@@ -114,7 +136,7 @@ returns-clause-fills c = λ s es a.
     let f = c.slots.invariant.filled s es a in
     let d = state c.slots.decoder in
     let long = length-take-le c.slots.count c.slots.events c.slots.invariant.room in
-    fills_full (state c.args.decoder.now).rules d d s c.args.input.now (as_ptr c.args.input) es c.slots.used (take c.slots.count c.slots.events) f (state c.args.decoder.now) refl (length c.args.events.now) _ _ refl (sym long) refl refl refl (omega (arith, long, c.slots.invariant.room, c.slots-test.false, c.slots.invariant.long))
+    fills_full (state c.args.decoder.now).rules d d s c.args.input.now (as_ptr c.args.input) es c.slots.used (take c.slots.count c.slots.events) f (buffer_in c.slots.decoder) (state c.args.decoder.now) refl (length c.args.events.now) _ _ refl (sym long) refl refl refl (omega (arith, long, c.slots.invariant.room, c.slots-test.false, c.slots.invariant.long))
 
 pub returns-then-gathered-clause-goes_on : goal.returns-then-gathered-clause-goes_on
 returns-then-gathered-clause-goes_on c = λ full.

@@ -10,13 +10,13 @@ pub returns-in-More-clause-drains : goal.returns-in-More-clause-drains
 returns-in-More-clause-drains c = λ none fresh.
     let st = c.batches.invariant.stands fresh in
     let f = rw rest_is at (c.fill-batch.ensures.fills _ _ st.1) in
-    drained_more (state c.batches.decoder) (state c.fill-batch.new.decoder) c.args.stream.now c.batches.used _ _ _ _ st.0 f c.in-More.is
+    drained_more (state c.batches.decoder) (state c.fill-batch.new.decoder) c.args.stream.now c.batches.used _ _ _ _ _ st.0 f c.in-More.is
 
 pub returns-in-Refused-clause-drains : goal.returns-in-Refused-clause-drains
 returns-in-Refused-clause-drains c = λ none fresh.
     let st = c.batches.invariant.stands fresh in
     let f = rw rest_is at (c.fill-batch.ensures.fills _ _ st.1) in
-    drained_refused (state c.batches.decoder) (state c.fill-batch.new.decoder) c.args.stream.now c.batches.used _ _ _ _ st.0 f _ c.in-Refused.is (c.batches.invariant.same ∙ none) c.fill-batch.ensures.rules
+    drained_refused (state c.batches.decoder) (state c.fill-batch.new.decoder) c.args.stream.now c.batches.used _ _ _ _ _ st.0 f _ c.in-Refused.is (c.batches.invariant.same ∙ none) c.fill-batch.ensures.rules
 
 pub batches-preserved : goal.batches-preserved
 batches-preserved c = record {
