@@ -6,7 +6,7 @@ use Rattle.std.proofs.lemmas.Bool.{le-ltb}
 use Rattle.cqlp_note.specs.Reader.{number_of}
 use Rattle.cqlp_note.specs.Limits.{Rules, rules_of}
 use Rattle.cqlp_kind.specs.declared.kind.Kind.{Kind}
-use Rattle.cqlp_kind.specs.CellStep.{CellEvent, Null, Empty}
+use Rattle.cqlp_kind.specs.CellStep.{CellEvent, Leaf, Null, Empty}
 use Rattle.cqlp_cell.proofs.Sizing.{null_is, empty_is}
 use Rattle.cqlp_decode.specs.declared.page_loop.Handed.{Handed}
 use Rattle.cqlp_decode.specs.declared.page_loop.Handed.TheVariants as handed
@@ -16,9 +16,9 @@ use Rattle.cqlp_decode.specs.declared.progress.StreamProgress.{StreamProgress}
 use Rattle.cqlp_decode.specs.Reading.{Event, cell_event}
 use Rattle.cqlp_decode.specs.Pages.{IsKind, Turns}
 use Rattle.cqlp_decode.specs.Progress.{StreamState, PartsState, IsConsistent, nodes_of, state_of}
-use Rattle.cqlp_decode.specs.Items.{TakesItem}
+use Rattle.cqlp_decode.specs.Items.{HandsLeaf, TakesItem}
 use Rattle.cqlp_decode.specs.Cells.{SaysCell, HandsCell, HandsFront, HasHanded, HandsOut, FailsAfter}
-use Rattle.cqlp_decode.proofs.CellSteps.{onward_hands, onward_lawful}
+use Rattle.cqlp_decode.proofs.CellSteps.{onward_hands, onward_lawful, says_leaf}
 use Rattle.cqlp_decode.proofs.Taken.{item_drains, item_fails}
 
 -- ---- a value without a content
@@ -48,6 +48,12 @@ pub hands_said : (l : Rules) (k : Kind) (room : ℕ) (input : List ℕ) (row col
 hands_said l k room input row column used e says HasGot Failed handed.Left told = absurd told
 hands_said l k room input row column used e says HasGot Failed (handed.Taken n) told = rw told.0 (record { event = e; says = says; holds = told.1 })
 hands_said l k room input row column used e says HasGot Failed (handed.Fault n) told = rw told.0 (record { event = e; says = says; holds = told.1 })
+
+-- a cell is handed out as the item that it is
+pub hands_leaf : (l : Rules) (k : Kind) (room : ℕ) (input : List ℕ) (row column : ℕ) (HasGot Failed : Event → Type 0) (h : Handed) → HandsLeaf l k room 0 input row column HasGot Failed h → HandsFront l k room input row column HasGot Failed h
+hands_leaf l k room input row column HasGot Failed handed.Left told = tt
+hands_leaf l k room input row column HasGot Failed (handed.Taken n) told = record { event = Leaf 0 told.value; says = says_leaf l k room input n told.value told.says; holds = told.holds }
+hands_leaf l k room input row column HasGot Failed (handed.Fault n) told = record { event = Leaf 0 told.value; says = says_leaf l k room input n told.value told.says; holds = told.holds }
 
 -- ---- from cell to cell
 

@@ -6,23 +6,23 @@
 //! does, so that no rule stands here alone.
 
 ghost use Rattle.std.specs.Prelude.{◌≡◌, Ok, OnErr, OnOk, None, Some, []};
-ghost use Rattle.cqlp_note.specs.Limits.{rules_of};
 ghost use Rattle.cqlp_note.specs.declared.refusal.Refusal.{Refusal};
 ghost use Rattle.cqlp_decode.specs.declared.progress.StreamStage.TheVariants as stage;
 ghost use Rattle.cqlp_decode.specs.Cells.{DrainsCells, DrainsItems, StaysWithin, UsesWithin};
-ghost use Rattle.cqlp_decode.specs.Items.{HandsLeaf, IsIn, StaysIn, TakesPart, at_level, part_told};
+ghost use Rattle.cqlp_decode.specs.Items.{IsIn, StaysIn, TakesPart, at_level, part_told};
 ghost use Rattle.cqlp_type.specs.Forests.{node_at};
 ghost use Rattle.cqlp_cell.specs.declared.open_values.Order.TheVariants as order;
 ghost use Rattle.cqlp_cell.specs.Levels.{IsInLevel};
 ghost use Rattle.cqlp_decode.specs.Sinks.{Gets, Fails};
 ghost use Rattle.cqlp_decode.specs.Progress.{IsConsistent, IsLawful, nodes_of, parts_state, state_of, state_with};
 
+use crate::leaf::{hand_kind, hand_leaf};
 use crate::page::{CellCursor, page_table};
 use crate::page_loop::Handed;
 use crate::parts::Parts;
 use crate::progress::{StreamProgress, StreamStage};
 use crate::step::FaultAfter;
-use cqlp_cell::{BareItem, BarePart, DueItem, Level, front_scalar};
+use cqlp_cell::{BareItem, BarePart, Level};
 use cqlp_grammar::{Event, Sink, SinkFault};
 use cqlp_kind::Kind;
 use cqlp_note::Limits;
@@ -89,80 +89,6 @@ pub fn take_items<S: Sink, A: Allocator>(
             };
             page = following;
         }
-    }
-}
-
-/// Hands the item at the front of the input to the sink, if it is a scalar and all its bytes are there.
-#[inline(always)]
-fn hand_leaf<S: Sink>(
-    limits: &Limits,
-    due: DueItem,
-    page: CellCursor,
-    input: &[u8],
-    sink: &mut S,
-) -> Handed
-    ensures left { result ≡ Handed.Left → sink.new ≡ sink.old }
-    ensures hands { HandsLeaf (rules_of limits.now) due.kind due.room due.level input.now page.row page.column
-        (λ e. Gets S.Sink sink.old due.at e sink.new)
-        (λ e. Fails S.Sink sink.old due.at e sink.new) result }
-{
-    // An arm for each kind, so that each has code of its own.
-    match due.kind {
-        Kind::Int => hand_kind(limits, Kind::Int, due, page, input, sink),
-        Kind::Bigint => hand_kind(limits, Kind::Bigint, due, page, input, sink),
-        Kind::Varchar => hand_kind(limits, Kind::Varchar, due, page, input, sink),
-        Kind::Boolean => hand_kind(limits, Kind::Boolean, due, page, input, sink),
-        Kind::Ascii => hand_kind(limits, Kind::Ascii, due, page, input, sink),
-        Kind::Blob => hand_kind(limits, Kind::Blob, due, page, input, sink),
-        Kind::Counter => hand_kind(limits, Kind::Counter, due, page, input, sink),
-        Kind::Custom => hand_kind(limits, Kind::Custom, due, page, input, sink),
-        Kind::Date => hand_kind(limits, Kind::Date, due, page, input, sink),
-        Kind::Decimal => hand_kind(limits, Kind::Decimal, due, page, input, sink),
-        Kind::Double => hand_kind(limits, Kind::Double, due, page, input, sink),
-        Kind::Float => hand_kind(limits, Kind::Float, due, page, input, sink),
-        Kind::Inet => hand_kind(limits, Kind::Inet, due, page, input, sink),
-        Kind::Raw => hand_kind(limits, Kind::Raw, due, page, input, sink),
-        Kind::Smallint => hand_kind(limits, Kind::Smallint, due, page, input, sink),
-        Kind::Time => hand_kind(limits, Kind::Time, due, page, input, sink),
-        Kind::Timestamp => hand_kind(limits, Kind::Timestamp, due, page, input, sink),
-        Kind::Timeuuid => hand_kind(limits, Kind::Timeuuid, due, page, input, sink),
-        Kind::Tinyint => hand_kind(limits, Kind::Tinyint, due, page, input, sink),
-        Kind::Uuid => hand_kind(limits, Kind::Uuid, due, page, input, sink),
-        Kind::Varint => hand_kind(limits, Kind::Varint, due, page, input, sink),
-        Kind::List | Kind::Map | Kind::Set | Kind::Udt | Kind::Tuple => Handed::Left,
-    }
-}
-
-/// The same of an item of this kind.
-#[inline(always)]
-fn hand_kind<S: Sink>(
-    limits: &Limits,
-    kind: Kind,
-    due: DueItem,
-    page: CellCursor,
-    input: &[u8],
-    sink: &mut S,
-) -> Handed
-    ensures left { result ≡ Handed.Left → sink.new ≡ sink.old }
-    ensures hands { HandsLeaf (rules_of limits.now) kind due.room due.level input.now page.row page.column
-        (λ e. Gets S.Sink sink.old due.at e sink.new)
-        (λ e. Fails S.Sink sink.old due.at e sink.new) result }
-{
-    let Some(front) = front_scalar(limits, kind, due.room, input) else {
-        return Handed::Left;
-    };
-    let CellCursor { row, column, .. } = page;
-    let DueItem { at, level, .. } = due;
-    let scalar = front.scalar;
-    let event = Event::Leaf {
-        row,
-        column,
-        level,
-        scalar,
-    };
-    match sink.take(at, &event) {
-        Ok(()) => Handed::Taken(front.used),
-        Err(SinkFault) => Handed::Fault(front.used),
     }
 }
 
