@@ -175,6 +175,7 @@
 //! writes by a [`Source`] and a [`Target`] of the caller's.
 
 #![no_std]
+#![cfg_attr(not(feature = "std"), allow(rustdoc::broken_intra_doc_links))]
 #![doc(test(attr(forbid(unsafe_code))))]
 // Each module is a whole library of the sources, of which this package exports a part.
 #![allow(dead_code, unused_imports)]

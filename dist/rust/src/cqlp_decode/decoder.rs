@@ -147,6 +147,12 @@ impl<A: Allocator> Decoder<A> {
         }
     }
 
+    /// Where the content lies that is held, whose bytes `held` counts: it stays there until the next call that reads on.
+    pub fn buffer(&self) -> *const u8
+    {
+        self.parts.partial.buffer()
+    }
+
     /// The types of the metadata begun last: those handed out since the field MetaFlags was.
     pub fn table(&self) -> &TypeTable<A>
     {

@@ -5,7 +5,8 @@ use crate::kit_std::prelude::{Vec};
 use crate::cqlp_note::refusal::NoMemory;
 use crate::kit_std::alloc::Allocator;
 
-/// The bytes so far of a content, in memory that is taken once: its capacity is the room, for as long as it lives.
+/// The bytes so far of a content, in memory that is taken once: its capacity is the room, and it lies in one place, for as
+/// long as it lives.
 pub(crate) struct GatheredContent<A: Allocator> {
     /// The content, and after it what is left of longer ones before it, so that a piece is copied over them at once.
     bytes: Vec<u8, A>,
@@ -28,6 +29,12 @@ impl<A: Allocator> GatheredContent<A> {
     pub fn as_slice(&self) -> &[u8]
     {
         &self.bytes[..self.len as usize]
+    }
+
+    /// Where its memory begins.
+    pub fn as_ptr(&self) -> *const u8
+    {
+        self.bytes.as_ptr()
     }
 
     /// How many bytes there are.

@@ -314,6 +314,13 @@ impl<A: Allocator> Partial<A> {
         }
     }
 
+    /// Where the buffer begins: there lies the content that it holds. It is one place for as long as the reader lives,
+    /// wherever that is moved, and what lies there stays until the next call that changes the reader.
+    pub fn buffer(&self) -> *const u8
+    {
+        self.content.as_ptr()
+    }
+
     /// How many bytes the buffer holds.
     pub fn held(&self) -> u32
     {

@@ -45,51 +45,19 @@ impl<P: Pen> TextWriter<P> {
     {
         match *event {
             Event::Frame(header) => self.put_header_words(header),
-            Event::Byte { field, value } => self.put_field_words(
-                " Byte ",
-                field,
-                Word::Number(u64::from(value)),
-            ),
-            Event::Short { field, value } => self.put_field_words(
-                " Short ",
-                field,
-                Word::Number(u64::from(value)),
-            ),
-            Event::Int { field, value } => self.put_field_words(
-                " Int ",
-                field,
-                Word::Signed(i64::from(value)),
-            ),
-            Event::Long { field, value } => self.put_field_words(
-                " Long ",
-                field,
-                Word::Signed(value),
-            ),
-            Event::Uuid { field, value } => self.put_field_words(
-                " Uuid ",
-                field,
-                Word::Uuid(value),
-            ),
-            Event::Count { field, count } => self.put_field_words(
-                " Count ",
-                field,
-                Word::Number(u64::from(count)),
-            ),
-            Event::Text { field, text } => self.put_field_words(
-                " Text ",
-                field,
-                Word::Quoted(text),
-            ),
-            Event::Bytes { field, bytes } => self.put_field_words(
+            Event::Byte { field, value } => self.put_natural(" Byte ", field, u64::from(value)),
+            Event::Short { field, value } => self.put_natural(" Short ", field, u64::from(value)),
+            Event::Int { field, value } => self.put_integer(" Int ", field, i64::from(value)),
+            Event::Long { field, value } => self.put_integer(" Long ", field, value),
+            Event::Uuid { field, value } => self.put_field(" Uuid ", field, Word::Uuid(value)),
+            Event::Count { field, count } => self.put_natural(" Count ", field, u64::from(count)),
+            Event::Text { field, text } => self.put_field(" Text ", field, Word::Quoted(text)),
+            Event::Bytes { field, bytes } => self.put_field(
                 " Bytes ",
                 field,
                 bytes.map_or(Word::Name("null"), Word::Hex),
             ),
-            Event::Bound { field, value } => self.put_field_words(
-                " Bound ",
-                field,
-                bound_word(value),
-            ),
+            Event::Bound { field, value } => self.put_field(" Bound ", field, bound_word(value)),
             Event::Inet {
                 field,
                 address,
@@ -124,14 +92,23 @@ impl<P: Pen> TextWriter<P> {
         }
     }
 
+    /// Takes the words of a field that is a number without a sign.
+    #[inline(always)]
+    fn put_natural(&mut self, notation: &str, field: Field, value: u64) -> Result<(), SinkFault>
+    {
+        self.put_field(notation, field, Word::Number(value))
+    }
+
+    /// The same of a number with a sign.
+    #[inline(always)]
+    fn put_integer(&mut self, notation: &str, field: Field, value: i64) -> Result<(), SinkFault>
+    {
+        self.put_field(notation, field, Word::Signed(value))
+    }
+
     /// Takes the words of a field: how it is written, between spaces, its name, and its value.
     #[inline(always)]
-    fn put_field_words(
-        &mut self,
-        notation: &str,
-        field: Field,
-        value: Word<'_>,
-    ) -> Result<(), SinkFault>
+    fn put_field(&mut self, notation: &str, field: Field, value: Word<'_>) -> Result<(), SinkFault>
     {
         self.put_str(notation)?;
         self.put_field_name(field)?;
