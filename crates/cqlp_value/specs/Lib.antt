@@ -1,4 +1,5 @@
 pub mod Values
 pub mod Owned
+pub mod Conversions
 pub mod Measures
 pub mod Laws

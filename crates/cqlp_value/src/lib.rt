@@ -2,6 +2,7 @@
 #![tactic(auto)]
 
 mod atom;
+mod convert;
 mod fitting;
 pub mod laws;
 mod measure;
