@@ -1,6 +1,10 @@
 -- What is held of a content that was gathered, and where.
-use Rattle.std.proofs.Common.{◌≡◌, ℕ, ◌+◌, ◌<◌, ◌≤◌, Bool, true, false, List, length, drop, Option, Some, None, refl, sym, ap, subst, ◌∙◌, arith}
+use Rattle.std.proofs.Common.{◌≡◌, ℕ, ◌+◌, ◌-◌, ◌≤◌, Bool, true, false, List, length, drop, min, Option, Some, None, refl, sym, ap, subst, ◌∙◌, arith}
+use Rattle.std.specs.Prelude.{if◌then◌else◌}
+use Rattle.std.specs.Int.{w32, to_be_bytes, cast_unsigned}
 use Rattle.std.specs.Ptr.{Ptr}
+use denote.RawPtr.{◌+ₚ◌}
+use Rattle.std.proofs.lemmas.List.{length-append}
 use Rattle.cqlp_note.specs.Field as field
 use Rattle.cqlp_note.specs.Field.{address_of, signed}
 use Rattle.cqlp_kind.specs.declared.kind.Kind.{Kind}
@@ -10,10 +14,10 @@ use Rattle.cqlp_kind.specs.Scalars.{ScalarValue, only_if, scalar_of}
 use Rattle.cqlp_kind.specs.Scalars as scalar
 use Rattle.cqlp_grammar.specs.Events.{Event, Frame, Holds, Node_of, Cell_at, Leave, End}
 use Rattle.cqlp_decode.specs.Progress.{IsContent}
-use Rattle.cqlp_decode.specs.Streams.{Decoding, buffer_of}
+use Rattle.cqlp_decode.specs.Streams.{Decoding, buffer_of, state}
 use Rattle.cqlp_laws.specs.Contents.{content_in, scalar_content}
 use Rattle.cqlp_c.specs.declared.event.CqlpEvent.{CqlpEvent}
-use Rattle.cqlp_c.specs.Events.{before_gathered, bytes_in, content_of, content_span, is_decimal, span_in}
+use Rattle.cqlp_c.specs.Events.{before_gathered, bytes_in, content_of, content_span, is_decimal, scale_in, span_in}
 use Rattle.cqlp_c.specs.Batches.{Buffer, IsGathered, IsInInput, LiesBy, LiesByStep, Put, PutsGathered, TellsPut, TellsStep, buffer_in}
 use Rattle.cqlp_c.proofs.Spans.{span_event}
 
@@ -118,49 +122,129 @@ held_content (Cell_at row column (cell.Part level offset c last)) held content i
 held_content (Leave level n) held content is same = absurd cc
 held_content (End n) held content is same = absurd cc
 
+-- what has no content has nothing to be gathered
+none_spans : (e : Event) → content_in e ≡ None → content_span e ≡ 0
+none_spans (Frame h) is = refl
+none_spans (Holds f (field.Byte n)) is = refl
+none_spans (Holds f (field.Short n)) is = refl
+none_spans (Holds f (field.Int z)) is = refl
+none_spans (Holds f (field.Long z)) is = refl
+none_spans (Holds f (field.Uuid b)) is = refl
+none_spans (Holds f (field.Count n)) is = refl
+none_spans (Holds f (field.Text t)) is = absurd cc
+none_spans (Holds f (field.Bytes (Some c))) is = absurd cc
+none_spans (Holds f (field.Bytes None)) is = refl
+none_spans (Holds f (field.Bound field.Null)) is = refl
+none_spans (Holds f (field.Bound field.Unset)) is = refl
+none_spans (Holds f (field.Bound (field.Known c))) is = absurd cc
+none_spans (Holds f (field.Inet a z)) is = refl
+none_spans (Node_of k) is = refl
+none_spans (Cell_at row column (cell.Leaf level (scalar.Custom b))) is = absurd cc
+none_spans (Cell_at row column (cell.Leaf level (scalar.Ascii b))) is = absurd cc
+none_spans (Cell_at row column (cell.Leaf level (scalar.Bigint b))) is = refl
+none_spans (Cell_at row column (cell.Leaf level (scalar.Blob b))) is = absurd cc
+none_spans (Cell_at row column (cell.Leaf level (scalar.Boolean b))) is = refl
+none_spans (Cell_at row column (cell.Leaf level (scalar.Counter b))) is = refl
+none_spans (Cell_at row column (cell.Leaf level (scalar.Decimal z b))) is = absurd cc
+none_spans (Cell_at row column (cell.Leaf level (scalar.Double b))) is = refl
+none_spans (Cell_at row column (cell.Leaf level (scalar.Float b))) is = refl
+none_spans (Cell_at row column (cell.Leaf level (scalar.Int b))) is = refl
+none_spans (Cell_at row column (cell.Leaf level (scalar.Timestamp b))) is = refl
+none_spans (Cell_at row column (cell.Leaf level (scalar.Uuid b))) is = refl
+none_spans (Cell_at row column (cell.Leaf level (scalar.Varchar b))) is = absurd cc
+none_spans (Cell_at row column (cell.Leaf level (scalar.Varint b))) is = absurd cc
+none_spans (Cell_at row column (cell.Leaf level (scalar.Timeuuid b))) is = refl
+none_spans (Cell_at row column (cell.Leaf level (scalar.Inet b))) is = refl
+none_spans (Cell_at row column (cell.Leaf level (scalar.Date b))) is = refl
+none_spans (Cell_at row column (cell.Leaf level (scalar.Time b))) is = refl
+none_spans (Cell_at row column (cell.Leaf level (scalar.Smallint b))) is = refl
+none_spans (Cell_at row column (cell.Leaf level (scalar.Tinyint b))) is = refl
+none_spans (Cell_at row column (cell.Leaf level (scalar.Raw b))) is = absurd cc
+none_spans (Cell_at row column (cell.Null level)) is = refl
+none_spans (Cell_at row column (cell.Empty level)) is = refl
+none_spans (Cell_at row column (cell.Enter level k n)) is = refl
+none_spans (Cell_at row column (cell.Leave level n)) is = refl
+none_spans (Cell_at row column (cell.Part level offset c last)) is = absurd cc
+none_spans (Leave level n) is = refl
+none_spans (End n) is = refl
+
+-- what comes before a content is held with it
+before_held : (e : Event) (held : List ℕ) → IsContent e held → before_gathered e ≤ length held
+before_held (Frame h) held same = omega arith
+before_held (Holds f (field.Byte n)) held same = omega arith
+before_held (Holds f (field.Short n)) held same = omega arith
+before_held (Holds f (field.Int z)) held same = omega arith
+before_held (Holds f (field.Long z)) held same = omega arith
+before_held (Holds f (field.Uuid b)) held same = omega arith
+before_held (Holds f (field.Count n)) held same = omega arith
+before_held (Holds f (field.Text t)) held same = omega arith
+before_held (Holds f (field.Bytes (Some c))) held same = omega arith
+before_held (Holds f (field.Bytes None)) held same = omega arith
+before_held (Holds f (field.Bound field.Null)) held same = omega arith
+before_held (Holds f (field.Bound field.Unset)) held same = omega arith
+before_held (Holds f (field.Bound (field.Known c))) held same = omega arith
+before_held (Holds f (field.Inet a z)) held same = omega arith
+before_held (Node_of k) held same = omega arith
+before_held (Cell_at row column (cell.Leaf level (scalar.Custom b))) held same = omega arith
+before_held (Cell_at row column (cell.Leaf level (scalar.Ascii b))) held same = omega arith
+before_held (Cell_at row column (cell.Leaf level (scalar.Bigint b))) held same = omega arith
+before_held (Cell_at row column (cell.Leaf level (scalar.Blob b))) held same = omega arith
+before_held (Cell_at row column (cell.Leaf level (scalar.Boolean b))) held same = omega arith
+before_held (Cell_at row column (cell.Leaf level (scalar.Counter b))) held same = omega arith
+before_held (Cell_at row column (cell.Leaf level (scalar.Decimal z b))) held same = omega (arith, same.2, length-append (to_be_bytes w32 (cast_unsigned w32 z)) b)
+before_held (Cell_at row column (cell.Leaf level (scalar.Double b))) held same = omega arith
+before_held (Cell_at row column (cell.Leaf level (scalar.Float b))) held same = omega arith
+before_held (Cell_at row column (cell.Leaf level (scalar.Int b))) held same = omega arith
+before_held (Cell_at row column (cell.Leaf level (scalar.Timestamp b))) held same = omega arith
+before_held (Cell_at row column (cell.Leaf level (scalar.Uuid b))) held same = omega arith
+before_held (Cell_at row column (cell.Leaf level (scalar.Varchar b))) held same = omega arith
+before_held (Cell_at row column (cell.Leaf level (scalar.Varint b))) held same = omega arith
+before_held (Cell_at row column (cell.Leaf level (scalar.Timeuuid b))) held same = omega arith
+before_held (Cell_at row column (cell.Leaf level (scalar.Inet b))) held same = omega arith
+before_held (Cell_at row column (cell.Leaf level (scalar.Date b))) held same = omega arith
+before_held (Cell_at row column (cell.Leaf level (scalar.Time b))) held same = omega arith
+before_held (Cell_at row column (cell.Leaf level (scalar.Smallint b))) held same = omega arith
+before_held (Cell_at row column (cell.Leaf level (scalar.Tinyint b))) held same = omega arith
+before_held (Cell_at row column (cell.Leaf level (scalar.Raw b))) held same = omega arith
+before_held (Cell_at row column (cell.Null level)) held same = omega arith
+before_held (Cell_at row column (cell.Empty level)) held same = omega arith
+before_held (Cell_at row column (cell.Enter level k n)) held same = omega arith
+before_held (Cell_at row column (cell.Leave level n)) held same = omega arith
+before_held (Cell_at row column (cell.Part level offset c last)) held same = omega arith
+before_held (Leave level n) held same = omega arith
+before_held (End n) held same = omega arith
+
 -- ---- where it lies
 
 step_lies : (input : Ptr) (b : Buffer) (p : Put) (o : Option (List ℕ)) (place : Ptr) → IsInInput p → LiesByStep input p o place → LiesBy input b p o place
 step_lies input b p None place lies is = is
-step_lies input b p (Some content) place lies is = (is.0, λ gathered. absurd (omega (arith, gathered, lies)))
+step_lies input b p (Some content) place lies is = (is, λ gathered. absurd (omega (arith, gathered, lies)))
 
 -- one that lies in the input is put as it is told
 pub step_put : (input : Ptr) (b : Buffer) (c : CqlpEvent) (p : Put) → IsInInput p → TellsStep input c p → TellsPut input b c p
 step_put input b c p lies t = (t.0, step_lies input b p (content_in p.event) t.0 lies t.1, t.2)
 
-module _ (input : Ptr) (b : Buffer) (p : Put) (some : p.from ≤ p.end) (gathered : IsGathered p) (held : IsContent p.event b.bytes) where
-  lies_first : (o : Option (List ℕ)) → content_in p.event ≡ o → before_gathered p.event ≡ 0 → content_span p.event ≡ length (content_of p.event) → LiesBy input b p o b.at
-  lies_first None is first span = absurd (omega (arith, gathered, some, span, ap (λ (o : Option (List ℕ)). length (bytes_in o)) is))
-  lies_first (Some content) is first span = (
-    λ lies. absurd (omega (arith, gathered, lies)),
-    λ _. record { is = held_content p.event b.bytes content is held; there = λ _. refl; points = λ before. absurd (omega (arith, before, first)) },
-  )
+there_lies : (input : Ptr) (b : Buffer) (p : Put) (some : p.from ≤ p.end) (gathered : IsGathered p) (held : IsContent p.event b.bytes) (o : Option (List ℕ)) → content_in p.event ≡ o → (n : ℕ) → n ≡ before_gathered p.event → LiesBy input b p o (b.at +ₚ n)
+there_lies input b p some gathered held None is n before = absurd (omega (arith, gathered, some, none_spans p.event is))
+there_lies input b p some gathered held (Some content) is n before = (
+  λ lies. absurd (omega (arith, gathered, lies)),
+  λ _. record { is = held_content p.event b.bytes content is held; there = ap (λ (k : ℕ). b.at +ₚ k) before },
+)
 
-  lies_later : (o : Option (List ℕ)) (place : Ptr) → content_in p.event ≡ o → 0 < before_gathered p.event → LiesByStep input p o place → LiesBy input b p o place
-  lies_later None place is later step = step
-  lies_later (Some content) place is later step = (
-    step.0,
-    λ lies. record { is = held_content p.event b.bytes content is held; there = λ first. absurd (omega (arith, later, first)); points = λ _. step.1 lies },
-  )
+scale_more : (scaled : Bool) (n : ℕ) → (if scaled then n + 4 else n) ≡ n + (if scaled then 4 else 0)
+scale_more true n = refl
+scale_more false n = omega arith
 
-module _ (d : Decoding) (c : CqlpEvent) where
-  spans : (input : Ptr) (p : Put) (t : TellsStep input c p) → span_in c ≡ content_span p.event
-  spans input p t = ap span_in t.2 ∙ span_event p.at p.event t.0
-
-  longs : (input : Ptr) (p : Put) (t : TellsStep input c p) → c.length ≡ length (content_of p.event)
-  longs input p t = ap (λ (z : CqlpEvent). z.length) t.2
-
-  pub put_first : is_decimal c ≡ false → PutsGathered (buffer_in d) c (record c { content = buffer_of d })
-  put_first plain_kind = λ input p some gathered held t.
-      let plain : span_in c ≡ c.length = rw plain_kind refl in
-      let span : content_span p.event ≡ length (content_of p.event) = sym (spans input p t) ∙ plain ∙ longs input p t in (
-        buffer_of d,
-        lies_first input (buffer_in d) p some gathered held (content_in p.event) refl (omega (arith, span)) span,
-        ap (λ (z : CqlpEvent). record z { content = buffer_of d }) t.2,
-      )
-
-  pub put_decimal : is_decimal c ≡ true → PutsGathered (buffer_in d) c c
-  put_decimal scaled_kind = λ input p some gathered held t.
-      let scaled : span_in c ≡ c.length + 4 = rw scaled_kind refl in
-      let span : content_span p.event ≡ length (content_of p.event) + 4 = sym (spans input p t) ∙ scaled ∙ ap (λ (n : ℕ). n + 4) (longs input p t) in
-      (t.0, lies_later input (buffer_in d) p some gathered held (content_in p.event) t.0 refl (omega (arith, span)) t.1, t.2)
+-- what is told of a gathered content, with its place in the decoder
+pub put_there : (d : Decoding) (c : CqlpEvent) → PutsGathered (buffer_in d) c (record c { content = buffer_of d +ₚ min (scale_in c) (length (state d).held) })
+put_there d c = λ input p some gathered held t.
+    let span : span_in c ≡ content_span p.event = ap span_in t.2 ∙ span_event p.at p.event t.0 in
+    let long : c.length ≡ length (content_of p.event) = ap (λ (z : CqlpEvent). z.length) t.2 in
+    let scaled : span_in c ≡ c.length + scale_in c = scale_more (is_decimal c) c.length in
+    let scale : scale_in c ≡ before_gathered p.event = omega (arith, span, long, scaled) in
+    let n = min (scale_in c) (length (state d).held) in
+    let before : n ≡ before_gathered p.event = omega (arith, scale, before_held p.event (state d).held held) in (
+      buffer_of d +ₚ n,
+      there_lies input (buffer_in d) p some gathered held (content_in p.event) refl n before,
+      ap (λ (z : CqlpEvent). record z { content = buffer_of d +ₚ n }) t.2,
+    )

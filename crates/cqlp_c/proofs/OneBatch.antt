@@ -4,6 +4,7 @@ use Rattle.std.specs.Prelude.{Option, Some, None}
 use Rattle.std.proofs.lemmas.Bool.{cases_lt}
 use Rattle.std.proofs.lemmas.List.{length-append, nil_from_length}
 use Rattle.std.specs.Ptr.{Ptr}
+use denote.RawPtr.{◌+ₚ◌}
 use Rattle.cqlp_note.specs.declared.refusal.Refusal.{Refusal}
 use Rattle.cqlp_note.specs.Limits.{Rules}
 use Rattle.cqlp_decode.specs.Reading.{Event, Verdict, Waits, Refused, Says, start}
@@ -30,16 +31,16 @@ module _ (begins : Ptr) (buffer buffer' : Buffer) where
   placed_once p (Some content) lies x y a b = b.0 lies ∙ sym (a.0 lies)
 
   -- where a content begins that was gathered
-  gathered_once : (p : Put) (o : Option (List ℕ)) → buffer'.at ≡ buffer.at → IsGathered p → before_gathered p.event ≡ 0 → (x y : Ptr) → LiesBy begins buffer p o x → LiesBy begins buffer' p o y → y ≡ x
-  gathered_once p None same lies first x y a b = b ∙ sym a
-  gathered_once p (Some content) same lies first x y a b = (b.1 lies).there first ∙ same ∙ sym ((a.1 lies).there first)
+  gathered_once : (p : Put) (o : Option (List ℕ)) → buffer'.at ≡ buffer.at → IsGathered p → (x y : Ptr) → LiesBy begins buffer p o x → LiesBy begins buffer' p o y → y ≡ x
+  gathered_once p None same lies x y a b = b ∙ sym a
+  gathered_once p (Some content) same lies x y a b = (b.1 lies).there ∙ ap (λ (q : Ptr). q +ₚ before_gathered p.event) same ∙ sym (a.1 lies).there
 
   tells_once : (c d : CqlpEvent) (p : Put) → TellsPut begins buffer c p → TellsPut begins buffer' d p
-      → (unplaced d ≡ unplaced c) × (IsInInput p → d ≡ c) × (buffer'.at ≡ buffer.at → IsGathered p → before_gathered p.event ≡ 0 → d ≡ c)
+      → (unplaced d ≡ unplaced c) × (IsInInput p → d ≡ c) × (buffer'.at ≡ buffer.at → IsGathered p → d ≡ c)
   tells_once c d p x y = (
     ap unplaced y.2 ∙ sym (ap unplaced x.2),
     λ lies. y.2 ∙ ap (told_at p.at p.event) (placed_once p (content_in p.event) lies x.0 y.0 x.1 y.1) ∙ sym x.2,
-    λ same lies first. y.2 ∙ ap (told_at p.at p.event) (gathered_once p (content_in p.event) same lies first x.0 y.0 x.1 y.1) ∙ sym x.2,
+    λ same lies. y.2 ∙ ap (told_at p.at p.event) (gathered_once p (content_in p.event) same lies x.0 y.0 x.1 y.1) ∙ sym x.2,
   )
 
   tells_all_once : (cs ds : List CqlpEvent) (ps : List Put) → TellsAll begins buffer cs ps → TellsAll begins buffer' ds ps → AreSame buffer.at buffer'.at ps cs ds

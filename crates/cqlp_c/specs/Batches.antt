@@ -15,7 +15,7 @@ use Rattle.cqlp_c.specs.declared.event.CqlpEvent.{CqlpEvent}
 use Rattle.cqlp_c.specs.declared.batch.Batch.{Batch}
 use Rattle.cqlp_c.specs.declared.batch.Stop.{Stop}
 use Rattle.cqlp_c.specs.declared.batch.Stop.TheVariants as stop
-use Rattle.cqlp_c.specs.Events.{IsStart, before_gathered, content_span, told_at}
+use Rattle.cqlp_c.specs.Events.{before_gathered, content_span, told_at}
 
 -- An event that was put, at this offset of the stream. Its step used the bytes of the input from `from` to `end`.
 pub record Put : Type 0 where
@@ -63,12 +63,11 @@ pub record Buffer : Type 0 where
 abbrev pub buffer_in : Decoding → Buffer
 buffer_in d = record { at = buffer_of d; bytes = (state d).held }
 
--- A content that was gathered is what the decoder holds, and lies where its memory begins. Of a decimal the scale lies
--- there, with the content after it, to which a reference points.
+-- A content that was gathered is what the decoder holds, and lies where its memory begins; a decimal's lies behind the
+-- scale, which is held with it.
 pub record LiesInBuffer (b : Buffer) (e : Event) (content : List ℕ) (place : Ptr) : Type 0 where
   pub is : drop (before_gathered e) b.bytes ≡ content
-  pub there : before_gathered e ≡ 0 → place ≡ b.at
-  pub points : 0 < before_gathered e → IsStart (Some content) place
+  pub there : place ≡ b.at +ₚ before_gathered e
 
 -- Where the content lies of an event that was put, out of an input that begins there: one that is whole in the bytes that
 -- its step used is the last of them; one that was gathered lies in the decoder's memory. It is null where there is none.
@@ -87,11 +86,10 @@ TellsAll input b [] [] = ⊤
 TellsAll input b (c ∷ cs) (p ∷ ps) = TellsPut input b c p × TellsAll input b cs ps
 TellsAll input b cs ps = ⊥
 
--- The same of a step, before the address of a gathered content is put: a reference to the content points there.
+-- The same of a step, before the address of a gathered content is put.
 abbrev pub LiesByStep : (input : Ptr) → Put → Option (List ℕ) → Ptr → Type 0
 LiesByStep input p None place = place ≡ null_ptr
-LiesByStep input p (Some content) place =
-    (IsInInput p → place ≡ input +ₚ (p.end - length content)) × (IsGathered p → IsStart (Some content) place)
+LiesByStep input p (Some content) place = IsInInput p → place ≡ input +ₚ (p.end - length content)
 
 abbrev pub TellsStep : (input : Ptr) → CqlpEvent → Put → Type 0
 TellsStep input c p = (place : Ptr) × LiesByStep input p (content_in p.event) place × (c ≡ told_at p.at p.event place)

@@ -190,3 +190,7 @@ is_decimal c = (c.tag == numbers.TAG_LEAF) && (c.kind == numbers.KIND_DECIMAL)
 
 abbrev pub span_in : CqlpEvent → ℕ
 span_in c = if is_decimal c then c.length + 4 else c.length
+
+-- how many bytes of a scale come before its content
+abbrev pub scale_in : CqlpEvent → ℕ
+scale_in c = if is_decimal c then 4 else 0

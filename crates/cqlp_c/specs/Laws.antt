@@ -16,7 +16,7 @@ use Rattle.cqlp_c.specs.declared.numbers.TheConstants as numbers
 use Rattle.cqlp_c.specs.Batches.{Buffer, IsGathered, IsInInput, IsRead, OthersInInput, Put, events_of}
 use Rattle.cqlp_c.specs.Checks.{HasVerdict}
 use Rattle.cqlp_c.specs.Clients.{Starts}
-use Rattle.cqlp_c.specs.Events.{before_gathered, of_frame}
+use Rattle.cqlp_c.specs.Events.{of_frame}
 use Rattle.cqlp_c.specs.Handle.{PutsInto}
 use Rattle.cqlp_c.specs.Talked.{is_stream, signal_in}
 
@@ -25,11 +25,11 @@ abbrev pub unplaced : CqlpEvent → CqlpEvent
 unplaced c = record c { content = null_ptr }
 
 -- Each of these events was put twice: what C is told is the same, and where the content lies too, if it lies in the input,
--- or at the beginning of a decoder's memory, and that is one place.
+-- or in a decoder's memory that begins in one place.
 abbrev pub AreSame : (buffer buffer' : Ptr) → List Put → (events events' : List CqlpEvent) → Type 0
 AreSame buffer buffer' [] [] [] = ⊤
 AreSame buffer buffer' (p ∷ ps) (c ∷ cs) (d ∷ ds) =
-    (unplaced d ≡ unplaced c) × (IsInInput p → d ≡ c) × (buffer' ≡ buffer → IsGathered p → before_gathered p.event ≡ 0 → d ≡ c)
+    (unplaced d ≡ unplaced c) × (IsInInput p → d ≡ c) × (buffer' ≡ buffer → IsGathered p → d ≡ c)
     × AreSame buffer buffer' ps cs ds
 AreSame buffer buffer' ps cs ds = ⊥
 

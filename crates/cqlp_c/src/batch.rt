@@ -111,14 +111,11 @@ fn put_step(slot: &mut CqlpEvent, at: u64, event: &Event<'_>, bytes: &[u8], take
     gathered
 }
 
-/// Puts where the content of an event lies in the decoder that holds it. A decimal's stays where it was lent: its scale lies
-/// before it.
+/// Puts where the content of an event lies in the decoder that holds it.
 fn put_gathered(slot: &mut CqlpEvent, decoder: &Decoder<Global>)
     ensures { PutsGathered (buffer_in decoder.now) slot.old slot.new }
 {
-    if !slot.is_decimal() {
-        slot.content = decoder.buffer();
-    }
+    slot.content = decoder.held_address(slot.scale_len());
 }
 
 /// The input of a call, which has one place for all of the batch.

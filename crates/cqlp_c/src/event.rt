@@ -83,7 +83,7 @@ fn widen_eight(bytes: [u8; 8]) -> [u8; 16]
 }
 
 impl CqlpEvent {
-    ghost use Rattle.cqlp_c.specs.Events.{blank, is_decimal, of_field, of_frame, of_value, span_in};
+    ghost use Rattle.cqlp_c.specs.Events.{blank, is_decimal, of_field, of_frame, of_value, scale_in, span_in};
     ghost use Rattle.cqlp_c.specs.Numbers.{number_of_kind};
 
     /// An event of which only the offset is known.
@@ -251,6 +251,14 @@ impl CqlpEvent {
         ensures { result ≡ is_decimal self.now }
     {
         self.tag == TAG_LEAF && self.kind == KIND_DECIMAL
+    }
+
+    /// How many bytes of a scale are gathered before the content.
+    #[inline(always)]
+    pub fn scale_len(&self) -> usize
+        ensures { result ≡ scale_in self.now }
+    {
+        if self.is_decimal() { 4 } else { 0 }
     }
 
     /// Whether a content lies not whole in the bytes that the call used, so that it lies in the decoder. Of a decimal the

@@ -95,7 +95,7 @@ lent_is nodes row column used (outline.Part level offset c last) input buffer ca
 -- where it does not, it is held
 kept_leaf : (row column level used : ℕ) (k : Kind) (content buffer : List ℕ) (o : Option ScalarValue) → scalar_of k content ≡ o → allows_size k (length content) ≡ true → (used < length content → buffer ≡ content) → IsHeld (cell_event row column (leaf_event level o)) used buffer
 kept_leaf row column level used k content buffer None is allowed h = λ _. tt
-kept_leaf row column level used k content buffer (Some v) is allowed h = λ lt. (k, ap (scalar_of k) (h (rw (scalar_sized k content v allowed is) lt)) ∙ is)
+kept_leaf row column level used k content buffer (Some v) is allowed h = λ lt. let same = h (rw (scalar_sized k content v allowed is) lt) in (k, ap (scalar_of k) same ∙ is, ap length same ∙ scalar_sized k content v allowed is)
 
 kept_is : (nodes : List Node) (row column used : ℕ) (i : CellOutline) (input buffer : List ℕ) → CanLend i input buffer → taking.IsHeld nodes i input buffer used → IsHeld (cell_event row column (cell_event_at i input buffer)) used buffer
 kept_is nodes row column used (outline.Leaf level k c) input buffer can h = kept_leaf row column level used k (content_at c input buffer) buffer (scalar_of k (content_at c input buffer)) refl can.1 h

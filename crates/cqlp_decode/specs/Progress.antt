@@ -117,7 +117,8 @@ IsLent e used held = ⊤
 -- what is held is the content; of a scalar it spells it
 abbrev pub IsContent : Event → (held : List ℕ) → Type 0
 IsContent (reading.Holds f v) held = held ≡ content_bytes v
-IsContent (reading.Cell_at row column (cell.Leaf level v)) held = (k : Kind) × (scalar_of k held ≡ Some v)
+IsContent (reading.Cell_at row column (cell.Leaf level v)) held =
+    (k : Kind) × (scalar_of k held ≡ Some v) × (length held ≡ content_size v)
 IsContent (reading.Cell_at row column (cell.Part level offset c last)) held = held ≡ c
 IsContent e held = ⊤
 

@@ -1,7 +1,8 @@
 //! The decoder of a stream of frames.
 
 ghost use Rattle.std.specs.Prelude.{◌≡◌, ◌+◌, ◌<◌, ◌≤◌, ◌^◌, ◌*◌, ◌↔◌};
-ghost use Rattle.std.specs.Prelude.{[], length, IfOk, IsErrOf, Err, Ok, max, None, Some};
+ghost use Rattle.std.specs.Prelude.{[], length, IfOk, IsErrOf, Err, Ok, max, min, None, Some};
+ghost use denote.RawPtr.{◌+ₚ◌};
 ghost use Rattle.std.specs.Borrow.{sem};
 ghost use Rattle.cqlp_note.specs.Limits.{first_bad, rules_of};
 ghost use Rattle.cqlp_note.specs.Head.{value_of};
@@ -218,11 +219,12 @@ impl<A: Allocator> Decoder<A> {
         }
     }
 
-    /// Where the content lies that is held, whose bytes `held` counts: it stays there until the next call that reads on.
-    pub fn buffer(&self) -> *const u8
-        ensures { result ≡ buffer_of self.now }
+    /// Where the content that is held, whose bytes `held` counts, lies from the index `start` on: it stays there until the
+    /// next call that reads on.
+    pub fn held_address(&self, start: usize) -> *const u8
+        ensures { result ≡ buffer_of self.now +ₚ min start (length (state self.now).held) }
     {
-        self.parts.partial.buffer()
+        self.parts.partial.address(start)
     }
 
     /// The types of the metadata begun last: those handed out since the field MetaFlags was.

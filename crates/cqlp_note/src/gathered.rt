@@ -1,6 +1,7 @@
 //! The content of a field out of pieces.
 
-ghost use Rattle.std.specs.Prelude.{◌≡◌, ◌==◌, ◌+◌, ◌≤◌, ◌++◌, [], length, replicate, vec_capacity, IfOk};
+ghost use Rattle.std.specs.Prelude.{◌≡◌, ◌==◌, ◌+◌, ◌≤◌, ◌++◌, [], length, min, replicate, vec_capacity, IfOk};
+ghost use denote.RawPtr.{InBlock, ◌+ₚ◌};
 ghost use Rattle.std.specs.Vec.{vec_ptr};
 
 use crate::refusal::NoMemory;
@@ -48,11 +49,11 @@ impl<A: Allocator> GatheredContent<A> {
         &self.bytes[..self.len as usize]
     }
 
-    /// Where its memory begins.
-    pub fn as_ptr(&self) -> *const u8
-        ensures { result ≡ self.now.buffer }
+    /// Where its bytes lie from the index `start` on, or where they end if they are fewer.
+    pub fn address(&self, start: usize) -> *const u8
+        ensures { result ≡ self.now.buffer +ₚ min start (length self.now.items) }
     {
-        self.bytes.as_ptr()
+        address_after(&self.bytes, start.min(self.len as usize))
     }
 
     /// How many bytes there are.
@@ -98,6 +99,20 @@ impl<A: Allocator> GatheredContent<A> {
         self.bytes.slice_mut(start..end).copy_from_slice(piece);
         self.len = end as u32;
     }
+}
+
+/// The memory of a vector is in a block, so that addresses behind its first are counted on from it. It has nothing to do.
+fn has_address<A: Allocator>(bytes: &Vec<u8, A>)
+    ensures { InBlock (vec_ptr bytes.now) }
+{}
+
+/// Where a byte of a vector lies, or where its bytes end.
+fn address_after<A: Allocator>(bytes: &Vec<u8, A>, start: usize) -> *const u8
+    requires { start ≤ length bytes.now.items }
+    ensures { result ≡ vec_ptr bytes.now +ₚ start }
+{
+    has_address(bytes);
+    unsafe { bytes.as_ptr().byte_add(start) }
 }
 
 /// Adds this many zeros.

@@ -1,7 +1,8 @@
 //! A field out of pieces of any size.
 
 ghost use Rattle.std.specs.Prelude.{◌≡◌, ◌+◌, ◌-◌, ◌<◌, ◌≤◌, ◌^◌, ◌++◌};
-ghost use Rattle.std.specs.Prelude.{List, [], ℕ, true, false, length, drop, IfOk, IfSome, IsTrue};
+ghost use Rattle.std.specs.Prelude.{List, [], ℕ, true, false, length, min, drop, IfOk, IfSome, IsTrue};
+ghost use denote.RawPtr.{◌+ₚ◌};
 ghost use Rattle.std.specs.Borrow.{sem};
 ghost use Rattle.cqlp_note.specs.Head.{Tells, front_of, reader_of, value_of};
 ghost use Rattle.cqlp_note.specs.Partial.{IsContentHead, LeadsToContent};
@@ -389,12 +390,12 @@ impl<A: Allocator> Partial<A> {
         }
     }
 
-    /// Where the buffer begins: there lies the content that it holds. It is one place for as long as the reader lives,
-    /// wherever that is moved, and what lies there stays until the next call that changes the reader.
-    pub fn buffer(&self) -> *const u8
-        ensures { result ≡ self.now.buffer }
+    /// Where the content that the buffer holds lies from the index `start` on. The buffer lies in one place for as long as
+    /// the reader lives, wherever that is moved, and what is in it stays until the next call that changes the reader.
+    pub fn address(&self, start: usize) -> *const u8
+        ensures { result ≡ self.now.buffer +ₚ min start (length self.now.content) }
     {
-        self.content.as_ptr()
+        self.content.address(start)
     }
 
     /// How many bytes the buffer holds.
