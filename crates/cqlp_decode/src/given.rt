@@ -1,4 +1,7 @@
 //! Tables of types that the caller gives, for pages whose metadata has none.
+//!
+//! `Decoder::give` takes one, unless a [`GiveReason`] is against it. It waits for the first page that it fits, which `serves`
+//! in page.rt says, types that page's cells in place of the metadata's table (`page_table`), and no other page after it.
 
 ghost use Rattle.std.specs.Prelude.{◌≡◌};
 ghost use Rattle.cqlp_decode.specs.Pages.{ended_use, use_after};

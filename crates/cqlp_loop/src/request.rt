@@ -1,4 +1,5 @@
-//! The requests of the conversation, and their replies.
+//! The requests of the conversation, and their replies. `cqlp loop 3` sends OPTIONS, STARTUP and three times the query, in the
+//! order of conversation.rt.
 
 ghost use Rattle.std.specs.Prelude.{◌≡◌, ◌∷◌, [], IfOk, string_bytes};
 ghost use Rattle.cqlp_message.specs.Owned.{frame_of, message_of, page_of};
