@@ -14,7 +14,8 @@ pub fn one_answer_of_new()
 
 /// After the same bytes and events, and the same tables given in between, there is one answer over the same input: the
 /// same event at the same offset with the same bytes used, the same refusal, or more is wanted; and the decoder is left
-/// alike. How many bytes and levels it then holds is bounded, and not among this.
+/// alike: with the same limits, refusal, type options and given types, so that `held` answers the same number of type
+/// options. How many bytes and how many levels it answers is not among this: each is within its bound.
 pub fn one_answer_of_next()
     ensures { IsOneAnswerOfNext }
 {}

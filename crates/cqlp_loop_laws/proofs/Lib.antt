@@ -2,4 +2,4 @@ mod Fronts
 mod Receipts
 mod Turns
 mod Stops
-mod Conversations
+pub mod Conversations

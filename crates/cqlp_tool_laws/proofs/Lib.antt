@@ -9,3 +9,4 @@ mod QuietFrames
 mod PageTexts
 mod RowTexts
 mod LastRead
+mod CommandLines

@@ -233,7 +233,7 @@ shows_once form limits turns xs left left' before after after' ending.WriteFault
 shows_once form limits turns xs left left' before after after' ending.NoMemory ending.NoMemory alike a b = (refl, inl (b ∙ sym a))
 shows_once form limits turns xs left left' before after after' e e' alike a b = absurd alike
 
-concludes_once : (e : Ending) (before after after' : Output) (status status' : ℕ) → FailsAlike before after after' → Concludes e before status after → Concludes e before status' after' → (status' ≡ status) × IsOneOutput before after after'
+pub concludes_once : (e : Ending) (before after after' : Output) (status status' : ℕ) → FailsAlike before after after' → Concludes e before status after → Concludes e before status' after' → (status' ≡ status) × IsOneOutput before after after'
 concludes_once e before after after' status status' alike (inl a) (inl b) = (b.0 ∙ sym a.0, inl (b.1 ∙ sym a.1))
 concludes_once e before after after' status status' alike (inl a) (inr b) = absurd (counts_up before.failures alike.0 (sym b.1.failures ∙ alike.1 ∙ ap (λ o. o.failures) a.1))
 concludes_once e before after after' status status' alike (inr a) (inl b) = absurd (counts_up before.failures alike.0 (sym a.1.failures ∙ sym alike.1 ∙ ap (λ o. o.failures) b.1))

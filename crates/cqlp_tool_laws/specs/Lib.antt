@@ -2,3 +2,4 @@ pub mod Text
 pub mod Tool
 pub mod ValueText
 pub mod Rows
+pub mod CommandLines

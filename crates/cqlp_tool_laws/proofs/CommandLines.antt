@@ -1,0 +1,164 @@
+-- One answer of a command line.
+use Rattle.std.proofs.Common.{◌≡◌, ◌≢◌, ℕ, Bool, true, false, List, [], ◌++◌, Option, Some, None, IsSome, Result, Ok, Err, ◌⊎◌, refl, sym, ap, ◌∙◌, inl, inr, subst, append_assoc}
+use Rattle.std.specs.Prelude.{codes, string_bytes}
+use Rattle.std.specs.Io.KnownBytes.{Appends, append_known}
+use Rattle.cqlp_note.specs.declared.limits.Limits.{Limits}
+use Rattle.cqlp_options.specs.declared.command_line.CommandLine.{CommandLine}
+use Rattle.cqlp_options.specs.declared.command_line.CommandLine.TheVariants as line
+use Rattle.cqlp_options.specs.declared.no_task.NoTask.{NoTask}
+use Rattle.cqlp_options.specs.declared.no_task.NoTask.TheVariants as no_task
+use Rattle.cqlp_options.specs.declared.options.Task.{Task}
+use Rattle.cqlp_options.specs.declared.options.Task.TheVariants as task
+use Rattle.cqlp_text.specs.declared.ending.Ending.TheVariants as ending
+use Rattle.cqlp_text.specs.Outputs.{Output, output, with_text, StopsWithin}
+use Rattle.cqlp_text.specs.PageText.{no_page}
+use Rattle.cqlp_loop.specs.declared.fault.LoopFault.{LoopFault}
+use Rattle.cqlp_loop.specs.declared.fault.LoopFault.TheVariants as fault
+use Rattle.cqlp_loop.specs.Inboxes.{Supply}
+use Rattle.cqlp_loop.specs.Script.{Wires, Converses, Talks}
+use Rattle.cqlp_loop_laws.specs.OneAnswer.{SaidTheSame, SaidMore}
+use Rattle.cqlp_loop_laws.proofs.Conversations.{one_answer, one_goes_on}
+use Rattle.cqlp_render.specs.declared.text_form.TextForm.{TextForm}
+use Rattle.cqlp_render.specs.declared.text_form.TextForm.TheVariants as forms
+use Rattle.cqlp_render.specs.Showing.{ShowsBytes, ChecksBytes, Concludes}
+use Rattle.cqlp_render.specs.Streams.{Streams}
+use Rattle.cqlp_render.proofs.Renders.{known_nothing}
+use Rattle.cqlp_tool.specs.CommandLines.{DoesTask, Executes, Complains, Helps, turns}
+use Rattle.cqlp_tool.specs.Conversing.{ConversesWithItself, Reports, ending_of}
+use Rattle.cqlp_tool_laws.specs.Text.{FailsAlike, GoesOnFromOther}
+use Rattle.cqlp_tool_laws.specs.Tool.{IsOneOutput}
+use Rattle.cqlp_tool_laws.specs.CommandLines.{AreCheckedAlike, AreMetAlike, AreKnown, AreOutputsMetAlike, AreShownAlike, AreLoopsAlike, IsErrorMetAlike, IsExecutedOnce, IsLoopDecided, IsOneAnswer, IsTaskMetAlike, LoopGoesOn}
+use Rattle.cqlp_tool_laws.proofs.OneText.{counts_up, stops_once}
+use Rattle.cqlp_tool_laws.proofs.OneAnswer.{commands_end_once, checks_end_once, concludes_once, shown_once, checked_once}
+
+-- ---- a text
+
+same_output : (o o' : Output) → o'.given ≡ o.given → o'.failures ≡ o.failures → o' ≡ o
+same_output o o' given failures = ap (λ z. output z o'.failures) given ∙ ap (λ z. output o.given z) failures
+
+nothing : (o : Output) → o ≡ with_text o []
+nothing o = ap (λ z. output z o.failures) (sym (known_nothing o.given))
+
+-- a text that is written whole, or at which the target fails
+text_once : (before after after' : Output) (text : List ℕ) → FailsAlike before after after' → (after ≡ with_text before text) ⊎ StopsWithin before text after → (after' ≡ with_text before text) ⊎ StopsWithin before text after' → IsOneOutput before after after'
+text_once before after after' text alike (inl a) (inl b) = inl (b ∙ sym a)
+text_once before after after' text alike (inl a) (inr b) = absurd (counts_up before.failures alike.0 (sym b.failures ∙ alike.1 ∙ ap (λ o. o.failures) a))
+text_once before after after' text alike (inr a) (inl b) = absurd (counts_up before.failures alike.0 (sym a.failures ∙ sym alike.1 ∙ ap (λ o. o.failures) b))
+text_once before after after' text alike (inr a) (inr b) = inr (a.failures, b.failures, stops_once before after after' text a b)
+
+complained_once : (text : List ℕ) (before after after' : Output) (status status' : ℕ) → FailsAlike before after after' → Complains text before status after → Complains text before status' after' → (status' ≡ status) × IsOneOutput before after after'
+complained_once text before after after' status status' alike (inl a) (inl b) = (b.0 ∙ sym a.0, inl (b.1 ∙ sym a.1))
+complained_once text before after after' status status' alike (inl a) (inr b) = absurd (counts_up before.failures alike.0 (sym b.1.failures ∙ alike.1 ∙ ap (λ o. o.failures) a.1))
+complained_once text before after after' status status' alike (inr a) (inl b) = absurd (counts_up before.failures alike.0 (sym a.1.failures ∙ sym alike.1 ∙ ap (λ o. o.failures) b.1))
+complained_once text before after after' status status' alike (inr a) (inr b) = (b.0 ∙ sym a.0, text_once before after after' text alike (inr a.1) (inr b.1))
+
+-- ---- a command
+
+module _ (before : Streams) (status status' : ℕ) (after after' : Streams) where
+  helped_once : (text : List ℕ) → FailsAlike before.out after.out after'.out → FailsAlike before.err after.err after'.err → Helps text before.out before.err status after.out after.err → Helps text before.out before.err status' after'.out after'.err → IsOneAnswer before status status' after after'
+  helped_once text fails fails_err (inl a) (inl b) = (b.0 ∙ sym a.0, inl (b.1 ∙ sym a.1), inl (b.2 ∙ sym a.2))
+  helped_once text fails fails_err (inl a) (inr b) = absurd (counts_up before.out.failures fails.0 (sym b.0.failures ∙ fails.1 ∙ ap (λ o. o.failures) a.1))
+  helped_once text fails fails_err (inr a) (inl b) = absurd (counts_up before.out.failures fails.0 (sym a.0.failures ∙ sym fails.1 ∙ ap (λ o. o.failures) b.1))
+  helped_once text fails fails_err (inr a) (inr b) =
+      let reported = concludes_once ending.WriteFault before.err after.err after'.err status status' fails_err a.1 b.1 in
+      (reported.0, text_once before.out after.out after'.out text fails (inr a.0) (inr b.0), reported.1)
+
+-- ---- a task
+
+module _ (limits : Limits) (before : Streams) (status status' : ℕ) (after after' : Streams) where
+  showing_once : (form : TextForm) (xs : List ℕ) (a : ShowsBytes form limits turns xs before status after) (b : ShowsBytes form limits turns xs before status' after') → AreShownAlike form limits xs before status status' after after' a b → IsOneAnswer before status status' after after'
+  showing_once form xs a b alike =
+      let one = shown_once form limits turns xs before status status' after after' a b (commands_end_once form limits turns xs before status status' after after' a b alike.served) alike.error in
+      (one.1, one.2, one.3)
+
+  checking_once : (xs : List ℕ) (a : ChecksBytes limits turns xs before status after) (b : ChecksBytes limits turns xs before status' after') → AreCheckedAlike limits xs before status status' after after' a b → IsOneAnswer before status status' after after'
+  checking_once xs a b alike =
+      let one = checked_once limits turns xs before status status' after after' a b (checks_end_once limits turns xs before status status' after after' a b alike.served) alike.output alike.error in
+      (one.1, one.2, one.3)
+
+  task_once : (t : Task) (known : AreKnown before) (a : DoesTask t limits before status after) (b : DoesTask t limits before status' after') → IsTaskMetAlike limits before status status' after after' t known a b → IsOneAnswer before status status' after after'
+  task_once task.Show known a b alike = showing_once forms.Lines known.bytes (a known.bytes known.left known.out known.err) (b known.bytes known.left known.out known.err) alike
+  task_once task.Rows known a b alike = showing_once (forms.Pages no_page) known.bytes (a known.bytes known.left known.out known.err) (b known.bytes known.left known.out known.err) alike
+  task_once task.Check known a b alike = checking_once known.bytes (a known.bytes known.left known.out known.err) (b known.bytes known.left known.out known.err) alike
+
+-- ---- a conversation
+
+given_once : (old new new' : Option (List ℕ)) (bytes : List ℕ) → IsSome old → Appends old new bytes → Appends old new' bytes → new' ≡ new
+given_once None new new' bytes known a b = cc
+given_once (Some t) None new' bytes known a b = absurd a
+given_once (Some t) (Some u) None bytes known a b = absurd b
+given_once (Some t) (Some u) (Some v) bytes known a b = ap (λ z. Some z) (b ∙ sym a)
+
+reported_once : (r : Result (Unit {0}) LoopFault) (err err' err'' : Output) (status status' : ℕ) → FailsAlike err err' err'' → Reports r err status err' → Reports r err status' err'' → (status' ≡ status) × IsOneOutput err err' err''
+reported_once (Ok u) err err' err'' status status' alike a b = (b.0 ∙ sym a.0, inl (b.1 ∙ sym a.1))
+reported_once (Err e) err err' err'' status status' alike a b = concludes_once (ending_of e) err err' err'' status status' alike a b
+
+module _ (queries : ℕ) (out out' out'' : Output) (known : IsSome out.given) (fails : FailsAlike out out' out'') where
+  printed_once : (before after before' after' : Wires) → before.out ≡ out → after.out ≡ out' → before'.out ≡ out → after'.out ≡ out'' → SaidTheSame before after before' after' → out'' ≡ out'
+  printed_once before after before' after' from to from' to' said =
+      let bytes = said.lines.0 in
+      let a : Appends out.given out'.given bytes = subst (λ (o : Output). Appends o.given out'.given bytes) from (subst (λ (o : Output). Appends before.out.given o.given bytes) to said.lines.1) in
+      let b : Appends out.given out''.given bytes = subst (λ (o : Output). Appends o.given out''.given bytes) from' (subst (λ (o : Output). Appends before'.out.given o.given bytes) to' said.lines.2) in
+      same_output out' out'' (given_once out.given out'.given out''.given bytes known a b) fails.1
+
+  talked_once : (r r' : Result (Unit {0}) LoopFault) (a : ConversesWithItself queries out r out') (b : ConversesWithItself queries out r' out'') → AreLoopsAlike queries r out out' r' out'' a b → IsLoopDecided queries r out out' a → IsLoopDecided queries r' out out'' b → (r' ≡ r) × (out'' ≡ out')
+  talked_once r r' (inl a) (inl b) alike d d' = (b.0 ∙ sym a.0, b.1 ∙ sym a.1)
+  talked_once r r' (inl a) (inr b) alike d d' = absurd alike
+  talked_once r r' (inr a) (inl b) alike d d' = absurd alike
+  talked_once r r' (inr (from, left, (w, v, talks, heard, at, rest, to))) (inr (from', left', (w', v', talks', heard', at', rest', to'))) alike d d' =
+      let one = one_answer queries alike.to_client alike.to_server r r' w v w' v' (record { client = alike.client; server = alike.server; talks = talks }) (record { client = alike.client'; server = alike.server'; talks = talks' }) d d' in
+      (one.0, printed_once w v w' v' at to at' to' one.1)
+
+more_given : (old new new' : Option (List ℕ)) (bytes more : List ℕ) → IsSome old → Appends old new bytes → Appends old new' (bytes ++ more) → new' ≡ append_known new more
+more_given None new new' bytes more known a b = cc
+more_given (Some t) None new' bytes more known a b = absurd a
+more_given (Some t) (Some u) None bytes more known a b = absurd b
+more_given (Some t) (Some u) (Some v) bytes more known a b = ap (λ z. Some z) (b ∙ sym (append_assoc t bytes more) ∙ ap (λ z. z ++ more) (sym a))
+
+-- what was printed in one conversation, and then perhaps more
+more_printed : (out out' out'' : Output) (known : IsSome out.given) (same : out''.failures ≡ out'.failures) (before after before' after' : Wires) → before.out ≡ out → after.out ≡ out' → before'.out ≡ out → after'.out ≡ out'' → SaidMore before after before' after' → (more : List ℕ) × (out'' ≡ with_text out' more)
+more_printed out out' out'' known same before after before' after' from to from' to' said =
+    let bytes = said.lines.0 in
+    let more = said.lines.1 in
+    let a : Appends out.given out'.given bytes = subst (λ (o : Output). Appends o.given out'.given bytes) from (subst (λ (o : Output). Appends before.out.given o.given bytes) to said.lines.2) in
+    let b : Appends out.given out''.given (bytes ++ more) = subst (λ (o : Output). Appends o.given out''.given (bytes ++ more)) from' (subst (λ (o : Output). Appends before'.out.given o.given (bytes ++ more)) to' said.lines.3) in
+    (more, same_output (with_text out' more) out'' (more_given out.given out'.given out''.given bytes more known a b) same)
+
+module _ (queries : ℕ) (out out' out'' : Output) (known : IsSome out.given) (same : out''.failures ≡ out'.failures) where
+  goes_on : (r r' : Result (Unit {0}) LoopFault) (a : ConversesWithItself queries out r out') (b : ConversesWithItself queries out r' out'') → AreLoopsAlike queries r out out' r' out'' a b → GoesOnFromOther out' out''
+  goes_on r r' (inl a) (inl b) alike = inl ([], b.1 ∙ sym a.1 ∙ nothing out')
+  goes_on r r' (inl a) (inr b) alike = absurd alike
+  goes_on r r' (inr a) (inl b) alike = absurd alike
+  goes_on r r' (inr (from, left, (w, v, talks, heard, at, rest, to))) (inr (from', left', (w', v', talks', heard', at', rest', to'))) alike =
+      elim (one_goes_on queries alike.to_client alike.to_server r r' w v w' v' (record { client = alike.client; server = alike.server; talks = talks }) (record { client = alike.client'; server = alike.server'; talks = talks' })) [
+        | inl m ↦ inl (more_printed out out' out'' known same w v w' v' at to at' to' m)
+        | inr m ↦ inr (more_printed out out'' out' known (sym same) w' v' w v at' to' at to m)
+      ]
+
+pub loop_goes_on : LoopGoesOn
+loop_goes_on queries before status status' after after' a b met alike ends =
+    let reports : Reports a.0 before.err status' after'.err = subst (λ (r : Result (Unit {0}) LoopFault). Reports r before.err status' after'.err) ends (b.2 met.error.known) in
+    let reported = reported_once a.0 before.err after.err after'.err status status' met.error.fails (a.2 met.error.known) reports in
+    (reported.0, goes_on queries before.out after.out after'.out met.known met.fails.1 a.0 b.0 a.1 b.1 alike, reported.1)
+
+-- ---- a command line
+
+module _ (before : Streams) (status status' : ℕ) (after after' : Streams) where
+  line_once : (l : Result CommandLine NoTask) (a : Executes l before status after) (b : Executes l before status' after') → AreMetAlike before status status' after after' l a b → IsOneAnswer before status status' after after'
+  line_once (Ok (line.Stream options)) a b alike = task_once options.limits before status status' after after' options.task alike.1 (a alike.0) (b alike.0) alike.2
+  line_once (Ok (line.Loop queries)) a b alike =
+      let met = alike.outputs in
+      let one = talked_once queries before.out after.out after'.out met.known met.fails a.0 b.0 a.1 b.1 alike.alike alike.decided alike.decided' in
+      let reports : Reports a.0 before.err status' after'.err = subst (λ (r : Result (Unit {0}) LoopFault). Reports r before.err status' after'.err) one.0 (b.2 met.error.known) in
+      let reported = reported_once a.0 before.err after.err after'.err status status' met.error.fails (a.2 met.error.known) reports in
+      (reported.0, inl one.1, reported.1)
+  line_once (Err (no_task.Help text)) a b alike = helped_once before status status' after after' (string_bytes text) alike.fails alike.error.fails (a alike.known alike.error.known) (b alike.known alike.error.known)
+  line_once (Err (no_task.Mistake text)) a b alike =
+      let one = complained_once (string_bytes text) before.err after.err after'.err status status' alike.fails (a alike.known).1 (b alike.known).1 in
+      (one.0, inl ((b alike.known).0 ∙ sym (a alike.known).0), one.1)
+  line_once (Err no_task.NoMemory) a b alike =
+      let one = concludes_once ending.NoMemory before.err after.err after'.err status status' alike.fails (a alike.known).1 (b alike.known).1 in
+      (one.0, inl ((b alike.known).0 ∙ sym (a alike.known).0), one.1)
+
+pub executed_once : IsExecutedOnce
+executed_once l before status status' after after' a b alike = line_once before status status' after after' l a b alike

@@ -1,0 +1,148 @@
+-- The law of one answer of a command line that was read: what is written, and the status, are decided by the line and by
+-- what comes of the outside, but for what only the outside decides.
+use Rattle.std.specs.Prelude.{◌≡◌, ℕ, List, Some, IsSome, Result, Ok, Err}
+use Rattle.std.proofs.Common.{inl, inr}
+use Rattle.cqlp_note.specs.declared.limits.Limits.{Limits}
+use Rattle.cqlp_options.specs.declared.command_line.CommandLine.{CommandLine}
+use Rattle.cqlp_options.specs.declared.command_line.CommandLine.TheVariants as line
+use Rattle.cqlp_options.specs.declared.no_task.NoTask.{NoTask}
+use Rattle.cqlp_options.specs.declared.no_task.NoTask.TheVariants as no_task
+use Rattle.cqlp_options.specs.declared.options.Task.{Task}
+use Rattle.cqlp_options.specs.declared.options.Task.TheVariants as task
+use Rattle.cqlp_text.specs.Outputs.{Output}
+use Rattle.cqlp_text.specs.PageText.{no_page}
+use Rattle.cqlp_loop.specs.declared.fault.LoopFault.{LoopFault}
+use Rattle.cqlp_loop.specs.Script.{Wires}
+use Rattle.cqlp_loop_laws.specs.OneAnswer.{IsDecided}
+use Rattle.cqlp_render.specs.declared.text_form.TextForm.{TextForm}
+use Rattle.cqlp_render.specs.declared.text_form.TextForm.TheVariants as forms
+use Rattle.cqlp_render.specs.Showing.{ShowsBytes, ChecksBytes}
+use Rattle.cqlp_render.specs.Streams.{Streams}
+use Rattle.cqlp_tool.specs.CommandLines.{DoesTask, Executes, IsOfInput, turns}
+use Rattle.cqlp_tool.specs.Conversing.{ConversesAndReports, ConversesWithItself}
+use Rattle.cqlp_tool_laws.specs.Text.{FailsAlike, GoesOnFromOther}
+use Rattle.cqlp_tool_laws.specs.Tool.{IsOneOutput, IsServedAlike}
+
+-- one status, and one text on each output
+abbrev pub IsOneAnswer : (before : Streams) → (status status' : ℕ) → (after after' : Streams) → Type 0
+IsOneAnswer before status status' after after' =
+    (status' ≡ status) × IsOneOutput before.out after.out after'.out × IsOneOutput before.err after.err after'.err
+
+-- it is known what the input has left, and what both outputs were given
+pub record AreKnown (before : Streams) : Type 0 where
+  pub bytes : List ℕ
+  pub left : before.input.left ≡ Some bytes
+  pub out : IsSome before.out.given
+  pub err : IsSome before.err.given
+
+-- ---- a stream
+
+-- To two commands that show the same bytes the outside did the same.
+pub record AreShownAlike (form : TextForm) (limits : Limits) (xs : List ℕ) (before : Streams) (status status' : ℕ)
+    (after after' : Streams) (shows : ShowsBytes form limits turns xs before status after)
+    (shows' : ShowsBytes form limits turns xs before status' after') : Type 0 where
+  pub served : IsServedAlike turns xs before.input after.input after'.input before.out after.out after'.out shows.0
+      shows'.0
+  pub error : FailsAlike before.err after.err after'.err
+
+-- The same of two that check them; the output failed alike before the verdict line, and with it.
+pub record AreCheckedAlike (limits : Limits) (xs : List ℕ) (before : Streams) (status status' : ℕ)
+    (after after' : Streams) (checks : ChecksBytes limits turns xs before status after)
+    (checks' : ChecksBytes limits turns xs before status' after') : Type 0 where
+  pub served : IsServedAlike turns xs before.input after.input after'.input before.out checks.1 checks'.1 checks.0
+      checks'.0
+  pub output : FailsAlike before.out after.out after'.out
+  pub error : FailsAlike before.err after.err after'.err
+
+module _ (limits : Limits) (before : Streams) (status status' : ℕ) (after after' : Streams) where
+  -- The same of a task, where what it reads is known.
+  abbrev pub IsTaskMetAlike : (t : Task) → AreKnown before → DoesTask t limits before status after
+      → DoesTask t limits before status' after' → Type 0
+  IsTaskMetAlike task.Show known does does' =
+      AreShownAlike forms.Lines limits known.bytes before status status' after after'
+      (does known.bytes known.left known.out known.err) (does' known.bytes known.left known.out known.err)
+  IsTaskMetAlike task.Rows known does does' =
+      AreShownAlike (forms.Pages no_page) limits known.bytes before status status' after after'
+      (does known.bytes known.left known.out known.err) (does' known.bytes known.left known.out known.err)
+  IsTaskMetAlike task.Check known does does' =
+      AreCheckedAlike limits known.bytes before status status' after after'
+      (does known.bytes known.left known.out known.err) (does' known.bytes known.left known.out known.err)
+
+-- The error output, of which it is known what it was given, failed in both or in neither.
+pub record IsErrorMetAlike (before after after' : Streams) : Type 0 where
+  pub known : IsSome before.err.given
+  pub fails : FailsAlike before.err after.err after'.err
+
+-- The same of both outputs.
+pub record AreOutputsMetAlike (before after after' : Streams) : Type 0 where
+  pub known : IsSome before.out.given
+  pub fails : FailsAlike before.out after.out after'.out
+  pub error : IsErrorMetAlike before after after'
+
+-- ---- a conversation
+
+-- To the clients of two conversations the same bytes come, and so it is of their servers.
+pub record AreOverTheSame (before before' : Wires) : Type 0 where
+  pub to_client : List ℕ
+  pub to_server : List ℕ
+  pub client : before.client.source.left ≡ Some to_client
+  pub server : before.server.source.left ≡ Some to_server
+  pub client' : before'.client.source.left ≡ Some to_client
+  pub server' : before'.server.source.left ≡ Some to_server
+
+module _ (queries : ℕ) (r : Result (Unit {0}) LoopFault) (out out' : Output) where
+  -- There was no connection, or the bytes that came over it decided the answer: memory was there, no stream failed, and no
+  -- message took too many reads.
+  abbrev pub IsLoopDecided : ConversesWithItself queries out r out' → Type 0
+  IsLoopDecided (inl none) = Unit {0}
+  IsLoopDecided (inr (from, left, (w, v, talks, heard, at, rest, to))) = IsDecided r w v
+
+  -- There was no connection in both, or conversations over the same bytes.
+  abbrev pub AreLoopsAlike : (r' : Result (Unit {0}) LoopFault) → (out'' : Output) → ConversesWithItself queries out r out'
+      → ConversesWithItself queries out r' out'' → Type 0
+  AreLoopsAlike r' out'' (inl none) (inl none') = Unit {0}
+  AreLoopsAlike r' out'' (inr (from, left, (w, v, talks, heard, at, rest, to)))
+      (inr (from', left', (w', v', talks', heard', at', rest', to'))) = AreOverTheSame w w'
+  AreLoopsAlike r' out'' talk talk' = ⊥
+
+-- To two executions of a conversation the network did the same, and that decided how both ended.
+pub record AreLoopsMetAlike (queries : ℕ) (before : Streams) (status status' : ℕ) (after after' : Streams)
+    (does : ConversesAndReports queries before.out before.err status after.out after.err)
+    (does' : ConversesAndReports queries before.out before.err status' after'.out after'.err) : Type 0 where
+  pub outputs : AreOutputsMetAlike before after after'
+  pub alike : AreLoopsAlike queries does.0 before.out after.out does'.0 after'.out does.1 does'.1
+  pub decided : IsLoopDecided queries does.0 before.out after.out does.1
+  pub decided' : IsLoopDecided queries does'.0 before.out after'.out does'.1
+
+-- Two executions of a conversation to which the network did the same, and that end alike, whoever decided that: one
+-- status, and one text on the error output. Of the outputs one was given what the other was, and then perhaps more.
+abbrev pub LoopGoesOn : Type 0
+LoopGoesOn = (queries : ℕ) (before : Streams) (status status' : ℕ) (after after' : Streams)
+    → (does : ConversesAndReports queries before.out before.err status after.out after.err)
+    (does' : ConversesAndReports queries before.out before.err status' after'.out after'.err)
+    → AreOutputsMetAlike before after after'
+    → AreLoopsAlike queries does.0 before.out after.out does'.0 after'.out does.1 does'.1 → does'.0 ≡ does.0
+    → (status' ≡ status) × GoesOnFromOther after.out after'.out × IsOneOutput before.err after.err after'.err
+
+-- ---- a command line
+
+-- To two executions of a command line, which names no file, the outside did the same: the input, both outputs, memory, the
+-- turns, and the network.
+module _ (before : Streams) (status status' : ℕ) (after after' : Streams) where
+  abbrev pub AreMetAlike : (l : Result CommandLine NoTask) → Executes l before status after
+      → Executes l before status' after' → Type 0
+  AreMetAlike (Ok (line.Stream options)) does does' =
+      (is : IsOfInput options) × (known : AreKnown before)
+      × IsTaskMetAlike options.limits before status status' after after' options.task known (does is) (does' is)
+  AreMetAlike (Ok (line.Loop queries)) does does' = AreLoopsMetAlike queries before status status' after after' does does'
+  AreMetAlike (Err (no_task.Help text)) does does' = AreOutputsMetAlike before after after'
+  AreMetAlike (Err (no_task.Mistake text)) does does' = IsErrorMetAlike before after after'
+  AreMetAlike (Err no_task.NoMemory) does does' = IsErrorMetAlike before after after'
+
+-- Two executions of one command line, to which the outside did the same, have one answer.
+abbrev pub IsExecutedOnce : Type 0
+IsExecutedOnce = (l : Result CommandLine NoTask) (before : Streams) (status status' : ℕ)
+    (after after' : Streams)
+    → (does : Executes l before status after) (does' : Executes l before status' after')
+    → AreMetAlike before status status' after after' l does does'
+    → IsOneAnswer before status status' after after'
