@@ -19,6 +19,93 @@ def sum_of(data):
     return total
 
 
+class No(Exception):
+    """Why a packet has no segment."""
+
+
+def want(condition, why):
+    if not condition:
+        raise No(why)
+
+
+def ip_of(link, packet):
+    """The version of IP, and the packet from its header on."""
+    if link in (0, 108):
+        want(len(packet) >= 4, 'CutInLink')
+        families = {2: 4, 24: 6, 28: 6, 30: 6}
+        found = families.get(struct.unpack_from('>I', packet)[0])
+        if link == 0:
+            found = found or families.get(struct.unpack_from('<I', packet)[0])
+        want(found, 'NotIp')
+        return found, packet[4:]
+    if link in (101, 228, 229):
+        if link != 101:
+            return 4 if link == 228 else 6, packet
+        want(packet, 'CutInIp')
+        want(packet[0] >> 4 in (4, 6), 'NotIp')
+        return packet[0] >> 4, packet
+    type_at, length = {1: (12, 14), 113: (14, 16), 276: (0, 20)}.get(link, (0, 0))
+    want(length, 'UnknownLink')
+    want(len(packet) >= length, 'CutInLink')
+    kind = struct.unpack_from('>H', packet, type_at)[0]
+    rest = packet[length:]
+    while kind in (0x8100, 0x88a8, 0x9100):
+        want(len(rest) >= 4, 'CutInLink')
+        kind, rest = struct.unpack_from('>H', rest, 2)[0], rest[4:]
+    want(kind in (0x800, 0x86dd), 'NotIp')
+    return 4 if kind == 0x800 else 6, rest
+
+
+def content_4(ip, beyond):
+    want(len(ip) >= 20, 'CutInIp')
+    want(ip[0] >> 4 == 4, 'NotIp')
+    header = (ip[0] & 15) * 4
+    total, _, fragment = struct.unpack_from('>HHH', ip, 2)
+    total = total or len(ip) + beyond
+    want(header >= 20 and total >= header, 'BadIpLength')
+    want(fragment & 0x3fff == 0, 'Fragment')
+    want(ip[9] == 6, 'NotTcp')
+    want(len(ip) >= header, 'CutInIp')
+    return ip[12:16], ip[16:20], total - header, ip[header:]
+
+
+def content_6(ip, beyond):
+    want(len(ip) >= 40, 'CutInIp')
+    want(ip[0] >> 4 == 6, 'NotIp')
+    size, kind = struct.unpack_from('>HB', ip, 4)
+    rest = ip[40:]
+    size = size or len(rest) + beyond
+    while kind in (0, 43, 60):
+        want(len(rest) >= 2, 'CutInIp')
+        length = (rest[1] + 1) * 8
+        want(length <= size, 'BadIpLength')
+        want(length <= len(rest), 'CutInIp')
+        kind, size, rest = rest[0], size - length, rest[length:]
+    want(kind != 44, 'Fragment')
+    want(kind == 6, 'NotTcp')
+    return ip[8:24], ip[24:40], size, rest
+
+
+def segment(link, packet, original):
+    beyond = max(original - len(packet), 0)
+    try:
+        version, ip = ip_of(link, packet)
+        source, target, size, tcp = (content_4 if version == 4 else content_6)(ip, beyond)
+        want(size >= 20, 'BadTcpLength')
+        want(len(tcp) >= 20, 'CutInTcp')
+        header = (tcp[12] >> 4) * 4
+        want(20 <= header <= size, 'BadTcpLength')
+        want(len(tcp) >= header, 'CutInTcp')
+    except No as why:
+        return f'no segment {why}'
+    ports = struct.unpack_from('>HH', tcp)
+    numbers = struct.unpack_from('>II', tcp, 4)
+    flags = ''.join(letter if tcp[13] & bit else '-' for letter, bit in (('S', 2), ('F', 1), ('R', 4), ('A', 16)))
+    payload = tcp[header:size]
+    return (f'segment V{version}({list(source)}) {ports[0]} V{version}({list(target)}) {ports[1]} {numbers[0]} {numbers[1]} {flags}'
+            f' payload {len(payload)} at {len(packet) - len(tcp) + header} sum {sum_of(payload)} missing {size - header - len(payload)}')
+
+
 def said(file):
     if len(file) < 4:
         return [f'cut at 0 after {len(file)}']
@@ -45,6 +132,7 @@ def said(file):
         if len(data) < captured:
             return lines + [f'cut at {at} after {len(file)}']
         lines.append(f'{at + 16} data {captured} sum {sum_of(data)}')
+        lines.append(segment(link & 0xffff, data, original))
         at += 16 + captured
     return lines + [f'whole {len(file)}']
 

@@ -1,5 +1,6 @@
 -- What packets of IP carry.
-use Rattle.std.specs.Prelude.{ℕ, zero, suc, ◌+◌, ◌-◌, ◌*◌, ◌/◌, ◌%◌, ◌==◌, ◌||◌, Bool, List, [], ◌∷◌, length, drop, Result, Ok, Err, not}
+use Rattle.std.specs.Prelude.{◌+◌, ◌-◌, ◌*◌, ◌/◌, ◌%◌, ◌==◌, ◌||◌, ◌∷◌}
+use Rattle.std.specs.Prelude.{ℕ, zero, suc, Bool, List, [], length, drop, Result, Ok, Err, not}
 use Rattle.std.specs.Prelude.{nat_lt, slice_index, slice_range, if◌then◌else◌}
 use Rattle.cqlp_segment.specs.declared.addresses.Address.{Address}
 use Rattle.cqlp_segment.specs.declared.addresses.Address.TheVariants as address

@@ -1,5 +1,6 @@
 -- What stands before the header of IP in a captured packet, by the type of its link (the registry of LINKTYPE_ values).
-use Rattle.std.specs.Prelude.{ℕ, ◌/◌, ◌==◌, ◌||◌, Bool, true, false, List, [], ◌∷◌, length, drop, Option, Some, None, Result, Ok, Err}
+use Rattle.std.specs.Prelude.{◌/◌, ◌==◌, ◌||◌, ◌∷◌}
+use Rattle.std.specs.Prelude.{ℕ, Bool, true, false, List, [], length, drop, Option, Some, None, Result, Ok, Err}
 use Rattle.std.specs.Prelude.{nat_lt, slice_index, if◌then◌else◌}
 use Rattle.std.specs.Int.{w16, w32, from_be_bytes, from_le_bytes}
 use Rattle.cqlp_segment.specs.declared.link.LinkType.{LinkType}

@@ -1,5 +1,6 @@
 -- The header of TCP (RFC 9293, section 3.1).
-use Rattle.std.specs.Prelude.{ℕ, ◌*◌, ◌/◌, ◌==◌, ◌||◌, Bool, List, length, Result, Ok, Err, not, bit_and, nat_lt, slice_index, if◌then◌else◌}
+use Rattle.std.specs.Prelude.{◌*◌, ◌/◌, ◌==◌, ◌||◌, if◌then◌else◌}
+use Rattle.std.specs.Prelude.{ℕ, Bool, List, length, Result, Ok, Err, not, bit_and, nat_lt, slice_index}
 use Rattle.cqlp_segment.specs.declared.reason.NoSegment.{NoSegment}
 use Rattle.cqlp_segment.specs.declared.reason.NoSegment.TheVariants.{CutInTcp, BadTcpLength}
 use Rattle.cqlp_segment.specs.declared.tcp.Flags.{Flags}

@@ -3,7 +3,8 @@
 ghost use Rattle.std.specs.Prelude.{◌≡◌, ◌+◌, ◌<◌, ◌^◌, length};
 ghost use Rattle.cqlp_segment.specs.declared.addresses.Address.TheVariants as address;
 ghost use Rattle.cqlp_segment.specs.Fields.{Gives};
-ghost use Rattle.cqlp_segment.specs.Ip.{carried_by, carried_by_4, carried_by_6, is_extension, length_or_all, past_extensions, upper, view};
+ghost use Rattle.cqlp_segment.specs.Ip.{carried_by, carried_by_4, carried_by_6, view};
+ghost use Rattle.cqlp_segment.specs.Ip.{is_extension, length_or_all, past_extensions, upper};
 
 use crate::addresses::Address;
 use crate::fields::number_16;

@@ -2,7 +2,8 @@
 
 ghost use Rattle.std.specs.Prelude.{◌≡◌, ◌+◌, ◌<◌, ◌≤◌, length};
 ghost use Rattle.cqlp_segment.specs.Fields.{Gives};
-ghost use Rattle.cqlp_segment.specs.Link.{after_family, after_type, ip_packet, is_tag, link_of, raw_version, untagged, version_of_family, view};
+ghost use Rattle.cqlp_segment.specs.Link.{after_family, after_type, ip_packet, link_of, view};
+ghost use Rattle.cqlp_segment.specs.Link.{is_tag, raw_version, untagged, version_of_family};
 
 use crate::fields::number_16;
 use crate::reason::NoSegment;

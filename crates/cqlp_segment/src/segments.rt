@@ -37,9 +37,10 @@ pub struct Segment<'a> {
 }
 
 /// The segment of TCP in a packet that was captured on a link of this type, of which the packet had `original` bytes; or the
-/// first reason, from the outer header to the inner, why there is none. Checksums are not looked at, since network cards
-/// make them after a sender's packet was captured. Where a header of IP says the length 0, as it does of what a network card is to cut
-/// into segments, IP carries all that the packet had.
+/// first reason, from the outer header to the inner, why there is none.
+///
+/// Checksums are not looked at, since network cards make them after a sender's packet was captured. Where a header of IP says
+/// the length 0, as it does of what a network card is to cut into segments, IP carries all that the packet had.
 #[tactic(auto, unfolding(crate::specs::Segment::segment_of))]
 pub fn read_segment(link: LinkType, packet: &[u8], original: u32) -> Result<Segment<'_>, NoSegment>
     ensures { Gives seen result (segment_of link packet.now original) }

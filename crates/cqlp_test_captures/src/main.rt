@@ -1,9 +1,11 @@
-//! Reads captures in one piece and in pieces of 1, 7 and 4,096 bytes, and prints what is said of them.
+//! Reads captures in one piece and in pieces of 1, 7 and 4,096 bytes, and prints what is said of them and of the segments in
+//! their packets.
 //!
 //! A line of the input is the name of a file, or a name and the digits of a file's bytes after `|`.
 #![tactic(auto)]
 
 mod reading;
+mod segments;
 
 use cqlp_capture::CaptureLimits;
 use reading::said_in_pieces;

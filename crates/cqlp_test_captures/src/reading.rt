@@ -1,5 +1,6 @@
 //! What a reader says of a capture.
 
+use crate::segments::put_segment;
 use cqlp_capture::{CaptureEnd, CaptureEvent, CaptureLimits, CaptureReader, CaptureStep};
 use std::alloc::Global;
 use std::io;
@@ -18,8 +19,12 @@ pub fn said_in_pieces(
         return Err(io::Error::from(io::ErrorKind::OutOfMemory));
     };
     let mut said = String::new(alloc);
+    let mut under_way = UnderWay {
+        link: 0,
+        original: 0,
+    };
     for piece in file.chunks(size.max(1)) {
-        take(&mut reader, piece, &mut said)?;
+        take(&mut reader, piece, &mut under_way, &mut said)?;
     }
     match reader.finish() {
         CaptureEnd::Whole { bytes } => write!(said, "whole {bytes}\n")?,
@@ -29,13 +34,25 @@ pub fn said_in_pieces(
     Ok(said)
 }
 
+/// What was said of the packet under way: the link type of its interface, and how many bytes it had.
+#[derive(Drop)]
+struct UnderWay {
+    link: u16,
+    original: u32,
+}
+
 /// Writes down what a reader says of one more piece.
-fn take(reader: &mut CaptureReader, piece: &[u8], said: &mut String) -> io::Result<()> {
+fn take(
+    reader: &mut CaptureReader,
+    piece: &[u8],
+    under_way: &mut UnderWay,
+    said: &mut String,
+) -> io::Result<()> {
     let mut rest = piece;
     for _ in 0..AMPLE {
         match reader.next(rest) {
             CaptureStep::Event { at, used, event } => {
-                put_event(at, &event, said)?;
+                put_event(at, &event, under_way, said)?;
                 rest = rest.get(used..).unwrap_or(&[]);
             }
             CaptureStep::More { .. } | CaptureStep::Refused(_) => break,
@@ -44,30 +61,42 @@ fn take(reader: &mut CaptureReader, piece: &[u8], said: &mut String) -> io::Resu
     Ok(())
 }
 
-fn put_event(at: u64, event: &CaptureEvent<'_>, said: &mut String) -> io::Result<()> {
+fn put_event(
+    at: u64,
+    event: &CaptureEvent<'_>,
+    under_way: &mut UnderWay,
+    said: &mut String,
+) -> io::Result<()> {
     match event {
         CaptureEvent::Section(form) => {
             write!(said, "{at} section {:?} {:?}\n", form.order, form.fraction)?;
         }
-        CaptureEvent::Interface(head) => write!(
-            said,
-            "{at} interface {} link {} snap {}\n",
-            head.number, head.link, head.snap_length
-        )?,
-        CaptureEvent::Packet(head) => write!(
-            said,
-            "{at} packet of {} at {} ns captured {} of {}\n",
-            head.interface, head.time, head.captured, head.original
-        )?,
+        CaptureEvent::Interface(head) => {
+            under_way.link = head.link;
+            write!(
+                said,
+                "{at} interface {} link {} snap {}\n",
+                head.number, head.link, head.snap_length
+            )?;
+        }
+        CaptureEvent::Packet(head) => {
+            under_way.original = head.original;
+            write!(
+                said,
+                "{at} packet of {} at {} ns captured {} of {}\n",
+                head.interface, head.time, head.captured, head.original
+            )?;
+        }
         CaptureEvent::Data(bytes) => {
             write!(said, "{at} data {} sum {}\n", bytes.len(), sum_of(bytes))?;
+            put_segment(under_way.link, bytes, under_way.original, said)?;
         }
     }
     Ok(())
 }
 
 /// A number that tells bytes apart: each time 31 times the number before, and the next byte.
-fn sum_of(bytes: &[u8]) -> u32 {
+pub fn sum_of(bytes: &[u8]) -> u32 {
     let mut sum = 0u32;
     for byte in bytes {
         sum = sum.wrapping_mul(31).wrapping_add(*byte as u32);
