@@ -147,10 +147,11 @@ impl<A: Allocator> Decoder<A> {
         }
     }
 
-    /// Where the content lies that is held, whose bytes `held` counts: it stays there until the next call that reads on.
-    pub fn buffer(&self) -> *const u8
+    /// Where the content that is held, whose bytes `held` counts, lies from the index `start` on: it stays there until the
+    /// next call that reads on.
+    pub fn held_address(&self, start: usize) -> *const u8
     {
-        self.parts.partial.buffer()
+        self.parts.partial.address(start)
     }
 
     /// The types of the metadata begun last: those handed out since the field MetaFlags was.

@@ -1,5 +1,8 @@
 // Written by dist/erase from crates/cqlp_decode/src/given.rt.
 //! Tables of types that the caller gives, for pages whose metadata has none.
+//!
+//! `Decoder::give` takes one, unless a [`GiveReason`] is against it. It waits for the first page that it fits, which `serves`
+//! in page.rt says, types that page's cells in place of the metadata's table (`page_table`), and no other page after it.
 
 use crate::cqlp_type::TypeTable;
 use crate::kit_std::alloc::{Allocator, Global};

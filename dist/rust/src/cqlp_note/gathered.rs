@@ -31,10 +31,10 @@ impl<A: Allocator> GatheredContent<A> {
         &self.bytes[..self.len as usize]
     }
 
-    /// Where its memory begins.
-    pub fn as_ptr(&self) -> *const u8
+    /// Where its bytes lie from the index `start` on, or where they end if they are fewer.
+    pub fn address(&self, start: usize) -> *const u8
     {
-        self.bytes.as_ptr()
+        address_after(&self.bytes, start.min(self.len as usize))
     }
 
     /// How many bytes there are.
@@ -73,6 +73,17 @@ impl<A: Allocator> GatheredContent<A> {
         self.bytes.slice_mut(start..end).copy_from_slice(piece);
         self.len = end as u32;
     }
+}
+
+/// The memory of a vector is in a block, so that addresses behind its first are counted on from it. It has nothing to do.
+fn has_address<A: Allocator>(bytes: &Vec<u8, A>)
+{}
+
+/// Where a byte of a vector lies, or where its bytes end.
+fn address_after<A: Allocator>(bytes: &Vec<u8, A>, start: usize) -> *const u8
+{
+    has_address(bytes);
+    unsafe { bytes.as_ptr().byte_add(start) }
 }
 
 /// Adds this many zeros.

@@ -314,11 +314,11 @@ impl<A: Allocator> Partial<A> {
         }
     }
 
-    /// Where the buffer begins: there lies the content that it holds. It is one place for as long as the reader lives,
-    /// wherever that is moved, and what lies there stays until the next call that changes the reader.
-    pub fn buffer(&self) -> *const u8
+    /// Where the content that the buffer holds lies from the index `start` on. The buffer lies in one place for as long as
+    /// the reader lives, wherever that is moved, and what is in it stays until the next call that changes the reader.
+    pub fn address(&self, start: usize) -> *const u8
     {
-        self.content.as_ptr()
+        self.content.address(start)
     }
 
     /// How many bytes the buffer holds.
