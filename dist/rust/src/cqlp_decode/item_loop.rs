@@ -6,15 +6,15 @@
 //! what the reading of the bytes says, and to stand where that does; and it reads by the functions by which `next`
 //! does, so that no rule stands here alone.
 
+use crate::cqlp_decode::leaf::{hand_kind, hand_leaf};
 use crate::cqlp_decode::page::{CellCursor, page_table};
 use crate::cqlp_decode::page_loop::Handed;
 use crate::cqlp_decode::parts::Parts;
 use crate::cqlp_decode::progress::{StreamProgress, StreamStage};
 use crate::cqlp_decode::step::FaultAfter;
-use crate::cqlp_cell::{BareItem, BarePart, DueItem, Level, front_scalar};
+use crate::cqlp_cell::{BareItem, BarePart, Level};
 use crate::cqlp_grammar::{Event, Sink, SinkFault};
 use crate::cqlp_kind::Kind;
-use crate::cqlp_note::Limits;
 use crate::kit_std::alloc::Allocator;
 
 /// A part of a cell that has no content, and whether the cell is over.
@@ -70,72 +70,6 @@ pub(crate) fn take_items<S: Sink, A: Allocator>(
             };
             page = following;
         }
-    }
-}
-
-/// Hands the item at the front of the input to the sink, if it is a scalar and all its bytes are there.
-#[inline(always)]
-fn hand_leaf<S: Sink>(
-    limits: &Limits,
-    due: DueItem,
-    page: CellCursor,
-    input: &[u8],
-    sink: &mut S,
-) -> Handed
-{
-    // An arm for each kind, so that each has code of its own.
-    match due.kind {
-        Kind::Int => hand_kind(limits, Kind::Int, due, page, input, sink),
-        Kind::Bigint => hand_kind(limits, Kind::Bigint, due, page, input, sink),
-        Kind::Varchar => hand_kind(limits, Kind::Varchar, due, page, input, sink),
-        Kind::Boolean => hand_kind(limits, Kind::Boolean, due, page, input, sink),
-        Kind::Ascii => hand_kind(limits, Kind::Ascii, due, page, input, sink),
-        Kind::Blob => hand_kind(limits, Kind::Blob, due, page, input, sink),
-        Kind::Counter => hand_kind(limits, Kind::Counter, due, page, input, sink),
-        Kind::Custom => hand_kind(limits, Kind::Custom, due, page, input, sink),
-        Kind::Date => hand_kind(limits, Kind::Date, due, page, input, sink),
-        Kind::Decimal => hand_kind(limits, Kind::Decimal, due, page, input, sink),
-        Kind::Double => hand_kind(limits, Kind::Double, due, page, input, sink),
-        Kind::Float => hand_kind(limits, Kind::Float, due, page, input, sink),
-        Kind::Inet => hand_kind(limits, Kind::Inet, due, page, input, sink),
-        Kind::Raw => hand_kind(limits, Kind::Raw, due, page, input, sink),
-        Kind::Smallint => hand_kind(limits, Kind::Smallint, due, page, input, sink),
-        Kind::Time => hand_kind(limits, Kind::Time, due, page, input, sink),
-        Kind::Timestamp => hand_kind(limits, Kind::Timestamp, due, page, input, sink),
-        Kind::Timeuuid => hand_kind(limits, Kind::Timeuuid, due, page, input, sink),
-        Kind::Tinyint => hand_kind(limits, Kind::Tinyint, due, page, input, sink),
-        Kind::Uuid => hand_kind(limits, Kind::Uuid, due, page, input, sink),
-        Kind::Varint => hand_kind(limits, Kind::Varint, due, page, input, sink),
-        Kind::List | Kind::Map | Kind::Set | Kind::Udt | Kind::Tuple => Handed::Left,
-    }
-}
-
-/// The same of an item of this kind.
-#[inline(always)]
-fn hand_kind<S: Sink>(
-    limits: &Limits,
-    kind: Kind,
-    due: DueItem,
-    page: CellCursor,
-    input: &[u8],
-    sink: &mut S,
-) -> Handed
-{
-    let Some(front) = front_scalar(limits, kind, due.room, input) else {
-        return Handed::Left;
-    };
-    let CellCursor { row, column, .. } = page;
-    let DueItem { at, level, .. } = due;
-    let scalar = front.scalar;
-    let event = Event::Leaf {
-        row,
-        column,
-        level,
-        scalar,
-    };
-    match sink.take(at, &event) {
-        Ok(()) => Handed::Taken(front.used),
-        Err(SinkFault) => Handed::Fault(front.used),
     }
 }
 

@@ -6,6 +6,7 @@ mod decoder;
 mod field_loop;
 mod given;
 mod item_loop;
+mod leaf;
 mod metadata;
 mod page;
 mod page_loop;

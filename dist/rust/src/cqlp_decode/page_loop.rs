@@ -6,11 +6,12 @@
 //! part, and each refusal. It may, since it is proved to hand out what the reading of the bytes says, and to stand
 //! where that does; and it reads a scalar by the very function by which `next` does, so that no rule stands here alone.
 
+use crate::cqlp_decode::leaf::hand_leaf;
 use crate::cqlp_decode::page::{CellCursor, page_table};
 use crate::cqlp_decode::parts::Parts;
 use crate::cqlp_decode::progress::{StreamProgress, StreamStage};
 use crate::cqlp_decode::step::FaultAfter;
-use crate::cqlp_cell::front_scalar;
+use crate::cqlp_cell::DueItem;
 use crate::cqlp_grammar::{Event, Sink, SinkFault};
 use crate::cqlp_kind::Kind;
 use crate::cqlp_kind::content::read_array;
@@ -105,65 +106,18 @@ fn hand_cell<S: Sink>(
     }
     let level = 0;
     match front_bare(room, input) {
-        Some(Bare::Null) => return hand(at, &Event::Null { row, column, level }, 4, sink),
-        Some(Bare::Empty) => return hand(at, &Event::Empty { row, column, level }, 4, sink),
-        None => {}
+        Some(Bare::Null) => hand(at, &Event::Null { row, column, level }, 4, sink),
+        Some(Bare::Empty) => hand(at, &Event::Empty { row, column, level }, 4, sink),
+        None => {
+            let due = DueItem {
+                at,
+                kind,
+                room,
+                level,
+            };
+            hand_leaf(limits, due, page, input, sink)
+        }
     }
-    // An arm for each kind, so that each has code of its own.
-    match kind {
-        Kind::Int => hand_scalar(limits, Kind::Int, room, page, at, input, sink),
-        Kind::Bigint => hand_scalar(limits, Kind::Bigint, room, page, at, input, sink),
-        Kind::Varchar => hand_scalar(limits, Kind::Varchar, room, page, at, input, sink),
-        Kind::Boolean => hand_scalar(limits, Kind::Boolean, room, page, at, input, sink),
-        Kind::Ascii => hand_scalar(limits, Kind::Ascii, room, page, at, input, sink),
-        Kind::Blob => hand_scalar(limits, Kind::Blob, room, page, at, input, sink),
-        Kind::Counter => hand_scalar(limits, Kind::Counter, room, page, at, input, sink),
-        Kind::Custom => hand_scalar(limits, Kind::Custom, room, page, at, input, sink),
-        Kind::Date => hand_scalar(limits, Kind::Date, room, page, at, input, sink),
-        Kind::Decimal => hand_scalar(limits, Kind::Decimal, room, page, at, input, sink),
-        Kind::Double => hand_scalar(limits, Kind::Double, room, page, at, input, sink),
-        Kind::Float => hand_scalar(limits, Kind::Float, room, page, at, input, sink),
-        Kind::Inet => hand_scalar(limits, Kind::Inet, room, page, at, input, sink),
-        Kind::Raw => hand_scalar(limits, Kind::Raw, room, page, at, input, sink),
-        Kind::Smallint => hand_scalar(limits, Kind::Smallint, room, page, at, input, sink),
-        Kind::Time => hand_scalar(limits, Kind::Time, room, page, at, input, sink),
-        Kind::Timestamp => hand_scalar(limits, Kind::Timestamp, room, page, at, input, sink),
-        Kind::Timeuuid => hand_scalar(limits, Kind::Timeuuid, room, page, at, input, sink),
-        Kind::Tinyint => hand_scalar(limits, Kind::Tinyint, room, page, at, input, sink),
-        Kind::Uuid => hand_scalar(limits, Kind::Uuid, room, page, at, input, sink),
-        Kind::Varint => hand_scalar(limits, Kind::Varint, room, page, at, input, sink),
-        Kind::List | Kind::Map | Kind::Set | Kind::Udt | Kind::Tuple => Handed::Left,
-    }
-}
-
-/// Hands the scalar at the front of the input to the sink, if all its bytes are there.
-#[inline(always)]
-fn hand_scalar<S: Sink>(
-    limits: &Limits,
-    kind: Kind,
-    room: u64,
-    page: CellCursor,
-    at: u64,
-    input: &[u8],
-    sink: &mut S,
-) -> Handed
-{
-    let Some(front) = front_scalar(limits, kind, room, input) else {
-        return Handed::Left;
-    };
-    let CellCursor { row, column, .. } = page;
-    let scalar = front.scalar;
-    hand(
-        at,
-        &Event::Leaf {
-            row,
-            column,
-            level: 0,
-            scalar,
-        },
-        front.used,
-        sink,
-    )
 }
 
 /// Hands an event that takes this many bytes to the sink.

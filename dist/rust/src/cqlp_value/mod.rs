@@ -2,6 +2,7 @@
 //! Values of cells of the CQL native protocol v4, as a program owns them.
 
 mod atom;
+mod convert;
 mod fitting;
 mod measure;
 mod value;
