@@ -4,10 +4,7 @@
 use crate::kit_std::prelude::{String, Vec};
 use crate::cqlp_value::value::{Atom, Value};
 use crate::cqlp_note::Address;
-use crate::jiff_core::civil::{Date, Time};
-#[cfg(feature = "std")]
-use std::net::{IpAddr, Ipv4Addr, Ipv6Addr};
-use crate::uuid::Uuid;
+use core::net::{IpAddr, Ipv4Addr, Ipv6Addr};
 
 /// The value of a cell that is this scalar, as [`Value::scalar`] makes it.
 impl From<Atom> for Value {
@@ -89,13 +86,6 @@ impl From<Vec<u8>> for Value {
     }
 }
 
-/// A uuid, whatever its version is. A timeuuid is made of its [`Atom`].
-impl From<Uuid> for Value {
-    fn from(id: Uuid) -> Value {
-        Value::Leaf(Atom::Uuid(id.into_bytes()))
-    }
-}
-
 /// An inet of four bytes.
 impl From<Ipv4Addr> for Value {
     fn from(address: Ipv4Addr) -> Value {
@@ -120,23 +110,8 @@ impl From<IpAddr> for Value {
     }
 }
 
-/// A date: its day, of which 2^31 is the first of January 1970.
-impl From<Date> for Value {
-    fn from(date: Date) -> Value {
-        let day = i64::from(date.to_unix_epoch_day()) + EPOCH;
-        Value::Leaf(Atom::Date(day as u32))
-    }
-}
-
 /// The day that is the first of January 1970.
 const EPOCH: i64 = 0x8000_0000;
-
-/// A time: its nanoseconds since midnight.
-impl From<Time> for Value {
-    fn from(time: Time) -> Value {
-        Value::Leaf(Atom::Time(time.to_nanosecond() as i64))
-    }
-}
 
 /// Null where there is none.
 impl<T: Into<Value>> From<Option<T>> for Value {
