@@ -14,7 +14,8 @@ use crate::response::{
     ErrorExtra, Metadata, Prepared, SchemaChange, SchemaOptions, ServerEvent, Spec,
 };
 use crate::walk::{
-    HasParts, walk_each, walk_keys, walk_paging, walk_statement, walk_table, walk_text, walk_texts,
+    HasParts, walk_each, walk_in_keyspace, walk_keys, walk_paging, walk_statement, walk_table,
+    walk_text, walk_texts,
 };
 use cqlp_note::Field;
 
@@ -32,11 +33,7 @@ impl HasParts for ErrorExtra {
                 consistency,
                 required,
                 alive,
-            } => {
-                visitor.take(PartRef::Short(Field::Consistency, *consistency));
-                visitor.take(PartRef::Int(Field::Required, *required));
-                visitor.take(PartRef::Int(Field::Alive, *alive));
-            }
+            } => walk_unavailable(*consistency, *required, *alive, visitor),
             ErrorExtra::WriteTimeout {
                 consistency,
                 received,
@@ -62,8 +59,7 @@ impl HasParts for ErrorExtra {
                 failures,
                 data_present,
             } => {
-                walk_replicas(*consistency, *received, *block_for, visitor);
-                visitor.take(PartRef::Int(Field::Failures, *failures));
+                walk_failures(*consistency, *received, *block_for, *failures, visitor);
                 visitor.take(PartRef::Byte(Field::DataPresent, *data_present));
             }
             ErrorExtra::FunctionFailure {
@@ -78,17 +74,42 @@ impl HasParts for ErrorExtra {
                 failures,
                 write_type,
             } => {
-                walk_replicas(*consistency, *received, *block_for, visitor);
-                visitor.take(PartRef::Int(Field::Failures, *failures));
+                walk_failures(*consistency, *received, *block_for, *failures, visitor);
                 walk_text(Field::WriteType, write_type, visitor);
             }
             ErrorExtra::AlreadyExists { keyspace, table } => {
-                walk_text(Field::Keyspace, keyspace, visitor);
-                walk_text(Field::Table, table, visitor);
+                walk_in_keyspace(keyspace, Field::Table, table, visitor);
             }
             ErrorExtra::Unprepared { id } => walk_statement(id, visitor),
         }
     }
+}
+
+/// Hands over how many replicas had to be alive, and how many were.
+fn walk_unavailable<V: TakesParts>(consistency: u16, required: i32, alive: i32, visitor: &mut V)
+    ensures { Takes V.taken visitor.old visitor.new
+        (body.short Field.Consistency consistency ∷ body.int Field.Required required
+        ∷ body.int Field.Alive alive ∷ []) }
+{
+    visitor.take(PartRef::Short(Field::Consistency, consistency));
+    visitor.take(PartRef::Int(Field::Required, required));
+    visitor.take(PartRef::Int(Field::Alive, alive));
+}
+
+/// Hands over how many replicas have answered, how many had to, and how many failed.
+fn walk_failures<V: TakesParts>(
+    consistency: u16,
+    received: i32,
+    block_for: i32,
+    failures: i32,
+    visitor: &mut V,
+)
+    ensures { Takes V.taken visitor.old visitor.new
+        (body.short Field.Consistency consistency ∷ body.int Field.Received received
+        ∷ body.int Field.BlockFor block_for ∷ body.int Field.Failures failures ∷ []) }
+{
+    walk_replicas(consistency, received, block_for, visitor);
+    visitor.take(PartRef::Int(Field::Failures, failures));
 }
 
 /// Hands over how many replicas have answered, and how many had to.
@@ -113,8 +134,7 @@ fn walk_function<V: TakesParts>(
         (body.text Field.Keyspace (string_bytes keyspace.now) ∷ body.text Field.Name (string_bytes name.now)
         ∷ body.texts Field.Arguments Field.Argument (map string_bytes arguments.now.items)) }
 {
-    walk_text(Field::Keyspace, keyspace, visitor);
-    walk_text(Field::Name, name, visitor);
+    walk_in_keyspace(keyspace, Field::Name, name, visitor);
     walk_texts(Field::Arguments, Field::Argument, arguments, visitor);
 }
 
@@ -129,8 +149,7 @@ impl HasParts for SchemaOptions {
         match self {
             SchemaOptions::Keyspace(keyspace) => walk_text(Field::Keyspace, keyspace, visitor),
             SchemaOptions::Named(keyspace, name) => {
-                walk_text(Field::Keyspace, keyspace, visitor);
-                walk_text(Field::Name, name, visitor);
+                walk_in_keyspace(keyspace, Field::Name, name, visitor);
             }
             SchemaOptions::Callable(keyspace, name, arguments) => {
                 walk_function(keyspace, name, arguments, visitor);

@@ -71,6 +71,20 @@ pub fn walk_text<V: TakesParts>(field: Field, text: &String, visitor: &mut V)
     visitor.take(PartRef::Text(field, text.as_str()));
 }
 
+/// Hands over a keyspace, and the name of what is in it.
+pub fn walk_in_keyspace<V: TakesParts>(
+    keyspace: &String,
+    field: Field,
+    name: &String,
+    visitor: &mut V,
+)
+    ensures { Takes V.taken visitor.old visitor.new
+        (body.text Field.Keyspace (string_bytes keyspace.now) ∷ body.text field (string_bytes name.now) ∷ []) }
+{
+    walk_text(Field::Keyspace, keyspace, visitor);
+    walk_text(field, name, visitor);
+}
+
 /// Hands over the text of a query.
 pub fn walk_query<V: TakesParts>(text: &String, visitor: &mut V)
     ensures { Takes V.taken visitor.old visitor.new (body.query (string_bytes text.now) ∷ []) }
@@ -127,8 +141,7 @@ pub fn walk_table<V: TakesParts>(table: &Option<(String, String)>, visitor: &mut
     ensures { Takes V.taken visitor.old visitor.new (body.table_parts (table_of table.now)) }
 {
     if let Some((keyspace, table)) = table {
-        walk_text(Field::Keyspace, keyspace, visitor);
-        walk_text(Field::Table, table, visitor);
+        walk_in_keyspace(keyspace, Field::Table, table, visitor);
     }
 }
 
