@@ -9,7 +9,7 @@ use crate::cqlp_message::walk::{
     HasParts, walk_bytes, walk_counted, walk_query, walk_serial, walk_statement, walk_text,
     walk_texts, walk_timestamp,
 };
-use crate::cqlp_grammar::result_kind;
+use crate::cqlp_grammar::result_kind as kinds;
 use crate::cqlp_note::{Field};
 
 impl HasParts for (String, String) {
@@ -60,8 +60,7 @@ impl HasParts for Message {
             } => {
                 visitor.take(PartRef::Byte(Field::BatchType, *kind));
                 walk_counted(Field::Entries, entries, visitor);
-                visitor.take(PartRef::Short(Field::Consistency, *consistency));
-                visitor.take(PartRef::Byte(Field::BatchFlags, *flags));
+                walk_batch_flags(*consistency, *flags, visitor);
                 walk_serial(*serial, visitor);
                 walk_timestamp(*timestamp, visitor);
             }
@@ -79,23 +78,14 @@ impl HasParts for Message {
             }
             Message::Authenticate(class) => walk_text(Field::Class, class, visitor),
             Message::Supported(options) => walk_counted(Field::Options, options, visitor),
-            Message::Void => walk_kind(result_kind::VOID as i32, visitor),
+            Message::Void => walk_kind(kinds::VOID as i32, visitor),
             Message::SetKeyspace(keyspace) => {
-                walk_kind(result_kind::SET_KEYSPACE as i32, visitor);
+                walk_kind(kinds::SET_KEYSPACE as i32, visitor);
                 walk_text(Field::Keyspace, keyspace, visitor);
             }
-            Message::Rows(page) => {
-                walk_kind(result_kind::ROWS as i32, visitor);
-                page.walk(visitor);
-            }
-            Message::Prepared(statement) => {
-                walk_kind(result_kind::PREPARED as i32, visitor);
-                statement.walk(visitor);
-            }
-            Message::Change(change) => {
-                walk_kind(result_kind::SCHEMA_CHANGE as i32, visitor);
-                change.walk(visitor);
-            }
+            Message::Rows(page) => walk_result(kinds::ROWS as i32, page, visitor),
+            Message::Prepared(statement) => walk_result(kinds::PREPARED as i32, statement, visitor),
+            Message::Change(change) => walk_result(kinds::SCHEMA_CHANGE as i32, change, visitor),
             Message::UnknownResult(kind) => walk_kind(*kind, visitor),
             Message::Event { event, detail } => {
                 walk_text(Field::EventType, event, visitor);
@@ -106,6 +96,20 @@ impl HasParts for Message {
             | Message::AuthSuccess(token) => walk_bytes(Field::Token, token, visitor),
         }
     }
+}
+
+/// Hands over the consistency and the flags of a batch.
+fn walk_batch_flags<V: TakesParts>(consistency: u16, flags: u8, visitor: &mut V)
+{
+    visitor.take(PartRef::Short(Field::Consistency, consistency));
+    visitor.take(PartRef::Byte(Field::BatchFlags, flags));
+}
+
+/// Hands over the kind of a result, and the parts of what it holds.
+fn walk_result<T: HasParts, V: TakesParts>(kind: i32, held: &T, visitor: &mut V)
+{
+    walk_kind(kind, visitor);
+    held.walk(visitor);
 }
 
 /// Hands over the kind of a result.

@@ -7,7 +7,8 @@ use crate::cqlp_message::response::{
     ErrorExtra, Metadata, Prepared, SchemaChange, SchemaOptions, ServerEvent, Spec,
 };
 use crate::cqlp_message::walk::{
-    HasParts, walk_each, walk_keys, walk_paging, walk_statement, walk_table, walk_text, walk_texts,
+    HasParts, walk_each, walk_in_keyspace, walk_keys, walk_paging, walk_statement, walk_table,
+    walk_text, walk_texts,
 };
 use crate::cqlp_note::Field;
 
@@ -19,11 +20,7 @@ impl HasParts for ErrorExtra {
                 consistency,
                 required,
                 alive,
-            } => {
-                visitor.take(PartRef::Short(Field::Consistency, *consistency));
-                visitor.take(PartRef::Int(Field::Required, *required));
-                visitor.take(PartRef::Int(Field::Alive, *alive));
-            }
+            } => walk_unavailable(*consistency, *required, *alive, visitor),
             ErrorExtra::WriteTimeout {
                 consistency,
                 received,
@@ -49,8 +46,7 @@ impl HasParts for ErrorExtra {
                 failures,
                 data_present,
             } => {
-                walk_replicas(*consistency, *received, *block_for, visitor);
-                visitor.take(PartRef::Int(Field::Failures, *failures));
+                walk_failures(*consistency, *received, *block_for, *failures, visitor);
                 visitor.take(PartRef::Byte(Field::DataPresent, *data_present));
             }
             ErrorExtra::FunctionFailure {
@@ -65,17 +61,36 @@ impl HasParts for ErrorExtra {
                 failures,
                 write_type,
             } => {
-                walk_replicas(*consistency, *received, *block_for, visitor);
-                visitor.take(PartRef::Int(Field::Failures, *failures));
+                walk_failures(*consistency, *received, *block_for, *failures, visitor);
                 walk_text(Field::WriteType, write_type, visitor);
             }
             ErrorExtra::AlreadyExists { keyspace, table } => {
-                walk_text(Field::Keyspace, keyspace, visitor);
-                walk_text(Field::Table, table, visitor);
+                walk_in_keyspace(keyspace, Field::Table, table, visitor);
             }
             ErrorExtra::Unprepared { id } => walk_statement(id, visitor),
         }
     }
+}
+
+/// Hands over how many replicas had to be alive, and how many were.
+fn walk_unavailable<V: TakesParts>(consistency: u16, required: i32, alive: i32, visitor: &mut V)
+{
+    visitor.take(PartRef::Short(Field::Consistency, consistency));
+    visitor.take(PartRef::Int(Field::Required, required));
+    visitor.take(PartRef::Int(Field::Alive, alive));
+}
+
+/// Hands over how many replicas have answered, how many had to, and how many failed.
+fn walk_failures<V: TakesParts>(
+    consistency: u16,
+    received: i32,
+    block_for: i32,
+    failures: i32,
+    visitor: &mut V,
+)
+{
+    walk_replicas(consistency, received, block_for, visitor);
+    visitor.take(PartRef::Int(Field::Failures, failures));
 }
 
 /// Hands over how many replicas have answered, and how many had to.
@@ -94,8 +109,7 @@ fn walk_function<V: TakesParts>(
     visitor: &mut V,
 )
 {
-    walk_text(Field::Keyspace, keyspace, visitor);
-    walk_text(Field::Name, name, visitor);
+    walk_in_keyspace(keyspace, Field::Name, name, visitor);
     walk_texts(Field::Arguments, Field::Argument, arguments, visitor);
 }
 
@@ -104,8 +118,7 @@ impl HasParts for SchemaOptions {
         match self {
             SchemaOptions::Keyspace(keyspace) => walk_text(Field::Keyspace, keyspace, visitor),
             SchemaOptions::Named(keyspace, name) => {
-                walk_text(Field::Keyspace, keyspace, visitor);
-                walk_text(Field::Name, name, visitor);
+                walk_in_keyspace(keyspace, Field::Name, name, visitor);
             }
             SchemaOptions::Callable(keyspace, name, arguments) => {
                 walk_function(keyspace, name, arguments, visitor);

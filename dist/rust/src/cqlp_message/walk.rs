@@ -47,6 +47,18 @@ pub fn walk_text<V: TakesParts>(field: Field, text: &String, visitor: &mut V)
     visitor.take(PartRef::Text(field, text.as_str()));
 }
 
+/// Hands over a keyspace, and the name of what is in it.
+pub fn walk_in_keyspace<V: TakesParts>(
+    keyspace: &String,
+    field: Field,
+    name: &String,
+    visitor: &mut V,
+)
+{
+    walk_text(Field::Keyspace, keyspace, visitor);
+    walk_text(field, name, visitor);
+}
+
 /// Hands over the text of a query.
 pub fn walk_query<V: TakesParts>(text: &String, visitor: &mut V)
 {
@@ -96,8 +108,7 @@ pub fn walk_timestamp<V: TakesParts>(timestamp: Option<i64>, visitor: &mut V)
 pub fn walk_table<V: TakesParts>(table: &Option<(String, String)>, visitor: &mut V)
 {
     if let Some((keyspace, table)) = table {
-        walk_text(Field::Keyspace, keyspace, visitor);
-        walk_text(Field::Table, table, visitor);
+        walk_in_keyspace(keyspace, Field::Table, table, visitor);
     }
 }
 
