@@ -1,0 +1,4 @@
+pub mod Sequence
+pub mod Cells
+pub mod Windows
+pub mod Laws

@@ -1,0 +1,72 @@
+//! Places for bytes that come.
+
+ghost use Rattle.std.specs.Prelude.{◌≡◌, ◌++◌, ◌≤◌, length, take, drop, map, replicate, Some, None};
+ghost use Rattle.cqlp_reassembly.specs.Cells.{first, put, put_from, ready};
+
+use crate::sequence::Distance;
+
+/// Puts bytes into the empty ones of the cells from this index on. What would lie past the last cell is left out.
+pub(crate) fn put(cells: &mut [Option<u8>], at: usize, bytes: &[u8])
+    ensures { cells.new ≡ put cells.old at bytes.now }
+{
+    let room = cells.len().saturating_sub(at);
+    let count = bytes.len().min(room);
+    for i in 0..count {
+        fill(&mut cells[at + i], bytes[i]);
+    }
+}
+
+/// Puts in the bytes that begin so far from the first cell.
+pub(crate) fn put_from(cells: &mut [Option<u8>], distance: Distance, bytes: &[u8])
+    ensures { cells.new ≡ put_from distance cells.old bytes.now }
+{
+    match distance {
+        Distance::Ahead(n) => put(cells, n as usize, bytes),
+        Distance::Behind(n) => {
+            let before = bytes.len().min(n as usize);
+            put(cells, 0, &bytes[before..]);
+        }
+    }
+}
+
+/// Puts a byte into a cell, if that is empty.
+fn fill(cell: &mut Option<u8>, byte: u8)
+    ensures { cell.new ≡ first cell.old (Some byte) }
+{
+    if cell.is_none() {
+        *cell = Some(byte);
+    }
+}
+
+/// How many cells have bytes before the first that is empty.
+pub(crate) fn ready(cells: &[Option<u8>]) -> usize
+    ensures { result ≡ ready cells.now }
+{
+    for i in 0..cells.len() {
+        if cells[i].is_none() {
+            return i;
+        }
+    }
+    cells.len()
+}
+
+/// Copies the bytes of the first cells, of which none is empty.
+pub(crate) fn copy(cells: &[Option<u8>], bytes: &mut [u8])
+    requires { length bytes.old ≤ ready cells.now }
+    ensures { map Some bytes.new ≡ take (length bytes.old) cells.now }
+{
+    for i in 0..bytes.len() {
+        let Some(byte) = cells[i] else { unreachable!() };
+        bytes[i] = byte;
+    }
+}
+
+/// Empties the first cells, this many.
+pub(crate) fn clear(cells: &mut [Option<u8>], count: usize)
+    requires { count ≤ length cells.old }
+    ensures { cells.new ≡ replicate count None ++ drop count cells.old }
+{
+    for i in 0..count {
+        cells[i] = None;
+    }
+}

@@ -1,0 +1,10 @@
+//! The bytes of one direction of a TCP connection, in order.
+#![tactic(auto)]
+
+mod cells;
+pub mod laws;
+mod sequence;
+mod window;
+
+pub use sequence::{Distance, distance_to};
+pub use window::Window;
