@@ -74,15 +74,15 @@ fn is_read(alloc: Global, of: Option<&TypeTree>, digits: &str) -> Result<bool, F
 
 #[test]
 fn memory_that_is_there_is_found(rt: HostRuntime) -> Result<(), Fail> {
-    let mut wrong = 0;
+    let mut wrong = 0_u32;
     for (shape, digits) in ROWS {
         let tree = tree(rt.alloc(), shape)?;
         if !is_read(rt.alloc(), Some(&tree), digits)? {
-            wrong += 1;
+            wrong = wrong.saturating_add(1);
         }
     }
     if !is_read(rt.alloc(), None, "00000001 ff")? {
-        wrong += 1;
+        wrong = wrong.saturating_add(1);
     }
     assert_eq!(rt; wrong, 0);
     Ok(())

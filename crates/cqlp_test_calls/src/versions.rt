@@ -59,12 +59,12 @@ fn answered(alloc: Global, header: &[u8; 9]) -> Result<Vec<u8>, Fail> {
 
 #[test]
 fn other_versions_are_answered(rt: HostRuntime) -> Result<(), Fail> {
-    let mut wrong = 0;
+    let mut wrong = 0_u32;
     for (header, front, text) in &ROWS {
         let mut expected = bytes_of(rt.alloc(), front)?;
         expected.extend_from_slice(text.as_bytes())?;
         if answered(rt.alloc(), header)?.as_slice() != expected.as_slice() {
-            wrong += 1;
+            wrong = wrong.saturating_add(1);
         }
     }
     assert_eq!(rt; wrong, 0);
