@@ -10,6 +10,7 @@ use Rattle.cqlp_reassembly.specs.Cells.{first, put, put_from, ready, moved}
 use Rattle.cqlp_reassembly.specs.Windows.{View, new_view, taken, passed}
 use Rattle.cqlp_reassembly.specs.Laws.{Carried, at_index, byte_from, first_byte, cut, Holds, IsNear}
 use Rattle.cqlp_reassembly.proofs.Puts.{length-put, ready_within}
+use Rattle.cqlp_reassembly.proofs.Emptied.{get_moved, get_past, get_replicate, length_moved}
 
 -- ---- bytes at positions
 
@@ -131,13 +132,8 @@ length-put_from (Behind n) cells bytes = length-put cells 0 (drop n bytes)
 
 -- ---- windows
 
-get_or-replicate : (n i : ℕ) → get_or {A = Option ℕ} (replicate n None) i None ≡ None
-get_or-replicate zero i = refl
-get_or-replicate (suc n) zero = refl
-get_or-replicate (suc n) (suc i) = get_or-replicate n i
-
 pub holds_new : (room position : ℕ) → Holds (new_view room (position % 2 ^ 32)) position []
-holds_new room position = record { next = refl; cells = λ i lt. get_or-replicate room i; beyond = λ p le. refl }
+holds_new room position = record { next = refl; cells = λ i lt. get_replicate room i; beyond = λ p le. refl }
 
 pub holds_taken : (w : View) (position : ℕ) (segments : List Carried) (s : Carried) → Holds w position segments → IsNear position s
     → Holds (taken w (s.start % 2 ^ 32) s.bytes) position (segments ++ cut (position + length w.cells) s ∷ [])
@@ -160,29 +156,15 @@ holds_taken w position segments s holds near =
           ∙ cut_past end s.start s.bytes p far;
     }
 
-cell_moved : (cells : List (Option ℕ)) (n i : ℕ) → n + i < length cells → get_or (moved n cells) i None ≡ get_or cells (n + i) None
-cell_moved cells n i lt =
-    get_or_append_left (drop n cells) (replicate n None) None i (omega (arith, length-drop n cells)) ∙ get_or-drop n cells i None
-
-cell_new : (cells : List (Option ℕ)) (n i : ℕ) → length cells ≤ n + i → n ≤ length cells → get_or (moved n cells) i None ≡ None
-cell_new cells n i past within =
-    let k = i - length (drop n cells) in
-    let is : length (drop n cells) + k ≡ i = omega (arith, length-drop n cells) in
-    ap (λ (j : ℕ). get_or (drop n cells ++ replicate n None) j None) (sym is)
-    ∙ get_or-append-add (drop n cells) (replicate n None) k None
-    ∙ get_or-replicate n k
-
-pub holds_passed : (w : View) (position n : ℕ) (segments : List Carried) → Holds w position segments → n ≤ length w.cells → Holds (passed n w) (position + n) segments
-holds_passed w position n segments holds within =
-    let same : length (moved n w.cells) ≡ length w.cells = omega (arith, length-append (drop n w.cells) (replicate n None), length-drop n w.cells, length-replicate {A = Option ℕ} n None) in
+pub holds_passed : (w : View) (position n : ℕ) (segments : List Carried) → Holds w position segments → Holds (passed n w) (position + n) segments
+holds_passed w position n segments holds =
+    let same : length (moved n w.cells) ≡ length w.cells = length_moved w.cells n in
     record {
       next = (let h = holds.next in omega (arith, h));
-      cells = λ i lt. elim (cases_lt (n + i) (length w.cells)) [
-        | inl here ↦
-            cell_moved w.cells n i here ∙ holds.cells (n + i) here
-            ∙ ap (first_byte segments) (let p : position + (n + i) ≡ position + n + i = omega arith in p)
-        | inr past ↦ cell_new w.cells n i past within ∙ sym (holds.beyond (position + n + i) (omega arith))
-      ];
+      cells = λ i lt. get_moved w.cells n i ∙ (elim (cases_lt (n + i) (length w.cells)) [
+        | inl here ↦ holds.cells (n + i) here
+        | inr past ↦ get_past w.cells (n + i) past ∙ sym (holds.beyond (position + (n + i)) (omega arith))
+      ]) ∙ ap (first_byte segments) (let p : position + (n + i) ≡ position + n + i = omega arith in p);
       beyond = λ p le. holds.beyond p (omega (arith, le, same));
     }
 

@@ -1,2 +1,4 @@
 pub mod Puts
+pub mod Emptied
 pub mod Firsts
+pub mod Ends

@@ -2,7 +2,7 @@
 use Rattle.std.proofs.Common.{◌≡◌, ℕ, zero, suc, ◌+◌, ◌-◌, ◌<◌, ◌≤◌, List, [], ◌∷◌, ◌++◌, length, take, drop, replicate, set, get_or, refl, ap, arith}
 use Rattle.std.specs.Prelude.{Option, Some, None, min}
 use Rattle.std.proofs.lemmas.List.{length-replicate, drop_at, take_at}
-use Rattle.cqlp_reassembly.specs.Cells.{first, put, ready, moved}
+use Rattle.cqlp_reassembly.specs.Cells.{first, put, ready}
 
 pub put_nothing : (cells : List (Option ℕ)) (at : ℕ) → put cells at [] ≡ cells
 put_nothing [] at = refl
@@ -68,7 +68,7 @@ clear_more [] i lt = absurd (omega arith)
 clear_more (c ∷ cells) zero lt = refl
 clear_more (c ∷ cells) (suc i) lt = ap (λ (z : List (Option ℕ)). None ∷ z) (clear_more cells i (omega arith))
 
-pub cleared_moves : (cells : List (Option ℕ)) (n : ℕ) → drop n (replicate n None ++ drop n cells) ++ take n (replicate n None ++ drop n cells) ≡ moved n cells
-cleared_moves cells n =
+pub cleared_turns : (cells : List (Option ℕ)) (n : ℕ) → drop n (replicate n None ++ drop n cells) ++ take n (replicate n None ++ drop n cells) ≡ drop n cells ++ replicate n None
+cleared_turns cells n =
     let long : length (replicate {A = Option ℕ} n None) ≡ n = length-replicate n None in
     rw (drop_at (replicate n None) (drop n cells) n long, take_at (replicate n None) (drop n cells) n long) refl

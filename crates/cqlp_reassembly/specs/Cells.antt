@@ -1,7 +1,7 @@
 -- Places for bytes, of which some have come.
 use Rattle.cqlp_reassembly.specs.declared.sequence.Distance.{Distance}
 use Rattle.cqlp_reassembly.specs.declared.sequence.Distance.TheVariants.{Ahead, Behind}
-use Rattle.std.specs.Prelude.{ℕ, zero, suc, ◌+◌, List, [], ◌∷◌, ◌++◌, drop, replicate, Option, Some, None}
+use Rattle.std.specs.Prelude.{ℕ, zero, suc, ◌+◌, List, [], ◌∷◌, ◌++◌, length, drop, replicate, min, Option, Some, None}
 
 -- the first of two that is there
 abbrev pub first : Option ℕ → Option ℕ → Option ℕ
@@ -26,6 +26,12 @@ ready [] = 0
 ready (None ∷ cells) = 0
 ready (Some b ∷ cells) = 1 + ready cells
 
--- the cells after n of them, and as many new ones
+-- how many are empty before the first byte
+abbrev pub lead : List (Option ℕ) → ℕ
+lead [] = 0
+lead (None ∷ cells) = 1 + lead cells
+lead (Some b ∷ cells) = 0
+
+-- the cells after n of them, and as many new ones as that leaves out
 abbrev pub moved : (n : ℕ) → List (Option ℕ) → List (Option ℕ)
-moved n cells = drop n cells ++ replicate n None
+moved n cells = drop n cells ++ replicate (min n (length cells)) None

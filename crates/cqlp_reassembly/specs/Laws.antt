@@ -47,7 +47,7 @@ HoldsTheFirst =
     → Holds w position segments → IsNear position s
     → Holds (taken w (s.start % 2 ^ 32) s.bytes) position (segments ++ cut (position + length w.cells) s ∷ []))
     × ((w : View) (position n : ℕ) (segments : List Carried)
-    → Holds w position segments → n ≤ length w.cells
+    → Holds w position segments
     → Holds (passed n w) (position + n) segments)
 
 -- So each byte that is handed on is that of the first segment which carried its position.

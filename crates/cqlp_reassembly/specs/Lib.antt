@@ -1,4 +1,5 @@
 pub mod Sequence
 pub mod Cells
 pub mod Windows
+pub mod Streams
 pub mod Laws

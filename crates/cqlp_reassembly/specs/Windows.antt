@@ -1,5 +1,6 @@
 -- The window of a direction.
-use Rattle.std.specs.Prelude.{ℕ, ◌+◌, ◌%◌, ◌^◌, List, replicate, Option, None}
+use Rattle.std.specs.Prelude.{◌≡◌, ℕ, ◌+◌, ◌≤◌, ◌%◌, ◌^◌, List, length, replicate, Option, None}
+use Rattle.std.specs.Prelude.{slice_index_or}
 use Rattle.cqlp_reassembly.specs.Sequence.{distance}
 use Rattle.cqlp_reassembly.specs.Cells.{put_from, moved}
 
@@ -10,6 +11,11 @@ pub record View : Type 0 where
 
 abbrev pub seen : (next : ℕ) → List (Option ℕ) → View
 seen next cells = record { next = next; cells = cells }
+
+-- no cell from an index on has a byte
+pub record IsEmptyFrom (n : ℕ) (cells : List (Option ℕ)) : Type 0 where
+  pub within : n ≤ length cells
+  pub none : (i : ℕ) → n ≤ i → slice_index_or cells i None ≡ None
 
 abbrev pub new_view : (room next : ℕ) → View
 new_view room next = record { next = next; cells = replicate room None }

@@ -1,9 +1,8 @@
 //! Places for bytes that come.
 
 ghost use Rattle.std.specs.Prelude.{◌≡◌, ◌++◌, ◌≤◌, length, take, drop, map, replicate, Some, None};
-ghost use Rattle.cqlp_reassembly.specs.Cells.{first, put, put_from, ready};
-
-use crate::sequence::Distance;
+ghost use Rattle.cqlp_reassembly.specs.Cells.{first, lead, moved, put, ready};
+ghost use Rattle.cqlp_reassembly.specs.Windows.{IsEmptyFrom};
 
 /// Puts bytes into the empty ones of the cells from this index on. What would lie past the last cell is left out.
 pub(crate) fn put(cells: &mut [Option<u8>], at: usize, bytes: &[u8])
@@ -13,19 +12,6 @@ pub(crate) fn put(cells: &mut [Option<u8>], at: usize, bytes: &[u8])
     let count = bytes.len().min(room);
     for i in 0..count {
         fill(&mut cells[at + i], bytes[i]);
-    }
-}
-
-/// Puts in the bytes that begin so far from the first cell.
-pub(crate) fn put_from(cells: &mut [Option<u8>], distance: Distance, bytes: &[u8])
-    ensures { cells.new ≡ put_from distance cells.old bytes.now }
-{
-    match distance {
-        Distance::Ahead(n) => put(cells, n as usize, bytes),
-        Distance::Behind(n) => {
-            let before = bytes.len().min(n as usize);
-            put(cells, 0, &bytes[before..]);
-        }
     }
 }
 
@@ -44,6 +30,18 @@ pub(crate) fn ready(cells: &[Option<u8>]) -> usize
 {
     for i in 0..cells.len() {
         if cells[i].is_none() {
+            return i;
+        }
+    }
+    cells.len()
+}
+
+/// How many cells are empty before the first that has a byte.
+pub(crate) fn lead(cells: &[Option<u8>]) -> usize
+    ensures { result ≡ lead cells.now }
+{
+    for i in 0..cells.len() {
+        if cells[i].is_some() {
             return i;
         }
     }
@@ -69,4 +67,25 @@ pub(crate) fn clear(cells: &mut [Option<u8>], count: usize)
     for i in 0..count {
         cells[i] = None;
     }
+}
+
+/// Empties the first cells, this many, and moves them behind the others. Only those before `reach` may have bytes.
+#[tactic(auto, using(crate::proofs::Emptied::turned_moves, crate::proofs::Puts::cleared_turns))]
+pub(crate) fn turn(cells: &mut [Option<u8>], count: usize, reach: usize)
+    requires { IsEmptyFrom reach cells.old }
+    ensures { cells.new ≡ moved count cells.old }
+{
+    let there = count.min(reach);
+    let held = &mut cells[..reach];
+    clear(held, there);
+    held.rotate_left(there);
+}
+
+/// Empties all cells, of which only those before `reach` may have bytes.
+#[tactic(auto, using(crate::proofs::Emptied::moved_all))]
+pub(crate) fn forget(cells: &mut [Option<u8>], reach: usize)
+    requires { IsEmptyFrom reach cells.old }
+    ensures { cells.new ≡ replicate (length cells.old) None }
+{
+    turn(cells, reach, reach);
 }

@@ -1,10 +1,10 @@
 //! A window of a direction.
 
 ghost use Rattle.std.specs.Prelude.{◌≡◌, ◌+◌, ◌≤◌, ◌++◌, length, map, replicate, take, vec_capacity, IfOk, Some, None};
-ghost use Rattle.cqlp_reassembly.specs.Cells.{ready};
+ghost use Rattle.cqlp_reassembly.specs.Cells.{lead, put, ready};
 
 use crate::cells;
-use crate::sequence::distance_to;
+use crate::sequence::{Distance, distance_to};
 use std::alloc::{AllocError, Allocator, Global};
 use std::marker::Model;
 
@@ -14,18 +14,22 @@ use std::marker::Model;
 pub struct Window<A: Allocator = Global> {
     cells: Vec<Option<u8>, A>,
     next: u32,
+    /// The cells from this index on are empty.
+    reach: usize,
 }
 
 impl<A: Allocator> Model for Window<A> {
-    ghost use Rattle.cqlp_reassembly.specs.Windows.{View, seen};
+    ghost use Rattle.cqlp_reassembly.specs.Windows.{IsEmptyFrom, View, seen};
 
     ghost Value = { View };
 
     ghost view = { λ w. seen w.next w.cells.items };
+
+    ghost invariant = { λ w. IsEmptyFrom w.reach w.cells.items };
 }
 
 impl<A: Allocator> Window<A> {
-    ghost use Rattle.cqlp_reassembly.specs.Windows.{new_view, passed, taken};
+    ghost use Rattle.cqlp_reassembly.specs.Windows.{new_view, passed, seen, taken};
 
     /// An empty window of this many bytes, at this sequence number. This is the one call that takes memory.
     pub fn new(alloc: A, room: usize, next: u32) -> Result<Self, AllocError>
@@ -33,7 +37,11 @@ impl<A: Allocator> Window<A> {
     {
         let mut cells = Vec::with_capacity(alloc, room)?;
         add_empty(&mut cells, room);
-        Ok(Window { cells, next })
+        Ok(Window {
+            cells,
+            next,
+            reach: 0,
+        })
     }
 
     /// The sequence number of the byte that is wanted next.
@@ -43,6 +51,13 @@ impl<A: Allocator> Window<A> {
         self.next
     }
 
+    /// How many bytes it has cells for.
+    pub fn room(&self) -> usize
+        ensures { result ≡ length self.now.cells }
+    {
+        self.cells.len()
+    }
+
     /// How many bytes there are from the next one on without a gap.
     pub fn ready(&self) -> usize
         ensures { result ≡ ready self.now.cells }
@@ -50,24 +65,63 @@ impl<A: Allocator> Window<A> {
         cells::ready(&self.cells)
     }
 
+    /// How many bytes are missing before the first that is there: all that it has cells for, if there is none.
+    #[tactic(auto, using(crate::proofs::Emptied::lead_none))]
+    pub fn lead(&self) -> usize
+        ensures { result ≡ lead self.now.cells }
+    {
+        if self.reach == 0 {
+            return self.cells.len();
+        }
+        cells::lead(&self.cells)
+    }
+
     /// Takes the bytes of a segment that begins at this sequence number: those that lie in the window, and were not there.
     pub fn take(&mut self, sequence: u32, payload: &[u8])
         ensures { self.new ≡ taken self.old sequence payload.now }
     {
-        let distance = distance_to(sequence, self.next);
-        cells::put_from(self.cells.as_mut_slice(), distance, payload);
+        match distance_to(sequence, self.next) {
+            Distance::Ahead(n) => self.put(n as usize, payload),
+            Distance::Behind(n) => {
+                let before = payload.len().min(n as usize);
+                self.put(0, &payload[before..]);
+            }
+        }
     }
 
-    /// Passes over this many bytes from the next one on, whether they came or not: after a gap, so many as are missing.
-    #[tactic(auto, using(crate::proofs::Puts::cleared_moves))]
+    /// Puts in the bytes that begin so far from the next one.
+    #[tactic(auto, using(crate::proofs::Emptied::put_empty_from))]
+    fn put(&mut self, at: usize, bytes: &[u8])
+        ensures { self.new ≡ seen self.old.next (put self.old.cells at bytes.now) }
+    {
+        let room = self.cells.len();
+        let start = at.min(room);
+        let end = start + bytes.len().min(room - start);
+        cells::put(self.cells.as_mut_slice(), at, bytes);
+        self.reach = self.reach.max(end);
+    }
+
+    /// Passes over this many bytes from the next one on, whether they came or not: after a gap, so many as are missing. It
+    /// moves only the cells up to the last that has a byte.
+    #[tactic(auto, using(crate::proofs::Emptied::moved_empty))]
     pub fn pass(&mut self, count: usize)
-        requires { count ≤ length self.old.cells }
         ensures { self.new ≡ passed count self.old }
     {
-        let held = self.cells.as_mut_slice();
-        cells::clear(held, count);
-        held.rotate_left(count);
+        let reach = self.reach;
+        cells::turn(self.cells.as_mut_slice(), count, reach);
+        self.reach = reach.saturating_sub(count);
         self.next = self.next.wrapping_add((count % 0x1_0000_0000) as u32);
+    }
+
+    /// Forgets all that it has, and wants this sequence number next.
+    #[tactic(auto, using(crate::proofs::Emptied::new_empty))]
+    pub fn restart(&mut self, next: u32)
+        ensures { self.new ≡ new_view (length self.old.cells) next }
+    {
+        let reach = self.reach;
+        cells::forget(self.cells.as_mut_slice(), reach);
+        self.reach = 0;
+        self.next = next;
     }
 
     /// Hands on the next bytes, as many as `bytes` has.
