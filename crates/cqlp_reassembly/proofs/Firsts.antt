@@ -37,6 +37,11 @@ at_drop [] (suc n) i j is = refl
 at_drop (b ∷ bytes) (suc n) i zero is = absurd (omega arith)
 at_drop (b ∷ bytes) (suc n) i (suc j) is = at_drop bytes n i j (omega arith)
 
+pub at_some : (bytes : List ℕ) (i : ℕ) → i < length bytes → at_index bytes i ≡ Some (get_or bytes i 0)
+at_some [] i lt = absurd (omega arith)
+at_some (b ∷ bytes) zero lt = refl
+at_some (b ∷ bytes) (suc i) lt = at_some bytes i (omega arith)
+
 -- a position before the first byte
 from_before : (start : ℕ) (bytes : List ℕ) (p : ℕ) → p < start → byte_from start bytes p ≡ None
 from_before zero bytes p lt = absurd (omega arith)
@@ -44,7 +49,7 @@ from_before (suc start) bytes zero lt = refl
 from_before (suc start) bytes (suc p) lt = from_before start bytes p (omega arith)
 
 -- and one from there on
-from_after : (start : ℕ) (bytes : List ℕ) (p i : ℕ) → p ≡ start + i → byte_from start bytes p ≡ at_index bytes i
+pub from_after : (start : ℕ) (bytes : List ℕ) (p i : ℕ) → p ≡ start + i → byte_from start bytes p ≡ at_index bytes i
 from_after zero bytes p i is = ap (at_index bytes) (let h : p ≡ i = omega arith in h)
 from_after (suc start) bytes zero i is = absurd (omega arith)
 from_after (suc start) bytes (suc p) i is = from_after start bytes p i (omega arith)
@@ -59,7 +64,7 @@ first_assoc : (a b c : Option ℕ) → first (first a b) c ≡ first a (first b 
 first_assoc None b c = refl
 first_assoc (Some a) b c = refl
 
-first_more : (segments : List Carried) (s : Carried) (p : ℕ) → first_byte (segments ++ s ∷ []) p ≡ first (first_byte segments p) (byte_from s.start s.bytes p)
+pub first_more : (segments : List Carried) (s : Carried) (p : ℕ) → first_byte (segments ++ s ∷ []) p ≡ first (first_byte segments p) (byte_from s.start s.bytes p)
 first_more [] s p = first_none (byte_from s.start s.bytes p)
 first_more (t ∷ segments) s p =
     ap (first (byte_from t.start t.bytes p)) (first_more segments s p)
@@ -78,12 +83,12 @@ cell_put (c ∷ cells) (suc at) bytes (suc i) lt = cell_put cells at bytes i (om
 
 -- ---- the shorter way
 
-ahead : (position start n : ℕ) → start ≡ position + n → n < 2 ^ 31 → distance (position % 2 ^ 32) (start % 2 ^ 32) ≡ Ahead n
+pub ahead : (position start n : ℕ) → start ≡ position + n → n < 2 ^ 31 → distance (position % 2 ^ 32) (start % 2 ^ 32) ≡ Ahead n
 ahead position start n is near =
     let far : up (position % 2 ^ 32) (start % 2 ^ 32) ≡ n = omega arith in
     rw (far, lt-ltb n (2 ^ 31) near) refl
 
-behind : (position start n : ℕ) → position ≡ start + n → 0 < n → n < 2 ^ 31 → distance (position % 2 ^ 32) (start % 2 ^ 32) ≡ Behind n
+pub behind : (position start n : ℕ) → position ≡ start + n → 0 < n → n < 2 ^ 31 → distance (position % 2 ^ 32) (start % 2 ^ 32) ≡ Behind n
 behind position start n is some near =
     let far : up (position % 2 ^ 32) (start % 2 ^ 32) ≡ 2 ^ 32 - n = omega arith in
     let back : up (start % 2 ^ 32) (position % 2 ^ 32) ≡ n = omega arith in
@@ -111,7 +116,7 @@ puts_from cells position start bytes i before after lt = elim (cases_lt start po
 ]
 
 -- of a segment up to the end, a byte before it and one past it
-cut_before : (end start : ℕ) (bytes : List ℕ) (p : ℕ) → p < end → byte_from start (take (end - start) bytes) p ≡ byte_from start bytes p
+pub cut_before : (end start : ℕ) (bytes : List ℕ) (p : ℕ) → p < end → byte_from start (take (end - start) bytes) p ≡ byte_from start bytes p
 cut_before end start bytes p lt = elim (cases_lt p start) [
   | inl before ↦ from_before start (take (end - start) bytes) p before ∙ sym (from_before start bytes p before)
   | inr from ↦
@@ -120,7 +125,7 @@ cut_before end start bytes p lt = elim (cases_lt p start) [
       ∙ sym (from_after start bytes p (p - start) (omega arith))
 ]
 
-cut_past : (end start : ℕ) (bytes : List ℕ) (p : ℕ) → end ≤ p → byte_from start (take (end - start) bytes) p ≡ None
+pub cut_past : (end start : ℕ) (bytes : List ℕ) (p : ℕ) → end ≤ p → byte_from start (take (end - start) bytes) p ≡ None
 cut_past end start bytes p le = elim (cases_lt p start) [
   | inl before ↦ from_before start (take (end - start) bytes) p before
   | inr from ↦ from_after start (take (end - start) bytes) p (p - start) (omega arith) ∙ at_past bytes (end - start) (p - start) (omega arith)

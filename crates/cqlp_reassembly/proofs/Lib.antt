@@ -2,3 +2,5 @@ pub mod Puts
 pub mod Emptied
 pub mod Firsts
 pub mod Ends
+pub mod Streamed
+pub mod Alike

@@ -3,3 +3,4 @@ pub mod Cells
 pub mod Windows
 pub mod Streams
 pub mod Laws
+pub mod StreamLaws

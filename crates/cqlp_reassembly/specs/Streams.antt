@@ -1,6 +1,6 @@
 -- One direction of a connection: where its bytes begin and end, and what is told of it.
-use Rattle.std.specs.Prelude.{ℕ, zero, suc, ◌+◌, ◌-◌, ◌%◌, ◌^◌, ◌==◌, ◌||◌, Bool, true, false, not, List, length, min, Option, Some, None}
-use Rattle.std.specs.Prelude.{nat_lt, if◌then◌else◌}
+use Rattle.std.specs.Prelude.{ℕ, zero, suc, ◌+◌, ◌-◌, ◌≤◌, ◌%◌, ◌^◌, ◌==◌, ◌||◌, Bool, true, false, not, List, length, min, Option, Some, None}
+use Rattle.std.specs.Prelude.{nat_lt, if◌then◌else◌, ⊤}
 use Rattle.cqlp_reassembly.specs.declared.sequence.Distance.{Distance}
 use Rattle.cqlp_reassembly.specs.declared.sequence.Distance.TheVariants.{Ahead, Behind}
 use Rattle.cqlp_reassembly.specs.declared.stream.Control.{Control}
@@ -49,6 +49,11 @@ abbrev pub up_to_end : StreamState → ℕ → ℕ
 up_to_end s n = before_end s.end s.window.next n
 
 -- ---- what is told
+
+-- the bytes that it names lie in a payload of this length
+abbrev pub IsWithin : StreamStep → (len : ℕ) → Type 0
+IsWithin (step.Payload from count) len = from + count ≤ len
+IsWithin t len = ⊤
 
 pub record Told : Type 0 where
   pub step : StreamStep

@@ -1,7 +1,7 @@
 //! One direction of a connection.
 
-ghost use Rattle.std.specs.Prelude.{◌≡◌, ◌<◌, ◌≤◌, ◌^◌, length, map, take, IfOk, None, Some};
-ghost use Rattle.cqlp_reassembly.specs.Streams.{fin_number, first_number, is_empty, lacking, overlap, settling};
+ghost use Rattle.std.specs.Prelude.{◌≡◌, ◌+◌, ◌<◌, ◌≤◌, ◌^◌, length, map, take, IfOk, MatchOption, None, Some, ⊤};
+ghost use Rattle.cqlp_reassembly.specs.Streams.{IsWithin, fin_number, first_number, is_empty, lacking, overlap, settling};
 
 use crate::sequence::{Distance, distance_to};
 use crate::window::Window;
@@ -112,7 +112,8 @@ impl<A: Allocator> Stream<A> {
 
     /// The next that a segment tells.
     pub fn take(&mut self, control: Control, payload: &[u8]) -> StreamStep
-        ensures { told result self.new ≡ after_segment self.old control payload.now }
+        ensures told { told result self.new ≡ after_segment self.old control payload.now }
+        ensures within { IsWithin result (length payload.now) }
     {
         match self.stage {
             Stage::Over => StreamStep::Done,
@@ -182,7 +183,8 @@ impl<A: Allocator> Stream<A> {
 
     /// Begins it at a segment with SYN, FIN or this many bytes.
     fn begin(&mut self, control: Control, len: usize) -> StreamStep
-        ensures { told result self.new ≡ begun self.old control len }
+        ensures told { told result self.new ≡ begun self.old control len }
+        ensures within { IsWithin result 0 }
     {
         if control.syn || control.fin || len > 0 {
             self.window.restart(control.first_number());
@@ -206,7 +208,8 @@ impl<A: Allocator> Stream<A> {
 
     /// Of this many bytes from the next on, those before FIN.
     fn up_to_end(&self, count: usize) -> usize
-        ensures { result ≡ up_to_end self.now count }
+        ensures is { result ≡ up_to_end self.now count }
+        ensures within { result ≤ count }
     {
         match self.end {
             None => count,
@@ -226,7 +229,8 @@ impl<A: Allocator> Stream<A> {
 
     /// Takes the bytes of a segment that begin at this sequence number.
     fn receive(&mut self, number: u32, payload: &[u8]) -> StreamStep
-        ensures { told result self.new ≡ received self.old number payload.now }
+        ensures told { told result self.new ≡ received self.old number payload.now }
+        ensures within { IsWithin result (length payload.now) }
     {
         let from = overlap(distance_to(number, self.window.next()), payload.len());
         let count = self.fresh(from, payload.len());
@@ -241,7 +245,8 @@ impl<A: Allocator> Stream<A> {
     /// How many bytes of a payload are next from this index on, where nothing came early.
     fn fresh(&self, from: usize, len: usize) -> usize
         requires { from ≤ len }
-        ensures { result ≡ fresh self.now from len }
+        ensures is { result ≡ fresh self.now from len }
+        ensures within { from + result ≤ len }
     {
         if self.is_empty() { self.up_to_end(len - from) } else { 0 }
     }
@@ -249,7 +254,8 @@ impl<A: Allocator> Stream<A> {
     /// What is told after a payload of this length was put with those that came early.
     fn keep_early(&mut self, number: u32, len: usize) -> StreamStep
         requires { len < 2 ^ 63 }
-        ensures { told result self.new ≡ kept_early self.old number len }
+        ensures told { told result self.new ≡ kept_early self.old number len }
+        ensures within { IsWithin result 0 }
     {
         if let Some(step) = self.settle() {
             return step;
@@ -260,7 +266,8 @@ impl<A: Allocator> Stream<A> {
 
     /// Bytes that came, or the end, if either is next.
     fn settle(&mut self) -> Option<StreamStep>
-        ensures { settling result self.new ≡ settled self.old }
+        ensures told { settling result self.new ≡ settled self.old }
+        ensures within { MatchOption result ⊤ (λ step. IsWithin step 0) }
     {
         let count = self.held();
         if count > 0 {
@@ -292,7 +299,8 @@ impl<A: Allocator> Stream<A> {
 
     /// Passes over this many bytes, if there are any.
     fn give_up(&mut self, length: usize) -> StreamStep
-        ensures { told result self.new ≡ gap_or_done length self.old }
+        ensures told { told result self.new ≡ gap_or_done length self.old }
+        ensures within { IsWithin result 0 }
     {
         if length == 0 {
             return StreamStep::Done;

@@ -1,0 +1,13 @@
+use Rattle.std.proofs.Common.{ap, sym, ◌∙◌}
+use Rattle.cqlp_reassembly.specs.Streams.{Told}
+use Rattle.cqlp_reassembly.proofs.Alike.{read_same}
+use Rattle.cqlp_reassembly.proofs.laws.one_answer.Goals as goal
+
+pub returns-clause-take : goal.returns-clause-take
+returns-clause-take c = λ old d b t u s r x y. (ap (λ (z : Told). z.step) (y ∙ sym x), ap (λ (z : Told). z.state) (y ∙ sym x))
+
+pub returns-clause-acknowledge : goal.returns-clause-acknowledge
+returns-clause-acknowledge c = λ old number t u s r x y. (ap (λ (z : Told). z.step) (y ∙ sym x), ap (λ (z : Told). z.state) (y ∙ sym x))
+
+pub returns-clause-read : goal.returns-clause-read
+returns-clause-read c = λ old x y a b long. read_same x y old.window.cells a b long
