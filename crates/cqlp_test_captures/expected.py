@@ -137,7 +137,76 @@ def said(file):
     return lines + [f'whole {len(file)}']
 
 
+def segments_of(file):
+    """Of each segment of TCP in a capture its ends, numbers, flags and payload, by the lines that are said of it."""
+    for line in said(file):
+        words = line.split()
+        if words[1:2] == ['data']:
+            at, captured = int(words[0]), int(words[2])
+            packet = file[at:at + captured]
+        elif words[0] == 'segment':
+            tail = line[line.rindex(')') + 2:].split()
+            port, sequence, acknowledgement, flags, _, length, _, offset, _, _, _, missing = tail
+            source = line[8:line.index(')') + 1] + line[line.index(')') + 1:].split()[0]
+            target = line[:line.rindex(')') + 1].split(' ', 4)[-1] + port
+            offset, length = int(offset), int(length)
+            yield (source, target, int(sequence), flags, packet[offset:offset + length], int(missing),
+                   line[line.index(')') + 1:].split()[0], port)
+
+
+def streams(name):
+    """What streams have to tell: from the first byte on the bytes that some segment carried, and between them the gaps."""
+    directions = {}
+    for source, target, sequence, flags, payload, missing, own, other in segments_of(open(f'data/{name}', 'rb').read()):
+        d = directions.setdefault((source, target), {'ports': f'{own} {other}', 'first': None, 'bytes': {}, 'fin': None})
+        if 'S' in flags:
+            sequence += 1
+        if d['first'] is None and ('S' in flags or 'F' in flags or payload):
+            d['first'], d['syn'] = sequence, 'S' in flags
+        if d['first'] is None:
+            continue
+        place = (sequence - d['first'] + 2**31) % 2**32 - 2**31
+        for i, byte in enumerate(payload):
+            d['bytes'].setdefault(place + i, byte)
+        if 'F' in flags and d['fin'] is None:
+            d['fin'] = place + len(payload) + missing
+    lines = []
+    for d in directions.values():
+        if d['first'] is None:
+            lines.append(f"{d['ports']} bytes 0 sum 0")
+            continue
+        end = max(d['bytes'], default=-1) + 1 if d['fin'] is None else d['fin']
+        words, gap, data = [f"began {str(d['syn']).lower()}"], 0, bytearray()
+        for place in range(end + 1):
+            if place in d['bytes'] or place == end:
+                if gap:
+                    words.append(f'gap {gap} at {place - gap}')
+                gap = 0
+                if place < end:
+                    data.append(d['bytes'][place])
+            else:
+                gap += 1
+        if d['fin'] is not None:
+            words.append('ended')
+        lines.append(f"{d['ports']} {' '.join(words)} bytes {len(data)} sum {sum_of(data)}")
+        d['data'] = bytes(data)
+    if name in WHOLE:
+        for i, d in enumerate(directions.values()):
+            side = 'responses' if i % 2 else 'requests'
+            stem = name.split('.')[0] if 'sll2' in name else 'driver'
+            assert d['data'] == open(f'data/{stem}.{i // 2}.{side}.bin', 'rb').read(), (name, i)
+    return lines
+
+
+# captures in which no byte is missing: the streams' bytes are what the sockets saw
+WHOLE = {f'driver{kind}.pcap' for kind in ('', '-big-endian', '-ns', '-vlan', '-sll2', '-twice', '-swapped', '-overlap', '-cut')}
+
 for line in sys.stdin:
+    if line.startswith('streams '):
+        name = line[8:].rstrip('\n')
+        print('== streams', name)
+        print('\n'.join(streams(name)))
+        continue
     name, digits = line.rstrip('\n'), None
     if '|' in name:
         name, digits = name.split('|')

@@ -68,9 +68,9 @@ follows : (s : StreamState) (n position : ℕ) (segments : List Carried) → Hol
 follows s n position segments holds none = elim (cases_lt 0 (held s)) [
   | inl some ↦ rw (lt-ltb 0 (held s) some) (some, held_within s, holds)
   | inr nothing ↦ rw (le-ltb 0 (held s) nothing) (elim (cases_eq (up_to_end s 1) 0) [
-      | inl is ↦ rw (eq-eqb (up_to_end s 1) 0 is) holds
-      | inr more ↦ rw (ne_eqb (up_to_end s 1) 0 more) (gap_follows s n position segments holds none)
-    ])
+    | inl is ↦ rw (eq-eqb (up_to_end s 1) 0 is) holds
+    | inr more ↦ rw (ne_eqb (up_to_end s 1) 0 more) (gap_follows s n position segments holds none)
+  ])
 ]
 
 -- ---- an acknowledgement
@@ -81,7 +81,7 @@ lost_few false n m is = omega arith
 
 pub acknowledged_follows : (w : View) (end : Option ℕ) (position : ℕ) (segments : List Carried) (number : ℕ) → Holds w position segments
     → let s = stream_state Open w end in let n = (if is_lost s number then hole s else 0) in
-      Follows (or_else s (gap_or_done n s)).step segments position (or_else s (gap_or_done n s)).state.window
+    Follows (or_else s (gap_or_done n s)).step segments position (or_else s (gap_or_done n s)).state.window
 acknowledged_follows w end position segments number holds =
     let s = stream_state Open w end in
     let n = (if is_lost s number then hole s else 0) in
@@ -149,26 +149,28 @@ payload_tells w position segments g from count room holds all at few =
     let end = position + count in
     let long : length (take count (drop from g.bytes)) ≡ count = omega (arith, length-take count (drop from g.bytes), length-drop from g.bytes) in
     let h = holds_passed w position count segments holds in
-    let same : length (moved count w.cells) ≡ length w.cells = length_moved w.cells count in
-    (long,
-    record { each = λ i lt.
-        first_more segments (cut end g) (position + i)
-        ∙ ap (λ (o : Option ℕ). first o (byte_from g.start (take (end - g.start) g.bytes) (position + i))) (none_at_all w position segments i holds all)
-        ∙ cut_before end g.start g.bytes (position + i) (omega arith)
-        ∙ from_after g.start g.bytes (position + i) (from + i) (omega arith)
-        ∙ at_some g.bytes (from + i) (omega arith)
-        ∙ ap Some (sym (get_or-drop from g.bytes i 0) ∙ sym (get_or-take count (drop from g.bytes) i 0 (omega arith)));
-    },
-    record {
-      next = h.next;
-      cells = λ i lt.
-          h.cells i lt
-          ∙ sym (first_more segments (cut end g) (end + i) ∙ ap (first (first_byte segments (end + i))) (cut_past end g.start g.bytes (end + i) (omega arith)) ∙ none_last (first_byte segments (end + i)));
-      beyond = λ p le.
-          first_more segments (cut end g) p
-          ∙ ap (λ (o : Option ℕ). first o (byte_from g.start (take (end - g.start) g.bytes) p)) (h.beyond p le)
-          ∙ cut_past end g.start g.bytes p (omega arith);
-    })
+    let same : length (moved count w.cells) ≡ length w.cells = length_moved w.cells count in (
+      long,
+      record {
+        each = λ i lt.
+            first_more segments (cut end g) (position + i)
+            ∙ ap (λ (o : Option ℕ). first o (byte_from g.start (take (end - g.start) g.bytes) (position + i))) (none_at_all w position segments i holds all)
+            ∙ cut_before end g.start g.bytes (position + i) (omega arith)
+            ∙ from_after g.start g.bytes (position + i) (from + i) (omega arith)
+            ∙ at_some g.bytes (from + i) (omega arith)
+            ∙ ap Some (sym (get_or-drop from g.bytes i 0) ∙ sym (get_or-take count (drop from g.bytes) i 0 (omega arith)));
+      },
+      record {
+        next = h.next;
+        cells = λ i lt.
+            h.cells i lt
+            ∙ sym (first_more segments (cut end g) (end + i) ∙ ap (first (first_byte segments (end + i))) (cut_past end g.start g.bytes (end + i) (omega arith)) ∙ none_last (first_byte segments (end + i)));
+        beyond = λ p le.
+            first_more segments (cut end g) p
+            ∙ ap (λ (o : Option ℕ). first o (byte_from g.start (take (end - g.start) g.bytes) p)) (h.beyond p le)
+            ∙ cut_past end g.start g.bytes p (omega arith);
+      },
+    )
 
 -- ---- each call
 

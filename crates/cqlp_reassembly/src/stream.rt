@@ -146,11 +146,7 @@ impl<A: Allocator> Stream<A> {
                 if let Some(step) = self.settle() {
                     return step;
                 }
-                let lost = if self.is_lost(number) {
-                    self.hole()
-                } else {
-                    0
-                };
+                let lost = if self.is_lost(number) { self.hole() } else { 0 };
                 self.give_up(lost)
             }
         }
@@ -248,7 +244,11 @@ impl<A: Allocator> Stream<A> {
         ensures is { result ≡ fresh self.now from len }
         ensures within { from + result ≤ len }
     {
-        if self.is_empty() { self.up_to_end(len - from) } else { 0 }
+        if self.is_empty() {
+            self.up_to_end(len - from)
+        } else {
+            0
+        }
     }
 
     /// What is told after a payload of this length was put with those that came early.

@@ -6,7 +6,7 @@ use std::alloc::Global;
 use std::io;
 
 /// More events than any capture here has.
-const AMPLE: u32 = 1_000_000;
+pub const AMPLE: u32 = 1_000_000;
 
 /// A line for each event, with its offset, and how the file ends, where it comes in pieces of this size.
 pub fn said_in_pieces(
@@ -97,7 +97,12 @@ fn put_event(
 
 /// A number that tells bytes apart: each time 31 times the number before, and the next byte.
 pub fn sum_of(bytes: &[u8]) -> u32 {
-    let mut sum = 0u32;
+    fold(0, bytes)
+}
+
+/// That number after more bytes.
+pub fn fold(before: u32, bytes: &[u8]) -> u32 {
+    let mut sum = before;
     for byte in bytes {
         sum = sum.wrapping_mul(31).wrapping_add(*byte as u32);
     }
