@@ -154,10 +154,10 @@ def segments_of(file):
                    line[line.index(')') + 1:].split()[0], port)
 
 
-def streams(name):
+def streams(name, file):
     """What streams have to tell: from the first byte on the bytes that some segment carried, and between them the gaps."""
     directions = {}
-    for source, target, sequence, flags, payload, missing, own, other in segments_of(open(f'data/{name}', 'rb').read()):
+    for source, target, sequence, flags, payload, missing, own, other in segments_of(file):
         d = directions.setdefault((source, target), {'ports': f'{own} {other}', 'first': None, 'bytes': {}, 'fin': None})
         if 'S' in flags:
             sequence += 1
@@ -201,15 +201,29 @@ def streams(name):
 # captures in which no byte is missing: the streams' bytes are what the sockets saw
 WHOLE = {f'driver{kind}.pcap' for kind in ('', '-big-endian', '-ns', '-vlan', '-sll2', '-twice', '-swapped', '-overlap', '-cut')}
 
+# what is told of these, in which it matters when a segment comes
+BY_HAND = {
+    'numbers that wrap': [
+        f"40000 9042 began true gap 3 at 10 ended bytes 12 sum {sum_of(b'abcdefghijno')}",
+        f"9042 40000 began true reset bytes 3 sum {sum_of(b'but')}",
+    ],
+    'a segment beyond the window': [
+        f"40000 9042 began true gap 100 at 0 gap 65595 at 105 bytes 11 sum {sum_of(b'earlybeyond')}",
+    ],
+}
+
 for line in sys.stdin:
-    if line.startswith('streams '):
-        name = line[8:].rstrip('\n')
-        print('== streams', name)
-        print('\n'.join(streams(name)))
-        continue
-    name, digits = line.rstrip('\n'), None
+    of_streams = line.startswith('streams ')
+    name, digits = line.rstrip('\n').removeprefix('streams '), None
     if '|' in name:
         name, digits = name.split('|')
     file = bytes.fromhex(digits) if digits is not None else open(f'data/{name}', 'rb').read()
-    print('==', name.rstrip())
-    print('\n'.join(said(file)))
+    if of_streams and name.rstrip() in BY_HAND:
+        print('== streams', name.rstrip())
+        print('\n'.join(BY_HAND[name.rstrip()]))
+    elif of_streams:
+        print('== streams', name.rstrip())
+        print('\n'.join(streams(name, file)))
+    else:
+        print('==', name.rstrip())
+        print('\n'.join(said(file)))

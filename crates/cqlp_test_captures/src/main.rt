@@ -1,7 +1,7 @@
 //! Reads captures in one piece and in pieces of 1, 7 and 4,096 bytes, and prints what is said of them and of the segments in
 //! their packets.
 //!
-//! A line of the input that begins with `streams` has the name of a file, of which is printed what streams tell. Any other line is the name of a file, or a name and the digits of a file's bytes after `|`.
+//! A line of the input is the name of a file, or a name and the digits of a file's bytes after `|`.
 #![tactic(auto)]
 
 mod reading;
@@ -22,9 +22,10 @@ fn main(rt: HostRuntime) -> io::Result<()> {
 
 /// Reads the capture that a line names or has.
 fn execute(rt: &HostRuntime, line: &str) -> io::Result<()> {
-    if let Some(name) = line.strip_prefix("streams ") {
-        return put_streams(rt, name);
-    }
+    let (is_of_streams, line) = match line.strip_prefix("streams ") {
+        Some(rest) => (true, rest),
+        None => (false, line),
+    };
     let (name, bytes) = match line.split_once('|') {
         None => (line, fs::read(rt, line)?),
         Some((name, digits)) => match hex::decode(rt.alloc(), digits.as_bytes()) {
@@ -32,6 +33,11 @@ fn execute(rt: &HostRuntime, line: &str) -> io::Result<()> {
             Err(_) => return Err(io::Error::from(io::ErrorKind::InvalidInput)),
         },
     };
+    if is_of_streams {
+        let said = said_of_streams(rt.alloc(), &bytes)?;
+        print!(rt; "== streams {}\n{said}", name.trim_end())?;
+        return Ok(());
+    }
     println!(rt; "== {}", name.trim_end())?;
     let whole = said_in_pieces(rt.alloc(), CaptureLimits::DEFAULT, &bytes, bytes.len())?;
     print!(rt; "{whole}")?;
@@ -41,12 +47,5 @@ fn execute(rt: &HostRuntime, line: &str) -> io::Result<()> {
             println!(rt; "differs in pieces of {size} bytes")?;
         }
     }
-    Ok(())
-}
-
-/// Prints what streams tell of the capture in this file.
-fn put_streams(rt: &HostRuntime, name: &str) -> io::Result<()> {
-    let said = said_of_streams(rt.alloc(), &fs::read(rt, name)?)?;
-    print!(rt; "== streams {name}\n{said}")?;
     Ok(())
 }
