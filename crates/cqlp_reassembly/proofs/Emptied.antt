@@ -1,9 +1,9 @@
 -- Cells of which none has a byte from an index on.
-use Rattle.std.proofs.Common.{◌≡◌, ℕ, zero, suc, ◌+◌, ◌-◌, ◌<◌, ◌≤◌, List, [], ◌∷◌, ◌++◌, length, take, drop, replicate, get_or, refl, sym, ap, ◌∙◌, inl, inr, arith}
+use Rattle.std.proofs.Common.{◌≡◌, ℕ, zero, suc, ◌+◌, ◌-◌, ◌≤◌, List, [], ◌∷◌, ◌++◌, length, take, drop, replicate, get_or, refl, sym, ap, ◌∙◌, inl, inr, arith}
 use Rattle.std.specs.Prelude.{Option, Some, None, min, max}
 use Rattle.std.proofs.lemmas.Bool.{cases_lt}
 use Rattle.std.proofs.lemmas.List.{length-replicate, length-append, length-drop, length-take, get_or-append-add, get_or_append_left, get_or-drop, get_or-take, take_at}
-use Rattle.cqlp_reassembly.specs.Cells.{first, put, lead, moved}
+use Rattle.cqlp_reassembly.specs.Cells.{put, lead, moved}
 use Rattle.cqlp_reassembly.specs.Windows.{IsEmptyFrom}
 use Rattle.cqlp_reassembly.proofs.Puts.{length-put}
 

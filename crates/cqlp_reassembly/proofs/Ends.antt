@@ -1,11 +1,11 @@
 -- Bytes up to FIN.
-use Rattle.std.proofs.Common.{ℕ, ◌≤◌, List, arith}
-use Rattle.std.specs.Prelude.{Option, Some, None, min}
+use Rattle.std.proofs.Common.{ℕ, ◌≤◌, arith}
+use Rattle.std.specs.Prelude.{Option, Some, None}
 use Rattle.cqlp_reassembly.specs.declared.sequence.Distance.{Distance}
 use Rattle.cqlp_reassembly.specs.declared.sequence.Distance.TheVariants.{Ahead, Behind}
 use Rattle.cqlp_reassembly.specs.Sequence.{distance}
 use Rattle.cqlp_reassembly.specs.Cells.{ready}
-use Rattle.cqlp_reassembly.specs.Streams.{StreamState, before, before_end, held, up_to_end}
+use Rattle.cqlp_reassembly.specs.Streams.{StreamState, before, before_end, held}
 
 pub before_within : (d : Distance) (n : ℕ) → before d n ≤ n
 before_within (Ahead k) n = omega arith

@@ -1,8 +1,8 @@
 -- The first byte at each position stays.
-use Rattle.std.proofs.Common.{◌≡◌, ℕ, zero, suc, ◌+◌, ◌-◌, ◌%◌, ◌^◌, ◌<◌, ◌≤◌, List, [], ◌∷◌, ◌++◌, length, take, drop, map, replicate, get_or, refl, sym, ap, ◌∙◌, inl, inr, arith}
+use Rattle.std.proofs.Common.{◌≡◌, ℕ, zero, suc, ◌+◌, ◌-◌, ◌%◌, ◌^◌, ◌<◌, ◌≤◌, List, [], ◌∷◌, ◌++◌, length, take, drop, map, get_or, refl, sym, ap, ◌∙◌, inl, inr, arith}
 use Rattle.std.specs.Prelude.{Option, Some, None}
 use Rattle.std.proofs.lemmas.Bool.{cases_lt, lt-ltb, le-ltb}
-use Rattle.std.proofs.lemmas.List.{length-replicate, length-append, length-drop, get_or-append-add, get_or_append_left, get_or-drop, get_or-take}
+use Rattle.std.proofs.lemmas.List.{get_or-take}
 use Rattle.cqlp_reassembly.specs.declared.sequence.Distance.{Distance}
 use Rattle.cqlp_reassembly.specs.declared.sequence.Distance.TheVariants.{Ahead, Behind}
 use Rattle.cqlp_reassembly.specs.Sequence.{up, distance}

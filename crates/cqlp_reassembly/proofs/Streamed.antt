@@ -1,6 +1,6 @@
 -- What a stream tells is what the segments carried.
-use Rattle.std.proofs.Common.{◌≡◌, ℕ, zero, suc, ◌+◌, ◌-◌, ◌%◌, ◌^◌, ◌<◌, ◌≤◌, Bool, true, false, List, [], ◌∷◌, ◌++◌, length, take, drop, get_or, refl, sym, ap, ◌∙◌, inl, inr, arith}
-use Rattle.std.specs.Prelude.{Option, Some, None, min, if◌then◌else◌, nat_eq, nat_lt}
+use Rattle.std.proofs.Common.{◌≡◌, ℕ, zero, suc, ◌+◌, ◌-◌, ◌%◌, ◌^◌, ◌<◌, ◌≤◌, Bool, true, false, List, [], ◌∷◌, length, take, drop, get_or, refl, sym, ap, ◌∙◌, inl, inr, arith}
+use Rattle.std.specs.Prelude.{Option, Some, None, min, if◌then◌else◌}
 use Rattle.std.proofs.lemmas.Bool.{cases_lt, cases_eq, lt-ltb, le-ltb, eq-eqb, ne_eqb, eqb-true}
 use Rattle.std.proofs.lemmas.List.{length-drop, length-take, get_or-drop, get_or-take}
 use Rattle.cqlp_reassembly.specs.declared.sequence.Distance.{Distance}
@@ -10,12 +10,12 @@ use Rattle.cqlp_reassembly.specs.declared.stream.Stage.TheVariants.{Open}
 use Rattle.cqlp_reassembly.specs.declared.stream.StreamStep.{StreamStep}
 use Rattle.cqlp_reassembly.specs.declared.stream.StreamStep.TheVariants.{Began, Payload, Held, Gap, Ended, Reset, Done}
 use Rattle.cqlp_reassembly.specs.Sequence.{distance}
-use Rattle.cqlp_reassembly.specs.Cells.{first, lead, moved, ready}
+use Rattle.cqlp_reassembly.specs.Cells.{first, lead, moved}
 use Rattle.cqlp_reassembly.specs.Windows.{View, passed, taken}
-use Rattle.cqlp_reassembly.specs.Streams.{StreamState, Told, after_segment, first_number, fresh, gap_or_done, held, hole, is_empty, is_lost, kept_early, lacking, or_else, over, overlap, received, received_from, stream_state, up_to_end, with_end, with_window}
-use Rattle.cqlp_reassembly.specs.Laws.{Carried, Holds, IsNear, at_index, byte_from, cut, first_byte}
-use Rattle.cqlp_reassembly.specs.StreamLaws.{Follows, HandsOn, Lacks, Tells, with_more}
-use Rattle.cqlp_reassembly.proofs.Emptied.{get_moved, get_past, length_moved}
+use Rattle.cqlp_reassembly.specs.Streams.{StreamState, Told, after_segment, first_number, fresh, gap_or_done, held, hole, is_empty, is_lost, kept_early, lacking, or_else, over, overlap, received, stream_state, up_to_end, with_end, with_window}
+use Rattle.cqlp_reassembly.specs.Laws.{Carried, Holds, IsNear, byte_from, cut, first_byte}
+use Rattle.cqlp_reassembly.specs.StreamLaws.{Follows, Tells, with_more}
+use Rattle.cqlp_reassembly.proofs.Emptied.{get_past, length_moved}
 use Rattle.cqlp_reassembly.proofs.Ends.{end_within, held_within}
 use Rattle.cqlp_reassembly.proofs.Firsts.{ahead, behind, cut_before, cut_past, first_more, from_after, holds_passed, holds_taken, at_some}
 

@@ -1,6 +1,5 @@
-use Rattle.std.proofs.Common.{◌+◌, length, rules, refl, sym, ap, ◌∙◌, arith}
+use Rattle.std.proofs.Common.{◌+◌, rules, arith}
 use Rattle.cqlp_reassembly.proofs.Emptied.{put_empty_from, written}
-use Rattle.cqlp_reassembly.proofs.Puts.{length-put}
 use Rattle.cqlp_reassembly.proofs.window.Window.put.Goals as goal
 
 pub invariant_of-self : goal.invariant_of-self
