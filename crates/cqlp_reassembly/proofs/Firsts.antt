@@ -131,7 +131,7 @@ cut_past end start bytes p le = elim (cases_lt p start) [
   | inr from ↦ from_after start (take (end - start) bytes) p (p - start) (omega arith) ∙ at_past bytes (end - start) (p - start) (omega arith)
 ]
 
-length-put_from : (d : Distance) (cells : List (Option ℕ)) (bytes : List ℕ) → length (put_from d cells bytes) ≡ length cells
+pub length-put_from : (d : Distance) (cells : List (Option ℕ)) (bytes : List ℕ) → length (put_from d cells bytes) ≡ length cells
 length-put_from (Ahead n) cells bytes = length-put cells n bytes
 length-put_from (Behind n) cells bytes = length-put cells 0 (drop n bytes)
 

@@ -4,3 +4,4 @@ pub mod Firsts
 pub mod Ends
 pub mod Streamed
 pub mod Alike
+pub mod InTime

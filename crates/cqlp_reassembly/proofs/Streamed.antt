@@ -43,7 +43,7 @@ none_at_all w position segments i holds all = elim (cases_lt i (length w.cells))
   | inr past ↦ holds.beyond (position + i) (omega arith)
 ]
 
-lead_within : (cells : List (Option ℕ)) → lead cells ≤ length cells
+pub lead_within : (cells : List (Option ℕ)) → lead cells ≤ length cells
 lead_within [] = omega arith
 lead_within (None ∷ cells) = let h = lead_within cells in omega arith
 lead_within (Some b ∷ cells) = omega arith

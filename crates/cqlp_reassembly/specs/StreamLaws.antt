@@ -1,7 +1,7 @@
 -- Laws of streams: each byte is handed on once, in order, and is that of the first segment that carried it; a gap is told where
 -- none did.
 use Rattle.std.specs.Prelude.{◌≡◌, ℕ, ◌+◌, ◌%◌, ◌^◌, ◌<◌, ◌≤◌, ◌++◌, false, List, [], ◌∷◌, length, take, drop, map, Option, Some, None}
-use Rattle.std.specs.Prelude.{slice_index}
+use Rattle.std.specs.Prelude.{slice_index, ⊤}
 use Rattle.cqlp_reassembly.specs.declared.stream.Control.{Control}
 use Rattle.cqlp_reassembly.specs.declared.stream.Stage.TheVariants.{Open}
 use Rattle.cqlp_reassembly.specs.declared.stream.StreamStep.{StreamStep}
@@ -55,6 +55,20 @@ TellsWhatIsLost =
     → Holds w position segments
     → told t s ≡ after_acknowledgement (stream_state Open w end) number
     → Follows t segments position s.window
+
+-- A gap is told only where the segment lies beyond what the stream can hold; and once all is told, all of the segment lies before
+-- that end, so none of its bytes was left out.
+abbrev pub IsInTime : StreamStep → (position room : ℕ) → Carried → Type 0
+IsInTime (Gap n) position room g = position + room < g.start + length g.bytes
+IsInTime Done position room g = g.start + length g.bytes ≤ position + room
+IsInTime t position room g = ⊤
+
+abbrev pub TellsInTime : Type 0
+TellsInTime =
+    (w : View) (end : Option ℕ) (position : ℕ) (g : Carried) (c : Control) (t : StreamStep) (s : StreamState)
+    → w.next ≡ position % 2 ^ 32 → IsNear position g → c.rst ≡ false → first_number c ≡ g.start % 2 ^ 32
+    → told t s ≡ after_segment (stream_state Open w end) c g.bytes
+    → IsInTime t position (length w.cells) g
 
 -- ---- duplicates and order
 

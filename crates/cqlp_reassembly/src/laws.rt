@@ -2,7 +2,7 @@
 
 ghost use Rattle.cqlp_reassembly.specs.Laws.{HandsOnTheFirst, HoldsTheFirst};
 ghost use Rattle.cqlp_reassembly.specs.StreamLaws.{HandsOnTheSame, IsTheSameInEitherOrder, IsTheSameWithDuplicates};
-ghost use Rattle.cqlp_reassembly.specs.StreamLaws.{OneAnswerOfAcknowledge, OneAnswerOfRead, OneAnswerOfTake, TellsTheFirst, TellsWhatIsLost};
+ghost use Rattle.cqlp_reassembly.specs.StreamLaws.{OneAnswerOfAcknowledge, OneAnswerOfRead, OneAnswerOfTake, TellsInTime, TellsTheFirst, TellsWhatIsLost};
 
 /// A window holds at each place the byte of the first segment that carried it, of those whose bytes were taken, and so hands it on.
 pub fn first_bytes_stay()
@@ -14,6 +14,7 @@ pub fn first_bytes_stay()
 /// carried them, in order and each once, and gaps where none did.
 pub fn streams_tell_the_first()
     ensures segments { TellsTheFirst }
+    ensures in_time { TellsInTime }
     ensures acknowledgements { TellsWhatIsLost }
 {}
 
