@@ -3,6 +3,7 @@
 
 mod buffered_sink;
 mod form;
+pub mod laws;
 mod render;
 mod showing;
 mod text_form;

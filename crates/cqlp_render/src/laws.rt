@@ -1,0 +1,10 @@
+//! Laws of the numbers that are promised. No code needs them.
+
+ghost use Rattle.std.specs.Prelude.{◌≡◌};
+
+use crate::showing::TURNS;
+
+/// The numbers that are promised: how many reads a command makes at most, 2^32.
+pub fn promised_numbers()
+    ensures turns { TURNS ≡ 4294967296 }
+{}
