@@ -7,7 +7,7 @@ use std::alloc::Global;
 use std::io;
 
 /// More bytes than any decoder takes here.
-const AMPLE: usize = 1 << 22;
+const AMPLE: usize = 1 << 24;
 
 /// The bytes of memory that a decoder takes.
 pub fn taken(alloc: Global, limits: Limits) -> io::Result<usize> {

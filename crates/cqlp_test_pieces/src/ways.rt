@@ -4,12 +4,16 @@ use crate::reading::{Report, said_in_pieces};
 use crate::script::{Script, Shows};
 use std::io;
 
-/// In pieces of each size, and in two pieces cut at each place; where events are counted, byte by byte alone.
+/// In pieces of each size, and in two pieces cut at each place; where events are counted, byte by byte and in pieces of
+/// 3 bytes after one of 11, alone.
 pub fn in_pieces(rt: &HostRuntime, script: &Script<'_>, stream: &[u8]) -> io::Result<()> {
     let whole = said_in_pieces(rt.alloc(), script, stream, stream.len(), 1)?;
     match script.shows {
         Shows::Calls | Shows::Memory => Ok(()),
-        Shows::Counts => in_these_pieces(rt, script, stream, &whole, (1, 1)),
+        Shows::Counts => {
+            in_these_pieces(rt, script, stream, &whole, (1, 1))?;
+            in_these_pieces(rt, script, stream, &whole, (11, 3))
+        }
         Shows::Events => {
             for size in 1..stream.len() {
                 in_these_pieces(rt, script, stream, &whole, (size, size))?;
