@@ -110,6 +110,7 @@ def _named(names: Any) -> Tuple[Any, ...]:
 
 
 _TAGS, _FIELDS, _KINDS, _OPCODES, _MARKS, _REASONS = map(_named, (Tag, Field, Kind, Opcode, Mark, Reason))
+_FULL, _REFUSED = int(Stop.FULL), int(Stop.REFUSED)
 _LIMITS = {
     _native.BAD_TEXT: "text",
     _native.BAD_CELL: "cell",
@@ -160,6 +161,28 @@ def event_of(record: Record, content: bytes) -> Event:
         flags,
         _MARKS[mark],
     )
+
+
+class Placed:
+    """The events that one call put, each read where it lies, so until the decoder's next call alone."""
+
+    def __init__(self, array: Any, bytes: Any) -> None:
+        self.address = ctypes.addressof(array)
+        self.count = 0
+        self._bytes = bytes
+
+    def __len__(self) -> int:
+        return self.count
+
+    def __getitem__(self, at: int) -> "Tuple[Record, bytes]":
+        if not 0 <= at < self.count:
+            raise IndexError(at)
+        record = _native.RECORD.unpack_from(self._bytes, at * _native.RECORD.size)
+        return record, ctypes.string_at(record[1], record[2]) if record[2] else b""
+
+
+Refusal = Optional[Tuple[int, Any]]
+"""The offset and the reason of a refusal, if there is one."""
 
 
 class Decoder:
@@ -217,23 +240,40 @@ class Decoder:
         if hasattr(self, "_batch"):
             _free(self._handle)
 
-    def _batches(self, data: bytes) -> Iterator[Tuple[List[Tuple[Record, bytes]], Optional[Tuple[int, Any]]]]:
+    def _batches(self, data: bytes) -> Iterator[Tuple[List[Tuple[Record, bytes]], Refusal]]:
         """The events of a piece with their contents, a list for each call of the library; and beside the last one the refusal."""
-        used, stop = 0, Stop.FULL
-        while stop == Stop.FULL:
+        used, stop, base = 0, _FULL, _address(data)
+        while stop == _FULL:
             with self._lock:
-                taken, stop, batch = self._take(data, used)
-                refusal = (self._batch.at, _REASONS[self._batch.reason]) if stop == Stop.REFUSED else None
+                taken, stop, refusal = self._call(base, len(data), used)
+                batch = self._copied(data, base)
             used += taken
             yield batch, refusal
 
-    def _take(self, data: bytes, used: int) -> Tuple[int, int, List[Tuple[Record, bytes]]]:
-        """One call of the library, with what comes after the used bytes. Each content is copied before the next call."""
-        base, batch = _address(data), self._batch
-        code = _native.library.cqlp_next(self._handle, base + used, len(data) - used, self._array, self._room, batch)
-        _must_be_done(code)
+    def _placed(self, data: bytes) -> Iterator[Tuple[Placed, Refusal]]:
+        """The same for a caller that has this decoder for itself, and is done with a batch before it asks for the next."""
+        used, stop, base = 0, _FULL, _address(data)
+        batch = Placed(self._array, self._bytes)
+        while stop == _FULL:
+            with self._lock:
+                taken, stop, refusal = self._call(base, len(data), used)
+            used += taken
+            batch.count = self._batch.events
+            yield batch, refusal
+
+    def _call(self, base: int, length: int, used: int) -> Tuple[int, int, Refusal]:
+        """One call of the library, with what comes after the used bytes: how many it used, why it stopped, and the refusal."""
+        batch = self._batch
+        code = _native.library.cqlp_next(self._handle, base + used, length - used, self._array, self._room, batch)
+        if code:
+            _must_be_done(code)
+        stop = batch.stop
+        return batch.used, stop, (batch.at, _REASONS[batch.reason]) if stop == _REFUSED else None
+
+    def _copied(self, data: bytes, base: int) -> List[Tuple[Record, bytes]]:
+        """The events that were put, with copies of their contents."""
         past, found = base + len(data), []
-        for record in _native.RECORD.iter_unpack(memoryview(self._bytes)[: batch.events * _native.RECORD.size]):
+        for record in _native.RECORD.iter_unpack(memoryview(self._bytes)[: self._batch.events * _native.RECORD.size]):
             length = record[2]
             if not length:
                 found.append((record, b""))
@@ -243,7 +283,7 @@ class Decoder:
                 found.append((record, data[place - base : place - base + length]))
             else:
                 found.append((record, ctypes.string_at(place, length)))
-        return batch.used, batch.stop, found
+        return found
 
 
 def check(data: bytes, limits: Limits = Limits()) -> Verdict:

@@ -1,13 +1,23 @@
 """The rows of pages, as Python values."""
 
-from typing import Any, Iterator, List, NamedTuple, Optional, Tuple
+from itertools import chain
+from typing import Any, Iterator, List, NamedTuple, Optional, Tuple, Union
 
-from ._decoder import Limits, Record, event_of
+from . import _native
+from ._decoder import Limits, Placed, Record, event_of
 from ._events import Event
-from ._sources import Progress, Source, batches
+from ._sources import Batch, Progress, Source, batches
 from ._values import EMPTY, LEAVES, ValueOf
 from .numbers import Field, Kind, Mark, Tag
 
+try:
+    from . import _cells as _compiled
+except ImportError:
+    _compiled = None
+if _compiled and _compiled.EVENT_SIZE != _native.RECORD.size:
+    _compiled = None
+
+Row = Tuple[ValueOf, ...]
 _ROWS_RESULT = 2
 _TEXTS = (Kind.ASCII, Kind.VARCHAR)
 _BYTES = (Kind.BLOB, Kind.CUSTOM, Kind.RAW)
@@ -142,18 +152,18 @@ class Page:
         """Where the result goes on, or None where this is its last page."""
         self._pages = pages
 
-    def __iter__(self) -> Iterator[Tuple[ValueOf, ...]]:
-        return self
-
-    def __next__(self) -> Tuple[ValueOf, ...]:
+    def __iter__(self) -> Iterator[Row]:
         pages = self._pages
-        if pages._current is not self:
-            raise StopIteration
-        row = next(pages._found, None)
-        if not isinstance(row, tuple):
-            pages._current, pages._coming = None, row
-            raise StopIteration
-        return row
+        while pages._current is self:
+            rows = pages._rows
+            yield from rows
+            if pages._rows is rows:
+                pages._go_on()
+
+    def __next__(self) -> Row:
+        for row in self:
+            return row
+        raise StopIteration
 
 
 class Pages:
@@ -171,8 +181,10 @@ class Pages:
         piece: int = 65536,
         progress: Optional[Progress] = None,
     ) -> None:
-        self._found = _found(self, batches(source, limits, piece, progress), limits.types)
+        placed = _compiled is not None
+        self._found = _found(self, batches(source, limits, piece, progress, placed), limits.types)
         self._current: Optional[Page] = None
+        self._rows: Iterator[Row] = iter(())
         self._coming: Optional[Page] = None
 
     def __iter__(self) -> "Pages":
@@ -181,11 +193,21 @@ class Pages:
     def __next__(self) -> Page:
         for _ in self._current or ():
             pass
-        page = self._coming or next(self._found, None)
+        if self._coming is None:
+            self._go_on()
+        page = self._coming
         if page is None:
             raise StopIteration
         self._current, self._coming = page, None
         return page
+
+    def _go_on(self) -> None:
+        """Takes what comes next: more rows of the page that is under way, or its end and the page after it, or the end of all."""
+        found = next(self._found, None)
+        if isinstance(found, list):
+            self._rows = iter(found)
+        else:
+            self._current, self._rows, self._coming = None, iter(()), found
 
 
 class _Metadata:
@@ -218,44 +240,76 @@ _SPEC = (Field.KEYSPACE, Field.TABLE, Field.COLUMN_NAME)
 _LEAF, _NULL, _EMPTY, _ENTER, _LEAVE, _PART = map(int, (Tag.LEAF, Tag.NULL, Tag.EMPTY, Tag.ENTER, Tag.LEAVE, Tag.PART))
 
 
-def _found(pages: Pages, batches: Iterator[List[Tuple[Record, bytes]]], typed: bool) -> Iterator[Any]:
-    """Each page, and after it each of its rows; whether cells are read by the types of their columns is told."""
-    metadata, cells = _Metadata(), _Cells(0, [])
+def _found(pages: Pages, batches: Iterator[Batch], typed: bool) -> Iterator[Union[Page, List[Row]]]:
+    """Each page, and after it its rows, in a list for each batch that ended some; whether cells are read by the types of their
+    columns is told."""
+    metadata, cells = _Metadata(), _cells(0, ())
     for batch in batches:
-        for record, content in batch:
-            tag = record[9]
-            if tag == _LEAF and not record[6]:
-                # most are such, so this stands here and not in a call
-                row = cells.row
-                row.append(LEAVES[record[11]](record[3], content, record[7], record[8][: record[15]]))
-                if len(row) == cells.width:
-                    yield tuple(row)
-                    row.clear()
-                continue
-            if _LEAF <= tag <= _PART:
-                if cells.add(record, content):
-                    yield tuple(cells.row)
-                    cells.row.clear()
-                continue
-            event = event_of(record, content)
+        at, count = 0, len(batch)
+        while at < count:
+            rows, at = cells.take(batch, at)
+            if rows:
+                yield rows
+            if at == count:
+                break
+            event = event_of(*batch[at])
+            at += 1
             if event.tag == Tag.FRAME:
                 metadata = _Metadata()
             elif event.field == Field.ROWS and metadata.kind == _ROWS_RESULT:
-                cells = _Cells(metadata.width, [column.type for column in metadata.columns] if typed else [])
-                yield Page(pages, tuple(metadata.columns), metadata.width, event.number, metadata.state)
+                columns = tuple(metadata.columns)
+                cells = _cells(metadata.width, tuple(column.type for column in columns) if typed else ())
+                yield Page(pages, columns, metadata.width, event.number, metadata.state)
             else:
                 metadata.add(event)
+
+
+def _cells(width: int, types: Tuple[Type, ...]) -> "Union[_Cells, _CompiledCells]":
+    if _compiled is None:
+        return _Cells(width, types)
+    return _CompiledCells(_compiled.Cells(width, types, LEAVES, EMPTY, _frozen))
+
+
+class _CompiledCells:
+    """What `_Cells` does, done by _cells.c, over events that are read where they lie."""
+
+    def __init__(self, cells: Any) -> None:
+        self._take = cells.take
+
+    def take(self, batch: Placed, at: int) -> Tuple[List[Row], int]:
+        return self._take(batch.address, at, batch.count)
 
 
 class _Cells:
     """Puts values together to cells, and cells to rows."""
 
-    def __init__(self, width: int, types: List[Type]) -> None:
+    def __init__(self, width: int, types: Tuple[Type, ...]) -> None:
         self.types = types
         self.width = width
         self.row: List[ValueOf] = []
         self.open: List[_Items] = []
         self.parts: List[bytes] = []
+
+    def take(self, batch: Batch, at: int) -> Tuple[List[Row], int]:
+        """Takes events of cells, from this place of the batch on: the rows that they end, and the place of the first event that is
+        none of a cell."""
+        rows: List[Row] = []
+        row, width = self.row, self.width
+        for at in range(at, len(batch)):
+            record, content = batch[at]
+            tag = record[9]
+            if tag == _LEAF and not record[6]:
+                # most are such, so this stands here and not in a call
+                row.append(LEAVES[record[11]](record[3], content, record[7], record[8][: record[15]]))
+                whole = len(row) == width
+            elif _LEAF <= tag <= _PART:
+                whole = self.add(record, content)
+            else:
+                return rows, at
+            if whole:
+                rows.append(tuple(row))
+                row.clear()
+        return rows, len(batch)
 
     def add(self, record: Record, content: bytes) -> bool:
         """Whether the event, one of a cell, ends a row."""
@@ -298,7 +352,7 @@ def rows(
     *,
     piece: int = 65536,
     progress: Optional[Progress] = None,
-) -> Iterator[Tuple[ValueOf, ...]]:
+) -> Iterator[Row]:
     """The rows of all pages of a stream, as tuples."""
-    for page in Pages(source, limits, piece=piece, progress=progress):
-        yield from page
+    found = Pages(source, limits, piece=piece, progress=progress)._found
+    return chain.from_iterable(rows for rows in found if isinstance(rows, list))

@@ -2,9 +2,9 @@
 
 import io
 import os
-from typing import Any, BinaryIO, Callable, Iterator, List, Optional, Tuple, Union
+from typing import Any, BinaryIO, Callable, Iterator, Optional, Sequence, Tuple, Union
 
-from ._decoder import Cut, Decoder, Limits, Record, Refused, event_of
+from ._decoder import Cut, Decoder, Limits, Record, Refusal, Refused, event_of
 from ._events import Event
 from .numbers import End
 
@@ -45,14 +45,20 @@ def _length_of(file: BinaryIO) -> Optional[int]:
     return end - at
 
 
+Batch = Sequence[Tuple[Record, bytes]]
+"""Events with their contents."""
+
+
 def batches(
-    source: Source, limits: Limits, piece: int, progress: Optional[Progress]
-) -> Iterator[List[Tuple[Record, bytes]]]:
-    """The events of a source with their contents, batch by batch; the one before a refusal too."""
+    source: Source, limits: Limits, piece: int, progress: Optional[Progress], placed: bool = False
+) -> Iterator[Batch]:
+    """The events of a source with their contents, batch by batch; the one before a refusal too. With `placed` each batch is one
+    of `Placed`, which is read before the next is asked for."""
     read = 0
-    with Decoder(limits) as decoder:
+    with Decoder(limits, room=512) as decoder:
+        take: Callable[[bytes], Iterator[Tuple[Batch, Refusal]]] = decoder._placed if placed else decoder._batches
         for data, total in _pieces(source, piece):
-            for batch, refusal in decoder._batches(data):
+            for batch, refusal in take(data):
                 yield batch
                 if refusal:
                     raise Refused(*refusal, [event_of(*one) for one in batch])

@@ -1,0 +1,392 @@
+/* Puts the events of cells together to rows of Python values, as `_Cells` of _pages.py does: the same values, from the events where
+ * cqlp_next put them. It calls nothing of libcqlp. It is of the stable ABI, from Python 3.9 on, and bindings/build makes
+ * cqlp/_cells.abi3.so of it. Where that is not there, _pages.py does it alone. */
+#define Py_LIMITED_API 0x03090000
+#define PY_SSIZE_T_CLEAN
+#include <Python.h>
+#include <string.h>
+
+#include "cqlp.h"
+
+_Static_assert(sizeof(double) == 8 && sizeof(float) == 4, "floats are binary64 and binary32");
+
+/* A list, set, map, tuple or udt whose items are still to come. */
+typedef struct items {
+  uint8_t kind;
+  int64_t wanted;   /* how many fields a tuple or a udt has */
+  Py_ssize_t count; /* how many items came: of a map keys and values */
+  PyObject *type;   /* lent: the columns' types hold it */
+  PyObject *values; /* a list; of a set a set, of a map a dict */
+  PyObject *key;    /* of a map the key whose value is still to come, else NULL */
+} items;
+
+typedef struct cells {
+  PyObject_HEAD
+  Py_ssize_t width;  /* how many cells a row has */
+  PyObject *types;   /* a tuple of the columns' types, or an empty one where they are not told */
+  PyObject *leaves;  /* of each kind the function that makes its value, of an event's number, content, extra and octets */
+  PyObject *empty;   /* a value of no bytes, of a type that is neither a text nor bytes */
+  PyObject *frozen;  /* makes of a value one that may be in a set */
+  PyObject **row;    /* the cells of the row that is under way */
+  Py_ssize_t length; /* how many they are */
+  Py_ssize_t room;   /* and how many have room */
+  items *open;       /* the values around the next one, the outermost first */
+  Py_ssize_t depth;
+  Py_ssize_t levels; /* for how many there is room */
+  PyObject *parts;   /* a list of the parts of a long scalar that came */
+} cells;
+
+/* Whether an array has room for one more; it is grown by half. */
+static int grow(void **array, Py_ssize_t length, Py_ssize_t *room, size_t size) {
+  if (length < *room) return 1;
+  Py_ssize_t wanted = *room + *room / 2 + 8;
+  void *grown = (size_t)wanted > PY_SSIZE_T_MAX / size ? NULL : PyMem_Realloc(*array, (size_t)wanted * size);
+  if (grown == NULL) {
+    PyErr_NoMemory();
+    return 0;
+  }
+  *array = grown;
+  *room = wanted;
+  return 1;
+}
+
+static PyObject *bytes_of(const cqlp_event *event) {
+  return PyBytes_FromStringAndSize((const char *)event->content, (Py_ssize_t)event->length);
+}
+
+/* The value that the Python function for this kind makes. */
+static PyObject *called(cells *self, const cqlp_event *event) {
+  PyObject *make = PyList_GetItem(self->leaves, event->kind);
+  return make == NULL ? NULL
+                      : PyObject_CallFunction(make, "Ly#iy#", (long long)event->number,
+                                              event->length ? (const char *)event->content : "", (Py_ssize_t)event->length,
+                                              (int)event->extra, (const char *)event->bytes, (Py_ssize_t)event->octets);
+}
+
+/* A varint of few bytes, in two's complement. */
+static PyObject *short_varint(const cqlp_event *event) {
+  uint64_t number = event->content[0] & 0x80 ? ~(uint64_t)0 : 0;
+  for (size_t at = 0; at < event->length; at++) number = number << 8 | event->content[at];
+  int64_t of_sign;
+  memcpy(&of_sign, &number, 8);
+  return PyLong_FromLongLong(of_sign);
+}
+
+/* A binary64 or binary32, whose highest byte comes first. */
+static PyObject *binary(const cqlp_event *event) {
+  uint64_t number = 0;
+  for (int at = 0; at < event->octets; at++) number = number << 8 | event->bytes[at];
+  if (event->octets == 4) {
+    uint32_t half = (uint32_t)number;
+    float single;
+    memcpy(&single, &half, 4);
+    return PyFloat_FromDouble(single);
+  }
+  double twice;
+  memcpy(&twice, &number, 8);
+  return PyFloat_FromDouble(twice);
+}
+
+/* The value of a scalar. */
+static PyObject *leaf(cells *self, const cqlp_event *event) {
+  switch (event->kind) {
+  case CQLP_KIND_BIGINT:
+  case CQLP_KIND_COUNTER:
+  case CQLP_KIND_INT:
+  case CQLP_KIND_SMALLINT:
+  case CQLP_KIND_TINYINT:
+    return PyLong_FromLongLong(event->number);
+  case CQLP_KIND_BOOLEAN:
+    return PyBool_FromLong(event->number != 0);
+  case CQLP_KIND_ASCII:
+  case CQLP_KIND_VARCHAR:
+    return PyUnicode_DecodeUTF8((const char *)event->content, (Py_ssize_t)event->length, NULL);
+  case CQLP_KIND_CUSTOM:
+  case CQLP_KIND_BLOB:
+  case CQLP_KIND_RAW:
+    return bytes_of(event);
+  case CQLP_KIND_DOUBLE:
+  case CQLP_KIND_FLOAT:
+    return binary(event);
+  case CQLP_KIND_VARINT:
+    return 0 < event->length && event->length <= 8 ? short_varint(event) : called(self, event);
+  default:
+    return called(self, event);
+  }
+}
+
+/* The type of the item that comes next, lent; NULL where it is not told, or with an exception. */
+static PyObject *next_type(cells *self) {
+  if (self->depth == 0) return PyTuple_Size(self->types) ? PyTuple_GetItem(self->types, self->length) : NULL;
+  items *around = &self->open[self->depth - 1];
+  PyObject *inner = PyTuple_GetItem(around->type, 1);
+  if (inner == NULL) return NULL;
+  Py_ssize_t place = 0;
+  if (around->kind == CQLP_KIND_TUPLE || around->kind == CQLP_KIND_UDT) place = around->count;
+  if (around->kind == CQLP_KIND_MAP) place = around->count % 2;
+  return PyTuple_GetItem(inner, place);
+}
+
+/* A value of no bytes. */
+static PyObject *empty_value(cells *self) {
+  PyObject *type = next_type(self), *kind = type == NULL ? NULL : PyTuple_GetItem(type, 0);
+  if (PyErr_Occurred()) return NULL;
+  long number = kind == NULL ? CQLP_KIND_RAW : PyLong_AsLong(kind);
+  if (number == -1 && PyErr_Occurred()) return NULL;
+  switch (number) {
+  case CQLP_KIND_ASCII:
+  case CQLP_KIND_VARCHAR:
+    return PyUnicode_FromStringAndSize(NULL, 0);
+  case CQLP_KIND_CUSTOM:
+  case CQLP_KIND_BLOB:
+  case CQLP_KIND_RAW:
+    return PyBytes_FromStringAndSize(NULL, 0);
+  default:
+    Py_INCREF(self->empty);
+    return self->empty;
+  }
+}
+
+/* Begins a value with items. */
+static int enter(cells *self, const cqlp_event *event) {
+  PyObject *type = next_type(self);
+  if (type == NULL) {
+    if (!PyErr_Occurred()) PyErr_SetString(PyExc_ValueError, "a value with items, of a type that is not told");
+    return 0;
+  }
+  if (!grow((void **)&self->open, self->depth, &self->levels, sizeof(items))) return 0;
+  PyObject *values = event->kind == CQLP_KIND_SET ? PySet_New(NULL) : event->kind == CQLP_KIND_MAP ? PyDict_New() : PyList_New(0);
+  if (values == NULL) return 0;
+  self->open[self->depth++] = (items){event->kind, event->number, 0, type, values, NULL};
+  return 1;
+}
+
+/* A tuple, or of a udt a dict by the names of its fields. Those that did not come are None. */
+static PyObject *fields(items *of) {
+  while (of->count < of->wanted) {
+    if (PyList_Append(of->values, Py_None) < 0) return NULL;
+    of->count++;
+  }
+  if (of->kind == CQLP_KIND_TUPLE) return PyList_AsTuple(of->values);
+  PyObject *names = PyTuple_GetItem(of->type, 2), *found = names == NULL ? NULL : PyDict_New();
+  Py_ssize_t told = found == NULL ? 0 : PyTuple_Size(names);
+  for (Py_ssize_t at = 0; found != NULL && at < told && at < of->count; at++)
+    if (PyDict_SetItem(found, PyTuple_GetItem(names, at), PyList_GetItem(of->values, at)) < 0) Py_CLEAR(found);
+  return found;
+}
+
+/* Ends a value with items, and gives it. */
+static PyObject *leave(cells *self) {
+  if (self->depth == 0) {
+    PyErr_SetString(PyExc_ValueError, "the end of a value that did not begin");
+    return NULL;
+  }
+  items of = self->open[--self->depth];
+  PyObject *value = of.values;
+  if (of.kind == CQLP_KIND_TUPLE || of.kind == CQLP_KIND_UDT)
+    value = fields(&of);
+  else
+    Py_INCREF(value);
+  Py_DECREF(of.values);
+  Py_XDECREF(of.key);
+  return value;
+}
+
+/* Takes a part of a long scalar, and gives the scalar after the last. NULL is no error where no exception is set. */
+static PyObject *part(cells *self, const cqlp_event *event) {
+  if (self->parts == NULL && (self->parts = PyList_New(0)) == NULL) return NULL;
+  PyObject *content = bytes_of(event);
+  if (content == NULL) return NULL;
+  int done = PyList_Append(self->parts, content);
+  Py_DECREF(content);
+  if (done < 0 || event->mark != CQLP_MARK_LAST) return NULL;
+  PyObject *none = PyBytes_FromStringAndSize(NULL, 0);
+  PyObject *value = none == NULL ? NULL : PyObject_CallMethod(none, "join", "O", self->parts);
+  Py_XDECREF(none);
+  Py_CLEAR(self->parts);
+  return value;
+}
+
+/* Puts an item into the value around it. The item is taken. `whole` says that it is itself a value with items. */
+static int put_item(cells *self, PyObject *item, int whole) {
+  items *around = &self->open[self->depth - 1];
+  int is_key = around->kind == CQLP_KIND_MAP && around->key == NULL;
+  around->count++;
+  if (whole && (is_key || around->kind == CQLP_KIND_SET)) {
+    PyObject *hashable = PyObject_CallFunctionObjArgs(self->frozen, item, NULL);
+    Py_DECREF(item);
+    if (hashable == NULL) return 0;
+    item = hashable;
+  }
+  if (is_key) {
+    around->key = item;
+    return 1;
+  }
+  int done;
+  if (around->kind == CQLP_KIND_MAP) {
+    done = PyDict_SetItem(around->values, around->key, item);
+    Py_CLEAR(around->key);
+  } else {
+    done = around->kind == CQLP_KIND_SET ? PySet_Add(around->values, item) : PyList_Append(around->values, item);
+  }
+  Py_DECREF(item);
+  return done == 0;
+}
+
+/* Puts a cell into the row. The cell is taken. */
+static int put_cell(cells *self, PyObject *cell) {
+  if (!grow((void **)&self->row, self->length, &self->room, sizeof(PyObject *))) {
+    Py_DECREF(cell);
+    return 0;
+  }
+  self->row[self->length++] = cell;
+  return 1;
+}
+
+/* Puts the row, which is whole, into the list, and begins the next. */
+static int put_row(cells *self, PyObject *rows) {
+  PyObject *row = PyTuple_New(self->length);
+  if (row == NULL) return 0;
+  for (Py_ssize_t at = 0; at < self->length; at++) PyTuple_SetItem(row, at, self->row[at]);
+  self->length = 0;
+  int done = PyList_Append(rows, row);
+  Py_DECREF(row);
+  return done == 0;
+}
+
+/* Takes an event of a cell. The rows that are whole go into the list. */
+static int add(cells *self, const cqlp_event *event, PyObject *rows) {
+  PyObject *value;
+  switch (event->tag) {
+  case CQLP_TAG_LEAF:
+    value = leaf(self, event);
+    break;
+  case CQLP_TAG_NULL:
+    Py_INCREF(Py_None);
+    value = Py_None;
+    break;
+  case CQLP_TAG_EMPTY:
+    value = empty_value(self);
+    break;
+  case CQLP_TAG_ENTER:
+    return enter(self, event);
+  case CQLP_TAG_LEAVE:
+    value = leave(self);
+    break;
+  default:
+    value = part(self, event);
+    if (value == NULL) return !PyErr_Occurred();
+  }
+  if (value == NULL) return 0;
+  if (self->depth > 0) return put_item(self, value, event->tag == CQLP_TAG_LEAVE);
+  return put_cell(self, value) && (self->length != self->width || put_row(self, rows));
+}
+
+PyDoc_STRVAR(take_doc, "take(address, at, count): of so many events in memory, from this place on, those of cells; the rows that they end, "
+                       "in a list, and the place of the first event that is none of a cell, or the count.");
+
+static PyObject *cells_take(PyObject *object, PyObject *arguments) {
+  cells *self = (cells *)object;
+  PyObject *address;
+  Py_ssize_t at, count;
+  if (!PyArg_ParseTuple(arguments, "Onn", &address, &at, &count)) return NULL;
+  const cqlp_event *events = PyLong_AsVoidPtr(address);
+  if (events == NULL && PyErr_Occurred()) return NULL;
+  PyObject *rows = PyList_New(0);
+  if (rows == NULL) return NULL;
+  for (; at < count && CQLP_TAG_LEAF <= events[at].tag && events[at].tag <= CQLP_TAG_PART; at++) {
+    if (!add(self, &events[at], rows)) {
+      Py_DECREF(rows);
+      return NULL;
+    }
+  }
+  return Py_BuildValue("Nn", rows, at);
+}
+
+static int cells_init(PyObject *object, PyObject *arguments, PyObject *names) {
+  static char *words[] = {"width", "types", "leaves", "empty", "frozen", NULL};
+  cells *self = (cells *)object;
+  if (self->types != NULL) {
+    PyErr_SetString(PyExc_TypeError, "begun already");
+    return -1;
+  }
+  if (!PyArg_ParseTupleAndKeywords(arguments, names, "nOOOO", words, &self->width, &self->types, &self->leaves, &self->empty,
+                                   &self->frozen)) {
+    self->types = self->leaves = self->empty = self->frozen = NULL;
+    return -1;
+  }
+  Py_INCREF(self->types);
+  Py_INCREF(self->leaves);
+  Py_INCREF(self->empty);
+  Py_INCREF(self->frozen);
+  if (PyTuple_Check(self->types) && PyList_Check(self->leaves)) return 0;
+  PyErr_SetString(PyExc_TypeError, "types is a tuple, leaves a list");
+  return -1;
+}
+
+static void cells_dealloc(PyObject *object) {
+  cells *self = (cells *)object;
+  PyTypeObject *type = Py_TYPE(object);
+  for (Py_ssize_t at = 0; at < self->length; at++) Py_DECREF(self->row[at]);
+  for (Py_ssize_t at = 0; at < self->depth; at++) {
+    Py_DECREF(self->open[at].values);
+    Py_XDECREF(self->open[at].key);
+  }
+  PyMem_Free(self->row);
+  PyMem_Free(self->open);
+  Py_XDECREF(self->parts);
+  Py_XDECREF(self->types);
+  Py_XDECREF(self->leaves);
+  Py_XDECREF(self->empty);
+  Py_XDECREF(self->frozen);
+  freefunc release = (freefunc)PyType_GetSlot(type, Py_tp_free);
+  release(object);
+  Py_DECREF(type);
+}
+
+static PyMethodDef cells_methods[] = {
+    {"take", cells_take, METH_VARARGS, take_doc},
+    {NULL, NULL, 0, NULL},
+};
+
+PyDoc_STRVAR(cells_doc, "Puts events of cells together to rows.");
+
+static PyType_Slot cells_slots[] = {
+    {Py_tp_doc, (void *)cells_doc},
+    {Py_tp_init, (void *)cells_init},
+    {Py_tp_dealloc, (void *)cells_dealloc},
+    {Py_tp_methods, cells_methods},
+    {0, NULL},
+};
+
+static PyType_Spec cells_spec = {
+    .name = "cqlp._cells.Cells",
+    .basicsize = sizeof(cells),
+    .flags = Py_TPFLAGS_DEFAULT,
+    .slots = cells_slots,
+};
+
+static int cells_exec(PyObject *module) {
+  PyObject *type = PyType_FromSpec(&cells_spec);
+  if (type == NULL) return -1;
+  if (PyModule_AddObject(module, "Cells", type) < 0) {
+    Py_DECREF(type);
+    return -1;
+  }
+  return PyModule_AddIntConstant(module, "EVENT_SIZE", sizeof(cqlp_event));
+}
+
+static PyModuleDef_Slot module_slots[] = {
+    {Py_mod_exec, (void *)cells_exec},
+    {0, NULL},
+};
+
+static struct PyModuleDef module = {
+    .m_base = PyModuleDef_HEAD_INIT,
+    .m_name = "cqlp._cells",
+    .m_slots = module_slots,
+};
+
+PyMODINIT_FUNC PyInit__cells(void) {
+  return PyModuleDef_Init(&module);
+}
