@@ -74,6 +74,9 @@
 #include <stddef.h>
 #include <stdint.h>
 
+/* The version of this file and of its library. */
+#define CQLP_VERSION "0.1.0"
+
 #ifdef __cplusplus
 extern "C" {
 #endif
