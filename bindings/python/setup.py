@@ -1,8 +1,26 @@
-"""The module in C, which is left out where it cannot be compiled. What else is said of the package stands in pyproject.toml."""
+"""What the package has beside its Python: the module in C, which is left out where it cannot be compiled, and the library that
+bindings/build made. What else is said of the package stands in pyproject.toml."""
+
+import shutil
+from pathlib import Path
 
 from setuptools import Extension, setup
+from setuptools.command.build_py import build_py
+
+LIBRARY = Path(__file__).resolve().parents[1] / "out" / "libcqlp.so"
+
+
+class WithLibrary(build_py):
+    """Puts the library beside the modules, where it was made."""
+
+    def run(self) -> None:
+        super().run()
+        if LIBRARY.exists() and not getattr(self, "editable_mode", False):
+            shutil.copyfile(LIBRARY, Path(self.build_lib) / "cqlp" / LIBRARY.name)
+
 
 setup(
+    cmdclass={"build_py": WithLibrary},
     ext_modules=[
         Extension("cqlp._cells", ["cqlp/_cells.c"], include_dirs=["../../include"], py_limited_api=True, optional=True),
     ],

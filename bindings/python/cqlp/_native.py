@@ -64,12 +64,15 @@ DONE, BAD_TEXT, BAD_CELL, BAD_ENTRIES, BAD_DEPTH, NO_MEMORY, NO_DECODER, IN_USE 
 
 
 def _load() -> ctypes.CDLL:
-    """The library that CQLP_LIBRARY names; else what bindings/build made; else the system's."""
+    """The library that CQLP_LIBRARY names; else that beside this file; else what bindings/build made; else the system's."""
     named = os.environ.get("CQLP_LIBRARY")
     if named:
         return ctypes.CDLL(named)
-    built = Path(__file__).resolve().parents[2] / "out" / "libcqlp.so"
-    return ctypes.CDLL(str(built) if built.exists() else "libcqlp.so")
+    here = Path(__file__).resolve()
+    for place in (here.parent, here.parents[2] / "out"):
+        if (place / "libcqlp.so").exists():
+            return ctypes.CDLL(str(place / "libcqlp.so"))
+    return ctypes.CDLL("libcqlp.so")
 
 
 library = _load()
