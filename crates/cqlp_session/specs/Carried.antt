@@ -1,6 +1,7 @@
 -- Cores that carry a value of the caller's with each open request. They move as the cores without values do; beside them
 -- stands what is carried under each stream id.
 use Rattle.std.specs.Prelude.{◌≡◌, ℕ, ℤ, List, length, is_none, Option, Some, None, Result, Ok, Err, replicate}
+use Rattle.std.specs.List.{filter_map}
 use Rattle.std.specs.Result.{result_map_both}
 use Rattle.cqlp_note.specs.declared.opcode.Opcode.{Opcode}
 use Rattle.cqlp_session.specs.declared.carried.Refused.{Refused}
@@ -22,6 +23,10 @@ use Rattle.cqlp_session.specs.Slots.{put, under}
 pub record StandWith {A T : Type 0} (slots : List (Option A)) (carried : List (Option T)) : Type 0 where
   pub size : length carried ≡ length slots
   pub there : (id : ℤ) → is_none (under carried id) ≡ is_none (under slots id)
+
+-- the values, in the order of their ids
+abbrev pub values_in : {T : Type 0} → List (Option T) → List T
+values_in carried = filter_map (λ value. value) carried
 
 -- what a call answers, where the value comes back with a refusal
 abbrev pub or_back : {R E T : Type 0} → T → Result R E → Result R (Refused E T)

@@ -1,19 +1,22 @@
 -- The headers of requests and of responses (section 2 of native_protocol_v4.spec).
-use Rattle.std.specs.Prelude.{◌≡◌, ℕ, ◌≤◌, ℤ, true, false, Option, Some, Result, Ok, IfOk}
+use Rattle.std.specs.Prelude.{◌≡◌, ℕ, ◌≤◌, ℤ, negsuc, true, false, Option, Some, Result, Ok, IfOk}
 use Rattle.std.specs.Result.{result_map_both}
 use Rattle.cqlp_note.specs.declared.header.Header.{Header}
 use Rattle.cqlp_note.specs.declared.opcode.Opcode.{Opcode}
+use Rattle.cqlp_note.specs.declared.opcode.Opcode.TheVariants.{Event}
 use Rattle.cqlp_session.specs.declared.body.Body.{Body}
 use Rattle.cqlp_session.specs.declared.kind.RequestKind.{RequestKind}
 use Rattle.cqlp_session.specs.declared.server.AnswerError.{AnswerError}
 use Rattle.cqlp_session.specs.declared.ticket.Ticket.{Ticket}
+use Rattle.cqlp_session.specs.declared.ticket.Reply.TheVariants.{ServerEvent}
 use Rattle.cqlp_session.specs.Carried.{CarryingServer}
+use Rattle.cqlp_session.specs.Client.{ClientCore, reply_to}
 use Rattle.cqlp_session.specs.Kind.{opcode_of}
 use Rattle.cqlp_session.specs.Pairing.{AfterAnySteps, IfNext}
 use Rattle.cqlp_session.specs.Server.{accept_of, answer_of}
 use Rattle.cqlp_session.specs.Signal.{signal_of}
 use Rattle.cqlp_session.specs.Slots.{under}
-use Rattle.cqlp_session.specs.World.{Request, answer_message, request_message}
+use Rattle.cqlp_session.specs.World.{Request, answer_message, event_message, request_message}
 
 -- the header of a request of this kind, which began under this ticket
 abbrev pub request_header : RequestKind → Ticket → Body → Header
@@ -23,6 +26,10 @@ request_header k t b =
 -- the header of a response with this opcode to the request under an id
 abbrev pub response_header : ℤ → Opcode → Body → Header
 response_header id o b = record { response = true; flags = b.flags; stream = id; opcode = o; length = b.length }
+
+-- the header of an event (section 4.2.6)
+abbrev pub event_header : Body → Header
+event_header b = record { response = true; flags = b.flags; stream = negsuc 0; opcode = Event; length = b.length }
 
 -- a ticket and the header of its request
 abbrev pub with_request_header : {E : Type 0} → RequestKind → Body → Result Ticket E → Result (Ticket × Header) E
@@ -60,6 +67,11 @@ RequestsAreSeen = (k : RequestKind) (t : Ticket) (b : Body)
 abbrev pub ResponsesAreSeen : Type 0
 ResponsesAreSeen = (id : ℤ) (o : Opcode) (b : Body) (r : Option Request)
     → signal_of (response_header id o b) ≡ (answer_message id o r).seen
+
+-- The header of an event is the event that is pushed, and a client's core tells it as one, whatever it did before.
+abbrev pub EventsAreSeen : Type 0
+EventsAreSeen = (c : ClientCore) (b : Body)
+    → (signal_of (event_header b) ≡ event_message.seen) × (reply_to c (signal_of (event_header b)) ≡ Ok ServerEvent)
 
 -- A server with at least as many slots as its client takes the next message for the request that it is.
 abbrev pub RequestsAreTaken : Type 0

@@ -1,6 +1,6 @@
 -- What stands under each stream id (section 2.3 of native_protocol_v4.spec): a list with a slot for each id.
 use Rattle.std.specs.Prelude.{◌≡◌, ◌<ℤ◌, ℕ, ◌≤◌, IsTrue, IsSome, ℤ, pos, negsuc, Bool, false, nat_lt, List, length, Option, Some}
-use Rattle.std.specs.Prelude.{None, slice_index_or, slice_set, is_none, position, ◌<◌, ◌↔◌, ◌⊎◌, Result, IfOk, IsErrOf}
+use Rattle.std.specs.Prelude.{None, slice_index_or, slice_set, is_none, is_some, position, ◌<◌, ◌↔◌, ◌⊎◌, Result, IfOk, IsErrOf}
 use Rattle.cqlp_session.specs.declared.refusal.SlotsOrMemory.{SlotsOrMemory}
 use Rattle.cqlp_session.specs.declared.refusal.SlotsOrMemory.TheVariants.{BadSlots}
 
@@ -18,6 +18,10 @@ has_slot slots (negsuc i) = false
 abbrev pub under : {A : Type 0} → List (Option A) → ℤ → Option A
 under slots (pos i) = slice_index_or slots i None
 under slots (negsuc i) = None
+
+-- something stands under an id
+abbrev pub is_open : {A : Type 0} → List (Option A) → ℤ → Bool
+is_open slots id = is_some (under slots id)
 
 -- the slots with this under an id
 abbrev pub put : {A : Type 0} → List (Option A) → ℤ → Option A → List (Option A)

@@ -1,6 +1,9 @@
 //! The values that are carried with open requests.
 
-ghost use Rattle.std.specs.Prelude.{◌≡◌, IfOk, None, Some, replicate};
+ghost use Rattle.std.specs.Borrow.{sem};
+ghost use Rattle.std.specs.Option.{option_copied_mut};
+ghost use Rattle.std.specs.Prelude.{◌≡◌, IfOk, None, Some, option_copied, replicate};
+ghost use Rattle.cqlp_session.specs.Lends.{lends_under};
 ghost use Rattle.cqlp_session.specs.Slots.{put, under};
 
 use crate::slots;
@@ -46,6 +49,27 @@ pub(crate) fn take<T: Drop>(carried: &mut [Option<T>], id: i16) -> Option<T>
 {
     match slots::index_of(id) {
         Some(i) if i < carried.len() => carried[i].take(),
+        _ => None,
+    }
+}
+
+/// The value under an id, if one is there.
+pub(crate) fn get<T>(carried: &[Option<T>], id: i16) -> Option<&T>
+    ensures { option_copied result ≡ under carried.now id }
+{
+    match slots::index_of(id) {
+        Some(i) if i < carried.len() => carried[i].as_ref(),
+        _ => None,
+    }
+}
+
+/// The same, to write.
+pub(crate) fn get_mut<T>(carried: &mut [Option<T>], id: i16) -> Option<&mut T>
+    ensures* writes_back { sem 𝓛 (lends_under T.row carried.entry id result) }
+    ensures value { option_copied_mut result ≡ under carried.old id }
+{
+    match slots::index_of(id) {
+        Some(i) if i < carried.len() => carried[i].as_mut(),
         _ => None,
     }
 }

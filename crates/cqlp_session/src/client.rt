@@ -34,7 +34,7 @@ impl<A: Allocator> Model for Client<A> {
 impl<A: Allocator> Client<A> {
     ghost use Rattle.cqlp_session.specs.Client.{begun, cancelled, cancels, new_client, replied, reply_to, ticket_for};
     ghost use Rattle.cqlp_session.specs.Signal.{signal_of};
-    ghost use Rattle.cqlp_session.specs.Slots.{IsLeastFree, Makes};
+    ghost use Rattle.cqlp_session.specs.Slots.{IsLeastFree, Makes, is_open};
 
     /// The core of a connection on which nothing was sent yet. `slots` is how many requests may be open at a time, 1 to
     /// 32,768; their stream ids are those below it (section 2.3 of `native_protocol_v4.spec`). All memory is taken here.
@@ -58,6 +58,14 @@ impl<A: Allocator> Client<A> {
         ensures { result ≡ self.now.phase }
     {
         self.phase
+    }
+
+    /// Whether a request is open under this stream id: one began under it, and its reply has not come. A request that was
+    /// cancelled is open until then. No request is open under a negative id.
+    pub fn is_open(&self, stream: i16) -> bool
+        ensures { result ≡ is_open self.now.slots stream }
+    {
+        self.streams.under(stream).is_some()
     }
 
     /// Begins a request. Its header is to have the ticket's id, the least that is free.

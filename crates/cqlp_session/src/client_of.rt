@@ -1,10 +1,13 @@
 //! The client's core with a value for each open request.
 
-ghost use Rattle.std.specs.Prelude.{◌≡◌, IfOk, OnErr};
+ghost use Rattle.std.specs.Borrow.{sem};
+ghost use Rattle.std.specs.Option.{option_copied_mut};
+ghost use Rattle.std.specs.Prelude.{◌≡◌, IfOk, OnErr, is_some, option_copied};
 ghost use Rattle.std.specs.Bool.{OnFalse};
 
 use crate::carried::Refused;
 use crate::client::Client;
+use crate::into_values::IntoValues;
 use crate::kind::RequestKind;
 use crate::phase::Phase;
 use crate::refusal::SlotsOrMemory;
@@ -51,10 +54,11 @@ impl<T, A: Allocator> Model for ClientOf<T, A> {
 }
 
 impl<T: Drop, A: Allocator> ClientOf<T, A> {
-    ghost use Rattle.cqlp_session.specs.Carried.{answer_alone, begun_with, cancelled_with, new_carrying_client, or_back, replied_with, reply_value, StandWith};
+    ghost use Rattle.cqlp_session.specs.Carried.{answer_alone, begun_with, cancelled_with, new_carrying_client, or_back, replied_with, reply_value, values_in, StandWith};
     ghost use Rattle.cqlp_session.specs.Client.{cancels, reply_to, ticket_for};
+    ghost use Rattle.cqlp_session.specs.ClientLends.{client_lends_value};
     ghost use Rattle.cqlp_session.specs.Signal.{signal_of};
-    ghost use Rattle.cqlp_session.specs.Slots.{Makes, under};
+    ghost use Rattle.cqlp_session.specs.Slots.{Makes, is_open, under};
 
     /// The core of a connection on which nothing was sent yet. `slots` is how many requests may be open at a time, 1 to
     /// 32,768, as in [`Client::new`]. All memory is taken here: that of a `Client`, and a place for each value.
@@ -77,6 +81,39 @@ impl<T: Drop, A: Allocator> ClientOf<T, A> {
         ensures { result ≡ self.now.core.phase }
     {
         self.core.phase()
+    }
+
+    /// Whether a request is open under this stream id, as in [`Client::is_open`].
+    pub fn is_open(&self, stream: i16) -> bool
+        ensures { result ≡ is_open self.now.core.slots stream }
+    {
+        self.core.is_open(stream)
+    }
+
+    /// The value that the request carries which is open under this stream id. None where none is.
+    pub fn get(&self, stream: i16) -> Option<&T>
+        ensures value { option_copied result ≡ under self.now.carried stream }
+        ensures open { is_some result ≡ is_open self.now.core.slots stream }
+    {
+        carried::get(&self.carried, stream)
+    }
+
+    /// The same, to write: what is left there is what the request carries from then on. Nothing else changes.
+    pub fn get_mut(&mut self, stream: i16) -> Option<&mut T>
+        ensures* writes_back { sem 𝓛 (client_lends_value T.row A.row A.Allocator self.entry stream result) }
+        ensures value { option_copied_mut result ≡ under self.old.carried stream }
+        ensures open { is_some result ≡ is_open self.old.core.slots stream }
+    {
+        carried::get_mut(&mut self.carried, stream)
+    }
+
+    /// The values of all requests that are still open, in the order of their stream ids: what is left to be told when
+    /// the connection ends. Takes no memory.
+    pub fn into_values(self) -> IntoValues<T, A>
+        ensures { result ≡ values_in self.carried }
+    {
+        let ClientOf { core: _, carried } = self;
+        IntoValues::new(carried)
     }
 
     /// Begins a request, as [`Client::begin`] does, and keeps a value until its reply. Where it is refused, the value

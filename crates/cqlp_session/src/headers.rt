@@ -4,7 +4,7 @@ ghost use Rattle.std.specs.Prelude.{◌≡◌, IfOk, OnErr, Some};
 ghost use Rattle.cqlp_note.specs.Heading.{IsLawful};
 ghost use Rattle.cqlp_session.specs.Carried.{answered_with, begun_with, or_back};
 ghost use Rattle.cqlp_session.specs.Client.{begun, ticket_for};
-ghost use Rattle.cqlp_session.specs.Headers.{request_header, response_header, with_request_header, with_response_header, without_value};
+ghost use Rattle.cqlp_session.specs.Headers.{event_header, request_header, response_header, with_request_header, with_response_header, without_value};
 ghost use Rattle.cqlp_session.specs.Server.{answer_of, answered};
 ghost use Rattle.cqlp_session.specs.Slots.{under};
 
@@ -93,6 +93,21 @@ impl<T: Drop, A: Allocator> ServerOf<T, A> {
     {
         let (kind, carried) = self.answer(id, opcode)?;
         Ok((response_header(id, opcode, body), kind, carried))
+    }
+}
+
+/// The header of an EVENT that a server pushes, whose stream id is -1 (section 4.2.6 of `native_protocol_v4.spec`). It is
+/// lawful, and what a client's core tells as [`Reply::ServerEvent`](crate::Reply::ServerEvent).
+pub fn event_header(body: Body) -> Header
+    ensures is { result ≡ event_header body }
+    ensures lawful { IsLawful result }
+{
+    Header {
+        response: true,
+        flags: body.flags(),
+        stream: -1,
+        opcode: Opcode::Event,
+        length: body.length(),
     }
 }
 

@@ -3,7 +3,7 @@
 
 ghost use Rattle.std.specs.Prelude.{ℕ, ◌≤◌};
 ghost use Rattle.cqlp_session.specs.Carriage.{EachValueComesBack};
-ghost use Rattle.cqlp_session.specs.Headers.{OneAnswerOfAnswerWith, RequestsAreSeen, RequestsAreTaken, ResponsesAreSeen};
+ghost use Rattle.cqlp_session.specs.Headers.{EventsAreSeen, OneAnswerOfAnswerWith, RequestsAreSeen, RequestsAreTaken, ResponsesAreSeen};
 ghost use Rattle.cqlp_session.specs.Laws.{OneAnswerOfAnswer, OneAnswerOfBody, OneAnswerOfClientNew, OneAnswerOfClientOfNew};
 ghost use Rattle.cqlp_session.specs.Laws.{OneAnswerOfReply, OneAnswerOfServerNew, OneAnswerOfServerOfNew};
 ghost use Rattle.cqlp_session.specs.Pairing.{AfterAnySteps, BeginsOnceReady, EventsChangeNothing, IdsAreApart, NoneIsRefused, RepliesArePaired};
@@ -31,6 +31,9 @@ pub fn headers()
     // The header of a request is its message on the wire up, and that of a response its message on the wire down.
     ensures requests { RequestsAreSeen }
     ensures responses { ResponsesAreSeen }
+
+    // The header of an event is the event that is pushed, and no client's core takes it for a reply.
+    ensures events { EventsAreSeen }
 
     // A server with at least as many slots as its client accepts each message as the request that was begun.
     ensures taken { RequestsAreTaken }

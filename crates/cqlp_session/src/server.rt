@@ -52,7 +52,7 @@ impl<A: Allocator> Model for Server<A> {
 impl<A: Allocator> Server<A> {
     ghost use Rattle.cqlp_session.specs.Server.{accept_of, accepted, answer_of, answered, new_server};
     ghost use Rattle.cqlp_session.specs.Signal.{signal_of};
-    ghost use Rattle.cqlp_session.specs.Slots.{Makes};
+    ghost use Rattle.cqlp_session.specs.Slots.{Makes, is_open};
 
     /// The core of a connection on which nothing came yet. `slots` is how many requests may be open at a time, 1 to
     /// 32,768; their stream ids are those below it (section 2.3 of `native_protocol_v4.spec`). All memory is taken here.
@@ -73,6 +73,13 @@ impl<A: Allocator> Server<A> {
         ensures { result ≡ self.now.phase }
     {
         self.phase
+    }
+
+    /// Whether a request is open under this stream id: one was accepted under it, and is not answered yet.
+    pub fn is_open(&self, stream: i16) -> bool
+        ensures { result ≡ is_open self.now.slots stream }
+    {
+        slots::under(&self.slots, stream).is_some()
     }
 
     /// Takes the header of a request that came. Its id is taken until it is answered. Section 4.1 of

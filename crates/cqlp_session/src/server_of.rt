@@ -1,8 +1,11 @@
 //! The server's core with a value for each open request.
 
-ghost use Rattle.std.specs.Prelude.{◌≡◌, IfOk, OnErr, Some};
+ghost use Rattle.std.specs.Borrow.{sem};
+ghost use Rattle.std.specs.Option.{option_copied_mut};
+ghost use Rattle.std.specs.Prelude.{◌≡◌, IfOk, OnErr, Some, is_some, option_copied};
 
 use crate::carried::Refused;
+use crate::into_values::IntoValues;
 use crate::kind::RequestKind;
 use crate::phase::Phase;
 use crate::refusal::SlotsOrMemory;
@@ -31,10 +34,11 @@ impl<T, A: Allocator> Model for ServerOf<T, A> {
 }
 
 impl<T: Drop, A: Allocator> ServerOf<T, A> {
-    ghost use Rattle.cqlp_session.specs.Carried.{accepted_with, answered_with, kind_alone, new_carrying_server, or_back, StandWith};
+    ghost use Rattle.cqlp_session.specs.Carried.{accepted_with, answered_with, kind_alone, new_carrying_server, or_back, values_in, StandWith};
     ghost use Rattle.cqlp_session.specs.Server.{accept_of, answer_of};
+    ghost use Rattle.cqlp_session.specs.ServerLends.{server_lends_value};
     ghost use Rattle.cqlp_session.specs.Signal.{signal_of};
-    ghost use Rattle.cqlp_session.specs.Slots.{Makes, under};
+    ghost use Rattle.cqlp_session.specs.Slots.{Makes, is_open, under};
 
     /// The core of a connection on which nothing came yet. `slots` is how many requests may be open at a time, 1 to
     /// 32,768, as in [`Server::new`]. All memory is taken here: that of a `Server`, and a place for each value.
@@ -57,6 +61,39 @@ impl<T: Drop, A: Allocator> ServerOf<T, A> {
         ensures { result ≡ self.now.core.phase }
     {
         self.core.phase()
+    }
+
+    /// Whether a request is open under this stream id, as in [`Server::is_open`].
+    pub fn is_open(&self, stream: i16) -> bool
+        ensures { result ≡ is_open self.now.core.slots stream }
+    {
+        self.core.is_open(stream)
+    }
+
+    /// The value that the request carries which is open under this stream id. None where none is.
+    pub fn get(&self, stream: i16) -> Option<&T>
+        ensures value { option_copied result ≡ under self.now.carried stream }
+        ensures open { is_some result ≡ is_open self.now.core.slots stream }
+    {
+        carried::get(&self.carried, stream)
+    }
+
+    /// The same, to write: what is left there is what the request carries from then on. Nothing else changes.
+    pub fn get_mut(&mut self, stream: i16) -> Option<&mut T>
+        ensures* writes_back { sem 𝓛 (server_lends_value T.row A.row A.Allocator self.entry stream result) }
+        ensures value { option_copied_mut result ≡ under self.old.carried stream }
+        ensures open { is_some result ≡ is_open self.old.core.slots stream }
+    {
+        carried::get_mut(&mut self.carried, stream)
+    }
+
+    /// The values of all requests that are still open, in the order of their stream ids: what is left to be told when
+    /// the connection ends. Takes no memory.
+    pub fn into_values(self) -> IntoValues<T, A>
+        ensures { result ≡ values_in self.carried }
+    {
+        let ServerOf { core: _, carried } = self;
+        IntoValues::new(carried)
     }
 
     /// Takes the header of a request that came, as [`Server::accept`] does, and keeps a value until it is answered.
