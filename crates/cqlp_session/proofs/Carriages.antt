@@ -27,7 +27,7 @@ contains_later : {X : Type 0} (x y : X) (xs : List X) → Contains xs y → Cont
 contains_later x y xs c = (suc c.0, omega (arith, c.1), c.2)
 
 -- What stands of a carriage after each call.
-record Carries {T : Type 0} (w : Carriage T) : Type 0 where
+pub record Carries {T : Type 0} (w : Carriage T) : Type 0 where
   pub stands : StandWith w.client.core.slots w.client.carried
   pub given : (id : ℤ) (o : OpenRequest) → under w.client.core.slots id ≡ Some o → IsGivenUnder w.given (record { id = id; number = o.number }) (under w.client.carried id)
   pub numbers : AllByRecursion (λ g. g.0.number ≤ w.client.core.begun) w.given
@@ -163,7 +163,7 @@ carries_cancelled w t true p =
 
 -- ---- any calls
 
-carries_after : {T : Type 0} (w : Carriage T) (call : ClientCall T) → Carries w → Carries (after_call w call)
+pub carries_after : {T : Type 0} (w : Carriage T) (call : ClientCall T) → Carries w → Carries (after_call w call)
 carries_after w (Begin k value) p = carries_begun w k value (ticket_for w.client.core k) refl p
 carries_after w (Reply_to s) p = carries_replied w s (reply_to w.client.core s) refl p
 carries_after w (Cancel t) p = carries_cancelled w t (cancels w.client.core t) p
@@ -172,7 +172,7 @@ carries_all : {T : Type 0} (calls : List (ClientCall T)) (w : Carriage T) → Ca
 carries_all [] w p = p
 carries_all (call ∷ calls) w p = carries_all calls (after_call w call) (carries_after w call p)
 
-carries_empty : (T : Type 0) (n : ℕ) → Carries {T = T} (empty_carriage n)
+pub carries_empty : (T : Type 0) (n : ℕ) → Carries {T = T} (empty_carriage n)
 carries_empty T n = record {
   stands = stand_empty n;
   given = λ id o e. absurd (cc (under_new {A = OpenRequest} n id, e));
@@ -224,7 +224,7 @@ given_back : {T : Type 0} (w : Carriage T) (s : Signal) (r : Reply) (t : Ticket)
 given_back w s r t p told is =
     renamed w.given (record { id = s.stream; number = told.entry.number }) t (under w.client.carried s.stream) (under w.client.carried s.stream) (some_ticket t _ (sym is ∙ told.ticket)) refl (p.given s.stream told.entry told.there)
 
-returned_for : {T : Type 0} (w : Carriage T) (s : Signal) (r : Result Reply Stray) → reply_to w.client.core s ≡ r → Carries w → IfOk r (IsReturned w.given (under w.client.carried s.stream))
+pub returned_for : {T : Type 0} (w : Carriage T) (s : Signal) (r : Result Reply Stray) → reply_to w.client.core s ≡ r → Carries w → IfOk r (IsReturned w.given (under w.client.carried s.stream))
 returned_for w s (Err why) e p = tt
 returned_for w s (Ok reply.ServerEvent) e p = none_is (under w.client.carried s.stream) (p.stands.there s.stream ∙ replied_open w.client.core s reply.ServerEvent e)
 returned_for w s (Ok (reply.Answer t k)) e p = given_back w s (reply.Answer t k) t p (told_to w.client.core s (reply.Answer t k) e refl) refl

@@ -8,3 +8,5 @@ pub mod Least
 pub mod OneAnswer
 pub mod Progress
 pub mod Carriages
+pub mod Services
+pub mod PairedValues

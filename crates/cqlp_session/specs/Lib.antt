@@ -14,3 +14,5 @@ pub mod Pairing
 pub mod Laws
 pub mod Headers
 pub mod Carriage
+pub mod Service
+pub mod CarryingWorld

@@ -3,10 +3,12 @@
 
 ghost use Rattle.std.specs.Prelude.{ℕ, ◌≤◌};
 ghost use Rattle.cqlp_session.specs.Carriage.{EachValueComesBack};
+ghost use Rattle.cqlp_session.specs.CarryingWorld.{ValuesArePairedAfterAnySteps};
 ghost use Rattle.cqlp_session.specs.Headers.{EventsAreSeen, OneAnswerOfAnswerWith, RequestsAreSeen, RequestsAreTaken, ResponsesAreSeen};
 ghost use Rattle.cqlp_session.specs.Laws.{OneAnswerOfAnswer, OneAnswerOfBody, OneAnswerOfClientNew, OneAnswerOfClientOfNew};
 ghost use Rattle.cqlp_session.specs.Laws.{OneAnswerOfReply, OneAnswerOfServerNew, OneAnswerOfServerOfNew};
 ghost use Rattle.cqlp_session.specs.Pairing.{AfterAnySteps, BeginsOnceReady, EventsChangeNothing, IdsAreApart, NoneIsRefused, RepliesArePaired};
+ghost use Rattle.cqlp_session.specs.Service.{EachAnswerHasItsValue};
 
 /// What holds after every list of steps from two new cores.
 pub fn pairing()
@@ -39,9 +41,21 @@ pub fn headers()
     ensures taken { RequestsAreTaken }
 {}
 
-/// What a [`ClientOf`](crate::ClientOf) hands out with a reply is what was given when its request began, under its ticket.
+/// What one core hands out, whatever its caller did before.
 pub fn carriage<T>()
-    ensures { EachValueComesBack T }
+    // With a reply a [`ClientOf`](crate::ClientOf) hands out what was given when its request began, under its ticket.
+    ensures client { EachValueComesBack T }
+
+    // With an answer a [`ServerOf`](crate::ServerOf) hands out what was given when the request was accepted.
+    ensures server { EachAnswerHasItsValue T }
+{}
+
+/// What a [`ClientOf`](crate::ClientOf) and a [`ServerOf`](crate::ServerOf) hand out, that talk over one connection, after
+/// every list of steps from two new cores. With a reply the client hands out the value that was given with the request
+/// that its response answers; with an answer the server hands out the value that this request was accepted with. Cores
+/// and wires move as in [`pairing`], whatever the values, so that all that it says holds of them.
+pub fn pairing_of_values<T, U>()
+    ensures { ValuesArePairedAfterAnySteps T U }
 {}
 
 /// Where memory is granted, `Client::new` has one answer. So have the other calls of a core, whose clauses are equations.
