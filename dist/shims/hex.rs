@@ -1,5 +1,4 @@
 //! What the sources use of `hex`.
-
 #[derive(Clone, Copy, Debug, PartialEq, Eq)]
 pub struct FromHexError;
 

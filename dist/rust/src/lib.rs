@@ -199,6 +199,7 @@ mod kit_std;
 struct Readme;
 
 mod checked;
+mod cqlp_capture;
 mod cqlp_cell;
 mod cqlp_decode;
 mod cqlp_encode;
@@ -207,8 +208,10 @@ mod cqlp_kind;
 mod cqlp_message;
 mod cqlp_note;
 mod cqlp_read;
-mod cqlp_session;
+mod cqlp_reassembly;
 mod cqlp_render;
+mod cqlp_segment;
+mod cqlp_session;
 mod cqlp_text;
 mod cqlp_type;
 mod cqlp_value;
@@ -256,9 +259,42 @@ pub mod result_kind {
 /// The cores of a client and of a server.
 pub mod session {
     pub use crate::cqlp_session::{
-        AnswerError, BeginError, Body, Client, ClientOf, Phase, Refused, Reply, ReplyOf, RequestKind, Server, ServerOf, ServerRefusal,
-        SlotsOrMemory, Stray, Ticket,
+        AnswerError, BeginError, Body, Client, ClientOf, IntoValues, Phase, Refused, Reply, ReplyOf, RequestKind, Server, ServerOf,
+        ServerRefusal, SlotsOrMemory, Stray, Ticket, event_header,
     };
+}
+
+/// Packet captures: their packets, the segments of TCP in them, and the bytes of each direction of a connection in order.
+///
+/// A [`CaptureReader`](capture::CaptureReader) reads a pcap file from pieces of any size. [`read_segment`](capture::read_segment)
+/// finds the segment in a packet. A [`Stream`](capture::Stream) is one direction of a connection: of each segment
+/// [`take`](capture::Stream::take) is called again and again until it says `Done`, and of each acknowledgement of the other side
+/// [`acknowledge`](capture::Stream::acknowledge); where they say `Held`, [`read_held`](capture::Stream::read_held) comes in between.
+///
+/// ```
+/// use cqlp::Global;
+/// use cqlp::capture::{Control, Stream, StreamStep};
+///
+/// let segment = |sequence| Control { sequence, syn: false, fin: false, rst: false, missing: 0 };
+/// let mut stream = Stream::new(Global, 100)?;
+/// assert_eq!(stream.take(segment(7), b"ab"), StreamStep::Began { syn: false });
+/// assert_eq!(stream.take(segment(7), b"ab"), StreamStep::Payload { from: 0, count: 2 });
+///
+/// // A later segment comes before the one that goes on.
+/// assert_eq!(stream.take(segment(11), b"ef"), StreamStep::Done);
+/// assert_eq!(stream.take(segment(9), b"cd"), StreamStep::Held { count: 4 });
+/// let mut bytes = [0; 8];
+/// assert_eq!(stream.read_held(&mut bytes), 4);
+/// assert_eq!(&bytes[..4], b"cdef");
+/// # Ok::<(), Box<dyn std::error::Error>>(())
+/// ```
+pub mod capture {
+    pub use crate::cqlp_capture::{
+        ByteOrder, CaptureEnd, CaptureEvent, CaptureLimits, CaptureReader, CaptureReason, CaptureRefusal, CaptureStep, FileForm, Fraction,
+        InterfaceHead, NewReaderError, PacketHead,
+    };
+    pub use crate::cqlp_reassembly::{Control, Distance, Stream, StreamStep, distance_to};
+    pub use crate::cqlp_segment::{Address, Endpoint, Flags, LinkType, NoSegment, Segment, SegmentHead, read_segment};
 }
 
 /// The text of events, cells, pages and verdicts, as the program `cqlp` writes it.

@@ -1,6 +1,5 @@
 //! `Box`, whose memory may be refused.
 use super::alloc::{AllocFailed, Allocator, Global};
-use core::ops::Deref;
 
 /// Rust's `Box`, but that [`Box::new`] may be refused memory.
 #[derive(PartialEq, Eq)]
@@ -31,7 +30,7 @@ impl<T, A: Allocator> Box<T, A> {
 
 shown_as_target!(Debug for Box<T>);
 
-impl<T, A: Allocator> Deref for Box<T, A> {
+impl<T, A: Allocator> core::ops::Deref for Box<T, A> {
     type Target = T;
 
     #[inline]

@@ -44,3 +44,21 @@ pub(crate) fn take<T>(carried: &mut [Option<T>], id: i16) -> Option<T>
         _ => None,
     }
 }
+
+/// The value under an id, if one is there.
+pub(crate) fn get<T>(carried: &[Option<T>], id: i16) -> Option<&T>
+{
+    match slots::index_of(id) {
+        Some(i) if i < carried.len() => carried[i].as_ref(),
+        _ => None,
+    }
+}
+
+/// The same, to write.
+pub(crate) fn get_mut<T>(carried: &mut [Option<T>], id: i16) -> Option<&mut T>
+{
+    match slots::index_of(id) {
+        Some(i) if i < carried.len() => carried[i].as_mut(),
+        _ => None,
+    }
+}

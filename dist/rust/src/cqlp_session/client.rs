@@ -43,6 +43,13 @@ impl<A: Allocator> Client<A> {
         self.phase
     }
 
+    /// Whether a request is open under this stream id: one began under it, and its reply has not come. A request that was
+    /// cancelled is open until then. No request is open under a negative id.
+    pub fn is_open(&self, stream: i16) -> bool
+    {
+        self.streams.under(stream).is_some()
+    }
+
     /// Begins a request. Its header is to have the ticket's id, the least that is free.
     ///
     /// The first of these refuses it, and changes nothing: `Phase`, where requests of this kind may not begin in the

@@ -4,6 +4,7 @@
 use crate::kit_std::prelude::{Clone, Vec};
 use crate::cqlp_session::carried::Refused;
 use crate::cqlp_session::client::Client;
+use crate::cqlp_session::into_values::IntoValues;
 use crate::cqlp_session::kind::RequestKind;
 use crate::cqlp_session::phase::Phase;
 use crate::cqlp_session::refusal::SlotsOrMemory;
@@ -57,6 +58,32 @@ impl<T, A: Allocator> ClientOf<T, A> {
     pub fn phase(&self) -> Phase
     {
         self.core.phase()
+    }
+
+    /// Whether a request is open under this stream id, as in [`Client::is_open`].
+    pub fn is_open(&self, stream: i16) -> bool
+    {
+        self.core.is_open(stream)
+    }
+
+    /// The value that the request carries which is open under this stream id. None where none is.
+    pub fn get(&self, stream: i16) -> Option<&T>
+    {
+        carried::get(&self.carried, stream)
+    }
+
+    /// The same, to write: what is left there is what the request carries from then on. Nothing else changes.
+    pub fn get_mut(&mut self, stream: i16) -> Option<&mut T>
+    {
+        carried::get_mut(&mut self.carried, stream)
+    }
+
+    /// The values of all requests that are still open, in the order of their stream ids: what is left to be told when
+    /// the connection ends. Takes no memory.
+    pub fn into_values(self) -> IntoValues<T, A>
+    {
+        let ClientOf { core: _, carried } = self;
+        IntoValues::new(carried)
     }
 
     /// Begins a request, as [`Client::begin`] does, and keeps a value until its reply. Where it is refused, the value

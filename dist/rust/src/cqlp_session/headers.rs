@@ -72,6 +72,19 @@ impl<T, A: Allocator> ServerOf<T, A> {
     }
 }
 
+/// The header of an EVENT that a server pushes, whose stream id is -1 (section 4.2.6 of `native_protocol_v4.spec`). It is
+/// lawful, and what a client's core tells as [`Reply::ServerEvent`](crate::cqlp_session::Reply::ServerEvent).
+pub fn event_header(body: Body) -> Header
+{
+    Header {
+        response: true,
+        flags: body.flags(),
+        stream: -1,
+        opcode: Opcode::Event,
+        length: body.length(),
+    }
+}
+
 /// The header of a request.
 fn request_header(kind: RequestKind, ticket: Ticket, body: Body) -> Header
 {

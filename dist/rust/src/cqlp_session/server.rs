@@ -62,6 +62,12 @@ impl<A: Allocator> Server<A> {
         self.phase
     }
 
+    /// Whether a request is open under this stream id: one was accepted under it, and is not answered yet.
+    pub fn is_open(&self, stream: i16) -> bool
+    {
+        slots::under(&self.slots, stream).is_some()
+    }
+
     /// Takes the header of a request that came. Its id is taken until it is answered. Section 4.1 of
     /// `native_protocol_v4.spec`.
     ///

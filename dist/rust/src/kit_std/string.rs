@@ -2,8 +2,7 @@
 use super::alloc::{AllocError, Allocator, Global};
 use core::fmt;
 
-/// Rust's `String`, but that what needs memory may be refused. One of Rust's becomes one by `into()`, and again by
-/// [`String::into_std`].
+/// Rust's `String`, but that what needs memory may be refused. One of Rust's becomes one by `into()`, and again by [`String::into_std`].
 #[derive(PartialEq, Eq)]
 pub struct String<A: Allocator = Global> {
     pub(crate) text: ::alloc::string::String,

@@ -69,6 +69,10 @@ impl<T, A: Allocator> Vec<T, A> {
         &mut self.items[range]
     }
 
+    pub(crate) fn as_mut_slice(&mut self) -> &mut [T] {
+        &mut self.items
+    }
+
     /// Its items.
     pub fn as_slice(&self) -> &[T] {
         &self.items

@@ -1,0 +1,87 @@
+// Written by dist/erase from crates/cqlp_capture/src/event.rt.
+//! What calls of a reader tell of a capture.
+
+use crate::cqlp_capture::file::FileForm;
+use crate::cqlp_capture::place::Place;
+use crate::cqlp_capture::refusal::CaptureRefusal;
+
+/// An interface on which packets were captured.
+#[derive(Clone, Copy, Debug, PartialEq, Eq)]
+pub struct InterfaceHead {
+    /// The number by which packets name it: 0 in a pcap file, which has one.
+    pub number: u32,
+    /// The link type of its packets, as the registry of LINKTYPE_ values has it: 1 is Ethernet.
+    pub link: u16,
+    /// How many bytes of a packet were captured at most, 0 where nothing is said. Nothing is checked against it.
+    pub snap_length: u32,
+}
+
+/// A packet, before its bytes.
+#[derive(Clone, Copy, Debug, PartialEq, Eq)]
+pub struct PacketHead {
+    /// The number of its interface.
+    pub interface: u32,
+    /// When it was captured, in nanoseconds since 1970-01-01 00:00:00 UTC. A pcap file's times all fit.
+    pub time: u64,
+    /// How many of its bytes the file has, at most the caller's limit.
+    pub captured: u32,
+    /// How many bytes it had, by the file's word: fewer than were captured is not refused.
+    pub original: u32,
+}
+
+/// An event of a capture.
+#[derive(Clone, Copy, Debug, PartialEq, Eq)]
+pub enum CaptureEvent<'a> {
+    /// A file of this form begins.
+    Section(FileForm),
+    Interface(InterfaceHead),
+    /// A packet begins, whose bytes are next.
+    Packet(PacketHead),
+    /// All captured bytes of the packet that began, which ends here.
+    Data(&'a [u8]),
+}
+
+/// An event without its bytes.
+#[derive(Clone, Copy)]
+pub(crate) enum EventOutline {
+    Section(FileForm),
+    Interface(InterfaceHead),
+    Packet(PacketHead),
+    /// The bytes that were wanted.
+    Data,
+}
+
+/// What the bytes that were wanted say: an event at an offset, and where the reading stands after it.
+#[derive(Clone, Copy)]
+pub(crate) struct Told {
+    pub at: u64,
+    pub what: EventOutline,
+    pub place: Place,
+}
+
+/// What one call makes of the input.
+#[derive(Clone, Copy, Debug, PartialEq, Eq)]
+pub enum CaptureStep<'a> {
+    /// An event, whose first byte is at this offset of the file. This many bytes of the input were used.
+    Event {
+        at: u64,
+        used: usize,
+        event: CaptureEvent<'a>,
+    },
+    /// All of the input was used, and more is wanted.
+    More {
+        used: usize,
+    },
+    /// The file is refused, here and at every later call; nothing was used.
+    Refused(CaptureRefusal),
+}
+
+/// How a file ends.
+#[derive(Clone, Copy, Debug, PartialEq, Eq)]
+pub enum CaptureEnd {
+    /// After its last packet, or after its header, at this offset.
+    Whole { bytes: u64 },
+    /// Within its header or a record, which began at the offset `at`, after this many bytes.
+    Cut { at: u64, bytes: u64 },
+    Refused(CaptureRefusal),
+}

@@ -1,0 +1,26 @@
+// Written by dist/erase from crates/cqlp_capture/src/limits.rt.
+//! The limits that a caller sets.
+
+/// What a reader of captures holds at most.
+#[derive(Clone, Copy, Debug, PartialEq, Eq)]
+pub struct CaptureLimits {
+    /// The captured bytes of one packet: 64 to 16,777,216.
+    pub packet: u32,
+}
+
+impl CaptureLimits {
+    /// The least limit on a packet.
+    pub const LEAST_PACKET: u32 = 64;
+
+    /// The greatest limit on a packet.
+    pub const GREATEST_PACKET: u32 = 16_777_216;
+
+    /// The limit where none is given: as many bytes as a capture of whole packets takes of one.
+    pub const DEFAULT: CaptureLimits = CaptureLimits { packet: 262_144 };
+
+    /// Whether the limit is in its range.
+    pub fn is_in_range(&self) -> bool
+    {
+        CaptureLimits::LEAST_PACKET <= self.packet && self.packet <= CaptureLimits::GREATEST_PACKET
+    }
+}

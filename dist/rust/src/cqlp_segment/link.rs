@@ -1,0 +1,166 @@
+// Written by dist/erase from crates/cqlp_segment/src/link.rt.
+//! Headers of links, which stand before the header of IP.
+
+use crate::cqlp_segment::fields::number_16;
+use crate::cqlp_segment::reason::NoSegment;
+
+/// What stands before the header of IP, as the registry of LINKTYPE_ values has it.
+#[derive(Clone, Copy, Debug, PartialEq, Eq)]
+pub enum LinkType {
+    /// 0: BSD's loopback, whose family of addresses is in the order of the machine that captured.
+    Null,
+    /// 1: Ethernet, with any number of tags of virtual networks.
+    Ethernet,
+    /// 101: the header of IP comes first, of either version.
+    Raw,
+    /// 108: OpenBSD's loopback, whose family of addresses has its highest byte first.
+    Loop,
+    /// 113: what Linux captures on all interfaces.
+    LinuxSll,
+    /// 228: the header of IPv4 comes first.
+    Ipv4,
+    /// 229: the header of IPv6 comes first.
+    Ipv6,
+    /// 276: what Linux captures on all interfaces, with the interface.
+    LinuxSll2,
+}
+
+/// A version of IP.
+#[derive(Clone, Copy, Debug, PartialEq, Eq)]
+pub(crate) enum IpVersion {
+    V4,
+    V6,
+}
+
+/// A packet of IP in a captured packet.
+#[derive(Clone, Copy)]
+pub(crate) struct IpPacket<'a> {
+    pub version: IpVersion,
+    /// The bytes from the header of IP on, with what pads the packet.
+    pub bytes: &'a [u8],
+}
+
+impl LinkType {
+    /// The link type of this number; of any other, `UnknownLink`.
+    pub fn from_number(number: u16) -> Result<LinkType, NoSegment>
+    {
+        match number {
+            0 => Ok(LinkType::Null),
+            1 => Ok(LinkType::Ethernet),
+            101 => Ok(LinkType::Raw),
+            108 => Ok(LinkType::Loop),
+            113 => Ok(LinkType::LinuxSll),
+            228 => Ok(LinkType::Ipv4),
+            229 => Ok(LinkType::Ipv6),
+            276 => Ok(LinkType::LinuxSll2),
+            _ => Err(NoSegment::UnknownLink),
+        }
+    }
+}
+
+/// The packet of IP in a captured packet.
+pub(crate) fn ip_packet(link: LinkType, packet: &[u8]) -> Result<IpPacket<'_>, NoSegment>
+{
+    match link {
+        LinkType::Null => after_family(packet, true),
+        LinkType::Loop => after_family(packet, false),
+        LinkType::Ethernet => after_type(packet, 12, 14),
+        LinkType::LinuxSll => after_type(packet, 14, 16),
+        LinkType::LinuxSll2 => after_type(packet, 0, 20),
+        LinkType::Raw => {
+            let version = raw_version(packet)?;
+            Ok(IpPacket {
+                version,
+                bytes: packet,
+            })
+        }
+        LinkType::Ipv4 => Ok(IpPacket {
+            version: IpVersion::V4,
+            bytes: packet,
+        }),
+        LinkType::Ipv6 => Ok(IpPacket {
+            version: IpVersion::V6,
+            bytes: packet,
+        }),
+    }
+}
+
+/// What follows a family of addresses in four bytes, which may be in either order.
+fn after_family(packet: &[u8], either: bool) -> Result<IpPacket<'_>, NoSegment>
+{
+    if packet.len() < 4 {
+        return Err(NoSegment::CutInLink);
+    }
+    let family = [packet[0], packet[1], packet[2], packet[3]];
+    let version = match version_of_family(u32::from_be_bytes(family)) {
+        None if either => version_of_family(u32::from_le_bytes(family)),
+        version => version,
+    };
+    match version {
+        Some(version) => Ok(IpPacket {
+            version,
+            bytes: &packet[4..],
+        }),
+        None => Err(NoSegment::NotIp),
+    }
+}
+
+/// The version of IP whose addresses are of this family: BSDs have three numbers for IPv6.
+fn version_of_family(family: u32) -> Option<IpVersion>
+{
+    match family {
+        2 => Some(IpVersion::V4),
+        24 | 28 | 30 => Some(IpVersion::V6),
+        _ => None,
+    }
+}
+
+/// What follows a header of this many bytes, which has an EtherType at this index, and the tags after it.
+fn after_type(packet: &[u8], index: usize, header: usize) -> Result<IpPacket<'_>, NoSegment>
+{
+    if packet.len() < header {
+        return Err(NoSegment::CutInLink);
+    }
+    let (_, bytes) = packet.split_at(header);
+    let (ether_type, bytes) = untagged(number_16(packet, index), bytes)?;
+    let version = match ether_type {
+        0x0800 => IpVersion::V4,
+        0x86DD => IpVersion::V6,
+        _ => return Err(NoSegment::NotIp),
+    };
+    Ok(IpPacket { version, bytes })
+}
+
+/// The EtherType after all tags, and the bytes after it.
+fn untagged(ether_type: u16, bytes: &[u8]) -> Result<(u16, &[u8]), NoSegment>
+{
+    let mut ether_type = ether_type;
+    let mut bytes = bytes;
+    while is_tag(ether_type) {
+        if bytes.len() < 4 {
+            return Err(NoSegment::CutInLink);
+        }
+        ether_type = number_16(bytes, 2);
+        bytes = &bytes[4..];
+    }
+    Ok((ether_type, bytes))
+}
+
+/// Whether an EtherType is that of a tag of a virtual network.
+fn is_tag(ether_type: u16) -> bool
+{
+    matches!(ether_type, 0x8100 | 0x88A8 | 0x9100)
+}
+
+/// The version of IP that the first byte says.
+fn raw_version(packet: &[u8]) -> Result<IpVersion, NoSegment>
+{
+    match packet {
+        [] => Err(NoSegment::CutInIp),
+        [first, ..] => match first >> 4 {
+            4 => Ok(IpVersion::V4),
+            6 => Ok(IpVersion::V6),
+            _ => Err(NoSegment::NotIp),
+        },
+    }
+}

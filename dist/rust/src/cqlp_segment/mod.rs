@@ -1,0 +1,16 @@
+// Written by dist/erase from crates/cqlp_segment/src/lib.rt.
+//! TCP segments out of captured packets.
+
+mod addresses;
+mod fields;
+mod ip;
+mod link;
+mod reason;
+mod segments;
+mod tcp;
+
+pub use addresses::{Address, Endpoint};
+pub use link::LinkType;
+pub use reason::NoSegment;
+pub use segments::{Segment, SegmentHead, read_segment};
+pub use tcp::Flags;
