@@ -140,6 +140,10 @@ tag_value given carried None (Ok (reply.Dropped t)) about value = absurd about
 tag_value given carried (Some q) (Ok (reply.Dropped t)) about value = subst (λ (x : Ticket). IsGivenUnder given x carried) (sym about) value
 tag_value given carried tag (Err why) about value = absurd about
 
+some_and : (o : Option Request) (r : Request) (k : RequestKind) → o ≡ Some r → r.kind ≡ k → IsSomeAnd o (λ q. q.kind ≡ k)
+some_and None r k e same = absurd (cc e)
+some_and (Some q) r k e same = let is : q ≡ r = cc in ap (λ (x : Request). x.kind) is ∙ same
+
 module _ {T U : Type 0} where
   next_value : (w : CarryingWorld T U) (ms : List (Message (Option Request))) → BothCarry w → IfNext ms (λ m. IsReplyAbout m.tag (reply_to w.cores.client m.seen))
       → IfNext ms (λ m. IsReplyWith w.given m.tag (reply_to w.cores.client m.seen) (under w.client_carries m.seen.stream))
@@ -148,10 +152,6 @@ module _ {T U : Type 0} where
     paired = about;
     value = tag_value w.given (under w.client_carries m.seen.stream) m.tag (reply_to w.cores.client m.seen) about (returned_for (client_part w) m.seen (reply_to w.cores.client m.seen) refl p.client);
   }
-
-  some_and : (o : Option Request) (r : Request) (k : RequestKind) → o ≡ Some r → r.kind ≡ k → IsSomeAnd o (λ q. q.kind ≡ k)
-  some_and None r k e same = absurd (cc e)
-  some_and (Some q) r k e same = let is : q ≡ r = cc in ap (λ (x : Request). x.kind) is ∙ same
 
   answer_with : (w : CarryingWorld T U) (id : ℤ) (o : Opcode) (r : Result RequestKind AnswerError) → answer_of w.cores.server id o ≡ r → BothCarry w
       → IfOk r (IsAnswerWith w.cores w.accepted (under w.server_carries id) id)

@@ -1,6 +1,6 @@
 -- What becomes of the values that are carried, where a `&mut` to one of them was handed out.
 use Rattle.std.specs.Prelude.{ℤ, List, Option, Some}
-use Rattle.core.specs.contracts.option.Option.{the_row as OptionOf}
+use Rattle.std.specs.contracts.option.Option.{the_row as OptionOf}
 use Rattle.std.specs.Borrow.{Array, Fml, LendsIf, MutBor, RattleType}
 use Rattle.cqlp_session.specs.Slots.{put}
 
