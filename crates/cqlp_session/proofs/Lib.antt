@@ -7,7 +7,6 @@ pub mod InStep
 pub mod Least
 pub mod OneAnswer
 pub mod Progress
-pub mod Opened
 pub mod Carriages
 pub mod Services
 pub mod PairedValues

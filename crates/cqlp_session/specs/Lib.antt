@@ -6,7 +6,6 @@ pub mod Signal
 pub mod Client
 pub mod Server
 pub mod Carried
-pub mod Lends
 pub mod ClientLends
 pub mod ServerLends
 pub mod World

@@ -1,9 +1,8 @@
 //! The values that are carried with open requests.
 
-ghost use Rattle.std.specs.Borrow.{sem};
-ghost use Rattle.std.specs.Option.{option_copied_mut};
-ghost use Rattle.std.specs.Prelude.{◌≡◌, IfOk, None, Some, option_copied, replicate};
-ghost use Rattle.cqlp_session.specs.Lends.{lends_under};
+ghost use Rattle.std.specs.Borrow.{Lends, sem};
+ghost use Rattle.std.specs.contracts.option.Option.{the_row as OptionOf};
+ghost use Rattle.std.specs.Prelude.{◌≡◌, IfOk, IsSome, None, Some, option_copied, replicate};
 ghost use Rattle.cqlp_session.specs.Slots.{put, under};
 
 use crate::slots;
@@ -63,13 +62,14 @@ pub(crate) fn get<T>(carried: &[Option<T>], id: i16) -> Option<&T>
     }
 }
 
-/// The same, to write.
-pub(crate) fn get_mut<T>(carried: &mut [Option<T>], id: i16) -> Option<&mut T>
-    ensures* writes_back { sem 𝓛 (lends_under T.row carried.entry id result) }
-    ensures value { option_copied_mut result ≡ under carried.old id }
+/// The value in a place, where one is, to write.
+pub(crate) fn value_in<T>(place: &mut Option<T>) -> &mut T
+    requires { IsSome place.old }
+    ensures* writes_back { sem 𝓛 (Lends (OptionOf T.row) T.row place.entry result Some) }
+    ensures value { place.old ≡ Some result.now }
 {
-    match slots::index_of(id) {
-        Some(i) if i < carried.len() => carried[i].as_mut(),
-        _ => None,
+    match place {
+        Some(value) => value,
+        None => unreachable!(),
     }
 }

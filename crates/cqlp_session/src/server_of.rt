@@ -2,7 +2,7 @@
 
 ghost use Rattle.std.specs.Borrow.{sem};
 ghost use Rattle.std.specs.Option.{option_copied_mut};
-ghost use Rattle.std.specs.Prelude.{◌≡◌, IfOk, OnErr, Some, is_some, option_copied};
+ghost use Rattle.std.specs.Prelude.{◌≡◌, IfOk, IsSome, OnErr, Some, is_some, option_copied};
 
 use crate::carried::Refused;
 use crate::into_values::IntoValues;
@@ -36,7 +36,7 @@ impl<T, A: Allocator> Model for ServerOf<T, A> {
 impl<T: Drop, A: Allocator> ServerOf<T, A> {
     ghost use Rattle.cqlp_session.specs.Carried.{accepted_with, answered_with, kind_alone, new_carrying_server, or_back, values_in, StandWith};
     ghost use Rattle.cqlp_session.specs.Server.{accept_of, answer_of};
-    ghost use Rattle.cqlp_session.specs.ServerLends.{server_lends_value};
+    ghost use Rattle.cqlp_session.specs.ServerLends.{server_lends, server_lends_value};
     ghost use Rattle.cqlp_session.specs.Signal.{signal_of};
     ghost use Rattle.cqlp_session.specs.Slots.{Makes, is_open, under};
 
@@ -80,11 +80,24 @@ impl<T: Drop, A: Allocator> ServerOf<T, A> {
 
     /// The same, to write: what is left there is what the request carries from then on. Nothing else changes.
     pub fn get_mut(&mut self, stream: i16) -> Option<&mut T>
-        ensures* writes_back { sem 𝓛 (server_lends_value T.row A.row A.Allocator self.entry stream result) }
+        ensures* writes_back { sem 𝓛 (server_lends T.row A.row A.Allocator self.entry stream result) }
         ensures value { option_copied_mut result ≡ under self.old.carried stream }
         ensures open { is_some result ≡ is_open self.old.core.slots stream }
     {
-        carried::get_mut(&mut self.carried, stream)
+        if self.get(stream).is_some() {
+            Some(self.value_mut(stream))
+        } else {
+            None
+        }
+    }
+
+    /// The value of the request that is open under this stream id, to write.
+    fn value_mut(&mut self, stream: i16) -> &mut T
+        requires { IsSome (under self.old.carried stream) }
+        ensures* writes_back { sem 𝓛 (server_lends_value T.row A.row A.Allocator self.entry stream result) }
+        ensures value { under self.old.carried stream ≡ Some result.now }
+    {
+        carried::value_in(&mut self.carried[stream as usize])
     }
 
     /// The values of all requests that are still open, in the order of their stream ids: what is left to be told when

@@ -57,15 +57,25 @@ fn read_cut(alloc: Global, cut: usize) -> Result<String, Fail> {
     let mut lines = String::new(alloc);
     let (first, second) = CELL.split_at(cut.min(7));
     reader.begin(None, AT, AT + 7);
-    let Some(used) = push(&mut partial, &mut reader, &table, first, &mut lines)? else {
-        return Ok(lines);
-    };
-    write!(lines, "{used} {} ", reader.bytes_used(&partial))?;
-    push(&mut partial, &mut reader, &table, second, &mut lines)?;
-    write!(lines, "{}", reader.done())?;
-    reader.stop();
-    write!(lines, " {} {}", reader.levels(), reader.done())?;
+    if let Some(used) = push(&mut partial, &mut reader, &table, first, &mut lines)? {
+        put_used(used, reader.bytes_used(&partial), &mut lines)?;
+        push(&mut partial, &mut reader, &table, second, &mut lines)?;
+        put_end(&mut reader, &mut lines)?;
+    }
     Ok(lines)
+}
+
+fn put_used(used: usize, of_cell: u64, lines: &mut String) -> Result<(), Fail> {
+    write!(lines, "{used} {of_cell} ")?;
+    Ok(())
+}
+
+/// Writes down whether the cell ended, and what is left once it is left off.
+fn put_end(reader: &mut CellReader, lines: &mut String) -> Result<(), Fail> {
+    let done = reader.done();
+    reader.stop();
+    write!(lines, "{done} {} {}", reader.levels(), reader.done())?;
+    Ok(())
 }
 
 #[test]

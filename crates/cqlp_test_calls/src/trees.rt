@@ -51,35 +51,58 @@ fn class(alloc: Global, letters: u32) -> Result<TypeTree, Fail> {
     Ok(TypeTree::Custom(class))
 }
 
+/// A type, and the length of its option.
+#[derive(Clone, Copy)]
+enum Shape {
+    Plain(Kind),
+    List,
+    Set,
+    Udt,
+    /// Of so many ints.
+    Tuple(u32),
+    /// With a name of so many letters.
+    Class(u32),
+}
+
+static LENGTHS: [(Shape, Option<usize>); 11] = [
+    (Shape::Plain(Kind::Int), Some(2)),
+    (Shape::Plain(Kind::List), None),
+    (Shape::Plain(Kind::Raw), None),
+    (Shape::List, Some(4)),
+    (Shape::Set, Some(15)),
+    (Shape::Udt, Some(25)),
+    (Shape::Tuple(8), Some(20)),
+    (Shape::Tuple(65_535), Some(131_074)),
+    (Shape::Tuple(65_536), None),
+    (Shape::Class(65_535), Some(65_539)),
+    (Shape::Class(65_536), None),
+];
+
+fn tree_of(alloc: Global, shape: Shape) -> Result<TypeTree, Fail> {
+    match shape {
+        Shape::Plain(kind) => Ok(TypeTree::Plain(kind)),
+        Shape::List => list(alloc),
+        Shape::Set => set(alloc),
+        Shape::Udt => udt(alloc),
+        Shape::Tuple(ints) => tuple(alloc, ints),
+        Shape::Class(letters) => class(alloc, letters),
+    }
+}
+
+/// The length of its option.
+fn length_of(alloc: Global, shape: Shape) -> Result<Option<usize>, Fail> {
+    let tree = tree_of(alloc, shape)?;
+    Ok(type_len(&tree))
+}
+
 #[test]
 fn lengths_of_options(rt: HostRuntime) -> Result<(), Fail> {
-    let alloc = rt.alloc();
-    let lengths = [
-        type_len(&TypeTree::Plain(Kind::Int)),
-        type_len(&TypeTree::Plain(Kind::List)),
-        type_len(&TypeTree::Plain(Kind::Raw)),
-        type_len(&list(alloc)?),
-        type_len(&set(alloc)?),
-        type_len(&udt(alloc)?),
-        type_len(&tuple(alloc, 8)?),
-        type_len(&tuple(alloc, 65_535)?),
-        type_len(&tuple(alloc, 65_536)?),
-        type_len(&class(alloc, 65_535)?),
-        type_len(&class(alloc, 65_536)?),
-    ];
-    let expected = [
-        Some(2),
-        None,
-        None,
-        Some(4),
-        Some(15),
-        Some(25),
-        Some(20),
-        Some(131_074),
-        None,
-        Some(65_539),
-        None,
-    ];
-    assert!(rt; lengths == expected);
+    let mut wrong = 0_u32;
+    for (shape, expected) in LENGTHS {
+        if length_of(rt.alloc(), shape)? != expected {
+            wrong = wrong.saturating_add(1);
+        }
+    }
+    assert_eq!(rt; wrong, 0);
     Ok(())
 }

@@ -182,11 +182,17 @@ fn a_table_is_as_deep_as_its_types(rt: HostRuntime) -> Result<(), Fail> {
 static PAGE: [u8; 41] =
     *b"\x84\0\0\0\x08\0\0\0\x20\0\0\0\x02\0\0\0\x01\0\0\0\x02\0\0\0\0\0\x01c\0\x20\0\x09\0\x01d\0\x0d\0\0\0\0";
 
-#[test]
-fn a_decoder_shows_the_types_of_a_page(rt: HostRuntime) -> Result<(), Fail> {
-    let mut decoder = Decoder::new(rt.alloc(), LIMITS)?;
+/// A decoder that has read the page.
+fn decoder_of_page(alloc: Global) -> Result<Decoder, Fail> {
+    let mut decoder = Decoder::new(alloc, LIMITS)?;
     let mut reader = Pieces::new(&PAGE, [usize::MAX; 3]);
     let _ = run(&mut decoder, &mut reader, &mut Takes::new(usize::MAX), 2);
+    Ok(decoder)
+}
+
+#[test]
+fn a_decoder_shows_the_types_of_a_page(rt: HostRuntime) -> Result<(), Fail> {
+    let decoder = decoder_of_page(rt.alloc())?;
     let walked = walk(rt.alloc(), decoder.table())?;
     let types = "3 of 8, 2, true, List 1 2 -> 1 root 0, Int 0 1 root 2, Varchar 0 1";
     assert_eq!(rt; walked.as_str(), types);

@@ -68,14 +68,23 @@ pub fn table<'a>(
 ) -> io::Result<TypeTable<&'a LocalHeap>> {
     let stream = bytes_of(alloc, digits)?;
     let mut decoder = decoder(heap, LIMITS)?;
-    let mut rest = stream.as_slice();
+    pass_all(&mut decoder, stream.as_slice());
+    copy_of(decoder.table())
+}
+
+/// Passes over the events of a stream.
+fn pass_all(decoder: &mut Decoder<&LocalHeap>, stream: &[u8]) {
+    let mut rest = stream;
     for _ in 0..10_000u32 {
         match decoder.next(rest) {
             Step::Event { used, .. } => rest = rest.get(used..).unwrap_or(&[]),
             Step::More { .. } | Step::Refused(_) => break,
         }
     }
-    match decoder.table().clone_table() {
+}
+
+fn copy_of<'a>(table: &TypeTable<&'a LocalHeap>) -> io::Result<TypeTable<&'a LocalHeap>> {
+    match table.clone_table() {
         Ok(table) => Ok(table),
         Err(_) => Err(io::Error::from(io::ErrorKind::OutOfMemory)),
     }
