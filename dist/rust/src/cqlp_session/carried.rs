@@ -54,11 +54,11 @@ pub(crate) fn get<T>(carried: &[Option<T>], id: i16) -> Option<&T>
     }
 }
 
-/// The same, to write.
-pub(crate) fn get_mut<T>(carried: &mut [Option<T>], id: i16) -> Option<&mut T>
+/// The value in a place, where one is, to write.
+pub(crate) fn value_in<T>(place: &mut Option<T>) -> &mut T
 {
-    match slots::index_of(id) {
-        Some(i) if i < carried.len() => carried[i].as_mut(),
-        _ => None,
+    match place {
+        Some(value) => value,
+        None => unreachable!(),
     }
 }

@@ -75,7 +75,17 @@ impl<T, A: Allocator> ClientOf<T, A> {
     /// The same, to write: what is left there is what the request carries from then on. Nothing else changes.
     pub fn get_mut(&mut self, stream: i16) -> Option<&mut T>
     {
-        carried::get_mut(&mut self.carried, stream)
+        if self.get(stream).is_some() {
+            Some(self.value_mut(stream))
+        } else {
+            None
+        }
+    }
+
+    /// The value of the request that is open under this stream id, to write.
+    fn value_mut(&mut self, stream: i16) -> &mut T
+    {
+        carried::value_in(&mut self.carried[stream as usize])
     }
 
     /// The values of all requests that are still open, in the order of their stream ids: what is left to be told when
