@@ -1,0 +1,130 @@
+#!/usr/bin/env python3
+"""Writes a capture of result pages on Ethernet to a file: captures.py whole|lost|many FILE [MB]
+
+whole  one connection, whose node sends pages of rows (pages.py) in segments of 1,448 bytes, each second of which is acknowledged
+lost   the same, where the capture has not each second segment with bytes
+many   100,000 connections, 1,000 of them open at a time, whose nodes send 10,136 bytes each
+
+MB is how long the capture is at least, in millions of bytes: 1,000 where it is not said; of `many` it says how many connections there are.
+The same words give the same bytes.
+"""
+import struct
+import subprocess
+import sys
+from pathlib import Path
+
+SEGMENT = 1_448
+PACKET = 14 + 20 + 32
+NODE = 0x0A000001
+SYN, FIN, ACK = 0x02, 0x01, 0x10
+SCALE = 1_000_000
+
+
+class Capture:
+    """A pcap file, whose packets come a microsecond after one another."""
+
+    def __init__(self, path):
+        self.file = open(path, "wb", buffering=1 << 20)
+        self.file.write(struct.pack("<IHHiIII", 0xA1B2C3D4, 2, 4, 0, 0, 262_144, 1))
+        self.time = self.size = 0
+
+    def packet(self, source, destination, sequence, acknowledgement, flags, payload=b""):
+        """Writes a segment between two ends, each an address and a port, with a header of TCP of 32 bytes."""
+        self.time += 1
+        length = PACKET + len(payload)
+        self.size += 16 + length
+        self.file.write(
+            struct.pack(
+                ">4s4s4s4s" "12sH" "BBHHHBBHII" "HHIIBBHHH12s",
+                struct.pack("<I", 1_700_000_000 + self.time // SCALE),
+                struct.pack("<I", self.time % SCALE),
+                struct.pack("<I", length),
+                struct.pack("<I", length),
+                b"\2\0\0\0\0\1\2\0\0\0\0\2", 0x0800,
+                0x45, 0, length - 14, 0, 0x4000, 64, 6, 0, source[0], destination[0],
+                source[1], destination[1], sequence % (1 << 32), acknowledgement % (1 << 32), 0x80, flags, 65_535, 0, 0,
+                b"\1\1\x08\x0a\0\0\0\1\0\0\0\2",
+            )
+            + payload
+        )
+
+
+class Connection:
+    """A connection of a client to the node."""
+
+    def __init__(self, capture, number):
+        self.capture = capture
+        self.client = (0x0A010000 + number // 20_000, 20_000 + number % 20_000)
+        self.node = (NODE, 9042)
+        self.sent = 1_000 * number
+        self.unacknowledged = 0
+
+    def begin(self):
+        self.capture.packet(self.client, self.node, 0, 0, SYN)
+        self.capture.packet(self.node, self.client, self.sent, 1, SYN | ACK)
+        self.sent += 1
+        self.acknowledge()
+
+    def acknowledge(self):
+        self.capture.packet(self.client, self.node, 1, self.sent, ACK)
+        self.unacknowledged = 0
+
+    def send(self, payload, is_lost=False):
+        if not is_lost:
+            self.capture.packet(self.node, self.client, self.sent, 1, ACK, payload)
+        self.sent += len(payload)
+        self.unacknowledged += 1
+        if self.unacknowledged == 2:
+            self.acknowledge()
+
+    def end(self):
+        self.capture.packet(self.node, self.client, self.sent, 1, ACK | FIN)
+        self.sent += 1
+        self.capture.packet(self.client, self.node, 1, self.sent, ACK | FIN)
+        self.capture.packet(self.node, self.client, self.sent, 2, ACK)
+
+
+def segments(page):
+    """The page again and again, in segments."""
+    twice = page + page[:SEGMENT]
+    at = 0
+    while True:
+        yield twice[at:at + SEGMENT]
+        at = (at + SEGMENT) % len(page)
+
+
+def one(capture, page, size, loses):
+    connection = Connection(capture, 0)
+    connection.begin()
+    for number, payload in enumerate(segments(page)):
+        connection.send(payload, loses and number % 2 == 1)
+        if capture.size >= size:
+            break
+    connection.end()
+
+
+def many(capture, page, count):
+    payloads = segments(page)
+    for first in range(0, count, 1_000):
+        group = [Connection(capture, number) for number in range(first, min(count, first + 1_000))]
+        for connection in group:
+            connection.begin()
+        for _ in range(7):
+            for connection in group:
+                connection.send(next(payloads))
+        for connection in group:
+            connection.end()
+
+
+def main(kind, path, size="1000"):
+    rows = subprocess.run([sys.executable, Path(__file__).parent / "pages.py", "rows", "100000"], stdout=subprocess.PIPE, check=True).stdout
+    capture = Capture(path)
+    if kind == "many":
+        many(capture, rows, int(size) * 100)
+    else:
+        one(capture, rows, int(size) * 1_000_000, kind == "lost")
+    capture.file.close()
+
+
+if __name__ == "__main__":
+    main(*sys.argv[1:])
