@@ -1,7 +1,6 @@
 -- Two cores over two wires give back the values that they were given.
-use Rattle.std.proofs.Common.{◌≡◌, ℕ, List, [], ◌∷◌, ◌++◌, Option, Some, None, Ok, Err, Result, refl, ap, ◌∙◌, sym, subst, ℤ}
+use Rattle.std.proofs.Common.{◌≡◌, ℕ, List, [], ◌∷◌, Option, Some, None, Ok, Err, Result, refl, ap, ◌∙◌, sym, subst, ℤ}
 use Rattle.std.specs.Prelude.{IfOk, IsSomeAnd}
-use Rattle.std.specs.List.{AllByRecursion}
 use Rattle.cqlp_note.specs.declared.opcode.Opcode.{Opcode}
 use Rattle.cqlp_session.specs.declared.kind.RequestKind.{RequestKind}
 use Rattle.cqlp_session.specs.declared.server.AnswerError.{AnswerError}
@@ -11,20 +10,20 @@ use Rattle.cqlp_session.specs.declared.ticket.Reply.{Reply}
 use Rattle.cqlp_session.specs.declared.ticket.Reply.TheVariants as reply
 use Rattle.cqlp_session.specs.declared.ticket.Stray.{Stray}
 use Rattle.cqlp_session.specs.declared.ticket.Ticket.{Ticket}
-use Rattle.cqlp_session.specs.Carriage.{Carriage, HaveOtherTickets, IsGivenUnder, IsReturned, Begin, Cancel, Reply_to, empty_carriage}
+use Rattle.cqlp_session.specs.Carriage.{Carriage, HaveOtherTickets, IsGivenUnder, IsReturned, Begin, Cancel, Reply_to}
 use Rattle.cqlp_session.specs.CarryingWorld.{Answer, CarryingStep, CarryingWorld, Deliver_down, Deliver_up, IsAnswerWith, IsReplyWith, IsValueOf, Push, Send, ValuesArePaired, ValuesArePairedAfterAnySteps, carries_on, client_after, run_carrying, start_carrying}
 use Rattle.cqlp_session.specs.CarryingWorld as step
-use Rattle.cqlp_session.specs.Client.{ClientCore, begun, cancels, reply_to, ticket_for}
+use Rattle.cqlp_session.specs.Client.{ClientCore, begun, reply_to, ticket_for}
 use Rattle.cqlp_session.specs.Pairing.{IfNext, IsReplyAbout}
 use Rattle.cqlp_session.specs.Server.{ServerCore, accept_of, accepted, answer_of, answered}
-use Rattle.cqlp_session.specs.Service.{Acceptance, IsOfLast}
+use Rattle.cqlp_session.specs.Service.{Acceptance}
 use Rattle.cqlp_session.specs.Slots.{under}
 use Rattle.cqlp_session.specs.World.{Message, Request, World, delivered_down, delivered_up, happens, last_under, responded, sent, taken_in}
 use Rattle.cqlp_session.specs.World as plain
 use Rattle.cqlp_session.proofs.Carriages.{Carries, carries_after, carries_empty, returned_for}
-use Rattle.cqlp_session.proofs.Paired.{IsPaired, IsTaken, answer_found, paired_happens, start_paired}
+use Rattle.cqlp_session.proofs.Paired.{IsPaired, answer_found, paired_happens, start_paired}
 use Rattle.cqlp_session.proofs.Sentences.{replies_paired}
-use Rattle.cqlp_session.proofs.Services.{Serves, answer_has, serves_accepted, serves_answered, serves_new}
+use Rattle.cqlp_session.proofs.Services.{Serves, serves_accepted, serves_answered, serves_new}
 use Rattle.cqlp_session.proofs.Under.{all_pairs}
 
 -- a client's core with what it carries and was given

@@ -1,14 +1,12 @@
 -- Each open request of a server's core has the value that was given with it.
-use Rattle.std.proofs.Common.{◌≡◌, ◌≢◌, ℕ, true, false, List, [], ◌∷◌, Option, Some, None, Ok, Err, Result, refl, ap, ◌∙◌, sym, inl, inr, ℤ}
-use Rattle.std.specs.Prelude.{find, is_none, IfOk}
-use Rattle.std.specs.Ordering.{int_eq}
+use Rattle.std.proofs.Common.{◌≡◌, ◌≢◌, ℕ, true, List, [], ◌∷◌, Option, Some, None, Ok, Err, Result, refl, ap, ◌∙◌, sym, inl, inr, ℤ}
+use Rattle.std.specs.Prelude.{is_none, IfOk}
 use Rattle.std.proofs.lemmas.Bool.{cases_Bool}
 use Rattle.cqlp_note.specs.declared.opcode.Opcode.{Opcode}
 use Rattle.cqlp_session.specs.declared.kind.RequestKind.{RequestKind}
 use Rattle.cqlp_session.specs.declared.server.AnswerError.{AnswerError}
 use Rattle.cqlp_session.specs.declared.server.ServerRefusal.{ServerRefusal}
 use Rattle.cqlp_session.specs.Kind.{kind_of}
-use Rattle.cqlp_session.specs.Phase.{may_begin}
 use Rattle.cqlp_session.specs.Signal.{Signal}
 use Rattle.cqlp_session.specs.Slots.{has_slot, put, under}
 use Rattle.cqlp_session.specs.Carried.{StandWith, handed_out, kept_under}

@@ -1,9 +1,8 @@
 -- A client and a server that talk over one connection and carry values with their requests.
-use Rattle.std.specs.Prelude.{◌≡◌, ℕ, ℤ, List, [], ◌∷◌, AllPairs, Option, Some, None, IsSomeAnd, Result, Ok, Err, IfOk, replicate}
+use Rattle.std.specs.Prelude.{◌≡◌, ℕ, ℤ, List, [], ◌∷◌, AllPairs, Option, Some, None, IsSomeAnd, Result, IfOk, replicate}
 use Rattle.cqlp_note.specs.declared.opcode.Opcode.{Opcode}
 use Rattle.cqlp_session.specs.declared.kind.RequestKind.{RequestKind}
 use Rattle.cqlp_session.specs.declared.ticket.Reply.{Reply}
-use Rattle.cqlp_session.specs.declared.ticket.Reply.TheVariants as reply
 use Rattle.cqlp_session.specs.declared.ticket.Stray.{Stray}
 use Rattle.cqlp_session.specs.declared.ticket.Ticket.{Ticket}
 use Rattle.cqlp_session.specs.Carriage.{HaveOtherTickets, IsGivenUnder, given_under}

@@ -1,4 +1,4 @@
-use Rattle.std.proofs.Common.{◌≡◌, ℕ, length, reverse}
+use Rattle.std.proofs.Common.{◌≡◌, length, reverse}
 use Rattle.cqlp_session.specs.Carried.{values_in}
 use Rattle.cqlp_session.proofs.into_values.IntoValuesIterator.next.Given as goal
 
