@@ -126,10 +126,10 @@ fn values_are_told_changed_and_handed_out(rt: HostRuntime) -> Result<(), Fail> {
     let mut client = ClientOf::new(rt.alloc(), 3)?;
     let mut server = ServerOf::new(rt.alloc(), 3)?;
     let mut wrong = 0_u32;
-    for (step, carried) in &STEPS {
-        step_client(&mut client, *step);
-        step_server(&mut server, *step);
-        if !are_carried(&client, &server, carried) {
+    for (step, carried) in STEPS {
+        step_client(&mut client, step);
+        step_server(&mut server, step);
+        if !are_carried(&client, &server, &carried) {
             wrong = wrong.saturating_add(1);
         }
     }

@@ -64,7 +64,7 @@ enum Shape {
     Class(u32),
 }
 
-static LENGTHS: [(Shape, Option<usize>); 11] = [
+static LENGTHS: [(Shape, Option<u32>); 11] = [
     (Shape::Plain(Kind::Int), Some(2)),
     (Shape::Plain(Kind::List), None),
     (Shape::Plain(Kind::Raw), None),
@@ -90,7 +90,7 @@ fn tree_of(alloc: Global, shape: Shape) -> Result<TypeTree, Fail> {
 }
 
 /// The length of its option.
-fn length_of(alloc: Global, shape: Shape) -> Result<Option<usize>, Fail> {
+fn length_of(alloc: Global, shape: Shape) -> Result<Option<u32>, Fail> {
     let tree = tree_of(alloc, shape)?;
     Ok(type_len(&tree))
 }
