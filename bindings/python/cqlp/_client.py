@@ -53,9 +53,12 @@ def _must_be_done(code: int) -> None:
 def _event_of(frame: Union[Event, Frame]) -> _native.Event:
     """As much of an event of a frame as a core looks at."""
     if isinstance(frame, Frame):
-        mark = Mark.RESPONSE if frame.response else Mark.NONE
-        return _native.Event(tag=Tag.FRAME, mark=mark, extra=frame.stream, opcode=frame.opcode)
-    return _native.Event(tag=frame.tag, mark=frame.mark, extra=frame.extra, opcode=frame.opcode)
+        tag, mark, stream = Tag.FRAME, Mark.RESPONSE if frame.response else Mark.NONE, frame.stream
+    else:
+        tag, mark, stream = frame.tag, frame.mark, frame.extra
+    if not (-32768 <= stream < 32768 and 0 <= frame.opcode < 256):
+        raise BadCall(Code.NO_FRAME)
+    return _native.Event(tag=tag, mark=mark, extra=stream, opcode=frame.opcode)
 
 
 def header(opcode: int, stream: int, length: int, *, flags: int = 0, response: bool = False) -> bytes:
@@ -108,6 +111,8 @@ class Client:
     def cancel(self, ticket: Ticket) -> None:
         """Gives up a request that waits for its reply. Its stream id stays taken until the reply comes, which is then DROPPED. Raises
         BadCall for NOT_CANCELLED."""
+        if not (0 <= ticket.number < 1 << 64 and 0 <= ticket.id < 32768):
+            raise BadCall(Code.NOT_CANCELLED)
         with self._lock:
             _must_be_done(_native.library.cqlp_client_cancel(self._handle, _native.Ticket(*ticket)))
 
