@@ -1,10 +1,10 @@
 """Frames whole, each message of the protocol as a dataclass of its own.
 
 `frames(source)` reads a frame to its end and gives it: a page with all of its rows. So unlike `rows` and `events` it holds as much as a
-peer sends in one frame, and more. The body of a frame has up to 268,435,456 bytes, and a row of one null costs a peer 4 bytes and Python
-some 70: 5 GB for such a page. A tuple or udt of as many fields as `Limits.entries` allows, of which only the first came, costs a peer 8
-bytes and Python 8 for each field: with the 4,096 of the defaults that is 32 KB a cell. Where the peer is not trusted give `longest`, and
-lower `entries`, or read pages by `Pages`.
+peer sends in one frame, and more. The body of a frame has up to 268,435,456 bytes, and Python takes some 35 bytes for each byte of a page
+of empty sets, 14 of rows of one null. Tuples and udts whose first field alone came are filled with None: a cell of eight bytes takes some
+8 bytes for each field of its type, and of a udt some 27, which with the 4,096 of `Limits.entries` is 34 and 107 KB. Where the peer is not
+trusted give `longest`, and lower `entries`, or read pages by `Pages`.
 """
 
 from dataclasses import dataclass
