@@ -1,12 +1,13 @@
 """cqlp: the CQL binary protocol, version 4 (native_protocol_v4.spec of Apache Cassandra), read as events.
 
-`rows(source)` gives the rows of a stream's pages, `frames(source)` its frames, each message a dataclass of `cqlp.messages`,
-`events(source)` its events, `check(data)` its verdict. A `Decoder` takes the pieces of a stream as they come, a `Client` pairs
+`rows(source)` gives the rows of a stream's pages, `columns(source)` their columns, numbers as arrays, `frames(source)` the frames, each
+message a dataclass of `cqlp.messages`, `events(source)` the events, `check(data)` the verdict. A `Decoder` takes the pieces of a stream as they come, a `Client` pairs
 replies with requests. All stand on the proved library libcqlp, whose interface is include/cqlp.h.
 """
 
 from . import messages
 from ._client import BadCall, Client, Reply, Ticket, header
+from ._columns import PageColumns, Series, columns
 from ._decoder import BadLimits, Closed, Cut, Decoder, Error, Held, Limits, Refused, Verdict, check
 from ._events import Event
 from ._names import name, version, version_number
@@ -41,6 +42,7 @@ __all__ = [
     "Closed",
     "Code",
     "Column",
+    "columns",
     "Consistency",
     "Cut",
     "Days",
@@ -67,6 +69,7 @@ __all__ = [
     "Nanoseconds",
     "Opcode",
     "Page",
+    "PageColumns",
     "Pages",
     "Phase",
     "Reason",
@@ -75,6 +78,7 @@ __all__ = [
     "ReplyKind",
     "ResultKind",
     "rows",
+    "Series",
     "Tag",
     "Ticket",
     "Type",

@@ -10,10 +10,11 @@ trusted give `longest`, and lower `entries`, or read pages by `Pages`.
 from dataclasses import dataclass
 from typing import Any, Callable, Dict, Generator, Iterator, List, Optional, Tuple, TypeVar, Union
 
+from . import _pages
 from ._decoder import Error as _PackageError
 from ._decoder import Limits, event_of
 from ._events import Event as _Event
-from ._pages import Column, Row, Type, _cells, _compiled, _Types
+from ._pages import Column, Row, Type, _cells, _Types
 from ._sources import Batch as _EventBatch
 from ._sources import Progress, Source, batches
 from ._values import Unset, address
@@ -637,6 +638,14 @@ class _Frames:
                 if frame:
                     yield frame
 
+    def begin(self, page: Rows) -> None:
+        """Begins the rows of a page."""
+        self.cells, self.rows = _cells(page.metadata.width, self.types_of(page)), page.rows
+
+    def types_of(self, page: Rows) -> Tuple[Type, ...]:
+        """The types by which its cells are read."""
+        return tuple(column.type for column in page.metadata.columns) if self.typed else ()
+
     def add(self, event: _Event) -> Optional[Frame]:
         """The frame, where this event ends it."""
         if self.reading is None:
@@ -664,8 +673,7 @@ class _Frames:
             payload = yield from _many(Field.PAYLOAD_ITEMS, item)
         message = yield from _MESSAGES[head.opcode]()
         if isinstance(message, Rows):
-            types = tuple(column.type for column in message.metadata.columns) if self.typed else ()
-            self.cells, self.rows = _cells(message.metadata.width, types), message.rows
+            self.begin(message)
         end = yield Tag.END
         return Frame(
             head.at, response, flags, head.extra, head.opcode, head.number, trace_id, warnings, payload, message, end.number
@@ -686,5 +694,5 @@ def frames(
     has more than `longest` bytes raises FrameTooLong before its body is held.
     """
     found = _Frames(longest, limits.types)
-    for batch in batches(source, limits, piece, progress, _compiled is not None):
+    for batch in batches(source, limits, piece, progress, _pages._compiled is not None):
         yield from found.take(batch)

@@ -253,9 +253,7 @@ class Messages(unittest.TestCase):
         seen = set()
         for stream in [*streams(), *others()]:
             for compiled in {_pages._compiled, None}:
-                with self.subTest(stream.name), mock.patch.multiple("cqlp._pages", _compiled=compiled), mock.patch.multiple(
-                    "cqlp.messages", _compiled=compiled
-                ):
+                with self.subTest(stream.name), mock.patch.object(_pages, "_compiled", compiled):
                     self.agrees(stream)
                     seen |= {type(frame.message) for frame in endings(cqlp.frames, stream.bytes, stream.limits)[0]}
         self.assertEqual(seen, {m.Rows, m.Prepared, *TABLE})
