@@ -164,7 +164,7 @@ def metadata(x: m.Metadata, one_table: List[Line]) -> List[Line]:
 
 
 def one_table_of(events: List[Line]) -> List[List[Line]]:
-    """The keyspace and the table of all columns, once for each metadata of a frame: they stand right after a count or a state."""
+    """Keyspaces and tables that stand right after a count or a state: those of all columns of a metadata, where one is told for all."""
     found = []
     for at, (field, _) in enumerate(events):
         follows = (F.KEYSPACE, F.TABLE) == tuple(other for other, _ in events[at + 1 : at + 3])
@@ -183,8 +183,8 @@ def lines_of(frame: m.Frame, events: List[Line]) -> List[Line]:
         one_table = tables[0] if x.metadata.flags & 5 == 1 else []
         return lines + result(2, *metadata(x.metadata, one_table), (F.ROWS, x.count))
     if isinstance(x, m.Prepared):
-        first = tables.pop(0) if x.flags & 1 else []
-        second = tables.pop(0) if x.result.flags & 5 == 1 else []
+        first = tables[0] if x.flags & 1 else []
+        second = tables[-1] if x.result.flags & 5 == 1 else []
         bound = [*first, *columns(x.flags, x.bound, first)]
         keys = [(F.KEYS, len(x.keys)), *((F.KEY_INDEX, key) for key in x.keys)]
         count = dict(events[:5])[F.COLUMNS] if F.COLUMNS in dict(events[:5]) else len(x.bound)
@@ -211,7 +211,8 @@ def endings(read: Any, *words: Any) -> Tuple[list, Any]:
     return found, None
 
 
-# What no stream of streams.txt has: a page and a statement without columns under a keyspace and a table, and each code of an error.
+# What no stream of streams.txt has: a page and a statement without columns under a keyspace and a table, columns of tables of their own behind
+# a paging state of no bytes, and each code of an error.
 def frame_of(opcode: int, body: bytes, flags: int = 0) -> bytes:
     return struct.pack(">BBhBi", 0x84, flags, 0, opcode, len(body)) + body
 
@@ -237,7 +238,12 @@ def others() -> List[Stream]:
     none = struct.pack(">iii", 2, 1, 0) + text(b"k") + text(b"t") + struct.pack(">i", 7)
     bound = struct.pack(">i", 4) + text(b"id") + struct.pack(">iii", 1, 0, 0) + text(b"k") + text(b"t")
     bound += struct.pack(">ii", 3, 0) + cell(b"state") + text(b"k2") + text(b"t2")
+    specs = b"".join(map(text, (b"k1", b"t1", b"a"))) + INT + b"".join(map(text, (b"k2", b"t2", b"b"))) + INT
+    own = struct.pack(">iii", 2, 2, 2) + cell(b"") + specs + struct.pack(">i", 1) + NULL * 2
+    own_bound = struct.pack(">i", 4) + text(b"id") + struct.pack(">iiiHH", 0, 2, 2, 1, 0) + specs
+    own_bound += struct.pack(">ii", 1, 2) + text(b"k3") + text(b"t3") + text(b"c") + INT + text(b"d") + INT
     data = {
+        "own_tables": frame_of(8, own) + frame_of(8, own_bound),
         "errors": errors(),
         "no_columns": frame_of(8, none),
         "no_values": frame_of(8, bound),
