@@ -43,6 +43,8 @@ def main():
         data = file.read()
     timed("a plain loop over the cells", plain, data)
     timed("rows", lambda data: sum(1 for _ in cqlp.rows(data)), data)
+    timed("columns", lambda data: sum(page.count for page in cqlp.columns(data)), data)
+    timed("frames", lambda data: sum(len(frame.message.rows) for frame in cqlp.frames(data)), data)
     began = time.process_time()
     events = sum(1 for _ in cqlp.events(data))
     print("  python, events: %.0f events/s" % (events / (time.process_time() - began)))

@@ -76,6 +76,7 @@
 
 /* The version of this file and of its library. */
 #define CQLP_VERSION "0.1.0"
+#define CQLP_VERSION_NUMBER 1000     /* 1000000 for each of its first part, 1000 of its second, 1 of its third */
 
 #ifdef __cplusplus
 extern "C" {
@@ -282,6 +283,69 @@ extern "C" {
 #define CQLP_REPLY_ANSWER 2          /* it is the reply to the request of this ticket */
 #define CQLP_REPLY_DROPPED 3         /* the same, and the request was cancelled */
 
+/* Codes of errors: the number of the field ERROR_CODE. Section 9. */
+#define CQLP_ERROR_SERVER_ERROR 0x0000
+#define CQLP_ERROR_PROTOCOL_ERROR 0x000A
+#define CQLP_ERROR_AUTHENTICATION_ERROR 0x0100
+#define CQLP_ERROR_UNAVAILABLE 0x1000 /* consistency, required, alive */
+#define CQLP_ERROR_OVERLOADED 0x1001
+#define CQLP_ERROR_IS_BOOTSTRAPPING 0x1002
+#define CQLP_ERROR_TRUNCATE_ERROR 0x1003
+#define CQLP_ERROR_WRITE_TIMEOUT 0x1100 /* consistency, received, block_for, write_type */
+#define CQLP_ERROR_READ_TIMEOUT 0x1200 /* consistency, received, block_for, data_present */
+#define CQLP_ERROR_READ_FAILURE 0x1300 /* consistency, received, block_for, failures, data_present */
+#define CQLP_ERROR_FUNCTION_FAILURE 0x1400 /* keyspace, name, arguments */
+#define CQLP_ERROR_WRITE_FAILURE 0x1500 /* consistency, received, block_for, failures, write_type */
+#define CQLP_ERROR_SYNTAX_ERROR 0x2000
+#define CQLP_ERROR_UNAUTHORIZED 0x2100
+#define CQLP_ERROR_INVALID 0x2200
+#define CQLP_ERROR_CONFIG_ERROR 0x2300
+#define CQLP_ERROR_ALREADY_EXISTS 0x2400 /* keyspace, table */
+#define CQLP_ERROR_UNPREPARED 0x2500 /* statement_id */
+
+/* Kinds of results: the number of the field RESULT_KIND. Section 4.2.5. */
+#define CQLP_RESULT_VOID 1
+#define CQLP_RESULT_ROWS 2
+#define CQLP_RESULT_SET_KEYSPACE 3
+#define CQLP_RESULT_PREPARED 4
+#define CQLP_RESULT_SCHEMA_CHANGE 5
+
+/* Levels of consistency: the number of the fields CONSISTENCY and SERIAL_CONSISTENCY. Section 3. */
+#define CQLP_CONSISTENCY_ANY 0
+#define CQLP_CONSISTENCY_ONE 1
+#define CQLP_CONSISTENCY_TWO 2
+#define CQLP_CONSISTENCY_THREE 3
+#define CQLP_CONSISTENCY_QUORUM 4
+#define CQLP_CONSISTENCY_ALL 5
+#define CQLP_CONSISTENCY_LOCAL_QUORUM 6
+#define CQLP_CONSISTENCY_EACH_QUORUM 7
+#define CQLP_CONSISTENCY_SERIAL 8
+#define CQLP_CONSISTENCY_LOCAL_SERIAL 9
+#define CQLP_CONSISTENCY_LOCAL_ONE 10
+
+/* Types of batches: the number of the field BATCH_TYPE. Section 4.1.7. */
+#define CQLP_BATCH_LOGGED 0
+#define CQLP_BATCH_UNLOGGED 1
+#define CQLP_BATCH_COUNTER 2
+
+/* Groups of numbers, for cqlp_name: each is of CQLP_.. with the word of the group. */
+#define CQLP_GROUP_CODE 1            /* what a call answers: CQLP_DONE and what follows; as BadText */
+#define CQLP_GROUP_STOP 2            /* as Full */
+#define CQLP_GROUP_END 3             /* as cqlp check writes it: whole, cut, refused */
+#define CQLP_GROUP_TAG 4             /* as cqlp show writes it, as Frame */
+#define CQLP_GROUP_MARK 5            /* as unset */
+#define CQLP_GROUP_OPCODE 6          /* as QUERY */
+#define CQLP_GROUP_FIELD 7           /* as PageSize */
+#define CQLP_GROUP_KIND 8            /* as varchar */
+#define CQLP_GROUP_REASON 9          /* as BadOpcode */
+#define CQLP_GROUP_PHASE 10          /* as Ready */
+#define CQLP_GROUP_REPLY 11          /* as Dropped */
+#define CQLP_GROUP_LIMIT 12          /* the member of cqlp_limits that a code of cqlp_new and cqlp_check is about, as text */
+#define CQLP_GROUP_ERROR 13          /* as Unavailable */
+#define CQLP_GROUP_RESULT 14         /* as SetKeyspace */
+#define CQLP_GROUP_CONSISTENCY 15    /* as LOCAL_QUORUM */
+#define CQLP_GROUP_BATCH 16          /* as unlogged */
+
 /* What a decoder holds at most, and what it reads. */
 typedef struct cqlp_limits {
   uint32_t text;    /* the bytes of one [string] or [long string]: 32 to 16777216 */
@@ -451,6 +515,15 @@ uint32_t cqlp_client_free(cqlp_client *client);
  * Answers CQLP_DONE; else the bytes are as they were, and the first of these that is so: CQLP_COMPRESSED, CQLP_BAD_OPCODE,
  * CQLP_BAD_DIRECTION, CQLP_BAD_LENGTH. */
 uint32_t cqlp_write_header(const cqlp_header *fields, uint8_t bytes[9]);
+
+/* The word of a number of a group, CQLP_GROUP_.., or NULL where the group, or the number in it, is not known. It stays as it is
+ * until the program ends, and is not to be freed. The words are those that `cqlp show` and `cqlp check` write, where they write
+ * the number as a word. This call and the two below are a table in C, which is compared with the proved sources and not proved. */
+const char *cqlp_name(uint32_t group, int64_t number);
+
+/* The version of the library that is linked or loaded, as CQLP_VERSION and CQLP_VERSION_NUMBER are that of this file. */
+const char *cqlp_version(void);
+uint32_t cqlp_version_number(void);
 
 #ifdef __cplusplus
 }

@@ -5,14 +5,6 @@
  * those of the whole, and no byte past a piece or past the array is read or written. */
 #include "give.h"
 
-static const char *const TAGS[] = {"",     "Frame", "Byte", "Short", "Int",  "Long",  "Uuid",  "Count", "Text", "Bytes",
-                                   "Bound", "Inet", "TypeNode", "Leaf", "Null", "Empty", "Enter", "Leave", "Part", "End"};
-
-static const char *const REASONS[] = {"", "BadVersion", "Compressed", "BadOpcode", "BadDirection", "BadLength", "Overrun",
-                                      "TooLong", "BadUtf8", "BadValueLength", "BadInet", "BadCount", "BadType", "TooDeep",
-                                      "TooMany", "BadBatchKind", "BadBatchFlags", "BadSize", "BadScalar", "ExtraInValue",
-                                      "StreamTooLong"};
-
 static void print_whole(const cqlp_limits *limits, const uint8_t *stream, size_t length) {
   cqlp_decoder decoder = CQLP_NO_DECODER_YET;
   cqlp_event event;
@@ -26,13 +18,13 @@ static void print_whole(const cqlp_limits *limits, const uint8_t *stream, size_t
   do {
     CHECK(cqlp_next(&decoder, stream + used, length - used, &event, 1, &batch) == CQLP_DONE);
     used += batch.used;
-    if (batch.events) printf("%llu %s\n", (unsigned long long)event.at, TAGS[event.tag]);
+    if (batch.events) printf("%llu %s\n", (unsigned long long)event.at, cqlp_name(CQLP_GROUP_TAG, event.tag));
   } while (batch.stop == CQLP_STOP_FULL);
   CHECK(cqlp_finish(&decoder, &end) == CQLP_DONE);
   if (end.verdict == CQLP_END_WHOLE) printf("whole %llu\n", (unsigned long long)end.bytes);
   if (end.verdict == CQLP_END_CUT)
     printf("cut %llu %llu\n", (unsigned long long)end.at, (unsigned long long)end.bytes);
-  if (end.verdict == CQLP_END_REFUSED) printf("refused %llu %s\n", (unsigned long long)end.at, REASONS[end.reason]);
+  if (end.verdict == CQLP_END_REFUSED) printf("refused %llu %s\n", (unsigned long long)end.at, cqlp_name(CQLP_GROUP_REASON, end.reason));
   CHECK(cqlp_free(&decoder) == CQLP_DONE);
 }
 

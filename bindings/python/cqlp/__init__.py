@@ -1,44 +1,90 @@
 """cqlp: the CQL binary protocol, version 4 (native_protocol_v4.spec of Apache Cassandra), read as events.
 
-`rows(source)` gives the rows of a stream's pages, `events(source)` its events, `check(data)` its verdict. A `Decoder` takes
-the pieces of a stream as they come. All stand on the proved library libcqlp, whose interface is include/cqlp.h.
+`rows(source)` gives the rows of a stream's pages, `columns(source)` their columns, numbers as arrays, `frames(source)` the frames, each
+message a dataclass of `cqlp.messages`, `events(source)` the events, `check(data)` the verdict. A `Decoder` takes the pieces of a stream as they come, a `Client` pairs
+replies with requests. All stand on the proved library libcqlp, whose interface is include/cqlp.h.
 """
 
+from . import messages
+from ._client import BadCall, Client, Reply, Ticket, header
+from ._columns import PageColumns, Series, columns
 from ._decoder import BadLimits, Closed, Cut, Decoder, Error, Held, Limits, Refused, Verdict, check
 from ._events import Event
+from ._names import name, version, version_number
 from ._pages import Column, Page, Pages, Type, rows
 from ._sources import events
-from ._values import EMPTY, UNSET, Days, Milliseconds, Nanoseconds
-from .numbers import End, Field, Kind, Mark, Opcode, Reason, Tag
+from ._values import EMPTY, UNSET, Days, Milliseconds, Nanoseconds, Unset
+from .messages import Frame, FrameTooLong, frames
+from .numbers import (
+    BatchType,
+    Code,
+    Consistency,
+    End,
+    ErrorCode,
+    Field,
+    Group,
+    Kind,
+    Mark,
+    Opcode,
+    Phase,
+    Reason,
+    ReplyKind,
+    ResultKind,
+    Tag,
+)
 
 __all__ = [
+    "BadCall",
     "BadLimits",
+    "BatchType",
+    "check",
+    "Client",
     "Closed",
+    "Code",
     "Column",
+    "columns",
+    "Consistency",
     "Cut",
     "Days",
     "Decoder",
     "EMPTY",
     "End",
     "Error",
+    "ErrorCode",
     "Event",
+    "events",
     "Field",
+    "Frame",
+    "frames",
+    "FrameTooLong",
+    "Group",
+    "header",
     "Held",
     "Kind",
     "Limits",
     "Mark",
+    "messages",
     "Milliseconds",
+    "name",
     "Nanoseconds",
     "Opcode",
     "Page",
+    "PageColumns",
     "Pages",
+    "Phase",
     "Reason",
     "Refused",
+    "Reply",
+    "ReplyKind",
+    "ResultKind",
+    "rows",
+    "Series",
     "Tag",
+    "Ticket",
     "Type",
     "UNSET",
+    "Unset",
     "Verdict",
-    "check",
-    "events",
-    "rows",
+    "version",
+    "version_number",
 ]

@@ -1,5 +1,5 @@
-/* Puts the events of cells together to rows of Python values, as `_Cells` of _pages.py does: the same values, from the events where
- * cqlp_next put them. It calls nothing of libcqlp. It is of the stable ABI, from Python 3.9 on, and bindings/build makes
+/* Puts the events of cells together to rows of Python values, as `_Cells` of _pages.py does, or to columns, as `_ColumnCells` of columns.py
+ * does: the same values, from the events where cqlp_next put them. It calls nothing of libcqlp. It is of the stable ABI, from Python 3.9 on, and bindings/build makes
  * cqlp/_cells.abi3.so of it. Where that is not there, _pages.py does it alone. */
 #define Py_LIMITED_API 0x03090000
 #define PY_SSIZE_T_CLEAN
@@ -20,6 +20,17 @@ typedef struct items {
   PyObject *key;    /* of a map the key whose value is still to come, else NULL */
 } items;
 
+/* The cells of a column of a page. */
+typedef struct column {
+  uint8_t kind;
+  uint8_t size;      /* the bytes of a number; 0 where the values are in a list */
+  char *numbers;     /* so many bytes for each */
+  char *missing;     /* NULL where no number is missing; else a byte for each: 0 is there, 1 null, 2 no bytes */
+  Py_ssize_t length; /* how many numbers there are */
+  Py_ssize_t room;   /* and how many have room */
+  PyObject *values;  /* the list, or NULL */
+} column;
+
 typedef struct cells {
   PyObject_HEAD
   Py_ssize_t width;  /* how many cells a row has */
@@ -27,7 +38,11 @@ typedef struct cells {
   PyObject *leaves;  /* of each kind the function that makes its value, of an event's number, content, extra and octets */
   PyObject *empty;   /* a value of no bytes, of a type that is neither a text nor bytes */
   PyObject *frozen;  /* makes of a value one that may be in a set */
-  PyObject **row;    /* the cells of the row that is under way */
+  int to_columns;    /* whether cells go to columns; else they go to rows */
+  column *columns;   /* those whose types are told; else as many as cells of the first row have come */
+  Py_ssize_t begun;  /* how many they are */
+  Py_ssize_t space;  /* and how many have room */
+  PyObject **row;    /* the cells of the row that is under way, where they go to rows */
   Py_ssize_t length; /* how many they are */
   Py_ssize_t room;   /* and how many have room */
   items *open;       /* the values around the next one, the outermost first */
@@ -243,6 +258,98 @@ static int put_cell(cells *self, PyObject *cell) {
   return 1;
 }
 
+/* How many bytes a number of this kind has in a column; 0 where a value of it is none of a number's width. */
+static uint8_t width_of(long kind) {
+  switch (kind) {
+  case CQLP_KIND_BOOLEAN:
+  case CQLP_KIND_TINYINT:
+    return 1;
+  case CQLP_KIND_SMALLINT:
+    return 2;
+  case CQLP_KIND_INT:
+  case CQLP_KIND_DATE:
+  case CQLP_KIND_FLOAT:
+    return 4;
+  case CQLP_KIND_BIGINT:
+  case CQLP_KIND_COUNTER:
+  case CQLP_KIND_TIMESTAMP:
+  case CQLP_KIND_TIME:
+  case CQLP_KIND_DOUBLE:
+    return 8;
+  default:
+    return 0;
+  }
+}
+
+/* The bits of a number of a column, the lowest first: of a scalar, or 0 where it is missing. A date counts from 1970. */
+static uint64_t bits_of(const column *of, const cqlp_event *event) {
+  if (event->tag != CQLP_TAG_LEAF) return 0;
+  if (of->kind == CQLP_KIND_DATE) return (uint64_t)(event->number - ((int64_t)1 << 31));
+  if (of->kind != CQLP_KIND_FLOAT && of->kind != CQLP_KIND_DOUBLE) return (uint64_t)event->number;
+  uint64_t bits = 0;
+  for (int at = 0; at < of->size; at++) bits = bits << 8 | event->bytes[at];
+  return bits;
+}
+
+/* Writes the lowest bytes of a number as this machine has them. */
+static void write_number(char *to, uint8_t size, uint64_t bits) {
+  uint8_t byte = (uint8_t)bits;
+  uint16_t half = (uint16_t)bits;
+  uint32_t word = (uint32_t)bits;
+  switch (size) {
+  case 1: memcpy(to, &byte, 1); break;
+  case 2: memcpy(to, &half, 2); break;
+  case 4: memcpy(to, &word, 4); break;
+  default: memcpy(to, &bits, 8);
+  }
+}
+
+/* Whether a column has a byte for each number that says whether it is missing. */
+static int grow_missing(column *of, Py_ssize_t before) {
+  char *grown = PyMem_Realloc(of->missing, (size_t)of->room);
+  if (grown == NULL) {
+    PyErr_NoMemory();
+    return 0;
+  }
+  memset(grown + before, 0, (size_t)(of->room - before));
+  of->missing = grown;
+  return 1;
+}
+
+/* Puts a number into its column, or that it is missing. */
+static int put_number(column *of, const cqlp_event *event) {
+  Py_ssize_t before = of->room;
+  if (!grow((void **)&of->numbers, of->length, &of->room, of->size)) return 0;
+  if (of->missing != NULL && before < of->room && !grow_missing(of, before)) return 0;
+  write_number(of->numbers + of->length * of->size, of->size, bits_of(of, event));
+  if (event->tag != CQLP_TAG_LEAF) {
+    if (of->missing == NULL && !grow_missing(of, 0)) return 0;
+    of->missing[of->length] = event->tag == CQLP_TAG_NULL ? 1 : 2;
+  }
+  of->length++;
+  return 1;
+}
+
+/* Begins one more column, of numbers where its type is told and they have a width. A count that lies gets no memory: of columns that are
+ * not told one is begun when its first cell comes. */
+static int begin_column(cells *self) {
+  if (!grow((void **)&self->columns, self->begun, &self->space, sizeof(column))) return 0;
+  int told = PyTuple_Size(self->types) > self->begun;
+  PyObject *kind = told ? PyTuple_GetItem(PyTuple_GetItem(self->types, self->begun), 0) : NULL;
+  long number = kind == NULL ? CQLP_KIND_RAW : PyLong_AsLong(kind);
+  if (PyErr_Occurred()) return 0;
+  column of = {(uint8_t)number, width_of(number), NULL, NULL, 0, 0, NULL};
+  if (of.size == 0 && (of.values = PyList_New(0)) == NULL) return 0;
+  self->columns[self->begun++] = of;
+  return 1;
+}
+
+/* Goes on to the next column, or to the first of the next row. */
+static int next_column(cells *self) {
+  if (++self->length == self->width) self->length = 0;
+  return 1;
+}
+
 /* Puts the row, which is whole, into the list, and begins the next. */
 static int put_row(cells *self, PyObject *rows) {
   PyObject *row = PyTuple_New(self->length);
@@ -256,6 +363,9 @@ static int put_row(cells *self, PyObject *rows) {
 
 /* Takes an event of a cell. The rows that are whole go into the list. */
 static int add(cells *self, const cqlp_event *event, PyObject *rows) {
+  if (self->to_columns && self->length == self->begun && !begin_column(self)) return 0;
+  column *of = self->to_columns ? &self->columns[self->length] : NULL;
+  if (of != NULL && of->size > 0 && self->depth == 0) return put_number(of, event) && next_column(self);
   PyObject *value;
   switch (event->tag) {
   case CQLP_TAG_LEAF:
@@ -279,6 +389,11 @@ static int add(cells *self, const cqlp_event *event, PyObject *rows) {
   }
   if (value == NULL) return 0;
   if (self->depth > 0) return put_item(self, value, event->tag == CQLP_TAG_LEAVE);
+  if (of != NULL) {
+    int done = PyList_Append(of->values, value);
+    Py_DECREF(value);
+    return done == 0 && next_column(self);
+  }
   return put_cell(self, value) && (self->length != self->width || put_row(self, rows));
 }
 
@@ -303,15 +418,47 @@ static PyObject *cells_take(PyObject *object, PyObject *arguments) {
   return Py_BuildValue("Nn", rows, at);
 }
 
+PyDoc_STRVAR(columns_doc, "columns(): of each column the bytes of its numbers, as this machine has them, or a list of its values; and a byte "
+                          "for each number that says whether it is missing, or None.");
+
+static PyObject *cells_columns(PyObject *object, PyObject *none) {
+  cells *self = (cells *)object;
+  (void)none;
+  PyObject *found = PyList_New(0);
+  for (Py_ssize_t at = 0; found != NULL && at < self->begun; at++) {
+    const column *of = &self->columns[at];
+    PyObject *one = of->size == 0        ? Py_BuildValue("OO", of->values, Py_None)
+                    : of->missing == NULL ? Py_BuildValue("y#O", of->length ? of->numbers : "", of->length * of->size, Py_None)
+                                          : Py_BuildValue("y#y#", of->numbers, of->length * of->size, of->missing, of->length);
+    if (one == NULL || PyList_Append(found, one) < 0) Py_CLEAR(found);
+    Py_XDECREF(one);
+  }
+  return found;
+}
+
+/* Begins the columns that are told. */
+static int begin_columns(cells *self) {
+  Py_ssize_t told = PyTuple_Size(self->types);
+  if (self->width < 1 || (told != 0 && told != self->width)) {
+    PyErr_SetString(PyExc_ValueError, "columns have a width of 1 and more, and as many types or none");
+    return 0;
+  }
+  self->to_columns = 1;
+  while (self->begun < told)
+    if (!begin_column(self)) return 0;
+  return 1;
+}
+
 static int cells_init(PyObject *object, PyObject *arguments, PyObject *names) {
-  static char *words[] = {"width", "types", "leaves", "empty", "frozen", NULL};
+  static char *words[] = {"width", "types", "leaves", "empty", "frozen", "to_columns", NULL};
+  int to_columns = 0;
   cells *self = (cells *)object;
   if (self->types != NULL) {
     PyErr_SetString(PyExc_TypeError, "begun already");
     return -1;
   }
-  if (!PyArg_ParseTupleAndKeywords(arguments, names, "nOOOO", words, &self->width, &self->types, &self->leaves, &self->empty,
-                                   &self->frozen)) {
+  if (!PyArg_ParseTupleAndKeywords(arguments, names, "nOOOO|p", words, &self->width, &self->types, &self->leaves, &self->empty,
+                                   &self->frozen, &to_columns)) {
     self->types = self->leaves = self->empty = self->frozen = NULL;
     return -1;
   }
@@ -319,19 +466,27 @@ static int cells_init(PyObject *object, PyObject *arguments, PyObject *names) {
   Py_INCREF(self->leaves);
   Py_INCREF(self->empty);
   Py_INCREF(self->frozen);
-  if (PyTuple_Check(self->types) && PyList_Check(self->leaves)) return 0;
-  PyErr_SetString(PyExc_TypeError, "types is a tuple, leaves a list");
-  return -1;
+  if (!PyTuple_Check(self->types) || !PyList_Check(self->leaves)) {
+    PyErr_SetString(PyExc_TypeError, "types is a tuple, leaves a list");
+    return -1;
+  }
+  return !to_columns || begin_columns(self) ? 0 : -1;
 }
 
 static void cells_dealloc(PyObject *object) {
   cells *self = (cells *)object;
   PyTypeObject *type = Py_TYPE(object);
-  for (Py_ssize_t at = 0; at < self->length; at++) Py_DECREF(self->row[at]);
+  for (Py_ssize_t at = 0; !self->to_columns && at < self->length; at++) Py_DECREF(self->row[at]);
+  for (Py_ssize_t at = 0; at < self->begun; at++) {
+    PyMem_Free(self->columns[at].numbers);
+    PyMem_Free(self->columns[at].missing);
+    Py_XDECREF(self->columns[at].values);
+  }
   for (Py_ssize_t at = 0; at < self->depth; at++) {
     Py_DECREF(self->open[at].values);
     Py_XDECREF(self->open[at].key);
   }
+  PyMem_Free(self->columns);
   PyMem_Free(self->row);
   PyMem_Free(self->open);
   Py_XDECREF(self->parts);
@@ -346,10 +501,11 @@ static void cells_dealloc(PyObject *object) {
 
 static PyMethodDef cells_methods[] = {
     {"take", cells_take, METH_VARARGS, take_doc},
+    {"columns", cells_columns, METH_NOARGS, columns_doc},
     {NULL, NULL, 0, NULL},
 };
 
-PyDoc_STRVAR(cells_doc, "Puts events of cells together to rows.");
+PyDoc_STRVAR(cells_doc, "Puts events of cells together to rows, or to columns.");
 
 static PyType_Slot cells_slots[] = {
     {Py_tp_doc, (void *)cells_doc},

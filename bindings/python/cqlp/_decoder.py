@@ -43,10 +43,10 @@ class Cut(Error, EOFError):
 
 
 class Closed(Error, ValueError):
-    """The decoder was closed."""
+    """The decoder, or the client's core, was closed."""
 
-    def __init__(self) -> None:
-        super().__init__("the decoder was closed")
+    def __init__(self, what: str = "the decoder") -> None:
+        super().__init__("%s was closed" % what)
 
 
 @dataclass(frozen=True)

@@ -3,7 +3,7 @@
 import ctypes
 import os
 import struct
-from ctypes import POINTER, c_int32, c_int64, c_size_t, c_uint8, c_uint32, c_uint64, c_void_p
+from ctypes import POINTER, c_char_p, c_int16, c_int32, c_int64, c_size_t, c_uint8, c_uint32, c_uint64, c_void_p
 from pathlib import Path
 
 
@@ -55,12 +55,24 @@ class Holding(ctypes.Structure):
     _fields_ = [("bytes", c_uint32), ("entries", c_uint32), ("levels", c_uint32)]
 
 
+class Ticket(ctypes.Structure):
+    _fields_ = [("number", c_uint64), ("id", c_int16)]
+
+
+class Reply(ctypes.Structure):
+    _fields_ = [("number", c_uint64), ("id", c_int16), ("what", c_uint8), ("request", c_uint8)]
+
+
+class Header(ctypes.Structure):
+    _fields_ = [("length", c_uint32), ("stream", c_int16), ("opcode", c_uint8), ("flags", c_uint8), ("response", c_uint8)]
+
+
 # The members of an event, in the order of Event: many are read at once.
 RECORD = struct.Struct("@QPNqIIIi16sBBBBBBB0Q")
 if RECORD.size != ctypes.sizeof(Event):
     raise ImportError("cqlp: an event has another size here")
 
-DONE, BAD_TEXT, BAD_CELL, BAD_ENTRIES, BAD_DEPTH, NO_MEMORY, NO_DECODER, IN_USE = range(8)
+DONE, BAD_TEXT, BAD_CELL, BAD_ENTRIES, BAD_DEPTH, NO_MEMORY, NO_DECODER, IN_USE, NO_CLIENT, BAD_SLOTS = range(10)
 
 
 def _load() -> ctypes.CDLL:
@@ -77,14 +89,24 @@ def _load() -> ctypes.CDLL:
 
 library = _load()
 
-for name, arguments in (
-    ("cqlp_new", [POINTER(Limits), POINTER(Handle)]),
-    ("cqlp_next", [POINTER(Handle), c_void_p, c_size_t, c_void_p, c_size_t, POINTER(Batch)]),
-    ("cqlp_finish", [POINTER(Handle), POINTER(End)]),
-    ("cqlp_held", [POINTER(Handle), POINTER(Holding)]),
-    ("cqlp_free", [POINTER(Handle)]),
-    ("cqlp_check", [POINTER(Limits), c_void_p, c_size_t, POINTER(End)]),
+for name, result, arguments in (
+    ("cqlp_new", c_uint32, [POINTER(Limits), POINTER(Handle)]),
+    ("cqlp_next", c_uint32, [POINTER(Handle), c_void_p, c_size_t, c_void_p, c_size_t, POINTER(Batch)]),
+    ("cqlp_finish", c_uint32, [POINTER(Handle), POINTER(End)]),
+    ("cqlp_held", c_uint32, [POINTER(Handle), POINTER(Holding)]),
+    ("cqlp_free", c_uint32, [POINTER(Handle)]),
+    ("cqlp_check", c_uint32, [POINTER(Limits), c_void_p, c_size_t, POINTER(End)]),
+    ("cqlp_client_new", c_uint32, [c_uint32, POINTER(Handle)]),
+    ("cqlp_client_begin", c_uint32, [POINTER(Handle), c_uint8, POINTER(Ticket)]),
+    ("cqlp_client_reply", c_uint32, [POINTER(Handle), POINTER(Event), POINTER(Reply)]),
+    ("cqlp_client_cancel", c_uint32, [POINTER(Handle), POINTER(Ticket)]),
+    ("cqlp_client_phase", c_uint32, [POINTER(Handle), POINTER(c_uint8)]),
+    ("cqlp_client_free", c_uint32, [POINTER(Handle)]),
+    ("cqlp_write_header", c_uint32, [POINTER(Header), POINTER(c_uint8 * 9)]),
+    ("cqlp_name", c_char_p, [c_uint32, c_int64]),
+    ("cqlp_version", c_char_p, []),
+    ("cqlp_version_number", c_uint32, []),
 ):
     call = getattr(library, name)
     call.argtypes = arguments
-    call.restype = c_uint32
+    call.restype = result

@@ -267,14 +267,16 @@ def _found(pages: Pages, batches: Iterator[Batch], typed: bool) -> Iterator[Unio
 def _cells(width: int, types: Tuple[Type, ...]) -> "Union[_Cells, _CompiledCells]":
     if _compiled is None:
         return _Cells(width, types)
-    return _CompiledCells(_compiled.Cells(width, types, LEAVES, EMPTY, _frozen))
+    return _CompiledCells(width, types)
 
 
 class _CompiledCells:
     """What `_Cells` does, done by _cells.c, over events that are read where they lie."""
 
-    def __init__(self, cells: Any) -> None:
+    def __init__(self, width: int, types: Tuple[Type, ...], to_columns: bool = False) -> None:
+        cells = _compiled.Cells(width, types, LEAVES, EMPTY, _frozen, to_columns)
         self._take = cells.take
+        self.columns = cells.columns
 
     def take(self, batch: Placed, at: int) -> Tuple[List[Row], int]:
         return self._take(batch.address, at, batch.count)

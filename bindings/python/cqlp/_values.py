@@ -27,10 +27,14 @@ class _Word:
         return self._name
 
 
+class Unset(_Word):
+    """The type of UNSET."""
+
+
 EMPTY = _Word("EMPTY")
 """A value of no bytes, of a type that is neither a text nor bytes."""
 
-UNSET = _Word("UNSET")
+UNSET = Unset("UNSET")
 """A bound value that is not set."""
 
 

@@ -190,3 +190,127 @@ class Opcode(IntEnum):
     AUTH_CHALLENGE = 0x0e
     AUTH_RESPONSE = 0x0f
     AUTH_SUCCESS = 0x10
+
+
+class Phase(IntEnum):
+    """How far the setting up of a connection has come. Sections 4.1.1 and 4.1.2."""
+
+    FRESH = 1
+    OPENING = 2
+    CHALLENGED = 3
+    READY = 4
+    FAILED = 5
+
+
+class ReplyKind(IntEnum):
+    """What a response says to a client."""
+
+    EVENT = 1
+    ANSWER = 2
+    DROPPED = 3
+
+
+class ErrorCode(IntEnum):
+    """The code of an error. Section 9."""
+
+    SERVER_ERROR = 0x0000
+    PROTOCOL_ERROR = 0x000a
+    AUTHENTICATION_ERROR = 0x0100
+    UNAVAILABLE = 0x1000
+    OVERLOADED = 0x1001
+    IS_BOOTSTRAPPING = 0x1002
+    TRUNCATE_ERROR = 0x1003
+    WRITE_TIMEOUT = 0x1100
+    READ_TIMEOUT = 0x1200
+    READ_FAILURE = 0x1300
+    FUNCTION_FAILURE = 0x1400
+    WRITE_FAILURE = 0x1500
+    SYNTAX_ERROR = 0x2000
+    UNAUTHORIZED = 0x2100
+    INVALID = 0x2200
+    CONFIG_ERROR = 0x2300
+    ALREADY_EXISTS = 0x2400
+    UNPREPARED = 0x2500
+
+
+class ResultKind(IntEnum):
+    """The kind of a result. Section 4.2.5."""
+
+    VOID = 1
+    ROWS = 2
+    SET_KEYSPACE = 3
+    PREPARED = 4
+    SCHEMA_CHANGE = 5
+
+
+class Consistency(IntEnum):
+    """A level of consistency. Section 3."""
+
+    ANY = 0
+    ONE = 1
+    TWO = 2
+    THREE = 3
+    QUORUM = 4
+    ALL = 5
+    LOCAL_QUORUM = 6
+    EACH_QUORUM = 7
+    SERIAL = 8
+    LOCAL_SERIAL = 9
+    LOCAL_ONE = 10
+
+
+class BatchType(IntEnum):
+    """The type of a batch. Section 4.1.7."""
+
+    LOGGED = 0
+    UNLOGGED = 1
+    COUNTER = 2
+
+
+class Group(IntEnum):
+    """A group of numbers, for `cqlp.name`."""
+
+    CODE = 1
+    STOP = 2
+    END = 3
+    TAG = 4
+    MARK = 5
+    OPCODE = 6
+    FIELD = 7
+    KIND = 8
+    REASON = 9
+    PHASE = 10
+    REPLY = 11
+    LIMIT = 12
+    ERROR = 13
+    RESULT = 14
+    CONSISTENCY = 15
+    BATCH = 16
+
+
+class Code(IntEnum):
+    """What a call of the library answers."""
+
+    DONE = 0
+    BAD_TEXT = 1
+    BAD_CELL = 2
+    BAD_ENTRIES = 3
+    BAD_DEPTH = 4
+    NO_MEMORY = 5
+    NO_DECODER = 6
+    IN_USE = 7
+    NO_CLIENT = 8
+    BAD_SLOTS = 9
+    NO_REQUEST = 10
+    BAD_PHASE = 11
+    SPENT = 12
+    FULL = 13
+    NO_FRAME = 14
+    NOT_RESPONSE = 15
+    NO_SUCH_STREAM = 16
+    WRONG_OPCODE = 17
+    NOT_CANCELLED = 18
+    COMPRESSED = 19
+    BAD_OPCODE = 20
+    BAD_DIRECTION = 21
+    BAD_LENGTH = 22

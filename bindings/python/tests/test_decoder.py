@@ -30,6 +30,14 @@ class Numbers(unittest.TestCase):
             "FIELD": numbers.Field,
             "KIND": numbers.Kind,
             "REASON": numbers.Reason,
+            "OPCODE": numbers.Opcode,
+            "PHASE": numbers.Phase,
+            "REPLY": numbers.ReplyKind,
+            "ERROR": numbers.ErrorCode,
+            "RESULT": numbers.ResultKind,
+            "CONSISTENCY": numbers.Consistency,
+            "BATCH": numbers.BatchType,
+            "GROUP": numbers.Group,
         }
         for group, names in groups.items():
             told = re.findall(r"#define CQLP_%s_(\w+) (0x[0-9A-F]+|\d+)" % group, header)

@@ -1,0 +1,34 @@
+"""Passes requests on from standard input to standard output. What asks for the consistency ONE asks for LOCAL_QUORUM there."""
+
+import sys
+from typing import Iterable, Iterator
+
+import cqlp
+from cqlp import Consistency, Field
+
+
+def altered(pieces: Iterable[bytes]) -> Iterator[bytes]:
+    """The last byte of what was read waits for the next piece: it may be the first of the two bytes of a consistency."""
+    buffer, base = bytearray(), 0
+    with cqlp.Decoder() as decoder:
+        for piece in pieces:
+            buffer += piece
+            for event in decoder.decode(piece):
+                if event.field == Field.CONSISTENCY and event.number == Consistency.ONE:
+                    buffer[event.at - base + 1] = Consistency.LOCAL_QUORUM
+            yield bytes(buffer[:-1])
+            base += len(buffer) - 1
+            del buffer[:-1]
+    yield bytes(buffer)
+
+
+def main() -> None:
+    pieces = iter(lambda: sys.stdin.buffer.read1(4096), b"")
+    try:
+        for piece in altered(pieces):
+            sys.stdout.buffer.write(piece)
+    except cqlp.Refused as refused:
+        sys.exit(str(refused))  # and nothing of its piece is passed on
+
+
+main()

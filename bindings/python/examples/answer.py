@@ -1,0 +1,35 @@
+"""A driver's side of a connection: it begins requests, and says which of them each response on standard input answers."""
+
+import sys
+
+import cqlp
+from cqlp import Opcode
+
+
+def ask(client: cqlp.Client, opcode: Opcode, body: bytes = b"") -> None:
+    try:
+        ticket = client.begin(opcode)
+    except cqlp.BadCall as bad:
+        print("%s: %s" % (opcode.name, bad))
+    else:
+        message = cqlp.header(opcode, ticket.id, len(body)) + body
+        print("request %d, %s: %s" % (ticket.number, opcode.name, message.hex(" ")))
+
+
+def main() -> None:
+    with cqlp.Client(1024) as client:
+        ask(client, Opcode.QUERY)
+        ask(client, Opcode.STARTUP, b"\0\0")
+        for frame in cqlp.frames(sys.stdin.buffer):
+            try:
+                reply = client.reply(frame)
+            except cqlp.BadCall as bad:
+                print(type(frame.message).__name__, "is no reply:", bad)
+                continue
+            print(type(frame.message).__name__, "answers", reply.ticket)
+            if reply.request == Opcode.STARTUP:
+                ask(client, Opcode.QUERY)
+                ask(client, Opcode.PREPARE)
+
+
+main()
