@@ -1,5 +1,6 @@
 pub mod Taking
 pub mod Options
+pub mod Bindings
 pub mod Contents
 pub mod PartsTaken
 pub mod FramesTaken
