@@ -5,6 +5,7 @@ pub mod Contents
 pub mod PartsTaken
 pub mod FramesTaken
 pub mod PageSteps
+pub mod UntoldCells
 pub mod WrittenValues
 pub mod OneAnswer
 pub mod PageAnswers
