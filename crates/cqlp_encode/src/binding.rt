@@ -1,15 +1,13 @@
 //! Values as they are bound to statements, and as they stand in pages whose columns are not told.
 
-ghost use Rattle.std.specs.Prelude.{◌≡◌, ◌<◌, ◌≤◌, length, option_map};
-ghost use Rattle.cqlp_note.specs.declared.header.TheConstants.Header.{LONGEST_BODY};
+ghost use Rattle.std.specs.Prelude.{◌≡◌, [], IfOk, IsOk, Some, option_map};
 ghost use Rattle.cqlp_value.specs.Owned.{value_of};
-ghost use Rattle.cqlp_value.specs.Values.{values_size};
 ghost use Rattle.cqlp_encode.specs.Binding.{IsBound, IsContent, IsRaw, Makes, content_written};
 ghost use Rattle.cqlp_encode.specs.declared.binding.BindError.TheVariants.{NoMemory};
 
 use crate::value_writing::offer_content;
 use cqlp_message::OwnedBound;
-use cqlp_note::{Header, OfStd};
+use cqlp_note::{Header, IoFault, Target};
 use cqlp_type::TypeTree;
 use cqlp_value::{Atom, Value, fits, value_size};
 use std::alloc::{AllocError, Global};
@@ -95,9 +93,54 @@ fn content(alloc: Global, value: &Value, of: Option<&TypeTree>) -> Result<Vec<u8
         return Err(BindError::TooLong);
     }
     let len = size as u32 - 4;
-    let mut target = OfStd::new(Vec::with_capacity(alloc, len as usize)?);
+    let mut target = Gathered::new(alloc, len as usize)?;
     if offer_content(value, &mut target) < len {
         return Err(BindError::NoMemory);
     }
-    Ok(target.into_inner())
+    Ok(target.into_bytes())
+}
+
+/// Bytes that are gathered in memory.
+#[derive(Drop)]
+struct Gathered {
+    bytes: Vec<u8>,
+    /// How many calls found no memory, up to 2^64 - 1.
+    failures: u64,
+}
+
+impl Gathered {
+    /// With room for this many bytes, which are asked for at once.
+    fn new(alloc: Global, len: usize) -> Result<Gathered, AllocError>
+        ensures empty { IfOk result (λ target. target.bytes.items ≡ []) }
+        ensures succeeds { len ≡ 0 → IsOk result }
+    {
+        Ok(Gathered {
+            bytes: Vec::with_capacity(alloc, len)?,
+            failures: 0,
+        })
+    }
+
+    /// The bytes.
+    fn into_bytes(self) -> Vec<u8>
+        ensures { result ≡ self.bytes }
+    {
+        let Gathered { bytes, failures: _ } = self;
+        bytes
+    }
+}
+
+impl Target for Gathered {
+    ghost contents = { λ target. Some target.bytes.items };
+
+    ghost failures = { λ target. target.failures };
+
+    fn write(&mut self, bytes: &[u8]) -> Result<usize, IoFault> {
+        match self.bytes.extend_from_slice(bytes) {
+            Ok(()) => Ok(bytes.len()),
+            Err(_) => {
+                self.failures = self.failures.saturating_add(1);
+                Err(IoFault)
+            }
+        }
+    }
 }
