@@ -19,19 +19,37 @@ use Rattle.cqlp_encode.specs.Binding.{bound_written, content_written, raw_writte
 
 -- ---- how long it is
 
-counted_long : (n : ℕ) (items : Values) → 4 + length (to_be_bytes w32 n ++ values_bytes items) ≡ 8 + values_size items
-counted_long n items = omega (arith, length-append (to_be_bytes w32 n) (values_bytes items), written_size items)
+no_others : (vs : Values) → values_in vs ≡ 0 → vs ≡ NoValue
+no_others NoValue none = refl
+no_others (Null_and vs) none = absurd (omega arith)
+no_others (Empty_and vs) none = absurd (omega arith)
+no_others (Scalar_and v vs) none = absurd (omega arith)
+no_others (Counted_and k n items vs) none = absurd (omega arith)
+no_others (Fields_and k items vs) none = absurd (omega arith)
+
+one_value : (v : Value) → values_in (value_of v) ≡ 1
+one_value Null = refl
+one_value Empty = refl
+one_value (Leaf a) = refl
+one_value (List' shape items) = refl
+one_value (Map' shape pairs) = refl
+one_value (Set' shape items) = refl
+one_value (Tuple' shape items) = refl
+one_value (Udt' shape items) = refl
+
+-- of one value
+one_size : (vs : Values) → values_in vs ≡ 1 → 4 + length (content_written vs) ≡ values_size vs
+one_size NoValue one = absurd (omega arith)
+one_size (Null_and vs) one = let e : vs ≡ NoValue = no_others vs (omega arith) in rw e refl
+one_size (Empty_and vs) one = let e : vs ≡ NoValue = no_others vs (omega arith) in rw e refl
+one_size (Scalar_and v vs) one = let e : vs ≡ NoValue = no_others vs (omega arith) in rw e (omega arith)
+one_size (Counted_and k n items vs) one =
+    let e : vs ≡ NoValue = no_others vs (omega arith) in rw e (omega (arith, length-append (to_be_bytes w32 n) (values_bytes items), written_size items))
+one_size (Fields_and k items vs) one = let e : vs ≡ NoValue = no_others vs (omega arith) in rw e (omega (arith, written_size items))
 
 -- the length comes before it
 pub content_size : (v : Value) → 4 + length (content_written (value_of v)) ≡ values_size (value_of v)
-content_size Null = refl
-content_size Empty = refl
-content_size (Leaf a) = omega arith
-content_size (List' shape items) = omega (arith, counted_long _ _)
-content_size (Map' shape pairs) = omega (arith, counted_long _ _)
-content_size (Set' shape items) = omega (arith, counted_long _ _)
-content_size (Tuple' shape items) = omega (arith, written_size _)
-content_size (Udt' shape items) = omega (arith, written_size _)
+content_size v = one_size (value_of v) (one_value v)
 
 -- ---- its bytes
 
@@ -65,15 +83,16 @@ raw_bytes (Set' shape items) = refl
 raw_bytes (Tuple' shape items) = refl
 raw_bytes (Udt' shape items) = refl
 
+raw_long : (vs : Values) → values_in vs ≡ 1 → values_size (raw_written vs) ≡ 4 + length (content_written vs)
+raw_long NoValue one = absurd (omega arith)
+raw_long (Null_and vs) one = refl
+raw_long (Empty_and vs) one = refl
+raw_long (Scalar_and v vs) one = omega arith
+raw_long (Counted_and k n items vs) one = omega arith
+raw_long (Fields_and k items vs) one = omega arith
+
 pub raw_size : (v : Value) → values_size (raw_written (value_of v)) ≡ values_size (value_of v)
-raw_size Null = refl
-raw_size Empty = refl
-raw_size (Leaf a) = refl
-raw_size (List' shape items) = omega (arith, counted_long _ _)
-raw_size (Map' shape pairs) = omega (arith, counted_long _ _)
-raw_size (Set' shape items) = omega (arith, counted_long _ _)
-raw_size (Tuple' shape items) = omega (arith, written_size _)
-raw_size (Udt' shape items) = omega (arith, written_size _)
+raw_size v = raw_long (value_of v) (one_value v) ∙ content_size v
 
 -- ---- it is a raw cell
 
@@ -89,27 +108,16 @@ some_size (Scalar_and v vs) some = omega arith
 some_size (Counted_and k n items vs) some = omega arith
 some_size (Fields_and k items vs) some = omega arith
 
--- a scalar that fits has some bytes
-scalar_some : (k : Kind) (v : ScalarValue) → value_fits k NoMore (Scalar_and v NoValue) ≡ true → 0 < length (content_of v)
-scalar_some k v fits =
-    let one = both_true _ _ (both_true _ _ fits).0 in
-    ltb-true 0 (length (content_of v)) (both_true _ _ (both_true _ _ one.1).0).0
-
-counted_some : (n : ℕ) (items : Values) → 0 < length (to_be_bytes w32 n ++ values_bytes items)
-counted_some n items = omega (arith, length-append (to_be_bytes w32 n) (values_bytes items))
-
-fields_some : (k j : Kind) (inner : Types) (items : Values) → value_fits k inner (Fields_and j items NoValue) ≡ true → 0 < length (values_bytes items)
-fields_some k j inner items fits =
-    let some = ltb-true 0 (values_in items) (both_true _ _ (both_true _ _ (both_true _ _ fits).0).0).1 in
-    omega (arith, written_size items, some_size items some)
-
 -- a value that fits is, as a raw cell, one of a cell whose type is not known
-pub raw_fits : (k : Kind) (inner : Types) (v : Value) → value_fits k inner (value_of v) ≡ true → value_fits kind.Raw NoMore (raw_written (value_of v)) ≡ true
-raw_fits k inner Null fits = refl
-raw_fits k inner Empty fits = refl
-raw_fits k inner (Leaf a) fits = raw_fits_none _ (scalar_some k _ fits)
-raw_fits k inner (List' shape items) fits = raw_fits_none _ (counted_some _ _)
-raw_fits k inner (Map' shape pairs) fits = raw_fits_none _ (counted_some _ _)
-raw_fits k inner (Set' shape items) fits = raw_fits_none _ (counted_some _ _)
-raw_fits k inner (Tuple' shape items) fits = raw_fits_none _ (fields_some k _ inner _ fits)
-raw_fits k inner (Udt' shape items) fits = raw_fits_none _ (fields_some k _ inner _ fits)
+pub raw_fits : (k : Kind) (inner : Types) (vs : Values) → value_fits k inner vs ≡ true → value_fits kind.Raw NoMore (raw_written vs) ≡ true
+raw_fits k inner NoValue fits = absurd cc
+raw_fits k inner (Null_and vs) fits = refl
+raw_fits k inner (Empty_and vs) fits = refl
+raw_fits k inner (Scalar_and v vs) fits =
+    let one : scalar_fits v ≡ true = (both_true _ _ (both_true _ _ fits).0).1 in
+    raw_fits_none (content_of v) (ltb-true 0 (length (content_of v)) (both_true _ _ (both_true _ _ one).0).0)
+raw_fits k inner (Counted_and j n items vs) fits =
+    raw_fits_none (to_be_bytes w32 n ++ values_bytes items) (omega (arith, length-append (to_be_bytes w32 n) (values_bytes items)))
+raw_fits k inner (Fields_and j items vs) fits =
+    let some : 0 < values_in items = ltb-true 0 (values_in items) (both_true _ _ (both_true _ _ (both_true _ _ fits).0).0).1 in
+    raw_fits_none (values_bytes items) (omega (arith, written_size items, some_size items some))

@@ -7,6 +7,7 @@ pub mod FramesTaken
 pub mod PageSteps
 pub mod UntoldCells
 pub mod WrittenValues
+pub mod Made
 pub mod OneAnswer
 pub mod PageAnswers
 pub mod PageWhole

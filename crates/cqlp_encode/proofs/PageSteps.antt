@@ -85,7 +85,7 @@ module _ (f : Frame) (n len taken : ℕ) (fits : page_unfit_of (frame_of f) n �
 -- ---- a value is the next cell, or is not
 
 -- where the cells so far fit, one more does if it is one of its column's type
-fits_next : (p : PageState) (at : ℕ) (v : Values) → IsPlace p at → 0 < p.left → (n : ℕ) (cells : List Values) → After p n cells
+pub fits_next : (p : PageState) (at : ℕ) (v : Values) → IsPlace p at → 0 < p.left → (n : ℕ) (cells : List Values) → After p n cells
     → cells_fit (page p) (cells ++ v ∷ []) ≡ fits_column (types_of_page (page p).message) at v
 fits_next p at v place some n cells a =
     let m = (page p).message in

@@ -43,7 +43,7 @@ told_none columns (Some specs) i v none lt fits = absurd cc
 raw_column : (m : Message) (v : Value) (t : TypeTree) (i : ℕ) → fits_untold m v t ≡ true → i < page_columns m → fits_column (types_of_page m) i (raw_written (value_of v)) ≡ true
 raw_column (frame.Rows p) v t i fits lt =
     let both = both_true (is_none p.meta.specs) (fits_tree v t) fits in
-    told_none p.meta.columns p.meta.specs i _ both.0 lt (raw_fits (kind_in (head_of t)) (types_in (inner_of t)) v both.1)
+    told_none p.meta.columns p.meta.specs i _ both.0 lt (raw_fits (kind_in (head_of t)) (types_in (inner_of t)) (value_of v) both.1)
 raw_column m v t i fits lt = absurd cc
 
 cell_fit : (f : FrameValue) (v : Value) (t : TypeTree) → fits_untold f.message v t ≡ true → cell_of f v t ≡ raw_written (value_of v)
