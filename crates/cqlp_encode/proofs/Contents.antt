@@ -10,7 +10,9 @@ use Rattle.cqlp_value.specs.Measures.{listed_values, listed_pairs}
 use Rattle.cqlp_value.proofs.ValuesWritten.{written_size}
 use Rattle.cqlp_value.proofs.ValueSizes.{size_next, pair_next}
 use Rattle.cqlp_encode.specs.Progress.{Progress, Puts, PutsWithin}
+use Rattle.cqlp_encode.specs.Binding.{content_written}
 use Rattle.cqlp_encode.proofs.Taking.{puts_nil, puts_then}
+use Rattle.cqlp_encode.proofs.Bindings.{content_size, known_bytes}
 
 -- ---- one after the other
 
@@ -63,28 +65,24 @@ same_put m n x y a b size bytes s = rw (size, bytes) s
 
 -- ---- one value
 
-sized : (a b c : Progress) (len : ℕ) (content : List ℕ) → len ≡ length content → Puts a (to_be_bytes w32 len) b → Puts b content c → Puts a ((to_be_bytes w32 (length content) ++ content) ++ []) c
-sized a b c len content e s t = rw (append-nil, ← e) (puts_then a b c _ _ s t)
-
--- a length, a count and the values of a collection
-pub counted_put : (w items : Values) (k : Kind) (n len : ℕ) (a b c d : Progress) → w ≡ Counted_and k n items NoValue → 4 + len ≡ min (values_size w) (2 ^ 64 - 1)
-    → Puts a (to_be_bytes w32 len) b → Puts b (to_be_bytes w32 n) c → PutsWithin (values_size items) c (values_bytes items) d → PutsWithin (values_size w) a (values_bytes w) d
-counted_put w items k n len a b c d is long s t u = rw is (record {
+-- a length, and what follows it
+pub known_put : (v : Value) (len : ℕ) (a b c : Progress) → (v ≡ Null → ⊥) → 4 + len ≡ min (values_size (value_of v)) (2 ^ 64 - 1)
+    → Puts a (to_be_bytes w32 len) b → PutsWithin (values_size (value_of v)) b (content_written (value_of v)) c → PutsWithin (values_size (value_of v)) a (values_bytes (value_of v)) c
+known_put v len a b c some long s t = record {
   puts = λ le.
-      let all : len ≡ length (to_be_bytes w32 n ++ values_bytes items) = omega (arith, rw is at long, length-append (to_be_bytes w32 n) (values_bytes items), written_size items) in
-      sized a b d len (to_be_bytes w32 n ++ values_bytes items) all s (puts_then b c d _ _ t (u.puts (omega arith)));
-  lender = u.lender ∙ t.lender ∙ s.lender;
-})
+      let all : len ≡ length (content_written (value_of v)) = omega (arith, long, content_size v) in
+      rw (known_bytes v some, ← all) (puts_then a b c _ _ s (t.puts le));
+  lender = t.lender ∙ s.lender;
+}
 
--- a length, and the fields of a tuple or a user-defined type
-pub fields_put : (w items : Values) (k : Kind) (len : ℕ) (a b c : Progress) → w ≡ Fields_and k items NoValue → 4 + len ≡ min (values_size w) (2 ^ 64 - 1)
-    → Puts a (to_be_bytes w32 len) b → PutsWithin (values_size items) b (values_bytes items) c → PutsWithin (values_size w) a (values_bytes w) c
-fields_put w items k len a b c is long s u = rw is (record {
-  puts = λ le.
-      let all : len ≡ length (values_bytes items) = omega (arith, rw is at long, written_size items) in
-      sized a b c len (values_bytes items) all s (u.puts (omega arith));
-  lender = u.lender ∙ s.lender;
-})
+-- a count, and the values of a collection
+pub counted_inside : (w items : Values) (k : Kind) (n : ℕ) (a b c : Progress) → w ≡ Counted_and k n items NoValue
+    → Puts a (to_be_bytes w32 n) b → PutsWithin (values_size items) b (values_bytes items) c → PutsWithin (values_size w) a (content_written w) c
+counted_inside w items k n a b c is t u = rw is (record { puts = λ le. puts_then a b c _ _ t (u.puts (omega arith)); lender = u.lender ∙ t.lender })
+
+-- the fields of a tuple or a user-defined type
+pub fields_inside : (w items : Values) (k : Kind) (a b : Progress) → w ≡ Fields_and k items NoValue → PutsWithin (values_size items) a (values_bytes items) b → PutsWithin (values_size w) a (content_written w) b
+fields_inside w items k a b is u = rw is (record { puts = λ le. u.puts (omega arith); lender = u.lender })
 
 -- ---- several values
 

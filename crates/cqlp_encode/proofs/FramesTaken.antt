@@ -7,8 +7,6 @@ use Rattle.cqlp_note.specs.Heading.{IsLawful, header_bytes}
 use Rattle.cqlp_note.specs.declared.header.TheConstants.Header.{LONGEST_BODY}
 use Rattle.cqlp_note.specs.Streams.{counted}
 use Rattle.cqlp_note.specs.Outputs.{Output, Offered}
-use Rattle.cqlp_value.specs.Values.{Values, values_size, values_bytes}
-use Rattle.cqlp_value.proofs.ValuesWritten.{written_size}
 use Rattle.cqlp_message.specs.FrameValues.{FrameValue}
 use Rattle.cqlp_message.specs.Parts.{parts_size, parts_bytes}
 use Rattle.cqlp_message.specs.Frames.{frame_parts, header_of, frame_bytes, frame_size, unfit_of}
@@ -132,17 +130,17 @@ module _ (f : FrameValue) (old new : Output) (len taken : ℕ) (fits : unfit_of 
 
 -- ---- a value
 
--- as `offer_value` leaves the target
-pub value_sent : {X : Type 0} (o : X → Output) (first last end : X) (v : Values) (lender : ℕ) (a c : Progress) → values_size v ≤ LONGEST_BODY
-    → PutsWithin (values_size v) (begun (o first) lender) (values_bytes v) a → Puts a [] c → c.waiting ≡ [] → o last ≡ c.output → (c.lender ≡ lender → end ≡ last)
-    → Offered (o first) (values_bytes v) c.taken (o end) × (c.taken < 2 ^ 32)
-value_sent o first last end v lender a c small value rest none left is_last =
+-- as `offer_value` and `offer_content` leave the target
+pub value_sent : {X : Type 0} (o : X → Output) (first last end : X) (size : ℕ) (bytes : List ℕ) (lender : ℕ) (a c : Progress) → size ≤ LONGEST_BODY → length bytes ≤ size
+    → PutsWithin size (begun (o first) lender) bytes a → Puts a [] c → c.waiting ≡ [] → o last ≡ c.output → (c.lender ≡ lender → end ≡ last)
+    → Offered (o first) bytes c.taken (o end) × (c.taken < 2 ^ 32)
+value_sent o first last end size bytes lender a c small long value rest none left is_last =
     let start = o first in
-    let whole : HasTaken start (values_bytes v) a = (value.puts small).taken start [] (nothing_taken start lender (nothing_more start.given)) in
-    let t : HasTaken start (values_bytes v) c = subst (λ (x : List ℕ). HasTaken start x c) (append-nil (values_bytes v)) (rest.taken start (values_bytes v) whole) in
-    sent o start last end (values_bytes v) c t none (omega (arith, small, written_size v)) left (is_last (rest.lender ∙ value.lender))
+    let whole : HasTaken start bytes a = (value.puts small).taken start [] (nothing_taken start lender (nothing_more start.given)) in
+    let t : HasTaken start bytes c = subst (λ (x : List ℕ). HasTaken start x c) (append-nil bytes) (rest.taken start bytes whole) in
+    sent o start last end bytes c t none (omega (arith, small, long)) left (is_last (rest.lender ∙ value.lender))
 
-pub value_offered : {X : Type 0} (o : X → Output) (first last end : X) (v : Values) (lender : ℕ) (a c : Progress) → values_size v ≤ LONGEST_BODY
-    → PutsWithin (values_size v) (begun (o first) lender) (values_bytes v) a → Puts a [] c → c.waiting ≡ [] → o last ≡ c.output → (c.lender ≡ lender → end ≡ last)
-    → Offered (o first) (values_bytes v) c.taken (o end)
-value_offered o first last end v lender a c small value rest none left is_last = (value_sent o first last end v lender a c small value rest none left is_last).0
+pub value_offered : {X : Type 0} (o : X → Output) (first last end : X) (size : ℕ) (bytes : List ℕ) (lender : ℕ) (a c : Progress) → size ≤ LONGEST_BODY → length bytes ≤ size
+    → PutsWithin size (begun (o first) lender) bytes a → Puts a [] c → c.waiting ≡ [] → o last ≡ c.output → (c.lender ≡ lender → end ≡ last)
+    → Offered (o first) bytes c.taken (o end)
+value_offered o first last end size bytes lender a c small long value rest none left is_last = (value_sent o first last end size bytes lender a c small long value rest none left is_last).0

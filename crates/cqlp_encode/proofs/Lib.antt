@@ -1,10 +1,13 @@
 pub mod Taking
 pub mod Options
+pub mod Bindings
 pub mod Contents
 pub mod PartsTaken
 pub mod FramesTaken
 pub mod PageSteps
+pub mod UntoldCells
 pub mod WrittenValues
+pub mod Made
 pub mod OneAnswer
 pub mod PageAnswers
 pub mod PageWhole

@@ -1,5 +1,5 @@
--- One answer of `encode`, and of `write_value`, meets its clause.
-use Rattle.std.proofs.Common.{◌≡◌, ℕ, List, Option, Some, None, IsSome, Ok, Err, take, refl, sym, ap, ◌∙◌, arith}
+-- One answer of `encode`, of `write_value`, of `bind_value` and of `raw_value` meets its clause.
+use Rattle.std.proofs.Common.{◌≡◌, ℕ, List, Option, Some, None, IsSome, Result, Ok, Err, take, refl, sym, ap, ◌∙◌, arith}
 use Rattle.std.specs.Io.KnownBytes.{Appends}
 use Rattle.cqlp_note.specs.Outputs.{Output, output, Offered}
 use Rattle.cqlp_message.specs.Frames.{frame_bytes}
@@ -7,7 +7,13 @@ use Rattle.cqlp_encode.specs.declared.writing.EncodeError.TheVariants as error
 use Rattle.cqlp_value.specs.Owned.{value_of}
 use Rattle.cqlp_value.specs.Values.{values_bytes}
 use Rattle.cqlp_encode.specs.declared.value_writing.ValueError.TheVariants as value_error
-use Rattle.cqlp_encode.specs.Laws.{OneAnswerOfEncode, OneAnswerOfWriteValue}
+use Rattle.cqlp_type.specs.declared.tree.TypeTree.{TypeTree}
+use Rattle.cqlp_value.specs.declared.value.Value.{Value}
+use Rattle.cqlp_message.specs.Owned.{bound_of}
+use Rattle.cqlp_encode.specs.declared.binding.BindError.{BindError}
+use Rattle.cqlp_encode.specs.declared.binding.BindError.TheVariants as bind_error
+use Rattle.cqlp_encode.specs.Binding.{IsBound, IsRaw, Makes}
+use Rattle.cqlp_encode.specs.Laws.{AreSame, OneAnswerOfBindValue, OneAnswerOfEncode, OneAnswerOfRawValue, OneAnswerOfWriteValue}
 
 same_given : (o a b : Option (List ℕ)) (bytes : List ℕ) → IsSome o → Appends o a bytes → Appends o b bytes → b ≡ a
 same_given None a b bytes known s t = absurd cc
@@ -52,3 +58,30 @@ one_value_answer v t old new new' (Err (value_error.Write n)) (Ok m) known a b e
 one_value_answer v t old new new' (Err (value_error.Write n)) (Err value_error.Unfit) known a b e = let both = sym a.0.fits ∙ b.0 in absurd cc
 one_value_answer v t old new new' (Err (value_error.Write n)) (Err value_error.TooLong) known a b e = absurd (omega (arith, a.0.short, b.1))
 one_value_answer v t old new new' (Err (value_error.Write n)) (Err (value_error.Write m)) known a b e = (ap (λ (k : ℕ). Err (value_error.Write k)) e, left_once old new new' (values_bytes (value_of v)) n m known e a.2 b.2)
+
+-- ---- values that are bound, and raw cells
+
+module _ {X : Type 0} (Is : X → Type 0) (Same : X → X → Type 0) (same : (x y : X) → Is x → Is y → Same x y) (v : Value) (t : Option TypeTree) where
+  made_once : (r r' : Result X BindError) → Makes Is v t r → Makes Is v t r' → AreSame Same r r'
+  made_once (Ok x) (Ok y) a b = same x y a.1 b.1
+  made_once (Ok x) (Err bind_error.Unfit) a b = let both = sym a.0.fits ∙ b in absurd cc
+  made_once (Ok x) (Err bind_error.TooLong) a b = absurd (omega (arith, a.0.short, b.1))
+  made_once (Ok x) (Err bind_error.NoMemory) a b = tt
+  made_once (Err bind_error.Unfit) (Ok y) a b = let both = sym a ∙ b.0.fits in absurd cc
+  made_once (Err bind_error.Unfit) (Err bind_error.Unfit) a b = tt
+  made_once (Err bind_error.Unfit) (Err bind_error.TooLong) a b = let both = sym a ∙ b.0 in absurd cc
+  made_once (Err bind_error.Unfit) (Err bind_error.NoMemory) a b = let both = sym a ∙ b.0.fits in absurd cc
+  made_once (Err bind_error.TooLong) (Ok y) a b = absurd (omega (arith, b.0.short, a.1))
+  made_once (Err bind_error.TooLong) (Err bind_error.Unfit) a b = let both = sym a.0 ∙ b in absurd cc
+  made_once (Err bind_error.TooLong) (Err bind_error.TooLong) a b = tt
+  made_once (Err bind_error.TooLong) (Err bind_error.NoMemory) a b = absurd (omega (arith, b.0.short, a.1))
+  made_once (Err bind_error.NoMemory) (Ok y) a b = tt
+  made_once (Err bind_error.NoMemory) (Err bind_error.Unfit) a b = let both = sym a.0.fits ∙ b in absurd cc
+  made_once (Err bind_error.NoMemory) (Err bind_error.TooLong) a b = absurd (omega (arith, a.0.short, b.1))
+  made_once (Err bind_error.NoMemory) (Err bind_error.NoMemory) a b = tt
+
+pub one_bound : OneAnswerOfBindValue
+one_bound v t r r' a b = made_once (IsBound v t) (λ x y. bound_of x ≡ bound_of y) (λ x y p q. p.is ∙ sym q.is) v t r r' a b
+
+pub one_raw : OneAnswerOfRawValue
+one_raw v t r r' a b = made_once (IsRaw v t) (λ x y. value_of x ≡ value_of y) (λ x y p q. p.is ∙ sym q.is) v t r r' a b

@@ -1,9 +1,10 @@
 -- A page that is written cell by cell, one call after the other.
-use Rattle.std.proofs.Common.{◌≡◌, ℕ, zero, suc, ◌+◌, ◌-◌, ◌*◌, ◌<◌, ◌≤◌, ◌==◌, if◌then◌else◌, Bool, true, false, not, List, [], ◌∷◌, ◌++◌, length, nat_lt, Option, Some, None, Ok, Err, refl, sym, ap, ◌∙◌, subst, inl, inr, arith}
+use Rattle.std.proofs.Common.{◌≡◌, ℕ, zero, suc, ◌+◌, ◌-◌, ◌*◌, ◌<◌, ◌≤◌, ◌==◌, if◌then◌else◌, Bool, true, false, not, List, [], ◌∷◌, ◌++◌, length, nat_lt, Option, Some, None, Result, Ok, Err, refl, sym, ap, ◌∙◌, subst, inl, inr, arith}
 use Rattle.std.proofs.lemmas.List.{length-append}
 use Rattle.std.proofs.lemmas.Bool.{lt-ltb, le-ltb}
 use Rattle.std.proofs.lemmas.Bool.Decides.{nat_tests}
 use Rattle.std.proofs.Math.Nat.{lt_of_mul-lt-mul_right, mul-zero, zero-mul}
+use Rattle.std.specs.Prelude.{⊤}
 use Rattle.cqlp_note.specs.Heading.{IsLawful}
 use Rattle.cqlp_note.specs.Outputs.{Output, Offered}
 use Rattle.cqlp_value.specs.Values.{Values, values_size, values_bytes}
@@ -20,9 +21,9 @@ use Rattle.cqlp_message.proofs.PageCells.{cells_size_more}
 use Rattle.cqlp_message.proofs.PageFrames.{page_rows, wanted_is, is_page, no_cells_fit, one_more_fits, page_written}
 use Rattle.cqlp_encode.specs.declared.page_writer.PageError.{PageError}
 use Rattle.cqlp_encode.specs.declared.page_writer.PageError.TheVariants as error
-use Rattle.cqlp_encode.specs.PageWriting.{PageState, page, After, Begins, Finishes, Adds, cell_error, one_more, failed_after}
+use Rattle.cqlp_encode.specs.PageWriting.{PageState, page, After, Begins, Finishes, Adds, cells_after, cell_error, one_more, failed_after}
 use Rattle.cqlp_encode.specs.Encoding.{header_and_parts}
-use Rattle.cqlp_encode.specs.PagePlaces.{IsPlace}
+use Rattle.cqlp_encode.specs.PagePlaces.{IsPlace, StandsFor}
 
 -- ---- before the first cell
 
@@ -84,7 +85,7 @@ module _ (f : Frame) (n len taken : ℕ) (fits : page_unfit_of (frame_of f) n �
 -- ---- a value is the next cell, or is not
 
 -- where the cells so far fit, one more does if it is one of its column's type
-fits_next : (p : PageState) (at : ℕ) (v : Values) → IsPlace p at → 0 < p.left → (n : ℕ) (cells : List Values) → After p n cells
+pub fits_next : (p : PageState) (at : ℕ) (v : Values) → IsPlace p at → 0 < p.left → (n : ℕ) (cells : List Values) → After p n cells
     → cells_fit (page p) (cells ++ v ∷ []) ≡ fits_column (types_of_page (page p).message) at v
 fits_next p at v place some n cells a =
     let m = (page p).message in
@@ -97,21 +98,23 @@ fits_next p at v place some n cells a =
 some_left : (n : ℕ) → 0 < n → (n == 0) ≡ false
 some_left n some = grind (arith, nat_tests)
 
-module _ (p : PageState) (at : ℕ) (v : Values) (place : IsPlace p at) (sound : p.failed ≡ false) (some : 0 < p.left) where
-  pub refuses_type : fits_column (types_of_page (page p).message) at v ≡ false → (n : ℕ) (cells : List Values) → After p n cells → cell_error p cells v ≡ Some (error.Unfit unfit.CellType)
-  refuses_type isnt n cells a =
-      let none : cells_fit (page p) (cells ++ v ∷ []) ≡ false = fits_next p at v place some n cells a ∙ isnt in
-      rw (sound, some_left p.left some, none) refl
+module _ (p : PageState) (cells : List Values) (v : Values) (sound : p.failed ≡ false) (some : 0 < p.left) where
+  pub refuses_type : cells_fit (page p) (cells ++ v ∷ []) ≡ false → cell_error p cells v ≡ Some (error.Unfit unfit.CellType)
+  refuses_type isnt = rw (sound, some_left p.left some, isnt) refl
 
-  pub refuses_length : fits_column (types_of_page (page p).message) at v ≡ true → p.free < values_size v → (n : ℕ) (cells : List Values) → After p n cells → cell_error p cells v ≡ Some error.PastLength
-  refuses_length is long n cells a =
-      let fits : cells_fit (page p) (cells ++ v ∷ []) ≡ true = fits_next p at v place some n cells a ∙ is in
-      rw (sound, some_left p.left some, fits, lt-ltb p.free (values_size v) long) refl
+  pub refuses_length : cells_fit (page p) (cells ++ v ∷ []) ≡ true → p.free < values_size v → cell_error p cells v ≡ Some error.PastLength
+  refuses_length fits long = rw (sound, some_left p.left some, fits, lt-ltb p.free (values_size v) long) refl
 
-  pub accepts : fits_column (types_of_page (page p).message) at v ≡ true → values_size v ≤ p.free → (n : ℕ) (cells : List Values) → After p n cells → cell_error p cells v ≡ None
-  accepts is short n cells a =
-      let fits : cells_fit (page p) (cells ++ v ∷ []) ≡ true = fits_next p at v place some n cells a ∙ is in
-      rw (sound, some_left p.left some, fits, le-ltb p.free (values_size v) short) refl
+  pub accepts : cells_fit (page p) (cells ++ v ∷ []) ≡ true → values_size v ≤ p.free → cell_error p cells v ≡ None
+  accepts fits short = rw (sound, some_left p.left some, fits, le-ltb p.free (values_size v) short) refl
+
+-- a value stands for itself, where it is said whether it fits its column
+pub stands : (p : PageState) (at : ℕ) (v : Values) (fits : Bool) → IsPlace p at → fits ≡ fits_column (types_of_page (page p).message) at v → (n : ℕ) (cells : List Values) → After p n cells → StandsFor p cells fits v v
+stands p at v fits place is n cells a = record {
+  fit = λ some. fits_next p at v place some n cells a ∙ sym is;
+  size = λ e. refl;
+  bytes = λ e. refl;
+}
 
 -- ---- a cell
 
@@ -122,7 +125,13 @@ refused p cells v old error.PastLength is = (is, refl, refl)
 refused p cells v old error.NotDone is = (is, refl, refl)
 refused p cells v old (error.Write k) is = inl (is, refl, refl)
 
-module _ (p : PageState) (cells : List Values) (v : Values) (old new : Output) (size taken : ℕ) (is : size ≡ values_size v) (offered : Offered old (values_bytes v) taken new) where
+module _ (p : PageState) (cells : List Values) (fits : Bool) (w v : Values) (old new : Output) (size taken : ℕ) (s : StandsFor p cells fits w v) (fit : fits ≡ true) (same : size ≡ values_size w) (gave : Offered old (values_bytes w) taken new) where
+  is : size ≡ values_size v
+  is = same ∙ sym (s.size fit)
+
+  offered : Offered old (values_bytes v) taken new
+  offered = subst (λ (x : List ℕ). Offered old x taken new) (sym (s.bytes fit)) gave
+
   pub adds_cut : (k : ℕ) (q : PageState) → taken < size → k ≡ p.written + taken → q ≡ failed_after p k → cell_error p cells v ≡ None → Adds p cells v old (Err (error.Write k)) new q
   adds_cut k q less count after none = inr (none, record { taken = taken; some = omega (arith, less, is); count = count; offered = offered; after = after })
 
@@ -167,6 +176,16 @@ after_one_more p n cells v size q is after none a =
       free = omega (arith, is, room, a.free, cells_size_more cells v);
       written = λ e. omega (arith, is, room, sum);
     })
+
+-- what a call leaves
+pub after_adds : (p : PageState) (n : ℕ) (cells : List Values) (v : Values) (old new : Output) (r : Result ⊤ PageError) (q : PageState) → After p n cells → Adds p cells v old r new q → After q n (cells_after r cells v)
+after_adds p n cells v old new (Ok u) q a s = after_one_more p n cells v (values_size v) q refl s.3 s.0 a
+after_adds p n cells v old new (Err (error.Unfit why)) q a s = rw s.2 a
+after_adds p n cells v old new (Err error.OutOfTurn) q a s = rw s.2 a
+after_adds p n cells v old new (Err error.PastLength) q a s = rw s.2 a
+after_adds p n cells v old new (Err error.NotDone) q a s = rw s.2 a
+after_adds p n cells v old new (Err (error.Write k)) q a (inl s) = rw s.2 a
+after_adds p n cells v old new (Err (error.Write k)) q a (inr s) = after_cut p n cells k q s.1.after a
 
 -- ---- all cells
 

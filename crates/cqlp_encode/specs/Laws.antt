@@ -1,12 +1,17 @@
 -- The laws of the encoder.
 use Rattle.std.specs.Prelude.{◌≡◌, ℕ, List, [], IsSome, Option, Result, Ok, Err, ⊤}
+use Rattle.cqlp_note.specs.declared.field.Notation.TheVariants as notation
+use Rattle.cqlp_note.specs.Field as note
 use Rattle.cqlp_note.specs.Outputs.{Output}
+use Rattle.cqlp_note.specs.Spelling.{field_bytes}
 use Rattle.cqlp_type.specs.declared.tree.TypeTree.{TypeTree}
 use Rattle.cqlp_value.specs.declared.value.Value.{Value}
-use Rattle.cqlp_value.specs.Values.{Values}
+use Rattle.cqlp_value.specs.Owned.{value_of}
+use Rattle.cqlp_value.specs.Values.{Values, values_bytes}
+use Rattle.cqlp_message.specs.declared.request.OwnedBound.{OwnedBound}
 use Rattle.cqlp_message.specs.declared.frame.Frame.{Frame}
 use Rattle.cqlp_message.specs.FrameValues.{FrameValue}
-use Rattle.cqlp_message.specs.Owned.{frame_of}
+use Rattle.cqlp_message.specs.Owned.{bound_of, frame_of}
 use Rattle.cqlp_message.specs.Pages.{with_cells}
 use Rattle.cqlp_encode.specs.declared.writing.EncodeError.{EncodeError}
 use Rattle.cqlp_encode.specs.declared.writing.EncodeError.TheVariants as error
@@ -16,6 +21,9 @@ use Rattle.cqlp_encode.specs.declared.value_writing.ValueError.{ValueError}
 use Rattle.cqlp_encode.specs.declared.value_writing.ValueError.TheVariants as value_error
 use Rattle.cqlp_encode.specs.Encoding.{Encodes}
 use Rattle.cqlp_encode.specs.ValueWriting.{WritesValue}
+use Rattle.cqlp_encode.specs.declared.binding.BindError.{BindError}
+use Rattle.cqlp_encode.specs.declared.binding.BindError.TheVariants as bind_error
+use Rattle.cqlp_encode.specs.Binding.{IsBound, IsRaw, Makes, bound_written, raw_written}
 use Rattle.cqlp_encode.specs.PageWriting.{PageState, Begins, Adds, AddsAll, Finishes}
 
 -- how many bytes the target took
@@ -41,6 +49,36 @@ abbrev pub OneAnswerOfWriteValue : Type 0
 OneAnswerOfWriteValue =
     (v : Value) (t : Option TypeTree) (old new new' : Output) (r r' : Result ℕ ValueError) → IsSome old.given
     → WritesValue v t old r new → WritesValue v t old r' new' → value_taken r' ≡ value_taken r → (r' ≡ r) × (new' ≡ new)
+
+-- ---- values that are bound, and raw cells
+
+-- the same is made, or the same is why not; or memory was refused to one of two that else make something
+abbrev pub AreSame : {X : Type 0} → (Same : X → X → Type 0) → Result X BindError → Result X BindError → Type 0
+AreSame Same (Ok x) (Ok y) = Same x y
+AreSame Same (Ok x) (Err bind_error.NoMemory) = Unit {0}
+AreSame Same (Err bind_error.NoMemory) (Ok y) = Unit {0}
+AreSame Same (Err bind_error.NoMemory) (Err bind_error.NoMemory) = Unit {0}
+AreSame Same (Err bind_error.Unfit) (Err bind_error.Unfit) = Unit {0}
+AreSame Same (Err bind_error.TooLong) (Err bind_error.TooLong) = Unit {0}
+AreSame Same r r' = ⊥
+
+-- Of one value and type there is one answer, but where memory is refused.
+abbrev pub OneAnswerOfBindValue : Type 0
+OneAnswerOfBindValue =
+    (v : Value) (t : Option TypeTree) (r r' : Result OwnedBound BindError)
+    → Makes (IsBound v t) v t r → Makes (IsBound v t) v t r' → AreSame (λ b c. bound_of b ≡ bound_of c) r r'
+
+abbrev pub OneAnswerOfRawValue : Type 0
+OneAnswerOfRawValue =
+    (v : Value) (t : Option TypeTree) (r r' : Result Value BindError)
+    → Makes (IsRaw v t) v t r → Makes (IsRaw v t) v t r' → AreSame (λ x y. value_of x ≡ value_of y) r r'
+
+-- A bound value has the bytes in a request that the value has where it is written, and so has a raw cell in a page.
+abbrev pub BoundIsAsWritten : Type 0
+BoundIsAsWritten =
+    (v : Value)
+    → (field_bytes notation.Bound (note.Bound (bound_written (value_of v))) ≡ values_bytes (value_of v))
+    × (values_bytes (raw_written (value_of v)) ≡ values_bytes (value_of v))
 
 -- ---- pages
 

@@ -2,6 +2,8 @@ pub mod Progress
 pub mod Fields
 pub mod Encoding
 pub mod ValueWriting
+pub mod Binding
 pub mod PageWriting
+pub mod UntoldPages
 pub mod PagePlaces
 pub mod Laws

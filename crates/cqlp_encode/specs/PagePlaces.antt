@@ -1,8 +1,8 @@
 -- Where a writer of a page stands among its columns, the bounds of its numbers, and what a check of a cell answers.
-use Rattle.std.specs.Prelude.{◌≡◌, ℕ, ◌+◌, ◌*◌, ◌<◌, ◌≤◌, false, List, Some, None, Result, Ok, Err}
+use Rattle.std.specs.Prelude.{◌≡◌, ℕ, ◌+◌, ◌*◌, ◌<◌, ◌≤◌, ◌++◌, Bool, true, false, List, [], ◌∷◌, Some, None, Result, Ok, Err}
 use Rattle.cqlp_note.specs.declared.header.TheConstants.Header.{LONGEST_BODY}
-use Rattle.cqlp_message.specs.Pages.{page_columns, cells_wanted}
-use Rattle.cqlp_value.specs.Values.{Values}
+use Rattle.cqlp_message.specs.Pages.{page_columns, cells_wanted, cells_fit}
+use Rattle.cqlp_value.specs.Values.{Values, values_size, values_bytes}
 use Rattle.cqlp_encode.specs.declared.page_writer.PageError.{PageError}
 use Rattle.cqlp_encode.specs.PageWriting.{PageState, page, cell_error}
 
@@ -19,3 +19,9 @@ pub record IsPlace (p : PageState) (at : ℕ) : Type 0 where
 abbrev pub Checks : PageState → List Values → Values → Result ℕ PageError → Type 0
 Checks p cells v (Ok size) = cell_error p cells v ≡ None
 Checks p cells v (Err e) = cell_error p cells v ≡ Some e
+
+-- This cell is of the next column's type just if the value fits, and has then the value's bytes.
+pub record StandsFor (p : PageState) (cells : List Values) (fits : Bool) (v cell : Values) : Type 0 where
+  pub fit : 0 < p.left → cells_fit (page p) (cells ++ cell ∷ []) ≡ fits
+  pub size : fits ≡ true → values_size cell ≡ values_size v
+  pub bytes : fits ≡ true → values_bytes cell ≡ values_bytes v

@@ -1,6 +1,7 @@
 //! The laws of the encoder.
 
-ghost use Rattle.cqlp_encode.specs.Laws.{OneAnswerOfBegin, OneAnswerOfCell, OneAnswerOfEncode, OneAnswerOfFinish, OneAnswerOfWriteValue, PageIsAsEncoded};
+ghost use Rattle.cqlp_encode.specs.Laws.{BoundIsAsWritten, OneAnswerOfBegin, OneAnswerOfBindValue, OneAnswerOfCell, OneAnswerOfEncode};
+ghost use Rattle.cqlp_encode.specs.Laws.{OneAnswerOfFinish, OneAnswerOfRawValue, OneAnswerOfWriteValue, PageIsAsEncoded};
 
 /// One answer of [`encode`](crate::encode) meets its clause, given how many bytes the target took.
 pub fn one_answer_of_encode()
@@ -12,13 +13,28 @@ pub fn one_answer_of_write_value()
     ensures { OneAnswerOfWriteValue }
 {}
 
+/// One answer of [`bind_value`](crate::bind_value) meets its clause, but where memory is refused.
+pub fn one_answer_of_bind_value()
+    ensures { OneAnswerOfBindValue }
+{}
+
+/// One answer of [`raw_value`](crate::raw_value) meets its clause, but where memory is refused.
+pub fn one_answer_of_raw_value()
+    ensures { OneAnswerOfRawValue }
+{}
+
+/// What a bound value and a raw cell have as bytes is what is written of the value.
+pub fn bound_is_as_written()
+    ensures { BoundIsAsWritten }
+{}
+
 /// One answer of [`PageWriter::begin`](crate::PageWriter::begin) meets its clause, given how many bytes the target took.
 pub fn one_answer_of_begin()
     ensures { OneAnswerOfBegin }
 {}
 
 /// One answer of [`PageWriter::cell`](crate::PageWriter::cell) meets its clause, and leaves one state, given how many bytes the
-/// target took.
+/// target took. It is so with [`PageWriter::cell_as`](crate::PageWriter::cell_as), whose clause is the same of another cell.
 pub fn one_answer_of_cell()
     ensures { OneAnswerOfCell }
 {}

@@ -1,6 +1,7 @@
 //! Frames of the CQL native protocol v4, written.
 #![tactic(auto)]
 
+mod binding;
 mod fields;
 pub mod laws;
 mod page_writer;
@@ -11,6 +12,7 @@ mod value_writing;
 mod values;
 mod writing;
 
+pub use binding::{BindError, bind_value, raw_value};
 pub use page_writer::{PageError, PageWriter};
 pub use value_writing::{ValueError, write_value};
 pub use writing::{EncodeError, encode};

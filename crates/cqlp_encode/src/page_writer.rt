@@ -1,16 +1,19 @@
 //! A page whose cells are written one by one.
 
-ghost use Rattle.std.specs.Prelude.{◌≡◌, ◌+◌, ◌<◌, ◌≤◌, List, ℕ, IfOk, false};
+ghost use Rattle.std.specs.Prelude.{◌≡◌, ◌+◌, ◌<◌, ◌≤◌, List, ℕ, IfOk, true, false};
 ghost use Rattle.cqlp_note.specs.declared.header.TheConstants.Header.{LONGEST_BODY};
 ghost use Rattle.cqlp_note.specs.Outputs.{written};
 ghost use Rattle.cqlp_value.specs.Owned.{value_of};
 ghost use Rattle.cqlp_value.specs.Values.{Values, values_size};
+ghost use Rattle.cqlp_message.specs.Owned.{message_of};
+ghost use Rattle.cqlp_encode.specs.UntoldPages as untold;
 
 use crate::value_writing::offer_value;
 use crate::writing::write_parts;
-use cqlp_message::{Frame, Unfit};
+use cqlp_message::{Frame, Message, Unfit};
 use cqlp_note::Target;
-use cqlp_value::{Value, value_size};
+use cqlp_type::TypeTree;
+use cqlp_value::{Value, fits, value_size};
 use std::marker::Model;
 use thiserror::Error;
 
@@ -86,8 +89,9 @@ impl<'a> Model for PageWriter<'a> {
 }
 
 impl<'a> PageWriter<'a> {
-    ghost use Rattle.cqlp_encode.specs.PagePlaces.{Checks};
-    ghost use Rattle.cqlp_encode.specs.PageWriting.{Adds, After, Begins, Finishes, cells_after, failed_after, one_more};
+    ghost use Rattle.cqlp_encode.specs.PagePlaces.{Checks, StandsFor};
+    ghost use Rattle.cqlp_encode.specs.PageWriting.{Adds, After, Begins, Finishes, cells_after, failed_after, one_more, page};
+    ghost use Rattle.cqlp_encode.specs.UntoldPages.{cell_of};
 
     /// Writes all of a page that comes before its first cell: the header, whose length counts the cells, and all other parts.
     /// All cells together are to have `cells_len` bytes, as [`value_size`](cqlp_value::value_size) counts them.
@@ -137,16 +141,31 @@ impl<'a> PageWriter<'a> {
         ensures after { (n : ℕ) (cells : List Values) → After self.old n cells →
             After self.new n (cells_after result cells (value_of value.now)) }
     {
-        let size = self.check(value)?;
-        let taken = offer_value(value, target);
-        if taken < size {
-            self.fail(taken);
-            return Err(PageError::Write {
-                written: self.written,
-            });
-        }
-        self.count(size);
-        Ok(())
+        let fits = self.frame.fits_column(self.column, value);
+        self.put(value, fits, target)
+    }
+
+    /// Writes the next cell of a page whose columns are not told to this target, where it is a value of a type that the caller names: as
+    /// [`raw_value`](crate::raw_value) makes it a cell of such a page, and [`cell`](Self::cell) would write it then.
+    ///
+    /// # Errors
+    ///
+    /// Those of [`cell`](Self::cell): [`PageError::Unfit`] where the value is none of its type, as [`fits`] says, and where the
+    /// page's columns are told.
+    pub fn cell_as<W: Target>(
+        &mut self,
+        value: &Value,
+        of: &TypeTree,
+        target: &mut W,
+    ) -> Result<(), PageError>
+        ensures adds { (n : ℕ) (cells : List Values) → After self.old n cells →
+            Adds self.old cells (cell_of (page self.old) value.now of.now) (written W.Target target.old) result
+            (written W.Target target.new) self.new }
+        ensures after { (n : ℕ) (cells : List Values) → After self.old n cells →
+            After self.new n (cells_after result cells (cell_of (page self.old) value.now of.now)) }
+    {
+        let fits = fits_untold(&self.frame.message, value, of);
+        self.put(value, fits, target)
     }
 
     /// How many bytes the frame has, with all its cells, all of which the targets of the calls took: where they were several, all
@@ -170,10 +189,33 @@ impl<'a> PageWriter<'a> {
         Ok(self.written)
     }
 
+    /// Writes the next cell, if it is a value that fits.
+    fn put<W: Target>(
+        &mut self,
+        value: &Value,
+        fits: bool,
+        target: &mut W,
+    ) -> Result<(), PageError>
+        ensures { (cells : List Values) (cell : Values) → StandsFor self.old cells fits (value_of value.now) cell →
+            Adds self.old cells cell (written W.Target target.old) result (written W.Target target.new) self.new }
+    {
+        let size = self.check(value, fits)?;
+        let taken = offer_value(value, target);
+        if taken < size {
+            self.fail(taken);
+            return Err(PageError::Write {
+                written: self.written,
+            });
+        }
+        self.count(size);
+        Ok(())
+    }
+
     /// How many bytes the next cell has, or why the value is not it.
-    fn check(&self, value: &Value) -> Result<u32, PageError>
-        ensures checks { (n : ℕ) (cells : List Values) → After self.now n cells →
-            Checks self.now cells (value_of value.now) result }
+    fn check(&self, value: &Value, fits: bool) -> Result<u32, PageError>
+        ensures checks { (cells : List Values) (cell : Values) →
+            StandsFor self.now cells fits (value_of value.now) cell → Checks self.now cells cell result }
+        ensures fits { IfOk result (λ _. fits ≡ true) }
         ensures size { IfOk result (λ size. size ≡ values_size (value_of value.now)) }
         ensures sound { IfOk result (λ _. self.now.failed ≡ false) }
         ensures left { IfOk result (λ _. 0 < self.now.left) }
@@ -188,7 +230,7 @@ impl<'a> PageWriter<'a> {
         if self.left == 0 {
             return Err(PageError::OutOfTurn);
         }
-        if !self.frame.fits_column(self.column, value) {
+        if !fits {
             return Err(PageError::Unfit(Unfit::CellType));
         }
         let size = value_size(value);
@@ -221,5 +263,18 @@ impl<'a> PageWriter<'a> {
     {
         self.written += taken;
         self.failed = true;
+    }
+}
+
+/// Whether a value of this type is a cell of a page whose columns are not told.
+fn fits_untold(message: &Message, value: &Value, of: &TypeTree) -> bool
+    ensures { result ≡ untold.fits_untold (message_of message.now) value.now of.now }
+{
+    match message {
+        Message::Rows(page) => match &page.meta.specs {
+            None => fits(value, Some(of)),
+            Some(_) => false,
+        },
+        _ => false,
     }
 }

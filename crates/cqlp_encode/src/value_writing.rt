@@ -5,10 +5,11 @@ ghost use Rattle.cqlp_note.specs.declared.header.TheConstants.Header.{LONGEST_BO
 ghost use Rattle.cqlp_note.specs.Outputs.{Offered, written};
 ghost use Rattle.cqlp_value.specs.Owned.{value_of};
 ghost use Rattle.cqlp_value.specs.Values.{values_bytes, values_size};
+ghost use Rattle.cqlp_encode.specs.Binding.{content_written};
 ghost use Rattle.cqlp_encode.specs.ValueWriting.{WritesValue};
 
 use crate::staged::Staged;
-use crate::values::put_value;
+use crate::values::{put_inside, put_value};
 use cqlp_note::{Header, Target};
 use cqlp_type::TypeTree;
 use cqlp_value::{Value, fits, value_size};
@@ -68,6 +69,19 @@ pub fn offer_value<W: Target>(value: &Value, target: &mut W) -> u32
 {
     let mut out = Staged::new(target);
     put_value(&mut out, value);
+    out.flush();
+    let taken = out.taken();
+    let _ = out.into_inner();
+    taken as u32
+}
+
+/// Writes what follows a value's length, and answers how many bytes of it the target took.
+pub fn offer_content<W: Target>(value: &Value, target: &mut W) -> u32
+    requires { values_size (value_of value.now) ≤ LONGEST_BODY }
+    ensures { Offered (written W.Target target.old) (content_written (value_of value.now)) result (written W.Target target.new) }
+{
+    let mut out = Staged::new(target);
+    put_inside(&mut out, value);
     out.flush();
     let taken = out.taken();
     let _ = out.into_inner();

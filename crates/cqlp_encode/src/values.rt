@@ -4,7 +4,8 @@ ghost use Rattle.cqlp_value.specs.Measures.{listed_pairs, listed_values};
 ghost use Rattle.cqlp_value.specs.Owned.{atom_of, value_and, value_of};
 ghost use Rattle.cqlp_kind.specs.Scalars.{content_of};
 ghost use Rattle.cqlp_value.specs.Values.{Scalar_and, NoValue, values_bytes, values_size};
-ghost use Rattle.cqlp_encode.specs.Progress.{PutsWithin};
+ghost use Rattle.cqlp_encode.specs.Binding.{content_written};
+ghost use Rattle.cqlp_encode.specs.Progress.{Puts, PutsWithin};
 
 use crate::staged::Staged;
 use cqlp_note::Target;
@@ -29,31 +30,37 @@ fn put_any<W: Target>(out: &mut Staged<'_, W>, value: &Value)
 {
     match value {
         Value::Null => out.put_int(-1),
-        Value::Empty => out.put_int(0),
         Value::Leaf(atom) => put_atom(out, atom),
-        Value::List(items) => {
+        _ => {
             out.put_count32(content_len(value) as usize);
+            put_inside(out, value);
+        }
+    }
+}
+
+/// Takes what follows a value's length.
+#[cycle(put_value)]
+pub fn put_inside<W: Target>(out: &mut Staged<'_, W>, value: &Value)
+    ensures { PutsWithin (values_size (value_of value.now)) out.old (content_written (value_of value.now)) out.new }
+{
+    match value {
+        Value::Null => {}
+        Value::Empty => {}
+        Value::Leaf(atom) => put_scalar(out, atom),
+        Value::List(items) => {
             out.put_count32(items.len());
             put_values(out, items);
         }
         Value::Set(items) => {
-            out.put_count32(content_len(value) as usize);
             out.put_count32(items.len());
             put_values(out, items);
         }
         Value::Map(pairs) => {
-            out.put_count32(content_len(value) as usize);
             out.put_count32(pairs.len());
             put_pairs(out, pairs);
         }
-        Value::Tuple(items) => {
-            out.put_count32(content_len(value) as usize);
-            put_values(out, items);
-        }
-        Value::Udt(items) => {
-            out.put_count32(content_len(value) as usize);
-            put_values(out, items);
-        }
+        Value::Tuple(items) => put_values(out, items),
+        Value::Udt(items) => put_values(out, items),
     }
 }
 
@@ -95,4 +102,14 @@ fn put_atom<W: Target>(out: &mut Staged<'_, W>, atom: &Atom)
             out.put(unscaled);
         }
     }
+}
+
+/// Takes the content of a scalar.
+fn put_scalar<W: Target>(out: &mut Staged<'_, W>, atom: &Atom)
+    ensures { Puts out.old (content_of (atom_of atom.now)) out.new }
+{
+    let content = atom.content();
+    let (first, second) = content.parts();
+    out.put(first);
+    out.put(second);
 }

@@ -5,6 +5,7 @@ use crate::words::{FromWords, Words};
 use cqlp_encode::{PageError, PageWriter};
 use cqlp_message::Frame;
 use cqlp_test_fakes::Narrow;
+use cqlp_type::TypeTree;
 use cqlp_value::Value;
 use std::alloc::Global;
 use std::io;
@@ -15,7 +16,39 @@ struct Plan {
     /// How many bytes the cells are said to have.
     cells_len: u32,
     frame: Frame,
-    cells: Vec<Value>,
+    cells: Vec<Cell>,
+}
+
+/// A value of its column's type, or one of a type that is named.
+#[derive(Drop)]
+struct Cell {
+    of: Option<TypeTree>,
+    value: Value,
+}
+
+impl Cell {
+    /// Writes it.
+    fn put(&self, page: &mut PageWriter<'_>, target: &mut Narrow) -> Result<(), PageError> {
+        match &self.of {
+            Some(tree) => page.cell_as(&self.value, tree, target),
+            None => page.cell(&self.value, target),
+        }
+    }
+}
+
+/// A value, after `as` and its type where that is named.
+impl FromWords for Cell {
+    fn from_words(words: &mut Words<'_>) -> Cell {
+        let of = if words.accept("as") {
+            Some(words.read())
+        } else {
+            None
+        };
+        Cell {
+            of,
+            value: words.read(),
+        }
+    }
 }
 
 impl FromWords for Plan {
@@ -59,7 +92,7 @@ fn print_calls(rt: &HostRuntime, plan: &Plan, target: &mut Narrow) -> io::Result
         Err(error) => return println!(rt; "{error:?}"),
     };
     for cell in &plan.cells {
-        println!(rt; "{:?}", page.cell(cell, target))?;
+        println!(rt; "{:?}", cell.put(&mut page, target))?;
     }
     println!(rt; "{:?}", page.finish())
 }
@@ -68,7 +101,7 @@ fn print_calls(rt: &HostRuntime, plan: &Plan, target: &mut Narrow) -> io::Result
 fn write(plan: &Plan, target: &mut Narrow) -> Result<u32, PageError> {
     let mut page = PageWriter::begin(&plan.frame, plan.cells_len, target)?;
     for cell in &plan.cells {
-        let _ = page.cell(cell, target);
+        let _ = cell.put(&mut page, target);
     }
     page.finish()
 }

@@ -2,9 +2,11 @@
 //!
 //! A line has a name, `|`, and the words of a frame value: its fields in the order of their definition. After some names
 //! `--sum` asks for the number of the events alone, and `--cut` for a target that fails after ten bytes. A line `value |` has
-//! a type or `-`, and a value, and a line `cells |` a page that is written cell by cell. A line without `|` is a heading.
+//! a type or `-`, and a value, a line `cells |` a page that is written cell by cell, and a line `bind |` a type or `-`, and a value
+//! that is bound. A line without `|` is a heading.
 #![tactic(auto)]
 
+mod bound;
 mod by_cell;
 mod frames;
 mod requests;
@@ -33,6 +35,7 @@ fn execute(rt: &HostRuntime, line: &str) -> io::Result<()> {
     match line.split_once(" | ") {
         Some(("value", words)) => show_value(rt, words),
         Some(("cells", words)) => by_cell::show(rt, words),
+        Some(("bind", words)) => bound::show(rt, words),
         Some((name, words)) => show_frame(rt, name, words),
         None => println!(rt; "{line}"),
     }

@@ -10,7 +10,7 @@ use cqlp_text::{Ending, ending_line};
 use std::alloc::Global;
 use std::io;
 
-const LIMITS: Limits = Limits {
+pub const LIMITS: Limits = Limits {
     text: 65_536,
     cell: 65_536,
     entries: 65_536,

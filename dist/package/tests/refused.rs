@@ -2,7 +2,7 @@
 //! made until then is given back.
 
 use cqlp::capture::{CaptureEnd, CaptureLimits, CaptureReader, CaptureStep, Control, Stream, StreamStep};
-use cqlp::frame::{Frame, ReadError, TypeTree, read_value};
+use cqlp::frame::{Atom, BindError, Frame, OwnedBound, ReadError, TypeTree, Value, bind_value, raw_value, read_value};
 use cqlp::memory::{AllocError, Box, String, Vec};
 use cqlp::{Global, Kind, Limits};
 use std::alloc::{GlobalAlloc, Layout, System};
@@ -138,6 +138,37 @@ fn read(tree: &TypeTree, bytes: &[u8]) -> Answer {
 fn values() {
     let (tree, bytes) = (tuple().unwrap(), bytes());
     finds_just_what_is_there(11, || read(&tree, &bytes));
+}
+
+/// The value of that tuple, as it is bound and as a raw cell: one request, for just as many bytes as its content has.
+fn bound(tree: &TypeTree, value: &Value) -> Answer {
+    match bind_value(Global, value, Some(tree)) {
+        Ok(OwnedBound::Bytes(content)) if content.capacity() == content.len() => Answer::Granted,
+        Err(BindError::NoMemory) => Answer::NoMemory,
+        _ => Answer::Other,
+    }
+}
+
+fn raw(tree: &TypeTree, value: &Value) -> Answer {
+    match raw_value(Global, value, Some(tree)) {
+        Ok(Value::Leaf(Atom::Raw(content))) if content.capacity() == content.len() => Answer::Granted,
+        Err(BindError::NoMemory) => Answer::NoMemory,
+        _ => Answer::Other,
+    }
+}
+
+#[test]
+fn values_that_are_bound() {
+    let tree = tuple().unwrap();
+    let value = read_value(Global, &Limits::DEFAULT, Some(&tree), &bytes()).unwrap();
+    for call in [bound, raw] {
+        finds_just_what_is_there(1, || call(&tree, &value));
+        assert_eq!(refused(0, 0, || call(&tree, &value)).1, 1);
+    }
+    for value in [Value::Null, Value::Empty] {
+        let made = || bind_value(Global, &value, Some(&tree)).is_ok() && raw_value(Global, &value, Some(&tree)).is_ok();
+        assert_eq!(refused(1, u64::MAX, || if made() { Answer::Granted } else { Answer::NoMemory }), (Answer::Granted, 0, 0));
+    }
 }
 
 #[test]

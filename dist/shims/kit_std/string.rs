@@ -34,9 +34,7 @@ shown_as_target!(Debug for String<>);
 
 impl<A: Allocator> fmt::Write for String<A> {
     fn write_str(&mut self, text: &str) -> fmt::Result {
-        self.text.try_reserve(text.len()).map_err(|_| fmt::Error)?;
-        self.text.push_str(text);
-        Ok(())
+        self.text.try_reserve(text.len()).map(|()| self.text.push_str(text)).map_err(|_| fmt::Error)
     }
 }
 

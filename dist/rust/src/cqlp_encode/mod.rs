@@ -1,6 +1,7 @@
 // Written by dist/erase from crates/cqlp_encode/src/lib.rt.
 //! Frames of the CQL native protocol v4, written.
 
+mod binding;
 mod fields;
 mod page_writer;
 mod parts;
@@ -10,6 +11,7 @@ mod value_writing;
 mod values;
 mod writing;
 
+pub use binding::{BindError, bind_value, raw_value};
 pub use page_writer::{PageError, PageWriter};
 pub use value_writing::{ValueError, write_value};
 pub use writing::{EncodeError, encode};

@@ -3,9 +3,10 @@
 
 use crate::cqlp_encode::value_writing::offer_value;
 use crate::cqlp_encode::writing::write_parts;
-use crate::cqlp_message::{Frame, Unfit};
+use crate::cqlp_message::{Frame, Message, Unfit};
 use crate::cqlp_note::Target;
-use crate::cqlp_value::{Value, value_size};
+use crate::cqlp_type::TypeTree;
+use crate::cqlp_value::{Value, fits, value_size};
 
 error! {
 /// Why a page was not begun, a cell was not written, or a page is not done.
@@ -96,16 +97,26 @@ impl<'a> PageWriter<'a> {
     /// is as it was. Then [`PageError::Write`] at the first call of the target that fails or takes nothing.
     pub fn cell<W: Target>(&mut self, value: &Value, target: &mut W) -> Result<(), PageError>
     {
-        let size = self.check(value)?;
-        let taken = offer_value(value, target);
-        if taken < size {
-            self.fail(taken);
-            return Err(PageError::Write {
-                written: self.written,
-            });
-        }
-        self.count(size);
-        Ok(())
+        let fits = self.frame.fits_column(self.column, value);
+        self.put(value, fits, target)
+    }
+
+    /// Writes the next cell of a page whose columns are not told to this target, where it is a value of a type that the caller names: as
+    /// [`raw_value`](crate::cqlp_encode::raw_value) makes it a cell of such a page, and [`cell`](Self::cell) would write it then.
+    ///
+    /// # Errors
+    ///
+    /// Those of [`cell`](Self::cell): [`PageError::Unfit`] where the value is none of its type, as [`fits`] says, and where the
+    /// page's columns are told.
+    pub fn cell_as<W: Target>(
+        &mut self,
+        value: &Value,
+        of: &TypeTree,
+        target: &mut W,
+    ) -> Result<(), PageError>
+    {
+        let fits = fits_untold(&self.frame.message, value, of);
+        self.put(value, fits, target)
     }
 
     /// How many bytes the frame has, with all its cells, all of which the targets of the calls took: where they were several, all
@@ -128,8 +139,28 @@ impl<'a> PageWriter<'a> {
         Ok(self.written)
     }
 
+    /// Writes the next cell, if it is a value that fits.
+    fn put<W: Target>(
+        &mut self,
+        value: &Value,
+        fits: bool,
+        target: &mut W,
+    ) -> Result<(), PageError>
+    {
+        let size = self.check(value, fits)?;
+        let taken = offer_value(value, target);
+        if taken < size {
+            self.fail(taken);
+            return Err(PageError::Write {
+                written: self.written,
+            });
+        }
+        self.count(size);
+        Ok(())
+    }
+
     /// How many bytes the next cell has, or why the value is not it.
-    fn check(&self, value: &Value) -> Result<u32, PageError>
+    fn check(&self, value: &Value, fits: bool) -> Result<u32, PageError>
     {
         if self.failed {
             return Err(PageError::Write {
@@ -139,7 +170,7 @@ impl<'a> PageWriter<'a> {
         if self.left == 0 {
             return Err(PageError::OutOfTurn);
         }
-        if !self.frame.fits_column(self.column, value) {
+        if !fits {
             return Err(PageError::Unfit(Unfit::CellType));
         }
         let size = value_size(value);
@@ -165,5 +196,17 @@ impl<'a> PageWriter<'a> {
     {
         self.written += taken;
         self.failed = true;
+    }
+}
+
+/// Whether a value of this type is a cell of a page whose columns are not told.
+fn fits_untold(message: &Message, value: &Value, of: &TypeTree) -> bool
+{
+    match message {
+        Message::Rows(page) => match &page.meta.specs {
+            None => fits(value, Some(of)),
+            Some(_) => false,
+        },
+        _ => false,
     }
 }

@@ -2,7 +2,7 @@
 //! A value, written.
 
 use crate::cqlp_encode::staged::Staged;
-use crate::cqlp_encode::values::put_value;
+use crate::cqlp_encode::values::{put_inside, put_value};
 use crate::cqlp_note::{Header, Target};
 use crate::cqlp_type::TypeTree;
 use crate::cqlp_value::{Value, fits, value_size};
@@ -59,6 +59,17 @@ pub(crate) fn offer_value<W: Target>(value: &Value, target: &mut W) -> u32
 {
     let mut out = Staged::new(target);
     put_value(&mut out, value);
+    out.flush();
+    let taken = out.taken();
+    let _ = out.into_inner();
+    taken as u32
+}
+
+/// Writes what follows a value's length, and answers how many bytes of it the target took.
+pub(crate) fn offer_content<W: Target>(value: &Value, target: &mut W) -> u32
+{
+    let mut out = Staged::new(target);
+    put_inside(&mut out, value);
     out.flush();
     let taken = out.taken();
     let _ = out.into_inner();

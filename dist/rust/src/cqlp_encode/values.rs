@@ -20,31 +20,35 @@ fn put_any<W: Target>(out: &mut Staged<'_, W>, value: &Value)
 {
     match value {
         Value::Null => out.put_int(-1),
-        Value::Empty => out.put_int(0),
         Value::Leaf(atom) => put_atom(out, atom),
-        Value::List(items) => {
+        _ => {
             out.put_count32(content_len(value) as usize);
+            put_inside(out, value);
+        }
+    }
+}
+
+/// Takes what follows a value's length.
+pub fn put_inside<W: Target>(out: &mut Staged<'_, W>, value: &Value)
+{
+    match value {
+        Value::Null => {}
+        Value::Empty => {}
+        Value::Leaf(atom) => put_scalar(out, atom),
+        Value::List(items) => {
             out.put_count32(items.len());
             put_values(out, items);
         }
         Value::Set(items) => {
-            out.put_count32(content_len(value) as usize);
             out.put_count32(items.len());
             put_values(out, items);
         }
         Value::Map(pairs) => {
-            out.put_count32(content_len(value) as usize);
             out.put_count32(pairs.len());
             put_pairs(out, pairs);
         }
-        Value::Tuple(items) => {
-            out.put_count32(content_len(value) as usize);
-            put_values(out, items);
-        }
-        Value::Udt(items) => {
-            out.put_count32(content_len(value) as usize);
-            put_values(out, items);
-        }
+        Value::Tuple(items) => put_values(out, items),
+        Value::Udt(items) => put_values(out, items),
     }
 }
 
@@ -81,4 +85,13 @@ fn put_atom<W: Target>(out: &mut Staged<'_, W>, atom: &Atom)
             out.put(unscaled);
         }
     }
+}
+
+/// Takes the content of a scalar.
+fn put_scalar<W: Target>(out: &mut Staged<'_, W>, atom: &Atom)
+{
+    let content = atom.content();
+    let (first, second) = content.parts();
+    out.put(first);
+    out.put(second);
 }

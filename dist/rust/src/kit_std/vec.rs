@@ -83,15 +83,18 @@ impl<T: Copy, A: Allocator> Vec<T, A> {
     /// A copy of these items.
     pub fn from_slice(alloc: A, items: &[T]) -> Result<Self, AllocError> {
         let mut made = Vec::with_capacity(alloc, items.len())?;
-        made.items.extend_from_slice(items);
-        Ok(made)
+        made.extend_from_slice(items).map(|()| made)
+    }
+
+    /// Adds copies of these items at the end.
+    pub fn extend_from_slice(&mut self, items: &[T]) -> Result<(), AllocError> {
+        self.items.try_reserve(items.len()).map(|()| self.items.extend_from_slice(items)).map_err(|_| AllocError)
     }
 
     /// Has it this long, by copies of an item where it was shorter.
     pub fn resize(&mut self, len: usize, item: T) -> Result<(), AllocError> {
-        self.items.try_reserve(len.saturating_sub(self.items.len())).map_err(|_| AllocError)?;
-        self.items.resize(len, item);
-        Ok(())
+        let more = len.saturating_sub(self.items.len());
+        self.items.try_reserve(more).map(|()| self.items.resize(len, item)).map_err(|_| AllocError)
     }
 }
 

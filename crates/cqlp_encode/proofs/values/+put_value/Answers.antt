@@ -1,39 +1,42 @@
 use Rattle.std.proofs.Common.{◌≡◌, length, arith}
 use Rattle.std.proofs.lemmas.List.{take_all}
 use Rattle.cqlp_value.proofs.OwnedLists.{list_is, set_is, map_is, tuple_is, udt_is}
-use Rattle.cqlp_encode.proofs.Contents.{within_nil, counted_put, fields_put, value_put, pair_put}
+use Rattle.cqlp_encode.proofs.Contents.{within_nil, known_put, counted_inside, fields_inside, value_put, pair_put}
 use Rattle.cqlp_encode.proofs.values.+put_value.Goals as goal
 
-pub put_any-returns-in-List : goal.put_any-returns-in-List
-put_any-returns-in-List g t c =
+pub put_any-returns-in_default : goal.put_any-returns-in_default
+put_any-returns-in_default g t c = known_put c.args.value.now _ _ _ _ c.in_default.not-Null c.content_len.ensures c.put_count32.ensures c.put_inside.ensures
+
+pub put_inside-returns-in-List : goal.put_inside-returns-in-List
+put_inside-returns-in-List g t c =
     let items = rw c.deref.ensures.value at c.put_values.ensures in
     let many : c.len.result ≡ length c.in-List.items.items = omega arith in
-    let count = rw many at c.put_count32-in-List.ensures in
-    rw c.in-List.is (counted_put _ _ _ _ _ _ _ _ _ (list_is c.in-List.items) (rw c.in-List.is at c.content_len.ensures) c.put_count32.ensures count items)
+    let count = rw many at c.put_count32.ensures in
+    rw c.in-List.is (counted_inside _ _ _ _ _ _ _ (list_is c.in-List.items) count items)
 
-pub put_any-returns-in-Set : goal.put_any-returns-in-Set
-put_any-returns-in-Set g t c =
+pub put_inside-returns-in-Set : goal.put_inside-returns-in-Set
+put_inside-returns-in-Set g t c =
     let items = rw c.deref-in-Set.ensures.value at c.put_values-in-Set.ensures in
     let many : c.len-in-Set.result ≡ length c.in-Set.items.items = omega arith in
-    let count = rw many at c.put_count32-in-Set-2.ensures in
-    rw c.in-Set.is (counted_put _ _ _ _ _ _ _ _ _ (set_is c.in-Set.items) (rw c.in-Set.is at c.content_len-in-Set.ensures) c.put_count32-in-Set.ensures count items)
+    let count = rw many at c.put_count32-in-Set.ensures in
+    rw c.in-Set.is (counted_inside _ _ _ _ _ _ _ (set_is c.in-Set.items) count items)
 
-pub put_any-returns-in-Map : goal.put_any-returns-in-Map
-put_any-returns-in-Map g t c =
+pub put_inside-returns-in-Map : goal.put_inside-returns-in-Map
+put_inside-returns-in-Map g t c =
     let items = rw c.deref-in-Map.ensures.value at c.put_pairs.ensures in
     let many : c.len-in-Map.result ≡ length c.in-Map.pairs.items = omega arith in
-    let count = rw many at c.put_count32-in-Map-2.ensures in
-    rw c.in-Map.is (counted_put _ _ _ _ _ _ _ _ _ (map_is c.in-Map.pairs) (rw c.in-Map.is at c.content_len-in-Map.ensures) c.put_count32-in-Map.ensures count items)
+    let count = rw many at c.put_count32-in-Map.ensures in
+    rw c.in-Map.is (counted_inside _ _ _ _ _ _ _ (map_is c.in-Map.pairs) count items)
 
-pub put_any-returns-in-Tuple : goal.put_any-returns-in-Tuple
-put_any-returns-in-Tuple g t c =
+pub put_inside-returns-in-Tuple : goal.put_inside-returns-in-Tuple
+put_inside-returns-in-Tuple g t c =
     let items = rw c.deref-in-Tuple.ensures.value at c.put_values-in-Tuple.ensures in
-    rw c.in-Tuple.is (fields_put _ _ _ _ _ _ _ (tuple_is c.in-Tuple.items) (rw c.in-Tuple.is at c.content_len-in-Tuple.ensures) c.put_count32-in-Tuple.ensures items)
+    rw c.in-Tuple.is (fields_inside _ _ _ _ _ (tuple_is c.in-Tuple.items) items)
 
-pub put_any-returns-in-Udt : goal.put_any-returns-in-Udt
-put_any-returns-in-Udt g t c =
+pub put_inside-returns-in-Udt : goal.put_inside-returns-in-Udt
+put_inside-returns-in-Udt g t c =
     let items = rw c.deref-in-Udt.ensures.value at c.put_values-in-Udt.ensures in
-    rw c.in-Udt.is (fields_put _ _ _ _ _ _ _ (udt_is c.in-Udt.items) (rw c.in-Udt.is at c.content_len-in-Udt.ensures) c.put_count32-in-Udt.ensures items)
+    rw c.in-Udt.is (fields_inside _ _ _ _ _ (udt_is c.in-Udt.items) items)
 
 pub put_values-loop-value-init : goal.put_values-loop-value-init
 put_values-loop-value-init g t c = within_nil _
