@@ -1,7 +1,4 @@
+pub mod Tests
+pub mod Insides
 pub mod Steps
-pub mod Advancing
-pub mod Runs
-pub mod Calls
-pub mod Packets
-pub mod Whole
-pub mod OneAnswer
+pub mod Leading

@@ -58,7 +58,7 @@ AreTheFilesBytes =
 -- A packet's bytes begin right after the header of its record, of 16 bytes, or after its block's type, length and numbers:
 -- 28 bytes, or 12 of a simple packet, which has no time.
 abbrev pub BeginsAfterHead : (at next : ℕ) → PacketHead → Type 0
-BeginsAfterHead at next h = (next ≡ at + 16) ⊎ (next ≡ at + 28) ⊎ ((next ≡ at + 12) × (h.time ≡ None))
+BeginsAfterHead at next h = (next ≡ at + 16) ⊎ ((next ≡ at + 28) ⊎ ((next ≡ at + 12) × (h.time ≡ None)))
 
 -- After a packet's head come its bytes, as many as were captured.
 abbrev pub FollowTheirHead : Type 0

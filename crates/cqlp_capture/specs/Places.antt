@@ -24,6 +24,11 @@ pub record IsPassing (b : Block) (offset until : ℕ) : Type 0 where
   pub some : offset < until
   pub inside : until ≤ block_end b
 
+-- this many bytes right after the block's first length
+pub record IsBody (b : Block) (offset n : ℕ) : Type 0 where
+  pub block : IsInBlock b offset n
+  pub here : offset ≡ b.start + 8
+
 -- this many bytes of a packet within the limit
 pub record IsPacket (limit : ℕ) (b : Block) (offset n : ℕ) : Type 0 where
   pub block : IsInBlock b offset n
@@ -46,8 +51,8 @@ IsNear l offset (InterfaceBody b) = IsInBlock b offset 8
 IsNear l offset (OptionHead b) = IsInBlock b offset 4
 IsNear l offset (TimeUnit b) = IsInBlock b offset 4
 IsNear l offset (TimeOffset b) = IsInBlock b offset 8
-IsNear l offset (EnhancedBody b) = IsInBlock b offset 20
-IsNear l offset (SimpleBody b) = IsInBlock b offset 4
+IsNear l offset (EnhancedBody b) = IsBody b offset 20
+IsNear l offset (SimpleBody b) = IsBody b offset 4
 IsNear l offset (BlockData b n) = IsPacket l.packet b offset n
 IsNear l offset (Pass b until) = IsPassing b offset until
 IsNear l offset (BlockEnd b) = IsAtEnd b offset

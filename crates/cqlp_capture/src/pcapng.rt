@@ -49,13 +49,13 @@ fn read_either_length(bytes: &[u8], index: usize) -> EitherLength
 /// What the numbers of a section's header say, the first of which is at this offset. Section 4.1.
 pub(crate) fn tell_section_body(
     offset: u64,
-    length: EitherLength,
+    lengths: EitherLength,
     bytes: &[u8],
 ) -> Result<Told, CaptureRefusal>
     requires begun { 8 ≤ offset }
     requires far { offset ≤ 2 ^ 63 + 8 }
     requires size { length bytes.now ≡ 16 }
-    ensures { result ≡ told_section_body offset length bytes.now }
+    ensures { result ≡ told_section_body offset lengths bytes.now }
 {
     let Some(order) = ByteOrder::of_magic(ByteOrder::BigEndian.read_u32(bytes, 0)) else {
         return refuse(offset, CaptureReason::UnknownByteOrder);
@@ -63,7 +63,7 @@ pub(crate) fn tell_section_body(
     let block = Block {
         order,
         start: offset - 8,
-        length: length.in_order(order),
+        length: lengths.in_order(order),
         interface: None,
     };
     if !may_have_length(BlockKind::Section.least_length(), block.length) {

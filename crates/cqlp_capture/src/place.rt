@@ -1,6 +1,6 @@
 //! Where the reading of a capture stands.
 
-ghost use Rattle.std.specs.Prelude.{◌≡◌, length};
+ghost use Rattle.std.specs.Prelude.{◌≡◌, ◌<◌, ◌^◌, length};
 ghost use Rattle.cqlp_capture.specs.Reading.{told_at, wanted};
 ghost use Rattle.cqlp_capture.specs.Places.{IsPlace};
 
@@ -113,7 +113,7 @@ impl Place {
                 pcapng::tell_data(offset + size as u64, offset, Stage::RecordHead(form))
             }
             Stage::SectionLength => pcapng::tell_section_length(bytes),
-            Stage::SectionBody(length) => pcapng::tell_section_body(offset, length, bytes),
+            Stage::SectionBody(lengths) => pcapng::tell_section_body(offset, lengths, bytes),
             Stage::BlockHead(order) => pcapng::tell_block_head(offset, order, bytes),
             Stage::InterfaceBody(block) => pcapng::tell_interface_body(offset, block, bytes),
             Stage::OptionHead(block) => pcapng::tell_option_head(offset, block, bytes),

@@ -4,8 +4,8 @@ ghost use Rattle.std.specs.Prelude.{◌≡◌, ◌↔◌, false, drop, IfOk, IsE
 ghost use Rattle.std.specs.Borrow.{sem};
 ghost use Rattle.cqlp_capture.specs.Limits.{is_in_range};
 
-use crate::event::{CaptureEnd, CaptureEvent, CaptureStep, EventOutline};
 use crate::block::Block;
+use crate::event::{CaptureEnd, CaptureEvent, CaptureStep, EventOutline};
 use crate::gathered::{BytesPlace, GatheredBytes};
 use crate::interfaces::InterfaceTable;
 use crate::limits::CaptureLimits;
@@ -213,7 +213,10 @@ impl<A: Allocator> CaptureReader<A> {
             return StepTaken::More;
         };
         let bytes = self.gathered.lend(input, found.lies);
-        match self.place.tell(&self.limits, self.interfaces.known(), bytes) {
+        match self
+            .place
+            .tell(&self.limits, self.interfaces.known(), bytes)
+        {
             Ok(told) => {
                 self.place = told.place;
                 self.interfaces.apply(told.change);
