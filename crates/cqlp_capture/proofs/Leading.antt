@@ -174,11 +174,13 @@ module _ (l : CaptureLimits) (fits : Fits l) (known : List KnownInterface) (offs
       where
         in_block : (n : ℕ) → 12 + n ≤ b.length → IsInBlock b (b.start + 8) n
         in_block n long = record { block = block; after = omega arith; before = omega arith }
+
         passed : blocks.told_block kind.Other b ≡ Ok t → Leads l known offset (BlockHead o) bytes t
         passed is =
             let least = block.least in
             let inside = passing_inside l b (b.start + 8) (block_end b) (in_block 0 (omega arith)) (omega arith) (omega arith) in
             within (BlockHead o) b (b.start + 8) _ is (omega arith) (omega arith) inside few start
+
         by : (k : BlockKind) → least_length k ≤ b.length → blocks.told_block k b ≡ Ok t → Leads l known offset (BlockHead o) bytes t
         by kind.Section least is = passed is
         by kind.Interface least is = silent (BlockHead o) (b.start + 8) (InterfaceBody b) is (omega arith) (omega arith) (in_block 8 (omega arith), tt) few start refl

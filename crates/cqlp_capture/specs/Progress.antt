@@ -59,84 +59,83 @@ event_of (event.Interface i) = Interface i
 event_of (event.Packet p) = Packet p
 event_of (event.Data b) = Bytes b.now
 
--- All of the input was used, and more is wanted.
-pub record Goes (old : CaptureState) (input : List ℕ) (used : ℕ) (new : CaptureState) : Type 0 where
+-- All of the input was used, and more is wanted. Here and below the step begins at p, after the bytes that are pending.
+pub record Goes (l : CaptureLimits) (p : Spot) (pending input : List ℕ) (used : ℕ) (new : CaptureState) : Type 0 where
   pub all : used ≡ length input
-  pub is : says (step old.limits old.spot) 0 (old.pending ++ input) ≡ More
+  pub is : says (step l p) 0 (pending ++ input) ≡ More
   pub left : new ≡ record {
-    limits = old.limits;
-    spot = old.spot;
-    pending = old.pending ++ input;
-    held = old.pending ++ input;
+    limits = l;
+    spot = p;
+    pending = pending ++ input;
+    held = pending ++ input;
     refusal = None;
   }
 
 -- The first `used` bytes of the input end this event. Where all its bytes are among them, none is held; else all are.
-pub record Hands (old : CaptureState) (input : List ℕ) (at used : ℕ) (e : Event) (new : CaptureState) : Type 0 where
+pub record Hands (l : CaptureLimits) (p : Spot) (pending input : List ℕ) (at used : ℕ) (e : Event) (new : CaptureState) : Type 0 where
   pub within : used ≤ length input
-  pub is : says (step old.limits old.spot) 0 (old.pending ++ input)
-      ≡ Got (record { at = at; event = Some e; after = new.spot }) (length old.pending + used)
-  pub left : new ≡ record { limits = old.limits; spot = new.spot; pending = []; held = new.held; refusal = None }
-  pub lent : old.pending ≡ [] → new.held ≡ []
-  pub kept : 0 < length old.pending → new.held ≡ old.pending ++ take used input
+  pub is : says (step l p) 0 (pending ++ input)
+      ≡ Got (record { at = at; event = Some e; after = new.spot }) (length pending + used)
+  pub left : new ≡ record { limits = l; spot = new.spot; pending = []; held = new.held; refusal = None }
+  pub lent : pending ≡ [] → new.held ≡ []
+  pub kept : 0 < length pending → new.held ≡ pending ++ take used input
 
 -- The bytes are refused.
-pub record Fails (old : CaptureState) (input : List ℕ) (r : CaptureRefusal) (new : CaptureState) : Type 0 where
-  pub is : says (step old.limits old.spot) 0 (old.pending ++ input) ≡ Bad r
-  pub left : new ≡ record { limits = old.limits; spot = old.spot; pending = []; held = []; refusal = Some r }
+pub record Fails (l : CaptureLimits) (p : Spot) (pending input : List ℕ) (r : CaptureRefusal) (new : CaptureState) : Type 0 where
+  pub is : says (step l p) 0 (pending ++ input) ≡ Bad r
+  pub left : new ≡ record { limits = l; spot = p; pending = []; held = []; refusal = Some r }
 
--- Steps that say no event were taken over the first n bytes of the input. What had come before is used by the first of
--- them.
-pub record Moves (old : CaptureState) (input : List ℕ) (n : ℕ) (mid : CaptureState) : Type 0 where
+-- Steps that say no event lead from p to q over the first n bytes of the input. What had come before is used by the first
+-- of them.
+pub record Moves (l : CaptureLimits) (p : Spot) (pending input : List ℕ) (n : ℕ) (q : Spot) (rest : List ℕ) : Type 0 where
   pub within : n ≤ length input
   pub steps : List (ℕ × Option Event)
   pub silent : heard steps ≡ []
-  pub reads : Reads old.limits old.spot (old.pending ++ take n input) steps mid.spot mid.pending
+  pub reads : Reads l p (pending ++ take n input) steps q rest
   pub first : steps ≡ [] → n ≡ 0
-  pub later : 0 < length steps → mid.pending ≡ []
-  pub left : mid ≡ record {
-    limits = old.limits;
-    spot = mid.spot;
-    pending = mid.pending;
-    held = mid.held;
-    refusal = None;
-  }
+  pub later : 0 < length steps → rest ≡ []
 
 -- and each of them was paid
 pub record Passes (old : CaptureState) (input : List ℕ) (n : ℕ) (new : CaptureState) : Type 0 where
-  pub moves : Moves old input n new
+  pub moves : Moves old.limits old.spot old.pending input n new.spot new.pending
   pub none : new.pending ≡ []
   pub paid : due new.spot.place.stage + (length input - n) < due old.spot.place.stage + length old.pending + length input
+  pub limits : new.limits ≡ old.limits
+  pub unrefused : new.refusal ≡ None
 
 -- What a step makes of the input of a file that was not refused.
 abbrev pub TakesStep : CaptureState → List ℕ → StepTaken → CaptureState → Type 0
-TakesStep old input taken.More new = Goes old input (length input) new
+TakesStep old input taken.More new = Goes old.limits old.spot old.pending input (length input) new
 TakesStep old input (taken.Passed n) new = Passes old input n new
 TakesStep old input (taken.Event at used w lies) new =
-    Hands old input at used (event_with w (bytes_at lies input new.held)) new × LieThere lies input
-TakesStep old input (taken.Refused r) new = Fails old input r new
+    Hands old.limits old.spot old.pending input at used (event_with w (bytes_at lies input new.held)) new
+    × LieThere lies input
+TakesStep old input (taken.Refused r) new = Fails old.limits old.spot old.pending input r new
 
 -- ---- one call: steps that say no event, and one that does, or that is not taken
 
 pub record GoesOn (old : CaptureState) (input : List ℕ) (used : ℕ) (new : CaptureState) : Type 0 where
   pub from : ℕ
-  pub mid : CaptureState
-  pub moves : Moves old input from mid
-  pub goes : Goes mid (drop from input) (used - from) new
+  pub mid : Spot
+  pub rest : List ℕ
+  pub moves : Moves old.limits old.spot old.pending input from mid rest
+  pub goes : Goes old.limits mid rest (drop from input) (used - from) new
   pub all : used ≡ length input
 
 pub record HandsOut (old : CaptureState) (input : List ℕ) (at used : ℕ) (e : Event) (new : CaptureState) : Type 0 where
   pub from : ℕ
-  pub mid : CaptureState
-  pub moves : Moves old input from mid
+  pub mid : Spot
+  pub rest : List ℕ
+  pub moves : Moves old.limits old.spot old.pending input from mid rest
   pub order : from ≤ used
-  pub hands : Hands mid (drop from input) at (used - from) e new
+  pub hands : Hands old.limits mid rest (drop from input) at (used - from) e new
 
 pub record FailsThere (old : CaptureState) (input : List ℕ) (r : CaptureRefusal) (new : CaptureState) : Type 0 where
   pub from : ℕ
-  pub mid : CaptureState
-  pub moves : Moves old input from mid
-  pub fails : Fails mid (drop from input) r new
+  pub mid : Spot
+  pub rest : List ℕ
+  pub moves : Moves old.limits old.spot old.pending input from mid rest
+  pub fails : Fails old.limits mid rest (drop from input) r new
 
 -- What the input makes of a file that was not refused, and of one that was.
 abbrev pub AdvancesFrom : Option CaptureRefusal → CaptureState → List ℕ → CaptureAdvance → CaptureState → Type 0

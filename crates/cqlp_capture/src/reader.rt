@@ -113,7 +113,7 @@ impl<A: Allocator> CaptureReader<A> {
     ghost use Rattle.cqlp_capture.specs.Lending.{LeavesAnswer};
     ghost use Rattle.cqlp_capture.specs.Gathering.{LieThere, bytes_at};
     ghost use Rattle.cqlp_capture.specs.Reading.{event_with};
-    ghost use Rattle.cqlp_capture.specs.Progress.{Advances, EndsAs, TakesStep, Uses, ending, event_of};
+    ghost use Rattle.cqlp_capture.specs.Progress.{Advances, AdvancesFrom, EndsAs, TakesStep, Uses, ending, event_of};
 
     /// The next event that the input leads to. The caller hands in the bytes after those that were used, and goes on
     /// until more are wanted. A refusal is final: each later call says it again.
@@ -177,8 +177,16 @@ impl<A: Allocator> CaptureReader<A> {
         if let Some(refusal) = self.refusal {
             return CaptureAdvance::Refused(refusal);
         }
+        self.go_ahead(input)
+    }
+
+    /// The steps of a call, of a file that was not refused.
+    fn go_ahead(&mut self, input: &[u8]) -> CaptureAdvance
+        requires { self.old.refusal ≡ None }
+        ensures { AdvancesFrom None self.old input.now result self.new }
+    {
         let mut from = 0;
-        loop {
+        'steps: loop {
             match self.take_step(&input[from..]) {
                 StepTaken::Passed { used } => from += used,
                 StepTaken::More => return CaptureAdvance::More { used: input.len() },
