@@ -2,3 +2,10 @@ pub mod Tests
 pub mod Insides
 pub mod Steps
 pub mod Leading
+pub mod Runs
+pub mod Whole
+pub mod Packets
+pub mod Moving
+pub mod Advancing
+pub mod Calls
+pub mod OneAnswer

@@ -257,11 +257,7 @@ impl<A: Allocator> CaptureReader<A> {
             return StepTaken::More;
         }
         let left = until - self.place.offset;
-        let used = if (input.len() as u64) < left {
-            input.len()
-        } else {
-            left as usize
-        };
+        let used = left.min(input.len() as u64) as usize;
         let offset = self.place.offset + used as u64;
         self.place = Place {
             offset,
