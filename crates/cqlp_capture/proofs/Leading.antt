@@ -21,7 +21,7 @@ use Rattle.cqlp_capture.specs.declared.place.Stage.TheVariants.{Magic, FileHead,
 use Rattle.cqlp_capture.specs.declared.refusal.CaptureRefusal.{CaptureRefusal}
 use Rattle.cqlp_capture.specs.Interfaces.{changed}
 use Rattle.cqlp_capture.specs.Telling.{goes_on}
-use Rattle.cqlp_capture.specs.Numbers.{form_of, is_section, number_16, number_32, number_64, order_of, padded, unit_of}
+use Rattle.cqlp_capture.specs.Numbers.{form_of, is_block_length, is_section, number_16, number_32, number_64, order_of, padded, unit_of}
 use Rattle.cqlp_capture.specs.Records as records
 use Rattle.cqlp_capture.specs.Blocks.{IsBlock, IsInBlock, at_option, block_at, block_end, body_of, captured_of, described, describing, either_length, kind_of, least_length, length_in, passing, redescribed, room_of, section_at, time_of, told_block_of, told_captured, told_enhanced, told_known, told_option, told_option_head, told_packet, told_section, told_section_in, told_simple, told_timed, told_unit, units_of, with_offset, with_unit}
 use Rattle.cqlp_capture.specs.Blocks as blocks
@@ -90,13 +90,16 @@ module _ (l : CaptureLimits) (fits : Fits l) (known : List KnownInterface) (offs
   magic_leads true o zero none is = silent Magic 4 SectionLength is (omega arith) (omega arith) (refl, tt) (let e : length known ≡ 0 = ap length none in omega arith) refl refl
   magic_leads false o zero none is = form_leads o zero none is
 
+  file_told : (f : FileForm) (x : Bool) (u : Told) (r : CaptureRefusal) → Leads l known offset (FileHead f) bytes u → cond x (Ok u) (Err r) ≡ Ok t → Leads l known offset (FileHead f) bytes t
+  file_told f true u r leads is = subst (λ (u : Told). Leads l known offset (FileHead f) bytes u) (ok_same t u is) leads
+  file_told f false u r leads is = absurd cc
+
   file_leads : (f : FileForm) → offset ≡ 4 → known ≡ [] → records.told_file_head f bytes ≡ Ok t → Leads l known offset (FileHead f) bytes t
   file_leads f four none is =
-      let a = allowed _ _ _ _ is in
       let empty : length known ≡ 0 = ap length none in
       let some = fits.some in
       let more : length (known ++ records.known_of f bytes ∷ []) ≡ length known + 1 = length-append known (records.known_of f bytes ∷ []) in
-      subst (λ (u : Told). Leads l known offset (FileHead f) bytes u) (ok_same t _ a.1) (record {
+      file_told f (records.is_known_version f bytes) _ _ (record {
         near = record { place = (omega arith, tt); known = omega arith };
         offset_is = omega arith;
         pays = omega arith;
@@ -108,7 +111,7 @@ module _ (l : CaptureLimits) (fits : Fits l) (known : List KnownInterface) (offs
             let same : records.interface_of f bytes ≡ i = cc in
             let n : 0 ≡ i.number = ap (λ (x : InterfaceHead). x.number) same in
             omega arith;
-      })
+      }) is
 
   record_leads : (r : RecordForm) → length known ≤ l.interfaces → records.told_record_head l.packet offset r bytes ≡ Ok t → Leads l known offset (RecordHead r) bytes t
   record_leads r few is =
@@ -146,9 +149,9 @@ module _ (l : CaptureLimits) (fits : Fits l) (known : List KnownInterface) (offs
   section_leads : (e : EitherLength) → offset ≤ 2 ^ 63 + 8 → 8 ≤ offset → (o : Option ByteOrder) → told_section_in offset e bytes o ≡ Ok t → Leads l known offset (SectionBody e) bytes t
   section_leads e far begun None is = absurd cc
   section_leads e far begun (Some o) is =
-      let a = allowed _ _ _ _ is in
-      let c = allowed _ _ _ _ a.1 in
       let b = section_at offset e o in
+      let a = allowed (is_block_length 28 (length_in o e)) _ _ _ is in
+      let c = allowed (blocks.is_known_version o bytes) _ (told_section b) _ a.1 in
       let long = length_is 28 (length_in o e) a.0 in
       let least = long.0 in
       let most = long.1 in

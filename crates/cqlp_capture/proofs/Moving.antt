@@ -12,6 +12,7 @@ use Rattle.cqlp_capture.specs.declared.place.Stage.TheVariants.{Pass}
 use Rattle.cqlp_capture.specs.Blocks.{passing}
 use Rattle.cqlp_capture.specs.Reading.{Event, Emitted, Spot, heard, step, Reads, Hears}
 use Rattle.cqlp_capture.specs.Progress.{CaptureState, Moves, Passes}
+use Rattle.cqlp_capture.proofs.Steps.{step_says}
 use Rattle.cqlp_capture.proofs.Runs.{heard-append, reads_stay, reads_then, hears_then, hears_stay}
 
 pub take_two : (k n : ℕ) (bytes : List ℕ) → take (k + n) bytes ≡ take k bytes ++ take n (drop k bytes)
@@ -59,7 +60,7 @@ module _ (l : CaptureLimits) where
   -- ---- bytes that are passed over
 
   pass_one : (known : List KnownInterface) (b : Block) (until offset : ℕ) (x : ℕ) (xs : List ℕ) → says (step l (record { place = record { offset = offset; stage = Pass b until }; known = known })) 0 (x ∷ xs) ≡ Got (record { at = offset + 1; event = None; after = record { place = record { offset = offset + 1; stage = passing b (offset + 1) until }; known = known } }) 1
-  pass_one known b until offset x xs = refl
+  pass_one known b until offset x xs = step_says l (record { place = record { offset = offset; stage = Pass b until }; known = known }) (x ∷ xs) (omega arith)
 
   -- so many steps as there are bytes
   pub record PassesOver (known : List KnownInterface) (b : Block) (until offset : ℕ) (bytes : List ℕ) : Type 0 where

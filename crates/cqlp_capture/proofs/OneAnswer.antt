@@ -34,7 +34,7 @@ IsHeard d = (x : Emitted) (k : ℕ) → d ≡ Got x k → x.event ≡ None → �
 
 silent_first : (at : ℕ) (o : Option Event) (es : List (ℕ × Event)) → heard_first at o es ≡ [] → o ≡ None
 silent_first at None es is = refl
-silent_first at (Some e) es is = absurd (let n : 1 + length es ≡ 0 = ap length is in omega arith)
+silent_first at (Some e) es is = absurd (omega (arith, ap length is))
 
 -- where the steps before end
 pub record SameMid (n n' : ℕ) (q q' : Spot) (rest rest' : List ℕ) : Type 0 where
@@ -62,7 +62,7 @@ module _ (l : CaptureLimits) (p : Spot) (pending input : List ℕ) where
           let left = none' ∙ sym none in
           let count : n' ≡ n = omega (arith, ap length bytes, ap length left, length-append rest' (drop n' input), length-append rest (drop n input), length-drop n' input, length-drop n input, a.within, b.within) in
           record { count = count; spot = spot; left = left }
-      | inr no ↦
+      | inr few ↦
           let empty = nothing a.steps (omega arith) in
           let none = a.first empty in
           let none' = b.first (is ∙ empty) in

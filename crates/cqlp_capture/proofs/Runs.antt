@@ -173,6 +173,6 @@ split_by x steps at e fs later (Some f) (g ∷ es) some is =
     split_later x steps es (g ∷ es) at e fs (ap (λ (o : Option Event). heard_first x.0 o es) some ∙ ap (λ (z : ℕ × Event). z ∷ es) head) (later es tail)
 
 pub heard_split : (steps : List (ℕ × Option Event)) (es : List (ℕ × Event)) (at : ℕ) (e : Event) (fs : List (ℕ × Event)) → heard steps ≡ es ++ (at, e) ∷ fs → Splits steps es at e fs
-heard_split [] [] at e fs is = absurd (let no : 0 ≡ 1 + length fs = ap length is in omega arith)
-heard_split [] (f ∷ es) at e fs is = absurd (let no : 0 ≡ 1 + length (es ++ (at, e) ∷ fs) = ap length is in omega arith)
+heard_split [] [] at e fs is = absurd (omega (arith, ap length is))
+heard_split [] (f ∷ es) at e fs is = absurd (omega (arith, ap length is))
 heard_split (x ∷ steps) es at e fs is = split_by x steps at e fs (λ es is. heard_split steps es at e fs is) x.1 es refl is

@@ -65,6 +65,7 @@ module _ (l : CaptureLimits) where
     events_go_on = (heard goes_on.0, more_heard a.2.steps b.2.steps goes_on.0 es es' a.2.events b.2.events goes_on.1)
 
     pub refusal_stays : (r : CaptureRefusal) → v ≡ Refused r → (es' ≡ es) × (v' ≡ v)
+    unfolding goes_on events_go_on
     refusal_stays r is =
         let bad : says (step l a.0) 0 a.1 ≡ Bad r = is_bad (says (step l a.0) 0 a.1) r (rw is at a.3) in
         let still : says (step l a.0) 0 (a.1 ++ t) ≡ Bad r = stays_bad r (says_stays (step l a.0) 0 a.1 t) bad in
