@@ -9,3 +9,4 @@ pub mod Moving
 pub mod Advancing
 pub mod Calls
 pub mod OneAnswer
+pub mod Cuts

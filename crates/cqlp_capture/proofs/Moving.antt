@@ -3,6 +3,7 @@ use Rattle.std.proofs.Common.{◌≡◌, ℕ, zero, suc, ◌+◌, ◌-◌, ◌<�
 use Rattle.std.specs.Prelude.{Option, Some, None}
 use Rattle.std.proofs.lemmas.Bool.{ne_eqb}
 use Rattle.std.proofs.lemmas.List.{append-nil, length-drop, length-append, length-take-le, take-append-drop, take-take, drop-take}
+use Rattle.std.proofs.Math.Seq.{take-append_seam}
 use Rattle.cqlp_note.specs.Reader.{Said, Got, says}
 use Rattle.cqlp_capture.specs.declared.block.Block.{Block}
 use Rattle.cqlp_capture.specs.declared.interfaces.KnownInterface.{KnownInterface}
@@ -21,6 +22,13 @@ take_two k n bytes = sym (rw (take-take k (k + n) bytes (omega arith), drop-take
 pub nothing : {X : Type 0} (xs : List X) → length xs ≡ 0 → xs ≡ []
 nothing [] none = refl
 nothing (x ∷ xs) none = absurd (omega arith)
+
+pub take_whole : (ys : List ℕ) (n : ℕ) → n ≡ length ys → take n ys ≡ ys
+take_whole ys n is = ap (λ (k : ℕ). take k ys) is ∙ ap (take (length ys)) (sym (append-nil ys)) ∙ take-append_seam ys []
+
+-- a slice from an index on
+pub rest_of : (n : ℕ) (xs : List ℕ) → take (length xs - n) (drop n xs) ≡ drop n xs
+rest_of n xs = take_whole (drop n xs) (length xs - n) (sym (length-drop n xs))
 
 pub moves_none : (l : CaptureLimits) (p : Spot) (pending input : List ℕ) → Moves l p pending input 0 p pending
 moves_none l p pending input = record {

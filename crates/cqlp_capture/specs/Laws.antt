@@ -2,6 +2,7 @@
 -- call are the same.
 use Rattle.std.specs.Prelude.{◌≡◌, ◌↔◌, ℕ, ◌+◌, ◌≤◌, ◌++◌, ◌⊎◌, true, false, List, [], ◌∷◌, length, take, drop, Result, None, IfOk, IsErrOf}
 use Rattle.cqlp_capture.specs.declared.event.CaptureEnd.{CaptureEnd}
+use Rattle.cqlp_capture.specs.declared.event.CaptureEnd.TheVariants.{Cut}
 use Rattle.cqlp_capture.specs.declared.event.CaptureStep.{CaptureStep}
 use Rattle.cqlp_capture.specs.declared.event.CaptureStep.TheVariants as answer
 use Rattle.cqlp_capture.specs.declared.event.InterfaceHead.{InterfaceHead}
@@ -12,7 +13,7 @@ use Rattle.cqlp_capture.specs.declared.refusal.NewReaderError.{NewReaderError}
 use Rattle.cqlp_capture.specs.declared.refusal.NewReaderError.TheVariants.{BadLimits, NoMemory}
 use Rattle.cqlp_capture.specs.Limits.{is_in_range}
 use Rattle.cqlp_capture.specs.Reading.{Event, Section, Interface, Bytes, Packet, Spot, Hears, Verdict, Refused, Says, start}
-use Rattle.cqlp_capture.specs.Progress.{CaptureState, After, Answers, ending, event_of, new_state}
+use Rattle.cqlp_capture.specs.Progress.{CaptureState, After, Answers, IsWhole, ending, event_of, new_state}
 
 -- Any bytes say some list of events and some verdict.
 abbrev pub IsSaid : Type 0
@@ -84,6 +85,12 @@ abbrev pub AreNumbered : Type 0
 AreNumbered =
     (l : CaptureLimits) (s rest : List ℕ) (es : List (ℕ × Event)) (at : ℕ) (i : InterfaceHead) (q : Spot)
     → is_in_range l ≡ true → Hears l start s (es ++ (at, Interface i) ∷ []) q rest → i.number ≡ count_from 0 es
+
+-- What comes before a cut is whole, unless the file's first header is cut.
+abbrev pub IsCutWithinTheLast : Type 0
+IsCutWithinTheLast =
+    (d : CaptureState) (s : List ℕ) (es : List (ℕ × Event)) (at n : ℕ)
+    → is_in_range d.limits ≡ true → After d s es → ending d ≡ Cut at n → (at ≡ 0) ⊎ IsWhole d.limits (take at s)
 
 -- ---- one answer
 

@@ -223,8 +223,7 @@ ending d = ending_by d.refusal d
 abbrev pub IsWhole : CaptureLimits → List ℕ → Type 0
 IsWhole l s = (es : List (ℕ × Event)) × (q : Spot) × Hears l start s es q [] × (is_between q.place.stage ≡ true)
 
--- The file ends after all its bytes: whole, where a record or a block may begin there, and else cut within what began last,
--- before which it is whole, unless that is its first.
+-- The file ends after all its bytes: whole, where a record or a block may begin there, and else cut within what began last.
 abbrev pub FinishesBy : Option CaptureRefusal → CaptureState → List ℕ → CaptureEnd → Type 0
 FinishesBy (Some r) d s f = f ≡ end.Refused r
 FinishesBy None d s (end.Whole n) = (n ≡ length s) × IsWhole d.limits s

@@ -2,7 +2,7 @@
 
 ghost use Rattle.cqlp_capture.specs.Laws.{AreTheFilesBytes, FollowTheirHead};
 ghost use Rattle.cqlp_capture.specs.Laws.{GoesOn, IsSaid, IsSaidOnce, HasNoMoreEventsThanBytes};
-ghost use Rattle.cqlp_capture.specs.Laws.{HandsOutNoMoreEventsThanBytes, AreNumbered, OneAnswerOfFinish, OneAnswerOfNew, OneAnswerOfNext};
+ghost use Rattle.cqlp_capture.specs.Laws.{HandsOutNoMoreEventsThanBytes, AreNumbered, IsCutWithinTheLast, OneAnswerOfFinish, OneAnswerOfNew, OneAnswerOfNext};
 
 /// Of any bytes there is one list of events, and one verdict.
 pub fn said_once()
@@ -32,6 +32,12 @@ pub fn bytes_of_packets()
 /// The number of an interface is how many its section has before it.
 pub fn interfaces_are_numbered()
     ensures { AreNumbered }
+{}
+
+/// Where `CaptureReader::finish` says that a file is cut, its bytes before the header, the record or the block that is cut are
+/// a whole file, unless that is its first.
+pub fn cut_within_the_last()
+    ensures { IsCutWithinTheLast }
 {}
 
 /// Where memory is granted, `CaptureReader::new` has one answer. The clauses of `capacity` and `interface_capacity` are
