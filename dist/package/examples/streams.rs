@@ -6,7 +6,7 @@
 
 use cqlp::Global;
 use cqlp::capture::{
-    Address, CaptureEvent, CaptureLimits, CaptureReader, CaptureStep, Control, Endpoint, LinkType, Segment, Stream, StreamStep,
+    Address, CaptureEvent, CaptureLimits, CaptureReader, CaptureStep, Control, Endpoint, LinkType, PacketHead, Segment, Stream, StreamStep,
     read_segment,
 };
 use std::collections::{HashMap, VecDeque};
@@ -135,11 +135,16 @@ impl Direction {
     }
 }
 
+fn segment_of<'a>(head: &PacketHead, bytes: &'a [u8]) -> Option<Segment<'a>> {
+    let link = LinkType::from_number(head.link).ok()?;
+    read_segment(link, bytes, head.original).ok()
+}
+
 /// Tells of each direction of each connection in a capture what it sent, by its number.
 pub fn follow(mut capture: impl Read, tell: impl FnMut(u64, Told<'_>) -> io::Result<()>) -> io::Result<()> {
     let mut reader = CaptureReader::new(Global, CaptureLimits::DEFAULT).map_err(io::Error::other)?;
     let mut directions = Directions { known: HashMap::new(), order: VecDeque::new(), count: 0, tell };
-    let (mut link, mut original) = (None, 0);
+    let mut packet: Option<PacketHead> = None;
     let mut piece = vec![0; 1 << 18];
     loop {
         let count = capture.read(&mut piece)?;
@@ -151,11 +156,10 @@ pub fn follow(mut capture: impl Read, tell: impl FnMut(u64, Told<'_>) -> io::Res
             match reader.next(rest) {
                 CaptureStep::Event { used, event, .. } => {
                     match event {
-                        CaptureEvent::Section(_) => {}
-                        CaptureEvent::Interface(head) => link = LinkType::from_number(head.link).ok(),
-                        CaptureEvent::Packet(head) => original = head.original,
-                        CaptureEvent::Data(packet) => {
-                            if let Some(Ok(segment)) = link.map(|link| read_segment(link, packet, original)) {
+                        CaptureEvent::Section(_) | CaptureEvent::Interface(_) => {}
+                        CaptureEvent::Packet(head) => packet = Some(head),
+                        CaptureEvent::Data(bytes) => {
+                            if let Some(segment) = packet.and_then(|head| segment_of(&head, bytes)) {
                                 directions.take(&segment)?;
                             }
                         }

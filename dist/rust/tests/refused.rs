@@ -1,6 +1,7 @@
 //! Memory that is refused to the calls that take it from the process: each request in turn, and each with all after it. What a call
 //! made until then is given back.
 
+use cqlp::capture::{CaptureEnd, CaptureLimits, CaptureReader, CaptureStep, Control, Stream, StreamStep};
 use cqlp::frame::{Atom, BindError, Frame, OwnedBound, ReadError, TypeTree, Value, bind_value, raw_value, read_value};
 use cqlp::memory::{AllocError, Box, String, Vec};
 use cqlp::{Global, Kind, Limits};
@@ -175,5 +176,43 @@ fn answers_to_other_versions() {
     finds_just_what_is_there(1, || match Frame::version_error(Global, &[5, 0, 0, 7, 5, 0, 0, 0, 0]) {
         Ok(_) => Answer::Granted,
         Err(AllocError) => Answer::NoMemory,
+    });
+}
+
+/// A reader of captures takes memory when it is made, and none while it reads packets in pieces.
+#[test]
+fn captures() {
+    let file = std::fs::read(concat!(env!("CARGO_MANIFEST_DIR"), "/tests/captures/driver.pcap")).unwrap();
+    finds_just_what_is_there(1, || {
+        let Ok(mut reader) = CaptureReader::new(Global, CaptureLimits::DEFAULT) else {
+            return Answer::NoMemory;
+        };
+        for piece in file.chunks(100) {
+            let mut used = 0;
+            while let CaptureStep::Event { used: taken, .. } = reader.next(&piece[used..]) {
+                used += taken;
+            }
+        }
+        if reader.finish() == (CaptureEnd::Whole { bytes: file.len() as u64 }) { Answer::Granted } else { Answer::Other }
+    });
+}
+
+/// A stream takes memory when it is made, and none while it holds and hands on what came early.
+#[test]
+fn streams_of_captures() {
+    let segment = |sequence, syn| Control { sequence, syn, fin: false, rst: false, missing: 0 };
+    finds_just_what_is_there(1, || {
+        let Ok(mut stream) = Stream::new(Global, 10) else {
+            return Answer::NoMemory;
+        };
+        let steps = [
+            stream.take(segment(9, true), b""),
+            stream.take(segment(13, false), b"de"),
+            stream.take(segment(10, false), b"abc"),
+        ];
+        let mut bytes = [0; 10];
+        let read = stream.read_held(&mut bytes);
+        let expected = [StreamStep::Began { syn: true }, StreamStep::Done, StreamStep::Held { count: 5 }];
+        if steps == expected && bytes[..read] == *b"abcde" { Answer::Granted } else { Answer::Other }
     });
 }
