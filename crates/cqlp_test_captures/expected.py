@@ -4,6 +4,7 @@ import struct
 import sys
 
 LIMIT = 262144
+INTERFACES = 256
 FORMS = {
     bytes.fromhex('a1b2c3d4'): ('>', 'BigEndian', 'Microseconds', 1000),
     bytes.fromhex('d4c3b2a1'): ('<', 'LittleEndian', 'Microseconds', 1000),
@@ -106,7 +107,106 @@ def segment(link, packet, original):
             f' payload {len(payload)} at {len(packet) - len(tcp) + header} sum {sum_of(payload)} missing {size - header - len(payload)}')
 
 
-def said(file):
+def padded(size):
+    return (size + 3) // 4 * 4
+
+
+def interface(order, body, at):
+    """The link type, the snap length, how many units a second has and how many seconds are added, or a refusal."""
+    link, _, snap = struct.unpack_from(order + 'HHI', body)
+    units, seconds, options = 10**6, 0, 8
+    while options < len(body):
+        code, size = struct.unpack_from(order + 'HH', body, options)
+        if code == 0:
+            break
+        if options + 4 + padded(size) > len(body) or size != {9: 1, 14: 8}.get(code, size):
+            return f'{at + options + 2} BadOptionLength'
+        value = body[options + 4:options + 4 + size]
+        if code == 9:
+            if value[0] > 9:
+                return f'{at + options + 4} UnknownTimeUnit'
+            units = 10**value[0]
+        if code == 14:
+            seconds, = struct.unpack(order + 'q', value)
+            if seconds < 0:
+                return f'{at + options + 4} NegativeTimeOffset'
+        options += 4 + padded(size)
+    return link, snap, units, seconds
+
+
+def said_of_blocks(file, limit, most):
+    lines, at, order, known = [], 0, None, []
+    while at < len(file):
+        left = len(file) - at
+        cut = lines + [f'cut at {at} after {len(file)}']
+        kind = file[at:at + 4]
+        is_section = kind == bytes.fromhex('0a0d0d0a')
+        if left < (24 if is_section else 8):
+            return cut
+        if is_section:
+            order = {'1a2b3c4d': '>', '4d3c2b1a': '<'}.get(file[at + 8:at + 12].hex())
+            if not order:
+                return lines + [f'{at + 8} UnknownByteOrder']
+        kind, length = struct.unpack_from(order + 'II', file, at)
+        least = 28 if is_section else {1: 20, 3: 16, 6: 32}.get(kind, 12)
+        if length % 4 or length < least:
+            return lines + [f'{at + 4} BadBlockLength']
+        body, end = file[at + 8:min(at + length - 4, len(file))], at + length - 4
+        room = end - at - 8
+        if is_section:
+            if struct.unpack_from(order + 'HH', file, at + 12) not in ((1, 0), (1, 2)):
+                return lines + [f'{at + 12} UnknownVersion']
+            lines.append(f"{at} section {'BigEndian' if order == '>' else 'LittleEndian'} pcapng")
+            known = []
+        elif kind == 1 and len(body) == room:
+            found = interface(order, body, at + 8)
+            if isinstance(found, str):
+                return lines + [found]
+        elif kind in (3, 6):
+            start = 28 if kind == 6 else 12
+            if left < start:
+                return cut
+            if kind == 6:
+                number, high, low, captured, original = struct.unpack_from(order + 'IIIII', body)
+            else:
+                number, (original,) = 0, struct.unpack_from(order + 'I', body)
+            if number >= len(known):
+                return lines + [f'{at + 8 if kind == 6 else at} UnknownInterface']
+            link, snap, units, seconds = known[number]
+            when = 'no time'
+            if kind == 6:
+                time = (high * 2**32 + low) * (10**9 // units) + seconds * 10**9
+                if time >= 2**64:
+                    return lines + [f'{at + 12} TimeTooLarge']
+                when = f'{time} ns'
+                if captured > room - 20:
+                    return lines + [f'{at + 20} PacketBeyondBlock']
+            else:
+                captured = min(room - 4, original, snap or original)
+            if captured > limit:
+                return lines + [f'{at + 20 if kind == 6 else at + 8} PacketTooLong']
+            lines.append(f'{at} packet of {number} at {when} captured {captured} of {original}')
+            data = file[at + start:at + start + captured]
+            if len(data) < captured:
+                return lines + [f'cut at {at} after {len(file)}']
+            lines.append(f'{at + start} data {captured} sum {sum_of(data)}')
+            lines.append(segment(link, data, original))
+        if left < length:
+            return lines + [f'cut at {at} after {len(file)}']
+        if struct.unpack_from(order + 'I', file, end)[0] != length:
+            return lines + [f'{end} UnequalBlockLengths']
+        if kind == 1 and not is_section:
+            if len(known) == most:
+                return lines + [f'{at} TooManyInterfaces']
+            lines.append(f'{at} interface {len(known)} link {found[0]} snap {found[1]}')
+            known.append(found)
+        at += length
+    return lines + [f'whole {len(file)}']
+
+
+def said(file, limit=LIMIT, most=INTERFACES):
+    if file[:4] == bytes.fromhex('0a0d0d0a'):
+        return said_of_blocks(file, limit, most)
     if len(file) < 4:
         return [f'cut at 0 after {len(file)}']
     if file[:4] not in FORMS:
@@ -124,7 +224,7 @@ def said(file):
         if len(file) < at + 16:
             return lines + [f'cut at {at} after {len(file)}']
         seconds, part, captured, original = struct.unpack_from(order + 'IIII', file, at)
-        if captured > LIMIT:
+        if captured > limit:
             return lines + [f'{at + 8} PacketTooLong']
         time = seconds * 10**9 + part * unit
         lines.append(f'{at} packet of 0 at {time} ns captured {captured} of {original}')
@@ -198,8 +298,15 @@ def streams(name, file):
     return lines
 
 
+# the same packets in both formats
+def packets(name):
+    return [line.split(' ', 1)[1] for line in said(open(f'data/{name}', 'rb').read()) if line.split()[1:2] in (['packet'], ['data'])]
+
+
+assert packets('driver.pcapng') == packets('driver.pcap') and len(packets('driver.pcap')) == 110
+
 # captures in which no byte is missing: the streams' bytes are what the sockets saw
-WHOLE = {f'driver{kind}.pcap' for kind in ('', '-big-endian', '-ns', '-vlan', '-sll2', '-twice', '-swapped', '-overlap', '-cut')}
+WHOLE = {f'driver{kind}' for kind in ('.pcap', '.pcapng', '-big-endian.pcap', '-ns.pcap', '-vlan.pcap', '-sll2.pcap', '-twice.pcap', '-swapped.pcap', '-overlap.pcap', '-cut.pcap')}
 
 # what is told of these, in which it matters when a segment comes
 BY_HAND = {
@@ -213,8 +320,8 @@ BY_HAND = {
 }
 
 for line in sys.stdin:
-    of_streams = line.startswith('streams ')
-    name, digits = line.rstrip('\n').removeprefix('streams '), None
+    of_streams, small = line.startswith('streams '), line.startswith('small ')
+    name, digits = line.rstrip('\n').removeprefix('streams ').removeprefix('small '), None
     if '|' in name:
         name, digits = name.split('|')
     file = bytes.fromhex(digits) if digits is not None else open(f'data/{name}', 'rb').read()
@@ -226,4 +333,4 @@ for line in sys.stdin:
         print('\n'.join(streams(name, file)))
     else:
         print('==', name.rstrip())
-        print('\n'.join(said(file)))
+        print('\n'.join(said(file, 64, 2) if small else said(file)))

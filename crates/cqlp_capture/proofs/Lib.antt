@@ -1,7 +1,12 @@
+pub mod Tests
+pub mod Insides
 pub mod Steps
-pub mod Advancing
+pub mod Leading
 pub mod Runs
-pub mod Calls
-pub mod Packets
 pub mod Whole
+pub mod Packets
+pub mod Moving
+pub mod Advancing
+pub mod Calls
 pub mod OneAnswer
+pub mod Cuts

@@ -1,5 +1,9 @@
 pub mod Limits
 pub mod Numbers
+pub mod Interfaces
+pub mod Telling
+pub mod Records
+pub mod Blocks
 pub mod Reading
 pub mod Places
 pub mod Gathering

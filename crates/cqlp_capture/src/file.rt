@@ -1,7 +1,7 @@
 //! Numbers of a capture file.
 
 ghost use Rattle.std.specs.Prelude.{◌≡◌, ◌+◌, ◌≤◌, length};
-ghost use Rattle.cqlp_capture.specs.Numbers.{form_of, number_16, number_32};
+ghost use Rattle.cqlp_capture.specs.Numbers.{form_of, order_of, number_16, number_32, number_64};
 
 /// The order of the bytes of a number.
 #[derive(Clone, Copy, Debug, PartialEq, Eq)]
@@ -26,6 +26,14 @@ pub struct FileForm {
     pub fraction: Fraction,
 }
 
+/// How the numbers of a section are written, and in which format. A pcap file is one section.
+#[derive(Clone, Copy, Debug, PartialEq, Eq)]
+pub enum SectionForm {
+    Pcap(FileForm),
+    /// Each interface says for itself what its times count.
+    Pcapng(ByteOrder),
+}
+
 impl FileForm {
     /// The form that a magic number says, read with its highest byte first.
     pub(crate) fn of_magic(magic: u32) -> Option<FileForm>
@@ -43,6 +51,18 @@ impl FileForm {
 }
 
 impl ByteOrder {
+    /// The order that the byte-order magic of a section says, read with its highest byte first. Section 4.1 of
+    /// draft-ietf-opsawg-pcapng.
+    pub(crate) fn of_magic(magic: u32) -> Option<ByteOrder>
+        ensures { result ≡ order_of magic }
+    {
+        match magic {
+            0x1A2B_3C4D => Some(ByteOrder::BigEndian),
+            0x4D3C_2B1A => Some(ByteOrder::LittleEndian),
+            _ => None,
+        }
+    }
+
     /// The number in two bytes, from this index on.
     pub(crate) fn read_u16(self, bytes: &[u8], index: usize) -> u16
         requires { index + 2 ≤ length bytes.now }
@@ -69,6 +89,27 @@ impl ByteOrder {
         match self {
             ByteOrder::BigEndian => u32::from_be_bytes(bytes),
             ByteOrder::LittleEndian => u32::from_le_bytes(bytes),
+        }
+    }
+
+    /// The number in eight bytes, from this index on.
+    pub(crate) fn read_u64(self, bytes: &[u8], index: usize) -> u64
+        requires { index + 8 ≤ length bytes.now }
+        ensures { result ≡ number_64 self index bytes.now }
+    {
+        let bytes = [
+            bytes[index],
+            bytes[index + 1],
+            bytes[index + 2],
+            bytes[index + 3],
+            bytes[index + 4],
+            bytes[index + 5],
+            bytes[index + 6],
+            bytes[index + 7],
+        ];
+        match self {
+            ByteOrder::BigEndian => u64::from_be_bytes(bytes),
+            ByteOrder::LittleEndian => u64::from_le_bytes(bytes),
         }
     }
 }

@@ -2,7 +2,7 @@
 
 ghost use Rattle.cqlp_capture.specs.Laws.{AreTheFilesBytes, FollowTheirHead};
 ghost use Rattle.cqlp_capture.specs.Laws.{GoesOn, IsSaid, IsSaidOnce, HasNoMoreEventsThanBytes};
-ghost use Rattle.cqlp_capture.specs.Laws.{HandsOutNoMoreEventsThanBytes, OneAnswerOfNew, OneAnswerOfNext};
+ghost use Rattle.cqlp_capture.specs.Laws.{HandsOutNoMoreEventsThanBytes, AreNumbered, IsCutWithinTheLast, OneAnswerOfFinish, OneAnswerOfNew, OneAnswerOfNext};
 
 /// Of any bytes there is one list of events, and one verdict.
 pub fn said_once()
@@ -22,14 +22,26 @@ pub fn no_more_events_than_bytes()
     ensures reader { HandsOutNoMoreEventsThanBytes }
 {}
 
-/// The bytes of a packet are those of the file at their offset: right after the header of its record, and as many as it says
-/// that were captured.
+/// The bytes of a packet are those of the file at their offset: right after the header of its record or the numbers of its
+/// block, and as many as it says that were captured.
 pub fn bytes_of_packets()
     ensures there { AreTheFilesBytes }
     ensures follow { FollowTheirHead }
 {}
 
-/// Where memory is granted, `CaptureReader::new` has one answer. The clauses of `finish` and `capacity` are equations.
+/// The number of an interface is how many its section has before it.
+pub fn interfaces_are_numbered()
+    ensures { AreNumbered }
+{}
+
+/// Where `CaptureReader::finish` says that a file is cut, its bytes before the header, the record or the block that is cut are
+/// a whole file, unless that is its first.
+pub fn cut_within_the_last()
+    ensures { IsCutWithinTheLast }
+{}
+
+/// Where memory is granted, `CaptureReader::new` has one answer. The clauses of `capacity` and `interface_capacity` are
+/// equations.
 pub fn one_answer_of_new()
     ensures { OneAnswerOfNew }
 {}
@@ -37,4 +49,9 @@ pub fn one_answer_of_new()
 /// From one reader and over the same input `CaptureReader::next` has one answer, and leaves one reader.
 pub fn one_answer_of_next()
     ensures { OneAnswerOfNext }
+{}
+
+/// Of one reader `CaptureReader::finish` has one answer.
+pub fn one_answer_of_finish()
+    ensures { OneAnswerOfFinish }
 {}

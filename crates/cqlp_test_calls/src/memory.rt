@@ -1,7 +1,7 @@
 //! Memory that is refused, of each call that asks for it.
 
 use crate::page::page;
-use cqlp_capture::{CaptureLimits, CaptureReader, NewReaderError};
+use cqlp_capture::{CaptureLimits, CaptureReader, CaptureStep, NewReaderError};
 use cqlp_decode::{Decoder, NewError};
 use cqlp_message::Frame;
 use cqlp_note::{Limits, NoMemory, Partial};
@@ -34,6 +34,7 @@ enum Call {
     TypeReader,
     CellReader,
     Decoder,
+    /// A capture is read byte by byte.
     CaptureReader,
     Client,
     Server,
@@ -51,7 +52,7 @@ static CALLS: [(Call, u64); 12] = [
     (Call::TypeReader, 1),
     (Call::CellReader, 1),
     (Call::Decoder, 4),
-    (Call::CaptureReader, 1),
+    (Call::CaptureReader, 2),
     (Call::Client, 2),
     (Call::Server, 1),
     (Call::ClientOf, 3),
@@ -91,12 +92,45 @@ fn decoder<A: Allocator + Clone>(heap: A) -> Answer {
     }
 }
 
-fn capture_reader<A: Allocator>(heap: A) -> Answer {
-    match CaptureReader::new(heap, CaptureLimits { packet: 64 }) {
-        Ok(_) => Answer::Granted,
+/// A section, an interface and a packet of two bytes.
+static CAPTURE: [u8; 84] = [
+    10, 13, 13, 10, 28, 0, 0, 0, 77, 60, 43, 26, 1, 0, 0, 0, 255, 255, 255, 255, 255, 255, 255,
+    255, 28, 0, 0, 0, 1, 0, 0, 0, 20, 0, 0, 0, 1, 0, 0, 0, 0, 0, 0, 0, 20, 0, 0, 0, 6, 0, 0, 0, 36,
+    0, 0, 0, 0, 0, 0, 0, 0, 0, 0, 0, 1, 0, 0, 0, 2, 0, 0, 0, 2, 0, 0, 0, 97, 98, 0, 0, 36, 0, 0, 0,
+];
+
+fn capture_reader<A: Allocator + Clone>(heap: A) -> Answer {
+    let limits = CaptureLimits {
+        packet: 64,
+        interfaces: 2,
+    };
+    match CaptureReader::new(heap, limits) {
+        Ok(mut reader) => {
+            if events_of(&mut reader) == 4 {
+                Answer::Granted
+            } else {
+                Answer::Other
+            }
+        }
         Err(NewReaderError::NoMemory) => Answer::NoMemory,
         Err(NewReaderError::BadLimits) => Answer::Other,
     }
+}
+
+/// How many events a reader tells of the capture, byte by byte.
+fn events_of<A: Allocator>(reader: &mut CaptureReader<A>) -> u32 {
+    let mut events = 0u32;
+    for byte in CAPTURE.chunks(1) {
+        let mut rest = byte;
+        for _ in 0..4 {
+            let CaptureStep::Event { used, .. } = reader.next(rest) else {
+                break;
+            };
+            events = events.wrapping_add(1);
+            rest = rest.get(used..).unwrap_or(&[]);
+        }
+    }
+    events
 }
 
 /// A table and its copy: without memory for the copy the table is what it was.

@@ -1,7 +1,8 @@
-//! Reads captures in one piece and in pieces of 1, 7 and 4,096 bytes, and prints what is said of them and of the segments in
-//! their packets.
+//! Reads captures in one piece and in pieces of 1, 7 and 4,096 bytes, short ones in pieces of each size, and prints what is
+//! said of them and of the segments in their packets.
 //!
-//! A line of the input is the name of a file, or a name and the digits of a file's bytes after `|`.
+//! A line of the input is the name of a file, or a name and the digits of a file's bytes after `|`. After `small` it is read
+//! with small limits.
 #![tactic(auto)]
 
 mod reading;
@@ -12,6 +13,15 @@ use cqlp_capture::CaptureLimits;
 use reading::said_in_pieces;
 use std::{fs, io};
 use streams::said_of_streams;
+
+/// The least limit on a packet, and two interfaces.
+const SMALL: CaptureLimits = CaptureLimits {
+    packet: 64,
+    interfaces: 2,
+};
+
+/// A capture of no more bytes is read in pieces of each size.
+const SHORT: usize = 256;
 
 fn main(rt: HostRuntime) -> io::Result<()> {
     for line in rt.lines(rt.alloc()) {
@@ -26,6 +36,10 @@ fn execute(rt: &HostRuntime, line: &str) -> io::Result<()> {
         Some(rest) => (true, rest),
         None => (false, line),
     };
+    let (limits, line) = match line.strip_prefix("small ") {
+        Some(rest) => (SMALL, rest),
+        None => (CaptureLimits::DEFAULT, line),
+    };
     let (name, bytes) = match line.split_once('|') {
         None => (line, fs::read(rt, line)?),
         Some((name, digits)) => match hex::decode(rt.alloc(), digits.as_bytes()) {
@@ -39,13 +53,29 @@ fn execute(rt: &HostRuntime, line: &str) -> io::Result<()> {
         return Ok(());
     }
     println!(rt; "== {}", name.trim_end())?;
-    let whole = said_in_pieces(rt.alloc(), CaptureLimits::DEFAULT, &bytes, bytes.len())?;
+    let whole = said_in_pieces(rt.alloc(), limits, &bytes, bytes.len())?;
     print!(rt; "{whole}")?;
-    for size in [1, 7, 4_096] {
-        let said = said_in_pieces(rt.alloc(), CaptureLimits::DEFAULT, &bytes, size)?;
-        if said.as_str() != whole.as_str() {
-            println!(rt; "differs in pieces of {size} bytes")?;
-        }
+    let each = if bytes.len() <= SHORT { bytes.len() } else { 1 };
+    for size in 1..=each {
+        compare(rt, limits, &bytes, size, whole.as_str())?;
+    }
+    for size in [7, 4_096] {
+        compare(rt, limits, &bytes, size, whole.as_str())?;
+    }
+    Ok(())
+}
+
+/// Prints a line where something else is said of a capture in pieces of this size.
+fn compare(
+    rt: &HostRuntime,
+    limits: CaptureLimits,
+    bytes: &[u8],
+    size: usize,
+    whole: &str,
+) -> io::Result<()> {
+    let said = said_in_pieces(rt.alloc(), limits, bytes, size)?;
+    if said.as_str() != whole {
+        println!(rt; "differs in pieces of {size} bytes")?;
     }
     Ok(())
 }

@@ -1,7 +1,9 @@
 //! What a reader says of a capture.
 
 use crate::segments::put_segment;
-use cqlp_capture::{CaptureEnd, CaptureEvent, CaptureLimits, CaptureReader, CaptureStep};
+use cqlp_capture::{
+    CaptureEnd, CaptureEvent, CaptureLimits, CaptureReader, CaptureStep, PacketHead, SectionForm,
+};
 use std::alloc::Global;
 use std::io;
 
@@ -34,7 +36,7 @@ pub fn said_in_pieces(
     Ok(said)
 }
 
-/// What was said of the packet under way: the link type of its interface, and how many bytes it had.
+/// What was said of the packet under way: its link type, and how many bytes it had.
 #[derive(Drop)]
 struct UnderWay {
     link: u16,
@@ -68,11 +70,13 @@ fn put_event(
     said: &mut String,
 ) -> io::Result<()> {
     match event {
-        CaptureEvent::Section(form) => {
+        CaptureEvent::Section(SectionForm::Pcap(form)) => {
             write!(said, "{at} section {:?} {:?}\n", form.order, form.fraction)?;
         }
+        CaptureEvent::Section(SectionForm::Pcapng(order)) => {
+            write!(said, "{at} section {order:?} pcapng\n")?;
+        }
         CaptureEvent::Interface(head) => {
-            under_way.link = head.link;
             write!(
                 said,
                 "{at} interface {} link {} snap {}\n",
@@ -80,18 +84,25 @@ fn put_event(
             )?;
         }
         CaptureEvent::Packet(head) => {
+            under_way.link = head.link;
             under_way.original = head.original;
-            write!(
-                said,
-                "{at} packet of {} at {} ns captured {} of {}\n",
-                head.interface, head.time, head.captured, head.original
-            )?;
+            put_packet(at, head, said)?;
         }
         CaptureEvent::Data(bytes) => {
             write!(said, "{at} data {} sum {}\n", bytes.len(), sum_of(bytes))?;
             put_segment(under_way.link, bytes, under_way.original, said)?;
         }
     }
+    Ok(())
+}
+
+fn put_packet(at: u64, head: &PacketHead, said: &mut String) -> io::Result<()> {
+    write!(said, "{at} packet of {} at ", head.interface)?;
+    match head.time {
+        Some(time) => write!(said, "{time} ns")?,
+        None => said.push_str("no time")?,
+    }
+    write!(said, " captured {} of {}\n", head.captured, head.original)?;
     Ok(())
 }
 

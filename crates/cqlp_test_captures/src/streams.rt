@@ -37,9 +37,11 @@ pub fn said_of_streams(alloc: Global, file: &[u8]) -> io::Result<String> {
             break;
         };
         match event {
-            CaptureEvent::Section(_) => {}
-            CaptureEvent::Interface(head) => link = head.link,
-            CaptureEvent::Packet(head) => original = head.original,
+            CaptureEvent::Section(_) | CaptureEvent::Interface(_) => {}
+            CaptureEvent::Packet(head) => {
+                link = head.link;
+                original = head.original;
+            }
             CaptureEvent::Data(packet) => {
                 if let Ok(segment) = segment_of(link, packet, original) {
                     take_segment(alloc, &mut directions, &segment)?;

@@ -1,0 +1,297 @@
+-- What the blocks of a pcapng section say (draft-ietf-opsawg-pcapng).
+use Rattle.std.specs.Prelude.{ℕ, ◌+◌, ◌-◌, ◌*◌, ◌^◌, ◌<◌, ◌≤◌, ◌==◌, ◌&&◌, ◌||◌, Bool, List, length, Option, Some, None, Result, Ok}
+use Rattle.std.specs.Prelude.{nat_lt, nat_le, slice_get, slice_index, if◌then◌else◌}
+use Rattle.cqlp_capture.specs.declared.block.Block.{Block}
+use Rattle.cqlp_capture.specs.declared.block.BlockKind.{BlockKind}
+use Rattle.cqlp_capture.specs.declared.block.BlockKind.TheVariants as kind
+use Rattle.cqlp_capture.specs.declared.block.EitherLength.{EitherLength}
+use Rattle.cqlp_capture.specs.declared.file.ByteOrder.{ByteOrder}
+use Rattle.cqlp_capture.specs.declared.file.ByteOrder.TheVariants.{BigEndian, LittleEndian}
+use Rattle.cqlp_capture.specs.declared.file.SectionForm.TheVariants as form
+use Rattle.cqlp_capture.specs.declared.event.PacketHead.{PacketHead}
+use Rattle.cqlp_capture.specs.declared.event.EventOutline.TheVariants as outline
+use Rattle.cqlp_capture.specs.declared.event.Told.{Told}
+use Rattle.cqlp_capture.specs.declared.interfaces.KnownInterface.{KnownInterface}
+use Rattle.cqlp_capture.specs.declared.interfaces.TableChange.TheVariants.{Keep, Forget, Add}
+use Rattle.cqlp_capture.specs.declared.place.Stage.{Stage}
+use Rattle.cqlp_capture.specs.declared.place.Stage.TheVariants.{SectionBody, BlockHead, InterfaceBody, OptionHead, TimeUnit, TimeOffset, EnhancedBody, SimpleBody, BlockData, Pass, BlockEnd}
+use Rattle.cqlp_capture.specs.declared.refusal.CaptureReason.TheVariants.{UnknownVersion, PacketTooLong, FileTooLong, UnknownByteOrder, BadBlockLength, UnequalBlockLengths, BadOptionLength, UnknownTimeUnit, NegativeTimeOffset, TooManyInterfaces, UnknownInterface, PacketBeyondBlock, TimeTooLarge}
+use Rattle.cqlp_capture.specs.declared.refusal.CaptureRefusal.{CaptureRefusal}
+use Rattle.cqlp_capture.specs.Numbers.{is_section, is_block_length, number_16, number_32, number_64, order_of, padded, unit_of}
+use Rattle.cqlp_capture.specs.Telling.{goes_on, refused}
+
+-- ---- a block (section 3.1): type, length, what it says, and the length again
+
+-- the kind of the blocks of this type (section 10.1)
+abbrev pub kind_of : ℕ → BlockKind
+kind_of n =
+    if is_section n then kind.Section
+    else if n == 1 then kind.Interface
+    else if n == 3 then kind.SimplePacket
+    else if n == 6 then kind.EnhancedPacket
+    else kind.Other
+
+-- how many bytes a block of this kind has at least
+abbrev pub least_length : BlockKind → ℕ
+least_length kind.Section = 28
+least_length kind.Interface = 20
+least_length kind.EnhancedPacket = 32
+least_length kind.SimplePacket = 16
+least_length kind.Other = 12
+
+-- a block that begins before offset 2^63, and has both lengths
+pub record IsBlock (b : Block) : Type 0 where
+  pub near : b.start ≤ 2 ^ 63
+  pub least : 12 ≤ b.length
+  pub most : b.length < 2 ^ 32
+
+-- where its second length begins
+abbrev pub block_end : Block → ℕ
+block_end b = b.start + b.length - 4
+
+-- so many bytes, from this offset on, lie between its two lengths
+pub record IsInBlock (b : Block) (offset n : ℕ) : Type 0 where
+  pub block : IsBlock b
+  pub after : b.start + 8 ≤ offset
+  pub before : offset + n ≤ block_end b
+
+-- the bytes from this offset on to its second length
+abbrev pub room_of : Block → (offset : ℕ) → ℕ
+room_of b offset = block_end b - offset
+
+-- Options are read where there is room for one. What is left of a block is passed over, up to its second length.
+abbrev pub at_option : Block → (offset : ℕ) → Stage
+at_option b offset =
+    if nat_le (offset + 4) (block_end b) then OptionHead b
+    else if nat_lt offset (block_end b) then Pass b (block_end b)
+    else BlockEnd b
+
+-- the bytes from one offset to the other are passed over
+abbrev pub passing : Block → (offset until : ℕ) → Stage
+passing b offset until = if offset == until then at_option b until else Pass b until
+
+-- ---- the section header block (section 4.1)
+
+-- its length comes before the order of its bytes is known
+abbrev pub either_length : (i : ℕ) → List ℕ → EitherLength
+either_length i b = record { big_endian = number_32 BigEndian i b; little_endian = number_32 LittleEndian i b }
+
+abbrev pub length_in : ByteOrder → EitherLength → ℕ
+length_in BigEndian l = l.big_endian
+length_in LittleEndian l = l.little_endian
+
+abbrev pub told_section_length : List ℕ → Result Told CaptureRefusal
+told_section_length b = goes_on 8 (SectionBody (either_length 0 b))
+
+-- a section begins, in which no interface is known
+abbrev pub told_section : Block → Result Told CaptureRefusal
+told_section b =
+    Ok (record {
+      at = b.start;
+      what = Some (outline.Section (form.Pcapng b.order));
+      place = record { offset = b.start + 24; stage = passing b (b.start + 24) (block_end b) };
+      change = Forget;
+    })
+
+-- version 1.0, or 1.2, which means the same
+abbrev pub is_known_version : ByteOrder → List ℕ → Bool
+is_known_version o b = (number_16 o 4 b == 1) && ((number_16 o 6 b == 0) || (number_16 o 6 b == 2))
+
+abbrev pub section_at : (offset : ℕ) → EitherLength → ByteOrder → Block
+section_at offset l o = record { order = o; start = offset - 8; length = length_in o l; interface = None }
+
+abbrev pub told_section_in : (offset : ℕ) → EitherLength → List ℕ → Option ByteOrder → Result Told CaptureRefusal
+told_section_in offset l b None = refused offset UnknownByteOrder
+told_section_in offset l b (Some o) =
+    if is_block_length 28 (length_in o l)
+    then (if is_known_version o b then told_section (section_at offset l o) else refused (offset + 4) UnknownVersion)
+    else refused (offset - 4) BadBlockLength
+
+-- the byte-order magic, the version, and the length of the section, which is not looked at
+abbrev pub told_section_body : (offset : ℕ) → EitherLength → List ℕ → Result Told CaptureRefusal
+told_section_body offset l b = told_section_in offset l b (order_of (number_32 BigEndian 0 b))
+
+-- ---- the head of any block
+
+abbrev pub block_at : (offset : ℕ) → ByteOrder → List ℕ → Block
+block_at offset o b = record { order = o; start = offset; length = number_32 o 4 b; interface = None }
+
+-- where the body of a block of this kind is read
+abbrev pub body_of : BlockKind → Block → Stage
+body_of kind.Interface b = InterfaceBody b
+body_of kind.EnhancedPacket b = EnhancedBody b
+body_of kind.SimplePacket b = SimpleBody b
+body_of kind.Section b = passing b (b.start + 8) (block_end b)
+body_of kind.Other b = passing b (b.start + 8) (block_end b)
+
+abbrev pub told_block : BlockKind → Block → Result Told CaptureRefusal
+told_block k b = goes_on (b.start + 8) (body_of k b)
+
+abbrev pub told_block_of : BlockKind → Block → Result Told CaptureRefusal
+told_block_of k b =
+    if is_block_length (least_length k) b.length then told_block k b else refused (b.start + 4) BadBlockLength
+
+abbrev pub told_block_head : (offset : ℕ) → ByteOrder → List ℕ → Result Told CaptureRefusal
+told_block_head offset o b =
+    if nat_lt (2 ^ 63) offset then refused offset FileTooLong
+    else if is_section (number_32 o 0 b) then goes_on (offset + 8) (SectionBody (either_length 4 b))
+    else told_block_of (kind_of (number_32 o 0 b)) (block_at offset o b)
+
+-- ---- the interface description block (section 4.2)
+
+-- the block with what is known of its interface
+abbrev pub describing : Block → KnownInterface → Block
+describing b i = record { order = b.order; start = b.start; length = b.length; interface = Some i }
+
+-- this is known up to this offset
+abbrev pub described : (offset : ℕ) → Block → KnownInterface → Result Told CaptureRefusal
+described offset b i = goes_on offset (at_option (describing b i) offset)
+
+-- the link type, two bytes that are not used, and how many bytes of a packet were captured at most; times are in
+-- microseconds since 1970, where no option says otherwise
+abbrev pub told_interface_body : (offset : ℕ) → Block → List ℕ → Result Told CaptureRefusal
+told_interface_body offset b bytes =
+    described (offset + 8) b
+    (record { link = number_16 b.order 0 bytes; snap_length = number_32 b.order 4 bytes; unit = 1000; offset = 0 })
+
+-- An option (section 3.5) has a code and the length of its value. if_tsresol, 9, has one byte, and if_tsoffset, 14, eight.
+abbrev pub told_option : (offset : ℕ) → Block → (code size : ℕ) → Result Told CaptureRefusal
+told_option offset b code size =
+    if code == 9
+    then (if size == 1 then goes_on (offset + 4) (TimeUnit b) else refused (offset + 2) BadOptionLength)
+    else if code == 14
+    then (if size == 8 then goes_on (offset + 4) (TimeOffset b) else refused (offset + 2) BadOptionLength)
+    else goes_on (offset + 4) (passing b (offset + 4) (offset + 4 + padded size))
+
+-- opt_endofopt, 0, is the last
+abbrev pub told_option_head : (offset : ℕ) → Block → List ℕ → Result Told CaptureRefusal
+told_option_head offset b bytes =
+    if number_16 b.order 0 bytes == 0 then goes_on (offset + 4) (passing b (offset + 4) (block_end b))
+    else if nat_lt (block_end b) (offset + 4 + padded (number_16 b.order 2 bytes)) then refused (offset + 2) BadOptionLength
+    else told_option offset b (number_16 b.order 0 bytes) (number_16 b.order 2 bytes)
+
+abbrev pub with_unit : (unit : ℕ) → KnownInterface → KnownInterface
+with_unit unit i = record { link = i.link; snap_length = i.snap_length; unit = unit; offset = i.offset }
+
+abbrev pub with_offset : (seconds : ℕ) → KnownInterface → KnownInterface
+with_offset seconds i = record { link = i.link; snap_length = i.snap_length; unit = i.unit; offset = seconds }
+
+-- what an option says of the block's interface
+abbrev pub redescribed : (offset : ℕ) → Block → Option KnownInterface → (KnownInterface → KnownInterface) → Result Told CaptureRefusal
+redescribed offset b None f = goes_on offset (at_option b offset)
+redescribed offset b (Some i) f = described offset b (f i)
+
+abbrev pub told_unit : (offset : ℕ) → Block → Option ℕ → Result Told CaptureRefusal
+told_unit offset b None = refused offset UnknownTimeUnit
+told_unit offset b (Some unit) = redescribed (offset + 4) b b.interface (with_unit unit)
+
+-- if_tsresol
+abbrev pub told_time_unit : (offset : ℕ) → Block → List ℕ → Result Told CaptureRefusal
+told_time_unit offset b bytes = told_unit offset b (unit_of (slice_index bytes 0))
+
+-- if_tsoffset: a signed number of seconds
+abbrev pub told_time_offset : (offset : ℕ) → Block → List ℕ → Result Told CaptureRefusal
+told_time_offset offset b bytes =
+    if nat_le (2 ^ 63) (number_64 b.order 0 bytes) then refused offset NegativeTimeOffset
+    else redescribed (offset + 8) b b.interface (with_offset (number_64 b.order 0 bytes))
+
+-- ---- the bytes of a packet, and the end of a block
+
+abbrev pub told_packet : (offset : ℕ) → Block → PacketHead → Result Told CaptureRefusal
+told_packet offset b h =
+    Ok (record {
+      at = b.start;
+      what = Some (outline.Packet h);
+      place = record { offset = offset; stage = BlockData b h.captured };
+      change = Keep;
+    })
+
+-- these bytes, up to this offset, are all of a packet
+abbrev pub told_data : (end offset : ℕ) → Stage → Result Told CaptureRefusal
+told_data end offset s =
+    Ok (record { at = offset; what = Some outline.Data; place = record { offset = end; stage = s }; change = Keep })
+
+abbrev pub told_known : (limit : ℕ) → List KnownInterface → (offset : ℕ) → Block → Option KnownInterface → Result Told CaptureRefusal
+told_known limit known offset b None = goes_on (offset + 4) (BlockHead b.order)
+told_known limit known offset b (Some i) =
+    if nat_lt (length known) limit
+    then Ok (record {
+      at = b.start;
+      what = Some (outline.Interface (record { number = length known; link = i.link; snap_length = i.snap_length }));
+      place = record { offset = offset + 4; stage = BlockHead b.order };
+      change = Add i;
+    })
+    else refused b.start TooManyInterfaces
+
+-- Both lengths are the same, and where the block was about an interface, that is known from here on.
+abbrev pub told_block_end : (limit : ℕ) → List KnownInterface → (offset : ℕ) → Block → List ℕ → Result Told CaptureRefusal
+told_block_end limit known offset b bytes =
+    if number_32 b.order 0 bytes == b.length then told_known limit known offset b b.interface
+    else refused offset UnequalBlockLengths
+
+-- ---- the enhanced packet block (section 4.3)
+
+-- a time in nanoseconds, if it is a number of 64 bits
+abbrev pub nanoseconds_of : KnownInterface → (units : ℕ) → ℕ
+nanoseconds_of i units = units * i.unit + i.offset * 1000000000
+
+abbrev pub time_of : KnownInterface → (units : ℕ) → Option ℕ
+time_of i units = if nat_lt (nanoseconds_of i units) (2 ^ 64) then Some (nanoseconds_of i units) else None
+
+-- the upper half of a time comes first, in both orders of bytes
+abbrev pub units_of : ByteOrder → List ℕ → ℕ
+units_of o b = number_32 o 4 b * 2 ^ 32 + number_32 o 8 b
+
+abbrev pub enhanced_of : ByteOrder → KnownInterface → (time : ℕ) → List ℕ → PacketHead
+enhanced_of o i time b = record {
+  interface = number_32 o 0 b;
+  link = i.link;
+  time = Some time;
+  captured = number_32 o 12 b;
+  original = number_32 o 16 b;
+}
+
+abbrev pub told_timed : (limit offset : ℕ) → Block → List ℕ → KnownInterface → Option ℕ → Result Told CaptureRefusal
+told_timed limit offset b bytes i None = refused (offset + 4) TimeTooLarge
+told_timed limit offset b bytes i (Some time) =
+    if nat_lt (room_of b (offset + 20)) (number_32 b.order 12 bytes) then refused (offset + 12) PacketBeyondBlock
+    else if nat_lt limit (number_32 b.order 12 bytes) then refused (offset + 12) PacketTooLong
+    else told_packet (offset + 20) b (enhanced_of b.order i time bytes)
+
+abbrev pub told_enhanced : (limit offset : ℕ) → Block → List ℕ → Option KnownInterface → Result Told CaptureRefusal
+told_enhanced limit offset b bytes None = refused offset UnknownInterface
+told_enhanced limit offset b bytes (Some i) = told_timed limit offset b bytes i (time_of i (units_of b.order bytes))
+
+-- the number of its interface, its time, how many of its bytes were captured, and how many it had
+abbrev pub told_enhanced_body : (limit : ℕ) → List KnownInterface → (offset : ℕ) → Block → List ℕ → Result Told CaptureRefusal
+told_enhanced_body limit known offset b bytes =
+    told_enhanced limit offset b bytes (slice_get known (number_32 b.order 0 bytes))
+
+-- ---- the simple packet block (section 4.4)
+
+-- As many bytes of it were captured as it had, but no more than its interface says, where that says so, and than its block has.
+abbrev pub snapped : (snap_length original : ℕ) → ℕ
+snapped snap_length original =
+    if snap_length == 0 then original else if nat_le original snap_length then original else snap_length
+
+abbrev pub captured_of : KnownInterface → (original room : ℕ) → ℕ
+captured_of i original room =
+    if nat_lt room (snapped i.snap_length original) then room else snapped i.snap_length original
+
+abbrev pub simple_of : KnownInterface → (original captured : ℕ) → PacketHead
+simple_of i original captured =
+    record { interface = 0; link = i.link; time = None; captured = captured; original = original }
+
+abbrev pub told_captured : (limit offset : ℕ) → Block → KnownInterface → (original captured : ℕ) → Result Told CaptureRefusal
+told_captured limit offset b i original captured =
+    if nat_lt limit captured then refused offset PacketTooLong
+    else told_packet (offset + 4) b (simple_of i original captured)
+
+abbrev pub told_simple : (limit offset : ℕ) → Block → (original : ℕ) → Option KnownInterface → Result Told CaptureRefusal
+told_simple limit offset b original None = refused b.start UnknownInterface
+told_simple limit offset b original (Some i) =
+    told_captured limit offset b i original (captured_of i original (room_of b (offset + 4)))
+
+-- how many bytes it had; it is one of the section's first interface
+abbrev pub told_simple_body : (limit : ℕ) → List KnownInterface → (offset : ℕ) → Block → List ℕ → Result Told CaptureRefusal
+told_simple_body limit known offset b bytes = told_simple limit offset b (number_32 b.order 0 bytes) (slice_get known 0)

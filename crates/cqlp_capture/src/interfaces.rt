@@ -1,0 +1,84 @@
+//! The interfaces of a section.
+
+ghost use Rattle.std.specs.Prelude.{◌≡◌, ◌≤◌, [], length, IfOk};
+
+use std::alloc::{AllocError, Allocator};
+use std::marker::Model;
+
+/// What packets of an interface need of it.
+#[derive(Clone, Copy)]
+pub(crate) struct KnownInterface {
+    /// The link type.
+    pub link: u16,
+    /// How many bytes of a packet were captured at most, or 0.
+    pub snap_length: u32,
+    /// How many nanoseconds a unit of its packets' times is.
+    pub unit: u32,
+    /// How many seconds are added to its packets' times.
+    pub offset: u64,
+}
+
+/// What becomes of the interfaces of a section.
+#[derive(Clone, Copy)]
+pub(crate) enum TableChange {
+    Keep,
+    /// A section begins.
+    Forget,
+    Add(KnownInterface),
+}
+
+/// The interfaces of a section, in memory that is taken once: its capacity is the room, for as long as it lives.
+#[derive(Drop)]
+pub(crate) struct InterfaceTable<A: Allocator> {
+    entries: Vec<KnownInterface, A>,
+    room: usize,
+}
+
+impl<A: Allocator> Model for InterfaceTable<A> {
+    ghost use Rattle.std.specs.Prelude.{◌≡◌, vec_capacity};
+    ghost use Rattle.cqlp_capture.specs.Interfaces.{Interfaces, interfaces};
+
+    ghost Value = { Interfaces };
+
+    ghost view = { λ t. interfaces t.entries.items t.room };
+
+    ghost invariant = { λ t. vec_capacity t.entries ≡ t.room };
+}
+
+impl<A: Allocator> InterfaceTable<A> {
+    ghost use Rattle.cqlp_capture.specs.Interfaces.{interfaces, changed};
+
+    /// With room for this many interfaces. This is the one call that takes memory.
+    pub fn new(alloc: A, room: usize) -> Result<Self, AllocError>
+        ensures { IfOk result (λ table. table ≡ interfaces [] room) }
+    {
+        let entries = Vec::with_capacity(alloc, room)?;
+        Ok(InterfaceTable { entries, room })
+    }
+
+    /// The interfaces, of which the first has the number 0.
+    pub fn known(&self) -> &[KnownInterface]
+        ensures { result.now ≡ self.now.known }
+    {
+        self.entries.as_slice()
+    }
+
+    /// How many interfaces its memory has places for.
+    pub fn capacity(&self) -> usize
+        ensures { result ≡ self.now.room }
+    {
+        self.entries.capacity()
+    }
+
+    /// Makes this change.
+    pub fn apply(&mut self, change: TableChange)
+        requires { length (changed change self.old.known) ≤ self.old.room }
+        ensures { self.new ≡ interfaces (changed change self.old.known) self.old.room }
+    {
+        match change {
+            TableChange::Keep => {}
+            TableChange::Forget => self.entries.clear(),
+            TableChange::Add(interface) => self.entries.push_reserved(interface),
+        }
+    }
+}

@@ -1,0 +1,28 @@
+//! Short forms of what bytes say.
+
+ghost use Rattle.std.specs.Prelude.{◌≡◌};
+ghost use Rattle.cqlp_capture.specs.Telling.{goes_on, refused};
+
+use crate::event::Told;
+use crate::interfaces::TableChange;
+use crate::place::{Place, Stage};
+use crate::refusal::{CaptureReason, CaptureRefusal};
+
+/// No event, and this is read next, from this offset on.
+pub(crate) fn go_on(offset: u64, stage: Stage) -> Result<Told, CaptureRefusal>
+    ensures { result ≡ goes_on offset stage }
+{
+    Ok(Told {
+        at: offset,
+        what: None,
+        place: Place { offset, stage },
+        change: TableChange::Keep,
+    })
+}
+
+/// The refusal at this offset.
+pub(crate) fn refuse(at: u64, why: CaptureReason) -> Result<Told, CaptureRefusal>
+    ensures { result ≡ refused at why }
+{
+    Err(CaptureRefusal { at, why })
+}
