@@ -1,4 +1,4 @@
-//! Writes what each end of each TCP connection of a pcap file sent, in order, into a file of its own in a folder, and a line about each; as
+//! Writes what each end of each TCP connection of a pcap or a pcapng file sent, in order, into a file of its own in a folder, and a line about each; as
 //! tcpflow does. Without a folder it counts only.
 //!
 //! `cargo run --release --example streams CAPTURE [FOLDER]`
@@ -139,7 +139,7 @@ impl Direction {
 pub fn follow(mut capture: impl Read, tell: impl FnMut(u64, Told<'_>) -> io::Result<()>) -> io::Result<()> {
     let mut reader = CaptureReader::new(Global, CaptureLimits::DEFAULT).map_err(io::Error::other)?;
     let mut directions = Directions { known: HashMap::new(), order: VecDeque::new(), count: 0, tell };
-    let (mut link, mut original) = (None, 0);
+    let (mut link, mut original) = (0, 0);
     let mut piece = vec![0; 1 << 18];
     loop {
         let count = capture.read(&mut piece)?;
@@ -151,11 +151,10 @@ pub fn follow(mut capture: impl Read, tell: impl FnMut(u64, Told<'_>) -> io::Res
             match reader.next(rest) {
                 CaptureStep::Event { used, event, .. } => {
                     match event {
-                        CaptureEvent::Section(_) => {}
-                        CaptureEvent::Interface(head) => link = LinkType::from_number(head.link).ok(),
-                        CaptureEvent::Packet(head) => original = head.original,
+                        CaptureEvent::Section(_) | CaptureEvent::Interface(_) => {}
+                        CaptureEvent::Packet(head) => (link, original) = (head.link, head.original),
                         CaptureEvent::Data(packet) => {
-                            if let Some(Ok(segment)) = link.map(|link| read_segment(link, packet, original)) {
+                            if let Ok(segment) = LinkType::from_number(link).and_then(|link| read_segment(link, packet, original)) {
                                 directions.take(&segment)?;
                             }
                         }

@@ -68,6 +68,7 @@ fn conversations(capture: &[u8]) -> Vec<[Vec<u8>; 2]> {
 fn the_bytes_of_a_driver() {
     for (name, base) in [
         ("driver.pcap", "driver"),
+        ("driver.pcapng", "driver"),
         ("driver-big-endian.pcap", "driver"),
         ("driver-ns.pcap", "driver"),
         ("driver-vlan.pcap", "driver"),
@@ -179,7 +180,6 @@ impl Direction {
 /// What is said of a capture: its events, its segments, what streams tell, and how it ends.
 struct Report {
     room: usize,
-    link: Option<LinkType>,
     packet: Option<PacketHead>,
     directions: HashMap<(Endpoint, Endpoint), Direction>,
     said: Vec<u8>,
@@ -209,22 +209,20 @@ impl Report {
 
     fn event(&mut self, at: u64, event: &CaptureEvent<'_>) {
         match event {
-            CaptureEvent::Section(_) => {}
-            CaptureEvent::Interface(head) => self.link = LinkType::from_number(head.link).ok(),
+            CaptureEvent::Section(_) | CaptureEvent::Interface(_) => {}
             CaptureEvent::Packet(head) => self.packet = Some(*head),
             CaptureEvent::Data(packet) => {
                 let head = self.packet.take().unwrap();
                 assert_eq!(packet.len(), head.captured as usize);
                 self.said.extend(*packet);
-                return self.packet(packet, head.original);
+                return self.packet(&head, packet);
             }
         }
         writeln!(self.said, "{at} {event:?}").unwrap();
     }
 
-    fn packet(&mut self, packet: &[u8], original: u32) {
-        let Some(link) = self.link else { return };
-        match read_segment(link, packet, original) {
+    fn packet(&mut self, head: &PacketHead, packet: &[u8]) {
+        match LinkType::from_number(head.link).and_then(|link| read_segment(link, packet, head.original)) {
             Ok(segment) => {
                 assert_eq!(&packet[segment.offset..segment.offset + segment.payload.len()], segment.payload);
                 self.segment(&segment);
@@ -256,13 +254,13 @@ impl Report {
 
 fn said<'a>(limits: CaptureLimits, room: usize, pieces: impl IntoIterator<Item = &'a [u8]>) -> Vec<u8> {
     let mut reader = CaptureReader::new(Global, limits).unwrap();
-    let mut report = Report { room, link: None, packet: None, directions: HashMap::new(), said: Vec::new() };
+    let mut report = Report { room, packet: None, directions: HashMap::new(), said: Vec::new() };
     for piece in pieces {
         if !report.take(&mut reader, piece) {
             break;
         }
     }
-    assert_eq!(reader.capacity(), limits.packet as usize);
+    assert_eq!((reader.capacity(), reader.interface_capacity()), (limits.packet as usize, limits.interfaces as usize));
     writeln!(report.said, "{:?}", reader.finish()).unwrap();
     report.said
 }
@@ -323,12 +321,13 @@ fn pieces<'a>(numbers: &mut Numbers, mut rest: &'a [u8], most: usize) -> Vec<&'a
 #[test]
 fn changed_captures() {
     let names = ["driver", "driver-big-endian", "driver-ns", "driver-vlan", "driver-sll2", "driver-snapped", "driver-middle"];
-    let bases: Vec<_> = names.iter().map(|name| records(&capture(&format!("{name}.pcap")))).collect();
+    let files = names.iter().map(|name| format!("{name}.pcap")).chain(["driver.pcapng".to_string()]);
+    let bases: Vec<_> = files.map(|name| records(&capture(&name))).collect();
     let mut numbers = Numbers::new();
     for case in 0..count() {
         let base = &bases[numbers.below(bases.len())];
         let changed = mutated(&mut numbers, base);
-        let limits = CaptureLimits { packet: numbers.one_of(&[64, 96, 1_000, 262_144]) };
+        let limits = CaptureLimits { packet: numbers.one_of(&[64, 96, 1_000, 262_144]), interfaces: numbers.one_of(&[1, 2, 256]) };
         let room = numbers.one_of(&[0, 1, 7, 300, 5_000]);
         let whole = said(limits, room, [&changed[..]]);
         let most = numbers.one_of(&[1, 3, 20, 200, 2_000]);

@@ -266,7 +266,7 @@ pub mod session {
 
 /// Packet captures: their packets, the segments of TCP in them, and the bytes of each direction of a connection in order.
 ///
-/// A [`CaptureReader`](capture::CaptureReader) reads a pcap file from pieces of any size. [`read_segment`](capture::read_segment)
+/// A [`CaptureReader`](capture::CaptureReader) reads a pcap or a pcapng file from pieces of any size. [`read_segment`](capture::read_segment)
 /// finds the segment in a packet. A [`Stream`](capture::Stream) is one direction of a connection: of each segment
 /// [`take`](capture::Stream::take) is called again and again until it says `Done`, and of each acknowledgement of the other side
 /// [`acknowledge`](capture::Stream::acknowledge); where they say `Held`, [`read_held`](capture::Stream::read_held) comes in between.
@@ -291,7 +291,7 @@ pub mod session {
 pub mod capture {
     pub use crate::cqlp_capture::{
         ByteOrder, CaptureEnd, CaptureEvent, CaptureLimits, CaptureReader, CaptureReason, CaptureRefusal, CaptureStep, FileForm, Fraction,
-        InterfaceHead, NewReaderError, PacketHead,
+        InterfaceHead, NewReaderError, PacketHead, SectionForm,
     };
     pub use crate::cqlp_reassembly::{Control, Distance, Stream, StreamStep, distance_to};
     pub use crate::cqlp_segment::{Address, Endpoint, Flags, LinkType, NoSegment, Segment, SegmentHead, read_segment};

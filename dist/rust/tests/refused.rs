@@ -151,8 +151,8 @@ fn answers_to_other_versions() {
 /// A reader of captures takes memory when it is made, and none while it reads packets in pieces.
 #[test]
 fn captures() {
-    let file = std::fs::read(concat!(env!("CARGO_MANIFEST_DIR"), "/tests/captures/driver.pcap")).unwrap();
-    finds_just_what_is_there(1, || {
+    let file = std::fs::read(concat!(env!("CARGO_MANIFEST_DIR"), "/tests/captures/driver.pcapng")).unwrap();
+    finds_just_what_is_there(2, || {
         let Ok(mut reader) = CaptureReader::new(Global, CaptureLimits::DEFAULT) else {
             return Answer::NoMemory;
         };

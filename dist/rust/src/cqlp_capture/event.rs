@@ -1,14 +1,15 @@
 // Written by dist/erase from crates/cqlp_capture/src/event.rt.
 //! What calls of a reader tell of a capture.
 
-use crate::cqlp_capture::file::FileForm;
+use crate::cqlp_capture::file::SectionForm;
+use crate::cqlp_capture::interfaces::TableChange;
 use crate::cqlp_capture::place::Place;
 use crate::cqlp_capture::refusal::CaptureRefusal;
 
 /// An interface on which packets were captured.
 #[derive(Clone, Copy, Debug, PartialEq, Eq)]
 pub struct InterfaceHead {
-    /// The number by which packets name it: 0 in a pcap file, which has one.
+    /// The number by which packets of its section name it: how many the section has before it. A pcap file has one.
     pub number: u32,
     /// The link type of its packets, as the registry of LINKTYPE_ values has it: 1 is Ethernet.
     pub link: u16,
@@ -19,10 +20,13 @@ pub struct InterfaceHead {
 /// A packet, before its bytes.
 #[derive(Clone, Copy, Debug, PartialEq, Eq)]
 pub struct PacketHead {
-    /// The number of its interface.
+    /// The number of its interface in this section.
     pub interface: u32,
-    /// When it was captured, in nanoseconds since 1970-01-01 00:00:00 UTC. A pcap file's times all fit.
-    pub time: u64,
+    /// The link type of that interface.
+    pub link: u16,
+    /// When it was captured, in nanoseconds since 1970-01-01 00:00:00 UTC; `None` where the file does not say so, as of a
+    /// simple packet of pcapng. A pcap file's times all fit.
+    pub time: Option<u64>,
     /// How many of its bytes the file has, at most the caller's limit.
     pub captured: u32,
     /// How many bytes it had, by the file's word: fewer than were captured is not refused.
@@ -32,8 +36,8 @@ pub struct PacketHead {
 /// An event of a capture.
 #[derive(Clone, Copy, Debug, PartialEq, Eq)]
 pub enum CaptureEvent<'a> {
-    /// A file of this form begins.
-    Section(FileForm),
+    /// A section of this form begins, with no interfaces yet. A pcap file is one.
+    Section(SectionForm),
     Interface(InterfaceHead),
     /// A packet begins, whose bytes are next.
     Packet(PacketHead),
@@ -44,19 +48,21 @@ pub enum CaptureEvent<'a> {
 /// An event without its bytes.
 #[derive(Clone, Copy)]
 pub(crate) enum EventOutline {
-    Section(FileForm),
+    Section(SectionForm),
     Interface(InterfaceHead),
     Packet(PacketHead),
     /// The bytes that were wanted.
     Data,
 }
 
-/// What the bytes that were wanted say: an event at an offset, and where the reading stands after it.
+/// What the bytes that were wanted say: an event at an offset, or none; where the reading stands after it, and what becomes
+/// of the section's interfaces.
 #[derive(Clone, Copy)]
 pub(crate) struct Told {
     pub at: u64,
-    pub what: EventOutline,
+    pub what: Option<EventOutline>,
     pub place: Place,
+    pub change: TableChange,
 }
 
 /// What one call makes of the input.
@@ -79,9 +85,9 @@ pub enum CaptureStep<'a> {
 /// How a file ends.
 #[derive(Clone, Copy, Debug, PartialEq, Eq)]
 pub enum CaptureEnd {
-    /// After its last packet, or after its header, at this offset.
+    /// After its last packet or block, or after its header, at this offset.
     Whole { bytes: u64 },
-    /// Within its header or a record, which began at the offset `at`, after this many bytes.
+    /// Within its header, a record or a block, which began at the offset `at`, after this many bytes.
     Cut { at: u64, bytes: u64 },
     Refused(CaptureRefusal),
 }

@@ -24,6 +24,14 @@ pub struct FileForm {
     pub fraction: Fraction,
 }
 
+/// How the numbers of a section are written, and in which format. A pcap file is one section.
+#[derive(Clone, Copy, Debug, PartialEq, Eq)]
+pub enum SectionForm {
+    Pcap(FileForm),
+    /// Each interface says for itself what its times count.
+    Pcapng(ByteOrder),
+}
+
 impl FileForm {
     /// The form that a magic number says, read with its highest byte first.
     pub(crate) fn of_magic(magic: u32) -> Option<FileForm>
@@ -40,6 +48,17 @@ impl FileForm {
 }
 
 impl ByteOrder {
+    /// The order that the byte-order magic of a section says, read with its highest byte first. Section 4.1 of
+    /// draft-ietf-opsawg-pcapng.
+    pub(crate) fn of_magic(magic: u32) -> Option<ByteOrder>
+    {
+        match magic {
+            0x1A2B_3C4D => Some(ByteOrder::BigEndian),
+            0x4D3C_2B1A => Some(ByteOrder::LittleEndian),
+            _ => None,
+        }
+    }
+
     /// The number in two bytes, from this index on.
     pub(crate) fn read_u16(self, bytes: &[u8], index: usize) -> u16
     {
@@ -62,6 +81,25 @@ impl ByteOrder {
         match self {
             ByteOrder::BigEndian => u32::from_be_bytes(bytes),
             ByteOrder::LittleEndian => u32::from_le_bytes(bytes),
+        }
+    }
+
+    /// The number in eight bytes, from this index on.
+    pub(crate) fn read_u64(self, bytes: &[u8], index: usize) -> u64
+    {
+        let bytes = [
+            bytes[index],
+            bytes[index + 1],
+            bytes[index + 2],
+            bytes[index + 3],
+            bytes[index + 4],
+            bytes[index + 5],
+            bytes[index + 6],
+            bytes[index + 7],
+        ];
+        match self {
+            ByteOrder::BigEndian => u64::from_be_bytes(bytes),
+            ByteOrder::LittleEndian => u64::from_le_bytes(bytes),
         }
     }
 }

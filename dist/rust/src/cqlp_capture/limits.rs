@@ -6,6 +6,8 @@
 pub struct CaptureLimits {
     /// The captured bytes of one packet: 64 to 16,777,216.
     pub packet: u32,
+    /// The interfaces of one section: 1 to 65,536.
+    pub interfaces: u32,
 }
 
 impl CaptureLimits {
@@ -15,12 +17,21 @@ impl CaptureLimits {
     /// The greatest limit on a packet.
     pub const GREATEST_PACKET: u32 = 16_777_216;
 
-    /// The limit where none is given: as many bytes as a capture of whole packets takes of one.
-    pub const DEFAULT: CaptureLimits = CaptureLimits { packet: 262_144 };
+    /// The greatest limit on interfaces. The least is 1.
+    pub const GREATEST_INTERFACES: u32 = 65_536;
 
-    /// Whether the limit is in its range.
+    /// The limits where none are given: as many bytes as a capture of whole packets takes of one, and 256 interfaces.
+    pub const DEFAULT: CaptureLimits = CaptureLimits {
+        packet: 262_144,
+        interfaces: 256,
+    };
+
+    /// Whether the limits are in their ranges.
     pub fn is_in_range(&self) -> bool
     {
-        CaptureLimits::LEAST_PACKET <= self.packet && self.packet <= CaptureLimits::GREATEST_PACKET
+        CaptureLimits::LEAST_PACKET <= self.packet
+            && self.packet <= CaptureLimits::GREATEST_PACKET
+            && 1 <= self.interfaces
+            && self.interfaces <= CaptureLimits::GREATEST_INTERFACES
     }
 }

@@ -1,16 +1,21 @@
 // Written by dist/erase from crates/cqlp_capture/src/lib.rt.
 //! Packet captures, read from pieces of any size.
 
+mod block;
 mod event;
 mod file;
 mod gathered;
+mod interfaces;
 mod limits;
+mod pcap;
+mod pcapng;
 mod place;
 mod reader;
 mod refusal;
+mod telling;
 
 pub use event::{CaptureEnd, CaptureEvent, CaptureStep, InterfaceHead, PacketHead};
-pub use file::{ByteOrder, FileForm, Fraction};
+pub use file::{ByteOrder, FileForm, Fraction, SectionForm};
 pub use limits::CaptureLimits;
 pub use reader::CaptureReader;
 pub use refusal::{CaptureReason, CaptureRefusal, NewReaderError};

@@ -1,25 +1,62 @@
 // Written by dist/erase from crates/cqlp_capture/src/place.rt.
 //! Where the reading of a capture stands.
 
-use crate::cqlp_capture::event::{EventOutline, InterfaceHead, PacketHead, Told};
-use crate::cqlp_capture::file::{ByteOrder, FileForm, Fraction};
-use crate::cqlp_capture::refusal::{CaptureReason, CaptureRefusal};
+use crate::cqlp_capture::block::{Block, EitherLength};
+use crate::cqlp_capture::event::{Told};
+use crate::cqlp_capture::file::{ByteOrder, FileForm};
+use crate::cqlp_capture::interfaces::{KnownInterface};
+use crate::cqlp_capture::limits::CaptureLimits;
+use crate::cqlp_capture::refusal::CaptureRefusal;
+use crate::cqlp_capture::telling::go_on;
+use crate::cqlp_capture::{pcap, pcapng};
+
+/// How the records of a pcap file are written.
+#[derive(Clone, Copy)]
+pub(crate) struct RecordForm {
+    pub form: FileForm,
+    /// The link type of its packets.
+    pub link: u16,
+}
 
 /// What is read next.
 #[derive(Clone, Copy)]
 pub(crate) enum Stage {
-    /// The magic number.
+    /// The magic number, or the type of the first block.
     Magic,
-    /// The rest of the file's header.
+    /// The rest of a pcap file's header.
     FileHead(FileForm),
     /// The header of a record.
-    RecordHead(FileForm),
-    /// This many bytes of a packet.
-    Data(FileForm, u32),
+    RecordHead(RecordForm),
+    /// This many bytes of a record's packet.
+    Data(RecordForm, u32),
+    /// The length of the first block.
+    SectionLength,
+    /// The numbers of a section's header, which has this length.
+    SectionBody(EitherLength),
+    /// The type and the length of a block.
+    BlockHead(ByteOrder),
+    /// The numbers of an interface.
+    InterfaceBody(Block),
+    /// The code and the length of an option of an interface.
+    OptionHead(Block),
+    /// The value of if_tsresol.
+    TimeUnit(Block),
+    /// The value of if_tsoffset.
+    TimeOffset(Block),
+    /// The numbers of an enhanced packet.
+    EnhancedBody(Block),
+    /// The number of a simple packet.
+    SimpleBody(Block),
+    /// This many bytes of a block's packet.
+    BlockData(Block, u32),
+    /// Bytes up to this offset that are passed over.
+    Pass(Block, u64),
+    /// The second length of a block.
+    BlockEnd(Block),
 }
 
-/// No record begins farther than this.
-const FARTHEST_RECORD: u64 = 0x8000_0000_0000_0000;
+/// No record and no block begins farther than this.
+pub(crate) const FARTHEST: u64 = 0x8000_0000_0000_0000;
 
 /// The offset in the file of what is read next.
 #[derive(Clone, Copy)]
@@ -29,136 +66,89 @@ pub(crate) struct Place {
 }
 
 impl Stage {
-    /// How many bytes are read next.
+    /// How many bytes are read next. Of those that are passed over it is one, and any number of them may be taken at once.
     pub fn wanted(self) -> usize
     {
         match self {
-            Stage::Magic => 4,
-            Stage::FileHead(_) => 20,
-            Stage::RecordHead(_) => 16,
-            Stage::Data(_, size) => size as usize,
+            Stage::Magic
+            | Stage::SectionLength
+            | Stage::OptionHead(_)
+            | Stage::TimeUnit(_)
+            | Stage::SimpleBody(_)
+            | Stage::BlockEnd(_) => 4,
+            Stage::BlockHead(_) | Stage::InterfaceBody(_) | Stage::TimeOffset(_) => 8,
+            Stage::RecordHead(_) | Stage::SectionBody(_) => 16,
+            Stage::FileHead(_) | Stage::EnhancedBody(_) => 20,
+            Stage::Data(_, size) | Stage::BlockData(_, size) => size as usize,
+            Stage::Pass(..) => 1,
         }
     }
 }
 
 impl Place {
-    /// What the bytes say that are read next, under this limit on a packet.
-    pub(crate) fn tell(self, limit: u32, bytes: &[u8]) -> Result<Told, CaptureRefusal>
+    /// What the bytes say that are read next, under these limits, where these are the interfaces so far.
+    pub(crate) fn tell(
+        self,
+        limits: &CaptureLimits,
+        known: &[KnownInterface],
+        bytes: &[u8],
+    ) -> Result<Told, CaptureRefusal>
     {
+        let offset = self.offset;
         match self.stage {
-            Stage::Magic => tell_magic(bytes),
-            Stage::FileHead(form) => tell_file_head(form, bytes),
-            Stage::RecordHead(form) => tell_record_head(limit, self.offset, form, bytes),
-            Stage::Data(form, size) => Ok(Told {
-                at: self.offset,
-                what: EventOutline::Data,
-                place: Place {
-                    offset: self.offset + size as u64,
-                    stage: Stage::RecordHead(form),
-                },
-            }),
+            Stage::Magic => pcap::tell_magic(bytes),
+            Stage::FileHead(form) => pcap::tell_file_head(form, bytes),
+            Stage::RecordHead(form) => pcap::tell_record_head(limits.packet, offset, form, bytes),
+            Stage::Data(form, size) => {
+                pcapng::tell_data(offset + size as u64, offset, Stage::RecordHead(form))
+            }
+            Stage::SectionLength => pcapng::tell_section_length(bytes),
+            Stage::SectionBody(lengths) => pcapng::tell_section_body(offset, lengths, bytes),
+            Stage::BlockHead(order) => pcapng::tell_block_head(offset, order, bytes),
+            Stage::InterfaceBody(block) => pcapng::tell_interface_body(offset, block, bytes),
+            Stage::OptionHead(block) => pcapng::tell_option_head(offset, block, bytes),
+            Stage::TimeUnit(block) => pcapng::tell_time_unit(offset, block, bytes),
+            Stage::TimeOffset(block) => pcapng::tell_time_offset(offset, block, bytes),
+            Stage::EnhancedBody(block) => {
+                pcapng::tell_enhanced_body(limits.packet, known, offset, block, bytes)
+            }
+            Stage::SimpleBody(block) => {
+                pcapng::tell_simple_body(limits.packet, known, offset, block, bytes)
+            }
+            Stage::BlockData(block, size) => {
+                let end = offset + size as u64;
+                pcapng::tell_data(end, offset, block.passing(end, block.end()))
+            }
+            Stage::Pass(block, until) => go_on(offset + 1, block.passing(offset + 1, until)),
+            Stage::BlockEnd(block) => {
+                pcapng::tell_block_end(limits.interfaces, known, offset, block, bytes)
+            }
         }
     }
 
     /// Whether the file may end here.
     pub fn is_between(self) -> bool
     {
-        matches!(self.stage, Stage::RecordHead(_))
+        matches!(self.stage, Stage::RecordHead(_) | Stage::BlockHead(_))
     }
 
-    /// The offset at which the header of the file or the record under way began.
+    /// The offset at which the header of the file, the record or the block under way began.
     pub(crate) fn began(self) -> u64
     {
         match self.stage {
-            Stage::Magic | Stage::FileHead(_) => 0,
-            Stage::RecordHead(_) => self.offset,
+            Stage::Magic | Stage::FileHead(_) | Stage::SectionLength => 0,
+            Stage::RecordHead(_) | Stage::BlockHead(_) => self.offset,
             Stage::Data(..) => self.offset - 16,
+            Stage::SectionBody(_) => self.offset - 8,
+            Stage::InterfaceBody(block)
+            | Stage::OptionHead(block)
+            | Stage::TimeUnit(block)
+            | Stage::TimeOffset(block)
+            | Stage::EnhancedBody(block)
+            | Stage::SimpleBody(block)
+            | Stage::BlockData(block, _)
+            | Stage::Pass(block, _)
+            | Stage::BlockEnd(block) => block.start,
         }
     }
-}
-
-/// What the first four bytes of a file say. Section 4 of draft-ietf-opsawg-pcap.
-fn tell_magic(bytes: &[u8]) -> Result<Told, CaptureRefusal>
-{
-    match FileForm::of_magic(ByteOrder::BigEndian.read_u32(bytes, 0)) {
-        Some(form) => Ok(Told {
-            at: 0,
-            what: EventOutline::Section(form),
-            place: Place {
-                offset: 4,
-                stage: Stage::FileHead(form),
-            },
-        }),
-        None => refuse(0, CaptureReason::UnknownMagic),
-    }
-}
-
-/// What the rest of the file's header says. Section 4 of draft-ietf-opsawg-pcap.
-fn tell_file_head(form: FileForm, bytes: &[u8]) -> Result<Told, CaptureRefusal>
-{
-    let order = form.order;
-    if order.read_u16(bytes, 0) != 2 || order.read_u16(bytes, 2) != 4 {
-        return refuse(4, CaptureReason::UnknownVersion);
-    }
-    let interface = InterfaceHead {
-        number: 0,
-        link: (order.read_u32(bytes, 16) % 65_536) as u16,
-        snap_length: order.read_u32(bytes, 12),
-    };
-    Ok(Told {
-        at: 4,
-        what: EventOutline::Interface(interface),
-        place: Place {
-            offset: 24,
-            stage: Stage::RecordHead(form),
-        },
-    })
-}
-
-/// What the header of a record says that begins at this offset. Section 5 of draft-ietf-opsawg-pcap.
-fn tell_record_head(
-    limit: u32,
-    offset: u64,
-    form: FileForm,
-    bytes: &[u8],
-) -> Result<Told, CaptureRefusal>
-{
-    if offset > FARTHEST_RECORD {
-        return refuse(offset, CaptureReason::FileTooLong);
-    }
-    let order = form.order;
-    let captured = order.read_u32(bytes, 8);
-    if captured > limit {
-        return refuse(offset + 8, CaptureReason::PacketTooLong);
-    }
-    let packet = PacketHead {
-        interface: 0,
-        time: time_of(form, order.read_u32(bytes, 0), order.read_u32(bytes, 4)),
-        captured,
-        original: order.read_u32(bytes, 12),
-    };
-    Ok(Told {
-        at: offset,
-        what: EventOutline::Packet(packet),
-        place: Place {
-            offset: offset + 16,
-            stage: Stage::Data(form, captured),
-        },
-    })
-}
-
-/// So many seconds and fractions of one, in nanoseconds.
-fn time_of(form: FileForm, seconds: u32, fraction: u32) -> u64
-{
-    let unit = match form.fraction {
-        Fraction::Microseconds => 1_000,
-        Fraction::Nanoseconds => 1,
-    };
-    seconds as u64 * 1_000_000_000 + fraction as u64 * unit
-}
-
-/// The refusal at this offset.
-fn refuse(at: u64, why: CaptureReason) -> Result<Told, CaptureRefusal>
-{
-    Err(CaptureRefusal { at, why })
 }

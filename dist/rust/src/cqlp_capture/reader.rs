@@ -1,18 +1,23 @@
 // Written by dist/erase from crates/cqlp_capture/src/reader.rt.
 //! The reader of captures.
 
+use crate::kit_std::prelude::{Clone};
+use crate::cqlp_capture::block::Block;
 use crate::cqlp_capture::event::{CaptureEnd, CaptureEvent, CaptureStep, EventOutline};
 use crate::cqlp_capture::gathered::{BytesPlace, GatheredBytes};
+use crate::cqlp_capture::interfaces::InterfaceTable;
 use crate::cqlp_capture::limits::CaptureLimits;
 use crate::cqlp_capture::place::{Place, Stage};
 use crate::cqlp_capture::refusal::{CaptureRefusal, NewReaderError};
 use crate::kit_std::alloc::{Allocator, Global};
 
-/// What one call makes of the input, with nothing borrowed.
+/// What one step makes of the input.
 #[derive(Clone, Copy)]
-pub(crate) enum CaptureAdvance {
+pub(crate) enum StepTaken {
     /// All of the input was used, and more is wanted.
-    More {
+    More,
+    /// This many bytes of the input were used, and no event was told.
+    Passed {
         used: usize,
     },
     /// An event at an offset, which ends after this many bytes of the input; the bytes that it is made of lie there.
@@ -25,25 +30,51 @@ pub(crate) enum CaptureAdvance {
     Refused(CaptureRefusal),
 }
 
-/// Reads a capture file, one event per call, from pieces of any size. All its memory is taken when it is made: room for the
-/// bytes of one packet, as many as the caller's limit says, into which a packet is copied that does not lie whole in a
-/// piece.
+/// What one call makes of the input, with nothing borrowed.
+#[derive(Clone, Copy)]
+pub(crate) enum CaptureAdvance {
+    /// All of the input was used, and more is wanted.
+    More {
+        used: usize,
+    },
+    /// An event at an offset, which ends after `used` bytes of the input; the bytes that it is made of lie there, in the input
+    /// after its first `from` bytes.
+    Event {
+        at: u64,
+        from: usize,
+        used: usize,
+        what: EventOutline,
+        lies: BytesPlace,
+    },
+    Refused(CaptureRefusal),
+}
+
+/// Reads a capture file, pcap or pcapng, one event per call, from pieces of any size. All its memory is taken when it is
+/// made: room for the bytes of one packet, as many as the caller's limit says, into which a packet is copied that does not
+/// lie whole in a piece, and for as many interfaces.
 pub struct CaptureReader<A: Allocator = Global> {
     limits: CaptureLimits,
     place: Place,
+    interfaces: InterfaceTable<A>,
     gathered: GatheredBytes<A>,
     refusal: Option<CaptureRefusal>,
 }
 
-impl<A: Allocator> CaptureReader<A> {
-    /// A reader at the start of a file, with room for a packet of the greatest length that the limit allows: one request for
-    /// memory, and the only one.
+impl<A: Allocator + Clone> CaptureReader<A> {
+    /// A reader at the start of a file, with room for a packet of the greatest length that the limits allow and for as many
+    /// interfaces as they allow: two requests for memory, and the only ones.
     pub fn new(alloc: A, limits: CaptureLimits) -> Result<Self, NewReaderError>
     {
         if !limits.is_in_range() {
             return Err(NewReaderError::BadLimits);
         }
+        let Ok(copy) = alloc.clone() else {
+            return Err(NewReaderError::NoMemory);
+        };
         let Ok(gathered) = GatheredBytes::new(alloc, limits.packet as usize) else {
+            return Err(NewReaderError::NoMemory);
+        };
+        let Ok(interfaces) = InterfaceTable::new(copy, limits.interfaces as usize) else {
             return Err(NewReaderError::NoMemory);
         };
         Ok(CaptureReader {
@@ -52,11 +83,14 @@ impl<A: Allocator> CaptureReader<A> {
                 offset: 0,
                 stage: Stage::Magic,
             },
+            interfaces,
             gathered,
             refusal: None,
         })
     }
+}
 
+impl<A: Allocator> CaptureReader<A> {
     /// The next event that the input leads to. The caller hands in the bytes after those that were used, and goes on
     /// until more are wanted. A refusal is final: each later call says it again.
     pub fn next<'a>(&'a mut self, input: &'a [u8]) -> CaptureStep<'a>
@@ -66,13 +100,14 @@ impl<A: Allocator> CaptureReader<A> {
             CaptureAdvance::Refused(refusal) => CaptureStep::Refused(refusal),
             CaptureAdvance::Event {
                 at,
+                from,
                 used,
                 what,
                 lies,
             } => CaptureStep::Event {
                 at,
                 used,
-                event: self.lend(input, what, lies),
+                event: self.lend(&input[from..], what, lies),
             },
         }
     }
@@ -93,10 +128,16 @@ impl<A: Allocator> CaptureReader<A> {
         }
     }
 
-    /// The bytes that the reader has memory for: the limit on a packet, for as long as it lives.
+    /// The bytes of a packet that the reader has memory for: the limit on a packet, for as long as it lives.
     pub fn capacity(&self) -> usize
     {
         self.gathered.capacity()
+    }
+
+    /// The interfaces that the reader has memory for: the limit on interfaces, for as long as it lives.
+    pub fn interface_capacity(&self) -> usize
+    {
+        self.interfaces.capacity()
     }
 
     /// The work of a call, with nothing borrowed in its result.
@@ -105,26 +146,86 @@ impl<A: Allocator> CaptureReader<A> {
         if let Some(refusal) = self.refusal {
             return CaptureAdvance::Refused(refusal);
         }
+        self.go_ahead(input)
+    }
+
+    /// The steps of a call, of a file that was not refused.
+    fn go_ahead(&mut self, input: &[u8]) -> CaptureAdvance
+    {
+        let mut from = 0;
+        loop {
+            match self.take_step(&input[from..]) {
+                StepTaken::Passed { used } => from += used,
+                StepTaken::More => return CaptureAdvance::More { used: input.len() },
+                StepTaken::Refused(refusal) => return CaptureAdvance::Refused(refusal),
+                StepTaken::Event {
+                    at,
+                    used,
+                    what,
+                    lies,
+                } => {
+                    return CaptureAdvance::Event {
+                        at,
+                        from,
+                        used: from + used,
+                        what,
+                        lies,
+                    };
+                }
+            }
+        }
+    }
+
+    /// One step, or as many as the input has bytes of those that are passed over.
+    fn take_step(&mut self, input: &[u8]) -> StepTaken
+    {
+        if let Stage::Pass(block, until) = self.place.stage {
+            return self.pass(block, until, input);
+        }
         let Some(found) = self.gathered.gather(self.place.stage.wanted(), input) else {
-            return CaptureAdvance::More { used: input.len() };
+            return StepTaken::More;
         };
         let bytes = self.gathered.lend(input, found.lies);
-        match self.place.tell(self.limits.packet, bytes) {
+        match self
+            .place
+            .tell(&self.limits, self.interfaces.known(), bytes)
+        {
             Ok(told) => {
                 self.place = told.place;
-                CaptureAdvance::Event {
-                    at: told.at,
-                    used: found.used,
-                    what: told.what,
-                    lies: found.lies,
+                self.interfaces.apply(told.change);
+                match told.what {
+                    None => StepTaken::Passed { used: found.used },
+                    Some(what) => StepTaken::Event {
+                        at: told.at,
+                        used: found.used,
+                        what,
+                        lies: found.lies,
+                    },
                 }
             }
             Err(refusal) => {
                 self.gathered.clear();
                 self.refusal = Some(refusal);
-                CaptureAdvance::Refused(refusal)
+                StepTaken::Refused(refusal)
             }
         }
+    }
+
+    /// Passes over bytes of a block up to an offset, as many as the input has.
+    fn pass(&mut self, block: Block, until: u64, input: &[u8]) -> StepTaken
+    {
+        self.gathered.clear();
+        if input.is_empty() {
+            return StepTaken::More;
+        }
+        let left = until - self.place.offset;
+        let used = left.min(input.len() as u64) as usize;
+        let offset = self.place.offset + used as u64;
+        self.place = Place {
+            offset,
+            stage: block.passing(offset, until),
+        };
+        StepTaken::Passed { used }
     }
 
     /// The event that `advance` made of this input.

@@ -1,0 +1,64 @@
+// Written by dist/erase from crates/cqlp_capture/src/interfaces.rt.
+//! The interfaces of a section.
+
+use crate::kit_std::prelude::{Vec};
+use crate::kit_std::alloc::{AllocError, Allocator};
+
+/// What packets of an interface need of it.
+#[derive(Clone, Copy)]
+pub(crate) struct KnownInterface {
+    /// The link type.
+    pub link: u16,
+    /// How many bytes of a packet were captured at most, or 0.
+    pub snap_length: u32,
+    /// How many nanoseconds a unit of its packets' times is.
+    pub unit: u32,
+    /// How many seconds are added to its packets' times.
+    pub offset: u64,
+}
+
+/// What becomes of the interfaces of a section.
+#[derive(Clone, Copy)]
+pub(crate) enum TableChange {
+    Keep,
+    /// A section begins.
+    Forget,
+    Add(KnownInterface),
+}
+
+/// The interfaces of a section, in memory that is taken once: its capacity is the room, for as long as it lives.
+pub(crate) struct InterfaceTable<A: Allocator> {
+    entries: Vec<KnownInterface, A>,
+    room: usize,
+}
+
+impl<A: Allocator> InterfaceTable<A> {
+    /// With room for this many interfaces. This is the one call that takes memory.
+    pub fn new(alloc: A, room: usize) -> Result<Self, AllocError>
+    {
+        let entries = Vec::with_capacity(alloc, room)?;
+        Ok(InterfaceTable { entries, room })
+    }
+
+    /// The interfaces, of which the first has the number 0.
+    pub fn known(&self) -> &[KnownInterface]
+    {
+        self.entries.as_slice()
+    }
+
+    /// How many interfaces its memory has places for.
+    pub fn capacity(&self) -> usize
+    {
+        self.entries.capacity()
+    }
+
+    /// Makes this change.
+    pub(crate) fn apply(&mut self, change: TableChange)
+    {
+        match change {
+            TableChange::Keep => {}
+            TableChange::Forget => self.entries.clear(),
+            TableChange::Add(interface) => self.entries.push_reserved(interface),
+        }
+    }
+}

@@ -1,0 +1,110 @@
+// Written by dist/erase from crates/cqlp_capture/src/pcap.rt.
+//! What the bytes of a pcap file say.
+
+use crate::cqlp_capture::event::{EventOutline, InterfaceHead, PacketHead, Told};
+use crate::cqlp_capture::file::{ByteOrder, FileForm, Fraction, SectionForm};
+use crate::cqlp_capture::interfaces::{KnownInterface, TableChange};
+use crate::cqlp_capture::place::{FARTHEST, Place, RecordForm, Stage};
+use crate::cqlp_capture::refusal::{CaptureReason, CaptureRefusal};
+use crate::cqlp_capture::telling::{go_on, refuse};
+
+/// What the first four bytes of a file say. Section 4 of draft-ietf-opsawg-pcap, and section 4.1 of
+/// draft-ietf-opsawg-pcapng.
+pub(crate) fn tell_magic(bytes: &[u8]) -> Result<Told, CaptureRefusal>
+{
+    let magic = ByteOrder::BigEndian.read_u32(bytes, 0);
+    if magic == 0x0A0D_0D0A {
+        return go_on(4, Stage::SectionLength);
+    }
+    match FileForm::of_magic(magic) {
+        Some(form) => Ok(Told {
+            at: 0,
+            what: Some(EventOutline::Section(SectionForm::Pcap(form))),
+            place: Place {
+                offset: 4,
+                stage: Stage::FileHead(form),
+            },
+            change: TableChange::Keep,
+        }),
+        None => refuse(0, CaptureReason::UnknownMagic),
+    }
+}
+
+/// What the rest of the file's header says. Section 4 of draft-ietf-opsawg-pcap.
+pub(crate) fn tell_file_head(form: FileForm, bytes: &[u8]) -> Result<Told, CaptureRefusal>
+{
+    let order = form.order;
+    if order.read_u16(bytes, 0) != 2 || order.read_u16(bytes, 2) != 4 {
+        return refuse(4, CaptureReason::UnknownVersion);
+    }
+    let link = (order.read_u32(bytes, 16) % 65_536) as u16;
+    let snap_length = order.read_u32(bytes, 12);
+    Ok(Told {
+        at: 4,
+        what: Some(EventOutline::Interface(InterfaceHead {
+            number: 0,
+            link,
+            snap_length,
+        })),
+        place: Place {
+            offset: 24,
+            stage: Stage::RecordHead(RecordForm { form, link }),
+        },
+        change: TableChange::Add(KnownInterface {
+            link,
+            snap_length,
+            unit: unit_of(form.fraction),
+            offset: 0,
+        }),
+    })
+}
+
+/// What the header of a record says that begins at this offset. Section 5 of draft-ietf-opsawg-pcap.
+pub(crate) fn tell_record_head(
+    limit: u32,
+    offset: u64,
+    record_form: RecordForm,
+    bytes: &[u8],
+) -> Result<Told, CaptureRefusal>
+{
+    if offset > FARTHEST {
+        return refuse(offset, CaptureReason::FileTooLong);
+    }
+    let form = record_form.form;
+    let order = form.order;
+    let captured = order.read_u32(bytes, 8);
+    if captured > limit {
+        return refuse(offset + 8, CaptureReason::PacketTooLong);
+    }
+    let packet = PacketHead {
+        interface: 0,
+        link: record_form.link,
+        time: Some(time_of(form, order.read_u32(bytes, 0), order.read_u32(bytes, 4))),
+        captured,
+        original: order.read_u32(bytes, 12),
+    };
+    Ok(Told {
+        at: offset,
+        what: Some(EventOutline::Packet(packet)),
+        place: Place {
+            offset: offset + 16,
+            stage: Stage::Data(record_form, captured),
+        },
+        change: TableChange::Keep,
+    })
+}
+
+/// So many seconds and fractions of one, in nanoseconds.
+fn time_of(form: FileForm, seconds: u32, fraction: u32) -> u64
+{
+    seconds as u64 * 1_000_000_000 + fraction as u64 * unit_of(form.fraction) as u64
+}
+
+/// How many nanoseconds a fraction counts.
+fn unit_of(fraction: Fraction) -> u32
+{
+    match fraction {
+        Fraction::Microseconds => 1_000,
+        Fraction::Nanoseconds => 1,
+    }
+}

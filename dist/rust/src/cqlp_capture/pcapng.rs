@@ -1,0 +1,398 @@
+// Written by dist/erase from crates/cqlp_capture/src/pcapng.rt.
+//! What the bytes of a pcapng file say.
+
+use crate::cqlp_capture::block::{Block, BlockKind, EitherLength, may_have_length};
+use crate::cqlp_capture::event::{EventOutline, InterfaceHead, PacketHead, Told};
+use crate::cqlp_capture::file::{ByteOrder, SectionForm};
+use crate::cqlp_capture::interfaces::{KnownInterface, TableChange};
+use crate::cqlp_capture::place::{FARTHEST, Place, Stage};
+use crate::cqlp_capture::refusal::{CaptureReason, CaptureRefusal};
+use crate::cqlp_capture::telling::{go_on, refuse};
+
+/// That these bytes, up to this offset, are all of a packet.
+pub(crate) fn tell_data(end: u64, offset: u64, stage: Stage) -> Result<Told, CaptureRefusal>
+{
+    Ok(Told {
+        at: offset,
+        what: Some(EventOutline::Data),
+        place: Place { offset: end, stage },
+        change: TableChange::Keep,
+    })
+}
+
+/// What the length of the first block says. Section 4.1 of draft-ietf-opsawg-pcapng.
+pub(crate) fn tell_section_length(bytes: &[u8]) -> Result<Told, CaptureRefusal>
+{
+    go_on(8, Stage::SectionBody(read_either_length(bytes, 0)))
+}
+
+/// The length at this index.
+fn read_either_length(bytes: &[u8], index: usize) -> EitherLength
+{
+    EitherLength {
+        big_endian: ByteOrder::BigEndian.read_u32(bytes, index),
+        little_endian: ByteOrder::LittleEndian.read_u32(bytes, index),
+    }
+}
+
+/// What the numbers of a section's header say, the first of which is at this offset. Section 4.1.
+pub(crate) fn tell_section_body(
+    offset: u64,
+    lengths: EitherLength,
+    bytes: &[u8],
+) -> Result<Told, CaptureRefusal>
+{
+    let Some(order) = ByteOrder::of_magic(ByteOrder::BigEndian.read_u32(bytes, 0)) else {
+        return refuse(offset, CaptureReason::UnknownByteOrder);
+    };
+    let block = Block {
+        order,
+        start: offset - 8,
+        length: lengths.in_order(order),
+        interface: None,
+    };
+    if !may_have_length(BlockKind::Section.least_length(), block.length) {
+        return refuse(offset - 4, CaptureReason::BadBlockLength);
+    }
+    let minor = order.read_u16(bytes, 6);
+    if order.read_u16(bytes, 4) != 1 || (minor != 0 && minor != 2) {
+        return refuse(offset + 4, CaptureReason::UnknownVersion);
+    }
+    tell_section(block)
+}
+
+/// That a section begins with this block.
+fn tell_section(block: Block) -> Result<Told, CaptureRefusal>
+{
+    let offset = block.start + 24;
+    Ok(Told {
+        at: block.start,
+        what: Some(EventOutline::Section(SectionForm::Pcapng(block.order))),
+        place: Place {
+            offset,
+            stage: block.passing(offset, block.end()),
+        },
+        change: TableChange::Forget,
+    })
+}
+
+/// What the type and the length of a block say that begins at this offset. Section 3.1.
+pub(crate) fn tell_block_head(
+    offset: u64,
+    order: ByteOrder,
+    bytes: &[u8],
+) -> Result<Told, CaptureRefusal>
+{
+    if offset > FARTHEST {
+        return refuse(offset, CaptureReason::FileTooLong);
+    }
+    let kind = BlockKind::of_type(order.read_u32(bytes, 0));
+    if let BlockKind::Section = kind {
+        return go_on(offset + 8, Stage::SectionBody(read_either_length(bytes, 4)));
+    }
+    let block = Block {
+        order,
+        start: offset,
+        length: order.read_u32(bytes, 4),
+        interface: None,
+    };
+    if may_have_length(kind.least_length(), block.length) {
+        tell_block(kind, block)
+    } else {
+        refuse(offset + 4, CaptureReason::BadBlockLength)
+    }
+}
+
+/// What is read in a block of this kind.
+fn tell_block(kind: BlockKind, block: Block) -> Result<Told, CaptureRefusal>
+{
+    let offset = block.start + 8;
+    let stage = match kind {
+        BlockKind::Interface => Stage::InterfaceBody(block),
+        BlockKind::EnhancedPacket => Stage::EnhancedBody(block),
+        BlockKind::SimplePacket => Stage::SimpleBody(block),
+        BlockKind::Section | BlockKind::Other => block.passing(offset, block.end()),
+    };
+    go_on(offset, stage)
+}
+
+/// What the numbers of an interface say. Section 4.2.
+pub(crate) fn tell_interface_body(
+    offset: u64,
+    block: Block,
+    bytes: &[u8],
+) -> Result<Told, CaptureRefusal>
+{
+    let order = block.order;
+    let interface = KnownInterface {
+        link: order.read_u16(bytes, 0),
+        snap_length: order.read_u32(bytes, 4),
+        unit: 1_000,
+        offset: 0,
+    };
+    tell_description(offset + 8, block, interface)
+}
+
+/// That this is what is known of an interface, up to this offset.
+fn tell_description(
+    offset: u64,
+    block: Block,
+    interface: KnownInterface,
+) -> Result<Told, CaptureRefusal>
+{
+    let block = Block {
+        order: block.order,
+        start: block.start,
+        length: block.length,
+        interface: Some(interface),
+    };
+    go_on(offset, block.at_option(offset))
+}
+
+/// What the code and the length of an option say. Sections 3.5 and 4.2.
+pub(crate) fn tell_option_head(
+    offset: u64,
+    block: Block,
+    bytes: &[u8],
+) -> Result<Told, CaptureRefusal>
+{
+    let code = block.order.read_u16(bytes, 0);
+    let size = block.order.read_u16(bytes, 2);
+    let end = block.end();
+    if code == 0 {
+        return go_on(offset + 4, block.passing(offset + 4, end));
+    }
+    if offset + 4 + filled_up(size) > end {
+        return refuse(offset + 2, CaptureReason::BadOptionLength);
+    }
+    tell_option(offset, block, code, size)
+}
+
+/// What an option of this code and this length says, which lies in its block.
+fn tell_option(offset: u64, block: Block, code: u16, size: u16) -> Result<Told, CaptureRefusal>
+{
+    match (code, size) {
+        (9, 1) => go_on(offset + 4, Stage::TimeUnit(block)),
+        (14, 8) => go_on(offset + 4, Stage::TimeOffset(block)),
+        (9 | 14, _) => refuse(offset + 2, CaptureReason::BadOptionLength),
+        _ => go_on(
+            offset + 4,
+            block.passing(offset + 4, offset + 4 + filled_up(size)),
+        ),
+    }
+}
+
+/// How many bytes are taken by a number of them that are filled up to 32 bits.
+fn filled_up(size: u16) -> u64
+{
+    (size as u64 + 3) / 4 * 4
+}
+
+/// What the value of if_tsresol says. Section 4.2.
+pub(crate) fn tell_time_unit(
+    offset: u64,
+    block: Block,
+    bytes: &[u8],
+) -> Result<Told, CaptureRefusal>
+{
+    let Some(unit) = read_unit(bytes[0]) else {
+        return refuse(offset, CaptureReason::UnknownTimeUnit);
+    };
+    match block.interface {
+        Some(interface) => tell_description(
+            offset + 4,
+            block,
+            KnownInterface {
+                link: interface.link,
+                snap_length: interface.snap_length,
+                unit,
+                offset: interface.offset,
+            },
+        ),
+        None => go_on(offset + 4, block.at_option(offset + 4)),
+    }
+}
+
+/// How many nanoseconds a unit of time is, by this byte of if_tsresol.
+fn read_unit(exponent: u8) -> Option<u32>
+{
+    match exponent {
+        0 => Some(1_000_000_000),
+        1 => Some(100_000_000),
+        2 => Some(10_000_000),
+        3 => Some(1_000_000),
+        4 => Some(100_000),
+        5 => Some(10_000),
+        6 => Some(1_000),
+        7 => Some(100),
+        8 => Some(10),
+        9 => Some(1),
+        _ => None,
+    }
+}
+
+/// What the value of if_tsoffset says. Section 4.2.
+pub(crate) fn tell_time_offset(
+    offset: u64,
+    block: Block,
+    bytes: &[u8],
+) -> Result<Told, CaptureRefusal>
+{
+    let seconds = block.order.read_u64(bytes, 0);
+    if seconds >= 0x8000_0000_0000_0000 {
+        return refuse(offset, CaptureReason::NegativeTimeOffset);
+    }
+    match block.interface {
+        Some(interface) => tell_description(
+            offset + 8,
+            block,
+            KnownInterface {
+                link: interface.link,
+                snap_length: interface.snap_length,
+                unit: interface.unit,
+                offset: seconds,
+            },
+        ),
+        None => go_on(offset + 8, block.at_option(offset + 8)),
+    }
+}
+
+/// What the numbers of an enhanced packet say. Section 4.3.
+pub(crate) fn tell_enhanced_body(
+    limit: u32,
+    known: &[KnownInterface],
+    offset: u64,
+    block: Block,
+    bytes: &[u8],
+) -> Result<Told, CaptureRefusal>
+{
+    let order = block.order;
+    let number = order.read_u32(bytes, 0);
+    let Some(interface) = known.get(number as usize).copied() else {
+        return refuse(offset, CaptureReason::UnknownInterface);
+    };
+    let units = order.read_u32(bytes, 4) as u64 * 0x1_0000_0000 + order.read_u32(bytes, 8) as u64;
+    let Some(time) = captured_time(interface, units) else {
+        return refuse(offset + 4, CaptureReason::TimeTooLarge);
+    };
+    let captured = order.read_u32(bytes, 12);
+    if captured as u64 > room_after(block, offset + 20) {
+        return refuse(offset + 12, CaptureReason::PacketBeyondBlock);
+    }
+    if captured > limit {
+        return refuse(offset + 12, CaptureReason::PacketTooLong);
+    }
+    let packet = PacketHead {
+        interface: number,
+        link: interface.link,
+        time: Some(time),
+        captured,
+        original: order.read_u32(bytes, 16),
+    };
+    tell_packet(offset + 20, block, packet)
+}
+
+/// How many bytes a block has from this offset on to its second length.
+fn room_after(block: Block, offset: u64) -> u64
+{
+    block.end() - offset
+}
+
+/// When a packet of this interface was captured, in nanoseconds, if that is less than 2^64.
+fn captured_time(interface: KnownInterface, units: u64) -> Option<u64>
+{
+    let since = units.checked_mul(interface.unit as u64)?;
+    let begin = interface.offset.checked_mul(1_000_000_000)?;
+    since.checked_add(begin)
+}
+
+/// That a packet begins, whose bytes are at this offset.
+fn tell_packet(offset: u64, block: Block, packet: PacketHead) -> Result<Told, CaptureRefusal>
+{
+    Ok(Told {
+        at: block.start,
+        what: Some(EventOutline::Packet(packet)),
+        place: Place {
+            offset,
+            stage: Stage::BlockData(block, packet.captured),
+        },
+        change: TableChange::Keep,
+    })
+}
+
+/// What the number of a simple packet says. Section 4.4.
+pub(crate) fn tell_simple_body(
+    limit: u32,
+    known: &[KnownInterface],
+    offset: u64,
+    block: Block,
+    bytes: &[u8],
+) -> Result<Told, CaptureRefusal>
+{
+    let Some(interface) = known.get(0).copied() else {
+        return refuse(block.start, CaptureReason::UnknownInterface);
+    };
+    let original = block.order.read_u32(bytes, 0);
+    let captured = captured_size(interface, original, room_after(block, offset + 4));
+    if captured > limit {
+        return refuse(offset, CaptureReason::PacketTooLong);
+    }
+    let packet = PacketHead {
+        interface: 0,
+        link: interface.link,
+        time: None,
+        captured,
+        original,
+    };
+    tell_packet(offset + 4, block, packet)
+}
+
+/// How many bytes of a simple packet were captured that had so many, where its block has room for so many.
+fn captured_size(interface: KnownInterface, original: u32, room: u64) -> u32
+{
+    let snapped = if interface.snap_length == 0 {
+        original
+    } else {
+        original.min(interface.snap_length)
+    };
+    if room < snapped as u64 {
+        room as u32
+    } else {
+        snapped
+    }
+}
+
+/// What the second length of a block says, and that an interface is known once its block was read. Section 3.1.
+pub(crate) fn tell_block_end(
+    limit: u32,
+    known: &[KnownInterface],
+    offset: u64,
+    block: Block,
+    bytes: &[u8],
+) -> Result<Told, CaptureRefusal>
+{
+    if block.order.read_u32(bytes, 0) != block.length {
+        return refuse(offset, CaptureReason::UnequalBlockLengths);
+    }
+    let stage = Stage::BlockHead(block.order);
+    let Some(interface) = block.interface else {
+        return go_on(offset + 4, stage);
+    };
+    let number = known.len() as u32;
+    if number >= limit {
+        return refuse(block.start, CaptureReason::TooManyInterfaces);
+    }
+    Ok(Told {
+        at: block.start,
+        what: Some(EventOutline::Interface(InterfaceHead {
+            number,
+            link: interface.link,
+            snap_length: interface.snap_length,
+        })),
+        place: Place {
+            offset: offset + 4,
+            stage,
+        },
+        change: TableChange::Add(interface),
+    })
+}

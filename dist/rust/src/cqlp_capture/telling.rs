@@ -1,0 +1,24 @@
+// Written by dist/erase from crates/cqlp_capture/src/telling.rt.
+//! Short forms of what bytes say.
+
+use crate::cqlp_capture::event::Told;
+use crate::cqlp_capture::interfaces::TableChange;
+use crate::cqlp_capture::place::{Place, Stage};
+use crate::cqlp_capture::refusal::{CaptureReason, CaptureRefusal};
+
+/// No event, and this is read next, from this offset on.
+pub(crate) fn go_on(offset: u64, stage: Stage) -> Result<Told, CaptureRefusal>
+{
+    Ok(Told {
+        at: offset,
+        what: None,
+        place: Place { offset, stage },
+        change: TableChange::Keep,
+    })
+}
+
+/// The refusal at this offset.
+pub(crate) fn refuse(at: u64, why: CaptureReason) -> Result<Told, CaptureRefusal>
+{
+    Err(CaptureRefusal { at, why })
+}
