@@ -68,6 +68,7 @@ fn conversations(capture: &[u8]) -> Vec<[Vec<u8>; 2]> {
 fn the_bytes_of_a_driver() {
     for (name, base) in [
         ("driver.pcap", "driver"),
+        ("driver.pcapng", "driver"),
         ("driver-big-endian.pcap", "driver"),
         ("driver-ns.pcap", "driver"),
         ("driver-vlan.pcap", "driver"),
@@ -214,15 +215,14 @@ impl Report {
                 let head = self.packet.take().unwrap();
                 assert_eq!(packet.len(), head.captured as usize);
                 self.said.extend(*packet);
-                return self.packet(packet, &head);
+                return self.packet(&head, packet);
             }
         }
         writeln!(self.said, "{at} {event:?}").unwrap();
     }
 
-    fn packet(&mut self, packet: &[u8], head: &PacketHead) {
-        let Ok(link) = LinkType::from_number(head.link) else { return };
-        match read_segment(link, packet, head.original) {
+    fn packet(&mut self, head: &PacketHead, packet: &[u8]) {
+        match LinkType::from_number(head.link).and_then(|link| read_segment(link, packet, head.original)) {
             Ok(segment) => {
                 assert_eq!(&packet[segment.offset..segment.offset + segment.payload.len()], segment.payload);
                 self.segment(&segment);
@@ -260,7 +260,7 @@ fn said<'a>(limits: CaptureLimits, room: usize, pieces: impl IntoIterator<Item =
             break;
         }
     }
-    assert_eq!(reader.capacity(), limits.packet as usize);
+    assert_eq!((reader.capacity(), reader.interface_capacity()), (limits.packet as usize, limits.interfaces as usize));
     writeln!(report.said, "{:?}", reader.finish()).unwrap();
     report.said
 }
@@ -320,8 +320,9 @@ fn pieces<'a>(numbers: &mut Numbers, mut rest: &'a [u8], most: usize) -> Vec<&'a
 
 #[test]
 fn changed_captures() {
-    let names = ["driver.pcap", "driver-big-endian.pcap", "driver-ns.pcap", "driver-vlan.pcap", "driver-sll2.pcap", "driver-snapped.pcap", "driver-middle.pcap", "driver.pcapng"];
-    let bases: Vec<_> = names.iter().map(|name| records(&capture(name))).collect();
+    let names = ["driver", "driver-big-endian", "driver-ns", "driver-vlan", "driver-sll2", "driver-snapped", "driver-middle"];
+    let files = names.iter().map(|name| format!("{name}.pcap")).chain(["driver.pcapng".to_string()]);
+    let bases: Vec<_> = files.map(|name| records(&capture(&name))).collect();
     let mut numbers = Numbers::new();
     for case in 0..count() {
         let base = &bases[numbers.below(bases.len())];

@@ -1,4 +1,4 @@
-//! Writes what each end of each TCP connection of a pcap file sent, in order, into a file of its own in a folder, and a line about each; as
+//! Writes what each end of each TCP connection of a pcap or a pcapng file sent, in order, into a file of its own in a folder, and a line about each; as
 //! tcpflow does. Without a folder it counts only.
 //!
 //! `cargo run --release --example streams CAPTURE [FOLDER]`
@@ -6,7 +6,7 @@
 
 use cqlp::Global;
 use cqlp::capture::{
-    Address, CaptureEvent, CaptureLimits, CaptureReader, CaptureStep, Control, Endpoint, LinkType, PacketHead, Segment, Stream, StreamStep,
+    Address, CaptureEvent, CaptureLimits, CaptureReader, CaptureStep, Control, Endpoint, LinkType, Segment, Stream, StreamStep,
     read_segment,
 };
 use std::collections::{HashMap, VecDeque};
@@ -135,16 +135,11 @@ impl Direction {
     }
 }
 
-fn segment_of<'a>(head: &PacketHead, bytes: &'a [u8]) -> Option<Segment<'a>> {
-    let link = LinkType::from_number(head.link).ok()?;
-    read_segment(link, bytes, head.original).ok()
-}
-
 /// Tells of each direction of each connection in a capture what it sent, by its number.
 pub fn follow(mut capture: impl Read, tell: impl FnMut(u64, Told<'_>) -> io::Result<()>) -> io::Result<()> {
     let mut reader = CaptureReader::new(Global, CaptureLimits::DEFAULT).map_err(io::Error::other)?;
     let mut directions = Directions { known: HashMap::new(), order: VecDeque::new(), count: 0, tell };
-    let mut packet: Option<PacketHead> = None;
+    let (mut link, mut original) = (0, 0);
     let mut piece = vec![0; 1 << 18];
     loop {
         let count = capture.read(&mut piece)?;
@@ -157,9 +152,9 @@ pub fn follow(mut capture: impl Read, tell: impl FnMut(u64, Told<'_>) -> io::Res
                 CaptureStep::Event { used, event, .. } => {
                     match event {
                         CaptureEvent::Section(_) | CaptureEvent::Interface(_) => {}
-                        CaptureEvent::Packet(head) => packet = Some(head),
-                        CaptureEvent::Data(bytes) => {
-                            if let Some(segment) = packet.and_then(|head| segment_of(&head, bytes)) {
+                        CaptureEvent::Packet(head) => (link, original) = (head.link, head.original),
+                        CaptureEvent::Data(packet) => {
+                            if let Ok(segment) = LinkType::from_number(link).and_then(|link| read_segment(link, packet, original)) {
                                 directions.take(&segment)?;
                             }
                         }
