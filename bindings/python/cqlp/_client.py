@@ -62,11 +62,11 @@ def _event_of(frame: Union[Event, Frame]) -> _native.Event:
 
 
 def header(opcode: int, stream: int, length: int, *, flags: int = 0, response: bool = False) -> bytes:
-    """The nine bytes of a header, section 2, before a body of this length. Of bad fields BadCall is raised."""
-    if not 0 <= length < 1 << 32:
-        raise BadCall(Code.BAD_LENGTH)
-    if not 0 <= opcode < 256:
-        raise BadCall(Code.BAD_OPCODE)
+    """The nine bytes of a header, section 2, before a body of this length. Raises BadCall for the first of COMPRESSED, BAD_OPCODE,
+    BAD_DIRECTION and BAD_LENGTH that is so."""
+    # what is out of the range of its member there is refused there too, in the library's order
+    length = length if 0 <= length < 1 << 32 else 0xFFFFFFFF
+    opcode = opcode if 0 <= opcode < 256 else 0xFF
     if not (-32768 <= stream < 32768 and 0 <= flags < 256):
         raise ValueError("a stream id has two bytes, and flags have one")
     octets = (ctypes.c_uint8 * 9)()

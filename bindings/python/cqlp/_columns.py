@@ -93,7 +93,8 @@ class _Numbers:
     def __len__(self) -> int:
         return len(self.values) + len(self.octets) // self.values.itemsize
 
-    def bytes(self) -> bytes:
+    def tobytes(self) -> bytes:
+        """As this machine has them."""
         found = array(self.values.typecode, self.values)
         found.frombytes(self.octets)
         if self.octets and sys.byteorder == "little":
@@ -134,7 +135,7 @@ class _ColumnCells(_Cells):
         return super()._next_type() if self.open or not self.types else self.types[self.at]
 
     def columns(self) -> List[Tuple[Any, Optional[bytes]]]:
-        return [(one.bytes(), one.missing) if isinstance(one, _Numbers) else (one, None) for one in self.found]
+        return [(one.tobytes(), one.missing) if isinstance(one, _Numbers) else (one, None) for one in self.found]
 
 
 class _Columns(_Frames):

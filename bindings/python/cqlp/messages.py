@@ -434,9 +434,12 @@ def _named_value(named: bool) -> Reading[Tuple[str, Value]]:
     return word, (yield from _one(Field.VALUE))
 
 
+def _option() -> Reading[Tuple[str, str]]:
+    return _pair(Field.OPTION_KEY, _one(Field.OPTION_VALUE))
+
+
 def _startup() -> Reading[Message]:
-    pair = lambda: _pair(Field.OPTION_KEY, _one(Field.OPTION_VALUE))
-    return Startup((yield from _many(Field.OPTIONS, pair)))
+    return Startup((yield from _many(Field.OPTIONS, _option)))
 
 
 def _query() -> Reading[Message]:
@@ -465,9 +468,12 @@ def _batch() -> Reading[Message]:
     return Batch(_BATCH_TYPES.get(number, number), statements, level, flags, serial, timestamp)
 
 
+def _values_of_option() -> Reading[Tuple[str, Tuple[str, ...]]]:
+    return _pair(Field.OPTION_KEY, _texts(Field.OPTION_VALUES, Field.OPTION_VALUE))
+
+
 def _supported() -> Reading[Message]:
-    values = lambda: _texts(Field.OPTION_VALUES, Field.OPTION_VALUE)
-    return Supported((yield from _many(Field.OPTIONS, lambda: _pair(Field.OPTION_KEY, values()))))
+    return Supported((yield from _many(Field.OPTIONS, _values_of_option)))
 
 
 # What comes after an error's message: the class, and each of its fields beside the first two.
@@ -614,6 +620,10 @@ def _of(make: Callable[[Any], Message], part: Reading[Any]) -> Reading[Message]:
     return make((yield from part))
 
 
+def _payload_item() -> Reading[Tuple[str, Optional[bytes]]]:
+    return _pair(Field.PAYLOAD_KEY, _one(Field.PAYLOAD_VALUE))
+
+
 class _Frames:
     """Makes frames of events."""
 
@@ -654,8 +664,9 @@ class _Frames:
             self.reading = self.frame(event)
             self.wanted = next(self.reading)
             return None
-        if self.wanted is not None and self.wanted not in (event.field, event.tag):
-            raise _PackageError("%s came, and not %s" % (event, self.wanted))
+        came = event.tag if isinstance(self.wanted, Tag) else event.field
+        if self.wanted is not None and self.wanted != came:
+            raise _PackageError("%s came, and not %r" % (event, self.wanted))
         try:
             self.wanted = self.reading.send(event)
         except StopIteration as whole:
@@ -667,10 +678,7 @@ class _Frames:
         response, flags = head.mark == Mark.RESPONSE, head.flags
         trace_id = (yield from _one(Field.TRACE_ID)) if response and flags & 0x02 else None
         warnings = (yield from _texts(Field.WARNINGS, Field.WARNING)) if response and flags & 0x08 else ()
-        payload = None
-        if flags & 0x04:
-            item = lambda: _pair(Field.PAYLOAD_KEY, _one(Field.PAYLOAD_VALUE))
-            payload = yield from _many(Field.PAYLOAD_ITEMS, item)
+        payload = (yield from _many(Field.PAYLOAD_ITEMS, _payload_item)) if flags & 0x04 else None
         message = yield from _MESSAGES[head.opcode]()
         if isinstance(message, Rows):
             self.begin(message)

@@ -126,6 +126,9 @@ class Client(unittest.TestCase):
             (lambda: cqlp.header(Opcode.QUERY, 0, 1, response=True), Code.BAD_DIRECTION),
             (lambda: cqlp.header(Opcode.QUERY, 0, 268435457), Code.BAD_LENGTH),
             (lambda: cqlp.header(Opcode.QUERY, 0, -1), Code.BAD_LENGTH),
+            (lambda: cqlp.header(Opcode.QUERY, 0, 1 << 32), Code.BAD_LENGTH),
+            (lambda: cqlp.header(-1, 0, -1), Code.BAD_OPCODE),
+            (lambda: cqlp.header(256, 0, -1, flags=1), Code.COMPRESSED),
         ):
             with self.assertRaises(cqlp.BadCall) as caught:
                 make()
