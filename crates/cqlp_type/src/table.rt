@@ -83,8 +83,7 @@ impl<A: Allocator> TypeTable<A> {
 
     /// The node with this number; the first has the number 0.
     pub fn node(&self, i: u32) -> Option<Node>
-        ensures is { result ≡ slice_get self.now.nodes i }
-        ensures bound { length self.now.nodes < 2 ^ 32 }
+        ensures { result ≡ slice_get self.now.nodes i }
     {
         self.nodes.get(i as usize).copied()
     }
