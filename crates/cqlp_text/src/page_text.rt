@@ -156,7 +156,7 @@ impl PagePlace {
         if self.free < ROOM {
             return false;
         }
-        u64::from(column) + 1 == u64::from(self.columns)
+        is_last(column, self.columns)
     }
 
     /// Whether a row ends after the innermost open value, which no item of another one is.
@@ -168,7 +168,7 @@ impl PagePlace {
         if self.free + 1 < ROOM {
             return false;
         }
-        u64::from(self.column) + 1 == u64::from(self.columns)
+        is_last(self.column, self.columns)
     }
 
     /// Goes to the place after an event.
@@ -567,7 +567,17 @@ impl<P: Pen> TextWriter<P> {
     }
 }
 
-ghost use Rattle.cqlp_text.specs.PageText.{closing as text_closing, opening as text_opening, turn_after as next_turn};
+ghost use Rattle.std.specs.Prelude.{if◌then◌else◌, codes};
+ghost use Rattle.cqlp_text.specs.PageText.{after as text_after, closing as text_closing, opening as text_opening};
+ghost use Rattle.cqlp_text.specs.PageText.{turn_after as next_turn};
+
+/// Whether a row ends after a cell of this column.
+#[inline(always)]
+fn is_last(column: u32, columns: u32) -> bool
+    ensures { text_after columns column [] ≡ (if result then codes "\n" else []) }
+{
+    u64::from(column) + 1 == u64::from(columns)
+}
 
 #[inline]
 fn opening(kind: Kind) -> &'static str

@@ -15,4 +15,4 @@ pub returns-else-self-lt-ROOM : goal.returns-else-self-lt-ROOM
 returns-else-self-lt-ROOM c =
     let p = c.self.inside in
     rw (← c.self.view_is)
-    (ap (λ (os : List WrittenValue). after p.columns p.column os) (sym (drop_next p.free p.open_values) ∙ drop_all (p.free + 1) p.open_values (omega arith)))
+    (ap (λ (os : List WrittenValue). after p.columns p.column os) (sym (drop_next p.free p.open_values) ∙ drop_all (p.free + 1) p.open_values (omega arith)) ∙ c.is_last.ensures)
