@@ -10,8 +10,8 @@ returns-then-self-lt-ROOM c =
     let p = c.self.inside in
     rw (← c.self.view_is) (after_item p.columns c.args.column p.free p.open_values (omega arith))
 
-pub returns-else-self-lt-ROOM : goal.returns-else-self-lt-ROOM
-returns-else-self-lt-ROOM c =
+pub returns : goal.returns
+returns c =
     let p = c.self.inside in
     rw (← c.self.view_is)
     (ap (λ (os : List WrittenValue). after p.columns c.args.column os) (drop_all p.free p.open_values (omega arith)) ∙ c.is_last.ensures)

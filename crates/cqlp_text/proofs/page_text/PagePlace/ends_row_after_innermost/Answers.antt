@@ -11,8 +11,8 @@ returns-then-self-lt-ROOM c =
     rw (← c.self.view_is)
     (sym (ap (λ (os : List WrittenValue). after p.columns p.column os) (drop_next p.free p.open_values)) ∙ after_item p.columns p.column (p.free + 1) p.open_values (omega arith))
 
-pub returns-else-self-lt-ROOM : goal.returns-else-self-lt-ROOM
-returns-else-self-lt-ROOM c =
+pub returns : goal.returns
+returns c =
     let p = c.self.inside in
     rw (← c.self.view_is)
     (ap (λ (os : List WrittenValue). after p.columns p.column os) (sym (drop_next p.free p.open_values) ∙ drop_all (p.free + 1) p.open_values (omega arith)) ∙ c.is_last.ensures)
