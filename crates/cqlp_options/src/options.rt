@@ -58,7 +58,13 @@ impl<'a> Options<'a> {
 
 /// The limits that are given, and those of `Limits::DEFAULT` in place of the others.
 fn limits_of(matches: &ArgMatches<'_>) -> Limits {
-    let Limits { text, cell, entries, depth, .. } = Limits::DEFAULT;
+    let Limits {
+        text,
+        cell,
+        entries,
+        depth,
+        ..
+    } = Limits::DEFAULT;
     Limits {
         text: matches.get_one::<u32>("text").unwrap_or(text),
         cell: matches.get_one::<u32>("cell").unwrap_or(cell),

@@ -494,11 +494,7 @@ impl<P: Pen> TextWriter<P> {
     fn put_row_end(&mut self, ends: bool) -> Result<(), SinkFault>
         ensures { Writes self.old (if ends then codes "\n" else []) result self.new }
     {
-        if ends {
-            self.put(b"\n")
-        } else {
-            Ok(())
-        }
+        if ends { self.put(b"\n") } else { Ok(()) }
     }
 
     #[inline]
