@@ -52,9 +52,9 @@ extra_waits s new q input used here le is less same = rw same (record {
       (rw (here, lt-ltb _ _ short) refl, rw here (omega (arith, length-append b input)));
 })
 
-pub extra_hands : (s : StreamProgress) (q : PartsState) (input : List ℕ) (used : ℕ) (u : GivenUse) → u ≡ ended_use s.given_use → s.stage ≡ stage.Extra → s.offset ≤ s.stop → s.came ≤ s.stop - s.offset → used ≡ min (s.stop - s.offset - s.came) (length input) → s.stop - s.offset ≤ s.came + used
-    → Moves (state_of s q) input (advance.Event s.stop used (what.End (s.stop - s.offset))) (state_of (record s { frame = s.stop; offset = s.stop; stage = stage.Header; came = 0; given_use = u }) q)
-extra_hands s q input used u over here inside le is all = (
+extra_moves : (s : StreamProgress) (q : PartsState) (input : List ℕ) (used : ℕ) → s.stage ≡ stage.Extra → s.offset ≤ s.stop → s.came ≤ s.stop - s.offset → used ≡ min (s.stop - s.offset - s.came) (length input) → s.stop - s.offset ≤ s.came + used
+    → Moves (state_of s q) input (advance.Event s.stop used (what.End (s.stop - s.offset))) (state_of (record s { frame = s.stop; offset = s.stop; stage = stage.Header; came = 0; given_use = ended_use s.given_use }) q)
+extra_moves s q input used here inside le is all = (
   tt,
   record {
     within = omega arith;
@@ -67,13 +67,18 @@ extra_hands s q input used u over here inside le is all = (
         let long : s.stop - s.offset ≤ length (b ++ input) = omega (arith, length-append b input) in
         let same : 0 + (s.stop - s.offset) ≡ length b + used = omega arith in
         let x : Emitted reading.Event Place = record { at = s.stop; event = reading.End (s.stop - s.offset); after = λ k. place_at s.stop s.stop (Stream ∷ []) q.table.nodes (retired (given_of s.given_use q.given)) } in
-        (x, rw (here, le-ltb _ _ long) (ap (λ (k : ℕ). Got x k) same), refl, refl, λ j. place_at s.stop s.stop (Stream ∷ []) q.table.nodes ((sym (retired_use s.given_use q.given) ∙ (λ i. given_of (sym over i) q.given)) j));
+        (x, rw (here, le-ltb _ _ long) (ap (λ (k : ℕ). Got x k) same), refl, refl, λ j. place_at s.stop s.stop (Stream ∷ []) q.table.nodes (sym (retired_use s.given_use q.given) j));
     offset = λ b came. let size : length b ≡ s.came = rw here at came in rw here (omega arith);
     gifts = refl;
     due = refl;
     pays = rw here (omega arith);
   },
 )
+
+-- a frame that is ended
+pub extra_hands : (s t : StreamProgress) (q : PartsState) (input : List ℕ) (used : ℕ) → t ≡ record s { frame = s.stop; offset = s.stop; came = 0; stage = stage.Header; given_use = ended_use s.given_use } → s.stage ≡ stage.Extra → s.offset ≤ s.stop → s.came ≤ s.stop - s.offset → used ≡ min (s.stop - s.offset - s.came) (length input) → s.stop - s.offset ≤ s.came + used
+    → Moves (state_of s q) input (advance.Event s.stop used (what.End (s.stop - s.offset))) (state_of t q)
+extra_hands s t q input used ended here inside le is all = rw ended (extra_moves s q input used here inside le is all)
 
 -- ---- a message goes on
 

@@ -72,7 +72,7 @@ impl StreamProgress {
     ghost use Rattle.cqlp_decode.specs.Progress.{HasParts, HasRoom, HoldsGiven, IsConsistent, IsFresh, IsLawful, IsNoPage, PartsState};
     ghost use Rattle.cqlp_decode.specs.Progress.{IsAsked, IsAt, IsBounded, IsWanted, asked};
     ghost use Rattle.cqlp_decode.specs.Progress.{first_state, refusal_in, rest_of, state_of, state_with, symbols_at};
-    ghost use Rattle.cqlp_decode.specs.Pages.{IsPage, cells_after, given_of, node_by};
+    ghost use Rattle.cqlp_decode.specs.Pages.{IsPage, cells_after, ended_use, given_of, node_by};
     ghost use Rattle.cqlp_type.specs.Forests.{Forest};
     ghost use Rattle.cqlp_cell.specs.Pushing.{begun};
 
@@ -582,16 +582,31 @@ impl StreamProgress {
                 used: used as usize,
             };
         }
+        let at = self.stop;
+        self.end_frame();
+        EventAdvance::Event {
+            at,
+            used: used as usize,
+            what: EventOutline::End(extra as u32),
+        }
+    }
+
+    /// Ends the frame under way. A header is read next.
+    #[inline(always)]
+    pub(crate) fn end_frame(&mut self)
+        ensures { self.new ≡ record self.old {
+          frame = self.old.stop;
+          offset = self.old.stop;
+          came = 0;
+          stage = stage.Header;
+          given_use = ended_use self.old.given_use;
+        } }
+    {
         self.frame = self.stop;
         self.offset = self.stop;
         self.came = 0;
         self.stage = StreamStage::Header;
         self.given_use = self.given_use.ended();
-        EventAdvance::Event {
-            at: self.stop,
-            used: used as usize,
-            what: EventOutline::End(extra as u32),
-        }
     }
 }
 

@@ -48,7 +48,7 @@ impl<'a> Options<'a> {
     {
         let task = Task::named(name)?;
         let file = matches.get_str("file")?;
-        let limits = limits_of(matches)?;
+        let limits = limits_of(matches);
         match limits.check() {
             Ok(()) => Some(Options { task, limits, file }),
             Err(_) => None,
@@ -56,13 +56,21 @@ impl<'a> Options<'a> {
     }
 }
 
-fn limits_of(matches: &ArgMatches<'_>) -> Option<Limits> {
-    Some(Limits {
-        text: matches.get_one::<u32>("text")?,
-        cell: matches.get_one::<u32>("cell")?,
-        entries: matches.get_one::<u32>("entries")?,
-        depth: matches.get_one::<u32>("depth")?,
+/// The limits that are given, and those of `Limits::DEFAULT` in place of the others.
+fn limits_of(matches: &ArgMatches<'_>) -> Limits {
+    let Limits {
+        text,
+        cell,
+        entries,
+        depth,
+        ..
+    } = Limits::DEFAULT;
+    Limits {
+        text: matches.get_one::<u32>("text").unwrap_or(text),
+        cell: matches.get_one::<u32>("cell").unwrap_or(cell),
+        entries: matches.get_one::<u32>("entries").unwrap_or(entries),
+        depth: matches.get_one::<u32>("depth").unwrap_or(depth),
         types: !matches.get_flag("raw"),
         parts: matches.get_flag("parts"),
-    })
+    }
 }

@@ -5,7 +5,7 @@ use clap::{Arg, ArgAction, Command, value_parser};
 use cqlp_note::{LimitRange, Limits};
 use std::alloc::{AllocError, Global};
 
-/// What the program's own help ends with.
+/// What the program's own help ends with. docs/check compares its numbers with `Limits`.
 const HELP: &str = "Each of show, rows and check takes a FILE, where - is standard input, and\n\
     \x20 --text <N>     bytes of one text at most, from 32 to 16777216 [default: 1048576]\n\
     \x20 --cell <N>     bytes of one content or scalar cell at most, from 32 to 16777216 [default: 1048576]\n\
@@ -117,11 +117,11 @@ fn file<'a>(alloc: Global) -> Arg<'a> {
         .help("The file with the stream; - is standard input")
 }
 
-/// An option for a number in a range.
+/// An option for a number in a range. The help tells the range and what the number is where it is not given, and docs/check
+/// compares both with `Limits`.
 struct Bound {
     name: &'static str,
     range: LimitRange,
-    default: &'static str,
     help: &'static str,
 }
 
@@ -129,26 +129,22 @@ const BOUNDS: [Bound; 4] = [
     Bound {
         name: "text",
         range: Limits::TEXT,
-        default: "1048576",
-        help: "Bytes of one [string] or [long string] at most, from 32 to 16777216",
+        help: "Bytes of one [string] or [long string] at most, from 32 to 16777216 [default: 1048576]",
     },
     Bound {
         name: "cell",
         range: Limits::CELL,
-        default: "1048576",
-        help: "Bytes of one [bytes], [short bytes], [value] or scalar cell at most, from 32 to 16777216",
+        help: "Bytes of one [bytes], [short bytes], [value] or scalar cell at most, from 32 to 16777216 [default: 1048576]",
     },
     Bound {
         name: "entries",
         range: Limits::ENTRIES,
-        default: "4096",
-        help: "Type options of one metadata at most, nested ones counted, from 1 to 65536",
+        help: "Type options of one metadata at most, nested ones counted, from 1 to 65536 [default: 4096]",
     },
     Bound {
         name: "depth",
         range: Limits::DEPTH,
-        default: "16",
-        help: "Nesting of one type at most, from 1 to 64; a column's own type has depth 1",
+        help: "Nesting of one type at most, from 1 to 64; a column's own type has depth 1 [default: 16]",
     },
 ];
 
@@ -161,7 +157,6 @@ fn limit<'a>(alloc: Global, bound: &Bound) -> Arg<'a> {
         .long(bound.name)
         .value_name("N")
         .value_parser(value_parser!(u32).range(least..=greatest))
-        .default_value(bound.default)
         .help(bound.help)
 }
 

@@ -89,7 +89,7 @@ impl Model for PagePlace {
 impl PagePlace {
     ghost use Rattle.std.specs.Prelude.{false, if◌then◌else◌, codes};
     ghost use Rattle.cqlp_note.specs.Field.{Count as CountValue, Int as IntValue};
-    ghost use Rattle.cqlp_text.specs.PageText.{no_page, before, after, innermost, with_item, with_item_if};
+    ghost use Rattle.cqlp_text.specs.PageText.{no_page, after, innermost, with_item, with_item_if};
     ghost use Rattle.cqlp_text.specs.PageText.{with_open, without_open, place_after_field};
 
     /// Before any frame.
@@ -148,30 +148,6 @@ impl PagePlace {
         self.open_values.get(self.free).copied()
     }
 
-    /// What stands before a cell of this column, or before an item of the open value.
-    #[inline]
-    fn before(&self, column: u32) -> &'static str
-        ensures { result.now ≡ before column self.now.open_values }
-    {
-        match self.innermost() {
-            None if column == 0 => "",
-            None => " | ",
-            Some(open) => separator(open.turn),
-        }
-    }
-
-    /// What stands after a cell of this column, or after an item of the open value.
-    #[inline]
-    fn after(&self, column: u32) -> &'static str
-        ensures { result.now ≡ after self.now.columns column self.now.open_values }
-    {
-        if self.free < ROOM {
-            ""
-        } else {
-            row_end(self.columns, column)
-        }
-    }
-
     /// Whether a row ends after a cell of this column, which no item of an open value is.
     #[inline(always)]
     fn ends_row(&self, column: u32) -> bool
@@ -180,19 +156,19 @@ impl PagePlace {
         if self.free < ROOM {
             return false;
         }
-        u64::from(column) + 1 == u64::from(self.columns)
+        is_last(column, self.columns)
     }
 
-    /// What stands after the innermost open value.
+    /// Whether a row ends after the innermost open value, which no item of another one is.
     #[inline]
-    fn after_innermost(&self) -> &'static str
-        ensures { result.now ≡ after self.now.columns self.now.column (without_open self.now.open_values) }
+    fn ends_row_after_innermost(&self) -> bool
+        ensures { after self.now.columns self.now.column (without_open self.now.open_values)
+            ≡ (if result then codes "\n" else []) }
     {
         if self.free + 1 < ROOM {
-            ""
-        } else {
-            row_end(self.columns, self.column)
+            return false;
         }
+        is_last(self.column, self.columns)
     }
 
     /// Goes to the place after an event.
@@ -329,9 +305,10 @@ impl<W: Target> TextWriter<LinePen<'_, W>> {
 }
 
 impl<P: Pen> TextWriter<P> {
+    ghost use Rattle.std.specs.Prelude.{if◌then◌else◌, codes};
     ghost use Rattle.cqlp_note.specs.Field.{Count as CountValue, Text as TextValue};
     ghost use Rattle.cqlp_kind.specs.CellStep as cell;
-    ghost use Rattle.cqlp_text.specs.PageText.{before, after, column_line, page_line, event_part, field_part};
+    ghost use Rattle.cqlp_text.specs.PageText.{before, column_line, page_line, event_part, field_part};
     ghost use Rattle.cqlp_text.specs.PageText.{separator};
     ghost use Rattle.cqlp_text.specs.PageText.{value_part, whole_value, part_start, part_end, end_part, opening, with_item};
     ghost use Rattle.cqlp_kind.specs.Contents.{value_of};
@@ -475,7 +452,7 @@ impl<P: Pen> TextWriter<P> {
     {
         self.put_before(place, column)?;
         self.put_cell(scalar)?;
-        self.put_after(place, column)
+        self.put_row_end(place.ends_row(column))
     }
 
     /// Takes a name in place of a value, with what stands before and after it.
@@ -485,7 +462,7 @@ impl<P: Pen> TextWriter<P> {
     {
         self.put_before(place, column)?;
         self.put_str(name)?;
-        self.put_after(place, column)
+        self.put_row_end(place.ends_row(column))
     }
 
     /// Takes what stands before a cell of this column, or before an item of the open value.
@@ -512,23 +489,19 @@ impl<P: Pen> TextWriter<P> {
         }
     }
 
-    /// Takes what stands after a cell of this column, or after an item of the open value.
+    /// Takes the end of a row, where one ends.
     #[inline(always)]
-    fn put_after(&mut self, place: &PagePlace, column: u32) -> Result<(), SinkFault>
-        ensures { Writes self.old (after place.now.columns column place.now.open_values) result self.new }
+    fn put_row_end(&mut self, ends: bool) -> Result<(), SinkFault>
+        ensures { Writes self.old (if ends then codes "\n" else []) result self.new }
     {
-        if place.ends_row(column) {
-            self.put(b"\n")
-        } else {
-            Ok(())
-        }
+        if ends { self.put(b"\n") } else { Ok(()) }
     }
 
     #[inline]
     fn put_opening(&mut self, place: &PagePlace, column: u32, kind: Kind) -> Result<(), SinkFault>
         ensures { Writes self.old (before column place.now.open_values ++ opening kind) result self.new }
     {
-        self.put(place.before(column).as_bytes())?;
+        self.put_before(place, column)?;
         self.put(opening(kind).as_bytes())
     }
 
@@ -540,7 +513,7 @@ impl<P: Pen> TextWriter<P> {
             return Ok(());
         };
         self.put(closing(open.kind).as_bytes())?;
-        self.put(place.after_innermost().as_bytes())
+        self.put_row_end(place.ends_row_after_innermost())
     }
 
     /// Takes a part of a long content, which begins with `0x`.
@@ -570,7 +543,7 @@ impl<P: Pen> TextWriter<P> {
         if offset > 0 {
             return Ok(());
         }
-        self.put(place.before(column).as_bytes())?;
+        self.put_before(place, column)?;
         self.put(b"0x")
     }
 
@@ -583,39 +556,23 @@ impl<P: Pen> TextWriter<P> {
         ensures { Writes self.old (part_end place.now column last) result self.new }
     {
         if last {
-            self.put(place.after(column).as_bytes())
+            self.put_row_end(place.ends_row(column))
         } else {
             Ok(())
         }
     }
 }
 
-ghost use Rattle.std.specs.Prelude.{◌==◌, if◌then◌else◌, codes};
+ghost use Rattle.std.specs.Prelude.{if◌then◌else◌, codes};
 ghost use Rattle.cqlp_text.specs.PageText.{after as text_after, closing as text_closing, opening as text_opening};
-ghost use Rattle.cqlp_text.specs.PageText.{separator as text_between, turn_after as next_turn};
+ghost use Rattle.cqlp_text.specs.PageText.{turn_after as next_turn};
 
-/// What stands before an item of an open value.
-#[inline]
-fn separator(turn: Turn) -> &'static str
-    ensures { result.now ≡ text_between turn }
+/// Whether a row ends after a cell of this column.
+#[inline(always)]
+fn is_last(column: u32, columns: u32) -> bool
+    ensures { text_after columns column [] ≡ (if result then codes "\n" else []) }
 {
-    match turn {
-        Turn::First => "",
-        Turn::Paired => ": ",
-        Turn::Another => ", ",
-    }
-}
-
-/// What stands after a cell of this column.
-#[inline]
-fn row_end(columns: u32, column: u32) -> &'static str
-    ensures { result.now ≡ text_after columns column [] }
-{
-    if u64::from(column) + 1 == u64::from(columns) {
-        "\n"
-    } else {
-        ""
-    }
+    u64::from(column) + 1 == u64::from(columns)
 }
 
 #[inline]

@@ -145,11 +145,7 @@ impl StreamProgress {
             return Handed::Left;
         }
         let at = self.stop;
-        self.frame = self.stop;
-        self.offset = self.stop;
-        self.came = 0;
-        self.stage = StreamStage::Header;
-        self.given_use = self.given_use.ended();
+        self.end_frame();
         let used = missing as usize;
         match sink.take(
             at,

@@ -420,16 +420,24 @@ impl StreamProgress {
                 used: used as usize,
             };
         }
+        let at = self.stop;
+        self.end_frame();
+        EventAdvance::Event {
+            at,
+            used: used as usize,
+            what: EventOutline::End(extra as u32),
+        }
+    }
+
+    /// Ends the frame under way. A header is read next.
+    #[inline(always)]
+    pub(crate) fn end_frame(&mut self)
+    {
         self.frame = self.stop;
         self.offset = self.stop;
         self.came = 0;
         self.stage = StreamStage::Header;
         self.given_use = self.given_use.ended();
-        EventAdvance::Event {
-            at: self.stop,
-            used: used as usize,
-            what: EventOutline::End(extra as u32),
-        }
     }
 }
 

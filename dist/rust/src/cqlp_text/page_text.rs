@@ -113,28 +113,6 @@ impl PagePlace {
         self.open_values.get(self.free).copied()
     }
 
-    /// What stands before a cell of this column, or before an item of the open value.
-    #[inline]
-    fn before(&self, column: u32) -> &'static str
-    {
-        match self.innermost() {
-            None if column == 0 => "",
-            None => " | ",
-            Some(open) => separator(open.turn),
-        }
-    }
-
-    /// What stands after a cell of this column, or after an item of the open value.
-    #[inline]
-    fn after(&self, column: u32) -> &'static str
-    {
-        if self.free < ROOM {
-            ""
-        } else {
-            row_end(self.columns, column)
-        }
-    }
-
     /// Whether a row ends after a cell of this column, which no item of an open value is.
     #[inline(always)]
     fn ends_row(&self, column: u32) -> bool
@@ -142,18 +120,17 @@ impl PagePlace {
         if self.free < ROOM {
             return false;
         }
-        u64::from(column) + 1 == u64::from(self.columns)
+        is_last(column, self.columns)
     }
 
-    /// What stands after the innermost open value.
+    /// Whether a row ends after the innermost open value, which no item of another one is.
     #[inline]
-    fn after_innermost(&self) -> &'static str
+    fn ends_row_after_innermost(&self) -> bool
     {
         if self.free + 1 < ROOM {
-            ""
-        } else {
-            row_end(self.columns, self.column)
+            return false;
         }
+        is_last(self.column, self.columns)
     }
 
     /// Goes to the place after an event.
@@ -399,7 +376,7 @@ impl<P: Pen> TextWriter<P> {
     {
         self.put_before(place, column)?;
         self.put_cell(scalar)?;
-        self.put_after(place, column)
+        self.put_row_end(place.ends_row(column))
     }
 
     /// Takes a name in place of a value, with what stands before and after it.
@@ -408,7 +385,7 @@ impl<P: Pen> TextWriter<P> {
     {
         self.put_before(place, column)?;
         self.put_str(name)?;
-        self.put_after(place, column)
+        self.put_row_end(place.ends_row(column))
     }
 
     /// Takes what stands before a cell of this column, or before an item of the open value.
@@ -433,21 +410,17 @@ impl<P: Pen> TextWriter<P> {
         }
     }
 
-    /// Takes what stands after a cell of this column, or after an item of the open value.
+    /// Takes the end of a row, where one ends.
     #[inline(always)]
-    fn put_after(&mut self, place: &PagePlace, column: u32) -> Result<(), SinkFault>
+    fn put_row_end(&mut self, ends: bool) -> Result<(), SinkFault>
     {
-        if place.ends_row(column) {
-            self.put(b"\n")
-        } else {
-            Ok(())
-        }
+        if ends { self.put(b"\n") } else { Ok(()) }
     }
 
     #[inline]
     fn put_opening(&mut self, place: &PagePlace, column: u32, kind: Kind) -> Result<(), SinkFault>
     {
-        self.put(place.before(column).as_bytes())?;
+        self.put_before(place, column)?;
         self.put(opening(kind).as_bytes())
     }
 
@@ -458,7 +431,7 @@ impl<P: Pen> TextWriter<P> {
             return Ok(());
         };
         self.put(closing(open.kind).as_bytes())?;
-        self.put(place.after_innermost().as_bytes())
+        self.put_row_end(place.ends_row_after_innermost())
     }
 
     /// Takes a part of a long content, which begins with `0x`.
@@ -486,7 +459,7 @@ impl<P: Pen> TextWriter<P> {
         if offset > 0 {
             return Ok(());
         }
-        self.put(place.before(column).as_bytes())?;
+        self.put_before(place, column)?;
         self.put(b"0x")
     }
 
@@ -498,33 +471,18 @@ impl<P: Pen> TextWriter<P> {
     ) -> Result<(), SinkFault>
     {
         if last {
-            self.put(place.after(column).as_bytes())
+            self.put_row_end(place.ends_row(column))
         } else {
             Ok(())
         }
     }
 }
 
-/// What stands before an item of an open value.
-#[inline]
-fn separator(turn: Turn) -> &'static str
+/// Whether a row ends after a cell of this column.
+#[inline(always)]
+fn is_last(column: u32, columns: u32) -> bool
 {
-    match turn {
-        Turn::First => "",
-        Turn::Paired => ": ",
-        Turn::Another => ", ",
-    }
-}
-
-/// What stands after a cell of this column.
-#[inline]
-fn row_end(columns: u32, column: u32) -> &'static str
-{
-    if u64::from(column) + 1 == u64::from(columns) {
-        "\n"
-    } else {
-        ""
-    }
+    u64::from(column) + 1 == u64::from(columns)
 }
 
 #[inline]

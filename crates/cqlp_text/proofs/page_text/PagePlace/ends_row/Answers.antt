@@ -1,4 +1,7 @@
-use Rattle.std.proofs.Common.{arith}
+use Rattle.std.proofs.Common.{◌∙◌, List, ap, arith}
+use Rattle.std.proofs.lemmas.List.{drop_all}
+use Rattle.cqlp_text.specs.declared.page_text.WrittenValue.{WrittenValue}
+use Rattle.cqlp_text.specs.PageText.{after}
 use Rattle.cqlp_text.proofs.Pages.{after_item}
 use Rattle.cqlp_text.proofs.page_text.PagePlace.ends_row.Goals as goal
 
@@ -6,3 +9,9 @@ pub returns-then-self-lt-ROOM : goal.returns-then-self-lt-ROOM
 returns-then-self-lt-ROOM c =
     let p = c.self.inside in
     rw (← c.self.view_is) (after_item p.columns c.args.column p.free p.open_values (omega arith))
+
+pub returns : goal.returns
+returns c =
+    let p = c.self.inside in
+    rw (← c.self.view_is)
+    (ap (λ (os : List WrittenValue). after p.columns c.args.column os) (drop_all p.free p.open_values (omega arith)) ∙ c.is_last.ensures)

@@ -14,4 +14,4 @@ pub returns : goal.returns
 returns g c =
     let p = c.args.place.now in
     let end = closed p.columns p.column p.open_values c.in-Some.open c.in-Some.ensures ∙ ap (λ t. t ++ after p.columns p.column (without_open p.open_values)) (sym (c.as_bytes.ensures.value ∙ c.closing.ensures)) in
-    last_part _ c.put-2.result (progress_goes_on _ (progress_starts _ _) end c.in_ok-put.ensures) (sym (c.as_bytes-2.ensures.value ∙ c.after_innermost.ensures)) c.put-2.ensures
+    last_part _ c.put_row_end.result (progress_goes_on _ (progress_starts _ _) end c.in_ok-put.ensures) c.ends_row_after_innermost.ensures c.put_row_end.ensures

@@ -1,5 +1,6 @@
 use Rattle.std.proofs.Common.{refl}
-use Rattle.cqlp_text.proofs.Writing.{progress_starts, progress_goes_on, progress_stops, progress_writes}
+use Rattle.cqlp_text.proofs.Pages.{last_part}
+use Rattle.cqlp_text.proofs.Writing.{progress_starts, progress_goes_on, progress_stops}
 use Rattle.cqlp_text.proofs.text_writer.TextWriter.put_named.Goals as goal
 
 pub returns-in_err-put_before : goal.returns-in_err-put_before
@@ -15,4 +16,4 @@ pub returns : goal.returns
 returns g c =
     let s1 = progress_goes_on _ (progress_starts _ _) refl c.in_ok-put_before.ensures in
     let s2 = progress_goes_on _ s1 refl c.in_ok-put_str.ensures in
-    progress_writes _ c.put_after.result s2 c.put_after.ensures
+    last_part _ c.put_row_end.result s2 c.ends_row.ensures c.put_row_end.ensures
