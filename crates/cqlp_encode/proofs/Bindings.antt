@@ -1,5 +1,5 @@
 -- What is made of a value: the content that is written of it.
-use Rattle.std.proofs.Common.{◌≡◌, ◌++◌, ◌+◌, ◌<◌, ◌^◌, ◌&&◌, ℕ, Bool, true, false, List, [], length, nat_lt, Option, Some, None, Result, Ok, Err, refl, sym, ap, ◌∙◌, subst, append-nil, arith}
+use Rattle.std.proofs.Common.{◌≡◌, ◌++◌, ◌+◌, ◌<◌, ℕ, true, List, length, refl, sym, ◌∙◌, append-nil, arith}
 use Rattle.std.proofs.lemmas.List.{length-append}
 use Rattle.std.proofs.lemmas.Bool.{lt-ltb, ltb-true}
 use Rattle.std.specs.Int.{w32, to_be_bytes}
@@ -8,11 +8,11 @@ use Rattle.cqlp_note.specs.Field as note
 use Rattle.cqlp_note.specs.Spelling.{field_bytes}
 use Rattle.cqlp_kind.specs.declared.kind.Kind.{Kind}
 use Rattle.cqlp_kind.specs.declared.kind.Kind.TheVariants as kind
-use Rattle.cqlp_kind.specs.Types.{Types, NoMore, Type_and}
-use Rattle.cqlp_kind.specs.Scalars.{ScalarValue, Raw, content_of, scalar_fits, scalar_of}
+use Rattle.cqlp_kind.specs.Types.{Types, NoMore}
+use Rattle.cqlp_kind.specs.Scalars.{Raw, content_of, scalar_fits, scalar_of}
 use Rattle.cqlp_value.specs.declared.value.Value.{Value, Null, Empty, Leaf, List', Map', Set', Tuple', Udt'}
 use Rattle.cqlp_value.specs.Owned.{value_of}
-use Rattle.cqlp_value.specs.Values.{Values, NoValue, Null_and, Empty_and, Scalar_and, Counted_and, Fields_and, values_in, values_size, values_bytes, values_fit, value_fits}
+use Rattle.cqlp_value.specs.Values.{Values, NoValue, Null_and, Empty_and, Scalar_and, Counted_and, Fields_and, values_in, values_size, values_bytes, value_fits}
 use Rattle.cqlp_value.proofs.ScalarsWritten.{both_true}
 use Rattle.cqlp_value.proofs.ValuesWritten.{written_size}
 use Rattle.cqlp_encode.specs.Binding.{bound_written, content_written, raw_written}

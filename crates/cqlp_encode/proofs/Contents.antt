@@ -1,13 +1,12 @@
 -- The bytes of a caller's values.
 use Rattle.std.proofs.Common.{◌≡◌, ℕ, ◌+◌, ◌-◌, ◌^◌, ◌<◌, List, [], ◌∷◌, ◌++◌, get_or, length, take, min, refl, sym, ap, ◌∙◌, append_assoc, append-nil, arith}
-use Rattle.std.proofs.lemmas.List.{take_more, length-append}
+use Rattle.std.proofs.lemmas.List.{take_more}
 use Rattle.std.specs.Int.{w32, to_be_bytes}
 use Rattle.cqlp_value.specs.declared.value.Value.{Value, Null, Empty, Leaf, List', Map', Set', Tuple', Udt'}
 use Rattle.cqlp_kind.specs.declared.kind.Kind.{Kind}
 use Rattle.cqlp_value.specs.Values.{Values, NoValue, Counted_and, Fields_and, values_size, values_bytes}
 use Rattle.cqlp_value.specs.Owned.{value_and, value_of}
 use Rattle.cqlp_value.specs.Measures.{listed_values, listed_pairs}
-use Rattle.cqlp_value.proofs.ValuesWritten.{written_size}
 use Rattle.cqlp_value.proofs.ValueSizes.{size_next, pair_next}
 use Rattle.cqlp_encode.specs.Progress.{Progress, Puts, PutsWithin}
 use Rattle.cqlp_encode.specs.Binding.{content_written}

@@ -1,6 +1,7 @@
 -- What is made of a value that can be written.
-use Rattle.std.proofs.Common.{◌≡◌, ◌≢◌, ◌+◌, ◌-◌, ◌<◌, ◌≤◌, ◌++◌, ◌^◌, ℕ, zero, suc, true, false, List, [], length, min, take, Option, Some, None, Result, Err, refl, sym, ap, ◌∙◌, subst, arith}
+use Rattle.std.proofs.Common.{◌≡◌, ◌+◌, ◌<◌, ◌≤◌, ◌++◌, ℕ, zero, suc, true, false, List, [], length, take, Option, Some, None, Result, Ok, Err, refl, sym, ap, ◌∙◌, subst, arith}
 use Rattle.std.proofs.lemmas.List.{take_all}
+use Rattle.std.specs.Prelude.{IsErrAnd}
 use Rattle.cqlp_note.specs.declared.field.Notation.TheVariants as notation
 use Rattle.cqlp_note.specs.Field as note
 use Rattle.cqlp_note.specs.Spelling.{field_bytes}
@@ -29,8 +30,9 @@ some_or_not zero h = let both = h refl in absurd cc
 some_or_not (suc n) h = omega arith
 
 -- memory was refused, and some was asked for
-pub no_memory : {X : Type 0} (Is : X → Type 0) (v : Value) (t : Option TypeTree) (r : Result X BindError) (len : ℕ) → r ≡ Err error.NoMemory → CanBeWritten v t → 4 + len ≡ values_size (value_of v) → (len ≡ 0 → false ≡ true) → Makes Is v t r
-no_memory Is v t r len is can size asked = rw is (can, omega (arith, content_size v, some_or_not len asked))
+pub no_memory : {X : Type 0} (Is : X → Type 0) (v : Value) (t : Option TypeTree) (r : Result X BindError) (len : ℕ) → IsErrAnd r (λ e. e ≡ error.NoMemory) → CanBeWritten v t → 4 + len ≡ values_size (value_of v) → (len ≡ 0 → false ≡ true) → Makes Is v t r
+no_memory Is v t (Ok x) len is can size asked = absurd is
+no_memory Is v t (Err e) len is can size asked = rw is (can, omega (arith, content_size v, some_or_not len asked))
 
 -- all was taken into memory that was empty
 pub filled : (old new content : List ℕ) (n : ℕ) → old ≡ [] → length content ≤ n → new ≡ old ++ take n content → new ≡ content

@@ -190,12 +190,7 @@ impl<'a> PageWriter<'a> {
     }
 
     /// Writes the next cell, if it is a value that fits.
-    fn put<W: Target>(
-        &mut self,
-        value: &Value,
-        fits: bool,
-        target: &mut W,
-    ) -> Result<(), PageError>
+    fn put<W: Target>(&mut self, value: &Value, fits: bool, target: &mut W) -> Result<(), PageError>
         ensures { (cells : List Values) (cell : Values) → StandsFor self.old cells fits (value_of value.now) cell →
             Adds self.old cells cell (written W.Target target.old) result (written W.Target target.new) self.new }
     {

@@ -140,12 +140,7 @@ impl<'a> PageWriter<'a> {
     }
 
     /// Writes the next cell, if it is a value that fits.
-    fn put<W: Target>(
-        &mut self,
-        value: &Value,
-        fits: bool,
-        target: &mut W,
-    ) -> Result<(), PageError>
+    fn put<W: Target>(&mut self, value: &Value, fits: bool, target: &mut W) -> Result<(), PageError>
     {
         let size = self.check(value, fits)?;
         let taken = offer_value(value, target);

@@ -12,8 +12,8 @@ returns c =
     let v = c.args.value.now in
     let made = c.in_ok-content.ensures in
     let is : bound_of c.match-value.result ≡ bound_written (value_of v) =
-        elim c.match-value.branch [
-        | in-Null w ↦ rw (w.result-is, w.in-Null.is) refl
-        | in_default w ↦ ap bound_of w.result-is ∙ is_known v _ made.1 w.in_default.not-Null
-        ] in
+    elim c.match-value.branch [
+      | in-Null w ↦ rw (w.result-is, w.in-Null.is) refl
+      | in_default w ↦ ap bound_of w.result-is ∙ is_known v _ made.1 w.in_default.not-Null
+    ] in
     (made.0, is_bound v (option_map (λ t. t.now) c.args.of) c.match-value.result made.0 made.1.range is)

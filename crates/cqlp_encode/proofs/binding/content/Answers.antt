@@ -1,4 +1,4 @@
-use Rattle.std.proofs.Common.{◌≡◌, ◌+◌, ◌-◌, ◌≤◌, length, sym, ◌∙◌, arith}
+use Rattle.std.proofs.Common.{◌-◌, ◌≤◌, length, sym, ◌∙◌, arith}
 use Rattle.std.specs.Prelude.{option_map}
 use Rattle.cqlp_note.specs.declared.header.TheConstants.Header.{LONGEST_BODY}
 use Rattle.cqlp_value.specs.Owned.{value_of}
@@ -15,7 +15,7 @@ returns-in_err-target c =
     let t = option_map (λ t. t.now) c.args.of in
     let short : values_size (value_of v) ≤ LONGEST_BODY = omega (arith, c.value_size-size.ensures.size, c.from.ensures, c.if-size-from.false) in
     let can = can_be_written v t (sym c.fits.ensures ∙ c.if-not-fits.false) c.value_size-size.ensures.range short in
-    no_memory (λ x. IsContent v x.items) v t _ (c.value_size-size.result - 4) c.from_residual.ensures can (omega (arith, c.value_size-size.ensures.size, short, content_size v)) c.in_err-target.ensures.succeeds
+    no_memory (λ x. IsContent v x.items) v t _ (c.value_size-size.result - 4) c.from_residual.ensures.1 can (omega (arith, c.value_size-size.ensures.size, short, content_size v)) c.in_err-target.ensures.succeeds
 
 pub returns-then-offer_content-len : goal.returns-then-offer_content-len
 returns-then-offer_content-len c =

@@ -11,9 +11,9 @@ returns c =
     let v = c.args.value.now in
     let made = c.in_ok-content.ensures in
     let is : value_of c.match-value.result ≡ raw_written (value_of v) =
-        elim c.match-value.branch [
-        | in-Null w ↦ rw (w.result-is, w.in-Null.is) refl
-        | in-Empty w ↦ rw (w.result-is, w.in-Empty.is) refl
-        | in_default w ↦ ap value_of w.result-is ∙ is_raw_known v _ made.1 w.in_default.not-Null w.in_default.not-Empty
-        ] in
+    elim c.match-value.branch [
+      | in-Null w ↦ rw (w.result-is, w.in-Null.is) refl
+      | in-Empty w ↦ rw (w.result-is, w.in-Empty.is) refl
+      | in_default w ↦ ap value_of w.result-is ∙ is_raw_known v _ made.1 w.in_default.not-Null w.in_default.not-Empty
+    ] in
     (made.0, is_raw v (option_map (λ t. t.now) c.args.of) c.match-value.result made.0 made.1.range is)

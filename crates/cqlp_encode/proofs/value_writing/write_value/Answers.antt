@@ -4,7 +4,6 @@ use Rattle.cqlp_note.specs.declared.header.TheConstants.Header.{LONGEST_BODY}
 use Rattle.cqlp_note.specs.Outputs.{Offered, written}
 use Rattle.cqlp_value.specs.Owned.{value_of}
 use Rattle.cqlp_value.specs.Values.{values_bytes, values_size}
-use Rattle.cqlp_encode.specs.ValueWriting.{CanBeWritten}
 use Rattle.cqlp_encode.proofs.WrittenValues.{can_be_written}
 use Rattle.cqlp_encode.proofs.value_writing.write_value.Goals as goal
 
