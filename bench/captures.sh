@@ -13,20 +13,16 @@ export CARGO_TARGET_DIR=$here/../dist/out/rust
 
 # The least processor time of three runs of a command on a capture, and its resident memory.
 tell() {
-    python3 - "$@" <<'PYTHON'
-import os, subprocess, sys
-name, capture, words = sys.argv[1], sys.argv[2], sys.argv[3:]
-best, most = None, 0
-for _ in range(3):
-    child = subprocess.Popen(words, stdout=subprocess.DEVNULL)
-    _, status, used = os.wait4(child.pid, 0)
-    if status:
-        sys.exit(f"{words} ended with {status}")
-    spent = used.ru_utime + used.ru_stime
-    best = spent if best is None else min(best, spent)
-    most = max(most, used.ru_maxrss)
-print(f"  {name}: {best * 1000:.0f} ms of the processor, {os.stat(capture).st_size / best / 1e6:.0f} MB/s, {most / 1024:.1f} MiB resident", flush=True)
-PYTHON
+    local name=$1 capture=$2
+    shift 2
+    rm -f "$room/spent"
+    for _ in 1 2 3; do
+        /usr/bin/time -a -o "$room/spent" -f '%U %S %M' "$@" >/dev/null
+    done
+    awk -v name="$name" -v bytes="$(stat -c %s "$capture")" '
+        NR == 1 || $1 + $2 < best { best = $1 + $2 }
+        $3 > most { most = $3 }
+        END { printf "  %s: %d ms of the processor, %d MB/s, %.1f MiB resident\n", name, best * 1000, bytes / best / 1e6, most / 1024 }' "$room/spent"
 }
 
 for kind in whole lost many; do

@@ -2,7 +2,8 @@
 //!
 //! A [`Decoder`] reads frames from pieces of any size, one [`Event`] at a time, and holds no more than its [`Limits`] say,
 //! whatever lengths and counts a peer sends. [`frame`] has values of frames and what writes them, [`session`] the cores of a
-//! client and of a server, which pair replies with requests, and [`text`] the text of events and of pages.
+//! client and of a server, which pair replies with requests, [`text`] the text of events and of pages, and [`capture`] readers of packet
+//! captures.
 //!
 //! # What is promised
 //!
