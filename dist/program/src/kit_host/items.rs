@@ -69,15 +69,6 @@ impl<'a, T, A: Allocator> IntoIterator for &'a mut Vec<T, A> {
     }
 }
 
-impl<T: Copy, A: Allocator> Vec<T, A> {
-    #[inline]
-    pub fn extend_from_slice(&mut self, items: &[T]) -> Result<(), AllocError> {
-        self.items.try_reserve(items.len()).map_err(|_| AllocError)?;
-        self.items.extend_from_slice(items);
-        Ok(())
-    }
-}
-
 impl<A: Allocator> std::io::Write for Vec<u8, A> {
     fn write(&mut self, bytes: &[u8]) -> std::io::Result<usize> {
         self.extend_from_slice(bytes)?;
