@@ -334,3 +334,32 @@ fn changed_captures() {
         assert!(said(limits, room, pieces(&mut numbers, &changed, most)) == whole, "case {case}: {changed:02x?}");
     }
 }
+
+/// Segments that overlap, disagree, come early or again, and acknowledgements between them, where numbers wrap and where they do not.
+#[test]
+fn segments_in_any_order() {
+    let mut numbers = Numbers::new();
+    for _ in 0..count() {
+        let room = numbers.one_of(&[0, 1, 7, 40, 300]);
+        let first = numbers.one_of(&[0, 1_000, 0x7fff_ffe0, u32::MAX - 20]);
+        let mut direction = Direction { stream: Stream::new(Global, room).unwrap(), reference: Reference::default() };
+        let mut said = Vec::new();
+        for _ in 0..numbers.below(12) {
+            let sequence = first.wrapping_add(numbers.below(60) as u32);
+            if numbers.below(4) == 0 {
+                direction.pull(&[], &mut said, |stream| stream.acknowledge(sequence));
+                continue;
+            }
+            let payload: Vec<u8> = (0..numbers.below(20)).map(|_| numbers.below(256) as u8).collect();
+            let control = Control {
+                sequence,
+                syn: numbers.below(20) == 0,
+                fin: numbers.below(15) == 0,
+                rst: numbers.below(60) == 0,
+                missing: numbers.one_of(&[0, 0, 0, 5]),
+            };
+            direction.reference.note(control, &payload);
+            direction.pull(&payload, &mut said, |stream| stream.take(control, &payload));
+        }
+    }
+}

@@ -26,10 +26,6 @@ impl<T, A: Allocator> Vec<T, A> {
     pub fn try_reserve_exact(&mut self, more: usize) -> Result<(), AllocError> {
         self.items.try_reserve_exact(more).map_err(|_| AllocError)
     }
-
-    pub fn as_mut_slice(&mut self) -> &mut [T] {
-        &mut self.items
-    }
 }
 
 /// Memory for a copy is not asked for: without it the program is aborted. Only what reads the words copies.
