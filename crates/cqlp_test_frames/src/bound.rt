@@ -52,7 +52,7 @@ fn print_read(rt: &HostRuntime, line: &str, typed: &Typed, bytes: &[u8]) -> io::
         is_decoded(rt.alloc(), typed, bytes),
         is_read(rt.alloc(), typed, own),
         is_raw(rt.alloc(), typed, own)?,
-        is_by_cell(rt.alloc(), typed, own)?
+        is_by_cell(rt.alloc(), typed, own)
     )?;
     print_bytes(rt, own)
 }
@@ -90,17 +90,20 @@ fn is_raw(alloc: Global, typed: &Typed, own: &[u8]) -> Result<bool, AllocError> 
 }
 
 /// Whether these are the last bytes of a page whose writer is given the value; true of a value without a type.
-fn is_by_cell(alloc: Global, typed: &Typed, own: &[u8]) -> Result<bool, AllocError> {
+fn is_by_cell(alloc: Global, typed: &Typed, own: &[u8]) -> bool {
     let Some(tree) = &typed.of else {
-        return Ok(true);
+        return true;
+    };
+    let Ok(len) = u32::try_from(own.len()) else {
+        return false;
     };
     let frame = page(Vec::new(alloc));
     let mut target = Narrow::new(alloc, usize::MAX, PIECE);
-    let Ok(mut writer) = PageWriter::begin(&frame, own.len() as u32, &mut target) else {
-        return Ok(false);
+    let Ok(mut writer) = PageWriter::begin(&frame, len, &mut target) else {
+        return false;
     };
     let is_put = writer.cell_as(&typed.value, tree, &mut target).is_ok() && writer.finish().is_ok();
-    Ok(is_put && target.text().ends_with(own))
+    is_put && target.text().ends_with(own)
 }
 
 /// A QUERY with this one value.
