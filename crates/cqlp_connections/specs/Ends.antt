@@ -1,5 +1,6 @@
 -- The ends of connections, and which way a segment goes between them.
-use Rattle.std.specs.Prelude.{ℕ, Bool, false, ◌==◌, ◌&&◌, List, list_any, bytes_eq, Option, Some, None, if◌then◌else◌}
+use Rattle.std.specs.Prelude.{ℕ, Bool, false, ◌==◌, ◌&&◌, List, bytes_eq, Option, Some, None, if◌then◌else◌}
+use Rattle.std.specs.List.{list_any}
 use Rattle.cqlp_segment.specs.declared.addresses.Address.{Address}
 use Rattle.cqlp_segment.specs.declared.addresses.Address.TheVariants.{V4, V6}
 use Rattle.cqlp_segment.specs.declared.addresses.Endpoint.{Endpoint}
