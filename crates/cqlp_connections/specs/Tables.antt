@@ -66,18 +66,21 @@ seen_in way h (k ∷ ks) t = seen_as (unwrap_or (way_between k.client k.node h) 
 abbrev pub seen_first : Way → SegmentHead → Table → Taking
 seen_first way h t = seen_in way h t.known t
 
--- A connection begins with a segment that goes this way.
-abbrev pub begun_with : (number room : ℕ) → Way → SegmentHead → Known
-begun_with n room Requests h =
-    counted_on Requests (known n h.source h.destination (sides.new_side room) (sides.new_side room))
-begun_with n room Responses h =
-    counted_on Responses (known n h.destination h.source (sides.new_side room) (sides.new_side room))
+-- A connection begins with a segment that goes this way, and is counted.
+abbrev pub new_known : (number room : ℕ) → (client node : Endpoint) → Known
+new_known n room client node = known n client node (sides.new_side room) (sides.new_side room)
+
+abbrev pub new_by : Way → (number room : ℕ) → SegmentHead → Known
+new_by Requests n room h = new_known n room h.source h.destination
+new_by Responses n room h = new_known n room h.destination h.source
+
+abbrev pub with_count : (number : ℕ) → Table → Table
+with_count n t = record t { counts = record t.counts { connections = n } }
 
 abbrev pub begun : Way → SegmentHead → Table → Taking
 begun way h t =
     let n = counted t.counts.connections 1 in
-    taking (Taken n way true)
-    (record t { known = begun_with n t.limits.early way h ∷ t.known; counts = record t.counts { connections = n } })
+    taking (Taken n way true) (with_count n (with_known (counted_on way (new_by way n t.limits.early h) ∷ t.known) t))
 
 -- The last one, which was silent longest, has to leave.
 abbrev pub crowded_by : List Known → Table → Taking

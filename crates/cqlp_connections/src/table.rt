@@ -1,18 +1,19 @@
 //! The table of connections.
 
-ghost use Rattle.std.specs.Prelude.{◌≡◌, ◌↔◌, ◌==◌, ◌<◌, ◌≤◌, false, drop, length, map, take, IfOk, IsErrOf, Some};
+ghost use Rattle.std.specs.Prelude.{◌≡◌, ◌↔◌, ◌==◌, ◌<◌, ◌≤◌, ◌∷◌, false, drop, length, map, take, IfOk, IsErrOf, Some};
 ghost use Rattle.cqlp_segment.specs.Segment.{seen};
 ghost use Rattle.cqlp_connections.specs.Limits.{is_in_range};
 ghost use Rattle.std.specs.Box.{box_value};
 ghost use Rattle.cqlp_connections.specs.Known.{IsToldWithin};
-ghost use Rattle.cqlp_connections.specs.Places.{AreMade};
+ghost use Rattle.cqlp_connections.specs.Places.{AreMade, first_behind};
+ghost use Rattle.cqlp_connections.specs.Tables.{to_front};
 
 use crate::connection::Connection;
 use crate::ends::{Way, first_way};
 use crate::limits::{ConnectionLimits, NewConnectionsError};
 use crate::told::{Departure, Sight, Told};
 use crate::totals::ConnectionCounts;
-use cqlp_segment::{Segment, SegmentHead};
+use cqlp_segment::{Endpoint, Segment, SegmentHead};
 use std::alloc::{AllocError, Allocator, Global};
 use std::marker::Model;
 
@@ -47,8 +48,8 @@ impl<A: Allocator> Model for Connections<A> {
 
 impl<A: Allocator> Connections<A> {
     ghost use Rattle.cqlp_connections.specs.Tables.{begun, cells_of, crowded, departing, finished, first_number, found_in, held_on, left};
-    ghost use Rattle.cqlp_connections.specs.Tables.{new_table, pulled, pulling, read_on};
-    ghost use Rattle.cqlp_connections.specs.Tables.{seen_first, taken, taking, to_front, with_known};
+    ghost use Rattle.cqlp_connections.specs.Tables.{new_known, new_table, pulled, pulling, read_on};
+    ghost use Rattle.cqlp_connections.specs.Tables.{seen_first, taken, taking, with_known};
 
     /// A table without connections, for nodes that listen on one of these ports. All memory is taken here, in three requests for each
     /// connection of the limit and two more.
@@ -205,7 +206,7 @@ impl<A: Allocator> Connections<A> {
         requires { at < length self.old.known }
         ensures { self.new ≡ with_known (to_front at self.old.known) self.old }
     {
-        self.places[..at + 1].rotate_right(1);
+        bring_to_front(self.places.as_mut_slice(), at);
     }
 
     /// Takes a segment of the first connection.
@@ -241,16 +242,23 @@ impl<A: Allocator> Connections<A> {
         };
         self.counts.connections = self.counts.connections.saturating_add(1);
         let number = self.counts.connections;
-        self.places[..self.len + 1].rotate_right(1);
-        self.len += 1;
-        let first = &mut self.places[0];
-        first.renew(number, client, node);
-        first.count_segment(way);
+        self.add(number, client, node);
+        self.places[0].count_segment(way);
         Sight::Taken {
             number,
             way,
             is_new: true,
         }
+    }
+
+    /// Puts a connection before the others of which nothing was told.
+    fn add(&mut self, number: u64, client: Endpoint, node: Endpoint)
+        requires { length self.old.known < self.old.limits.connections }
+        ensures { self.new ≡ with_known (new_known number self.old.limits.early client node ∷ self.old.known) self.old }
+    {
+        self.places[self.len].renew(number, client, node);
+        bring_to_front(self.places.as_mut_slice(), self.len);
+        self.len += 1;
     }
 
     /// Has the connection leave that was silent longest.
@@ -286,9 +294,26 @@ impl<A: Allocator> Connections<A> {
         requires { 0 < length self.old.known }
         ensures { self.new ≡ with_known (drop 1 self.old.known) self.old }
     {
-        self.places[..self.len].rotate_left(1);
+        put_behind(self.places.as_mut_slice(), self.len);
         self.len -= 1;
     }
+}
+
+/// Brings the one at this place to the front, before the others in their order.
+fn bring_to_front<A: Allocator>(places: &mut [Box<Connection<A>, A>], at: usize)
+    requires { at < length places.old }
+    ensures { map box_value places.new ≡ to_front at (map box_value places.old) }
+{
+    places[..at + 1].rotate_right(1);
+}
+
+/// Puts the first one behind the others of so many.
+fn put_behind<A: Allocator>(places: &mut [Box<Connection<A>, A>], len: usize)
+    requires some { 0 < len }
+    requires there { len ≤ length places.old }
+    ensures { map box_value places.new ≡ first_behind len (map box_value places.old) }
+{
+    places[..len].rotate_left(1);
 }
 
 /// Memory for so many connections, whose directions can hold so many bytes that come early.

@@ -1,0 +1,104 @@
+-- The connections as they lie in memory, and the first of them.
+use Rattle.std.proofs.Common.{◌≡◌, ℕ, zero, suc, ◌+◌, ◌-◌, ◌<◌, ◌≤◌, List, [], ◌∷◌, ◌++◌, length, take, drop, map, get_or, set, refl, sym, ap, subst, ◌∙◌, arith}
+use Rattle.std.specs.Prelude.{All, min}
+use Rattle.std.specs.List.{remove}
+use Rattle.std.proofs.lemmas.List.{length-map, length-set, map-set, length-append, length-take, length-drop}
+use Rattle.std.proofs.lemmas.List.Elements.{All-append, All-take, All-drop}
+use Rattle.cqlp_segment.specs.declared.addresses.Endpoint.{Endpoint}
+use Rattle.cqlp_connections.specs.declared.limits.ConnectionLimits.{ConnectionLimits}
+use Rattle.cqlp_connections.specs.Known.{HasRoom, Known, renewed}
+use Rattle.cqlp_connections.specs.Places.{AreMade, IsLawful, first_behind}
+use Rattle.cqlp_connections.specs.Tables.{new_known, to_front}
+
+-- what is said of the list with its first one, and with another in its place, is said of those that are there
+pub by_first : {X : Type 0} (f : X → Known) (Q : List Known → List Known → Type 0) (len : ℕ) (xs : List X) (b w : X) → 0 < len → len ≤ length xs → b ≡ get_or xs 0 b
+    → ((rest : List Known) → Q (f b ∷ rest) (f w ∷ rest)) → Q (take len (map f xs)) (take len (map f (set xs 0 w)))
+by_first f Q zero xs b w some le is h = absurd (omega arith)
+by_first f Q (suc l) [] b w some le is h = absurd (omega arith)
+by_first {X} f Q (suc l) (x ∷ xs) b w some le is h = subst (λ (y : X). Q (f y ∷ take l (map f xs)) (f w ∷ take l (map f xs))) is (h (take l (map f xs)))
+
+-- the same where it stays as it is
+pub by_first_alone : {X : Type 0} (f : X → Known) (Q : List Known → Type 0) (len : ℕ) (xs : List X) (b : X) → 0 < len → len ≤ length xs → b ≡ get_or xs 0 b
+    → ((rest : List Known) → Q (f b ∷ rest)) → Q (take len (map f xs))
+by_first_alone f Q zero xs b some le is h = absurd (omega arith)
+by_first_alone f Q (suc l) [] b some le is h = absurd (omega arith)
+by_first_alone {X} f Q (suc l) (x ∷ xs) b some le is h = subst (λ (y : X). Q (f y ∷ take l (map f xs))) is (h (take l (map f xs)))
+
+all_set : (P : Known → Type 0) (ks : List Known) (i : ℕ) (v : Known) → All P ks → P v → All P (set ks i v)
+all_set P [] i v all h = λ k d lt. absurd (omega arith)
+all_set P (c ∷ ks) zero v all h = λ k. elim k as (λ (k : ℕ). (d : Known) → k < length (v ∷ ks) → P (get_or (v ∷ ks) k d)) [
+  | zero ↦ λ d lt. h
+  | suc k ↦ λ d lt. all (suc k) d lt
+]
+all_set P (c ∷ ks) (suc i) v all h =
+    let rest = all_set P ks i v (λ k d lt. all (suc k) d (omega arith)) h in
+    λ k. elim k as (λ (k : ℕ). (d : Known) → k < length (c ∷ set ks i v) → P (get_or (c ∷ set ks i v) k d)) [
+      | zero ↦ λ d lt. all 0 d (omega arith)
+      | suc k ↦ λ d lt. rest k d (omega arith)
+    ]
+
+pub here : {X : Type 0} (f : X → Known) (room : ℕ) (xs : List X) (i : ℕ) (b : X) → All (HasRoom room) (map f xs) → i < length xs → b ≡ get_or xs i b → HasRoom room (f b)
+here f room [] i b all lt is = absurd (omega arith)
+here {X} f room (x ∷ xs) zero b all lt is = subst (λ (y : X). HasRoom room (f y)) (sym is) (all 0 (f x) (omega arith))
+here f room (x ∷ xs) (suc i) b all lt is = here f room xs i b (λ k d less. all (suc k) d (omega arith)) (omega arith) is
+
+-- one of them becomes another, with the same room
+pub made_set : {X : Type 0} (f : X → Known) (many room : ℕ) (xs : List X) (i : ℕ) (b w : X) → AreMade many room (map f xs) → i < length xs → b ≡ get_or xs i b → (HasRoom room (f b) → HasRoom room (f w))
+    → AreMade many room (map f (set xs i w))
+made_set f many room xs i b w made lt is keeps = record {
+  many = ap length (map-set f xs i w) ∙ length-set (map f xs) i (f w) ∙ made.many;
+  rooms = (let was = here f room xs i b made.rooms lt is in
+      subst (All (HasRoom room)) (sym (map-set f xs i w)) (all_set (HasRoom room) (map f xs) i (f w) made.rooms (keeps was)));
+}
+
+pub lawful_first : {X : Type 0} (f : X → Known) (limits : ConnectionLimits) (len : ℕ) (xs : List X) (b w : X) → IsLawful limits len (map f xs) → b ≡ get_or xs 0 b → (HasRoom limits.early (f b) → HasRoom limits.early (f w))
+    → IsLawful limits len (map f (set xs 0 w))
+lawful_first f limits len xs b w is first keeps = record {
+  some = is.some;
+  within = is.within;
+  made = made_set f limits.connections limits.early xs 0 b w is.made (let m = is.made.many in let n = is.some in omega (arith, m, n, length-map xs f)) first keeps;
+}
+
+-- ---- the order of them
+
+length_front : (at : ℕ) (ks : List Known) → at < length ks → length (to_front at ks) ≡ length ks
+length_front at ks lt =
+    omega
+    (arith, length-append (take 1 (drop at ks)) (remove ks at), length-append (take at ks) (drop (suc at) ks), length-take 1 (drop at ks), length-drop at ks, length-take at ks, length-drop (suc at) ks)
+
+pub made_front : (many room at : ℕ) (ks : List Known) → AreMade many room ks → at < length ks → AreMade many room (to_front at ks)
+made_front many room at ks made lt = record {
+  many = length_front at ks lt ∙ made.many;
+  rooms =
+      All-append
+      (HasRoom room)
+      (take 1 (drop at ks))
+      (remove ks at)
+      (All-take (HasRoom room) 1 (drop at ks) (All-drop (HasRoom room) at ks made.rooms))
+      (All-append (HasRoom room) (take at ks) (drop (suc at) ks) (All-take (HasRoom room) at ks made.rooms) (All-drop (HasRoom room) (suc at) ks made.rooms));
+}
+
+length_behind : (len : ℕ) (ks : List Known) → 0 < len → len ≤ length ks → length (first_behind len ks) ≡ length ks
+length_behind len ks some le =
+    let a = take len ks in
+    omega
+    (arith, length-append (drop 1 a ++ take 1 a) (drop len ks), length-append (drop 1 a) (take 1 a), length-take 1 a, length-drop 1 a, length-take len ks, length-drop len ks)
+
+pub made_behind : (many room len : ℕ) (ks : List Known) → AreMade many room ks → 0 < len → len ≤ length ks → AreMade many room (first_behind len ks)
+made_behind many room len ks made some le =
+    let a = take len ks in
+    let there = All-take (HasRoom room) len ks made.rooms in
+    record {
+      many = length_behind len ks some le ∙ made.many;
+      rooms =
+          All-append
+          (HasRoom room)
+          (drop 1 a ++ take 1 a)
+          (drop len ks)
+          (All-append (HasRoom room) (drop 1 a) (take 1 a) (All-drop (HasRoom room) 1 a there) (All-take (HasRoom room) 1 a there))
+          (All-drop (HasRoom room) len ks made.rooms);
+    }
+
+-- memory of another connection makes a new one
+pub renewed_is : (room n : ℕ) (client node : Endpoint) (k : Known) → HasRoom room k → renewed n client node k ≡ new_known n room client node
+renewed_is room n client node k h = let a = h.0 in let b = h.1 in cc
