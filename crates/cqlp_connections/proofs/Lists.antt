@@ -94,20 +94,20 @@ turned_left f xs len = simp (map-append, take-map, drop-map)
 -- ---- one that passes
 
 prefix_is : (p : Known → Bool) (ks : List Known) (i : ℕ) → i < length ks → ((k : ℕ) (d : Known) → k < i → p (get_or ks k d) ≡ false) → ((d : Known) → p (get_or ks i d) ≡ true) → position_or_len p ks ≡ i
-prefix_is p [] i lt no yes = absurd (omega arith)
-prefix_is p (c ∷ ks) zero lt no yes =
-    let h : p c ≡ true = yes c in
+prefix_is p [] i lt fails passes = absurd (omega arith)
+prefix_is p (c ∷ ks) zero lt fails passes =
+    let h : p c ≡ true = passes c in
     ap (λ (b : Bool). cond (not b) (1 + position_or_len p ks) 0) h
-prefix_is p (c ∷ ks) (suc i) lt no yes =
-    let h : p c ≡ false = no 0 c (omega arith) in
-    let r : position_or_len p ks ≡ i = prefix_is p ks i (omega arith) (λ k d less. no (suc k) d (omega arith)) yes in
+prefix_is p (c ∷ ks) (suc i) lt fails passes =
+    let h : p c ≡ false = fails 0 c (omega arith) in
+    let r : position_or_len p ks ≡ i = prefix_is p ks i (omega arith) (λ k d less. fails (suc k) d (omega arith)) passes in
     ap (λ (b : Bool). cond (not b) (1 + position_or_len p ks) 0) h ∙ omega arith
 
 prefix_all : (p : Known → Bool) (ks : List Known) → ((k : ℕ) (d : Known) → k < length ks → p (get_or ks k d) ≡ false) → position_or_len p ks ≡ length ks
-prefix_all p [] no = refl
-prefix_all p (c ∷ ks) no =
-    let h : p c ≡ false = no 0 c (omega arith) in
-    let r : position_or_len p ks ≡ length ks = prefix_all p ks (λ k d less. no (suc k) d (omega arith)) in
+prefix_all p [] fails = refl
+prefix_all p (c ∷ ks) fails =
+    let h : p c ≡ false = fails 0 c (omega arith) in
+    let r : position_or_len p ks ≡ length ks = prefix_all p ks (λ k d less. fails (suc k) d (omega arith)) in
     ap (λ (b : Bool). cond (not b) (1 + position_or_len p ks) 0) h ∙ omega arith
 
 found_if : (n len : ℕ) → n < len → cond (nat_lt n len) (Some n) None ≡ Some n
@@ -117,12 +117,12 @@ none_if : (n len : ℕ) → n ≡ len → cond (nat_lt n len) (Some n) None ≡ 
 none_if n len is = grind (arith)
 
 pub position_is : (p : Known → Bool) (ks : List Known) (i : ℕ) → i < length ks → ((k : ℕ) (d : Known) → k < i → p (get_or ks k d) ≡ false) → ((d : Known) → p (get_or ks i d) ≡ true) → position p ks ≡ Some i
-position_is p ks i lt no yes =
-    let e = prefix_is p ks i lt no yes in
+position_is p ks i lt fails passes =
+    let e = prefix_is p ks i lt fails passes in
     ap (λ (n : ℕ). cond (nat_lt n (length ks)) (Some n) None) e ∙ found_if i (length ks) lt
 
 pub position_none : (p : Known → Bool) (ks : List Known) → ((k : ℕ) (d : Known) → k < length ks → p (get_or ks k d) ≡ false) → position p ks ≡ None
-position_none p ks no = none_if (position_or_len p ks) (length ks) (prefix_all p ks no)
+position_none p ks fails = none_if (position_or_len p ks) (length ks) (prefix_all p ks fails)
 
 -- ---- the least number
 

@@ -1,14 +1,15 @@
 -- The connections as they lie in memory, and the first of them.
 use Rattle.std.proofs.Common.{◌≡◌, ℕ, zero, suc, ◌+◌, ◌-◌, ◌<◌, ◌≤◌, List, [], ◌∷◌, ◌++◌, length, take, drop, map, get_or, set, refl, sym, ap, subst, ◌∙◌, arith}
-use Rattle.std.specs.Prelude.{All, min}
+use Rattle.std.specs.Prelude.{All, Option, None}
 use Rattle.std.specs.List.{remove}
-use Rattle.std.proofs.lemmas.List.{length-map, length-set, map-set, length-append, length-take, length-drop}
+use Rattle.std.proofs.lemmas.List.{length-map, length-set, map-set, length-append, length-take, length-drop, length-replicate, take_at}
 use Rattle.std.proofs.lemmas.List.Elements.{All-append, All-take, All-drop}
 use Rattle.cqlp_segment.specs.declared.addresses.Endpoint.{Endpoint}
 use Rattle.cqlp_connections.specs.declared.limits.ConnectionLimits.{ConnectionLimits}
 use Rattle.cqlp_connections.specs.Known.{HasRoom, Known, renewed}
 use Rattle.cqlp_connections.specs.Places.{AreMade, IsLawful, first_behind}
 use Rattle.cqlp_connections.specs.Tables.{new_known, to_front}
+use Rattle.cqlp_connections.proofs.Lists.{take_added, take_behind, take_front}
 
 -- what is said of the list with its first one, and with another in its place, is said of those that are there
 pub by_first : {X : Type 0} (f : X → Known) (Q : List Known → List Known → Type 0) (len : ℕ) (xs : List X) (b w : X) → 0 < len → len ≤ length xs → b ≡ get_or xs 0 b
@@ -102,3 +103,99 @@ made_behind many room len ks made some le =
 -- memory of another connection makes a new one
 pub renewed_is : (room n : ℕ) (client node : Endpoint) (k : Known) → HasRoom room k → renewed n client node k ≡ new_known n room client node
 renewed_is room n client node k h = let a = h.0 in let b = h.1 in cc
+
+-- ---- a slice of all of them that is written back
+
+written : {X : Type 0} (new items : List X) (n : ℕ) → n ≡ length new → take n (new ++ drop (length new) items) ≡ new
+written new items n is = take_at new (drop (length new) items) n (sym is)
+
+-- there are so many of them
+pub length_known : {X : Type 0} (f : X → Known) (limits : ConnectionLimits) (len : ℕ) (xs : List X) → IsLawful limits len (map f xs) → length (take len (map f xs)) ≡ len
+length_known f limits len xs is =
+    let m = is.made.many in
+    let w = is.within in
+    omega (arith, m, w, length-take len (map f xs))
+
+pub bring_lawful : {X : Type 0} (f : X → Known) (limits : ConnectionLimits) (len : ℕ) (items new : List X) (n at : ℕ) → IsLawful limits len (map f items) → at < length (take len (map f items)) → n ≡ length new
+    → map f new ≡ to_front at (map f items) → IsLawful limits len (map f (take n (new ++ drop (length new) items)))
+bring_lawful f limits len items new n at is lt long e =
+    let same = written new items n long in
+    let count = length_known f limits len items is in
+    let m = is.made.many in
+    let w = is.within in
+    rw (same, e)
+    record {
+      some = is.some;
+      within = is.within;
+      made = made_front limits.connections limits.early at (map f items) is.made (omega (arith, m, w, count, lt));
+    }
+
+pub bring_is : {X : Type 0} (f : X → Known) (limits : ConnectionLimits) (len : ℕ) (items new : List X) (n at : ℕ) → IsLawful limits len (map f items) → at < length (take len (map f items)) → n ≡ length new
+    → map f new ≡ to_front at (map f items) → take len (map f (take n (new ++ drop (length new) items))) ≡ to_front at (take len (map f items))
+bring_is f limits len items new n at is lt long e =
+    let same = written new items n long in
+    let count = length_known f limits len items is in
+    let m = is.made.many in
+    let w = is.within in
+    rw (same, e) (take_front (map f items) at len (omega (arith, count, lt)) (omega (arith, m, w)))
+
+pub behind_lawful : {X : Type 0} (f : X → Known) (limits : ConnectionLimits) (len : ℕ) (items new : List X) (n : ℕ) → IsLawful limits len (map f items) → 0 < length (take len (map f items)) → n ≡ length new
+    → map f new ≡ first_behind len (map f items) → IsLawful limits (len - 1) (map f (take n (new ++ drop (length new) items)))
+behind_lawful f limits len items new n is lt long e =
+    let same = written new items n long in
+    let count = length_known f limits len items is in
+    let m = is.made.many in
+    let w = is.within in
+    rw (same, e)
+    record {
+      some = is.some;
+      within = omega (arith, w);
+      made = made_behind limits.connections limits.early len (map f items) is.made (omega (arith, count, lt)) (omega (arith, m, w));
+    }
+
+pub behind_is : {X : Type 0} (f : X → Known) (limits : ConnectionLimits) (len : ℕ) (items new : List X) (n : ℕ) → IsLawful limits len (map f items) → 0 < length (take len (map f items)) → n ≡ length new
+    → map f new ≡ first_behind len (map f items) → take (len - 1) (map f (take n (new ++ drop (length new) items))) ≡ drop 1 (take len (map f items))
+behind_is f limits len items new n is lt long e =
+    let same = written new items n long in
+    let count = length_known f limits len items is in
+    let m = is.made.many in
+    let w = is.within in
+    rw (same, e) (take_behind (map f items) len (omega (arith, count, lt)) (omega (arith, m, w)))
+
+pub add_lawful : {X : Type 0} (f : X → Known) (limits : ConnectionLimits) (len : ℕ) (items new : List X) (b w : X) (n : ℕ) → IsLawful limits len (map f items) → length (take len (map f items)) < limits.connections → b ≡ get_or items len b
+    → (HasRoom limits.early (f b) → HasRoom limits.early (f w)) → n ≡ length new → map f new ≡ to_front len (map f (set items len w))
+    → IsLawful limits (len + 1) (map f (take n (new ++ drop (length new) (set items len w))))
+add_lawful f limits len items new b w n is lt there keeps long e =
+    let same = written new (set items len w) n long in
+    let count = length_known f limits len items is in
+    let m = is.made.many in
+    let less : len < length items = omega (arith, m, count, lt, length-map items f) in
+    let made = made_set f limits.connections limits.early items len b w is.made less there keeps in
+    let many = made.many in
+    rw (same, e)
+    record {
+      some = is.some;
+      within = omega (arith, count, lt);
+      made = made_front limits.connections limits.early len (map f (set items len w)) made (omega (arith, many, count, lt));
+    }
+
+pub add_is : {X : Type 0} (f : X → Known) (limits : ConnectionLimits) (len : ℕ) (items new : List X) (w : X) (v : Known) (n : ℕ) → IsLawful limits len (map f items) → length (take len (map f items)) < limits.connections
+    → f w ≡ v → n ≡ length new → map f new ≡ to_front len (map f (set items len w))
+    → take (len + 1) (map f (take n (new ++ drop (length new) (set items len w)))) ≡ v ∷ take len (map f items)
+add_is f limits len items new w v n is lt new_one long e =
+    let same = written new (set items len w) n long in
+    let count = length_known f limits len items is in
+    let m = is.made.many in
+    rw (same, e, map-set f items len w, new_one) (take_added (map f items) len v (omega (arith, m, count, lt)))
+
+-- the memory of another connection, which is after those that are there
+pub room_after : {X : Type 0} (f : X → Known) (limits : ConnectionLimits) (len : ℕ) (items : List X) (b : X) → IsLawful limits len (map f items) → length (take len (map f items)) < limits.connections → b ≡ get_or items len b
+    → HasRoom limits.early (f b)
+room_after f limits len items b is lt there =
+    let count = length_known f limits len items is in
+    let m = is.made.many in
+    here f limits.early items len b is.made.rooms (omega (arith, m, count, lt, length-map items f)) there
+
+pub renewed_room : (room n : ℕ) (client node : Endpoint) (k : Known) → HasRoom room k → HasRoom room (renewed n client node k)
+renewed_room room n client node k h =
+    (length-replicate {A = Option ℕ} (length k.requests.stream.window.cells) None ∙ h.0, length-replicate {A = Option ℕ} (length k.responses.stream.window.cells) None ∙ h.1)

@@ -84,7 +84,7 @@ room_begun s c len =
     (told (step.Began c.syn) (stream_state Open (new_view (length s.window.cells) (first_number c)) None))
     (told step.Done s)
     (room s)
-    (length-replicate {A = Option ℕ} (length s.window.cells))
+    (length-replicate {A = Option ℕ} (length s.window.cells) None)
     refl
 
 room_segment_at : (g : Stage) (s : StreamState) (c : Control) (b : List ℕ) → room (after_segment_at g s c b).state ≡ room s
