@@ -1,3 +1,4 @@
 pub mod Rooms
 pub mod Lists
 pub mod Places
+pub mod Firsts

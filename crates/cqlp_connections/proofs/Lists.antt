@@ -1,11 +1,12 @@
 -- Lists of connections: one is brought to the front, one is found.
-use Rattle.std.proofs.Common.{◌≡◌, ℕ, zero, suc, ◌+◌, ◌-◌, ◌<◌, ◌≤◌, Bool, true, false, cond, List, [], ◌∷◌, ◌++◌, length, take, drop, map, get_or, set, refl, sym, ap, subst, ◌∙◌, arith, append_assoc}
+use Rattle.std.proofs.Common.{inl, inr, ◌≡◌, ℕ, zero, suc, ◌+◌, ◌-◌, ◌<◌, ◌≤◌, Bool, true, false, cond, List, [], ◌∷◌, ◌++◌, length, take, drop, map, get_or, set, refl, sym, ap, subst, ◌∙◌, arith, append_assoc}
 use Rattle.std.specs.Prelude.{not, ◌&&◌, nat_le, nat_lt, slice_index, Option, Some, None}
 use Rattle.std.specs.List.{list_all, position, position_or_len, remove}
-use Rattle.std.proofs.lemmas.Bool.{lt-ltb, le-leb}
+use Rattle.std.proofs.lemmas.Bool.{cases_lt, lt-ltb, le-leb}
 use Rattle.std.proofs.lemmas.List.{drop-take, take-take, take_at, map-append, take-map, drop-map}
 use Rattle.cqlp_connections.specs.Known.{Known}
-use Rattle.cqlp_connections.specs.Tables.{least_of, to_front}
+use Rattle.cqlp_segment.specs.declared.segments.SegmentHead.{SegmentHead}
+use Rattle.cqlp_connections.specs.Tables.{found_in, is_of, least_of, lesser, numbers, to_front}
 
 after_one : (x y : List Known) (l : ℕ) → length x ≡ 1 → take (suc l) (x ++ y) ≡ x ++ take l y
 after_one [] y l h = absurd (omega arith)
@@ -149,3 +150,71 @@ least_is (n ∷ ns) (suc i) lt le less =
     let h = not_all_le n ns i (omega arith) (less 0 (omega arith)) in
     let r = least_is ns i (omega arith) (λ k more. le (suc k) (omega arith)) (λ k more. less (suc k) (omega arith)) in
     ap (λ (b : Bool). cond b 0 (suc (least_of ns))) h ∙ ap suc r
+
+-- the first places of a list of numbers, of which one is the first with the least
+pub record LeastSoFar (ns : List ℕ) (best at : ℕ) : Type 0 where
+  pub within : best < at
+  pub least : (k : ℕ) → k < at → get_or ns best 0 ≤ get_or ns k 0
+  pub before : (k : ℕ) → k < best → get_or ns best 0 < get_or ns k 0
+
+pub least_first : (ns : List ℕ) → LeastSoFar ns 0 1
+least_first ns = record {
+  within = omega arith;
+  least = λ k lt. subst (λ (j : ℕ). get_or ns 0 0 ≤ get_or ns j 0) (let h : 0 ≡ k = omega arith in h) (omega arith);
+  before = λ k lt. absurd (omega arith);
+}
+
+lesser_other : (one other : ℕ) (ns : List ℕ) → get_or ns other 0 < get_or ns one 0 → lesser one other ns ≡ other
+lesser_other one other ns lt = ap (λ (b : Bool). cond b other one) (lt-ltb (get_or ns other 0) (get_or ns one 0) lt)
+
+lesser_one : (one other : ℕ) (ns : List ℕ) → get_or ns one 0 ≤ get_or ns other 0 → lesser one other ns ≡ one
+lesser_one one other ns le = grind (arith)
+
+pub least_more : (ns : List ℕ) (best at r : ℕ) → LeastSoFar ns best at → r ≡ lesser best at ns → LeastSoFar ns r (at + 1)
+least_more ns best at r so is = elim (cases_lt (get_or ns at 0) (get_or ns best 0)) [
+  | inl lt ↦
+      (let e : at ≡ r = sym (is ∙ lesser_other best at ns lt) in
+      subst (λ (x : ℕ). LeastSoFar ns x (at + 1)) e
+      record {
+        within = omega arith;
+        least = λ k less. elim (cases_lt k at) [
+          | inl below ↦ (let h = so.least k below in omega (arith, h, lt))
+          | inr over ↦ subst (λ (j : ℕ). get_or ns at 0 ≤ get_or ns j 0) (let h : at ≡ k = omega arith in h) (omega arith)
+        ];
+        before = λ k less. let h = so.least k less in omega (arith, h, lt);
+      })
+  | inr le ↦
+      (let e : best ≡ r = sym (is ∙ lesser_one best at ns le) in
+      subst (λ (x : ℕ). LeastSoFar ns x (at + 1)) e
+      record {
+        within = (let h = so.within in omega (arith, h));
+        least = λ k less. elim (cases_lt k at) [
+          | inl below ↦ so.least k below
+          | inr over ↦ subst (λ (j : ℕ). get_or ns best 0 ≤ get_or ns j 0) (let h : at ≡ k = omega arith in h) le
+        ];
+        before = so.before;
+      })
+]
+
+pub least_all : (ns : List ℕ) (best at : ℕ) → LeastSoFar ns best at → length ns ≡ at → best ≡ least_of ns
+least_all ns best at so all =
+    let w = so.within in
+    sym (least_is ns best (omega (arith, w, all)) (λ k lt. so.least k (omega (arith, lt, all))) so.before)
+
+-- ---- the connection that a segment is of
+
+pub found_more : (h : SegmentHead) (ks : List Known) (i : ℕ) (c : Known) → ((d : Known) → get_or ks i d ≡ c) → is_of h c ≡ false → ((k : ℕ) (d : Known) → k < i → is_of h (get_or ks k d) ≡ false)
+    → (k : ℕ) (d : Known) → k < i + 1 → is_of h (get_or ks k d) ≡ false
+found_more h ks i c there fails below k d lt = elim (cases_lt k i) [
+  | inl less ↦ below k d less
+  | inr over ↦
+      (let e : i ≡ k = omega arith in
+      subst (λ (j : ℕ). is_of h (get_or ks j d) ≡ false) e (ap (is_of h) (there d) ∙ fails))
+]
+
+pub found_at : (h : SegmentHead) (ks : List Known) (i : ℕ) (c : Known) → i < length ks → ((d : Known) → get_or ks i d ≡ c) → is_of h c ≡ true → ((k : ℕ) (d : Known) → k < i → is_of h (get_or ks k d) ≡ false)
+    → Some i ≡ found_in h ks
+found_at h ks i c lt there passes below = sym (position_is (is_of h) ks i lt below (λ d. ap (is_of h) (there d) ∙ passes))
+
+pub found_none : (h : SegmentHead) (ks : List Known) (i : ℕ) → length ks ≤ i → ((k : ℕ) (d : Known) → k < i → is_of h (get_or ks k d) ≡ false) → None ≡ found_in h ks
+found_none h ks i le below = sym (position_none (is_of h) ks (λ k d lt. below k d (omega arith)))

@@ -2,7 +2,7 @@
 use Rattle.std.proofs.Common.{◌≡◌, ℕ, zero, suc, ◌+◌, ◌-◌, ◌<◌, ◌≤◌, List, [], ◌∷◌, ◌++◌, length, take, drop, map, get_or, set, refl, sym, ap, subst, ◌∙◌, arith}
 use Rattle.std.specs.Prelude.{All, Option, None}
 use Rattle.std.specs.List.{remove}
-use Rattle.std.proofs.lemmas.List.{length-map, length-set, map-set, length-append, length-take, length-drop, length-replicate, take_at}
+use Rattle.std.proofs.lemmas.List.{length-map, length-set, map-set, length-append, length-take, length-drop, length-replicate, take_at, get_or-take, map-append}
 use Rattle.std.proofs.lemmas.List.Elements.{All-append, All-take, All-drop}
 use Rattle.cqlp_segment.specs.declared.addresses.Endpoint.{Endpoint}
 use Rattle.cqlp_connections.specs.declared.limits.ConnectionLimits.{ConnectionLimits}
@@ -62,7 +62,7 @@ lawful_first f limits len xs b w is first keeps = record {
 
 -- ---- the order of them
 
-length_front : (at : ℕ) (ks : List Known) → at < length ks → length (to_front at ks) ≡ length ks
+pub length_front : (at : ℕ) (ks : List Known) → at < length ks → length (to_front at ks) ≡ length ks
 length_front at ks lt =
     omega
     (arith, length-append (take 1 (drop at ks)) (remove ks at), length-append (take at ks) (drop (suc at) ks), length-take 1 (drop at ks), length-drop at ks, length-take at ks, length-drop (suc at) ks)
@@ -199,3 +199,30 @@ room_after f limits len items b is lt there =
 pub renewed_room : (room n : ℕ) (client node : Endpoint) (k : Known) → HasRoom room k → HasRoom room (renewed n client node k)
 renewed_room room n client node k h =
     (length-replicate {A = Option ℕ} (length k.requests.stream.window.cells) None ∙ h.0, length-replicate {A = Option ℕ} (length k.responses.stream.window.cells) None ∙ h.1)
+
+-- the one at an index
+at_map : {X : Type 0} (f : X → Known) (xs : List X) (i : ℕ) (b : X) (d : Known) → i < length xs → b ≡ get_or xs i b → get_or (map f xs) i d ≡ f b
+at_map f [] i b d lt is = absurd (omega arith)
+at_map f (x ∷ xs) zero b d lt is = ap f (sym is)
+at_map f (x ∷ xs) (suc i) b d lt is = at_map f xs i b d (omega arith) is
+
+pub at_known : {X : Type 0} (f : X → Known) (limits : ConnectionLimits) (len : ℕ) (xs : List X) (i : ℕ) (b : X) (d : Known) → IsLawful limits len (map f xs) → i < len → b ≡ get_or xs i b → get_or (take len (map f xs)) i d ≡ f b
+at_known f limits len xs i b d is lt there =
+    let m = is.made.many in
+    let w = is.within in
+    get_or-take len (map f xs) i d lt ∙ at_map f xs i b d (omega (arith, m, w, length-map xs f)) there
+
+-- one more
+pub made_more : {X : Type 0} (f : X → Known) (many room : ℕ) (xs : List X) (b : X) → AreMade many room (map f xs) → HasRoom room (f b) → AreMade (many + 1) room (map f (xs ++ b ∷ []))
+made_more f many room xs b made has =
+    let e : map f (xs ++ b ∷ []) ≡ map f xs ++ f b ∷ [] = map-append f xs (b ∷ []) in
+    let m = made.many in
+    let one : All (HasRoom room) (f b ∷ []) = λ k. elim k as (λ (k : ℕ). (d : Known) → k < length (f b ∷ []) → HasRoom room (get_or (f b ∷ []) k d)) [
+      | zero ↦ λ d lt. has
+      | suc k ↦ λ d lt. absurd (omega arith)
+    ] in
+    rw e
+    record {
+      many = omega (arith, m, length-append (map f xs) (f b ∷ []));
+      rooms = All-append (HasRoom room) (map f xs) (f b ∷ []) made.rooms one;
+    }

@@ -6,6 +6,7 @@ use Rattle.cqlp_segment.specs.declared.addresses.Address.TheVariants.{V4, V6}
 use Rattle.cqlp_segment.specs.declared.addresses.Endpoint.{Endpoint}
 use Rattle.cqlp_segment.specs.declared.segments.SegmentHead.{SegmentHead}
 use Rattle.cqlp_segment.specs.declared.tcp.Flags.{Flags}
+use Rattle.cqlp_connections.specs.declared.ends.Ends.{Ends}
 use Rattle.cqlp_connections.specs.declared.ends.Way.{Way}
 use Rattle.cqlp_connections.specs.declared.ends.Way.TheVariants.{Requests, Responses}
 
@@ -25,6 +26,10 @@ way_between client node h =
     if same_end h.source client && same_end h.destination node then Some Requests
     else if same_end h.source node && same_end h.destination client then Some Responses
     else None
+
+abbrev pub ends_of : Way → SegmentHead → Ends
+ends_of Requests h = record { client = h.source; node = h.destination }
+ends_of Responses h = record { client = h.destination; node = h.source }
 
 -- whether a port is one of these
 abbrev pub asks : List ℕ → ℕ → Bool

@@ -1,5 +1,5 @@
 -- The table of connections.
-use Rattle.std.specs.Prelude.{ℕ, suc, ◌+◌, ◌-◌, Bool, true, false, List, [], ◌∷◌, ◌++◌, length, map, take, drop, nat_le, nat_lt}
+use Rattle.std.specs.Prelude.{ℕ, suc, ◌+◌, ◌-◌, Bool, true, false, List, [], ◌∷◌, ◌++◌, length, map, take, drop, slice_index, nat_le, nat_lt}
 use Rattle.std.specs.List.{list_all, position, remove}
 use Rattle.std.specs.Prelude.{Option, Some, None, is_some, unwrap_or, if◌then◌else◌}
 use Rattle.cqlp_segment.specs.declared.addresses.Endpoint.{Endpoint}
@@ -14,7 +14,7 @@ use Rattle.cqlp_connections.specs.declared.told.Sight.{Sight}
 use Rattle.cqlp_connections.specs.declared.told.Sight.TheVariants.{Foreign, Taken, Crowded}
 use Rattle.cqlp_connections.specs.declared.told.Told.{Told}
 use Rattle.cqlp_connections.specs.declared.totals.ConnectionCounts.{ConnectionCounts}
-use Rattle.cqlp_connections.specs.Ends.{first_way, way_between}
+use Rattle.cqlp_connections.specs.Ends.{ends_of, first_way, way_between}
 use Rattle.cqlp_connections.specs.Totals.{counted}
 use Rattle.cqlp_connections.specs.Sides as sides
 use Rattle.cqlp_connections.specs.Known as one
@@ -50,8 +50,11 @@ abbrev pub taking : Sight → Table → Taking
 taking s t = record { sight = s; after = t }
 
 -- the place of the connection that a segment is of
+abbrev pub is_of : SegmentHead → Known → Bool
+is_of h k = is_some (way_between k.client k.node h)
+
 abbrev pub found_in : SegmentHead → List Known → Option ℕ
-found_in h ks = position (λ k. is_some (way_between k.client k.node h)) ks
+found_in h ks = position (is_of h) ks
 
 -- A segment of the first connection is counted there, unless it begins another one between the same ends.
 abbrev pub seen_as : Way → SegmentHead → Known → List Known → Table → Taking
@@ -70,24 +73,21 @@ seen_first way h t = seen_in way h t.known t
 abbrev pub new_known : (number room : ℕ) → (client node : Endpoint) → Known
 new_known n room client node = known n client node (sides.new_side room) (sides.new_side room)
 
-abbrev pub new_by : Way → (number room : ℕ) → SegmentHead → Known
-new_by Requests n room h = new_known n room h.source h.destination
-new_by Responses n room h = new_known n room h.destination h.source
-
 abbrev pub with_count : (number : ℕ) → Table → Table
 with_count n t = record t { counts = record t.counts { connections = n } }
 
 abbrev pub begun : Way → SegmentHead → Table → Taking
 begun way h t =
     let n = counted t.counts.connections 1 in
-    taking (Taken n way true) (with_count n (with_known (counted_on way (new_by way n t.limits.early h) ∷ t.known) t))
+    taking (Taken n way true) (with_count n (with_known (counted_on way (new_known n t.limits.early (ends_of way h).client (ends_of way h).node) ∷ t.known) t))
 
 -- The last one, which was silent longest, has to leave.
+abbrev pub with_crowd : Table → Table
+with_crowd t = record t { counts = record t.counts { crowded = counted t.counts.crowded 1 } }
+
 abbrev pub crowded_by : List Known → Table → Taking
 crowded_by [] t = taking Foreign t
-crowded_by (k ∷ ks) t =
-    taking (Crowded k.number true)
-    (record t { known = k ∷ ks; counts = record t.counts { crowded = counted t.counts.crowded 1 } })
+crowded_by (k ∷ ks) t = taking (Crowded k.number true) (with_known (k ∷ ks) (with_crowd t))
 
 abbrev pub crowded : Table → Taking
 crowded t = crowded_by (to_front (length t.known - 1) t.known) t
@@ -167,8 +167,15 @@ abbrev pub least_of : List ℕ → ℕ
 least_of [] = 0
 least_of (n ∷ ns) = if list_all (λ m. nat_le n m) ns then 0 else suc (least_of ns)
 
+abbrev pub numbers : List Known → List ℕ
+numbers ks = map (λ (k : Known). k.number) ks
+
 abbrev pub first_number : List Known → ℕ
-first_number ks = least_of (map (λ (k : Known). k.number) ks)
+first_number ks = least_of (numbers ks)
+
+-- of two places the one with the lesser number
+abbrev pub lesser : (one other : ℕ) → List ℕ → ℕ
+lesser one other ns = if nat_lt (slice_index ns other) (slice_index ns one) then other else one
 
 -- At the end of the file the one with the least number leaves.
 abbrev pub finished : Table → Departing

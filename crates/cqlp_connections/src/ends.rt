@@ -1,9 +1,9 @@
 //! The ends of connections, and which way a segment goes between them.
 
 ghost use Rattle.std.specs.Prelude.{◌≡◌};
-ghost use Rattle.cqlp_connections.specs.Ends.{asks, first_way, same_end, way_between};
+ghost use Rattle.cqlp_connections.specs.Ends.{asks, ends_of, first_way, same_end, way_between};
 
-use cqlp_segment::{Address, Endpoint, SegmentHead};
+use cqlp_segment::{Endpoint, SegmentHead};
 
 /// The port on which nodes of Apache Cassandra listen for CQL.
 pub const DEFAULT_PORT: u16 = 9042;
@@ -15,6 +15,29 @@ pub enum Way {
     Requests,
     /// From the node to the client.
     Responses,
+}
+
+/// The ends of a connection.
+#[derive(Clone, Copy, Debug, PartialEq, Eq)]
+pub(crate) struct Ends {
+    pub(crate) client: Endpoint,
+    pub(crate) node: Endpoint,
+}
+
+/// The ends of a segment that goes this way.
+pub(crate) fn ends_of(way: Way, head: &SegmentHead) -> Ends
+    ensures { result ≡ ends_of way head.now }
+{
+    match way {
+        Way::Requests => Ends {
+            client: head.source,
+            node: head.destination,
+        },
+        Way::Responses => Ends {
+            client: head.destination,
+            node: head.source,
+        },
+    }
 }
 
 /// Whether two ends are the same.

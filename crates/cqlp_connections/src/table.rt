@@ -9,7 +9,7 @@ ghost use Rattle.cqlp_connections.specs.Places.{AreMade, first_behind};
 ghost use Rattle.cqlp_connections.specs.Tables.{to_front};
 
 use crate::connection::Connection;
-use crate::ends::{Way, first_way};
+use crate::ends::{Way, ends_of, first_way};
 use crate::limits::{ConnectionLimits, NewConnectionsError};
 use crate::told::{Departure, Sight, Told};
 use crate::totals::ConnectionCounts;
@@ -48,7 +48,7 @@ impl<A: Allocator> Model for Connections<A> {
 
 impl<A: Allocator> Connections<A> {
     ghost use Rattle.cqlp_connections.specs.Tables.{begun, cells_of, crowded, departing, finished, first_number, found_in, held_on, left};
-    ghost use Rattle.cqlp_connections.specs.Tables.{new_known, new_table, pulled, pulling, read_on};
+    ghost use Rattle.cqlp_connections.specs.Tables.{lesser, new_known, new_table, numbers, pulled, pulling, read_on};
     ghost use Rattle.cqlp_connections.specs.Tables.{seen_first, taken, taking, with_known};
 
     /// A table without connections, for nodes that listen on one of these ports. All memory is taken here, in three requests for each
@@ -236,13 +236,10 @@ impl<A: Allocator> Connections<A> {
         requires { length self.old.known < self.old.limits.connections }
         ensures { taking result self.new ≡ begun way head.now self.old }
     {
-        let (client, node) = match way {
-            Way::Requests => (head.source, head.destination),
-            Way::Responses => (head.destination, head.source),
-        };
+        let ends = ends_of(way, head);
         self.counts.connections = self.counts.connections.saturating_add(1);
         let number = self.counts.connections;
-        self.add(number, client, node);
+        self.add(number, ends.client, ends.node);
         self.places[0].count_segment(way);
         Sight::Taken {
             number,
@@ -282,11 +279,22 @@ impl<A: Allocator> Connections<A> {
     {
         let mut best = 0;
         for at in 1..self.len {
-            if self.places[at].number() < self.places[best].number() {
-                best = at;
-            }
+            best = self.lesser(best, at);
         }
         best
+    }
+
+    /// Of two places the one with the lesser number: the first, if the other's is not less.
+    fn lesser(&self, one: usize, other: usize) -> usize
+        requires one { one < length self.now.known }
+        requires other { other < length self.now.known }
+        ensures { result ≡ lesser one other (numbers self.now.known) }
+    {
+        if self.places[other].number() < self.places[one].number() {
+            other
+        } else {
+            one
+        }
     }
 
     /// Takes the first connection away.

@@ -1,12 +1,15 @@
-use Rattle.std.proofs.Common.{rules, ◌≡◌, ◌↔◌, ◌==◌, ◌<◌, ◌≤◌, ◌∷◌, false, drop, length, map, take, IfOk, IsErrOf, Some, ℕ, ◌+◌, ◌-◌, ◌*◌, ◌/◌, ◌%◌, Bool, true, nat_eq, nat_lt, List, [], ◌++◌, slice_index_or, slice_set, bit_and, bit_or, Fits, w8, w32, w64, Bor, MutBor}
-use Rattle.cqlp_segment.specs.Segment.{seen}
-use Rattle.cqlp_connections.specs.Limits.{is_in_range}
-use Rattle.std.specs.Box.{box_value}
-use Rattle.cqlp_connections.specs.Known.{IsToldWithin}
-use Rattle.cqlp_connections.specs.Places.{AreMade, first_behind}
-use Rattle.cqlp_connections.specs.Tables.{to_front, begun, cells_of, crowded, departing, finished, first_number, found_in, held_on, left, new_known, new_table, pulled, pulling, read_on, seen_first, taken, taking, with_known}
+use Rattle.std.proofs.Common.{◌≡◌, subst, sym}
+use Rattle.std.specs.Box.{box_value, with_value}
+use Rattle.cqlp_connections.specs.Known.{HasRoom, Known, counted_on}
+use Rattle.cqlp_connections.proofs.Places.{lawful_first}
+use Rattle.cqlp_connections.proofs.Rooms.{counted_room}
 use Rattle.cqlp_connections.proofs.table.Connections.see.Goals as goal
 
--- src/table.rt:213:5
 pub invariant_of-self-2 : goal.invariant_of-self-2
-invariant_of-self-2 g c = ?
+invariant_of-self-2 g c =
+    let i = c.self.inside in
+    let b = c.index_mut-first.result.now in
+    let way = c.unwrap_or-way.result in
+    let e : c.count_segment.new.self ≡ counted_on way b.value = rw c.deref_mut.ensures.value at c.count_segment.ensures in
+    lawful_first box_value i.limits i.len i.places.items b (with_value b c.count_segment.new.self) c.self.invariant c.index_mut-first.ensures.value
+    (λ h. subst (λ (k : Known). HasRoom i.limits.early k) (sym e) (counted_room i.limits.early way b.value h))
