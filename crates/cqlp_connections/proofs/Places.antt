@@ -8,7 +8,7 @@ use Rattle.cqlp_segment.specs.declared.addresses.Endpoint.{Endpoint}
 use Rattle.cqlp_connections.specs.declared.limits.ConnectionLimits.{ConnectionLimits}
 use Rattle.cqlp_connections.specs.Known.{HasRoom, Known, renewed}
 use Rattle.cqlp_connections.specs.Places.{AreMade, IsLawful, first_behind}
-use Rattle.cqlp_connections.specs.Tables.{new_known, to_front}
+use Rattle.cqlp_connections.specs.Tables.{new_known, numbers, to_front}
 use Rattle.cqlp_connections.proofs.Lists.{take_added, take_behind, take_front}
 
 -- what is said of the list with its first one, and with another in its place, is said of those that are there
@@ -226,3 +226,8 @@ made_more f many room xs b made has =
       many = omega (arith, m, length-append (map f xs) (f b ∷ []));
       rooms = All-append (HasRoom room) (map f xs) (f b ∷ []) made.rooms one;
     }
+
+pub get_numbers : (ks : List Known) (i : ℕ) (k : Known) → i < length ks → ((d : Known) → get_or ks i d ≡ k) → get_or (numbers ks) i 0 ≡ k.number
+get_numbers [] i k lt is = absurd (omega arith)
+get_numbers (c ∷ ks) zero k lt is = ap (λ (x : Known). x.number) (is c)
+get_numbers (c ∷ ks) (suc i) k lt is = get_numbers ks i k (omega arith) is

@@ -1,6 +1,6 @@
 //! The table of connections.
 
-ghost use Rattle.std.specs.Prelude.{◌≡◌, ◌↔◌, ◌==◌, ◌<◌, ◌≤◌, ◌∷◌, false, drop, length, map, take, IfOk, IsErrOf, Some};
+ghost use Rattle.std.specs.Prelude.{◌≡◌, ◌↔◌, ◌==◌, ◌<◌, ◌≤◌, ◌∷◌, false, drop, length, map, slice_index, take, IfOk, IsErrOf, Some};
 ghost use Rattle.cqlp_segment.specs.Segment.{seen};
 ghost use Rattle.cqlp_connections.specs.Limits.{is_in_range};
 ghost use Rattle.std.specs.Box.{box_value};
@@ -263,8 +263,9 @@ impl<A: Allocator> Connections<A> {
         requires { 0 < length self.old.known }
         ensures { taking result self.new ≡ crowded self.old }
     {
+        let last = self.len - 1;
         self.counts.crowded = self.counts.crowded.saturating_add(1);
-        self.bring(self.len - 1);
+        self.bring(last);
         Sight::Crowded {
             number: self.places[0].number(),
             is_full: true,
@@ -290,11 +291,19 @@ impl<A: Allocator> Connections<A> {
         requires other { other < length self.now.known }
         ensures { result ≡ lesser one other (numbers self.now.known) }
     {
-        if self.places[other].number() < self.places[one].number() {
+        if self.number_at(other) < self.number_at(one) {
             other
         } else {
             one
         }
+    }
+
+    /// The number of the connection at a place.
+    fn number_at(&self, at: usize) -> u64
+        requires { at < length self.now.known }
+        ensures { result ≡ slice_index (numbers self.now.known) at }
+    {
+        self.places[at].number()
     }
 
     /// Takes the first connection away.
