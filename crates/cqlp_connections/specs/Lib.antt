@@ -5,3 +5,4 @@ pub mod Sides
 pub mod Known
 pub mod Places
 pub mod Tables
+pub mod Laws
