@@ -12,7 +12,7 @@ use Rattle.cqlp_connections.specs.Ends.{ends_of, first_way, way_between}
 use Rattle.cqlp_connections.specs.Totals.{counted}
 use Rattle.cqlp_connections.specs.Known as one
 use Rattle.cqlp_connections.specs.Known.{Known, Telling, begins_anew, closed, counted_on}
-use Rattle.cqlp_connections.specs.Tables.{Departing, Pulling, Table, Taking, begun, crowded, crowded_by, departing, found_in, held_on, left, left_as, left_by, left_in, new_known, pulled, pulled_in, pulling, read_in, read_on, seen_as, seen_first, seen_in, taken, taken_by, taken_in, taking, to_front, with_known}
+use Rattle.cqlp_connections.specs.Tables.{Departing, Pulling, Table, Taking, begun, cells_of, crowded, crowded_by, departing, found_in, held_on, left, left_as, left_by, left_in, new_known, pulled, pulled_in, pulling, read_in, read_on, seen_as, seen_first, seen_in, taken, taken_by, taken_in, taking, to_front, with_known}
 use Rattle.cqlp_connections.specs.Laws.{ChangesNoStream, Keeps, LeavesTheOthers, OneAnswerOfNew, OneAnswerOfRead, OthersStay, Reads, pair_of, pairs}
 use Rattle.cqlp_connections.specs.Laws.Keeps.{same, front, begun as begun_by}
 
@@ -32,11 +32,11 @@ some_same (a ∷ x) (b ∷ y) h =
 pub one_read : OneAnswerOfRead
 one_read way old t u before x y n m a b =
     let e : m ≡ n = b.count ∙ sym a.count in
-    let firsts : take n y ≡ take n x = some_same (take n y) (take n x) (subst (λ (j : ℕ). map Some (take j y) ≡ take j _) e b.bytes ∙ sym a.bytes) in
-    let rests : drop n y ≡ drop n x = subst (λ (j : ℕ). drop j y ≡ drop j before) e b.rest ∙ sym a.rest in
-    ( e
-    , (sym (take-append-drop n y) ∙ ap (λ (z : List ℕ). z ++ drop n y) firsts ∙ ap (λ (z : List ℕ). take n x ++ z) rests ∙ take-append-drop n x)
-    , (b.read ∙ ap (λ (j : ℕ). read_on way j old) e ∙ sym a.read)
+    let firsts : take n y ≡ take n x = some_same (take n y) (take n x) (subst (λ (j : ℕ). map {A = ℕ} {B = Option ℕ} Some (take j y) ≡ take j (cells_of way old.known)) e b.bytes ∙ sym a.bytes) in
+    let rests : drop n y ≡ drop n x = subst (λ (j : ℕ). drop j y ≡ drop j before) e b.rest ∙ sym a.rest in (
+      e,
+      (sym (take-append-drop n y) ∙ ap (λ (z : List ℕ). z ++ drop n y) firsts ∙ ap (λ (z : List ℕ). take n x ++ z) rests ∙ take-append-drop n x),
+      (b.read ∙ ap (λ (j : ℕ). read_on way j old) e ∙ sym a.read),
     )
 
 -- ---- `take`
@@ -104,8 +104,8 @@ leaves t [] e = inl (ap (λ (x : List Known). drop 1 x) e, omega arith)
 leaves t (k ∷ ks) e = leaves_by (closed k).told (closed k).after ks t
 
 pub leaves_others : LeavesTheOthers
-leaves_others =
-    ( (λ g told old new e. subst (λ (z : Pulling). OthersStay old z.after) (sym e) (pulls g old old.known refl))
-    , (λ way n old new e. subst (λ (z : Table). OthersStay old z) (sym e) (reads way n old.known))
-    , (λ d old new e. subst (λ (z : Departing). OthersStay old z.after ⊎ (z.after.known ≡ drop 1 old.known)) (sym e) (leaves old old.known refl))
-    )
+leaves_others = (
+  (λ g told old new e. subst (λ (z : Pulling). OthersStay old z.after) (sym e) (pulls g old old.known refl)),
+  (λ way n old new e. subst (λ (z : Table). OthersStay old z) (sym e) (reads way n old.known)),
+  (λ d old new e. subst (λ (z : Departing). OthersStay old z.after ⊎ (z.after.known ≡ drop 1 old.known)) (sym e) (leaves old old.known refl)),
+)

@@ -79,7 +79,7 @@ turned_right f xs at n is =
     let ks = map f xs in
     let next : at + 1 ≡ suc at = omega arith in
     let all : map f ((drop at (take n xs) ++ take at (take n xs)) ++ drop n xs) ≡ (drop at (take n ks) ++ take at (take n ks)) ++ drop n ks =
-        simp (map-append, take-map, drop-map) in
+    simp (map-append, take-map, drop-map) in
     let one : drop at (take (at + 1) ks) ≡ take 1 (drop at ks) = drop-take at 1 ks in
     let before : take at (take (at + 1) ks) ≡ take at ks = take-take at (at + 1) ks (omega arith) in
     all

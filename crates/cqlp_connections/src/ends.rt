@@ -79,7 +79,11 @@ pub(crate) fn first_way(ports: &[u16], head: &SegmentHead) -> Option<Way>
         (false, true) => Some(Way::Responses),
         (true, true) => {
             let is_answer = head.flags.syn && head.flags.ack;
-            Some(if is_answer { Way::Responses } else { Way::Requests })
+            Some(if is_answer {
+                Way::Responses
+            } else {
+                Way::Requests
+            })
         }
     }
 }

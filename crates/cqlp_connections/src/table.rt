@@ -53,7 +53,11 @@ impl<A: Allocator> Connections<A> {
 
     /// A table without connections, for nodes that listen on one of these ports. All memory is taken here, in three requests for each
     /// connection of the limit and two more.
-    pub fn new(alloc: A, limits: ConnectionLimits, ports: &[u16]) -> Result<Self, NewConnectionsError>
+    pub fn new(
+        alloc: A,
+        limits: ConnectionLimits,
+        ports: &[u16],
+    ) -> Result<Self, NewConnectionsError>
     where
         A: Clone,
         ensures bad { IsErrOf result NewConnectionsError.BadLimits ↔ (is_in_range limits ≡ false) }
@@ -175,9 +179,10 @@ impl<A: Allocator> Connections<A> {
         self.counts
     }
 
-    /// How many connections there are.
+    /// How many connections there are: at most as many as the limit.
     pub fn len(&self) -> usize
-        ensures { result ≡ length self.now.known }
+        ensures is { result ≡ length self.now.known }
+        ensures within { result ≤ self.now.limits.connections }
     {
         self.len
     }

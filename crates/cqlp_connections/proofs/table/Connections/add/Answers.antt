@@ -10,7 +10,7 @@ invariant_of-self g c =
     let i = c.self.inside in
     let b = c.index_mut.result.now in
     let lt : length (take i.len (map box_value i.places.items)) < i.limits.connections =
-        subst (λ (t : Table). length t.known < t.limits.connections) (sym c.self.view_is) c.requires in
+    subst (λ (t : Table). length t.known < t.limits.connections) (sym c.self.view_is) c.requires in
     add_lawful box_value i.limits i.len i.places.items c.bring_to_front.new.places b (with_value b c.renew.new.self) _ c.self.invariant lt c.index_mut.ensures.value
     (λ h. rw (c.renew.ensures, c.deref_mut.ensures.value) (renewed_room i.limits.early c.args.number c.args.client c.args.node b.value h))
     (omega (arith, c.as_mut_slice.ensures.len, c.bring_to_front.auto.places))
@@ -22,14 +22,14 @@ returns g c =
     let b = c.index_mut.result.now in
     let w = with_value b c.renew.new.self in
     let lt : length (take i.len (map box_value i.places.items)) < i.limits.connections =
-        subst (λ (t : Table). length t.known < t.limits.connections) (sym c.self.view_is) c.requires in
+    subst (λ (t : Table). length t.known < t.limits.connections) (sym c.self.view_is) c.requires in
     let new = c.bring_to_front.new.places in
     let v = new_known c.args.number i.limits.early c.args.client c.args.node in
     let is : c.renew.new.self ≡ v = rw (c.renew.ensures, c.deref_mut.ensures.value)
-        (renewed_is i.limits.early c.args.number c.args.client c.args.node b.value (room_after box_value i.limits i.len i.places.items b c.self.invariant lt c.index_mut.ensures.value)) in
+    (renewed_is i.limits.early c.args.number c.args.client c.args.node b.value (room_after box_value i.limits i.len i.places.items b c.self.invariant lt c.index_mut.ensures.value)) in
     let P : Table → Type 0 = λ t.
-        table i.limits i.ports.items (take (i.len + 1) (map box_value (take i.places.len (new ++ drop (length new) (set i.places.items i.len w))))) i.counts
-        ≡ with_known (new_known c.args.number t.limits.early c.args.client c.args.node ∷ t.known) t in
+    table i.limits i.ports.items (take (i.len + 1) (map box_value (take i.places.len (new ++ drop (length new) (set i.places.items i.len w))))) i.counts
+    ≡ with_known (new_known c.args.number t.limits.early c.args.client c.args.node ∷ t.known) t in
     subst P c.self.view_is
     (ap (λ (ks : List Known). table i.limits i.ports.items ks i.counts)
     (add_is box_value i.limits i.len i.places.items new w v _ c.self.invariant lt is

@@ -35,7 +35,7 @@ returns g c =
     let added : c.add.new.self ≡ G c.ends_of-ends.result = c.add.ensures in
     let e : T (take j.len (map box_value j.places.items)) ≡ G (ends_of way h) = c.self-2.view_is ∙ added ∙ ap G c.ends_of-ends.ensures in
     let long : length (take j.len (map box_value j.places.items)) ≡ length (new_known n t.limits.early (ends_of way h).client (ends_of way h).node ∷ t.known) =
-        ap (λ (z : Table). length z.known) e in
+    ap (λ (z : Table). length z.known) e in
     let there : 0 < j.len = omega (arith, long, length_known box_value j.limits j.len j.places.items c.self-2.invariant) in
     subst (λ (z : Table). taking (Taken n way true) (T (take j.len (map box_value (set j.places.items 0 (with_value b v))))) ≡ begun way h z) c.self.view_is
     (of_first box_value j.limits

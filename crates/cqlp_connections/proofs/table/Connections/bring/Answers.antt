@@ -21,7 +21,7 @@ returns g c =
     let lt : at < length (take i.len (map box_value i.places.items)) = subst (λ (t : Table). at < length t.known) (sym c.self.view_is) c.requires in
     let new = c.bring_to_front.new.places in
     let P : Table → Type 0 = λ t.
-        table i.limits i.ports.items (take i.len (map box_value (take i.places.len (new ++ drop (length new) i.places.items)))) i.counts ≡ with_known (to_front at t.known) t in
+    table i.limits i.ports.items (take i.len (map box_value (take i.places.len (new ++ drop (length new) i.places.items)))) i.counts ≡ with_known (to_front at t.known) t in
     subst P c.self.view_is
     (ap (λ (ks : List Known). table i.limits i.ports.items ks i.counts)
     (bring_is box_value i.limits i.len i.places.items new _ at c.self.invariant lt

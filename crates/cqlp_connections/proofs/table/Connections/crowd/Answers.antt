@@ -22,11 +22,11 @@ returns g c =
     let some : 0 < length t.known = subst (λ (z : Table). 0 < length z.known) (sym c.self.view_is) c.requires in
     let brought : c.bring.new.self ≡ G i.len c.saturating_add-self-inside.result = c.bring.ensures in
     let e : T (take j.len (map box_value j.places.items)) ≡ with_known (to_front (length t.known - 1) t.known) (with_crowd t) =
-        c.self-2.view_is ∙ brought ∙ ap (λ (a : ℕ). G i.len a) c.saturating_add-self-inside.ensures
-        ∙ ap (λ (m : ℕ). G m (counted t.counts.crowded 1)) (sym count) in
+    c.self-2.view_is ∙ brought ∙ ap (λ (a : ℕ). G i.len a) c.saturating_add-self-inside.ensures
+    ∙ ap (λ (m : ℕ). G m (counted t.counts.crowded 1)) (sym count) in
     let long : length (take j.len (map box_value j.places.items)) ≡ length (to_front (length t.known - 1) t.known) = ap (λ (z : Table). length z.known) e in
     let there : 0 < j.len =
-        omega (arith, long, some, length_front (length t.known - 1) t.known (omega (arith, some)), length_known box_value j.limits j.len j.places.items c.self-2.invariant) in
+    omega (arith, long, some, length_front (length t.known - 1) t.known (omega (arith, some)), length_known box_value j.limits j.len j.places.items c.self-2.invariant) in
     subst (λ (z : Table). taking (Crowded n true) c.bring.new.self ≡ crowded z) c.self.view_is
     (subst (λ (z : Table). taking (Crowded n true) z ≡ crowded t) c.self-2.view_is
     (of_first_alone box_value j.limits

@@ -12,10 +12,10 @@ returns-then-is_some g c =
     let b = c.index.result.now in
     let t = c.args.self.now in
     let there : (d : Known) → get_or t.known c.loop-at.at d ≡ b.value =
-        λ d. subst (λ (z : Table). get_or z.known c.loop-at.at d ≡ b.value) c.self.view_is (at_known box_value i.limits i.len i.places.items c.loop-at.at b d c.self.invariant (omega arith) c.index.ensures) in
+    λ d. subst (λ (z : Table). get_or z.known c.loop-at.at d ≡ b.value) c.self.view_is (at_known box_value i.limits i.len i.places.items c.loop-at.at b d c.self.invariant (omega arith) c.index.ensures) in
     let long : length t.known ≡ i.len = subst (λ (z : Table). length z.known ≡ i.len) c.self.view_is (length_known box_value i.limits i.len i.places.items c.self.invariant) in
     let passes : is_of c.args.head.now b.value ≡ true =
-        ap (is_of c.args.head.now) (sym c.deref.ensures) ∙ (let e = c.way_of.ensures in let f = c.is_some.ensures in let h = c.if-is_some.true in cc) in
+    ap (is_of c.args.head.now) (sym c.deref.ensures) ∙ (let e = c.way_of.ensures in let f = c.is_some.ensures in let h = c.if-is_some.true in cc) in
     found_at c.args.head.now t.known c.loop-at.at b.value (omega (arith, long)) there passes c.loop-at.invariant
 
 pub loop-at-preserved : goal.loop-at-preserved
@@ -24,9 +24,9 @@ loop-at-preserved g c =
     let b = c.index.result.now in
     let t = c.args.self.now in
     let there : (d : Known) → get_or t.known c.loop-at.at d ≡ b.value =
-        λ d. subst (λ (z : Table). get_or z.known c.loop-at.at d ≡ b.value) c.self.view_is (at_known box_value i.limits i.len i.places.items c.loop-at.at b d c.self.invariant (omega arith) c.index.ensures) in
+    λ d. subst (λ (z : Table). get_or z.known c.loop-at.at d ≡ b.value) c.self.view_is (at_known box_value i.limits i.len i.places.items c.loop-at.at b d c.self.invariant (omega arith) c.index.ensures) in
     let fails : is_of c.args.head.now b.value ≡ false =
-        ap (is_of c.args.head.now) (sym c.deref.ensures) ∙ (let e = c.way_of.ensures in let f = c.is_some.ensures in let h = c.if-is_some.false in cc) in
+    ap (is_of c.args.head.now) (sym c.deref.ensures) ∙ (let e = c.way_of.ensures in let f = c.is_some.ensures in let h = c.if-is_some.false in cc) in
     found_more c.args.head.now t.known c.loop-at.at b.value there fails c.loop-at.invariant
 
 pub returns : goal.returns

@@ -34,7 +34,7 @@ returns-in-Some g c =
     let w = with_value b c.close.new.self in
     let told = c.in-Some.told in
     let e : telling (Some told) c.close.new.self ≡ closed b.value =
-        subst (λ o. telling o c.close.new.self ≡ closed b.value) c.in-Some.is (rw c.deref_mut.ensures.value at c.close.ensures) in
+    subst (λ o. telling o c.close.new.self ≡ closed b.value) c.in-Some.is (rw c.deref_mut.ensures.value at c.close.ensures) in
     let T : List Known → Table = λ ks. table i.limits i.ports.items ks i.counts in
     let P : Table → Type 0 = λ t. departing (departure.Told told) (T (take i.len (map box_value (set i.places.items 0 w)))) ≡ left t in
     subst P c.self.view_is
@@ -56,7 +56,7 @@ returns g c =
     let m = c.self.invariant.made.many in
     let n = c.self.invariant.some in
     let e : telling None k ≡ closed b.value =
-        subst (λ (o : Option Told). telling o k ≡ closed b.value) (none_of c.close.result c.in_default.not-Some) (rw c.deref_mut.ensures.value at c.close.ensures) in
+    subst (λ (o : Option Told). telling o k ≡ closed b.value) (none_of c.close.result c.in_default.not-Some) (rw c.deref_mut.ensures.value at c.close.ensures) in
     let same : x ≡ w = first_written i.places.items w x (omega (arith, m, n, length-map i.places.items box_value)) c.index.ensures in
     let total : r ≡ totals_of k = c.totals-totals.ensures ∙ ap totals_of (c.deref.ensures ∙ ap box_value same) in
     let T : List Known → Table = λ ks. table i.limits i.ports.items ks i.counts in

@@ -14,5 +14,5 @@ returns g c =
     let long : length t.known ≡ i.len = subst (λ (z : Table). length z.known ≡ i.len) c.self.view_is (length_known box_value i.limits i.len i.places.items c.self.invariant) in
     let lt = c.requires in
     let there : (d : Known) → get_or t.known at d ≡ b.value =
-        λ d. subst (λ (z : Table). get_or z.known at d ≡ b.value) c.self.view_is (at_known box_value i.limits i.len i.places.items at b d c.self.invariant (omega (arith, long, lt)) c.index.ensures) in
+    λ d. subst (λ (z : Table). get_or z.known at d ≡ b.value) c.self.view_is (at_known box_value i.limits i.len i.places.items at b d c.self.invariant (omega (arith, long, lt)) c.index.ensures) in
     c.number.ensures ∙ ap (λ (k : Known). k.number) c.deref.ensures ∙ sym (get_numbers t.known at b.value lt there)

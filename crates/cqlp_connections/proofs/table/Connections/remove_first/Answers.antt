@@ -19,7 +19,7 @@ returns g c =
     let some : 0 < length (take i.len (map box_value i.places.items)) = subst (λ (t : Table). 0 < length t.known) (sym c.self.view_is) c.requires in
     let new = c.put_behind.new.places in
     let P : Table → Type 0 = λ t.
-        table i.limits i.ports.items (take (i.len - 1) (map box_value (take i.places.len (new ++ drop (length new) i.places.items)))) i.counts ≡ with_known (drop 1 t.known) t in
+    table i.limits i.ports.items (take (i.len - 1) (map box_value (take i.places.len (new ++ drop (length new) i.places.items)))) i.counts ≡ with_known (drop 1 t.known) t in
     subst P c.self.view_is
     (ap (λ (ks : List Known). table i.limits i.ports.items ks i.counts)
     (behind_is box_value i.limits i.len i.places.items new _ c.self.invariant some
