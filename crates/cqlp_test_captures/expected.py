@@ -1,5 +1,6 @@
 #!/usr/bin/env python3
 """expected.py <stdin >stdout, in this folder: what cqlp_test_captures has to print, by a reading of its own."""
+import re
 import struct
 import sys
 
@@ -246,19 +247,19 @@ def segments_of(file):
             packet = file[at:at + captured]
         elif words[0] == 'segment':
             tail = line[line.rindex(')') + 2:].split()
-            port, sequence, acknowledgement, flags, _, length, _, offset, _, _, _, missing = tail
-            source = line[8:line.index(')') + 1] + line[line.index(')') + 1:].split()[0]
-            target = line[:line.rindex(')') + 1].split(' ', 4)[-1] + port
+            _, sequence, _, flags, _, length, _, offset, _, _, _, missing = tail
+            ends = re.match(r'segment (\S+\(.*?\)) (\d+) (\S+\(.*?\)) (\d+) ', line).groups()
             offset, length = int(offset), int(length)
-            yield (source, target, int(sequence), flags, packet[offset:offset + length], int(missing),
-                   line[line.index(')') + 1:].split()[0], port)
+            yield (ends[:2], ends[2:], int(sequence), flags, packet[offset:offset + length], int(missing))
 
 
-def streams(name, file):
-    """What streams have to tell: from the first byte on the bytes that some segment carried, and between them the gaps."""
+def directions_of(file):
+    """Of each direction what its stream has to tell: from the first byte on the bytes that some segment carried, and between them
+    the gaps."""
     directions = {}
-    for source, target, sequence, flags, payload, missing, own, other in segments_of(file):
-        d = directions.setdefault((source, target), {'ports': f'{own} {other}', 'first': None, 'bytes': {}, 'fin': None})
+    for source, target, sequence, flags, payload, missing in segments_of(file):
+        d = directions.setdefault((source, target), {'ports': f'{source[1]} {target[1]}', 'first': None, 'bytes': {}, 'fin': None, 'segments': 0})
+        d['segments'] += 1
         if 'S' in flags:
             sequence += 1
         if d['first'] is None and ('S' in flags or 'F' in flags or payload):
@@ -270,10 +271,9 @@ def streams(name, file):
             d['bytes'].setdefault(place + i, byte)
         if 'F' in flags and d['fin'] is None:
             d['fin'] = place + len(payload) + missing
-    lines = []
     for d in directions.values():
         if d['first'] is None:
-            lines.append(f"{d['ports']} bytes 0 sum 0")
+            d['said'], d['data'] = 'bytes 0 sum 0', b''
             continue
         end = max(d['bytes'], default=-1) + 1 if d['fin'] is None else d['fin']
         words, gap, data = [f"began {str(d['syn']).lower()}"], 0, bytearray()
@@ -288,14 +288,38 @@ def streams(name, file):
                 gap += 1
         if d['fin'] is not None:
             words.append('ended')
-        lines.append(f"{d['ports']} {' '.join(words)} bytes {len(data)} sum {sum_of(data)}")
+        d['said'] = f"{' '.join(words)} bytes {len(data)} sum {sum_of(data)}"
         d['data'] = bytes(data)
+    return directions
+
+
+def streams(name, file):
+    """A line for each direction."""
+    directions = directions_of(file)
     if name in WHOLE:
         for i, d in enumerate(directions.values()):
             side = 'responses' if i % 2 else 'requests'
             stem = name.split('.')[0] if 'sll2' in name else 'driver'
             assert d['data'] == open(f'data/{stem}.{i // 2}.{side}.bin', 'rb').read(), (name, i)
-    return lines
+    return [f"{d['ports']} {d['said']}" for d in directions.values()]
+
+
+def connections(port, file):
+    """Two lines for each connection with a node that listens on this port, in the order of their first segments."""
+    directions, pairs, foreign = directions_of(file), [], 0
+    for (source, target), d in directions.items():
+        own, other = d['ports'].split()
+        if port not in (own, other):
+            foreign += d['segments']
+        elif not any((target, source) in pair for pair in pairs):
+            pairs.append([(source, target), (target, source)] if other == port else [(target, source), (source, target)])
+    nothing = {'said': 'bytes 0 sum 0', 'segments': 0}
+    lines = []
+    for number, pair in enumerate(pairs, 1):
+        for way, ends in zip(('requests', 'responses'), pair):
+            d = directions.get(ends, nothing)
+            lines.append(f"{number} {way} {d['said']} segments {d['segments']}")
+    return lines + [f'connections {len(pairs)} crowded 0 foreign {foreign}']
 
 
 # the same packets in both formats
@@ -319,13 +343,48 @@ BY_HAND = {
     ],
 }
 
+# and of these, in which connections leave
+CONNECTIONS_BY_HAND = {
+    'a SYN again, and another': [
+        '1 leaves, full false',
+        f"1 requests began true bytes 5 sum {sum_of(b'first')} segments 3",
+        f"1 responses began true bytes 6 sum {sum_of(b'answer')} segments 3",
+        f"2 requests began true gap 3 at 6 bytes 10 sum {sum_of(b'secondlate')} segments 3",
+        f"2 responses began true reset bytes 2 sum {sum_of(b'ok')} segments 4",
+        'connections 2 crowded 0 foreign 0',
+    ],
+    'a node that asks another': [
+        f"1 requests began true bytes 3 sum {sum_of(b'ask')} segments 2",
+        f"1 responses began true ended bytes 5 sum {sum_of(b'reply')} segments 3",
+        f"2 requests began false bytes 4 sum {sum_of(b'then')} segments 1",
+        f"2 responses began false bytes 15 sum {sum_of(b'from the middle')} segments 1",
+        'connections 2 crowded 0 foreign 1',
+    ],
+    'a full table': [
+        '1 leaves, full true',
+        f"1 requests began true gap 2 at 3 bytes 8 sum {sum_of(b'oneearly')} segments 3",
+        '1 responses bytes 0 sum 0 segments 0',
+        f"2 requests began true bytes 4 sum {sum_of(b'two!')} segments 3",
+        '2 responses bytes 0 sum 0 segments 0',
+        f"3 requests began true bytes 5 sum {sum_of(b'three')} segments 2",
+        '3 responses bytes 0 sum 0 segments 0',
+        'connections 3 crowded 1 foreign 0',
+    ],
+}
+
 for line in sys.stdin:
     of_streams, small = line.startswith('streams '), line.startswith('small ')
+    of_connections = line.startswith('connections ')
     name, digits = line.rstrip('\n').removeprefix('streams ').removeprefix('small '), None
+    if of_connections:
+        _, port, limit, _, name = name.split(' ', 4)
     if '|' in name:
         name, digits = name.split('|')
     file = bytes.fromhex(digits) if digits is not None else open(f'data/{name}', 'rb').read()
-    if of_streams and name.rstrip() in BY_HAND:
+    if of_connections:
+        print('== connections', limit, 'of', port, name.rstrip())
+        print('\n'.join(CONNECTIONS_BY_HAND.get(name.rstrip()) or connections(port, file)))
+    elif of_streams and name.rstrip() in BY_HAND:
         print('== streams', name.rstrip())
         print('\n'.join(BY_HAND[name.rstrip()]))
     elif of_streams:

@@ -21,6 +21,13 @@ pub record StreamState : Type 0 where
 abbrev pub stream_state : Stage → View → Option ℕ → StreamState
 stream_state stage window end = record { stage = stage; window = window; end = end }
 
+-- nothing of it was seen, and so many bytes can come early
+abbrev pub unseen : (room : ℕ) → StreamState
+unseen room = stream_state Unseen (new_view room 0) None
+
+abbrev pub cleared : StreamState → StreamState
+cleared s = unseen (length s.window.cells)
+
 -- ---- sequence numbers (RFC 9293, section 3.4): SYN has the one before the first byte, FIN the one after the last
 
 abbrev pub first_number : Control → ℕ
@@ -198,3 +205,9 @@ after_acknowledgement_at Open s number =
 
 abbrev pub after_acknowledgement : StreamState → (number : ℕ) → Told
 after_acknowledgement s number = after_acknowledgement_at s.stage s number
+
+-- ---- no more segments
+
+-- All numbers after the next one are acknowledged, so each hole that is known is a gap.
+abbrev pub after_close : StreamState → Told
+after_close s = after_acknowledgement s ((s.window.next + (2 ^ 31 - 1)) % 2 ^ 32)

@@ -90,17 +90,16 @@ impl Control {
 }
 
 impl<A: Allocator> Stream<A> {
-    ghost use Rattle.cqlp_reassembly.specs.declared.stream.Stage.TheVariants.{Unseen};
     ghost use Rattle.cqlp_reassembly.specs.Cells.{ready};
-    ghost use Rattle.cqlp_reassembly.specs.Windows.{new_view, passed};
-    ghost use Rattle.cqlp_reassembly.specs.Streams.{after_acknowledgement, after_segment, begun, fresh, gap_or_done, held};
+    ghost use Rattle.cqlp_reassembly.specs.Windows.{passed};
+    ghost use Rattle.cqlp_reassembly.specs.Streams.{after_acknowledgement, after_close, after_segment, begun, cleared, fresh, gap_or_done, held};
     ghost use Rattle.cqlp_reassembly.specs.Streams.{hole, is_lost, kept_early, over, received, settled, told, up_to_end};
-    ghost use Rattle.cqlp_reassembly.specs.Streams.{stream_state, with_end, with_window};
+    ghost use Rattle.cqlp_reassembly.specs.Streams.{unseen, with_end, with_window};
 
     /// A stream of which nothing was seen, which can hold this many bytes that come early. This is the one call that takes
     /// memory: two bytes for each.
     pub fn new(alloc: A, room: usize) -> Result<Self, AllocError>
-        ensures { IfOk result (λ stream. stream ≡ stream_state Unseen (new_view room 0) None) }
+        ensures { IfOk result (λ stream. stream ≡ unseen room) }
     {
         let window = Window::new(alloc, room, 0)?;
         Ok(Stream {
@@ -150,6 +149,24 @@ impl<A: Allocator> Stream<A> {
                 self.give_up(lost)
             }
         }
+    }
+
+    /// The next that is told where no more segments come: a hole is a gap, if later bytes came or FIN did, as if the other side
+    /// had acknowledged it.
+    pub fn close(&mut self) -> StreamStep
+        ensures { told result self.new ≡ after_close self.old }
+    {
+        let number = self.window.next().wrapping_add(0x7fff_ffff);
+        self.acknowledge(number)
+    }
+
+    /// Forgets all that it has: it is a stream of which nothing was seen, with the memory that it had.
+    pub fn clear(&mut self)
+        ensures { self.new ≡ cleared self.old }
+    {
+        self.window.restart(0);
+        self.stage = Stage::Unseen;
+        self.end = None;
     }
 
     /// How many bytes that came before are next.

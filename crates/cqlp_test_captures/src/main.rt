@@ -5,11 +5,14 @@
 //! with small limits.
 #![tactic(auto)]
 
+mod connections;
 mod reading;
 mod segments;
 mod streams;
 
+use connections::{Asked, said_of_connections};
 use cqlp_capture::CaptureLimits;
+use cqlp_connections::ConnectionLimits;
 use reading::said_in_pieces;
 use std::{fs, io};
 use streams::said_of_streams;
@@ -30,16 +33,20 @@ fn main(rt: HostRuntime) -> io::Result<()> {
     Ok(())
 }
 
+/// What is asked of a capture.
+#[derive(Clone, Copy)]
+enum Question {
+    /// What a reader with these limits says.
+    Events(CaptureLimits),
+    /// What streams tell.
+    Streams,
+    /// What a table of connections tells.
+    Connections(Asked),
+}
+
 /// Reads the capture that a line names or has.
 fn execute(rt: &HostRuntime, line: &str) -> io::Result<()> {
-    let (is_of_streams, line) = match line.strip_prefix("streams ") {
-        Some(rest) => (true, rest),
-        None => (false, line),
-    };
-    let (limits, line) = match line.strip_prefix("small ") {
-        Some(rest) => (SMALL, rest),
-        None => (CaptureLimits::DEFAULT, line),
-    };
+    let (question, line) = question_of(line);
     let (name, bytes) = match line.split_once('|') {
         None => (line, fs::read(rt, line)?),
         Some((name, digits)) => match hex::decode(rt.alloc(), digits.as_bytes()) {
@@ -47,20 +54,64 @@ fn execute(rt: &HostRuntime, line: &str) -> io::Result<()> {
             Err(_) => return Err(io::Error::from(io::ErrorKind::InvalidInput)),
         },
     };
-    if is_of_streams {
-        let said = said_of_streams(rt.alloc(), &bytes)?;
-        print!(rt; "== streams {}\n{said}", name.trim_end())?;
-        return Ok(());
+    let name = name.trim_end();
+    match question {
+        Question::Events(limits) => say_events(rt, name, limits, &bytes),
+        Question::Streams => {
+            let said = said_of_streams(rt.alloc(), &bytes)?;
+            print!(rt; "== streams {name}\n{said}")
+        }
+        Question::Connections(asked) => {
+            let said = said_of_connections(rt.alloc(), asked, &bytes)?;
+            print!(rt; "== connections {} of {} {name}\n{said}", asked.limits.connections, asked.port)
+        }
     }
-    println!(rt; "== {}", name.trim_end())?;
-    let whole = said_in_pieces(rt.alloc(), limits, &bytes, bytes.len())?;
+}
+
+/// What a line asks, and of which capture: `streams`, or `connections` with a port and limits, comes before the capture.
+fn question_of(line: &str) -> (Question, &str) {
+    if let Some(rest) = line.strip_prefix("streams ") {
+        return (Question::Streams, rest);
+    }
+    match line.strip_prefix("connections ").and_then(asked_of) {
+        Some((asked, rest)) => (Question::Connections(asked), rest),
+        None => match line.strip_prefix("small ") {
+            Some(rest) => (Question::Events(SMALL), rest),
+            None => (Question::Events(CaptureLimits::DEFAULT), line),
+        },
+    }
+}
+
+fn asked_of(words: &str) -> Option<(Asked, &str)> {
+    let (port, rest) = words.split_once(' ')?;
+    let (connections, rest) = rest.split_once(' ')?;
+    let (early, rest) = rest.split_once(' ')?;
+    let asked = Asked {
+        port: port.parse().ok()?,
+        limits: ConnectionLimits {
+            connections: connections.parse().ok()?,
+            early: early.parse().ok()?,
+        },
+    };
+    Some((asked, rest))
+}
+
+/// Prints what is said of a capture, and where something else is said of it in pieces.
+fn say_events(
+    rt: &HostRuntime,
+    name: &str,
+    limits: CaptureLimits,
+    bytes: &[u8],
+) -> io::Result<()> {
+    println!(rt; "== {name}")?;
+    let whole = said_in_pieces(rt.alloc(), limits, bytes, bytes.len())?;
     print!(rt; "{whole}")?;
     let each = if bytes.len() <= SHORT { bytes.len() } else { 1 };
     for size in 1..=each {
-        compare(rt, limits, &bytes, size, whole.as_str())?;
+        compare(rt, limits, bytes, size, whole.as_str())?;
     }
     for size in [7, 4_096] {
-        compare(rt, limits, &bytes, size, whole.as_str())?;
+        compare(rt, limits, bytes, size, whole.as_str())?;
     }
     Ok(())
 }

@@ -57,7 +57,7 @@ pub fn said_of_streams(alloc: Global, file: &[u8]) -> io::Result<String> {
     Ok(said)
 }
 
-fn segment_of(link: u16, packet: &[u8], original: u32) -> Result<Segment<'_>, NoSegment> {
+pub fn segment_of(link: u16, packet: &[u8], original: u32) -> Result<Segment<'_>, NoSegment> {
     read_segment(LinkType::from_number(link)?, packet, original)
 }
 

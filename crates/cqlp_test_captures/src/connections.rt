@@ -1,0 +1,257 @@
+//! What a table of connections tells of the segments of a capture.
+
+use crate::reading::{AMPLE, fold};
+use crate::streams::segment_of;
+use cqlp_capture::{CaptureEvent, CaptureLimits, CaptureReader, CaptureStep};
+use cqlp_connections::{
+    ConnectionLimits, ConnectionTotals, Connections, Departure, DirectionTotals, Sight, Told, Way,
+};
+use cqlp_reassembly::StreamStep;
+use cqlp_segment::Segment;
+use cqlp_test_heaps::{Rationed, Refusals};
+use std::alloc::{Allocator, Global};
+use std::io;
+
+/// What was told of one direction of a connection.
+#[derive(Drop)]
+struct Heard {
+    bytes: u64,
+    sum: u32,
+    said: String,
+}
+
+/// What was told of a connection.
+#[derive(Drop)]
+struct Pair {
+    requests: Heard,
+    responses: Heard,
+}
+
+/// What was told of all connections, in the order of their numbers; and a line for each direction of those that left.
+#[derive(Drop)]
+struct Listener {
+    alloc: Global,
+    pairs: Vec<Pair>,
+    said: String,
+}
+
+/// Which connections a line asks for.
+#[derive(Clone, Copy)]
+pub struct Asked {
+    pub port: u16,
+    pub limits: ConnectionLimits,
+}
+
+/// A line for each direction of a connection in a capture, when it leaves, and what was counted; and whether the same is told where
+/// no memory is granted after the requests of `new`, and each of those is needed.
+pub fn said_of_connections(alloc: Global, asked: Asked, file: &[u8]) -> io::Result<String> {
+    let Ok(mut connections) = Connections::new(alloc, asked.limits, &[asked.port]) else {
+        return Err(io::Error::from(io::ErrorKind::OutOfMemory));
+    };
+    let mut listener = Listener::new(alloc);
+    listener.hear(&mut connections, file)?;
+    let requests = 3 * asked.limits.connections as u64 + 2;
+    for number in 1..=requests {
+        let heap = Rationed::new(alloc, Refusals::At(number));
+        if Connections::new(&heap, asked.limits, &[asked.port]).is_ok() {
+            write!(listener.said, "made without request {number}\n")?;
+        }
+    }
+    let heap = Rationed::new(alloc, Refusals::From(requests + 1));
+    let mut again = Listener::new(alloc);
+    match Connections::new(&heap, asked.limits, &[asked.port]) {
+        Ok(mut connections) => again.hear(&mut connections, file)?,
+        Err(_) => write!(listener.said, "more than {requests} requests\n")?,
+    }
+    if again.said.as_str() != listener.said.as_str() {
+        write!(listener.said, "differs without memory\n")?;
+    }
+    Ok(listener.said)
+}
+
+impl Heard {
+    fn new(alloc: Global) -> Heard {
+        Heard {
+            bytes: 0,
+            sum: 0,
+            said: String::new(alloc),
+        }
+    }
+
+    fn add(&mut self, bytes: &[u8]) {
+        self.sum = fold(self.sum, bytes);
+        self.bytes = self.bytes.wrapping_add(bytes.len() as u64);
+    }
+}
+
+impl Listener {
+    fn new(alloc: Global) -> Listener {
+        Listener {
+            alloc,
+            pairs: Vec::new(alloc),
+            said: String::new(alloc),
+        }
+    }
+
+    /// Hands all segments of a file to a table, and then ends it.
+    fn hear<A: Allocator>(
+        &mut self,
+        connections: &mut Connections<A>,
+        file: &[u8],
+    ) -> io::Result<()> {
+        let Ok(mut reader) = CaptureReader::new(self.alloc, CaptureLimits::DEFAULT) else {
+            return Err(io::Error::from(io::ErrorKind::OutOfMemory));
+        };
+        let mut link = 0;
+        let mut original = 0;
+        let mut rest = file;
+        for _ in 0..AMPLE {
+            let CaptureStep::Event { used, event, .. } = reader.next(rest) else {
+                break;
+            };
+            match event {
+                CaptureEvent::Section(_) => {}
+                CaptureEvent::Interface(head) => link = head.link,
+                CaptureEvent::Packet(head) => original = head.original,
+                CaptureEvent::Data(packet) => {
+                    if let Ok(segment) = segment_of(link, packet, original) {
+                        self.take(connections, &segment)?;
+                    }
+                }
+            }
+            rest = rest.get(used..).unwrap_or(&[]);
+        }
+        self.end(connections)
+    }
+
+    fn take<A: Allocator>(
+        &mut self,
+        connections: &mut Connections<A>,
+        segment: &Segment<'_>,
+    ) -> io::Result<()> {
+        for _ in 0..3 {
+            match connections.take(&segment.head) {
+                Sight::Foreign => return Ok(()),
+                Sight::Crowded { number, is_full } => {
+                    write!(self.said, "{number} leaves, full {is_full}\n")?;
+                    self.leave(connections)?;
+                }
+                Sight::Taken { number, .. } => {
+                    for _ in self.pairs.len() as u64..number {
+                        self.pairs.push(Pair {
+                            requests: Heard::new(self.alloc),
+                            responses: Heard::new(self.alloc),
+                        })?;
+                    }
+                    return self.pull(connections, segment);
+                }
+            }
+        }
+        self.said.push_str("a segment is never taken\n")?;
+        Ok(())
+    }
+
+    fn pull<A: Allocator>(
+        &mut self,
+        connections: &mut Connections<A>,
+        segment: &Segment<'_>,
+    ) -> io::Result<()> {
+        for _ in 0..AMPLE {
+            let Some(told) = connections.pull(segment) else {
+                break;
+            };
+            self.tell(connections, told, segment.payload)?;
+        }
+        Ok(())
+    }
+
+    fn leave<A: Allocator>(&mut self, connections: &mut Connections<A>) -> io::Result<()> {
+        for _ in 0..AMPLE {
+            match connections.leave() {
+                Departure::Told(told) => self.tell(connections, told, &[])?,
+                Departure::Left(totals) => return self.put(&totals),
+                Departure::Empty => break,
+            }
+        }
+        Ok(())
+    }
+
+    fn end<A: Allocator>(&mut self, connections: &mut Connections<A>) -> io::Result<()> {
+        for _ in 0..AMPLE {
+            match connections.finish() {
+                Departure::Told(told) => self.tell(connections, told, &[])?,
+                Departure::Left(totals) => self.put(&totals)?,
+                Departure::Empty => break,
+            }
+        }
+        let counts = connections.counts();
+        write!(
+            self.said,
+            "connections {} crowded {} foreign {}\n",
+            counts.connections, counts.crowded, counts.foreign
+        )?;
+        Ok(())
+    }
+
+    fn tell<A: Allocator>(
+        &mut self,
+        connections: &mut Connections<A>,
+        told: Told,
+        payload: &[u8],
+    ) -> io::Result<()> {
+        let Some(pair) = self.pairs.get_mut((told.number.wrapping_sub(1) % AMPLE as u64) as usize)
+        else {
+            return Ok(());
+        };
+        let heard = match told.way {
+            Way::Requests => &mut pair.requests,
+            Way::Responses => &mut pair.responses,
+        };
+        match told.step {
+            StreamStep::Began { syn } => write!(heard.said, "began {syn} ")?,
+            StreamStep::Payload { from, count } => {
+                let rest = payload.get(from..).unwrap_or(&[]);
+                heard.add(rest.get(..count).unwrap_or(&[]));
+            }
+            StreamStep::Held { .. } => {
+                let mut buffer = [0u8; 64];
+                let count = connections.read(told.way, &mut buffer);
+                heard.add(&buffer[..count]);
+            }
+            StreamStep::Gap { length } => write!(heard.said, "gap {length} at {} ", told.at)?,
+            StreamStep::Ended => heard.said.push_str("ended ")?,
+            StreamStep::Reset => heard.said.push_str("reset ")?,
+            StreamStep::Done => heard.said.push_str("done ")?,
+        }
+        Ok(())
+    }
+
+    /// Writes down what was told of a connection that has left.
+    fn put(&mut self, totals: &ConnectionTotals) -> io::Result<()> {
+        let Some(pair) = self.pairs.get((totals.number.wrapping_sub(1) % AMPLE as u64) as usize)
+        else {
+            return Ok(());
+        };
+        for (way, heard, total) in [
+            ("requests", &pair.requests, &totals.requests),
+            ("responses", &pair.responses, &totals.responses),
+        ] {
+            write!(self.said, "{} {way} ", totals.number)?;
+            put_direction(heard, total, &mut self.said)?;
+        }
+        Ok(())
+    }
+}
+
+fn put_direction(heard: &Heard, totals: &DirectionTotals, said: &mut String) -> io::Result<()> {
+    write!(
+        said,
+        "{}bytes {} sum {} segments {}",
+        heard.said, heard.bytes, heard.sum, totals.segments
+    )?;
+    if totals.bytes != heard.bytes {
+        write!(said, " but counted {}", totals.bytes)?;
+    }
+    said.push('\n')?;
+    Ok(())
+}
