@@ -63,7 +63,10 @@ fn execute(rt: &HostRuntime, line: &str) -> io::Result<()> {
         }
         Question::Connections(asked) => {
             let said = said_of_connections(rt.alloc(), asked, &bytes)?;
-            print!(rt; "== connections {} of {} {name}\n{said}", asked.limits.connections, asked.port)
+            print!(rt;
+                "== connections {} of {} {name}\n{said}",
+                asked.limits.connections, asked.port
+            )
         }
     }
 }
@@ -97,12 +100,7 @@ fn asked_of(words: &str) -> Option<(Asked, &str)> {
 }
 
 /// Prints what is said of a capture, and where something else is said of it in pieces.
-fn say_events(
-    rt: &HostRuntime,
-    name: &str,
-    limits: CaptureLimits,
-    bytes: &[u8],
-) -> io::Result<()> {
+fn say_events(rt: &HostRuntime, name: &str, limits: CaptureLimits, bytes: &[u8]) -> io::Result<()> {
     println!(rt; "== {name}")?;
     let whole = said_in_pieces(rt.alloc(), limits, bytes, bytes.len())?;
     print!(rt; "{whole}")?;
