@@ -1,0 +1,100 @@
+//! A server of the CQL native protocol v4 with one table in memory.
+#![tactic(auto)]
+
+mod connection;
+mod database;
+mod fault;
+mod listening;
+mod messages;
+mod metadata;
+mod output;
+mod page;
+mod plan;
+mod request;
+mod session;
+mod statement;
+mod system;
+mod table;
+
+use crate::connection::PIECE;
+use crate::database::Database;
+use crate::listening::listen;
+use crate::session::Session;
+use std::env;
+use std::io;
+use std::io::{Read, Write};
+use std::process::ExitCode;
+
+const USAGE: &str = "usage: cqlp_server PORT [CONNECTIONS]: serves on 127.0.0.1:PORT, a free port for 0, and ends after so many
+       cqlp_server -: answers the requests on standard input, on standard output";
+
+/// What the words after the program's name ask for.
+#[derive(Clone, Copy)]
+enum Task {
+    /// To answer what comes on standard input.
+    Input,
+    /// To listen on a port, for this many connections.
+    Listen { port: u16, connections: u64 },
+    /// They ask for nothing that there is.
+    Usage,
+}
+
+fn main(rt: HostRuntime) -> io::Result<ExitCode> {
+    match task(&rt)? {
+        Task::Input => answer_input(&rt)?,
+        Task::Listen { port, connections } => {
+            let Ok(database) = Database::new(rt.alloc()) else {
+                return Err(io::Error::from(io::ErrorKind::OutOfMemory));
+            };
+            listen(&rt, port, connections, database)?;
+        }
+        Task::Usage => {
+            eprintln!(rt; "{USAGE}")?;
+            return Ok(ExitCode::from(2));
+        }
+    }
+    Ok(ExitCode::SUCCESS)
+}
+
+/// Reads the words.
+fn task(rt: &HostRuntime) -> io::Result<Task> {
+    let mut words = env::args(rt)?.skip(1);
+    let Some(first) = words.next() else {
+        return Ok(Task::Usage);
+    };
+    if first.as_str() == "-" {
+        return Ok(Task::Input);
+    }
+    let connections = match words.next() {
+        Some(word) => word.as_str().parse::<u64>().ok(),
+        None => Some(u64::MAX),
+    };
+    match (first.as_str().parse::<u16>(), connections) {
+        (Ok(port), Some(connections)) => Ok(Task::Listen { port, connections }),
+        _ => Ok(Task::Usage),
+    }
+}
+
+/// Answers the requests on standard input, on standard output.
+fn answer_input(rt: &HostRuntime) -> io::Result<()> {
+    let no_memory = io::Error::from(io::ErrorKind::OutOfMemory);
+    let (Ok(mut database), Ok(mut session)) = (Database::new(rt.alloc()), Session::new(rt.alloc()))
+    else {
+        return Err(no_memory);
+    };
+    let mut piece = [0; PIECE];
+    for _ in 0..u64::MAX {
+        let count = rt.stdin().read(&mut piece)?;
+        let bytes = piece.get(..count).unwrap_or(&[]);
+        if bytes.is_empty() || session.is_over {
+            break;
+        }
+        if session.take(rt.alloc(), &mut database, bytes).is_err() {
+            return Err(no_memory);
+        }
+        let waiting = session.output.waiting();
+        rt.stdout().write_all(waiting)?;
+        session.output.advance(waiting.len());
+    }
+    Ok(())
+}
