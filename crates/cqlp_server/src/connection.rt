@@ -62,9 +62,10 @@ impl Connection {
             Err(error) => return would_block(error, Turn::Waits),
         };
         let bytes = piece.get(..count).unwrap_or(&[]);
-        if bytes.is_empty() || self.session.take(alloc, database, bytes).is_err() {
+        if bytes.is_empty() {
             return Ok(Turn::Ends);
         }
+        self.session.take(alloc, database, bytes)?;
         Ok(Turn::Goes)
     }
 

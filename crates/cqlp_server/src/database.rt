@@ -1,6 +1,5 @@
 //! What all connections share: the table, and the statements that are prepared.
 
-use crate::fault::Fault;
 use crate::page::{Rows, page_at, place_of};
 use crate::plan::{Plan, Problem};
 use crate::request::Request;
@@ -27,7 +26,7 @@ pub struct Database {
 
 impl Database {
     /// With the whole table, and nothing prepared.
-    pub fn new(alloc: Global) -> Result<Database, Fault> {
+    pub fn new(alloc: Global) -> Result<Database, AllocError> {
         Ok(Database {
             table: Table::new(alloc)?,
             prepared: Vec::new(alloc),

@@ -1,6 +1,7 @@
 //! What ends a connection.
 
 use std::alloc::AllocError;
+use std::io;
 use thiserror::Error;
 
 /// What ends a connection, of which nothing more is answered.
@@ -16,5 +17,14 @@ pub enum Fault {
 impl From<AllocError> for Fault {
     fn from(_: AllocError) -> Self {
         Fault::NoMemory
+    }
+}
+
+impl From<Fault> for io::Error {
+    fn from(fault: Fault) -> Self {
+        match fault {
+            Fault::NoMemory => io::Error::from(io::ErrorKind::OutOfMemory),
+            Fault::Unwritten => io::Error::from(io::ErrorKind::InvalidData),
+        }
     }
 }

@@ -40,12 +40,10 @@ enum Task {
 }
 
 fn main(rt: HostRuntime) -> io::Result<ExitCode> {
-    match task(&rt)? {
+    match read_words(&rt)? {
         Task::Input => answer_input(&rt)?,
         Task::Listen { port, connections } => {
-            let Ok(database) = Database::new(rt.alloc()) else {
-                return Err(io::Error::from(io::ErrorKind::OutOfMemory));
-            };
+            let database = Database::new(rt.alloc())?;
             listen(&rt, port, connections, database)?;
         }
         Task::Usage => {
@@ -57,7 +55,7 @@ fn main(rt: HostRuntime) -> io::Result<ExitCode> {
 }
 
 /// Reads the words.
-fn task(rt: &HostRuntime) -> io::Result<Task> {
+fn read_words(rt: &HostRuntime) -> io::Result<Task> {
     let mut words = env::args(rt)?.skip(1);
     let Some(first) = words.next() else {
         return Ok(Task::Usage);
@@ -77,11 +75,8 @@ fn task(rt: &HostRuntime) -> io::Result<Task> {
 
 /// Answers the requests on standard input, on standard output.
 fn answer_input(rt: &HostRuntime) -> io::Result<()> {
-    let no_memory = io::Error::from(io::ErrorKind::OutOfMemory);
-    let (Ok(mut database), Ok(mut session)) = (Database::new(rt.alloc()), Session::new(rt.alloc()))
-    else {
-        return Err(no_memory);
-    };
+    let mut database = Database::new(rt.alloc())?;
+    let mut session = Session::new(rt.alloc())?;
     let mut piece = [0; PIECE];
     for _ in 0..u64::MAX {
         let count = rt.stdin().read(&mut piece)?;
@@ -89,9 +84,7 @@ fn answer_input(rt: &HostRuntime) -> io::Result<()> {
         if bytes.is_empty() || session.is_over {
             break;
         }
-        if session.take(rt.alloc(), &mut database, bytes).is_err() {
-            return Err(no_memory);
-        }
+        session.take(rt.alloc(), &mut database, bytes)?;
         let waiting = session.output.waiting();
         rt.stdout().write_all(waiting)?;
         session.output.advance(waiting.len());

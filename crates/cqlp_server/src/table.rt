@@ -1,6 +1,5 @@
 //! The table `ks.t`, in memory.
 
-use crate::fault::Fault;
 use crate::page::Rows;
 use cqlp_encode::write_value;
 use cqlp_note::OfStd;
@@ -28,7 +27,7 @@ pub struct Table {
 
 impl Table {
     /// With all rows.
-    pub fn new(alloc: Global) -> Result<Table, Fault> {
+    pub fn new(alloc: Global) -> Result<Table, AllocError> {
         let int = TypeTree::Plain(Kind::Int);
         let text = TypeTree::Plain(Kind::Varchar);
         let list = list_of_ints(alloc)?;
@@ -50,7 +49,7 @@ impl Table {
     }
 
     /// Adds the next cell of a row, which is of this type.
-    fn add(&mut self, alloc: Global, value: Value, of: &TypeTree) -> Result<(), Fault> {
+    fn add(&mut self, alloc: Global, value: Value, of: &TypeTree) -> Result<(), AllocError> {
         self.spelled.push(spelled(alloc, &value, of)?)?;
         self.cells.push(value)?;
         Ok(())
@@ -101,13 +100,13 @@ fn around(alloc: Global, number: i32) -> Result<Value, AllocError> {
 }
 
 /// A value as the bytes that a cell of this type has.
-fn spelled(alloc: Global, value: &Value, of: &TypeTree) -> Result<Value, Fault> {
+fn spelled(alloc: Global, value: &Value, of: &TypeTree) -> Result<Value, AllocError> {
     if matches!(value, Value::Null) {
         return Ok(Value::Null);
     }
     let mut bytes = OfStd::new(Vec::new(alloc));
     if write_value(value, Some(of), &mut bytes).is_err() {
-        return Err(Fault::NoMemory);
+        return Err(AllocError);
     }
     let content = bytes.inner.get(4..).unwrap_or(&[]).to_vec(alloc)?;
     Ok(Value::from(Atom::Raw(content)))
