@@ -13,7 +13,8 @@ use std::env;
 use std::process::ExitCode;
 use std::time::Instant;
 
-const USAGE: &str = "usage: cqlp_client PORT QUERIES: talks to the server on 127.0.0.1:PORT, and sends so many queries at the end";
+const USAGE: &str =
+    "usage: cqlp_client PORT QUERIES: talks to the server on 127.0.0.1:PORT, and sends so many queries at the end";
 
 fn main(rt: HostRuntime) -> ExitCode {
     let (port, queries) = match read_words(&rt) {
@@ -41,7 +42,10 @@ fn read_words(rt: &HostRuntime) -> Result<Option<(u16, u32)>, Fault> {
     let (Some(port), Some(queries)) = (words.next(), words.next()) else {
         return Ok(None);
     };
-    match (port.as_str().parse::<u16>(), queries.as_str().parse::<u32>()) {
+    match (
+        port.as_str().parse::<u16>(),
+        queries.as_str().parse::<u32>(),
+    ) {
         (Ok(port), Ok(queries)) => Ok(Some((port, queries))),
         _ => Ok(None),
     }
@@ -51,7 +55,11 @@ fn read_words(rt: &HostRuntime) -> Result<Option<(u16, u32)>, Fault> {
 fn talk(rt: &HostRuntime, port: u16, queries: u32) -> Result<(), Fault> {
     let mut line = Line::connect(rt, port)?;
     script::set_up(rt, &mut line)?;
-    script::ask(rt, &mut line, "SELECT * FROM system.local WHERE key='local'")?;
+    script::ask(
+        rt,
+        &mut line,
+        "SELECT * FROM system.local WHERE key='local'",
+    )?;
     script::ask(rt, &mut line, "SELECT * FROM system.peers")?;
     script::ask_for_pages(rt, &mut line, "SELECT * FROM ks.t WHERE k = 3")?;
     script::ask_prepared(rt, &mut line, "SELECT * FROM ks.t WHERE k = ?", 7)?;
@@ -66,7 +74,10 @@ fn measure(rt: &HostRuntime, line: &mut Line, queries: u32) -> Result<(), Fault>
     let start = Instant::now(rt)?;
     let tally = script::pipeline(rt.alloc(), line, queries)?;
     let micros = start.elapsed(rt)?.as_micros().max(1);
-    println!(rt; "{} queries, {} rows, {} replies in order", tally.queries, tally.rows, tally.in_order)?;
+    println!(rt;
+        "{} queries, {} rows, {} replies in order",
+        tally.queries, tally.rows, tally.in_order
+    )?;
     let speed = u128::from(queries).saturating_mul(1_000_000) / micros;
     eprintln!(rt; "{speed} queries per second")?;
     Ok(())

@@ -101,7 +101,8 @@ impl Inbox {
     /// The reply that came is whole, and another begins.
     fn end(&mut self) -> Result<(), AllocError> {
         let next = Reply::new(self.alloc, self.open.header);
-        self.whole.push_back(std::mem::replace(&mut self.open, next))?;
+        self.whole
+            .push_back(std::mem::replace(&mut self.open, next))?;
         Ok(())
     }
 }

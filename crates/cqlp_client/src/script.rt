@@ -47,11 +47,7 @@ pub fn set_up(rt: &(impl Print + AllocGlobal), line: &mut Line) -> Result<(), Fa
 }
 
 /// Asks for the result of a statement, all of it in one page.
-pub fn ask(
-    rt: &(impl Print + AllocGlobal),
-    line: &mut Line,
-    text: &str,
-) -> Result<(), Fault> {
+pub fn ask(rt: &(impl Print + AllocGlobal), line: &mut Line, text: &str) -> Result<(), Fault> {
     let message = query(rt.alloc(), text, plain())?;
     print_reply(rt, &line.exchange(RequestKind::Query, message)?)
 }
@@ -106,10 +102,7 @@ pub fn ask_prepared(
 }
 
 /// Sends a batch, and executes a statement that was never prepared.
-pub fn batch_and_unprepared(
-    rt: &(impl Print + AllocGlobal),
-    line: &mut Line,
-) -> Result<(), Fault> {
+pub fn batch_and_unprepared(rt: &(impl Print + AllocGlobal), line: &mut Line) -> Result<(), Fault> {
     let message = batch(rt.alloc(), "INSERT INTO ks.t (k, c) VALUES (1, 1)")?;
     print_reply(rt, &line.exchange(RequestKind::Batch, message)?)?;
     let message = execute(rt.alloc(), b"none", plain())?;
@@ -136,7 +129,11 @@ pub fn pipeline(alloc: Global, line: &mut Line, queries: u32) -> Result<Tally, F
         let after = queries.min(first.saturating_add(u32::from(SLOTS)));
         for number in first..after {
             let text = format!(in alloc; "SELECT * FROM ks.t WHERE k = {}", number % 100)?;
-            line.ask(RequestKind::Query, number, query(alloc, text.as_str(), plain())?)?;
+            line.ask(
+                RequestKind::Query,
+                number,
+                query(alloc, text.as_str(), plain())?,
+            )?;
         }
         for number in first..after {
             tally.add(number, line.hear()?);

@@ -20,12 +20,12 @@ use crate::connection::PIECE;
 use crate::database::Database;
 use crate::listening::listen;
 use crate::session::Session;
-use std::env;
-use std::io;
 use std::io::{Read, Write};
 use std::process::ExitCode;
+use std::{env, io};
 
-const USAGE: &str = "usage: cqlp_server PORT [CONNECTIONS]: serves on 127.0.0.1:PORT, a free port for 0, and ends after so many
+const USAGE: &str =
+    "usage: cqlp_server PORT [CONNECTIONS]: serves on 127.0.0.1:PORT, a free port for 0, and ends after so many
        cqlp_server -: answers the requests on standard input, on standard output";
 
 /// What the words after the program's name ask for.

@@ -16,7 +16,7 @@ const WARNING: u8 = 0x08;
 pub fn frame(alloc: Global, stream: i16, id: &[u8], plan: Plan) -> Result<Frame, AllocError> {
     let mut frame = Frame::plain(stream, message(alloc, id, plan)?);
     if let Plan::Batch(statements) = plan {
-        let warning = format!(in alloc; "{statements} statements changed nothing")?;
+        let warning = format!(in alloc; "statements that changed nothing: {statements}")?;
         frame.flags = WARNING;
         frame.warnings = Some(vec![in alloc; warning]?);
     }

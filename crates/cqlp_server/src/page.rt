@@ -1,6 +1,7 @@
 //! Which rows a page has, and where the next goes on.
 
-ghost use Rattle.std.specs.Prelude.{◌≤◌, ◌-◌};
+ghost use Rattle.std.specs.Prelude.{◌≡◌, ℕ, ◌≤◌, ◌<◌, ◌+◌, ◌-◌, IfSome, Some, None};
+ghost use Rattle.cqlp_server.specs.declared.page.Paging.TheVariants.{At, Begin};
 
 /// Rows that lie beside one another in the table.
 #[derive(Clone, Copy)]
@@ -23,7 +24,9 @@ impl Rows {
         }
     }
 
-    pub fn len(self) -> u32 {
+    pub fn len(self) -> u32
+        ensures { result ≡ self.after - self.first }
+    {
         self.after - self.first
     }
 }
@@ -59,7 +62,11 @@ pub struct Page {
 }
 
 /// The place of the row where a page of these rows begins. None where the paging state is of no page of them.
-pub fn place_of(rows: Rows, paging: Paging) -> Option<u32> {
+pub fn place_of(rows: Rows, paging: Paging) -> Option<u32>
+    ensures begins { paging ≡ Begin → result ≡ Some rows.first }
+    ensures goes_on { (place : ℕ) → paging ≡ At place → rows.first < place → place < rows.after → result ≡ Some place }
+    ensures within { IfSome result (λ place. (rows.first ≤ place) × (place ≤ rows.after)) }
+{
     match paging {
         Paging::Begin => Some(rows.first),
         Paging::At(place) if rows.first < place && place < rows.after => Some(place),
@@ -68,9 +75,22 @@ pub fn place_of(rows: Rows, paging: Paging) -> Option<u32> {
 }
 
 /// The page of at most this many rows that begins at a place.
-pub fn page_at(rows: Rows, place: u32, size: u32) -> Page {
-    let after = place.saturating_add(size).min(rows.after).max(place);
-    let next = if after < rows.after { Some(after) } else { None };
+pub fn page_at(rows: Rows, place: u32, size: u32) -> Page
+    requires at_least { rows.first ≤ place }
+    requires at_most { place ≤ rows.after }
+    ensures begins { result.rows.first ≡ place }
+    ensures within { result.rows.after ≤ rows.after }
+    ensures size { result.rows.after ≤ place + size }
+    ensures moves { 0 < size → place < rows.after → place < result.rows.after }
+    ensures ends { result.next ≡ None → result.rows.after ≡ rows.after }
+    ensures goes_on { IfSome result.next (λ next. (next ≡ result.rows.after) × (next < rows.after)) }
+{
+    let after = place.saturating_add(size).min(rows.after);
+    let next = if after < rows.after {
+        Some(after)
+    } else {
+        None
+    };
     Page {
         rows: Rows {
             first: place,

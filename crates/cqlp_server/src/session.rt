@@ -149,11 +149,7 @@ fn write_frame(frame: &Frame, output: &mut OfStd<Vec<u8>>) -> Result<(), Fault> 
 }
 
 /// Writes a page, whose cells are these.
-fn write_page(
-    frame: &Frame,
-    cells: &[Value],
-    output: &mut OfStd<Vec<u8>>,
-) -> Result<(), Fault> {
+fn write_page(frame: &Frame, cells: &[Value], output: &mut OfStd<Vec<u8>>) -> Result<(), Fault> {
     let mut len = 0_u64;
     for cell in cells {
         len = len.saturating_add(value_size(cell));
