@@ -1,7 +1,5 @@
 //! Replies, put together from the events of their frames.
 
-ghost use Rattle.std.specs.Prelude.{Unit, tt};
-
 use cqlp_decode::{Event, Sink, SinkFault};
 use cqlp_note::{Field, Header, OfStd, Opcode};
 use cqlp_text::{PagePlace, page_part};

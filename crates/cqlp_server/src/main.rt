@@ -4,6 +4,7 @@
 mod connection;
 mod database;
 mod fault;
+mod laws;
 mod listening;
 mod messages;
 mod metadata;
@@ -86,8 +87,9 @@ fn answer_input(rt: &HostRuntime) -> io::Result<()> {
         }
         session.take(rt.alloc(), &mut database, bytes)?;
         let waiting = session.output.waiting();
+        let count = waiting.len();
         rt.stdout().write_all(waiting)?;
-        session.output.advance(waiting.len());
+        session.output.advance(count);
     }
     Ok(())
 }

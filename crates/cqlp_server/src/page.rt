@@ -1,6 +1,7 @@
 //! Which rows a page has, and where the next goes on.
 
-ghost use Rattle.std.specs.Prelude.{◌≡◌, ℕ, ◌≤◌, ◌<◌, ◌+◌, ◌-◌, IfSome, Some, None};
+ghost use Rattle.std.specs.Prelude.{◌≡◌, ℕ, ◌≤◌, ◌<◌, ◌-◌, IfSome, Some, None};
+ghost use Rattle.cqlp_server.specs.Pages.{next_of, page_end};
 ghost use Rattle.cqlp_server.specs.declared.page.Paging.TheVariants.{At, Begin};
 
 /// Rows that lie beside one another in the table.
@@ -79,11 +80,8 @@ pub fn page_at(rows: Rows, place: u32, size: u32) -> Page
     requires at_least { rows.first ≤ place }
     requires at_most { place ≤ rows.after }
     ensures begins { result.rows.first ≡ place }
-    ensures within { result.rows.after ≤ rows.after }
-    ensures size { result.rows.after ≤ place + size }
-    ensures moves { 0 < size → place < rows.after → place < result.rows.after }
-    ensures ends { result.next ≡ None → result.rows.after ≡ rows.after }
-    ensures goes_on { IfSome result.next (λ next. (next ≡ result.rows.after) × (next < rows.after)) }
+    ensures ends { result.rows.after ≡ page_end rows.after place size }
+    ensures next { result.next ≡ next_of rows.after result.rows.after }
 {
     let after = place.saturating_add(size).min(rows.after);
     let next = if after < rows.after {

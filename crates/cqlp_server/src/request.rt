@@ -1,7 +1,5 @@
 //! Requests, put together from the events of their frames.
 
-ghost use Rattle.std.specs.Prelude.{Unit, tt};
-
 use crate::page::Paging;
 use cqlp_decode::{Event, Sink, SinkFault};
 use cqlp_note::{BoundValue, Field, Header, Opcode};
