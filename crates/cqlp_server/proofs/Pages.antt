@@ -7,8 +7,10 @@ use Rattle.cqlp_server.specs.Pages.{between, page_end, pages}
 
 -- two runs of rows, one behind the other
 runs : (a m n b : ℕ) → b ≡ a + m → range_with_len a m ++ range_with_len b n ≡ range_with_len a (m + n)
-runs a zero n b is = let e : b ≡ a = omega arith in rw e refl
-runs a (suc m) n b is = ap (λ xs. a ∷ xs) (runs (a + 1) m n b (omega arith))
+runs a zero n b is = (let e : b ≡ a = omega arith in ap (λ x. range_with_len x n) e ∙ ap (λ k. range_with_len a k) (let z : n ≡ zero + n = omega arith in z))
+runs a (suc m) n b is =
+    let long : suc (m + n) ≡ suc m + n = omega arith in
+    ap (λ xs. a ∷ xs) (runs (a + 1) m n b (omega arith)) ∙ ap (λ k. range_with_len a k) long
 
 beside : (a b c : ℕ) → a ≤ b → b ≤ c → between a b ++ between b c ≡ between a c
 beside a b c le le' =
