@@ -2,25 +2,33 @@
 
 use std::alloc::AllocError;
 use std::io;
-use thiserror::Error;
 
 /// Why a conversation does not come to its end.
-#[derive(Clone, Copy, Debug, Error)]
+#[derive(Clone, Copy)]
 pub enum Fault {
-    #[error("no memory")]
     NoMemory,
     /// A socket, the output or the clock failed.
-    #[error("{0:?}")]
     Io(io::ErrorKind),
     /// The server closed the connection before its reply was whole.
-    #[error("the connection ended before a reply")]
     Ended,
     /// The server sent bytes that are no reply to what was asked.
-    #[error("the server sent no reply to what was asked")]
     NoReply,
     /// A request has no bytes, or may not be made now.
-    #[error("a request cannot be made")]
     NoRequest,
+}
+
+impl Fault {
+    /// What it is, in words.
+    pub fn words(self) -> &'static str {
+        match self {
+            Fault::NoMemory => "no memory",
+            Fault::Io(io::ErrorKind::ConnectionRefused) => "nobody listens on this port",
+            Fault::Io(_) => "a read or a write failed",
+            Fault::Ended => "the connection ended before a reply",
+            Fault::NoReply => "the server sent no reply to what was asked",
+            Fault::NoRequest => "a request cannot be made",
+        }
+    }
 }
 
 impl From<AllocError> for Fault {

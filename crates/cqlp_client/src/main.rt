@@ -32,7 +32,8 @@ fn main(rt: HostRuntime) -> ExitCode {
 }
 
 fn fail(rt: &impl Eprint, fault: Fault) -> ExitCode {
-    let _ = eprintln!(rt; "cqlp_client: {fault}");
+    let words = fault.words();
+    let _ = eprintln!(rt; "cqlp_client: {words}");
     ExitCode::FAILURE
 }
 

@@ -18,7 +18,7 @@ pub struct Connection {
 }
 
 /// What came of a turn, or of a part of it.
-#[derive(Clone, Copy, PartialEq, Eq)]
+#[derive(Clone, Copy)]
 pub enum Turn {
     /// Bytes were read.
     Goes,
@@ -41,7 +41,7 @@ impl Connection {
                 Ok(turn) => turn,
                 Err(_) => Turn::Ends,
             };
-            if turn != Turn::Goes {
+            if !matches!(turn, Turn::Goes) {
                 return turn;
             }
         }

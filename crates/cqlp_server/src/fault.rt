@@ -2,15 +2,12 @@
 
 use std::alloc::AllocError;
 use std::io;
-use thiserror::Error;
 
 /// What ends a connection, of which nothing more is answered.
-#[derive(Clone, Copy, Debug, PartialEq, Eq, Error)]
+#[derive(Clone, Copy)]
 pub enum Fault {
-    #[error("no memory")]
     NoMemory,
     /// A reply has no bytes, or answers no request that is open.
-    #[error("a reply cannot be written")]
     Unwritten,
 }
 

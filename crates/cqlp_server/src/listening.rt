@@ -112,7 +112,7 @@ impl Hub {
         let Some(connection) = slot else {
             return;
         };
-        if connection.turn(self.alloc, &mut self.database) == Turn::Ends {
+        if matches!(connection.turn(self.alloc, &mut self.database), Turn::Ends) {
             *slot = None;
             self.open = self.open.saturating_sub(1);
         }
