@@ -115,8 +115,11 @@ impl Line {
     }
 
     /// Has the next page that tells no columns be read by these types.
-    pub fn read_by(&mut self, types: TypeTable) -> Result<(), Fault> {
-        match self.decoder.give(types) {
+    pub fn read_by(&mut self, types: &TypeTable) -> Result<(), Fault> {
+        let Ok(copy) = types.clone_table() else {
+            return Err(Fault::NoMemory);
+        };
+        match self.decoder.give(copy) {
             Ok(_) => Ok(()),
             Err(_) => Err(Fault::NoRequest),
         }

@@ -5,14 +5,13 @@ use cqlp_note::{Field, Header, OfStd, Opcode};
 use cqlp_text::{PagePlace, page_part};
 use std::alloc::{AllocError, Global};
 use std::collections::VecDeque;
+use std::fmt::Write;
 
 /// What the client needs of a reply.
 #[derive(Drop)]
 pub struct Reply {
     pub header: Header,
-    /// The code of an ERROR. Section 9 of `native_protocol_v4.spec`.
-    pub code: i32,
-    /// The text of an ERROR, or a warning.
+    /// The code and the text of an ERROR, or the text of a warning, as they are printed after the opcode.
     pub words: String,
     /// The id of a statement that is prepared.
     pub id: Vec<u8>,
@@ -29,7 +28,6 @@ impl Reply {
     fn new(alloc: Global, header: Header) -> Reply {
         Reply {
             header,
-            code: 0,
             words: String::new(alloc),
             id: Vec::new(alloc),
             rows: 0,
@@ -44,11 +42,11 @@ impl Reply {
             Event::Int {
                 field: Field::ErrorCode,
                 value,
-            } => self.code = value,
+            } => write!(self.words, " {:04x}", value.unsigned_abs())?,
             Event::Text {
                 field: Field::Message | Field::Warning,
                 text,
-            } => self.words.push_str(text)?,
+            } => write!(self.words, ": {text}")?,
             Event::Bytes {
                 field: Field::StatementId,
                 bytes: Some(bytes),

@@ -5,13 +5,18 @@ use crate::line::{Line, SLOTS};
 use crate::reply::Reply;
 use crate::requests::{batch, bound, execute, paged, plain, prepare, query, register, startup};
 use cqlp_message::Message;
-use cqlp_note::Opcode;
 use cqlp_session::RequestKind;
 use cqlp_text::opcode_name;
-use std::alloc::Global;
+use std::alloc::{AllocError, Global};
 
 /// How many rows a page has.
 const PAGE: i32 = 10;
+
+/// How many queries are sent before the first of their replies.
+const WINDOW: u32 = SLOTS as u32;
+
+/// How many keys the table has.
+const KEYS: u32 = 100;
 
 /// How many pages are read at most of one statement.
 const PAGES: u32 = 1_000;
@@ -20,16 +25,9 @@ const PAGES: u32 = 1_000;
 fn print_reply(rt: &impl Print, reply: &Reply) -> Result<(), Fault> {
     let name = opcode_name(reply.header.opcode);
     let words = reply.words.as_str();
-    if reply.header.opcode == Opcode::Error {
-        println!(rt; "{name} {:04x}: {words}", reply.code.unsigned_abs())?;
-    } else if words.is_empty() {
-        println!(rt; "{name}")?;
-    } else {
-        println!(rt; "{name}, with a warning: {words}")?;
-    }
-    if let Ok(page) = str::from_utf8(reply.page.inner.as_slice()) {
-        print!(rt; "{page}")?;
-    }
+    let page = str::from_utf8(reply.page.inner.as_slice()).unwrap_or("");
+    println!(rt; "{name}{words}")?;
+    print!(rt; "{page}")?;
     Ok(())
 }
 
@@ -60,16 +58,31 @@ pub fn ask_for_pages(
 ) -> Result<(), Fault> {
     let mut paging = Vec::new(rt.alloc());
     for _ in 0..PAGES {
-        let params = paged(rt.alloc(), PAGE, paging.as_slice())?;
-        let message = query(rt.alloc(), text, params)?;
-        let reply = line.exchange(RequestKind::Query, message)?;
-        print_reply(rt, &reply)?;
-        if reply.paging.is_empty() {
+        let message = page_query(rt.alloc(), text, paging.as_slice())?;
+        paging = show_page(rt, line, RequestKind::Query, message)?;
+        if paging.is_empty() {
             break;
         }
-        paging = reply.paging;
     }
     Ok(())
+}
+
+/// A query for the page that a paging state names.
+fn page_query(alloc: Global, text: &str, paging: &[u8]) -> Result<Message, AllocError> {
+    let params = paged(alloc, PAGE, paging)?;
+    query(alloc, text, params)
+}
+
+/// Asks for a page and prints it. The paging state of the next.
+fn show_page(
+    rt: &impl Print,
+    line: &mut Line,
+    kind: RequestKind,
+    message: Message,
+) -> Result<Vec<u8>, Fault> {
+    let reply = line.exchange(kind, message)?;
+    print_reply(rt, &reply)?;
+    Ok(reply.paging)
 }
 
 /// Prepares a statement with one key to be bound, and asks for the rows of this key, page after page. The pages tell no columns,
@@ -80,25 +93,41 @@ pub fn ask_prepared(
     text: &str,
     key: i32,
 ) -> Result<(), Fault> {
-    let prepared = line.exchange(RequestKind::Prepare, prepare(rt.alloc(), text)?)?;
-    print_reply(rt, &prepared)?;
+    let id = prepare_statement(rt, line, text)?;
     let types = line.types()?;
     let mut paging = Vec::new(rt.alloc());
     for _ in 0..PAGES {
-        let params = bound(rt.alloc(), key, paged(rt.alloc(), PAGE, paging.as_slice())?)?;
-        let message = execute(rt.alloc(), prepared.id.as_slice(), params)?;
-        let Ok(copy) = types.clone_table() else {
-            return Err(Fault::NoMemory);
-        };
-        line.read_by(copy)?;
-        let reply = line.exchange(RequestKind::Execute, message)?;
-        print_reply(rt, &reply)?;
-        if reply.paging.is_empty() {
+        line.read_by(&types)?;
+        let message = page_execution(rt.alloc(), id.as_slice(), key, paging.as_slice())?;
+        paging = show_page(rt, line, RequestKind::Execute, message)?;
+        if paging.is_empty() {
             break;
         }
-        paging = reply.paging;
     }
     Ok(())
+}
+
+/// Prepares a statement. Its id.
+fn prepare_statement(
+    rt: &(impl Print + AllocGlobal),
+    line: &mut Line,
+    text: &str,
+) -> Result<Vec<u8>, Fault> {
+    let message = prepare(rt.alloc(), text)?;
+    let reply = line.exchange(RequestKind::Prepare, message)?;
+    print_reply(rt, &reply)?;
+    Ok(reply.id)
+}
+
+/// An execution of a statement with this key, for the page that a paging state names.
+fn page_execution(
+    alloc: Global,
+    id: &[u8],
+    key: i32,
+    paging: &[u8],
+) -> Result<Message, AllocError> {
+    let params = bound(alloc, key, paged(alloc, PAGE, paging)?)?;
+    execute(alloc, id, params)
 }
 
 /// Sends a batch, and executes a statement that was never prepared.
@@ -125,21 +154,24 @@ pub fn pipeline(alloc: Global, line: &mut Line, queries: u32) -> Result<Tally, F
         rows: 0,
         in_order: 0,
     };
-    for first in (0..queries).step_by(SLOTS as usize) {
-        let after = queries.min(first.saturating_add(u32::from(SLOTS)));
+    for turn in 0..=queries / WINDOW {
+        let first = turn.saturating_mul(WINDOW);
+        let after = first.saturating_add(WINDOW).min(queries);
         for number in first..after {
-            let text = format!(in alloc; "SELECT * FROM ks.t WHERE k = {}", number % 100)?;
-            line.ask(
-                RequestKind::Query,
-                number,
-                query(alloc, text.as_str(), plain())?,
-            )?;
+            let message = key_query(alloc, number % KEYS)?;
+            line.ask(RequestKind::Query, number, message)?;
         }
         for number in first..after {
             tally.add(number, line.hear()?);
         }
     }
     Ok(tally)
+}
+
+/// A query for the rows of a key.
+fn key_query(alloc: Global, key: u32) -> Result<Message, AllocError> {
+    let text = format!(in alloc; "SELECT * FROM ks.t WHERE k = {key}")?;
+    query(alloc, text.as_str(), plain())
 }
 
 impl Tally {
