@@ -3,7 +3,7 @@
 use crate::connection::{Connection, Turn};
 use crate::database::Database;
 use crate::session::Session;
-use mio::net::TcpListener;
+use mio::net::{TcpListener, TcpStream};
 use mio::{Events, Interest, Poll, Token};
 use std::alloc::Global;
 use std::io;
@@ -68,29 +68,35 @@ fn serve(hub: &mut Hub, poll: &mut Poll, listener: &TcpListener) -> io::Result<(
 }
 
 impl Hub {
-    /// Takes the connections that wait, as many as may come.
+    /// Takes the connections that wait, as many as may come. One that cannot be served is closed.
     fn accept(&mut self, poll: &Poll, listener: &TcpListener) -> io::Result<()> {
         for _ in 0..self.left {
-            let (mut stream, _) = match listener.accept() {
-                Ok(accepted) => accepted,
+            match listener.accept() {
+                Ok((stream, _)) => {
+                    self.left = self.left.saturating_sub(1);
+                    let _ = self.admit(poll, stream);
+                }
                 Err(error) if error.kind() == io::ErrorKind::WouldBlock => break,
+                Err(error) if error.kind() == io::ErrorKind::ConnectionAborted => {}
                 Err(error) => return Err(error),
-            };
-            self.left = self.left.saturating_sub(1);
-            stream.set_nodelay(true)?;
-            let place = self.place()?;
-            poll.registry().register(
-                &mut stream,
-                Token(place),
-                Interest::READABLE | Interest::WRITABLE,
-            )?;
-            let Ok(session) = Session::new(self.alloc) else {
-                continue;
-            };
-            if let Some(slot) = self.connections.get_mut(place) {
-                *slot = Some(Connection::new(stream, session));
-                self.open = self.open.saturating_add(1);
             }
+        }
+        Ok(())
+    }
+
+    /// Puts a connection over a socket into a free place.
+    fn admit(&mut self, poll: &Poll, mut stream: TcpStream) -> io::Result<()> {
+        stream.set_nodelay(true)?;
+        let place = self.place()?;
+        poll.registry().register(
+            &mut stream,
+            Token(place),
+            Interest::READABLE | Interest::WRITABLE,
+        )?;
+        let session = Session::new(self.alloc)?;
+        if let Some(slot) = self.connections.get_mut(place) {
+            *slot = Some(Connection::new(stream, session));
+            self.open = self.open.saturating_add(1);
         }
         Ok(())
     }
