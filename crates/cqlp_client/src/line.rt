@@ -56,14 +56,16 @@ impl Line {
 
     /// Makes a request, which is sent with the others by the next [`Line::hear`].
     pub fn ask(&mut self, kind: RequestKind, number: u32, message: Message) -> Result<(), Fault> {
-        let stream = match self.core.begin(kind, number) {
+        let mut frame = Frame::plain(0, message);
+        self.write(kind, number, &mut frame)
+    }
+
+    /// Writes the frame of a request, on the stream that the core gives it.
+    fn write(&mut self, kind: RequestKind, number: u32, frame: &mut Frame) -> Result<(), Fault> {
+        frame.stream = match self.core.begin(kind, number) {
             Ok(ticket) => ticket.id,
             Err(_) => return Err(Fault::NoRequest),
         };
-        self.write(&Frame::plain(stream, message))
-    }
-
-    fn write(&mut self, frame: &Frame) -> Result<(), Fault> {
         match encode(frame, &mut self.output) {
             Ok(_) => Ok(()),
             Err(_) => Err(Fault::NoRequest),
