@@ -126,6 +126,22 @@ impl<A: Allocator> Stream<A> {
         }
     }
 
+    /// The next that is told where no more segments come: a hole is a gap, if later bytes came or FIN did, as if the other side
+    /// had acknowledged it.
+    pub fn close(&mut self) -> StreamStep
+    {
+        let number = self.window.next().wrapping_add(0x7fff_ffff);
+        self.acknowledge(number)
+    }
+
+    /// Forgets all that it has: it is a stream of which nothing was seen, with the memory that it had.
+    pub fn clear(&mut self)
+    {
+        self.window.restart(0);
+        self.stage = Stage::Unseen;
+        self.end = None;
+    }
+
     /// How many bytes that came before are next.
     pub fn held(&self) -> usize
     {
