@@ -199,7 +199,9 @@ impl Listener {
         told: Told,
         payload: &[u8],
     ) -> io::Result<()> {
-        let Some(pair) = self.pairs.get_mut((told.number.wrapping_sub(1) % AMPLE as u64) as usize)
+        let Some(pair) = self
+            .pairs
+            .get_mut((told.number.wrapping_sub(1) % AMPLE as u64) as usize)
         else {
             return Ok(());
         };
@@ -228,7 +230,9 @@ impl Listener {
 
     /// Writes down what was told of a connection that has left.
     fn put(&mut self, totals: &ConnectionTotals) -> io::Result<()> {
-        let Some(pair) = self.pairs.get((totals.number.wrapping_sub(1) % AMPLE as u64) as usize)
+        let Some(pair) = self
+            .pairs
+            .get((totals.number.wrapping_sub(1) % AMPLE as u64) as usize)
         else {
             return Ok(());
         };

@@ -53,7 +53,10 @@ fn execute(rt: &HostRuntime, line: &str) -> io::Result<()> {
         }
         Question::Connections(asked) => {
             let said = said_of_connections(rt.alloc(), asked, &bytes)?;
-            print!(rt; "== connections {} of {} {name}\n{said}", asked.limits.connections, asked.port)
+            print!(rt;
+                "== connections {} of {} {name}\n{said}",
+                asked.limits.connections, asked.port
+            )
         }
     }
 }
