@@ -25,6 +25,8 @@ pub struct Session {
     inbox: Inbox,
     /// How many bytes have come.
     read: u64,
+    /// The last eight of them.
+    last: [u8; 8],
     /// What is answered and not yet sent.
     pub output: Output,
     /// Whether no more is answered.
@@ -45,6 +47,7 @@ impl Session {
             core,
             inbox: Inbox::new(alloc),
             read: 0,
+            last: [0; 8],
             output: Output::new(alloc),
             is_over: false,
         })
@@ -79,6 +82,7 @@ impl Session {
             }
         }
         self.read = self.read.saturating_add(bytes.len() as u64);
+        self.last = last_eight(self.last, bytes);
         Ok(())
     }
 
@@ -124,21 +128,37 @@ impl Session {
             let stream = self.inbox.open.header.stream;
             return self.say(alloc, stream, &[], Plan::Problem(Problem::OutOfTurn));
         }
-        let place = refusal.at.saturating_sub(self.read);
-        let header = header_at(bytes, usize::try_from(place).unwrap_or(usize::MAX));
+        let header = self.header_at(refusal.at, bytes);
         let answer = Frame::version_error(alloc, &header)?;
         write_frame(&answer, &mut self.output.bytes)
     }
+
+    /// The nine bytes of a header at this offset, of which up to eight came before these.
+    fn header_at(&self, at: u64, bytes: &[u8]) -> [u8; 9] {
+        let early = usize::try_from(self.read.saturating_sub(at))
+            .unwrap_or(8)
+            .min(8);
+        let start = usize::try_from(at.saturating_sub(self.read)).unwrap_or(usize::MAX);
+        let told = self.last[8 - early..]
+            .iter()
+            .chain(bytes.get(start..).unwrap_or(&[]));
+        let mut header = [0; 9];
+        for (byte, told) in header.iter_mut().zip(told) {
+            *byte = *told;
+        }
+        header
+    }
 }
 
-/// The nine bytes from a place on; zeros where they have not come.
-fn header_at(bytes: &[u8], place: usize) -> [u8; 9] {
-    let mut header = [0; 9];
-    let rest = bytes.get(place..).unwrap_or(&[]);
-    for (byte, told) in header.iter_mut().zip(rest) {
-        *byte = *told;
+/// The last eight bytes of what was read, these after those.
+fn last_eight(before: [u8; 8], bytes: &[u8]) -> [u8; 8] {
+    let mut last = before;
+    for byte in &bytes[bytes.len().saturating_sub(8)..] {
+        last = [
+            last[1], last[2], last[3], last[4], last[5], last[6], last[7], *byte,
+        ];
     }
-    header
+    last
 }
 
 fn write_frame(frame: &Frame, output: &mut OfStd<Vec<u8>>) -> Result<(), Fault> {
