@@ -195,7 +195,7 @@ impl<'a> PageWriter<'a> {
             Adds self.old cells cell (written W.Target target.old) result (written W.Target target.new) self.new }
     {
         let size = self.check(value, fits)?;
-        let taken = offer_value(value, target);
+        let taken = offer_value(value, size, target);
         if taken < size {
             self.fail(taken);
             return Err(PageError::Write {

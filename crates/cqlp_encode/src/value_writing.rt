@@ -1,6 +1,6 @@
 //! A value, written.
 
-ghost use Rattle.std.specs.Prelude.{◌≤◌, option_map};
+ghost use Rattle.std.specs.Prelude.{◌≡◌, ◌≤◌, option_map};
 ghost use Rattle.cqlp_note.specs.declared.header.TheConstants.Header.{LONGEST_BODY};
 ghost use Rattle.cqlp_note.specs.Outputs.{Offered, written};
 ghost use Rattle.cqlp_value.specs.Owned.{value_of};
@@ -9,7 +9,7 @@ ghost use Rattle.cqlp_encode.specs.Binding.{content_written};
 ghost use Rattle.cqlp_encode.specs.ValueWriting.{WritesValue};
 
 use crate::staged::Staged;
-use crate::values::{put_inside, put_value};
+use crate::values::{put_inside, put_sized};
 use cqlp_note::{Header, Target};
 use cqlp_type::TypeTree;
 use cqlp_value::{Value, fits, value_size};
@@ -54,7 +54,7 @@ pub fn write_value<W: Target>(
         return Err(ValueError::TooLong);
     }
     let len = size as u32;
-    let taken = offer_value(value, target);
+    let taken = offer_value(value, len, target);
     if taken < len {
         Err(ValueError::Write { written: taken })
     } else {
@@ -62,13 +62,14 @@ pub fn write_value<W: Target>(
     }
 }
 
-/// Writes a value with its length, and answers how many bytes of it the target took.
-pub fn offer_value<W: Target>(value: &Value, target: &mut W) -> u32
-    requires { values_size (value_of value.now) ≤ LONGEST_BODY }
+/// Writes a value of this many bytes, those of its length counted, and answers how many of them the target took.
+pub fn offer_value<W: Target>(value: &Value, size: u32, target: &mut W) -> u32
+    requires size { size ≡ values_size (value_of value.now) }
+    requires small { values_size (value_of value.now) ≤ LONGEST_BODY }
     ensures { Offered (written W.Target target.old) (values_bytes (value_of value.now)) result (written W.Target target.new) }
 {
     let mut out = Staged::new(target);
-    put_value(&mut out, value);
+    put_sized(&mut out, value, size as usize - 4);
     out.flush();
     let taken = out.taken();
     let _ = out.into_inner();

@@ -1,5 +1,6 @@
 //! Values of cells, written.
 
+ghost use Rattle.std.specs.Prelude.{◌≡◌, ◌+◌, ◌-◌, ◌^◌, min};
 ghost use Rattle.cqlp_value.specs.Measures.{listed_pairs, listed_values};
 ghost use Rattle.cqlp_value.specs.Owned.{atom_of, value_and, value_of};
 ghost use Rattle.cqlp_kind.specs.Scalars.{content_of};
@@ -19,20 +20,33 @@ pub fn put_value<W: Target>(out: &mut Staged<'_, W>, value: &Value)
 {
     match value {
         Value::Leaf(atom) => put_atom(out, atom),
-        _ => put_any(out, value),
+        _ => put_any(out, value, content_len(value) as usize),
     }
 }
 
-/// The same of a value that is mostly no scalar.
+/// The same of a value of whose bytes this many follow the length.
+#[inline(always)]
+pub fn put_sized<W: Target>(out: &mut Staged<'_, W>, value: &Value, len: usize)
+    requires { 4 + len ≡ min (values_size (value_of value.now)) (2 ^ 64 - 1) }
+    ensures { PutsWithin (values_size (value_of value.now)) out.old (values_bytes (value_of value.now)) out.new }
+{
+    match value {
+        Value::Leaf(atom) => put_atom(out, atom),
+        _ => put_any(out, value, len),
+    }
+}
+
+/// The same of one that is mostly no scalar.
 #[cycle(put_value)]
-fn put_any<W: Target>(out: &mut Staged<'_, W>, value: &Value)
+fn put_any<W: Target>(out: &mut Staged<'_, W>, value: &Value, len: usize)
+    requires { 4 + len ≡ min (values_size (value_of value.now)) (2 ^ 64 - 1) }
     ensures { PutsWithin (values_size (value_of value.now)) out.old (values_bytes (value_of value.now)) out.new }
 {
     match value {
         Value::Null => out.put_int(-1),
         Value::Leaf(atom) => put_atom(out, atom),
         _ => {
-            out.put_count32(content_len(value) as usize);
+            out.put_count32(len);
             put_inside(out, value);
         }
     }

@@ -5,7 +5,7 @@ use Rattle.cqlp_encode.proofs.Contents.{within_nil, known_put, counted_inside, f
 use Rattle.cqlp_encode.proofs.values.+put_value.Goals as goal
 
 pub put_any-returns-in_default : goal.put_any-returns-in_default
-put_any-returns-in_default g t c = known_put c.args.value.now _ _ _ _ c.in_default.not-Null c.content_len.ensures c.put_count32.ensures c.put_inside.ensures
+put_any-returns-in_default g t c = known_put c.args.value.now _ _ _ _ c.in_default.not-Null c.requires c.put_count32.ensures c.put_inside.ensures
 
 pub put_inside-returns-in-List : goal.put_inside-returns-in-List
 put_inside-returns-in-List g t c =
