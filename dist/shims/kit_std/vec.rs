@@ -93,8 +93,7 @@ impl<T: Copy, A: Allocator> Vec<T, A> {
 
     /// Has it this long, by copies of an item where it was shorter.
     pub fn resize(&mut self, len: usize, item: T) -> Result<(), AllocError> {
-        let more = len.saturating_sub(self.items.len());
-        self.items.try_reserve(more).map(|()| self.items.resize(len, item)).map_err(|_| AllocError)
+        self.items.try_reserve(len.saturating_sub(self.items.len())).map(|()| self.items.resize(len, item)).map_err(|_| AllocError)
     }
 }
 
