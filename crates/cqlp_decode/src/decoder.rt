@@ -114,7 +114,7 @@ impl<A: Allocator> Decoder<A> {
     ghost use Rattle.cqlp_decode.specs.Reading.{Gives, is_in_use};
     ghost use Rattle.cqlp_decode.specs.Sinks.{Gets, Fails};
     ghost use Rattle.cqlp_decode.specs.Progress.{Advances, HoldsGiven, LeavesTypes, Takes, WhatThere, event_at};
-    ghost use Rattle.cqlp_decode.specs.Streams.{EndsAs, IsUnrefused, IsWithin, Uses, buffer_of, capacity_within, given_nodes, state};
+    ghost use Rattle.cqlp_decode.specs.Streams.{After, EndsAs, HoldsNothing, IsUnrefused, IsWithin, Uses, buffer_of, capacity_within, given_nodes, state};
     ghost use Rattle.cqlp_decode.specs.declared.given.GiveReason.{GiveReason as Why};
     ghost use Rattle.cqlp_kind.specs.Types.{types_of};
 
@@ -178,6 +178,25 @@ impl<A: Allocator> Decoder<A> {
         if self.is_in_use() {
             return None;
         }
+        self.parts.given.take()
+    }
+
+    /// Begins another stream with the memory and the limits that it has, whatever became of the one before: it is what
+    /// `new` makes of these limits. The table that is held comes back.
+    pub fn restart(&mut self) -> Option<TypeTable<A>>
+        ensures given { result ≡ (state self.old).given }
+        ensures fresh { After (state self.new) [] [] }
+        ensures unrefused { (state self.new).refusal ≡ None }
+        ensures rules { (state self.new).rules ≡ (state self.old).rules }
+        ensures nothing_held { HoldsNothing self.new }
+        ensures nothing_given { (state self.new).given ≡ None }
+        ensures in_place { buffer_of self.new ≡ buffer_of self.old }
+    {
+        self.progress = StreamProgress::new(self.progress.limits);
+        self.parts.partial.stop();
+        self.parts.types.stop();
+        self.parts.cells.stop();
+        self.parts.table.clear();
         self.parts.given.take()
     }
 

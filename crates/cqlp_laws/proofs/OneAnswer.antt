@@ -4,7 +4,7 @@ use Rattle.std.specs.Prelude.{Option, Some, None}
 use Rattle.std.proofs.lemmas.Bool.{cases_lt}
 use Rattle.std.proofs.lemmas.List.{append-nil, append_cancel_left, length-append, length-drop, length-take-le, take-append-drop, nil_from_length}
 use Rattle.cqlp_note.specs.declared.refusal.Refusal.{Refusal}
-use Rattle.cqlp_note.specs.Limits.{Rules}
+use Rattle.cqlp_note.specs.Limits.{Rules, rules_of}
 use Rattle.cqlp_note.proofs.Runs.{runs_compare, runs_stay}
 use Rattle.cqlp_cell.specs.Reading as cells
 use Rattle.cqlp_decode.specs.declared.step.Step.{Step}
@@ -15,9 +15,9 @@ use Rattle.cqlp_grammar.specs.declared.event.Finish.TheVariants as finish
 use Rattle.cqlp_decode.specs.Reading.{Event, Place, Verdict, Waits, Refused, Gifts, gifts_now, held_after_all, retired, settled, Reads, Says, start_with, step}
 use Rattle.cqlp_grammar.specs.Events.{event_of}
 use Rattle.cqlp_decode.specs.Progress.{StreamState, Pending, Kept, Skipped, Valued, IsPending}
-use Rattle.cqlp_decode.specs.Streams.{state, AfterGifts, AfterBy, Stands, LeadsAfter, Goes, Answers, FinishesBy}
+use Rattle.cqlp_decode.specs.Streams.{Decoding, state, AfterGifts, AfterBy, Stands, LeadsAfter, Goes, Answers, FinishesBy}
 use Rattle.cqlp_laws.specs.OneAnswer as one
-use Rattle.cqlp_laws.specs.OneAnswer.{answer_of, AreAlike, IsNew, IsHeld, IsOneAnswerOfNew, IsOneAnswerOfNext, IsOneAnswerOfFinish, IsOneAnswerOfHeld}
+use Rattle.cqlp_laws.specs.OneAnswer.{answer_of, AreAlike, IsAtStart, StartAlike, IsHeld, IsOneAnswerOfNew, IsOneAnswerOfRestart, IsOneAnswerOfNext, IsOneAnswerOfFinish, IsOneAnswerOfHeld}
 use Rattle.cqlp_laws.proofs.Whole.{no_step, says_once}
 use Rattle.cqlp_decode.proofs.Leads.{repeated}
 use Rattle.cqlp_decode.proofs.Gets.{take_two, refuses_new}
@@ -193,8 +193,8 @@ one_next gifts old new new' s input es x y a ax ay = by_refusal old.refusal refl
 
 -- ---- new, finish, held
 
-pub one_new : IsOneAnswerOfNew
-one_new limits d d' n n' =
+pub one_start : (l : Rules) (d d' : Decoding) → IsAtStart l d → IsAtStart l d' → StartAlike d d'
+one_start l d d' n n' =
     let st : Stands [] (state d) [] [] = subst (λ (o : Option Refusal). AfterBy o [] (state d) [] []) n.unrefused n.fresh in
     let st' : Stands [] (state d') [] [] = subst (λ (o : Option Refusal). AfterBy o [] (state d') [] []) n'.unrefused n'.fresh in (
       record { rules = n'.rules ∙ sym n.rules; refusal = n'.unrefused ∙ sym n.unrefused; nodes = n'.nothing_held.1 ∙ sym n.nothing_held.1; given = n'.nothing_given ∙ sym n.nothing_given; held = ap (λ (p : Place). p.given) (st'.here ∙ ap settled st'.read.0) ∙ sym (ap (λ (p : Place). p.given) (st.here ∙ ap settled st.read.0)) },
@@ -202,6 +202,12 @@ one_new limits d d' n n' =
       st'.here ∙ ap settled st'.read.0,
       (n'.nothing_held.0 ∙ sym n.nothing_held.0, n'.nothing_held.2 ∙ sym n.nothing_held.2),
     )
+
+pub one_new : IsOneAnswerOfNew
+one_new limits d d' n n' = one_start (rules_of limits) d d' n n'
+
+pub one_restart : IsOneAnswerOfRestart
+one_restart limits old new made same n m = one_start (rules_of limits) made new m (subst (λ (l : Rules). IsAtStart l new) same n)
 
 pub finish_by : (o : Option Refusal) (s : List ℕ) (es : List (ℕ × Event)) (f f' : Finish) → FinishesBy o s es f → FinishesBy o s es f' → f' ≡ f
 finish_by (Some r) s es f f' h h' = h' ∙ sym h

@@ -3,7 +3,7 @@
 use Rattle.std.specs.Prelude.{◌≡◌, ℕ, Bool, true, false, ◌+◌, ◌++◌, List, [], ◌∷◌, length, Option, Some, None, ◌⊎◌}
 use Rattle.cqlp_note.specs.declared.limits.Limits.{Limits}
 use Rattle.cqlp_note.specs.declared.refusal.Refusal.{Refusal}
-use Rattle.cqlp_note.specs.Limits.{rules_of}
+use Rattle.cqlp_note.specs.Limits.{Rules, rules_of}
 use Rattle.cqlp_decode.specs.declared.step.Step.{Step}
 use Rattle.cqlp_decode.specs.declared.step.Step.TheVariants as step
 use Rattle.cqlp_grammar.specs.declared.event.Finish.{Finish}
@@ -41,23 +41,35 @@ pub record AreAlike (d d' : StreamState) : Type 0 where
   pub given : d'.given ≡ d.given
   pub held : d'.place.given ≡ d.place.given
 
--- what the clauses of `new` say of a decoder
-pub record IsNew (limits : Limits) (d : Decoding) : Type 0 where
+-- what the clauses of `new` and of `restart` say of a decoder within these rules
+pub record IsAtStart (l : Rules) (d : Decoding) : Type 0 where
   pub fresh : After (state d) [] []
   pub unrefused : (state d).refusal ≡ None
-  pub rules : (state d).rules ≡ rules_of limits
+  pub rules : (state d).rules ≡ l
   pub nothing_held : ((state d).held ≡ []) × ((state d).place.nodes ≡ []) × (levels_of d.parts ≡ 0)
   pub nothing_given : (state d).given ≡ None
+
+abbrev pub IsNew : Limits → Decoding → Type 0
+IsNew limits d = IsAtStart (rules_of limits) d
 
 -- Two decoders hold the same bytes, and the same number of levels.
 abbrev pub HoldTheSame : (d d' : Decoding) → Type 0
 HoldTheSame d d' = ((state d').held ≡ (state d).held) × (levels_of d'.parts ≡ levels_of d.parts)
 
--- Any two decoders that were made with the same limits stand at the start of a stream, and hold the same.
+-- They stand at the start of a stream, within the same rules, and hold the same.
+abbrev pub StartAlike : (d d' : Decoding) → Type 0
+StartAlike d d' =
+    AreAlike (state d) (state d') × ((state d).place ≡ start) × ((state d').place ≡ start) × HoldTheSame d d'
+
+-- Any two decoders that were made with the same limits start alike.
 abbrev pub IsOneAnswerOfNew : Type 0
-IsOneAnswerOfNew =
-    (limits : Limits) (d d' : Decoding) → IsNew limits d → IsNew limits d'
-    → AreAlike (state d) (state d') × ((state d).place ≡ start) × ((state d').place ≡ start) × HoldTheSame d d'
+IsOneAnswerOfNew = (limits : Limits) (d d' : Decoding) → IsNew limits d → IsNew limits d' → StartAlike d d'
+
+-- Whatever a decoder has read, once it began anew it starts like a new one with the same limits.
+abbrev pub IsOneAnswerOfRestart : Type 0
+IsOneAnswerOfRestart =
+    (limits : Limits) (old new made : Decoding)
+    → (state old).rules ≡ rules_of limits → IsAtStart (state old).rules new → IsNew limits made → StartAlike made new
 
 -- After the same gifts, bytes and events the next answer is one, and so is what comes after it.
 abbrev pub IsOneAnswerOfNext : Type 0

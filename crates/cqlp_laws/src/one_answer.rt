@@ -2,7 +2,7 @@
 //! the outside decides.
 
 ghost use Rattle.cqlp_laws.specs.OneAnswer.{IsOneAnswerOfFinish, IsOneAnswerOfHeld, IsOneAnswerOfNew};
-ghost use Rattle.cqlp_laws.specs.OneAnswer.{IsOneAnswerOfNext, IsOneAnswerOfRun, RunsRight};
+ghost use Rattle.cqlp_laws.specs.OneAnswer.{IsOneAnswerOfNext, IsOneAnswerOfRestart, IsOneAnswerOfRun, RunsRight};
 
 use cqlp_grammar::Sink;
 
@@ -10,6 +10,11 @@ use cqlp_grammar::Sink;
 /// where the limits allow it, is up to the memory that is there.
 pub fn one_answer_of_new()
     ensures { IsOneAnswerOfNew }
+{}
+
+/// A decoder that begins anew stands like one that was made with the same limits, whatever it has read before.
+pub fn one_answer_of_restart()
+    ensures { IsOneAnswerOfRestart }
 {}
 
 /// After the same bytes and events, and the same tables given in between, there is one answer over the same input: the

@@ -120,3 +120,27 @@ pub fn said_in_pieces(
     }
     Ok(said)
 }
+
+/// What is said of a stream by a decoder that begins anew after this many bytes of it. It is given again what it was given.
+pub fn said_anew(
+    alloc: Global,
+    script: &Script<'_>,
+    stream: &[u8],
+    front: usize,
+) -> io::Result<Report> {
+    let tables = LocalHeap::new(alloc, AMPLE)?;
+    let heap = LocalHeap::new(alloc, script.room)?;
+    let mut decoder = decoder_with(alloc, &heap, &tables, script)?;
+    let mut before = Report::new(alloc, script.shows);
+    take(
+        &mut decoder,
+        stream.split_at(front.min(stream.len())).0,
+        &mut before,
+    )?;
+    if let Some(table) = decoder.restart() {
+        let _ = decoder.give(table);
+    }
+    let mut said = Report::new(alloc, script.shows);
+    take(&mut decoder, stream, &mut said)?;
+    Ok(said)
+}

@@ -1,11 +1,11 @@
-//! Streams in pieces. Prints where they say something else than in one.
+//! Streams in pieces, and streams that begin anew. Prints where they say something else than in one.
 
-use crate::reading::{Report, said_in_pieces};
+use crate::reading::{Report, said_anew, said_in_pieces};
 use crate::script::{Script, Shows};
 use std::io;
 
-/// In pieces of each size, and in two pieces cut at each place; where events are counted, byte by byte and in pieces of
-/// 3 bytes after one of 11, alone.
+/// In pieces of each size, in two pieces cut at each place, and whole after the decoder has begun anew at each place; where
+/// events are counted, byte by byte and in pieces of 3 bytes after one of 11, alone.
 pub fn in_pieces(rt: &HostRuntime, script: &Script<'_>, stream: &[u8]) -> io::Result<()> {
     let whole = said_in_pieces(rt.alloc(), script, stream, stream.len(), 1)?;
     match script.shows {
@@ -18,8 +18,9 @@ pub fn in_pieces(rt: &HostRuntime, script: &Script<'_>, stream: &[u8]) -> io::Re
             for size in 1..stream.len() {
                 in_these_pieces(rt, script, stream, &whole, (size, size))?;
                 in_these_pieces(rt, script, stream, &whole, (size, stream.len()))?;
+                anew(rt, script, stream, &whole, size)?;
             }
-            Ok(())
+            anew(rt, script, stream, &whole, stream.len())
         }
     }
 }
@@ -34,6 +35,20 @@ fn in_these_pieces(
     let said = said_in_pieces(rt.alloc(), script, stream, sizes.0, sizes.1)?;
     if !said.is(whole) {
         println!(rt; "differs in pieces of {sizes:?} bytes")?;
+    }
+    Ok(())
+}
+
+fn anew(
+    rt: &HostRuntime,
+    script: &Script<'_>,
+    stream: &[u8],
+    whole: &Report,
+    front: usize,
+) -> io::Result<()> {
+    let said = said_anew(rt.alloc(), script, stream, front)?;
+    if !said.is(whole) {
+        println!(rt; "differs anew after {front} bytes")?;
     }
     Ok(())
 }
