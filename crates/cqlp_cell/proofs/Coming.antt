@@ -233,7 +233,7 @@ module _ (nodes : List Node) (d : CellState) (items : d.next ≡ next.Items) (o 
       record {
         step = rw (value_is, level_is) (step_by o.order refl);
         inside = rw value_is (omega (arith, m.inside));
-        inner = λ _. record { formed = rw value_is f.formed; stands = rw (value_is, level_is) (rw depth at f.inner); deep = rw level_is (omega (arith, f.deep)); there = rw value_is (omega (arith, f.within, f.some)) };
+        inner = λ _. record { formed = rw value_is f.formed; stands = rw (value_is, level_is) (rw depth at f.inner); deep = rw level_is (omega (arith, f.deep)) };
         bounded = rw value_is (omega (arith, m.innermost.within, last_stop_le nodes d.rules 0 d.stop m.front m.innermost.around, bounded));
         after = rw after_is (open_join nodes d.rules 0 d.stop m.front (after_item nodes o) (record { around = m.innermost.around; within = rw stop m.innermost.within; deep = m.innermost.deep; types = rw start after }));
         ends = rw (after_is, value_is) (last_stop_is d.stop m.front (after_item nodes o) ∙ stop);
@@ -247,7 +247,7 @@ module _ (nodes : List Node) (d : CellState) (stands : Stands nodes d) where
       let n = rw e at stands.next_stands in
       let w = rw (e, n.0) at stands.within in
       record {
-        step = rw (e, n.0, no_types nodes 1) refl;
+        step = rw (e, n.0, no_types nodes 0) refl;
         inside = rw e (omega (arith, w));
         inner = λ t. let no : true ≡ false = rw e at t in absurd cc;
         bounded = rw e stands.bounded;
@@ -265,7 +265,7 @@ module _ (nodes : List Node) (d : CellState) (stands : Stands nodes d) where
       record {
         step = rw (e, n.0, one) refl;
         inside = rw e (omega (arith, w));
-        inner = λ t. record { formed = rw e f.formed; stands = rw (e, n.0) f.inner; deep = rw n.0 f.deep; there = rw e (omega (arith, f.within, f.some)) };
+        inner = λ t. record { formed = rw e f.formed; stands = rw (e, n.0) f.inner; deep = rw n.0 f.deep };
         bounded = rw e stands.bounded;
         after = rw (e, n.0) tt;
         ends = rw (e, n.0) refl;

@@ -21,21 +21,15 @@ use Rattle.cqlp_cell.proofs.Coming.{FirstType, first_type, one_value, value_due}
 
 -- ---- the second type of a map
 
-module _ (nodes : List Node) (v : DueValue) (depth : ℕ) (s : Stand nodes (v.node + 1) 2 depth) where
-  key_first : FirstType nodes (v.node + 1) 1 depth
-  key_first = first_type nodes (v.node + 1) 1 depth s
+module _ (nodes : List Node) (v : DueValue) (depth : ℕ) (s : Stand nodes v.inner 2 depth) where
+  pub key_there : IsSome (slice_get nodes v.inner)
+  key_there = let f = first_there nodes v.inner 2 depth (omega arith) s in rw f.1.get refl
 
-  pub key_there : IsSome (slice_get nodes (v.node + 1))
-  key_there = let f = first_there nodes (v.node + 1) 2 depth (omega arith) s in rw f.1.get refl
-
-  pub key_read : (x : Node) → slice_get nodes (v.node + 1) ≡ Some x → (node_at nodes (v.node + 1) ≡ x) × (v.node + 1 + x.span ≤ length nodes)
+  pub key_read : (x : Node) → slice_get nodes v.inner ≡ Some x → (node_at nodes v.inner ≡ x) × (v.inner + x.span ≤ length nodes)
   key_read x e =
-      let f = first_there nodes (v.node + 1) 2 depth (omega arith) s in
+      let f = first_there nodes v.inner 2 depth (omega arith) s in
       let same : f.0 ≡ x = cc (sym f.1.get ∙ e) in
       (rw same at f.1.here, rw same at f.1.within)
-
-  pub key_low : v.node + 1 ≤ length nodes
-  key_low = omega (arith, key_first.within)
 
 -- ---- a value that is opened
 
@@ -46,22 +40,22 @@ not_scalar kind.Map t = refl
 not_scalar k t = absurd cc
 
 -- the types of the items of a list, a set or a map stand in the table
-pub counted_types : (nodes : List Node) (l : Rules) (level : ℕ) (v : DueValue) (stop count : ℕ) (k : Kind) → is_counted k ≡ true → HasInner k v.arity → Stand nodes (v.node + 1) v.arity (l.depth - (level + 1))
-    → TypesStand nodes l level (record { order = (order_by k (v.node + 1 + (node_at nodes (v.node + 1)).span)).0; node = v.node + 1; other = (order_by k (v.node + 1 + (node_at nodes (v.node + 1)).span)).1; left = count; items = count; stop = stop }) (order_by k (v.node + 1 + (node_at nodes (v.node + 1)).span)).0
+pub counted_types : (nodes : List Node) (l : Rules) (level : ℕ) (v : DueValue) (stop count : ℕ) (k : Kind) → is_counted k ≡ true → HasInner k v.arity → Stand nodes v.inner v.arity (l.depth - (level + 1))
+    → TypesStand nodes l level (record { order = (order_by k (v.inner + (node_at nodes v.inner).span)).0; node = v.inner; other = (order_by k (v.inner + (node_at nodes v.inner).span)).1; left = count; items = count; stop = stop }) (order_by k (v.inner + (node_at nodes v.inner).span)).0
 counted_types nodes l level v stop count kind.List t h s = rw h at s
 counted_types nodes l level v stop count kind.Set t h s = rw h at s
-counted_types nodes l level v stop count kind.Map t h s = let f = first_type nodes (v.node + 1) 1 _ (rw h at s) in (f.alone, f.after)
+counted_types nodes l level v stop count kind.Map t h s = let f = first_type nodes v.inner 1 _ (rw h at s) in (f.alone, f.after)
 counted_types nodes l level v stop count k t h s = absurd cc
 
 -- the symbols of its items
-pub counted_symbols : (nodes : List Node) (l : Rules) (level : ℕ) (v : DueValue) (stop count : ℕ) (k : Kind) → is_counted k ≡ true → HasInner k v.arity → Stand nodes (v.node + 1) v.arity (l.depth - (level + 1))
-    → cell_copies count (values_of (types_at nodes (v.node + 1) v.arity) (level + 1) stop) ++ Close_of level stop count ∷ []
-    ≡ open_symbols nodes level (record { order = (order_by k (v.node + 1 + (node_at nodes (v.node + 1)).span)).0; node = v.node + 1; other = (order_by k (v.node + 1 + (node_at nodes (v.node + 1)).span)).1; left = count; items = count; stop = stop })
+pub counted_symbols : (nodes : List Node) (l : Rules) (level : ℕ) (v : DueValue) (stop count : ℕ) (k : Kind) → is_counted k ≡ true → HasInner k v.arity → Stand nodes v.inner v.arity (l.depth - (level + 1))
+    → cell_copies count (values_of (types_at nodes v.inner v.arity) (level + 1) stop) ++ Close_of level stop count ∷ []
+    ≡ open_symbols nodes level (record { order = (order_by k (v.inner + (node_at nodes v.inner).span)).0; node = v.inner; other = (order_by k (v.inner + (node_at nodes v.inner).span)).1; left = count; items = count; stop = stop })
 counted_symbols nodes l level v stop count kind.List t h s = rw h refl
 counted_symbols nodes l level v stop count kind.Set t h s = rw h refl
 counted_symbols nodes l level v stop count kind.Map t h s =
-    let f = first_type nodes (v.node + 1) 1 _ (rw h at s) in
-    let key = one_value nodes (v.node + 1) _ (level + 1) stop f.alone in
+    let f = first_type nodes v.inner 1 _ (rw h at s) in
+    let key = one_value nodes v.inner _ (level + 1) stop f.alone in
     rw (h, f.types, key) refl
 counted_symbols nodes l level v stop count k t h s = absurd cc
 
@@ -97,9 +91,6 @@ module _ (nodes : List Node) (d : CellState) (len count : ℕ) (s : Stands nodes
   counted_stands le =
       entered_stands nodes d 8 counted s counted_due counted_inner.deep (counted_types nodes d.rules (length d.open_values) (due_value nodes d) (d.offset + 4 + len) count _ decided.can.1 counted_inner.formed counted_inner.stands) (omega arith) (omega (arith, decided.fits.0, counted_due.inside))
 
-  pub counted_there : (due_value nodes d).node < length nodes
-  counted_there = counted_inner.there
-
   pub counted_deep : length (open_after nodes d) < d.rules.depth
   counted_deep = omega (arith, counted_inner.deep, counted_due.level)
 
@@ -121,9 +112,6 @@ module _ (nodes : List Node) (d : CellState) (len : ℕ) (s : Stands nodes d) (d
 
   pub fields_stands : Stands nodes (entered (state_after nodes d 4) fielded)
   fields_stands = entered_stands nodes d 4 fielded s fields_due fields_inner.deep (fields_inner.stands, omega arith) (omega arith) (omega (arith, decided.fits.0, fields_due.inside))
-
-  pub fields_there : (due_value nodes d).node < length nodes
-  fields_there = fields_inner.there
 
   pub fields_deep : length (open_after nodes d) < d.rules.depth
   fields_deep = omega (arith, fields_inner.deep, fields_due.level)

@@ -10,7 +10,7 @@ use Rattle.cqlp_cell.specs.Progress.{CellState, place, due_value, open_after, re
 
 -- the types in a value
 abbrev pub inner_of : List Node → DueValue → Types
-inner_of nodes v = types_at nodes (v.node + 1) v.arity
+inner_of nodes v = types_at nodes v.inner v.arity
 
 -- the bytes from here to the end of the value around the next one
 abbrev pub room_of : List Node → CellState → ℕ
@@ -28,9 +28,8 @@ pub record InnerDue (nodes : List Node) (d : CellState) : Type 0 where
   pub formed : HasInner (due_value nodes d).kind (due_value nodes d).arity
   pub stands :
       let v = due_value nodes d in
-      Stand nodes (v.node + 1) v.arity (d.rules.depth - (length d.open_values + 1))
+      Stand nodes v.inner v.arity (d.rules.depth - (length d.open_values + 1))
   pub deep : length d.open_values < d.rules.depth
-  pub there : (due_value nodes d).node < length nodes
 
 -- A value comes next.
 pub record ValueDue (nodes : List Node) (d : CellState) : Type 0 where

@@ -105,10 +105,10 @@ module _ (nodes : List Node) where
 
   abbrev pub value_at : (node stop : ℕ) → DueValue
   value_at node stop =
-      record { kind = (node_at nodes node).kind; arity = (node_at nodes node).arity; node = node; stop = stop }
+      record { kind = (node_at nodes node).kind; arity = (node_at nodes node).arity; inner = node + 1; stop = stop }
 
   abbrev pub raw_value : (stop : ℕ) → DueValue
-  raw_value stop = record { kind = kind.Raw; arity = 0; node = 0; stop = stop }
+  raw_value stop = record { kind = kind.Raw; arity = 0; inner = 0; stop = stop }
 
   abbrev pub value_in : Option OpenValue → DueValue
   value_in None = raw_value 0

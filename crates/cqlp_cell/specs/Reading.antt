@@ -200,13 +200,13 @@ order_by k other = (order.Elements, 0)
 
 -- how the items of a list, a set or a map follow one another, and the node of a map's second type
 abbrev pub inner_order : List Node → DueValue → Order × ℕ
-inner_order nodes v = order_by v.kind (v.node + 1 + (node_at nodes (v.node + 1)).span)
+inner_order nodes v = order_by v.kind (v.inner + (node_at nodes v.inner).span)
 
 abbrev pub counted_open : List Node → DueValue → (stop count : ℕ) → OpenValue
 counted_open nodes v stop count =
     record {
       order = (inner_order nodes v).0;
-      node = v.node + 1;
+      node = v.inner;
       other = (inner_order nodes v).1;
       left = count;
       items = count;
@@ -215,7 +215,7 @@ counted_open nodes v stop count =
 
 abbrev pub fields_open : DueValue → (stop : ℕ) → OpenValue
 fields_open v stop =
-    record { order = order.Fields; node = v.node + 1; other = 0; left = v.arity; items = 0; stop = stop }
+    record { order = order.Fields; node = v.inner; other = 0; left = v.arity; items = 0; stop = stop }
 
 -- the same with one more value open
 abbrev pub entered : CellState → OpenValue → CellState
@@ -235,7 +235,7 @@ EntersFields nodes old len new =
 
 -- the first inner type of a map stands in the table
 abbrev pub InnerStands : List Node → DueValue → Type 0
-InnerStands nodes v = (v.kind ≡ kind.Map) → (depth : ℕ) × Stand nodes (v.node + 1) 2 depth
+InnerStands nodes v = (v.kind ≡ kind.Map) → (depth : ℕ) × Stand nodes v.inner 2 depth
 
 -- the length that has come of the item under way
 abbrev pub length_under : Arrived → Option ℕ

@@ -57,7 +57,8 @@ pub(crate) enum CellDue {
 pub(crate) struct DueValue {
     pub kind: Kind,
     pub arity: u16,
-    pub node: u32,
+    /// The node of its first inner type.
+    pub inner: u32,
     pub stop: u64,
 }
 
@@ -159,7 +160,7 @@ fn cell_value<A: Allocator>(table: &TypeTable<A>, node: Option<u32>, stop: u64) 
         None => DueValue {
             kind: Kind::Raw,
             arity: 0,
-            node: 0,
+            inner: 0,
             stop,
         },
     }
@@ -176,7 +177,7 @@ fn value_at<A: Allocator>(table: &TypeTable<A>, node: u32, stop: u64) -> DueValu
     DueValue {
         kind: head.kind,
         arity: head.arity,
-        node,
+        inner: node + 1,
         stop,
     }
 }
@@ -202,8 +203,6 @@ impl OpenValue {
         requires { HasNext table.now.nodes self.old self.old.order }
         ensures { self.new ≡ after_item table.now.nodes self.old }
     {
-        // The proof reads that the number of nodes fits in 32 bits.
-        let _nodes = table.len();
         match self.order {
             Order::Elements => self.left -= 1,
             Order::Keys => {

@@ -204,15 +204,13 @@ impl<A: Allocator> CellProgress<A> {
         ensures room { self.new.open_values.room ≡ self.old.open_values.room }
         ensures limits { self.new.limits ≡ self.old.limits }
     {
-        // The proof reads that the number of nodes fits in 32 bits.
-        let _nodes = table.len();
         let level = self.open_values.len();
         let stop = self.offset + 4 + u64::from(len);
         let (order, other) = inner_order(value, table);
         self.pass(8, table);
         self.open_values.push(OpenValue {
             order,
-            node: value.node + 1,
+            node: value.inner,
             other,
             left: count,
             items: count,
@@ -242,15 +240,13 @@ impl<A: Allocator> CellProgress<A> {
         ensures room { self.new.open_values.room ≡ self.old.open_values.room }
         ensures limits { self.new.limits ≡ self.old.limits }
     {
-        // The proof reads that the number of nodes fits in 32 bits.
-        let _nodes = table.len();
         let level = self.open_values.len();
         let stop = self.offset + 4 + u64::from(len);
         let arity = u32::from(value.arity);
         self.pass(4, table);
         self.open_values.push(OpenValue {
             order: Order::Fields,
-            node: value.node + 1,
+            node: value.inner,
             other: 0,
             left: arity,
             items: 0,
@@ -499,12 +495,10 @@ fn inner_order<A: Allocator>(value: DueValue, table: &TypeTable<A>) -> (Order, u
     ensures { result ≡ order_inside table.now.nodes value }
 {
     match value.kind {
-        Kind::Map => {
-            // The proof reads that the number of nodes fits in 32 bits.
-            let _nodes = table.len();
-            let key = value.node + 1;
-            (Order::Keys, key + table.node(key).unwrap().span)
-        }
+        Kind::Map => (
+            Order::Keys,
+            value.inner + table.node(value.inner).unwrap().span,
+        ),
         _ => (Order::Elements, 0),
     }
 }

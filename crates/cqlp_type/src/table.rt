@@ -83,7 +83,8 @@ impl<A: Allocator> TypeTable<A> {
 
     /// The node with this number; the first has the number 0.
     pub fn node(&self, i: u32) -> Option<Node>
-        ensures { result ≡ slice_get self.now.nodes i }
+        ensures is { result ≡ slice_get self.now.nodes i }
+        ensures bound { length self.now.nodes < 2 ^ 32 }
     {
         self.nodes.get(i as usize).copied()
     }

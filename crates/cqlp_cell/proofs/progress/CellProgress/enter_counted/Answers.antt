@@ -2,19 +2,13 @@ use Rattle.std.proofs.Common.{◌≡◌, ◌+◌, ◌++◌, ◌∷◌, [], lengt
 use Rattle.cqlp_cell.specs.declared.open_values.OpenValue.{OpenValue}
 use Rattle.cqlp_cell.specs.Progress.{CellState, state_of, due_value, state_after, Stands}
 use Rattle.cqlp_cell.specs.Reading.{counted_open, entered}
-use Rattle.cqlp_cell.proofs.Entering.{counted_keys, counted_there, counted_deep, counted_stands}
+use Rattle.cqlp_cell.proofs.Entering.{counted_keys, counted_deep, counted_stands}
 use Rattle.cqlp_cell.proofs.progress.CellProgress.enter_counted.Goals as goal
 
 pub inner_order-order-requires : goal.inner_order-order-requires
 inner_order-order-requires g c =
     let r = c.requires in
     rw r.value (counted_keys c.args.table.now.nodes (state_of c.args.self.now) c.args.len c.args.count r.stands r.due r.decided)
-
-pub overflow_add-value : goal.overflow_add-value
-overflow_add-value g c =
-    let r = c.requires in
-    let there = rw (← r.value) at (counted_there c.args.table.now.nodes (state_of c.args.self.now) c.args.len c.args.count r.stands r.due r.decided) in
-    omega (arith, there)
 
 pub push-requires : goal.push-requires
 push-requires g c =

@@ -2,15 +2,8 @@ use Rattle.std.proofs.Common.{◌≡◌, ◌+◌, ◌^◌, ◌<◌, ◌++◌, �
 use Rattle.cqlp_cell.specs.declared.open_values.OpenValue.{OpenValue}
 use Rattle.cqlp_cell.specs.Progress.{CellState, state_of, due_value, state_after, Stands}
 use Rattle.cqlp_cell.specs.Reading.{fields_open, entered}
-use Rattle.cqlp_cell.proofs.Entering.{fields_there, fields_deep, fields_stands}
+use Rattle.cqlp_cell.proofs.Entering.{fields_deep, fields_stands}
 use Rattle.cqlp_cell.proofs.progress.CellProgress.enter_fields.Goals as goal
-
-pub overflow_add-value : goal.overflow_add-value
-overflow_add-value g c =
-    let r = c.requires in
-    let low : (due_value c.args.table.now.nodes (state_of c.args.self.now)).arity < 2 ^ 16 = rw (← r.value) (omega arith) in
-    let there = rw (← r.value) at (fields_there c.args.table.now.nodes (state_of c.args.self.now) c.args.len r.stands r.due r.decided low) in
-    omega (arith, there)
 
 pub push-requires : goal.push-requires
 push-requires g c =

@@ -9,13 +9,13 @@ returns-in-Typed g c = λ depth page. elim c.in-Typed.is [
   | inl e ↦
       let h = rw e at page.0 in
       let there = column_there c.args.table.now.nodes depth c.args.self.now.index c.args.self.now.column h in
-      let same : Some c.unwrap.result ≡ Some there.x = sym c.unwrap.ensures ∙ c.node.ensures ∙ there.get in
+      let same : Some c.unwrap.result ≡ Some there.x = sym c.unwrap.ensures ∙ c.node.ensures.is ∙ there.get in
       let x : c.unwrap.result ≡ there.x = cc in
       (there.inner, there.others, rw (e, x) there.is)
   | inr e ↦
       let h = rw e at page.0 in
       let there = column_there c.args.table.now.nodes depth c.args.self.now.index c.args.self.now.column h in
-      let same : Some c.unwrap.result ≡ Some there.x = sym c.unwrap.ensures ∙ c.node.ensures ∙ there.get in
+      let same : Some c.unwrap.result ≡ Some there.x = sym c.unwrap.ensures ∙ c.node.ensures.is ∙ there.get in
       let x : c.unwrap.result ≡ there.x = cc in
       (there.inner, there.others, rw (e, x) there.is)
 ]
@@ -27,6 +27,6 @@ returns-in-Raw g c = λ depth page.
 
 pub unwrap-requires : goal.unwrap-requires
 unwrap-requires g c = elim c.in-Typed.is [
-  | inl e ↦ let there = column_there c.args.table.now.nodes c.requires.0 c.args.self.now.index c.args.self.now.column (rw e at c.requires.1.0) in rw (c.node.ensures ∙ there.get) refl
-  | inr e ↦ let there = column_there c.args.table.now.nodes c.requires.0 c.args.self.now.index c.args.self.now.column (rw e at c.requires.1.0) in rw (c.node.ensures ∙ there.get) refl
+  | inl e ↦ let there = column_there c.args.table.now.nodes c.requires.0 c.args.self.now.index c.args.self.now.column (rw e at c.requires.1.0) in rw (c.node.ensures.is ∙ there.get) refl
+  | inr e ↦ let there = column_there c.args.table.now.nodes c.requires.0 c.args.self.now.index c.args.self.now.column (rw e at c.requires.1.0) in rw (c.node.ensures.is ∙ there.get) refl
 ]

@@ -16,7 +16,7 @@ pub overflow_add-index : goal.overflow_add-index
 overflow_add-index g c =
     let h = typed_here c.args.table.now.nodes c.requires.0 c.args.self.now c.in-Typed.is c.requires.1 in
     let there = column_there c.args.table.now.nodes c.requires.0 c.args.self.now.index c.args.self.now.column h in
-    let same : Some c.unwrap.result ≡ Some there.x = sym c.unwrap.ensures ∙ c.node.ensures ∙ there.get in
+    let same : Some c.unwrap.result ≡ Some there.x = sym c.unwrap.ensures ∙ c.node.ensures.is ∙ there.get in
     let x : c.unwrap.result ≡ there.x = cc in
     rw x (omega (arith, there.within, c.len-end.ensures.is, c.len-end.type_inv))
 
@@ -34,7 +34,7 @@ returns-in-Typed g c = λ depth page.
     let column = c.args.self.now.column in
     let h = typed_here nodes depth c.args.self.now c.in-Typed.is page in
     let there = column_there nodes depth index column h in
-    let same : Some c.unwrap.result ≡ Some there.x = sym c.unwrap.ensures ∙ c.node.ensures ∙ there.get in
+    let same : Some c.unwrap.result ≡ Some there.x = sym c.unwrap.ensures ∙ c.node.ensures.is ∙ there.get in
     let x : c.unwrap.result ≡ there.x = cc in
     next_there nodes depth c.args.self.now c.in-Typed.is c.then_some.result
     (rw (c.then_some.ensures, c.len-end.ensures.is, x) (elim (cases_lt (index + there.x.span) (length nodes)) [
@@ -56,4 +56,4 @@ pub unwrap-requires : goal.unwrap-requires
 unwrap-requires g c =
     let h = typed_here c.args.table.now.nodes c.requires.0 c.args.self.now c.in-Typed.is c.requires.1 in
     let there = column_there c.args.table.now.nodes c.requires.0 c.args.self.now.index c.args.self.now.column h in
-    rw (c.node.ensures ∙ there.get) refl
+    rw (c.node.ensures.is ∙ there.get) refl
