@@ -1,7 +1,7 @@
 -- What a step does with the bytes that were wanted, and with those that are passed over.
-use Rattle.std.proofs.Common.{◌≡◌, ℕ, ◌+◌, ◌-◌, ◌^◌, ◌<◌, ◌≤◌, true, List, [], ◌∷◌, ◌++◌, length, take, drop, Ok, Err, refl, sym, ap, subst, ◌∙◌, arith}
+use Rattle.std.proofs.Common.{◌≡◌, ℕ, ◌+◌, ◌-◌, ◌<◌, ◌≤◌, List, [], ◌∷◌, ◌++◌, length, take, drop, Ok, Err, refl, sym, ap, subst, ◌∙◌, arith}
 use Rattle.std.specs.Prelude.{Option, Some, None}
-use Rattle.std.proofs.lemmas.List.{append-nil, drop_all, length-append, length-take-le}
+use Rattle.std.proofs.lemmas.List.{drop_all, length-append, length-take-le}
 use Rattle.cqlp_note.proofs.Yields.{says_exact}
 use Rattle.cqlp_capture.specs.declared.block.Block.{Block}
 use Rattle.cqlp_capture.specs.declared.event.EventOutline.{EventOutline}
@@ -14,18 +14,18 @@ use Rattle.cqlp_capture.specs.declared.interfaces.KnownInterface.{KnownInterface
 use Rattle.cqlp_capture.specs.declared.place.Stage.TheVariants.{Magic, FileHead, RecordHead, Data, SectionLength, SectionBody, BlockHead, InterfaceBody, OptionHead, TimeUnit, TimeOffset, EnhancedBody, SimpleBody, BlockData, Pass, BlockEnd}
 use Rattle.cqlp_capture.specs.declared.reader.StepTaken.TheVariants as taken
 use Rattle.cqlp_capture.specs.declared.refusal.CaptureRefusal.{CaptureRefusal}
-use Rattle.cqlp_capture.specs.Blocks.{IsBlock, IsInBlock, block_end, passing}
+use Rattle.cqlp_capture.specs.Blocks.{passing}
 use Rattle.cqlp_capture.specs.Gathering.{Gathered, Finds, begun, bytes_at}
 use Rattle.cqlp_capture.specs.Interfaces.{Interfaces, changed, interfaces}
-use Rattle.cqlp_capture.specs.Places.{IsNear, IsKnownAt, IsPassing, IsSpot, ComesAfterHead, due}
+use Rattle.cqlp_capture.specs.Places.{IsNear, IsKnownAt, IsPassing, ComesAfterHead}
 use Rattle.cqlp_note.specs.Reader.{Got, says}
-use Rattle.cqlp_capture.specs.Reading.{Emitted, Event, Spot, after_told, event_if, event_with, heard, heard_first, wanted, told_at, step}
-use Rattle.cqlp_capture.specs.Progress.{IsLawful, Moves, Passes, TakesStep, progress, spot_of}
+use Rattle.cqlp_capture.specs.Reading.{Event, Spot, after_told, event_if, event_with, heard_first, wanted, told_at, step}
+use Rattle.cqlp_capture.specs.Progress.{IsLawful, Moves, TakesStep, progress, spot_of}
 use Rattle.cqlp_capture.proofs.Tests.{Fits, in_range}
 use Rattle.cqlp_capture.proofs.Insides.{Inside, passing_inside}
 use Rattle.cqlp_capture.proofs.Steps.{said_of, step_said, step_waits}
 use Rattle.cqlp_capture.proofs.Leading.{Leads, told_leads}
-use Rattle.cqlp_capture.proofs.Moving.{moves_none, nothing, pass_moves}
+use Rattle.cqlp_capture.proofs.Moving.{nothing, pass_moves}
 
 known_few : (l : CaptureLimits) → Fits l → (s : Stage) (known : List KnownInterface) → IsKnownAt l s known → length known ≤ l.interfaces
 known_few l fits Magic known is = let some = fits.some in let none : length known ≡ 0 = ap length is in omega arith

@@ -1,7 +1,7 @@
 -- What one call does, over the whole file.
-use Rattle.std.proofs.Common.{◌≡◌, ℕ, ◌+◌, ◌-◌, ◌≤◌, Bool, true, false, List, [], ◌∷◌, ◌++◌, length, take, drop, refl, sym, ap, subst, ◌∙◌, append_assoc, arith}
+use Rattle.std.proofs.Common.{◌≡◌, ℕ, ◌+◌, ◌-◌, ◌≤◌, true, List, [], ◌∷◌, ◌++◌, length, take, drop, refl, sym, ap, subst, ◌∙◌, append_assoc, arith}
 use Rattle.std.specs.Prelude.{Option, Some, None}
-use Rattle.std.proofs.lemmas.List.{append-nil, length-append, length-drop, length-take-le, drop_all, take-append-drop}
+use Rattle.std.proofs.lemmas.List.{length-append, length-drop, length-take-le, drop_all, take-append-drop}
 use Rattle.cqlp_note.specs.Reader.{says}
 use Rattle.cqlp_note.proofs.Yields.{says_exact}
 use Rattle.cqlp_capture.specs.declared.event.CaptureEnd.TheVariants as end
@@ -15,10 +15,10 @@ use Rattle.cqlp_capture.specs.declared.place.Stage.{Stage}
 use Rattle.cqlp_capture.specs.declared.place.Stage.TheVariants.{Magic, FileHead, RecordHead, Data, SectionLength, SectionBody, BlockHead, InterfaceBody, OptionHead, TimeUnit, TimeOffset, EnhancedBody, SimpleBody, BlockData, Pass, BlockEnd}
 use Rattle.cqlp_capture.specs.declared.reader.CaptureAdvance.TheVariants as advance
 use Rattle.cqlp_capture.specs.declared.refusal.CaptureRefusal.{CaptureRefusal}
-use Rattle.cqlp_capture.specs.Gathering.{LieThere, bytes_at}
+use Rattle.cqlp_capture.specs.Gathering.{bytes_at}
 use Rattle.cqlp_capture.specs.Places.{IsNear, ComesAfterHead, is_between, began, began_at}
-use Rattle.cqlp_capture.specs.Reading.{Event, Spot, Verdict, Waits, Refused, Ends, Says, event_with, step, start, Reads, Hears}
-use Rattle.cqlp_capture.specs.Progress.{CaptureState, AdvancesFrom, AnswersFrom, AfterBy, After, Answers, EndsAs, FailsThere, FinishesBy, GoesOn, HandsOut, Hands, Leads, Moves, Refuses, Uses, event_of}
+use Rattle.cqlp_capture.specs.Reading.{Event, Spot, Verdict, Waits, Refused, Ends, Says, event_with, step, start, Hears}
+use Rattle.cqlp_capture.specs.Progress.{CaptureState, AdvancesFrom, AnswersFrom, AfterBy, After, Answers, EndsAs, FinishesBy, Hands, Leads, Moves, Refuses, Uses, event_of}
 use Rattle.cqlp_capture.proofs.Tests.{Fits}
 use Rattle.cqlp_capture.proofs.Runs.{hears_then, hears_stay, reads_at}
 use Rattle.cqlp_capture.proofs.Moving.{moves_hear, take_two}
@@ -108,11 +108,6 @@ module _ (old new : CaptureState) (input : List ℕ) where
   pub more_answers : (o : Option CaptureRefusal) (used : ℕ) → AdvancesFrom o old input (advance.More used) new → AnswersFrom o old input (answer.More used) new
   more_answers (Some r) used a = absurd (let e = a.0 in cc)
   more_answers None used a = a
-
-  -- what is lent lies in the input, after its first bytes
-  pub event_lies : (o : Option CaptureRefusal) (at from used : ℕ) (w : EventOutline) (lies : BytesPlace) → AdvancesFrom o old input (advance.Event at from used w lies) new → LieThere lies (drop from input) × (from ≤ length input)
-  event_lies (Some r) at from used w lies a = absurd (let e = a.0 in cc)
-  event_lies None at from used w lies a = (a.1, a.2)
 
   pub event_answers : (o : Option CaptureRefusal) (at from used : ℕ) (w : EventOutline) (lies : BytesPlace) (e : CaptureEvent) → event_of e ≡ event_with w (bytes_at lies (drop from input) new.held) → AdvancesFrom o old input (advance.Event at from used w lies) new → AnswersFrom o old input (answer.Event at used e) new
   event_answers (Some r) at from used w lies e is a = absurd (let e = a.0 in cc)

@@ -1,15 +1,15 @@
 -- What comes before a cut is whole.
 use Rattle.std.proofs.Common.{◌≡◌, ℕ, ◌+◌, ◌-◌, ◌≤◌, Bool, true, false, cond, ◌&&◌, List, [], ◌∷◌, ◌++◌, length, take, drop, refl, sym, ap, subst, ◌∙◌, append_assoc, inl, inr, arith}
 use Rattle.std.specs.Prelude.{Option, Some, None, ◌⊎◌}
-use Rattle.std.proofs.lemmas.List.{drop_all, length-append, length-drop, length-take-le, take-append-drop, take-append-le}
-use Rattle.cqlp_note.specs.Reader.{Got, says}
+use Rattle.std.proofs.lemmas.List.{drop_all, length-append, length-take-le, take-append-drop, take-append-le}
+use Rattle.cqlp_note.specs.Reader.{Got}
 use Rattle.cqlp_note.proofs.Yields.{says_exact}
 use Rattle.cqlp_capture.specs.declared.event.CaptureEnd.{CaptureEnd}
 use Rattle.cqlp_capture.specs.declared.event.CaptureEnd.TheVariants as end
 use Rattle.cqlp_capture.specs.declared.limits.CaptureLimits.{CaptureLimits}
 use Rattle.cqlp_capture.specs.declared.refusal.CaptureRefusal.{CaptureRefusal}
 use Rattle.cqlp_capture.specs.Places.{IsSpot, is_between, began}
-use Rattle.cqlp_capture.specs.Reading.{Event, Emitted, Spot, after_told, event_if, wanted, step, start, heard, Reads, Hears}
+use Rattle.cqlp_capture.specs.Reading.{Event, Emitted, Spot, after_told, wanted, step, start, heard, Reads}
 use Rattle.cqlp_capture.specs.Progress.{CaptureState, AfterBy, After, IsWhole, ending, ending_by, is_empty}
 use Rattle.cqlp_capture.proofs.Tests.{Fits}
 use Rattle.cqlp_capture.proofs.Leading.{told_leads}

@@ -1,13 +1,13 @@
 -- Stages within a block.
-use Rattle.std.proofs.Common.{◌≡◌, ℕ, ◌+◌, ◌≤◌, ◌<◌, ltb, leb, eqb, Bool, true, false, cond, List, length, refl, sym, subst, ap, arith}
-use Rattle.std.proofs.lemmas.Bool.{leb-true, leb-false, ltb-true, ltb-false, eqb-true, eqb-false}
+use Rattle.std.proofs.Common.{◌≡◌, ℕ, ◌+◌, ◌≤◌, ◌<◌, ltb, leb, eqb, Bool, true, false, cond, List, length, refl, subst, arith}
+use Rattle.std.proofs.lemmas.Bool.{leb-true, ltb-true, ltb-false, eqb-true, eqb-false}
 use Rattle.cqlp_capture.specs.declared.block.Block.{Block}
 use Rattle.cqlp_capture.specs.declared.interfaces.KnownInterface.{KnownInterface}
 use Rattle.cqlp_capture.specs.declared.limits.CaptureLimits.{CaptureLimits}
 use Rattle.cqlp_capture.specs.declared.place.Stage.{Stage}
 use Rattle.cqlp_capture.specs.declared.place.Stage.TheVariants.{OptionHead, Pass, BlockEnd}
-use Rattle.cqlp_capture.specs.Blocks.{IsBlock, IsInBlock, at_option, block_end, describing, passing}
-use Rattle.cqlp_capture.specs.Places.{IsNear, IsKnownAt, ComesAfterHead, IsPassing, IsAtEnd, began_at, due}
+use Rattle.cqlp_capture.specs.Blocks.{IsInBlock, at_option, block_end, describing, passing}
+use Rattle.cqlp_capture.specs.Places.{IsNear, IsKnownAt, ComesAfterHead, began_at, due}
 
 -- a stage in this block, in which no step is owed
 pub record Inside (l : CaptureLimits) (b : Block) (offset : ℕ) (s : Stage) : Type 0 where
@@ -63,13 +63,6 @@ module _ (l : CaptureLimits) (b : Block) where
 
   pub passing_inside : (o until : ℕ) → IsInBlock b o 0 → o ≤ until → until ≤ block_end b → Inside l b o (passing b o until)
   passing_inside o until here le within = passing_by o until (eqb o until) here le within (eqb-true _ _) (eqb-false _ _)
-
--- an offset farther on in a block
-pub farther : (b : Block) (o n m : ℕ) → IsInBlock b o (n + m) → IsInBlock b (o + n) m
-farther b o n m here =
-    let after = here.after in
-    let before = here.before in
-    record { block = here.block; after = omega arith; before = omega arith }
 
 -- what is known of an interface changes nothing of where its block lies
 pub described_inside : (b : Block) (i : KnownInterface) (o n : ℕ) → IsInBlock b o n → IsInBlock (describing b i) o n

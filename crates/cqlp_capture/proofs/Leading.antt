@@ -1,7 +1,7 @@
 -- Where a step leads.
-use Rattle.std.proofs.Common.{◌≡◌, ℕ, ◌+◌, ◌-◌, ◌^◌, ◌<◌, ◌≤◌, ltb, leb, eqb, Bool, true, false, cond, ◌&&◌, ◌||◌, List, [], ◌∷◌, ◌++◌, length, Result, Ok, Err, refl, sym, ap, subst, ◌∙◌, inl, inr, arith}
+use Rattle.std.proofs.Common.{◌≡◌, ℕ, ◌+◌, ◌-◌, ◌^◌, ◌<◌, ◌≤◌, ltb, eqb, Bool, true, false, cond, List, [], ◌∷◌, ◌++◌, length, Result, Ok, Err, refl, sym, ap, subst, ◌∙◌, inl, inr, arith}
 use Rattle.std.specs.Prelude.{Option, Some, None, ◌⊎◌, slice_get, slice_index}
-use Rattle.std.proofs.lemmas.Bool.{eqb-true, leb-false, ltb-true, ltb-false}
+use Rattle.std.proofs.lemmas.Bool.{eqb-true, ltb-true, ltb-false}
 use Rattle.std.proofs.lemmas.List.{length-append}
 use Rattle.cqlp_capture.specs.declared.block.Block.{Block}
 use Rattle.cqlp_capture.specs.declared.block.BlockKind.{BlockKind}
@@ -23,13 +23,13 @@ use Rattle.cqlp_capture.specs.Interfaces.{changed}
 use Rattle.cqlp_capture.specs.Telling.{goes_on}
 use Rattle.cqlp_capture.specs.Numbers.{form_of, is_block_length, is_section, number_16, number_32, number_64, order_of, padded, unit_of}
 use Rattle.cqlp_capture.specs.Records as records
-use Rattle.cqlp_capture.specs.Blocks.{IsBlock, IsInBlock, at_option, block_at, block_end, body_of, captured_of, described, describing, either_length, kind_of, least_length, length_in, passing, redescribed, room_of, section_at, time_of, told_block_of, told_captured, told_enhanced, told_known, told_option, told_option_head, told_packet, told_section, told_section_in, told_simple, told_timed, told_unit, units_of, with_offset, with_unit}
+use Rattle.cqlp_capture.specs.Blocks.{IsBlock, IsInBlock, block_at, block_end, captured_of, described, describing, either_length, kind_of, least_length, length_in, passing, redescribed, room_of, section_at, time_of, told_block_of, told_captured, told_enhanced, told_known, told_option, told_option_head, told_packet, told_section, told_section_in, told_simple, told_timed, told_unit, units_of, with_offset, with_unit}
 use Rattle.cqlp_capture.specs.Blocks as blocks
 use Rattle.cqlp_capture.specs.Reading.{Event, Section, Interface, Bytes, Packet, Spot, event_if, after_told, wanted, told_at}
-use Rattle.cqlp_capture.specs.Places.{IsNear, IsKnownAt, IsSpot, ComesAfterHead, IsBody, IsPacket, IsPassing, IsAtEnd, began_at, began, due, is_between}
+use Rattle.cqlp_capture.specs.Places.{IsNear, IsKnownAt, IsSpot, ComesAfterHead, began_at, began, due, is_between}
 use Rattle.cqlp_capture.specs.Laws.{BeginsAfterHead, counted}
 use Rattle.cqlp_capture.proofs.Tests.{Fits, allowed, length_is, not_refused, ok_same}
-use Rattle.cqlp_capture.proofs.Insides.{Inside, described_inside, farther, option_inside, passing_inside}
+use Rattle.cqlp_capture.proofs.Insides.{Inside, described_inside, option_inside, passing_inside}
 
 -- this many bytes of a packet are read next
 abbrev pub IsDataOf : Stage → ℕ → Type 0

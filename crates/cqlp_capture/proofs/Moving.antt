@@ -1,18 +1,18 @@
 -- Steps that say no event, one after another.
-use Rattle.std.proofs.Common.{◌≡◌, ℕ, zero, suc, ◌+◌, ◌-◌, ◌<◌, ◌≤◌, ltb, eqb, Bool, true, false, cond, List, [], ◌∷◌, ◌++◌, length, take, drop, refl, sym, ap, subst, ◌∙◌, append_assoc, inl, inr, arith}
-use Rattle.std.specs.Prelude.{Option, Some, None}
+use Rattle.std.proofs.Common.{◌≡◌, ℕ, ◌+◌, ◌-◌, ◌<◌, ◌≤◌, List, [], ◌∷◌, ◌++◌, length, take, drop, refl, sym, ap, subst, ◌∙◌, append_assoc, arith}
+use Rattle.std.specs.Prelude.{Option, None}
 use Rattle.std.proofs.lemmas.Bool.{ne_eqb}
 use Rattle.std.proofs.lemmas.List.{append-nil, length-drop, length-append, length-take-le, take-append-drop, take-take, drop-take}
 use Rattle.std.proofs.Math.Seq.{take-append_seam}
-use Rattle.cqlp_note.specs.Reader.{Said, Got, says}
+use Rattle.cqlp_note.specs.Reader.{Got, says}
 use Rattle.cqlp_capture.specs.declared.block.Block.{Block}
 use Rattle.cqlp_capture.specs.declared.interfaces.KnownInterface.{KnownInterface}
 use Rattle.cqlp_capture.specs.declared.limits.CaptureLimits.{CaptureLimits}
 use Rattle.cqlp_capture.specs.declared.place.Stage.{Stage}
 use Rattle.cqlp_capture.specs.declared.place.Stage.TheVariants.{Pass}
 use Rattle.cqlp_capture.specs.Blocks.{passing}
-use Rattle.cqlp_capture.specs.Reading.{Event, Emitted, Spot, heard, step, Reads, Hears}
-use Rattle.cqlp_capture.specs.Progress.{CaptureState, Moves, Passes}
+use Rattle.cqlp_capture.specs.Reading.{Event, Spot, heard, step, Reads, Hears}
+use Rattle.cqlp_capture.specs.Progress.{Moves}
 use Rattle.cqlp_capture.proofs.Steps.{step_says}
 use Rattle.cqlp_capture.proofs.Runs.{heard-append, reads_stay, reads_then, hears_then, hears_stay}
 
@@ -29,16 +29,6 @@ take_whole ys n is = ap (λ (k : ℕ). take k ys) is ∙ ap (take (length ys)) (
 -- a slice from an index on
 pub rest_of : (n : ℕ) (xs : List ℕ) → take (length xs - n) (drop n xs) ≡ drop n xs
 rest_of n xs = take_whole (drop n xs) (length xs - n) (sym (length-drop n xs))
-
-pub moves_none : (l : CaptureLimits) (p : Spot) (pending input : List ℕ) → Moves l p pending input 0 p pending
-moves_none l p pending input = record {
-  within = omega arith;
-  steps = [];
-  silent = refl;
-  reads = (refl, sym (append-nil pending));
-  first = λ _. refl;
-  later = λ some. absurd (omega arith);
-}
 
 -- the bytes of what was moved over, and more
 moved_bytes : (pending input : List ℕ) (n k : ℕ) → (pending ++ take n input) ++ take k (drop n input) ≡ pending ++ take (n + k) input

@@ -5,7 +5,6 @@ use Rattle.std.proofs.lemmas.Bool.{cases_lt}
 use Rattle.std.proofs.lemmas.List.{append-nil, length-append, length-drop, take-append-drop}
 use Rattle.cqlp_note.specs.Reader.{Said, More, Got, Bad, says}
 use Rattle.cqlp_note.proofs.Runs.{same_got}
-use Rattle.cqlp_capture.specs.declared.event.CaptureEvent.{CaptureEvent}
 use Rattle.cqlp_capture.specs.declared.event.CaptureStep.{CaptureStep}
 use Rattle.cqlp_capture.specs.declared.event.CaptureStep.TheVariants as answer
 use Rattle.cqlp_capture.specs.declared.limits.CaptureLimits.{CaptureLimits}
@@ -14,7 +13,7 @@ use Rattle.cqlp_capture.specs.declared.refusal.NewReaderError.{NewReaderError}
 use Rattle.cqlp_capture.specs.declared.refusal.NewReaderError.TheVariants.{BadLimits, NoMemory}
 use Rattle.cqlp_capture.specs.Reading.{Event, Emitted, Spot, heard, heard_first, step, Reads}
 use Rattle.cqlp_capture.specs.Progress.{CaptureState, AnswersFrom, Fails, FailsThere, Goes, GoesOn, Hands, HandsOut, Moves, event_of}
-use Rattle.cqlp_capture.specs.Laws.{IsMade, Answer, answer_of}
+use Rattle.cqlp_capture.specs.Laws.{IsMade, answer_of}
 use Rattle.cqlp_capture.specs.Laws as laws
 use Rattle.cqlp_capture.proofs.Runs.{heard-append, reads_compare, reads_stay}
 use Rattle.cqlp_capture.proofs.Moving.{nothing}

@@ -1,16 +1,15 @@
 -- The bytes of a packet, and the numbers of interfaces.
-use Rattle.std.proofs.Common.{◌≡◌, ℕ, ◌+◌, ◌-◌, ◌≤◌, List, [], ◌∷◌, ◌++◌, length, take, drop, refl, sym, ap, subst, ◌∙◌, arith}
-use Rattle.std.specs.Prelude.{Option, Some, None}
+use Rattle.std.proofs.Common.{◌≡◌, ℕ, ◌+◌, ◌-◌, List, [], ◌∷◌, ◌++◌, length, take, drop, sym, ap, subst, ◌∙◌, arith}
+use Rattle.std.specs.Prelude.{Option, Some}
 use Rattle.std.proofs.lemmas.List.{length-take-le}
 use Rattle.cqlp_capture.specs.declared.event.InterfaceHead.{InterfaceHead}
 use Rattle.cqlp_capture.specs.declared.event.PacketHead.{PacketHead}
 use Rattle.cqlp_capture.specs.declared.limits.CaptureLimits.{CaptureLimits}
-use Rattle.cqlp_capture.specs.declared.place.Stage.{Stage}
 use Rattle.cqlp_capture.specs.Laws.{BeginsAfterHead, count_from}
 use Rattle.cqlp_capture.specs.Reading.{Event, Bytes, Interface, Packet, Emitted, Spot, after_told, event_if, wanted, start, heard, heard_first, Reads, Hears}
 use Rattle.cqlp_capture.proofs.Tests.{Fits}
 use Rattle.cqlp_capture.proofs.Leading.{IsDataOf, Leads, data_told, told_leads}
-use Rattle.cqlp_capture.proofs.Runs.{IsAt, Splits, Tells, got_tells, heard_split, reads_at, reads_split}
+use Rattle.cqlp_capture.proofs.Runs.{IsAt, Tells, got_tells, heard_split, reads_at, reads_split}
 use Rattle.cqlp_capture.proofs.Whole.{at_start}
 
 -- a step among others: where it is taken, and what is told there
