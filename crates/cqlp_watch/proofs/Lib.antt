@@ -1,0 +1,4 @@
+pub mod Lists
+pub mod Waits
+pub mod Exchanged
+pub mod Kept

@@ -1,0 +1,5 @@
+use Rattle.cqlp_watch.proofs.Kept.{keeps}
+use Rattle.cqlp_watch.proofs.laws.waiting.Goals as goal
+
+pub returns : goal.returns
+returns g c = keeps _

@@ -1,0 +1,4 @@
+pub mod Messages
+pub mod Waiting
+pub mod Pairings
+pub mod Laws

@@ -1,0 +1,11 @@
+//! What the two sides of a connection said to each other: each request with the response that came next under its stream id.
+#![tactic(auto)]
+
+pub mod laws;
+mod message;
+mod paired;
+mod pairing;
+
+pub use message::{Frame, Message};
+pub use paired::{NewPairingError, Paired};
+pub use pairing::Pairing;
