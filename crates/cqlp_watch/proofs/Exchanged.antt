@@ -70,9 +70,6 @@ not_waiting x h isnt = rw isnt refl
 found_answered : {T : Type 0} (x : Message T) (h : List (Message T)) (y : Message T) → next_under x h ≡ Some y → waits x h ≡ false
 found_answered x h y e = rw e (and_false (is_request x))
 
-waits_where : {T : Type 0} (x : Message T) (h : List (Message T)) → is_request x ≡ true → next_under x h ≡ None → waits x h ≡ true
-waits_where x h is e = rw (is, e) refl
-
 -- It answers the first one.
 first_answered : {T : Type 0} (x m : Message T) (h : List (Message T)) → is_request m ≡ false → is_request x ≡ true → next_under x h ≡ None → is_said_under (id_of x) m ≡ true → Answers h m → Answers (x ∷ h) m
 first_answered {T} x m h response is none said rest =
@@ -83,7 +80,7 @@ first_answered {T} x m h response is none said rest =
     let others : IsPermutation {X = Message T × Message T} (exchanges (h ++ m ∷ [])) (exchanges h) =
     subst (λ (r : Pairs T). IsPermutation (exchanges (h ++ m ∷ [])) r) (append-nil (exchanges h)) (rw nobody at rest) in
     let moved = IsPermutation-trans _ _ _ (IsPermutation-cons (x, m) _ _ others) (IsPermutation-sym _ _ (IsPermutation-to_front (exchanges h) (x, m))) in
-    rw (found_some (is_said_under (id_of x)) h m none said, none, waits_where x h is none, turned, is, response) moved
+    rw (found_some (is_said_under (id_of x)) h m none said, none, is, turned, response) moved
 
 pub exchanges_response : {T : Type 0} (h : List (Message T)) (m : Message T) → is_request m ≡ false → is_event m ≡ false → Answers h m
 exchanges_response [] m response isnt = IsPermutation-refl []

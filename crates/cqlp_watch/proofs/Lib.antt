@@ -2,3 +2,4 @@ pub mod Lists
 pub mod Waits
 pub mod Exchanged
 pub mod Kept
+pub mod Came

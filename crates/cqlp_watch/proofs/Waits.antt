@@ -25,7 +25,7 @@ both_false true true e f = cc f
 both_false true false e f = cc e
 both_false false b e f = refl
 
-both_true : (a b : Bool) → a && not b ≡ true → a ≡ true
+pub both_true : (a b : Bool) → a && not b ≡ true → a ≡ true
 both_true true b e = refl
 both_true false b e = cc e
 
@@ -56,7 +56,7 @@ waits_none id (m ∷ ms) e = elim (cases_Bool (is_said_under id m)) [
     ]
 ]
 
-next_none : {X : Type 0} (a : Bool) (o : Option X) → a && is_none o ≡ true → o ≡ None
+pub next_none : {X : Type 0} (a : Bool) (o : Option X) → a && is_none o ≡ true → o ≡ None
 next_none true None e = refl
 next_none true (Some x) e = cc e
 next_none false o e = cc e
@@ -72,14 +72,14 @@ waiting_apart (m ∷ ms) = elim (cases_Bool (waits m ms)) [
 -- ---- one more message
 
 -- One that says nothing under an id leaves what is found there.
-found_none : {X : Type 0} (p : X → Bool) (xs : List X) (x : X) → p x ≡ false → find p (xs ++ x ∷ []) ≡ find p xs
+pub found_none : {X : Type 0} (p : X → Bool) (xs : List X) (x : X) → p x ≡ false → find p (xs ++ x ∷ []) ≡ find p xs
 found_none p [] x e = rw e refl
 found_none p (y ∷ xs) x e = elim (cases_Bool (p y)) [
   | inl is ↦ rw is refl
   | inr isnt ↦ rw isnt (found_none p xs x e)
 ]
 
-no_event_under : (a b : Bool) → b ≡ true → a && not b ≡ false
+pub no_event_under : (a b : Bool) → b ≡ true → a && not b ≡ false
 no_event_under true true e = refl
 no_event_under true false e = cc e
 no_event_under false b e = refl
@@ -101,7 +101,7 @@ waiting_event {T} (x ∷ ms) m is =
       | inr not_does ↦ rw (same, not_does) (waiting_event ms m is)
     ]
 
-found_some : {X : Type 0} (p : X → Bool) (xs : List X) (x : X) → find p xs ≡ None → p x ≡ true → find p (xs ++ x ∷ []) ≡ Some x
+pub found_some : {X : Type 0} (p : X → Bool) (xs : List X) (x : X) → find p xs ≡ None → p x ≡ true → find p (xs ++ x ∷ []) ≡ Some x
 found_some p xs x none is = find_back p xs (x ∷ []) none ∙ rw is refl
 
 waits_no_more : {T : Type 0} (x m : Message T) (ms : List (Message T)) → waits x ms ≡ true → is_said_under (id_of x) m ≡ true → waits x (ms ++ m ∷ []) ≡ false

@@ -1,6 +1,7 @@
 //! Laws of what is told of requests and responses. No code needs them.
 
 ghost use Rattle.cqlp_watch.specs.Laws.{KeepsThoseThatWait, TellsTheExchanges};
+ghost use Rattle.cqlp_watch.specs.Whole.{TellsWholeFrames};
 
 /// Of any messages in any order: the requests that a [`Pairing`](crate::Pairing) holds are those under whose stream id nothing was said since.
 pub fn waiting<T>()
@@ -11,4 +12,10 @@ pub fn waiting<T>()
 /// is a response. None is missed where never more requests wait than the limit.
 pub fn exchanges<T>()
     ensures { TellsTheExchanges T }
+{}
+
+/// A frame that [`Heads`](crate::Heads) tells as whole came whole: its header and the bytes of its body lie one after the other from its offset
+/// on, and none in a gap.
+pub fn whole_frames()
+    ensures { TellsWholeFrames }
 {}

@@ -2,10 +2,13 @@
 #![tactic(auto)]
 
 pub mod laws;
+mod header_front;
+mod heads;
 mod message;
 mod paired;
 mod pairing;
 
+pub use heads::{Heads, Heard, HeardStep};
 pub use message::{Frame, Message};
 pub use paired::{NewPairingError, Paired};
 pub use pairing::Pairing;

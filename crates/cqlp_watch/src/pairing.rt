@@ -1,6 +1,6 @@
 //! Which requests wait for their responses.
 
-ghost use Rattle.std.specs.Prelude.{◌≡◌, ◌↔◌, ◌==◌, ◌<◌, ◌≤◌, IfOk, IsErrOf, find, length, position, vec_capacity};
+ghost use Rattle.std.specs.Prelude.{◌≡◌, ◌↔◌, ◌+◌, ◌==◌, ◌≤◌, IfNone, IfOk, IsErrOf, OnSome, find, length, position, vec_capacity, vec_len};
 ghost use Rattle.cqlp_watch.specs.Messages.{is_under};
 ghost use Rattle.cqlp_watch.specs.Pairings.{without};
 
@@ -103,13 +103,17 @@ impl<T: Drop, A: Allocator> Pairing<T, A> {
     fn ask(&mut self, request: Message<T>) -> Option<Paired<T>>
         ensures { paired result self.new ≡ asked request self.old }
     {
-        let before = leave(&mut self.waiting, request.stream());
-        if before.is_none() && self.waiting.len() == self.limit as usize {
-            return Some(self.crowd(request));
+        match leave(&mut self.waiting, request.stream()) {
+            Some(before) => {
+                self.waiting.push_reserved(request);
+                Some(Paired::Unanswered { request: before })
+            }
+            None if self.waiting.len() < self.limit as usize => {
+                self.waiting.push_reserved(request);
+                None
+            }
+            None => Some(self.crowd(request)),
         }
-        self.waiting.push_reserved(request);
-        let request = before?;
-        Some(Paired::Unanswered { request })
     }
 
     fn crowd(&mut self, request: Message<T>) -> Paired<T>
@@ -126,6 +130,8 @@ impl<T: Drop, A: Allocator> Pairing<T, A> {
 fn leave<T: Drop, A: Allocator>(messages: &mut Vec<Message<T>, A>, id: i16) -> Option<Message<T>>
     ensures which { result ≡ find (is_under id) messages.old.items }
     ensures others { messages.new.items ≡ without id messages.old.items }
+    ensures stay { IfNone result (messages.new.items ≡ messages.old.items) }
+    ensures fewer { OnSome result (vec_len messages.new + 1 ≡ vec_len messages.old) }
     ensures capacity { vec_capacity messages.new ≡ vec_capacity messages.old }
 {
     let at = place_under(messages, id)?;

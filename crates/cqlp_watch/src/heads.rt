@@ -1,0 +1,279 @@
+//! The frames of one direction, by their headers.
+
+ghost use Rattle.std.specs.Prelude.{◌≡◌, ◌≤◌, length};
+ghost use Rattle.cqlp_watch.specs.Directions.{cut};
+
+use crate::header_front::HeaderFront;
+use crate::message::Frame;
+use cqlp_note::Header;
+use std::mem;
+
+/// Where a direction stands.
+#[derive(Drop)]
+pub(crate) enum Stage {
+    /// Where the next frame begins is not known.
+    Lost,
+    /// Between two frames.
+    Between,
+    /// In a header that began there and then, of which these bytes came.
+    Header {
+        front: HeaderFront,
+        at: u64,
+        begun: Option<u64>,
+    },
+    /// In the body of this frame, of which so many bytes are still to come.
+    Body { frame: Frame, left: u32 },
+}
+
+/// What bytes of a direction are.
+#[derive(Clone, Copy, Debug, PartialEq, Eq, Drop)]
+pub enum Heard {
+    /// The last bytes of this header, whose frame begins.
+    Begins(Header),
+    /// Bytes of the body of the frame that began last.
+    Body,
+    /// That frame has ended: all its bytes came, and if it is whole, none of them lies in a gap.
+    Ends(Frame),
+    /// Bytes that are no header of this direction, or lie where no frame is known to begin.
+    Stray,
+    /// All bytes were used, and nothing more is told of them.
+    More,
+}
+
+/// What the first so many bytes of a piece are.
+#[derive(Clone, Copy, Debug, PartialEq, Eq, Drop)]
+pub struct HeardStep {
+    pub used: usize,
+    pub heard: Heard,
+}
+
+/// The frames of one direction of a connection, by their headers, out of pieces of any size and gaps.
+///
+/// Where the beginning was not seen, where nine bytes are no header of the direction, and after a gap past which no frame is known to begin,
+/// the direction begins anew at the next segment that begins with a header of its direction. A gap within a body cuts its frame,
+/// and the next one begins where that one ends. A header may say that its frame is compressed. Takes no memory.
+#[derive(Drop)]
+pub struct Heads {
+    responses: bool,
+    /// How many bytes, and bytes of gaps, came.
+    position: u64,
+    stage: Stage,
+}
+
+impl Heads {
+    ghost use Rattle.cqlp_watch.specs.Directions.{after_end, after_gap, anew, begun, closing, counted, filled, heard, passed, sought, stepping};
+
+    /// A direction of which nothing came: that of the responses, or that of the requests. Its first byte begins a frame, where `from_start`.
+    pub fn new(responses: bool, from_start: bool) -> Heads
+        ensures { result ≡ anew responses from_start }
+    {
+        let stage = if from_start {
+            Stage::Between
+        } else {
+            Stage::Lost
+        };
+        Heads {
+            responses,
+            position: 0,
+            stage,
+        }
+    }
+
+    /// What the next bytes are that came at this time. `begins` says whether the first of them begins a segment. To be called again and again
+    /// with the bytes that were not used, until it says `More`.
+    pub fn take(&mut self, piece: &[u8], time: Option<u64>, begins: bool) -> HeardStep
+        ensures told { stepping result self.new ≡ heard time begins piece.now self.old }
+        ensures within { result.used ≤ length piece.now }
+    {
+        let stage = mem::replace(&mut self.stage, Stage::Lost);
+        if let Stage::Body { frame, left: 0 } = stage {
+            self.stage = Stage::Between;
+            return HeardStep {
+                used: 0,
+                heard: Heard::Ends(frame),
+            };
+        }
+        if piece.is_empty() {
+            self.stage = stage;
+            return HeardStep {
+                used: 0,
+                heard: Heard::More,
+            };
+        }
+        match stage {
+            Stage::Lost => self.seek(piece, time, begins),
+            Stage::Between => {
+                let at = self.position;
+                self.fill(HeaderFront::new(), at, time, piece, time)
+            }
+            Stage::Header { front, at, begun } => self.fill(front, at, begun, piece, time),
+            Stage::Body { frame, left } => self.pass(frame, left, piece, time),
+        }
+    }
+
+    /// So many bytes did not come. The frame that ends there, or past which no frame is known to begin, is told; it is whole only if all its bytes
+    /// came before.
+    pub fn gap(&mut self, length: u64) -> Option<Frame>
+        ensures { closing result self.new ≡ after_gap length self.old }
+    {
+        self.count(length);
+        match self.stage {
+            Stage::Body { frame, left } if length < left as u64 => {
+                let left = left - length as u32;
+                self.stage = Stage::Body {
+                    frame: cut(frame),
+                    left,
+                };
+                None
+            }
+            Stage::Body { frame, left } => {
+                let is_end = length == left as u64;
+                self.stage = if is_end { Stage::Between } else { Stage::Lost };
+                Some(if left == 0 { frame } else { cut(frame) })
+            }
+            _ => {
+                if length > 0 {
+                    self.stage = Stage::Lost;
+                }
+                None
+            }
+        }
+    }
+
+    /// No more bytes come. The frame of which some did is told.
+    pub fn end(&mut self) -> Option<Frame>
+        ensures { closing result self.new ≡ after_end self.old }
+    {
+        match mem::replace(&mut self.stage, Stage::Lost) {
+            Stage::Body { frame, left } => Some(if left == 0 { frame } else { cut(frame) }),
+            _ => None,
+        }
+    }
+
+    /// Looks for a frame where a segment begins.
+    fn seek(&mut self, piece: &[u8], time: Option<u64>, begins: bool) -> HeardStep
+        ensures told { stepping result self.new ≡ sought time begins piece.now self.old }
+        ensures within { result.used ≤ length piece.now }
+    {
+        let at = self.position;
+        if begins && let Some(header) = HeaderFront::new().with(piece).head(self.responses) {
+            return self.begin(9, header, at, time, time);
+        }
+        self.count(piece.len() as u64);
+        HeardStep {
+            used: piece.len(),
+            heard: Heard::Stray,
+        }
+    }
+
+    /// Takes bytes of a header.
+    fn fill(
+        &mut self,
+        front: HeaderFront,
+        at: u64,
+        begun: Option<u64>,
+        piece: &[u8],
+        time: Option<u64>,
+    ) -> HeardStep
+        ensures told { stepping result self.new ≡ filled front at begun time piece.now self.old }
+        ensures within { result.used ≤ length piece.now }
+    {
+        let more = front.with(piece);
+        let used = more.len() - front.len();
+        if more.len() < 9 {
+            self.count(used as u64);
+            self.stage = Stage::Header {
+                front: more,
+                at,
+                begun,
+            };
+            return HeardStep {
+                used,
+                heard: Heard::More,
+            };
+        }
+        match more.head(self.responses) {
+            Some(header) => self.begin(used, header, at, begun, time),
+            None => {
+                self.count(used as u64);
+                self.stage = Stage::Lost;
+                HeardStep {
+                    used,
+                    heard: Heard::Stray,
+                }
+            }
+        }
+    }
+
+    /// A frame begins, whose header ends after so many bytes.
+    fn begin(
+        &mut self,
+        used: usize,
+        header: Header,
+        at: u64,
+        first: Option<u64>,
+        last: Option<u64>,
+    ) -> HeardStep
+        ensures told { stepping result self.new ≡ begun used header at first last self.old }
+        ensures within { result.used ≡ used }
+    {
+        self.count(used as u64);
+        let frame = Frame {
+            header,
+            at,
+            begun: first,
+            ended: last,
+            whole: true,
+        };
+        self.stage = Stage::Body {
+            frame,
+            left: header.length,
+        };
+        HeardStep {
+            used,
+            heard: Heard::Begins(header),
+        }
+    }
+
+    /// Takes bytes of a body.
+    fn pass(
+        &mut self,
+        frame: Frame,
+        left: u32,
+        piece: &[u8],
+        time: Option<u64>,
+    ) -> HeardStep
+        ensures told { stepping result self.new ≡ passed frame left time piece.now self.old }
+        ensures within { result.used ≤ length piece.now }
+    {
+        let used = piece.len().min(left as usize);
+        self.count(used as u64);
+        self.stage = Stage::Body {
+            frame: Frame {
+                ended: time,
+                ..frame
+            },
+            left: left - used as u32,
+        };
+        HeardStep {
+            used,
+            heard: Heard::Body,
+        }
+    }
+
+    fn count(&mut self, more: u64)
+        ensures { self.new ≡ counted more self.old }
+    {
+        self.position = self.position.saturating_add(more);
+    }
+}
+
+/// The frame, of which some bytes did not come.
+fn cut(frame: Frame) -> Frame
+    ensures { result ≡ cut frame }
+{
+    Frame {
+        whole: false,
+        ..frame
+    }
+}

@@ -1,0 +1,9 @@
+//! An observer of an honest client and an honest server.
+
+ghost use Rattle.cqlp_watch_laws.specs.Honest.{PairsAsTheClient};
+
+/// Whatever the steps of two cores that talk over two ordered wires, in the messages that pass one end of the wires the exchanges are those
+/// of each response with the request that it answers, each once.
+pub fn pairing()
+    ensures { PairsAsTheClient }
+{}
