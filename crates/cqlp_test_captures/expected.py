@@ -322,6 +322,167 @@ def connections(port, file):
     return lines + [f'connections {len(pairs)} crowded 0 foreign {foreign}']
 
 
+OPCODES = {0: 'Error', 1: 'Startup', 2: 'Ready', 3: 'Authenticate', 5: 'Options', 6: 'Supported', 7: 'Query', 8: 'Result', 9: 'Prepare',
+           10: 'Execute', 11: 'Register', 12: 'Event', 13: 'Batch', 14: 'AuthChallenge', 15: 'AuthResponse', 16: 'AuthSuccess'}
+REQUESTS = {1, 5, 7, 9, 10, 11, 13, 15}
+
+
+def timed_segments_of(file):
+    """The segments of a capture, each with the time of its packet and its number of acknowledgement."""
+    times, numbers = [], []
+    for line in said(file):
+        words = line.split()
+        if words[1:2] == ['packet']:
+            time = int(words[5])
+        elif words[0] == 'segment':
+            times.append(time)
+            numbers.append(int(line[line.rindex(')') + 2:].split()[2]))
+    return zip(times, numbers, segments_of(file))
+
+
+def header_of(data, responses):
+    """The opcode, stream id and length of nine bytes that are a header of this direction, compressed or not."""
+    if len(data) < 9:
+        return None
+    version, _, stream, opcode, length = struct.unpack('>BBhBI', data[:9])
+    lawful = version == (0x84 if responses else 0x04) and opcode in OPCODES and (opcode not in REQUESTS) == responses
+    return (opcode, stream, length) if lawful and length <= 2**28 else None
+
+
+class Side:
+    """One direction of a connection: its bytes in order, its gaps, and its frames."""
+
+    def __init__(self, responses):
+        self.responses, self.first, self.next, self.early, self.fin = responses, None, 0, {}, None
+        self.lost, self.head, self.frame = True, b'', None
+
+    def place(self, number):
+        return (number - self.first + 2**31) % 2**32 - 2**31
+
+    def hear(self, data, time, begins):
+        """The frames that end in these bytes."""
+        while True:
+            if self.frame and not self.frame['left']:
+                yield self.ended()
+            if not data:
+                return
+            if self.frame:
+                part, data = data[:self.frame['left']], data[self.frame['left']:]
+                self.frame['left'] -= len(part)
+                self.frame['ended'] = time
+                if self.frame['whole']:
+                    self.frame['kept'] = (self.frame['kept'] + part)[:256]
+                self.next += len(part)
+            elif self.lost:
+                if begins and header_of(data, self.responses):
+                    self.lost = False
+                    continue
+                self.next += len(data)
+                return
+            else:
+                if not self.head:
+                    self.at, self.begun = self.next, time
+                part = data[:9 - len(self.head)]
+                self.head, data, self.next = self.head + part, data[len(part):], self.next + len(part)
+                if len(self.head) == 9:
+                    found, self.head = header_of(self.head, self.responses), b''
+                    self.lost = not found
+                    if found:
+                        opcode, stream, length = found
+                        self.frame = {'opcode': opcode, 'stream': stream, 'length': length, 'at': self.at, 'begun': self.begun, 'ended': time, 'whole': True, 'left': length, 'kept': b''}
+            begins = False
+
+    def ended(self):
+        frame, self.frame = self.frame, None
+        return frame
+
+    def gap(self, length):
+        frame, self.head = self.frame, b''
+        self.next += length
+        if frame and length <= frame['left']:
+            frame['whole'], frame['left'] = False, frame['left'] - length
+            return [] if frame['left'] else [self.ended()]
+        self.lost, self.frame = True, None
+        if frame:
+            frame['whole'] = False
+        return [frame] if frame else []
+
+
+def exchanges(port, limit, file):
+    """A line for each exchange, and for each message that is in none."""
+    pairs, sides, waiting, lines = [], [], [], []
+
+    def name(frame):
+        cut = '' if frame['whole'] else ' cut'
+        return f"{frame['stream']} {OPCODES[frame['opcode']]} {frame['length']} at {frame['at']}{cut} from {frame['begun']} to {frame['ended']} kept {sum_of(frame['kept'])}"
+
+    def tell(number, side, frames):
+        open_requests = waiting[number - 1]
+        for frame in frames:
+            if side.responses and OPCODES[frame['opcode']] == 'Event' and frame['stream'] < 0:
+                lines.append(f'{number} event {name(frame)}')
+                continue
+            before = open_requests.pop(frame['stream'], None)
+            if side.responses:
+                lines.append(f'{number}:{name(before)} -> {name(frame)}' if before else f'{number} unasked {name(frame)}')
+            else:
+                if not before and len(open_requests) == limit:
+                    before = open_requests.pop(next(iter(open_requests)))
+                if before:
+                    lines.append(f'{number} unanswered {name(before)}')
+                open_requests[frame['stream']] = frame
+
+    def settle(number, side, time, acknowledged):
+        """Hands on what came early, and the gaps before it that the other side acknowledged."""
+        while side.early:
+            hole = min(side.early) - side.next
+            if hole > 0:
+                if acknowledged is not None and acknowledged < min(side.early):
+                    break
+                lines.append(f"{number} {'responses' if side.responses else 'requests'} gap {hole} at {side.next}")
+                tell(number, side, side.gap(hole))
+            data = bytearray()
+            while side.next + len(data) in side.early:
+                data.append(side.early.pop(side.next + len(data)))
+            tell(number, side, side.hear(bytes(data), time, False))
+
+    for time, number, (source, target, sequence, flags, payload, missing) in timed_segments_of(file):
+        if port not in (source[1], target[1]):
+            continue
+        ends = (target, source) if source[1] == port else (source, target)
+        if ends not in pairs:
+            pairs.append(ends)
+            waiting.append({})
+            sides.append((Side(False), Side(True)))
+        index = pairs.index(ends)
+        own, other = sides[index] if source[1] != port else sides[index][::-1]
+        if 'A' in flags and other.first is not None:
+            settle(index + 1, other, time, other.place(number))
+        if 'S' in flags:
+            sequence += 1
+        if own.first is None:
+            if not ('S' in flags or 'F' in flags or payload):
+                continue
+            own.first, own.lost = sequence, 'S' not in flags
+        place = own.place(sequence)
+        if not own.early and place <= own.next < place + len(payload):
+            tell(index + 1, own, own.hear(payload[own.next - place:], time, place == own.next))
+        else:
+            for i, byte in enumerate(payload):
+                if place + i >= own.next:
+                    own.early.setdefault(place + i, byte)
+            settle(index + 1, own, time, -1)
+    for index, pair in enumerate(sides, 1):
+        for side in pair:
+            settle(index, side, time, None)
+        for side in pair:
+            if side.frame:
+                side.frame['whole'] = side.frame['whole'] and not side.frame['left']
+                tell(index, side, [side.ended()])
+        lines.extend(f'{index} unanswered {name(frame)}' for frame in waiting[index - 1].values())
+    return lines
+
+
 # the same packets in both formats
 def packets(name):
     return [line.split(' ', 1)[1] for line in said(open(f'data/{name}', 'rb').read()) if line.split()[1:2] in (['packet'], ['data'])]
@@ -375,13 +536,19 @@ CONNECTIONS_BY_HAND = {
 for line in sys.stdin:
     of_streams, small = line.startswith('streams '), line.startswith('small ')
     of_connections = line.startswith('connections ')
+    of_exchanges = line.startswith('exchanges ')
     name, digits = line.rstrip('\n').removeprefix('streams ').removeprefix('small '), None
+    if of_exchanges:
+        _, limit, port, connections_limit, early, name = name.split(' ', 5)
     if of_connections:
         _, port, limit, _, name = name.split(' ', 4)
     if '|' in name:
         name, digits = name.split('|')
     file = bytes.fromhex(digits) if digits is not None else open(f'data/{name}', 'rb').read()
-    if of_connections:
+    if of_exchanges:
+        print('== exchanges', limit, 'of', port, name.rstrip())
+        print('\n'.join(exchanges(port, int(limit), file)))
+    elif of_connections:
         print('== connections', limit, 'of', port, name.rstrip())
         print('\n'.join(CONNECTIONS_BY_HAND.get(name.rstrip()) or connections(port, file)))
     elif of_streams and name.rstrip() in BY_HAND:

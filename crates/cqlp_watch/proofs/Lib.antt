@@ -1,5 +1,5 @@
 pub mod Lists
 pub mod Waits
 pub mod Exchanged
-pub mod Kept
+pub mod Stood
 pub mod Came

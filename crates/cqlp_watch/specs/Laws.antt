@@ -1,11 +1,12 @@
 -- Laws: which exchanges are told, and that no other request waits than those that do.
-use Rattle.std.specs.Prelude.{◌≡◌, ℕ, ◌≤◌, List, [], ◌∷◌, ◌++◌, length, Result, IfOk}
+use Rattle.std.specs.Prelude.{◌≡◌, ℕ, ◌≤◌, List, [], ◌∷◌, ◌++◌, length}
 use Rattle.std.specs.List.Sorted.{IsPermutation}
 use Rattle.cqlp_watch.specs.declared.message.Message.{Message}
 use Rattle.cqlp_watch.specs.declared.paired.Paired.{Paired}
 use Rattle.cqlp_watch.specs.declared.paired.Paired.TheVariants.{Exchange, Unanswered, Unasked, Event}
 use Rattle.cqlp_watch.specs.Waiting.{exchanges, waiting_of}
 use Rattle.cqlp_watch.specs.Pairings.{Waiting, after_all, new_waiting, told_of}
+use Rattle.cqlp_watch.specs.Watches.{Watched, new_watched}
 
 -- after none of these messages more than so many wait
 abbrev pub IsNeverMore : {T : Type 0} → (limit : ℕ) → List (Message T) → Type 0
@@ -41,3 +42,11 @@ pub record AreTheExchanges {T : Type 0} (limit : ℕ) (ms : List (Message T)) (t
 abbrev pub TellsTheExchanges : Type 0 → Type 0
 TellsTheExchanges T =
     (limit : ℕ) (ms : List (Message T)) → AreTheExchanges limit ms (exchanges_in (told_of ms (new_waiting limit)))
+
+-- ---- one answer, where memory is granted
+
+abbrev pub OneAnswerOfPairing : Type 0 → Type 0
+OneAnswerOfPairing T = (limit : ℕ) (p q : Waiting T) → p ≡ new_waiting limit → q ≡ new_waiting limit → q ≡ p
+
+abbrev pub OneAnswerOfWatch : Type 0
+OneAnswerOfWatch = (limit : ℕ) (v w : Watched) → v ≡ new_watched limit → w ≡ new_watched limit → w ≡ v

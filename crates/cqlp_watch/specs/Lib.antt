@@ -4,4 +4,6 @@ pub mod Directions
 pub mod Whole
 pub mod Waiting
 pub mod Pairings
+pub mod Speakers
+pub mod Watches
 pub mod Laws

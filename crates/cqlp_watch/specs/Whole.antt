@@ -22,7 +22,8 @@ pub record EndsWith (came : Came) (at : ℕ) (bytes : List ℕ) : Type 0 where
 
 -- They are a header, and so many bytes of its body that `left` are still to come.
 pub record IsBegun (responses : Bool) (f : Frame) (left : ℕ) (bytes : List ℕ) : Type 0 where
-  pub head body : List ℕ
+  pub head : List ℕ
+  pub body : List ℕ
   pub is : bytes ≡ head ++ body
   pub nine : length head ≡ 9
   pub says : head_of responses head ≡ Some f.header

@@ -1,6 +1,6 @@
 //! The frames of one direction, by their headers.
 
-ghost use Rattle.std.specs.Prelude.{◌≡◌, ◌≤◌, length};
+ghost use Rattle.std.specs.Prelude.{◌≡◌, ◌≤◌, if◌then◌else◌, length, take, None};
 ghost use Rattle.cqlp_watch.specs.Directions.{cut};
 
 use crate::header_front::HeaderFront;
@@ -61,7 +61,8 @@ pub struct Heads {
 }
 
 impl Heads {
-    ghost use Rattle.cqlp_watch.specs.Directions.{after_end, after_gap, anew, begun, closing, counted, filled, heard, passed, sought, stepping};
+    ghost use Rattle.cqlp_watch.specs.Heads.{head_within};
+    ghost use Rattle.cqlp_watch.specs.Directions.{after_end, after_gap, anew, begun, closing, counted, filled, heard, hears, passed, sought, stepping};
 
     /// A direction of which nothing came: that of the responses, or that of the requests. Its first byte begins a frame, where `from_start`.
     pub fn new(responses: bool, from_start: bool) -> Heads
@@ -155,13 +156,32 @@ impl Heads {
         ensures told { stepping result self.new ≡ sought time begins piece.now self.old }
         ensures within { result.used ≤ length piece.now }
     {
-        let at = self.position;
-        if begins && let Some(header) = HeaderFront::new().with(piece).head(self.responses) {
-            return self.begin(9, header, at, time, time);
+        match self.head_at_begin(piece, begins) {
+            Some(header) => self.begin(9, header, self.position, time, time),
+            None => self.stray(piece.len()),
         }
-        self.count(piece.len() as u64);
+    }
+
+    /// The header that a segment begins with.
+    fn head_at_begin(&self, piece: &[u8], begins: bool) -> Option<Header>
+        ensures { result ≡ (if begins then head_within self.now.responses (take 9 piece.now) else None) }
+    {
+        if begins {
+            HeaderFront::new().with(piece).head(self.responses)
+        } else {
+            None
+        }
+    }
+
+    /// So many bytes are stray.
+    fn stray(&mut self, used: usize) -> HeardStep
+        ensures told { stepping result self.new ≡ hears used Heard.Stray Stage.Lost self.old }
+        ensures within { result.used ≡ used }
+    {
+        self.count(used as u64);
+        self.stage = Stage::Lost;
         HeardStep {
-            used: piece.len(),
+            used,
             heard: Heard::Stray,
         }
     }
@@ -194,14 +214,7 @@ impl Heads {
         }
         match more.head(self.responses) {
             Some(header) => self.begin(used, header, at, begun, time),
-            None => {
-                self.count(used as u64);
-                self.stage = Stage::Lost;
-                HeardStep {
-                    used,
-                    heard: Heard::Stray,
-                }
-            }
+            None => self.stray(used),
         }
     }
 

@@ -1,6 +1,6 @@
 //! Laws of what is told of requests and responses. No code needs them.
 
-ghost use Rattle.cqlp_watch.specs.Laws.{KeepsThoseThatWait, TellsTheExchanges};
+ghost use Rattle.cqlp_watch.specs.Laws.{KeepsThoseThatWait, OneAnswerOfPairing, OneAnswerOfWatch, TellsTheExchanges};
 ghost use Rattle.cqlp_watch.specs.Whole.{TellsWholeFrames};
 
 /// Of any messages in any order: the requests that a [`Pairing`](crate::Pairing) holds are those under whose stream id nothing was said since.
@@ -18,4 +18,10 @@ pub fn exchanges<T>()
 /// on, and none in a gap.
 pub fn whole_frames()
     ensures { TellsWholeFrames }
+{}
+
+/// `Pairing::new` and `Watch::new` have one answer where memory is granted. The clauses of all other calls are equations.
+pub fn one_answer<T>()
+    ensures pairing { OneAnswerOfPairing T }
+    ensures watch { OneAnswerOfWatch }
 {}

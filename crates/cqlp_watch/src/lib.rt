@@ -1,14 +1,19 @@
-//! What the two sides of a connection said to each other: each request with the response that came next under its stream id.
+//! What the two sides of a connection say to each other: each request with the response that comes next under its stream id.
 #![tactic(auto)]
 
-pub mod laws;
 mod header_front;
 mod heads;
+mod kept;
+pub mod laws;
 mod message;
 mod paired;
 mod pairing;
+mod speaker;
+mod watch;
 
 pub use heads::{Heads, Heard, HeardStep};
+pub use kept::Kept;
 pub use message::{Frame, Message};
 pub use paired::{NewPairingError, Paired};
 pub use pairing::Pairing;
+pub use watch::{Watch, WatchStep};

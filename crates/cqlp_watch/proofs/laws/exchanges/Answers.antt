@@ -1,4 +1,4 @@
-use Rattle.cqlp_watch.proofs.Kept.{tells}
+use Rattle.cqlp_watch.proofs.Stood.{tells}
 use Rattle.cqlp_watch.proofs.laws.exchanges.Goals as goal
 
 pub returns : goal.returns

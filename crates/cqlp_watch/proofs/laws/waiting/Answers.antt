@@ -1,4 +1,4 @@
-use Rattle.cqlp_watch.proofs.Kept.{keeps}
+use Rattle.cqlp_watch.proofs.Stood.{keeps}
 use Rattle.cqlp_watch.proofs.laws.waiting.Goals as goal
 
 pub returns : goal.returns
