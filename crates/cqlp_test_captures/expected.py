@@ -341,12 +341,12 @@ def timed_segments_of(file):
 
 
 def header_of(data, responses):
-    """The opcode, stream id and length of nine bytes that are a header of this direction, compressed or not."""
+    """The opcode, stream id, length and flags of nine bytes that are a header of this direction, compressed or not."""
     if len(data) < 9:
         return None
-    version, _, stream, opcode, length = struct.unpack('>BBhBI', data[:9])
+    version, flags, stream, opcode, length = struct.unpack('>BBhBI', data[:9])
     lawful = version == (0x84 if responses else 0x04) and opcode in OPCODES and (opcode not in REQUESTS) == responses
-    return (opcode, stream, length) if lawful and length <= 2**28 else None
+    return (opcode, stream, length, flags) if lawful and length <= 2**28 else None
 
 
 class Side:
@@ -388,8 +388,8 @@ class Side:
                     found, self.head = header_of(self.head, self.responses), b''
                     self.lost = not found
                     if found:
-                        opcode, stream, length = found
-                        self.frame = {'opcode': opcode, 'stream': stream, 'length': length, 'at': self.at, 'begun': self.begun, 'ended': time, 'whole': True, 'left': length, 'kept': b''}
+                        opcode, stream, length, flags = found
+                        self.frame = {'opcode': opcode, 'flags': flags, 'stream': stream, 'length': length, 'at': self.at, 'begun': self.begun, 'ended': time, 'whole': True, 'left': length, 'kept': b''}
             begins = False
 
     def ended(self):
@@ -408,13 +408,31 @@ class Side:
         return [frame] if frame else []
 
 
+def subject(frame):
+    """The text of a QUERY or PREPARE, the id of an EXECUTE, the code of an ERROR or the kind of a RESULT."""
+    kind, body = OPCODES[frame['opcode']], frame['kept']
+    if frame['flags'] & (5 if frame['opcode'] in REQUESTS else 15):
+        return ''
+    if kind in ('Query', 'Prepare') and len(body) >= 4:
+        size = struct.unpack_from('>i', body)[0]
+        if 0 <= size <= len(body) - 4:
+            return ' text "' + body[4:4 + size].decode().replace('\\', '\\\\').replace('"', '\\"') + '"'
+    if kind == 'Execute' and len(body) >= 2:
+        size = struct.unpack_from('>H', body)[0]
+        if size <= len(body) - 2:
+            return f' id {sum_of(body[2:2 + size])}'
+    if kind in ('Error', 'Result') and len(body) >= 4:
+        return f" int {struct.unpack_from('>i', body)[0]}"
+    return ''
+
+
 def exchanges(port, limit, file):
     """A line for each exchange, and for each message that is in none."""
     pairs, sides, waiting, lines = [], [], [], []
 
     def name(frame):
         cut = '' if frame['whole'] else ' cut'
-        return f"{frame['stream']} {OPCODES[frame['opcode']]} {frame['length']} at {frame['at']}{cut} from {frame['begun']} to {frame['ended']} kept {sum_of(frame['kept'])}"
+        return f"{frame['stream']} {OPCODES[frame['opcode']]} {frame['length']} at {frame['at']}{cut} from {frame['begun']} to {frame['ended']} kept {sum_of(frame['kept'])}{subject(frame)}"
 
     def tell(number, side, frames):
         open_requests = waiting[number - 1]

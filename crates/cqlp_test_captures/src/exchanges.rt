@@ -8,7 +8,8 @@ use cqlp_connections::{Connections, Departure, Sight, Told, Way};
 use cqlp_reassembly::StreamStep;
 use cqlp_segment::Segment;
 use cqlp_test_heaps::{Rationed, Refusals};
-use cqlp_watch::{Kept, Message, Paired, Watch};
+use cqlp_note::Prim;
+use cqlp_watch::{Kept, Message, Paired, Watch, subject_of};
 use std::alloc::{Allocator, Global};
 use std::io;
 
@@ -243,7 +244,7 @@ fn say(number: u64, told: Option<&Paired<Kept>>, said: &mut String) -> io::Resul
     Ok(())
 }
 
-/// Writes a message's stream id, opcode, length, place, times and the number of what is kept of its body.
+/// Writes a message's stream id, opcode, length, place, times, the number of what is kept of its body, and what that is about.
 fn put(message: &Message<Kept>, said: &mut String) -> io::Result<()> {
     let frame = message.frame;
     let header = frame.header;
@@ -259,5 +260,14 @@ fn put(message: &Message<Kept>, said: &mut String) -> io::Result<()> {
         frame.begun.unwrap_or(0),
         frame.ended.unwrap_or(0)
     )?;
+    let Some(field) = subject_of(&header, message.kept.as_slice()) else {
+        return Ok(());
+    };
+    match field.value {
+        Prim::Text(text) => write!(said, " text {text:?}")?,
+        Prim::Bytes(Some(id)) => write!(said, " id {}", fold(0, id))?,
+        Prim::Int(number) => write!(said, " int {number}")?,
+        _ => said.push_str(" other")?,
+    }
     Ok(())
 }

@@ -2,12 +2,14 @@
 use Rattle.std.proofs.Common.{inl, inr, ◌⊎◌, ◌≡◌, ◌≢◌, ℕ, zero, suc, ◌+◌, ◌-◌, ◌^◌, ◌<◌, ◌≤◌, Bool, true, false, cond, List, [], ◌∷◌, ◌++◌, length, take, refl, sym, ap, subst, ◌∙◌, arith, append_assoc, append-nil, length-append, Option, Some, None}
 use Rattle.std.specs.Prelude.{map, min, nat_lt, replicate, IfSome, ◌==◌}
 use Rattle.std.proofs.lemmas.Bool.{cases_Bool, ltb-true, ltb-false}
+use Rattle.std.proofs.Math.Dec.{eqb-suc-zero}
 use Rattle.std.proofs.lemmas.List.{map-append, length-map, length-replicate, length-take, length-take-le}
 use Rattle.cqlp_note.specs.declared.header.Header.{Header}
 use Rattle.cqlp_watch.specs.declared.message.Frame.{Frame}
 use Rattle.cqlp_watch.specs.declared.heads.Heads.{Heads}
 use Rattle.cqlp_watch.specs.declared.heads.HeardStep.{HeardStep}
 use Rattle.cqlp_watch.specs.declared.heads.Heard.{Heard}
+use Rattle.cqlp_watch.specs.declared.heads.Heard.TheVariants as heard_as
 use Rattle.cqlp_watch.specs.declared.heads.Stage.{Stage}
 use Rattle.cqlp_watch.specs.declared.heads.Stage.TheVariants as stage
 use Rattle.cqlp_watch.specs.Heads.{head_of, head_within}
@@ -30,7 +32,7 @@ first_came came bytes = record { before = came; is = refl; from = refl }
 used_long : (n : ℕ) (b : List ℕ) → n ≤ length b → length (map Some (take n b)) ≡ n
 used_long n b le = length-map (take n b) Some ∙ length-take-le n b le
 
-take_long : (k : ℕ) (b : List ℕ) → take (length (take k b)) b ≡ take k b
+pub take_long : (k : ℕ) (b : List ℕ) → take (length (take k b)) b ≡ take k b
 take_long zero b = refl
 take_long (suc k) [] = refl
 take_long (suc k) (x ∷ b) = ap (λ (r : List ℕ). x ∷ r) (take_long k b)
@@ -62,22 +64,22 @@ begun_so_far responses came h at first last bytes nine says there = record {
 }
 
 right_sought : (came : Came) (time : Option ℕ) (b : List ℕ) (s : Heads) (o : Option Header) → s.position ≡ length came → length came + length b < 2 ^ 64 → ((h : Header) → o ≡ Some h → head_within s.responses (take 9 b) ≡ Some h) → Right s.responses came b (sought_as o time b s)
-right_sought came time b s None at fits is = right_hears came b s (length b) _ stage.Lost at (omega arith) fits tt tt
+right_sought came time b s None at fits is = right_hears came b s (length b) heard_as.Stray stage.Lost at (omega arith) fits tt tt
 right_sought came time b s (Some h) at fits is =
     let few : length (take 9 b) ≤ 9 = omega (arith, length-take 9 b) in
     let nine = within_nine s.responses (take 9 b) h few (is h refl) in
     let there : EndsWith (came ++ map Some (take 9 b)) s.position (take 9 b) = record { before = came; is = refl; from = sym at } in
-    right_hears came b s 9 _ _ at (omega (arith, length-take 9 b, nine.0)) fits (λ whole. begun_so_far s.responses _ h s.position time time (take 9 b) nine.0 nine.1 there) tt
+    right_hears came b s 9 (heard_as.Begins h) _ at (omega (arith, length-take 9 b, nine.0)) fits (λ whole. begun_so_far s.responses _ h s.position time time (take 9 b) nine.0 nine.1 there) tt
 
 right_begins : (came : Came) (time : Option ℕ) (begins : Bool) (b : List ℕ) (s : Heads) → s.position ≡ length came → length came + length b < 2 ^ 64 → Right s.responses came b (sought time begins b s)
 right_begins came time true b s at fits = right_sought came time b s (head_within s.responses (take 9 b)) at fits (λ h e. e)
 right_begins came time false b s at fits = right_sought came time b s None at fits (λ h e. absurd (cc e))
 
 right_headed : (came : Came) (b : List ℕ) (s : Heads) (o : Option Header) (used at : ℕ) (first last : Option ℕ) (more : List ℕ) → head_within s.responses more ≡ o → length more ≤ 9 → s.position ≡ length came → used ≤ length b → length came + length b < 2 ^ 64 → EndsWith (came ++ map Some (take used b)) at more → Right s.responses came b (begun_if o used at first last s)
-right_headed came b s None used at first last more e few position le fits there = right_hears came b s used _ stage.Lost position le fits tt tt
+right_headed came b s None used at first last more e few position le fits there = right_hears came b s used heard_as.Stray stage.Lost position le fits tt tt
 right_headed came b s (Some h) used at first last more e few position le fits there =
     let nine = within_nine s.responses more h few e in
-    right_hears came b s used _ _ position le fits (λ whole. begun_so_far s.responses _ h at first last more nine.0 nine.1 there) tt
+    right_hears came b s used (heard_as.Begins h) _ position le fits (λ whole. begun_so_far s.responses _ h at first last more nine.0 nine.1 there) tt
 
 right_filled : (came : Came) (front : List ℕ) (at : ℕ) (first last : Option ℕ) (b : List ℕ) (s : Heads) → length front < 9 → EndsWith came at front → s.position ≡ length came → length came + length b < 2 ^ 64 → Right s.responses came b (filled front at first last b s)
 right_filled came front at first last b s few there position fits =
@@ -92,7 +94,7 @@ right_filled came front at first last b s few there position fits =
     let le : used ≤ length b = omega (arith, used_is, cut) in
     let nine : length more ≤ 9 = omega (arith, size, cut) in
     elim (cases_Bool (nat_lt (length more) 9)) [
-      | inl short ↦ rw short (right_hears came b s used _ (stage.Header more at first) position le fits (ltb-true (length more) 9 short, now) tt)
+      | inl short ↦ rw short (right_hears came b s used heard_as.More (stage.Header more at first) position le fits (ltb-true (length more) 9 short, now) tt)
       | inr long ↦ rw long (right_headed came b s (head_within s.responses more) used at first last more refl nine position le fits now)
     ]
 
@@ -117,7 +119,7 @@ right_passed came f left time b s known at fits =
     let used = min (length b) left in
     let le : used ≤ length b = omega arith in
     let long : length (take used b) ≡ used = omega (arith, length-take used b) in
-    right_hears came b s used _ _ at le fits (λ whole. more_of_it s.responses came f left used time (take used b) long (omega arith) (known whole)) tt
+    right_hears came b s used heard_as.Body _ at le fits (λ whole. more_of_it s.responses came f left used time (take used b) long (omega arith) (known whole)) tt
 
 -- ---- any piece
 
@@ -133,7 +135,7 @@ right_in came time begins b responses position (stage.Body f left) at k fits = r
 
 right_some : (came : Came) (time : Option ℕ) (begins : Bool) (b : List ℕ) (responses : Bool) (position : ℕ) (g : Stage) → position ≡ length came → KnowsIn g responses came → length came + length b < 2 ^ 64 → (let s : Heads = record { responses = responses; position = position; stage = g } in Right responses came b (heard_some time begins b s))
 right_some came time begins [] responses position g at k fits = (stays_known came _ (record { position = at; stands = k }), tt)
-right_some came time begins (x ∷ b) responses position g at k fits = right_in came time begins (x ∷ b) responses position g at k fits
+right_some came time begins (x ∷ b) responses position g at k fits = rw (eqb-suc-zero (length b)) (right_in came time begins (x ∷ b) responses position g at k fits)
 
 right_heard : (came : Came) (time : Option ℕ) (begins : Bool) (b : List ℕ) (responses : Bool) (position : ℕ) (g : Stage) → position ≡ length came → KnowsIn g responses came → length came + length b < 2 ^ 64 → (let s : Heads = record { responses = responses; position = position; stage = g } in Right responses came b (heard time begins b s))
 right_heard came time begins b responses position stage.Lost at k fits = right_some came time begins b responses position stage.Lost at k fits
@@ -141,7 +143,7 @@ right_heard came time begins b responses position stage.Between at k fits = righ
 right_heard came time begins b responses position (stage.Header front from first) at k fits = right_some came time begins b responses position (stage.Header front from first) at k fits
 right_heard came time begins b responses position (stage.Body f zero) at k fits =
     (stays_known came _ (record { position = at; stands = tt }), λ whole. let c = k whole in record { bytes = c.bytes; frame = c.frame; there = c.there })
-right_heard came time begins b responses position (stage.Body f (suc left)) at k fits = right_some came time begins b responses position (stage.Body f (suc left)) at k fits
+right_heard came time begins b responses position (stage.Body f (suc left)) at k fits = rw (eqb-suc-zero left) (right_some came time begins b responses position (stage.Body f (suc left)) at k fits)
 
 -- ---- a gap, and the end
 
@@ -150,7 +152,7 @@ Ends responses came told = IfSome told (λ f. f.whole ≡ true → CameWhole res
 
 ended_whole : (responses : Bool) (came : Came) (f : Frame) (left : ℕ) → (f.whole ≡ true → CameSoFar responses came f left) → (cut_if_left left f).whole ≡ true → CameWhole responses came (cut_if_left left f)
 ended_whole responses came f zero k whole = let c = k whole in record { bytes = c.bytes; frame = c.frame; there = c.there }
-ended_whole responses came f (suc left) k whole = absurd (cc whole)
+ended_whole responses came f (suc left) k whole = absurd (let e = rw (eqb-suc-zero left) at whole in cc e)
 
 abbrev AfterGap : (responses : Bool) → Came → ℕ → Closes → Type 0
 AfterGap responses came n x = Knows (came ++ replicate n None) x.after × Ends responses came x.frame

@@ -3,3 +3,4 @@ pub mod Waits
 pub mod Exchanged
 pub mod Stood
 pub mod Came
+pub mod Fed

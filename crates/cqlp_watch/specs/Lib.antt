@@ -2,6 +2,8 @@ pub mod Messages
 pub mod Heads
 pub mod Directions
 pub mod Whole
+pub mod Sent
+pub mod Subjects
 pub mod Waiting
 pub mod Pairings
 pub mod Speakers

@@ -1,6 +1,7 @@
 //! Laws of what is told of requests and responses. No code needs them.
 
 ghost use Rattle.cqlp_watch.specs.Laws.{KeepsThoseThatWait, OneAnswerOfPairing, OneAnswerOfWatch, TellsTheExchanges};
+ghost use Rattle.cqlp_watch.specs.Sent.{TellsEachFrame};
 ghost use Rattle.cqlp_watch.specs.Whole.{TellsWholeFrames};
 
 /// Of any messages in any order: the requests that a [`Pairing`](crate::Pairing) holds are those under whose stream id nothing was said since.
@@ -18,6 +19,12 @@ pub fn exchanges<T>()
 /// on, and none in a gap.
 pub fn whole_frames()
     ensures { TellsWholeFrames }
+{}
+
+/// Of frames that are sent from the start of a direction on, [`Heads`](crate::Heads) tells each where it ends, in order and as whole, in
+/// whatever pieces their bytes come, and tells nothing else.
+pub fn each_frame()
+    ensures { TellsEachFrame }
 {}
 
 /// `Pairing::new` and `Watch::new` have one answer where memory is granted. The clauses of all other calls are equations.

@@ -9,6 +9,7 @@ mod message;
 mod paired;
 mod pairing;
 mod speaker;
+mod subject;
 mod watch;
 
 pub use heads::{Heads, Heard, HeardStep};
@@ -16,4 +17,5 @@ pub use kept::Kept;
 pub use message::{Frame, Message};
 pub use paired::{NewPairingError, Paired};
 pub use pairing::Pairing;
+pub use subject::subject_of;
 pub use watch::{Watch, WatchStep};
