@@ -95,7 +95,9 @@ right_filled came front at first last b s few there position fits =
     let nine : length more ≤ 9 = omega (arith, size, cut) in
     elim (cases_Bool (nat_lt (length more) 9)) [
       | inl short ↦ rw short (right_hears came b s used heard_as.More (stage.Header more at first) position le fits (ltb-true (length more) 9 short, now) tt)
-      | inr long ↦ rw long (right_headed came b s (head_within s.responses more) used at first last more refl nine position le fits now)
+      | inr long ↦
+        let P : Bool → Type 0 = λ c. Right s.responses came b (cond c (hears used heard_as.More (stage.Header more at first) s) (begun_if (head_within s.responses more) used at first last s)) in
+        subst P (sym long) (right_headed came b s (head_within s.responses more) used at first last more refl nine position le fits now)
     ]
 
 -- ---- a body

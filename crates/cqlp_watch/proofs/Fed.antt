@@ -9,10 +9,11 @@ use Rattle.cqlp_note.specs.declared.header.Header.{Header}
 use Rattle.cqlp_watch.specs.declared.message.Frame.{Frame}
 use Rattle.cqlp_watch.specs.declared.heads.Heads.{Heads}
 use Rattle.cqlp_watch.specs.declared.heads.HeardStep.{HeardStep}
+use Rattle.cqlp_watch.specs.declared.heads.Heard.TheVariants as heard_as
 use Rattle.cqlp_watch.specs.declared.heads.Stage.{Stage}
 use Rattle.cqlp_watch.specs.declared.heads.Stage.TheVariants as stage
 use Rattle.cqlp_watch.specs.Heads.{head_of, head_within}
-use Rattle.cqlp_watch.specs.Directions.{Steps, anew, begun_if, filled, heard, heard_in, heard_some, passed, stepping}
+use Rattle.cqlp_watch.specs.Directions.{Steps, anew, begun_if, filled, heard, heard_in, heard_some, hears, passed, stepping}
 use Rattle.cqlp_watch.specs.Sent.{GoesOn, IsAt, IsInBody, Sent, TellsEachFrame, bytes_of}
 use Rattle.cqlp_watch.proofs.Came.{take_long}
 
@@ -63,7 +64,8 @@ goes_filled front at first last b more s sent same few e =
       | inl short ↦ rw short (record { after = sent; told = refl; stands = (ltb-true (length full) 9 short, ahead) })
       | inr long ↦
         let nine : length full ≡ 9 = let least = ltb-false (length full) 9 long in omega (arith, size, cut) in
-        rw long (goes_headed b more s full used at first last sent same nine ahead)
+        let P : Bool → Type 0 = λ c. Goes b more sent (cond c (hears used heard_as.More (stage.Header full at first) s) (begun_if (head_within s.responses full) used at first last s)) in
+        subst P (sym long) (goes_headed b more s full used at first last sent same nine ahead)
     ]
 
 -- ---- a body

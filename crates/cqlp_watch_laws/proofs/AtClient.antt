@@ -13,6 +13,7 @@ use Rattle.cqlp_session.specs.declared.streams.OpenRequest.{OpenRequest}
 use Rattle.cqlp_session.specs.declared.ticket.BeginError.{BeginError}
 use Rattle.cqlp_session.specs.declared.ticket.Ticket.{Ticket}
 use Rattle.cqlp_session.specs.Client.{ClientCore, cancelled, cancels, marked, replied, reply_to, ticket_for}
+use Rattle.cqlp_session.specs.Kind.{answers}
 use Rattle.cqlp_session.specs.Server.{accept_of, answer_of}
 use Rattle.cqlp_session.specs.Slots.{put, under}
 use Rattle.cqlp_session.specs.World.{World, Step, Send, Deliver_up, Answer, Push, Deliver_down, Cancel, Request, Message, delivered_up, event_message, happens, request_message, delivered_down, responded as responded_by, run, sent as sent_by, start, taken_in}
@@ -30,14 +31,11 @@ use Rattle.cqlp_watch.proofs.Exchanged.{exchanges_event, exchanges_request, exch
 use Rattle.cqlp_watch_laws.specs.Honest.{IsView, PairsAsTheClient, Said, answer_in, answers_in, asked, at_client, passing, sent, viewed}
 use Rattle.cqlp_watch_laws.proofs.Views.{Views, event_seen, find_without, id_seen, map_push, no_event_seen, none_without, reply_seen, request_seen, shown}
 
-abbrev Slots : Type 0
-Slots = List (Option OpenRequest)
-
-abbrev Both : Type 0
+abbrev pub Both : Type 0
 Both = List (Seen (Option Request) × Seen (Option Request))
 
 -- the requests that wait, as the observer sees them
-abbrev waits_seen : (Said → Frame) → List Said → Views
+abbrev pub waits_seen : (Said → Frame) → List Said → Views
 waits_seen view h = waiting_of (map (viewed view) h)
 
 -- Under each of the client's ids waits the request that is open there, and each response was paired with its request.
@@ -51,7 +49,7 @@ answers_push view [] m = append-nil (answer_in view m m.tag)
 answers_push view (x ∷ h) m =
     ap (λ (r : Both). answer_in view x x.tag ++ r) (answers_push view h m) ∙ sym (append_assoc (answer_in view x x.tag) (answers_in view h) (answer_in view m m.tag))
 
-same_pairs : (view : Said → Frame) (h : List Said) (m : Said) → answer_in view m m.tag ≡ [] → exchanges (map (viewed view) (h ++ m ∷ [])) ≡ exchanges (map (viewed view) h) → IsPermutation (answers_in view h) (exchanges (map (viewed view) h)) → IsPermutation (answers_in view (h ++ m ∷ [])) (exchanges (map (viewed view) (h ++ m ∷ [])))
+pub same_pairs : (view : Said → Frame) (h : List Said) (m : Said) → answer_in view m m.tag ≡ [] → exchanges (map (viewed view) (h ++ m ∷ [])) ≡ exchanges (map (viewed view) h) → IsPermutation (answers_in view h) (exchanges (map (viewed view) h)) → IsPermutation (answers_in view (h ++ m ∷ [])) (exchanges (map (viewed view) (h ++ m ∷ [])))
 same_pairs view h m none same p =
     let all : answers_in view h ≡ answers_in view (h ++ m ∷ []) =
     sym (append-nil (answers_in view h)) ∙ ap (λ (r : Both). answers_in view h ++ r) (sym none) ∙ sym (answers_push view h m) in
@@ -59,7 +57,7 @@ same_pairs view h m none same p =
 
 -- ---- the client sends a request
 
-waits_sent : (view : Said → Frame) (is : IsView view) (h : List Said) (r : Request) → find (is_under r.ticket.id) (waits_seen view h) ≡ None → waits_seen view (h ++ asked (request_message r) ∷ []) ≡ waits_seen view h ++ shown view r ∷ []
+pub waits_sent : (view : Said → Frame) (is : IsView view) (h : List Said) (r : Request) → find (is_under r.ticket.id) (waits_seen view h) ≡ None → waits_seen view (h ++ asked (request_message r) ∷ []) ≡ waits_seen view h ++ shown view r ∷ []
 waits_sent view is h r none =
     let q = asked (request_message r) in
     let asks : is_request (shown view r) ≡ true = request_seen view is q refl in
@@ -114,44 +112,73 @@ sees_sent view is h w k t e p =
 
 -- ---- a message is delivered to the client
 
+pub waits_event : (view : Said → Frame) (is : IsView view) (h : List Said) (m : Said) → m.seen ≡ event_message.seen → waits_seen view (h ++ m ∷ []) ≡ waits_seen view h
+waits_event view is h m e =
+    ap (λ (ms : Views). waiting_of ms) (map_push (viewed view) h m) ∙ waiting_event (map (viewed view) h) (viewed view m) (event_seen view is m e)
+
+pub pairs_event : (view : Said → Frame) (is : IsView view) (h : List Said) (m : Said) → m.tag ≡ None → m.seen ≡ event_message.seen → IsPermutation (answers_in view h) (exchanges (map (viewed view) h)) → IsPermutation (answers_in view (h ++ m ∷ [])) (exchanges (map (viewed view) (h ++ m ∷ [])))
+pairs_event view is h m untagged e p =
+    same_pairs view h m (ap (λ (o : Option Request). answer_in view m o) untagged) (ap (λ (ms : Views). exchanges ms) (map_push (viewed view) h m) ∙ exchanges_event (map (viewed view) h) (viewed view m) (event_seen view is m e)) p
+
 sees_event : (view : Said → Frame) (is : IsView view) (h : List Said) (m : Said) (slots : List (Option OpenRequest)) → m.tag ≡ None → m.seen ≡ event_message.seen → Sees view h slots → Sees view (h ++ m ∷ []) slots
 sees_event view is h m slots untagged e p =
-    let event = event_seen view is m e in
-    let same : waits_seen view (h ++ m ∷ []) ≡ waits_seen view h =
-    ap (λ (ms : Views). waiting_of ms) (map_push (viewed view) h m) ∙ waiting_event (map (viewed view) h) (viewed view m) event in
+    let same = waits_event view is h m e in
     record {
       free = λ id empty. ap (λ (ms : Views). find (is_under id) ms) same ∙ p.free id empty;
       waits = λ r known. ap (λ (ms : Views). find (is_under r.ticket.id) ms) same ∙ p.waits r known;
-      pairs = same_pairs view h m (ap (λ (o : Option Request). answer_in view m o) untagged) (ap (λ (ms : Views). exchanges ms) (map_push (viewed view) h m) ∙ exchanges_event (map (viewed view) h) (viewed view m) event) p.pairs;
+      pairs = pairs_event view is h m untagged e p.pairs;
     }
 
-nothing_put : (slots : List (Option OpenRequest)) (id : ℤ) → under (put slots id None) id ≡ None
-nothing_put slots id = under_put slots id None ∙ either _
+pub nothing_put : {A : Type 0} (slots : List (Option A)) (id : ℤ) → under (put slots id None) id ≡ None
+nothing_put {A} slots id = under_put slots id None ∙ either _
   where
-    either : (b : Bool) → cond {A = Option OpenRequest} b None None ≡ None
+    either : (b : Bool) → cond {A = Option A} b None None ≡ None
     either true = refl
     either false = refl
 
-sees_answer : (view : Said → Frame) (is : IsView view) (h : List Said) (m : Said) (r : Request) (slots : List (Option OpenRequest)) → m.tag ≡ Some r → IsAnswerTo slots m.seen r → Sees view h slots → Sees view (h ++ m ∷ []) (put slots m.seen.stream None)
-sees_answer view is h m r slots tagged a p =
-    let id = m.seen.stream in
+-- an answer to a request of this kind
+pub record IsReply (m : Said) (r : Request) : Type 0 where
+  pub tagged : m.tag ≡ Some r
+  pub response : m.seen.response ≡ true
+  pub stream : m.seen.stream ≡ r.ticket.id
+  pub kind : RequestKind
+  pub fits : answers kind m.seen.opcode ≡ true
+
+pub waits_answer : (view : Said → Frame) (is : IsView view) (h : List Said) (m : Said) (r : Request) → IsReply m r → waits_seen view (h ++ m ∷ []) ≡ without m.seen.stream (waits_seen view h)
+waits_answer view is h m r a =
     let v = viewed view m in
     let ws = waits_seen view h in
-    let own : id_of v ≡ id = id_seen view is m in
     let response = reply_seen view is m a.response in
-    let isnt = no_event_seen view is m (no_event r.kind m.seen.opcode a.fits) in
+    let isnt = no_event_seen view is m (no_event a.kind m.seen.opcode a.fits) in
     let lone : alone v ≡ [] = rw response refl in
-    let less : waits_seen view (h ++ m ∷ []) ≡ without id ws =
     ap (λ (ms : Views). waiting_of ms) (map_push (viewed view) h m)
     ∙ waiting_push (map (viewed view) h) v isnt
     ∙ ap (λ (ms : Views). without (id_of v) ws ++ ms) lone
     ∙ append-nil (without (id_of v) ws)
-    ∙ ap (λ (i : ℤ). without i ws) own in
-    let asking : find (is_under (id_of v)) ws ≡ Some (shown view r) =
-    ap (λ (i : ℤ). find (is_under i) ws) (own ∙ a.stream) ∙ p.waits r a.known in
+    ∙ ap (λ (i : ℤ). without i ws) (id_seen view is m)
+
+-- It is paired with the request that waits under its id.
+pub pairs_answer : (view : Said → Frame) (is : IsView view) (h : List Said) (m : Said) (r : Request) → IsReply m r → find (is_under m.seen.stream) (waits_seen view h) ≡ Some (shown view r) → IsPermutation (answers_in view h) (exchanges (map (viewed view) h)) → IsPermutation (answers_in view (h ++ m ∷ [])) (exchanges (map (viewed view) (h ++ m ∷ [])))
+pairs_answer view is h m r a found p =
+    let v = viewed view m in
+    let response = reply_seen view is m a.response in
+    let isnt = no_event_seen view is m (no_event a.kind m.seen.opcode a.fits) in
+    let asking : find (is_under (id_of v)) (waits_seen view h) ≡ Some (shown view r) =
+    ap (λ (i : ℤ). find (is_under i) (waits_seen view h)) (id_seen view is m) ∙ found in
     let with_it : IsPermutation (exchanges (map (viewed view) h ++ v ∷ [])) (exchanges (map (viewed view) h) ++ (shown view r, v) ∷ []) =
     subst (λ (o : Option (Seen (Option Request))). IsPermutation (exchanges (map (viewed view) h ++ v ∷ [])) (exchanges (map (viewed view) h) ++ pair_with v o)) asking (exchanges_response (map (viewed view) h) v response isnt) in
-    let one : answer_in view m m.tag ≡ (shown view r, v) ∷ [] = ap (λ (o : Option Request). answer_in view m o) tagged ∙ rw a.response refl in
+    let one : answer_in view m m.tag ≡ (shown view r, v) ∷ [] = ap (λ (o : Option Request). answer_in view m o) a.tagged ∙ rw a.response refl in
+    subst (λ (b : Both). IsPermutation b (exchanges (map (viewed view) (h ++ m ∷ [])))) (ap (λ (b : Both). answers_in view h ++ b) (sym one) ∙ sym (answers_push view h m))
+    (subst (λ (ms : Views). IsPermutation (answers_in view h ++ (shown view r, v) ∷ []) (exchanges ms)) (sym (map_push (viewed view) h m))
+    (IsPermutation-trans _ _ _ (IsPermutation-append_left ((shown view r, v) ∷ []) _ _ p) (IsPermutation-sym _ _ with_it)))
+
+sees_answer : (view : Said → Frame) (is : IsView view) (h : List Said) (m : Said) (r : Request) (slots : List (Option OpenRequest)) → m.tag ≡ Some r → IsAnswerTo slots m.seen r → Sees view h slots → Sees view (h ++ m ∷ []) (put slots m.seen.stream None)
+sees_answer view is h m r slots tagged a p =
+    let id = m.seen.stream in
+    let ws = waits_seen view h in
+    let reply : IsReply m r = record { tagged = tagged; response = a.response; stream = a.stream; kind = r.kind; fits = a.fits } in
+    let less = waits_answer view is h m r reply in
+    let asking : find (is_under id) ws ≡ Some (shown view r) = ap (λ (i : ℤ). find (is_under i) ws) a.stream ∙ p.waits r a.known in
     record {
       free = λ other empty. ap (λ (ms : Views). find (is_under other) ms) less ∙ elim (cases_int other id) [
         | inl same ↦ subst (λ (i : ℤ). find (is_under i) (without id ws) ≡ None) (sym same) (none_without id ws (waiting_apart (map (viewed view) h)))
@@ -163,10 +190,7 @@ sees_answer view is h m r slots tagged a p =
           let before : IsKnown slots s = record { entry = known.entry; there = sym (under_put_other slots id s.ticket.id None ne) ∙ known.there; number = known.number; kind = known.kind } in
           ap (λ (ms : Views). find (is_under s.ticket.id) ms) less ∙ find_without id s.ticket.id ws ne ∙ p.waits s before
       ];
-      pairs =
-        subst (λ (b : Both). IsPermutation b (exchanges (map (viewed view) (h ++ m ∷ [])))) (ap (λ (b : Both). answers_in view h ++ b) (sym one) ∙ sym (answers_push view h m))
-        (subst (λ (ms : Views). IsPermutation (answers_in view h ++ (shown view r, v) ∷ []) (exchanges ms)) (sym (map_push (viewed view) h m))
-        (IsPermutation-trans _ _ _ (IsPermutation-append_left ((shown view r, v) ∷ []) _ _ p.pairs) (IsPermutation-sym _ _ with_it)));
+      pairs = pairs_answer view is h m r reply asking p.pairs;
     }
 
 sees_came : (view : Said → Frame) (is : IsView view) (h : List Said) (m : Said) (c : ClientCore) (tag : Option Request) → m.tag ≡ tag → IsComingAs c.slots m.seen tag → Sees view h c.slots → Sees view (h ++ m ∷ []) (replied c m.seen (reply_to c m.seen)).slots
@@ -192,7 +216,7 @@ unmarked slots (Some o) id e r same k =
       kind = sym (ap (λ (x : OpenRequest). x.kind) entries) ∙ k.kind;
     }
 
-marked_none : (slots : List (Option OpenRequest)) (o : Option OpenRequest) (id : ℤ) → under slots id ≡ o → under (put slots id (option_map marked o)) id ≡ None → o ≡ None
+pub marked_none : (slots : List (Option OpenRequest)) (o : Option OpenRequest) (id : ℤ) → under slots id ≡ o → under (put slots id (option_map marked o)) id ≡ None → o ≡ None
 marked_none slots None id e empty = refl
 marked_none slots (Some o) id e empty = absurd (let here = under_put_same slots id (Some (marked o)) (has_taken slots id o e) in cc (here, empty))
 
