@@ -1,5 +1,5 @@
 -- What a reader of headers knows after each call.
-use Rattle.std.proofs.Common.{inl, inr, ◌⊎◌, ◌≡◌, ◌≢◌, ℕ, zero, suc, ◌+◌, ◌-◌, ◌^◌, ◌<◌, ◌≤◌, Bool, true, false, cond, List, [], ◌∷◌, ◌++◌, length, take, refl, sym, ap, subst, ◌∙◌, arith, append_assoc, append-nil, length-append, Option, Some, None}
+use Rattle.std.proofs.Common.{inl, inr, ◌≡◌, ℕ, zero, suc, ◌+◌, ◌-◌, ◌^◌, ◌<◌, ◌≤◌, Bool, true, false, cond, List, [], ◌∷◌, ◌++◌, length, take, refl, sym, ap, subst, ◌∙◌, arith, append_assoc, append-nil, length-append, Option, Some, None}
 use Rattle.std.specs.Prelude.{map, min, nat_lt, replicate, IfSome, ◌==◌}
 use Rattle.std.proofs.lemmas.Bool.{cases_Bool, ltb-true, ltb-false}
 use Rattle.std.proofs.Math.Dec.{eqb-suc-zero}
@@ -7,14 +7,13 @@ use Rattle.std.proofs.lemmas.List.{map-append, length-map, length-replicate, len
 use Rattle.cqlp_note.specs.declared.header.Header.{Header}
 use Rattle.cqlp_watch.specs.declared.message.Frame.{Frame}
 use Rattle.cqlp_watch.specs.declared.heads.Heads.{Heads}
-use Rattle.cqlp_watch.specs.declared.heads.HeardStep.{HeardStep}
 use Rattle.cqlp_watch.specs.declared.heads.Heard.{Heard}
 use Rattle.cqlp_watch.specs.declared.heads.Heard.TheVariants as heard_as
 use Rattle.cqlp_watch.specs.declared.heads.Stage.{Stage}
 use Rattle.cqlp_watch.specs.declared.heads.Stage.TheVariants as stage
 use Rattle.cqlp_watch.specs.Heads.{head_of, head_within}
-use Rattle.cqlp_watch.specs.Directions.{Closes, Steps, after_end, after_gap, anew, begun, begun_if, closing, cut_if_left, end_in, filled, gap_in, heard, heard_in, heard_some, hears, passed, sought, sought_as, stepping}
-use Rattle.cqlp_watch.specs.Whole.{Came, CameSoFar, CameWhole, EndsWhole, EndsWith, IsBegun, Knows, KnowsIn, TellsWholeFrames, used_of}
+use Rattle.cqlp_watch.specs.Directions.{Closes, Steps, after_gap, anew, begun_if, cut_if_left, end_in, filled, heard, heard_in, heard_some, hears, passed, sought, sought_as}
+use Rattle.cqlp_watch.specs.Whole.{Came, CameSoFar, CameWhole, EndsWhole, EndsWith, Knows, KnowsIn, TellsWholeFrames, used_of}
 
 -- ---- bytes that come
 
@@ -96,8 +95,8 @@ right_filled came front at first last b s few there position fits =
     elim (cases_Bool (nat_lt (length more) 9)) [
       | inl short ↦ rw short (right_hears came b s used heard_as.More (stage.Header more at first) position le fits (ltb-true (length more) 9 short, now) tt)
       | inr long ↦
-        let P : Bool → Type 0 = λ c. Right s.responses came b (cond c (hears used heard_as.More (stage.Header more at first) s) (begun_if (head_within s.responses more) used at first last s)) in
-        subst P (sym long) (right_headed came b s (head_within s.responses more) used at first last more refl nine position le fits now)
+          let P : Bool → Type 0 = λ c. Right s.responses came b (cond c (hears used heard_as.More (stage.Header more at first) s) (begun_if (head_within s.responses more) used at first last s)) in
+          subst P (sym long) (right_headed came b s (head_within s.responses more) used at first last more refl nine position le fits now)
     ]
 
 -- ---- a body
@@ -133,7 +132,9 @@ right_in came time begins b responses position stage.Lost at k fits = right_begi
 right_in came time begins b responses position stage.Between at k fits =
     right_filled came [] position time time b _ (omega arith) (record { before = came; is = sym (append-nil came); from = sym at }) at fits
 right_in came time begins b responses position (stage.Header front from first) at k fits = right_filled came front from first time b _ k.0 k.1 at fits
-right_in came time begins b responses position (stage.Body f left) at k fits = right_passed came f left time b _ k at fits
+right_in came time begins b responses position (stage.Body f left) at k fits =
+    let s : Heads = record { responses = responses; position = position; stage = stage.Body f left } in
+    right_passed came f left time b s k at fits
 
 right_some : (came : Came) (time : Option ℕ) (begins : Bool) (b : List ℕ) (responses : Bool) (position : ℕ) (g : Stage) → position ≡ length came → KnowsIn g responses came → length came + length b < 2 ^ 64 → (let s : Heads = record { responses = responses; position = position; stage = g } in Right responses came b (heard_some time begins b s))
 right_some came time begins [] responses position g at k fits = (stays_known came _ (record { position = at; stands = k }), tt)
@@ -205,8 +206,9 @@ new_known responses true = record { position = refl; stands = tt }
 new_known responses false = record { position = refl; stands = tt }
 
 pub tells_whole : TellsWholeFrames
-tells_whole =
-    (new_known,
-    λ came time begins b old new step e k fits. subst (λ (x : Steps). Right old.responses came b x) (sym e) (right_heard came time begins b old.responses old.position old.stage k.position k.stands fits),
-    λ came n old new told e k fits. subst (λ (x : Closes). AfterGap old.responses came n x) (sym e) (right_gap came n old.responses old.position old.stage k.position k.stands fits),
-    λ came old new told e k. subst (λ (x : Closes). Ends old.responses came x.frame) (sym e) (right_end came old.responses old.stage k.stands))
+tells_whole = (
+  new_known,
+  λ came time begins b old new step e k fits. subst (λ (x : Steps). Right old.responses came b x) (sym e) (right_heard came time begins b old.responses old.position old.stage k.position k.stands fits),
+  λ came n old new told e k fits. subst (λ (x : Closes). AfterGap old.responses came n x) (sym e) (right_gap came n old.responses old.position old.stage k.position k.stands fits),
+  λ came old new told e k. subst (λ (x : Closes). Ends old.responses came x.frame) (sym e) (right_end came old.responses old.stage k.stands),
+)

@@ -1,14 +1,14 @@
 -- Which exchanges there are once another message comes.
-use Rattle.std.proofs.Common.{inl, inr, ◌⊎◌, ◌≡◌, ◌≢◌, ℕ, Bool, true, false, cond, not, List, [], ◌∷◌, ◌++◌, refl, sym, ap, subst, ◌∙◌, append_assoc, append-nil, Option, Some, None, ℤ}
-use Rattle.std.specs.Prelude.{find, is_none, ◌&&◌, if◌then◌else◌}
+use Rattle.std.proofs.Common.{inl, inr, ◌≡◌, Bool, true, false, List, [], ◌∷◌, ◌++◌, refl, sym, ap, subst, ◌∙◌, append_assoc, append-nil, Option, Some, None, ℤ}
+use Rattle.std.specs.Prelude.{find, ◌&&◌}
 use Rattle.std.specs.List.Sorted.{IsPermutation}
 use Rattle.std.proofs.lemmas.Bool.{cases_Bool}
 use Rattle.std.proofs.lemmas.List.Sorted.{IsPermutation-refl, IsPermutation-sym, IsPermutation-trans, IsPermutation-cons, IsPermutation-to_front, IsPermutation-append_right}
 use Rattle.cqlp_watch.specs.declared.message.Message.{Message}
 use Rattle.cqlp_watch.specs.Messages.{id_of, is_event, is_request, is_said_under, is_under}
 use Rattle.cqlp_watch.specs.Waiting.{exchange_with, exchanges, next_under, waiting_of, waits}
-use Rattle.cqlp_watch.proofs.Lists.{cases_Option, find_back, find_front, id_is, int_eq_turned}
-use Rattle.cqlp_watch.proofs.Waits.{both_true, found_none, found_some, no_event_under, next_none, under_if_said, waits_none}
+use Rattle.cqlp_watch.proofs.Lists.{cases_Option, find_front, id_is, int_eq_turned}
+use Rattle.cqlp_watch.proofs.Waits.{both_true, found_none, found_some, no_event_under, under_if_said, waits_none}
 
 abbrev pub Pairs : Type 0 → Type 0
 Pairs T = List (Message T × Message T)
@@ -88,16 +88,16 @@ exchanges_response {T} (x ∷ h) m response isnt =
     let rest = exchanges_response h m response isnt in
     elim (cases_Bool (is_said_under (id_of x) m)) [
       | inr not_said ↦
-        let apart : is_under (id_of m) x ≡ false = int_eq_turned (id_of x) (id_of m) ∙ under_if_said (id_of x) m not_said isnt in
-        let next = found_none (is_said_under (id_of x)) h m not_said in
-        elim (cases_Bool (waits x h)) [
-          | inl does ↦ same_first x m h next (rw (does, apart) refl) rest
-          | inr not_does ↦ same_first x m h next (rw not_does refl) rest
-        ]
+          let apart : is_under (id_of m) x ≡ false = int_eq_turned (id_of x) (id_of m) ∙ under_if_said (id_of x) m not_said isnt in
+          let next = found_none (is_said_under (id_of x)) h m not_said in
+          elim (cases_Bool (waits x h)) [
+            | inl does ↦ same_first x m h next (rw (does, apart) refl) rest
+            | inr not_does ↦ same_first x m h next (rw not_does refl) rest
+          ]
       | inl said ↦ elim (cases_Option (next_under x h)) [
         | inr some ↦
-          let next = find_front (is_said_under (id_of x)) h (m ∷ []) some.0 some.1 ∙ sym some.1 in
-          same_first x m h next (rw (found_answered x h some.0 some.1) refl) rest
+            let next = find_front (is_said_under (id_of x)) h (m ∷ []) some.0 some.1 ∙ sym some.1 in
+            same_first x m h next (rw (found_answered x h some.0 some.1) refl) rest
         | inl none ↦ elim (cases_Bool (is_request x)) [
           | inl is ↦ first_answered x m h response is none said rest
           | inr not_is ↦ unasked x m h not_is rest

@@ -1,5 +1,5 @@
 -- A reader of headers tells each frame that is sent.
-use Rattle.std.proofs.Common.{inl, inr, ◌⊎◌, ◌≡◌, ◌≢◌, ℕ, zero, suc, ◌+◌, ◌-◌, ◌<◌, ◌≤◌, Bool, true, false, cond, List, [], ◌∷◌, ◌++◌, length, take, drop, refl, sym, ap, subst, ◌∙◌, arith, append_assoc, append-nil, length-append, Option, Some, None}
+use Rattle.std.proofs.Common.{inl, inr, ◌≡◌, ℕ, zero, suc, ◌+◌, ◌-◌, ◌<◌, ◌≤◌, Bool, false, cond, List, [], ◌∷◌, ◌++◌, length, take, drop, refl, sym, ap, subst, ◌∙◌, arith, append_assoc, length-append, Option, Some}
 use Rattle.std.specs.Prelude.{min, nat_lt}
 use Rattle.std.proofs.Math.Dec.{eqb-suc-zero}
 use Rattle.std.proofs.Math.Seq.{drop-append_seam, take-append_seam}
@@ -8,12 +8,11 @@ use Rattle.std.proofs.lemmas.List.{drop-append-le, length-drop, length-take, tak
 use Rattle.cqlp_note.specs.declared.header.Header.{Header}
 use Rattle.cqlp_watch.specs.declared.message.Frame.{Frame}
 use Rattle.cqlp_watch.specs.declared.heads.Heads.{Heads}
-use Rattle.cqlp_watch.specs.declared.heads.HeardStep.{HeardStep}
 use Rattle.cqlp_watch.specs.declared.heads.Heard.TheVariants as heard_as
 use Rattle.cqlp_watch.specs.declared.heads.Stage.{Stage}
 use Rattle.cqlp_watch.specs.declared.heads.Stage.TheVariants as stage
 use Rattle.cqlp_watch.specs.Heads.{head_of, head_within}
-use Rattle.cqlp_watch.specs.Directions.{Steps, anew, begun_if, filled, heard, heard_in, heard_some, hears, passed, stepping}
+use Rattle.cqlp_watch.specs.Directions.{Steps, begun_if, filled, heard, heard_in, heard_some, hears, passed}
 use Rattle.cqlp_watch.specs.Sent.{GoesOn, IsAt, IsInBody, Sent, TellsEachFrame, bytes_of}
 use Rattle.cqlp_watch.proofs.Came.{take_long}
 
@@ -22,9 +21,10 @@ Goes b more sent x = GoesOn x.step x.after b more sent
 
 -- two ways to cut a list at one place
 split : (xs us ys vs : List ℕ) → length xs ≡ length us → xs ++ ys ≡ us ++ vs → (xs ≡ us) × (ys ≡ vs)
-split xs us ys vs long e =
-    (sym (take-append_seam xs ys) ∙ ap (λ (r : List ℕ). take (length xs) r) e ∙ ap (λ (n : ℕ). take n (us ++ vs)) long ∙ take-append_seam us vs,
-    sym (drop-append_seam xs ys) ∙ ap (λ (r : List ℕ). drop (length xs) r) e ∙ ap (λ (n : ℕ). drop n (us ++ vs)) long ∙ drop-append_seam us vs)
+split xs us ys vs long e = (
+  sym (take-append_seam xs ys) ∙ ap (λ (r : List ℕ). take (length xs) r) e ∙ ap (λ (n : ℕ). take n (us ++ vs)) long ∙ take-append_seam us vs,
+  sym (drop-append_seam xs ys) ∙ ap (λ (r : List ℕ). drop (length xs) r) e ∙ ap (λ (n : ℕ). drop n (us ++ vs)) long ∙ drop-append_seam us vs,
+)
 
 -- ---- a header
 
@@ -63,9 +63,9 @@ goes_filled front at first last b more s sent same few e =
     elim (cases_Bool (nat_lt (length full) 9)) [
       | inl short ↦ rw short (record { after = sent; told = refl; stands = (ltb-true (length full) 9 short, ahead) })
       | inr long ↦
-        let nine : length full ≡ 9 = let least = ltb-false (length full) 9 long in omega (arith, size, cut) in
-        let P : Bool → Type 0 = λ c. Goes b more sent (cond c (hears used heard_as.More (stage.Header full at first) s) (begun_if (head_within s.responses full) used at first last s)) in
-        subst P (sym long) (goes_headed b more s full used at first last sent same nine ahead)
+          let nine : length full ≡ 9 = let least = ltb-false (length full) 9 long in omega (arith, size, cut) in
+          let P : Bool → Type 0 = λ c. Goes b more sent (cond c (hears used heard_as.More (stage.Header full at first) s) (begun_if (head_within s.responses full) used at first last s)) in
+          subst P (sym long) (goes_headed b more s full used at first last sent same nine ahead)
     ]
 
 -- ---- a body
@@ -93,10 +93,12 @@ goes_passed f left time b more s sent p =
 -- ---- any piece
 
 goes_in : {responses : Bool} (time : Option ℕ) (begins : Bool) (b more : List ℕ) (position : ℕ) (g : Stage) (sent : List (Sent responses)) → IsAt g (b ++ more) sent → (let s : Heads = record { responses = responses; position = position; stage = g } in Goes b more sent (heard_in g time begins b s))
-goes_in time begins b more position stage.Lost sent p = absurd p
-goes_in time begins b more position stage.Between sent p = goes_filled [] position time time b more _ sent refl (omega arith) p
-goes_in time begins b more position (stage.Header front at first) sent p = goes_filled front at first time b more _ sent refl p.0 p.1
-goes_in time begins b more position (stage.Body f left) sent p = goes_passed f left time b more _ sent p
+goes_in {responses} time begins b more position stage.Lost sent p = absurd p
+goes_in {responses} time begins b more position stage.Between sent p = goes_filled [] position time time b more _ sent refl (omega arith) p
+goes_in {responses} time begins b more position (stage.Header front at first) sent p = goes_filled front at first time b more _ sent refl p.0 p.1
+goes_in {responses} time begins b more position (stage.Body f left) sent p =
+    let s : Heads = record { responses = responses; position = position; stage = stage.Body f left } in
+    goes_passed f left time b more s sent p
 
 goes_some : {responses : Bool} (time : Option ℕ) (begins : Bool) (b more : List ℕ) (position : ℕ) (g : Stage) (sent : List (Sent responses)) → IsAt g (b ++ more) sent → (let s : Heads = record { responses = responses; position = position; stage = g } in Goes b more sent (heard_some time begins b s))
 goes_some time begins [] more position g sent p = record { after = sent; told = refl; stands = p }
@@ -118,6 +120,7 @@ goes_heard time begins b more position (stage.Body f zero) sent p = record {
 goes_heard time begins b more position (stage.Body f (suc left)) sent p = rw (eqb-suc-zero left) (goes_some time begins b more position (stage.Body f (suc left)) sent p)
 
 pub tells_each : TellsEachFrame
-tells_each =
-    (λ responses sent. refl,
-    λ time begins b more old new step sent e p. subst (λ (x : Steps). Goes b more sent x) (sym e) (goes_heard time begins b more old.position old.stage sent p))
+tells_each = (
+  λ responses sent. refl,
+  λ time begins b more old new step sent e p. subst (λ (x : Steps). Goes b more sent x) (sym e) (goes_heard time begins b more old.position old.stage sent p),
+)

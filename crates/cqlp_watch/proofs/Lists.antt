@@ -1,6 +1,6 @@
 -- Lists of messages: the first under an id, and the others.
-use Rattle.std.proofs.Common.{inl, inr, ◌⊎◌, ◌≡◌, ◌≢◌, ℕ, zero, suc, ◌<◌, Bool, true, false, cond, not, List, [], ◌∷◌, ◌++◌, length, get_or, refl, sym, ap, subst, ◌∙◌, arith, Option, Some, None, ℤ}
-use Rattle.std.specs.Prelude.{find, is_none}
+use Rattle.std.proofs.Common.{inl, inr, ◌⊎◌, ◌≡◌, ℕ, zero, suc, ◌<◌, Bool, true, false, cond, List, [], ◌∷◌, ◌++◌, length, get_or, refl, sym, ap, subst, ◌∙◌, arith, Option, Some, None, ℤ}
+use Rattle.std.specs.Prelude.{find}
 use Rattle.std.specs.Ordering.{int_eq}
 use Rattle.std.specs.List.{position, position_or_len, remove}
 use Rattle.std.proofs.lemmas.List.Folds.{find_at}
@@ -87,8 +87,8 @@ pub without_split : {T : Type 0} (id : ℤ) (a b : List (Message T)) → Apart (
 without_split id [] b h = refl
 without_split {T} id (m ∷ a) b h = elim (cases_Bool (is_under id m)) [
   | inl is ↦
-    let none : find (is_under id) (a ++ b) ≡ None = subst (λ (i : ℤ). find (is_under i) (a ++ b) ≡ None) (id_is id m is) h.0 in
-    rw is (ap (λ (r : List (Message T)). a ++ r) (sym (without_none id b (none_behind (is_under id) a b none))))
+      let none : find (is_under id) (a ++ b) ≡ None = subst (λ (i : ℤ). find (is_under i) (a ++ b) ≡ None) (id_is id m is) h.0 in
+      rw is (ap (λ (r : List (Message T)). a ++ r) (sym (without_none id b (none_behind (is_under id) a b none))))
   | inr isnt ↦ rw isnt (ap (λ (r : List (Message T)). m ∷ r) (without_split id a b h.1))
 ]
 
@@ -97,8 +97,8 @@ pub none_twice : {T : Type 0} (id : ℤ) (a b : List (Message T)) (q : Message T
 none_twice id [] b q h e = refl
 none_twice {T} id (m ∷ a) b q h e = elim (cases_Bool (is_under id m)) [
   | inl is ↦
-    let none : find (is_under id) (a ++ b) ≡ None = subst (λ (i : ℤ). find (is_under i) (a ++ b) ≡ None) (id_is id m is) h.0 in
-    absurd (let f = none_behind (is_under id) a b none in cc (e, f))
+      let none : find (is_under id) (a ++ b) ≡ None = subst (λ (i : ℤ). find (is_under i) (a ++ b) ≡ None) (id_is id m is) h.0 in
+      absurd (let f = none_behind (is_under id) a b none in cc (e, f))
   | inr isnt ↦ rw isnt (none_twice id a b q h.1 e)
 ]
 

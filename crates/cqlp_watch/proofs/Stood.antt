@@ -1,13 +1,12 @@
 -- What stands after each message: those that wait, and the exchanges that were told.
-use Rattle.std.proofs.Common.{inl, inr, ◌⊎◌, ◌≡◌, ◌≢◌, ℕ, ◌+◌, ◌<◌, ◌≤◌, Bool, true, false, cond, not, List, [], ◌∷◌, ◌++◌, length, take, drop, refl, sym, ap, subst, ◌∙◌, arith, append_assoc, append-nil, length-append, Option, Some, None, ℤ}
-use Rattle.std.specs.Prelude.{find, nat_lt, slice_get, if◌then◌else◌}
+use Rattle.std.proofs.Common.{inl, inr, ◌≡◌, ℕ, ◌+◌, ◌≤◌, true, false, List, [], ◌∷◌, ◌++◌, length, take, drop, refl, sym, ap, subst, ◌∙◌, arith, append_assoc, append-nil, length-append, Option, Some, None}
+use Rattle.std.specs.Prelude.{find, nat_lt, slice_get}
 use Rattle.std.specs.List.Sorted.{IsPermutation}
 use Rattle.std.proofs.lemmas.Bool.{cases_Bool, ltb-false}
 use Rattle.std.proofs.lemmas.List.{take-append-drop}
-use Rattle.std.proofs.lemmas.List.Sorted.{IsPermutation-refl, IsPermutation-sym, IsPermutation-trans, IsPermutation-append_left, IsPermutation-append_right, IsPermutation-append_comm}
+use Rattle.std.proofs.lemmas.List.Sorted.{IsPermutation-refl, IsPermutation-trans, IsPermutation-append_left, IsPermutation-append_right, IsPermutation-append_comm}
 use Rattle.cqlp_watch.specs.declared.message.Message.{Message}
 use Rattle.cqlp_watch.specs.declared.paired.Paired.{Paired}
-use Rattle.cqlp_watch.specs.declared.paired.Paired.TheVariants.{Exchange, Unanswered, Unasked, Event}
 use Rattle.cqlp_watch.specs.Messages.{id_of, is_event, is_request, is_under}
 use Rattle.cqlp_watch.specs.Waiting.{exchanges, waiting_of}
 use Rattle.cqlp_watch.specs.Pairings.{Waiting, after_all, new_waiting, taken, told_of, told_or_none, without}
@@ -53,8 +52,8 @@ keeps_response : {T : Type 0} (limit : ℕ) (h held : List (Message T)) (m : Mes
 keeps_response {T} limit h held m isnt response p = record {
   lost = without (id_of m) p.lost;
   wait = pushed limit h held m isnt p
-    ∙ ap (λ (r : List (Message T)). (without (id_of m) p.lost ++ without (id_of m) held) ++ r) (alone_not m response)
-    ∙ append-nil (without (id_of m) p.lost ++ without (id_of m) held);
+      ∙ ap (λ (r : List (Message T)). (without (id_of m) p.lost ++ without (id_of m) held) ++ r) (alone_not m response)
+      ∙ append-nil (without (id_of m) p.lost ++ without (id_of m) held);
   all = lost_none limit h held m p;
 }
 
@@ -62,8 +61,8 @@ keeps_request : {T : Type 0} (limit : ℕ) (h held : List (Message T)) (m : Mess
 keeps_request {T} limit h held m is p = record {
   lost = without (id_of m) p.lost;
   wait = pushed limit h held m (request_is_no_event m is) p
-    ∙ ap (λ (r : List (Message T)). (without (id_of m) p.lost ++ without (id_of m) held) ++ r) (alone_is m is)
-    ∙ append_assoc (without (id_of m) p.lost) (without (id_of m) held) (m ∷ []);
+      ∙ ap (λ (r : List (Message T)). (without (id_of m) p.lost ++ without (id_of m) held) ++ r) (alone_is m is)
+      ∙ append_assoc (without (id_of m) p.lost) (without (id_of m) held) (m ∷ []);
   all = lost_none limit h held m p;
 }
 
@@ -76,15 +75,15 @@ keeps_crowded : {T : Type 0} (limit : ℕ) (h held : List (Message T)) (m : Mess
 keeps_crowded {T} limit h held m full p = record {
   lost = p.lost ++ take 1 held;
   wait = p.wait
-    ∙ ap (λ (r : List (Message T)). p.lost ++ (r ++ m ∷ [])) (sym (take-append-drop 1 held))
-    ∙ ap (λ (r : List (Message T)). p.lost ++ r) (append_assoc (take 1 held) (drop 1 held) (m ∷ []))
-    ∙ sym (append_assoc p.lost (take 1 held) (drop 1 held ++ m ∷ []));
+      ∙ ap (λ (r : List (Message T)). p.lost ++ (r ++ m ∷ [])) (sym (take-append-drop 1 held))
+      ∙ ap (λ (r : List (Message T)). p.lost ++ r) (append_assoc (take 1 held) (drop 1 held) (m ∷ []))
+      ∙ sym (append_assoc p.lost (take 1 held) (drop 1 held ++ m ∷ []));
   all = λ k. absurd (
-    let few = all_more limit (h ++ m ∷ []) k in
-    let many : length (waiting_of (h ++ m ∷ [])) ≡ length p.lost + (length held + 1) =
-    ap length p.wait ∙ length-append p.lost (held ++ m ∷ []) ∙ ap (λ (n : ℕ). length p.lost + n) (length-append held (m ∷ [])) in
-    omega arith
-  );
+      let few = all_more limit (h ++ m ∷ []) k in
+      let many : length (waiting_of (h ++ m ∷ [])) ≡ length p.lost + (length held + 1) =
+      ap length p.wait ∙ length-append p.lost (held ++ m ∷ []) ∙ ap (λ (n : ℕ). length p.lost + n) (length-append held (m ∷ [])) in
+      omega arith
+      );
 }
 
 -- ---- what stands
@@ -106,7 +105,7 @@ one_more : {T : Type 0} (limit : ℕ) (h : List (Message T)) (m q : Message T) (
 one_more {T} limit h m q done with_it p = record {
   missed = p.missed;
   each = subst (λ (r : Pairs T). IsPermutation (exchanges (h ++ m ∷ [])) r) (append_assoc p.missed done ((q, m) ∷ []))
-    (IsPermutation-trans _ _ _ with_it (IsPermutation-append_left ((q, m) ∷ []) _ _ p.each));
+      (IsPermutation-trans _ _ _ with_it (IsPermutation-append_left ((q, m) ∷ []) _ _ p.each));
   all = λ k. p.all (front_more limit h m k);
 }
 
@@ -141,16 +140,16 @@ stands_request {T} limit h m w done is p =
     elim (cases_Option (find (is_under (id_of m)) w.waiting)) [
       | inr some ↦ rw (isnt, is, some.1) (record { same = p.same; wait = keeps_request limit h w.waiting m is p.wait; exchanged = more })
       | inl none ↦
-        let kept = keeps_new limit h w.waiting m is none p.wait in
-        elim (cases_Bool (nat_lt (length w.waiting) w.limit)) [
-          | inl room ↦ rw (isnt, is, none, room) (record { same = p.same; wait = kept; exchanged = more })
-          | inr no_room ↦
-            let full : limit ≤ length w.waiting = subst (λ (n : ℕ). n ≤ length w.waiting) p.same (ltb-false (length w.waiting) w.limit no_room) in
-            elim (cases_Option (slice_get w.waiting 0)) [
-              | inr first ↦ rw (isnt, is, none, no_room, first.1) (record { same = p.same; wait = keeps_crowded limit h w.waiting m full kept; exchanged = more })
-              | inl nobody ↦ rw (isnt, is, none, no_room, nobody) (record { same = p.same; wait = keeps_crowded limit h w.waiting m full kept; exchanged = more })
-            ]
-        ]
+          let kept = keeps_new limit h w.waiting m is none p.wait in
+          elim (cases_Bool (nat_lt (length w.waiting) w.limit)) [
+            | inl room ↦ rw (isnt, is, none, room) (record { same = p.same; wait = kept; exchanged = more })
+            | inr no_room ↦
+                let full : limit ≤ length w.waiting = subst (λ (n : ℕ). n ≤ length w.waiting) p.same (ltb-false (length w.waiting) w.limit no_room) in
+                elim (cases_Option (slice_get w.waiting 0)) [
+                  | inr first ↦ rw (isnt, is, none, no_room, first.1) (record { same = p.same; wait = keeps_crowded limit h w.waiting m full kept; exchanged = more })
+                  | inl nobody ↦ rw (isnt, is, none, no_room, nobody) (record { same = p.same; wait = keeps_crowded limit h w.waiting m full kept; exchanged = more })
+                ]
+          ]
     ]
 
 stands_response : {T : Type 0} (limit : ℕ) (h : List (Message T)) (m : Message T) (w : Waiting T) (done : List (Message T × Message T)) → is_event m ≡ false → is_request m ≡ false → Stands limit h w done → Stands limit (h ++ m ∷ []) (taken m w).after (done ++ exchanges_in (told_or_none (taken m w).told))
@@ -164,16 +163,16 @@ stands_response {T} limit h m w done isnt response p =
     let apart : Apart (p.wait.lost ++ w.waiting) = subst (λ (r : List (Message T)). Apart r) p.wait.wait (waiting_apart h) in
     elim (cases_Option (find (is_under (id_of m)) w.waiting)) [
       | inr some ↦
-        let nobody = none_twice (id_of m) p.wait.lost w.waiting some.0 apart some.1 in
-        let found = find_back (is_under (id_of m)) p.wait.lost w.waiting nobody ∙ some.1 in
-        rw (isnt, response, some.1) (record { same = p.same; wait = kept; exchanged = one_more limit h m some.0 done (with_it (Some some.0) found) p.exchanged })
+          let nobody = none_twice (id_of m) p.wait.lost w.waiting some.0 apart some.1 in
+          let found = find_back (is_under (id_of m)) p.wait.lost w.waiting nobody ∙ some.1 in
+          rw (isnt, response, some.1) (record { same = p.same; wait = kept; exchanged = one_more limit h m some.0 done (with_it (Some some.0) found) p.exchanged })
       | inl none ↦ elim (cases_Option (find (is_under (id_of m)) p.wait.lost)) [
         | inr gone ↦
-          let found = find_front (is_under (id_of m)) p.wait.lost w.waiting gone.0 gone.1 in
-          rw (isnt, response, none) (record { same = p.same; wait = kept; exchanged = one_missed limit h p.wait.lost m gone.0 done (with_it (Some gone.0) found) gone.1 p.wait.all p.exchanged })
+            let found = find_front (is_under (id_of m)) p.wait.lost w.waiting gone.0 gone.1 in
+            rw (isnt, response, none) (record { same = p.same; wait = kept; exchanged = one_missed limit h p.wait.lost m gone.0 done (with_it (Some gone.0) found) gone.1 p.wait.all p.exchanged })
         | inl nobody ↦
-          let found = find_back (is_under (id_of m)) p.wait.lost w.waiting nobody ∙ none in
-          rw (isnt, response, none) (record { same = p.same; wait = kept; exchanged = unasked limit h m done (with_it None found) p.exchanged })
+            let found = find_back (is_under (id_of m)) p.wait.lost w.waiting nobody ∙ none in
+            rw (isnt, response, none) (record { same = p.same; wait = kept; exchanged = unasked limit h m done (with_it None found) p.exchanged })
       ]
     ]
   where
@@ -181,7 +180,7 @@ stands_response {T} limit h m w done isnt response p =
     unasked {T} limit h m done same p = record {
       missed = p.missed;
       each = subst (λ (r : Pairs T). IsPermutation (exchanges (h ++ m ∷ [])) (p.missed ++ r)) (sym (append-nil done))
-        (IsPermutation-trans _ _ _ (subst (λ (r : Pairs T). IsPermutation (exchanges (h ++ m ∷ [])) r) (append-nil (exchanges h)) same) p.each);
+          (IsPermutation-trans _ _ _ (subst (λ (r : Pairs T). IsPermutation (exchanges (h ++ m ∷ [])) r) (append-nil (exchanges h)) same) p.each);
       all = λ k. p.all (front_more limit h m k);
     }
 

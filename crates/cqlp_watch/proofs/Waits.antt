@@ -1,7 +1,6 @@
 -- Which requests wait once another message comes.
-use Rattle.std.proofs.Common.{inl, inr, ◌⊎◌, ◌≡◌, ◌≢◌, ℕ, Bool, true, false, cond, not, List, [], ◌∷◌, ◌++◌, refl, sym, ap, subst, ◌∙◌, Option, Some, None, ℤ}
+use Rattle.std.proofs.Common.{inl, inr, ◌≡◌, Bool, true, false, not, List, [], ◌∷◌, ◌++◌, refl, sym, ap, subst, ◌∙◌, Option, Some, None, ℤ}
 use Rattle.std.specs.Prelude.{find, is_none, ◌&&◌, if◌then◌else◌}
-use Rattle.std.specs.Ordering.{int_eq}
 use Rattle.std.proofs.lemmas.Bool.{cases_Bool}
 use Rattle.cqlp_watch.specs.declared.message.Message.{Message}
 use Rattle.cqlp_watch.specs.Messages.{id_of, is_event, is_request, is_said_under, is_under}
@@ -49,11 +48,11 @@ waits_none id [] e = refl
 waits_none id (m ∷ ms) e = elim (cases_Bool (is_said_under id m)) [
   | inl is ↦ absurd (let f = rw is at e in cc f)
   | inr isnt ↦
-    let rest = waits_none id ms (rw isnt at e) in
-    elim (cases_Bool (waits m ms)) [
-      | inl does ↦ rw does (none_waiting id m ms (waiting_of ms) _ does isnt rest)
-      | inr not_does ↦ rw not_does rest
-    ]
+      let rest = waits_none id ms (rw isnt at e) in
+      elim (cases_Bool (waits m ms)) [
+        | inl does ↦ rw does (none_waiting id m ms (waiting_of ms) _ does isnt rest)
+        | inr not_does ↦ rw not_does rest
+      ]
 ]
 
 pub next_none : {X : Type 0} (a : Bool) (o : Option X) → a && is_none o ≡ true → o ≡ None
@@ -137,13 +136,13 @@ waiting_push {T} (x ∷ ms) m isnt =
       | inr not_does ↦ rw (not_does, never_waits x m ms not_does) rest
       | inl does ↦ elim (cases_Bool (is_said_under (id_of x) m)) [
         | inl said ↦
-          let under : is_under (id_of x) m ≡ true = both_true (is_under (id_of x) m) (is_event m) said in
-          let turned : is_under (id_of m) x ≡ true = int_eq_turned (id_of x) (id_of m) ∙ under in
-          let none : find (is_under (id_of m)) (waiting_of ms) ≡ None =
-          subst (λ (i : ℤ). find (is_under i) (waiting_of ms) ≡ None) (sym (id_is (id_of x) m under)) (waits_none (id_of x) ms (next_none (is_request x) (next_under x ms) does)) in
-          rw (does, waits_no_more x m ms does said, turned) (rest ∙ ap (λ (r : List (Message T)). r ++ alone m) (without_none (id_of m) (waiting_of ms) none))
+            let under : is_under (id_of x) m ≡ true = both_true (is_under (id_of x) m) (is_event m) said in
+            let turned : is_under (id_of m) x ≡ true = int_eq_turned (id_of x) (id_of m) ∙ under in
+            let none : find (is_under (id_of m)) (waiting_of ms) ≡ None =
+            subst (λ (i : ℤ). find (is_under i) (waiting_of ms) ≡ None) (sym (id_is (id_of x) m under)) (waits_none (id_of x) ms (next_none (is_request x) (next_under x ms) does)) in
+            rw (does, waits_no_more x m ms does said, turned) (rest ∙ ap (λ (r : List (Message T)). r ++ alone m) (without_none (id_of m) (waiting_of ms) none))
         | inr not_said ↦
-          let apart : is_under (id_of m) x ≡ false = int_eq_turned (id_of x) (id_of m) ∙ under_if_said (id_of x) m not_said isnt in
-          rw (waits_apart x m ms not_said, does, apart) (ap (λ (r : List (Message T)). x ∷ r) rest)
+            let apart : is_under (id_of m) x ≡ false = int_eq_turned (id_of x) (id_of m) ∙ under_if_said (id_of x) m not_said isnt in
+            rw (waits_apart x m ms not_said, does, apart) (ap (λ (r : List (Message T)). x ∷ r) rest)
       ]
     ]

@@ -1,5 +1,5 @@
 -- One direction of a connection: what its bytes and gaps are.
-use Rattle.std.specs.Prelude.{ℕ, zero, suc, ◌+◌, ◌-◌, ◌^◌, ◌==◌, Bool, true, false, List, [], ◌∷◌, ◌++◌, length, take, min, Option, Some, None, nat_lt, if◌then◌else◌}
+use Rattle.std.specs.Prelude.{ℕ, ◌+◌, ◌-◌, ◌^◌, ◌==◌, Bool, true, false, List, [], ◌++◌, length, take, min, Option, Some, None, nat_lt, if◌then◌else◌}
 use Rattle.cqlp_note.specs.declared.header.Header.{Header}
 use Rattle.cqlp_watch.specs.declared.message.Frame.{Frame}
 use Rattle.cqlp_watch.specs.declared.heads.Heads.{Heads}
@@ -8,7 +8,7 @@ use Rattle.cqlp_watch.specs.declared.heads.Heard.{Heard}
 use Rattle.cqlp_watch.specs.declared.heads.Heard.TheVariants as heard_as
 use Rattle.cqlp_watch.specs.declared.heads.Stage.{Stage}
 use Rattle.cqlp_watch.specs.declared.heads.Stage.TheVariants as stage
-use Rattle.cqlp_watch.specs.Heads.{head_of, head_within}
+use Rattle.cqlp_watch.specs.Heads.{head_within}
 
 abbrev pub direction : Bool → ℕ → Stage → Heads
 direction responses position at = record { responses = responses; position = position; stage = at }

@@ -1,9 +1,8 @@
 -- The frames of one direction, by their headers (section 2 of native_protocol_v4.spec).
-use Rattle.std.specs.Prelude.{◌≡◌, ℕ, ◌+◌, ◌-◌, ◌^◌, ◌==◌, ◌&&◌, ◌||◌, ◌<◌, Bool, true, false, not, List, [], ◌∷◌, ◌++◌, length, take, min, Option, Some, None, nat_lt, nat_le, slice_index, slice_set, bit_and, if◌then◌else◌, Result, Ok, Err}
+use Rattle.std.specs.Prelude.{ℕ, Bool, List, length, Option, Some, None, nat_lt, slice_index, slice_set, bit_and, if◌then◌else◌, Result, Ok, Err}
 use Rattle.cqlp_note.specs.declared.header.Header.{Header}
 use Rattle.cqlp_note.specs.declared.refusal.Reason.{Reason}
 use Rattle.cqlp_note.specs.Heading.{heading, same}
-use Rattle.cqlp_watch.specs.declared.message.Frame.{Frame}
 
 -- ---- a header, whose frame may be compressed (flag 01, section 2.2)
 

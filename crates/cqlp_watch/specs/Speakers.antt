@@ -1,5 +1,5 @@
 -- One side of a connection: the frames that it sends, each with the first bytes of its body.
-use Rattle.std.specs.Prelude.{ℕ, ◌-◌, Bool, true, false, List, [], ◌++◌, length, take, Option, Some, None, is_some, option_map, if◌then◌else◌}
+use Rattle.std.specs.Prelude.{ℕ, ◌-◌, Bool, true, false, List, [], ◌++◌, length, take, Option, Some, None, if◌then◌else◌}
 use Rattle.cqlp_watch.specs.declared.heads.Heads.{Heads}
 use Rattle.cqlp_watch.specs.declared.heads.Heard.{Heard}
 use Rattle.cqlp_watch.specs.declared.heads.Heard.TheVariants as heard_as

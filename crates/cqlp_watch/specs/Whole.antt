@@ -1,5 +1,5 @@
 -- What came of a direction, and what its reader knows of it: a frame that is told as whole came whole.
-use Rattle.std.specs.Prelude.{◌≡◌, ℕ, ◌+◌, ◌^◌, ◌<◌, Bool, true, List, [], ◌∷◌, ◌++◌, length, map, take, replicate, Option, Some, None, IfSome, ⊤}
+use Rattle.std.specs.Prelude.{◌≡◌, ℕ, ◌+◌, ◌^◌, ◌<◌, Bool, true, List, [], ◌++◌, length, map, take, replicate, Option, Some, None, IfSome, ⊤}
 use Rattle.cqlp_watch.specs.declared.message.Frame.{Frame}
 use Rattle.cqlp_watch.specs.declared.heads.Heads.{Heads}
 use Rattle.cqlp_watch.specs.declared.heads.HeardStep.{HeardStep}

@@ -22,7 +22,10 @@ pub(crate) enum Stage {
         begun: Option<u64>,
     },
     /// In the body of this frame, of which so many bytes are still to come.
-    Body { frame: Frame, left: u32 },
+    Body {
+        frame: Frame,
+        left: u32,
+    },
 }
 
 /// What bytes of a direction are.
@@ -249,13 +252,7 @@ impl Heads {
     }
 
     /// Takes bytes of a body.
-    fn pass(
-        &mut self,
-        frame: Frame,
-        left: u32,
-        piece: &[u8],
-        time: Option<u64>,
-    ) -> HeardStep
+    fn pass(&mut self, frame: Frame, left: u32, piece: &[u8], time: Option<u64>) -> HeardStep
         ensures told { stepping result self.new ≡ passed frame left time piece.now self.old }
         ensures within { result.used ≤ length piece.now }
     {

@@ -14,11 +14,17 @@ pub enum Paired<T> {
     },
     /// A request whose response was not seen: another request came under its stream id, or it waited longest where too many did, or the
     /// connection ended.
-    Unanswered { request: Message<T> },
+    Unanswered {
+        request: Message<T>,
+    },
     /// A response under a stream id under which no request waits.
-    Unasked { response: Message<T> },
+    Unasked {
+        response: Message<T>,
+    },
     /// An event that the node pushed.
-    Event { event: Message<T> },
+    Event {
+        event: Message<T>,
+    },
 }
 
 /// Why requests cannot be watched.

@@ -1,8 +1,5 @@
-use Rattle.std.proofs.Common.{◌≡◌, rules, arith, w16, SFits, ap, sym, subst, ◌∙◌, Option, Some, None}
-use Rattle.std.specs.Prelude.{position, find}
+use Rattle.std.proofs.Common.{rules, w16, SFits, ap, sym, ◌∙◌, Some}
 use Rattle.std.proofs.lemmas.Int.{to_z-of_z}
-use Rattle.cqlp_watch.specs.Messages.{is_under}
-use Rattle.cqlp_watch.specs.Pairings.{without}
 use Rattle.cqlp_watch.proofs.Lists.{not_placed, placed}
 use Rattle.cqlp_watch.proofs.pairing.leave.Goals as goal
 
