@@ -1,9 +1,9 @@
 -- What an observer at the client's end has seen, after each step.
-use Rattle.std.proofs.Common.{inl, inr, ◌⊎◌, ◌≡◌, ◌≢◌, ℕ, Bool, true, false, cond, not, List, [], ◌∷◌, ◌++◌, take, refl, sym, ap, subst, ◌∙◌, append_assoc, append-nil, Option, Some, None, Ok, Err, Result, ℤ}
-use Rattle.std.specs.Prelude.{find, map, option_map, ◌&&◌, if◌then◌else◌}
+use Rattle.std.proofs.Common.{inl, inr, ◌≡◌, ℕ, Bool, true, false, cond, List, [], ◌∷◌, ◌++◌, take, refl, sym, ap, subst, ◌∙◌, append_assoc, append-nil, Option, Some, None, Ok, Err, Result, ℤ}
+use Rattle.std.specs.Prelude.{find, map, option_map}
+use Rattle.std.specs.Ordering.{int_eq}
 use Rattle.std.specs.List.{AllByRecursion}
 use Rattle.std.specs.List.Sorted.{IsPermutation}
-use Rattle.std.proofs.lemmas.Bool.{cases_Bool}
 use Rattle.std.proofs.lemmas.List.Sorted.{IsPermutation-refl, IsPermutation-sym, IsPermutation-trans, IsPermutation-append_left}
 use Rattle.cqlp_note.specs.declared.opcode.Opcode.{Opcode}
 use Rattle.cqlp_session.specs.declared.kind.RequestKind.{RequestKind}
@@ -17,15 +17,15 @@ use Rattle.cqlp_session.specs.Kind.{answers}
 use Rattle.cqlp_session.specs.Server.{accept_of, answer_of}
 use Rattle.cqlp_session.specs.Slots.{put, under}
 use Rattle.cqlp_session.specs.World.{World, Step, Send, Deliver_up, Answer, Push, Deliver_down, Cancel, Request, Message, delivered_up, event_message, happens, request_message, delivered_down, responded as responded_by, run, sent as sent_by, start, taken_in}
-use Rattle.cqlp_session.proofs.Paired.{IsAnswerTo, IsComing, IsComingAs, IsKnown, IsPaired, freed, no_event, paired_happens, replied_freed, start_paired, ticket_found}
+use Rattle.cqlp_session.proofs.Paired.{IsAnswerTo, IsComing, IsComingAs, IsKnown, IsPaired, no_event, paired_happens, replied_freed, start_paired, ticket_found}
 use Rattle.cqlp_session.proofs.Progress.{under_put}
 use Rattle.cqlp_session.proofs.Under.{cases_int, has_taken, int_eq_other, int_eq_same, under_new, under_put_other, under_put_same}
 use Rattle.cqlp_watch.specs.declared.message.Frame.{Frame}
 use Rattle.cqlp_watch.specs.declared.message.Message.{Message as Seen}
-use Rattle.cqlp_watch.specs.Messages.{id_of, is_event, is_request, is_under}
+use Rattle.cqlp_watch.specs.Messages.{id_of, is_request, is_under}
 use Rattle.cqlp_watch.specs.Waiting.{exchanges, waiting_of}
 use Rattle.cqlp_watch.specs.Pairings.{without}
-use Rattle.cqlp_watch.proofs.Lists.{Apart, find_front, without_none}
+use Rattle.cqlp_watch.proofs.Lists.{find_front, without_none}
 use Rattle.cqlp_watch.proofs.Waits.{alone, found_none, found_some, request_is_no_event, waiting_apart, waiting_event, waiting_push}
 use Rattle.cqlp_watch.proofs.Exchanged.{exchanges_event, exchanges_request, exchanges_response, pair_with}
 use Rattle.cqlp_watch_laws.specs.Honest.{IsView, PairsAsTheClient, Said, answer_in, answers_in, asked, at_client, passing, sent, viewed}
@@ -89,23 +89,23 @@ sees_sent view is h w k t e p =
       free = λ id empty. elim (cases_int id t.id) [
         | inl same ↦ absurd (let there = ap (under (put slots t.id (Some entry))) same in cc (there, here, empty))
         | inr other ↦
-          let not_own : is_under id (shown view r) ≡ false = ap (λ (i : ℤ). int_eq i id) (id_seen view is q) ∙ int_eq_other t.id id (λ e. other (sym e)) in
-          ap (λ (ms : Views). find (is_under id) ms) more
-          ∙ found_none (is_under id) (waits_seen view h) (shown view r) not_own
-          ∙ p.free id (sym (under_put_other slots t.id id (Some entry) other) ∙ empty)
+            let not_own : is_under id (shown view r) ≡ false = ap (λ (i : ℤ). int_eq i id) (id_seen view is q) ∙ int_eq_other t.id id (λ e. other (sym e)) in
+            ap (λ (ms : Views). find (is_under id) ms) more
+            ∙ found_none (is_under id) (waits_seen view h) (shown view r) not_own
+            ∙ p.free id (sym (under_put_other slots t.id id (Some entry) other) ∙ empty)
       ];
       waits = λ s known. elim (cases_int s.ticket.id t.id) [
         | inl same ↦
-          let there = ap (under (put slots t.id (Some entry))) same in
-          let entries : known.entry ≡ entry = cc (there, here, known.there) in
-          let is_it : s ≡ r = same_request s t k same (sym known.number ∙ ap (λ (o : OpenRequest). o.number) entries) (sym known.kind ∙ ap (λ (o : OpenRequest). o.kind) entries) in
-          let found : find (is_under t.id) (waits_seen view (h ++ q ∷ [])) ≡ Some (shown view r) =
-          ap (λ (ms : Views). find (is_under t.id) ms) more ∙ found_some (is_under t.id) (waits_seen view h) (shown view r) none own in
-          subst (λ (x : Request). find (is_under x.ticket.id) (waits_seen view (h ++ q ∷ [])) ≡ Some (shown view x)) (sym is_it) found
+            let there = ap (under (put slots t.id (Some entry))) same in
+            let entries : known.entry ≡ entry = cc (there, here, known.there) in
+            let is_it : s ≡ r = same_request s t k same (sym known.number ∙ ap (λ (o : OpenRequest). o.number) entries) (sym known.kind ∙ ap (λ (o : OpenRequest). o.kind) entries) in
+            let found : find (is_under t.id) (waits_seen view (h ++ q ∷ [])) ≡ Some (shown view r) =
+            ap (λ (ms : Views). find (is_under t.id) ms) more ∙ found_some (is_under t.id) (waits_seen view h) (shown view r) none own in
+            subst (λ (x : Request). find (is_under x.ticket.id) (waits_seen view (h ++ q ∷ [])) ≡ Some (shown view x)) (sym is_it) found
         | inr other ↦
-          let before : IsKnown slots s = record { entry = known.entry; there = sym (under_put_other slots t.id s.ticket.id (Some entry) other) ∙ known.there; number = known.number; kind = known.kind } in
-          ap (λ (ms : Views). find (is_under s.ticket.id) ms) more
-          ∙ find_front (is_under s.ticket.id) (waits_seen view h) (shown view r ∷ []) (shown view s) (p.waits s before)
+            let before : IsKnown slots s = record { entry = known.entry; there = sym (under_put_other slots t.id s.ticket.id (Some entry) other) ∙ known.there; number = known.number; kind = known.kind } in
+            ap (λ (ms : Views). find (is_under s.ticket.id) ms) more
+            ∙ find_front (is_under s.ticket.id) (waits_seen view h) (shown view r ∷ []) (shown view s) (p.waits s before)
       ];
       pairs = same_pairs view h q refl (ap (λ (ms : Views). exchanges ms) (map_push (viewed view) h q) ∙ exchanges_request (map (viewed view) h) (shown view r) asks) p.pairs;
     }
@@ -187,8 +187,8 @@ sees_answer view is h m r slots tagged a p =
       waits = λ s known. elim (cases_int s.ticket.id id) [
         | inl same ↦ absurd (let there = ap (under (put slots id None)) same in let gone = nothing_put slots id in cc (there, gone, known.there))
         | inr ne ↦
-          let before : IsKnown slots s = record { entry = known.entry; there = sym (under_put_other slots id s.ticket.id None ne) ∙ known.there; number = known.number; kind = known.kind } in
-          ap (λ (ms : Views). find (is_under s.ticket.id) ms) less ∙ find_without id s.ticket.id ws ne ∙ p.waits s before
+            let before : IsKnown slots s = record { entry = known.entry; there = sym (under_put_other slots id s.ticket.id None ne) ∙ known.there; number = known.number; kind = known.kind } in
+            ap (λ (ms : Views). find (is_under s.ticket.id) ms) less ∙ find_without id s.ticket.id ws ne ∙ p.waits s before
       ];
       pairs = pairs_answer view is h m r reply asking p.pairs;
     }

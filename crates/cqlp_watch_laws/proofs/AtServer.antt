@@ -1,10 +1,9 @@
 -- What an observer at the server's end has seen, after each step.
-use Rattle.std.proofs.Common.{inl, inr, ◌⊎◌, ◌≡◌, ◌≢◌, ℕ, ◌+◌, ◌≤◌, Bool, true, false, cond, not, List, [], ◌∷◌, ◌++◌, take, refl, sym, ap, subst, ◌∙◌, arith, append_assoc, append-nil, Option, Some, None, Ok, Err, Result, ℤ}
-use Rattle.std.specs.Prelude.{find, map, option_map, ◌&&◌, if◌then◌else◌, ⊤}
+use Rattle.std.proofs.Common.{inl, inr, ◌≡◌, ◌≢◌, ◌≤◌, Bool, true, false, List, [], ◌∷◌, ◌++◌, take, refl, sym, ap, subst, ◌∙◌, arith, append_assoc, append-nil, Option, Some, None, Ok, Err, Result, ℤ}
+use Rattle.std.specs.Prelude.{find, map, option_map, ⊤}
 use Rattle.std.specs.List.{AllByRecursion}
 use Rattle.std.specs.List.Sorted.{IsPermutation}
 use Rattle.std.specs.Ordering.{int_eq}
-use Rattle.std.proofs.lemmas.Bool.{cases_Bool}
 use Rattle.std.proofs.lemmas.List.Sorted.{IsPermutation-refl}
 use Rattle.cqlp_note.specs.declared.opcode.Opcode.{Opcode}
 use Rattle.cqlp_session.specs.declared.kind.RequestKind.{RequestKind}
@@ -18,12 +17,12 @@ use Rattle.cqlp_session.specs.Server.{accept_of, answer_of}
 use Rattle.cqlp_session.specs.Signal.{Signal}
 use Rattle.cqlp_session.specs.Slots.{put, under}
 use Rattle.cqlp_session.specs.World.{World, Step, Send, Deliver_up, Answer, Push, Deliver_down, Cancel, Request, Message, answer_message, delivered_down, delivered_up, event_message, happens, last_under, request_message, responded as responded_by, run, sent as sent_by, start, taken_in}
-use Rattle.cqlp_session.proofs.Paired.{IsAnswerTo, IsComing, IsComingAs, IsPaired, IsSent, IsTaken, answer_found, flights, is_coming_under, is_sent_under, is_tagged_under, known_apart, paired_happens, replied_freed, start_paired, ticket_found}
-use Rattle.cqlp_session.proofs.Under.{cases_int, count, each_both, each_push, each_weaker, int_eq_other, int_eq_same, none_counted, under_new, under_put_other, under_put_same}
+use Rattle.cqlp_session.proofs.Paired.{IsComing, IsComingAs, IsPaired, IsSent, answer_found, flights, is_coming_under, is_sent_under, is_tagged_under, known_apart, paired_happens, replied_freed, start_paired, ticket_found}
+use Rattle.cqlp_session.proofs.Under.{cases_int, each_both, each_push, each_weaker, int_eq_other, int_eq_same, none_counted, under_new, under_put_other, under_put_same}
 use Rattle.cqlp_watch.specs.declared.message.Frame.{Frame}
 use Rattle.cqlp_watch.specs.declared.message.Message.{Message as Seen}
-use Rattle.cqlp_watch.specs.Messages.{id_of, is_event, is_request, is_under}
-use Rattle.cqlp_watch.specs.Waiting.{exchanges, waiting_of}
+use Rattle.cqlp_watch.specs.Messages.{is_request, is_under}
+use Rattle.cqlp_watch.specs.Waiting.{exchanges}
 use Rattle.cqlp_watch.specs.Pairings.{without}
 use Rattle.cqlp_watch.proofs.Lists.{find_front}
 use Rattle.cqlp_watch.proofs.Waits.{found_none, found_some, waiting_apart}
@@ -132,9 +131,9 @@ came_up view is h w m rest q s e p none others =
     record {
       free = λ id empty. ap (λ (ms : Views). find (is_under id) ms) more ∙ none_more view is ws r id (known_apart w.client.slots id r empty s.known) (p.free id empty);
       up = moved (λ (n : Message Request) ms. find (is_under n.tag.ticket.id) ms ≡ None) rest _ _ more
-        (each_weaker _ _ rest (λ n both. none_more view is ws r n.tag.ticket.id (λ same. absurd (cc (ap (λ (i : ℤ). int_eq i r.ticket.id) (sym same) ∙ int_eq_same r.ticket.id, both.1))) both.0) (each_both _ _ rest others only.up));
+          (each_weaker _ _ rest (λ n both. none_more view is ws r n.tag.ticket.id (λ same. absurd (cc (ap (λ (i : ℤ). int_eq i r.ticket.id) (sym same) ∙ int_eq_same r.ticket.id, both.1))) both.0) (each_both _ _ rest others only.up));
       down = moved (λ (n : Message (Option Request)) ms. NoneUnder ms n.tag) w.down _ _ more
-        (each_weaker _ _ w.down (λ n both. other_tag view is ws r n.tag both.1 both.0) (each_both _ _ w.down p.down only.down));
+          (each_weaker _ _ w.down (λ n both. other_tag view is ws r n.tag both.1 both.0) (each_both _ _ w.down p.down only.down));
       pairs = same_pairs view h (asked (request_message r)) refl (ap (λ (ms : Views). exchanges ms) (map_push (viewed view) h (asked (request_message r))) ∙ exchanges_request (map (viewed view) h) (shown view r) asks) p.pairs;
     }
 
@@ -164,12 +163,12 @@ hears_taken view is h w m rest (Ok j) own c none p =
       down = c.down;
       serving = λ id k r there last. elim (cases_int id m.seen.stream) [
         | inl same ↦
-          let is_it : m.tag ≡ r = let a = last_same w.taken m id (sym same) in cc (a, last) in
-          let found = subst (λ (i : ℤ). find (is_under i) (waits_seen view all) ≡ Some (shown view m.tag)) (sym (same ∙ own)) (now_found view is h m.tag none) in
-          subst (λ (x : Request). find (is_under id) (waits_seen view all) ≡ Some (shown view x)) is_it found
+            let is_it : m.tag ≡ r = let a = last_same w.taken m id (sym same) in cc (a, last) in
+            let found = subst (λ (i : ℤ). find (is_under i) (waits_seen view all) ≡ Some (shown view m.tag)) (sym (same ∙ own)) (now_found view is h m.tag none) in
+            subst (λ (x : Request). find (is_under id) (waits_seen view all) ≡ Some (shown view x)) is_it found
         | inr other ↦
-          still_found view is h m.tag id _ none
-          (p.serving id k r (sym (under_put_other w.server.slots m.seen.stream id (Some j) other) ∙ there) (sym (last_other w.taken m id (λ e. other (sym e))) ∙ last))
+            still_found view is h m.tag id _ none
+            (p.serving id k r (sym (under_put_other w.server.slots m.seen.stream id (Some j) other) ∙ there) (sym (last_other w.taken m id (λ e. other (sym e))) ∙ last))
       ];
       pairs = c.pairs;
     }
@@ -207,8 +206,8 @@ hears_answer view is h w id o (Ok k) e q p =
       free = λ other empty. ap (λ (ms : Views). find (is_under other) ms) less ∙ none_less view h id other (p.free other empty);
       up = moved (λ (n : Message Request) ms. find (is_under n.tag.ticket.id) ms ≡ None) w.up _ _ less (each_weaker _ _ w.up (λ n none. none_less view h id n.tag.ticket.id none) p.up);
       down = each_push _ w.down m
-        (moved (λ (n : Message (Option Request)) ms. NoneUnder ms n.tag) w.down _ _ less (each_weaker _ _ w.down (λ n none. down_less view h id n.tag none) p.down))
-        (subst (λ (tag : Option Request). NoneUnder (waits_seen view (h ++ m ∷ [])) tag) (sym t.last) gone);
+          (moved (λ (n : Message (Option Request)) ms. NoneUnder ms n.tag) w.down _ _ less (each_weaker _ _ w.down (λ n none. down_less view h id n.tag none) p.down))
+          (subst (λ (tag : Option Request). NoneUnder (waits_seen view (h ++ m ∷ [])) tag) (sym t.last) gone);
       serving = λ other j s there last. elim (cases_int other id) [
         | inl same ↦ absurd (let here = ap (under (put w.server.slots id None)) same in let none = nothing_put w.server.slots id in cc (here, none, there))
         | inr ne ↦ ap (λ (ms : Views). find (is_under other) ms) less ∙ find_without id other ws ne ∙ p.serving other j s (sym (under_put_other w.server.slots id other None ne) ∙ there) last

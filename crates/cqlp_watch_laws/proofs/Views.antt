@@ -1,19 +1,18 @@
 -- What an observer sees of messages.
-use Rattle.std.proofs.Common.{inl, inr, ◌⊎◌, ◌≡◌, ◌≢◌, ℕ, Bool, true, false, cond, not, List, [], ◌∷◌, ◌++◌, refl, sym, ap, subst, ◌∙◌, Option, Some, None, ℤ, pos, negsuc}
+use Rattle.std.proofs.Common.{inl, inr, ◌≡◌, ◌≢◌, Bool, true, false, not, List, [], ◌∷◌, ◌++◌, refl, sym, ap, subst, ◌∙◌, Option, None, ℤ}
 use Rattle.std.specs.Prelude.{find, map, ◌&&◌}
-use Rattle.std.specs.Ordering.{int_eq}
 use Rattle.std.proofs.lemmas.Bool.{cases_Bool}
 use Rattle.cqlp_note.specs.declared.opcode.Opcode.{Opcode}
 use Rattle.cqlp_note.specs.declared.opcode.Opcode.TheVariants as opcode
 use Rattle.cqlp_session.specs.Signal as signal
 use Rattle.cqlp_session.specs.Signal.{Signal, signal_of}
-use Rattle.cqlp_session.specs.World.{Request, Message, event_message, request_message}
-use Rattle.cqlp_session.proofs.Under.{cases_int, int_eq_other, int_eq_same}
+use Rattle.cqlp_session.specs.World.{Request, event_message, request_message}
+use Rattle.cqlp_session.proofs.Under.{int_eq_other}
 use Rattle.cqlp_watch.specs.declared.message.Frame.{Frame}
 use Rattle.cqlp_watch.specs.declared.message.Message.{Message as Seen}
 use Rattle.cqlp_watch.specs.Messages.{id_of, is_event, is_of_event, is_request, is_under}
 use Rattle.cqlp_watch.specs.Pairings.{without}
-use Rattle.cqlp_watch.proofs.Lists.{Apart, find_front, id_is, without_none}
+use Rattle.cqlp_watch.proofs.Lists.{Apart, id_is}
 use Rattle.cqlp_watch_laws.specs.Honest.{IsView, Said, asked, viewed}
 
 abbrev pub Views : Type 0
@@ -66,8 +65,8 @@ pub find_without : {T : Type 0} (id other : ℤ) (ms : List (Seen T)) → other 
 find_without id other [] ne = refl
 find_without id other (m ∷ ms) ne = elim (cases_Bool (is_under id m)) [
   | inl is ↦
-    let apart : is_under other m ≡ false = int_eq_other (id_of m) other (λ e. ne (sym e ∙ id_is id m is)) in
-    rw (is, apart) refl
+      let apart : is_under other m ≡ false = int_eq_other (id_of m) other (λ e. ne (sym e ∙ id_is id m is)) in
+      rw (is, apart) refl
   | inr isnt ↦ elim (cases_Bool (is_under other m)) [
     | inl here ↦ rw (isnt, here) refl
     | inr not_here ↦ rw (isnt, not_here) (find_without id other ms ne)

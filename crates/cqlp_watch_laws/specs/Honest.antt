@@ -1,6 +1,6 @@
 -- What passes one end of the wires between an honest client and an honest server (the cores of cqlp_session), and what an observer there
 -- tells of it.
-use Rattle.std.specs.Prelude.{◌≡◌, ℕ, ℤ, List, [], ◌∷◌, ◌++◌, map, take, Option, Some, None, Result, Ok, Err, Bool, if◌then◌else◌}
+use Rattle.std.specs.Prelude.{◌≡◌, ℕ, ℤ, List, [], ◌∷◌, ◌++◌, map, take, Option, Some, None, Result, Ok, Err, if◌then◌else◌}
 use Rattle.std.specs.List.Sorted.{IsPermutation}
 use Rattle.cqlp_note.specs.declared.opcode.Opcode.{Opcode}
 use Rattle.cqlp_session.specs.declared.kind.RequestKind.{RequestKind}
@@ -9,8 +9,8 @@ use Rattle.cqlp_session.specs.declared.ticket.BeginError.{BeginError}
 use Rattle.cqlp_session.specs.declared.ticket.Ticket.{Ticket}
 use Rattle.cqlp_session.specs.Client.{ticket_for}
 use Rattle.cqlp_session.specs.Server.{answer_of}
-use Rattle.cqlp_session.specs.Signal.{Signal, signal_of}
-use Rattle.cqlp_session.specs.World.{World, Step, Send, Deliver_up, Answer, Push, Deliver_down, Cancel, Request, Message, answer_message, event_message, happens, last_under, request_message, run, start}
+use Rattle.cqlp_session.specs.Signal.{signal_of}
+use Rattle.cqlp_session.specs.World.{World, Step, Send, Deliver_up, Answer, Push, Deliver_down, Cancel, Request, Message, answer_message, event_message, happens, last_under, request_message, start}
 use Rattle.cqlp_watch.specs.declared.message.Frame.{Frame}
 use Rattle.cqlp_watch.specs.declared.message.Message.{Message as Seen}
 use Rattle.cqlp_watch.specs.Waiting.{exchanges}
