@@ -451,11 +451,12 @@ def exchanges(port, limit, file):
                 open_requests[frame['stream']] = frame
 
     def settle(number, side, time, acknowledged):
-        """Hands on what came early, and the gaps before it that the other side acknowledged."""
-        while side.early:
-            hole = min(side.early) - side.next
+        """Hands on what came early, and the gaps before it or FIN that the other side acknowledged."""
+        while side.early or side.fin is not None and side.next < side.fin:
+            later = min(side.early, default=side.fin)
+            hole = later - side.next
             if hole > 0:
-                if acknowledged is not None and acknowledged < min(side.early):
+                if acknowledged is not None and acknowledged < later:
                     break
                 lines.append(f"{number} {'responses' if side.responses else 'requests'} gap {hole} at {side.next}")
                 tell(number, side, side.gap(hole))
@@ -489,6 +490,9 @@ def exchanges(port, limit, file):
             for i, byte in enumerate(payload):
                 if place + i >= own.next:
                     own.early.setdefault(place + i, byte)
+        if 'F' in flags and own.fin is None:
+            own.fin = place + len(payload) + missing
+        if own.early:
             settle(index + 1, own, time, -1)
     for index, pair in enumerate(sides, 1):
         for side in pair:
