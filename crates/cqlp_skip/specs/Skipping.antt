@@ -1,0 +1,153 @@
+-- What calls of a decoder that skips leave.
+use Rattle.std.specs.Prelude.{◌≡◌, ℕ, ◌+◌, ◌-◌, ◌≤◌, ◌<◌, ◌^◌, ◌++◌, min, List, [], ◌∷◌, length, take, drop, Option, Some, None, Result, Ok, Err, nat_lt, if◌then◌else◌}
+use Rattle.cqlp_note.specs.declared.refusal.Refusal.{Refusal}
+use Rattle.cqlp_note.specs.Limits.{Rules}
+use Rattle.cqlp_grammar.specs.declared.event.Finish.{Finish}
+use Rattle.cqlp_grammar.specs.declared.event.Finish.TheVariants as finish
+use Rattle.cqlp_decode.specs.Reading.{Event, Gifts, Waits, Refused, Says, start_with}
+use Rattle.cqlp_decode.specs.Progress.{StreamState}
+use Rattle.cqlp_decode.specs.Streams.{Decoding, state, AfterGifts, EndsAs}
+use Rattle.cqlp_decode.specs.Draining.{fold_events}
+use Rattle.cqlp_skip.specs.declared.fed.Fed.{Fed}
+use Rattle.cqlp_skip.specs.declared.fed.Fed.TheVariants as fed
+use Rattle.cqlp_skip.specs.declared.fed.Skipped.{Skipped}
+use Rattle.cqlp_skip.specs.declared.fed.NotSkippable.{NotSkippable}
+use Rattle.cqlp_skip.specs.declared.fed.NotSkippable.TheVariants.{NotRefused, InHeader, TooFar}
+use Rattle.cqlp_skip.specs.declared.frame.OpenFrame.{OpenFrame}
+use Rattle.cqlp_skip.specs.Stretches.{Stretch, GivenUp, end_within, frame_under_way, told, told_at}
+
+-- What contracts see of a decoder that skips: the decoder of the present stretch, where that begins, how many bytes of the whole stream were used, the frame
+-- under way, and where the header of the frame is that was passed over last.
+pub record Skipping : Type 0 where
+  pub decoder : Decoding
+  pub base : ℕ
+  pub used : ℕ
+  pub frame : Option OpenFrame
+  pub last : ℕ
+
+abbrev pub stream : Skipping → StreamState
+stream d = state d.decoder
+
+abbrev pub rules : Skipping → Rules
+rules d = (stream d).rules
+
+-- ---- after some calls
+
+-- Of the stream xs the bytes s were used, these stretches were given up, and these events handed out: those of the stretches given up, and of the present one,
+-- of which the reading says the events so far, and the refusal, if there is one, of whatever bytes of the stream are still to come.
+pub record AfterSkips (xs : List ℕ) (d : Skipping) (s : List ℕ) (stretches : List Stretch) (es : List (ℕ × Event)) : Type 0 where
+  pub unread : List ℕ
+  pub whole : xs ≡ s ++ unread
+  pub before : List (ℕ × Event)
+  pub given_up : GivenUp (rules d) xs stretches d.base before
+  pub gifts : Gifts
+  pub events : List (ℕ × Event)
+  pub stands : AfterGifts gifts (stream d) (drop d.base s) events
+  pub all : es ≡ before ++ told d.base events
+  pub frame : d.frame ≡ frame_under_way events
+  pub used : d.used ≡ min (length s) (2 ^ 64 - 1)
+  pub near : d.base < 2 ^ 64
+  pub refused : (r : Refusal) → (stream d).refusal ≡ Some r → Says (rules d) (start_with gifts) (drop d.base xs) events (Refused r.at r.why)
+
+-- ---- a piece
+
+-- how many bytes of a piece of this length are passed over first: those that the frame passed over last still has
+abbrev pub passed_of : Skipping → (len : ℕ) → ℕ
+passed_of d len = min (d.base - d.used) len
+
+-- a refusal, at its offset in the whole stream
+abbrev pub refusal_from : (base : ℕ) → Refusal → Refusal
+refusal_from base r = record { at = told_at base r.at; why = r.why }
+
+-- how a piece ends of which the first bytes were passed over, and the others ended so
+abbrev pub fed_from : (base passed : ℕ) → Fed → Fed
+fed_from base passed fed.More = fed.More
+fed_from base passed (fed.Refused used r) = fed.Refused (passed + used) (refusal_from base r)
+fed_from base passed (fed.Fault used) = fed.Fault (passed + used)
+
+-- what is refused after a piece
+abbrev pub RefusesBy : Fed → Skipping → Type 0
+RefusesBy fed.More new = (stream new).refusal ≡ None
+RefusesBy (fed.Refused used r) new = (own : Refusal) × ((stream new).refusal ≡ Some own) × (r ≡ refusal_from new.base own)
+RefusesBy (fed.Fault used) new = (stream new).refusal ≡ None
+
+-- What a sink has got: f is what it makes of an event, and V is what is seen of it.
+module _ {V : Type 0} (f : V → ℕ → Event → V) (xs : List ℕ) (new : Skipping) (s : List ℕ) (stretches : List Stretch) (es : List (ℕ × Event)) where
+  -- these bytes were used, more events handed out, and the sink has got just them
+  pub record Hands (before after : V) : Type 0 where
+    pub more : List (ℕ × Event)
+    pub stands : AfterSkips xs new s stretches (es ++ more)
+    pub got : after ≡ fold_events f before more
+
+  -- they are all that the bytes of the present stretch say
+  abbrev pub HandsAll : (before after : V) → Type 0
+  HandsAll before after =
+      (h : Hands before after)
+      × Says (rules new) (start_with h.stands.gifts) (drop new.base s) h.stands.events Waits
+
+  -- the same as `Hands`, but at the last of the events the sink failed
+  pub record Fails (faulted : V → ℕ → Event → V → Type 0) (before after : V) : Type 0 where
+    pub more : List (ℕ × Event)
+    pub at : ℕ
+    pub event : Event
+    pub stands : AfterSkips xs new s stretches (es ++ more ++ (at, event) ∷ [])
+    pub fault : faulted (fold_events f before more) at event after
+
+-- What handing on a piece leaves, by how it ends.
+abbrev pub FeedsTo : {V : Type 0} → (V → ℕ → Event → V) → (V → ℕ → Event → V → Type 0) → (xs : List ℕ) → Skipping → (s : List ℕ) → List Stretch → List (ℕ × Event)
+    → (input : List ℕ) → Fed → (before after : V) → Type 0
+FeedsTo f faulted xs new s stretches es input fed.More before after = HandsAll f xs new (s ++ input) stretches es before after
+FeedsTo f faulted xs new s stretches es input (fed.Refused used r) before after = Hands f xs new (s ++ take used input) stretches es before after
+FeedsTo f faulted xs new s stretches es input (fed.Fault used) before after = Fails f xs new (s ++ take used input) stretches es faulted before after
+
+-- of any stream that goes on with this piece, and whatever led here
+abbrev pub Feeds : {V : Type 0} → (V → ℕ → Event → V) → (V → ℕ → Event → V → Type 0) → (old new : Skipping) → (input : List ℕ) → Fed → (before after : V) → Type 0
+Feeds f faulted old new input x before after =
+    (xs s : List ℕ) (stretches : List Stretch) (es : List (ℕ × Event)) (later : List ℕ)
+    → xs ≡ (s ++ input) ++ later → AfterSkips xs old s stretches es
+    → FeedsTo f faulted xs new s stretches es input x before after
+
+-- ---- a skip
+
+-- What a skip answers. It is made where a stretch is refused, a frame is under way, and its end has an offset.
+abbrev pub skip_to : Option ℕ → Refusal → OpenFrame → (base used : ℕ) → Result Skipped NotSkippable
+skip_to None r f base used = Err TooFar
+skip_to (Some end) r f base used =
+    Ok (record { at = told_at base f.at; header = f.header; refusal = refusal_from base r; rest = end - used })
+
+abbrev pub skip_by : Option Refusal → Option OpenFrame → (base used : ℕ) → Result Skipped NotSkippable
+skip_by None f base used = Err NotRefused
+skip_by (Some r) None base used = Err InHeader
+skip_by (Some r) (Some f) base used = skip_to (end_within f base used) r f base used
+
+abbrev pub skip_of : Skipping → Result Skipped NotSkippable
+skip_of d = skip_by (stream d).refusal d.frame d.base d.used
+
+-- one more stretch was given up, after the same bytes and events
+abbrev pub SkipsOn : Result Skipped NotSkippable → (old new : Skipping) → Type 0
+SkipsOn (Err why) old new = new ≡ old
+SkipsOn (Ok x) old new =
+    (xs s : List ℕ) (stretches : List Stretch) (es : List (ℕ × Event)) → AfterSkips xs old s stretches es
+    → (last : Stretch) × (last.from ≡ old.base) × (old.frame ≡ Some last.frame) × ((stream old).refusal ≡ Some last.refusal)
+    × AfterSkips xs new s (last ∷ stretches) es
+
+-- after a skip nothing is refused and nothing under way
+abbrev pub BeginsAnew : Result Skipped NotSkippable → (old new : Skipping) → Type 0
+BeginsAnew (Err why) old new = new ≡ old
+BeginsAnew (Ok x) old new =
+    (new.frame ≡ None) × (new.used ≡ old.used) × (new.base ≡ old.used + x.rest) × (new.last ≡ x.at)
+    × ((stream new).refusal ≡ None) × (rules new ≡ rules old)
+
+-- ---- the end
+
+-- how a stream ends that ends within a frame that is passed over, or else as its present stretch does
+abbrev pub finish_from : Skipping → Finish → Finish
+finish_from d (finish.Whole bytes) = finish.Whole d.used
+finish_from d (finish.Cut frame_at bytes) = finish.Cut (told_at d.base frame_at) d.used
+finish_from d (finish.Refused r) = finish.Refused (refusal_from d.base r)
+
+abbrev pub FinishesAs : Skipping → Finish → Type 0
+FinishesAs d f =
+    if nat_lt d.used d.base
+    then f ≡ finish.Cut d.last d.used
+    else ((own : Finish) × EndsAs (stream d) own × (f ≡ finish_from d own))
