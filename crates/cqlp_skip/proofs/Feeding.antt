@@ -41,40 +41,37 @@ still_refused l p bytes t es k why a =
 abbrev pub skipping : Decoding → (base used : ℕ) → Option OpenFrame → (last : ℕ) → Skipping
 skipping d base used frame last = record { decoder = d; base = base; used = used; frame = frame; last = last }
 
-module _ (d d' : Decoding) (base used used' last : ℕ) (frame frame' : Option OpenFrame) (xs s input later : List ℕ) (stretches : List Stretch) (es : List (ℕ × Event)) (p : ℕ) (a : AfterSkips xs (skipping d base used frame last) s stretches es)
+module _ (d d' : Decoding) (base used used' last : ℕ) (frame frame' : Option OpenFrame) (xs s input later : List ℕ) (stretches : List Stretch) (gifts : Gifts) (es : List (ℕ × Event)) (p : ℕ) (a : AfterSkips xs (skipping d base used frame last) s stretches gifts es)
   (is : xs ≡ (s ++ input) ++ later) (passed : p ≡ min (base - used) (length input)) (rules : (state d').rules ≡ (state d).rules) where
   first : p ≡ min (base - length s) (length input)
   first = omega (arith, passed, a.used, a.near)
 
   -- After more events of the piece the history goes on.
   abbrev pub goes_on : (s' : List ℕ) (more : List (ℕ × Event)) (k : ℕ) → s' ≡ s ++ take (p + k) input → p + k ≤ length input
-      → AfterGifts a.gifts (state d') (drop base s ++ take k (drop p input)) (a.events ++ more) → frame' ≡ frame_from frame more → used' ≡ min (used + (p + k)) (2 ^ 64 - 1)
-      → ((r : Refusal) → (state d').refusal ≡ Some r → Says (state d').rules (start_with a.gifts) (drop base xs) (a.events ++ more) (Refused r.at r.why))
-      → AfterSkips xs (skipping d' base used' frame' last) s' stretches (es ++ told base more)
+      → AfterGifts gifts (state d') (drop base s ++ take k (drop p input)) (es ++ more) → frame' ≡ frame_from frame more → used' ≡ min (used + (p + k)) (2 ^ 64 - 1)
+      → ((r : Refusal) → (state d').refusal ≡ Some r → Says (state d').rules (start_with gifts) (drop base xs) (es ++ more) (Refused r.at r.why))
+      → AfterSkips xs (skipping d' base used' frame' last) s' stretches gifts (es ++ more)
   goes_on s' more k at few stands framed count refused = record {
     unread = drop (p + k) input ++ later;
     whole = is ∙ ap (λ (z : List ℕ). (s ++ z) ++ later) (sym (take-append-drop (p + k) input)) ∙ ap (λ (z : List ℕ). z ++ later) (sym (append_assoc s (take (p + k) input) (drop (p + k) input))) ∙ append_assoc (s ++ take (p + k) input) (drop (p + k) input) later ∙ ap (λ (z : List ℕ). z ++ (drop (p + k) input ++ later)) (sym at);
-    before = a.before;
-    given_up = subst (λ (l : Rules). GivenUp l xs stretches base a.before) (sym rules) a.given_up;
-    gifts = a.gifts;
-    events = a.events ++ more;
-    stands = subst (λ (z : List ℕ). AfterGifts a.gifts (state d') z (a.events ++ more)) (sym (ap (λ (z : List ℕ). drop base z) at ∙ behind_passed base s input p k first)) stands;
-    all = ap (λ (z : List (ℕ × Event)). z ++ told base more) a.all ∙ append_assoc a.before (told base a.events) (told base more) ∙ ap (λ (z : List (ℕ × Event)). a.before ++ z) (sym (told-append base a.events more));
-    frame = framed ∙ ap (λ (z : Option OpenFrame). frame_from z more) a.frame ∙ sym (frame-append None a.events more);
+    given_up = subst (λ (l : Rules). GivenUp l xs stretches) (sym rules) a.given_up;
+    base = a.base;
+    stands = subst (λ (z : List ℕ). AfterGifts gifts (state d') z (es ++ more)) (sym (ap (λ (z : List ℕ). drop base z) at ∙ behind_passed base s input p k first)) stands;
+    frame = framed ∙ ap (λ (z : Option OpenFrame). frame_from z more) a.frame ∙ sym (frame-append None es more);
     used = omega (arith, count, a.used, ap length at, length-append s (take (p + k) input), length-take-le (p + k) input few);
     near = a.near;
     refused = refused;
   }
 
   -- what the piece is refused, the stream is
-  refused_on : (more : List (ℕ × Event)) (r : Refusal) → Says (state d').rules (start_with a.gifts) (drop base s ++ drop p input) (a.events ++ more) (Refused r.at r.why) → Says (state d').rules (start_with a.gifts) (drop base xs) (a.events ++ more) (Refused r.at r.why)
+  refused_on : (more : List (ℕ × Event)) (r : Refusal) → Says (state d').rules (start_with gifts) (drop base s ++ drop p input) (es ++ more) (Refused r.at r.why) → Says (state d').rules (start_with gifts) (drop base xs) (es ++ more) (Refused r.at r.why)
   refused_on more r says =
       let b = behind_piece base s input later p first in
-      subst (λ (z : List ℕ). Says (state d').rules (start_with a.gifts) z (a.events ++ more) (Refused r.at r.why)) (sym (ap (λ (z : List ℕ). drop base z) is ∙ b.1))
-      (still_refused (state d').rules (start_with a.gifts) (drop base s ++ drop p input) b.0 (a.events ++ more) r.at r.why says)
+      subst (λ (z : List ℕ). Says (state d').rules (start_with gifts) z (es ++ more) (Refused r.at r.why)) (sym (ap (λ (z : List ℕ). drop base z) is ∙ b.1))
+      (still_refused (state d').rules (start_with gifts) (drop base s ++ drop p input) b.0 (es ++ more) r.at r.why says)
 
-  refused_by : (more : List (ℕ × Event)) (r : Refusal) → (state d').refusal ≡ Some r → Says (state d').rules (start_with a.gifts) (drop base s ++ drop p input) (a.events ++ more) (verdict_of (state d').refusal) → Says (state d').rules (start_with a.gifts) (drop base xs) (a.events ++ more) (Refused r.at r.why)
-  refused_by more r now says = refused_on more r (subst (λ (o : Option Refusal). Says (state d').rules (start_with a.gifts) (drop base s ++ drop p input) (a.events ++ more) (verdict_of o)) now says)
+  refused_by : (more : List (ℕ × Event)) (r : Refusal) → (state d').refusal ≡ Some r → Says (state d').rules (start_with gifts) (drop base s ++ drop p input) (es ++ more) (verdict_of (state d').refusal) → Says (state d').rules (start_with gifts) (drop base xs) (es ++ more) (Refused r.at r.why)
+  refused_by more r now says = refused_on more r (subst (λ (o : Option Refusal). Says (state d').rules (start_with gifts) (drop base s ++ drop p input) (es ++ more) (verdict_of o)) now says)
 
   module _ {V : Type 0} (f : V → ℕ → Event → V) (faulted : V → ℕ → Event → V → Type 0) (v w : V) (base' : ℕ) where
     abbrev new : Skipping
@@ -92,57 +89,57 @@ module _ (d d' : Decoding) (base used used' last : ℕ) (frame frame' : Option O
       framed = ap (λ (x : Shifted V). x.frame) same
 
     module _ (none : (state d).refusal ≡ None) where
-      feeds_more : (state d').refusal ≡ None → DrainsPiece (with_event f) (state d) (state d') (drop p input) (drop p input) (shifted v base frame) (shifted w base' frame') → used' ≡ min (used + length input) (2 ^ 64 - 1) → HandsAll f xs new (s ++ input) stretches es v w
+      feeds_more : (state d').refusal ≡ None → DrainsPiece (with_event f) (state d) (state d') (drop p input) (drop p input) (shifted v base frame) (shifted w base' frame') → used' ≡ min (used + length input) (2 ^ 64 - 1) → HandsAll f xs new (s ++ input) stretches gifts es v w
       feeds_more now drains count =
-          let q = drains a.gifts (drop base s) a.events a.stands in
+          let q = drains gifts (drop base s) es a.stands in
           let more = q.drains.more in
           let k = length input - p in
           let all : p + k ≡ length input = omega (arith, passed) in
           let front : take (p + k) input ≡ input = take_all (p + k) input (omega (arith, all)) in
           let back : take k (drop p input) ≡ drop p input = take_all k (drop p input) (omega (arith, length-drop p input)) in
-          let stands : AfterGifts a.gifts (state d') (drop base s ++ take k (drop p input)) (a.events ++ more) = rw back q.drains.stands in
+          let stands : AfterGifts gifts (state d') (drop base s ++ take k (drop p input)) (es ++ more) = rw back q.drains.stands in
           let h = goes_on (s ++ input) more k (ap (λ (z : List ℕ). s ++ z) (sym front)) (omega (arith, all)) stands (framed more q.drains.got) (omega (arith, count, all)) (λ r is. absurd (let no = sym now ∙ is in cc)) in
-          let waits = subst (λ (o : Option Refusal). Says (state d').rules (start_with a.gifts) (drop base s ++ drop p input) (a.events ++ more) (verdict_of o)) now (q.says none) in (
-            record { more = told base more; stands = h; got = seen more q.drains.got },
-            subst (λ (z : List ℕ). Says (state d').rules (start_with a.gifts) z (a.events ++ more) Waits) (sym (behind_all base s input p first)) waits,
+          let waits = subst (λ (o : Option Refusal). Says (state d').rules (start_with gifts) (drop base s ++ drop p input) (es ++ more) (verdict_of o)) now (q.says none) in (
+            record { more = more; stands = h; got = seen more q.drains.got },
+            subst (λ (z : List ℕ). Says (state d').rules (start_with gifts) z (es ++ more) Waits) (sym (behind_all base s input p first)) waits,
           )
 
-      feeds_refused : (k : ℕ) → p + k ≤ length input → DrainsPiece (with_event f) (state d) (state d') (drop p input) (take k (drop p input)) (shifted v base frame) (shifted w base' frame') → used' ≡ min (used + (p + k)) (2 ^ 64 - 1) → Hands f xs new (s ++ take (p + k) input) stretches es v w
+      feeds_refused : (k : ℕ) → p + k ≤ length input → DrainsPiece (with_event f) (state d) (state d') (drop p input) (take k (drop p input)) (shifted v base frame) (shifted w base' frame') → used' ≡ min (used + (p + k)) (2 ^ 64 - 1) → Hands f xs new (s ++ take (p + k) input) stretches gifts es v w
       feeds_refused k few drains count =
-          let q = drains a.gifts (drop base s) a.events a.stands in
+          let q = drains gifts (drop base s) es a.stands in
           let more = q.drains.more in
           record {
-            more = told base more;
+            more = more;
             stands = goes_on (s ++ take (p + k) input) more k refl few q.drains.stands (framed more q.drains.got) count (λ r is. refused_by more r is (q.says none));
             got = seen more q.drains.got;
           }
 
-      feeds_fault : (k : ℕ) → p + k ≤ length input → (state d').refusal ≡ None → drained.FailsWithin (with_event f) (FailsAtEvent faulted) (state d) (state d') (take k (drop p input)) (shifted v base frame) (shifted w base' frame') → used' ≡ min (used + (p + k)) (2 ^ 64 - 1) → Fails f xs new (s ++ take (p + k) input) stretches es faulted v w
+      feeds_fault : (k : ℕ) → p + k ≤ length input → (state d').refusal ≡ None → drained.FailsWithin (with_event f) (FailsAtEvent faulted) (state d) (state d') (take k (drop p input)) (shifted v base frame) (shifted w base' frame') → used' ≡ min (used + (p + k)) (2 ^ 64 - 1) → Fails f xs new (s ++ take (p + k) input) stretches gifts es faulted v w
       feeds_fault k few now drains count =
-          let q = drains a.gifts (drop base s) a.events a.stands in
+          let q = drains gifts (drop base s) es a.stands in
           let one : List (ℕ × Event) = (q.at, q.event) ∷ [] in
           let all = q.more ++ one in
-          let stands : AfterGifts a.gifts (state d') (drop base s ++ take k (drop p input)) (a.events ++ all) = rw (← (append_assoc a.events q.more one)) q.stands in
+          let stands : AfterGifts gifts (state d') (drop base s ++ take k (drop p input)) (es ++ all) = rw (← (append_assoc es q.more one)) q.stands in
           let fault = subst (λ (x : Shifted V). FailsAtEvent faulted x q.at q.event (shifted w base' frame')) (fold_shifted f v base frame q.more) q.fault in
           let h = goes_on (s ++ take (p + k) input) all k refl few stands (fault.2 ∙ sym (frame-append frame q.more one)) count (λ r is. absurd (let no = sym now ∙ is in cc)) in
           record {
-            more = told base q.more;
-            at = told_at base q.at;
+            more = q.more;
+            at = q.at;
             event = q.event;
-            stands = subst (λ (z : List (ℕ × Event)). AfterSkips xs new (s ++ take (p + k) input) stretches z) (ap (λ (z : List (ℕ × Event)). es ++ z) (told-append base q.more one) ∙ sym (append_assoc es (told base q.more) (told base one))) h;
+            stands = subst (λ (z : List (ℕ × Event)). AfterSkips xs new (s ++ take (p + k) input) stretches gifts z) (sym (append_assoc es q.more one)) h;
             fault = fault.0;
           }
 
     -- after a refusal nothing more is handed out
-    feeds_again : (r : Refusal) → (state d).refusal ≡ Some r → state d' ≡ state d → w ≡ v → frame' ≡ frame → used' ≡ min (used + (p + 0)) (2 ^ 64 - 1) → Hands f xs new (s ++ take (p + 0) input) stretches es v w
+    feeds_again : (r : Refusal) → (state d).refusal ≡ Some r → state d' ≡ state d → w ≡ v → frame' ≡ frame → used' ≡ min (used + (p + 0)) (2 ^ 64 - 1) → Hands f xs new (s ++ take (p + 0) input) stretches gifts es v w
     feeds_again r was same seen framed count =
-        let none = append-nil a.events in
-        let stands : AfterGifts a.gifts (state d') (drop base s ++ []) (a.events ++ []) = rw (same, none, append-nil (drop base s)) a.stands in
+        let none = append-nil es in
+        let stands : AfterGifts gifts (state d') (drop base s ++ []) (es ++ []) = rw (same, none, append-nil (drop base s)) a.stands in
         let h = goes_on (s ++ take (p + 0) input) [] 0 refl (omega (arith, passed)) stands framed count (λ q is. rw (same, none) (a.refused q (sym (ap (λ (z : StreamState). z.refusal) same) ∙ is))) in
         record { more = []; stands = h; got = seen }
 
     feeds_new : (x : Fed) → (state d).refusal ≡ None → p + used_of (length (drop p input)) x ≤ length input → DrainsBy x (state d).refusal (state d').refusal → DrainsTo (with_event f) (FailsAtEvent faulted) (state d) (drop p input) x (state d') (shifted v base frame) (shifted w base' frame')
-        → used' ≡ min (used + used_of (length input) (fed_from base p x)) (2 ^ 64 - 1) → FeedsTo f faulted xs new s stretches es input (fed_from base p x) v w
+        → used' ≡ min (used + used_of (length input) (fed_from base p x)) (2 ^ 64 - 1) → FeedsTo f faulted xs new s stretches gifts es input (fed_from base p x) v w
     feeds_new fed.More none few by drains count = feeds_more none by drains count
     feeds_new (fed.Refused k r) none few by drains count = feeds_refused none k few drains count
     feeds_new (fed.Fault k) none few by drains count = feeds_fault none k few by drains count
@@ -150,15 +147,15 @@ module _ (d d' : Decoding) (base used used' last : ℕ) (frame frame' : Option O
     feeds_by : (o : Option Refusal) → (state d).refusal ≡ o → (x : Fed) → p + used_of (length (drop p input)) x ≤ length input → DrainsBy x (state d).refusal (state d').refusal
         → ((r : Refusal) → (state d).refusal ≡ Some r → (x ≡ fed.Refused 0 r) × (state d' ≡ state d) × (w ≡ v) × (frame' ≡ frame))
         → DrainsTo (with_event f) (FailsAtEvent faulted) (state d) (drop p input) x (state d') (shifted v base frame) (shifted w base' frame')
-        → used' ≡ min (used + used_of (length input) (fed_from base p x)) (2 ^ 64 - 1) → FeedsTo f faulted xs new s stretches es input (fed_from base p x) v w
+        → used' ≡ min (used + used_of (length input) (fed_from base p x)) (2 ^ 64 - 1) → FeedsTo f faulted xs new s stretches gifts es input (fed_from base p x) v w
     feeds_by None was x few by again drains count = feeds_new x was few by drains count
     feeds_by (Some r) was x few by again drains count =
         let e = again r was in
-        subst (λ (y : Fed). used' ≡ min (used + used_of (length input) (fed_from base p y)) (2 ^ 64 - 1) → FeedsTo f faulted xs new s stretches es input (fed_from base p y) v w) (sym e.0)
+        subst (λ (y : Fed). used' ≡ min (used + used_of (length input) (fed_from base p y)) (2 ^ 64 - 1) → FeedsTo f faulted xs new s stretches gifts es input (fed_from base p y) v w) (sym e.0)
         (λ count. feeds_again r was e.1 e.2 e.3 count) count
 
     pub feeds : (x : Fed) → p + used_of (length (drop p input)) x ≤ length input → DrainsBy x (state d).refusal (state d').refusal
         → ((r : Refusal) → (state d).refusal ≡ Some r → (x ≡ fed.Refused 0 r) × (state d' ≡ state d) × (w ≡ v) × (frame' ≡ frame))
         → DrainsTo (with_event f) (FailsAtEvent faulted) (state d) (drop p input) x (state d') (shifted v base frame) (shifted w base' frame')
-        → used' ≡ min (used + used_of (length input) (fed_from base p x)) (2 ^ 64 - 1) → FeedsTo f faulted xs new s stretches es input (fed_from base p x) v w
+        → used' ≡ min (used + used_of (length input) (fed_from base p x)) (2 ^ 64 - 1) → FeedsTo f faulted xs new s stretches gifts es input (fed_from base p x) v w
     feeds x few by again drains count = feeds_by (state d).refusal refl x few by again drains count

@@ -1,14 +1,13 @@
 -- What a skip leaves.
 use Rattle.std.proofs.Common.{◌≡◌, ℕ, ◌+◌, ◌-◌, ◌^◌, ◌≤◌, ◌<◌, ltb, leb, Bool, true, false, ◌&&◌, cond, List, [], ◌∷◌, ◌++◌, length, drop, refl, sym, ap, ◌∙◌, subst, arith}
 use Rattle.std.specs.Prelude.{Option, Some, None}
-use Rattle.std.proofs.lemmas.List.{append-nil, drop_all}
+use Rattle.std.proofs.lemmas.List.{drop_all}
 use Rattle.cqlp_note.specs.declared.refusal.Refusal.{Refusal}
 use Rattle.cqlp_note.specs.Limits.{Rules}
-use Rattle.cqlp_decode.specs.Reading.{Event, Refused, Says, start_with}
-use Rattle.cqlp_decode.specs.Progress.{StreamState}
-use Rattle.cqlp_decode.specs.Streams.{Decoding, state, After, AfterGifts}
+use Rattle.cqlp_decode.specs.Reading.{Event, Gifts}
+use Rattle.cqlp_decode.specs.Streams.{Decoding, state, After}
 use Rattle.cqlp_skip.specs.declared.frame.OpenFrame.{OpenFrame}
-use Rattle.cqlp_skip.specs.Stretches.{Stretch, GivenUp, IsGivenUp, end_of, end_within, frame_under_way, told}
+use Rattle.cqlp_skip.specs.Stretches.{Stretch, GivenUp, IsGivenUp, end_of, end_within}
 use Rattle.cqlp_skip.specs.Skipping.{AfterSkips}
 use Rattle.cqlp_skip.proofs.Feeding.{skipping}
 
@@ -25,44 +24,33 @@ end_there f base used end is =
 
 module _ (d d' : Decoding) (base used last last' : ℕ) (f : OpenFrame) (r : Refusal) (end : ℕ) (was : (state d).refusal ≡ Some r) (there : end_within f base used ≡ Some end) (fresh : After (state d') [] []) (unrefused : (state d').refusal ≡ None) (rules : (state d').rules ≡ (state d).rules) where
   -- one more stretch was given up
-  pub skips_on : (xs s : List ℕ) (stretches : List Stretch) (es : List (ℕ × Event)) → AfterSkips xs (skipping d base used (Some f) last) s stretches es
-      → (x : Stretch) × (x.from ≡ base) × (Some f ≡ Some x.frame) × ((state d).refusal ≡ Some x.refusal) × AfterSkips xs (skipping d' end used None last') s (x ∷ stretches) es
-  skips_on xs s stretches es a =
+  pub skips_on : (xs s : List ℕ) (stretches : List Stretch) (gifts : Gifts) (es : List (ℕ × Event)) → AfterSkips xs (skipping d base used (Some f) last) s stretches gifts es
+      → AfterSkips xs (skipping d' end used None last') s (record { from = base; gifts = gifts; events = es; frame = f; refusal = r } ∷ stretches) [] []
+  skips_on xs s stretches gifts es a =
       let e = end_there f base used end there in
-      let x : Stretch = record { from = base; gifts = a.gifts; events = a.events; frame = f; refusal = r } in
+      let x : Stretch = record { from = base; gifts = gifts; events = es; frame = f; refusal = r } in
       let given : IsGivenUp (state d).rules (drop base xs) x = (a.refused r was, sym a.frame) in
-      let gone : drop end s ≡ [] = drop_all end s (omega (arith, a.used, e.0, e.1)) in (
-        x,
-        refl,
-        refl,
-        was,
-        record {
-          unread = a.unread;
-          whole = a.whole;
-          before = es;
-          given_up = subst (λ (l : Rules). GivenUp l xs (x ∷ stretches) end es) (sym rules) (a.before, a.given_up, given, e.2, a.all);
-          gifts = [];
-          events = [];
-          stands = rw gone fresh;
-          all = sym (append-nil es);
-          frame = refl;
-          used = a.used;
-          near = omega (arith, e.0);
-          refused = λ q is. absurd (let no = sym unrefused ∙ is in cc);
-        },
-      )
+      let gone : drop end s ≡ [] = drop_all end s (omega (arith, a.used, e.0, e.1)) in
+      record {
+        unread = a.unread;
+        whole = a.whole;
+        given_up = subst (λ (l : Rules). GivenUp l xs (x ∷ stretches)) (sym rules) (a.base, given, a.given_up);
+        base = e.2;
+        stands = rw gone fresh;
+        frame = refl;
+        used = a.used;
+        near = omega (arith, e.0);
+        refused = λ q is. absurd (let no = sym unrefused ∙ is in cc);
+      }
 
 -- a stream of which nothing was read
-pub starts : (d : Decoding) (xs : List ℕ) → After (state d) [] [] → (state d).refusal ≡ None → AfterSkips xs (skipping d 0 0 None 0) [] [] []
+pub starts : (d : Decoding) (xs : List ℕ) → After (state d) [] [] → (state d).refusal ≡ None → AfterSkips xs (skipping d 0 0 None 0) [] [] [] []
 starts d xs fresh unrefused = record {
   unread = xs;
   whole = refl;
-  before = [];
-  given_up = (refl, refl);
-  gifts = [];
-  events = [];
+  given_up = tt;
+  base = refl;
   stands = fresh;
-  all = refl;
   frame = refl;
   used = refl;
   near = omega arith;

@@ -14,7 +14,7 @@ use Rattle.cqlp_skip.specs.declared.fed.Skipped.{Skipped}
 use Rattle.cqlp_skip.specs.declared.fed.NotSkippable.{NotSkippable}
 use Rattle.cqlp_skip.specs.declared.fed.NotSkippable.TheVariants.{NotRefused, InHeader, TooFar}
 use Rattle.cqlp_skip.specs.declared.frame.OpenFrame.{OpenFrame}
-use Rattle.cqlp_skip.specs.Stretches.{Stretch, GivenUp, end_within, frame_under_way, told, told_at}
+use Rattle.cqlp_skip.specs.Stretches.{Stretch, GivenUp, base_after, end_within, frame_under_way, told, told_at}
 
 -- What contracts see of a decoder that skips: the decoder of the present stretch, where that begins, how many bytes of the whole stream were used, the frame
 -- under way, and where the header of the frame is that was passed over last.
@@ -33,17 +33,14 @@ rules d = (stream d).rules
 
 -- ---- after some calls
 
--- Of the stream xs the bytes s were used, these stretches were given up, and these events handed out: those of the stretches given up, and of the present one,
--- of which the reading says the events so far, and the refusal, if there is one, of whatever bytes of the stream are still to come.
-pub record AfterSkips (xs : List ℕ) (d : Skipping) (s : List ℕ) (stretches : List Stretch) (es : List (ℕ × Event)) : Type 0 where
+-- Of the stream xs the bytes s were used, and these stretches were given up. Over the present stretch the caller gave this, and these events were handed out: the
+-- reading says them, and the refusal, if there is one, of whatever bytes of the stream are still to come.
+pub record AfterSkips (xs : List ℕ) (d : Skipping) (s : List ℕ) (stretches : List Stretch) (gifts : Gifts) (events : List (ℕ × Event)) : Type 0 where
   pub unread : List ℕ
   pub whole : xs ≡ s ++ unread
-  pub before : List (ℕ × Event)
-  pub given_up : GivenUp (rules d) xs stretches d.base before
-  pub gifts : Gifts
-  pub events : List (ℕ × Event)
+  pub given_up : GivenUp (rules d) xs stretches
+  pub base : d.base ≡ base_after stretches
   pub stands : AfterGifts gifts (stream d) (drop d.base s) events
-  pub all : es ≡ before ++ told d.base events
   pub frame : d.frame ≡ frame_under_way events
   pub used : d.used ≡ min (length s) (2 ^ 64 - 1)
   pub near : d.base < 2 ^ 64
@@ -72,40 +69,38 @@ RefusesBy (fed.Refused used r) new = (own : Refusal) × ((stream new).refusal �
 RefusesBy (fed.Fault used) new = (stream new).refusal ≡ None
 
 -- What a sink has got: f is what it makes of an event, and V is what is seen of it.
-module _ {V : Type 0} (f : V → ℕ → Event → V) (xs : List ℕ) (new : Skipping) (s : List ℕ) (stretches : List Stretch) (es : List (ℕ × Event)) where
-  -- these bytes were used, more events handed out, and the sink has got just them
+module _ {V : Type 0} (f : V → ℕ → Event → V) (xs : List ℕ) (new : Skipping) (s : List ℕ) (stretches : List Stretch) (gifts : Gifts) (events : List (ℕ × Event)) where
+  -- these bytes were used, more events handed out, and the sink has got just them, at their offsets in the whole stream
   pub record Hands (before after : V) : Type 0 where
     pub more : List (ℕ × Event)
-    pub stands : AfterSkips xs new s stretches (es ++ more)
-    pub got : after ≡ fold_events f before more
+    pub stands : AfterSkips xs new s stretches gifts (events ++ more)
+    pub got : after ≡ fold_events f before (told new.base more)
 
   -- they are all that the bytes of the present stretch say
   abbrev pub HandsAll : (before after : V) → Type 0
-  HandsAll before after =
-      (h : Hands before after)
-      × Says (rules new) (start_with h.stands.gifts) (drop new.base s) h.stands.events Waits
+  HandsAll before after = (h : Hands before after) × Says (rules new) (start_with gifts) (drop new.base s) (events ++ h.more) Waits
 
   -- the same as `Hands`, but at the last of the events the sink failed
   pub record Fails (faulted : V → ℕ → Event → V → Type 0) (before after : V) : Type 0 where
     pub more : List (ℕ × Event)
     pub at : ℕ
     pub event : Event
-    pub stands : AfterSkips xs new s stretches (es ++ more ++ (at, event) ∷ [])
-    pub fault : faulted (fold_events f before more) at event after
+    pub stands : AfterSkips xs new s stretches gifts (events ++ more ++ (at, event) ∷ [])
+    pub fault : faulted (fold_events f before (told new.base more)) (told_at new.base at) event after
 
 -- What handing on a piece leaves, by how it ends.
-abbrev pub FeedsTo : {V : Type 0} → (V → ℕ → Event → V) → (V → ℕ → Event → V → Type 0) → (xs : List ℕ) → Skipping → (s : List ℕ) → List Stretch → List (ℕ × Event)
-    → (input : List ℕ) → Fed → (before after : V) → Type 0
-FeedsTo f faulted xs new s stretches es input fed.More before after = HandsAll f xs new (s ++ input) stretches es before after
-FeedsTo f faulted xs new s stretches es input (fed.Refused used r) before after = Hands f xs new (s ++ take used input) stretches es before after
-FeedsTo f faulted xs new s stretches es input (fed.Fault used) before after = Fails f xs new (s ++ take used input) stretches es faulted before after
+module _ {V : Type 0} (f : V → ℕ → Event → V) (faulted : V → ℕ → Event → V → Type 0) where
+  abbrev pub FeedsTo : (xs : List ℕ) → Skipping → (s : List ℕ) → List Stretch → Gifts → List (ℕ × Event) → (input : List ℕ) → Fed → (before after : V) → Type 0
+  FeedsTo xs new s stretches gifts events input fed.More before after = HandsAll f xs new (s ++ input) stretches gifts events before after
+  FeedsTo xs new s stretches gifts events input (fed.Refused used r) before after = Hands f xs new (s ++ take used input) stretches gifts events before after
+  FeedsTo xs new s stretches gifts events input (fed.Fault used) before after = Fails f xs new (s ++ take used input) stretches gifts events faulted before after
 
--- of any stream that goes on with this piece, and whatever led here
-abbrev pub Feeds : {V : Type 0} → (V → ℕ → Event → V) → (V → ℕ → Event → V → Type 0) → (old new : Skipping) → (input : List ℕ) → Fed → (before after : V) → Type 0
-Feeds f faulted old new input x before after =
-    (xs s : List ℕ) (stretches : List Stretch) (es : List (ℕ × Event)) (later : List ℕ)
-    → xs ≡ (s ++ input) ++ later → AfterSkips xs old s stretches es
-    → FeedsTo f faulted xs new s stretches es input x before after
+  -- of any stream that goes on with this piece, and whatever led here
+  abbrev pub Feeds : (old new : Skipping) → (input : List ℕ) → Fed → (before after : V) → Type 0
+  Feeds old new input x before after =
+      (xs s : List ℕ) (stretches : List Stretch) (gifts : Gifts) (events : List (ℕ × Event)) (later : List ℕ)
+      → xs ≡ (s ++ input) ++ later → AfterSkips xs old s stretches gifts events
+      → FeedsTo xs new s stretches gifts events input x before after
 
 -- ---- a skip
 
@@ -123,13 +118,17 @@ skip_by (Some r) (Some f) base used = skip_to (end_within f base used) r f base 
 abbrev pub skip_of : Skipping → Result Skipped NotSkippable
 skip_of d = skip_by (stream d).refusal d.frame d.base d.used
 
--- one more stretch was given up, after the same bytes and events
+-- the present stretch, given up at a refusal in a frame
+abbrev pub given_up : Skipping → Gifts → List (ℕ × Event) → OpenFrame → Refusal → Stretch
+given_up d gifts events f r = record { from = d.base; gifts = gifts; events = events; frame = f; refusal = r }
+
+-- The present stretch is given up, after the same bytes, and another one begins.
 abbrev pub SkipsOn : Result Skipped NotSkippable → (old new : Skipping) → Type 0
 SkipsOn (Err why) old new = new ≡ old
 SkipsOn (Ok x) old new =
-    (xs s : List ℕ) (stretches : List Stretch) (es : List (ℕ × Event)) → AfterSkips xs old s stretches es
-    → (last : Stretch) × (last.from ≡ old.base) × (old.frame ≡ Some last.frame) × ((stream old).refusal ≡ Some last.refusal)
-    × AfterSkips xs new s (last ∷ stretches) es
+    (xs s : List ℕ) (stretches : List Stretch) (gifts : Gifts) (events : List (ℕ × Event)) → AfterSkips xs old s stretches gifts events
+    → (f : OpenFrame) × (r : Refusal) × (old.frame ≡ Some f) × ((stream old).refusal ≡ Some r)
+    × AfterSkips xs new s (given_up old gifts events f r ∷ stretches) [] []
 
 -- after a skip nothing is refused and nothing under way
 abbrev pub BeginsAnew : Result Skipped NotSkippable → (old new : Skipping) → Type 0

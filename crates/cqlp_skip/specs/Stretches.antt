@@ -59,9 +59,17 @@ IsGivenUp l bytes x =
     Says l (start_with x.gifts) bytes x.events (Refused x.refusal.at x.refusal.why)
     × (frame_under_way x.events ≡ Some x.frame)
 
--- Of the stream xs these stretches were given up, the last one first; the present one begins at `base`. Before it these events were told.
-abbrev pub GivenUp : Rules → (xs : List ℕ) → List Stretch → (base : ℕ) → List (ℕ × Event) → Type 0
-GivenUp l xs [] base es = (base ≡ 0) × (es ≡ [])
-GivenUp l xs (x ∷ earlier) base es =
-    (before : List (ℕ × Event)) × GivenUp l xs earlier x.from before × IsGivenUp l (drop x.from xs) x
-    × (base ≡ x.from + end_of x.frame) × (es ≡ before ++ told x.from x.events)
+-- where the stretch begins that comes after these, of which the last stands first: behind the frame that was passed over
+abbrev pub base_after : List Stretch → ℕ
+base_after [] = 0
+base_after (x ∷ earlier) = x.from + end_of x.frame
+
+-- the events of these stretches, in order
+abbrev pub told_before : List Stretch → List (ℕ × Event)
+told_before [] = []
+told_before (x ∷ earlier) = told_before earlier ++ told x.from x.events
+
+-- Of the stream xs these stretches were given up, of which the last stands first.
+abbrev pub GivenUp : Rules → (xs : List ℕ) → List Stretch → Type 0
+GivenUp l xs [] = Unit {0}
+GivenUp l xs (x ∷ earlier) = (x.from ≡ base_after earlier) × IsGivenUp l (drop x.from xs) x × GivenUp l xs earlier

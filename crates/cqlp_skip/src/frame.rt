@@ -21,10 +21,8 @@ impl OpenFrame {
     pub(crate) fn end_within(&self, base: u64, used: u64) -> Option<u64>
         ensures { result ≡ end_within self.now base used }
     {
-        let end = u128::from(base)
-            + u128::from(self.at)
-            + u128::from(self.header.length)
-            + 9;
+        let length = self.header.length;
+        let end = u128::from(base) + u128::from(self.at) + u128::from(length) + 9;
         if end < u128::from(u64::MAX) && u128::from(used) <= end {
             Some(end as u64)
         } else {

@@ -47,7 +47,7 @@ impl<A: Allocator + Clone> SkippingDecoder<A> {
     /// and the only ones.
     pub fn new(alloc: A, limits: Limits) -> Result<Self, NewError>
         ensures bad { (b : Bad) → IsErrOf result (NewError.BadLimits b) ↔ (first_bad limits ≡ Err b) }
-        ensures fresh { (xs : List ℕ) → IfOk result (λ d. AfterSkips xs d [] [] []) }
+        ensures fresh { (xs : List ℕ) → IfOk result (λ d. AfterSkips xs d [] [] [] []) }
         ensures unrefused { IfOk result (λ d. (stream d).refusal ≡ None) }
         ensures rules { IfOk result (λ d. rules d ≡ rules_of limits) }
         ensures nothing_held { IfOk result (λ d. HoldsNothing d.decoder) }
