@@ -20,8 +20,8 @@ use Rattle.cqlp_skip.specs.declared.frame.OpenFrame.{OpenFrame}
 use Rattle.cqlp_skip.specs.Stretches.{Stretch, GivenUp, frame_from, told, told_at}
 use Rattle.cqlp_skip.specs.Shifted.{Shifted, shifted, with_event, FailsAtEvent}
 use Rattle.cqlp_skip.specs.Draining.{DrainsTo, DrainsBy}
-use Rattle.cqlp_skip.specs.Pieces.{used_of}
-use Rattle.cqlp_skip.specs.Skipping.{Skipping, AfterSkips, Hands, HandsAll, Fails, FeedsTo, fed_from}
+use Rattle.cqlp_skip.specs.Pieces.{fed_from, used_of}
+use Rattle.cqlp_skip.specs.Skipping.{Skipping, AfterSkips, Hands, HandsAll, Fails, FeedsTo}
 use Rattle.cqlp_skip.proofs.Passing.{behind_passed, behind_all, behind_piece}
 use Rattle.cqlp_skip.proofs.Folding.{frame-append, told-append, fold_shifted}
 
@@ -38,12 +38,19 @@ pub still_refused : (l : Rules) (p : Place) (bytes t : List ℕ) (es : List (ℕ
 still_refused l p bytes t es k why a =
     (a.0, a.1 ++ t, runs_stay (step l) p bytes t es a.0 a.1 a.2, ends_still l a.0 a.1 t k why a.3)
 
+pub is_none : (o : Option Refusal) → ((r : Refusal) → o ≡ Some r → ⊥) → o ≡ None
+is_none None never = refl
+is_none (Some r) never = absurd (never r refl)
+
+pub refused_first : (used : ℕ) (q r : Refusal) → used ≡ 0 → q ≡ r → ◌≡◌ {A = Fed} (fed.Refused used q) (fed.Refused 0 r)
+refused_first used q r none same = rw (none, same) refl
+
 abbrev pub skipping : Decoding → (base used : ℕ) → Option OpenFrame → (last : ℕ) → Skipping
 skipping d base used frame last = record { decoder = d; base = base; used = used; frame = frame; last = last }
 
 module _ (d d' : Decoding) (base used used' last : ℕ) (frame frame' : Option OpenFrame) (xs s input later : List ℕ) (stretches : List Stretch) (gifts : Gifts) (es : List (ℕ × Event)) (p : ℕ) (a : AfterSkips xs (skipping d base used frame last) s stretches gifts es)
   (is : xs ≡ (s ++ input) ++ later) (passed : p ≡ min (base - used) (length input)) (rules : (state d').rules ≡ (state d).rules) where
-  first : p ≡ min (base - length s) (length input)
+  pub first : p ≡ min (base - length s) (length input)
   first = omega (arith, passed, a.used, a.near)
 
   -- After more events of the piece the history goes on.
@@ -134,8 +141,8 @@ module _ (d d' : Decoding) (base used used' last : ℕ) (frame frame' : Option O
     feeds_again : (r : Refusal) → (state d).refusal ≡ Some r → state d' ≡ state d → w ≡ v → frame' ≡ frame → used' ≡ min (used + (p + 0)) (2 ^ 64 - 1) → Hands f xs new (s ++ take (p + 0) input) stretches gifts es v w
     feeds_again r was same seen framed count =
         let none = append-nil es in
-        let stands : AfterGifts gifts (state d') (drop base s ++ []) (es ++ []) = rw (same, none, append-nil (drop base s)) a.stands in
-        let h = goes_on (s ++ take (p + 0) input) [] 0 refl (omega (arith, passed)) stands framed count (λ q is. rw (same, none) (a.refused q (sym (ap (λ (z : StreamState). z.refusal) same) ∙ is))) in
+        let stands : AfterGifts gifts (state d') (drop base s ++ []) (es ++ []) = subst (λ (z : StreamState). AfterGifts gifts z (drop base s ++ []) (es ++ [])) (sym same) (rw (none, append-nil (drop base s)) a.stands) in
+        let h = goes_on (s ++ take (p + 0) input) [] 0 refl (omega (arith, passed)) stands framed count (λ q is. subst (λ (z : StreamState). Says z.rules (start_with gifts) (drop base xs) (es ++ []) (Refused q.at q.why)) (sym same) (rw none (a.refused q (sym (ap (λ (z : StreamState). z.refusal) same) ∙ is)))) in
         record { more = []; stands = h; got = seen }
 
     feeds_new : (x : Fed) → (state d).refusal ≡ None → p + used_of (length (drop p input)) x ≤ length input → DrainsBy x (state d).refusal (state d').refusal → DrainsTo (with_event f) (FailsAtEvent faulted) (state d) (drop p input) x (state d') (shifted v base frame) (shifted w base' frame')

@@ -1,5 +1,5 @@
 -- What calls of a decoder that skips leave.
-use Rattle.std.specs.Prelude.{◌≡◌, ℕ, ◌+◌, ◌-◌, ◌≤◌, ◌<◌, ◌^◌, ◌++◌, min, List, [], ◌∷◌, length, take, drop, Option, Some, None, Result, Ok, Err, nat_lt, if◌then◌else◌}
+use Rattle.std.specs.Prelude.{◌≡◌, ℕ, ◌+◌, ◌-◌, ◌≤◌, ◌<◌, ◌^◌, ◌++◌, min, List, [], ◌∷◌, length, take, drop, Option, Some, None, Result, Ok, Err}
 use Rattle.cqlp_note.specs.declared.refusal.Refusal.{Refusal}
 use Rattle.cqlp_note.specs.Limits.{Rules}
 use Rattle.cqlp_grammar.specs.declared.event.Finish.{Finish}
@@ -14,6 +14,7 @@ use Rattle.cqlp_skip.specs.declared.fed.Skipped.{Skipped}
 use Rattle.cqlp_skip.specs.declared.fed.NotSkippable.{NotSkippable}
 use Rattle.cqlp_skip.specs.declared.fed.NotSkippable.TheVariants.{NotRefused, InHeader, TooFar}
 use Rattle.cqlp_skip.specs.declared.frame.OpenFrame.{OpenFrame}
+use Rattle.cqlp_skip.specs.Pieces.{refusal_from}
 use Rattle.cqlp_skip.specs.Stretches.{Stretch, GivenUp, base_after, end_within, frame_under_way, told, told_at}
 
 -- What contracts see of a decoder that skips: the decoder of the present stretch, where that begins, how many bytes of the whole stream were used, the frame
@@ -28,8 +29,8 @@ pub record Skipping : Type 0 where
 abbrev pub stream : Skipping → StreamState
 stream d = state d.decoder
 
-abbrev pub rules : Skipping → Rules
-rules d = (stream d).rules
+abbrev pub rules_in : Skipping → Rules
+rules_in d = (stream d).rules
 
 -- ---- after some calls
 
@@ -38,29 +39,15 @@ rules d = (stream d).rules
 pub record AfterSkips (xs : List ℕ) (d : Skipping) (s : List ℕ) (stretches : List Stretch) (gifts : Gifts) (events : List (ℕ × Event)) : Type 0 where
   pub unread : List ℕ
   pub whole : xs ≡ s ++ unread
-  pub given_up : GivenUp (rules d) xs stretches
+  pub given_up : GivenUp (rules_in d) xs stretches
   pub base : d.base ≡ base_after stretches
   pub stands : AfterGifts gifts (stream d) (drop d.base s) events
   pub frame : d.frame ≡ frame_under_way events
   pub used : d.used ≡ min (length s) (2 ^ 64 - 1)
   pub near : d.base < 2 ^ 64
-  pub refused : (r : Refusal) → (stream d).refusal ≡ Some r → Says (rules d) (start_with gifts) (drop d.base xs) events (Refused r.at r.why)
+  pub refused : (r : Refusal) → (stream d).refusal ≡ Some r → Says (rules_in d) (start_with gifts) (drop d.base xs) events (Refused r.at r.why)
 
 -- ---- a piece
-
--- how many bytes of a piece of this length are passed over first: those that the frame passed over last still has
-abbrev pub passed_of : Skipping → (len : ℕ) → ℕ
-passed_of d len = min (d.base - d.used) len
-
--- a refusal, at its offset in the whole stream
-abbrev pub refusal_from : (base : ℕ) → Refusal → Refusal
-refusal_from base r = record { at = told_at base r.at; why = r.why }
-
--- how a piece ends of which the first bytes were passed over, and the others ended so
-abbrev pub fed_from : (base passed : ℕ) → Fed → Fed
-fed_from base passed fed.More = fed.More
-fed_from base passed (fed.Refused used r) = fed.Refused (passed + used) (refusal_from base r)
-fed_from base passed (fed.Fault used) = fed.Fault (passed + used)
 
 -- what is refused after a piece
 abbrev pub RefusesBy : Fed → Skipping → Type 0
@@ -78,7 +65,7 @@ module _ {V : Type 0} (f : V → ℕ → Event → V) (xs : List ℕ) (new : Ski
 
   -- they are all that the bytes of the present stretch say
   abbrev pub HandsAll : (before after : V) → Type 0
-  HandsAll before after = (h : Hands before after) × Says (rules new) (start_with gifts) (drop new.base s) (events ++ h.more) Waits
+  HandsAll before after = (h : Hands before after) × Says (rules_in new) (start_with gifts) (drop new.base s) (events ++ h.more) Waits
 
   -- the same as `Hands`, but at the last of the events the sink failed
   pub record Fails (faulted : V → ℕ → Event → V → Type 0) (before after : V) : Type 0 where
@@ -119,8 +106,8 @@ abbrev pub skip_of : Skipping → Result Skipped NotSkippable
 skip_of d = skip_by (stream d).refusal d.frame d.base d.used
 
 -- the present stretch, given up at a refusal in a frame
-abbrev pub given_up : Skipping → Gifts → List (ℕ × Event) → OpenFrame → Refusal → Stretch
-given_up d gifts events f r = record { from = d.base; gifts = gifts; events = events; frame = f; refusal = r }
+abbrev pub stretch_given_up : Skipping → Gifts → List (ℕ × Event) → OpenFrame → Refusal → Stretch
+stretch_given_up d gifts events f r = record { from = d.base; gifts = gifts; events = events; frame = f; refusal = r }
 
 -- The present stretch is given up, after the same bytes, and another one begins.
 abbrev pub SkipsOn : Result Skipped NotSkippable → (old new : Skipping) → Type 0
@@ -128,25 +115,24 @@ SkipsOn (Err why) old new = new ≡ old
 SkipsOn (Ok x) old new =
     (xs s : List ℕ) (stretches : List Stretch) (gifts : Gifts) (events : List (ℕ × Event)) → AfterSkips xs old s stretches gifts events
     → (f : OpenFrame) × (r : Refusal) × (old.frame ≡ Some f) × ((stream old).refusal ≡ Some r)
-    × AfterSkips xs new s (given_up old gifts events f r ∷ stretches) [] []
+    × AfterSkips xs new s (stretch_given_up old gifts events f r ∷ stretches) [] []
 
 -- after a skip nothing is refused and nothing under way
 abbrev pub BeginsAnew : Result Skipped NotSkippable → (old new : Skipping) → Type 0
 BeginsAnew (Err why) old new = new ≡ old
 BeginsAnew (Ok x) old new =
     (new.frame ≡ None) × (new.used ≡ old.used) × (new.base ≡ old.used + x.rest) × (new.last ≡ x.at)
-    × ((stream new).refusal ≡ None) × (rules new ≡ rules old)
+    × ((stream new).refusal ≡ None) × (rules_in new ≡ rules_in old)
 
 -- ---- the end
 
--- how a stream ends that ends within a frame that is passed over, or else as its present stretch does
+-- how a stream ends of which the present stretch ends so
 abbrev pub finish_from : Skipping → Finish → Finish
 finish_from d (finish.Whole bytes) = finish.Whole d.used
 finish_from d (finish.Cut frame_at bytes) = finish.Cut (told_at d.base frame_at) d.used
 finish_from d (finish.Refused r) = finish.Refused (refusal_from d.base r)
 
-abbrev pub FinishesAs : Skipping → Finish → Type 0
-FinishesAs d f =
-    if nat_lt d.used d.base
-    then f ≡ finish.Cut d.last d.used
-    else ((own : Finish) × EndsAs (stream d) own × (f ≡ finish_from d own))
+-- It ends within the frame that was passed over last, while bytes of that are missing, and else as its present stretch does.
+pub record FinishesAs (d : Skipping) (f : Finish) : Type 0 where
+  pub within : d.used < d.base → f ≡ finish.Cut d.last d.used
+  pub behind : d.base ≤ d.used → (own : Finish) × EndsAs (stream d) own × (f ≡ finish_from d own)

@@ -1,17 +1,17 @@
 //! A decoder that goes on after a frame whose body is refused.
 
-ghost use Rattle.std.specs.Prelude.{◌≡◌, ◌+◌, ◌-◌, ◌≤◌, ◌<◌, ◌^◌, ◌↔◌, List, ℕ, [], length, IfOk, IsErrOf, Err, Ok, Some, None, min};
+ghost use Rattle.std.specs.Prelude.{◌≡◌, ◌+◌, ◌-◌, ◌≤◌, ◌^◌, ◌↔◌, List, ℕ, [], length, IfOk, IsErrOf, Err, Ok, None, min};
 ghost use Rattle.cqlp_note.specs.Limits.{first_bad, rules_of};
 ghost use Rattle.cqlp_note.specs.declared.limits.BadLimits.{BadLimits as Bad};
 ghost use Rattle.cqlp_decode.specs.Draining.{Passes};
 ghost use Rattle.cqlp_decode.specs.Streams.{HoldsNothing};
 
 use crate::draining::drain;
-use crate::fed::{Fed, NotSkippable, Skipped};
+use crate::fed::{Fed, NotSkippable, Skipped, fed_from, passed_of, refusal_from, used_of};
 use crate::frame::{OpenFrame, told_at};
 use crate::shifting::Shifting;
 use cqlp_decode::{Decoder, Finish, Held, NewError, Sink};
-use cqlp_note::{Limits, Refusal};
+use cqlp_note::Limits;
 use std::alloc::{Allocator, Global};
 use std::marker::Model;
 
@@ -41,7 +41,7 @@ impl<A: Allocator> Model for SkippingDecoder<A> {
 }
 
 impl<A: Allocator + Clone> SkippingDecoder<A> {
-    ghost use Rattle.cqlp_skip.specs.Skipping.{AfterSkips, rules, stream};
+    ghost use Rattle.cqlp_skip.specs.Skipping.{AfterSkips, rules_in, stream};
 
     /// A decoder at the start of a stream, with the memory of a `Decoder` within these limits: four requests for memory,
     /// and the only ones.
@@ -49,7 +49,7 @@ impl<A: Allocator + Clone> SkippingDecoder<A> {
         ensures bad { (b : Bad) → IsErrOf result (NewError.BadLimits b) ↔ (first_bad limits ≡ Err b) }
         ensures fresh { (xs : List ℕ) → IfOk result (λ d. AfterSkips xs d [] [] [] []) }
         ensures unrefused { IfOk result (λ d. (stream d).refusal ≡ None) }
-        ensures rules { IfOk result (λ d. rules d ≡ rules_of limits) }
+        ensures rules { IfOk result (λ d. rules_in d ≡ rules_of limits) }
         ensures nothing_held { IfOk result (λ d. HoldsNothing d.decoder) }
     {
         match Decoder::new(alloc, limits) {
@@ -66,24 +66,25 @@ impl<A: Allocator + Clone> SkippingDecoder<A> {
 }
 
 impl<A: Allocator> SkippingDecoder<A> {
-    ghost use Rattle.cqlp_skip.specs.Pieces.{used_of};
-    ghost use Rattle.cqlp_skip.specs.Skipping.{BeginsAnew, Feeds, FinishesAs, RefusesBy, SkipsOn, fed_from, passed_of, refusal_from, rules, skip_of, stream};
-    ghost use Rattle.cqlp_skip.specs.Stretches as stretches;
+    ghost use Rattle.cqlp_skip.specs.Pieces as pieces;
+    ghost use Rattle.cqlp_skip.specs.Skipping.{BeginsAnew, Feeds, FinishesAs, RefusesBy, SkipsOn, rules_in, skip_of, stream};
+    ghost use Rattle.cqlp_decode.specs.Progress.{levels_of};
+    ghost use Rattle.cqlp_decode.specs.Streams.{IsWithin, given_nodes};
 
     /// Hands all events of a piece to the sink, at their offsets in the whole stream, up to a refusal or a fault of the
     /// sink. The bytes of a frame that was passed over are used without being looked at. The next call goes on behind the
     /// bytes that were used. A refusal is said again until the frame is passed over.
     pub fn feed<S: Sink>(&mut self, input: &[u8], sink: S) -> (Fed, S)
-        ensures within { used_of (length input.now) result.0 ≤ length input.now }
+        ensures within { pieces.used_of (length input.now) result.0 ≤ length input.now }
         ensures refusal { RefusesBy result.0 self.new }
         ensures feeds { S.tells sink →
             Feeds S.after S.faulted self.old self.new input.now result.0 (S.view sink) (S.view result.1) }
         ensures tells { S.tells sink → result.0 ≡ Fed.More → S.tells result.1 }
-        ensures used { self.new.used ≡ min (self.old.used + used_of (length input.now) result.0) (2 ^ 64 - 1) }
+        ensures used { self.new.used ≡ min (self.old.used + pieces.used_of (length input.now) result.0) (2 ^ 64 - 1) }
         ensures place { (self.new.base ≡ self.old.base) × (self.new.last ≡ self.old.last) }
-        ensures rules { rules self.new ≡ rules self.old }
+        ensures rules { rules_in self.new ≡ rules_in self.old }
     {
-        let passed = self.passed_of(input.len());
+        let passed = passed_of(self.base, self.used, input.len());
         let mut shifting = Shifting {
             sink,
             base: self.base,
@@ -96,10 +97,10 @@ impl<A: Allocator> SkippingDecoder<A> {
             frame,
         } = shifting;
         self.frame = frame;
-        let fed = self.fed_after(fed, passed);
+        let fed = fed_from(self.base, passed, fed);
         self.used = self
             .used
-            .saturating_add(used_of(&fed, input.len()) as u64);
+            .saturating_add(used_of(fed, input.len()) as u64);
         (fed, sink)
     }
 
@@ -123,7 +124,7 @@ impl<A: Allocator> SkippingDecoder<A> {
         let skipped = Skipped {
             at: told_at(self.base, frame.at),
             header: frame.header,
-            refusal: self.refusal_from(refusal),
+            refusal: refusal_from(self.base, refusal),
             rest: end - self.used,
         };
         let _ = self.decoder.restart();
@@ -149,12 +150,18 @@ impl<A: Allocator> SkippingDecoder<A> {
                 frame_at: told_at(self.base, frame_at),
                 bytes: self.used,
             },
-            Finish::Refused(refusal) => Finish::Refused(self.refusal_from(refusal)),
+            Finish::Refused(refusal) => Finish::Refused(refusal_from(self.base, refusal)),
         }
     }
 
     /// What is held of the stream, as `Decoder::held` says it.
-    pub fn held(&self) -> Held {
+    pub fn held(&self) -> Held
+        ensures bytes { result.bytes ≡ length (stream self.now).held }
+        ensures entries { result.entries
+            ≡ length (stream self.now).place.nodes + length (given_nodes (stream self.now).given) }
+        ensures levels { result.levels ≡ levels_of self.now.decoder.parts }
+        ensures bounded { IsWithin result (rules_in self.now) }
+    {
         self.decoder.held()
     }
 
@@ -163,50 +170,5 @@ impl<A: Allocator> SkippingDecoder<A> {
         ensures { result ≡ self.now.used }
     {
         self.used
-    }
-
-    /// How many bytes of a piece of this length are passed over first.
-    fn passed_of(&self, len: usize) -> usize
-        ensures { result ≡ passed_of self.now len }
-    {
-        let left = self.base.saturating_sub(self.used);
-        left.min(len as u64) as usize
-    }
-
-    /// A refusal of the present stretch, at its offset in the whole stream.
-    fn refusal_from(&self, refusal: Refusal) -> Refusal
-        ensures { result ≡ refusal_from self.now.base refusal }
-    {
-        Refusal {
-            at: told_at(self.base, refusal.at),
-            why: refusal.why,
-        }
-    }
-
-    /// How a piece ends whose first bytes were passed over.
-    fn fed_after(&self, fed: Fed, passed: usize) -> Fed
-        requires { used_of 0 fed + passed < 2 ^ 64 }
-        ensures { result ≡ fed_from self.now.base passed fed }
-    {
-        match fed {
-            Fed::More => Fed::More,
-            Fed::Refused { used, refusal } => Fed::Refused {
-                used: passed + used,
-                refusal: self.refusal_from(refusal),
-            },
-            Fed::Fault { used } => Fed::Fault {
-                used: passed + used,
-            },
-        }
-    }
-}
-
-/// How many bytes of a piece of this length were used.
-fn used_of(fed: &Fed, len: usize) -> usize
-    ensures { result ≡ used_of len fed.now }
-{
-    match *fed {
-        Fed::More => len,
-        Fed::Refused { used, .. } | Fed::Fault { used } => used,
     }
 }

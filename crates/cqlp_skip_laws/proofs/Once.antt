@@ -13,7 +13,8 @@ use Rattle.cqlp_skip.specs.declared.frame.OpenFrame.{OpenFrame}
 use Rattle.cqlp_skip.specs.declared.fed.Fed.{Fed}
 use Rattle.cqlp_skip.specs.declared.fed.Fed.TheVariants as fed
 use Rattle.cqlp_skip.specs.Stretches.{Stretch, GivenUp, IsGivenUp, base_after, end_of, frame_under_way, told}
-use Rattle.cqlp_skip.specs.Skipping.{Skipping, AfterSkips, Hands, Feeds, RefusesBy, refusal_from, rules, stream}
+use Rattle.cqlp_skip.specs.Skipping.{Skipping, AfterSkips, Hands, Feeds, RefusesBy, rules_in, stream}
+use Rattle.cqlp_skip.specs.Pieces.{refusal_from}
 use Rattle.cqlp_skip.proofs.Feeding.{still_refused}
 use Rattle.cqlp_skip_laws.specs.Laws.{gifts_of, AreAlike, IsSound, Fed_on, GoesOn, IsGivenUpOnce, IsOneAnswerOfFeed}
 
@@ -71,19 +72,19 @@ stay l xs t (x ∷ as) a =
 module _ {V : Type 0} (f : V → ℕ → Event → V) (faulted : V → ℕ → Event → V → Type 0) (old new new' : Skipping) (s input : List ℕ) (stretches : List Stretch) (gifts : Gifts) (events : List (ℕ × Event)) (before after after' : V) (a : AfterSkips (s ++ input) old s stretches gifts events) where
   -- what the bytes of the present stretch say, by its end
   abbrev Told : Skipping → List (ℕ × Event) → Verdict → Type 0
-  Told d more v = Says (rules old) (start_with gifts) (drop old.base (s ++ input)) (events ++ more) v
+  Told d more v = Says (rules_in old) (start_with gifts) (drop old.base (s ++ input)) (events ++ more) v
 
   same_more : (more more' : List (ℕ × Event)) (v v' : Verdict) → Told new more v → Told new' more' v' → (more' ≡ more) × (v' ≡ v)
   same_more more more' v v' p q =
-      let one = says_once (rules old) (start_with gifts) (drop old.base (s ++ input)) (events ++ more) (events ++ more') v v' p q in
+      let one = says_once (rules_in old) (start_with gifts) (drop old.base (s ++ input)) (events ++ more) (events ++ more') v v' p q in
       (append_cancel_left events more' more one.0, one.1)
 
   same_view : (m m' : List (ℕ × Event)) → m' ≡ m → new.base ≡ old.base → new'.base ≡ old.base → after ≡ fold_events f before (told new.base m) → after' ≡ fold_events f before (told new'.base m') → after' ≡ after
   same_view m m' is b b' g g' = g' ∙ ap (λ (n : ℕ). fold_events f before (told n m')) (b' ∙ sym b) ∙ ap (λ (z : List (ℕ × Event)). fold_events f before (told new.base z)) is ∙ sym g
 
-  to_old : (d : Skipping) (es : List (ℕ × Event)) (v : Verdict) → d.base ≡ old.base → rules d ≡ rules old → Says (rules d) (start_with gifts) (drop d.base (s ++ input)) es v → Says (rules old) (start_with gifts) (drop old.base (s ++ input)) es v
+  to_old : (d : Skipping) (es : List (ℕ × Event)) (v : Verdict) → d.base ≡ old.base → rules_in d ≡ rules_in old → Says (rules_in d) (start_with gifts) (drop d.base (s ++ input)) es v → Says (rules_in old) (start_with gifts) (drop old.base (s ++ input)) es v
   to_old d es v base same says =
-      subst (λ (n : ℕ). Says (rules old) (start_with gifts) (drop n (s ++ input)) es v) base
+      subst (λ (n : ℕ). Says (rules_in old) (start_with gifts) (drop n (s ++ input)) es v) base
       (subst (λ (l : Rules). Says l (start_with gifts) (drop d.base (s ++ input)) es v) same says)
 
   -- what a piece that was used whole says

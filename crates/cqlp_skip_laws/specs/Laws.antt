@@ -6,7 +6,7 @@ use Rattle.cqlp_decode.specs.Streams.{AfterGifts}
 use Rattle.cqlp_skip.specs.declared.fed.Fed.{Fed}
 use Rattle.cqlp_skip.specs.declared.fed.Fed.TheVariants as fed
 use Rattle.cqlp_skip.specs.Stretches.{Stretch, GivenUp}
-use Rattle.cqlp_skip.specs.Skipping.{Skipping, AfterSkips, Feeds, RefusesBy, rules, stream}
+use Rattle.cqlp_skip.specs.Skipping.{Skipping, AfterSkips, Feeds, RefusesBy, rules_in, stream}
 
 -- what was given over each of these stretches
 abbrev pub gifts_of : List Stretch → List Gifts
@@ -44,7 +44,7 @@ pub record Fed_on {V : Type 0} (f : V → ℕ → Event → V) (faulted : V → 
   pub feeds : Feeds f faulted old new input x before after
   pub refusal : RefusesBy x new
   pub base : new.base ≡ old.base
-  pub rules : rules new ≡ rules old
+  pub rules : rules_in new ≡ rules_in old
 
 -- From one history, over one piece, there is one answer, and one view of a sink.
 abbrev pub IsOneAnswerOfFeed : {V : Type 0} → (V → ℕ → Event → V) → (V → ℕ → Event → V → Type 0) → Type 0

@@ -1,10 +1,11 @@
-use Rattle.std.proofs.Common.{◌+◌, ◌≤◌, length, drop, refl, sym, ap, ◌∙◌, arith}
+use Rattle.std.proofs.Common.{◌≡◌, ◌+◌, ◌≤◌, length, drop, refl, sym, ap, ◌∙◌, arith}
 use Rattle.std.proofs.lemmas.List.{length-drop}
 use Rattle.cqlp_decode.specs.Progress.{StreamState}
 use Rattle.cqlp_decode.specs.Streams.{state}
 use Rattle.cqlp_decode.proofs.Leads.{repeated}
 use Rattle.cqlp_decode.proofs.Gets.{rest_is, drains_event, drains_all, drains_refused, drains_rest, fails_event, fails_rest}
 use Rattle.cqlp_decode.proofs.Taken.{drained, failed, still_tells, passes_handed, passes_failed, passes_one}
+use Rattle.cqlp_skip.proofs.Feeding.{is_none, refused_first}
 use Rattle.cqlp_skip.proofs.draining.drain.Goals as goal
 
 -- what lies whole in the input
@@ -17,12 +18,12 @@ returns-in-Err-clause-refused g c = λ r is.
 pub returns-in-Err-clause-drains : goal.returns-in-Err-clause-drains
 returns-in-Err-clause-drains g c = λ tells.
     let cells = failed g.S.Sink _ _ _ _ _ _ (rw rest_is at c.in-Err.ensures.drains) (c.events.invariant.tells tells) in
-    let taken = c.in-Err.field-0.used in (
-      c.events.used + taken,
-      λ gifts s es a.
-          let d = c.events.invariant.drained tells gifts s es a in
-          fails_rest g.S.Sink.after g.S.Sink.faulted gifts (state c.events.decoder) (state c.hand_whole.new.self) s c.args.input.now c.events.used taken es _ _ _ d (cells gifts _ _ d.stands),
-    )
+    λ gifts s es a.
+        let d = c.events.invariant.drained tells gifts s es a in
+        fails_rest g.S.Sink.after g.S.Sink.faulted gifts (state c.events.decoder) (state c.hand_whole.new.self) s c.args.input.now c.events.used c.in-Err.fault.used es _ _ _ d (cells gifts _ _ d.stands)
+
+pub returns-in-Err-clause-refusal : goal.returns-in-Err-clause-refusal
+returns-in-Err-clause-refusal g c = c.in-Err.ensures.stays.1 ∙ is_none (state c.events.decoder).refusal (λ r is. let cells = c.in-Err.ensures.refused r is in let e = cells.2 in cc)
 
 pub returns-in-Err-clause-also : goal.returns-in-Err-clause-also
 returns-in-Err-clause-also g c = passes_failed g.S.Sink _ _ _ _ _ _ _ c.events.invariant.also c.in-Err.ensures.drains
@@ -66,7 +67,10 @@ returns-in-More-clause-drains g c = λ tells gifts s es a.
     drains_all g.S.Sink.after gifts mid (state c.next.follows.lender-at-none) s input used es _ _ d (state c.args.decoder.now) (λ none. c.in-Ok.ensures.stays.1 ∙ c.events.invariant.clear none) c.in-More.used goes (rw (c.in-More.is, rest_is) at leads)
 
 pub returns-in-Refused-clause-refusal : goal.returns-in-Refused-clause-refusal
-returns-in-Refused-clause-refusal g c = (_, (rw c.in-Refused.is at c.next.follows.holds-at-none.0).1)
+returns-in-Refused-clause-refusal g c = (rw c.in-Refused.is at c.next.follows.holds-at-none.0).1
+
+pub returns-in-Err-take-clause-refusal : goal.returns-in-Err-take-clause-refusal
+returns-in-Err-take-clause-refusal g c = (rw c.in-Event.is at c.next.follows.holds-at-none.0).3
 
 pub returns-in-Refused-clause-refused : goal.returns-in-Refused-clause-refused
 returns-in-Refused-clause-refused g c = λ r is.
@@ -74,7 +78,9 @@ returns-in-Refused-clause-refused g c = λ r is.
     let cells = c.in-Ok.ensures.refused r (ap (λ (z : StreamState). z.refusal) before.0 ∙ is) in
     let same = cells.0 ∙ before.0 in
     let again = repeated (state c.hand_whole.new.self) (state c.next.follows.lender-at-none) _ (state c.hand_whole.new.self).refusal r (ap (λ (z : StreamState). z.refusal) same ∙ is) c.next.follows.holds-at-none.2 in
-    (refl, again.1 ∙ same, cells.1 ∙ before.1)
+    let none : c.in-Ok.taken ≡ 0 = let e = cells.2 in cc in
+    let own : c.in-Refused.refusal ≡ r = let e = sym c.in-Refused.is ∙ again.0 in cc in
+    (refused_first (c.events.used + c.in-Ok.taken) c.in-Refused.refusal r (omega (arith, before.2, none)) own, again.1 ∙ same, cells.1 ∙ before.1)
 
 pub returns-in-Refused-clause-drains : goal.returns-in-Refused-clause-drains
 returns-in-Refused-clause-drains g c = λ tells.
@@ -82,15 +88,13 @@ returns-in-Refused-clause-drains g c = λ tells.
     let mid = state c.hand_whole.new.self in
     let used = c.events.used + c.in-Ok.taken in
     let input = c.args.input.now in
-    let cells = drained g.S.Sink _ _ _ _ _ _ (rw rest_is at c.in-Ok.ensures.drains) (c.events.invariant.tells tells) in (
-      used,
-      λ gifts s es a.
-          let d0 = c.events.invariant.drained tells gifts s es a in
-          let d = drains_rest g.S.Sink.after gifts old mid s input c.events.used c.in-Ok.taken es _ _ _ d0 (cells gifts _ _ d0.stands) in
-          let leads = c.next.follows.holds-at-none.1 gifts _ _ d.stands in
-          let goes = rw c.in-Refused.is at c.next.follows.holds-at-none.0 in
-          drains_refused g.S.Sink.after gifts mid (state c.next.follows.lender-at-none) s input used es _ _ d (state c.args.decoder.now) (λ none. c.in-Ok.ensures.stays.1 ∙ c.events.invariant.clear none) _ goes (rw (c.in-Refused.is, rest_is) at leads),
-    )
+    let cells = drained g.S.Sink _ _ _ _ _ _ (rw rest_is at c.in-Ok.ensures.drains) (c.events.invariant.tells tells) in
+    λ gifts s es a.
+        let d0 = c.events.invariant.drained tells gifts s es a in
+        let d = drains_rest g.S.Sink.after gifts old mid s input c.events.used c.in-Ok.taken es _ _ _ d0 (cells gifts _ _ d0.stands) in
+        let leads = c.next.follows.holds-at-none.1 gifts _ _ d.stands in
+        let goes = rw c.in-Refused.is at c.next.follows.holds-at-none.0 in
+        drains_refused g.S.Sink.after gifts mid (state c.next.follows.lender-at-none) s input used es _ _ d (state c.args.decoder.now) (λ none. c.in-Ok.ensures.stays.1 ∙ c.events.invariant.clear none) _ goes (rw (c.in-Refused.is, rest_is) at leads)
 
 pub returns-in-Err-take-clause-refused : goal.returns-in-Err-take-clause-refused
 returns-in-Err-take-clause-refused g c = λ r is.
@@ -106,14 +110,12 @@ returns-in-Err-take-clause-drains g c = λ tells.
     let mid = state c.hand_whole.new.self in
     let used = c.events.used + c.in-Ok.taken in
     let input = c.args.input.now in
-    let cells = drained g.S.Sink _ _ _ _ _ _ (rw rest_is at c.in-Ok.ensures.drains) (c.events.invariant.tells tells) in (
-      used + c.in-Event.taken,
-      λ gifts s es a.
-          let d0 = c.events.invariant.drained tells gifts s es a in
-          let d = drains_rest g.S.Sink.after gifts old mid s input c.events.used c.in-Ok.taken es _ _ _ d0 (cells gifts _ _ d0.stands) in
-          let leads = c.next.follows.holds-at-none.1 gifts _ _ d.stands in
-          fails_event g.S.Sink.after gifts mid (state c.next.follows.lender-at-none) s input used es _ _ d g.S.Sink.faulted c.in-Event.at c.in-Event.taken c.in-Event.event _ (rw (c.in-Event.is, rest_is) at leads) (c.in-Err-take.ensures.err (still_tells g.S.Sink _ _ _ _ _ _ c.in-Ok.ensures.drains (c.events.invariant.tells tells))),
-    )
+    let cells = drained g.S.Sink _ _ _ _ _ _ (rw rest_is at c.in-Ok.ensures.drains) (c.events.invariant.tells tells) in
+    λ gifts s es a.
+        let d0 = c.events.invariant.drained tells gifts s es a in
+        let d = drains_rest g.S.Sink.after gifts old mid s input c.events.used c.in-Ok.taken es _ _ _ d0 (cells gifts _ _ d0.stands) in
+        let leads = c.next.follows.holds-at-none.1 gifts _ _ d.stands in
+        fails_event g.S.Sink.after gifts mid (state c.next.follows.lender-at-none) s input used es _ _ d g.S.Sink.faulted c.in-Event.at c.in-Event.taken c.in-Event.event _ (rw (c.in-Event.is, rest_is) at leads) (c.in-Err-take.ensures.err (still_tells g.S.Sink _ _ _ _ _ _ c.in-Ok.ensures.drains (c.events.invariant.tells tells)))
 
 pub events-smaller : goal.events-smaller
 events-smaller g c =
