@@ -1,5 +1,5 @@
 -- What handing on a piece leaves.
-use Rattle.std.proofs.Common.{◌≡◌, ℕ, ◌+◌, ◌-◌, ◌^◌, ◌≤◌, ◌<◌, List, [], ◌∷◌, ◌++◌, length, take, drop, refl, sym, ap, ◌∙◌, subst, append_assoc, arith}
+use Rattle.std.proofs.Common.{◌≡◌, ℕ, ◌+◌, ◌-◌, ◌^◌, ◌≤◌, List, [], ◌∷◌, ◌++◌, length, take, drop, refl, sym, ap, ◌∙◌, subst, append_assoc, arith}
 use Rattle.std.specs.Prelude.{min, Option, Some, None}
 use Rattle.std.proofs.lemmas.List.{append-nil, length-append, length-drop, length-take-le, take-append-drop, take_all}
 use Rattle.cqlp_note.specs.declared.refusal.Refusal.{Refusal}
@@ -17,13 +17,13 @@ use Rattle.cqlp_decode.specs.Draining as drained
 use Rattle.cqlp_skip.specs.declared.fed.Fed.{Fed}
 use Rattle.cqlp_skip.specs.declared.fed.Fed.TheVariants as fed
 use Rattle.cqlp_skip.specs.declared.frame.OpenFrame.{OpenFrame}
-use Rattle.cqlp_skip.specs.Stretches.{Stretch, GivenUp, frame_from, told, told_at}
+use Rattle.cqlp_skip.specs.Stretches.{Stretch, GivenUp, frame_from, told}
 use Rattle.cqlp_skip.specs.Shifted.{Shifted, shifted, with_event, FailsAtEvent}
 use Rattle.cqlp_skip.specs.Draining.{DrainsTo, DrainsBy}
 use Rattle.cqlp_skip.specs.Pieces.{fed_from, used_of}
 use Rattle.cqlp_skip.specs.Skipping.{Skipping, AfterSkips, Hands, HandsAll, Fails, FeedsTo}
 use Rattle.cqlp_skip.proofs.Passing.{behind_passed, behind_all, behind_piece}
-use Rattle.cqlp_skip.proofs.Folding.{frame-append, told-append, fold_shifted}
+use Rattle.cqlp_skip.proofs.Folding.{frame-append, fold_shifted}
 
 -- a refusal stays, whatever bytes follow
 is_bad : (x : Said (Emitted Event Place) (ℕ × Reason)) (k : ℕ) (why : Reason) → Ends x (Refused k why) → x ≡ Bad (k, why)
@@ -49,7 +49,7 @@ abbrev pub skipping : Decoding → (base used : ℕ) → Option OpenFrame → (l
 skipping d base used frame last = record { decoder = d; base = base; used = used; frame = frame; last = last }
 
 module _ (d d' : Decoding) (base used used' last : ℕ) (frame frame' : Option OpenFrame) (xs s input later : List ℕ) (stretches : List Stretch) (gifts : Gifts) (es : List (ℕ × Event)) (p : ℕ) (a : AfterSkips xs (skipping d base used frame last) s stretches gifts es)
-  (is : xs ≡ (s ++ input) ++ later) (passed : p ≡ min (base - used) (length input)) (rules : (state d').rules ≡ (state d).rules) where
+    (is : xs ≡ (s ++ input) ++ later) (passed : p ≡ min (base - used) (length input)) (rules : (state d').rules ≡ (state d).rules) where
   pub first : p ≡ min (base - length s) (length input)
   first = omega (arith, passed, a.used, a.near)
 

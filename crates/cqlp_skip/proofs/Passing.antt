@@ -1,8 +1,8 @@
 -- Bytes that are passed over, and what is left of a stream behind them.
-use Rattle.std.proofs.Common.{◌≡◌, ℕ, ◌+◌, ◌-◌, ◌≤◌, List, [], ◌++◌, length, take, drop, refl, sym, ap, ◌∙◌, inl, inr, arith}
+use Rattle.std.proofs.Common.{◌≡◌, ℕ, ◌+◌, ◌-◌, List, [], ◌++◌, length, take, drop, sym, ap, ◌∙◌, inl, inr, arith}
 use Rattle.std.specs.Prelude.{min}
 use Rattle.std.proofs.lemmas.Bool.{cases_lt}
-use Rattle.std.proofs.lemmas.List.{append-nil, drop-append-le, drop-take, drop_all, length-append, take-append-drop, take_all}
+use Rattle.std.proofs.lemmas.List.{drop-append-le, drop-take, drop_all, length-append, take-append-drop, take_all}
 use Rattle.std.proofs.Math.Seq.{drop-append-add}
 
 -- of the bytes used, those of the stretch from `base` on, where the first of a piece are passed over up to there
@@ -13,18 +13,18 @@ behind_passed base s input p k is = elim (cases_lt (length s) base) [
       let more : 0 + k ≡ k = omega arith in
       rw (none, more) (drop-append-le base s (take k input) le)
   | inl lt ↦ elim (cases_lt (length input) (base - length s)) [
-      | inl few ↦
-          let all : p ≡ length input = omega (arith, is, few) in
-          let gone : drop p input ≡ [] = drop_all p input (omega (arith, all)) in
-          let front : take (p + k) input ≡ input = take_all (p + k) input (omega (arith, all)) in
-          let near : drop base s ≡ [] = drop_all base s (omega (arith, lt)) in
-          let nothing : take {A = ℕ} k [] ≡ [] = take_all k [] (omega arith) in
-          rw (front, gone, near, nothing) (drop_all base (s ++ input) (omega (arith, length-append s input, few, lt)))
-      | inr enough ↦
-          let there : base ≡ length s + p = omega (arith, is, lt, enough) in
-          let near : drop base s ≡ [] = drop_all base s (omega (arith, lt)) in
-          rw near (ap (λ (n : ℕ). drop n (s ++ take (p + k) input)) there ∙ drop-append-add s (take (p + k) input) p ∙ drop-take p k input)
-    ]
+    | inl few ↦
+        let all : p ≡ length input = omega (arith, is, few) in
+        let gone : drop p input ≡ [] = drop_all p input (omega (arith, all)) in
+        let front : take (p + k) input ≡ input = take_all (p + k) input (omega (arith, all)) in
+        let near : drop base s ≡ [] = drop_all base s (omega (arith, lt)) in
+        let nothing : take {A = ℕ} k [] ≡ [] = take_all k [] (omega arith) in
+        rw (front, gone, near, nothing) (drop_all base (s ++ input) (omega (arith, length-append s input, few, lt)))
+    | inr enough ↦
+        let there : base ≡ length s + p = omega (arith, is, lt, enough) in
+        let near : drop base s ≡ [] = drop_all base s (omega (arith, lt)) in
+        rw near (ap (λ (n : ℕ). drop n (s ++ take (p + k) input)) there ∙ drop-append-add s (take (p + k) input) p ∙ drop-take p k input)
+  ]
 ]
 
 -- the same of all bytes of a piece

@@ -14,14 +14,9 @@ pub enum Fed {
     More,
     /// The stream is refused after this many bytes of the piece, here and at every later call before a skip. The refusal's
     /// offset is one in the whole stream.
-    Refused {
-        used: usize,
-        refusal: Refusal,
-    },
+    Refused { used: usize, refusal: Refusal },
     /// The sink failed at an event that ends after this many bytes of the piece.
-    Fault {
-        used: usize,
-    },
+    Fault { used: usize },
 }
 
 /// A frame that was passed over.

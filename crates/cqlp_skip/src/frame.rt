@@ -33,11 +33,7 @@ impl OpenFrame {
 
 /// The frame under way after an event at an offset.
 #[inline]
-pub(crate) fn frame_after(
-    frame: Option<OpenFrame>,
-    at: u64,
-    event: &Event<'_>,
-) -> Option<OpenFrame>
+pub(crate) fn frame_after(frame: Option<OpenFrame>, at: u64, event: &Event<'_>) -> Option<OpenFrame>
     ensures { result ≡ frame_after frame at (event_of event.now) }
 {
     match event {

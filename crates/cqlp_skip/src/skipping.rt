@@ -98,9 +98,7 @@ impl<A: Allocator> SkippingDecoder<A> {
         } = shifting;
         self.frame = frame;
         let fed = fed_from(self.base, passed, fed);
-        self.used = self
-            .used
-            .saturating_add(used_of(fed, input.len()) as u64);
+        self.used = self.used.saturating_add(used_of(fed, input.len()) as u64);
         (fed, sink)
     }
 

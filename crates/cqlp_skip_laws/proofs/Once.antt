@@ -13,7 +13,7 @@ use Rattle.cqlp_skip.specs.declared.frame.OpenFrame.{OpenFrame}
 use Rattle.cqlp_skip.specs.declared.fed.Fed.{Fed}
 use Rattle.cqlp_skip.specs.declared.fed.Fed.TheVariants as fed
 use Rattle.cqlp_skip.specs.Stretches.{Stretch, GivenUp, IsGivenUp, base_after, end_of, frame_under_way, told}
-use Rattle.cqlp_skip.specs.Skipping.{Skipping, AfterSkips, Hands, Feeds, RefusesBy, rules_in, stream}
+use Rattle.cqlp_skip.specs.Skipping.{Skipping, AfterSkips, FeedsTo, RefusesBy, rules_in, stream}
 use Rattle.cqlp_skip.specs.Pieces.{refusal_from}
 use Rattle.cqlp_skip.proofs.Feeding.{still_refused}
 use Rattle.cqlp_skip_laws.specs.Laws.{gifts_of, AreAlike, IsSound, Fed_on, GoesOn, IsGivenUpOnce, IsOneAnswerOfFeed}
@@ -42,10 +42,10 @@ one_stretch l bytes x y from gifts a b =
 pub once : IsGivenUpOnce
 once l xs [] [] a b same = refl
 once l xs [] (y ∷ ys) a b same = absurd cc
-once l xs (x ∷ as) [] a b same = absurd cc
-once l xs (x ∷ as) (y ∷ ys) a b same =
-    let gifts = head_same y.gifts x.gifts (gifts_of ys) (gifts_of as) same in
-    let earlier : ys ≡ as = once l xs as ys a.2 b.2 gifts.1 in
+once l xs (x ∷ zs) [] a b same = absurd cc
+once l xs (x ∷ zs) (y ∷ ys) a b same =
+    let gifts = head_same y.gifts x.gifts (gifts_of ys) (gifts_of zs) same in
+    let earlier : ys ≡ zs = once l xs zs ys a.2 b.2 gifts.1 in
     let from : y.from ≡ x.from = b.0 ∙ ap base_after earlier ∙ sym a.0 in
     let there : IsGivenUp l (drop x.from xs) y = subst (λ (n : ℕ). IsGivenUp l (drop n xs) y) from b.1 in
     let first = one_stretch l (drop x.from xs) x y from gifts.0 a.1 there in
@@ -62,10 +62,10 @@ behind n xs t = elim (cases_lt (length xs) n) [
 
 pub stay : GoesOn
 stay l xs t [] a = tt
-stay l xs t (x ∷ as) a =
+stay l xs t (x ∷ zs) a =
     let b = behind x.from xs t in
     let says = still_refused l (start_with x.gifts) (drop x.from xs) b.0 x.events x.refusal.at x.refusal.why a.1.0 in
-    (a.0, (subst (λ (z : List ℕ). Says l (start_with x.gifts) z x.events (Refused x.refusal.at x.refusal.why)) (sym b.1) says, a.1.1), stay l xs t as a.2)
+    (a.0, (subst (λ (z : List ℕ). Says l (start_with x.gifts) z x.events (Refused x.refusal.at x.refusal.why)) (sym b.1) says, a.1.1), stay l xs t zs a.2)
 
 -- ---- one answer
 
@@ -88,7 +88,7 @@ module _ {V : Type 0} (f : V → ℕ → Event → V) (faulted : V → ℕ → E
       (subst (λ (l : Rules). Says l (start_with gifts) (drop d.base (s ++ input)) es v) same says)
 
   -- what a piece that was used whole says
-  abbrev feeds_here : (d : Skipping) (x : Fed) (w : V) → Fed_on f faulted old d input x before w → _
+  feeds_here : (d : Skipping) (x : Fed) (w : V) → Fed_on f faulted old d input x before w → FeedsTo f faulted (s ++ input) d s stretches gifts events input x before w
   feeds_here d x w k = k.feeds (s ++ input) s stretches gifts events [] (sym (append-nil (s ++ input))) a
 
   one_feed : (x x' : Fed) → Fed_on f faulted old new input x before after → Fed_on f faulted old new' input x' before after' → IsSound x → IsSound x' → AreAlike x x' × (after' ≡ after)

@@ -1,4 +1,4 @@
-use Rattle.std.proofs.Common.{◌≡◌, ◌+◌, ◌≤◌, length, drop, refl, sym, ap, ◌∙◌, arith}
+use Rattle.std.proofs.Common.{◌≡◌, ◌+◌, ◌≤◌, length, drop, sym, ap, ◌∙◌, arith}
 use Rattle.std.proofs.lemmas.List.{length-drop}
 use Rattle.cqlp_decode.specs.Progress.{StreamState}
 use Rattle.cqlp_decode.specs.Streams.{state}
@@ -19,8 +19,8 @@ pub returns-in-Err-clause-drains : goal.returns-in-Err-clause-drains
 returns-in-Err-clause-drains g c = λ tells.
     let cells = failed g.S.Sink _ _ _ _ _ _ (rw rest_is at c.in-Err.ensures.drains) (c.events.invariant.tells tells) in
     λ gifts s es a.
-        let d = c.events.invariant.drained tells gifts s es a in
-        fails_rest g.S.Sink.after g.S.Sink.faulted gifts (state c.events.decoder) (state c.hand_whole.new.self) s c.args.input.now c.events.used c.in-Err.fault.used es _ _ _ d (cells gifts _ _ d.stands)
+    let d = c.events.invariant.drained tells gifts s es a in
+    fails_rest g.S.Sink.after g.S.Sink.faulted gifts (state c.events.decoder) (state c.hand_whole.new.self) s c.args.input.now c.events.used c.in-Err.fault.used es _ _ _ d (cells gifts _ _ d.stands)
 
 pub returns-in-Err-clause-refusal : goal.returns-in-Err-clause-refusal
 returns-in-Err-clause-refusal g c = c.in-Err.ensures.stays.1 ∙ is_none (state c.events.decoder).refusal (λ r is. let cells = c.in-Err.ensures.refused r is in let e = cells.2 in cc)
@@ -90,11 +90,11 @@ returns-in-Refused-clause-drains g c = λ tells.
     let input = c.args.input.now in
     let cells = drained g.S.Sink _ _ _ _ _ _ (rw rest_is at c.in-Ok.ensures.drains) (c.events.invariant.tells tells) in
     λ gifts s es a.
-        let d0 = c.events.invariant.drained tells gifts s es a in
-        let d = drains_rest g.S.Sink.after gifts old mid s input c.events.used c.in-Ok.taken es _ _ _ d0 (cells gifts _ _ d0.stands) in
-        let leads = c.next.follows.holds-at-none.1 gifts _ _ d.stands in
-        let goes = rw c.in-Refused.is at c.next.follows.holds-at-none.0 in
-        drains_refused g.S.Sink.after gifts mid (state c.next.follows.lender-at-none) s input used es _ _ d (state c.args.decoder.now) (λ none. c.in-Ok.ensures.stays.1 ∙ c.events.invariant.clear none) _ goes (rw (c.in-Refused.is, rest_is) at leads)
+    let d0 = c.events.invariant.drained tells gifts s es a in
+    let d = drains_rest g.S.Sink.after gifts old mid s input c.events.used c.in-Ok.taken es _ _ _ d0 (cells gifts _ _ d0.stands) in
+    let leads = c.next.follows.holds-at-none.1 gifts _ _ d.stands in
+    let goes = rw c.in-Refused.is at c.next.follows.holds-at-none.0 in
+    drains_refused g.S.Sink.after gifts mid (state c.next.follows.lender-at-none) s input used es _ _ d (state c.args.decoder.now) (λ none. c.in-Ok.ensures.stays.1 ∙ c.events.invariant.clear none) _ goes (rw (c.in-Refused.is, rest_is) at leads)
 
 pub returns-in-Err-take-clause-refused : goal.returns-in-Err-take-clause-refused
 returns-in-Err-take-clause-refused g c = λ r is.
@@ -112,10 +112,10 @@ returns-in-Err-take-clause-drains g c = λ tells.
     let input = c.args.input.now in
     let cells = drained g.S.Sink _ _ _ _ _ _ (rw rest_is at c.in-Ok.ensures.drains) (c.events.invariant.tells tells) in
     λ gifts s es a.
-        let d0 = c.events.invariant.drained tells gifts s es a in
-        let d = drains_rest g.S.Sink.after gifts old mid s input c.events.used c.in-Ok.taken es _ _ _ d0 (cells gifts _ _ d0.stands) in
-        let leads = c.next.follows.holds-at-none.1 gifts _ _ d.stands in
-        fails_event g.S.Sink.after gifts mid (state c.next.follows.lender-at-none) s input used es _ _ d g.S.Sink.faulted c.in-Event.at c.in-Event.taken c.in-Event.event _ (rw (c.in-Event.is, rest_is) at leads) (c.in-Err-take.ensures.err (still_tells g.S.Sink _ _ _ _ _ _ c.in-Ok.ensures.drains (c.events.invariant.tells tells)))
+    let d0 = c.events.invariant.drained tells gifts s es a in
+    let d = drains_rest g.S.Sink.after gifts old mid s input c.events.used c.in-Ok.taken es _ _ _ d0 (cells gifts _ _ d0.stands) in
+    let leads = c.next.follows.holds-at-none.1 gifts _ _ d.stands in
+    fails_event g.S.Sink.after gifts mid (state c.next.follows.lender-at-none) s input used es _ _ d g.S.Sink.faulted c.in-Event.at c.in-Event.taken c.in-Event.event _ (rw (c.in-Event.is, rest_is) at leads) (c.in-Err-take.ensures.err (still_tells g.S.Sink _ _ _ _ _ _ c.in-Ok.ensures.drains (c.events.invariant.tells tells)))
 
 pub events-smaller : goal.events-smaller
 events-smaller g c =

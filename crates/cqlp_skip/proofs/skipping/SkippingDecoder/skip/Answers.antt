@@ -1,9 +1,6 @@
-use Rattle.std.proofs.Common.{◌≡◌, List, ℕ, Some, sym, ap, ◌∙◌, subst}
-use Rattle.std.specs.Prelude.{Option}
-use Rattle.cqlp_skip.specs.declared.frame.OpenFrame.{OpenFrame}
+use Rattle.std.proofs.Common.{◌≡◌, Some, sym, ◌∙◌, subst}
 use Rattle.cqlp_skip.specs.Skipping.{Skipping, AfterSkips}
 use Rattle.cqlp_skip.specs.Stretches.{end_within}
-use Rattle.cqlp_decode.specs.Streams.{state}
 use Rattle.cqlp_skip.proofs.Skips.{goes_behind}
 use Rattle.cqlp_skip.proofs.skipping.SkippingDecoder.skip.Goals as goal
 
