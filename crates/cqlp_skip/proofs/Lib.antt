@@ -1,0 +1,4 @@
+pub mod Passing
+pub mod Folding
+pub mod Feeding
+pub mod Skips
