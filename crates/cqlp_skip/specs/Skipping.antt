@@ -6,7 +6,7 @@ use Rattle.cqlp_grammar.specs.declared.event.Finish.{Finish}
 use Rattle.cqlp_grammar.specs.declared.event.Finish.TheVariants as finish
 use Rattle.cqlp_decode.specs.Reading.{Event, Gifts, Waits, Refused, Says, start_with}
 use Rattle.cqlp_decode.specs.Progress.{StreamState}
-use Rattle.cqlp_decode.specs.Streams.{Decoding, state, AfterGifts, EndsAs}
+use Rattle.cqlp_decode.specs.Streams.{Decoding, state, AfterGifts, EndsAs, HoldsNothing, buffer_of}
 use Rattle.cqlp_decode.specs.Draining.{fold_events}
 use Rattle.cqlp_skip.specs.declared.fed.Fed.{Fed}
 use Rattle.cqlp_skip.specs.declared.fed.Fed.TheVariants as fed
@@ -117,12 +117,13 @@ SkipsOn (Ok x) old new =
     → (f : OpenFrame) × (r : Refusal) × (old.frame ≡ Some f) × ((stream old).refusal ≡ Some r)
     × AfterSkips xs new s (stretch_given_up old gifts events f r ∷ stretches) [] []
 
--- after a skip nothing is refused and nothing under way
+-- after a skip nothing is refused, nothing under way, nothing held and nothing given, and the memory is the same
 abbrev pub BeginsAnew : Result Skipped NotSkippable → (old new : Skipping) → Type 0
 BeginsAnew (Err why) old new = new ≡ old
 BeginsAnew (Ok x) old new =
     (new.frame ≡ None) × (new.used ≡ old.used) × (new.base ≡ old.used + x.rest) × (new.last ≡ x.at)
-    × ((stream new).refusal ≡ None) × (rules_in new ≡ rules_in old)
+    × ((stream new).refusal ≡ None) × (rules_in new ≡ rules_in old) × HoldsNothing new.decoder × ((stream new).given ≡ None)
+    × (buffer_of new.decoder ≡ buffer_of old.decoder)
 
 -- ---- the end
 

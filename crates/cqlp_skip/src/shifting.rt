@@ -26,7 +26,7 @@ impl<S: Sink> Sink for Shifting<S> {
 
     ghost faulted = { FailsAtEvent S.faulted };
 
-    ghost also = { λ old at e new. S.also old.sink (told_at old.base at) e new.sink };
+    ghost also = { λ old at e new. S.also old.sink (told_at old.base at) e new.sink × (new.base ≡ old.base) };
 
     #[inline]
     fn take(&mut self, at: u64, event: &Event<'_>) -> Result<(), SinkFault> {

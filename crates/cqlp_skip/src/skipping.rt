@@ -10,7 +10,7 @@ use crate::draining::drain;
 use crate::fed::{Fed, NotSkippable, Skipped, fed_from, passed_of, refusal_from, used_of};
 use crate::frame::{OpenFrame, told_at};
 use crate::shifting::Shifting;
-use cqlp_decode::{Decoder, Finish, Held, NewError, Sink};
+use cqlp_decode::{Capacity, Decoder, Finish, Held, NewError, Sink};
 use cqlp_note::Limits;
 use std::alloc::{Allocator, Global};
 use std::marker::Model;
@@ -69,7 +69,7 @@ impl<A: Allocator> SkippingDecoder<A> {
     ghost use Rattle.cqlp_skip.specs.Pieces as pieces;
     ghost use Rattle.cqlp_skip.specs.Skipping.{BeginsAnew, Feeds, FinishesAs, RefusesBy, SkipsOn, rules_in, skip_of, stream};
     ghost use Rattle.cqlp_decode.specs.Progress.{levels_of};
-    ghost use Rattle.cqlp_decode.specs.Streams.{IsWithin, given_nodes};
+    ghost use Rattle.cqlp_decode.specs.Streams.{IsWithin, capacity_within, given_nodes};
 
     /// Hands all events of a piece to the sink, at their offsets in the whole stream, up to a refusal or a fault of the
     /// sink. The bytes of a frame that was passed over are used without being looked at. The next call goes on behind the
@@ -80,6 +80,7 @@ impl<A: Allocator> SkippingDecoder<A> {
         ensures feeds { S.tells sink →
             Feeds S.after S.faulted self.old self.new input.now result.0 (S.view sink) (S.view result.1) }
         ensures tells { S.tells sink → result.0 ≡ Fed.More → S.tells result.1 }
+        ensures also { Passes S.also sink result.1 }
         ensures used { self.new.used ≡ min (self.old.used + pieces.used_of (length input.now) result.0) (2 ^ 64 - 1) }
         ensures place { (self.new.base ≡ self.old.base) × (self.new.last ≡ self.old.last) }
         ensures rules { rules_in self.new ≡ rules_in self.old }
@@ -161,6 +162,13 @@ impl<A: Allocator> SkippingDecoder<A> {
         ensures bounded { IsWithin result (rules_in self.now) }
     {
         self.decoder.held()
+    }
+
+    /// The places that the decoder has memory for, as `Decoder::capacity` says them.
+    pub fn capacity(&self) -> Capacity
+        ensures { result ≡ capacity_within (rules_in self.now) }
+    {
+        self.decoder.capacity()
     }
 
     /// How many bytes of the whole stream were used.

@@ -1,19 +1,18 @@
 -- One list of stretches, and one answer.
-use Rattle.std.proofs.Common.{◌≡◌, ℕ, ◌+◌, ◌≤◌, List, [], ◌∷◌, ◌++◌, length, drop, refl, sym, ap, ◌∙◌, subst, inl, inr, arith}
-use Rattle.std.specs.Prelude.{Option, Some, None}
+use Rattle.std.proofs.Common.{◌≡◌, ℕ, List, [], ◌∷◌, ◌++◌, length, drop, refl, sym, ap, ◌∙◌, subst, inl, inr, arith}
+use Rattle.std.specs.Prelude.{Option, Some}
 use Rattle.std.proofs.lemmas.Bool.{cases_lt}
 use Rattle.std.proofs.lemmas.List.{append-nil, append_cancel_left, drop-append-le, drop_all}
 use Rattle.cqlp_note.specs.declared.refusal.Refusal.{Refusal}
-use Rattle.cqlp_note.specs.declared.refusal.Reason.{Reason}
 use Rattle.cqlp_note.specs.Limits.{Rules}
 use Rattle.cqlp_decode.specs.Reading.{Event, Gifts, Verdict, Waits, Refused, Says, start_with}
 use Rattle.cqlp_decode.specs.Draining.{fold_events}
-use Rattle.cqlp_laws.proofs.Whole.{says_once, refusal_stays}
+use Rattle.cqlp_laws.proofs.Whole.{says_once}
 use Rattle.cqlp_skip.specs.declared.frame.OpenFrame.{OpenFrame}
 use Rattle.cqlp_skip.specs.declared.fed.Fed.{Fed}
 use Rattle.cqlp_skip.specs.declared.fed.Fed.TheVariants as fed
-use Rattle.cqlp_skip.specs.Stretches.{Stretch, GivenUp, IsGivenUp, base_after, end_of, frame_under_way, told}
-use Rattle.cqlp_skip.specs.Skipping.{Skipping, AfterSkips, FeedsTo, RefusesBy, rules_in, stream}
+use Rattle.cqlp_skip.specs.Stretches.{Stretch, IsGivenUp, base_after, frame_under_way, told}
+use Rattle.cqlp_skip.specs.Skipping.{Skipping, AfterSkips, FeedsTo, rules_in}
 use Rattle.cqlp_skip.specs.Pieces.{refusal_from}
 use Rattle.cqlp_skip.proofs.Feeding.{still_refused}
 use Rattle.cqlp_skip_laws.specs.Laws.{gifts_of, AreAlike, IsSound, Fed_on, GoesOn, IsGivenUpOnce, IsOneAnswerOfFeed}

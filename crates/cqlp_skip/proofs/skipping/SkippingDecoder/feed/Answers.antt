@@ -6,6 +6,7 @@ use Rattle.cqlp_skip.specs.declared.shifting.Shifting.{Shifting}
 use Rattle.cqlp_skip.specs.Pieces.{fed_from, used_of}
 use Rattle.cqlp_skip.specs.Skipping.{Skipping, AfterSkips}
 use Rattle.cqlp_skip.proofs.Feeding.{feeds}
+use Rattle.cqlp_skip.proofs.Folding.{passes_moved}
 use Rattle.cqlp_skip.proofs.skipping.SkippingDecoder.feed.Goals as goal
 
 pub returns-clause-feeds : goal.returns-clause-feeds
@@ -25,3 +26,6 @@ returns-clause-feeds g c = λ tells xs s stretches gifts events later is after.
     rw c.fed_from-fed.ensures
     (feeds d.decoder c.drain-fed.new.decoder d.base d.used c.saturating_add-self-inside.result d.last d.frame sink.frame xs s input later stretches gifts events p a is passed c.drain-fed.ensures.rules g.S.Sink.after g.S.Sink.faulted (g.S.Sink.view c.args.sink) (g.S.Sink.view sink.sink) sink.base x few c.drain-fed.ensures.refusal
     (λ r was. let e = c.drain-fed.ensures.refused r was in (e.0, e.1, ap (λ (z : Shifting g.row.S.Denot). g.S.Sink.view z.sink) e.2, ap (λ (z : Shifting g.row.S.Denot). z.frame) e.2)) drains count)
+
+pub returns-clause-also : goal.returns-clause-also
+returns-clause-also g c = passes_moved g.S.Sink.also _ _ c.drain-fed.ensures.also
