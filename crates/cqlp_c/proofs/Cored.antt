@@ -5,23 +5,24 @@ use Rattle.cqlp_note.specs.declared.header.Header.{Header}
 use Rattle.cqlp_note.specs.declared.opcode.Opcode.{Opcode}
 use Rattle.cqlp_note.specs.declared.opcode.Opcode.TheVariants as opcode
 use Rattle.cqlp_note.specs.Heading.{beside_number, code_of, opcodes}
-use Rattle.cqlp_session.specs.Client.{ClientCore}
+use Rattle.cqlp_session.specs.declared.ticket.Reply.TheVariants as reply
+use Rattle.cqlp_session.specs.Client.{ClientCore, reply_to}
 use Rattle.cqlp_session.specs.Signal.{signal_of}
 use Rattle.cqlp_c.specs.declared.numbers.TheConstants as numbers
-use Rattle.cqlp_c.specs.Clients.{Starts, StartsAnew, is_slot_count}
+use Rattle.cqlp_c.specs.Cores.{Starts, StartsAnew, is_slot_count}
 use Rattle.cqlp_c.specs.Events.{of_frame}
 use Rattle.cqlp_c.specs.Talked.{is_stream, signal_in}
 
-started : (slots : ℕ) (b : Bool) (code code' : ℕ) (new new' : Option ClientCore) → StartsAnew slots b code new → StartsAnew slots b code' new' → ((code ≡ numbers.NO_MEMORY) ↔ (code' ≡ numbers.NO_MEMORY)) → (code' ≡ code) × (new' ≡ new)
-started slots false code code' new new' x y same = (y.0 ∙ sym x.0, y.1 ∙ sym x.1)
-started slots true code code' new new' (inl x) (inl y) same = (y.0 ∙ sym x.0, y.1 ∙ sym x.1)
-started slots true code code' new new' (inr x) (inr y) same = (y.0 ∙ sym x.0, y.1 ∙ sym x.1)
-started slots true code code' new new' (inl x) (inr y) same = absurd (let e = same.0 x.0 in let f = y.0 in cc)
-started slots true code code' new new' (inr x) (inl y) same = absurd (let e = same.1 y.0 in let f = x.0 in cc)
+started : {C : Type 0} (fresh : ℕ → C) (slots : ℕ) (b : Bool) (code code' : ℕ) (new new' : Option C) → StartsAnew fresh slots b code new → StartsAnew fresh slots b code' new' → ((code ≡ numbers.NO_MEMORY) ↔ (code' ≡ numbers.NO_MEMORY)) → (code' ≡ code) × (new' ≡ new)
+started fresh slots false code code' new new' x y same = (y.0 ∙ sym x.0, y.1 ∙ sym x.1)
+started fresh slots true code code' new new' (inl x) (inl y) same = (y.0 ∙ sym x.0, y.1 ∙ sym x.1)
+started fresh slots true code code' new new' (inr x) (inr y) same = (y.0 ∙ sym x.0, y.1 ∙ sym x.1)
+started fresh slots true code code' new new' (inl x) (inr y) same = absurd (let e = same.0 x.0 in let f = y.0 in cc)
+started fresh slots true code code' new new' (inr x) (inl y) same = absurd (let e = same.1 y.0 in let f = x.0 in cc)
 
-pub one_core : (slots : ℕ) (old : Option ClientCore) (code code' : ℕ) (new new' : Option ClientCore) → Starts slots old code new → Starts slots old code' new' → ((code ≡ numbers.NO_MEMORY) ↔ (code' ≡ numbers.NO_MEMORY)) → (code' ≡ code) × (new' ≡ new)
-one_core slots None code code' new new' x y same = started slots (is_slot_count slots) code code' new new' x y same
-one_core slots (Some c) code code' new new' x y same = (y.0 ∙ sym x.0, y.1 ∙ sym x.1)
+pub one_core : {C : Type 0} (fresh : ℕ → C) (slots : ℕ) (old : Option C) (code code' : ℕ) (new new' : Option C) → Starts fresh slots old code new → Starts fresh slots old code' new' → ((code ≡ numbers.NO_MEMORY) ↔ (code' ≡ numbers.NO_MEMORY)) → (code' ≡ code) × (new' ≡ new)
+one_core fresh slots None code code' new new' x y same = started fresh slots (is_slot_count slots) code code' new new' x y same
+one_core fresh slots (Some c) code code' new new' x y same = (y.0 ∙ sym x.0, y.1 ∙ sym x.1)
 
 code_stands : (o : Opcode) → beside_number (code_of o) opcodes ≡ Some o
 code_stands opcode.Error = refl
