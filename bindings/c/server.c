@@ -198,7 +198,7 @@ static uint32_t random_below(uint32_t bound) {
   return (uint32_t)(random_state >> 33) % bound;
 }
 
-/* An answer to what was asked for; while `strict` one that opens the connection. */
+/* An answer to what was asked for. None fails that sets up the connection, so it goes on. */
 static uint8_t answer_to(uint8_t request) {
   switch (request) {
     case CQLP_OPCODE_STARTUP: return random_below(2) ? CQLP_OPCODE_READY : CQLP_OPCODE_AUTHENTICATE;
