@@ -56,7 +56,7 @@
  *
  * What the caller owes:
  *
- * - No pointer is null, but that of an input or a stream whose length is 0, and that of an array whose room is 0, may be. Each
+ * - No pointer is null, but that of an input or a stream whose length is 0, and that of what has a room of 0, may be. Each
  *   points to as much as its type and the number after it say, aligned for its type, and no two that are given to one call
  *   overlap.
  * - A handle is CQLP_NO_DECODER_YET before cqlp_new, CQLP_NO_CLIENT_YET before cqlp_client_new, and CQLP_NO_SERVER_YET before
@@ -122,6 +122,7 @@ extern "C" {
 #define CQLP_NOT_REQUEST 24          /* a response came, or its opcode is no request's */
 #define CQLP_BAD_ID 25               /* the stream id is negative, or none of the core's slots */
 #define CQLP_ID_TAKEN 26             /* a request is open under this stream id */
+#define CQLP_NO_ROOM 27              /* there are more bytes than there is room for */
 
 /* Why a batch of events ends. */
 #define CQLP_STOP_MORE 0             /* all of the input was used, and more is wanted */
@@ -574,6 +575,13 @@ uint32_t cqlp_server_phase(cqlp_server *server, uint8_t *phase);
 /* Frees the core, and leaves a handle that has none, in which another may be made. Requests that are open are forgotten.
  * Answers CQLP_DONE, or CQLP_NO_SERVER where there was none, which does nothing. */
 uint32_t cqlp_server_free(cqlp_server *server);
+
+/* Puts what a server answers to a request of another version, before it closes: an ERROR of version 4 with the code 000A, whose text
+ * names the versions and by which drivers try another one. The request is one that a decoder refused for CQLP_REASON_BAD_VERSION;
+ * `header` is the first nine bytes of its frame, zeros where they did not come, and the answer has its stream id. `length` is how many bytes
+ * the answer has, no more than 117, also where there is less room. It asks for no memory.
+ * Answers CQLP_DONE, and the bytes behind the answer are as they were; else CQLP_NO_ROOM, and all bytes are as they were. */
+uint32_t cqlp_version_error(const uint8_t header[9], uint8_t *bytes, size_t room, size_t *length);
 
 /* Writes the nine bytes of a header, of which the decoder reads these fields again.
  * Answers CQLP_DONE; else the bytes are as they were, and the first of these that is so: CQLP_COMPRESSED, CQLP_BAD_OPCODE,

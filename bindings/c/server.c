@@ -189,6 +189,30 @@ static void check_event_headers(void) {
   printf("each header of an EVENT is its nine bytes\n");
 }
 
+/* The answer to each first byte of a header, with each version's form of a stream id, into each room. */
+static void check_versions(void) {
+  for (unsigned first = 0; first < 256; first++) {
+    uint8_t header[9] = {(uint8_t)first, 0, 0x81, 0x02, 7, 0, 0, 0, 0}, bytes[128];
+    unsigned version = first & 0x7F;
+    uint16_t stream = version == 1 || version == 2 ? 0xFF81 : 0x8102;
+    char text[128];
+    int most = snprintf(text, sizeof text, "Invalid or unsupported protocol version (%u); the lowest supported version is 4 and "
+                                           "the greatest is 4", version);
+    uint8_t head[15] = {0x84, 0, (uint8_t)(stream >> 8), (uint8_t)stream, 0, 0, 0, 0, (uint8_t)(6 + most), 0, 0, 0, 10, 0, (uint8_t)most};
+    size_t wanted = 15 + (size_t)most, length = 0;
+    for (size_t room = 0; room <= 128; room++) {
+      uint8_t *at = room ? edge(PIECE, room) : NULL;
+      memset(bytes, 0x55, sizeof bytes);
+      if (room) memcpy(at, bytes, room);
+      uint32_t code = cqlp_version_error(header, at, room, &length);
+      CHECK(length == wanted && code == (uint32_t)(room < wanted ? CQLP_NO_ROOM : CQLP_DONE));
+      if (code == CQLP_DONE) memcpy(bytes, head, 15), memcpy(bytes + 15, text, (size_t)most);
+      CHECK(!room || memcmp(at, bytes, room) == 0);
+    }
+  }
+  printf("each version has its answer\n");
+}
+
 /* ---- both cores against each other */
 
 static uint64_t random_state = 1;
@@ -304,6 +328,7 @@ int main(void) {
   print_session();
   print_no_server();
   check_event_headers();
+  check_versions();
   for (int i = 0; i < 50; i++) let_them_talk(2000);
   printf("a client's core and a server's talked, and each reply had its request's number\n");
   return 0;

@@ -8,7 +8,7 @@ replies with requests, a `Server` knows which requests it has not answered. All 
 from . import messages
 from ._client import Client, Reply, Ticket
 from ._columns import PageColumns, Series, columns
-from ._core import BadCall, event_header, header
+from ._core import BadCall, event_header, header, version_error
 from ._decoder import BadLimits, Closed, Cut, Decoder, Error, Held, Limits, Refused, Verdict, check
 from ._events import Event
 from ._names import name, version, version_number
@@ -91,5 +91,6 @@ __all__ = [
     "Unset",
     "Verdict",
     "version",
+    "version_error",
     "version_number",
 ]

@@ -72,6 +72,15 @@ def event_header(length: int, *, flags: int = 0) -> bytes:
     return bytes(octets)
 
 
+def version_error(header: bytes) -> bytes:
+    """What a server answers to a request of another version, before it closes: an ERROR of version 4, by which drivers try another one.
+    `header` is what came of the request's frame; its first nine bytes count, and zeros where they did not come."""
+    octets, length = ctypes.create_string_buffer(128), ctypes.c_size_t()
+    first = (ctypes.c_uint8 * 9)(*header[:9])
+    must_be_done(_native.library.cqlp_version_error(first, octets, len(octets), length))
+    return octets.raw[: length.value]
+
+
 class Calls(NamedTuple):
     """What the two cores have of the same form."""
 

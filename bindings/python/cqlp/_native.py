@@ -113,6 +113,7 @@ for name, result, arguments in (
     ("cqlp_server_event", c_uint32, [c_uint32, c_uint8, POINTER(c_uint8 * 9)]),
     ("cqlp_server_phase", c_uint32, [POINTER(Handle), POINTER(c_uint8)]),
     ("cqlp_server_free", c_uint32, [POINTER(Handle)]),
+    ("cqlp_version_error", c_uint32, [POINTER(c_uint8 * 9), c_void_p, c_size_t, POINTER(c_size_t)]),
     ("cqlp_write_header", c_uint32, [POINTER(Header), POINTER(c_uint8 * 9)]),
     ("cqlp_name", c_char_p, [c_uint32, c_int64]),
     ("cqlp_version", c_char_p, []),

@@ -318,3 +318,4 @@ class Code(IntEnum):
     NOT_REQUEST = 24
     BAD_ID = 25
     ID_TAKEN = 26
+    NO_ROOM = 27

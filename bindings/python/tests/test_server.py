@@ -184,6 +184,19 @@ class Server(unittest.TestCase):
             self.assertIs(server.answer(3, Opcode.SUPPORTED).carried, options)
             self.assertIs(server.phase, cqlp.Phase.FRESH)
 
+    def test_another_version(self) -> None:
+        for header, stream, version in (
+            (b"\x05\0\x01\x02\5\0\0\0\0", 0x0102, 5),
+            (b"\x03\0\xff\xff\5\0\0\0\0more", -1, 3),
+            (b"\x02\0\x80\5\0\0\0\0", -128, 2),
+            (b"\xff", 0, 127),
+            (b"", 0, 0),
+        ):
+            (error,) = cqlp.frames(cqlp.version_error(header))
+            self.assertEqual((error.stream, error.response, error.message.code), (stream, True, cqlp.ErrorCode.PROTOCOL_ERROR))
+            text = "Invalid or unsupported protocol version (%d); the lowest supported version is 4 and the greatest is 4"
+            self.assertEqual(error.message.message, text % version)
+
     def test_use_after_close(self) -> None:
         server = cqlp.Server(1)
         server.accept(event(0, 5, response=False))

@@ -15,3 +15,4 @@ pub mod Services
 pub mod Spans
 pub mod There
 pub mod Values
+pub mod Written

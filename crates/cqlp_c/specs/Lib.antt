@@ -7,7 +7,9 @@ pub mod Handle
 pub mod Headers
 pub mod Laws
 pub mod Numbers
+pub mod Rooms
 pub mod Servers
 pub mod Shown
 pub mod Slots
 pub mod Talked
+pub mod Versions

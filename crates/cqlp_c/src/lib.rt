@@ -14,6 +14,7 @@ mod server;
 mod shown;
 mod slots;
 mod talked;
+mod versions;
 
 pub use check::cqlp_check;
 pub use client::{
@@ -33,3 +34,4 @@ pub use server::{
 };
 pub use shown::{CqlpBatch, CqlpEnd, CqlpHeld, CqlpLimits};
 pub use talked::{CqlpAnswered, CqlpReply, CqlpTicket};
+pub use versions::cqlp_version_error;

@@ -65,6 +65,8 @@ pub const BAD_ID: u32 = 25;
 
 pub const ID_TAKEN: u32 = 26;
 
+pub const NO_ROOM: u32 = 27;
+
 // ---- why a batch of events ends
 
 pub const STOP_MORE: u8 = 0;

@@ -110,6 +110,11 @@ pub extern "C" fn cqlp_server_free(server: &mut CqlpServer) -> u32 {
 }
 
 #[unsafe(no_mangle)]
+pub unsafe extern "C" fn cqlp_version_error(header: &[u8; 9], bytes: *mut u8, room: usize, length: &mut usize) -> u32 {
+    crate::cqlp_c::cqlp_version_error(header, unsafe { slice_mut(bytes, room) }, length)
+}
+
+#[unsafe(no_mangle)]
 pub extern "C" fn cqlp_write_header(fields: &CqlpHeader, bytes: &mut [u8; 9]) -> u32 {
     crate::cqlp_c::cqlp_write_header(fields, bytes)
 }
