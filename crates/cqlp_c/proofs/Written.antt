@@ -1,5 +1,5 @@
 -- Bytes that were put one after the other.
-use Rattle.std.proofs.Common.{◌≡◌, ℕ, ◌+◌, ◌≤◌, true, false, Bool, nat_lt, List, [], ◌++◌, length, take, drop, refl, sym, ap, ◌∙◌, subst, append_assoc, arith}
+use Rattle.std.proofs.Common.{◌≡◌, ℕ, ◌+◌, ◌≤◌, false, Bool, nat_lt, List, [], ◌++◌, length, take, drop, refl, sym, ap, ◌∙◌, subst, append_assoc, arith}
 use Rattle.std.proofs.lemmas.List.{length-append, take-append-drop}
 use Rattle.cqlp_c.specs.declared.numbers.TheConstants as numbers
 use Rattle.cqlp_c.specs.Rooms.{PutsBytes, PutsWhere}

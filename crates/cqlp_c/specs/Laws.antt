@@ -76,16 +76,16 @@ IsOneAnswerOfCheck =
 
 -- Where memory is granted, a core that is made is one, and a handle that is in use is refused.
 abbrev pub IsOneAnswerOfStart : {C : Type 0} → (fresh : ℕ → C) → Type 0
-IsOneAnswerOfStart {C} fresh =
+IsOneAnswerOfStart {C = C} fresh =
     (slots : ℕ) (old : Option C) (code code' : ℕ) (new new' : Option C)
     → Starts fresh slots old code new → Starts fresh slots old code' new'
     → ((code ≡ numbers.NO_MEMORY) ↔ (code' ≡ numbers.NO_MEMORY)) → (code' ≡ code) × (new' ≡ new)
 
 abbrev pub IsOneAnswerOfClientNew : Type 0
-IsOneAnswerOfClientNew = IsOneAnswerOfStart {ClientCore} new_carrying_client
+IsOneAnswerOfClientNew = IsOneAnswerOfStart {C = ClientCore} new_carrying_client
 
 abbrev pub IsOneAnswerOfServerNew : Type 0
-IsOneAnswerOfServerNew = IsOneAnswerOfStart {ServerCore} new_carrying_server
+IsOneAnswerOfServerNew = IsOneAnswerOfStart {C = ServerCore} new_carrying_server
 
 -- The event of a frame shows a core what the header of the frame does.
 abbrev pub FramesAreHeard : Type 0
