@@ -32,24 +32,36 @@
  *     cqlp_ticket ticket = {0};
  *     cqlp_reply reply = {0};
  *     if (cqlp_client_new(1024, &client) != CQLP_DONE) return;
- *     if (cqlp_client_begin(&client, CQLP_OPCODE_STARTUP, &ticket) == CQLP_DONE) {
+ *     if (cqlp_client_begin(&client, CQLP_OPCODE_STARTUP, 7, &ticket) == CQLP_DONE) {
  *       cqlp_header fields = {length, ticket.id, CQLP_OPCODE_STARTUP, 0, 0};
  *       cqlp_write_header(&fields, bytes);
  *       send(fd, bytes, 9, 0); and then the body, of `length` bytes
  *     }
  *     ...
  *     if (event->tag == CQLP_TAG_FRAME && cqlp_client_reply(&client, event, &reply) == CQLP_DONE)
- *       take_reply(reply.what, reply.number);
+ *       take_reply(reply.what, reply.carried);
  *     cqlp_client_free(&client);
+ *
+ * The number 7 there is the caller's: the core carries it until the reply. A server's core knows which requests it has not answered.
+ * After a frame's event came from a client:
+ *
+ *     if (event->tag == CQLP_TAG_FRAME && (code = cqlp_server_accept(&server, event, 7)) != CQLP_DONE)
+ *       close_for(code);
+ *     ...
+ *     if (cqlp_server_answer(&server, stream, CQLP_OPCODE_READY, &answered) == CQLP_DONE) {
+ *       cqlp_header fields = {length, stream, CQLP_OPCODE_READY, 0, 1};
+ *       cqlp_write_header(&fields, bytes);
+ *       send(fd, bytes, 9, 0); and then the body, of `length` bytes
+ *     }
  *
  * What the caller owes:
  *
- * - No pointer is null, but that of an input or a stream whose length is 0, and that of an array whose room is 0, may be. Each
+ * - No pointer is null, but that of an input or a stream whose length is 0, and that of what has a room of 0, may be. Each
  *   points to as much as its type and the number after it say, aligned for its type, and no two that are given to one call
  *   overlap.
- * - A handle is CQLP_NO_DECODER_YET before cqlp_new, and CQLP_NO_CLIENT_YET before cqlp_client_new. Nothing but these calls
- *   writes or copies it from then on until it is freed, and it is not given to another call of this library while one runs
- *   on it.
+ * - A handle is CQLP_NO_DECODER_YET before cqlp_new, CQLP_NO_CLIENT_YET before cqlp_client_new, and CQLP_NO_SERVER_YET before
+ *   cqlp_server_new. Nothing but these calls writes or copies it from then on until it is freed, and it is not given to another call
+ *   of this library while one runs on it.
  * - The array of events and the other structs that calls write are memory that may be written; what was in them does not
  *   matter, but it must have been set once (zeros will do).
  * - The program has malloc, realloc and free of one allocator, that align as C says. Calls are not made from a signal
@@ -91,7 +103,7 @@ extern "C" {
 #define CQLP_NO_MEMORY 5             /* malloc gave none */
 #define CQLP_NO_DECODER 6            /* the handle has no decoder */
 #define CQLP_IN_USE 7                /* the handle has a decoder, or a core, already */
-#define CQLP_NO_CLIENT 8             /* the handle has no core */
+#define CQLP_NO_CLIENT 8             /* the handle has no client's core */
 #define CQLP_BAD_SLOTS 9             /* the number of slots is not from 1 to 32768 */
 #define CQLP_NO_REQUEST 10           /* the opcode is no request's */
 #define CQLP_BAD_PHASE 11            /* requests of this kind may not begin in the phase that stands */
@@ -99,13 +111,18 @@ extern "C" {
 #define CQLP_FULL 13                 /* each slot has a request that waits for its reply */
 #define CQLP_NO_FRAME 14             /* the event is none that begins a frame */
 #define CQLP_NOT_RESPONSE 15         /* a request came */
-#define CQLP_NO_SUCH_STREAM 16       /* no request is open under the stream id of what came */
-#define CQLP_WRONG_OPCODE 17         /* what came answers no request of the kind that is open under its stream id */
+#define CQLP_NO_SUCH_STREAM 16       /* no request is open under the stream id of the response */
+#define CQLP_WRONG_OPCODE 17         /* the response answers no request of the kind that is open under its stream id */
 #define CQLP_NOT_CANCELLED 18        /* the request does not wait, was cancelled before, or sets up the connection */
 #define CQLP_COMPRESSED 19           /* the flag 01 is set */
 #define CQLP_BAD_OPCODE 20           /* no opcode has this number */
 #define CQLP_BAD_DIRECTION 21        /* a request's opcode in a response, or the other way round */
 #define CQLP_BAD_LENGTH 22           /* the body is longer than 268435456 bytes */
+#define CQLP_NO_SERVER 23            /* the handle has no server's core */
+#define CQLP_NOT_REQUEST 24          /* a response came, or its opcode is no request's */
+#define CQLP_BAD_ID 25               /* the stream id is negative, or none of the core's slots */
+#define CQLP_ID_TAKEN 26             /* a request is open under this stream id */
+#define CQLP_NO_ROOM 27              /* there are more bytes than there is room for */
 
 /* Why a batch of events ends. */
 #define CQLP_STOP_MORE 0             /* all of the input was used, and more is wanted */
@@ -425,13 +442,28 @@ typedef struct cqlp_ticket {
   int16_t id;      /* the stream id, which its header has and its reply's will have: 0 to 32767 */
 } cqlp_ticket;
 
-/* What a response says to a client; 16 bytes. */
+/* What a response says to a client; 24 bytes. */
 typedef struct cqlp_reply {
-  uint64_t number; /* with `id` the request's ticket; 0 of an event */
+  uint64_t number;  /* with `id` the request's ticket; 0 of an event */
+  uint64_t carried; /* the caller's number that the request began with; 0 of an event */
   int16_t id;
   uint8_t what;    /* CQLP_REPLY_.. */
   uint8_t request; /* of an answer what was asked for: CQLP_OPCODE_..; else 0 */
 } cqlp_reply;
+
+/* A server's core, or none: which requests of one connection are not answered yet. The members are the library's own. */
+typedef struct cqlp_server {
+  uint64_t live;
+  void *place;
+} cqlp_server;
+
+#define CQLP_NO_SERVER_YET {0, NULL}
+
+/* A request that a server has answered; 16 bytes. */
+typedef struct cqlp_answered {
+  uint64_t carried; /* the caller's number that the request was accepted with */
+  uint8_t request;  /* what was asked for: CQLP_OPCODE_.. */
+} cqlp_answered;
 
 /* The fields of a header, section 2; 12 bytes. The version is 4. */
 typedef struct cqlp_header {
@@ -485,10 +517,11 @@ uint32_t cqlp_check(const cqlp_limits *limits, const uint8_t *stream, size_t len
 uint32_t cqlp_client_new(uint32_t slots, cqlp_client *client);
 
 /* Begins a request of the kind that has this opcode, and puts its ticket: the least stream id that is free, and the next
- * number. Send its message, whose header has this id, in the order in which requests begin.
+ * number. Send its message, whose header has this id, in the order in which requests begin. `carried` is any number of the
+ * caller's: the reply to this request tells it again.
  * Answers CQLP_DONE; else nothing changes, and the first of these that is so: CQLP_NO_CLIENT, CQLP_NO_REQUEST,
  * CQLP_BAD_PHASE, CQLP_SPENT, CQLP_FULL. */
-uint32_t cqlp_client_begin(cqlp_client *client, uint8_t opcode, cqlp_ticket *ticket);
+uint32_t cqlp_client_begin(cqlp_client *client, uint8_t opcode, uint64_t carried, cqlp_ticket *ticket);
 
 /* Takes the event of a frame that came, one with CQLP_TAG_FRAME as cqlp_next put it, and says which request it answers. Its
  * stream id is free again from then on, and the phase goes on where the request set up the connection. An EVENT with a
@@ -510,6 +543,45 @@ uint32_t cqlp_client_phase(cqlp_client *client, uint8_t *phase);
 /* Frees the core, and leaves a handle that has none, in which another may be made. Requests that are open are forgotten.
  * Answers CQLP_DONE, or CQLP_NO_CLIENT where there was none, which does nothing. */
 uint32_t cqlp_client_free(cqlp_client *client);
+
+/* Makes a server's core in a handle that has none, of a connection on which nothing came yet. `slots` is how many requests may
+ * be open at a time; their stream ids are those below it. All of its memory is asked for here.
+ * Answers CQLP_DONE; else the handle is as it was: CQLP_BAD_SLOTS, CQLP_NO_MEMORY, or CQLP_IN_USE where the handle has a
+ * core. */
+uint32_t cqlp_server_new(uint32_t slots, cqlp_server *server);
+
+/* Takes the event of a frame that came, one with CQLP_TAG_FRAME as cqlp_next put it, as a request. Its stream id is taken until it
+ * is answered. `carried` is any number of the caller's: the answer to this request tells it again.
+ * Answers CQLP_DONE; else nothing changes, and the first of these that is so: CQLP_NO_SERVER, CQLP_NO_FRAME,
+ * CQLP_NOT_REQUEST, CQLP_BAD_ID, CQLP_ID_TAKEN, CQLP_BAD_PHASE. */
+uint32_t cqlp_server_accept(cqlp_server *server, const cqlp_event *frame, uint64_t carried);
+
+/* Answers the request that is open under this stream id by a response with this opcode, and puts what it is. The stream id is free
+ * again from then on, and the phase goes on where the request set up the connection. Send the response, whose header has this id, in
+ * the order in which requests are answered.
+ * Answers CQLP_DONE; else nothing changes, and the first of these that is so: CQLP_NO_SERVER, CQLP_BAD_OPCODE,
+ * CQLP_NO_SUCH_STREAM, CQLP_WRONG_OPCODE. */
+uint32_t cqlp_server_answer(cqlp_server *server, int16_t stream, uint8_t opcode, cqlp_answered *answered);
+
+/* Writes the nine bytes of the header of an EVENT, which a server sends unasked: its stream id is -1, and a client's core takes it
+ * for CQLP_REPLY_EVENT. It needs no core, and changes none.
+ * Answers CQLP_DONE; else the bytes are as they were: CQLP_COMPRESSED or CQLP_BAD_LENGTH. */
+uint32_t cqlp_server_event(uint32_t length, uint8_t flags, uint8_t bytes[9]);
+
+/* Puts the phase, CQLP_PHASE_... It changes nothing.
+ * Answers CQLP_DONE, or CQLP_NO_SERVER, with `phase` as it was. */
+uint32_t cqlp_server_phase(cqlp_server *server, uint8_t *phase);
+
+/* Frees the core, and leaves a handle that has none, in which another may be made. Requests that are open are forgotten.
+ * Answers CQLP_DONE, or CQLP_NO_SERVER where there was none, which does nothing. */
+uint32_t cqlp_server_free(cqlp_server *server);
+
+/* Puts what a server answers to a request of another version, before it closes: an ERROR of version 4 with the code 000A, whose text
+ * names the versions and by which drivers try another one. The request is one that a decoder refused for CQLP_REASON_BAD_VERSION;
+ * `header` is the first nine bytes of its frame, zeros where they did not come, and the answer has its stream id. `length` is how many bytes
+ * the answer has, no more than 117, also where there is less room. It asks for no memory.
+ * Answers CQLP_DONE, and the bytes behind the answer are as they were; else CQLP_NO_ROOM, and all bytes are as they were. */
+uint32_t cqlp_version_error(const uint8_t header[9], uint8_t *bytes, size_t room, size_t *length);
 
 /* Writes the nine bytes of a header, of which the decoder reads these fields again.
  * Answers CQLP_DONE; else the bytes are as they were, and the first of these that is so: CQLP_COMPRESSED, CQLP_BAD_OPCODE,

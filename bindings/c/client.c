@@ -4,7 +4,7 @@
 #include "give.h"
 
 static_assert(sizeof(cqlp_ticket) == 16 && offsetof(cqlp_ticket, id) == 8, "as in crates/cqlp_c/src/talked.rt");
-static_assert(sizeof(cqlp_reply) == 16 && offsetof(cqlp_reply, request) == 11, "as in crates/cqlp_c/src/talked.rt");
+static_assert(sizeof(cqlp_reply) == 24 && offsetof(cqlp_reply, request) == 19, "as in crates/cqlp_c/src/talked.rt");
 static_assert(sizeof(cqlp_header) == 12 && offsetof(cqlp_header, response) == 8, "as in crates/cqlp_c/src/header.rt");
 
 /* Puts the event of a frame: the header is written, and a decoder reads it. */
@@ -34,19 +34,22 @@ static void print_phase(cqlp_client *client) {
   printf("phase %u\n", phase);
 }
 
+/* Each request carries ten times its opcode. */
 static cqlp_ticket begin(cqlp_client *client, uint8_t opcode) {
   cqlp_ticket ticket = {99, 99};
+  uint64_t carried = 10 * opcode;
   printf("begin %u:", opcode);
-  printf(" code %u", cqlp_client_begin(client, opcode, &ticket));
+  printf(" code %u", cqlp_client_begin(client, opcode, carried, &ticket));
   printf(" number %llu id %d\n", (unsigned long long)ticket.number, ticket.id);
   return ticket;
 }
 
 static void hear(cqlp_client *client, cqlp_event event) {
-  cqlp_reply reply = {99, 99, 99, 99};
+  cqlp_reply reply = {99, 99, 99, 99, 99};
   printf("reply %d %u:", event.extra, event.opcode);
   printf(" code %u", cqlp_client_reply(client, &event, &reply));
-  printf(" number %llu id %d what %u request %u\n", (unsigned long long)reply.number, reply.id, reply.what, reply.request);
+  printf(" number %llu id %d what %u request %u", (unsigned long long)reply.number, reply.id, reply.what, reply.request);
+  printf(" carried %llu\n", (unsigned long long)reply.carried);
 }
 
 static void print_session(void) {
@@ -102,10 +105,10 @@ static void print_session(void) {
 static void print_no_client(void) {
   cqlp_client client = CQLP_NO_CLIENT_YET;
   cqlp_ticket ticket = {0, 0};
-  cqlp_reply reply = {0, 0, 0, 0};
+  cqlp_reply reply = {0, 0, 0, 0, 0};
   cqlp_event event = response(0, CQLP_OPCODE_READY);
   uint8_t phase = 7;
-  printf("no core: %u %u %u %u %u\n", cqlp_client_begin(&client, CQLP_OPCODE_OPTIONS, &ticket),
+  printf("no core: %u %u %u %u %u\n", cqlp_client_begin(&client, CQLP_OPCODE_OPTIONS, 1, &ticket),
          cqlp_client_reply(&client, &event, &reply), cqlp_client_cancel(&client, &ticket),
          cqlp_client_phase(&client, &phase), cqlp_client_free(&client));
   CHECK(phase == 7);
@@ -161,32 +164,34 @@ static void make_a_million(void) {
   for (int i = 0; i < 1000000; i++) {
     cqlp_decoder decoder = CQLP_NO_DECODER_YET;
     cqlp_client client = CQLP_NO_CLIENT_YET;
+    cqlp_server server = CQLP_NO_SERVER_YET;
     cqlp_ticket ticket = {0, 0};
     CHECK(cqlp_new(&limits, &decoder) == CQLP_DONE && cqlp_new(&limits, &decoder) == CQLP_IN_USE);
     CHECK(cqlp_client_new(2, &client) == CQLP_DONE && cqlp_client_new(2, &client) == CQLP_IN_USE);
-    CHECK(cqlp_client_begin(&client, CQLP_OPCODE_OPTIONS, &ticket) == CQLP_DONE);
-    CHECK(cqlp_client_free(&client) == CQLP_DONE && cqlp_free(&decoder) == CQLP_DONE);
+    CHECK(cqlp_client_begin(&client, CQLP_OPCODE_OPTIONS, 1, &ticket) == CQLP_DONE);
+    CHECK(cqlp_server_new(2, &server) == CQLP_DONE && cqlp_server_new(2, &server) == CQLP_IN_USE);
+    CHECK(cqlp_client_free(&client) == CQLP_DONE && cqlp_free(&decoder) == CQLP_DONE && cqlp_server_free(&server) == CQLP_DONE);
   }
-  printf("a million decoders and cores\n");
+  printf("a million decoders and cores of each kind\n");
 }
 
 /* Each slot of the most that there are, then its reply, in the other order. */
 static void fill_all_slots(void) {
   cqlp_client client = CQLP_NO_CLIENT_YET;
   cqlp_ticket ticket = {0, 0};
-  cqlp_reply reply = {0, 0, 0, 0};
+  cqlp_reply reply = {0, 0, 0, 0, 0};
   CHECK(cqlp_client_new(32768, &client) == CQLP_DONE);
   for (int i = 0; i < 32768; i++) {
-    CHECK(cqlp_client_begin(&client, CQLP_OPCODE_OPTIONS, &ticket) == CQLP_DONE);
+    CHECK(cqlp_client_begin(&client, CQLP_OPCODE_OPTIONS, UINT64_MAX - (uint64_t)i, &ticket) == CQLP_DONE);
     CHECK(ticket.id == i && ticket.number == (uint64_t)i + 1);
   }
-  CHECK(cqlp_client_begin(&client, CQLP_OPCODE_OPTIONS, &ticket) == CQLP_FULL);
+  CHECK(cqlp_client_begin(&client, CQLP_OPCODE_OPTIONS, 1, &ticket) == CQLP_FULL);
   cqlp_event event = response(0, CQLP_OPCODE_SUPPORTED);
   for (int i = 32767; i >= 0; i--) {
     event.extra = i;
     CHECK(cqlp_client_reply(&client, &event, &reply) == CQLP_DONE);
     CHECK(reply.what == CQLP_REPLY_ANSWER && reply.id == i && reply.number == (uint64_t)i + 1);
-    CHECK(reply.request == CQLP_OPCODE_OPTIONS);
+    CHECK(reply.request == CQLP_OPCODE_OPTIONS && reply.carried == UINT64_MAX - (uint64_t)i);
   }
   CHECK(cqlp_client_free(&client) == CQLP_DONE);
   printf("32768 requests, answered from the last to the first\n");

@@ -44,7 +44,7 @@ typedef struct row {
   const char *name;
   cqlp_limits limits;
   uint32_t slots; /* 0: a decoder or a check */
-  int checks;     /* a check */
+  int other;      /* a check; with slots, a server's core */
 } row;
 
 static const row ROWS[] = {
@@ -55,12 +55,15 @@ static const row ROWS[] = {
     {"cqlp_check, least limits", {32, 32, 1, 1, 0, 0}, 0, 1},
     {"cqlp_client_new, 1 slot", CQLP_DEFAULT_LIMITS, 1, 0},
     {"cqlp_client_new, 32768 slots", CQLP_DEFAULT_LIMITS, 32768, 0},
+    {"cqlp_server_new, 1 slot", CQLP_DEFAULT_LIMITS, 1, 1},
+    {"cqlp_server_new, 32768 slots", CQLP_DEFAULT_LIMITS, 32768, 1},
 };
 
-/* What the caller gives to be written: the two handles and an end. */
+/* What the caller gives to be written: the handles and an end. */
 typedef struct given {
   cqlp_decoder decoder;
   cqlp_client client;
+  cqlp_server server;
   cqlp_end end;
 } given;
 
@@ -69,11 +72,21 @@ static uint32_t call(const row *row, given *given, size_t refuse) {
   uint32_t code;
   requests = 0;
   refused = refuse;
-  if (row->slots) code = cqlp_client_new(row->slots, &given->client);
-  else if (row->checks) code = cqlp_check(&row->limits, query, sizeof query, &given->end);
+  if (row->slots && row->other) code = cqlp_server_new(row->slots, &given->server);
+  else if (row->slots) code = cqlp_client_new(row->slots, &given->client);
+  else if (row->other) code = cqlp_check(&row->limits, query, sizeof query, &given->end);
   else code = cqlp_new(&row->limits, &given->decoder);
   refused = 0;
   return code;
+}
+
+/* A request of this opcode under the stream id 0, as a core sees it. */
+static cqlp_event asking(uint8_t opcode) {
+  cqlp_event event;
+  memset(&event, 0, sizeof event);
+  event.tag = CQLP_TAG_FRAME;
+  event.opcode = opcode;
+  return event;
 }
 
 /* What was made serves, and asks for no more memory; then it is freed. */
@@ -82,15 +95,22 @@ static void serve_and_free(const row *row, given *given) {
   cqlp_batch batch;
   cqlp_holding held;
   cqlp_ticket ticket = {0, 0};
+  cqlp_answered answered = {0, 0};
   memset(events, 0, sizeof events);
   memset(&batch, 0, sizeof batch);
   memset(&held, 0, sizeof held);
   requests = 0;
-  if (row->slots) {
-    CHECK(cqlp_client_begin(&given->client, CQLP_OPCODE_STARTUP, &ticket) == CQLP_DONE && ticket.number == 1);
+  if (row->slots && row->other) {
+    cqlp_event frame = asking(CQLP_OPCODE_STARTUP);
+    CHECK(cqlp_server_accept(&given->server, &frame, 7) == CQLP_DONE);
+    CHECK(cqlp_server_answer(&given->server, 0, CQLP_OPCODE_READY, &answered) == CQLP_DONE && answered.carried == 7);
+    CHECK(requests == 0 && taken > 0);
+    CHECK(cqlp_server_free(&given->server) == CQLP_DONE);
+  } else if (row->slots) {
+    CHECK(cqlp_client_begin(&given->client, CQLP_OPCODE_STARTUP, 7, &ticket) == CQLP_DONE && ticket.number == 1);
     CHECK(requests == 0 && taken > 0);
     CHECK(cqlp_client_free(&given->client) == CQLP_DONE);
-  } else if (row->checks) {
+  } else if (row->other) {
     CHECK(given->end.verdict == CQLP_END_WHOLE && given->end.bytes == sizeof query);
   } else {
     for (size_t i = 0; i < sizeof query; i++)

@@ -10,6 +10,8 @@ static const char *const CODE[] = {
     [CQLP_NO_FRAME] = "NoFrame", [CQLP_NOT_RESPONSE] = "NotResponse", [CQLP_NO_SUCH_STREAM] = "NoSuchStream",
     [CQLP_WRONG_OPCODE] = "WrongOpcode", [CQLP_NOT_CANCELLED] = "NotCancelled", [CQLP_COMPRESSED] = "Compressed",
     [CQLP_BAD_OPCODE] = "BadOpcode", [CQLP_BAD_DIRECTION] = "BadDirection", [CQLP_BAD_LENGTH] = "BadLength",
+    [CQLP_NO_SERVER] = "NoServer", [CQLP_NOT_REQUEST] = "NotRequest", [CQLP_BAD_ID] = "BadId", [CQLP_ID_TAKEN] = "IdTaken",
+    [CQLP_NO_ROOM] = "NoRoom",
 };
 
 static const char *const STOP[] = {

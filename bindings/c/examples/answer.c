@@ -2,10 +2,10 @@
 #include <cqlp.h>
 #include <stdio.h>
 
-/* Begins a request, and says what its header is. After the header of a real one its body is sent. */
-static void ask(cqlp_client *client, uint8_t opcode) {
+/* Begins a request of a task of ours, and says what its header is. After the header of a real one its body is sent. */
+static void ask(cqlp_client *client, uint8_t opcode, uint64_t task) {
   cqlp_ticket ticket = {0};
-  uint32_t code = cqlp_client_begin(client, opcode, &ticket);
+  uint32_t code = cqlp_client_begin(client, opcode, task, &ticket);
   if (code != CQLP_DONE) {
     printf("%s: %s\n", cqlp_name(CQLP_GROUP_OPCODE, opcode), cqlp_name(CQLP_GROUP_CODE, code));
     return;
@@ -27,10 +27,10 @@ static void hear(cqlp_client *client, const cqlp_event *frame) {
   else if (reply.what == CQLP_REPLY_EVENT)
     printf("was pushed\n");
   else
-    printf("answers request %d\n", (int)reply.number);
+    printf("answers request %d, of task %d\n", (int)reply.number, (int)reply.carried);
   if (code == CQLP_DONE && reply.request == CQLP_OPCODE_STARTUP) {
-    ask(client, CQLP_OPCODE_QUERY);
-    ask(client, CQLP_OPCODE_PREPARE);
+    ask(client, CQLP_OPCODE_QUERY, 20);
+    ask(client, CQLP_OPCODE_PREPARE, 30);
   }
 }
 
@@ -42,8 +42,8 @@ int main(void) {
   cqlp_client client = CQLP_NO_CLIENT_YET;
   cqlp_batch batch = {0};
   if (cqlp_new(&limits, &decoder) != CQLP_DONE || cqlp_client_new(1024, &client) != CQLP_DONE) return 2;
-  ask(&client, CQLP_OPCODE_QUERY);
-  ask(&client, CQLP_OPCODE_STARTUP);
+  ask(&client, CQLP_OPCODE_QUERY, 20);
+  ask(&client, CQLP_OPCODE_STARTUP, 10);
   for (size_t length; batch.stop != CQLP_STOP_REFUSED && (length = fread(piece, 1, sizeof piece, stdin)) > 0;) {
     size_t used = 0;
     do {

@@ -2,16 +2,18 @@
 
 `rows(source)` gives the rows of a stream's pages, `columns(source)` their columns, numbers as arrays, `frames(source)` the frames, each
 message a dataclass of `cqlp.messages`, `events(source)` the events, `check(data)` the verdict. A `Decoder` takes the pieces of a stream as they come, a `Client` pairs
-replies with requests. All stand on the proved library libcqlp, whose interface is include/cqlp.h.
+replies with requests, a `Server` knows which requests it has not answered. All stand on the proved library libcqlp, whose interface is include/cqlp.h.
 """
 
 from . import messages
-from ._client import BadCall, Client, Reply, Ticket, header
+from ._client import Client, Reply, Ticket
 from ._columns import PageColumns, Series, columns
+from ._core import BadCall, event_header, header, version_error
 from ._decoder import BadLimits, Closed, Cut, Decoder, Error, Held, Limits, Refused, Verdict, check
 from ._events import Event
 from ._names import name, version, version_number
 from ._pages import Column, Page, Pages, Type, rows
+from ._server import Answered, Server
 from ._sources import events
 from ._values import EMPTY, UNSET, Days, Milliseconds, Nanoseconds, Unset
 from .messages import Frame, FrameTooLong, frames
@@ -34,6 +36,7 @@ from .numbers import (
 )
 
 __all__ = [
+    "Answered",
     "BadCall",
     "BadLimits",
     "BatchType",
@@ -52,6 +55,7 @@ __all__ = [
     "Error",
     "ErrorCode",
     "Event",
+    "event_header",
     "events",
     "Field",
     "Frame",
@@ -79,6 +83,7 @@ __all__ = [
     "ResultKind",
     "rows",
     "Series",
+    "Server",
     "Tag",
     "Ticket",
     "Type",
@@ -86,5 +91,6 @@ __all__ = [
     "Unset",
     "Verdict",
     "version",
+    "version_error",
     "version_number",
 ]

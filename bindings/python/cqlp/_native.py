@@ -60,7 +60,11 @@ class Ticket(ctypes.Structure):
 
 
 class Reply(ctypes.Structure):
-    _fields_ = [("number", c_uint64), ("id", c_int16), ("what", c_uint8), ("request", c_uint8)]
+    _fields_ = [("number", c_uint64), ("carried", c_uint64), ("id", c_int16), ("what", c_uint8), ("request", c_uint8)]
+
+
+class Answered(ctypes.Structure):
+    _fields_ = [("carried", c_uint64), ("request", c_uint8)]
 
 
 class Header(ctypes.Structure):
@@ -73,6 +77,7 @@ if RECORD.size != ctypes.sizeof(Event):
     raise ImportError("cqlp: an event has another size here")
 
 DONE, BAD_TEXT, BAD_CELL, BAD_ENTRIES, BAD_DEPTH, NO_MEMORY, NO_DECODER, IN_USE, NO_CLIENT, BAD_SLOTS = range(10)
+NO_SERVER = 23
 
 
 def _load() -> ctypes.CDLL:
@@ -97,11 +102,18 @@ for name, result, arguments in (
     ("cqlp_free", c_uint32, [POINTER(Handle)]),
     ("cqlp_check", c_uint32, [POINTER(Limits), c_void_p, c_size_t, POINTER(End)]),
     ("cqlp_client_new", c_uint32, [c_uint32, POINTER(Handle)]),
-    ("cqlp_client_begin", c_uint32, [POINTER(Handle), c_uint8, POINTER(Ticket)]),
+    ("cqlp_client_begin", c_uint32, [POINTER(Handle), c_uint8, c_uint64, POINTER(Ticket)]),
     ("cqlp_client_reply", c_uint32, [POINTER(Handle), POINTER(Event), POINTER(Reply)]),
     ("cqlp_client_cancel", c_uint32, [POINTER(Handle), POINTER(Ticket)]),
     ("cqlp_client_phase", c_uint32, [POINTER(Handle), POINTER(c_uint8)]),
     ("cqlp_client_free", c_uint32, [POINTER(Handle)]),
+    ("cqlp_server_new", c_uint32, [c_uint32, POINTER(Handle)]),
+    ("cqlp_server_accept", c_uint32, [POINTER(Handle), POINTER(Event), c_uint64]),
+    ("cqlp_server_answer", c_uint32, [POINTER(Handle), c_int16, c_uint8, POINTER(Answered)]),
+    ("cqlp_server_event", c_uint32, [c_uint32, c_uint8, POINTER(c_uint8 * 9)]),
+    ("cqlp_server_phase", c_uint32, [POINTER(Handle), POINTER(c_uint8)]),
+    ("cqlp_server_free", c_uint32, [POINTER(Handle)]),
+    ("cqlp_version_error", c_uint32, [POINTER(c_uint8 * 9), c_void_p, c_size_t, POINTER(c_size_t)]),
     ("cqlp_write_header", c_uint32, [POINTER(Header), POINTER(c_uint8 * 9)]),
     ("cqlp_name", c_char_p, [c_uint32, c_int64]),
     ("cqlp_version", c_char_p, []),

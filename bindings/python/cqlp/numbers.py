@@ -314,3 +314,8 @@ class Code(IntEnum):
     BAD_OPCODE = 20
     BAD_DIRECTION = 21
     BAD_LENGTH = 22
+    NO_SERVER = 23
+    NOT_REQUEST = 24
+    BAD_ID = 25
+    ID_TAKEN = 26
+    NO_ROOM = 27

@@ -6,9 +6,9 @@ import cqlp
 from cqlp import Opcode
 
 
-def ask(client: cqlp.Client, opcode: Opcode, body: bytes = b"") -> None:
+def ask(client: cqlp.Client, opcode: Opcode, task: str, body: bytes = b"") -> None:
     try:
-        ticket = client.begin(opcode)
+        ticket = client.begin(opcode, task)
     except cqlp.BadCall as bad:
         print("%s: %s" % (opcode.name, bad))
     else:
@@ -18,18 +18,18 @@ def ask(client: cqlp.Client, opcode: Opcode, body: bytes = b"") -> None:
 
 def main() -> None:
     with cqlp.Client(1024) as client:
-        ask(client, Opcode.QUERY)
-        ask(client, Opcode.STARTUP, b"\0\0")
+        ask(client, Opcode.QUERY, "read")
+        ask(client, Opcode.STARTUP, "open", b"\0\0")
         for frame in cqlp.frames(sys.stdin.buffer):
             try:
                 reply = client.reply(frame)
             except cqlp.BadCall as bad:
                 print(type(frame.message).__name__, "is no reply:", bad)
                 continue
-            print(type(frame.message).__name__, "answers", reply.ticket)
+            print(type(frame.message).__name__, "answers", reply.ticket, reply.carried)
             if reply.request == Opcode.STARTUP:
-                ask(client, Opcode.QUERY)
-                ask(client, Opcode.PREPARE)
+                ask(client, Opcode.QUERY, "read")
+                ask(client, Opcode.PREPARE, "prepare")
 
 
 main()

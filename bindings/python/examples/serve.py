@@ -23,10 +23,16 @@ def answer(message: messages.Message) -> Tuple[Opcode, bytes]:
 
 
 def main() -> None:
-    for frame in cqlp.frames(sys.stdin.buffer):
-        opcode, body = answer(frame.message)
-        sys.stdout.buffer.write(cqlp.header(opcode, frame.stream, len(body), response=True) + body)
-        sys.stdout.buffer.flush()
+    with cqlp.Server() as server:
+        for frame in cqlp.frames(sys.stdin.buffer):
+            server.accept(frame)
+            opcode, body = answer(frame.message)
+            server.answer(frame.stream, opcode)
+            sys.stdout.buffer.write(cqlp.header(opcode, frame.stream, len(body), response=True) + body)
+            sys.stdout.buffer.flush()
 
 
-main()
+try:
+    main()
+except cqlp.BadCall as bad:
+    sys.exit(str(bad))

@@ -28,21 +28,21 @@ class Session:
     def begin(self, opcode: int) -> cqlp.Ticket:
         ticket, code = cqlp.Ticket(99, 99), 0
         try:
-            ticket = self.client.begin(opcode)
+            ticket = self.client.begin(opcode, 10 * opcode)
         except cqlp.BadCall as bad:
             code = bad.code
         self.lines.append("begin %d: code %d number %d id %d" % (opcode, code, *ticket))
         return ticket
 
     def hear(self, frame: cqlp.Event) -> None:
-        number, id, what, request, code = 99, 99, 99, 99, 0
+        number, id, what, request, carried, code = 99, 99, 99, 99, 99, 0
         try:
             reply = self.client.reply(frame)
-            (number, id), what, request = reply.ticket or (0, 0), reply.what, reply.request or 0
+            (number, id), what, request, carried = reply.ticket or (0, 0), reply.what, reply.request or 0, reply.carried or 0
         except cqlp.BadCall as bad:
             code = bad.code
-        words = (frame.extra, frame.opcode, code, number, id, what, request)
-        self.lines.append("reply %d %d: code %d number %d id %d what %d request %d" % words)
+        words = (frame.extra, frame.opcode, code, number, id, what, request, carried)
+        self.lines.append("reply %d %d: code %d number %d id %d what %d request %d carried %d" % words)
 
     def cancel(self, ticket: cqlp.Ticket) -> int:
         try:
@@ -85,14 +85,14 @@ class Client(unittest.TestCase):
 
     def test_frames_are_heard_as_their_events(self) -> None:
         with cqlp.Client() as client:
-            ticket = client.begin(Opcode.STARTUP)
+            ticket = client.begin(Opcode.STARTUP, "any value")
             sent = cqlp.header(Opcode.STARTUP, ticket.id, 0)
             (ready,) = cqlp.frames(cqlp.header(Opcode.READY, ticket.id, 0, response=True))
             reply = client.reply(ready)
-            self.assertEqual(reply, (cqlp.ReplyKind.ANSWER, ticket, Opcode.STARTUP))
+            self.assertEqual(reply, (cqlp.ReplyKind.ANSWER, ticket, Opcode.STARTUP, "any value"))
             self.assertIs(client.phase, cqlp.Phase.READY)
             pushed = client.reply(cqlp.events(cqlp.header(Opcode.EVENT, -1, 0, response=True)).__next__())
-            self.assertEqual(pushed, (cqlp.ReplyKind.EVENT, None, None))
+            self.assertEqual(pushed, (cqlp.ReplyKind.EVENT, None, None, None))
             self.assertEqual(sent, bytes.fromhex("040000000100000000"))
 
     def test_use_after_close(self) -> None:

@@ -1,5 +1,5 @@
 -- What is held of a content that was gathered, and where.
-use Rattle.std.proofs.Common.{◌≡◌, ℕ, ◌+◌, ◌-◌, ◌≤◌, Bool, true, false, List, length, drop, min, Option, Some, None, refl, sym, ap, subst, ◌∙◌, arith}
+use Rattle.std.proofs.Common.{◌≡◌, ℕ, ◌+◌, ◌≤◌, Bool, true, false, List, length, drop, min, Option, Some, None, refl, ap, subst, ◌∙◌, arith}
 use Rattle.std.specs.Prelude.{if◌then◌else◌}
 use Rattle.std.specs.Int.{w32, to_be_bytes, cast_unsigned}
 use Rattle.std.specs.Ptr.{Ptr}
@@ -17,7 +17,7 @@ use Rattle.cqlp_decode.specs.Progress.{IsContent}
 use Rattle.cqlp_decode.specs.Streams.{Decoding, buffer_of, state}
 use Rattle.cqlp_laws.specs.Contents.{content_in, scalar_content}
 use Rattle.cqlp_c.specs.declared.event.CqlpEvent.{CqlpEvent}
-use Rattle.cqlp_c.specs.Events.{before_gathered, bytes_in, content_of, content_span, is_decimal, scale_in, span_in}
+use Rattle.cqlp_c.specs.Events.{before_gathered, content_of, content_span, is_decimal, scale_in, span_in}
 use Rattle.cqlp_c.specs.Batches.{Buffer, IsGathered, IsInInput, LiesBy, LiesByStep, Put, PutsGathered, TellsPut, TellsStep, buffer_in}
 use Rattle.cqlp_c.proofs.Spans.{span_event}
 

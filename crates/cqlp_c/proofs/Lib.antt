@@ -11,6 +11,8 @@ pub mod OneBatch
 pub mod OneVerdict
 pub mod Places
 pub mod Putting
+pub mod Services
 pub mod Spans
 pub mod There
 pub mod Values
+pub mod Written

@@ -1,5 +1,5 @@
 -- Laws of the calls.
-use Rattle.std.specs.Prelude.{◌≡◌, ◌↔◌, ℕ, ◌-◌, ◌≤◌, ◌++◌, true, List, [], ◌∷◌, length, drop, take, Option, Some, ⊤}
+use Rattle.std.specs.Prelude.{◌≡◌, ◌↔◌, ℕ, ◌-◌, ◌≤◌, ◌++◌, true, List, [], ◌∷◌, length, drop, take, Option, Some, Ok, ⊤}
 use Rattle.std.specs.Ptr.{Ptr, null_ptr}
 use Rattle.cqlp_note.specs.declared.header.Header.{Header}
 use Rattle.cqlp_note.specs.Limits.{Rules}
@@ -8,16 +8,21 @@ use Rattle.cqlp_decode.specs.Reading.{Event}
 use Rattle.cqlp_decode.specs.Progress.{StreamState}
 use Rattle.cqlp_decode.specs.Streams.{After}
 use Rattle.cqlp_laws.specs.Contents.{content_in}
-use Rattle.cqlp_session.specs.Client.{ClientCore}
+use Rattle.cqlp_session.specs.declared.ticket.Reply.TheVariants as reply
+use Rattle.cqlp_session.specs.Carried.{new_carrying_client, new_carrying_server}
+use Rattle.cqlp_session.specs.Client.{ClientCore as Bare, reply_to}
 use Rattle.cqlp_session.specs.Signal.{signal_of}
 use Rattle.cqlp_c.specs.declared.batch.Batch.{Batch}
 use Rattle.cqlp_c.specs.declared.event.CqlpEvent.{CqlpEvent}
 use Rattle.cqlp_c.specs.declared.numbers.TheConstants as numbers
 use Rattle.cqlp_c.specs.Batches.{Buffer, IsGathered, IsInInput, IsRead, OthersInInput, Put, events_of}
 use Rattle.cqlp_c.specs.Checks.{HasVerdict}
-use Rattle.cqlp_c.specs.Clients.{Starts}
+use Rattle.cqlp_c.specs.Clients.{ClientCore}
+use Rattle.cqlp_c.specs.Cores.{Starts}
 use Rattle.cqlp_c.specs.Events.{of_frame}
 use Rattle.cqlp_c.specs.Handle.{PutsInto}
+use Rattle.cqlp_c.specs.Headers.{header_in}
+use Rattle.cqlp_c.specs.Servers.{ServerCore, event_fields}
 use Rattle.cqlp_c.specs.Talked.{is_stream, signal_in}
 
 -- what C is told by an event, wherever its content lies
@@ -70,13 +75,25 @@ IsOneAnswerOfCheck =
     (l : Rules) (stream : List ℕ) (f f' : Finish) → HasVerdict l stream f → HasVerdict l stream f' → f' ≡ f
 
 -- Where memory is granted, a core that is made is one, and a handle that is in use is refused.
-abbrev pub IsOneAnswerOfClientNew : Type 0
-IsOneAnswerOfClientNew =
-    (slots : ℕ) (old : Option ClientCore) (code code' : ℕ) (new new' : Option ClientCore)
-    → Starts slots old code new → Starts slots old code' new'
+abbrev pub IsOneAnswerOfStart : {C : Type 0} → (fresh : ℕ → C) → Type 0
+IsOneAnswerOfStart {C = C} fresh =
+    (slots : ℕ) (old : Option C) (code code' : ℕ) (new new' : Option C)
+    → Starts fresh slots old code new → Starts fresh slots old code' new'
     → ((code ≡ numbers.NO_MEMORY) ↔ (code' ≡ numbers.NO_MEMORY)) → (code' ≡ code) × (new' ≡ new)
+
+abbrev pub IsOneAnswerOfClientNew : Type 0
+IsOneAnswerOfClientNew = IsOneAnswerOfStart {C = ClientCore} new_carrying_client
+
+abbrev pub IsOneAnswerOfServerNew : Type 0
+IsOneAnswerOfServerNew = IsOneAnswerOfStart {C = ServerCore} new_carrying_server
 
 -- The event of a frame shows a core what the header of the frame does.
 abbrev pub FramesAreHeard : Type 0
 FramesAreHeard =
     (at : ℕ) (h : Header) → is_stream h.stream ≡ true → signal_in (of_frame at h) ≡ Some (signal_of h)
+
+-- Each client takes a frame with the header that a server writes of an EVENT for an event that was pushed.
+abbrev pub EventsArePushed : Type 0
+EventsArePushed =
+    (length flags : ℕ) (h : Header) (c : Bare) → header_in (event_fields length flags) ≡ Ok h
+    → reply_to c (signal_of h) ≡ Ok reply.ServerEvent

@@ -1,11 +1,15 @@
 pub mod Batches
 pub mod Checks
 pub mod Clients
+pub mod Cores
 pub mod Events
 pub mod Handle
 pub mod Headers
 pub mod Laws
 pub mod Numbers
+pub mod Rooms
+pub mod Servers
 pub mod Shown
 pub mod Slots
 pub mod Talked
+pub mod Versions

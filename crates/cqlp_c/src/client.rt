@@ -1,22 +1,23 @@
 //! A client's core that C holds.
 
-ghost use Rattle.std.specs.Prelude.{◌≡◌, ◌↔◌, false, Option, None, Some, IfNone, IfOk, IfSome, IsErrOf};
+ghost use denote.Builtin.{u64 as number};
+ghost use Rattle.std.specs.Prelude.{◌≡◌, ◌↔◌, ℕ, false, Option, None, Some, IfNone, IfOk, IfSome, IsErrOf};
 ghost use Rattle.std.specs.Box.Ownership.{box_owns};
 ghost use Rattle.std.specs.contracts.alloc.Global as heap;
 ghost use Rattle.std.specs.contracts.impls.GlobalAllocator.TheImpl.{ghosts};
-ghost use Rattle.cqlp_session.specs.Client.{ClientCore, new_client};
+ghost use Rattle.cqlp_session.specs.Carried.{CarryingClient, new_carrying_client};
 ghost use Rattle.cqlp_session.specs.declared.refusal.SlotsOrMemory.TheVariants as error;
-ghost use Rattle.cqlp_session.specs.contracts.client.Client as client;
+ghost use Rattle.cqlp_session.specs.contracts.client_of.ClientOf as client;
 ghost use Rattle.cqlp_c.specs.Handle.{flag_of, owned_in};
-ghost use Rattle.cqlp_c.specs.Clients.{Begins, BeginsKind, Cancels, Hears, HearsSignal, Stands, Starts};
-ghost use Rattle.cqlp_c.specs.Clients.{code_of_free, is_slot_count};
+ghost use Rattle.cqlp_c.specs.Clients.{Begins, BeginsKind, Cancels, Hears, HearsSignal, Stands, code_of_free};
+ghost use Rattle.cqlp_c.specs.Cores.{Starts, is_slot_count};
 ghost use Rattle.cqlp_c.specs.Talked as talked;
 
 use crate::event::CqlpEvent;
 use crate::loose::Loose;
 use crate::numbers::*;
 use crate::talked::*;
-use cqlp_session::{Client, SlotsOrMemory};
+use cqlp_session::{ClientOf, SlotsOrMemory};
 use std::alloc::Global;
 use std::marker::{Model, Send};
 
@@ -26,11 +27,11 @@ use std::marker::{Model, Send};
 pub struct CqlpCore {
     at: *mut u8,
     ghost alloc: { heap.the_row.Denot },
-    ghost value: { Option ClientCore },
+    ghost value: { Option (CarryingClient ℕ) },
 }
 
 impl Model for CqlpCore {
-    ghost also_owns = { λ h. owned_in (box_owns (ghosts.dealloc_token h.alloc) (client.the_row heap.the_row ghosts) h.at) h.value };
+    ghost also_owns = { λ h. owned_in (box_owns (ghosts.dealloc_token h.alloc) (client.the_row number heap.the_row ghosts) h.at) h.value };
 }
 
 // What it owns, a core and the right to free it, is the same to every thread.
@@ -47,7 +48,7 @@ impl CqlpCore {
     }
 
     /// The place of a core.
-    fn of(loose: Loose<Client<Global>, Global>) -> CqlpCore
+    fn of(loose: Loose<ClientOf<u64, Global>, Global>) -> CqlpCore
         ensures { result.value ≡ Some loose.value }
     {
         let Loose { at, alloc: _ } = loose;
@@ -55,13 +56,13 @@ impl CqlpCore {
     }
 
     /// The core that lies there.
-    fn into_loose(self, alloc: Global) -> Loose<Client<Global>, Global>
+    fn into_loose(self, alloc: Global) -> Loose<ClientOf<u64, Global>, Global>
         requires { flag_of self.value ≡ 1 }
         ensures { self.value ≡ Some result.value }
     {
         let CqlpCore { at } = self;
         Loose {
-            at: at as *mut Client<Global>,
+            at: at as *mut ClientOf<u64, Global>,
             alloc,
         }
     }
@@ -85,7 +86,7 @@ fn none(alloc: Global) -> CqlpClient
 }
 
 /// A handle that has this core.
-fn holding(boxed: Box<Client<Global>>) -> CqlpClient
+fn holding(boxed: Box<ClientOf<u64, Global>>) -> CqlpClient
     ensures { result.place.value ≡ Some boxed.value }
 {
     let place = CqlpCore::of(Loose::of(boxed));
@@ -93,7 +94,7 @@ fn holding(boxed: Box<Client<Global>>) -> CqlpClient
 }
 
 /// The core of a handle, if it has one.
-fn taken(client: CqlpClient, alloc: Global) -> Option<Box<Client<Global>>>
+fn taken(client: CqlpClient, alloc: Global) -> Option<Box<ClientOf<u64, Global>>>
     ensures some { IfSome result (λ b. client.place.value ≡ Some b.value) }
     ensures none { IfNone result (client.place.value ≡ None) }
 {
@@ -106,14 +107,14 @@ fn taken(client: CqlpClient, alloc: Global) -> Option<Box<Client<Global>>>
 }
 
 /// A core with this many slots, on the heap.
-fn make(alloc: Global, slots: u32) -> Result<Box<Client<Global>>, SlotsOrMemory>
+fn make(alloc: Global, slots: u32) -> Result<Box<ClientOf<u64, Global>>, SlotsOrMemory>
     ensures bad { IsErrOf result error.BadSlots ↔ (is_slot_count slots ≡ false) }
-    ensures fresh { IfOk result (λ b. b.value ≡ new_client slots) }
+    ensures fresh { IfOk result (λ b. b.value ≡ new_carrying_client slots) }
 {
     let Ok(slots) = u16::try_from(slots) else {
         return Err(SlotsOrMemory::BadSlots);
     };
-    match Client::new(alloc, slots) {
+    match ClientOf::new(alloc, slots) {
         Ok(client) => match Box::new(alloc, client) {
             Ok(boxed) => Ok(boxed),
             Err(_) => Err(SlotsOrMemory::NoMemory),
@@ -125,7 +126,7 @@ fn make(alloc: Global, slots: u32) -> Result<Box<Client<Global>>, SlotsOrMemory>
 /// Makes a client's core in a handle that has none.
 #[unsafe(no_mangle)]
 pub extern "C" fn cqlp_client_new(alloc: Global, slots: u32, client: &mut CqlpClient) -> u32
-    ensures { Starts slots client.old.place.value result client.new.place.value }
+    ensures { Starts new_carrying_client slots client.old.place.value result client.new.place.value }
 {
     if client.live != 0 {
         return IN_USE;
@@ -140,36 +141,42 @@ pub extern "C" fn cqlp_client_new(alloc: Global, slots: u32, client: &mut CqlpCl
     }
 }
 
-/// Begins a request of the kind that has this opcode, if one has.
-fn begin(client: &mut Client<Global>, opcode: u8, ticket: &mut CqlpTicket) -> u32
-    ensures { BeginsKind client.old (talked.request_of opcode) result client.new ticket.old ticket.new }
+/// Begins a request of the kind that has this opcode, if one has, and carries a number with it.
+fn begin(
+    client: &mut ClientOf<u64, Global>,
+    opcode: u8,
+    carried: u64,
+    ticket: &mut CqlpTicket,
+) -> u32
+    ensures { BeginsKind client.old (talked.request_of opcode) carried result client.new ticket.old ticket.new }
 {
     let Some(kind) = request_of(opcode) else {
         return NO_REQUEST;
     };
-    match client.begin(kind) {
+    match client.begin(kind, carried) {
         Ok(begun) => {
             *ticket = ticket_of(begun);
             DONE
         }
-        Err(error) => begin_code(error),
+        Err(refused) => begin_code(refused.why),
     }
 }
 
-/// Begins a request.
+/// Begins a request, and carries a number with it until its reply.
 #[unsafe(no_mangle)]
 pub extern "C" fn cqlp_client_begin(
     alloc: Global,
     client: &mut CqlpClient,
     opcode: u8,
+    carried: u64,
     ticket: &mut CqlpTicket,
 ) -> u32
-    ensures { Begins client.old.place.value (talked.request_of opcode) result client.new.place.value
+    ensures { Begins client.old.place.value (talked.request_of opcode) carried result client.new.place.value
         ticket.old ticket.new }
 {
     match taken(std::mem::replace(client, none(alloc)), alloc) {
         Some(mut boxed) => {
-            let code = begin(&mut boxed, opcode, ticket);
+            let code = begin(&mut boxed, opcode, carried, ticket);
             *client = holding(boxed);
             code
         }
@@ -178,7 +185,7 @@ pub extern "C" fn cqlp_client_begin(
 }
 
 /// Takes the event of a frame that came.
-fn hear(client: &mut Client<Global>, frame: &CqlpEvent, reply: &mut CqlpReply) -> u32
+fn hear(client: &mut ClientOf<u64, Global>, frame: &CqlpEvent, reply: &mut CqlpReply) -> u32
     ensures { HearsSignal client.old (talked.signal_in frame.now) result client.new reply.old reply.new }
 {
     let Some(header) = header_in(frame) else {

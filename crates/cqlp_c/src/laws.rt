@@ -1,13 +1,15 @@
 //! Laws of the calls. No code needs them.
 
 ghost use Rattle.std.specs.Thread.{IsSend};
-ghost use Rattle.cqlp_c.specs.Laws.{ContentsLieThere, FramesAreHeard, IsOneAnswerOfCheck};
-ghost use Rattle.cqlp_c.specs.Laws.{IsOneAnswerOfClientNew, IsOneAnswerOfNext};
+ghost use Rattle.cqlp_c.specs.Laws.{ContentsLieThere, EventsArePushed, FramesAreHeard, IsOneAnswerOfCheck};
+ghost use Rattle.cqlp_c.specs.Laws.{IsOneAnswerOfClientNew, IsOneAnswerOfNext, IsOneAnswerOfServerNew};
 ghost use Rattle.cqlp_c.specs.contracts.client.CqlpClient as client;
 ghost use Rattle.cqlp_c.specs.contracts.handle.CqlpDecoder as decoder;
+ghost use Rattle.cqlp_c.specs.contracts.server.CqlpServer as server;
 
 use crate::client::CqlpClient;
 use crate::handle::CqlpDecoder;
+use crate::server::CqlpServer;
 use std::marker::Send;
 
 /// After the same bytes and events, over the same input and with the same room, there is one answer: the same batch with
@@ -32,18 +34,31 @@ pub fn one_answer_of_client_new()
     ensures { IsOneAnswerOfClientNew }
 {}
 
+/// Where memory is granted, `cqlp_server_new` has one answer. So have the other calls on a server's core, whose clauses are
+/// equations.
+pub fn one_answer_of_server_new()
+    ensures { IsOneAnswerOfServerNew }
+{}
+
 /// The event of a frame shows a core what the header of the frame does.
 pub fn frames_are_heard()
     ensures { FramesAreHeard }
+{}
+
+/// What `cqlp_server_event` writes is the header of an event that was pushed, which answers no request of a client.
+pub fn events_are_pushed()
+    ensures { EventsArePushed }
 {}
 
 /// What a handle owns is the same to every thread, so a handle may go from one to another between two calls.
 pub fn handles_cross()
     ensures decoder { IsSend decoder.the_row }
     ensures client { IsSend client.the_row }
+    ensures server { IsSend server.the_row }
 {
     crosses::<CqlpDecoder>();
     crosses::<CqlpClient>();
+    crosses::<CqlpServer>();
 }
 
 /// A type whose values may go from one thread to another.

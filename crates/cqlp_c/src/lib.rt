@@ -1,4 +1,4 @@
-//! The decoder of frames, a client's core and headers, for C and for what calls as C does.
+//! The decoder of frames, the cores of a client and of a server, and headers, for C and for what calls as C does.
 #![tactic(auto)]
 
 mod batch;
@@ -10,9 +10,11 @@ mod header;
 mod laws;
 mod loose;
 mod numbers;
+mod server;
 mod shown;
 mod slots;
 mod talked;
+mod versions;
 
 pub use check::cqlp_check;
 pub use client::{
@@ -23,8 +25,13 @@ pub use event::CqlpEvent;
 pub use handle::{CqlpDecoder, CqlpPlace, cqlp_finish, cqlp_free, cqlp_held, cqlp_new, cqlp_next};
 pub use header::{CqlpHeader, cqlp_write_header};
 pub use laws::{
-    contents_lie_there, frames_are_heard, one_answer_of_check, one_answer_of_client_new,
-    one_answer_of_next,
+    contents_lie_there, events_are_pushed, frames_are_heard, one_answer_of_check,
+    one_answer_of_client_new, one_answer_of_next, one_answer_of_server_new,
+};
+pub use server::{
+    CqlpServer, CqlpService, cqlp_server_accept, cqlp_server_answer, cqlp_server_event,
+    cqlp_server_free, cqlp_server_new, cqlp_server_phase,
 };
 pub use shown::{CqlpBatch, CqlpEnd, CqlpHeld, CqlpLimits};
-pub use talked::{CqlpReply, CqlpTicket};
+pub use talked::{CqlpAnswered, CqlpReply, CqlpTicket};
+pub use versions::cqlp_version_error;

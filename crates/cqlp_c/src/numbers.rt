@@ -57,6 +57,16 @@ pub const BAD_DIRECTION: u32 = 21;
 
 pub const BAD_LENGTH: u32 = 22;
 
+pub const NO_SERVER: u32 = 23;
+
+pub const NOT_REQUEST: u32 = 24;
+
+pub const BAD_ID: u32 = 25;
+
+pub const ID_TAKEN: u32 = 26;
+
+pub const NO_ROOM: u32 = 27;
+
 // ---- why a batch of events ends
 
 pub const STOP_MORE: u8 = 0;

@@ -1,6 +1,7 @@
-//! What a client's core takes from C and gives to it.
+//! What cores take from C and give to it.
 
 ghost use Rattle.std.specs.Prelude.{◌≡◌, option_map};
+ghost use Rattle.cqlp_session.specs.Carried.{reply_alone, reply_value};
 ghost use Rattle.cqlp_session.specs.Kind as kinds;
 ghost use Rattle.cqlp_session.specs.Signal.{signal_of};
 ghost use Rattle.cqlp_c.specs.Talked as talked;
@@ -8,7 +9,7 @@ ghost use Rattle.cqlp_c.specs.Talked as talked;
 use crate::event::CqlpEvent;
 use crate::numbers::*;
 use cqlp_note::{Header, Opcode};
-use cqlp_session::{BeginError, Reply, RequestKind, Stray, Ticket};
+use cqlp_session::{AnswerError, BeginError, ReplyOf, RequestKind, ServerRefusal, Stray, Ticket};
 
 /// A request that has begun.
 #[repr(C)]
@@ -26,11 +27,23 @@ pub struct CqlpTicket {
 pub struct CqlpReply {
     /// The number of the request's ticket; 0 of an event.
     pub number: u64,
+    /// The number that the request began with, the caller's; 0 of an event.
+    pub carried: u64,
     /// The stream id of the request's ticket; 0 of an event.
     pub id: i16,
     /// What it is: a number `REPLY_..`.
     pub what: u8,
     /// What was asked for, a number `OPCODE_..`; 0 of an event, and of the reply to what was cancelled.
+    pub request: u8,
+}
+
+/// A request that a server has answered.
+#[repr(C)]
+#[derive(Clone, Copy)]
+pub struct CqlpAnswered {
+    /// The number that the request was accepted with, the caller's.
+    pub carried: u64,
+    /// What was asked for: a number `OPCODE_..`.
     pub request: u8,
 }
 
@@ -126,24 +139,31 @@ pub fn header_in(frame: &CqlpEvent) -> Option<Header>
 }
 
 /// A reply, as C sees it.
-pub fn reply_of(reply: &Reply) -> CqlpReply
-    ensures { result ≡ talked.reply_of reply.now }
+pub fn reply_of(reply: &ReplyOf<u64>) -> CqlpReply
+    ensures { result ≡ talked.reply_of (reply_alone reply.now) (reply_value reply.now) }
 {
     match *reply {
-        Reply::ServerEvent => CqlpReply {
+        ReplyOf::ServerEvent => CqlpReply {
             number: 0,
+            carried: 0,
             id: 0,
             what: REPLY_EVENT,
             request: 0,
         },
-        Reply::Answer { ticket, kind } => CqlpReply {
+        ReplyOf::Answer {
+            ticket,
+            kind,
+            carried,
+        } => CqlpReply {
             number: ticket.number,
+            carried,
             id: ticket.id,
             what: REPLY_ANSWER,
             request: opcode_number(opcode_of(kind)),
         },
-        Reply::Dropped { ticket } => CqlpReply {
+        ReplyOf::Dropped { ticket, carried } => CqlpReply {
             number: ticket.number,
+            carried,
             id: ticket.id,
             what: REPLY_DROPPED,
             request: 0,
@@ -159,5 +179,37 @@ pub fn stray_code(stray: Stray) -> u32
         Stray::NotResponse => NOT_RESPONSE,
         Stray::NoSuchStream => NO_SUCH_STREAM,
         Stray::WrongOpcode => WRONG_OPCODE,
+    }
+}
+
+/// The code for a message that a server does not accept as a request.
+pub fn refusal_code(refusal: ServerRefusal) -> u32
+    ensures { result ≡ talked.code_of_refusal refusal }
+{
+    match refusal {
+        ServerRefusal::NotRequest => NOT_REQUEST,
+        ServerRefusal::BadId => BAD_ID,
+        ServerRefusal::IdTaken => ID_TAKEN,
+        ServerRefusal::Phase(_) => BAD_PHASE,
+    }
+}
+
+/// A request that was answered, as C sees it.
+pub fn answered_of(kind: RequestKind, carried: u64) -> CqlpAnswered
+    ensures { result ≡ talked.answered_of kind carried }
+{
+    CqlpAnswered {
+        carried,
+        request: opcode_number(opcode_of(kind)),
+    }
+}
+
+/// The code for a request that may not be answered so.
+pub fn answer_code(error: AnswerError) -> u32
+    ensures { result ≡ talked.code_of_unanswered error }
+{
+    match error {
+        AnswerError::NotTaken => NO_SUCH_STREAM,
+        AnswerError::WrongOpcode => WRONG_OPCODE,
     }
 }

@@ -55,8 +55,8 @@ pub extern "C" fn cqlp_client_new(slots: u32, client: &mut CqlpClient) -> u32 {
 }
 
 #[unsafe(no_mangle)]
-pub extern "C" fn cqlp_client_begin(client: &mut CqlpClient, opcode: u8, ticket: &mut CqlpTicket) -> u32 {
-    crate::cqlp_c::cqlp_client_begin(Global, client, opcode, ticket)
+pub extern "C" fn cqlp_client_begin(client: &mut CqlpClient, opcode: u8, carried: u64, ticket: &mut CqlpTicket) -> u32 {
+    crate::cqlp_c::cqlp_client_begin(Global, client, opcode, carried, ticket)
 }
 
 #[unsafe(no_mangle)]
@@ -77,6 +77,41 @@ pub extern "C" fn cqlp_client_phase(client: &mut CqlpClient, phase: &mut u8) -> 
 #[unsafe(no_mangle)]
 pub extern "C" fn cqlp_client_free(client: &mut CqlpClient) -> u32 {
     crate::cqlp_c::cqlp_client_free(Global, client)
+}
+
+#[unsafe(no_mangle)]
+pub extern "C" fn cqlp_server_new(slots: u32, server: &mut CqlpServer) -> u32 {
+    crate::cqlp_c::cqlp_server_new(Global, slots, server)
+}
+
+#[unsafe(no_mangle)]
+pub extern "C" fn cqlp_server_accept(server: &mut CqlpServer, frame: &CqlpEvent, carried: u64) -> u32 {
+    crate::cqlp_c::cqlp_server_accept(Global, server, frame, carried)
+}
+
+#[unsafe(no_mangle)]
+pub extern "C" fn cqlp_server_answer(server: &mut CqlpServer, stream: i16, opcode: u8, answered: &mut CqlpAnswered) -> u32 {
+    crate::cqlp_c::cqlp_server_answer(Global, server, stream, opcode, answered)
+}
+
+#[unsafe(no_mangle)]
+pub extern "C" fn cqlp_server_event(length: u32, flags: u8, bytes: &mut [u8; 9]) -> u32 {
+    crate::cqlp_c::cqlp_server_event(length, flags, bytes)
+}
+
+#[unsafe(no_mangle)]
+pub extern "C" fn cqlp_server_phase(server: &mut CqlpServer, phase: &mut u8) -> u32 {
+    crate::cqlp_c::cqlp_server_phase(Global, server, phase)
+}
+
+#[unsafe(no_mangle)]
+pub extern "C" fn cqlp_server_free(server: &mut CqlpServer) -> u32 {
+    crate::cqlp_c::cqlp_server_free(Global, server)
+}
+
+#[unsafe(no_mangle)]
+pub unsafe extern "C" fn cqlp_version_error(header: &[u8; 9], bytes: *mut u8, room: usize, length: &mut usize) -> u32 {
+    crate::cqlp_c::cqlp_version_error(header, unsafe { slice_mut(bytes, room) }, length)
 }
 
 #[unsafe(no_mangle)]

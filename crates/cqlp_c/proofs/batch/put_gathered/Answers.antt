@@ -1,4 +1,3 @@
-use Rattle.std.proofs.Common.{◌≡◌}
 use Rattle.cqlp_c.proofs.Gathering.{put_there}
 use Rattle.cqlp_c.proofs.batch.put_gathered.Goals as goal
 

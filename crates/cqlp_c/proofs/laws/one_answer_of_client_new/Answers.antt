@@ -1,5 +1,6 @@
+use Rattle.cqlp_session.specs.Carried.{new_carrying_client}
 use Rattle.cqlp_c.proofs.Cored.{one_core}
 use Rattle.cqlp_c.proofs.laws.one_answer_of_client_new.Goals as goal
 
 pub returns : goal.returns
-returns c = λ slots old code code' new new' x y same. one_core slots old code code' new new' x y same
+returns c = λ slots old code code' new new' x y same. one_core new_carrying_client slots old code code' new new' x y same

@@ -1,4 +1,5 @@
 -- A core on the heap says the same to every thread, and so does the right to free it.
+use denote.Builtin.{u64 as number}
 use denote.RattleType.{RattleType}
 use denote.Struct.Struct.{exits_of}
 use denote.Struct.Owning.{shape, fields, to}
@@ -7,15 +8,16 @@ use Rattle.std.specs.contracts.alloc.Global as heap
 use Rattle.std.specs.contracts.impls.GlobalAllocator.TheImpl.{ghosts}
 use Rattle.std.proofs.Crossing as heap_crosses
 use Rattle.std_alloc.proofs.SendSync.{quiet}
-use Rattle.cqlp_session.specs.contracts.client.Client as client
-use Rattle.cqlp_session.proofs.client.Client.TheSendSync as client_crosses
+use Rattle.cqlp_session.specs.contracts.client_of.ClientOf as client
+use Rattle.cqlp_session.proofs.client_of.ClientOf.TheSendSync as client_crosses
 use Rattle.cqlp_c.proofs.Crosses.{held}
 use Rattle.cqlp_c.specs.contracts.client.CqlpCore.{the_row, the_type}
 
 pub send : IsSend the_row
 send =
-    let R : RattleType = client.the_row heap.the_row ghosts in
-    let crosses : IsSend R = client_crosses.the_send heap.the_row ghosts heap_crosses.send heap_crosses.frees in
+    let R : RattleType = client.the_row number heap.the_row ghosts in
+    let word : IsSend number = search sendable in
+    let crosses : IsSend R = client_crosses.the_send number heap.the_row ghosts word heap_crosses.send heap_crosses.frees in
     let all : AllSend (fields the_type) = (search sendable, tt) in
     owning_send the_type all (λ d. held R crosses d.alloc d.at d.value)
     (λ k. quiet (to the_type) (exits_of k (fields the_type)) ((struct_send (shape the_type) all).leaving k))

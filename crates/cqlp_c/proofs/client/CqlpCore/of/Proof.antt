@@ -17,11 +17,12 @@ use denote.Steps.{nothing}
 use denote.Triple.Entry.{alive}
 use denote.Triple.Walked.{Stays, stay_dropped, walk_of, Goes-dropped}
 use Rattle.core.specs.declared.option.Option.TheVariants.{Some}
+use denote.Builtin.{u64 as number}
 use Rattle.std.specs.contracts.alloc.Global as heap
 use Rattle.std.proofs.alloc.Global.TheLaws as heap_laws
 use Rattle.std.specs.contracts.impls.GlobalAllocator.TheImpl.{ghosts}
 use Rattle.std.proofs.raw_atomic.Walks.{proved_at, leaves}
-use Rattle.cqlp_session.specs.contracts.client.Client as client
+use Rattle.cqlp_session.specs.contracts.client_of.ClientOf as client
 use Rattle.cqlp_c.specs.contracts.loose.Loose as loose
 use Rattle.cqlp_c.proofs.Values.{both, loose_good, loose_out}
 use Rattle.cqlp_c.proofs.Cores.{word, core_in}
@@ -34,7 +35,7 @@ use Rattle.cqlp_c.proofs.client.CqlpCore.of.Code as code
 pub of_spec : {M : Type 1} → statement M
 of_spec 𝓤 𝓛 𝓜 𝓡 wired =
     let H = 𝓛.H in let 𝓣 = tables 𝓤 H 𝓜 𝓡 𝓡.env in let fn = code.function in let c = clauses 𝓛 𝓜.mem 𝓡.returns in let Z : RattleType = heap.the_row in let LZ = heap_laws.the_row_laws in
-    let R : RattleType = client.the_row Z ghosts in let Lr : RattleType = loose.the_row R Z ghosts in
+    let R : RattleType = client.the_row number Z ghosts in let Lr : RattleType = loose.the_row R Z ghosts in
     let hs : Stays ended.signature.params ended.kept = (stay_dropped (plain (λ _. Lr)) yes, tt) in
     proved_at 𝓛 ended hs c 𝓜 𝓡 (Goes-dropped 𝓛 0 (plain (λ _. Lr)) yes (λ κs x f. refl), tt) #self fn (code.unfolded 𝓤 H 𝓜 𝓡 wired) (λ z are.
     let κs = z.0.0 in let qs = z.0.1 in let Post : Val → SProp 𝓤 = (walk_of 𝓛 ended hs c).post z in let Run : List Val → SProp 𝓤 = λ ws. WpFn 𝓤 H 𝓣.C 𝓣.Λ fn ws Post in

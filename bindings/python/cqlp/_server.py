@@ -1,0 +1,53 @@
+"""A server's core: which requests of a connection are not answered yet. It sends and receives nothing."""
+
+from typing import Any, NamedTuple, Union
+
+from . import _native
+from ._core import Calls, Core, event_of, must_be_done
+from ._decoder import _named
+from ._events import Event
+from .messages import Frame
+from .numbers import Opcode
+
+_OPCODES = _named(Opcode)
+
+
+class Answered(NamedTuple):
+    """A request that a server has answered."""
+
+    request: Union[Opcode, int]
+    """What was asked for."""
+    carried: Any = None
+    """The value that the request was accepted with."""
+
+
+class Server(Core):
+    """Which requests are open on one connection, on which nothing came yet, seen from its server.
+
+    It is closed by `close`, or as a context manager, or when it is let go. A lock keeps calls from several threads apart.
+    """
+
+    _calls = Calls(_native.library.cqlp_server_new, _native.library.cqlp_server_phase, _native.library.cqlp_server_free)
+
+    def accept(self, frame: Union[Event, Frame], carried: Any = None) -> None:
+        """Takes a frame that came, as its event, whose tag is FRAME, or as one of `cqlp.frames`, as a request. Its stream id is taken
+        until it is answered, and its answer has this value again. Raises BadCall for NO_FRAME, NOT_REQUEST, BAD_ID, ID_TAKEN and
+        BAD_PHASE."""
+        event = event_of(frame)
+        with self._lock:
+            self._keep(lambda number: _native.library.cqlp_server_accept(self._handle, event, number), carried)
+
+    def answer(self, stream: int, opcode: int) -> Answered:
+        """Answers the request that is open under this stream id by a response with this opcode. Send the response in the order in
+        which requests are answered. Raises BadCall for BAD_OPCODE, NO_SUCH_STREAM and WRONG_OPCODE."""
+        # what is out of the range of its member is refused there too, in the library's order
+        stream = stream if -32768 <= stream < 32768 else -1
+        opcode = opcode if 0 <= opcode < 256 else 0xFF
+        answered = _native.Answered()
+        with self._lock:
+            must_be_done(_native.library.cqlp_server_answer(self._handle, stream, opcode, answered))
+            carried = self._values.pop(answered.carried)
+        return Answered(_OPCODES[answered.request], carried)
+
+    def __enter__(self) -> "Server":
+        return self
