@@ -1,3 +1,4 @@
+pub mod Continuing
 pub mod Taking
 pub mod Options
 pub mod Bindings
@@ -9,5 +10,6 @@ pub mod UntoldCells
 pub mod WrittenValues
 pub mod Made
 pub mod OneAnswer
+pub mod Attempts
 pub mod PageAnswers
 pub mod PageWhole

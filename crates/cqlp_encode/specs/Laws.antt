@@ -1,5 +1,6 @@
 -- The laws of the encoder.
-use Rattle.std.specs.Prelude.{◌≡◌, ℕ, List, [], IsSome, Option, Result, Ok, Err, ⊤}
+use Rattle.std.specs.Prelude.{◌≡◌, ℕ, List, [], ◌∷◌, length, take, IsSome, IfOk, Option, Result, Ok, Err, ⊤}
+use Rattle.std.specs.Io.KnownBytes.{Appends}
 use Rattle.cqlp_note.specs.declared.field.Notation.TheVariants as notation
 use Rattle.cqlp_note.specs.Field as note
 use Rattle.cqlp_note.specs.Outputs.{Output}
@@ -12,6 +13,7 @@ use Rattle.cqlp_message.specs.declared.request.OwnedBound.{OwnedBound}
 use Rattle.cqlp_message.specs.declared.frame.Frame.{Frame}
 use Rattle.cqlp_message.specs.FrameValues.{FrameValue}
 use Rattle.cqlp_message.specs.Owned.{bound_of, frame_of}
+use Rattle.cqlp_message.specs.Frames.{frame_bytes}
 use Rattle.cqlp_message.specs.Pages.{with_cells}
 use Rattle.cqlp_encode.specs.declared.writing.EncodeError.{EncodeError}
 use Rattle.cqlp_encode.specs.declared.writing.EncodeError.TheVariants as error
@@ -19,7 +21,7 @@ use Rattle.cqlp_encode.specs.declared.page_writer.PageError.{PageError}
 use Rattle.cqlp_encode.specs.declared.page_writer.PageError.TheVariants as page_error
 use Rattle.cqlp_encode.specs.declared.value_writing.ValueError.{ValueError}
 use Rattle.cqlp_encode.specs.declared.value_writing.ValueError.TheVariants as value_error
-use Rattle.cqlp_encode.specs.Encoding.{Encodes}
+use Rattle.cqlp_encode.specs.Encoding.{Encodes, EncodesFrom}
 use Rattle.cqlp_encode.specs.ValueWriting.{WritesValue}
 use Rattle.cqlp_encode.specs.declared.binding.BindError.{BindError}
 use Rattle.cqlp_encode.specs.declared.binding.BindError.TheVariants as bind_error
@@ -38,6 +40,27 @@ abbrev pub OneAnswerOfEncode : Type 0
 OneAnswerOfEncode =
     (f : FrameValue) (old new new' : Output) (r r' : Result ℕ EncodeError) → IsSome old.given
     → Encodes f old r new → Encodes f old r' new' → taken r' ≡ taken r → (r' ≡ r) × (new' ≡ new)
+
+-- The same of a frame that is gone on with.
+abbrev pub OneAnswerOfEncodeFrom : Type 0
+OneAnswerOfEncodeFrom =
+    (f : FrameValue) (before : ℕ) (old new new' : Output) (r r' : Result ℕ EncodeError) → IsSome old.given
+    → EncodesFrom f before old r new → EncodesFrom f before old r' new' → taken r' ≡ taken r → (r' ≡ r) × (new' ≡ new)
+
+-- Attempts at one frame, each of which goes on where the one before stopped: where each stopped and how it left the
+-- target, and then what the last answers.
+abbrev pub Attempts :
+    FrameValue → (before : ℕ) → (old : Output) → List (ℕ × Output) → Result ℕ EncodeError → (new : Output) → Type 0
+Attempts f before old [] r new = EncodesFrom f before old r new
+Attempts f before old (stop ∷ stops) r new =
+    EncodesFrom f before old (Err (error.Write stop.0)) stop.1 × Attempts f stop.0 stop.1 stops r new
+
+-- Over all attempts together the target got the first bytes of the frame, as many as the last answer says, each once and
+-- in order; and all of them where it is Ok.
+abbrev pub AttemptsAreOne : Type 0
+AttemptsAreOne =
+    (f : FrameValue) (old new : Output) (stops : List (ℕ × Output)) (r : Result ℕ EncodeError) → Attempts f 0 old stops r new
+    → Appends old.given new.given (take (taken r) (frame_bytes f)) × IfOk r (λ n. n ≡ length (frame_bytes f))
 
 -- The same of a value that is written.
 abbrev pub value_taken : Result ℕ ValueError → ℕ

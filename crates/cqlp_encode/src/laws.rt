@@ -1,11 +1,23 @@
 //! The laws of the encoder.
 
-ghost use Rattle.cqlp_encode.specs.Laws.{BoundIsAsWritten, OneAnswerOfBegin, OneAnswerOfBindValue, OneAnswerOfCell, OneAnswerOfEncode};
+ghost use Rattle.cqlp_encode.specs.Laws.{AttemptsAreOne, BoundIsAsWritten, OneAnswerOfBegin, OneAnswerOfBindValue, OneAnswerOfCell};
+ghost use Rattle.cqlp_encode.specs.Laws.{OneAnswerOfEncode, OneAnswerOfEncodeFrom};
 ghost use Rattle.cqlp_encode.specs.Laws.{OneAnswerOfFinish, OneAnswerOfRawValue, OneAnswerOfWriteValue, PageIsAsEncoded};
 
 /// One answer of [`encode`](crate::encode) meets its clause, given how many bytes the target took.
 pub fn one_answer_of_encode()
     ensures { OneAnswerOfEncode }
+{}
+
+/// One answer of [`encode_from`](crate::encode_from) meets its clause, given how many bytes the target took.
+pub fn one_answer_of_encode_from()
+    ensures { OneAnswerOfEncodeFrom }
+{}
+
+/// Over all calls of [`encode_from`](crate::encode_from) for one frame and one target, each with as many bytes before as the last one said,
+/// the target got the first bytes of the frame, each once and in order, and all of them once a call is Ok.
+pub fn attempts_are_one()
+    ensures { AttemptsAreOne }
 {}
 
 /// One answer of [`write_value`](crate::write_value) meets its clause, given how many bytes the target took.

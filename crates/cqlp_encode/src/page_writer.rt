@@ -112,7 +112,7 @@ impl<'a> PageWriter<'a> {
             Ok(len) => len,
             Err(why) => return Err(PageError::Unfit(why)),
         };
-        let taken = write_parts(frame, page_len - 9, target);
+        let taken = write_parts(frame, page_len - 9, 0, target);
         if taken < page_len - cells_len {
             return Err(PageError::Write { written: taken });
         }
@@ -195,7 +195,7 @@ impl<'a> PageWriter<'a> {
             Adds self.old cells cell (written W.Target target.old) result (written W.Target target.new) self.new }
     {
         let size = self.check(value, fits)?;
-        let taken = offer_value(value, target);
+        let taken = offer_value(value, 0, target);
         if taken < size {
             self.fail(taken);
             return Err(PageError::Write {
