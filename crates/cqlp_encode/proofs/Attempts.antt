@@ -16,7 +16,7 @@ use Rattle.cqlp_encode.proofs.OneAnswer.{left_once}
 -- ---- one answer
 
 -- the target is left in one state by how many bytes it took or had before
-pub continued_once : (before : ℕ) (old new new' : Output) (bytes : List ℕ) (n m : ℕ) → IsSome old.given → m ≡ n → Continued before old bytes n new → Continued before old bytes m new' → new' ≡ new
+pub pub continued_once : (before : ℕ) (old new new' : Output) (bytes : List ℕ) (n m : ℕ) → IsSome old.given → m ≡ n → Continued before old bytes n new → Continued before old bytes m new' → new' ≡ new
 continued_once before old new new' bytes n m known e a b = left_once old new new' (drop before bytes) (n - before) (m - before) known (ap (λ (k : ℕ). k - before) e) a.offered b.offered
 
 pub one_answer_from : OneAnswerOfEncodeFrom

@@ -1,5 +1,5 @@
 -- The laws of the encoder.
-use Rattle.std.specs.Prelude.{◌≡◌, ℕ, List, [], ◌∷◌, length, take, IsSome, IfOk, Option, Result, Ok, Err, ⊤}
+use Rattle.std.specs.Prelude.{◌≡◌, ℕ, None, List, [], ◌∷◌, length, take, IsSome, IfOk, Option, Result, Ok, Err, ⊤}
 use Rattle.std.specs.Io.KnownBytes.{Appends}
 use Rattle.cqlp_note.specs.declared.field.Notation.TheVariants as notation
 use Rattle.cqlp_note.specs.Field as note
@@ -8,7 +8,7 @@ use Rattle.cqlp_note.specs.Spelling.{field_bytes}
 use Rattle.cqlp_type.specs.declared.tree.TypeTree.{TypeTree}
 use Rattle.cqlp_value.specs.declared.value.Value.{Value}
 use Rattle.cqlp_value.specs.Owned.{value_of}
-use Rattle.cqlp_value.specs.Values.{Values, values_bytes}
+use Rattle.cqlp_value.specs.Values.{Values, values_bytes, values_size}
 use Rattle.cqlp_message.specs.declared.request.OwnedBound.{OwnedBound}
 use Rattle.cqlp_message.specs.declared.frame.Frame.{Frame}
 use Rattle.cqlp_message.specs.FrameValues.{FrameValue}
@@ -26,7 +26,8 @@ use Rattle.cqlp_encode.specs.ValueWriting.{WritesValue}
 use Rattle.cqlp_encode.specs.declared.binding.BindError.{BindError}
 use Rattle.cqlp_encode.specs.declared.binding.BindError.TheVariants as bind_error
 use Rattle.cqlp_encode.specs.Binding.{IsBound, IsRaw, Makes, bound_written, raw_written}
-use Rattle.cqlp_encode.specs.PageWriting.{PageState, Begins, Adds, AddsAll, Finishes}
+use Rattle.cqlp_encode.specs.PageWriting.{PageState, Begins, BeginsFrom, Adds, AddsAll, AddsRest, GoesOn, Finishes}
+use Rattle.cqlp_encode.specs.PageWriting.{After, cell_error, one_more}
 
 -- how many bytes the target took
 abbrev pub taken : Result ℕ EncodeError → ℕ
@@ -123,6 +124,28 @@ OneAnswerOfCell =
     (p q q' : PageState) (cells : List Values) (v : Values) (old new new' : Output) (r r' : Result ⊤ PageError)
     → IsSome old.given → Adds p cells v old r new q → Adds p cells v old r' new' q' → q'.written ≡ q.written
     → (r' ≡ r) × (new' ≡ new) × (q' ≡ q)
+
+-- The same of a page whose beginning is gone on with, and of a cell that is.
+abbrev pub OneAnswerOfBeginFrom : Type 0
+OneAnswerOfBeginFrom =
+    (f : Frame) (n before : ℕ) (old new new' : Output) (r r' : Result PageState PageError) → IsSome old.given
+    → BeginsFrom f n before old r new → BeginsFrom f n before old r' new' → head_taken r' ≡ head_taken r
+    → (r' ≡ r) × (new' ≡ new)
+
+abbrev pub OneAnswerOfGoOn : Type 0
+OneAnswerOfGoOn =
+    (p q q' : PageState) (cells : List Values) (v : Values) (old new new' : Output) (r r' : Result ⊤ PageError)
+    → IsSome old.given → AddsRest p cells v old r new q → AddsRest p cells v old r' new' q' → q'.written ≡ q.written
+    → (r' ≡ r) × (new' ≡ new) × (q' ≡ q)
+
+-- A cell within which `cell` stopped, and then `go_on` however often, until it was Ok: the target got the cell's bytes,
+-- each once and in order, and the writer is where `cell` leaves it that does not stop.
+abbrev pub CellIsWhole : Type 0
+CellIsWhole =
+    (p q q' : PageState) (n k : ℕ) (cells : List Values) (v : Values) (old mid new : Output)
+    (stops : List (ℕ × Output × PageState)) → After p n cells → cell_error p cells v ≡ None
+    → Adds p cells v old (Err (page_error.Write k)) mid q → GoesOn q cells v mid stops (Ok tt) new q'
+    → Appends old.given new.given (values_bytes v) × (q' ≡ one_more p (values_size v))
 
 -- There is one answer to whether a page is done.
 abbrev pub OneAnswerOfFinish : Type 0
