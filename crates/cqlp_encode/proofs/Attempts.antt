@@ -1,13 +1,13 @@
 -- A frame that is gone on with where an attempt at it stopped.
-use Rattle.std.proofs.Common.{◌≡◌, ℕ, ◌≤◌, ◌-◌, List, [], ◌∷◌, length, take, drop, min, Option, Some, None, IsSome, Result, Ok, Err, refl, sym, ap, ◌∙◌, arith}
+use Rattle.std.proofs.Common.{◌≡◌, ℕ, ◌≤◌, ◌-◌, List, [], ◌∷◌, length, take, drop, min, Option, Some, None, IsSome, Result, Ok, Err, sym, ap, ◌∙◌, arith}
 use Rattle.std.specs.Prelude.{IfOk}
 use Rattle.std.specs.Io.KnownBytes.{Appends}
-use Rattle.cqlp_note.specs.Outputs.{Output, Offered}
+use Rattle.cqlp_note.specs.Outputs.{Output}
 use Rattle.cqlp_message.specs.FrameValues.{FrameValue}
 use Rattle.cqlp_message.specs.Frames.{frame_bytes, unfit_of}
 use Rattle.cqlp_encode.specs.declared.writing.EncodeError.{EncodeError}
 use Rattle.cqlp_encode.specs.declared.writing.EncodeError.TheVariants as error
-use Rattle.cqlp_encode.specs.Encoding.{Continued, EncodesFrom}
+use Rattle.cqlp_encode.specs.Encoding.{Continued}
 use Rattle.cqlp_encode.specs.Laws.{taken, Attempts, AttemptsAreOne, OneAnswerOfEncodeFrom}
 use Rattle.cqlp_encode.proofs.Continuing.{came, came_then}
 use Rattle.cqlp_encode.proofs.FramesTaken.{nothing_more}
@@ -16,7 +16,7 @@ use Rattle.cqlp_encode.proofs.OneAnswer.{left_once}
 -- ---- one answer
 
 -- the target is left in one state by how many bytes it took or had before
-pub pub continued_once : (before : ℕ) (old new new' : Output) (bytes : List ℕ) (n m : ℕ) → IsSome old.given → m ≡ n → Continued before old bytes n new → Continued before old bytes m new' → new' ≡ new
+pub continued_once : (before : ℕ) (old new new' : Output) (bytes : List ℕ) (n m : ℕ) → IsSome old.given → m ≡ n → Continued before old bytes n new → Continued before old bytes m new' → new' ≡ new
 continued_once before old new new' bytes n m known e a b = left_once old new new' (drop before bytes) (n - before) (m - before) known (ap (λ (k : ℕ). k - before) e) a.offered b.offered
 
 pub one_answer_from : OneAnswerOfEncodeFrom

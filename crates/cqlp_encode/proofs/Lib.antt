@@ -15,5 +15,3 @@ pub mod Attempts
 pub mod PageAnswers
 pub mod RestAnswers
 pub mod PageWhole
-pub mod PageEncodings
-pub mod LentPages

@@ -1,5 +1,5 @@
 -- A cell that is gone on with where a call stopped within it.
-use Rattle.std.proofs.Common.{◌≡◌, ℕ, ◌+◌, ◌-◌, ◌<◌, ◌≤◌, ◌==◌, if◌then◌else◌, Bool, true, false, not, List, [], ◌∷◌, ◌++◌, length, take, drop, nat_le, nat_lt, Option, Some, None, IsSome, Result, Ok, Err, inl, inr, refl, sym, ap, ◌∙◌, subst, arith}
+use Rattle.std.proofs.Common.{◌≡◌, ℕ, ◌+◌, ◌-◌, ◌<◌, ◌≤◌, ◌==◌, if◌then◌else◌, Bool, true, false, not, List, [], ◌∷◌, ◌++◌, take, drop, nat_le, nat_lt, Option, Some, None, Result, Ok, Err, inl, inr, refl, sym, ap, ◌∙◌, subst, arith}
 use Rattle.std.proofs.lemmas.List.{take_all}
 use Rattle.std.proofs.lemmas.Bool.Decides.{nat_tests}
 use Rattle.std.specs.Prelude.{⊤}
@@ -8,13 +8,12 @@ use Rattle.cqlp_note.specs.Outputs.{Output, Offered}
 use Rattle.cqlp_value.specs.Values.{Values, values_size, values_bytes}
 use Rattle.cqlp_value.proofs.ValuesWritten.{written_size}
 use Rattle.cqlp_message.specs.declared.unfit.Unfit.TheVariants as unfit
-use Rattle.cqlp_message.specs.Frames.{frame_size}
 use Rattle.cqlp_message.specs.Pages.{cells_fit}
 use Rattle.cqlp_encode.specs.declared.page_writer.PageError.{PageError}
 use Rattle.cqlp_encode.specs.declared.page_writer.PageError.TheVariants as error
 use Rattle.cqlp_encode.specs.Encoding.{Continued}
 use Rattle.cqlp_encode.specs.PagePlaces.{IsPlace, StandsFor, Checks}
-use Rattle.cqlp_encode.specs.PageWriting.{PageState, page, After, Adds, AddsRest, RestCut, CellCut, GoesOn, cells_after, cell_error, rest_error, before_cut, one_more, failed_after}
+use Rattle.cqlp_encode.specs.PageWriting.{PageState, page, After, AddsRest, CellCut, GoesOn, cells_after, cell_error, rest_error, before_cut, one_more, failed_after}
 use Rattle.cqlp_encode.specs.Laws.{CellIsWhole}
 use Rattle.cqlp_encode.proofs.Continuing.{came, came_then}
 use Rattle.cqlp_encode.proofs.PageSteps.{none_left, after_cut, after_one_more}

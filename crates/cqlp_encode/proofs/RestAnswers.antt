@@ -1,5 +1,5 @@
 -- One answer of each call that goes on with a page meets its clause.
-use Rattle.std.proofs.Common.{◌≡◌, ℕ, ◌+◌, ◌-◌, ◌<◌, List, [], drop, Option, Some, None, IsSome, Result, Ok, Err, refl, sym, ap, ◌∙◌, arith}
+use Rattle.std.proofs.Common.{◌≡◌, ℕ, ◌+◌, List, Option, Some, None, IsSome, Result, Ok, Err, refl, sym, ap, ◌∙◌, arith}
 use Rattle.std.specs.Prelude.{⊤}
 use Rattle.cqlp_note.specs.Outputs.{Output}
 use Rattle.cqlp_value.specs.Values.{Values, values_size, values_bytes}
