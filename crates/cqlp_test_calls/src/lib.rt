@@ -26,8 +26,6 @@ mod runs;
 #[cfg(test)]
 mod server;
 #[cfg(test)]
-mod sockets;
-#[cfg(test)]
 mod streams;
 #[cfg(test)]
 mod trees;
