@@ -1,3 +1,4 @@
+pub mod Continuing
 pub mod Taking
 pub mod Options
 pub mod Bindings
@@ -5,9 +6,12 @@ pub mod Contents
 pub mod PartsTaken
 pub mod FramesTaken
 pub mod PageSteps
+pub mod PageRests
 pub mod UntoldCells
 pub mod WrittenValues
 pub mod Made
 pub mod OneAnswer
+pub mod Attempts
 pub mod PageAnswers
+pub mod RestAnswers
 pub mod PageWhole

@@ -18,7 +18,7 @@ use Rattle.cqlp_encode.proofs.OneAnswer.{left_once}
 -- ---- begin
 
 -- a writer that was just made is the only one
-made_once : (f : Frame) (n : ℕ) (p q : PageState) → p.frame ≡ f → q.frame ≡ f → p.failed ≡ false → q.failed ≡ false → After p n [] → After q n [] → q ≡ p
+pub made_once : (f : Frame) (n : ℕ) (p q : PageState) → p.frame ≡ f → q.frame ≡ f → p.failed ≡ false → q.failed ≡ false → After p n [] → After q n [] → q ≡ p
 made_once f n p q pf qf ps qs a b =
     let frames : q.frame ≡ p.frame = qf ∙ sym pf in
     let wanted : cells_wanted (page q).message ≡ cells_wanted (page p).message = ap (λ (x : Frame). cells_wanted (frame_of x).message) frames in
@@ -27,18 +27,19 @@ made_once f n p q pf qf ps qs a b =
     let free : q.free ≡ p.free = omega (arith, a.free, b.free) in
     let written : q.written ≡ p.written = omega (arith, a.written ps, b.written qs, sizes, a.free, b.free) in
     let failed : q.failed ≡ p.failed = qs ∙ sym ps in
-    λ i. record { frame = frames i; left = left i; free = free i; written = written i; failed = failed i }
+    let cut : q.cut ≡ p.cut = b.uncut qs ∙ sym (a.uncut ps) in
+    λ i. record { frame = frames i; left = left i; free = free i; written = written i; failed = failed i; cut = cut i }
 
 -- all bytes before the first cell
-head_count : (f : Frame) (n : ℕ) (p : PageState) → p.frame ≡ f → p.failed ≡ false → After p n [] → p.written ≡ frame_size (frame_of f) 0
+pub head_count : (f : Frame) (n : ℕ) (p : PageState) → p.frame ≡ f → p.failed ≡ false → After p n [] → p.written ≡ frame_size (frame_of f) 0
 head_count f n p is sound a =
     let sizes : frame_size (page p) n ≡ frame_size (frame_of f) n = ap (λ (x : Frame). frame_size (frame_of x) n) is in
     omega (arith, a.written sound, a.free, sizes)
 
-begun_fits : (f : Frame) (n : ℕ) (p : PageState) → p.frame ≡ f → After p n [] → page_unfit_of (frame_of f) n ≡ None
+pub begun_fits : (f : Frame) (n : ℕ) (p : PageState) → p.frame ≡ f → After p n [] → page_unfit_of (frame_of f) n ≡ None
 begun_fits f n p is a = subst (λ (x : Frame). page_unfit_of (frame_of x) n ≡ None) is a.begun
 
-no_both : {A : Type 0} (o : Option Unfit) (why : Unfit) → o ≡ None → o ≡ Some why → A
+pub no_both : {A : Type 0} (o : Option Unfit) (why : Unfit) → o ≡ None → o ≡ Some why → A
 no_both o why e w = let both = sym e ∙ w in absurd cc
 
 pub begins_once : OneAnswerOfBegin
@@ -80,10 +81,10 @@ outcome p cells v old (Err error.NotDone) new q a = refused error.NotDone refl a
 outcome p cells v old (Err (error.Write k)) new q (inl a) = refused (error.Write k) refl a.0 a.1 a.2
 outcome p cells v old (Err (error.Write k)) new q (inr a) = cut k refl a.0 a.1
 
-same_error : (o : Option PageError) (e e' : PageError) → o ≡ Some e → o ≡ Some e' → e' ≡ e
+pub same_error : (o : Option PageError) (e e' : PageError) → o ≡ Some e → o ≡ Some e' → e' ≡ e
 same_error o e e' a b = let both : ◌≡◌ {A = Option PageError} (Some e) (Some e') = sym a ∙ b in cc
 
-no_error : {A : Type 0} (o : Option PageError) (e : PageError) → o ≡ None → o ≡ Some e → A
+pub no_error : {A : Type 0} (o : Option PageError) (e : PageError) → o ≡ None → o ≡ Some e → A
 no_error o e a b = let both = sym a ∙ b in absurd cc
 
 module _ (p q q' : PageState) (cells : List Values) (v : Values) (old new new' : Output) (r r' : Result ⊤ PageError) (known : IsSome old.given) where

@@ -21,8 +21,9 @@ use Rattle.cqlp_message.proofs.PageCells.{cells_size_more}
 use Rattle.cqlp_message.proofs.PageFrames.{page_rows, wanted_is, is_page, no_cells_fit, one_more_fits, page_written}
 use Rattle.cqlp_encode.specs.declared.page_writer.PageError.{PageError}
 use Rattle.cqlp_encode.specs.declared.page_writer.PageError.TheVariants as error
-use Rattle.cqlp_encode.specs.PageWriting.{PageState, page, After, Begins, Finishes, Adds, cells_after, cell_error, one_more, failed_after}
-use Rattle.cqlp_encode.specs.Encoding.{header_and_parts}
+use Rattle.cqlp_encode.specs.PageWriting.{PageState, page, After, Begins, BeginsFrom, Finishes, Adds, cells_after, cell_error, one_more, failed_after}
+use Rattle.cqlp_encode.specs.Encoding.{Continued, header_and_parts}
+use Rattle.cqlp_encode.proofs.Continuing.{anew}
 use Rattle.cqlp_encode.specs.PagePlaces.{IsPlace, StandsFor}
 
 -- ---- before the first cell
@@ -38,7 +39,7 @@ some_column rows (suc c) lt = omega arith
 
 -- a writer that was just made
 abbrev pub made : Frame → (left free written : ℕ) → PageState
-made f left free written = record { frame = f; left = left; free = free; written = written; failed = false }
+made f left free written = record { frame = f; left = left; free = free; written = written; failed = false; cut = 0 }
 
 module _ (f : Frame) (n len taken : ℕ) (fits : page_unfit_of (frame_of f) n ≡ None) (is : len ≡ frame_size (frame_of f) n) where
   pub first_place : (left : ℕ) → left ≡ cells_wanted (frame_of f).message → taken ≡ frame_size (frame_of f) 0 → IsPlace (made f left n taken) 0
@@ -50,23 +51,25 @@ module _ (f : Frame) (n len taken : ℕ) (fits : page_unfit_of (frame_of f) n �
         cells = omega (arith, all, zero-mul (page_columns m));
         column = λ some. some_column (page_rows m) (page_columns m) (omega (arith, some, all, wanted_is m));
         free = omega (arith, short);
-        bounded = λ e. omega (arith, short, count);
+        bounded = omega (arith, short, count);
+        cut = omega arith;
+        uncut = λ e. refl;
       }
 
-  module _ (old new : Output) (offered : Offered old (header_and_parts (frame_of f) (len - 9)) taken new) (long : length (header_and_parts (frame_of f) (len - 9)) ≡ frame_size (frame_of f) 0) where
+  module _ (before : ℕ) (old new : Output) (continued : Continued before old (header_and_parts (frame_of f) (len - 9)) taken new) (long : length (header_and_parts (frame_of f) (len - 9)) ≡ frame_size (frame_of f) 0) where
     same_head : header_and_parts (frame_of f) (len - 9) ≡ page_head (frame_of f) n
     same_head = let body : len - 9 ≡ parts_size (frame_parts (frame_of f)) + n = omega (arith, is) in ap (λ (k : ℕ). header_and_parts (frame_of f) k) body
 
     head_long : length (page_head (frame_of f) n) ≡ frame_size (frame_of f) 0
     head_long = ap length (sym same_head) ∙ long
 
-    pub begins_cut : taken < len - n → Begins f n old (Err (error.Write taken)) new
-    begins_cut less = (fits, head_long, omega (arith, is, less), subst (λ (x : List ℕ). Offered old x taken new) same_head offered)
+    pub begins_cut : taken < len - n → BeginsFrom f n before old (Err (error.Write taken)) new
+    begins_cut less = (fits, head_long, omega (arith, is, less), subst (λ (x : List ℕ). Continued before old x taken new) same_head continued)
 
     pub all_of_head : len - n ≤ taken → taken ≡ frame_size (frame_of f) 0
-    all_of_head all = omega (arith, offered.bound, long, is, all)
+    all_of_head all = omega (arith, continued.bound, long, is, all)
 
-    pub begins_all : (left : ℕ) → left ≡ cells_wanted (frame_of f).message → len - n ≤ taken → Begins f n old (Ok (made f left n taken)) new
+    pub begins_all : (left : ℕ) → left ≡ cells_wanted (frame_of f).message → len - n ≤ taken → BeginsFrom f n before old (Ok (made f left n taken)) new
     begins_all left wanted all =
         let count = all_of_head all in (
           refl,
@@ -77,10 +80,21 @@ module _ (f : Frame) (n len taken : ℕ) (fits : page_unfit_of (frame_of f) n �
             left = omega (arith, wanted);
             free = omega arith;
             written = λ e. omega (arith, count);
+            cut = omega (arith, count);
+            uncut = λ e. refl;
           },
           head_long,
-          subst (λ (k : ℕ). Offered old (page_head (frame_of f) n) k new) count (subst (λ (x : List ℕ). Offered old x taken new) same_head offered),
+          subst (λ (k : ℕ). Continued before old (page_head (frame_of f) n) k new) count (subst (λ (x : List ℕ). Continued before old x taken new) same_head continued),
         )
+
+-- what was written of a page from its first byte on
+pub begins_anew : (f : Frame) (n : ℕ) (old new : Output) (r : Result PageState PageError) → BeginsFrom f n 0 old r new → Begins f n old r new
+begins_anew f n old new (Ok p) b = (b.0, b.1, b.2, b.3, anew old new (page_head (frame_of f) n) _ b.4)
+begins_anew f n old new (Err (error.Unfit why)) b = b
+begins_anew f n old new (Err (error.Write k)) b = (b.0, b.1, b.2, anew old new (page_head (frame_of f) n) k b.3)
+begins_anew f n old new (Err error.OutOfTurn) b = absurd b
+begins_anew f n old new (Err error.PastLength) b = absurd b
+begins_anew f n old new (Err error.NotDone) b = absurd b
 
 -- ---- a value is the next cell, or is not
 
@@ -141,7 +155,7 @@ module _ (p : PageState) (cells : List Values) (fits : Bool) (w v : Values) (old
       let count : taken ≡ values_size v = omega (arith, offered.bound, long, all, is) in
       (none, long, subst (λ (k : ℕ). Offered old (values_bytes v) k new) count offered, after ∙ ap (λ (k : ℕ). one_more p k) is)
 
-none_left : (b : Bool) (e : PageError) (o : Option PageError) → (if b then Some e else o) ≡ None → (b ≡ false) × (o ≡ None)
+pub none_left : (b : Bool) (e : PageError) (o : Option PageError) → (if b then Some e else o) ≡ None → (b ≡ false) × (o ≡ None)
 none_left true e o is = absurd cc
 none_left false e o is = (refl, is)
 
@@ -156,8 +170,10 @@ none_no : (n : ℕ) → (n == 0) ≡ false → 0 < n
 none_no n e = grind (arith, nat_tests)
 
 -- a fault leaves the cells as they were
-pub after_cut : (p : PageState) (n : ℕ) (cells : List Values) (k : ℕ) (q : PageState) → q ≡ failed_after p k → After p n cells → After q n cells
-after_cut p n cells k q after a = rw after (record { begun = a.begun; fit = a.fit; left = a.left; free = a.free; written = λ e. absurd cc })
+pub after_cut : (p : PageState) (n : ℕ) (cells : List Values) (taken k : ℕ) (q : PageState) → p.failed ≡ false → k ≡ p.written + taken → q ≡ failed_after p k → After p n cells → After q n cells
+after_cut p n cells taken k q sound count after a =
+    let sum = a.written sound in
+    rw after (record { begun = a.begun; fit = a.fit; left = a.left; free = a.free; written = λ e. absurd cc; cut = omega (arith, count, sum); uncut = λ e. absurd cc })
 
 -- where the value was the next cell, the writer stands after it
 pub after_one_more : (p : PageState) (n : ℕ) (cells : List Values) (v : Values) (size : ℕ) (q : PageState) → size ≡ values_size v → q ≡ one_more p size → cell_error p cells v ≡ None → After p n cells → After q n (cells ++ v ∷ [])
@@ -175,6 +191,8 @@ after_one_more p n cells v size q is after none a =
       left = omega (arith, some, a.left, length-append cells (v ∷ []));
       free = omega (arith, is, room, a.free, cells_size_more cells v);
       written = λ e. omega (arith, is, room, sum);
+      cut = omega (arith, is, room, sum);
+      uncut = λ e. refl;
     })
 
 -- what a call leaves
@@ -185,7 +203,7 @@ after_adds p n cells v old new (Err error.OutOfTurn) q a s = rw s.2 a
 after_adds p n cells v old new (Err error.PastLength) q a s = rw s.2 a
 after_adds p n cells v old new (Err error.NotDone) q a s = rw s.2 a
 after_adds p n cells v old new (Err (error.Write k)) q a (inl s) = rw s.2 a
-after_adds p n cells v old new (Err (error.Write k)) q a (inr s) = after_cut p n cells k q s.1.after a
+after_adds p n cells v old new (Err (error.Write k)) q a (inr s) = after_cut p n cells s.1.taken k q (none_left p.failed (error.Write p.written) _ s.0).0 s.1.count s.1.after a
 
 -- ---- all cells
 

@@ -23,8 +23,8 @@ part_taken old new part long s = record {
     size = omega (arith, ap length (more_bytes earlier part), length-append (parts_bytes earlier) (part_bytes part), t.size, long, size_more earlier part);
     taken = λ le.
         let both : parts_size earlier + part_size part ≤ _ = rw (size_more earlier part) at le in
-        let one = (s.puts (omega arith)).taken before.output (before.front ++ parts_bytes earlier) (t.taken (omega arith)) in
-        subst (λ (x : List ℕ). HasTaken before.output x new) (append_assoc before.front (parts_bytes earlier) (part_bytes part) ∙ ap (λ (x : List ℕ). before.front ++ x) (sym (more_bytes earlier part))) one;
+        let one = (s.puts (omega arith)).taken before.start (before.front ++ parts_bytes earlier) (t.taken (omega arith)) in
+        subst (λ (x : List ℕ). HasTaken before.start x new) (append_assoc before.front (parts_bytes earlier) (part_bytes part) ∙ ap (λ (x : List ℕ). before.front ++ x) (sym (more_bytes earlier part))) one;
     lender = s.lender ∙ t.lender;
   };
 }

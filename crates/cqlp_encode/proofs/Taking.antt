@@ -5,38 +5,45 @@ use Rattle.std.proofs.lemmas.Bool.{cases_lt, lt-ltb, le-ltb}
 use Rattle.std.proofs.lemmas.Grind.{common_steps, flat_map-append}
 use Rattle.std.specs.List.{flat_map}
 use Rattle.cqlp_note.specs.Streams.{counted}
-use Rattle.cqlp_note.specs.Outputs.{Output, Offered}
+use Rattle.cqlp_note.specs.Outputs.{Output}
+use Rattle.std.specs.Io.KnownBytes.{Appends}
 use Rattle.cqlp_note.proofs.Appended.{appends_then}
-use Rattle.cqlp_encode.specs.Progress.{Progress, HasTaken, Puts}
+use Rattle.cqlp_encode.specs.Encoding.{Continued}
+use Rattle.cqlp_encode.proofs.Continuing.{drop_both, rest_taken, stops_alike}
+use Rattle.cqlp_encode.specs.Progress.{Start, Progress, HasTaken, Puts}
 
 -- the same with other bytes that wait
 abbrev pub waiting_for : Progress → List ℕ → Progress
-waiting_for p waiting = record { output = p.output; waiting = waiting; taken = p.taken; failed = p.failed; lender = p.lender }
+waiting_for p waiting = record { output = p.output; waiting = waiting; taken = p.taken; skip = p.skip; failed = p.failed; lender = p.lender }
 
 longer : (xs ys : List ℕ) → xs ≢ [] → xs ++ ys ≢ []
 longer [] ys some = λ e. some refl
 longer (x ∷ xs) ys some = λ e. absurd cc
 
 -- what waits does not count after a fault
-pub after_fault : (start : Output) (all more waiting : List ℕ) (p : Progress) → p.failed ≡ true → HasTaken start all p → HasTaken start (all ++ more) (waiting_for p waiting)
+pub after_fault : (start : Start) (all more waiting : List ℕ) (p : Progress) → p.failed ≡ true → HasTaken start all p → HasTaken start (all ++ more) (waiting_for p waiting)
 after_fault start all more waiting p failed t = record {
   sent = t.sent;
   left = t.left ++ more;
   whole = ap (λ (x : List ℕ). x ++ more) t.whole ∙ append_assoc t.sent t.left more;
   given = t.given;
   count = t.count;
+  skip = t.skip;
+  passed = t.passed;
   failures = t.failures;
   waits = λ e. absurd cc;
   lost = λ e. longer t.left more (t.lost failed);
 }
 
-pub kept : (start : Output) (all more : List ℕ) (p : Progress) → HasTaken start all p → HasTaken start (all ++ more) (waiting_for p (p.waiting ++ more))
+pub kept : (start : Start) (all more : List ℕ) (p : Progress) → HasTaken start all p → HasTaken start (all ++ more) (waiting_for p (p.waiting ++ more))
 kept start all more p t = record {
   sent = t.sent;
   left = t.left ++ more;
   whole = ap (λ (x : List ℕ). x ++ more) t.whole ∙ append_assoc t.sent t.left more;
   given = t.given;
   count = t.count;
+  skip = t.skip;
+  passed = t.passed;
   failures = t.failures;
   waits = λ e. ap (λ (x : List ℕ). x ++ more) (t.waits e);
   lost = λ e. longer t.left more (t.lost e);
@@ -59,18 +66,24 @@ drop_none n [] le = grind (arith, common_steps)
 drop_none n (x ∷ xs) le = grind (arith, common_steps)
 
 -- all that waits and these bytes are offered to a target that has not failed
-pub offered : (start o : Output) (all more : List ℕ) (n : ℕ) (p : Progress) → p.failed ≡ false → HasTaken start all p → Offered p.output (p.waiting ++ more) n o
-    → HasTaken start (all ++ more) (record { output = o; waiting = []; taken = min (p.taken + n) (2 ^ 64 - 1); failed = nat_lt n (length (p.waiting ++ more)); lender = p.lender })
+pub offered : (start : Start) (o : Output) (all more : List ℕ) (n : ℕ) (p : Progress) → p.failed ≡ false → HasTaken start all p → Continued p.skip p.output (p.waiting ++ more) n o
+    → HasTaken start (all ++ more) (record { output = o; waiting = []; taken = min (p.taken + n) (2 ^ 64 - 1); skip = p.skip - n; failed = nat_lt n (length (p.waiting ++ more)); lender = p.lender })
 offered start o all more n p sound t r =
     let bytes : List ℕ = p.waiting ++ more in
+    let parted : (sent : List ℕ) (n : ℕ) → p.skip ≡ start.skip - length sent → drop start.skip (sent ++ take n bytes) ≡ drop start.skip sent ++ take (n - p.skip) (drop p.skip bytes) = λ sent n e. drop_both start.skip sent (take n bytes) ∙ ap (λ (x : List ℕ). drop start.skip sent ++ x) (ap (λ (k : ℕ). drop k (take n bytes)) (sym e) ∙ sym (rest_taken p.skip n bytes)) in
     let long : length (t.sent ++ take n bytes) ≡ length t.sent + n = omega (arith, length-append t.sent (take n bytes), length-take-le n bytes r.bound) in
     record {
       sent = t.sent ++ take n bytes;
       left = drop n bytes;
       whole = ap (λ (x : List ℕ). x ++ more) t.whole ∙ append_assoc t.sent t.left more ∙ rw (t.waits sound) (ap (λ (x : List ℕ). t.sent ++ x) (sym (take-append-drop n bytes)) ∙ sym (append_assoc t.sent (take n bytes) (drop n bytes)));
-      given = appends_then start.given p.output.given o.given t.sent (take n bytes) t.given r.given;
+      given = subst (λ (x : List ℕ). Appends start.output.given o.given x) (sym (parted t.sent n t.skip)) (appends_then start.output.given p.output.given o.given (drop start.skip t.sent) (take (n - p.skip) (drop p.skip bytes)) t.given r.offered.given);
       count = omega (arith, long, t.count);
-      failures = r.failures ∙ ap (counted (nat_lt n (length bytes))) (t.failures ∙ ap (λ (b : Bool). counted b start.failures) sound);
+      skip = omega (arith, long, t.skip);
+      passed = λ e. elim (cases_lt n (length bytes)) [
+        | inl lt ↦ omega (arith, long, t.skip, r.from, lt)
+        | inr le ↦ let both : false ≡ true = sym (le-ltb n (length bytes) le) ∙ e in absurd cc
+      ];
+      failures = r.offered.failures ∙ ap (λ (k : ℕ). counted (nat_lt (n - p.skip) k) p.output.failures) (length-drop p.skip bytes) ∙ ap (λ (b : Bool). counted b p.output.failures) (stops_alike p.skip n (length bytes) r.from) ∙ ap (counted (nat_lt n (length bytes))) (t.failures ∙ ap (λ (b : Bool). counted b start.output.failures) sound);
       waits = λ e. elim (cases_lt n (length bytes)) [
         | inl lt ↦ let both : false ≡ true = sym e ∙ lt-ltb n (length bytes) lt in absurd cc
         | inr le ↦ drop_none n bytes le
@@ -83,25 +96,25 @@ offered start o all more n p sound t r =
 
 -- ---- as calls leave it
 
-abbrev progress : Output → (waiting : List ℕ) → (taken : ℕ) → (failed : Bool) → (lender : ℕ) → Progress
-progress o waiting taken failed lender = record { output = o; waiting = waiting; taken = taken; failed = failed; lender = lender }
+abbrev progress : Output → (waiting : List ℕ) → (taken skip : ℕ) → (failed : Bool) → (lender : ℕ) → Progress
+progress o waiting taken skip failed lender = record { output = o; waiting = waiting; taken = taken; skip = skip; failed = failed; lender = lender }
 
 -- the bytes that wait, k many, were offered
-pub flushes : (o o' : Output) (waiting : List ℕ) (taken taken' n k lender : ℕ) (failed : Bool) → failed ≡ false → k ≡ length waiting → taken' ≡ min (taken + n) (2 ^ 64 - 1) → Offered o waiting n o'
-    → Puts (progress o waiting taken failed lender) [] (progress o' [] taken' (nat_lt n k) lender)
-flushes o o' waiting taken taken' n k lender failed sound long more r =
-    let old = progress o waiting taken failed lender in
+pub flushes : (o o' : Output) (waiting : List ℕ) (taken taken' skip skip' n k lender : ℕ) (failed : Bool) → failed ≡ false → k ≡ length waiting → taken' ≡ min (taken + n) (2 ^ 64 - 1) → skip' ≡ skip - n → Continued skip o waiting n o'
+    → Puts (progress o waiting taken skip failed lender) [] (progress o' [] taken' skip' (nat_lt n k) lender)
+flushes o o' waiting taken taken' skip skip' n k lender failed sound long more less r =
+    let old = progress o waiting taken skip failed lender in
     let same : waiting ++ [] ≡ waiting = append-nil waiting in
     record {
-      taken = λ start all t. rw (long, more) (subst (λ (w : List ℕ). HasTaken start (all ++ []) (progress o' [] (min (taken + n) (2 ^ 64 - 1)) (nat_lt n (length w)) lender)) same (offered start o' all [] n old sound t (rw same r)));
+      taken = λ start all t. rw (long, more, less) (subst (λ (w : List ℕ). HasTaken start (all ++ []) (progress o' [] (min (taken + n) (2 ^ 64 - 1)) (skip - n) (nat_lt n (length w)) lender)) same (offered start o' all [] n old sound t (rw same r)));
       lender = refl;
     }
 
 -- these bytes were offered, where nothing waited
-pub passes : (o o' : Output) (waiting waiting' bytes : List ℕ) (taken taken' n lender : ℕ) (failed : Bool) → failed ≡ false → waiting ≡ [] → waiting' ≡ [] → taken' ≡ min (taken + n) (2 ^ 64 - 1) → Offered o bytes n o'
-    → Puts (progress o waiting taken failed lender) bytes (progress o' waiting' taken' (nat_lt n (length bytes)) lender)
-passes o o' waiting waiting' bytes taken taken' n lender failed sound none none' more r =
-    rw (none, none', more) (record { taken = λ start all t. offered start o' all bytes n (progress o [] taken failed lender) sound t r; lender = refl })
+pub passes : (o o' : Output) (waiting waiting' bytes : List ℕ) (taken taken' skip skip' n lender : ℕ) (failed : Bool) → failed ≡ false → waiting ≡ [] → waiting' ≡ [] → taken' ≡ min (taken + n) (2 ^ 64 - 1) → skip' ≡ skip - n → Continued skip o bytes n o'
+    → Puts (progress o waiting taken skip failed lender) bytes (progress o' waiting' taken' skip' (nat_lt n (length bytes)) lender)
+passes o o' waiting waiting' bytes taken taken' skip skip' n lender failed sound none none' more less r =
+    rw (none, none', more, less) (record { taken = λ start all t. offered start o' all bytes n (progress o [] taken skip failed lender) sound t r; lender = refl })
 
 -- nothing was offered, after a fault
 pub drops : (p : Progress) (bytes waiting : List ℕ) → p.failed ≡ true → Puts p bytes (waiting_for p waiting)

@@ -1,5 +1,5 @@
 -- What becomes of a frame that is to be written.
-use Rattle.std.specs.Prelude.{◌≡◌, ◌<◌, ◌++◌, ℕ, List, length, None, Some, Result, Ok, Err}
+use Rattle.std.specs.Prelude.{◌≡◌, ◌<◌, ◌≤◌, ◌-◌, ◌++◌, ℕ, List, length, drop, min, None, Some, Result, Ok, Err}
 use Rattle.cqlp_note.specs.Heading.{header_bytes}
 use Rattle.cqlp_note.specs.Outputs.{Output, Offered}
 use Rattle.cqlp_message.specs.FrameValues.{FrameValue}
@@ -7,6 +7,13 @@ use Rattle.cqlp_message.specs.Parts.{parts_bytes}
 use Rattle.cqlp_message.specs.Frames.{frame_parts, header_of, unfit_of, frame_size, frame_bytes}
 use Rattle.cqlp_encode.specs.declared.writing.EncodeError.{EncodeError}
 use Rattle.cqlp_encode.specs.declared.writing.EncodeError.TheVariants as error
+
+-- The target has the first of these bytes, this many, from before. It took those after them up to the first n, and failed
+-- where these are not all.
+pub record Continued (before : ℕ) (old : Output) (bytes : List ℕ) (n : ℕ) (new : Output) : Type 0 where
+  pub bound : n ≤ length bytes
+  pub from : min before (length bytes) ≤ n
+  pub offered : Offered old (drop before bytes) (n - before) new
 
 -- a frame's header, where its body has this length, and then its parts
 abbrev pub header_and_parts : FrameValue → (length : ℕ) → List ℕ
@@ -23,3 +30,10 @@ Encodes f old (Ok n) new = CanBeWritten f × (n ≡ frame_size f 0) × Offered o
 Encodes f old (Err (error.Unfit why)) new = (unfit_of f ≡ Some why) × (new ≡ old)
 Encodes f old (Err (error.Write n)) new =
     CanBeWritten f × (n < frame_size f 0) × Offered old (frame_bytes f) n new
+
+-- The same of a frame of which the target has the first bytes, this many, from before: the answers count these too.
+abbrev pub EncodesFrom : FrameValue → (before : ℕ) → (old : Output) → Result ℕ EncodeError → (new : Output) → Type 0
+EncodesFrom f before old (Ok n) new = CanBeWritten f × (n ≡ frame_size f 0) × Continued before old (frame_bytes f) n new
+EncodesFrom f before old (Err (error.Unfit why)) new = (unfit_of f ≡ Some why) × (new ≡ old)
+EncodesFrom f before old (Err (error.Write n)) new =
+    CanBeWritten f × (n < frame_size f 0) × Continued before old (frame_bytes f) n new

@@ -1,5 +1,6 @@
 -- The laws of the encoder.
-use Rattle.std.specs.Prelude.{◌≡◌, ℕ, List, [], IsSome, Option, Result, Ok, Err, ⊤}
+use Rattle.std.specs.Prelude.{◌≡◌, ℕ, None, List, [], ◌∷◌, length, take, IsSome, IfOk, Option, Result, Ok, Err, ⊤}
+use Rattle.std.specs.Io.KnownBytes.{Appends}
 use Rattle.cqlp_note.specs.declared.field.Notation.TheVariants as notation
 use Rattle.cqlp_note.specs.Field as note
 use Rattle.cqlp_note.specs.Outputs.{Output}
@@ -7,11 +8,12 @@ use Rattle.cqlp_note.specs.Spelling.{field_bytes}
 use Rattle.cqlp_type.specs.declared.tree.TypeTree.{TypeTree}
 use Rattle.cqlp_value.specs.declared.value.Value.{Value}
 use Rattle.cqlp_value.specs.Owned.{value_of}
-use Rattle.cqlp_value.specs.Values.{Values, values_bytes}
+use Rattle.cqlp_value.specs.Values.{Values, values_bytes, values_size}
 use Rattle.cqlp_message.specs.declared.request.OwnedBound.{OwnedBound}
 use Rattle.cqlp_message.specs.declared.frame.Frame.{Frame}
 use Rattle.cqlp_message.specs.FrameValues.{FrameValue}
 use Rattle.cqlp_message.specs.Owned.{bound_of, frame_of}
+use Rattle.cqlp_message.specs.Frames.{frame_bytes}
 use Rattle.cqlp_message.specs.Pages.{with_cells}
 use Rattle.cqlp_encode.specs.declared.writing.EncodeError.{EncodeError}
 use Rattle.cqlp_encode.specs.declared.writing.EncodeError.TheVariants as error
@@ -19,12 +21,13 @@ use Rattle.cqlp_encode.specs.declared.page_writer.PageError.{PageError}
 use Rattle.cqlp_encode.specs.declared.page_writer.PageError.TheVariants as page_error
 use Rattle.cqlp_encode.specs.declared.value_writing.ValueError.{ValueError}
 use Rattle.cqlp_encode.specs.declared.value_writing.ValueError.TheVariants as value_error
-use Rattle.cqlp_encode.specs.Encoding.{Encodes}
+use Rattle.cqlp_encode.specs.Encoding.{Encodes, EncodesFrom}
 use Rattle.cqlp_encode.specs.ValueWriting.{WritesValue}
 use Rattle.cqlp_encode.specs.declared.binding.BindError.{BindError}
 use Rattle.cqlp_encode.specs.declared.binding.BindError.TheVariants as bind_error
 use Rattle.cqlp_encode.specs.Binding.{IsBound, IsRaw, Makes, bound_written, raw_written}
-use Rattle.cqlp_encode.specs.PageWriting.{PageState, Begins, Adds, AddsAll, Finishes}
+use Rattle.cqlp_encode.specs.PageWriting.{PageState, Begins, BeginsFrom, Adds, AddsAll, AddsRest, GoesOn, Finishes}
+use Rattle.cqlp_encode.specs.PageWriting.{After, cell_error, one_more}
 
 -- how many bytes the target took
 abbrev pub taken : Result ℕ EncodeError → ℕ
@@ -38,6 +41,27 @@ abbrev pub OneAnswerOfEncode : Type 0
 OneAnswerOfEncode =
     (f : FrameValue) (old new new' : Output) (r r' : Result ℕ EncodeError) → IsSome old.given
     → Encodes f old r new → Encodes f old r' new' → taken r' ≡ taken r → (r' ≡ r) × (new' ≡ new)
+
+-- The same of a frame that is gone on with.
+abbrev pub OneAnswerOfEncodeFrom : Type 0
+OneAnswerOfEncodeFrom =
+    (f : FrameValue) (before : ℕ) (old new new' : Output) (r r' : Result ℕ EncodeError) → IsSome old.given
+    → EncodesFrom f before old r new → EncodesFrom f before old r' new' → taken r' ≡ taken r → (r' ≡ r) × (new' ≡ new)
+
+-- Attempts at one frame, each of which goes on where the one before stopped: where each stopped and how it left the
+-- target, and then what the last answers.
+abbrev pub Attempts :
+    FrameValue → (before : ℕ) → (old : Output) → List (ℕ × Output) → Result ℕ EncodeError → (new : Output) → Type 0
+Attempts f before old [] r new = EncodesFrom f before old r new
+Attempts f before old (stop ∷ stops) r new =
+    EncodesFrom f before old (Err (error.Write stop.0)) stop.1 × Attempts f stop.0 stop.1 stops r new
+
+-- Over all attempts together the target got the first bytes of the frame, as many as the last answer says, each once and
+-- in order; and all of them where it is Ok.
+abbrev pub AttemptsAreOne : Type 0
+AttemptsAreOne =
+    (f : FrameValue) (old new : Output) (stops : List (ℕ × Output)) (r : Result ℕ EncodeError) → Attempts f 0 old stops r new
+    → Appends old.given new.given (take (taken r) (frame_bytes f)) × IfOk r (λ n. n ≡ length (frame_bytes f))
 
 -- The same of a value that is written.
 abbrev pub value_taken : Result ℕ ValueError → ℕ
@@ -100,6 +124,28 @@ OneAnswerOfCell =
     (p q q' : PageState) (cells : List Values) (v : Values) (old new new' : Output) (r r' : Result ⊤ PageError)
     → IsSome old.given → Adds p cells v old r new q → Adds p cells v old r' new' q' → q'.written ≡ q.written
     → (r' ≡ r) × (new' ≡ new) × (q' ≡ q)
+
+-- The same of a page whose beginning is gone on with, and of a cell that is.
+abbrev pub OneAnswerOfBeginFrom : Type 0
+OneAnswerOfBeginFrom =
+    (f : Frame) (n before : ℕ) (old new new' : Output) (r r' : Result PageState PageError) → IsSome old.given
+    → BeginsFrom f n before old r new → BeginsFrom f n before old r' new' → head_taken r' ≡ head_taken r
+    → (r' ≡ r) × (new' ≡ new)
+
+abbrev pub OneAnswerOfGoOn : Type 0
+OneAnswerOfGoOn =
+    (p q q' : PageState) (cells : List Values) (v : Values) (old new new' : Output) (r r' : Result ⊤ PageError)
+    → IsSome old.given → AddsRest p cells v old r new q → AddsRest p cells v old r' new' q' → q'.written ≡ q.written
+    → (r' ≡ r) × (new' ≡ new) × (q' ≡ q)
+
+-- A cell within which `cell` stopped, and then `go_on` however often, until it was Ok: the target got the cell's bytes,
+-- each once and in order, and the writer is where `cell` leaves it that does not stop.
+abbrev pub CellIsWhole : Type 0
+CellIsWhole =
+    (p q q' : PageState) (n k : ℕ) (cells : List Values) (v : Values) (old mid new : Output)
+    (stops : List (ℕ × Output × PageState)) → After p n cells → cell_error p cells v ≡ None
+    → Adds p cells v old (Err (page_error.Write k)) mid q → GoesOn q cells v mid stops (Ok tt) new q'
+    → Appends old.given new.given (values_bytes v) × (q' ≡ one_more p (values_size v))
 
 -- There is one answer to whether a page is done.
 abbrev pub OneAnswerOfFinish : Type 0

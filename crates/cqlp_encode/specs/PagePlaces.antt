@@ -7,13 +7,16 @@ use Rattle.cqlp_encode.specs.declared.page_writer.PageError.{PageError}
 use Rattle.cqlp_encode.specs.PageWriting.{PageState, page, cell_error}
 
 -- After whole rows, and the cells of one that come before this column, the others are still to come. No more bytes are
--- still to come than a body can have, and with those that targets took they are no more than a frame can have.
+-- still to come than a body can have, and with those that targets took, but for those of a cell in which one failed, they
+-- are no more than a frame can have.
 pub record IsPlace (p : PageState) (at : ℕ) : Type 0 where
   pub row : ℕ
   pub cells : row * page_columns (page p).message + at + p.left ≡ cells_wanted (page p).message
   pub column : 0 < p.left → at < page_columns (page p).message
   pub free : p.free ≤ LONGEST_BODY
-  pub bounded : p.failed ≡ false → p.written + p.free ≤ 9 + LONGEST_BODY
+  pub bounded : p.written + p.free ≤ 9 + LONGEST_BODY + p.cut
+  pub cut : p.cut ≤ p.written
+  pub uncut : p.failed ≡ false → p.cut ≡ 0
 
 -- What a check of the next cell answers: how many bytes it has, or why the value is not it.
 abbrev pub Checks : PageState → List Values → Values → Result ℕ PageError → Type 0

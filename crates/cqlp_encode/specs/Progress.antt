@@ -1,38 +1,47 @@
 -- What was written of a frame.
-use Rattle.std.specs.Prelude.{◌≡◌, ◌≢◌, ◌-◌, ◌^◌, ◌≤◌, ℕ, Bool, true, false, List, [], ◌++◌, length, min}
+use Rattle.std.specs.Prelude.{◌≡◌, ◌≢◌, ◌-◌, ◌^◌, ◌≤◌, ℕ, Bool, true, false, List, [], ◌++◌, length, drop, min}
 use Rattle.std.specs.Io.KnownBytes.{Appends}
 use Rattle.cqlp_note.specs.Streams.{counted}
 use Rattle.cqlp_note.specs.Outputs.{Output}
 use Rattle.cqlp_note.specs.declared.header.TheConstants.Header.{LONGEST_BODY}
 use Rattle.cqlp_message.specs.Parts.{Part, parts_size, parts_bytes}
 
--- What a target was given, the bytes that wait to be passed on, how many bytes the target took, up to 2^64 - 1, and
--- whether it failed; and the name of the borrow through which it is given them.
+-- Where a target stood, and how many of the bytes to come it has from before.
+pub record Start : Type 0 where
+  pub output : Output
+  pub skip : ℕ
+
+-- What a target was given, the bytes that wait to be passed on, how many bytes the target took or had from before, up to
+-- 2^64 - 1, how many it still has from before, and whether it failed; and the name of the borrow through which it is given
+-- them.
 pub record Progress : Type 0 where
   pub output : Output
   pub waiting : List ℕ
   pub taken : ℕ
+  pub skip : ℕ
   pub failed : Bool
   pub lender : ℕ
 
-abbrev pub begun : Output → (lender : ℕ) → Progress
-begun o lender = record { output = o; waiting = []; taken = 0; failed = false; lender = lender }
+abbrev pub begun : Start → (lender : ℕ) → Progress
+begun s lender = record { output = s.output; waiting = []; taken = 0; skip = s.skip; failed = false; lender = lender }
 
--- From where a target stood so, it took some of these bytes, in order, and the others wait; or it failed once, and the
--- others are lost.
-pub record HasTaken (start : Output) (all : List ℕ) (p : Progress) : Type 0 where
+-- From where a target stood so, it took some of these bytes, in order, but for those that it had from before, and the
+-- others wait; or it failed once, and the others are lost.
+pub record HasTaken (start : Start) (all : List ℕ) (p : Progress) : Type 0 where
   pub sent : List ℕ
   pub left : List ℕ
   pub whole : all ≡ sent ++ left
-  pub given : Appends start.given p.output.given sent
+  pub given : Appends start.output.given p.output.given (drop start.skip sent)
   pub count : p.taken ≡ min (length sent) (2 ^ 64 - 1)
-  pub failures : p.output.failures ≡ counted p.failed start.failures
+  pub skip : p.skip ≡ start.skip - length sent
+  pub passed : p.failed ≡ true → start.skip ≤ length sent
+  pub failures : p.output.failures ≡ counted p.failed start.output.failures
   pub waits : p.failed ≡ false → left ≡ p.waiting
   pub lost : p.failed ≡ true → left ≢ []
 
 -- These bytes are taken after all before them.
 pub record Puts (old : Progress) (bytes : List ℕ) (new : Progress) : Type 0 where
-  pub taken : (start : Output) (all : List ℕ) → HasTaken start all old → HasTaken start (all ++ bytes) new
+  pub taken : (start : Start) (all : List ℕ) → HasTaken start all old → HasTaken start (all ++ bytes) new
   pub lender : new.lender ≡ old.lender
 
 -- The same of this many bytes, if a body can have as many.
@@ -42,12 +51,12 @@ pub record PutsWithin (size : ℕ) (old : Progress) (bytes : List ℕ) (new : Pr
 
 -- What was there before the parts of a frame: where the target stood, what was taken first, and the name of the borrow.
 pub record Before : Type 0 where
-  pub output : Output
+  pub start : Start
   pub front : List ℕ
   pub lender : ℕ
 
 -- These parts were taken after that, if a body can have as many bytes; and they have as many as their sizes say.
 pub record HasTakenParts (before : Before) (p : Progress) (parts : List Part) : Type 0 where
   pub size : length (parts_bytes parts) ≡ parts_size parts
-  pub taken : parts_size parts ≤ LONGEST_BODY → HasTaken before.output (before.front ++ parts_bytes parts) p
+  pub taken : parts_size parts ≤ LONGEST_BODY → HasTaken before.start (before.front ++ parts_bytes parts) p
   pub lender : p.lender ≡ before.lender

@@ -1,11 +1,24 @@
 //! The laws of the encoder.
 
-ghost use Rattle.cqlp_encode.specs.Laws.{BoundIsAsWritten, OneAnswerOfBegin, OneAnswerOfBindValue, OneAnswerOfCell, OneAnswerOfEncode};
+ghost use Rattle.cqlp_encode.specs.Laws.{AttemptsAreOne, BoundIsAsWritten, CellIsWhole, OneAnswerOfBegin, OneAnswerOfBeginFrom};
+ghost use Rattle.cqlp_encode.specs.Laws.{OneAnswerOfBindValue, OneAnswerOfCell, OneAnswerOfGoOn};
+ghost use Rattle.cqlp_encode.specs.Laws.{OneAnswerOfEncode, OneAnswerOfEncodeFrom};
 ghost use Rattle.cqlp_encode.specs.Laws.{OneAnswerOfFinish, OneAnswerOfRawValue, OneAnswerOfWriteValue, PageIsAsEncoded};
 
 /// One answer of [`encode`](crate::encode) meets its clause, given how many bytes the target took.
 pub fn one_answer_of_encode()
     ensures { OneAnswerOfEncode }
+{}
+
+/// One answer of [`encode_from`](crate::encode_from) meets its clause, given how many bytes the target took.
+pub fn one_answer_of_encode_from()
+    ensures { OneAnswerOfEncodeFrom }
+{}
+
+/// Over all calls of [`encode_from`](crate::encode_from) for one frame and one target, each with as many bytes before as the last one said,
+/// the target got the first bytes of the frame, each once and in order, and all of them once a call is Ok.
+pub fn attempts_are_one()
+    ensures { AttemptsAreOne }
 {}
 
 /// One answer of [`write_value`](crate::write_value) meets its clause, given how many bytes the target took.
@@ -37,6 +50,24 @@ pub fn one_answer_of_begin()
 /// target took. It is so with [`PageWriter::cell_as`](crate::PageWriter::cell_as), whose clause is the same of another cell.
 pub fn one_answer_of_cell()
     ensures { OneAnswerOfCell }
+{}
+
+/// One answer of [`PageWriter::begin_from`](crate::PageWriter::begin_from) meets its clause, given how many bytes the target took.
+pub fn one_answer_of_begin_from()
+    ensures { OneAnswerOfBeginFrom }
+{}
+
+/// One answer of [`PageWriter::go_on`](crate::PageWriter::go_on) meets its clause, and leaves one state, given how many bytes the
+/// target took. It is so with [`PageWriter::go_on_as`](crate::PageWriter::go_on_as).
+pub fn one_answer_of_go_on()
+    ensures { OneAnswerOfGoOn }
+{}
+
+/// Where [`PageWriter::cell`](crate::PageWriter::cell) stops within a cell, and [`PageWriter::go_on`](crate::PageWriter::go_on) goes on
+/// with it until it is Ok, the target has got the bytes of the cell, each once and in order, and the writer is where a call of
+/// `cell` leaves it that does not stop.
+pub fn cell_is_whole()
+    ensures { CellIsWhole }
 {}
 
 /// One answer of [`PageWriter::finish`](crate::PageWriter::finish) meets its clause.

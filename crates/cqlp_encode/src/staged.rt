@@ -2,6 +2,7 @@
 
 ghost use Rattle.std.specs.Prelude.{◌≡◌, ◌+◌, ◌≤◌, ◌++◌, [], length, min, ◌-◌, ◌^◌};
 ghost use Rattle.cqlp_note.specs.Outputs.{written};
+ghost use Rattle.cqlp_encode.specs.Encoding.{Continued};
 ghost use Rattle.cqlp_encode.specs.Progress.{Puts, begun};
 
 use cqlp_note::{Target, offer};
@@ -17,8 +18,10 @@ pub struct Staged<'a, W: Target> {
     target: &'a mut W,
     buffer: [u8; ROOM],
     len: usize,
-    /// How many bytes the target took.
+    /// How many bytes the target took, or had from before.
     taken: u64,
+    /// How many of the bytes to come the target has from before.
+    skip: u64,
     failed: bool,
 }
 
@@ -33,6 +36,7 @@ impl<'a, W: Target> Model for Staged<'a, W> {
       output = written W.Target s.target.now;
       waiting = take s.len s.buffer;
       taken = s.taken;
+      skip = s.skip;
       failed = s.failed;
       lender = s.target.ghost_name;
     } };
@@ -41,20 +45,21 @@ impl<'a, W: Target> Model for Staged<'a, W> {
 }
 
 impl<'a, W: Target> Staged<'a, W> {
-    /// With nothing that waits.
-    pub fn new(target: &'a mut W) -> Self
-        ensures { result ≡ begun (written W.Target target.old) target.entry.ghost_name }
+    /// With nothing that waits. The target has the first of the bytes to come, this many, from before.
+    pub fn new(target: &'a mut W, skip: u64) -> Self
+        ensures { result ≡ begun (record { output = written W.Target target.old; skip = skip }) target.entry.ghost_name }
     {
         Staged {
             target,
             buffer: [0; ROOM],
             len: 0,
             taken: 0,
+            skip,
             failed: false,
         }
     }
 
-    /// How many bytes the target took, 2^64 - 1 where there are more.
+    /// How many bytes the target took or had from before, 2^64 - 1 where there are more.
     pub fn taken(&self) -> u64
         ensures { result ≡ self.now.taken }
     {
@@ -71,6 +76,7 @@ impl<'a, W: Target> Staged<'a, W> {
             buffer: _,
             len: _,
             taken: _,
+            skip: _,
             failed: _,
         } = self;
         target
@@ -108,7 +114,8 @@ impl<'a, W: Target> Staged<'a, W> {
         let len = self.len;
         self.len = 0;
         if !self.failed {
-            let count = offer(self.target, &self.buffer[..len]);
+            let count = offer_after(self.target, self.skip, &self.buffer[..len]);
+            self.skip = self.skip.saturating_sub(count as u64);
             self.taken = self.taken.saturating_add(count as u64);
             self.failed = count < len;
         }
@@ -120,7 +127,8 @@ impl<'a, W: Target> Staged<'a, W> {
         ensures { Puts self.old bytes.now self.new }
     {
         if !self.failed {
-            let count = offer(self.target, bytes);
+            let count = offer_after(self.target, self.skip, bytes);
+            self.skip = self.skip.saturating_sub(count as u64);
             self.taken = self.taken.saturating_add(count as u64);
             self.failed = count < bytes.len();
         }
@@ -136,4 +144,12 @@ impl<'a, W: Target> Staged<'a, W> {
         self.buffer[self.len..end].copy_from_slice(bytes);
         self.len = end;
     }
+}
+
+/// Passes bytes on, but for the first of them, this many, until the target fails, and answers how many of them it took or had from before.
+fn offer_after<W: Target>(target: &mut W, skip: u64, bytes: &[u8]) -> usize
+    ensures { Continued skip (written W.Target target.old) bytes.now result (written W.Target target.new) }
+{
+    let from = (bytes.len() as u64).min(skip) as usize;
+    from + offer(target, &bytes[from..])
 }

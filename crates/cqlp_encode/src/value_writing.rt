@@ -6,6 +6,7 @@ ghost use Rattle.cqlp_note.specs.Outputs.{Offered, written};
 ghost use Rattle.cqlp_value.specs.Owned.{value_of};
 ghost use Rattle.cqlp_value.specs.Values.{values_bytes, values_size};
 ghost use Rattle.cqlp_encode.specs.Binding.{content_written};
+ghost use Rattle.cqlp_encode.specs.Encoding.{Continued};
 ghost use Rattle.cqlp_encode.specs.ValueWriting.{WritesValue};
 
 use crate::staged::Staged;
@@ -54,7 +55,7 @@ pub fn write_value<W: Target>(
         return Err(ValueError::TooLong);
     }
     let len = size as u32;
-    let taken = offer_value(value, target);
+    let taken = offer_value(value, 0, target);
     if taken < len {
         Err(ValueError::Write { written: taken })
     } else {
@@ -62,12 +63,13 @@ pub fn write_value<W: Target>(
     }
 }
 
-/// Writes a value with its length, and answers how many bytes of it the target took.
-pub fn offer_value<W: Target>(value: &Value, target: &mut W) -> u32
+/// Writes a value with its length, but for its first bytes, `before` many, and answers how many of its bytes the target took or
+/// had from before.
+pub fn offer_value<W: Target>(value: &Value, before: u32, target: &mut W) -> u32
     requires { values_size (value_of value.now) ≤ LONGEST_BODY }
-    ensures { Offered (written W.Target target.old) (values_bytes (value_of value.now)) result (written W.Target target.new) }
+    ensures { Continued before (written W.Target target.old) (values_bytes (value_of value.now)) result (written W.Target target.new) }
 {
-    let mut out = Staged::new(target);
+    let mut out = Staged::new(target, u64::from(before));
     put_value(&mut out, value);
     out.flush();
     let taken = out.taken();
@@ -80,7 +82,7 @@ pub fn offer_content<W: Target>(value: &Value, target: &mut W) -> u32
     requires { values_size (value_of value.now) ≤ LONGEST_BODY }
     ensures { Offered (written W.Target target.old) (content_written (value_of value.now)) result (written W.Target target.new) }
 {
-    let mut out = Staged::new(target);
+    let mut out = Staged::new(target, 0);
     put_inside(&mut out, value);
     out.flush();
     let taken = out.taken();

@@ -14,4 +14,4 @@ mod writing;
 pub use binding::{BindError, bind_value, raw_value};
 pub use page_writer::{PageError, PageWriter};
 pub use value_writing::{ValueError, write_value};
-pub use writing::{EncodeError, encode};
+pub use writing::{EncodeError, encode, encode_from};

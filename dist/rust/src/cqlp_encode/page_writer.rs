@@ -51,6 +51,8 @@ pub struct PageWriter<'a> {
     written: u32,
     /// Whether a target failed.
     failed: bool,
+    /// How many bytes targets took of the cell in which one failed; 0 where none has.
+    cut: u32,
 }
 
 impl<'a> PageWriter<'a> {
@@ -68,11 +70,27 @@ impl<'a> PageWriter<'a> {
         target: &mut W,
     ) -> Result<PageWriter<'a>, PageError>
     {
+        Self::begin_from(frame, cells_len, 0, target)
+    }
+
+    /// Goes on where an earlier call of [`begin`](Self::begin), or of this one, stopped: writes what comes before the first cell, but for
+    /// its first bytes, `before` many, which targets took. `before` is what [`PageError::Write`] says.
+    ///
+    /// # Errors
+    ///
+    /// Those of [`begin`](Self::begin); [`PageError::Write`] counts the bytes before, too.
+    pub fn begin_from<W: Target>(
+        frame: &'a Frame,
+        cells_len: u32,
+        before: u32,
+        target: &mut W,
+    ) -> Result<PageWriter<'a>, PageError>
+    {
         let page_len = match frame.page_measure(cells_len) {
             Ok(len) => len,
             Err(why) => return Err(PageError::Unfit(why)),
         };
-        let taken = write_parts(frame, page_len - 9, target);
+        let taken = write_parts(frame, page_len - 9, before, target);
         if taken < page_len - cells_len {
             return Err(PageError::Write { written: taken });
         }
@@ -83,6 +101,7 @@ impl<'a> PageWriter<'a> {
             free: cells_len,
             written: taken,
             failed: false,
+            cut: 0,
         })
     }
 
@@ -119,6 +138,37 @@ impl<'a> PageWriter<'a> {
         self.put(value, fits, target)
     }
 
+    /// Goes on with the cell in which an earlier call stopped: writes the bytes of the value behind those that targets took, and is then
+    /// where [`cell`](Self::cell) would be, had it not stopped. The value is to be that of the cell; of another one as much is written as it
+    /// has behind them. `laws::cell_is_whole` says that all bytes of the cell are there then, each once.
+    ///
+    /// # Errors
+    ///
+    /// In this order, with nothing changed: [`PageError::OutOfTurn`] where no call stopped within a cell; [`PageError::Unfit`] and
+    /// [`PageError::PastLength`] as [`cell`](Self::cell) says them; [`PageError::OutOfTurn`] where the value has no more bytes than targets
+    /// took. Then [`PageError::Write`] at the first call of the target that fails or takes nothing; this may be called again.
+    pub fn go_on<W: Target>(&mut self, value: &Value, target: &mut W) -> Result<(), PageError>
+    {
+        let fits = self.frame.fits_column(self.column, value);
+        self.put_rest(value, fits, target)
+    }
+
+    /// The same of a cell that [`cell_as`](Self::cell_as) writes.
+    ///
+    /// # Errors
+    ///
+    /// Those of [`go_on`](Self::go_on); [`PageError::Unfit`] as [`cell_as`](Self::cell_as) says it.
+    pub fn go_on_as<W: Target>(
+        &mut self,
+        value: &Value,
+        of: &TypeTree,
+        target: &mut W,
+    ) -> Result<(), PageError>
+    {
+        let fits = fits_untold(&self.frame.message, value, of);
+        self.put_rest(value, fits, target)
+    }
+
     /// How many bytes the frame has, with all its cells, all of which the targets of the calls took: where they were several, all
     /// together. It writes nothing, and may be called again.
     ///
@@ -143,7 +193,7 @@ impl<'a> PageWriter<'a> {
     fn put<W: Target>(&mut self, value: &Value, fits: bool, target: &mut W) -> Result<(), PageError>
     {
         let size = self.check(value, fits)?;
-        let taken = offer_value(value, target);
+        let taken = offer_value(value, 0, target);
         if taken < size {
             self.fail(taken);
             return Err(PageError::Write {
@@ -152,6 +202,49 @@ impl<'a> PageWriter<'a> {
         }
         self.count(size);
         Ok(())
+    }
+
+    /// Writes what targets have not taken of the cell in which one failed, if it is a value that fits.
+    fn put_rest<W: Target>(
+        &mut self,
+        value: &Value,
+        fits: bool,
+        target: &mut W,
+    ) -> Result<(), PageError>
+    {
+        if !self.failed {
+            return Err(PageError::OutOfTurn);
+        }
+        let mut writer = self.before_cut();
+        let size = writer.check(value, fits)?;
+        if size <= self.cut {
+            return Err(PageError::OutOfTurn);
+        }
+        let taken = offer_value(value, self.cut, target);
+        if taken < size {
+            writer.fail(taken);
+            *self = writer;
+            return Err(PageError::Write {
+                written: self.written,
+            });
+        }
+        writer.count(size);
+        *self = writer;
+        Ok(())
+    }
+
+    /// The writer as it was before the cell in which a target failed.
+    fn before_cut(&self) -> PageWriter<'a>
+    {
+        PageWriter {
+            frame: self.frame,
+            left: self.left,
+            column: self.column,
+            free: self.free,
+            written: self.written - self.cut,
+            failed: false,
+            cut: 0,
+        }
     }
 
     /// How many bytes the next cell has, or why the value is not it.
@@ -191,6 +284,7 @@ impl<'a> PageWriter<'a> {
     {
         self.written += taken;
         self.failed = true;
+        self.cut = taken;
     }
 }
 

@@ -12,25 +12,28 @@ pub struct Staged<'a, W: Target> {
     target: &'a mut W,
     buffer: [u8; ROOM],
     len: usize,
-    /// How many bytes the target took.
+    /// How many bytes the target took, or had from before.
     taken: u64,
+    /// How many of the bytes to come the target has from before.
+    skip: u64,
     failed: bool,
 }
 
 impl<'a, W: Target> Staged<'a, W> {
-    /// With nothing that waits.
-    pub fn new(target: &'a mut W) -> Self
+    /// With nothing that waits. The target has the first of the bytes to come, this many, from before.
+    pub fn new(target: &'a mut W, skip: u64) -> Self
     {
         Staged {
             target,
             buffer: [0; ROOM],
             len: 0,
             taken: 0,
+            skip,
             failed: false,
         }
     }
 
-    /// How many bytes the target took, 2^64 - 1 where there are more.
+    /// How many bytes the target took or had from before, 2^64 - 1 where there are more.
     pub fn taken(&self) -> u64
     {
         self.taken
@@ -44,6 +47,7 @@ impl<'a, W: Target> Staged<'a, W> {
             buffer: _,
             len: _,
             taken: _,
+            skip: _,
             failed: _,
         } = self;
         target
@@ -77,7 +81,8 @@ impl<'a, W: Target> Staged<'a, W> {
         let len = self.len;
         self.len = 0;
         if !self.failed {
-            let count = offer(self.target, &self.buffer[..len]);
+            let count = offer_after(self.target, self.skip, &self.buffer[..len]);
+            self.skip = self.skip.saturating_sub(count as u64);
             self.taken = self.taken.saturating_add(count as u64);
             self.failed = count < len;
         }
@@ -87,7 +92,8 @@ impl<'a, W: Target> Staged<'a, W> {
     fn pass_on(&mut self, bytes: &[u8])
     {
         if !self.failed {
-            let count = offer(self.target, bytes);
+            let count = offer_after(self.target, self.skip, bytes);
+            self.skip = self.skip.saturating_sub(count as u64);
             self.taken = self.taken.saturating_add(count as u64);
             self.failed = count < bytes.len();
         }
@@ -101,4 +107,11 @@ impl<'a, W: Target> Staged<'a, W> {
         self.buffer[self.len..end].copy_from_slice(bytes);
         self.len = end;
     }
+}
+
+/// Passes bytes on, but for the first of them, this many, until the target fails, and answers how many of them it took or had from before.
+fn offer_after<W: Target>(target: &mut W, skip: u64, bytes: &[u8]) -> usize
+{
+    let from = (bytes.len() as u64).min(skip) as usize;
+    from + offer(target, &bytes[from..])
 }

@@ -46,7 +46,7 @@ pub fn write_value<W: Target>(
         return Err(ValueError::TooLong);
     }
     let len = size as u32;
-    let taken = offer_value(value, target);
+    let taken = offer_value(value, 0, target);
     if taken < len {
         Err(ValueError::Write { written: taken })
     } else {
@@ -54,10 +54,11 @@ pub fn write_value<W: Target>(
     }
 }
 
-/// Writes a value with its length, and answers how many bytes of it the target took.
-pub(crate) fn offer_value<W: Target>(value: &Value, target: &mut W) -> u32
+/// Writes a value with its length, but for its first bytes, `before` many, and answers how many of its bytes the target took or
+/// had from before.
+pub(crate) fn offer_value<W: Target>(value: &Value, before: u32, target: &mut W) -> u32
 {
-    let mut out = Staged::new(target);
+    let mut out = Staged::new(target, u64::from(before));
     put_value(&mut out, value);
     out.flush();
     let taken = out.taken();
@@ -68,7 +69,7 @@ pub(crate) fn offer_value<W: Target>(value: &Value, target: &mut W) -> u32
 /// Writes what follows a value's length, and answers how many bytes of it the target took.
 pub(crate) fn offer_content<W: Target>(value: &Value, target: &mut W) -> u32
 {
-    let mut out = Staged::new(target);
+    let mut out = Staged::new(target, 0);
     put_inside(&mut out, value);
     out.flush();
     let taken = out.taken();

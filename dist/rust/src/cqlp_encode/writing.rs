@@ -29,11 +29,30 @@ pub enum EncodeError {
 /// [`EncodeError::Write`] at the first call of the target that fails or takes nothing.
 pub fn encode<W: Target>(frame: &Frame, target: &mut W) -> Result<u32, EncodeError>
 {
+    encode_from(frame, 0, target)
+}
+
+/// Goes on with a frame whose first bytes, `before` many, targets took in earlier calls: writes the others, and answers how many bytes the
+/// frame has. `before` is what [`EncodeError::Write`] of the call before says, and 0 in the first. So over all calls together each byte
+/// of the frame is written once, in order, up to where the last of them stopped: `laws::attempts_are_one`.
+/// Where `before` is as much as the frame has, or more, nothing is written.
+///
+/// The bytes before are made again and left out; it takes no memory.
+///
+/// # Errors
+///
+/// Those of [`encode`]; [`EncodeError::Write`] counts the bytes before, too.
+pub fn encode_from<W: Target>(
+    frame: &Frame,
+    before: u32,
+    target: &mut W,
+) -> Result<u32, EncodeError>
+{
     let len = match frame.measure() {
         Ok(len) => len,
         Err(why) => return Err(EncodeError::Unfit(why)),
     };
-    let taken = write_parts(frame, len - 9, target);
+    let taken = write_parts(frame, len - 9, before, target);
     if taken < len {
         Err(EncodeError::Write { written: taken })
     } else {
@@ -41,11 +60,12 @@ pub fn encode<W: Target>(frame: &Frame, target: &mut W) -> Result<u32, EncodeErr
     }
 }
 
-/// Writes a frame's header, where its body has this many bytes, and its parts, and answers how many bytes the target took.
-pub(crate) fn write_parts<W: Target>(frame: &Frame, body_len: u32, target: &mut W) -> u32
+/// Writes a frame's header, where its body has this many bytes, and its parts, but for their first bytes, `before` many, and
+/// answers how many of their bytes the target took or had from before.
+pub(crate) fn write_parts<W: Target>(frame: &Frame, body_len: u32, before: u32, target: &mut W) -> u32
 {
     let header = frame.header(body_len);
-    let mut out = Staged::new(target);
+    let mut out = Staged::new(target, u64::from(before));
     out.put(&header.write());
     frame.walk(&mut out);
     out.flush();

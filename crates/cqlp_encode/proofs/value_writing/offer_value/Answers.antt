@@ -10,11 +10,11 @@ pub overflow_cast-result : goal.overflow_cast-result
 overflow_cast-result g c =
     let value = rw c.new-out.ensures at c.put_value.ensures in
     let long : length (values_bytes (value_of c.args.value.now)) ≤ values_size (value_of c.args.value.now) = omega (arith, written_size (value_of c.args.value.now)) in
-    let sent = value_sent (written g.W.Target) c.args.target.now c.into_inner.result.now c.into_inner.result.now _ _ _ _ _ c.requires long value c.flush.ensures.puts c.flush.ensures.empty c.into_inner.ensures.output (λ e. refl) in
+    let sent = value_sent (written g.W.Target) c.args.target.now c.into_inner.result.now c.into_inner.result.now _ _ _ _ _ _ c.requires long value c.flush.ensures.puts c.flush.ensures.empty c.into_inner.ensures.output (λ e. refl) in
     omega (arith, sent.1, c.taken-taken.ensures)
 
 pub returns : goal.returns
 returns g c =
     let value = rw c.new-out.ensures at c.put_value.ensures in
     let long : length (values_bytes (value_of c.args.value.now)) ≤ values_size (value_of c.args.value.now) = omega (arith, written_size (value_of c.args.value.now)) in
-    rw c.taken-taken.ensures (value_offered (written g.W.Target) c.args.target.now c.into_inner.result.now _ _ _ _ _ _ c.requires long value c.flush.ensures.puts c.flush.ensures.empty c.into_inner.ensures.output (λ e. grind arith))
+    rw (c.taken-taken.ensures, ← c.from.ensures) (value_offered (written g.W.Target) c.args.target.now c.into_inner.result.now _ _ _ _ _ _ _ c.requires long value c.flush.ensures.puts c.flush.ensures.empty c.into_inner.ensures.output (λ e. grind arith))

@@ -1,29 +1,7 @@
-use Rattle.std.proofs.Common.{◌∙◌, sym, refl, arith}
+use Rattle.cqlp_note.specs.Outputs.{written}
 use Rattle.cqlp_message.specs.Owned.{frame_of}
-use Rattle.cqlp_message.proofs.Tallies.{none_where_measured, some_where_not, size_where_measured}
-use Rattle.cqlp_encode.proofs.FramesTaken.{lawful, frame_cut, frame_whole}
+use Rattle.cqlp_encode.proofs.FramesTaken.{from_start}
 use Rattle.cqlp_encode.proofs.writing.encode.Goals as goal
 
-pub returns-in-Err : goal.returns-in-Err
-returns-in-Err g c = (some_where_not _ _ _ (sym c.measure.ensures.is ∙ c.in-Err.is), refl)
-
-pub write_parts-taken-requires-clause-lawful : goal.write_parts-taken-requires-clause-lawful
-write_parts-taken-requires-clause-lawful g c =
-    let measured = sym c.measure.ensures.is ∙ c.in-Ok.is in
-    lawful _ _ (none_where_measured _ _ _ measured) (omega (arith, size_where_measured _ _ _ measured))
-
-pub write_parts-taken-requires-clause-size : goal.write_parts-taken-requires-clause-size
-write_parts-taken-requires-clause-size g c = omega (arith, size_where_measured _ _ _ (sym c.measure.ensures.is ∙ c.in-Ok.is))
-
-pub returns-then-taken-len : goal.returns-then-taken-len
-returns-then-taken-len g c =
-    let measured = sym c.measure.ensures.is ∙ c.in-Ok.is in
-    frame_cut (frame_of c.args.frame.now) _ _ c.in-Ok.len _ (none_where_measured _ _ _ measured) (size_where_measured _ _ _ measured) c.write_parts-taken.ensures.offered c.write_parts-taken.ensures.size c.if-taken-len.true
-
-pub returns-else-taken-len : goal.returns-else-taken-len
-returns-else-taken-len g c =
-    let measured = sym c.measure.ensures.is ∙ c.in-Ok.is in
-    frame_whole (frame_of c.args.frame.now) _ _ c.in-Ok.len c.write_parts-taken.result (none_where_measured _ _ _ measured) (size_where_measured _ _ _ measured) c.write_parts-taken.ensures.offered c.write_parts-taken.ensures.size c.if-taken-len.false
-
-pub overflow_sub-len : goal.overflow_sub-len
-overflow_sub-len g c = omega (arith, size_where_measured _ _ _ (sym c.measure.ensures.is ∙ c.in-Ok.is))
+pub returns : goal.returns
+returns g c = from_start (frame_of c.args.frame.now) (written g.W.Target c.args.target.now) (written g.W.Target c.encode_from.new.target) c.encode_from.result c.encode_from.ensures

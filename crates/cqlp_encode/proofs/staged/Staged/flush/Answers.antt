@@ -6,4 +6,4 @@ use Rattle.cqlp_encode.proofs.staged.Staged.flush.Goals as goal
 pub returns-then-not-self-clause-puts : goal.returns-then-not-self-clause-puts
 returns-then-not-self-clause-puts g c =
     let long = sym (length-take-le c.self.inside.len c.self.inside.buffer (omega (arith, c.self.told, c.self.invariant.0))) in
-    rw (← c.self.view_is) (flushes _ _ _ _ _ c.offer-count.result c.self.inside.len _ _ c.if-not-self.true long c.saturating_add-self-inside.ensures c.offer-count.ensures)
+    rw (← c.self.view_is) (flushes _ _ _ _ _ _ _ c.offer_after-count.result c.self.inside.len _ _ c.if-not-self.true long c.saturating_add-self-inside.ensures c.saturating_sub-self-inside.ensures c.offer_after-count.ensures)

@@ -1,0 +1,17 @@
+use Rattle.std.proofs.Common.{ℕ, List}
+use Rattle.cqlp_value.specs.Owned.{value_of}
+use Rattle.cqlp_value.specs.Values.{Values}
+use Rattle.cqlp_encode.specs.PagePlaces.{StandsFor}
+use Rattle.cqlp_encode.specs.PageWriting.{After}
+use Rattle.cqlp_encode.proofs.PageRests.{after_rest}
+use Rattle.cqlp_encode.proofs.PageSteps.{stands}
+use Rattle.cqlp_encode.proofs.page_writer.PageWriter.go_on.Goals as goal
+
+pub returns-clause-adds : goal.returns-clause-adds
+returns-clause-adds g c n cells a =
+    let v = value_of c.args.value.now in
+    let s : (n : ℕ) (cells : List Values) → After c.args.self.now n cells → StandsFor c.args.self.now cells c.fits_column-fits.result v v = rw (← c.self.view_is) (stands _ c.self.inside.column v _ c.self.invariant c.fits_column-fits.ensures) in
+    c.put_rest.ensures cells v (s n cells a)
+
+pub returns-clause-after : goal.returns-clause-after
+returns-clause-after g c n cells a = after_rest c.args.self.now n cells _ _ _ _ _ a (returns-clause-adds g c n cells a)

@@ -1,0 +1,19 @@
+use Rattle.std.proofs.Common.{ℕ, List}
+use Rattle.cqlp_value.specs.Owned.{value_of}
+use Rattle.cqlp_value.specs.Values.{Values}
+use Rattle.cqlp_encode.specs.PagePlaces.{StandsFor}
+use Rattle.cqlp_encode.specs.PageWriting.{After, page}
+use Rattle.cqlp_encode.specs.UntoldPages.{cell_of}
+use Rattle.cqlp_encode.proofs.PageRests.{after_rest}
+use Rattle.cqlp_encode.proofs.UntoldCells.{stands_untold}
+use Rattle.cqlp_encode.proofs.page_writer.PageWriter.go_on_as.Goals as goal
+
+pub returns-clause-adds : goal.returns-clause-adds
+returns-clause-adds g c n cells a =
+    let v = c.args.value.now in
+    let t = c.args.of.now in
+    let s : (n : ℕ) (cells : List Values) → After c.args.self.now n cells → StandsFor c.args.self.now cells c.fits_untold-fits.result (value_of v) (cell_of (page c.args.self.now) v t) = rw (← c.self.view_is) (stands_untold _ c.self.inside.column v t _ c.self.invariant c.fits_untold-fits.ensures) in
+    c.put_rest.ensures cells (cell_of (page c.args.self.now) v t) (s n cells a)
+
+pub returns-clause-after : goal.returns-clause-after
+returns-clause-after g c n cells a = after_rest c.args.self.now n cells _ _ _ _ _ a (returns-clause-adds g c n cells a)
