@@ -9,6 +9,7 @@ use Rattle.cqlp_options.specs.declared.options.Options.{Options}
 use Rattle.cqlp_options.specs.declared.options.Task.{Task}
 use Rattle.cqlp_options.specs.declared.options.Task.TheVariants as task
 use Rattle.cqlp_text.specs.declared.ending.Ending.TheVariants as ending
+use Rattle.cqlp_text.specs.Endings.{IsStatusOfTask}
 use Rattle.cqlp_text.specs.Outputs.{Output, with_text, StopsWithin}
 use Rattle.cqlp_text.specs.PageText.{no_page}
 use Rattle.cqlp_render.specs.declared.text_form.TextForm.TheVariants as forms
@@ -72,13 +73,15 @@ DoesTask task.Check limits before status after = ChecksAndReports limits turns b
 abbrev pub IsOfInput : Options → Type 0
 IsOfInput options = options.file.now ≡ codes "-"
 
--- What a command line does: a task with the input, or a conversation. What a file gives is not known.
+-- What a command line does: a task with the input, or a conversation. What a file gives is not known. Of a capture only the status is
+-- said here; what is told of its packets is what the contracts of cqlp_streams say.
 abbrev pub Executes : Result CommandLine NoTask
     → (before : Streams) → (status : ℕ) → (after : Streams) → Type 0
 Executes (Ok (line.Stream options)) before status after =
     IsOfInput options → DoesTask options.task options.limits before status after
 Executes (Ok (line.Loop queries)) before status after =
     ConversesAndReports queries before.out before.err status after.out after.err
+Executes (Ok (line.Capture options)) before status after = IsStatusOfTask status
 Executes (Err reason) before status after =
     Tells reason before.out before.err status after.out after.err
 
@@ -86,6 +89,7 @@ Executes (Err reason) before status after =
 abbrev pub NeedsNoInput : Result CommandLine NoTask → Type 0
 NeedsNoInput (Ok (line.Stream options)) = options.file.now ≢ codes "-"
 NeedsNoInput (Ok (line.Loop queries)) = Unit
+NeedsNoInput (Ok (line.Capture options)) = options.file.now ≢ codes "-"
 NeedsNoInput (Err reason) = Unit
 
 -- What a command line of these words does: without words it shows the input, and no status is greater than that of

@@ -152,6 +152,7 @@ module _ (before : Streams) (status status' : ℕ) (after after' : Streams) wher
       let reports : Reports a.0 before.err status' after'.err = subst (λ (r : Result (Unit {0}) LoopFault). Reports r before.err status' after'.err) one.0 (b.2 met.error.known) in
       let reported = reported_once a.0 before.err after.err after'.err status status' met.error.fails (a.2 met.error.known) reports in
       (reported.0, inl one.1, reported.1)
+  line_once (Ok (line.Capture options)) a b alike = absurd alike
   line_once (Err (no_task.Help text)) a b alike = helped_once before status status' after after' (string_bytes text) alike.fails alike.error.fails (a alike.known alike.error.known) (b alike.known alike.error.known)
   line_once (Err (no_task.Mistake text)) a b alike =
       let one = complained_once (string_bytes text) before.err after.err after'.err status status' alike.fails (a alike.known).1 (b alike.known).1 in

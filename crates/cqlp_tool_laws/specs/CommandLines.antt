@@ -127,7 +127,7 @@ LoopGoesOn = (queries : ℕ) (before : Streams) (status status' : ℕ) (after af
 -- ---- a command line
 
 -- To two executions of a command line, which names no file, the outside did the same: the input, both outputs, memory, the
--- turns, and the network.
+-- turns, and the network. A capture's streams go to files, of which nothing is said.
 module _ (before : Streams) (status status' : ℕ) (after after' : Streams) where
   abbrev pub AreMetAlike : (l : Result CommandLine NoTask) → Executes l before status after
       → Executes l before status' after' → Type 0
@@ -135,6 +135,7 @@ module _ (before : Streams) (status status' : ℕ) (after after' : Streams) wher
       (is : IsOfInput options) × (known : AreKnown before)
       × IsTaskMetAlike options.limits before status status' after after' options.task known (does is) (does' is)
   AreMetAlike (Ok (line.Loop queries)) does does' = AreLoopsMetAlike queries before status status' after after' does does'
+  AreMetAlike (Ok (line.Capture options)) does does' = ⊥
   AreMetAlike (Err (no_task.Help text)) does does' = AreOutputsMetAlike before after after'
   AreMetAlike (Err (no_task.Mistake text)) does does' = IsErrorMetAlike before after after'
   AreMetAlike (Err no_task.NoMemory) does does' = IsErrorMetAlike before after after'
