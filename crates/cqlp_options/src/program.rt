@@ -116,7 +116,7 @@ fn capture<'a>(alloc: Global) -> Result<Command<'a>, AllocError> {
             Arg::new(alloc, "file")
                 .value_name("FILE")
                 .required(true)
-                .help("The capture, a pcap file; - is standard input"),
+                .help("The capture, a pcap or pcapng file; - is standard input"),
         )?
         .arg(streams(alloc))?
         .arg(port(alloc))

@@ -3,7 +3,8 @@
 ghost use Rattle.std.specs.Prelude.{◌≡◌, ◌≢◌, ◌≤◌, IfOk, IsSome, codes};
 ghost use Rattle.cqlp_note.specs.Limits.{first_bad};
 ghost use Rattle.cqlp_options.specs.CommandLines.{IsWithin};
-ghost use Rattle.cqlp_options.specs.Ports.{AreWithin};
+ghost use Rattle.cqlp_options.specs.Ports.{AreWithin, named};
+ghost use Rattle.cqlp_tool.specs.Capturing.{IsCaptureOfInput, SplitsCapture, SplitsToFolder};
 ghost use Rattle.cqlp_tool.specs.CommandLines.{Complains, DoesTask, Executes, Helps, IsOfInput, NeedsNoInput, Performs};
 ghost use Rattle.cqlp_tool.specs.CommandLines.{ReportsFault, ReportsWrong, Tells};
 ghost use Rattle.cqlp_text.specs.Endings.{IsStatusOfTask, cannot_open_line as cannot_open_line_of};
@@ -115,6 +116,9 @@ fn capture<R: Files + AllocGlobal, I: Source, O: Target, E: Target>(
     err: E,
 ) -> (u8, O, E)
     requires { AreWithin options.ports }
+    ensures captures { let view = streams I.Source O.Target E.Target in
+        IsCaptureOfInput options.entry → SplitsCapture options.entry
+        (view input.old out err) result.0 (view input.new result.1 result.2) }
     ensures status { IsStatusOfTask result.0 }
     ensures untouched { options.entry.file.now ≢ codes "-" → input.new ≡ input.old }
 {
@@ -122,19 +126,41 @@ fn capture<R: Files + AllocGlobal, I: Source, O: Target, E: Target>(
         let (status, err) = cannot_open(options.streams, err);
         return (status, out, err);
     }
-    let heap = rt.alloc();
-    let ports = options.ports.as_slice();
-    let folder = Folder::new(rt, rt.alloc(), options.streams);
     if options.file == "-" {
-        return write_streams(&heap, ports, input, folder, out, err);
+        return split_to_folder(rt, &options, input, out, err);
     }
     match File::open(rt, options.file) {
-        Ok(file) => write_streams(&heap, ports, &mut OfStd::new(file), folder, out, err),
+        Ok(file) => split_to_folder(rt, &options, &mut OfStd::new(file), out, err),
         Err(_) => {
             let (status, err) = cannot_open(options.file, err);
             (status, out, err)
         }
     }
+}
+
+/// Splits a capture into the streams of its connections, whose files are made in the folder.
+fn split_to_folder<R: Files + AllocGlobal, I: Source, O: Target, E: Target>(
+    rt: &R,
+    options: &CaptureOptions<'_>,
+    input: &mut I,
+    out: O,
+    err: E,
+) -> (u8, O, E)
+    requires { AreWithin options.now.ports }
+    ensures splits { let view = streams I.Source O.Target E.Target in
+        SplitsToFolder (named options.now.ports) (view input.old out err) result.0 (view input.new result.1 result.2) }
+    ensures status { IsStatusOfTask result.0 }
+{
+    let folder = Folder::new(rt, rt.alloc(), options.streams);
+    let (status, _, out, err) = write_streams(
+        &rt.alloc(),
+        options.ports.as_slice(),
+        input,
+        folder,
+        out,
+        err,
+    );
+    (status, out, err)
 }
 
 /// Does the task with a stream.
