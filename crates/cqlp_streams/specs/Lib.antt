@@ -5,3 +5,5 @@ pub mod Recordings
 pub mod Tellings
 pub mod Packets
 pub mod Endings
+pub mod Captures
+pub mod Streams

@@ -65,13 +65,13 @@ Leaves false t ss u =
     × Path (StillTells left) t front m × Parts left m last u)
 
 -- So do all, one after the other.
-abbrev pub Finishes : Table → Saying → Table → Type 0
-Finishes t (Left totals) u = departing (departure.Left totals) u ≡ finished t
-Finishes t s u = StillTells finished t s u
+abbrev pub Departs : Table → Saying → Table → Type 0
+Departs t (Left totals) u = departing (departure.Left totals) u ≡ finished t
+Departs t s u = StillTells finished t s u
 
 abbrev pub FinishesAll : (all : Bool) → Table → List Saying → Table → Type 0
-FinishesAll true t ss u = (m : Table) × Path Finishes t ss m × (departing departure.Empty u ≡ finished m)
-FinishesAll false t ss u = Path Finishes t ss u
+FinishesAll true t ss u = (m : Table) × Path Departs t ss m × (departing departure.Empty u ≡ finished m)
+FinishesAll false t ss u = Path Departs t ss u
 
 -- ---- a segment
 

@@ -1,7 +1,8 @@
 //! How the reading of a capture ends.
 
-ghost use Rattle.std.specs.Prelude.{◌≡◌};
+ghost use Rattle.std.specs.Prelude.{◌≡◌, IfOk, string_bytes};
 ghost use Rattle.cqlp_text.specs.Endings.{IsStatusOfTask};
+ghost use Rattle.cqlp_streams.specs.Endings.{fault_line, file_line, reason_name, verdict};
 
 use crate::fault::StreamsFault;
 use crate::files::{FileFault, StreamFile};
@@ -13,14 +14,14 @@ use std::alloc::{AllocError, Allocator};
 
 /// How the reading of a capture ends.
 #[derive(Clone, Copy, Debug, PartialEq, Eq)]
-pub enum StreamsEnding {
+pub(crate) enum StreamsEnding {
     /// At the end of the file, or where it is refused.
     Finished { end: CaptureEnd, summary: Summary },
     Fault(StreamsFault),
 }
 
 impl StreamsEnding {
-    ghost use Rattle.cqlp_streams.specs.Endings.{status_of};
+    ghost use Rattle.cqlp_streams.specs.Endings.{line_of, status_of};
 
     /// The exit status.
     pub fn status(&self) -> u8
@@ -37,7 +38,9 @@ impl StreamsEnding {
     }
 
     /// Its line.
-    pub(crate) fn line<'a, A: Allocator>(&self, alloc: &'a A) -> Result<String<&'a A>, AllocError> {
+    pub fn line<'a, A: Allocator>(&self, alloc: &'a A) -> Result<String<&'a A>, AllocError>
+        ensures { IfOk result (λ line. string_bytes line ≡ line_of self.now) }
+    {
         match self {
             StreamsEnding::Finished { end, summary } => {
                 let verdict = verdict(alloc, end)?;
@@ -49,7 +52,9 @@ impl StreamsEnding {
     }
 }
 
-fn verdict<'a, A: Allocator>(alloc: &'a A, end: &CaptureEnd) -> Result<String<&'a A>, AllocError> {
+fn verdict<A: Allocator>(alloc: A, end: &CaptureEnd) -> Result<String<A>, AllocError>
+    ensures { IfOk result (λ text. string_bytes text ≡ verdict end.now) }
+{
     match end {
         CaptureEnd::Whole { bytes } => format!(in alloc; "whole {bytes}"),
         CaptureEnd::Cut { at, bytes } => format!(in alloc; "cut {at} {bytes}"),
@@ -61,19 +66,30 @@ fn verdict<'a, A: Allocator>(alloc: &'a A, end: &CaptureEnd) -> Result<String<&'
     }
 }
 
-fn reason_name(why: CaptureReason) -> &'static str {
+fn reason_name(why: CaptureReason) -> &'static str
+    ensures { result.now ≡ reason_name why }
+{
     match why {
         CaptureReason::UnknownMagic => "UnknownMagic",
         CaptureReason::UnknownVersion => "UnknownVersion",
         CaptureReason::PacketTooLong => "PacketTooLong",
         CaptureReason::FileTooLong => "FileTooLong",
+        CaptureReason::UnknownByteOrder => "UnknownByteOrder",
+        CaptureReason::BadBlockLength => "BadBlockLength",
+        CaptureReason::UnequalBlockLengths => "UnequalBlockLengths",
+        CaptureReason::BadOptionLength => "BadOptionLength",
+        CaptureReason::UnknownTimeUnit => "UnknownTimeUnit",
+        CaptureReason::NegativeTimeOffset => "NegativeTimeOffset",
+        CaptureReason::TooManyInterfaces => "TooManyInterfaces",
+        CaptureReason::UnknownInterface => "UnknownInterface",
+        CaptureReason::PacketBeyondBlock => "PacketBeyondBlock",
+        CaptureReason::TimeTooLarge => "TimeTooLarge",
     }
 }
 
-fn fault_line<'a, A: Allocator>(
-    alloc: &'a A,
-    fault: &StreamsFault,
-) -> Result<String<&'a A>, AllocError> {
+fn fault_line<A: Allocator>(alloc: A, fault: &StreamsFault) -> Result<String<A>, AllocError>
+    ensures { IfOk result (λ line. string_bytes line ≡ fault_line fault.now) }
+{
     match fault {
         StreamsFault::Read => String::from_str(alloc, "cqlp: read fault\n"),
         StreamsFault::Write => String::from_str(alloc, "cqlp: write fault\n"),
@@ -87,11 +103,13 @@ fn fault_line<'a, A: Allocator>(
 }
 
 /// The line of a file with which that cannot be done.
-fn file_line<'a, A: Allocator>(
-    alloc: &'a A,
+fn file_line<A: Allocator>(
+    alloc: A,
     deed: &str,
     file: &StreamFile,
-) -> Result<String<&'a A>, AllocError> {
+) -> Result<String<A>, AllocError>
+    ensures { IfOk result (λ line. string_bytes line ≡ file_line deed.now file.now) }
+{
     let number = file.number;
     let way = way_name(file.way);
     format!(in alloc; "cqlp: cannot {deed} {number}.{way}.bin\n")

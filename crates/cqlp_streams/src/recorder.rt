@@ -18,7 +18,7 @@ use std::marker::Model;
 
 /// What was told of the connections that have left. A number stays at 2^64 - 1 once it is there.
 #[derive(Clone, Copy, Debug, PartialEq, Eq)]
-pub struct Sums {
+pub(crate) struct Sums {
     pub gaps: u64,
     /// Bytes that were handed on.
     pub bytes: u64,
@@ -26,7 +26,7 @@ pub struct Sums {
 
 /// Has files keep the bytes of connections, and writes a line for each gap and for each connection that has left.
 #[derive(Drop)]
-pub struct Recorder<F: StreamFiles, O: Target, A: Allocator> {
+pub(crate) struct Recorder<F: StreamFiles, O: Target, A: Allocator> {
     alloc: A,
     files: F,
     out: O,
@@ -53,7 +53,7 @@ impl Sums {
     }
 }
 
-impl<F: StreamFiles + Drop, O: Target, A: Allocator + Drop> Recorder<F, O, A> {
+impl<F: StreamFiles, O: Target, A: Allocator + Drop> Recorder<F, O, A> {
     ghost use Rattle.cqlp_streams.specs.Recordings.{no_sums, recording};
 
     /// Over files and an output, with nothing told.
@@ -68,18 +68,17 @@ impl<F: StreamFiles + Drop, O: Target, A: Allocator + Drop> Recorder<F, O, A> {
         }
     }
 
-    /// The output, and the sums.
-    pub fn into_parts(self) -> (O, Sums)
-        ensures out { written O.Target result.0 ≡ self.output }
-        ensures sums { result.1 ≡ self.sums }
+    /// The files, the output and the sums.
+    pub fn into_parts(self) -> (F, O, Sums)
+        ensures { recording (F.calls result.0) (written O.Target result.1) result.2 ≡ self }
     {
         let Recorder {
             alloc: _,
-            files: _,
+            files,
             out,
             sums,
         } = self;
-        (out, sums)
+        (files, out, sums)
     }
 }
 

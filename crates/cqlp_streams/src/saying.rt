@@ -4,7 +4,7 @@ use cqlp_connections::{ConnectionTotals, Told};
 
 /// What is told of a connection.
 #[derive(Clone, Copy, Debug, PartialEq, Eq)]
-pub enum Saying<'a> {
+pub(crate) enum Saying<'a> {
     /// The connection with this number begins.
     New { number: u64 },
     /// What is told of one of its directions, and the bytes that are handed on, where there are some.

@@ -1,39 +1,25 @@
 //! The packets of a capture, on their way to connections.
 
-ghost use Rattle.std.specs.Prelude.{◌≡◌, ◌<◌};
+ghost use Rattle.std.specs.Prelude.{◌≡◌};
 
 use crate::fault::StreamsFault;
 use crate::files::StreamFiles;
-use crate::interfaces::Interfaces;
+use crate::packets::PacketCounts;
 use crate::recorder::Recorder;
 use crate::telling::{finish, take_segment};
 use cqlp_capture::{CaptureEvent, PacketHead};
 use cqlp_connections::{ConnectionCounts, Connections};
 use cqlp_note::Target;
-use cqlp_segment::{NoSegment, Segment, read_segment};
+use cqlp_segment::{LinkType, NoSegment, Segment, read_segment};
 use std::alloc::{Allocator, Global};
 use std::marker::Model;
 
-/// How many reasons there are why a packet has no segment.
-pub const REASONS: usize = 9;
-
-/// What packets were. A number stays at 2^64 - 1 once it is there.
-#[derive(Clone, Copy, Debug, PartialEq, Eq)]
-pub struct PacketCounts {
-    pub packets: u64,
-    /// Packets with a segment of TCP.
-    pub segments: u64,
-    /// Packets without one, by the reason's place among all reasons.
-    pub without: [u64; REASONS],
-}
-
 /// Takes the events of a capture, and has the segments in them taken by their connections.
 #[derive(Drop)]
-pub struct Splitter<A: Allocator = Global> {
+pub(crate) struct Splitter<A: Allocator = Global> {
     connections: Connections<A>,
-    interfaces: Interfaces,
-    /// Of the packet that began: the number of its interface, and how many bytes it had.
-    interface: u32,
+    /// Of the packet that began: the link type's number, and how many bytes it had.
+    link: u16,
     original: u32,
     counts: PacketCounts,
 }
@@ -43,52 +29,7 @@ impl<A: Allocator> Model for Splitter<A> {
 
     ghost Value = { SplitState };
 
-    ghost view = { λ s. split_state s.connections s.interfaces s.interface s.original s.counts };
-}
-
-impl PacketCounts {
-    ghost use Rattle.cqlp_streams.specs.Packets.{with_segment, without_segment};
-
-    const NONE: PacketCounts = PacketCounts {
-        packets: 0,
-        segments: 0,
-        without: [0; REASONS],
-    };
-
-    fn count_segment(&mut self)
-        ensures { self.new ≡ with_segment self.old }
-    {
-        self.packets = self.packets.saturating_add(1);
-        self.segments = self.segments.saturating_add(1);
-    }
-
-    fn count_without(&mut self, why: NoSegment)
-        ensures { self.new ≡ without_segment why self.old }
-    {
-        self.packets = self.packets.saturating_add(1);
-        let count = &mut self.without[place_of(why)];
-        *count = count.saturating_add(1);
-    }
-}
-
-ghost use Rattle.cqlp_streams.specs.Packets.{place_of};
-
-/// The place of a reason among all.
-fn place_of(why: NoSegment) -> usize
-    ensures is { result ≡ place_of why }
-    ensures within { result < 9 }
-{
-    match why {
-        NoSegment::UnknownLink => 0,
-        NoSegment::CutInLink => 1,
-        NoSegment::NotIp => 2,
-        NoSegment::CutInIp => 3,
-        NoSegment::BadIpLength => 4,
-        NoSegment::Fragment => 5,
-        NoSegment::NotTcp => 6,
-        NoSegment::CutInTcp => 7,
-        NoSegment::BadTcpLength => 8,
-    }
+    ghost view = { λ s. split_state s.connections s.link s.original s.counts };
 }
 
 impl<A: Allocator> Splitter<A> {
@@ -96,7 +37,7 @@ impl<A: Allocator> Splitter<A> {
     ghost use Rattle.cqlp_segment.specs.Segment.{seen};
     ghost use Rattle.cqlp_capture.specs.Progress.{event_of};
     ghost use Rattle.cqlp_streams.specs.Tellings.{FinishesAll, Recorded, is_done};
-    ghost use Rattle.cqlp_streams.specs.Packets.{TellsEvent, TellsRead, new_split, segment_in};
+    ghost use Rattle.cqlp_streams.specs.Packets.{Finishes, TellsEvent, TellsRead, new_split, segment_in};
 
     /// At the start of a capture, whose connections have this table.
     pub fn new(connections: Connections<A>) -> Self
@@ -104,8 +45,7 @@ impl<A: Allocator> Splitter<A> {
     {
         Splitter {
             connections,
-            interfaces: Interfaces::new(),
-            interface: 0,
+            link: 0,
             original: 0,
             counts: PacketCounts::NONE,
         }
@@ -135,14 +75,7 @@ impl<A: Allocator> Splitter<A> {
             recorder.old result recorder.new }
     {
         match event {
-            CaptureEvent::Section(_) => {
-                self.interfaces = Interfaces::new();
-                Ok(())
-            }
-            CaptureEvent::Interface(head) => {
-                self.interfaces.add(head);
-                Ok(())
-            }
+            CaptureEvent::Section(_) | CaptureEvent::Interface(_) => Ok(()),
             CaptureEvent::Packet(head) => {
                 self.begin_packet(head);
                 Ok(())
@@ -156,17 +89,15 @@ impl<A: Allocator> Splitter<A> {
         &mut self,
         recorder: &mut Recorder<F, O, B>,
     ) -> Result<(), StreamsFault>
-        ensures finishes { Recorded (λ ss. FinishesAll (is_done result) self.old.table ss self.new.table)
-            recorder.old result recorder.new }
-        ensures counts { self.new.counts ≡ self.old.counts }
+        ensures { Recorded (λ ss. Finishes (is_done result) self.old ss self.new) recorder.old result recorder.new }
     {
         finish(&mut self.connections, recorder)
     }
 
     fn begin_packet(&mut self, head: &PacketHead)
-        ensures { self.new ≡ record self.old { interface = head.now.interface; original = head.now.original } }
+        ensures { self.new ≡ record self.old { link = head.now.link; original = head.now.original } }
     {
-        self.interface = head.interface;
+        self.link = head.link;
         self.original = head.original;
     }
 
@@ -194,7 +125,7 @@ impl<A: Allocator> Splitter<A> {
     fn segment_in<'a>(&self, packet: &'a [u8]) -> Result<Segment<'a>, NoSegment>
         ensures { Gives seen result (segment_in self.now packet.now) }
     {
-        let link = self.interfaces.link_of(self.interface)?;
+        let link = LinkType::from_number(self.link)?;
         read_segment(link, packet, self.original)
     }
 }
