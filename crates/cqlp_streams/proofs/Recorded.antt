@@ -3,6 +3,7 @@ use Rattle.std.proofs.Common.{◌≡◌, ◌∙◌, ℕ, List, [], ◌∷◌, �
 use Rattle.std.specs.Io.KnownBytes.{append_known}
 use Rattle.cqlp_text.specs.Outputs.{Output}
 use Rattle.cqlp_streams.specs.declared.fault.StreamsFault.{StreamsFault}
+use Rattle.cqlp_streams.specs.declared.fault.StreamsFault.TheVariants as fault
 use Rattle.cqlp_streams.specs.Sayings.{Saying}
 use Rattle.cqlp_streams.specs.Recordings.{Recording, Records, lined, line_of, with_saying, with_sayings}
 use Rattle.cqlp_streams.specs.Tellings.{RecordsAll}
@@ -36,7 +37,7 @@ records_one old mid new ss s (Err e) is a = inr (ss, s, refl, subst (λ (z : Rec
 -- after these sayings others
 pub records_others : (old mid new : Recording) (ss ts : List Saying) (r : Result (Unit {0}) StreamsFault) → mid ≡ with_sayings old ss → RecordsAll mid ts r new → RecordsAll old (ss ++ ts) r new
 records_others old mid new ss ts (Ok u) is a = a ∙ ap (λ (z : Recording). with_sayings z ts) is ∙ sym (with_others old ss ts)
-records_others old mid new ss ts (Err e) is (inl a) = inl (a ∙ ap (λ (z : Recording). with_sayings z ts) is ∙ sym (with_others old ss ts))
+records_others old mid new ss ts (Err e) is (inl (many, a)) = inl (many, a ∙ ap (λ (z : Recording). with_sayings z ts) is ∙ sym (with_others old ss ts))
 records_others old mid new ss ts (Err e) is (inr (front, s, parts, a)) =
     inr (
       ss ++ front,
@@ -44,3 +45,8 @@ records_others old mid new ss ts (Err e) is (inr (front, s, parts, a)) =
       ap (λ z. ss ++ z) parts ∙ sym (append_assoc ss front (s ∷ [])),
       subst (λ (z : Recording). Records z s (Err e) new) (ap (λ (z : Recording). with_sayings z front) is ∙ sym (with_others old ss front)) a,
     )
+
+-- a fault of the input is none of recording
+pub not_read : (old new : Recording) (ss : List Saying) → RecordsAll old ss (Err fault.Read) new → ⊥
+not_read old new ss (inl (many, a)) = absurd (let m = many in cc)
+not_read old new ss (inr (front, s, parts, a)) = absurd a

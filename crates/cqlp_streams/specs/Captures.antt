@@ -29,7 +29,8 @@ pub record HearsAll (l : CaptureLimits) (bytes : List ℕ) (es : List (ℕ × Ev
 -- last, or where it is refused.
 abbrev pub EndsSo : CaptureLimits → (bytes : List ℕ) → List (ℕ × Event) → CaptureEnd → Type 0
 EndsSo l bytes es (end.Whole n) =
-    (n ≡ length bytes) × (q : Spot) × HearsAll l bytes es q [] × (is_between q.place.stage ≡ true)
+    (n ≡ length bytes) × (q : Spot) × (rest : List ℕ) × HearsAll l bytes es q rest
+    × (is_between q.place.stage && is_empty rest ≡ true)
 EndsSo l bytes es (end.Cut at n) =
     (n ≡ length bytes) × (q : Spot) × (rest : List ℕ) × HearsAll l bytes es q rest
     × (is_between q.place.stage && is_empty rest ≡ false) × (at ≡ began q.place)

@@ -7,3 +7,4 @@ pub mod Packets
 pub mod Endings
 pub mod Captures
 pub mod Streams
+pub mod Laws

@@ -10,18 +10,22 @@ use Rattle.cqlp_connections.specs.declared.told.Sight.{Sight}
 use Rattle.cqlp_connections.specs.declared.told.Sight.TheVariants as sight
 use Rattle.cqlp_connections.specs.Tables.{Table, Departing, cells_of, departing, finished, held_on, left, pulled, pulling, read_on, taken, taking}
 use Rattle.cqlp_streams.specs.declared.fault.StreamsFault.{StreamsFault}
+use Rattle.cqlp_streams.specs.declared.fault.StreamsFault.TheVariants as fault
 use Rattle.cqlp_streams.specs.Sayings.{Saying, New, Of, Left}
-use Rattle.cqlp_streams.specs.Recordings.{Recording, Records, with_sayings}
+use Rattle.cqlp_streams.specs.Recordings.{Recording, Records, with_saying, with_sayings}
 
 -- how many bytes that came early are handed on at once
 abbrev pub at_once : ℕ
 at_once = 4096
 
 -- The bytes of what is told: those of the payload that it names, or of those that the connection held the next.
+abbrev pub HandsHeld : Way → Table → (bytes : List ℕ) → Table → Type 0
+HandsHeld way t bytes u =
+    (map Some bytes ≡ take (held_on way t.known at_once) (cells_of way t.known)) × (u ≡ read_on way (held_on way t.known at_once) t)
+
 abbrev pub HandsOn : StreamStep → Way → (payload : List ℕ) → Table → (bytes : List ℕ) → Table → Type 0
 HandsOn (step.Payload from count) way payload t bytes u = (bytes ≡ take count (drop from payload)) × (u ≡ t)
-HandsOn (step.Held count) way payload t bytes u =
-    (map Some bytes ≡ take (held_on way t.known at_once) (cells_of way t.known)) × (u ≡ read_on way (held_on way t.known at_once) t)
+HandsOn (step.Held count) way payload t bytes u = HandsHeld way t bytes u
 HandsOn s way payload t bytes u = (bytes ≡ []) × (u ≡ t)
 
 -- ---- steps, which may be many
@@ -110,12 +114,18 @@ abbrev pub is_done : Result (Unit {0}) StreamsFault → Bool
 is_done (Ok u) = true
 is_done (Err e) = false
 
--- All of it was recorded; or the last of it failed to be; or there was no end to it.
+-- All of it was recorded; or there was no end to it; or the last of it failed to be.
 abbrev pub RecordsAll : Recording → List Saying → Result (Unit {0}) StreamsFault → Recording → Type 0
 RecordsAll old ss (Ok u) new = new ≡ with_sayings old ss
 RecordsAll old ss (Err e) new =
-    (new ≡ with_sayings old ss)
+    ((e ≡ fault.TooManyTurns) × (new ≡ with_sayings old ss))
     ⊎ ((front : List Saying) × (s : Saying) × (ss ≡ front ++ s ∷ []) × Records (with_sayings old front) s (Err e) new)
+
+-- The next that connections tell which leave was recorded, or failed to be; or there was none.
+abbrev pub DepartsNext : Result Bool StreamsFault → Table → Recording → Table → Recording → Type 0
+DepartsNext (Ok true) t old u new = (s : Saying) × Departs t s u × (new ≡ with_saying old s)
+DepartsNext (Ok false) t old u new = (departing departure.Empty u ≡ finished t) × (new ≡ old)
+DepartsNext (Err e) t old u new = (s : Saying) × Departs t s u × Records old s (Err e) new
 
 -- Where it is known what the output was given, what was told was recorded.
 abbrev pub Recorded : (List Saying → Type 0) → Recording → Result (Unit {0}) StreamsFault → Recording → Type 0

@@ -5,6 +5,7 @@ mod capturing;
 mod ending;
 mod fault;
 mod files;
+pub mod laws;
 mod lines;
 mod packets;
 mod recorder;

@@ -1,7 +1,7 @@
 //! A reader's capture, split into the streams of its connections.
 
-ghost use Rattle.std.specs.Prelude.{◌≡◌, ◌<◌, List, ℕ, IsSome, None, Some, length};
-ghost use Rattle.cqlp_capture.specs.Progress.{new_state};
+ghost use Rattle.std.specs.Prelude.{◌≡◌, ◌<◌, IfOk, List, ℕ, IsSome, None, Some, length};
+ghost use Rattle.cqlp_capture.specs.Progress.{ending, new_state};
 ghost use Rattle.cqlp_connections.specs.Tables.{Table};
 ghost use Rattle.cqlp_streams.specs.Packets.{new_split};
 ghost use Rattle.cqlp_streams.specs.Recordings.{Recording};
@@ -43,9 +43,13 @@ pub(crate) fn split<R: Source, F: StreamFiles, O: Target, A: Allocator, B: Alloc
             Ok(count) => count,
             Err(IoFault) => return Err(StreamsFault::Read),
         };
-        let drained = drain(reader, splitter, &buffer[..count], recorder)?;
-        if count == 0 || drained == Drained::Refused {
-            return end(reader, splitter, recorder);
+        match drain(reader, splitter, &buffer[..count], recorder)? {
+            Drained::Refused => return end_all(reader, splitter, recorder),
+            Drained::More => {
+                if count == 0 {
+                    return end_all(reader, splitter, recorder);
+                }
+            }
         }
     }
     Err(StreamsFault::TooManyTurns)
@@ -81,15 +85,17 @@ fn drain<F: StreamFiles, O: Target, A: Allocator, B: Allocator, C: Allocator>(
 }
 
 /// At the end of the file, or where it is refused: has all connections leave. Says how the file ends.
-fn end<F: StreamFiles, O: Target, A: Allocator, B: Allocator, C: Allocator>(
+fn end_all<F: StreamFiles, O: Target, A: Allocator, B: Allocator, C: Allocator>(
     reader: &CaptureReader<A>,
     splitter: &mut Splitter<B>,
     recorder: &mut Recorder<F, O, C>,
 ) -> Result<CaptureEnd, StreamsFault>
-    ensures { (t : Table) (before : Recording) (s : List ℕ) (read : List ℕ) → IsSome before.output.given →
+    ensures ends { (t : Table) (before : Recording) (s : List ℕ) (read : List ℕ) → IsSome before.output.given →
         (h : Has t before s reader.now splitter.old recorder.old) → IsAtEndOf reader.now read s h.events →
         EndsTo reader.now.limits t before read result splitter.new recorder.new }
+    ensures end { IfOk result (λ e. e ≡ ending reader.now) }
 {
+    let end = reader.finish();
     splitter.finish(recorder)?;
-    Ok(reader.finish())
+    Ok(end)
 }

@@ -6,7 +6,7 @@ use crate::fault::StreamsFault;
 use crate::files::StreamFiles;
 use crate::packets::PacketCounts;
 use crate::recorder::Recorder;
-use crate::telling::{finish, take_segment};
+use crate::telling::{finish_all, take_segment};
 use cqlp_capture::{CaptureEvent, PacketHead};
 use cqlp_connections::{ConnectionCounts, Connections};
 use cqlp_note::Target;
@@ -91,7 +91,7 @@ impl<A: Allocator> Splitter<A> {
     ) -> Result<(), StreamsFault>
         ensures { Recorded (λ ss. Finishes (is_done result) self.old ss self.new) recorder.old result recorder.new }
     {
-        finish(&mut self.connections, recorder)
+        finish_all(&mut self.connections, recorder)
     }
 
     fn begin_packet(&mut self, head: &PacketHead)

@@ -4,9 +4,10 @@ ghost use Rattle.std.specs.Prelude.{◌≡◌, [], List, ℕ, IsSome, length};
 ghost use Rattle.cqlp_segment.specs.Segment.{seen};
 ghost use Rattle.cqlp_reassembly.specs.Streams.{IsWithin};
 ghost use Rattle.cqlp_connections.specs.Tables.{Table};
-ghost use Rattle.cqlp_streams.specs.Sayings.{Of};
+ghost use Rattle.cqlp_streams.specs.Sayings.{Of, Saying};
 ghost use Rattle.cqlp_streams.specs.Recordings.{Records};
-ghost use Rattle.cqlp_streams.specs.Tellings.{FinishesAll, HandsOn, Leaves, PullsAll, Recorded, TellsOf, TellsSeen, is_done};
+ghost use Rattle.cqlp_streams.specs.Tellings.{DepartsNext, FinishesAll, HandsHeld, HandsOn, Leaves, PullsAll, Recorded, RecordsAll};
+ghost use Rattle.cqlp_streams.specs.Tellings.{TellsOf, TellsSeen, beginning, is_done};
 
 use crate::fault::StreamsFault;
 use crate::files::StreamFiles;
@@ -32,8 +33,8 @@ pub(crate) fn take_segment<F: StreamFiles, O: Target, A: Allocator, B: Allocator
         return take_seen(sight, connections, segment, recorder);
     };
     leave(connections, recorder)?;
-    let sight = connections.take(&segment.head);
-    take_seen(sight, connections, segment, recorder)
+    let again = connections.take(&segment.head);
+    take_seen(again, connections, segment, recorder)
 }
 
 /// Records what is told of a segment that was seen so. No connection has to leave twice.
@@ -49,12 +50,26 @@ fn take_seen<F: StreamFiles, O: Target, A: Allocator, B: Allocator>(
     match sight {
         Sight::Foreign => Ok(()),
         Sight::Taken { number, is_new, .. } => {
-            if is_new {
-                recorder.record(&Saying::New { number })?;
-            }
+            begin(is_new, number, recorder)?;
             pull_all(connections, segment, recorder)
         }
         Sight::Crowded { .. } => Err(StreamsFault::TooManyTurns),
+    }
+}
+
+/// Records that a connection begins, if it does.
+fn begin<F: StreamFiles, O: Target, B: Allocator>(
+    is_new: bool,
+    number: u64,
+    recorder: &mut Recorder<F, O, B>,
+) -> Result<(), StreamsFault>
+    ensures { IsSome recorder.old.output.given →
+        RecordsAll recorder.old (beginning is_new number) result recorder.new }
+{
+    if is_new {
+        recorder.record(&Saying::New { number })
+    } else {
+        Ok(())
     }
 }
 
@@ -86,7 +101,7 @@ fn leave<F: StreamFiles, O: Target, A: Allocator, B: Allocator>(
 {
     for turn in 0..u64::MAX {
         match connections.leave() {
-            Departure::Told(told) => tell(connections, told, &[], recorder)?,
+            Departure::Told(told) => tell_last(connections, told, recorder)?,
             Departure::Left(totals) => return recorder.record(&Saying::Left(totals)),
             Departure::Empty => return Ok(()),
         }
@@ -95,7 +110,7 @@ fn leave<F: StreamFiles, O: Target, A: Allocator, B: Allocator>(
 }
 
 /// Has all connections leave.
-pub(crate) fn finish<F: StreamFiles, O: Target, A: Allocator, B: Allocator>(
+pub(crate) fn finish_all<F: StreamFiles, O: Target, A: Allocator, B: Allocator>(
     connections: &mut Connections<A>,
     recorder: &mut Recorder<F, O, B>,
 ) -> Result<(), StreamsFault>
@@ -103,16 +118,36 @@ pub(crate) fn finish<F: StreamFiles, O: Target, A: Allocator, B: Allocator>(
         recorder.old result recorder.new }
 {
     for turn in 0..u64::MAX {
-        match connections.finish() {
-            Departure::Told(told) => tell(connections, told, &[], recorder)?,
-            Departure::Left(totals) => recorder.record(&Saying::Left(totals))?,
-            Departure::Empty => return Ok(()),
+        let is_there = finish_one(connections, recorder)?;
+        if !is_there {
+            return Ok(());
         }
     }
     Err(StreamsFault::TooManyTurns)
 }
 
-/// Records what is told, with its bytes: those of the payload that it names, or those that the connection held.
+/// Records the next that is told of the connection that leaves first. Says whether there was one.
+fn finish_one<F: StreamFiles, O: Target, A: Allocator, B: Allocator>(
+    connections: &mut Connections<A>,
+    recorder: &mut Recorder<F, O, B>,
+) -> Result<bool, StreamsFault>
+    ensures { IsSome recorder.old.output.given →
+        DepartsNext result connections.old recorder.old connections.new recorder.new }
+{
+    match connections.finish() {
+        Departure::Told(told) => {
+            tell_last(connections, told, recorder)?;
+            Ok(true)
+        }
+        Departure::Left(totals) => {
+            recorder.record(&Saying::Left(totals))?;
+            Ok(true)
+        }
+        Departure::Empty => Ok(false),
+    }
+}
+
+/// Records what a segment tells, with its bytes: those of the payload that are named, or those that the connection held.
 fn tell<F: StreamFiles, O: Target, A: Allocator, B: Allocator>(
     connections: &mut Connections<A>,
     told: Told,
@@ -129,16 +164,47 @@ fn tell<F: StreamFiles, O: Target, A: Allocator, B: Allocator>(
             let bytes = &payload[from..from + count];
             recorder.record(&Saying::Of { told, bytes })
         }
-        StreamStep::Held { .. } => {
-            let mut buffer = [0; 4096];
-            let count = connections.read(told.way, &mut buffer);
-            let bytes = &buffer[..count];
-            recorder.record(&Saying::Of { told, bytes })
-        }
+        StreamStep::Held { .. } => tell_held(connections, told, recorder),
         StreamStep::Began { .. }
         | StreamStep::Gap { .. }
         | StreamStep::Ended
         | StreamStep::Reset
         | StreamStep::Done => recorder.record(&Saying::Of { told, bytes: &[] }),
     }
+}
+
+/// Records what is told of a connection without a segment: of bytes those that the connection held.
+fn tell_last<F: StreamFiles, O: Target, A: Allocator, B: Allocator>(
+    connections: &mut Connections<A>,
+    told: Told,
+    recorder: &mut Recorder<F, O, B>,
+) -> Result<(), StreamsFault>
+    ensures { IsSome recorder.old.output.given → (bytes : List ℕ)
+        × HandsOn told.step told.way [] connections.old bytes connections.new
+        × Records recorder.old (Of told bytes) result recorder.new }
+{
+    match told.step {
+        StreamStep::Held { .. } => tell_held(connections, told, recorder),
+        StreamStep::Payload { .. } => recorder.record(&Saying::Of { told, bytes: &[] }),
+        StreamStep::Began { .. }
+        | StreamStep::Gap { .. }
+        | StreamStep::Ended
+        | StreamStep::Reset
+        | StreamStep::Done => recorder.record(&Saying::Of { told, bytes: &[] }),
+    }
+}
+
+/// Records what is told with the next bytes that the connection held.
+fn tell_held<F: StreamFiles, O: Target, A: Allocator, B: Allocator>(
+    connections: &mut Connections<A>,
+    told: Told,
+    recorder: &mut Recorder<F, O, B>,
+) -> Result<(), StreamsFault>
+    ensures { IsSome recorder.old.output.given → (bytes : List ℕ)
+        × HandsHeld told.way connections.old bytes connections.new × Records recorder.old (Of told bytes) result recorder.new }
+{
+    let mut buffer = [0; 4096];
+    let count = connections.read(told.way, &mut buffer);
+    let bytes = &buffer[..count];
+    recorder.record(&Saying::Of { told, bytes })
 }

@@ -2,7 +2,7 @@ use Rattle.std.proofs.Common.{◌≡◌, List, IsSome}
 use Rattle.cqlp_streams.specs.Sayings.{Saying}
 use Rattle.cqlp_streams.specs.Recordings.{with_sayings}
 use Rattle.cqlp_streams.specs.Tellings.{Path, Departs}
-use Rattle.cqlp_streams.proofs.telling.finish.Given as goal
+use Rattle.cqlp_streams.proofs.telling.finish_all.Given as goal
 
 -- what was told so far was recorded
 abbrev pub invariant-loop-turn : goal.invariant-loop-turn
