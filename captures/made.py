@@ -1,13 +1,13 @@
 #!/usr/bin/env python3
-"""captures/made.py KIND: writes a capture to standard output that asks for as much memory as a capture can.
+"""captures/made.py KIND [COUNT]: writes a capture to standard output that asks for as much memory as a capture can.
 
-connections  one segment with a byte for each of 100,000 connections
+connections  one segment with a byte for each of COUNT connections, 100,000 where it is not said
 lost         256 connections, of both of whose directions each second segment is lost, until no window has room for more
 packets      packets as long as a record may have, and IP and TCP headers whose lengths are the greatest
 record       a record whose length is the greatest that its field can say
 block        a pcapng file with as many interfaces as there may be, options and a packet of 262,144 bytes, and a block of 4 GiB that never comes
 
-captures/made.py most COMMAND..: runs it, prints how many KiB of memory it had at most, and ends with its status."""
+captures/made.py most COMMAND..: runs it, and prints its status and how many KiB of memory it had at most."""
 import resource
 import struct
 import subprocess
@@ -20,7 +20,7 @@ def segment(client, port, number, payload, is_response=False):
     """A packet of IPv4 with a segment of TCP."""
     ends = (NODE, client) if is_response else (client, NODE)
     ports = (PORT, port) if is_response else (port, PORT)
-    length = 40 + len(payload)
+    length = min(40 + len(payload), 65_535)
     ip = struct.pack(">BBHHHBBHII", 0x45, 0, length, 0, 0x4000, 64, 6, 0, *ends)
     return ip + struct.pack(">HHIIBBHHH", *ports, number % (1 << 32), 0, 0x50, 0, 65_535, 0, 0) + payload
 
@@ -30,8 +30,9 @@ def record(packet, captured=None, original=None):
     return struct.pack("<IIII", 0, 0, captured, captured if original is None else original) + packet
 
 
-def connections():
-    yield from (record(segment(0x0A010000 + i // 30_000, 10_000 + i % 30_000, 0, b"%c" % (i % 256))) for i in range(100_000))
+def connections(count=100_000):
+    for i in range(count):
+        yield record(segment(0x0A010000 + i // 30_000, 10_000 + i % 30_000, 0, b"%c" % (i % 256)))
 
 
 def lost():
@@ -46,7 +47,7 @@ def packets():
         longest = b"\x4f" + b"\xff" * 262_143
         yield record(longest, original=0xFFFFFFFF)
         packet = segment(0x0A010000 + i, 10_000, 0xFFFFFFFF, bytes(262_104))
-        yield record(packet[:2] + b"\xff\xff" + packet[4:32] + b"\xf0" + packet[33:], original=0xFFFFFFFF)
+        yield record(packet[:32] + b"\xf0" + packet[33:], original=0xFFFFFFFF)
 
 
 def block(kind, body, length=None):
@@ -63,20 +64,29 @@ def blocks():
     yield struct.pack("<II", 0x0BAD, 0xFFFFFFFC) + bytes(1_000_000)
 
 
-def capture(kind):
+def greatest_record():
+    yield record(bytes(1_000), 0xFFFFFFFF, 0xFFFFFFFF)
+
+
+def of_pcap(records):
+    yield struct.pack("<IHHiIII", 0xA1B2C3D4, 2, 4, 0, 0, 0xFFFFFFFF, 101)
+    yield from records
+
+
+def capture(kind, *count):
     if kind == "block":
         return blocks()
-    made = {"connections": connections, "lost": lost, "packets": packets, "record": lambda: [record(bytes(1_000), 0xFFFFFFFF, 0xFFFFFFFF)]}[kind]
-    return (part for parts in ([struct.pack("<IHHiIII", 0xA1B2C3D4, 2, 4, 0, 0, 0xFFFFFFFF, 101)], made()) for part in parts)
+    made = {"connections": connections, "lost": lost, "packets": packets, "record": greatest_record}[kind]
+    return of_pcap(made(*map(int, count)))
 
 
-def most(command):
-    status = subprocess.run(command).returncode
-    print(resource.getrusage(resource.RUSAGE_CHILDREN).ru_maxrss, file=sys.stderr)
-    return status
+def tell_most(command):
+    status = subprocess.run(command, stdout=subprocess.DEVNULL, stderr=subprocess.DEVNULL).returncode
+    print(status, resource.getrusage(resource.RUSAGE_CHILDREN).ru_maxrss)
 
 
 if __name__ == "__main__":
     if sys.argv[1] == "most":
-        sys.exit(most(sys.argv[2:]))
-    sys.stdout.buffer.writelines(capture(sys.argv[1]))
+        tell_most(sys.argv[2:])
+    else:
+        sys.stdout.buffer.writelines(capture(*sys.argv[1:]))
