@@ -10,6 +10,7 @@ use Rattle.cqlp_capture.specs.Progress.{AnswersFrom, CaptureState, Leads, Refuse
 use Rattle.cqlp_capture.proofs.Moving.{take_two}
 use Rattle.cqlp_connections.specs.Tables.{Table}
 use Rattle.cqlp_streams.specs.declared.fault.StreamsFault.{StreamsFault}
+use Rattle.cqlp_streams.specs.declared.fault.StreamsFault.TheVariants as fault
 use Rattle.cqlp_streams.specs.declared.running.Drained.TheVariants as drained
 use Rattle.cqlp_streams.specs.Sayings.{Saying}
 use Rattle.cqlp_streams.specs.Recordings.{Recording, with_sayings}
@@ -17,7 +18,7 @@ use Rattle.cqlp_streams.specs.Tellings.{RecordsAll}
 use Rattle.cqlp_streams.specs.Packets.{SplitState, TellsEvent}
 use Rattle.cqlp_streams.specs.Captures.{DrainsTo, Has, IsAtEndBy, TellsFirst}
 use Rattle.cqlp_streams.proofs.Recorded.{still_known}
-use Rattle.cqlp_streams.proofs.Events.{fails_at, has_more, parted_at, same_limits, wants_more}
+use Rattle.cqlp_streams.proofs.Events.{fails_at, has_more, never_ends, parted_at, same_limits, wants_more}
 
 -- it is still known what the output was given
 pub known_here : (t : Table) (before : Recording) (s : List ℕ) (d : CaptureState) (u : SplitState) (after : Recording) → IsSome before.output.given → Has t before s d u after → IsSome after.output.given
@@ -86,3 +87,9 @@ pub drain_fails : (l : CaptureLimits) (t : Table) (before : Recording) (s piece 
 drain_fails l t before s piece k d d' u u' after after' at used e ts f h same answers leads tells records =
     let first = fails_at l t before (s ++ take k piece) (drop k piece) d d' u u' after after' at used e ts f h leads (same_limits d.refusal d d' (drop k piece) (answer.Event at used e) answers ∙ same) tells records in
     (first.0, subst (λ z. TellsFirst l t z first.0 u') (parted_at s piece k) first.1, first.2)
+
+-- there was no end to its events
+pub never_drained : (l : CaptureLimits) (t : Table) (before : Recording) (s piece : List ℕ) (k : ℕ) (d : CaptureState) (u : SplitState) (after : Recording) → Has t before (s ++ take k piece) d u after → d.refusal ≡ None → d.limits ≡ l → DrainsTo l t before s piece (Err fault.TooManyTurns) d u after
+never_drained l t before s piece k d u after h none same =
+    let first = never_ends l t before (s ++ take k piece) (drop k piece) d u after h none same in
+    (first.0, subst (λ z. TellsFirst l t z first.0 u) (parted_at s piece k) first.1, first.2)

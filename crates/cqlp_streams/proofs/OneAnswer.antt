@@ -17,7 +17,6 @@ use Rattle.cqlp_connections.specs.Tables.{Table}
 use Rattle.cqlp_streams.specs.declared.ending.StreamsEnding.{StreamsEnding}
 use Rattle.cqlp_streams.specs.declared.ending.StreamsEnding.TheVariants as ending
 use Rattle.cqlp_streams.specs.declared.recorder.Sums.{Sums}
-use Rattle.cqlp_streams.specs.declared.summary.Summary.{Summary}
 use Rattle.cqlp_streams.specs.declared.fault.StreamsFault.{StreamsFault}
 use Rattle.cqlp_streams.specs.Recordings.{Recording, no_sums, recording, with_sayings}
 use Rattle.cqlp_streams.specs.Packets.{Finishes, SplitState, TellsEvents, new_split}
@@ -125,12 +124,13 @@ concluded e err err' status (inr (inl (is, x))) no = absurd (no is)
 concluded e err err' status (inr (inr (is, x))) no = absurd (no is)
 
 finished_once : (ports xs : List ℕ) (e e' : StreamsEnding) (left left' : Option (List ℕ)) (before after after' : Recording) → (status_of e ≢ 3) → (status_of e' ≢ 3) → ReadsFile ports xs e left before after → ReadsFile ports xs e' left' before after' → (e' ≡ e) × (after' ≡ after)
-finished_once ports xs (ending.Fault f) e' left left' before after after' no no' a b = absurd (no refl)
-finished_once ports xs (ending.Finished e s) (ending.Fault f) left left' before after after' no no' a b = absurd (no' refl)
-finished_once ports xs (ending.Finished e s) (ending.Finished e' s') left left' before after after' no no' a b =
-    let one = splits_once default_limits (in_range default_limits refl) (no_connections ports) before xs e e' left left' a.0 b.0 after after' a.1 b.1 in
-    let sums : s' ≡ s = b.2 ∙ (λ i. summary_of (one.1 i) (one.2 i).sums) ∙ sym a.2 in
-    (λ i. ending.Finished (one.0 i) (sums i), one.2)
+finished_once ports xs e e' left left' before after after' no no' (inr (is, rest, same)) b = absurd (no (ap status_of is))
+finished_once ports xs e e' left left' before after after' no no' (inl (Err f, u, a, is)) b = absurd (no (ap status_of is))
+finished_once ports xs e e' left left' before after after' no no' (inl (Ok x, u, a, is)) (inr (is', rest, same)) = absurd (no' (ap status_of is'))
+finished_once ports xs e e' left left' before after after' no no' (inl (Ok x, u, a, is)) (inl (Err f, u', b, is')) = absurd (no' (ap status_of is'))
+finished_once ports xs e e' left left' before after after' no no' (inl (Ok x, u, a, is)) (inl (Ok x', u', b, is')) =
+    let one = splits_once default_limits (in_range default_limits refl) (no_connections ports) before xs x x' left left' u u' after after' a b in
+    (is' ∙ (λ i. ending.Finished (one.0 i) (summary_of (one.1 i) (one.2 i).sums)) ∙ sym is, one.2)
 
 pub streams_once : OneAnswerOfWriteStreams
 streams_once ports xs calls out err left left' status status' made made' out' out'' err' err'' (e, sums, reads, ends) no (e', sums', reads', ends') no' =

@@ -123,29 +123,30 @@ module _ (l : CaptureLimits) (t : Table) (before : Recording) (xs : List ℕ) (l
     split_at = f.parts ∙ ap (λ z. f.read ++ z) reads ∙ sym (append_assoc f.read piece rest)
 
     -- something failed within the piece
-    pub drain_fails : (e : StreamsFault) → DrainsTo l t before f.read piece (Err e) d' u' after' → SplitsTo l t before xs (Err e) left' u' after'
-    drain_fails e a = record {
-      read = f.read ++ piece;
-      rest = rest;
-      parts = split_at;
-      others = is;
-      all = tt;
-      ends = other_fault l t before (f.read ++ piece) u' after' e a.0 (inl a.1) a.2;
-    }
+    pub drain_fails : (e : StreamsFault) → DrainsTo d.limits t before f.read piece (Err e) d' u' after' → SplitsTo l t before xs (Err e) left' u' after'
+    drain_fails e a =
+        let b = subst (λ (z : CaptureLimits). DrainsTo z t before f.read piece (Err e) d' u' after') f.limits a in record {
+          read = f.read ++ piece;
+          rest = rest;
+          parts = split_at;
+          others = is;
+          all = tt;
+          ends = other_fault l t before (f.read ++ piece) u' after' e b.0 (inl b.1) b.2;
+        }
 
     -- the file ends after it, or is refused in it
-    pub file_ends : (x : Drained) (r : Result CaptureEnd StreamsFault) (u'' : SplitState) (after'' : Recording) → DrainsTo l t before f.read piece (Ok x) d' u' after' → IsAll r rest → EndsTo d'.limits t before (f.read ++ piece) r u'' after'' → SplitsTo l t before xs r left' u'' after''
+    pub file_ends : (x : Drained) (r : Result CaptureEnd StreamsFault) (u'' : SplitState) (after'' : Recording) → DrainsTo d.limits t before f.read piece (Ok x) d' u' after' → IsAll r rest → EndsTo d'.limits t before (f.read ++ piece) r u'' after'' → SplitsTo l t before xs r left' u'' after''
     file_ends x r u'' after'' a all ends = record {
       read = f.read ++ piece;
       rest = rest;
       parts = split_at;
       others = is;
       all = all;
-      ends = subst (λ (z : CaptureLimits). EndsTo z t before (f.read ++ piece) r u'' after'') a.0 ends;
+      ends = subst (λ (z : CaptureLimits). EndsTo z t before (f.read ++ piece) r u'' after'') (a.0 ∙ f.limits) ends;
     }
 
     -- more is wanted after it
-    pub more_read : DrainsTo l t before f.read piece (Ok drained.More) d' u' after' → SoFar l t before xs left' d' u' after'
+    pub more_read : DrainsTo d.limits t before f.read piece (Ok drained.More) d' u' after' → SoFar l t before xs left' d' u' after'
     more_read a =
         let at = at_end d'.refusal d' (f.read ++ piece) a.2 a.3.events a.1 a.4 in record {
           read = f.read ++ piece;
@@ -153,7 +154,7 @@ module _ (l : CaptureLimits) (t : Table) (before : Recording) (xs : List ℕ) (l
           parts = split_at;
           others = is;
           has = subst (λ z. Has t before z d' u' after') at.0 a.3;
-          limits = a.0;
+          limits = a.0 ∙ f.limits;
           free = a.1;
           wants = at.1;
         }

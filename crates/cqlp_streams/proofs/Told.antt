@@ -36,11 +36,11 @@ parted (Err x) t m u front c p e = inr (m, front, Left c ∷ [], refl, p, e)
 pub parted_none : (t m u : Table) (front : List Saying) → Path (StillTells left) t front m → departing departure.Empty u ≡ left m → Leaves true t front u
 parted_none t m u front p e = (m, front, [], sym (append-nil front), p, e)
 
--- whether there was one
-pub one_more : (b : Bool) (t u : Table) (old new : Recording) → b ≡ true → DepartsNext (Ok b) t old u new → (s : Saying) × Departs t s u × (new ≡ with_saying old s)
-one_more true t u old new e a = a
-one_more false t u old new e a = absurd (let z = e in cc)
+-- whether there was none
+pub one_more : (b : Bool) (t u : Table) (old new : Recording) → b ≡ false → DepartsNext (Ok b) t old u new → (s : Saying) × Departs t s u × (new ≡ with_saying old s)
+one_more true t u old new e a = absurd (let z = e in cc)
+one_more false t u old new e a = a
 
-pub no_more : (b : Bool) (t u : Table) (old new : Recording) → b ≡ false → DepartsNext (Ok b) t old u new → (departing departure.Empty u ≡ finished t) × (new ≡ old)
-no_more true t u old new e a = absurd (let z = e in cc)
-no_more false t u old new e a = a
+pub no_more : (b : Bool) (t u : Table) (old new : Recording) → b ≡ true → DepartsNext (Ok b) t old u new → (departing departure.Empty u ≡ finished t) × (new ≡ old)
+no_more true t u old new e a = a
+no_more false t u old new e a = absurd (let z = e in cc)

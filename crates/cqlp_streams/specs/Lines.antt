@@ -47,8 +47,13 @@ abbrev pub direction_text : DirectionTotals → List ℕ
 direction_text d =
     decimal d.bytes ++ codes " gaps " ++ decimal d.gaps ++ codes " " ++ begin_name d.begin ++ codes " " ++ end_name d.end
 
--- a connection that has left
+-- a connection that has left: its number, its two ends, and what was told of its directions
+abbrev pub connection_words : (number client node requests responses : List ℕ) → List ℕ
+connection_words number client node requests responses =
+    codes "connection " ++ number ++ codes " " ++ client ++ codes " " ++ node ++ codes " requests " ++ requests
+    ++ codes " responses " ++ responses ++ codes "\n"
+
 abbrev pub connection_line : ConnectionTotals → List ℕ
 connection_line c =
-    codes "connection " ++ decimal c.number ++ codes " " ++ end_text c.client ++ codes " " ++ end_text c.node
-    ++ codes " requests " ++ direction_text c.requests ++ codes " responses " ++ direction_text c.responses ++ codes "\n"
+    connection_words (decimal c.number) (end_text c.client) (end_text c.node) (direction_text c.requests)
+    (direction_text c.responses)

@@ -1,11 +1,13 @@
 -- What becomes of a capture whose streams are written.
 use Rattle.std.specs.Prelude.{◌≡◌, ℕ, List, Option, Some, Result, Ok, Err, ◌⊎◌}
 use Rattle.cqlp_text.specs.Outputs.{Output}
+use Rattle.cqlp_capture.specs.declared.event.CaptureEnd.{CaptureEnd}
 use Rattle.cqlp_capture.specs.declared.limits.CaptureLimits.{CaptureLimits}
 use Rattle.cqlp_connections.specs.Tables.{Table, new_table}
 use Rattle.cqlp_streams.specs.declared.capturing.TheConstants.{LIMITS}
 use Rattle.cqlp_streams.specs.declared.ending.StreamsEnding.{StreamsEnding}
 use Rattle.cqlp_streams.specs.declared.ending.StreamsEnding.TheVariants as ending
+use Rattle.cqlp_streams.specs.declared.fault.StreamsFault.{StreamsFault}
 use Rattle.cqlp_streams.specs.declared.fault.StreamsFault.TheVariants as fault
 use Rattle.cqlp_streams.specs.declared.recorder.Sums.{Sums}
 use Rattle.cqlp_streams.specs.declared.summary.Summary.{Summary}
@@ -26,14 +28,16 @@ no_connections ports = new_table LIMITS ports
 abbrev pub summary_of : SplitState → Sums → Summary
 summary_of u sums = record { packets = u.counts; connections = u.table.counts; sums = sums }
 
--- What was recorded of an input with the bytes xs, by how it ends; where memory is wanting, nothing may have been asked of it.
+abbrev pub ending_of : Result CaptureEnd StreamsFault → SplitState → Sums → StreamsEnding
+ending_of (Ok e) u sums = ending.Finished e (summary_of u sums)
+ending_of (Err f) u sums = ending.Fault f
+
+-- What was recorded of an input with the bytes xs, and how it ends; or memory was wanting, and nothing was asked of it.
 abbrev pub Reads : (ports : List ℕ) → (xs : List ℕ) → StreamsEnding → (left : Option (List ℕ)) → (before after : Recording) → Type 0
-Reads ports xs (ending.Finished e summary) left before after =
-    (u : SplitState) × SplitsTo default_limits (no_connections ports) before xs (Ok e) left u after
-    × (summary ≡ summary_of u after.sums)
-Reads ports xs (ending.Fault f) left before after =
-    ((u : SplitState) × SplitsTo default_limits (no_connections ports) before xs (Err f) left u after)
-    ⊎ ((f ≡ fault.NoMemory) × (left ≡ Some xs) × (after ≡ before))
+Reads ports xs e left before after =
+    ((r : Result CaptureEnd StreamsFault) × (u : SplitState)
+    × SplitsTo default_limits (no_connections ports) before xs r left u after × (e ≡ ending_of r u after.sums))
+    ⊎ ((e ≡ ending.Fault fault.NoMemory) × (left ≡ Some xs) × (after ≡ before))
 
 -- The streams of an input with the bytes xs were written: the calls that files got and what the output was given, and then the line
 -- of how it ended, with its status.

@@ -123,8 +123,8 @@ RecordsAll old ss (Err e) new =
 
 -- The next that connections tell which leave was recorded, or failed to be; or there was none.
 abbrev pub DepartsNext : Result Bool StreamsFault → Table → Recording → Table → Recording → Type 0
-DepartsNext (Ok true) t old u new = (s : Saying) × Departs t s u × (new ≡ with_saying old s)
-DepartsNext (Ok false) t old u new = (departing departure.Empty u ≡ finished t) × (new ≡ old)
+DepartsNext (Ok false) t old u new = (s : Saying) × Departs t s u × (new ≡ with_saying old s)
+DepartsNext (Ok true) t old u new = (departing departure.Empty u ≡ finished t) × (new ≡ old)
 DepartsNext (Err e) t old u new = (s : Saying) × Departs t s u × Records old s (Err e) new
 
 -- Where it is known what the output was given, what was told was recorded.

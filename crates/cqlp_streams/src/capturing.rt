@@ -5,7 +5,7 @@ ghost use Rattle.cqlp_text.specs.Endings.{IsStatusOfTask};
 ghost use Rattle.cqlp_text.specs.Outputs.{written};
 ghost use Rattle.cqlp_streams.specs.Recordings.{Recording, no_sums, recording};
 ghost use Rattle.cqlp_streams.specs.Endings.{Concludes};
-ghost use Rattle.cqlp_streams.specs.Streams.{Reads, WritesStreams};
+ghost use Rattle.cqlp_streams.specs.Streams.{Reads, WritesStreams, ending_of};
 
 use crate::ending::StreamsEnding;
 use crate::fault::StreamsFault;
@@ -14,7 +14,7 @@ use crate::recorder::{Recorder, Sums};
 use crate::running::split;
 use crate::splitter::Splitter;
 use crate::summary::Summary;
-use cqlp_capture::{CaptureLimits, CaptureReader};
+use cqlp_capture::{CaptureEnd, CaptureLimits, CaptureReader};
 use cqlp_connections::{ConnectionLimits, Connections};
 use cqlp_grammar::SinkFault;
 use cqlp_note::{Source, Target};
@@ -88,7 +88,18 @@ fn split_all<R: Source, F: StreamFiles, O: Target, A: Allocator>(
         TURNS,
     );
     let (files, out, sums) = recorder.into_parts();
-    let ending = match answer {
+    (ending_of(answer, &splitter, sums), files, out)
+}
+
+/// How the reading of a capture ends that was split so.
+fn ending_of<A: Allocator>(
+    answer: Result<CaptureEnd, StreamsFault>,
+    splitter: &Splitter<A>,
+    sums: Sums,
+) -> StreamsEnding
+    ensures { result ≡ ending_of answer splitter.now sums }
+{
+    match answer {
         Err(fault) => StreamsEnding::Fault(fault),
         Ok(end) => StreamsEnding::Finished {
             end,
@@ -98,8 +109,7 @@ fn split_all<R: Source, F: StreamFiles, O: Target, A: Allocator>(
                 sums,
             },
         },
-    };
-    (ending, files, out)
+    }
 }
 
 /// Writes the line of an ending. Answers the exit status, which is that of a fault where the target fails.

@@ -118,15 +118,15 @@ pub(crate) fn finish_all<F: StreamFiles, O: Target, A: Allocator, B: Allocator>(
         recorder.old result recorder.new }
 {
     for turn in 0..u64::MAX {
-        let is_there = finish_one(connections, recorder)?;
-        if !is_there {
+        let is_done = finish_one(connections, recorder)?;
+        if is_done {
             return Ok(());
         }
     }
     Err(StreamsFault::TooManyTurns)
 }
 
-/// Records the next that is told of the connection that leaves first. Says whether there was one.
+/// Records the next that is told of the connection that leaves first. Says whether there was none.
 fn finish_one<F: StreamFiles, O: Target, A: Allocator, B: Allocator>(
     connections: &mut Connections<A>,
     recorder: &mut Recorder<F, O, B>,
@@ -137,13 +137,13 @@ fn finish_one<F: StreamFiles, O: Target, A: Allocator, B: Allocator>(
     match connections.finish() {
         Departure::Told(told) => {
             tell_last(connections, told, recorder)?;
-            Ok(true)
+            Ok(false)
         }
         Departure::Left(totals) => {
             recorder.record(&Saying::Left(totals))?;
-            Ok(true)
+            Ok(false)
         }
-        Departure::Empty => Ok(false),
+        Departure::Empty => Ok(true),
     }
 }
 

@@ -10,5 +10,5 @@ invariant-loop-turn g l = record {
   within : l.used ≤ length l.piece;
   limits : l.reader.limits ≡ l.fn.reader.limits;
   free : l.fn.reader.refusal ≡ None → l.reader.refusal ≡ None;
-  has : (t : Table) (before : Recording) (s : List ℕ) → Has t before s l.fn.reader l.fn.splitter l.fn.recorder → Has t before (s ++ take l.used l.piece) l.reader l.splitter l.recorder;
+  has : (t : Table) (before : Recording) (s : List ℕ) → IsSome before.output.given → Has t before s l.fn.reader l.fn.splitter l.fn.recorder → Has t before (s ++ take l.used l.piece) l.reader l.splitter l.recorder;
 }

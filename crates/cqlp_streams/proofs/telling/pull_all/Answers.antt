@@ -1,4 +1,4 @@
-use Rattle.std.proofs.Common.{◌≡◌, ◌∙◌, [], ◌∷◌, ◌++◌, IsSome, sym, ap, subst}
+use Rattle.std.proofs.Common.{rules, Err, ◌≡◌, ◌∙◌, [], ◌∷◌, ◌++◌, IsSome, sym, ap, subst}
 use Rattle.cqlp_segment.specs.Segment.{seen}
 use Rattle.cqlp_streams.specs.Sayings.{Of}
 use Rattle.cqlp_streams.specs.Recordings.{Recording, with_saying}
@@ -18,11 +18,13 @@ loop-turn-preserved g c = λ known.
     )
 
 pub returns-in_err-tell : goal.returns-in_err-tell
-returns-in_err-tell g c = λ known.
+returns-in_err-tell g c =
+    let is : c.from_residual.result ≡ Err c.in_err-tell.field-0.0 = search rules in
+    rw is (λ known.
     let before = c.loop-turn.invariant known in
     let k = subst (λ (r : Recording). IsSome r.output.given) (sym before.2) (still_known c.args.recorder.now before.0 known) in
     let t = c.in_err-tell.ensures k in (
       before.0 ++ Of c.in-Some.told t.0 ∷ [],
       path_more (Pulls (seen c.args.segment.now)) _ c.loop-turn.connections _ before.0 (Of c.in-Some.told t.0) before.1 (c.pull.new.self, c.in-Some.ensures.told, t.1),
       records_one c.args.recorder.now c.loop-turn.recorder _ before.0 (Of c.in-Some.told t.0) _ before.2 t.2,
-    )
+    ))

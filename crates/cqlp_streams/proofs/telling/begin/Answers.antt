@@ -1,0 +1,5 @@
+use Rattle.cqlp_streams.proofs.Told.{records_single}
+use Rattle.cqlp_streams.proofs.telling.begin.Goals as goal
+
+pub returns-then-is_new : goal.returns-then-is_new
+returns-then-is_new g c = λ known. rw c.if-is_new.true (records_single _ _ _ _ (c.record.ensures known))
