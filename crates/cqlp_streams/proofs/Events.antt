@@ -25,7 +25,7 @@ use Rattle.cqlp_streams.proofs.Recorded.{not_read, records_others, with_others}
 -- one event more
 pub events_more : (s m u : SplitState) (es : List (ℕ × Event)) (e : ℕ × Event) (ss ts : List Saying) → TellsEvents s es ss m → TellsEvent true m e.1 ts u → TellsEvents s (es ++ e ∷ []) (ss ++ ts) u
 events_more s m u [] e ss ts (none, same) a =
-    (u, ts, [], ap (λ z. z ++ ts) none ∙ sym (append-nil ts), subst (λ z. TellsEvent true z e.1 ts u) same a, refl, refl)
+    (u, ts, [], ap (λ z. z ++ ts) none ∙ sym (append-nil ts), subst (λ z. TellsEvent true z e.1 ts u) same a, (refl, refl))
 events_more s m u (x ∷ xs) e ss ts (k, first, rest, parts, head, tail) a =
     (k, first, rest ++ ts, ap (λ z. z ++ ts) parts ∙ append_assoc first rest ts, head, events_more k m u xs e rest ts tail a)
 

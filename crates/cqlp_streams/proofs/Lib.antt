@@ -8,3 +8,4 @@ pub mod Splitting
 pub mod Once
 pub mod Gotten
 pub mod OneAnswer
+pub mod Pushed

@@ -60,8 +60,8 @@ module _ (l : CaptureLimits) where
   end_says bytes es (end.Refused r) a = a
 
   tests_differ : (q q' : Spot) (rest rest' : List ℕ) → q' ≡ q → rest' ≡ rest → is_between q.place.stage && is_empty rest ≡ true → is_between q'.place.stage && is_empty rest' ≡ false → ⊥
-  tests_differ q q' rest rest' a b yes no =
-      let both : ◌≡◌ {A = Bool} true false = sym yes ∙ sym (λ i. is_between (a i).place.stage && is_empty (b i)) ∙ no in absurd cc
+  tests_differ q q' rest rest' a b first second =
+      let both : ◌≡◌ {A = Bool} true false = sym first ∙ sym (λ i. is_between (a i).place.stage && is_empty (b i)) ∙ second in absurd cc
 
   ends_by : (bytes : List ℕ) (es es' : List (ℕ × Event)) (e e' : CaptureEnd) → verdict_of e' ≡ verdict_of e → EndsSo l bytes es e → EndsSo l bytes es' e' → e' ≡ e
   ends_by bytes es es' (end.Whole n) (end.Whole m) v a b = ap (λ k. end.Whole k) (b.0 ∙ sym a.0)
@@ -118,25 +118,25 @@ splits_once l fits t before xs e e' left left' u u' after after' a b =
 
 -- the line was written, where nothing failed
 concluded : (e : StreamsEnding) (err err' : Output) (status : ℕ) → Concludes e err status err' → status ≢ 3 → (status ≡ status_of e) × (err' ≡ with_text err (line_of e))
-concluded e err err' status (inl (inl a)) no = a
-concluded e err err' status (inl (inr (is, x))) no = absurd (no is)
-concluded e err err' status (inr (inl (is, x))) no = absurd (no is)
-concluded e err err' status (inr (inr (is, x))) no = absurd (no is)
+concluded e err err' status (inl (inl a)) well = a
+concluded e err err' status (inl (inr (is, x))) well = absurd (well is)
+concluded e err err' status (inr (inl (is, x))) well = absurd (well is)
+concluded e err err' status (inr (inr (is, x))) well = absurd (well is)
 
 finished_once : (ports xs : List ℕ) (e e' : StreamsEnding) (left left' : Option (List ℕ)) (before after after' : Recording) → (status_of e ≢ 3) → (status_of e' ≢ 3) → ReadsFile ports xs e left before after → ReadsFile ports xs e' left' before after' → (e' ≡ e) × (after' ≡ after)
-finished_once ports xs e e' left left' before after after' no no' (inr (is, rest, same)) b = absurd (no (ap status_of is))
-finished_once ports xs e e' left left' before after after' no no' (inl (Err f, u, a, is)) b = absurd (no (ap status_of is))
-finished_once ports xs e e' left left' before after after' no no' (inl (Ok x, u, a, is)) (inr (is', rest, same)) = absurd (no' (ap status_of is'))
-finished_once ports xs e e' left left' before after after' no no' (inl (Ok x, u, a, is)) (inl (Err f, u', b, is')) = absurd (no' (ap status_of is'))
-finished_once ports xs e e' left left' before after after' no no' (inl (Ok x, u, a, is)) (inl (Ok x', u', b, is')) =
+finished_once ports xs e e' left left' before after after' well well' (inr (is, rest, same)) b = absurd (well (ap status_of is))
+finished_once ports xs e e' left left' before after after' well well' (inl (Err f, u, a, is)) b = absurd (well (ap status_of is))
+finished_once ports xs e e' left left' before after after' well well' (inl (Ok x, u, a, is)) (inr (is', rest, same)) = absurd (well' (ap status_of is'))
+finished_once ports xs e e' left left' before after after' well well' (inl (Ok x, u, a, is)) (inl (Err f, u', b, is')) = absurd (well' (ap status_of is'))
+finished_once ports xs e e' left left' before after after' well well' (inl (Ok x, u, a, is)) (inl (Ok x', u', b, is')) =
     let one = splits_once default_limits (in_range default_limits refl) (no_connections ports) before xs x x' left left' u u' after after' a b in
     (is' ∙ (λ i. ending.Finished (one.0 i) (summary_of (one.1 i) (one.2 i).sums)) ∙ sym is, one.2)
 
 pub streams_once : OneAnswerOfWriteStreams
-streams_once ports xs calls out err left left' status status' made made' out' out'' err' err'' (e, sums, reads, ends) no (e', sums', reads', ends') no' =
-    let c = concluded e err err' status ends no in
-    let c' = concluded e' err err'' status' ends' no' in
-    let one = finished_once ports xs e e' left left' (recording calls out no_sums) (recording made out' sums) (recording made' out'' sums') (λ is. no (c.0 ∙ is)) (λ is. no' (c'.0 ∙ is)) reads reads' in (
+streams_once ports xs calls out err left left' status status' made made' out' out'' err' err'' (e, sums, reads, ends) well (e', sums', reads', ends') well' =
+    let c = concluded e err err' status ends well in
+    let c' = concluded e' err err'' status' ends' well' in
+    let one = finished_once ports xs e e' left left' (recording calls out no_sums) (recording made out' sums) (recording made' out'' sums') (λ is. well (c.0 ∙ is)) (λ is. well' (c'.0 ∙ is)) reads reads' in (
       c'.0 ∙ ap status_of one.0 ∙ sym c.0,
       ap (λ (z : Recording). z.calls) one.1,
       ap (λ (z : Recording). z.output) one.1,

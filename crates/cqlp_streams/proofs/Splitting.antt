@@ -115,7 +115,7 @@ module _ (l : CaptureLimits) (t : Table) (before : Recording) (xs : List ℕ) (l
         parts = f.parts ∙ ap (λ z. z ++ f.rest) (sym (append-nil f.read));
         others = f.others;
         all = tt;
-        ends = e;
+        ends = other_fault l t before (f.read ++ []) u after fault.TooManyTurns e.0 (inl e.1) e.2;
       }
 
   module _ (piece rest : List ℕ) (is : left' ≡ Some rest) (reads : f.rest ≡ piece ++ rest) (d' : CaptureState) (u' : SplitState) (after' : Recording) where

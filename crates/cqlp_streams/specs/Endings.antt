@@ -70,11 +70,14 @@ reason_words w =
     ++ count_words (codes "NotTcp") w.not_tcp ++ count_words (codes "CutInTcp") w.cut_in_tcp
     ++ count_words (codes "BadTcpLength") w.bad_tcp_length
 
-abbrev pub summary_words : Summary → List ℕ
-summary_words s =
+abbrev pub summary_head : Summary → List ℕ
+summary_head s =
     codes " packets " ++ decimal s.packets.packets ++ codes " segments " ++ decimal s.packets.segments
     ++ codes " connections " ++ decimal s.connections.connections ++ codes " gaps " ++ decimal s.sums.gaps
-    ++ codes " bytes " ++ decimal s.sums.bytes ++ table_words s.connections ++ reason_words s.packets.without
+    ++ codes " bytes " ++ decimal s.sums.bytes
+
+abbrev pub summary_words : Summary → List ℕ
+summary_words s = summary_head s ++ table_words s.connections ++ reason_words s.packets.without
 
 -- ---- the line of a fault
 

@@ -20,7 +20,7 @@ use cqlp_grammar::SinkFault;
 use cqlp_note::{Source, Target};
 use cqlp_text::exit_status::FAULT;
 use cqlp_text::put_text;
-use std::alloc::Allocator;
+use std::alloc::{Allocator, Global};
 
 /// How many connections there are at one time, each with two open files, and how many bytes that came early each direction holds.
 pub const LIMITS: ConnectionLimits = ConnectionLimits {
@@ -38,8 +38,8 @@ const ROOM: usize = 65_536;
 /// connection to `out`, and what the capture was, or the fault line, to `err`. Answers the exit status, the files and the two outputs.
 ///
 /// After a fault nothing more is asked of what failed.
-pub fn write_streams<R: Source, F: StreamFiles, O: Target, E: Target, A: Allocator>(
-    alloc: &A,
+pub fn write_streams<R: Source, F: StreamFiles, O: Target, E: Target>(
+    alloc: Global,
     ports: &[u16],
     input: &mut R,
     files: F,
@@ -56,8 +56,8 @@ pub fn write_streams<R: Source, F: StreamFiles, O: Target, E: Target, A: Allocat
     (status, files, out, err)
 }
 
-fn split_all<R: Source, F: StreamFiles, O: Target, A: Allocator>(
-    alloc: &A,
+fn split_all<R: Source, F: StreamFiles, O: Target>(
+    alloc: Global,
     ports: &[u16],
     input: &mut R,
     files: F,
@@ -113,12 +113,12 @@ fn ending_of<A: Allocator>(
 }
 
 /// Writes the line of an ending. Answers the exit status, which is that of a fault where the target fails.
-fn conclude<E: Target, A: Allocator>(alloc: &A, ending: &StreamsEnding, mut err: E) -> (u8, E)
+fn conclude<E: Target>(alloc: Global, ending: &StreamsEnding, mut err: E) -> (u8, E)
     ensures task { IsStatusOfTask result.0 }
     ensures concludes { IsSome (E.contents err) →
         Concludes ending.now (written E.Target err) result.0 (written E.Target result.1) }
 {
-    let Ok(line) = ending.line(alloc) else {
+    let Ok(line) = ending.line(&alloc) else {
         return match put_text("cqlp: no memory\n", &mut err) {
             Ok(()) | Err(SinkFault) => (FAULT, err),
         };

@@ -34,18 +34,17 @@ impl WithoutCounts {
     fn count(&mut self, why: NoSegment)
         ensures { self.new ≡ with_reason why self.old }
     {
-        let count = match why {
-            NoSegment::UnknownLink => &mut self.unknown_link,
-            NoSegment::CutInLink => &mut self.cut_in_link,
-            NoSegment::NotIp => &mut self.not_ip,
-            NoSegment::CutInIp => &mut self.cut_in_ip,
-            NoSegment::BadIpLength => &mut self.bad_ip_length,
-            NoSegment::Fragment => &mut self.fragment,
-            NoSegment::NotTcp => &mut self.not_tcp,
-            NoSegment::CutInTcp => &mut self.cut_in_tcp,
-            NoSegment::BadTcpLength => &mut self.bad_tcp_length,
-        };
-        *count = count.saturating_add(1);
+        match why {
+            NoSegment::UnknownLink => self.unknown_link = self.unknown_link.saturating_add(1),
+            NoSegment::CutInLink => self.cut_in_link = self.cut_in_link.saturating_add(1),
+            NoSegment::NotIp => self.not_ip = self.not_ip.saturating_add(1),
+            NoSegment::CutInIp => self.cut_in_ip = self.cut_in_ip.saturating_add(1),
+            NoSegment::BadIpLength => self.bad_ip_length = self.bad_ip_length.saturating_add(1),
+            NoSegment::Fragment => self.fragment = self.fragment.saturating_add(1),
+            NoSegment::NotTcp => self.not_tcp = self.not_tcp.saturating_add(1),
+            NoSegment::CutInTcp => self.cut_in_tcp = self.cut_in_tcp.saturating_add(1),
+            NoSegment::BadTcpLength => self.bad_tcp_length = self.bad_tcp_length.saturating_add(1),
+        }
     }
 }
 

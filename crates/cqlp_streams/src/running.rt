@@ -43,7 +43,8 @@ pub(crate) fn split<R: Source, F: StreamFiles, O: Target, A: Allocator, B: Alloc
             Ok(count) => count,
             Err(IoFault) => return Err(StreamsFault::Read),
         };
-        match drain(reader, splitter, &buffer[..count], recorder)? {
+        let drained = drain(reader, splitter, &buffer[..count], recorder)?;
+        match drained {
             Drained::Refused => return end_all(reader, splitter, recorder),
             Drained::More => {
                 if count == 0 {

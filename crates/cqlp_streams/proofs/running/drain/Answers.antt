@@ -25,14 +25,14 @@ returns-in-Refused g c = λ t before s k h0 none.
     let h = i.has t before s k h0 in
     drained_refused _ t before s c.args.piece.now c.loop-turn.used c.loop-turn.reader c.next.follows.lender-at-none _ _ c.in-Refused.field-0 h i.limits (i.free none) (rw (c.in-Refused.is, rest_of) at c.next.follows.holds-at-none.0) (rw (c.in-Refused.is, rest_of) at c.next.follows.holds-at-none.1 (s ++ take c.loop-turn.used c.args.piece.now) h.events h.stands)
 
-pub returns-in_err-take : goal.returns-in_err-take
-returns-in_err-take g c =
-    let is : c.from_residual.result ≡ Err c.in_err-take.field-0.0 = search rules in
+pub returns-in_err-take-in-Event : goal.returns-in_err-take-in-Event
+returns-in_err-take-in-Event g c =
+    let is : c.from_residual.result ≡ Err c.in_err-take-in-Event.field-0.0 = search rules in
     rw is (λ t before s k h0 none.
     let i = c.loop-turn.invariant in
     let h = i.has t before s k h0 in
-    let a = c.in_err-take.ensures (known_here t before _ _ _ _ k h) in
-    drain_fails _ t before s c.args.piece.now c.loop-turn.used c.loop-turn.reader c.next.follows.lender-at-none _ _ _ _ c.in-Event.at c.in-Event.taken c.in-Event.event a.0 _ h i.limits (rw (c.in-Event.is, rest_of) at c.next.follows.holds-at-none.0) (rw (c.in-Event.is, rest_of) at c.next.follows.holds-at-none.1 (s ++ take c.loop-turn.used c.args.piece.now) h.events h.stands) a.1 a.2)
+    let a = c.in_err-take-in-Event.ensures (known_here t before _ _ _ _ k h) in
+    drain_fails _ t before s c.args.piece.now c.loop-turn.used c.loop-turn.reader c.next.follows.lender-at-none c.loop-turn.splitter c.take.new.self c.loop-turn.recorder c.take.new.recorder c.in-Event.at c.in-Event.taken c.in-Event.event a.0 c.in_err-take-in-Event.field-0.0 h i.limits (rw (c.in-Event.is, rest_of) at c.next.follows.holds-at-none.0) (rw (c.in-Event.is, rest_of) at c.next.follows.holds-at-none.1 (s ++ take c.loop-turn.used c.args.piece.now) h.events h.stands) a.1 a.2)
 
 pub loop-turn-preserved : goal.loop-turn-preserved
 loop-turn-preserved g c =
@@ -46,8 +46,8 @@ loop-turn-preserved g c =
       has = λ t before s k h0.
           let h = i.has t before s k h0 in
           let leads = rw (c.in-Event.is, rest_of) at c.next.follows.holds-at-none.1 (s ++ take used piece) h.events h.stands in
-          let a = c.in_ok-take.ensures (known_here t before _ _ _ _ k h) in
-          takes_event t before s piece used c.loop-turn.reader c.next.follows.lender-at-none _ _ _ _ c.in-Event.at c.in-Event.taken c.in-Event.event a.0 h leads a.1 a.2;
+          let a = c.in_ok-take-in-Event.ensures (known_here t before _ _ _ _ k h) in
+          takes_event t before s piece used c.loop-turn.reader c.next.follows.lender-at-none c.loop-turn.splitter c.take.new.self c.loop-turn.recorder c.take.new.recorder c.in-Event.at c.in-Event.taken c.in-Event.event a.0 h leads a.1 a.2;
     }
 
 pub returns : goal.returns

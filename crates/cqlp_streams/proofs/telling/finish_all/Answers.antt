@@ -17,7 +17,7 @@ returns-in_err-is_done g c =
         let t = c.in_err-is_done.ensures k in (
           before.0 ++ t.0 ∷ [],
           path_more Departs _ c.loop-turn.connections _ before.0 t.0 before.1 t.1,
-          records_one c.args.recorder.now c.loop-turn.recorder _ before.0 t.0 _ before.2 t.2,
+          records_one c.args.recorder.now c.loop-turn.recorder c.finish_one.new.recorder before.0 t.0 (Err c.in_err-is_done.field-0.0) before.2 t.2,
         ))
 
 pub returns-then-is_done : goal.returns-then-is_done

@@ -27,7 +27,7 @@ returns-in_err-tell_last-in-Told g c =
     let t = c.in_err-tell_last-in-Told.ensures k in (
       before.0 ++ Of c.in-Told.told t.0 ∷ [],
       inl (path_more (StillTells left) _ c.loop-turn.connections _ before.0 (Of c.in-Told.told t.0) before.1 (c.leave.new.self, c.in-Told.ensures, t.1)),
-      records_one c.args.recorder.now c.loop-turn.recorder _ before.0 (Of c.in-Told.told t.0) _ before.2 t.2,
+      records_one c.args.recorder.now c.loop-turn.recorder c.tell_last.new.recorder before.0 (Of c.in-Told.told t.0) (Err c.in_err-tell_last-in-Told.field-0.0) before.2 t.2,
     ))
 
 pub returns-in-Left : goal.returns-in-Left

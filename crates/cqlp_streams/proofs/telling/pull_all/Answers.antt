@@ -26,5 +26,5 @@ returns-in_err-tell g c =
     let t = c.in_err-tell.ensures k in (
       before.0 ++ Of c.in-Some.told t.0 ∷ [],
       path_more (Pulls (seen c.args.segment.now)) _ c.loop-turn.connections _ before.0 (Of c.in-Some.told t.0) before.1 (c.pull.new.self, c.in-Some.ensures.told, t.1),
-      records_one c.args.recorder.now c.loop-turn.recorder _ before.0 (Of c.in-Some.told t.0) _ before.2 t.2,
+      records_one c.args.recorder.now c.loop-turn.recorder c.tell.new.recorder before.0 (Of c.in-Some.told t.0) (Err c.in_err-tell.field-0.0) before.2 t.2,
     ))
