@@ -153,7 +153,7 @@ fn split_to_folder<R: Files + AllocGlobal, I: Source, O: Target, E: Target>(
 {
     let folder = Folder::new(rt, rt.alloc(), options.streams);
     let (status, _, out, err) = write_streams(
-        &rt.alloc(),
+        rt.alloc(),
         options.ports.as_slice(),
         input,
         folder,

@@ -1,5 +1,7 @@
 //! A folder for the files of connections.
 
+ghost use Rattle.std.specs.Prelude.{◌<◌, IfSome, vec_len};
+
 use cqlp_connections::Way;
 use cqlp_streams::{FileFault, StreamFile, StreamFiles};
 use std::alloc::{AllocError, Global};
@@ -124,7 +126,9 @@ impl<'a, R: Files> Folder<'a, R> {
     }
 
     /// The place of a connection's files among those that are open.
-    fn place_of(&self, number: u64) -> Option<usize> {
+    fn place_of(&self, number: u64) -> Option<usize>
+        ensures { IfSome result (λ place. place < vec_len self.now.open) }
+    {
         for (place, files) in self.open.iter().enumerate() {
             if files.number == number {
                 return Some(place);

@@ -123,7 +123,7 @@ fn made(file: &[u8], most: usize, ports: &[u16], calls: usize) -> Made {
     let (files, out, err) = (Sums::with_room(calls), OfStd::new(Vec::with_capacity(64 << 20)), OfStd::new(Vec::with_capacity(1_000)));
     let before = LIVE.load(SeqCst);
     MOST.store(before, SeqCst);
-    let (status, files, out, err) = write_streams(&Global, ports, &mut pieces, files, out, err);
+    let (status, files, out, err) = write_streams(Global, ports, &mut pieces, files, out, err);
     let taken = MOST.load(SeqCst) - before;
     assert!(taken <= 48 << 20, "{taken} bytes of memory");
     assert_eq!(LIVE.load(SeqCst), before);
