@@ -158,3 +158,11 @@ module _ (l : CaptureLimits) (t : Table) (before : Recording) (xs : List ℕ) (l
           free = a.1;
           wants = at.1;
         }
+
+-- the same under other names
+pub splits_as : (l l' : CaptureLimits) (t t' : Table) (before before' : Recording) (xs : List ℕ) (r : Result CaptureEnd StreamsFault) (left : Option (List ℕ)) (u : SplitState) (after after' : Recording) → l ≡ l' → t ≡ t' → before ≡ before' → after ≡ after' → SplitsTo l t before xs r left u after → SplitsTo l' t' before' xs r left u after'
+splits_as l l' t t' before before' xs r left u after after' el et eb ea a =
+    let one = subst (λ (z : Recording). SplitsTo l t before xs r left u z) ea a in
+    let two = subst (λ (z : Recording). SplitsTo l t z xs r left u after') eb one in
+    let three = subst (λ (z : Table). SplitsTo l z before' xs r left u after') et two in
+    subst (λ (z : CaptureLimits). SplitsTo z t' before' xs r left u after') el three
