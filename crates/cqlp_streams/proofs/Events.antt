@@ -99,7 +99,6 @@ never_ends l t before s later d u after h none same = (
   inl (refl, h.recorded),
 )
 
-
 -- ---- the end of the file
 
 ends_at : (b : Bool) (d : CaptureState) (s : List ℕ) (es : List (ℕ × Event)) (e : CaptureEnd) → is_between d.spot.place.stage && is_empty d.pending ≡ b → e ≡ cond b (end.Whole d.spot.place.offset) (end.Cut (began d.spot.place) (d.spot.place.offset + length d.pending)) → HearsAll d.limits s es d.spot d.pending → FinishesBy None d s e → EndsSo d.limits s es e

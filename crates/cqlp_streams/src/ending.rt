@@ -103,11 +103,7 @@ fn fault_line<A: Allocator>(alloc: A, fault: &StreamsFault) -> Result<String<A>,
 }
 
 /// The line of a file with which that cannot be done.
-fn file_line<A: Allocator>(
-    alloc: A,
-    deed: &str,
-    file: &StreamFile,
-) -> Result<String<A>, AllocError>
+fn file_line<A: Allocator>(alloc: A, deed: &str, file: &StreamFile) -> Result<String<A>, AllocError>
     ensures { IfOk result (λ line. string_bytes line ≡ file_line deed.now file.now) }
 {
     let number = file.number;

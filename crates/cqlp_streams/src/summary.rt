@@ -64,11 +64,7 @@ fn push_reasons<A: Allocator>(
 }
 
 /// Appends a name and a number, each after a space, unless the number is 0.
-fn push_count<A: Allocator>(
-    words: &mut String<A>,
-    name: &str,
-    count: u64,
-) -> Result<(), AllocError>
+fn push_count<A: Allocator>(words: &mut String<A>, name: &str, count: u64) -> Result<(), AllocError>
     ensures { IfOk result (λ _. string_bytes words.new ≡ string_bytes words.old ++ count_words name.now count) }
 {
     if count == 0 {

@@ -3,7 +3,7 @@ use Rattle.cqlp_streams.proofs.Written.{said}
 use Rattle.cqlp_streams.proofs.ending.verdict.Goals as goal
 
 pub returns-in-Cut : goal.returns-in-Cut
-returns-in-Cut g c = first_of (said c.format-in-Cut.result string_bytes _ _ c.format-in-Cut.ensures.ok (simp (append_assoc, c.in-Cut.is)), rw c.in-Cut.is (said c.format-in-Cut.result string_bytes _ _ c.format-in-Cut.ensures.ok (simp append_assoc)))
+returns-in-Cut g c = said c.format-in-Cut.result string_bytes _ _ c.format-in-Cut.ensures.ok (simp (append_assoc, c.in-Cut.is))
 
 pub returns-in-Refused : goal.returns-in-Refused
-returns-in-Refused g c = first_of (said c.format-in-Refused.result string_bytes _ _ c.format-in-Refused.ensures.ok (simp (append_assoc, c.in-Refused.is, c.reason_name-why.ensures)), rw c.in-Refused.is (said c.format-in-Refused.result string_bytes _ _ c.format-in-Refused.ensures.ok (simp (append_assoc, c.reason_name-why.ensures))))
+returns-in-Refused g c = said c.format-in-Refused.result string_bytes _ _ c.format-in-Refused.ensures.ok (simp (append_assoc, c.in-Refused.is, c.reason_name-why.ensures))

@@ -21,9 +21,9 @@ pub returns-in_err-drained : goal.returns-in_err-drained
 returns-in_err-drained g c =
     let fails : c.from_residual.result ≡ Err c.in_err-drained.field-0.0 = search rules in
     rw fails (λ xs is k.
-        let f = c.loop-turn.invariant.so_far xs is k in
-        let r = read_some (g.R.Source.left c.loop-turn.input) (g.R.Source.left c.read.new.self) f.rest c.read.new.buffer c.in-Ok.count f.others c.in-Ok.ensures.bytes.0 c.in-Ok.ensures.bytes.1 in
-        drain_fails c.args.reader.now.limits c.args.splitter.now.table c.args.recorder.now xs (g.R.Source.left c.loop-turn.input) (g.R.Source.left c.read.new.self) c.loop-turn.reader c.loop-turn.splitter c.loop-turn.recorder f (take c.in-Ok.count c.read.new.buffer) r.0 r.1 r.2 c.drain.new.reader c.drain.new.splitter c.drain.new.recorder c.in_err-drained.field-0.0 (c.in_err-drained.ensures c.args.splitter.now.table c.args.recorder.now f.read k f.has f.free))
+    let f = c.loop-turn.invariant.so_far xs is k in
+    let r = read_some (g.R.Source.left c.loop-turn.input) (g.R.Source.left c.read.new.self) f.rest c.read.new.buffer c.in-Ok.count f.others c.in-Ok.ensures.bytes.0 c.in-Ok.ensures.bytes.1 in
+    drain_fails c.args.reader.now.limits c.args.splitter.now.table c.args.recorder.now xs (g.R.Source.left c.loop-turn.input) (g.R.Source.left c.read.new.self) c.loop-turn.reader c.loop-turn.splitter c.loop-turn.recorder f (take c.in-Ok.count c.read.new.buffer) r.0 r.1 r.2 c.drain.new.reader c.drain.new.splitter c.drain.new.recorder c.in_err-drained.field-0.0 (c.in_err-drained.ensures c.args.splitter.now.table c.args.recorder.now f.read k f.has f.free))
 
 pub returns-in-Refused : goal.returns-in-Refused
 returns-in-Refused g c = λ xs is k.

@@ -12,13 +12,13 @@ pub returns-in_err-is_done : goal.returns-in_err-is_done
 returns-in_err-is_done g c =
     let is : c.from_residual.result ≡ Err c.in_err-is_done.field-0.0 = search rules in
     rw is (λ known.
-        let before = c.loop-turn.invariant known in
-        let k = subst (λ (r : Recording). IsSome r.output.given) (sym before.2) (still_known c.args.recorder.now before.0 known) in
-        let t = c.in_err-is_done.ensures k in (
-          before.0 ++ t.0 ∷ [],
-          path_more Departs _ c.loop-turn.connections _ before.0 t.0 before.1 t.1,
-          records_one c.args.recorder.now c.loop-turn.recorder c.finish_one.new.recorder before.0 t.0 (Err c.in_err-is_done.field-0.0) before.2 t.2,
-        ))
+    let before = c.loop-turn.invariant known in
+    let k = subst (λ (r : Recording). IsSome r.output.given) (sym before.2) (still_known c.args.recorder.now before.0 known) in
+    let t = c.in_err-is_done.ensures k in (
+      before.0 ++ t.0 ∷ [],
+      path_more Departs _ c.loop-turn.connections _ before.0 t.0 before.1 t.1,
+      records_one c.args.recorder.now c.loop-turn.recorder c.finish_one.new.recorder before.0 t.0 (Err c.in_err-is_done.field-0.0) before.2 t.2,
+    ))
 
 pub returns-then-is_done : goal.returns-then-is_done
 returns-then-is_done g c = λ known.
