@@ -33,7 +33,7 @@ pub(crate) struct Folder<'a, R: Files> {
     rt: &'a R,
     alloc: Global,
     path: &'a str,
-    open: Vec<OpenFiles<R::File>>,
+    opened: Vec<OpenFiles<R::File>>,
 }
 
 /// Whether there is a folder with this path.
@@ -70,7 +70,7 @@ impl<'a, R: Files> Folder<'a, R> {
             rt,
             alloc,
             path,
-            open: Vec::new(alloc),
+            opened: Vec::new(alloc),
         }
     }
 
@@ -127,9 +127,9 @@ impl<'a, R: Files> Folder<'a, R> {
 
     /// The place of a connection's files among those that are open.
     fn place_of(&self, number: u64) -> Option<usize>
-        ensures { IfSome result (λ place. place < vec_len self.now.open) }
+        ensures { IfSome result (λ place. place < vec_len self.now.opened) }
     {
-        for (place, files) in self.open.iter().enumerate() {
+        for (place, files) in self.opened.iter().enumerate() {
             if files.number == number {
                 return Some(place);
             }
@@ -153,7 +153,7 @@ impl<'a, R: Files> Folder<'a, R> {
         let Some(place) = self.place_of(number) else {
             return Ok(());
         };
-        let mut files = self.open.swap_remove(place);
+        let mut files = self.opened.swap_remove(place);
         if files.requests.write_waiting().is_err() {
             return Err(FileFault::CannotWrite(requests_of(number)));
         }
@@ -196,7 +196,7 @@ fn is_free<R: Files>(rt: &R, path: &str) -> bool {
 impl<R: Files> StreamFiles for Folder<'_, R> {
     fn make(&mut self, number: u64) -> Result<(), FileFault> {
         let files = self.open_files(number)?;
-        match self.open.push(files) {
+        match self.opened.push(files) {
             Ok(()) => Ok(()),
             Err(_) => Err(FileFault::NoMemory),
         }
@@ -206,7 +206,7 @@ impl<R: Files> StreamFiles for Folder<'_, R> {
         let Some(place) = self.place_of(file.number) else {
             return Err(FileFault::CannotWrite(file));
         };
-        let Some(files) = self.open.get_mut(place) else {
+        let Some(files) = self.opened.get_mut(place) else {
             return Err(FileFault::CannotWrite(file));
         };
         let target = match file.way {
