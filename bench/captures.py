@@ -1,11 +1,13 @@
 #!/usr/bin/env python3
-"""Writes a capture of result pages on Ethernet to a file: captures.py whole|lost|many FILE [MB]
+"""Writes a capture of result pages on Ethernet to a file: captures.py whole|lost|few|many FILE [MB]
 
 whole  one connection, whose node sends pages of rows (pages.py) in segments of 1,448 bytes, each second of which is acknowledged
 lost   the same, where the capture has not each second segment with bytes
-many   100,000 connections, 1,000 of them open at a time, whose nodes send 10,136 bytes each
+few    10,000 connections, 200 of them open at a time, whose nodes send 10,136 bytes each
+many   100,000 connections, 1,000 of them open at a time, the same
 
-MB is how long the capture is at least, in millions of bytes: 1,000 where it is not said; of `many` it says how many connections there are.
+MB is how long the capture is at least, in millions of bytes: 1,000 where it is not said; of `few` and `many` it says how many connections
+there are.
 The same words give the same bytes.
 """
 import struct
@@ -103,10 +105,10 @@ def one(capture, page, size, loses):
     connection.end()
 
 
-def many(capture, page, count):
+def many(capture, page, count, at_a_time):
     payloads = segments(page)
-    for first in range(0, count, 1_000):
-        group = [Connection(capture, number) for number in range(first, min(count, first + 1_000))]
+    for first in range(0, count, at_a_time):
+        group = [Connection(capture, number) for number in range(first, min(count, first + at_a_time))]
         for connection in group:
             connection.begin()
         for _ in range(7):
@@ -120,7 +122,9 @@ def main(kind, path, size="1000"):
     rows = subprocess.run([sys.executable, Path(__file__).parent / "pages.py", "rows", "100000"], stdout=subprocess.PIPE, check=True).stdout
     capture = Capture(path)
     if kind == "many":
-        many(capture, rows, int(size) * 100)
+        many(capture, rows, int(size) * 100, 1_000)
+    elif kind == "few":
+        many(capture, rows, int(size) * 10, 200)
     else:
         one(capture, rows, int(size) * 1_000_000, kind == "lost")
     capture.file.close()

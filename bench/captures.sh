@@ -1,7 +1,8 @@
 #!/usr/bin/env bash
 # Times the example `streams` of the package for cargo, which hands on what each end of each connection sent, on captures of 1 GB that
 # captures.py makes: whole, with each second segment with bytes lost, and of 100,000 connections. It writes nothing but a line for each
-# direction. Beside it tcpflow and tshark, where they are installed. The word after it is another size in MB.
+# direction. And `cqlp capture --streams`, which writes files too: the program that dist/assemble makes of the proved sources, or CQLP.
+# Beside them tcpflow and tshark, where they are installed. The word after it is another size in MB.
 set -eu
 
 here=$(dirname -- "$(readlink -f -- "${BASH_SOURCE[0]}")")
@@ -10,6 +11,7 @@ room=$(mktemp -d)
 trap 'rm -rf "$room"' EXIT
 export CARGO_TARGET_DIR=$here/../dist/out/rust
 (cd "$here/../dist/rust" && cargo build --offline --release --example streams)
+program=${CQLP:-$here/../dist/out/program/target/release/cqlp}
 
 # The least processor time of three runs of a command on a capture, and its resident memory.
 tell() {
@@ -17,7 +19,9 @@ tell() {
     shift 2
     rm -f "$room/spent"
     for _ in 1 2 3; do
-        /usr/bin/time -a -o "$room/spent" -f '%U %S %M' "$@" >/dev/null
+        rm -rf "$room/flows"
+        mkdir "$room/flows"
+        /usr/bin/time -a -o "$room/spent" -f '%U %S %M' "$@" >/dev/null 2>&1
     done
     awk -v name="$name" -v bytes="$(stat -c %s "$capture")" '
         NR == 1 || $1 + $2 < best { best = $1 + $2 }
@@ -25,13 +29,16 @@ tell() {
         END { printf "  %s: %d ms of the processor, %d MB/s, %.1f MiB resident\n", name, best * 1000, bytes / best / 1e6, most / 1024 }' "$room/spent"
 }
 
-for kind in whole lost many; do
+for kind in whole lost few many; do
     python3 "$here/captures.py" "$kind" "$room/capture" "$size"
     echo "$kind: $(stat -c %s "$room/capture") bytes"
     tell streams "$room/capture" "$CARGO_TARGET_DIR/release/examples/streams" "$room/capture"
+    # Of 1,000 connections at a time the program tells each segment as a connection of its own, with two files.
+    if [ "$kind" != many ] && [ -x "$program" ]; then
+        tell cqlp "$room/capture" "$program" capture --streams "$room/flows" "$room/capture"
+    fi
     if command -v tcpflow >/dev/null; then
         tell tcpflow "$room/capture" tcpflow -q -r "$room/capture" -o "$room/flows"
-        rm -rf "$room/flows"
     fi
     if command -v tshark >/dev/null; then
         tell tshark "$room/capture" tshark -q -n -r "$room/capture" -z conv,tcp

@@ -118,6 +118,7 @@ fn raw_file<'a>(alloc: Global, words: &'a [Argument], texts: &[&str]) -> Option<
 fn is_file(alloc: Global, texts: &[&str], text: &str) -> bool {
     match CommandLine::parse(alloc, texts) {
         Ok(CommandLine::Stream(options)) => options.file == text,
+        Ok(CommandLine::Capture(options)) => options.file == text,
         Ok(CommandLine::Loop { .. }) | Err(_) => false,
     }
 }

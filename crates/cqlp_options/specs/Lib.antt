@@ -1,3 +1,4 @@
 pub mod CommandLines
 pub mod NoTasks
+pub mod Ports
 pub mod Reported

@@ -3,6 +3,7 @@
 ghost use Rattle.std.specs.Prelude.{◌≤◌, IfOk, IfSome};
 ghost use Rattle.cqlp_options.specs.CommandLines.{IsWithin};
 
+use crate::capture::CaptureOptions;
 use crate::no_task::{NoTask, no_task_of};
 use crate::options::Options;
 use crate::program::program;
@@ -26,6 +27,8 @@ pub enum CommandLine<'a> {
     Stream(Options<'a>),
     /// A conversation of a client and a server, with this many queries: 1 to 1,000.
     Loop { queries: u16 },
+    /// The bytes of each direction of each connection of a capture, apart.
+    Capture(CaptureOptions<'a>),
 }
 
 impl<'a> CommandLine<'a> {
@@ -79,6 +82,10 @@ fn line_of<'a>(matches: &ArgMatches<'a>) -> Option<CommandLine<'a>>
         ("loop", matches) => {
             let queries = queries_of(matches)?;
             Some(CommandLine::Loop { queries })
+        }
+        ("capture", matches) => {
+            let options = CaptureOptions::matched(matches)?;
+            Some(CommandLine::Capture(options))
         }
         (name, matches) => {
             let options = Options::matched(name, matches)?;

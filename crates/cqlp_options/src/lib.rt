@@ -1,6 +1,7 @@
 //! What a command line of the program cqlp asks for.
 #![tactic(auto)]
 
+mod capture;
 mod command_line;
 pub mod laws;
 mod no_task;
@@ -8,6 +9,7 @@ mod options;
 mod program;
 mod reported;
 
+pub use capture::{CaptureOptions, MOST_PORTS, Ports};
 pub use command_line::{CommandLine, QUERIES};
 pub use no_task::NoTask;
 pub use options::{DEFAULT_LIMITS, Options, Task};

@@ -40,7 +40,7 @@ pub(crate) fn program<'a>(alloc: Global) -> Result<Command<'a>, AllocError> {
         "Write the verdict on a stream alone",
         "Example: cqlp check - < capture.bin",
     )?;
-    with_conversation(alloc, program)
+    with_capture(alloc, with_conversation(alloc, program)?)
 }
 
 fn without_tasks<'a>(alloc: Global) -> Result<Command<'a>, AllocError> {
@@ -48,7 +48,7 @@ fn without_tasks<'a>(alloc: Global) -> Result<Command<'a>, AllocError> {
     Ok(
         program
             .about(
-                "Reads streams of the CQL native protocol v4, and has a client and a server talk",
+                "Reads streams of the CQL native protocol v4 and packet captures, and has a client and a server talk",
             )
             .after_help(HELP)
             .version("0.1.0")
@@ -99,6 +99,47 @@ fn conversation<'a>(alloc: Global) -> Result<Command<'a>, AllocError> {
         )
         .after_help("Example: cqlp loop 3")
         .arg(queries(alloc))
+}
+
+fn with_capture<'a>(alloc: Global, program: Command<'a>) -> Result<Command<'a>, AllocError> {
+    program.subcommand(capture(alloc)?)
+}
+
+/// The subcommand `capture`.
+fn capture<'a>(alloc: Global) -> Result<Command<'a>, AllocError> {
+    Command::new(alloc, "capture")
+        .about(
+            "Write the bytes of each direction of each connection in a packet capture to a file of its own, and a line for each connection",
+        )
+        .after_help("Example: tcpdump -U -w - port 9042 | cqlp capture --streams flows -")
+        .arg(
+            Arg::new(alloc, "file")
+                .value_name("FILE")
+                .required(true)
+                .help("The capture, a pcap or pcapng file; - is standard input"),
+        )?
+        .arg(streams(alloc))?
+        .arg(port(alloc))
+}
+
+fn streams<'a>(alloc: Global) -> Arg<'a> {
+    Arg::new(alloc, "streams")
+        .long("streams")
+        .value_name("DIR")
+        .required(true)
+        .help("The folder for the files N.requests.bin and N.responses.bin of connection N")
+}
+
+fn port<'a>(alloc: Global) -> Arg<'a> {
+    Arg::new(alloc, "port")
+        .long("port")
+        .value_name("N")
+        .action(ArgAction::Append)
+        .value_parser(value_parser!(u16).range(1..=65_535))
+        .default_value("9042")
+        .help(
+            "A port on which nodes listen, from 1 to 65535; it may be repeated, for up to 16 ports",
+        )
 }
 
 fn queries<'a>(alloc: Global) -> Arg<'a> {

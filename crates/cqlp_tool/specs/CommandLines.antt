@@ -14,6 +14,8 @@ use Rattle.cqlp_text.specs.PageText.{no_page}
 use Rattle.cqlp_render.specs.declared.text_form.TextForm.TheVariants as forms
 use Rattle.cqlp_render.specs.Showing.{ChecksAndReports, Concludes, ShowsAndReports}
 use Rattle.cqlp_render.specs.Streams.{Streams}
+pub use Rattle.cqlp_tool.specs.Faults.{ReportsFault}
+use Rattle.cqlp_tool.specs.Capturing.{IsCaptureOfInput, SplitsCapture}
 use Rattle.cqlp_tool.specs.Conversing.{ConversesAndReports}
 
 -- the limits where none are given
@@ -23,11 +25,6 @@ default_limits = record { text = 1048576; cell = 1048576; entries = 4096; depth 
 -- how many reads the program makes at most: 2 to the power of 32
 abbrev pub turns : ℕ
 turns = 4294967296
-
--- The line was written, and the status is that of a fault; so it is where the target failed within it.
-abbrev pub ReportsFault : (line : List ℕ) → (before : Output) → (status : ℕ) → (after : Output) → Type 0
-ReportsFault line before status after =
-    (status ≡ 3) × ((after ≡ with_text before line) ⊎ StopsWithin before line after)
 
 -- Help was written to the output, with the status of what is done; or the output failed, and the fault line reports
 -- that.
@@ -72,13 +69,15 @@ DoesTask task.Check limits before status after = ChecksAndReports limits turns b
 abbrev pub IsOfInput : Options → Type 0
 IsOfInput options = options.file.now ≡ codes "-"
 
--- What a command line does: a task with the input, or a conversation. What a file gives is not known.
+-- What a command line does: a task with the input, a conversation, or a capture's streams. What a file gives is not known.
 abbrev pub Executes : Result CommandLine NoTask
     → (before : Streams) → (status : ℕ) → (after : Streams) → Type 0
 Executes (Ok (line.Stream options)) before status after =
     IsOfInput options → DoesTask options.task options.limits before status after
 Executes (Ok (line.Loop queries)) before status after =
     ConversesAndReports queries before.out before.err status after.out after.err
+Executes (Ok (line.Capture options)) before status after =
+    IsCaptureOfInput options → SplitsCapture options before status after
 Executes (Err reason) before status after =
     Tells reason before.out before.err status after.out after.err
 
@@ -86,6 +85,7 @@ Executes (Err reason) before status after =
 abbrev pub NeedsNoInput : Result CommandLine NoTask → Type 0
 NeedsNoInput (Ok (line.Stream options)) = options.file.now ≢ codes "-"
 NeedsNoInput (Ok (line.Loop queries)) = Unit
+NeedsNoInput (Ok (line.Capture options)) = options.file.now ≢ codes "-"
 NeedsNoInput (Err reason) = Unit
 
 -- What a command line of these words does: without words it shows the input, and no status is greater than that of

@@ -1,2 +1,4 @@
+pub mod Faults
+pub mod Capturing
 pub mod CommandLines
 pub mod Conversing

@@ -3,6 +3,8 @@
 ghost use Rattle.std.specs.Prelude.{◌≡◌, ◌≢◌, ◌≤◌, IfOk, IsSome, codes};
 ghost use Rattle.cqlp_note.specs.Limits.{first_bad};
 ghost use Rattle.cqlp_options.specs.CommandLines.{IsWithin};
+ghost use Rattle.cqlp_options.specs.Ports.{AreWithin, named};
+ghost use Rattle.cqlp_tool.specs.Capturing.{IsCaptureOfInput, SplitsCapture, SplitsToFolder};
 ghost use Rattle.cqlp_tool.specs.CommandLines.{Complains, DoesTask, Executes, Helps, IsOfInput, NeedsNoInput, Performs};
 ghost use Rattle.cqlp_tool.specs.CommandLines.{ReportsFault, ReportsWrong, Tells};
 ghost use Rattle.cqlp_text.specs.Endings.{IsStatusOfTask, cannot_open_line as cannot_open_line_of};
@@ -11,10 +13,12 @@ ghost use Rattle.cqlp_render.specs.Streams.{streams};
 ghost use Rattle.cqlp_text.specs.declared.ending.Ending.{Ending};
 
 use crate::conversing::converse;
+use crate::folder::{Folder, is_folder};
 use cqlp_decode::SinkFault;
 use cqlp_note::{OfStd, Source, Target};
-use cqlp_options::{CommandLine, DEFAULT_LIMITS, NoTask, Options, Task};
+use cqlp_options::{CaptureOptions, CommandLine, DEFAULT_LIMITS, NoTask, Options, Task};
 use cqlp_render::{check, conclude, rows, show};
+use cqlp_streams::write_streams;
 use cqlp_text::exit_status::{BAD_COMMAND_LINE, DONE, FAULT};
 use cqlp_text::{Ending, cannot_open_line, put_text};
 use std::alloc::Allocator;
@@ -46,7 +50,7 @@ where
     execute(rt, CommandLine::parse(rt.alloc(), words), input, out, err)
 }
 
-/// Does what a command line asks for: a task with standard input or with a file, or a conversation; or writes why it
+/// Does what a command line asks for: a task with standard input or with a file, a conversation, or a capture's streams; or writes why it
 /// starts none. Answers the exit status, and the two outputs.
 pub fn execute<R, I: Source, O: Target, E: Target>(
     rt: &R,
@@ -70,6 +74,7 @@ where
     match line {
         Ok(CommandLine::Stream(options)) => stream(rt, options, input, out, err),
         Ok(CommandLine::Loop { queries }) => converse(rt, queries, out, err),
+        Ok(CommandLine::Capture(options)) => capture(rt, options, input, out, err),
         Err(no_task) => tell(no_task, out, err),
     }
 }
@@ -100,6 +105,62 @@ fn stream<R: Files + AllocGlobal, I: Source, O: Target, E: Target>(
             (status, out, err)
         }
     }
+}
+
+/// Opens a capture, and splits it into the streams of its connections.
+fn capture<R: Files + AllocGlobal, I: Source, O: Target, E: Target>(
+    rt: &R,
+    options: CaptureOptions<'_>,
+    input: &mut I,
+    out: O,
+    err: E,
+) -> (u8, O, E)
+    requires { AreWithin options.ports }
+    ensures captures { let view = streams I.Source O.Target E.Target in
+        IsCaptureOfInput options.entry → SplitsCapture options.entry
+        (view input.old out err) result.0 (view input.new result.1 result.2) }
+    ensures status { IsStatusOfTask result.0 }
+    ensures untouched { options.entry.file.now ≢ codes "-" → input.new ≡ input.old }
+{
+    if !is_folder(rt, options.streams) {
+        let (status, err) = cannot_open(options.streams, err);
+        return (status, out, err);
+    }
+    if options.file == "-" {
+        return split_to_folder(rt, &options, input, out, err);
+    }
+    match File::open(rt, options.file) {
+        Ok(file) => split_to_folder(rt, &options, &mut OfStd::new(file), out, err),
+        Err(_) => {
+            let (status, err) = cannot_open(options.file, err);
+            (status, out, err)
+        }
+    }
+}
+
+/// Splits a capture into the streams of its connections, whose files are made in the folder.
+fn split_to_folder<R: Files + AllocGlobal, I: Source, O: Target, E: Target>(
+    rt: &R,
+    options: &CaptureOptions<'_>,
+    input: &mut I,
+    out: O,
+    err: E,
+) -> (u8, O, E)
+    requires { AreWithin options.now.ports }
+    ensures splits { let view = streams I.Source O.Target E.Target in
+        SplitsToFolder (named options.now.ports) (view input.old out err) result.0 (view input.new result.1 result.2) }
+    ensures status { IsStatusOfTask result.0 }
+{
+    let folder = Folder::new(rt, rt.alloc(), options.streams);
+    let (status, _, out, err) = write_streams(
+        rt.alloc(),
+        options.ports.as_slice(),
+        input,
+        folder,
+        out,
+        err,
+    );
+    (status, out, err)
 }
 
 /// Does the task with a stream.

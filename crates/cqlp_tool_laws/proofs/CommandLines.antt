@@ -3,6 +3,8 @@ use Rattle.std.proofs.Common.{◌≡◌, ◌≢◌, ℕ, Bool, true, false, List
 use Rattle.std.specs.Prelude.{codes, string_bytes}
 use Rattle.std.specs.Io.KnownBytes.{Appends, append_known}
 use Rattle.cqlp_note.specs.declared.limits.Limits.{Limits}
+use Rattle.cqlp_options.specs.Ports.{named}
+use Rattle.cqlp_options.specs.declared.capture.CaptureOptions.{CaptureOptions}
 use Rattle.cqlp_options.specs.declared.command_line.CommandLine.{CommandLine}
 use Rattle.cqlp_options.specs.declared.command_line.CommandLine.TheVariants as line
 use Rattle.cqlp_options.specs.declared.no_task.NoTask.{NoTask}
@@ -10,6 +12,7 @@ use Rattle.cqlp_options.specs.declared.no_task.NoTask.TheVariants as no_task
 use Rattle.cqlp_options.specs.declared.options.Task.{Task}
 use Rattle.cqlp_options.specs.declared.options.Task.TheVariants as task
 use Rattle.cqlp_text.specs.declared.ending.Ending.TheVariants as ending
+use Rattle.cqlp_text.specs.Endings.{cannot_open_line}
 use Rattle.cqlp_text.specs.Outputs.{Output, output, with_text, StopsWithin}
 use Rattle.cqlp_text.specs.PageText.{no_page}
 use Rattle.cqlp_loop.specs.declared.fault.LoopFault.{LoopFault}
@@ -23,11 +26,14 @@ use Rattle.cqlp_render.specs.declared.text_form.TextForm.TheVariants as forms
 use Rattle.cqlp_render.specs.Showing.{ShowsBytes, ChecksBytes, Concludes}
 use Rattle.cqlp_render.specs.Streams.{Streams}
 use Rattle.cqlp_render.proofs.Renders.{known_nothing}
+use Rattle.cqlp_streams.proofs.OneAnswer.{streams_once}
+use Rattle.cqlp_tool.specs.Capturing.{SplitsCapture}
+use Rattle.cqlp_tool.specs.Faults.{ReportsFault}
 use Rattle.cqlp_tool.specs.CommandLines.{DoesTask, Executes, Complains, Helps, turns}
 use Rattle.cqlp_tool.specs.Conversing.{ConversesWithItself, Reports, ending_of}
 use Rattle.cqlp_tool_laws.specs.Text.{FailsAlike, GoesOnFromOther}
 use Rattle.cqlp_tool_laws.specs.Tool.{IsOneOutput}
-use Rattle.cqlp_tool_laws.specs.CommandLines.{AreCheckedAlike, AreMetAlike, AreKnown, AreOutputsMetAlike, AreShownAlike, AreLoopsAlike, IsErrorMetAlike, IsExecutedOnce, IsLoopDecided, IsOneAnswer, IsTaskMetAlike, LoopGoesOn}
+use Rattle.cqlp_tool_laws.specs.CommandLines.{AreCheckedAlike, AreMetAlike, AreKnown, AreSplitAlike, AreOutputsMetAlike, AreShownAlike, AreLoopsAlike, IsErrorMetAlike, IsExecutedOnce, IsLoopDecided, IsOneAnswer, IsTaskMetAlike, LoopGoesOn}
 use Rattle.cqlp_tool_laws.proofs.OneText.{counts_up, stops_once}
 use Rattle.cqlp_tool_laws.proofs.OneAnswer.{commands_end_once, checks_end_once, concludes_once, shown_once, checked_once}
 
@@ -141,6 +147,22 @@ loop_goes_on queries before status status' after after' a b met alike ends =
     let reported = reported_once a.0 before.err after.err after'.err status status' met.error.fails (a.2 met.error.known) reports in
     (reported.0, goes_on queries before.out after.out after'.out met.known met.fails.1 a.0 b.0 a.1 b.1 alike, reported.1)
 
+-- ---- a capture
+
+fault_reported_once : (text : List ℕ) (before after after' : Output) (status status' : ℕ) → FailsAlike before after after' → ReportsFault text before status after → ReportsFault text before status' after' → (status' ≡ status) × IsOneOutput before after after'
+fault_reported_once text before after after' status status' alike a b = (b.0 ∙ sym a.0, text_once before after after' text alike a.1 b.1)
+
+module _ (before : Streams) (status status' : ℕ) (after after' : Streams) where
+  split_once : (options : CaptureOptions) (known : AreKnown before) (a : SplitsCapture options before status after) (b : SplitsCapture options before status' after') → AreSplitAlike before status status' after after' options a b → IsOneAnswer before status status' after after'
+  split_once options known (inl a) (inl b) alike =
+      let one = fault_reported_once (cannot_open_line options.streams.now) before.err after.err after'.err status status' alike (a.2 known.err) (b.2 known.err) in
+      (one.0, inl (b.1 ∙ sym a.1), one.1)
+  split_once options known (inl a) (inr b) alike = absurd alike
+  split_once options known (inr a) (inl b) alike = absurd alike
+  split_once options known (inr a) (inr b) alike =
+      let one = streams_once (named options.ports) known.bytes None before.out before.err after.input.left after'.input.left status status' None None after.out after'.out after.err after'.err (a known.bytes known.left known.out known.err) alike.0 (b known.bytes known.left known.out known.err) alike.1 in
+      (one.0, inl one.2, inl one.3)
+
 -- ---- a command line
 
 module _ (before : Streams) (status status' : ℕ) (after after' : Streams) where
@@ -152,6 +174,7 @@ module _ (before : Streams) (status status' : ℕ) (after after' : Streams) wher
       let reports : Reports a.0 before.err status' after'.err = subst (λ (r : Result (Unit {0}) LoopFault). Reports r before.err status' after'.err) one.0 (b.2 met.error.known) in
       let reported = reported_once a.0 before.err after.err after'.err status status' met.error.fails (a.2 met.error.known) reports in
       (reported.0, inl one.1, reported.1)
+  line_once (Ok (line.Capture options)) a b alike = split_once before status status' after after' options alike.1 (a alike.0) (b alike.0) alike.2
   line_once (Err (no_task.Help text)) a b alike = helped_once before status status' after after' (string_bytes text) alike.fails alike.error.fails (a alike.known alike.error.known) (b alike.known alike.error.known)
   line_once (Err (no_task.Mistake text)) a b alike =
       let one = complained_once (string_bytes text) before.err after.err after'.err status status' alike.fails (a alike.known).1 (b alike.known).1 in

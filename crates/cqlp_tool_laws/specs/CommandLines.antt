@@ -1,8 +1,9 @@
 -- The law of one answer of a command line that was read: what is written, and the status, are decided by the line and by
 -- what comes of the outside, but for what only the outside decides.
-use Rattle.std.specs.Prelude.{◌≡◌, ℕ, List, Some, IsSome, Result, Ok, Err}
+use Rattle.std.specs.Prelude.{◌≡◌, ◌≢◌, ℕ, List, Some, IsSome, Result, Ok, Err}
 use Rattle.std.proofs.Common.{inl, inr}
 use Rattle.cqlp_note.specs.declared.limits.Limits.{Limits}
+use Rattle.cqlp_options.specs.declared.capture.CaptureOptions.{CaptureOptions}
 use Rattle.cqlp_options.specs.declared.command_line.CommandLine.{CommandLine}
 use Rattle.cqlp_options.specs.declared.command_line.CommandLine.TheVariants as line
 use Rattle.cqlp_options.specs.declared.no_task.NoTask.{NoTask}
@@ -18,6 +19,7 @@ use Rattle.cqlp_render.specs.declared.text_form.TextForm.{TextForm}
 use Rattle.cqlp_render.specs.declared.text_form.TextForm.TheVariants as forms
 use Rattle.cqlp_render.specs.Showing.{ShowsBytes, ChecksBytes}
 use Rattle.cqlp_render.specs.Streams.{Streams}
+use Rattle.cqlp_tool.specs.Capturing.{IsCaptureOfInput, SplitsCapture}
 use Rattle.cqlp_tool.specs.CommandLines.{DoesTask, Executes, IsOfInput, turns}
 use Rattle.cqlp_tool.specs.Conversing.{ConversesAndReports, ConversesWithItself}
 use Rattle.cqlp_tool_laws.specs.Text.{FailsAlike, GoesOnFromOther}
@@ -124,10 +126,21 @@ LoopGoesOn = (queries : ℕ) (before : Streams) (status status' : ℕ) (after af
     → AreLoopsAlike queries does.0 before.out after.out does'.0 after'.out does.1 does'.1 → does'.0 ≡ does.0
     → (status' ≡ status) × GoesOnFromOther after.out after'.out × IsOneOutput before.err after.err after'.err
 
+-- ---- a capture
+
+-- To two executions that split the same capture the outside did the same: there was no folder in both; or nothing failed, so that no
+-- status is that of a fault.
+module _ (before : Streams) (status status' : ℕ) (after after' : Streams) where
+  abbrev pub AreSplitAlike : (options : CaptureOptions) → SplitsCapture options before status after
+      → SplitsCapture options before status' after' → Type 0
+  AreSplitAlike options (inl misses) (inl misses') = FailsAlike before.err after.err after'.err
+  AreSplitAlike options (inr splits) (inr splits') = (status ≢ 3) × (status' ≢ 3)
+  AreSplitAlike options does does' = ⊥
+
 -- ---- a command line
 
 -- To two executions of a command line, which names no file, the outside did the same: the input, both outputs, memory, the
--- turns, and the network.
+-- turns, the network, and the folder for a capture's streams.
 module _ (before : Streams) (status status' : ℕ) (after after' : Streams) where
   abbrev pub AreMetAlike : (l : Result CommandLine NoTask) → Executes l before status after
       → Executes l before status' after' → Type 0
@@ -135,6 +148,9 @@ module _ (before : Streams) (status status' : ℕ) (after after' : Streams) wher
       (is : IsOfInput options) × (known : AreKnown before)
       × IsTaskMetAlike options.limits before status status' after after' options.task known (does is) (does' is)
   AreMetAlike (Ok (line.Loop queries)) does does' = AreLoopsMetAlike queries before status status' after after' does does'
+  AreMetAlike (Ok (line.Capture options)) does does' =
+      (is : IsCaptureOfInput options) × (known : AreKnown before)
+      × AreSplitAlike before status status' after after' options (does is) (does' is)
   AreMetAlike (Err (no_task.Help text)) does does' = AreOutputsMetAlike before after after'
   AreMetAlike (Err (no_task.Mistake text)) does does' = IsErrorMetAlike before after after'
   AreMetAlike (Err no_task.NoMemory) does does' = IsErrorMetAlike before after after'

@@ -1,5 +1,5 @@
 //! The program `cqlp`, of the proved sources without their contracts. In a build of tests it is also the programs that the gate runs.
-#![no_main]
+#![cfg_attr(not(test), no_main)]
 #![allow(unused, clippy::all)]
 
 #[cfg(not(target_pointer_width = "64"))]
@@ -11,10 +11,14 @@ extern crate alloc;
 mod kit_std;
 // The modules.
 
+#[cfg(test)]
+mod mutated;
+
 use kit_host::prelude::HostRuntime;
 use kit_host::rt::Status;
 
 /// Rust's own start would open /dev/null in the place of a standard descriptor that is closed, and no fault would be seen.
+#[cfg(not(test))]
 #[unsafe(no_mangle)]
 extern "C" fn main(_: i32, _: *const *const u8) -> i32 {
     libc::keep_broken_pipes();

@@ -19,6 +19,10 @@ impl<T, A: Allocator> Vec<T, A> {
         self.items.remove(at)
     }
 
+    pub fn swap_remove(&mut self, at: usize) -> T {
+        self.items.swap_remove(at)
+    }
+
     pub fn truncate(&mut self, len: usize) {
         self.items.truncate(len);
     }

@@ -1,7 +1,7 @@
 //! Sockets, for one who holds a handle.
 use super::rt::HostRuntime;
 use std::io::{self, Read, Write};
-pub use std::net::{Ipv4Addr, SocketAddr};
+pub use std::net::{Ipv4Addr, Ipv6Addr, SocketAddr};
 use std::net::ToSocketAddrs;
 
 pub trait Net {

@@ -25,7 +25,13 @@ pub trait Eprint {
     }
 }
 
-pub trait Files {}
+pub trait Files {
+    type File: Read + Write;
+
+    fn open(&self, path: &str) -> io::Result<Self::File>;
+
+    fn create_new(&self, path: &str) -> io::Result<Self::File>;
+}
 
 impl AllocGlobal for HostRuntime {
     fn alloc(&self) -> Global {
@@ -35,7 +41,6 @@ impl AllocGlobal for HostRuntime {
 
 impl Print for HostRuntime {}
 impl Eprint for HostRuntime {}
-impl Files for HostRuntime {}
 
 impl HostRuntime {
     /// Standard input, output and error, each with no buffer.

@@ -51,7 +51,8 @@ pub(crate) enum CellDue {
 pub(crate) struct DueValue {
     pub kind: Kind,
     pub arity: u16,
-    pub node: u32,
+    /// The node of its first inner type.
+    pub inner: u32,
     pub stop: u64,
 }
 
@@ -134,7 +135,7 @@ fn cell_value<A: Allocator>(table: &TypeTable<A>, node: Option<u32>, stop: u64) 
         None => DueValue {
             kind: Kind::Raw,
             arity: 0,
-            node: 0,
+            inner: 0,
             stop,
         },
     }
@@ -148,7 +149,7 @@ fn value_at<A: Allocator>(table: &TypeTable<A>, node: u32, stop: u64) -> DueValu
     DueValue {
         kind: head.kind,
         arity: head.arity,
-        node,
+        inner: node + 1,
         stop,
     }
 }
@@ -169,8 +170,6 @@ impl OpenValue {
     #[inline(always)]
     pub(crate) fn pass_item<A: Allocator>(&mut self, table: &TypeTable<A>)
     {
-        // The proof reads that the number of nodes fits in 32 bits.
-        let _nodes = table.len();
         match self.order {
             Order::Elements => self.left -= 1,
             Order::Keys => {

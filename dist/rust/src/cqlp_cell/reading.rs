@@ -138,15 +138,13 @@ impl<A: Allocator> CellProgress<A> {
         table: &TypeTable<A>,
     ) -> CellOutline
     {
-        // The proof reads that the number of nodes fits in 32 bits.
-        let _nodes = table.len();
         let level = self.open_values.len();
         let stop = self.offset + 4 + u64::from(len);
         let (order, other) = inner_order(value, table);
         self.pass(8, table);
         self.open_values.push(OpenValue {
             order,
-            node: value.node + 1,
+            node: value.inner,
             other,
             left: count,
             items: count,
@@ -167,15 +165,13 @@ impl<A: Allocator> CellProgress<A> {
         table: &TypeTable<A>,
     ) -> CellOutline
     {
-        // The proof reads that the number of nodes fits in 32 bits.
-        let _nodes = table.len();
         let level = self.open_values.len();
         let stop = self.offset + 4 + u64::from(len);
         let arity = u32::from(value.arity);
         self.pass(4, table);
         self.open_values.push(OpenValue {
             order: Order::Fields,
-            node: value.node + 1,
+            node: value.inner,
             other: 0,
             left: arity,
             items: 0,
@@ -363,12 +359,10 @@ fn next_part(last: bool, offset: u32, total: u32) -> NextInCell
 fn inner_order<A: Allocator>(value: DueValue, table: &TypeTable<A>) -> (Order, u32)
 {
     match value.kind {
-        Kind::Map => {
-            // The proof reads that the number of nodes fits in 32 bits.
-            let _nodes = table.len();
-            let key = value.node + 1;
-            (Order::Keys, key + table.node(key).unwrap().span)
-        }
+        Kind::Map => (
+            Order::Keys,
+            value.inner + table.node(value.inner).unwrap().span,
+        ),
         _ => (Order::Elements, 0),
     }
 }

@@ -118,6 +118,18 @@ impl<A: Allocator> Decoder<A> {
         self.parts.given.take()
     }
 
+    /// Begins another stream with the memory and the limits that it has, whatever became of the one before: it is what
+    /// `new` makes of these limits. The table that is held comes back.
+    pub fn restart(&mut self) -> Option<TypeTable<A>>
+    {
+        self.progress = StreamProgress::new(self.progress.limits);
+        self.parts.partial.stop();
+        self.parts.types.stop();
+        self.parts.cells.stop();
+        self.parts.table.clear();
+        self.parts.given.take()
+    }
+
     /// How the stream ends, if it ends after the bytes that were used.
     pub fn finish(&self) -> Finish
     {

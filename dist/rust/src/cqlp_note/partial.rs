@@ -55,6 +55,13 @@ impl<A: Allocator> Partial<A> {
         self.stage = FieldStage::Front;
     }
 
+    /// Ends the field under way, whole or not, if there is one, and forgets its content. The memory stays.
+    pub fn stop(&mut self)
+    {
+        self.stage = FieldStage::Idle;
+        self.content.clear();
+    }
+
     /// Takes the next bytes of the field that is under way. A content that lies whole in them is lent from them. No
     /// byte after the field is used; a field that is made or refused has ended.
     pub(crate) fn push<'a>(&'a mut self, input: &'a [u8]) -> Push<'a>

@@ -1,0 +1,11 @@
+pub mod Paths
+pub mod Recorded
+pub mod Written
+pub mod Told
+pub mod Events
+pub mod Draining
+pub mod Splitting
+pub mod Once
+pub mod Gotten
+pub mod OneAnswer
+pub mod Pushed

@@ -1,0 +1,144 @@
+-- Two answers are the same.
+use Rattle.std.proofs.Common.{◌≡◌, ◌≢◌, ◌∙◌, ◌&&◌, ◌≤◌, ℕ, Bool, true, false, List, [], ◌∷◌, ◌++◌, length, Option, Some, None, Result, Ok, Err, refl, sym, ap, subst, inl, inr, append-nil, arith}
+use Rattle.std.proofs.lemmas.Bool.{cases_lt}
+use Rattle.cqlp_text.specs.Outputs.{Output, with_text}
+use Rattle.cqlp_note.specs.Reader.{Said, More, Got, says}
+use Rattle.cqlp_capture.specs.declared.event.CaptureEnd.{CaptureEnd}
+use Rattle.cqlp_capture.specs.declared.event.CaptureEnd.TheVariants as end
+use Rattle.cqlp_capture.specs.declared.limits.CaptureLimits.{CaptureLimits}
+use Rattle.cqlp_capture.specs.declared.refusal.CaptureRefusal.{CaptureRefusal}
+use Rattle.cqlp_capture.specs.Reading.{Emitted, Ends, Event, Reads, Refused, Says, Spot, Verdict, Waits, start, step}
+use Rattle.cqlp_capture.specs.Places.{began, is_between}
+use Rattle.cqlp_capture.specs.Progress.{is_empty}
+use Rattle.cqlp_capture.proofs.Tests.{Fits, in_range}
+use Rattle.cqlp_capture.proofs.Runs.{reads_compare}
+use Rattle.cqlp_capture.proofs.Whole.{always_said, refusal_stays, says_once}
+use Rattle.cqlp_connections.specs.Tables.{Table}
+use Rattle.cqlp_streams.specs.declared.ending.StreamsEnding.{StreamsEnding}
+use Rattle.cqlp_streams.specs.declared.ending.StreamsEnding.TheVariants as ending
+use Rattle.cqlp_streams.specs.declared.recorder.Sums.{Sums}
+use Rattle.cqlp_streams.specs.declared.fault.StreamsFault.{StreamsFault}
+use Rattle.cqlp_streams.specs.Recordings.{Recording, no_sums, recording, with_sayings}
+use Rattle.cqlp_streams.specs.Packets.{Finishes, SplitState, TellsEvents, new_split}
+use Rattle.cqlp_streams.specs.Captures.{EndsSo, EndsTo, HearsAll, IsAll, SplitsTo}
+use Rattle.cqlp_streams.specs.Endings.{Concludes, line_of, status_of}
+use Rattle.cqlp_streams.specs.Streams.{Reads as ReadsFile, WritesStreams, default_limits, no_connections, summary_of}
+use Rattle.cqlp_streams.specs.Laws.{OneAnswerOfWriteStreams}
+use Rattle.cqlp_streams.proofs.Once.{events_once, finishes_once}
+
+-- ---- how a file ends
+
+module _ (l : CaptureLimits) where
+  no_more : (q q' : Spot) (rest rest' : List ℕ) (more : List (ℕ × Option Event)) → says (step l q) 0 rest ≡ More → Reads l q rest more q' rest' → more ≡ []
+  no_more q q' rest rest' [] wants run = refl
+  no_more q q' rest rest' (x ∷ xs) wants run =
+      let no : ◌≡◌ {A = Said Emitted CaptureRefusal} More (Got (record { at = x.0; event = x.1; after = run.1 }) run.0) = sym wants ∙ run.2 in absurd cc
+
+  heard_before : (bytes : List ℕ) (es es' : List (ℕ × Event)) (q q' : Spot) (rest rest' : List ℕ) (a : HearsAll l bytes es q rest) (b : HearsAll l bytes es' q' rest') → length a.hears.steps ≤ length b.hears.steps → (q' ≡ q) × (rest' ≡ rest)
+  heard_before bytes es es' q q' rest rest' a b le =
+      let c = reads_compare l start q q' bytes rest rest' a.hears.steps b.hears.steps a.hears.reads b.hears.reads le in
+      rw (no_more q q' rest rest' c.0 a.wants c.2) at c.2
+
+  -- more are wanted at one place alone
+  heard_once : (bytes : List ℕ) (es es' : List (ℕ × Event)) (q q' : Spot) (rest rest' : List ℕ) → HearsAll l bytes es q rest → HearsAll l bytes es' q' rest' → (q' ≡ q) × (rest' ≡ rest)
+  heard_once bytes es es' q q' rest rest' a b = elim (cases_lt (length b.hears.steps) (length a.hears.steps)) [
+    | inl lt ↦ let c = heard_before bytes es' es q' q rest' rest b a (omega arith) in (sym c.0, sym c.1)
+    | inr le ↦ heard_before bytes es es' q q' rest rest' a b le
+  ]
+
+  abbrev verdict_of : CaptureEnd → Verdict
+  verdict_of (end.Whole n) = Waits
+  verdict_of (end.Cut at n) = Waits
+  verdict_of (end.Refused r) = Refused r
+
+  heard_says : (bytes : List ℕ) (es : List (ℕ × Event)) (q : Spot) (rest : List ℕ) → HearsAll l bytes es q rest → Says l start bytes es Waits
+  heard_says bytes es q rest a = (q, rest, a.hears, subst (λ (z : Said Emitted CaptureRefusal). Ends z Waits) (sym a.wants) tt)
+
+  end_says : (bytes : List ℕ) (es : List (ℕ × Event)) (e : CaptureEnd) → EndsSo l bytes es e → Says l start bytes es (verdict_of e)
+  end_says bytes es (end.Whole n) a = heard_says bytes es a.1 a.2 a.3
+  end_says bytes es (end.Cut at n) a = heard_says bytes es a.1 a.2 a.3
+  end_says bytes es (end.Refused r) a = a
+
+  tests_differ : (q q' : Spot) (rest rest' : List ℕ) → q' ≡ q → rest' ≡ rest → is_between q.place.stage && is_empty rest ≡ true → is_between q'.place.stage && is_empty rest' ≡ false → ⊥
+  tests_differ q q' rest rest' a b first second =
+      let both : ◌≡◌ {A = Bool} true false = sym first ∙ sym (λ i. is_between (a i).place.stage && is_empty (b i)) ∙ second in absurd cc
+
+  ends_by : (bytes : List ℕ) (es es' : List (ℕ × Event)) (e e' : CaptureEnd) → verdict_of e' ≡ verdict_of e → EndsSo l bytes es e → EndsSo l bytes es' e' → e' ≡ e
+  ends_by bytes es es' (end.Whole n) (end.Whole m) v a b = ap (λ k. end.Whole k) (b.0 ∙ sym a.0)
+  ends_by bytes es es' (end.Whole n) (end.Cut at m) v a b =
+      let same = heard_once bytes es es' a.1 b.1 a.2 b.2 a.3 b.3 in absurd (tests_differ a.1 b.1 a.2 b.2 same.0 same.1 a.4 b.4)
+  ends_by bytes es es' (end.Whole n) (end.Refused r) v a b = let no : ◌≡◌ {A = Verdict} (Refused r) Waits = v in absurd cc
+  ends_by bytes es es' (end.Cut at n) (end.Whole m) v a b =
+      let same = heard_once bytes es' es b.1 a.1 b.2 a.2 b.3 a.3 in absurd (tests_differ b.1 a.1 b.2 a.2 same.0 same.1 b.4 a.4)
+  ends_by bytes es es' (end.Cut at n) (end.Cut at' m) v a b =
+      let same = heard_once bytes es es' a.1 b.1 a.2 b.2 a.3 b.3 in
+      let there : at' ≡ at = b.5 ∙ ap (λ (z : Spot). began z.place) same.0 ∙ sym a.5 in
+      let long : m ≡ n = b.0 ∙ sym a.0 in
+      λ i. end.Cut (there i) (long i)
+  ends_by bytes es es' (end.Cut at n) (end.Refused r) v a b = let no : ◌≡◌ {A = Verdict} (Refused r) Waits = v in absurd cc
+  ends_by bytes es es' (end.Refused r) (end.Whole m) v a b = let no : ◌≡◌ {A = Verdict} Waits (Refused r) = v in absurd cc
+  ends_by bytes es es' (end.Refused r) (end.Cut at m) v a b = let no : ◌≡◌ {A = Verdict} Waits (Refused r) = v in absurd cc
+  ends_by bytes es es' (end.Refused r) (end.Refused x) v a b =
+      let are : ◌≡◌ {A = Verdict} (Refused x) (Refused r) = v in
+      let same : x ≡ r = cc in ap (λ z. end.Refused z) same
+
+  -- So a file ends in one way, after the same events,
+  ends_once : (bytes : List ℕ) (es es' : List (ℕ × Event)) (e e' : CaptureEnd) → EndsSo l bytes es e → EndsSo l bytes es' e' → (es' ≡ es) × (e' ≡ e)
+  ends_once bytes es es' e e' a b =
+      let one = says_once l start bytes es es' (verdict_of e) (verdict_of e') (end_says bytes es e a) (end_says bytes es' e' b) in
+      (one.0, ends_by bytes es es' e e' one.1 a b)
+
+  all_there : (read rest xs : List ℕ) → xs ≡ read ++ rest → rest ≡ [] → read ≡ xs
+  all_there read rest xs parts none = sym (append-nil read) ∙ ap (λ z. read ++ z) (sym none) ∙ sym parts
+
+  -- also where the bytes read end after a refusal
+  ends_there : Fits l → (read rest xs : List ℕ) (es : List (ℕ × Event)) (e : CaptureEnd) → xs ≡ read ++ rest → IsAll (Ok e) rest → EndsSo l read es e → EndsSo l xs es e
+  ends_there fits read rest xs es (end.Whole n) parts all a = subst (λ z. EndsSo l z es (end.Whole n)) (all_there read rest xs parts all) a
+  ends_there fits read rest xs es (end.Cut at n) parts all a = subst (λ z. EndsSo l z es (end.Cut at n)) (all_there read rest xs parts all) a
+  ends_there fits read rest xs es (end.Refused r) parts all a =
+      let some = always_said l fits (read ++ rest) in
+      let same = refusal_stays l start read rest es some.0 (Refused r) some.1 a some.2 r refl in
+      let there = subst (λ (z : List (ℕ × Event)). Says l start (read ++ rest) z some.1) same.0 some.2 in
+      let refused = subst (λ (z : Verdict). Says l start (read ++ rest) es z) same.1 there in
+      subst (λ z. Says l start z es (Refused r)) (sym parts) refused
+
+-- ---- what is recorded of it
+
+pub splits_once : (l : CaptureLimits) → Fits l → (t : Table) (before : Recording) (xs : List ℕ) (e e' : CaptureEnd) (left left' : Option (List ℕ)) (u u' : SplitState) (after after' : Recording) → SplitsTo l t before xs (Ok e) left u after → SplitsTo l t before xs (Ok e') left' u' after' → (e' ≡ e) × (u' ≡ u) × (after' ≡ after)
+splits_once l fits t before xs e e' left left' u u' after after' a b =
+    let f = a.ends.1 in
+    let g = b.ends.1 in
+    let here = ends_there l fits a.read a.rest xs f.events e a.parts a.all f.ends in
+    let there = ends_there l fits b.read b.rest xs g.events e' b.parts b.all g.ends in
+    let same = ends_once l xs f.events g.events e e' here there in
+    let told = events_once (new_split t) f.mid g.mid f.events f.front g.front f.tells (subst (λ (z : List (ℕ × Event)). TellsEvents (new_split t) z g.front g.mid) same.0 g.tells) in
+    let left = finishes_once f.mid u u' f.last g.last f.leave (subst (λ (z : SplitState). Finishes true z g.last u') told.1 g.leave) in
+    let all : b.ends.0 ≡ a.ends.0 = g.all ∙ (λ i. told.0 i ++ left.0 i) ∙ sym f.all in
+    (same.1, left.1, b.ends.2 ∙ ap (with_sayings before) all ∙ sym a.ends.2)
+
+-- the line was written, where nothing failed
+concluded : (e : StreamsEnding) (err err' : Output) (status : ℕ) → Concludes e err status err' → status ≢ 3 → (status ≡ status_of e) × (err' ≡ with_text err (line_of e))
+concluded e err err' status (inl (inl a)) well = a
+concluded e err err' status (inl (inr (is, x))) well = absurd (well is)
+concluded e err err' status (inr (inl (is, x))) well = absurd (well is)
+concluded e err err' status (inr (inr (is, x))) well = absurd (well is)
+
+finished_once : (ports xs : List ℕ) (e e' : StreamsEnding) (left left' : Option (List ℕ)) (before after after' : Recording) → (status_of e ≢ 3) → (status_of e' ≢ 3) → ReadsFile ports xs e left before after → ReadsFile ports xs e' left' before after' → (e' ≡ e) × (after' ≡ after)
+finished_once ports xs e e' left left' before after after' well well' (inr (is, rest, same)) b = absurd (well (ap status_of is))
+finished_once ports xs e e' left left' before after after' well well' (inl (Err f, u, a, is)) b = absurd (well (ap status_of is))
+finished_once ports xs e e' left left' before after after' well well' (inl (Ok x, u, a, is)) (inr (is', rest, same)) = absurd (well' (ap status_of is'))
+finished_once ports xs e e' left left' before after after' well well' (inl (Ok x, u, a, is)) (inl (Err f, u', b, is')) = absurd (well' (ap status_of is'))
+finished_once ports xs e e' left left' before after after' well well' (inl (Ok x, u, a, is)) (inl (Ok x', u', b, is')) =
+    let one = splits_once default_limits (in_range default_limits refl) (no_connections ports) before xs x x' left left' u u' after after' a b in
+    (is' ∙ (λ i. ending.Finished (one.0 i) (summary_of (one.1 i) (one.2 i).sums)) ∙ sym is, one.2)
+
+pub streams_once : OneAnswerOfWriteStreams
+streams_once ports xs calls out err left left' status status' made made' out' out'' err' err'' (e, sums, reads, ends) well (e', sums', reads', ends') well' =
+    let c = concluded e err err' status ends well in
+    let c' = concluded e' err err'' status' ends' well' in
+    let one = finished_once ports xs e e' left left' (recording calls out no_sums) (recording made out' sums) (recording made' out'' sums') (λ is. well (c.0 ∙ is)) (λ is. well' (c'.0 ∙ is)) reads reads' in (
+      c'.0 ∙ ap status_of one.0 ∙ sym c.0,
+      ap (λ (z : Recording). z.calls) one.1,
+      ap (λ (z : Recording). z.output) one.1,
+      c'.1 ∙ ap (λ z. with_text err (line_of z)) one.0 ∙ sym c.1,
+    )

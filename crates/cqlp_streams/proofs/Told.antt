@@ -1,0 +1,46 @@
+-- What is told of segments and of connections that leave.
+use Rattle.std.proofs.Common.{◌≡◌, ℕ, Bool, true, false, List, [], ◌∷◌, ◌++◌, Result, Ok, Err, refl, sym, subst, inl, inr, append-nil}
+use Rattle.cqlp_segment.specs.Segment.{Seen}
+use Rattle.cqlp_connections.specs.declared.told.Departure.TheVariants as departure
+use Rattle.cqlp_connections.specs.declared.told.Sight.{Sight}
+use Rattle.cqlp_connections.specs.declared.told.Sight.TheVariants as sight
+use Rattle.cqlp_connections.specs.declared.totals.ConnectionTotals.{ConnectionTotals}
+use Rattle.cqlp_connections.specs.Tables.{Table, departing, finished, left}
+use Rattle.cqlp_streams.specs.declared.fault.StreamsFault.{StreamsFault}
+use Rattle.cqlp_streams.specs.Sayings.{Saying, Left}
+use Rattle.cqlp_streams.specs.Recordings.{Recording, Records, with_saying}
+use Rattle.cqlp_streams.specs.Tellings.{Departs, DepartsNext, Leaves, Path, RecordsAll, StillTells, TellsAgain, TellsFirst, TellsSeen, is_done}
+
+-- one saying that was recorded, or not
+pub records_single : (old new : Recording) (s : Saying) (r : Result (Unit {0}) StreamsFault) → Records old s r new → RecordsAll old (s ∷ []) r new
+records_single old new s (Ok u) a = a
+records_single old new s (Err e) a = inr ([], s, refl, a)
+
+-- a segment that is seen so at first
+pub seen_first : (s : Sight) (all : Bool) (g : Seen) (t u : Table) (ss : List Saying) → TellsSeen s all g t ss u → TellsFirst s all g t ss u
+seen_first sight.Foreign all g t u ss a = a
+seen_first (sight.Taken n way is_new) all g t u ss a = a
+seen_first (sight.Crowded n is_full) true g t u ss a = absurd a
+seen_first (sight.Crowded n is_full) false g t u ss (a, b) = inl (inl (subst (λ z. Path (StillTells left) t z u) (sym a) b))
+
+-- after a connection has left for it
+pub crowded_first : (n : ℕ) (is_full all : Bool) (g : Seen) (t m u : Table) (front rest : List Saying) → Leaves true t front m → TellsAgain all g m rest u → TellsFirst (sight.Crowded n is_full) all g t (front ++ rest) u
+crowded_first n f true g t m u front rest a b = (m, front, rest, refl, a, b)
+crowded_first n f false g t m u front rest a b = inr (m, front, rest, refl, a, b)
+
+-- at last it has left
+pub parted : (r : Result (Unit {0}) StreamsFault) (t m u : Table) (front : List Saying) (c : ConnectionTotals) → Path (StillTells left) t front m → departing (departure.Left c) u ≡ left m → Leaves (is_done r) t (front ++ Left c ∷ []) u
+parted (Ok x) t m u front c p e = (m, front, Left c ∷ [], refl, p, e)
+parted (Err x) t m u front c p e = inr (m, front, Left c ∷ [], refl, p, e)
+
+pub parted_none : (t m u : Table) (front : List Saying) → Path (StillTells left) t front m → departing departure.Empty u ≡ left m → Leaves true t front u
+parted_none t m u front p e = (m, front, [], sym (append-nil front), p, e)
+
+-- whether there was none
+pub one_more : (b : Bool) (t u : Table) (old new : Recording) → b ≡ false → DepartsNext (Ok b) t old u new → (s : Saying) × Departs t s u × (new ≡ with_saying old s)
+one_more true t u old new e a = absurd (let z = e in cc)
+one_more false t u old new e a = a
+
+pub no_more : (b : Bool) (t u : Table) (old new : Recording) → b ≡ true → DepartsNext (Ok b) t old u new → (departing departure.Empty u ≡ finished t) × (new ≡ old)
+no_more true t u old new e a = a
+no_more false t u old new e a = absurd (let z = e in cc)

@@ -1,0 +1,32 @@
+-- Lines that are made, and put.
+use Rattle.std.proofs.Common.{◌≡◌, ◌∙◌, ℕ, List, Option, IsSome, IfOk, Result, Ok, Err, refl, sym, ap, subst}
+use Rattle.cqlp_text.specs.Outputs.{Output, with_text, StopsWithin}
+use Rattle.cqlp_connections.specs.declared.totals.ConnectionTotals.{ConnectionTotals}
+use Rattle.cqlp_streams.specs.declared.fault.StreamsFault.{StreamsFault}
+use Rattle.cqlp_streams.specs.declared.fault.StreamsFault.TheVariants as fault
+use Rattle.cqlp_streams.specs.declared.recorder.Sums.{Sums}
+use Rattle.cqlp_streams.specs.Files.{Call, Kept, with_call}
+use Rattle.cqlp_streams.specs.Lines.{connection_line}
+use Rattle.cqlp_streams.specs.Sayings.{Left}
+use Rattle.cqlp_streams.specs.Recordings.{Recording, Puts, Records, recording, summed, sums_with}
+
+-- a text, if it was made, is another way of writing it
+pub said : {T E : Type 0} (r : Result T E) (text : T → List ℕ) (a b : List ℕ) → IfOk r (λ s. text s ≡ a) → a ≡ b → IfOk r (λ s. text s ≡ b)
+said (Ok s) text a b h e = h ∙ e
+said (Err x) text a b h e = tt
+
+-- the files of a connection were kept, and its line was put, or not
+keeps : (r : Recording) (c : ConnectionTotals) (res : Result (Unit {0}) StreamsFault) (line : List ℕ) (new : Output) → line ≡ connection_line c → Puts line r.output res new → Records r (Left c) res (recording (with_call r.calls (Kept c.number)) new (sums_with (Left c) r.sums))
+keeps r c (Ok u) line new e p = ap (λ o. recording (with_call r.calls (Kept c.number)) o (sums_with (Left c) r.sums)) (p ∙ ap (λ z. with_text r.output z) e)
+keeps r c (Err fault.NoMemory) line new e p = ap (λ o. recording (with_call r.calls (Kept c.number)) o (sums_with (Left c) r.sums)) p
+keeps r c (Err fault.Write) line new e p = (refl, subst (λ z. StopsWithin r.output z new) e p)
+keeps r c (Err fault.Read) line new e p = absurd p
+keeps r c (Err (fault.File f)) line new e p = absurd p
+keeps r c (Err fault.TooManyTurns) line new e p = absurd p
+
+pub kept : (self : Recording) (calls : Option (List Call)) (out : Output) (sums : Sums) → recording calls out sums ≡ self → (c : ConnectionTotals) (res : Result (Unit {0}) StreamsFault) (line : List ℕ) (calls' : Option (List Call)) (new : Output) (sums' sums'' : Sums) → calls' ≡ with_call calls (Kept c.number) → sums' ≡ summed c.requests sums → sums'' ≡ summed c.responses sums' → line ≡ connection_line c → (IsSome out.given → Puts line out res new) → IsSome self.output.given → Records self (Left c) res (recording calls' new sums'')
+kept self calls out sums v c res line calls' new sums' sums'' a b d e p known =
+    let same : recording calls' new sums'' ≡ recording (with_call calls (Kept c.number)) new (summed c.responses (summed c.requests sums)) = cc in
+    let holds : IsSome out.given → Records (recording calls out sums) (Left c) res (recording calls' new sums'') = λ k.
+    subst (λ (z : Recording). Records (recording calls out sums) (Left c) res z) (sym same) (keeps (recording calls out sums) c res line new e (p k)) in
+    subst (λ (r : Recording). IsSome r.output.given → Records r (Left c) res (recording calls' new sums'')) v holds known

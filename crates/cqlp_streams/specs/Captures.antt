@@ -1,0 +1,148 @@
+-- What a whole capture tells, and what is recorded of it.
+use Rattle.std.specs.Prelude.{◌≡◌, ℕ, ◌&&◌, Bool, true, false, List, [], ◌∷◌, ◌++◌, length, Option, Some, None, Result, Ok, Err, ◌⊎◌, ⊤}
+use Rattle.cqlp_note.specs.Reader.{More, says}
+use Rattle.cqlp_capture.specs.declared.event.CaptureEnd.{CaptureEnd}
+use Rattle.cqlp_capture.specs.declared.event.CaptureEnd.TheVariants as end
+use Rattle.cqlp_capture.specs.declared.limits.CaptureLimits.{CaptureLimits}
+use Rattle.cqlp_capture.specs.declared.refusal.CaptureRefusal.{CaptureRefusal}
+use Rattle.cqlp_capture.specs.Reading.{Event, Spot, Hears, Refused, Says, start, step}
+use Rattle.cqlp_capture.specs.Places.{began, is_between}
+use Rattle.cqlp_capture.specs.Progress.{After, CaptureState, is_empty}
+use Rattle.cqlp_connections.specs.Tables.{Table}
+use Rattle.cqlp_streams.specs.declared.fault.StreamsFault.{StreamsFault}
+use Rattle.cqlp_streams.specs.declared.fault.StreamsFault.TheVariants as fault
+use Rattle.cqlp_streams.specs.declared.running.Drained.{Drained}
+use Rattle.cqlp_streams.specs.declared.running.Drained.TheVariants as drained
+use Rattle.cqlp_streams.specs.Sayings.{Saying}
+use Rattle.cqlp_streams.specs.Recordings.{Recording, with_sayings}
+use Rattle.cqlp_streams.specs.Tellings.{RecordsAll}
+use Rattle.cqlp_streams.specs.Packets.{SplitState, Finishes, TellsEvent, TellsEvents, new_split}
+
+-- ---- what the bytes of a file say
+
+-- The bytes say these events and lead there, before the bytes that are left, and more are wanted.
+pub record HearsAll (l : CaptureLimits) (bytes : List ℕ) (es : List (ℕ × Event)) (q : Spot) (rest : List ℕ) : Type 0 where
+  pub hears : Hears l start bytes es q rest
+  pub wants : says (step l q) 0 rest ≡ More
+
+-- The bytes of a file say these events, all that there are, and it ends so: where a record or a block may begin, within what began
+-- last, or where it is refused.
+abbrev pub EndsSo : CaptureLimits → (bytes : List ℕ) → List (ℕ × Event) → CaptureEnd → Type 0
+EndsSo l bytes es (end.Whole n) =
+    (n ≡ length bytes) × (q : Spot) × (rest : List ℕ) × HearsAll l bytes es q rest
+    × (is_between q.place.stage && is_empty rest ≡ true)
+EndsSo l bytes es (end.Cut at n) =
+    (n ≡ length bytes) × (q : Spot) × (rest : List ℕ) × HearsAll l bytes es q rest
+    × (is_between q.place.stage && is_empty rest ≡ false) × (at ≡ began q.place)
+EndsSo l bytes es (end.Refused r) = Says l start bytes es (Refused r)
+
+-- ---- what that tells
+
+-- All that a file tells: what its events do, in order, and then what connections do that leave.
+pub record TellsFile (l : CaptureLimits) (t : Table) (bytes : List ℕ) (e : CaptureEnd) (ss : List Saying) (u : SplitState) : Type 0 where
+  pub events : List (ℕ × Event)
+  pub ends : EndsSo l bytes events e
+  pub mid : SplitState
+  pub front : List Saying
+  pub tells : TellsEvents (new_split t) events front mid
+  pub last : List Saying
+  pub leave : Finishes true mid last u
+  pub all : ss ≡ front ++ last
+
+-- All that the first bytes of a file tell, where more are wanted.
+pub record TellsSoFar (l : CaptureLimits) (t : Table) (bytes : List ℕ) (ss : List Saying) (u : SplitState) : Type 0 where
+  pub events : List (ℕ × Event)
+  pub spot : Spot
+  pub rest : List ℕ
+  pub hears : HearsAll l bytes events spot rest
+  pub tells : TellsEvents (new_split t) events ss u
+
+-- what events tell but for, maybe, the last of what the last of them tells
+abbrev pub TellsSome : SplitState → List (ℕ × Event) → List Saying → SplitState → Type 0
+TellsSome s es ss u =
+    TellsEvents s es ss u
+    ⊎ ((before : List (ℕ × Event)) × (last : ℕ × Event) × (es ≡ before ++ last ∷ []) × (m : SplitState)
+    × (front : List Saying) × (rest : List Saying) × (ss ≡ front ++ rest)
+    × TellsEvents s before front m × TellsEvent false m last.1 rest u)
+
+-- of the first bytes of a file the first of what they tell,
+pub record TellsFirst (l : CaptureLimits) (t : Table) (bytes : List ℕ) (ss : List Saying) (u : SplitState) : Type 0 where
+  pub used : List ℕ
+  pub later : List ℕ
+  pub parts : bytes ≡ used ++ later
+  pub events : List (ℕ × Event)
+  pub spot : Spot
+  pub rest : List ℕ
+  pub hears : Hears l start used events spot rest
+  pub tells : TellsSome (new_split t) events ss u
+
+-- or all that its events tell, and the first of what connections tell that leave
+pub record TellsLeaving (l : CaptureLimits) (t : Table) (bytes : List ℕ) (ss : List Saying) (u : SplitState) : Type 0 where
+  pub events : List (ℕ × Event)
+  pub end : CaptureEnd
+  pub ends : EndsSo l bytes events end
+  pub mid : SplitState
+  pub front : List Saying
+  pub tells : TellsEvents (new_split t) events front mid
+  pub last : List Saying
+  pub leave : Finishes false mid last u
+  pub all : ss ≡ front ++ last
+
+-- ---- what is recorded of it
+
+-- What is recorded of a file with these bytes. A fault ends it: one of the input after all that was told of the bytes read; any other
+-- within what they tell, and nothing more is asked of what failed.
+abbrev pub EndsTo : CaptureLimits → Table → (before : Recording) → (read : List ℕ) → Result CaptureEnd StreamsFault → SplitState
+    → (after : Recording) → Type 0
+EndsTo l t before read (Ok e) u after = (ss : List Saying) × TellsFile l t read e ss u × (after ≡ with_sayings before ss)
+EndsTo l t before read (Err fault.Read) u after =
+    (ss : List Saying) × TellsSoFar l t read ss u × (after ≡ with_sayings before ss)
+EndsTo l t before read (Err e) u after =
+    (ss : List Saying) × (TellsFirst l t read ss u ⊎ TellsLeaving l t read ss u) × RecordsAll before ss (Err e) after
+
+-- all was read, unless it is refused
+abbrev pub IsAll : Result CaptureEnd StreamsFault → (rest : List ℕ) → Type 0
+IsAll (Ok (end.Whole n)) rest = rest ≡ []
+IsAll (Ok (end.Cut at n)) rest = rest ≡ []
+IsAll r rest = ⊤
+
+-- Of the bytes xs of an input these were read, and recorded so, and the others are left.
+pub record SplitsTo (l : CaptureLimits) (t : Table) (before : Recording) (xs : List ℕ) (r : Result CaptureEnd StreamsFault)
+    (left : Option (List ℕ)) (u : SplitState) (after : Recording) : Type 0 where
+  pub read : List ℕ
+  pub rest : List ℕ
+  pub parts : xs ≡ read ++ rest
+  pub others : left ≡ Some rest
+  pub all : IsAll r rest
+  pub ends : EndsTo l t before read r u after
+
+-- ---- while it is read
+
+-- A reader that was made used the bytes s, and all was recorded that its events tell.
+pub record Has (t : Table) (before : Recording) (s : List ℕ) (d : CaptureState) (u : SplitState) (after : Recording) : Type 0 where
+  pub events : List (ℕ × Event)
+  pub sayings : List Saying
+  pub stands : After d s events
+  pub tells : TellsEvents (new_split t) events sayings u
+  pub recorded : after ≡ with_sayings before sayings
+
+-- It is at the end of the bytes read: of all of them, and more are wanted; or where they are refused.
+abbrev pub IsAtEndBy : Option CaptureRefusal → CaptureState → (read s : List ℕ) → List (ℕ × Event) → Type 0
+IsAtEndBy None d read s es = (s ≡ read) × (says (step d.limits d.spot) 0 d.pending ≡ More)
+IsAtEndBy (Some r) d read s es = Says d.limits start read es (Refused r)
+
+abbrev pub IsAtEndOf : CaptureState → (read s : List ℕ) → List (ℕ × Event) → Type 0
+IsAtEndOf d read s es = IsAtEndBy d.refusal d read s es
+
+abbrev pub IsRefused : Drained → Option CaptureRefusal → Type 0
+IsRefused drained.More r = r ≡ None
+IsRefused drained.Refused r = (x : CaptureRefusal) × (r ≡ Some x)
+
+-- What draining a piece after the bytes s leaves.
+abbrev pub DrainsTo : CaptureLimits → Table → (before : Recording) → (s piece : List ℕ) → Result Drained StreamsFault → CaptureState
+    → SplitState → (after : Recording) → Type 0
+DrainsTo l t before s piece (Ok x) d u after =
+    (d.limits ≡ l) × IsRefused x d.refusal × (used : List ℕ) × (h : Has t before used d u after)
+    × IsAtEndOf d (s ++ piece) used h.events
+DrainsTo l t before s piece (Err e) d u after =
+    (ss : List Saying) × TellsFirst l t (s ++ piece) ss u × RecordsAll before ss (Err e) after

@@ -1,0 +1,116 @@
+-- How the reading of a capture ends: its exit status, and its line.
+use Rattle.std.specs.Prelude.{◌≡◌, ℕ, ◌==◌, List, [], ◌++◌, ◌⊎◌, codes, decimal, if◌then◌else◌}
+use Rattle.cqlp_text.specs.declared.exit_status.TheConstants.{FAULT}
+use Rattle.cqlp_text.specs.Outputs.{Output, with_text, StopsWithin}
+use Rattle.cqlp_capture.specs.declared.event.CaptureEnd.{CaptureEnd}
+use Rattle.cqlp_capture.specs.declared.event.CaptureEnd.TheVariants as end
+use Rattle.cqlp_capture.specs.declared.refusal.CaptureReason.{CaptureReason}
+use Rattle.cqlp_capture.specs.declared.refusal.CaptureReason.TheVariants as reason
+use Rattle.cqlp_connections.specs.declared.totals.ConnectionCounts.{ConnectionCounts}
+use Rattle.cqlp_streams.specs.declared.ending.StreamsEnding.{StreamsEnding}
+use Rattle.cqlp_streams.specs.declared.ending.StreamsEnding.TheVariants as ending
+use Rattle.cqlp_streams.specs.declared.fault.StreamsFault.{StreamsFault}
+use Rattle.cqlp_streams.specs.declared.fault.StreamsFault.TheVariants as fault
+use Rattle.cqlp_streams.specs.declared.files.FileFault.TheVariants as file
+use Rattle.cqlp_streams.specs.declared.files.StreamFile.{StreamFile}
+use Rattle.cqlp_streams.specs.declared.packets.WithoutCounts.{WithoutCounts}
+use Rattle.cqlp_streams.specs.declared.summary.Summary.{Summary}
+use Rattle.cqlp_streams.specs.Lines.{way_name}
+
+-- ---- the exit status
+
+-- 0 of a whole file, 1 of one that is cut or refused
+abbrev pub end_status : CaptureEnd → ℕ
+end_status (end.Whole bytes) = 0
+end_status (end.Cut at bytes) = 1
+end_status (end.Refused r) = 1
+
+-- and 3 of all that failed
+abbrev pub status_of : StreamsEnding → ℕ
+status_of (ending.Finished e summary) = end_status e
+status_of (ending.Fault f) = 3
+
+-- ---- the line of a capture that was read to its end
+
+abbrev pub reason_name : CaptureReason → List ℕ
+reason_name reason.UnknownMagic = codes "UnknownMagic"
+reason_name reason.UnknownVersion = codes "UnknownVersion"
+reason_name reason.PacketTooLong = codes "PacketTooLong"
+reason_name reason.FileTooLong = codes "FileTooLong"
+reason_name reason.UnknownByteOrder = codes "UnknownByteOrder"
+reason_name reason.BadBlockLength = codes "BadBlockLength"
+reason_name reason.UnequalBlockLengths = codes "UnequalBlockLengths"
+reason_name reason.BadOptionLength = codes "BadOptionLength"
+reason_name reason.UnknownTimeUnit = codes "UnknownTimeUnit"
+reason_name reason.NegativeTimeOffset = codes "NegativeTimeOffset"
+reason_name reason.TooManyInterfaces = codes "TooManyInterfaces"
+reason_name reason.UnknownInterface = codes "UnknownInterface"
+reason_name reason.PacketBeyondBlock = codes "PacketBeyondBlock"
+reason_name reason.TimeTooLarge = codes "TimeTooLarge"
+
+abbrev pub verdict : CaptureEnd → List ℕ
+verdict (end.Whole bytes) = codes "whole " ++ decimal bytes
+verdict (end.Cut at bytes) = codes "cut " ++ decimal at ++ codes " " ++ decimal bytes
+verdict (end.Refused r) = codes "refused " ++ decimal r.at ++ codes " " ++ reason_name r.why
+
+-- a name and a number, unless that is 0
+abbrev pub count_words : (name : List ℕ) → ℕ → List ℕ
+count_words name n = if n == 0 then [] else codes " " ++ name ++ codes " " ++ decimal n
+
+-- how often a connection had to leave since the table was full, and how many segments are of other ports
+abbrev pub table_words : ConnectionCounts → List ℕ
+table_words c = count_words (codes "Crowded") c.crowded ++ count_words (codes "OtherPorts") c.foreign
+
+-- how many packets had no segment, by the reason
+abbrev pub reason_words : WithoutCounts → List ℕ
+reason_words w =
+    count_words (codes "UnknownLink") w.unknown_link ++ count_words (codes "CutInLink") w.cut_in_link
+    ++ count_words (codes "NotIp") w.not_ip ++ count_words (codes "CutInIp") w.cut_in_ip
+    ++ count_words (codes "BadIpLength") w.bad_ip_length ++ count_words (codes "Fragment") w.fragment
+    ++ count_words (codes "NotTcp") w.not_tcp ++ count_words (codes "CutInTcp") w.cut_in_tcp
+    ++ count_words (codes "BadTcpLength") w.bad_tcp_length
+
+abbrev pub summary_head : Summary → List ℕ
+summary_head s =
+    codes " packets " ++ decimal s.packets.packets ++ codes " segments " ++ decimal s.packets.segments
+    ++ codes " connections " ++ decimal s.connections.connections ++ codes " gaps " ++ decimal s.sums.gaps
+    ++ codes " bytes " ++ decimal s.sums.bytes
+
+abbrev pub summary_words : Summary → List ℕ
+summary_words s = summary_head s ++ table_words s.connections ++ reason_words s.packets.without
+
+-- ---- the line of a fault
+
+-- a file with which that cannot be done
+abbrev pub file_line : (deed : List ℕ) → StreamFile → List ℕ
+file_line deed f =
+    codes "cqlp: cannot " ++ deed ++ codes " " ++ decimal f.number ++ codes "." ++ way_name f.way ++ codes ".bin\n"
+
+abbrev pub no_memory_line : List ℕ
+no_memory_line = codes "cqlp: no memory\n"
+
+abbrev pub fault_line : StreamsFault → List ℕ
+fault_line fault.Read = codes "cqlp: read fault\n"
+fault_line fault.Write = codes "cqlp: write fault\n"
+fault_line fault.TooManyTurns = codes "cqlp: too many turns\n"
+fault_line fault.NoMemory = no_memory_line
+fault_line (fault.File file.NoMemory) = no_memory_line
+fault_line (fault.File (file.CannotMake f)) = file_line (codes "make") f
+fault_line (fault.File (file.CannotWrite f)) = file_line (codes "write") f
+fault_line (fault.File (file.CannotKeep f)) = file_line (codes "keep") f
+
+-- ---- how it is told
+
+abbrev pub line_of : StreamsEnding → List ℕ
+line_of (ending.Finished e s) = verdict e ++ summary_words s ++ codes "\n"
+line_of (ending.Fault f) = fault_line f
+
+-- A line was written, and the status is this one; or the target failed within it, and the status is that of a fault.
+abbrev pub Reports : (line : List ℕ) → (intended : ℕ) → Output → (status : ℕ) → Output → Type 0
+Reports line intended before status after =
+    ((status ≡ intended) × (after ≡ with_text before line)) ⊎ ((status ≡ FAULT) × StopsWithin before line after)
+
+-- So is the line of an ending, or where there is no memory for it, that of this fault.
+abbrev pub Concludes : StreamsEnding → (before : Output) → (status : ℕ) → (after : Output) → Type 0
+Concludes e before status after =
+    Reports (line_of e) (status_of e) before status after ⊎ Reports no_memory_line FAULT before status after

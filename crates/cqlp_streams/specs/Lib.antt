@@ -1,0 +1,10 @@
+pub mod Files
+pub mod Lines
+pub mod Sayings
+pub mod Recordings
+pub mod Tellings
+pub mod Packets
+pub mod Endings
+pub mod Captures
+pub mod Streams
+pub mod Laws

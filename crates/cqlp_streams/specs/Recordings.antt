@@ -1,0 +1,108 @@
+-- What is recorded of what is told: the calls of files, lines, and sums.
+use Rattle.std.specs.Prelude.{◌≡◌, ℕ, List, [], ◌∷◌, Option, Some, None, Result, Ok, Err}
+use Rattle.cqlp_text.specs.Outputs.{Output, with_text, StopsWithin}
+use Rattle.cqlp_reassembly.specs.declared.stream.StreamStep.{StreamStep}
+use Rattle.cqlp_reassembly.specs.declared.stream.StreamStep.TheVariants as step
+use Rattle.cqlp_connections.specs.declared.told.Told.{Told}
+use Rattle.cqlp_connections.specs.declared.totals.ConnectionTotals.{ConnectionTotals}
+use Rattle.cqlp_connections.specs.declared.totals.DirectionTotals.{DirectionTotals}
+use Rattle.cqlp_connections.specs.Totals.{counted}
+use Rattle.cqlp_streams.specs.declared.fault.StreamsFault.{StreamsFault}
+use Rattle.cqlp_streams.specs.declared.fault.StreamsFault.TheVariants as fault
+use Rattle.cqlp_streams.specs.declared.files.StreamFile.{StreamFile}
+use Rattle.cqlp_streams.specs.declared.recorder.Sums.{Sums}
+use Rattle.cqlp_streams.specs.Files.{Call, Made, Appended, Kept, with_call}
+use Rattle.cqlp_streams.specs.Lines.{connection_line, gap_line}
+use Rattle.cqlp_streams.specs.Sayings.{Saying, New, Of, Left}
+
+pub record Recording : Type 0 where
+  pub calls : Option (List Call)
+  pub output : Output
+  pub sums : Sums
+
+abbrev pub recording : Option (List Call) → Output → Sums → Recording
+recording calls output sums = record { calls = calls; output = output; sums = sums }
+
+abbrev pub no_sums : Sums
+no_sums = record { gaps = 0; bytes = 0 }
+
+abbrev pub with_output : Output → Recording → Recording
+with_output o r = recording r.calls o r.sums
+
+-- A line was put; or there was no memory for it, or the output failed within it.
+abbrev pub Puts : (line : List ℕ) → Output → Result (Unit {0}) StreamsFault → Output → Type 0
+Puts line old (Ok u) new = new ≡ with_text old line
+Puts line old (Err fault.NoMemory) new = new ≡ old
+Puts line old (Err fault.Write) new = StopsWithin old line new
+Puts line old (Err e) new = ⊥
+
+-- ---- what is told becomes one call or none, and one line or none
+
+abbrev pub file_of : Told → StreamFile
+file_of t = record { number = t.number; way = t.way }
+
+abbrev pub call_of_step : StreamStep → StreamFile → List ℕ → Option Call
+call_of_step (step.Payload from count) file bytes = Some (Appended file bytes)
+call_of_step (step.Held count) file bytes = Some (Appended file bytes)
+call_of_step t file bytes = None
+
+abbrev pub call_of : Saying → Option Call
+call_of (New n) = Some (Made n)
+call_of (Of told bytes) = call_of_step told.step (file_of told) bytes
+call_of (Left totals) = Some (Kept totals.number)
+
+abbrev pub line_of_step : StreamStep → StreamFile → (at : ℕ) → Option (List ℕ)
+line_of_step (step.Gap n) file at = Some (gap_line file at n)
+line_of_step t file at = None
+
+abbrev pub line_of : Saying → Option (List ℕ)
+line_of (New n) = None
+line_of (Of told bytes) = line_of_step told.step (file_of told) told.at
+line_of (Left totals) = Some (connection_line totals)
+
+abbrev pub summed : DirectionTotals → Sums → Sums
+summed d s = record { gaps = counted s.gaps d.gaps; bytes = counted s.bytes d.bytes }
+
+abbrev pub sums_with : Saying → Sums → Sums
+sums_with (Left totals) s = summed totals.responses (summed totals.requests s)
+sums_with x s = s
+
+-- first the call,
+abbrev pub called : Option Call → Option (List Call) → Option (List Call)
+called None calls = calls
+called (Some call) calls = with_call calls call
+
+abbrev pub with_call_of : Recording → Saying → Recording
+with_call_of r s = recording (called (call_of s) r.calls) r.output (sums_with s r.sums)
+
+-- and then the line
+abbrev pub lined : Option (List ℕ) → Output → Output
+lined None o = o
+lined (Some line) o = with_text o line
+
+abbrev pub with_saying : Recording → Saying → Recording
+with_saying r s = recording (called (call_of s) r.calls) (lined (line_of s) r.output) (sums_with s r.sums)
+
+-- all of them, in order
+abbrev pub with_sayings : Recording → List Saying → Recording
+with_sayings r [] = r
+with_sayings r (s ∷ ss) = with_sayings (with_saying r s) ss
+
+-- ---- a fault
+
+-- the output failed within the line
+abbrev pub StopsWithinLine : Option (List ℕ) → (old new : Output) → Type 0
+StopsWithinLine None old new = ⊥
+StopsWithinLine (Some line) old new = StopsWithin old line new
+
+-- Files failed, and nothing was recorded; or the call was made, and there was no memory for the line, or the output failed within it.
+abbrev pub StopsAt : Recording → Saying → StreamsFault → Recording → Type 0
+StopsAt old s (fault.File e) new = new ≡ old
+StopsAt old s fault.NoMemory new = new ≡ with_call_of old s
+StopsAt old s fault.Write new =
+    (new ≡ with_output new.output (with_call_of old s)) × StopsWithinLine (line_of s) old.output new.output
+StopsAt old s e new = ⊥
+
+abbrev pub Records : Recording → Saying → Result (Unit {0}) StreamsFault → Recording → Type 0
+Records old s (Ok u) new = new ≡ with_saying old s
+Records old s (Err e) new = StopsAt old s e new

@@ -1,0 +1,132 @@
+-- What a table of connections tells of a segment, and where connections leave.
+use Rattle.std.specs.Prelude.{◌≡◌, ℕ, Bool, true, false, List, [], ◌∷◌, ◌++◌, map, take, drop, Option, Some, None, IsSome, Result, Ok, Err, ◌⊎◌}
+use Rattle.cqlp_reassembly.specs.declared.stream.StreamStep.{StreamStep}
+use Rattle.cqlp_reassembly.specs.declared.stream.StreamStep.TheVariants as step
+use Rattle.cqlp_segment.specs.Segment.{Seen}
+use Rattle.cqlp_connections.specs.declared.ends.Way.{Way}
+use Rattle.cqlp_connections.specs.declared.told.Told.{Told}
+use Rattle.cqlp_connections.specs.declared.told.Departure.TheVariants as departure
+use Rattle.cqlp_connections.specs.declared.told.Sight.{Sight}
+use Rattle.cqlp_connections.specs.declared.told.Sight.TheVariants as sight
+use Rattle.cqlp_connections.specs.Tables.{Table, Departing, cells_of, departing, finished, held_on, left, pulled, pulling, read_on, taken, taking}
+use Rattle.cqlp_streams.specs.declared.fault.StreamsFault.{StreamsFault}
+use Rattle.cqlp_streams.specs.declared.fault.StreamsFault.TheVariants as fault
+use Rattle.cqlp_streams.specs.Sayings.{Saying, New, Of, Left}
+use Rattle.cqlp_streams.specs.Recordings.{Recording, Records, with_saying, with_sayings}
+
+-- how many bytes that came early are handed on at once
+abbrev pub at_once : ℕ
+at_once = 4096
+
+-- The bytes of what is told: those of the payload that it names, or of those that the connection held the next.
+abbrev pub HandsHeld : Way → Table → (bytes : List ℕ) → Table → Type 0
+HandsHeld way t bytes u =
+    (map Some bytes ≡ take (held_on way t.known at_once) (cells_of way t.known)) × (u ≡ read_on way (held_on way t.known at_once) t)
+
+abbrev pub HandsOn : StreamStep → Way → (payload : List ℕ) → Table → (bytes : List ℕ) → Table → Type 0
+HandsOn (step.Payload from count) way payload t bytes u = (bytes ≡ take count (drop from payload)) × (u ≡ t)
+HandsOn (step.Held count) way payload t bytes u = HandsHeld way t bytes u
+HandsOn s way payload t bytes u = (bytes ≡ []) × (u ≡ t)
+
+-- ---- steps, which may be many
+
+-- from one to another, a step for each
+module _ {S X : Type 0} (Step : S → X → S → Type 0) where
+  abbrev pub Path : S → List X → S → Type 0
+  Path s [] t = t ≡ s
+  Path s (x ∷ xs) t = (m : S) × Step s x m × Path m xs t
+
+-- A segment that was taken tells something.
+abbrev pub Pulls : Seen → Table → Saying → Table → Type 0
+Pulls g t (Of told bytes) u =
+    (m : Table) × (pulling (Some told) m ≡ pulled g t) × HandsOn told.step told.way g.payload m bytes u
+Pulls g t s u = ⊥
+
+-- All that it tells; or where something fails, the first of that.
+abbrev pub PullsAll : (all : Bool) → Seen → Table → List Saying → Table → Type 0
+PullsAll true g t ss u = (m : Table) × Path (Pulls g) t ss m × (pulling None u ≡ pulled g m)
+PullsAll false g t ss u = Path (Pulls g) t ss u
+
+-- A connection that leaves tells what it still has.
+abbrev pub StillTells : (Table → Departing) → Table → Saying → Table → Type 0
+StillTells leaves t (Of told bytes) u =
+    (m : Table) × (departing (departure.Told told) m ≡ leaves t) × HandsOn told.step told.way [] m bytes u
+StillTells leaves t s u = ⊥
+
+-- At last it has left.
+abbrev pub Parts : (Table → Departing) → Table → List Saying → Table → Type 0
+Parts leaves t (Left totals ∷ []) u = departing (departure.Left totals) u ≡ leaves t
+Parts leaves t [] u = departing departure.Empty u ≡ leaves t
+Parts leaves t ss u = ⊥
+
+abbrev pub Leaves : (all : Bool) → Table → List Saying → Table → Type 0
+Leaves true t ss u =
+    (m : Table) × (front : List Saying) × (last : List Saying) × (ss ≡ front ++ last)
+    × Path (StillTells left) t front m × Parts left m last u
+Leaves false t ss u =
+    Path (StillTells left) t ss u
+    ⊎ ((m : Table) × (front : List Saying) × (last : List Saying) × (ss ≡ front ++ last)
+    × Path (StillTells left) t front m × Parts left m last u)
+
+-- So do all, one after the other.
+abbrev pub Departs : Table → Saying → Table → Type 0
+Departs t (Left totals) u = departing (departure.Left totals) u ≡ finished t
+Departs t s u = StillTells finished t s u
+
+abbrev pub FinishesAll : (all : Bool) → Table → List Saying → Table → Type 0
+FinishesAll true t ss u = (m : Table) × Path Departs t ss m × (departing departure.Empty u ≡ finished m)
+FinishesAll false t ss u = Path Departs t ss u
+
+-- ---- a segment
+
+abbrev pub beginning : (is_new : Bool) → (number : ℕ) → List Saying
+beginning true n = New n ∷ []
+beginning false n = []
+
+-- What is told of a segment that was seen so; a connection is not crowded out twice.
+abbrev pub TellsSeen : Sight → (all : Bool) → Seen → Table → List Saying → Table → Type 0
+TellsSeen sight.Foreign all g t ss u = (ss ≡ []) × (u ≡ t)
+TellsSeen (sight.Taken n way is_new) all g t ss u =
+    (rest : List Saying) × (ss ≡ beginning is_new n ++ rest) × PullsAll all g t rest u
+TellsSeen (sight.Crowded n is_full) true g t ss u = ⊥
+TellsSeen (sight.Crowded n is_full) false g t ss u = (ss ≡ []) × (u ≡ t)
+
+-- taken once more after a connection has left for it
+abbrev pub TellsAgain : (all : Bool) → Seen → Table → List Saying → Table → Type 0
+TellsAgain all g t ss u = (s : Sight) × (m : Table) × (taking s m ≡ taken t g.head) × TellsSeen s all g m ss u
+
+abbrev pub TellsFirst : Sight → (all : Bool) → Seen → Table → List Saying → Table → Type 0
+TellsFirst (sight.Crowded n is_full) true g t ss u =
+    (m : Table) × (front : List Saying) × (rest : List Saying) × (ss ≡ front ++ rest)
+    × Leaves true t front m × TellsAgain true g m rest u
+TellsFirst (sight.Crowded n is_full) false g t ss u =
+    Leaves false t ss u
+    ⊎ ((m : Table) × (front : List Saying) × (rest : List Saying) × (ss ≡ front ++ rest)
+    × Leaves true t front m × TellsAgain false g m rest u)
+TellsFirst s all g t ss u = TellsSeen s all g t ss u
+
+abbrev pub TellsOf : (all : Bool) → Seen → Table → List Saying → Table → Type 0
+TellsOf all g t ss u = (s : Sight) × (m : Table) × (taking s m ≡ taken t g.head) × TellsFirst s all g m ss u
+
+-- ---- what is recorded of it
+
+abbrev pub is_done : Result (Unit {0}) StreamsFault → Bool
+is_done (Ok u) = true
+is_done (Err e) = false
+
+-- All of it was recorded; or there was no end to it; or the last of it failed to be.
+abbrev pub RecordsAll : Recording → List Saying → Result (Unit {0}) StreamsFault → Recording → Type 0
+RecordsAll old ss (Ok u) new = new ≡ with_sayings old ss
+RecordsAll old ss (Err e) new =
+    ((e ≡ fault.TooManyTurns) × (new ≡ with_sayings old ss))
+    ⊎ ((front : List Saying) × (s : Saying) × (ss ≡ front ++ s ∷ []) × Records (with_sayings old front) s (Err e) new)
+
+-- The next that connections tell which leave was recorded, or failed to be; or there was none.
+abbrev pub DepartsNext : Result Bool StreamsFault → Table → Recording → Table → Recording → Type 0
+DepartsNext (Ok false) t old u new = (s : Saying) × Departs t s u × (new ≡ with_saying old s)
+DepartsNext (Ok true) t old u new = (departing departure.Empty u ≡ finished t) × (new ≡ old)
+DepartsNext (Err e) t old u new = (s : Saying) × Departs t s u × Records old s (Err e) new
+
+-- Where it is known what the output was given, what was told was recorded.
+abbrev pub Recorded : (List Saying → Type 0) → Recording → Result (Unit {0}) StreamsFault → Recording → Type 0
+Recorded tells old r new = IsSome old.output.given → (ss : List Saying) × tells ss × RecordsAll old ss r new

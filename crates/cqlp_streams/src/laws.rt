@@ -1,0 +1,14 @@
+//! Laws of what is recorded of a capture. No code needs them.
+
+ghost use Rattle.cqlp_streams.specs.Laws.{GetWhatIsTold, OneAnswerOfWriteStreams};
+
+/// Where nothing outside fails, `write_streams` has one answer: from the same bytes and ports the same calls of files, the same lines and
+/// the same status.
+pub fn one_answer()
+    ensures { OneAnswerOfWriteStreams }
+{}
+
+/// Each file gets the bytes that the table of connections tells of its direction, in order, and no others.
+pub fn files_get_what_is_told()
+    ensures { GetWhatIsTold }
+{}

@@ -1,0 +1,131 @@
+//! The packets of a capture, on their way to connections.
+
+ghost use Rattle.std.specs.Prelude.{◌≡◌};
+
+use crate::fault::StreamsFault;
+use crate::files::StreamFiles;
+use crate::packets::PacketCounts;
+use crate::recorder::Recorder;
+use crate::telling::{finish_all, take_segment};
+use cqlp_capture::{CaptureEvent, PacketHead};
+use cqlp_connections::{ConnectionCounts, Connections};
+use cqlp_note::Target;
+use cqlp_segment::{LinkType, NoSegment, Segment, read_segment};
+use std::alloc::{Allocator, Global};
+use std::marker::Model;
+
+/// Takes the events of a capture, and has the segments in them taken by their connections.
+#[derive(Drop)]
+pub(crate) struct Splitter<A: Allocator = Global> {
+    connections: Connections<A>,
+    /// Of the packet that began: the link type's number, and how many bytes it had.
+    link: u16,
+    original: u32,
+    counts: PacketCounts,
+}
+
+impl<A: Allocator> Model for Splitter<A> {
+    ghost use Rattle.cqlp_streams.specs.Packets.{SplitState, split_state};
+
+    ghost Value = { SplitState };
+
+    ghost view = { λ s. split_state s.connections s.link s.original s.counts };
+}
+
+impl<A: Allocator> Splitter<A> {
+    ghost use Rattle.cqlp_segment.specs.Fields.{Gives};
+    ghost use Rattle.cqlp_segment.specs.Segment.{seen};
+    ghost use Rattle.cqlp_capture.specs.Progress.{event_of};
+    ghost use Rattle.cqlp_streams.specs.Tellings.{FinishesAll, Recorded, is_done};
+    ghost use Rattle.cqlp_streams.specs.Packets.{Finishes, TellsEvent, TellsRead, new_split, segment_in};
+
+    /// At the start of a capture, whose connections have this table.
+    pub fn new(connections: Connections<A>) -> Self
+        ensures { result ≡ new_split connections }
+    {
+        Splitter {
+            connections,
+            link: 0,
+            original: 0,
+            counts: PacketCounts::NONE,
+        }
+    }
+
+    /// What packets were.
+    pub fn packet_counts(&self) -> PacketCounts
+        ensures { result ≡ self.now.counts }
+    {
+        self.counts
+    }
+
+    /// What the table of connections has counted.
+    pub fn connection_counts(&self) -> ConnectionCounts
+        ensures { result ≡ self.now.table.counts }
+    {
+        self.connections.counts()
+    }
+
+    /// Takes the next event, and records what is told of connections.
+    pub fn take<F: StreamFiles, O: Target, B: Allocator>(
+        &mut self,
+        event: &CaptureEvent<'_>,
+        recorder: &mut Recorder<F, O, B>,
+    ) -> Result<(), StreamsFault>
+        ensures { Recorded (λ ss. TellsEvent (is_done result) self.old (event_of event.now) ss self.new)
+            recorder.old result recorder.new }
+    {
+        match event {
+            CaptureEvent::Section(_) | CaptureEvent::Interface(_) => Ok(()),
+            CaptureEvent::Packet(head) => {
+                self.begin_packet(head);
+                Ok(())
+            }
+            CaptureEvent::Data(packet) => self.take_packet(packet, recorder),
+        }
+    }
+
+    /// At the end of the capture: has all connections leave.
+    pub fn finish<F: StreamFiles, O: Target, B: Allocator>(
+        &mut self,
+        recorder: &mut Recorder<F, O, B>,
+    ) -> Result<(), StreamsFault>
+        ensures { Recorded (λ ss. Finishes (is_done result) self.old ss self.new) recorder.old result recorder.new }
+    {
+        finish_all(&mut self.connections, recorder)
+    }
+
+    fn begin_packet(&mut self, head: &PacketHead)
+        ensures { self.new ≡ record self.old { link = head.now.link; original = head.now.original } }
+    {
+        self.link = head.link;
+        self.original = head.original;
+    }
+
+    fn take_packet<F: StreamFiles, O: Target, B: Allocator>(
+        &mut self,
+        packet: &[u8],
+        recorder: &mut Recorder<F, O, B>,
+    ) -> Result<(), StreamsFault>
+        ensures { Recorded (λ ss. TellsRead (segment_in self.old packet.now) (is_done result) self.old ss self.new)
+            recorder.old result recorder.new }
+    {
+        match self.segment_in(packet) {
+            Ok(segment) => {
+                self.counts.count_segment();
+                take_segment(&mut self.connections, &segment, recorder)
+            }
+            Err(why) => {
+                self.counts.count_without(why);
+                Ok(())
+            }
+        }
+    }
+
+    /// The segment in the packet that began.
+    fn segment_in<'a>(&self, packet: &'a [u8]) -> Result<Segment<'a>, NoSegment>
+        ensures { Gives seen result (segment_in self.now packet.now) }
+    {
+        let link = LinkType::from_number(self.link)?;
+        read_segment(link, packet, self.original)
+    }
+}

@@ -1,0 +1,218 @@
+//! Captures whose bytes were changed at random, and what `write_streams` makes of them: no panic, no more memory than the limits say, the same
+//! files and lines whole and in pieces of any size, and lines that say how long the files are. CQLP_STREAMS is how many changed captures
+//! there are, 3,000 where it is not set, 5,000 in a file; CQLP_CAPTURES is the folder with those of a driver.
+use crate::cqlp_connections::Way;
+use crate::cqlp_note::{IoFault, OfStd, Source};
+use crate::cqlp_streams::{FileFault, StreamFile, StreamFiles, write_streams};
+use crate::kit_std::alloc::Global;
+use std::alloc::{GlobalAlloc, Layout, System};
+use std::collections::HashMap;
+use std::sync::atomic::{AtomicUsize, Ordering::SeqCst};
+
+/// How many bytes are taken at once, where the test counts them: those of the files and of the lines are not among them.
+struct Counting;
+
+static LIVE: AtomicUsize = AtomicUsize::new(0);
+static MOST: AtomicUsize = AtomicUsize::new(0);
+
+unsafe impl GlobalAlloc for Counting {
+    unsafe fn alloc(&self, layout: Layout) -> *mut u8 {
+        MOST.fetch_max(LIVE.fetch_add(layout.size(), SeqCst) + layout.size(), SeqCst);
+        unsafe { System.alloc(layout) }
+    }
+
+    unsafe fn dealloc(&self, memory: *mut u8, layout: Layout) {
+        LIVE.fetch_sub(layout.size(), SeqCst);
+        unsafe { System.dealloc(memory, layout) }
+    }
+}
+
+#[global_allocator]
+static HEAP: Counting = Counting;
+
+/// Numbers that look random, the same at each run.
+struct Numbers(u64);
+
+impl Numbers {
+    fn below(&mut self, end: usize) -> usize {
+        self.0 ^= self.0 << 13;
+        self.0 ^= self.0 >> 7;
+        self.0 ^= self.0 << 17;
+        (self.0 >> 11) as usize % end
+    }
+
+    fn one_of<T: Copy>(&mut self, all: &[T]) -> T {
+        all[self.below(all.len())]
+    }
+}
+
+/// Gives a file in pieces of at most so many bytes.
+struct Pieces<'a> {
+    rest: &'a [u8],
+    most: usize,
+    numbers: Numbers,
+}
+
+impl Source for Pieces<'_> {
+    fn read(&mut self, room: &mut [u8]) -> Result<usize, IoFault> {
+        let count = self.rest.len().min(room.len()).min(1 + self.numbers.below(self.most));
+        let (piece, rest) = self.rest.split_at(count);
+        room[..count].copy_from_slice(piece);
+        self.rest = rest;
+        Ok(count)
+    }
+}
+
+/// Files that lie in one row of bytes with room for all, so that they take no memory while a capture is read. Of each file there is a sum
+/// of its bytes in their order, and how many they are.
+#[derive(Default)]
+struct Sums {
+    open: HashMap<u64, [(u64, u64); 2]>,
+    kept: Vec<(u64, [(u64, u64); 2])>,
+    /// How many calls are still done; the next fails, and no other may come.
+    left: usize,
+}
+
+impl Sums {
+    fn with_room(left: usize) -> Sums {
+        Sums { open: HashMap::with_capacity(1_000), kept: Vec::with_capacity(2_000_000), left }
+    }
+
+    fn call(&mut self, number: u64) -> Result<(), FileFault> {
+        assert!(self.left != usize::MAX, "a call after a fault");
+        self.left = self.left.wrapping_sub(1);
+        if self.left == usize::MAX { Err(FileFault::CannotMake(StreamFile { number, way: Way::Requests })) } else { Ok(()) }
+    }
+}
+
+impl StreamFiles for Sums {
+    fn make(&mut self, number: u64) -> Result<(), FileFault> {
+        self.call(number)?;
+        assert_eq!(self.open.insert(number, [(0, 0); 2]), None);
+        assert!(self.open.len() <= 256);
+        Ok(())
+    }
+
+    fn append(&mut self, file: StreamFile, bytes: &[u8]) -> Result<(), FileFault> {
+        self.call(file.number)?;
+        let (length, sum) = &mut self.open.get_mut(&file.number).unwrap()[file.way as usize];
+        *length += bytes.len() as u64;
+        bytes.iter().for_each(|byte| *sum = (*sum ^ u64::from(*byte)).wrapping_mul(0x0100_0000_01b3));
+        Ok(())
+    }
+
+    fn keep(&mut self, number: u64) -> Result<(), FileFault> {
+        self.call(number)?;
+        self.kept.push((number, self.open.remove(&number).unwrap()));
+        Ok(())
+    }
+}
+
+/// What was made of a file.
+#[derive(Debug, PartialEq)]
+struct Made {
+    status: u8,
+    kept: Vec<(u64, [(u64, u64); 2])>,
+    open: usize,
+    lines: String,
+    said: String,
+}
+
+fn made(file: &[u8], most: usize, ports: &[u16], calls: usize) -> Made {
+    let mut pieces = Pieces { rest: file, most, numbers: Numbers(1 + most as u64) };
+    let (files, out, err) = (Sums::with_room(calls), OfStd::new(Vec::with_capacity(64 << 20)), OfStd::new(Vec::with_capacity(1_000)));
+    let before = LIVE.load(SeqCst);
+    MOST.store(before, SeqCst);
+    let (status, files, out, err) = write_streams(Global, ports, &mut pieces, files, out, err);
+    let taken = MOST.load(SeqCst) - before;
+    assert!(taken <= 48 << 20, "{taken} bytes of memory");
+    assert_eq!(LIVE.load(SeqCst), before);
+    let text = |target: OfStd<Vec<u8>>| String::from_utf8(target.into_inner()).unwrap();
+    Made { status, kept: files.kept, open: files.open.len(), lines: text(out), said: text(err) }
+}
+
+/// The lines say how long the files are, and the last line how long all of them are.
+fn agree(made: &Made) {
+    let lines: Vec<Vec<&str>> = made.lines.lines().map(|line| line.split(' ').collect()).collect();
+    let number = |word: &str| word.parse::<u64>().unwrap();
+    let told: Vec<_> = lines.iter().filter(|line| line[0] == "connection").map(|line| (number(line[1]), number(line[5]), number(line[11]))).collect();
+    let lengths: Vec<_> = made.kept.iter().map(|(number, [requests, responses])| (*number, requests.0, responses.0)).collect();
+    assert_eq!(told, lengths);
+    let after = |word| made.said.split(' ').skip_while(|other| *other != word).nth(1).map(|word| number(word.trim())).unwrap();
+    assert_eq!(after("bytes"), lengths.iter().map(|(_, requests, responses)| requests + responses).sum());
+    assert_eq!(after("gaps"), lines.iter().filter(|line| line[0] == "gap").count() as u64);
+    assert_eq!((after("connections"), made.open), (lengths.len() as u64, 0));
+}
+
+fn captures() -> Vec<(Vec<u8>, Vec<Vec<u8>>)> {
+    let folder = std::env::var("CQLP_CAPTURES").unwrap();
+    ["driver", "driver-swapped", "driver-overlap", "driver-snapped", "driver-middle"]
+        .map(|name| records(&std::fs::read(format!("{folder}/{name}.pcap")).unwrap()))
+        .into()
+}
+
+/// The header of a pcap file, and its records.
+fn records(capture: &[u8]) -> (Vec<u8>, Vec<Vec<u8>>) {
+    let (header, mut rest) = capture.split_at(24);
+    let mut records = Vec::new();
+    while rest.len() >= 16 {
+        let length = u32::from_le_bytes(rest[8..12].try_into().unwrap()) as usize;
+        let (record, after) = rest.split_at(16 + length);
+        records.push(record.to_vec());
+        rest = after;
+    }
+    (header.to_vec(), records)
+}
+
+/// Some records, of which some come twice, not at all or in another order, and their packets with bytes changed.
+fn changed(numbers: &mut Numbers, records: &[Vec<u8>]) -> Vec<Vec<u8>> {
+    let first = numbers.below(records.len());
+    let mut packets: Vec<Vec<u8>> = records[first..].iter().take(numbers.one_of(&[1, 4, 12])).cloned().collect();
+    for _ in 0..numbers.one_of(&[0, 0, 1, 3]) {
+        let (place, other) = (numbers.below(packets.len()), numbers.below(packets.len()));
+        match numbers.below(3) {
+            0 => packets.swap(place, other),
+            1 => packets.insert(place, packets[other].clone()),
+            _ if packets.len() > 1 => drop(packets.remove(place)),
+            _ => {}
+        }
+    }
+    for _ in 0..numbers.one_of(&[0, 1, 1, 2, 3, 8]) {
+        let packet = numbers.below(packets.len());
+        let packet = &mut packets[packet][16..];
+        // The headers are what tells most: a byte of them more often than any other.
+        let place = numbers.below(packet.len()).min(numbers.one_of(&[usize::MAX, numbers.0 as usize % 66]));
+        let byte = numbers.below(256) as u8;
+        packet[place] = numbers.one_of(&[0, 1, 2, 4, 0x7f, 0x80, 0xff, byte, packet[place] ^ 1, packet[place].wrapping_add(3)]);
+    }
+    packets
+}
+
+#[test]
+fn changed_captures() {
+    let count: usize = std::env::var("CQLP_STREAMS").map_or(3_000, |text| text.parse().unwrap());
+    let bases = captures();
+    let mut numbers = Numbers(0x9e37_79b9_7f4a_7c15);
+    for first in (0..count).step_by(5_000) {
+        let mut file = bases[0].0.clone();
+        for _ in first..count.min(first + 5_000) {
+            let base = numbers.below(bases.len());
+            changed(&mut numbers, &bases[base].1).iter().for_each(|record| file.extend(record));
+        }
+        // The length of a record or the header of the file, in some of the files.
+        if numbers.below(4) == 0 {
+            let place = numbers.one_of(&[0, 4, 8, 16, 20, 32, 36]) + numbers.below(4);
+            file[place] = numbers.one_of(&[0, 1, 0x7f, 0xff]);
+        }
+        file.truncate(file.len() - numbers.one_of(&[0, 0, 1, 20, 100]));
+        let ports = [36_401, 40_971, 9_042];
+        let ports = &ports[..numbers.one_of(&[1, 2, 3])];
+        let whole = made(&file, usize::MAX, ports, 1 << 40);
+        agree(&whole);
+        let most = numbers.one_of(&[1, 20, 2_000, 200_000]);
+        assert_eq!(made(&file, most, ports, 1 << 40), whole);
+        let faulty = made(&file, most, ports, numbers.below(5_000));
+        assert!(faulty.status == 3 || faulty == whole);
+        assert!(whole.kept.starts_with(&faulty.kept) && whole.lines.starts_with(&faulty.lines));
+    }
+}
