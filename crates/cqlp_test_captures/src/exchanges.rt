@@ -5,10 +5,10 @@ use crate::reading::{AMPLE, fold};
 use crate::streams::segment_of;
 use cqlp_capture::{CaptureEvent, CaptureLimits, CaptureReader, CaptureStep};
 use cqlp_connections::{Connections, Departure, Sight, Told, Way};
+use cqlp_note::Prim;
 use cqlp_reassembly::StreamStep;
 use cqlp_segment::Segment;
 use cqlp_test_heaps::{Rationed, Refusals};
-use cqlp_note::Prim;
 use cqlp_watch::{Kept, Message, Paired, Watch, subject_of};
 use std::alloc::{Allocator, Global};
 use std::io;
@@ -152,7 +152,13 @@ impl<A: Allocator + Copy> Watcher<A> {
                 self.hear(told, &buffer[..count], false)?;
             }
             StreamStep::Gap { length } => {
-                write!(self.said, "{} {} gap {length} at {}\n", told.number, side(responses), told.at)?;
+                write!(
+                    self.said,
+                    "{} {} gap {length} at {}\n",
+                    told.number,
+                    side(responses),
+                    told.at
+                )?;
                 if let Some(watch) = watch_of(&mut self.watches, told.number) {
                     let paired = watch.gap(responses, length as u64);
                     say(told.number, paired.as_ref(), &mut self.said)?;

@@ -104,10 +104,7 @@ fn take(
                 write!(
                     lines.text,
                     "skipped {} {:?} at {}, stream {}\n",
-                    skipped.at,
-                    refusal.why,
-                    refusal.at,
-                    skipped.header.stream
+                    skipped.at, refusal.why, refusal.at, skipped.header.stream
                 )?;
             }
             Err(error) => {
