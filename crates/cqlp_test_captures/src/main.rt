@@ -6,7 +6,6 @@
 #![tactic(auto)]
 
 mod connections;
-mod exchanges;
 mod reading;
 mod segments;
 mod streams;
@@ -14,7 +13,6 @@ mod streams;
 use connections::{Asked, said_of_connections};
 use cqlp_capture::CaptureLimits;
 use cqlp_connections::ConnectionLimits;
-use exchanges::{Watched, said_of_exchanges};
 use reading::said_in_pieces;
 use std::{fs, io};
 use streams::said_of_streams;
@@ -44,8 +42,6 @@ enum Question {
     Streams,
     /// What a table of connections tells.
     Connections(Asked),
-    /// What is told of the requests and responses on its connections.
-    Exchanges(Watched),
 }
 
 /// Reads the capture that a line names or has.
@@ -72,24 +68,13 @@ fn execute(rt: &HostRuntime, line: &str) -> io::Result<()> {
                 asked.limits.connections, asked.port
             )
         }
-        Question::Exchanges(watched) => {
-            let said = said_of_exchanges(rt.alloc(), watched, &bytes)?;
-            print!(rt;
-                "== exchanges {} of {} {name}\n{said}",
-                watched.limit, watched.asked.port
-            )
-        }
     }
 }
 
-/// What a line asks, and of which capture: `streams`, `connections` with a port and limits, or `exchanges` with a limit
-/// and the same, comes before the capture.
+/// What a line asks, and of which capture: `streams`, or `connections` with a port and limits, comes before the capture.
 fn question_of(line: &str) -> (Question, &str) {
     if let Some(rest) = line.strip_prefix("streams ") {
         return (Question::Streams, rest);
-    }
-    if let Some((watched, rest)) = line.strip_prefix("exchanges ").and_then(watched_of) {
-        return (Question::Exchanges(watched), rest);
     }
     match line.strip_prefix("connections ").and_then(asked_of) {
         Some((asked, rest)) => (Question::Connections(asked), rest),
@@ -98,13 +83,6 @@ fn question_of(line: &str) -> (Question, &str) {
             None => (Question::Events(CaptureLimits::DEFAULT), line),
         },
     }
-}
-
-fn watched_of(words: &str) -> Option<(Watched, &str)> {
-    let (limit, rest) = words.split_once(' ')?;
-    let limit = limit.parse().ok()?;
-    let (asked, rest) = asked_of(rest)?;
-    Some((Watched { asked, limit }, rest))
 }
 
 fn asked_of(words: &str) -> Option<(Asked, &str)> {
