@@ -235,7 +235,7 @@ pub use kit_std::alloc::Global;
 
 /// Values of frames, and what writes them.
 pub mod frame {
-    pub use crate::cqlp_encode::{BindError, EncodeError, PageError, PageWriter, ValueError, bind_value, encode, raw_value, write_value};
+    pub use crate::cqlp_encode::{BindError, EncodeError, PageError, PageWriter, ValueError, bind_value, encode, encode_from, raw_value, write_value};
     pub use crate::cqlp_message::{
         BatchEntry, ErrorExtra, Frame, Message, Metadata, OwnedBound, PartRef, Prepared, QueryParams, Rows, SchemaChange,
         SchemaOptions, ServerEvent, Spec, TakesParts, Unfit,
