@@ -1,0 +1,25 @@
+use Rattle.std.proofs.Common.{◌≡◌, ◌+◌, ◌-◌, ◌*◌, ◌≤◌, List, ℕ, length, take, Some, None}
+use Rattle.cqlp_note.specs.declared.refusal.Refusal.{Refusal}
+use Rattle.cqlp_decode.specs.Reading.{Event, Gifts}
+use Rattle.cqlp_decode.specs.Progress.{ends_due}
+use Rattle.cqlp_decode.specs.Streams.{AfterGifts, state}
+use Rattle.cqlp_decode.specs.Draining.{Passes}
+use Rattle.cqlp_skip.proofs.Ending.{Drained}
+use Rattle.cqlp_skip.proofs.draining.drain.Given as goal
+
+-- what is used is read, and the sink has got its events
+abbrev pub invariant-events : goal.invariant-events
+invariant-events g l = record {
+  within : l.used ≤ length l.input;
+  rules : (state l.decoder).rules ≡ (state l.fn.decoder).rules;
+  given : (state l.decoder).given ≡ (state l.fn.decoder).given;
+  refused : (r : Refusal) → (state l.fn.decoder).refusal ≡ Some r → (state l.decoder ≡ state l.fn.decoder) × (l.sink ≡ l.fn.sink) × (l.used ≡ 0);
+  clear : (state l.fn.decoder).refusal ≡ None → (state l.decoder).refusal ≡ None;
+  tells : g.S.Sink.tells l.fn.sink → g.S.Sink.tells l.sink;
+  also : Passes g.S.Sink.also l.fn.sink l.sink;
+  drained : g.S.Sink.tells l.fn.sink → (gifts : Gifts) (s : List ℕ) (es : List (ℕ × Event)) → AfterGifts gifts (state l.fn.decoder) s es → Drained g.S.Sink gifts s l.input es (g.S.Sink.view l.fn.sink) (state l.decoder) l.used l.sink;
+}
+
+-- an event takes some byte, or is the end of the frame or of a value that is open
+abbrev pub decreases-events : goal.decreases-events
+decreases-events g l = ends_due (state l.decoder).place.symbols + (state l.decoder).open_values + 2 * (length l.input - l.used)

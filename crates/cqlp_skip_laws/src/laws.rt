@@ -1,0 +1,28 @@
+//! Laws of streams that are read in stretches.
+
+ghost use Rattle.cqlp_skip_laws.specs.Laws.{GoesOn, IsGivenUpOnce, IsOneAnswerOfFeed, IsPlainWithoutSkips};
+
+use cqlp_grammar::Sink;
+
+/// Of one stream, and as many tables given over each of its stretches, there is one list of stretches that were given up. So what
+/// is told of them does not depend on how the stream was cut into pieces.
+pub fn given_up_once()
+    ensures { IsGivenUpOnce }
+{}
+
+/// Whatever bytes follow, the stretches that were given up stay.
+pub fn goes_on()
+    ensures { GoesOn }
+{}
+
+/// Where nothing was skipped the reading is that of a decoder.
+pub fn without_skips()
+    ensures { IsPlainWithoutSkips }
+{}
+
+/// After the same bytes, skips and events there is one answer of `feed` over the same piece: more is wanted, or the same
+/// refusal; and two sinks that were seen alike, and neither failed, are seen alike. How many bytes were used at a refusal
+/// is not among it: no byte that is still to come is part of an event.
+pub fn one_answer_of_feed<S: Sink>()
+    ensures { IsOneAnswerOfFeed S.after S.faulted }
+{}
