@@ -9,6 +9,7 @@ mod gifts;
 mod memory;
 mod reading;
 mod script;
+mod skips;
 mod ways;
 
 use cqlp_decode::Decoder;
@@ -37,6 +38,9 @@ fn execute(rt: &HostRuntime, line: &str) -> io::Result<()> {
         return memory::print_answers(rt, script.limits);
     }
     script.room = memory::taken(rt.alloc(), script.limits)?;
+    if script.shows == Shows::Skips {
+        return skips::print_in_pieces(rt, &script, pieces);
+    }
     print_pieces(rt, &script, pieces)
 }
 
@@ -88,6 +92,6 @@ fn print_said(
     match said.shows {
         Shows::Calls => println!(rt; "{:?} {:?}", decoder.finish(), decoder.held()),
         Shows::Counts => println!(rt; "{} events\n{:?}", said.events, decoder.finish()),
-        Shows::Events | Shows::Memory => println!(rt; "{:?}", decoder.finish()),
+        Shows::Events | Shows::Memory | Shows::Skips => println!(rt; "{:?}", decoder.finish()),
     }
 }

@@ -24,6 +24,8 @@ pub enum Shows {
     Counts,
     /// How a decoder is made in memory of each size.
     Memory,
+    /// What a decoder says that passes over each frame that it can.
+    Skips,
 }
 
 /// How a stream is read.
@@ -72,6 +74,7 @@ impl<'a> Script<'a> {
             "--calls" => self.shows = Shows::Calls,
             "--counts" => self.shows = Shows::Counts,
             "--memory" => self.shows = Shows::Memory,
+            "--skip" => self.shows = Shows::Skips,
             _ => {}
         }
     }

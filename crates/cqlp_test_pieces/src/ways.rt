@@ -9,7 +9,7 @@ use std::io;
 pub fn in_pieces(rt: &HostRuntime, script: &Script<'_>, stream: &[u8]) -> io::Result<()> {
     let whole = said_in_pieces(rt.alloc(), script, stream, stream.len(), 1)?;
     match script.shows {
-        Shows::Calls | Shows::Memory => Ok(()),
+        Shows::Calls | Shows::Memory | Shows::Skips => Ok(()),
         Shows::Counts => {
             in_these_pieces(rt, script, stream, &whole, (1, 1))?;
             in_these_pieces(rt, script, stream, &whole, (11, 3))
