@@ -1,6 +1,6 @@
 -- What handing on a piece leaves.
-use Rattle.std.proofs.Common.{◌≡◌, ℕ, ◌+◌, ◌-◌, ◌^◌, ◌≤◌, List, [], ◌∷◌, ◌++◌, length, take, drop, refl, sym, ap, ◌∙◌, subst, append_assoc, arith}
-use Rattle.std.specs.Prelude.{min, Option, Some, None}
+use Rattle.std.proofs.Common.{◌≡◌, ℕ, ◌+◌, ◌-◌, ◌^◌, ◌≤◌, List, [], ◌∷◌, ◌++◌, length, take, drop, refl, sym, ap, ◌∙◌, subst, append_assoc, inl, inr, arith}
+use Rattle.std.specs.Prelude.{min, Option, Some, None, ◌⊎◌}
 use Rattle.std.proofs.lemmas.List.{append-nil, length-append, length-drop, length-take-le, take-append-drop, take_all}
 use Rattle.cqlp_note.specs.declared.refusal.Refusal.{Refusal}
 use Rattle.cqlp_note.specs.Reader.{Said, More, Got, says, Bad}
@@ -9,19 +9,18 @@ use Rattle.cqlp_note.proofs.Readers.{says_stays}
 use Rattle.cqlp_note.proofs.Runs.{runs_stay, stays_bad}
 use Rattle.cqlp_note.specs.declared.refusal.Reason.{Reason}
 use Rattle.cqlp_note.specs.Limits.{Rules}
-use Rattle.cqlp_decode.specs.Reading.{Event, Place, Gifts, Ends, Refused, Waits, Says, start_with, step}
+use Rattle.cqlp_decode.specs.Reading.{Event, Place, Gifts, Ends, Reads, Refused, Waits, Says, start_with, step}
 use Rattle.cqlp_decode.specs.Progress.{StreamState}
 use Rattle.cqlp_decode.specs.Streams.{Decoding, state, AfterGifts}
 use Rattle.cqlp_decode.specs.Draining.{DrainsPiece, DrainsAll, Drains, fold_events, verdict_of}
-use Rattle.cqlp_decode.specs.Draining as drained
 use Rattle.cqlp_skip.specs.declared.fed.Fed.{Fed}
 use Rattle.cqlp_skip.specs.declared.fed.Fed.TheVariants as fed
 use Rattle.cqlp_skip.specs.declared.frame.OpenFrame.{OpenFrame}
 use Rattle.cqlp_skip.specs.Stretches.{Stretch, GivenUp, frame_from, told}
 use Rattle.cqlp_skip.specs.Shifted.{Shifted, shifted, with_event, FailsAtEvent}
-use Rattle.cqlp_skip.specs.Draining.{DrainsTo, DrainsBy}
+use Rattle.cqlp_skip.specs.Draining.{DrainsTo, DrainsBy, EndsAtEvent}
 use Rattle.cqlp_skip.specs.Pieces.{fed_from, used_of}
-use Rattle.cqlp_skip.specs.Skipping.{Skipping, AfterSkips, Hands, HandsAll, Fails, FeedsTo}
+use Rattle.cqlp_skip.specs.Skipping.{Skipping, AfterSkips, Hands, HandsAll, HandsUpTo, Fails, FeedsTo}
 use Rattle.cqlp_skip.proofs.Passing.{behind_passed, behind_all, behind_piece}
 use Rattle.cqlp_skip.proofs.Folding.{frame-append, fold_shifted}
 
@@ -96,6 +95,12 @@ module _ (d d' : Decoding) (base used used' last : ℕ) (frame frame' : Option O
       framed = ap (λ (x : Shifted V). x.frame) same
 
     module _ (none : (state d).refusal ≡ None) where
+      -- where the bytes used end
+      ends_up : (more : List (ℕ × Event)) (k : ℕ) → EndsAtEvent (state d').rules gifts (drop base s ++ take k (drop p input)) es more k
+          → ((p + k ≡ p) × (more ≡ [])) ⊎ ((q : Place) × Reads (state d').rules (start_with gifts) (drop base (s ++ take (p + k) input)) (es ++ more) q [])
+      ends_up more k (inl none) = inl (omega (arith, none.0), none.1)
+      ends_up more k (inr ends) = inr (ends.0, subst (λ (z : List ℕ). Reads (state d').rules (start_with gifts) z (es ++ more) ends.0 []) (sym (behind_passed base s input p k first)) ends.1)
+
       feeds_more : (state d').refusal ≡ None → DrainsPiece (with_event f) (state d) (state d') (drop p input) (drop p input) (shifted v base frame) (shifted w base' frame') → used' ≡ min (used + length input) (2 ^ 64 - 1) → HandsAll f xs new (s ++ input) stretches gifts es v w
       feeds_more now drains count =
           let q = drains gifts (drop base s) es a.stands in
@@ -111,19 +116,22 @@ module _ (d d' : Decoding) (base used used' last : ℕ) (frame frame' : Option O
             subst (λ (z : List ℕ). Says (state d').rules (start_with gifts) z (es ++ more) Waits) (sym (behind_all base s input p first)) waits,
           )
 
-      feeds_refused : (k : ℕ) → p + k ≤ length input → DrainsPiece (with_event f) (state d) (state d') (drop p input) (take k (drop p input)) (shifted v base frame) (shifted w base' frame') → used' ≡ min (used + (p + k)) (2 ^ 64 - 1) → Hands f xs new (s ++ take (p + k) input) stretches gifts es v w
-      feeds_refused k few drains count =
-          let q = drains gifts (drop base s) es a.stands in
+      feeds_refused : (k : ℕ) (r : Refusal) → p + k ≤ length input → DrainsTo (with_event f) (FailsAtEvent faulted) (state d) (drop p input) (fed.Refused k r) (state d') (shifted v base frame) (shifted w base' frame') → used' ≡ min (used + (p + k)) (2 ^ 64 - 1) → HandsUpTo f xs new (s ++ take (p + k) input) stretches gifts es (p + k) p v w
+      feeds_refused k r few drains count =
+          let e = drains gifts (drop base s) es a.stands in
+          let q = e.0 in
           let more = q.drains.more in
-          record {
+          let h : Hands f xs new (s ++ take (p + k) input) stretches gifts es v w = record {
             more = more;
             stands = goes_on (s ++ take (p + k) input) more k refl few q.drains.stands (framed more q.drains.got) count (λ r is. refused_by more r is (q.says none));
             got = seen more q.drains.got;
-          }
+          } in
+          (h, ends_up more k e.1)
 
-      feeds_fault : (k : ℕ) → p + k ≤ length input → (state d').refusal ≡ None → drained.FailsWithin (with_event f) (FailsAtEvent faulted) (state d) (state d') (take k (drop p input)) (shifted v base frame) (shifted w base' frame') → used' ≡ min (used + (p + k)) (2 ^ 64 - 1) → Fails f xs new (s ++ take (p + k) input) stretches gifts es faulted v w
+      feeds_fault : (k : ℕ) → p + k ≤ length input → (state d').refusal ≡ None → DrainsTo (with_event f) (FailsAtEvent faulted) (state d) (drop p input) (fed.Fault k) (state d') (shifted v base frame) (shifted w base' frame') → used' ≡ min (used + (p + k)) (2 ^ 64 - 1) → Fails f xs new (s ++ take (p + k) input) stretches gifts es faulted v w
       feeds_fault k few now drains count =
-          let q = drains gifts (drop base s) es a.stands in
+          let e = drains gifts (drop base s) es a.stands in
+          let q = e.0 in
           let one : List (ℕ × Event) = (q.at, q.event) ∷ [] in
           let all = q.more ++ one in
           let stands : AfterGifts gifts (state d') (drop base s ++ take k (drop p input)) (es ++ all) = rw (← (append_assoc es q.more one)) q.stands in
@@ -135,34 +143,35 @@ module _ (d d' : Decoding) (base used used' last : ℕ) (frame frame' : Option O
             event = q.event;
             stands = subst (λ (z : List (ℕ × Event)). AfterSkips xs new (s ++ take (p + k) input) stretches gifts z) (sym (append_assoc es q.more one)) h;
             fault = fault.0;
+            ends = (e.1.0, subst (λ (z : List ℕ). Reads (state d').rules (start_with gifts) z (es ++ q.more ++ one) e.1.0 []) (sym (behind_passed base s input p k first)) e.1.1);
           }
 
     -- after a refusal nothing more is handed out
-    feeds_again : (r : Refusal) → (state d).refusal ≡ Some r → state d' ≡ state d → w ≡ v → frame' ≡ frame → used' ≡ min (used + (p + 0)) (2 ^ 64 - 1) → Hands f xs new (s ++ take (p + 0) input) stretches gifts es v w
+    feeds_again : (r : Refusal) → (state d).refusal ≡ Some r → state d' ≡ state d → w ≡ v → frame' ≡ frame → used' ≡ min (used + (p + 0)) (2 ^ 64 - 1) → HandsUpTo f xs new (s ++ take (p + 0) input) stretches gifts es (p + 0) p v w
     feeds_again r was same seen framed count =
         let none = append-nil es in
         let stands : AfterGifts gifts (state d') (drop base s ++ []) (es ++ []) = subst (λ (z : StreamState). AfterGifts gifts z (drop base s ++ []) (es ++ [])) (sym same) (rw (none, append-nil (drop base s)) a.stands) in
         let h = goes_on (s ++ take (p + 0) input) [] 0 refl (omega (arith, passed)) stands framed count (λ q is. subst (λ (z : StreamState). Says z.rules (start_with gifts) (drop base xs) (es ++ []) (Refused q.at q.why)) (sym same) (rw none (a.refused q (sym (ap (λ (z : StreamState). z.refusal) same) ∙ is)))) in
-        record { more = []; stands = h; got = seen }
+        (record { more = []; stands = h; got = seen }, inl (omega arith, refl))
 
     feeds_new : (x : Fed) → (state d).refusal ≡ None → p + used_of (length (drop p input)) x ≤ length input → DrainsBy x (state d).refusal (state d').refusal → DrainsTo (with_event f) (FailsAtEvent faulted) (state d) (drop p input) x (state d') (shifted v base frame) (shifted w base' frame')
-        → used' ≡ min (used + used_of (length input) (fed_from base p x)) (2 ^ 64 - 1) → FeedsTo f faulted xs new s stretches gifts es input (fed_from base p x) v w
+        → used' ≡ min (used + used_of (length input) (fed_from base p x)) (2 ^ 64 - 1) → FeedsTo f faulted xs p new s stretches gifts es input (fed_from base p x) v w
     feeds_new fed.More none few by drains count = feeds_more none by drains count
-    feeds_new (fed.Refused k r) none few by drains count = feeds_refused none k few drains count
+    feeds_new (fed.Refused k r) none few by drains count = feeds_refused none k r few drains count
     feeds_new (fed.Fault k) none few by drains count = feeds_fault none k few by drains count
 
     feeds_by : (o : Option Refusal) → (state d).refusal ≡ o → (x : Fed) → p + used_of (length (drop p input)) x ≤ length input → DrainsBy x (state d).refusal (state d').refusal
         → ((r : Refusal) → (state d).refusal ≡ Some r → (x ≡ fed.Refused 0 r) × (state d' ≡ state d) × (w ≡ v) × (frame' ≡ frame))
         → DrainsTo (with_event f) (FailsAtEvent faulted) (state d) (drop p input) x (state d') (shifted v base frame) (shifted w base' frame')
-        → used' ≡ min (used + used_of (length input) (fed_from base p x)) (2 ^ 64 - 1) → FeedsTo f faulted xs new s stretches gifts es input (fed_from base p x) v w
+        → used' ≡ min (used + used_of (length input) (fed_from base p x)) (2 ^ 64 - 1) → FeedsTo f faulted xs p new s stretches gifts es input (fed_from base p x) v w
     feeds_by None was x few by again drains count = feeds_new x was few by drains count
     feeds_by (Some r) was x few by again drains count =
         let e = again r was in
-        subst (λ (y : Fed). used' ≡ min (used + used_of (length input) (fed_from base p y)) (2 ^ 64 - 1) → FeedsTo f faulted xs new s stretches gifts es input (fed_from base p y) v w) (sym e.0)
+        subst (λ (y : Fed). used' ≡ min (used + used_of (length input) (fed_from base p y)) (2 ^ 64 - 1) → FeedsTo f faulted xs p new s stretches gifts es input (fed_from base p y) v w) (sym e.0)
         (λ count. feeds_again r was e.1 e.2 e.3 count) count
 
     pub feeds : (x : Fed) → p + used_of (length (drop p input)) x ≤ length input → DrainsBy x (state d).refusal (state d').refusal
         → ((r : Refusal) → (state d).refusal ≡ Some r → (x ≡ fed.Refused 0 r) × (state d' ≡ state d) × (w ≡ v) × (frame' ≡ frame))
         → DrainsTo (with_event f) (FailsAtEvent faulted) (state d) (drop p input) x (state d') (shifted v base frame) (shifted w base' frame')
-        → used' ≡ min (used + used_of (length input) (fed_from base p x)) (2 ^ 64 - 1) → FeedsTo f faulted xs new s stretches gifts es input (fed_from base p x) v w
+        → used' ≡ min (used + used_of (length input) (fed_from base p x)) (2 ^ 64 - 1) → FeedsTo f faulted xs p new s stretches gifts es input (fed_from base p x) v w
     feeds x few by again drains count = feeds_by (state d).refusal refl x few by again drains count

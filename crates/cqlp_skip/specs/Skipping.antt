@@ -1,10 +1,10 @@
 -- What calls of a decoder that skips leave.
-use Rattle.std.specs.Prelude.{◌≡◌, ℕ, ◌+◌, ◌-◌, ◌≤◌, ◌<◌, ◌^◌, ◌++◌, min, List, [], ◌∷◌, length, take, drop, Option, Some, None, Result, Ok, Err}
+use Rattle.std.specs.Prelude.{◌≡◌, ℕ, ◌+◌, ◌-◌, ◌≤◌, ◌<◌, ◌^◌, ◌++◌, min, List, [], ◌∷◌, length, take, drop, Option, Some, None, Result, Ok, Err, ◌⊎◌}
 use Rattle.cqlp_note.specs.declared.refusal.Refusal.{Refusal}
 use Rattle.cqlp_note.specs.Limits.{Rules}
 use Rattle.cqlp_grammar.specs.declared.event.Finish.{Finish}
 use Rattle.cqlp_grammar.specs.declared.event.Finish.TheVariants as finish
-use Rattle.cqlp_decode.specs.Reading.{Event, Gifts, Waits, Refused, Says, start_with}
+use Rattle.cqlp_decode.specs.Reading.{Event, Gifts, Place, Reads, Waits, Refused, Says, start_with}
 use Rattle.cqlp_decode.specs.Progress.{StreamState}
 use Rattle.cqlp_decode.specs.Streams.{Decoding, state, AfterGifts, EndsAs, HoldsNothing, buffer_of}
 use Rattle.cqlp_decode.specs.Draining.{fold_events}
@@ -67,27 +67,34 @@ module _ {V : Type 0} (f : V → ℕ → Event → V) (xs : List ℕ) (new : Ski
   abbrev pub HandsAll : (before after : V) → Type 0
   HandsAll before after = (h : Hands before after) × Says (rules_in new) (start_with gifts) (drop new.base s) (events ++ h.more) Waits
 
-  -- the same as `Hands`, but at the last of the events the sink failed
+  -- and the bytes used end with the last of them; or no event was handed out, and no byte used but those passed over
+  abbrev pub HandsUpTo : (used passed : ℕ) → (before after : V) → Type 0
+  HandsUpTo used passed before after =
+      (h : Hands before after)
+      × (((used ≡ passed) × (h.more ≡ [])) ⊎ ((q : Place) × Reads (rules_in new) (start_with gifts) (drop new.base s) (events ++ h.more) q []))
+
+  -- the same as `Hands`, but at the last of the events the sink failed, with which the bytes used end
   pub record Fails (faulted : V → ℕ → Event → V → Type 0) (before after : V) : Type 0 where
     pub more : List (ℕ × Event)
     pub at : ℕ
     pub event : Event
     pub stands : AfterSkips xs new s stretches gifts (events ++ more ++ (at, event) ∷ [])
     pub fault : faulted (fold_events f before (told new.base more)) (told_at new.base at) event after
+    pub ends : (q : Place) × Reads (rules_in new) (start_with gifts) (drop new.base s) (events ++ more ++ (at, event) ∷ []) q []
 
 -- What handing on a piece leaves, by how it ends.
 module _ {V : Type 0} (f : V → ℕ → Event → V) (faulted : V → ℕ → Event → V → Type 0) where
-  abbrev pub FeedsTo : (xs : List ℕ) → Skipping → (s : List ℕ) → List Stretch → Gifts → List (ℕ × Event) → (input : List ℕ) → Fed → (before after : V) → Type 0
-  FeedsTo xs new s stretches gifts events input fed.More before after = HandsAll f xs new (s ++ input) stretches gifts events before after
-  FeedsTo xs new s stretches gifts events input (fed.Refused used r) before after = Hands f xs new (s ++ take used input) stretches gifts events before after
-  FeedsTo xs new s stretches gifts events input (fed.Fault used) before after = Fails f xs new (s ++ take used input) stretches gifts events faulted before after
+  abbrev pub FeedsTo : (xs : List ℕ) → (passed : ℕ) → Skipping → (s : List ℕ) → List Stretch → Gifts → List (ℕ × Event) → (input : List ℕ) → Fed → (before after : V) → Type 0
+  FeedsTo xs passed new s stretches gifts events input fed.More before after = HandsAll f xs new (s ++ input) stretches gifts events before after
+  FeedsTo xs passed new s stretches gifts events input (fed.Refused used r) before after = HandsUpTo f xs new (s ++ take used input) stretches gifts events used passed before after
+  FeedsTo xs passed new s stretches gifts events input (fed.Fault used) before after = Fails f xs new (s ++ take used input) stretches gifts events faulted before after
 
   -- of any stream that goes on with this piece, and whatever led here
   abbrev pub Feeds : (old new : Skipping) → (input : List ℕ) → Fed → (before after : V) → Type 0
   Feeds old new input x before after =
       (xs s : List ℕ) (stretches : List Stretch) (gifts : Gifts) (events : List (ℕ × Event)) (later : List ℕ)
       → xs ≡ (s ++ input) ++ later → AfterSkips xs old s stretches gifts events
-      → FeedsTo xs new s stretches gifts events input x before after
+      → FeedsTo xs (min (old.base - old.used) (length input)) new s stretches gifts events input x before after
 
 -- ---- a skip
 

@@ -1,6 +1,6 @@
 -- One list of stretches, and one answer.
-use Rattle.std.proofs.Common.{◌≡◌, ℕ, List, [], ◌∷◌, ◌++◌, length, drop, refl, sym, ap, ◌∙◌, subst, inl, inr, arith}
-use Rattle.std.specs.Prelude.{Option, Some}
+use Rattle.std.proofs.Common.{◌≡◌, ℕ, ◌-◌, List, [], ◌∷◌, ◌++◌, length, drop, refl, sym, ap, ◌∙◌, subst, inl, inr, arith}
+use Rattle.std.specs.Prelude.{min, Option, Some}
 use Rattle.std.proofs.lemmas.Bool.{cases_lt}
 use Rattle.std.proofs.lemmas.List.{append-nil, append_cancel_left, drop-append-le, drop_all}
 use Rattle.cqlp_note.specs.declared.refusal.Refusal.{Refusal}
@@ -87,7 +87,7 @@ module _ {V : Type 0} (f : V → ℕ → Event → V) (faulted : V → ℕ → E
       (subst (λ (l : Rules). Says l (start_with gifts) (drop d.base (s ++ input)) es v) same says)
 
   -- what a piece that was used whole says
-  feeds_here : (d : Skipping) (x : Fed) (w : V) → Fed_on f faulted old d input x before w → FeedsTo f faulted (s ++ input) d s stretches gifts events input x before w
+  feeds_here : (d : Skipping) (x : Fed) (w : V) → Fed_on f faulted old d input x before w → FeedsTo f faulted (s ++ input) (min (old.base - old.used) (length input)) d s stretches gifts events input x before w
   feeds_here d x w k = k.feeds (s ++ input) s stretches gifts events [] (sym (append-nil (s ++ input))) a
 
   one_feed : (x x' : Fed) → Fed_on f faulted old new input x before after → Fed_on f faulted old new' input x' before after' → IsSound x → IsSound x' → AreAlike x x' × (after' ≡ after)
@@ -100,24 +100,24 @@ module _ {V : Type 0} (f : V → ℕ → Event → V) (faulted : V → ℕ → E
       let h = feeds_here new fed.More after k in
       let h' = feeds_here new' (fed.Refused used' r') after' k' in
       let own = k'.refusal in
-      let bad = h'.stands.refused own.0 own.1 in
-      let one = same_more h.0.more h'.more Waits (Refused own.0.at own.0.why) (to_old new (events ++ h.0.more) Waits k.base k.rules h.1) (to_old new' (events ++ h'.more) (Refused own.0.at own.0.why) k'.base k'.rules bad) in
+      let bad = h'.0.stands.refused own.0 own.1 in
+      let one = same_more h.0.more h'.0.more Waits (Refused own.0.at own.0.why) (to_old new (events ++ h.0.more) Waits k.base k.rules h.1) (to_old new' (events ++ h'.0.more) (Refused own.0.at own.0.why) k'.base k'.rules bad) in
       absurd (let no = one.1 in cc)
   one_feed (fed.Refused used r) fed.More k k' sound sound' =
       let h = feeds_here new (fed.Refused used r) after k in
       let h' = feeds_here new' fed.More after' k' in
       let own = k.refusal in
-      let bad = h.stands.refused own.0 own.1 in
-      let one = same_more h.more h'.0.more (Refused own.0.at own.0.why) Waits (to_old new (events ++ h.more) (Refused own.0.at own.0.why) k.base k.rules bad) (to_old new' (events ++ h'.0.more) Waits k'.base k'.rules h'.1) in
+      let bad = h.0.stands.refused own.0 own.1 in
+      let one = same_more h.0.more h'.0.more (Refused own.0.at own.0.why) Waits (to_old new (events ++ h.0.more) (Refused own.0.at own.0.why) k.base k.rules bad) (to_old new' (events ++ h'.0.more) Waits k'.base k'.rules h'.1) in
       absurd (let no = one.1 in cc)
   one_feed (fed.Refused used r) (fed.Refused used' r') k k' sound sound' =
       let h = feeds_here new (fed.Refused used r) after k in
       let h' = feeds_here new' (fed.Refused used' r') after' k' in
       let own = k.refusal in
       let own' = k'.refusal in
-      let one = same_more h.more h'.more (Refused own.0.at own.0.why) (Refused own'.0.at own'.0.why) (to_old new (events ++ h.more) (Refused own.0.at own.0.why) k.base k.rules (h.stands.refused own.0 own.1)) (to_old new' (events ++ h'.more) (Refused own'.0.at own'.0.why) k'.base k'.rules (h'.stands.refused own'.0 own'.1)) in
+      let one = same_more h.0.more h'.0.more (Refused own.0.at own.0.why) (Refused own'.0.at own'.0.why) (to_old new (events ++ h.0.more) (Refused own.0.at own.0.why) k.base k.rules (h.0.stands.refused own.0 own.1)) (to_old new' (events ++ h'.0.more) (Refused own'.0.at own'.0.why) k'.base k'.rules (h'.0.stands.refused own'.0 own'.1)) in
       let same : own'.0 ≡ own.0 = refused_same own.0 own'.0 one.1 in
-      (own'.2 ∙ ap (λ (q : Refusal). refusal_from new'.base q) same ∙ ap (λ (n : ℕ). refusal_from n own.0) (k'.base ∙ sym k.base) ∙ sym own.2, same_view h.more h'.more one.0 k.base k'.base h.got h'.got)
+      (own'.2 ∙ ap (λ (q : Refusal). refusal_from new'.base q) same ∙ ap (λ (n : ℕ). refusal_from n own.0) (k'.base ∙ sym k.base) ∙ sym own.2, same_view h.0.more h'.0.more one.0 k.base k'.base h.0.got h'.0.got)
   one_feed (fed.Fault used) x' k k' sound sound' = absurd sound
   one_feed fed.More (fed.Fault used') k k' sound sound' = absurd sound'
   one_feed (fed.Refused used r) (fed.Fault used') k k' sound sound' = absurd sound'

@@ -3,7 +3,8 @@ use Rattle.cqlp_note.specs.declared.refusal.Refusal.{Refusal}
 use Rattle.cqlp_decode.specs.Reading.{Event, Gifts}
 use Rattle.cqlp_decode.specs.Progress.{ends_due}
 use Rattle.cqlp_decode.specs.Streams.{AfterGifts, state}
-use Rattle.cqlp_decode.specs.Draining.{Drains, Passes}
+use Rattle.cqlp_decode.specs.Draining.{Passes}
+use Rattle.cqlp_skip.proofs.Ending.{Drained}
 use Rattle.cqlp_skip.proofs.draining.drain.Given as goal
 
 -- what is used is read, and the sink has got its events
@@ -16,7 +17,7 @@ invariant-events g l = record {
   clear : (state l.fn.decoder).refusal ≡ None → (state l.decoder).refusal ≡ None;
   tells : g.S.Sink.tells l.fn.sink → g.S.Sink.tells l.sink;
   also : Passes g.S.Sink.also l.fn.sink l.sink;
-  drained : g.S.Sink.tells l.fn.sink → (gifts : Gifts) (s : List ℕ) (es : List (ℕ × Event)) → AfterGifts gifts (state l.fn.decoder) s es → Drains g.S.Sink.after gifts (state l.decoder) s es (take l.used l.input) (g.S.Sink.view l.fn.sink) (g.S.Sink.view l.sink);
+  drained : g.S.Sink.tells l.fn.sink → (gifts : Gifts) (s : List ℕ) (es : List (ℕ × Event)) → AfterGifts gifts (state l.fn.decoder) s es → Drained g.S.Sink gifts s l.input es (g.S.Sink.view l.fn.sink) (state l.decoder) l.used l.sink;
 }
 
 -- an event takes some byte, or is the end of the frame or of a value that is open
