@@ -15,3 +15,5 @@ pub mod Attempts
 pub mod PageAnswers
 pub mod RestAnswers
 pub mod PageWhole
+pub mod PageEncodings
+pub mod LentPages

@@ -1,6 +1,7 @@
 pub mod Progress
 pub mod Fields
 pub mod Encoding
+pub mod LentCells
 pub mod ValueWriting
 pub mod Binding
 pub mod PageWriting

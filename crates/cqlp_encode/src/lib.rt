@@ -5,6 +5,7 @@ mod binding;
 mod fields;
 pub mod laws;
 mod page_writer;
+mod page_writing;
 mod parts;
 mod staged;
 mod types;
@@ -14,5 +15,6 @@ mod writing;
 
 pub use binding::{BindError, bind_value, raw_value};
 pub use page_writer::{PageError, PageWriter};
+pub use page_writing::{encode_page, encode_page_from};
 pub use value_writing::{ValueError, write_value};
 pub use writing::{EncodeError, encode, encode_from};

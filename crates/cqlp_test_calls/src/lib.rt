@@ -26,6 +26,8 @@ mod runs;
 #[cfg(test)]
 mod server;
 #[cfg(test)]
+mod sockets;
+#[cfg(test)]
 mod streams;
 #[cfg(test)]
 mod trees;

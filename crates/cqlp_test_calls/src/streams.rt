@@ -10,7 +10,7 @@ use std::test::Fail;
 
 /// What a reader or a writer makes of one call.
 #[derive(Clone, Copy)]
-enum Scripted {
+pub enum Scripted {
     /// At most this many bytes.
     Bytes(usize),
     /// An error.
@@ -19,10 +19,10 @@ enum Scripted {
 
 /// Gives each of its calls one outcome, counts them, and keeps the length of the last one's buffer.
 #[derive(Drop)]
-struct Recorder {
-    outcome: Scripted,
-    calls: u32,
-    asked: usize,
+pub struct Recorder {
+    pub outcome: Scripted,
+    pub calls: u32,
+    pub asked: usize,
 }
 
 impl Recorder {
@@ -55,12 +55,13 @@ impl Write for Recorder {
     }
 }
 
-fn recording(outcome: Scripted) -> OfStd<Recorder> {
-    OfStd::new(Recorder {
+/// With no call made.
+pub fn recorder(outcome: Scripted) -> Recorder {
+    Recorder {
         outcome,
         calls: 0,
         asked: 0,
-    })
+    }
 }
 
 /// A length of up to eight bytes, an outcome, and what a read and a write answer, with the failures counted, the calls and
@@ -92,7 +93,7 @@ static ROWS: [(usize, Scripted, &str, &str); 8] = [
 ];
 
 fn read(alloc: Global, len: usize, outcome: Scripted) -> Result<String, Fail> {
-    let mut reader = recording(outcome);
+    let mut reader = OfStd::new(recorder(outcome));
     let mut buffer = [0u8; 8];
     let answer = Source::read(&mut reader, &mut buffer[..len.min(8)]);
     let failures = reader.failures;
@@ -101,7 +102,7 @@ fn read(alloc: Global, len: usize, outcome: Scripted) -> Result<String, Fail> {
 }
 
 fn written(alloc: Global, len: usize, outcome: Scripted) -> Result<String, Fail> {
-    let mut writer = recording(outcome);
+    let mut writer = OfStd::new(recorder(outcome));
     let answer = Target::write(&mut writer, &b"abcdefgh"[..len.min(8)]);
     let failures = writer.failures;
     let Recorder { calls, asked, .. } = writer.into_inner();

@@ -9,4 +9,4 @@ mod targets;
 pub use digits::{bytes_of, number_of};
 pub use sinks::{Adds, Ends, Takes};
 pub use sources::{FailsOnce, Looks, Pieces};
-pub use targets::{Calls, Narrow};
+pub use targets::{Calls, Narrow, Stops};

@@ -49,6 +49,50 @@ impl Target for Narrow {
     }
 }
 
+/// Takes some bytes and then fails once, again and again.
+#[derive(Drop)]
+pub struct Stops {
+    text: Vec<u8>,
+    /// How many bytes it takes before it fails next.
+    left: usize,
+    /// How many it takes between later failures.
+    size: usize,
+    failures: u64,
+}
+
+impl Stops {
+    /// Takes `first` bytes before it fails first, and `size` bytes before each later time.
+    pub fn new(alloc: Global, first: usize, size: usize) -> Stops {
+        Stops {
+            text: Vec::new(alloc),
+            left: first,
+            size,
+            failures: 0,
+        }
+    }
+
+    /// The bytes that it took.
+    pub fn text(&self) -> &[u8] {
+        &self.text
+    }
+}
+
+impl Target for Stops {
+    ghost failures = { λ target. target.failures };
+
+    fn write(&mut self, bytes: &[u8]) -> Result<usize, IoFault> {
+        let count = self.left.min(bytes.len());
+        let failed = self.text.extend_from_slice(&bytes[..count]).is_err();
+        if failed || count == 0 && !bytes.is_empty() {
+            self.left = self.size;
+            self.failures = self.failures.saturating_add(1);
+            return Err(IoFault);
+        }
+        self.left -= count;
+        Ok(count)
+    }
+}
+
 /// Takes all bytes, and counts its calls.
 #[derive(Drop)]
 pub struct Calls {

@@ -4,11 +4,15 @@ use crate::shown::{PIECE, print_bytes};
 use crate::words::{FromWords, Words};
 use cqlp_encode::{PageError, PageWriter};
 use cqlp_message::Frame;
-use cqlp_test_fakes::Narrow;
+use cqlp_note::Target;
+use cqlp_test_fakes::{Narrow, Stops};
 use cqlp_type::TypeTree;
 use cqlp_value::Value;
 use std::alloc::Global;
 use std::io;
+
+/// How often a page is gone on with at most.
+const STOPS: usize = 1_000;
 
 /// A page without cells, and those that are written after it.
 #[derive(Drop)]
@@ -28,10 +32,22 @@ struct Cell {
 
 impl Cell {
     /// Writes it.
-    fn put(&self, page: &mut PageWriter<'_>, target: &mut Narrow) -> Result<(), PageError> {
+    fn put<W: Target>(&self, page: &mut PageWriter<'_>, target: &mut W) -> Result<(), PageError> {
         match &self.of {
             Some(tree) => page.cell_as(&self.value, tree, target),
             None => page.cell(&self.value, target),
+        }
+    }
+
+    /// Goes on with it.
+    fn go_on<W: Target>(
+        &self,
+        page: &mut PageWriter<'_>,
+        target: &mut W,
+    ) -> Result<(), PageError> {
+        match &self.of {
+            Some(tree) => page.go_on_as(&self.value, tree, target),
+            None => page.go_on(&self.value, target),
         }
     }
 }
@@ -106,9 +122,12 @@ fn write(plan: &Plan, target: &mut Narrow) -> Result<u32, PageError> {
     page.finish()
 }
 
-/// For how many numbers below that of these bytes a target that fails after as many has got just the first of them, and the
-/// last answer tells the number.
+/// For how many numbers below that of these bytes a target that fails after as many has got just the first of them, the last answer
+/// tells the number, and a page can be gone on with there. None where it cannot after each byte, or where `go_on` does something else.
 fn fronts(alloc: Global, plan: &Plan, bytes: &[u8]) -> usize {
+    if !goes_on(alloc, plan, bytes, 1, 1) {
+        return 0;
+    }
     (0..bytes.len())
         .filter(|room| is_front(alloc, plan, bytes, *room))
         .count()
@@ -120,5 +139,57 @@ fn is_front(alloc: Global, plan: &Plan, bytes: &[u8], room: usize) -> bool {
         Err(PageError::Write { written }) => written as usize == room,
         _ => false,
     };
-    is_told && target.text().len() == room && bytes.starts_with(target.text())
+    is_told
+        && target.text().len() == room
+        && bytes.starts_with(target.text())
+        && goes_on(alloc, plan, bytes, room, usize::MAX)
+}
+
+/// Whether a target that stops after so many bytes, and then again and again, gets all bytes in the end, where the page is gone on with
+/// where it stopped, and there alone.
+fn goes_on(alloc: Global, plan: &Plan, bytes: &[u8], first: usize, size: usize) -> bool {
+    let mut target = Stops::new(alloc, first, size);
+    let answer = write_on(plan, &mut target);
+    let is_told = match answer {
+        Ok(len) => len as usize == target.text().len(),
+        Err(PageError::NotDone) => true,
+        Err(_) => false,
+    };
+    is_told && target.text().starts_with(bytes)
+}
+
+/// What the last call answers, where each call that stops is followed by one that goes on.
+fn write_on(plan: &Plan, target: &mut Stops) -> Result<u32, PageError> {
+    let mut page = begin_on(plan, target)?;
+    for cell in &plan.cells {
+        if cell.go_on(&mut page, target) != Err(PageError::OutOfTurn) {
+            return Err(PageError::OutOfTurn);
+        }
+        put_on(cell, &mut page, target);
+    }
+    page.finish()
+}
+
+fn begin_on<'a>(
+    plan: &'a Plan,
+    target: &mut Stops,
+) -> Result<PageWriter<'a>, PageError> {
+    let mut before = 0;
+    for _ in 0..STOPS {
+        match PageWriter::begin_from(&plan.frame, plan.cells_len, before, target) {
+            Err(PageError::Write { written }) => before = written,
+            begun => return begun,
+        }
+    }
+    Err(PageError::NotDone)
+}
+
+fn put_on(cell: &Cell, page: &mut PageWriter<'_>, target: &mut Stops) {
+    let mut answer = cell.put(page, target);
+    for _ in 0..STOPS {
+        if !matches!(answer, Err(PageError::Write { .. })) {
+            break;
+        }
+        answer = cell.go_on(page, target);
+    }
 }

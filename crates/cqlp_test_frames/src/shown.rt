@@ -1,11 +1,11 @@
 //! What is written of a frame, and what is read back.
 
 use cqlp_decode::{Decoder, Outcome, run};
-use cqlp_encode::{EncodeError, encode};
+use cqlp_encode::{EncodeError, encode, encode_from};
 use cqlp_message::Frame;
 use cqlp_note::{Limits, OfStd};
 use cqlp_render::render_events;
-use cqlp_test_fakes::{Narrow, Pieces, Takes};
+use cqlp_test_fakes::{Narrow, Pieces, Stops, Takes};
 use cqlp_text::{Ending, ending_line};
 use std::alloc::Global;
 use std::io;
@@ -137,8 +137,11 @@ fn print_number(rt: &HostRuntime, decoder: &mut Decoder<Global>, bytes: &[u8]) -
 }
 
 /// For how many numbers below a frame's length a target that fails after that many bytes has got just the frame's first
-/// bytes, that many, and the answer tells the number.
+/// bytes, that many, the answer tells the number, and the frame can be gone on with there. None where it cannot after each byte.
 fn fronts(alloc: Global, frame: &Frame, bytes: &[u8]) -> usize {
+    if !goes_on(alloc, frame, bytes, 1, 1) {
+        return 0;
+    }
     (0..bytes.len())
         .filter(|room| is_front(alloc, frame, bytes, *room))
         .count()
@@ -151,7 +154,24 @@ fn is_front(alloc: Global, frame: &Frame, bytes: &[u8], room: usize) -> bool {
         Err(EncodeError::Write { written }) => written as usize == room,
         _ => false,
     };
-    is_told && target.text().len() == room && bytes.starts_with(target.text())
+    is_told
+        && target.text().len() == room
+        && bytes.starts_with(target.text())
+        && goes_on(alloc, frame, bytes, room, usize::MAX)
+}
+
+/// Whether a target that stops after so many bytes, and then again and again, gets all bytes in the end, where the frame is gone on with
+/// where it stopped.
+fn goes_on(alloc: Global, frame: &Frame, bytes: &[u8], first: usize, size: usize) -> bool {
+    let mut target = Stops::new(alloc, first, size);
+    let mut answer = encode_from(frame, 0, &mut target);
+    for _ in 0..bytes.len() {
+        let Err(EncodeError::Write { written }) = answer else {
+            break;
+        };
+        answer = encode_from(frame, written, &mut target);
+    }
+    answer == Ok(bytes.len() as u32) && target.text() == bytes
 }
 
 fn print_verdict(rt: &HostRuntime, outcome: Outcome) -> io::Result<()> {
