@@ -33,52 +33,78 @@ impl PageKind {
 
     /// A page with this many rows.
     pub fn page(self, alloc: Global, rows: u32) -> io::Result<Frame> {
-        let specs = self.specs(alloc)?;
-        let mut cells = Vec::new(alloc);
-        cells.try_reserve_exact((rows as usize).saturating_mul(specs.len()))?;
-        for row in 0..rows {
-            self.push_row(alloc, row, &mut cells)?;
+        let meta = self.metadata(alloc)?;
+        match self.cells(alloc, rows, meta.columns) {
+            Ok(cells) => Ok(Frame::plain(0, Message::Rows(Rows { meta, rows, cells }))),
+            Err(error) => Err(error),
         }
-        let meta = Metadata {
+    }
+
+    /// What is told of its columns: they are all of the table `shop.orders`.
+    fn metadata(self, alloc: Global) -> io::Result<Metadata> {
+        let keyspace = text(alloc, "shop")?;
+        let table = text(alloc, "orders")?;
+        let specs = self.specs(alloc)?;
+        Ok(Metadata {
             flags: 1,
             columns: u32::try_from(specs.len()).unwrap_or(u32::MAX),
             paging: None,
-            table: Some((text(alloc, "shop")?, text(alloc, "orders")?)),
+            table: Some((keyspace, table)),
             specs: Some(specs),
-        };
-        Ok(Frame {
-            flags: 0,
-            stream: 0,
-            tracing: None,
-            warnings: None,
-            payload: None,
-            message: Message::Rows(Rows { meta, rows, cells }),
         })
+    }
+
+    /// The cells of this many rows, in memory for just these.
+    fn cells(self, alloc: Global, rows: u32, columns: u32) -> io::Result<Vec<Value>> {
+        let mut cells = Vec::new(alloc);
+        match self.push_rows(alloc, rows, columns, &mut cells) {
+            Ok(()) => Ok(cells),
+            Err(error) => Err(error),
+        }
+    }
+
+    fn push_rows(
+        self,
+        alloc: Global,
+        rows: u32,
+        columns: u32,
+        cells: &mut Vec<Value>,
+    ) -> io::Result<()> {
+        cells.try_reserve_exact((rows as usize).saturating_mul(columns as usize))?;
+        for row in 0..rows {
+            self.push_row(alloc, row, cells)?;
+        }
+        Ok(())
     }
 
     /// Its columns, in the table of the page.
     fn specs(self, alloc: Global) -> io::Result<Vec<Spec>> {
         let mut specs = Vec::new(alloc);
+        match self.push_columns(alloc, &mut specs) {
+            Ok(()) => Ok(specs),
+            Err(error) => Err(error),
+        }
+    }
+
+    fn push_columns(self, alloc: Global, specs: &mut Vec<Spec>) -> io::Result<()> {
         match self {
             PageKind::Rows => {
                 for kind in [Kind::Int, Kind::Bigint, Kind::Varchar, Kind::Boolean] {
-                    push_column(alloc, TypeTree::Plain(kind), &mut specs)?;
+                    push_column(alloc, TypeTree::Plain(kind), specs)?;
                 }
             }
             PageKind::Collections => {
-                push_column(alloc, TypeTree::List(plain(alloc, Kind::Int)?), &mut specs)?;
-                let key = plain(alloc, Kind::Varchar)?;
-                let value = plain(alloc, Kind::Int)?;
-                push_column(alloc, TypeTree::Map(key, value), &mut specs)?;
+                push_column(alloc, TypeTree::List(plain(alloc, Kind::Int)?), specs)?;
+                push_map(alloc, specs)?;
             }
             PageKind::Columns => {
                 for _ in 0..COLUMNS {
-                    push_column(alloc, TypeTree::Plain(Kind::Int), &mut specs)?;
+                    push_column(alloc, TypeTree::Plain(Kind::Int), specs)?;
                 }
             }
-            PageKind::Blobs => push_column(alloc, TypeTree::Plain(Kind::Blob), &mut specs)?,
+            PageKind::Blobs => push_column(alloc, TypeTree::Plain(Kind::Blob), specs)?,
         }
-        Ok(specs)
+        Ok(())
     }
 
     /// Adds the cells of a row.
@@ -123,6 +149,13 @@ fn push_column(alloc: Global, tree: TypeTree, specs: &mut Vec<Spec>) -> io::Resu
         tree,
     })?;
     Ok(())
+}
+
+/// Adds a column of maps.
+fn push_map(alloc: Global, specs: &mut Vec<Spec>) -> io::Result<()> {
+    let key = plain(alloc, Kind::Varchar)?;
+    let value = plain(alloc, Kind::Int)?;
+    push_column(alloc, TypeTree::Map(key, value), specs)
 }
 
 fn int(number: u32) -> Value {

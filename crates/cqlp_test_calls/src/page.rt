@@ -8,34 +8,44 @@ use std::test::Fail;
 
 /// A page of one row with one cell, a list of 1, null and nothing.
 pub fn page(alloc: Global) -> Result<Frame, Fail> {
-    let int = Box::new(alloc, TypeTree::Plain(Kind::Int))?;
+    let meta = metadata(alloc)?;
+    match cells(alloc) {
+        Ok(cells) => Ok(Frame::plain(
+            0,
+            Message::Rows(Rows {
+                meta,
+                rows: 1,
+                cells,
+            }),
+        )),
+        Err(fail) => Err(fail),
+    }
+}
+
+/// One column, of lists of ints.
+fn metadata(alloc: Global) -> Result<Metadata, Fail> {
     let keyspace = String::from_str(alloc, "k")?;
-    let mut specs = Vec::new(alloc);
-    specs.push(Spec {
-        table: None,
-        name: String::from_str(alloc, "c")?,
-        tree: TypeTree::List(int),
-    })?;
-    let meta = Metadata {
+    let table = String::from_str(alloc, "t")?;
+    let specs = specs(alloc)?;
+    Ok(Metadata {
         flags: 1,
         columns: 1,
         paging: None,
-        table: Some((keyspace, String::from_str(alloc, "t")?)),
+        table: Some((keyspace, table)),
         specs: Some(specs),
-    };
-    let cells = cells(alloc)?;
-    Ok(Frame {
-        flags: 0,
-        stream: 0,
-        tracing: None,
-        warnings: None,
-        payload: None,
-        message: Message::Rows(Rows {
-            meta,
-            rows: 1,
-            cells,
-        }),
     })
+}
+
+fn specs(alloc: Global) -> Result<Vec<Spec>, Fail> {
+    let name = String::from_str(alloc, "c")?;
+    let int = Box::new(alloc, TypeTree::Plain(Kind::Int))?;
+    let mut specs = Vec::new(alloc);
+    specs.push(Spec {
+        table: None,
+        name,
+        tree: TypeTree::List(int),
+    })?;
+    Ok(specs)
 }
 
 fn cells(alloc: Global) -> Result<Vec<Value>, Fail> {

@@ -21,16 +21,25 @@ fn list(alloc: Global) -> Result<TypeTree, Fail> {
 
 /// A user-defined type of two ints and a text.
 fn udt(alloc: Global) -> Result<TypeTree, Fail> {
+    let keyspace = String::from_str(alloc, "k")?;
+    let name = String::from_str(alloc, "u")?;
+    match fields(alloc) {
+        Ok(fields) => Ok(TypeTree::Udt {
+            keyspace,
+            name,
+            fields,
+        }),
+        Err(fail) => Err(fail),
+    }
+}
+
+fn fields(alloc: Global) -> Result<Vec<(String, TypeTree)>, Fail> {
     let mut fields = Vec::new(alloc);
     for (name, kind) in [("a", Kind::Int), ("b", Kind::Int), ("c", Kind::Varchar)] {
         let name = String::from_str(alloc, name)?;
         fields.push((name, TypeTree::Plain(kind)))?;
     }
-    Ok(TypeTree::Udt {
-        keyspace: String::from_str(alloc, "k")?,
-        name: String::from_str(alloc, "u")?,
-        fields,
-    })
+    Ok(fields)
 }
 
 /// A tuple of this many ints.

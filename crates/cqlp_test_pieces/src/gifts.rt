@@ -28,10 +28,24 @@ pub fn decoder_with<'a>(
     script: &Script<'_>,
 ) -> io::Result<Decoder<&'a LocalHeap>> {
     let mut decoder = decoder(heap, script.limits)?;
-    if let Some(digits) = script.given {
-        let _ = decoder.give(table(alloc, tables, digits)?);
+    match give_types(alloc, tables, &mut decoder, script.given) {
+        Ok(()) => Ok(decoder),
+        Err(error) => Err(error),
     }
-    Ok(decoder)
+}
+
+/// Gives a decoder the types of the last metadata of a stream, if there is one.
+fn give_types<'a>(
+    alloc: Global,
+    tables: &'a LocalHeap,
+    decoder: &mut Decoder<&'a LocalHeap>,
+    given: Option<&str>,
+) -> io::Result<()> {
+    if let Some(digits) = given {
+        let table = table(alloc, tables, digits)?;
+        let _ = decoder.give(table);
+    }
+    Ok(())
 }
 
 /// Does what a piece asks for that has a word in place of bytes: `give`, with the stream whose last metadata has the types,
@@ -44,31 +58,52 @@ pub fn exchange<'a>(
 ) -> io::Result<bool> {
     let piece = piece.trim();
     if piece == "take" {
-        println!(rt;
-            "taken {:?}",
-            decoder.take_given().map(|table| table.roots())
-        )?;
+        print_taken(rt, decoder)?;
         return Ok(true);
     }
     let Some(digits) = piece.strip_prefix("give") else {
         return Ok(false);
     };
-    match decoder.give(table(rt.alloc(), heap, digits)?) {
-        Ok(before) => println!(rt; "given {:?}", before.map(|table| table.roots()))?,
-        Err(error) => println!(rt; "{:?} {}", error.why, error.table.len())?,
-    }
+    let table = table(rt.alloc(), heap, digits)?;
+    print_given(rt, decoder, table)?;
     Ok(true)
 }
 
+/// Takes back the table that a decoder holds, and prints how many types came.
+fn print_taken(rt: &HostRuntime, decoder: &mut Decoder<&LocalHeap>) -> io::Result<()> {
+    let roots = decoder.take_given().map(|table| table.roots());
+    println!(rt; "taken {roots:?}")
+}
+
+/// Gives a decoder a table, and prints how many types came back, or why it was not taken.
+fn print_given<'a>(
+    rt: &HostRuntime,
+    decoder: &mut Decoder<&'a LocalHeap>,
+    table: TypeTable<&'a LocalHeap>,
+) -> io::Result<()> {
+    let refused = match decoder.give(table) {
+        Ok(before) => {
+            let roots = before.map(|table| table.roots());
+            return println!(rt; "given {roots:?}");
+        }
+        Err(error) => (error.why, error.table.len()),
+    };
+    println!(rt; "{:?} {}", refused.0, refused.1)
+}
+
 /// The types of the last metadata of a stream, as far as it goes.
-pub fn table<'a>(
+fn table<'a>(
     alloc: Global,
     heap: &'a LocalHeap,
     digits: &str,
 ) -> io::Result<TypeTable<&'a LocalHeap>> {
     let stream = bytes_of(alloc, digits)?;
+    table_of(heap, stream.as_slice())
+}
+
+fn table_of<'a>(heap: &'a LocalHeap, stream: &[u8]) -> io::Result<TypeTable<&'a LocalHeap>> {
     let mut decoder = decoder(heap, LIMITS)?;
-    pass_all(&mut decoder, stream.as_slice());
+    pass_all(&mut decoder, stream);
     copy_of(decoder.table())
 }
 

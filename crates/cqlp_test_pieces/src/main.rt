@@ -46,14 +46,22 @@ fn print_pieces(rt: &HostRuntime, script: &Script<'_>, pieces: &str) -> io::Resu
     let heap = LocalHeap::new(rt.alloc(), script.room)?;
     let mut decoder = gifts::decoder_with(rt.alloc(), &heap, &tables, script)?;
     let mut said = Report::new(rt.alloc(), script.shows);
+    print_each(rt, script, pieces, &tables, &mut decoder, &mut said)
+}
+
+fn print_each<'a>(
+    rt: &HostRuntime,
+    script: &Script<'_>,
+    pieces: &str,
+    tables: &'a LocalHeap,
+    decoder: &mut Decoder<&'a LocalHeap>,
+    said: &mut Report,
+) -> io::Result<()> {
+    let is_alone = !pieces.contains('|');
     for piece in pieces.split('|') {
-        if gifts::exchange(rt, &tables, &mut decoder, piece)? {
-            continue;
-        }
-        let bytes = take_repeatedly(rt.alloc(), &mut decoder, piece, &mut said)?;
-        print_said(rt, &mut said, &decoder)?;
-        if bytes.len() > 1 && !pieces.contains('|') {
-            ways::in_pieces(rt, script, &bytes)?;
+        if !gifts::exchange(rt, tables, decoder, piece)? {
+            let bytes = take_repeatedly(rt.alloc(), decoder, piece, said)?;
+            print_piece(rt, script, decoder, &bytes, is_alone, said)?;
         }
     }
     Ok(())
@@ -71,10 +79,38 @@ fn take_repeatedly(
         None => (1, piece),
     };
     let bytes = bytes_of(alloc, digits)?;
-    for _ in 0..times {
-        take(decoder, &bytes, said)?;
+    match take_times(decoder, &bytes, times, said) {
+        Ok(()) => Ok(bytes),
+        Err(error) => Err(error),
     }
-    Ok(bytes)
+}
+
+fn take_times(
+    decoder: &mut Decoder<&LocalHeap>,
+    bytes: &[u8],
+    times: u32,
+    said: &mut Report,
+) -> io::Result<()> {
+    for _ in 0..times {
+        take(decoder, bytes, said)?;
+    }
+    Ok(())
+}
+
+/// Prints what a decoder has said of a piece, and where it would say something else of one that is alone.
+fn print_piece(
+    rt: &HostRuntime,
+    script: &Script<'_>,
+    decoder: &Decoder<&LocalHeap>,
+    bytes: &[u8],
+    is_alone: bool,
+    said: &mut Report,
+) -> io::Result<()> {
+    print_said(rt, said, decoder)?;
+    if is_alone && bytes.len() > 1 {
+        ways::in_pieces(rt, script, bytes)?;
+    }
+    Ok(())
 }
 
 /// Prints what a decoder has said since the last time, and then how the stream ends here.

@@ -20,14 +20,19 @@ pub fn taken(alloc: Global, limits: Limits) -> io::Result<usize> {
 pub fn print_answers(rt: &HostRuntime, limits: Limits) -> io::Result<()> {
     let mut before = None;
     for blocks in 0..200usize {
-        let heap = LocalHeap::new(rt.alloc(), 16 * blocks)?;
-        let answer = made(&heap, limits);
+        let answer = answer_in(rt.alloc(), 16 * blocks, limits)?;
         if before != Some(answer) {
             println!(rt; "{answer:?}")?;
         }
         before = Some(answer);
     }
     Ok(())
+}
+
+/// How a decoder is made in memory of this many bytes.
+fn answer_in(alloc: Global, room: usize, limits: Limits) -> io::Result<Result<(), NewError>> {
+    let heap = LocalHeap::new(alloc, room)?;
+    Ok(made(&heap, limits))
 }
 
 fn made(heap: &LocalHeap, limits: Limits) -> Result<(), NewError> {

@@ -101,24 +101,35 @@ pub fn said_in_pieces(
     alloc: Global,
     script: &Script<'_>,
     stream: &[u8],
-    first: usize,
-    other: usize,
+    sizes: (usize, usize),
 ) -> io::Result<Report> {
     let tables = LocalHeap::new(alloc, AMPLE)?;
     let heap = LocalHeap::new(alloc, script.room)?;
     let mut decoder = decoder_with(alloc, &heap, &tables, script)?;
     let mut said = Report::new(alloc, script.shows);
+    match take_pieces(&mut decoder, stream, sizes, &mut said) {
+        Ok(()) => Ok(said),
+        Err(error) => Err(error),
+    }
+}
+
+fn take_pieces(
+    decoder: &mut Decoder<&LocalHeap>,
+    stream: &[u8],
+    sizes: (usize, usize),
+    said: &mut Report,
+) -> io::Result<()> {
+    let (mut size, other) = sizes;
     let mut rest = stream;
-    let mut size = first;
     for _ in 0..=stream.len() {
         let (piece, after) = rest.split_at(size.min(rest.len()));
-        if !take(&mut decoder, piece, &mut said)? || after.is_empty() {
+        if !take(decoder, piece, said)? || after.is_empty() {
             break;
         }
         rest = after;
         size = other;
     }
-    Ok(said)
+    Ok(())
 }
 
 /// What is said of a stream by a decoder that begins anew after this many bytes of it. It is given again what it was given.
@@ -131,16 +142,32 @@ pub fn said_anew(
     let tables = LocalHeap::new(alloc, AMPLE)?;
     let heap = LocalHeap::new(alloc, script.room)?;
     let mut decoder = decoder_with(alloc, &heap, &tables, script)?;
-    let mut before = Report::new(alloc, script.shows);
-    take(
-        &mut decoder,
-        stream.split_at(front.min(stream.len())).0,
-        &mut before,
-    )?;
+    let before = stream.split_at(front.min(stream.len())).0;
+    match said_next(alloc, &mut decoder, script.shows, before) {
+        Ok(_) => {
+            begin_anew(&mut decoder);
+            said_next(alloc, &mut decoder, script.shows, stream)
+        }
+        Err(error) => Err(error),
+    }
+}
+
+/// What is said of one more piece.
+fn said_next(
+    alloc: Global,
+    decoder: &mut Decoder<&LocalHeap>,
+    shows: Shows,
+    piece: &[u8],
+) -> io::Result<Report> {
+    let mut said = Report::new(alloc, shows);
+    match take(decoder, piece, &mut said) {
+        Ok(_) => Ok(said),
+        Err(error) => Err(error),
+    }
+}
+
+fn begin_anew(decoder: &mut Decoder<&LocalHeap>) {
     if let Some(table) = decoder.restart() {
         let _ = decoder.give(table);
     }
-    let mut said = Report::new(alloc, script.shows);
-    take(&mut decoder, stream, &mut said)?;
-    Ok(said)
 }

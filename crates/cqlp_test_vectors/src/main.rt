@@ -43,16 +43,26 @@ fn execute(rt: &HostRuntime, line: &str) -> io::Result<()> {
         bytes: &bytes,
         limits: limits_of(words),
     };
+    print_stream(rt, &stream)
+}
+
+/// Prints what is said of a stream.
+fn print_stream(rt: &HostRuntime, stream: &Stream<'_>) -> io::Result<()> {
     let whole = stream.whole(rt.alloc())?;
     print_said(rt, &whole)?;
-    ways::in_pieces(rt, &stream, &whole)?;
-    ways::as_pages(rt, &stream)?;
-    ways::fronts(rt, &stream, &whole)?;
-    ways::after_read_faults(rt, &stream, &whole)?;
-    ways::after_turns(rt, &stream, &whole)?;
-    ways::with_room_for_text(rt, &stream, &whole)?;
-    ways::with_room_for_pages(rt, &stream)?;
-    ways::with_room_for_events(rt, &stream, &whole)
+    print_ways(rt, stream, &whole)
+}
+
+/// Prints each way of reading a stream that says something else than this.
+fn print_ways(rt: &HostRuntime, stream: &Stream<'_>, whole: &Said) -> io::Result<()> {
+    ways::in_pieces(rt, stream, whole)?;
+    ways::as_pages(rt, stream)?;
+    ways::fronts(rt, stream, whole)?;
+    ways::after_read_faults(rt, stream, whole)?;
+    ways::after_turns(rt, stream, whole)?;
+    ways::with_room_for_text(rt, stream, whole)?;
+    ways::with_room_for_pages(rt, stream)?;
+    ways::with_room_for_events(rt, stream, whole)
 }
 
 /// The limits of a line with these words.

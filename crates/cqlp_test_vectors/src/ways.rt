@@ -45,7 +45,12 @@ fn in_these_pieces(
 /// The text of its pages, byte by byte.
 pub fn as_pages(rt: &HostRuntime, stream: &Stream<'_>) -> io::Result<()> {
     let whole = stream.pages(rt.alloc(), [usize::MAX; 3])?;
-    if !stream.pages(rt.alloc(), [1; 3])?.is(&whole) {
+    print_pages_that_differ(rt, stream, &whole)
+}
+
+fn print_pages_that_differ(rt: &HostRuntime, stream: &Stream<'_>, whole: &Said) -> io::Result<()> {
+    let is_same = stream.pages(rt.alloc(), [1; 3])?.is(whole);
+    if !is_same {
         println!(rt; "its pages differ byte by byte")?;
     }
     Ok(())
@@ -55,9 +60,19 @@ pub fn as_pages(rt: &HostRuntime, stream: &Stream<'_>) -> io::Result<()> {
 /// the end of a frame, and cut elsewhere.
 pub fn fronts(rt: &HostRuntime, stream: &Stream<'_>, whole: &Said) -> io::Result<()> {
     let ends = ends_of(rt.alloc(), stream)?;
+    print_fronts_that_differ(rt, stream, whole, ends.places())
+}
+
+fn print_fronts_that_differ(
+    rt: &HostRuntime,
+    stream: &Stream<'_>,
+    whole: &Said,
+    ends: &[u64],
+) -> io::Result<()> {
     for count in 0..stream.bytes.len() {
-        let finish = finish_after(ends.places(), count as u64);
-        if !is_front(&stream.front(count).whole(rt.alloc())?, whole, finish) {
+        let finish = finish_after(ends, count as u64);
+        let is_same = is_front(&stream.front(count).whole(rt.alloc())?, whole, finish);
+        if !is_same {
             println!(rt; "differs where it ends after {count} bytes")?;
         }
     }
@@ -162,14 +177,24 @@ fn fills_text(alloc: Global, stream: &Stream<'_>, whole: &Said, room: usize) -> 
 pub fn with_room_for_pages(rt: &HostRuntime, stream: &Stream<'_>) -> io::Result<()> {
     let whole = stream.pages(rt.alloc(), [usize::MAX; 3])?;
     for room in 0..=whole.lines.len() {
-        let front = whole.lines.get(..room).unwrap_or(&[]);
-        let outcome = with_room(room, whole.lines.len(), &whole);
-        if !renders_pages(rt.alloc(), stream, front, outcome)? {
-            println!(rt; "its pages differ with room for {room} bytes of text")?;
-        }
-        if !writes_pages(rt.alloc(), stream, front, outcome) {
-            println!(rt; "its pages differ as rows with room for {room} bytes of text")?;
-        }
+        print_room_that_differs(rt, stream, &whole, room)?;
+    }
+    Ok(())
+}
+
+fn print_room_that_differs(
+    rt: &HostRuntime,
+    stream: &Stream<'_>,
+    whole: &Said,
+    room: usize,
+) -> io::Result<()> {
+    let front = whole.lines.get(..room).unwrap_or(&[]);
+    let outcome = with_room(room, whole.lines.len(), whole);
+    if !renders_pages(rt.alloc(), stream, front, outcome)? {
+        println!(rt; "its pages differ with room for {room} bytes of text")?;
+    }
+    if !writes_pages(rt.alloc(), stream, front, outcome) {
+        println!(rt; "its pages differ as rows with room for {room} bytes of text")?;
     }
     Ok(())
 }
