@@ -124,10 +124,10 @@ fn are_carried(client: &ClientOf<u64>, server: &ServerOf<u64>, carried: &[Option
 /// After how many of the steps something else is carried.
 fn wrong_steps(client: &mut ClientOf<u64>, server: &mut ServerOf<u64>) -> u32 {
     let mut wrong = 0_u32;
-    for (step, carried) in &STEPS {
-        step_client(client, *step);
-        step_server(server, *step);
-        if !are_carried(client, server, carried) {
+    for (step, carried) in STEPS {
+        step_client(client, step);
+        step_server(server, step);
+        if !are_carried(client, server, &carried) {
             wrong = wrong.saturating_add(1);
         }
     }
