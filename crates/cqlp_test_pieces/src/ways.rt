@@ -11,12 +11,7 @@ pub fn in_pieces(rt: &HostRuntime, script: &Script<'_>, stream: &[u8]) -> io::Re
     compare(rt, script, stream, &whole)
 }
 
-fn compare(
-    rt: &HostRuntime,
-    script: &Script<'_>,
-    stream: &[u8],
-    whole: &Report,
-) -> io::Result<()> {
+fn compare(rt: &HostRuntime, script: &Script<'_>, stream: &[u8], whole: &Report) -> io::Result<()> {
     match script.shows {
         Shows::Calls | Shows::Memory => Ok(()),
         Shows::Counts => {
