@@ -1,10 +1,12 @@
 //! What is written of a frame, and what is read back.
 
+use crate::stops::Stops;
 use cqlp_decode::{Decoder, Outcome, run};
-use cqlp_encode::{EncodeError, encode};
+use cqlp_encode::{EncodeError, encode, encode_from};
 use cqlp_message::Frame;
 use cqlp_note::{Limits, OfStd};
 use cqlp_render::render_events;
+use cqlp_sockets::{Cause, OfSocket};
 use cqlp_test_fakes::{Narrow, Pieces, Takes};
 use cqlp_text::{Ending, ending_line};
 use std::alloc::Global;
@@ -39,8 +41,9 @@ fn write(alloc: Global, frame: &Frame) -> Written {
     }
 }
 
-/// Prints the answer, the length that is told beforehand, the bytes, the lines of their events, the verdict, and how many
-/// fronts of the bytes a target is left with that fails.
+/// Prints the answer, the length that is told beforehand, the bytes, the lines of their events, the verdict, how many fronts
+/// of the bytes a target is left with that fails, how many rests of them are written after a stop, and how many stops a socket
+/// makes that takes one byte at a time.
 pub fn whole(rt: &HostRuntime, frame: &Frame) -> io::Result<()> {
     let written = write(rt.alloc(), frame);
     print_whole(rt, frame, &written)
@@ -53,7 +56,12 @@ fn print_whole(rt: &HostRuntime, frame: &Frame, written: &Written) -> io::Result
     }
     print_bytes(rt, &written.bytes)?;
     print_events(rt, &written.bytes)?;
-    println!(rt; "{} fronts", fronts(rt.alloc(), frame, &written.bytes))
+    println!(rt;
+        "{} fronts, {} rests, {} stops",
+        fronts(rt.alloc(), frame, &written.bytes),
+        rests(rt.alloc(), frame, &written.bytes),
+        stops(rt.alloc(), frame, &written.bytes, 1, 1)
+    )
 }
 
 /// Prints the answer, the length that is told, how many events are read of the bytes, and the verdict.
@@ -152,6 +160,34 @@ fn is_front(alloc: Global, frame: &Frame, bytes: &[u8], room: usize) -> bool {
         _ => false,
     };
     is_told && target.text().len() == room && bytes.starts_with(target.text())
+}
+
+/// For how many numbers below a frame's length a socket that stops once, after that many bytes, has all bytes in the end.
+fn rests(alloc: Global, frame: &Frame, bytes: &[u8]) -> usize {
+    (0..bytes.len())
+        .filter(|room| stops(alloc, frame, bytes, *room, usize::MAX) == 1)
+        .count()
+}
+
+/// How often a socket stops that takes `first` bytes before it would block, and `later` bytes before each later time, where each
+/// call goes on with what the one before told; 0 where it has not just the frame's bytes in the end.
+fn stops(alloc: Global, frame: &Frame, bytes: &[u8], first: usize, later: usize) -> u64 {
+    let mut socket = OfSocket::new(Stops::new(alloc, first, later));
+    let mut answer = encode(frame, &mut socket);
+    for _ in bytes {
+        let Err(EncodeError::Write { written }) = answer else {
+            break;
+        };
+        if socket.cause != Some(Cause::WouldBlock) {
+            break;
+        }
+        answer = encode_from(frame, written, &mut socket);
+    }
+    let is_whole = match answer {
+        Ok(len) => len as usize == bytes.len() && socket.inner.text() == bytes,
+        Err(_) => false,
+    };
+    if is_whole { socket.failures } else { 0 }
 }
 
 fn print_verdict(rt: &HostRuntime, outcome: Outcome) -> io::Result<()> {
