@@ -66,7 +66,10 @@ pub fn show_reads(rt: &HostRuntime, line: &str) -> io::Result<()> {
         word: line,
     });
     for word in line.split_whitespace() {
-        socket.inner.word = word;
+        socket.inner = Scripted {
+            alloc: rt.alloc(),
+            word,
+        };
         let mut buffer = [0; 4];
         let answer = Source::read(&mut socket, &mut buffer);
         print!(rt; "{answer:?} {} {} {:?} ", socket.failures, socket.reads, socket.cause)?;
@@ -83,7 +86,10 @@ pub fn show_writes(rt: &HostRuntime, line: &str) -> io::Result<()> {
         word: line,
     });
     for word in line.split_whitespace() {
-        socket.inner.word = word;
+        socket.inner = Scripted {
+            alloc: rt.alloc(),
+            word,
+        };
         let answer = Target::write(&mut socket, b"abcd");
         println!(rt; "{answer:?} {} {:?}", socket.failures, socket.cause)?;
     }
