@@ -16,11 +16,11 @@ held limit ms = record { limit = limit; waiting = ms }
 abbrev pub new_waiting : {T : Type 0} → (limit : ℕ) → Waiting T
 new_waiting limit = held limit []
 
--- there is memory for as many as may wait
+-- there is memory for as many as may wait, and no more
 pub record HasRoom {T : Type 0} (limit : ℕ) (ms : List (Message T)) (capacity : ℕ) : Type 0 where
   pub some : 1 ≤ limit
   pub within : length ms ≤ limit
-  pub room : limit ≤ capacity
+  pub room : capacity ≡ limit
 
 -- all but the first under an id
 abbrev pub without : {T : Type 0} → ℤ → List (Message T) → List (Message T)

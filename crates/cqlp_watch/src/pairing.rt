@@ -64,6 +64,13 @@ impl<T: Drop, A: Allocator> Pairing<T, A> {
         self.waiting.is_empty()
     }
 
+    /// How many requests there is memory for: as many as the limit, for as long as it lives.
+    pub fn capacity(&self) -> usize
+        ensures { result ≡ self.now.limit }
+    {
+        self.waiting.capacity()
+    }
+
     /// Takes the next frame of either direction. What is told of a response is its exchange, if a request waits under its stream id.
     ///
     /// A request takes the place of one that waits under its id, and where too many wait, that of the one that waits longest: what is told

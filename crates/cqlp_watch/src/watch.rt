@@ -56,6 +56,13 @@ impl<A: Allocator> Watch<A> {
         })
     }
 
+    /// How many requests that wait there is memory for: as many as the limit, for as long as it lives.
+    pub fn capacity(&self) -> usize
+        ensures { result ≡ self.now.pairing.limit }
+    {
+        self.pairing.capacity()
+    }
+
     /// A direction begins, that of the responses or that of the requests. Its first byte is that of a frame, where `from_start`; else the first frame
     /// is sought where a segment begins with a header.
     pub fn begin(&mut self, responses: bool, from_start: bool)
