@@ -119,7 +119,7 @@ struct Made {
 }
 
 fn made(file: &[u8], most: usize, ports: &[u16], calls: usize) -> Made {
-    let mut pieces = Pieces { rest: file, most, numbers: Numbers(1 + most as u64) };
+    let mut pieces = Pieces { rest: file, most, numbers: Numbers(most as u64 | 1) };
     let (files, out, err) = (Sums::with_room(calls), OfStd::new(Vec::with_capacity(64 << 20)), OfStd::new(Vec::with_capacity(1_000)));
     let before = LIVE.load(SeqCst);
     MOST.store(before, SeqCst);
