@@ -59,8 +59,8 @@
  * - No pointer is null, but that of an input or a stream whose length is 0, and that of what has a room of 0, may be. Each
  *   points to as much as its type and the number after it say, aligned for its type, and no two that are given to one call
  *   overlap.
- * - A handle is CQLP_NO_DECODER_YET before cqlp_new, CQLP_NO_CLIENT_YET before cqlp_client_new, and CQLP_NO_SERVER_YET before
- *   cqlp_server_new. Nothing but these calls writes or copies it from then on until it is freed, and it is not given to another call
+ * - A handle is CQLP_NO_DECODER_YET before cqlp_new, CQLP_NO_CLIENT_YET before cqlp_client_new, CQLP_NO_SERVER_YET before
+ *   cqlp_server_new, and CQLP_NO_TYPES_YET before cqlp_types_of and cqlp_take_given. Nothing but these calls writes or copies it from then on until it is freed, and it is not given to another call
  *   of this library while one runs on it.
  * - The array of events and the other structs that calls write are memory that may be written; what was in them does not
  *   matter, but it must have been set once (zeros will do).
@@ -123,6 +123,13 @@ extern "C" {
 #define CQLP_BAD_ID 25               /* the stream id is negative, or none of the core's slots */
 #define CQLP_ID_TAKEN 26             /* a request is open under this stream id */
 #define CQLP_NO_ROOM 27              /* there are more bytes than there is room for */
+#define CQLP_NO_TYPES 28             /* there is no table of types */
+#define CQLP_ENDED 29                /* the stream was refused */
+#define CQLP_OFF 30                  /* the limits say that cells are not read by their types */
+#define CQLP_BUSY 31                 /* a table that was given types the frame under way */
+#define CQLP_OPEN 32                 /* a type of the table is not whole */
+#define CQLP_TOO_MANY 33             /* the table has more type options than the limit on `entries` */
+#define CQLP_TOO_DEEP 34             /* the types are nested deeper than the limit on `depth` */
 
 /* Why a batch of events ends. */
 #define CQLP_STOP_MORE 0             /* all of the input was used, and more is wanted */
@@ -428,6 +435,14 @@ typedef struct cqlp_holding {
   uint32_t levels;  /* the types or values around the one that is read: no more than `depth` */
 } cqlp_holding;
 
+/* A table of types, or none: one for each column of a page. The members are the library's own. */
+typedef struct cqlp_types {
+  uint64_t live;
+  void *place;
+} cqlp_types;
+
+#define CQLP_NO_TYPES_YET {0, NULL}
+
 /* A client's core, or none: which requests are open on one connection. The members are the library's own. */
 typedef struct cqlp_client {
   uint64_t live;
@@ -509,6 +524,29 @@ uint32_t cqlp_free(cqlp_decoder *decoder);
 /* How a stream ends that is there whole: what a decoder with these limits says of it. It keeps nothing.
  * Answers CQLP_DONE; else `end` is as it was: a bad limit as in cqlp_new, or CQLP_NO_MEMORY. */
 uint32_t cqlp_check(const cqlp_limits *limits, const uint8_t *stream, size_t length, cqlp_end *end);
+
+/* Puts a copy of the types of the metadata that was read last into a handle that has no table: after the End of a RESULT of the kind
+ * PREPARED those of the result's columns, after that of a page those of its columns. It changes nothing in the decoder.
+ * Answers CQLP_DONE; else the handle is as it was: CQLP_NO_DECODER, CQLP_IN_USE where the handle has a table, or CQLP_NO_MEMORY. */
+uint32_t cqlp_types_of(cqlp_decoder *decoder, cqlp_types *types);
+
+/* Gives the handle's table to a decoder, for a page without metadata, as EXECUTE asks for it: the cells of the first page that has the flag
+ * No_metadata, section 4.2.5.2, and as many columns as the table, are read by its types, and no other page after it, unless the table is
+ * given again. Without one such cells are raw scalars. The handle gets the table that the decoder had before, if it had one; else it has
+ * none from then on. It asks for no memory.
+ * Answers CQLP_DONE; else nothing changes, and the first of these that is so: CQLP_NO_DECODER, CQLP_NO_TYPES where the handle has no
+ * table, CQLP_ENDED, CQLP_OFF, CQLP_BUSY, CQLP_OPEN, CQLP_TOO_MANY, CQLP_TOO_DEEP. */
+uint32_t cqlp_give(cqlp_decoder *decoder, cqlp_types *types);
+
+/* Takes the table back that a decoder was given, used or not, into a handle that has none. Only for a handle that no call used before it asks
+ * for memory.
+ * Answers CQLP_DONE; else nothing changes: CQLP_NO_DECODER, CQLP_IN_USE where the handle has a table, CQLP_NO_TYPES where the decoder has
+ * none or its table types the frame under way, or CQLP_NO_MEMORY. */
+uint32_t cqlp_take_given(cqlp_decoder *decoder, cqlp_types *types);
+
+/* Frees the table, and what memory the handle has where it gave its table away, and leaves a handle that has none.
+ * Answers CQLP_DONE, or CQLP_NO_TYPES where there was nothing, which does nothing. */
+uint32_t cqlp_types_free(cqlp_types *types);
 
 /* Makes a client's core in a handle that has none, of a connection on which nothing was sent yet. `slots` is how many requests
  * may be open at a time; their stream ids are those below it. All of its memory is asked for here.

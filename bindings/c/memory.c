@@ -40,23 +40,27 @@ void __wrap_free(void *block) {
 static const uint8_t query[] = {4, 0, 0, 7, 7, 0, 0, 0, 13, 0, 0, 0, 6, 'a', 'b', 'c', 'd', 'e', 'f', 0, 1, 0};
 
 /* A call that asks for memory, with what it is given. */
+enum { NEW, CHECK_ALL, CLIENT, SERVER, TYPES_OF, TAKE_GIVEN };
+
 typedef struct row {
   const char *name;
   cqlp_limits limits;
-  uint32_t slots; /* 0: a decoder or a check */
-  int other;      /* a check; with slots, a server's core */
+  uint32_t slots;
+  int call;
 } row;
 
 static const row ROWS[] = {
-    {"cqlp_new, default limits", CQLP_DEFAULT_LIMITS, 0, 0},
-    {"cqlp_new, least limits", {32, 32, 1, 1, 0, 0}, 0, 0},
-    {"cqlp_new, greatest limits", {16777216, 16777216, 65536, 64, 1, 1}, 0, 0},
-    {"cqlp_check, default limits", CQLP_DEFAULT_LIMITS, 0, 1},
-    {"cqlp_check, least limits", {32, 32, 1, 1, 0, 0}, 0, 1},
-    {"cqlp_client_new, 1 slot", CQLP_DEFAULT_LIMITS, 1, 0},
-    {"cqlp_client_new, 32768 slots", CQLP_DEFAULT_LIMITS, 32768, 0},
-    {"cqlp_server_new, 1 slot", CQLP_DEFAULT_LIMITS, 1, 1},
-    {"cqlp_server_new, 32768 slots", CQLP_DEFAULT_LIMITS, 32768, 1},
+    {"cqlp_new, default limits", CQLP_DEFAULT_LIMITS, 0, NEW},
+    {"cqlp_new, least limits", {32, 32, 1, 1, 0, 0}, 0, NEW},
+    {"cqlp_new, greatest limits", {16777216, 16777216, 65536, 64, 1, 1}, 0, NEW},
+    {"cqlp_check, default limits", CQLP_DEFAULT_LIMITS, 0, CHECK_ALL},
+    {"cqlp_check, least limits", {32, 32, 1, 1, 0, 0}, 0, CHECK_ALL},
+    {"cqlp_client_new, 1 slot", CQLP_DEFAULT_LIMITS, 1, CLIENT},
+    {"cqlp_client_new, 32768 slots", CQLP_DEFAULT_LIMITS, 32768, CLIENT},
+    {"cqlp_server_new, 1 slot", CQLP_DEFAULT_LIMITS, 1, SERVER},
+    {"cqlp_server_new, 32768 slots", CQLP_DEFAULT_LIMITS, 32768, SERVER},
+    {"cqlp_types_of, into a new handle", CQLP_DEFAULT_LIMITS, 0, TYPES_OF},
+    {"cqlp_take_given, into a new handle", CQLP_DEFAULT_LIMITS, 0, TAKE_GIVEN},
 };
 
 /* What the caller gives to be written: the handles and an end. */
@@ -64,18 +68,43 @@ typedef struct given {
   cqlp_decoder decoder;
   cqlp_client client;
   cqlp_server server;
+  cqlp_types types;
   cqlp_end end;
 } given;
+
+/* A decoder for the calls on tables of types, and how many blocks it has; to one a table was given. */
+static cqlp_decoder typed = CQLP_NO_DECODER_YET;
+static long base;
+
+static void make_typed(const row *row) {
+  cqlp_types types = CQLP_NO_TYPES_YET;
+  base = 0;
+  if (row->call != TYPES_OF && row->call != TAKE_GIVEN) return;
+  CHECK(cqlp_new(&row->limits, &typed) == CQLP_DONE);
+  if (row->call == TAKE_GIVEN) {
+    CHECK(cqlp_types_of(&typed, &types) == CQLP_DONE && cqlp_give(&typed, &types) == CQLP_DONE);
+    CHECK(cqlp_types_free(&types) == CQLP_DONE);
+  }
+  base = taken;
+}
+
+static void free_typed(const row *row) {
+  if (row->call == TYPES_OF || row->call == TAKE_GIVEN) CHECK(cqlp_free(&typed) == CQLP_DONE);
+}
 
 /* Makes the call, and refuses this request. */
 static uint32_t call(const row *row, given *given, size_t refuse) {
   uint32_t code;
   requests = 0;
   refused = refuse;
-  if (row->slots && row->other) code = cqlp_server_new(row->slots, &given->server);
-  else if (row->slots) code = cqlp_client_new(row->slots, &given->client);
-  else if (row->other) code = cqlp_check(&row->limits, query, sizeof query, &given->end);
-  else code = cqlp_new(&row->limits, &given->decoder);
+  switch (row->call) {
+    case CHECK_ALL: code = cqlp_check(&row->limits, query, sizeof query, &given->end); break;
+    case CLIENT: code = cqlp_client_new(row->slots, &given->client); break;
+    case SERVER: code = cqlp_server_new(row->slots, &given->server); break;
+    case TYPES_OF: code = cqlp_types_of(&typed, &given->types); break;
+    case TAKE_GIVEN: code = cqlp_take_given(&typed, &given->types); break;
+    default: code = cqlp_new(&row->limits, &given->decoder);
+  }
   refused = 0;
   return code;
 }
@@ -100,17 +129,20 @@ static void serve_and_free(const row *row, given *given) {
   memset(&batch, 0, sizeof batch);
   memset(&held, 0, sizeof held);
   requests = 0;
-  if (row->slots && row->other) {
+  if (row->call == SERVER) {
     cqlp_event frame = asking(CQLP_OPCODE_STARTUP);
     CHECK(cqlp_server_accept(&given->server, &frame, 7) == CQLP_DONE);
     CHECK(cqlp_server_answer(&given->server, 0, CQLP_OPCODE_READY, &answered) == CQLP_DONE && answered.carried == 7);
     CHECK(requests == 0 && taken > 0);
     CHECK(cqlp_server_free(&given->server) == CQLP_DONE);
-  } else if (row->slots) {
+  } else if (row->call == CLIENT) {
     CHECK(cqlp_client_begin(&given->client, CQLP_OPCODE_STARTUP, 7, &ticket) == CQLP_DONE && ticket.number == 1);
     CHECK(requests == 0 && taken > 0);
     CHECK(cqlp_client_free(&given->client) == CQLP_DONE);
-  } else if (row->other) {
+  } else if (row->call == TYPES_OF || row->call == TAKE_GIVEN) {
+    CHECK(cqlp_give(&typed, &given->types) == CQLP_DONE && requests == 0 && taken > 0);
+    CHECK(cqlp_types_free(&given->types) == CQLP_DONE);
+  } else if (row->call == CHECK_ALL) {
     CHECK(given->end.verdict == CQLP_END_WHOLE && given->end.bytes == sizeof query);
   } else {
     for (size_t i = 0; i < sizeof query; i++)
@@ -120,6 +152,7 @@ static void serve_and_free(const row *row, given *given) {
     CHECK(requests == 0 && taken > 0);
     CHECK(cqlp_free(&given->decoder) == CQLP_DONE);
   }
+  free_typed(row);
   CHECK(taken == 0);
 }
 
@@ -127,13 +160,15 @@ static void refuse_each(const row *row) {
   given given, before;
   memset(&given, 0, sizeof given);
   before = given;
+  make_typed(row);
   CHECK(call(row, &given, 0) == CQLP_DONE);
   size_t all = requests;
   serve_and_free(row, &given);
   for (size_t n = 1; n <= all; n++) {
     memset(&given, 0, sizeof given);
+    make_typed(row);
     CHECK(call(row, &given, n) == CQLP_NO_MEMORY);
-    CHECK(requests == n && taken == 0);
+    CHECK(requests == n && taken == base);
     CHECK(memcmp(&given, &before, sizeof given) == 0);
     CHECK(call(row, &given, all + 1) == CQLP_DONE && requests == all);
     serve_and_free(row, &given);

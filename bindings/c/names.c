@@ -11,7 +11,8 @@ static const char *const CODE[] = {
     [CQLP_WRONG_OPCODE] = "WrongOpcode", [CQLP_NOT_CANCELLED] = "NotCancelled", [CQLP_COMPRESSED] = "Compressed",
     [CQLP_BAD_OPCODE] = "BadOpcode", [CQLP_BAD_DIRECTION] = "BadDirection", [CQLP_BAD_LENGTH] = "BadLength",
     [CQLP_NO_SERVER] = "NoServer", [CQLP_NOT_REQUEST] = "NotRequest", [CQLP_BAD_ID] = "BadId", [CQLP_ID_TAKEN] = "IdTaken",
-    [CQLP_NO_ROOM] = "NoRoom",
+    [CQLP_NO_ROOM] = "NoRoom", [CQLP_NO_TYPES] = "NoTypes", [CQLP_ENDED] = "Ended", [CQLP_OFF] = "Off",
+    [CQLP_BUSY] = "Busy", [CQLP_OPEN] = "Open", [CQLP_TOO_MANY] = "TooMany", [CQLP_TOO_DEEP] = "TooDeep",
 };
 
 static const char *const STOP[] = {

@@ -8,11 +8,11 @@ replies with requests, a `Server` knows which requests it has not answered. All 
 from . import messages
 from ._client import Client, Reply, Ticket
 from ._columns import PageColumns, Series, columns
-from ._core import BadCall, event_header, header, version_error
-from ._decoder import BadLimits, Closed, Cut, Decoder, Error, Held, Limits, Refused, Verdict, check
+from ._core import event_header, header, version_error
+from ._decoder import BadCall, BadLimits, Closed, Cut, Decoder, Error, Held, Limits, Refused, Verdict, check
 from ._events import Event
 from ._names import name, version, version_number
-from ._pages import Column, Page, Pages, Type, rows
+from ._pages import Column, Page, Pages, Type, Types, rows
 from ._server import Answered, Server
 from ._sources import events
 from ._values import EMPTY, UNSET, Days, Milliseconds, Nanoseconds, Unset
@@ -87,6 +87,7 @@ __all__ = [
     "Tag",
     "Ticket",
     "Type",
+    "Types",
     "UNSET",
     "Unset",
     "Verdict",

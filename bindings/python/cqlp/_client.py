@@ -3,8 +3,8 @@
 from typing import Any, NamedTuple, Optional, Union
 
 from . import _native
-from ._core import BadCall, Calls, Core, event_of, must_be_done
-from ._decoder import _named
+from ._core import Calls, Core, event_of, must_be_done
+from ._decoder import BadCall, _named
 from ._events import Event
 from .messages import Frame
 from .numbers import Code, Opcode, ReplyKind

@@ -5,21 +5,12 @@ import threading
 from typing import Any, Callable, Dict, NamedTuple, Union
 
 from . import _native
-from ._decoder import Closed, Error, _named
+from ._decoder import BadCall, Closed, _named
 from ._events import Event
-from ._names import name
 from .messages import Frame
-from .numbers import Code, Group, Mark, Phase, Tag
+from .numbers import Code, Mark, Phase, Tag
 
-_CODES, _PHASES = map(_named, (Code, Phase))
-
-
-class BadCall(Error, ValueError):
-    """What was asked for cannot be done, and nothing was changed; `code` says why."""
-
-    def __init__(self, code: int) -> None:
-        super().__init__(name(Group.CODE, code) or "code %d" % code)
-        self.code: Union[Code, int] = _CODES[code & 0xFF]
+_PHASES = _named(Phase)
 
 
 def must_be_done(code: int) -> None:

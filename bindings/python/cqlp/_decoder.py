@@ -7,7 +7,8 @@ from typing import Any, Iterator, List, NamedTuple, Optional, Tuple, Union
 
 from . import _native
 from ._events import Event, camel
-from .numbers import End, Field, Kind, Mark, Opcode, Reason, Stop, Tag
+from ._names import name
+from .numbers import Code, End, Field, Group, Kind, Mark, Opcode, Reason, Stop, Tag
 
 
 class Error(Exception):
@@ -20,6 +21,14 @@ class BadLimits(Error, ValueError):
     def __init__(self, limit: str) -> None:
         super().__init__("the limit %r is out of its range" % limit)
         self.limit = limit
+
+
+class BadCall(Error, ValueError):
+    """What was asked for cannot be done, and nothing was changed; `code` says why."""
+
+    def __init__(self, code: int) -> None:
+        super().__init__(name(Group.CODE, code) or "code %d" % code)
+        self.code: Union[Code, int] = Code(code) if code in set(Code) else code
 
 
 class Refused(Error, ValueError):
@@ -224,6 +233,17 @@ class Decoder:
         with self._lock:
             _must_be_done(_native.library.cqlp_held(self._handle, holding))
         return Held(holding.bytes, holding.entries, holding.levels)
+
+    def _give(self, types: "Decoder") -> int:
+        """Gives a copy of the types of the metadata that another decoder read last, and answers the code of cqlp_give."""
+        table = _native.Handle(0, None)
+        try:
+            with types._lock:
+                _must_be_done(_native.library.cqlp_types_of(types._handle, table))
+            with self._lock:
+                return _native.library.cqlp_give(self._handle, table)
+        finally:
+            _native.library.cqlp_types_free(table)
 
     def close(self) -> None:
         """Frees the decoder; a second time does nothing. Each other call raises Closed from then on."""

@@ -4,11 +4,11 @@ from itertools import chain
 from typing import Any, Iterator, List, NamedTuple, Optional, Tuple, Union
 
 from . import _native
-from ._decoder import Limits, Placed, Record, event_of
+from ._decoder import BadCall, Cut, Decoder, Limits, Placed, Record, event_of
 from ._events import Event
-from ._sources import Batch, Progress, Source, batches
+from ._sources import Batch, Progress, Source, _pieces, batches
 from ._values import EMPTY, LEAVES, ValueOf
-from .numbers import Field, Kind, Mark, Tag
+from .numbers import Code, End, Field, Kind, Mark, Tag
 
 try:
     from . import _cells as _compiled
@@ -19,6 +19,7 @@ if _compiled and _compiled.EVENT_SIZE != _native.RECORD.size:
 
 Row = Tuple[ValueOf, ...]
 _ROWS_RESULT = 2
+_NO_METADATA = 0x04
 _TEXTS = (Kind.ASCII, Kind.VARCHAR)
 _BYTES = (Kind.BLOB, Kind.CUSTOM, Kind.RAW)
 
@@ -180,9 +181,12 @@ class Pages:
         *,
         piece: int = 65536,
         progress: Optional[Progress] = None,
+        types: "Optional[Types]" = None,
     ) -> None:
+        """`types` are those of the pages that come without metadata and have as many columns; else their cells are bytes."""
         placed = _compiled is not None
-        self._found = _found(self, batches(source, limits, piece, progress, placed), limits.types)
+        found = batches(source, limits, piece, progress, placed, types._give if types else None)
+        self._found = _found(self, found, limits.types, types.columns if types else None)
         self._current: Optional[Page] = None
         self._rows: Iterator[Row] = iter(())
         self._coming: Optional[Page] = None
@@ -215,6 +219,7 @@ class _Metadata:
 
     def __init__(self) -> None:
         self.kind = 0
+        self.flags = 0
         self.width = 0
         self.state: Optional[bytes] = None
         self.words: dict = {}
@@ -230,19 +235,56 @@ class _Metadata:
             self.words[event.field] = event.value
         elif event.field == Field.RESULT_KIND:
             self.kind = event.number
+        elif event.field == Field.META_FLAGS:
+            # those of the bound variables of a PREPARED come before those of its result
+            self.flags, self.columns = event.number, []
         elif event.field == Field.COLUMNS:
             self.width = event.number
         elif event.field == Field.PAGING_STATE:
             self.state = event.value
 
 
+class Types:
+    """The types of a result's columns, for pages without metadata: those of the metadata that a stream has last, as of the frame of a
+    PREPARED. They may be given to any number of streams, and are let go by `close`, or as a context manager, or when they are let go."""
+
+    def __init__(self, source: Source, limits: Limits = Limits()) -> None:
+        """Reads the stream. Raises Refused or Cut where it is refused or cut."""
+        metadata, self._decoder = _Metadata(), Decoder(limits)
+        for data, _ in _pieces(source, 65536):
+            for event in self._decoder.decode(data):
+                metadata.add(event)
+        self.columns: Tuple[Column, ...] = tuple(metadata.columns)
+        """The columns, with their names and types."""
+        verdict = self._decoder.finish()
+        if verdict.end == End.CUT:
+            raise Cut(verdict.at, verdict.bytes)
+
+    def close(self) -> None:
+        """Lets them go; a second time does nothing."""
+        self._decoder.close()
+
+    def __enter__(self) -> "Types":
+        return self
+
+    def __exit__(self, *_: object) -> None:
+        self.close()
+
+    def _give(self, decoder: Decoder) -> None:
+        code = decoder._give(self._decoder)
+        if code not in (Code.DONE, Code.BUSY, Code.ENDED):  # those that were given type the page under way, or no page will come
+            raise BadCall(code)
+
+
 _SPEC = (Field.KEYSPACE, Field.TABLE, Field.COLUMN_NAME)
 _LEAF, _NULL, _EMPTY, _ENTER, _LEAVE, _PART = map(int, (Tag.LEAF, Tag.NULL, Tag.EMPTY, Tag.ENTER, Tag.LEAVE, Tag.PART))
 
 
-def _found(pages: Pages, batches: Iterator[Batch], typed: bool) -> Iterator[Union[Page, List[Row]]]:
+def _found(
+    pages: Pages, batches: Iterator[Batch], typed: bool, given: Optional[Tuple[Column, ...]] = None
+) -> Iterator[Union[Page, List[Row]]]:
     """Each page, and after it its rows, in a list for each batch that ended some; whether cells are read by the types of their
-    columns is told."""
+    columns is told, and which columns were given."""
     metadata, cells = _Metadata(), _cells(0, ())
     for batch in batches:
         at, count = 0, len(batch)
@@ -258,6 +300,8 @@ def _found(pages: Pages, batches: Iterator[Batch], typed: bool) -> Iterator[Unio
                 metadata = _Metadata()
             elif event.field == Field.ROWS and metadata.kind == _ROWS_RESULT:
                 columns = tuple(metadata.columns)
+                if given and metadata.flags & _NO_METADATA and metadata.width == len(given):
+                    columns = given
                 cells = _cells(metadata.width, tuple(column.type for column in columns) if typed else ())
                 yield Page(pages, columns, metadata.width, event.number, metadata.state)
             else:
@@ -354,7 +398,8 @@ def rows(
     *,
     piece: int = 65536,
     progress: Optional[Progress] = None,
+    types: Optional[Types] = None,
 ) -> Iterator[Row]:
-    """The rows of all pages of a stream, as tuples."""
-    found = Pages(source, limits, piece=piece, progress=progress)._found
+    """The rows of all pages of a stream, as tuples. `types` are those of pages without metadata, as in `Pages`."""
+    found = Pages(source, limits, piece=piece, progress=progress, types=types)._found
     return chain.from_iterable(rows for rows in found if isinstance(rows, list))

@@ -45,19 +45,48 @@ def _length_of(file: BinaryIO) -> Optional[int]:
     return end - at
 
 
+def _pieces_of_frames(pieces: Iterator[Tuple[bytes, Optional[int]]]) -> Iterator[Tuple[bytes, Optional[int]]]:
+    """The same bytes, in pieces that end where a frame ends too."""
+    header, body = b"", 0  # what came of a header, and how much of a body is to come
+    for data, total in pieces:
+        begin = at = 0
+        while at < len(data):
+            step = min(body or 9 - len(header), len(data) - at)
+            if body:
+                body -= step
+            else:
+                header += data[at : at + step]
+            at += step
+            if len(header) == 9:
+                header, body = b"", int.from_bytes(header[5:], "big")
+            if not header and not body:
+                yield data[begin:at], total
+                begin = at
+        if begin < len(data):
+            yield data[begin:], total
+
+
 Batch = Sequence[Tuple[Record, bytes]]
 """Events with their contents."""
 
 
 def batches(
-    source: Source, limits: Limits, piece: int, progress: Optional[Progress], placed: bool = False
+    source: Source,
+    limits: Limits,
+    piece: int,
+    progress: Optional[Progress],
+    placed: bool = False,
+    give: Optional[Callable[[Decoder], None]] = None,
 ) -> Iterator[Batch]:
     """The events of a source with their contents, batch by batch; the one before a refusal too. With `placed` each batch is one
-    of `Placed`, which is read before the next is asked for."""
+    of `Placed`, which is read before the next is asked for. `give` is called at the begin of each frame, and at other places."""
     read = 0
+    pieces = _pieces_of_frames(_pieces(source, piece)) if give else _pieces(source, piece)
     with Decoder(limits, room=512) as decoder:
         take: Callable[[bytes], Iterator[Tuple[Batch, Refusal]]] = decoder._placed if placed else decoder._batches
-        for data, total in _pieces(source, piece):
+        for data, total in pieces:
+            if give:
+                give(decoder)
             for batch, refusal in take(data):
                 yield batch
                 if refusal:

@@ -319,3 +319,10 @@ class Code(IntEnum):
     BAD_ID = 25
     ID_TAKEN = 26
     NO_ROOM = 27
+    NO_TYPES = 28
+    ENDED = 29
+    OFF = 30
+    BUSY = 31
+    OPEN = 32
+    TOO_MANY = 33
+    TOO_DEEP = 34

@@ -34,12 +34,12 @@ done_refused : (o : Option Refusal) (r : Refusal) → o ≡ Some r → (new : St
 done_refused None r some new stream es says = absurd cc
 done_refused (Some z) r some new stream es says = let same : z ≡ r = cc in rw same says
 
-module _ (mid new : StreamState) (stream : List ℕ) (used room : ℕ) (begins : Ptr) (buffer : Buffer) (b : Batch) (events : List CqlpEvent) (es : List (ℕ × Event)) (f : Fills mid new (take used stream) (drop used stream) begins buffer es room b events) where
+module _ (mid new : StreamState) (stream : List ℕ) (used room : ℕ) (begins : Ptr) (buffer : Buffer) (b : Batch) (events : List CqlpEvent) (es : List (ℕ × Event)) (f : Fills [] mid new (take used stream) (drop used stream) begins buffer es room b events) where
   whole : take used stream ++ drop used stream ≡ stream
   whole = take-append-drop used stream
 
-  stops_at : (x : Stop) → b.stop ≡ x → StopsBy mid new (take used stream) (drop used stream) es room b.used f.puts x
-  stops_at x is = subst (λ (z : Stop). StopsBy mid new (take used stream) (drop used stream) es room b.used f.puts z) is f.stops
+  stops_at : (x : Stop) → b.stop ≡ x → StopsBy [] mid new (take used stream) (drop used stream) es room b.used f.puts x
+  stops_at x is = subst (λ (z : Stop). StopsBy [] mid new (take used stream) (drop used stream) es room b.used f.puts z) is f.stops
 
   pub drained_more : b.stop ≡ stop.More → (fs : List (ℕ × Event)) × IsDone new.refusal new stream fs
   drained_more is =

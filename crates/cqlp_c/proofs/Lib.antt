@@ -13,6 +13,7 @@ pub mod Places
 pub mod Putting
 pub mod Services
 pub mod Spans
+pub mod Tables
 pub mod There
 pub mod Values
 pub mod Written

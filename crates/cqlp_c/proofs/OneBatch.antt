@@ -7,9 +7,9 @@ use Rattle.std.specs.Ptr.{Ptr}
 use denote.RawPtr.{◌+ₚ◌}
 use Rattle.cqlp_note.specs.declared.refusal.Refusal.{Refusal}
 use Rattle.cqlp_note.specs.Limits.{Rules}
-use Rattle.cqlp_decode.specs.Reading.{Event, Verdict, Waits, Refused, Says, start}
+use Rattle.cqlp_decode.specs.Reading.{Event, Gifts, Verdict, Waits, Refused, Says, start_with}
 use Rattle.cqlp_decode.specs.Progress.{StreamState}
-use Rattle.cqlp_decode.specs.Streams.{After, Refuses}
+use Rattle.cqlp_decode.specs.Streams.{AfterGifts, Refuses}
 use Rattle.cqlp_laws.specs.Contents.{content_in}
 use Rattle.cqlp_laws.proofs.OneAnswer.{event_once, no_event}
 use Rattle.cqlp_laws.proofs.Whole.{says_once}
@@ -53,36 +53,36 @@ module _ (begins : Ptr) (buffer buffer' : Buffer) where
 
 -- ---- what was put
 
-put_once : (l : Rules) (s input : List ℕ) (es : List (ℕ × Event)) (from : ℕ) (p q : Put) (ps qs : List Put) → Puts l s input es from (p ∷ ps) → Puts l s input es from (q ∷ qs) → q ≡ p
-put_once l s input es from p q ps qs x y =
+put_once : (gifts : Gifts) (l : Rules) (s input : List ℕ) (es : List (ℕ × Event)) (from : ℕ) (p q : Put) (ps qs : List Put) → Puts gifts l s input es from (p ∷ ps) → Puts gifts l s input es from (q ∷ qs) → q ≡ p
+put_once gifts l s input es from p q ps qs x y =
     let one : (q.end ≡ p.end) × ◌≡◌ {A = ℕ × Event} (q.at, q.event) (p.at, p.event) = elim (cases_lt q.end p.end) [
-      | inl lt ↦ let r = event_once [] l s input es y.2.0 x.2.0 q.end p.end (q.at, q.event) (p.at, p.event) (omega arith) x.1 y.2.1 x.2.1 in (sym r.1, sym r.2)
-      | inr le ↦ let r = event_once [] l s input es x.2.0 y.2.0 p.end q.end (p.at, p.event) (q.at, q.event) le y.1 x.2.1 y.2.1 in (r.1, r.2)
+      | inl lt ↦ let r = event_once gifts l s input es y.2.0 x.2.0 q.end p.end (q.at, q.event) (p.at, p.event) (omega arith) x.1 y.2.1 x.2.1 in (sym r.1, sym r.2)
+      | inr le ↦ let r = event_once gifts l s input es x.2.0 y.2.0 p.end q.end (p.at, p.event) (q.at, q.event) le y.1 x.2.1 y.2.1 in (r.1, r.2)
     ] in
     let from' : q.from ≡ p.from = y.0 ∙ sym x.0 in
     λ i. record { at = (one.1 i).0; event = (one.1 i).1; from = from' i; end = one.0 i }
 
 -- the longer goes on where the shorter ends
-puts_compare : (l : Rules) (s input : List ℕ) (es : List (ℕ × Event)) (from : ℕ) (ps qs : List Put) → Puts l s input es from ps → Puts l s input es from qs → length ps ≤ length qs → (rest : List Put) × (qs ≡ ps ++ rest)
-puts_compare l s input es from [] qs x y le = (qs, refl)
-puts_compare l s input es from (p ∷ ps) [] x y le = absurd (omega (arith, le))
-puts_compare l s input es from (p ∷ ps) (q ∷ qs) x y le =
-    let same = put_once l s input es from p q ps qs x y in
-    let tail = subst (λ (z : Put). Puts l s input (es ++ (z.at, z.event) ∷ []) z.end qs) same y.3 in
-    let r = puts_compare l s input (es ++ (p.at, p.event) ∷ []) p.end ps qs x.3 tail (omega (arith, le)) in
+puts_compare : (gifts : Gifts) (l : Rules) (s input : List ℕ) (es : List (ℕ × Event)) (from : ℕ) (ps qs : List Put) → Puts gifts l s input es from ps → Puts gifts l s input es from qs → length ps ≤ length qs → (rest : List Put) × (qs ≡ ps ++ rest)
+puts_compare gifts l s input es from [] qs x y le = (qs, refl)
+puts_compare gifts l s input es from (p ∷ ps) [] x y le = absurd (omega (arith, le))
+puts_compare gifts l s input es from (p ∷ ps) (q ∷ qs) x y le =
+    let same = put_once gifts l s input es from p q ps qs x y in
+    let tail = subst (λ (z : Put). Puts gifts l s input (es ++ (z.at, z.event) ∷ []) z.end qs) same y.3 in
+    let r = puts_compare gifts l s input (es ++ (p.at, p.event) ∷ []) p.end ps qs x.3 tail (omega (arith, le)) in
     (r.0, λ i. same i ∷ r.1 i)
 
 -- what comes after the first of them
-puts_after : (l : Rules) (s input : List ℕ) (es : List (ℕ × Event)) (from : ℕ) (ps : List Put) (r : Put) (rest : List Put) → Puts l s input es from (ps ++ r ∷ rest) → Puts l s input (es ++ events_of ps) (end_of from ps) (r ∷ rest)
-puts_after l s input es from [] r rest x = subst (λ (z : List (ℕ × Event)). Puts l s input z from (r ∷ rest)) (sym (append-nil es)) x
-puts_after l s input es from (p ∷ ps) r rest x =
-    subst (λ (z : List (ℕ × Event)). Puts l s input z (end_of p.end ps) (r ∷ rest)) (append_assoc es ((p.at, p.event) ∷ []) (events_of ps))
-    (puts_after l s input (es ++ (p.at, p.event) ∷ []) p.end ps r rest x.3)
+puts_after : (gifts : Gifts) (l : Rules) (s input : List ℕ) (es : List (ℕ × Event)) (from : ℕ) (ps : List Put) (r : Put) (rest : List Put) → Puts gifts l s input es from (ps ++ r ∷ rest) → Puts gifts l s input (es ++ events_of ps) (end_of from ps) (r ∷ rest)
+puts_after gifts l s input es from [] r rest x = subst (λ (z : List (ℕ × Event)). Puts gifts l s input z from (r ∷ rest)) (sym (append-nil es)) x
+puts_after gifts l s input es from (p ∷ ps) r rest x =
+    subst (λ (z : List (ℕ × Event)). Puts gifts l s input z (end_of p.end ps) (r ∷ rest)) (append_assoc es ((p.at, p.event) ∷ []) (events_of ps))
+    (puts_after gifts l s input (es ++ (p.at, p.event) ∷ []) p.end ps r rest x.3)
 
-none_after : (l : Rules) (s input : List ℕ) (es : List (ℕ × Event)) (v : Verdict) (ps : List Put) (r : Put) (rest : List Put) → Says l start (s ++ input) (es ++ events_of ps) v → Puts l s input es 0 (ps ++ r ∷ rest) → ⊥
-none_after l s input es v ps r rest all x =
-    let next = puts_after l s input es 0 ps r rest x in
-    no_event [] l s input (es ++ events_of ps) v next.2.0 r.end (r.at, r.event) all next.2.1
+none_after : (gifts : Gifts) (l : Rules) (s input : List ℕ) (es : List (ℕ × Event)) (v : Verdict) (ps : List Put) (r : Put) (rest : List Put) → Says l (start_with gifts) (s ++ input) (es ++ events_of ps) v → Puts gifts l s input es 0 (ps ++ r ∷ rest) → ⊥
+none_after gifts l s input es v ps r rest all x =
+    let next = puts_after gifts l s input es 0 ps r rest x in
+    no_event gifts l s input (es ++ events_of ps) v next.2.0 r.end (r.at, r.event) all next.2.1
 
 -- ---- where contents lie
 
@@ -102,46 +102,46 @@ has_room : (before : Option Refusal) → before ≡ None → (room : ℕ) (ps : 
 has_room before none room ps r (inl lt) = lt
 has_room before none room ps r (inr is) = absurd (let e = sym none ∙ is in cc)
 
-module _ (old : StreamState) (none : old.refusal ≡ None) (s input : List ℕ) (es : List (ℕ × Event)) (room : ℕ) where
+module _ (gifts : Gifts) (old : StreamState) (none : old.refusal ≡ None) (s input : List ℕ) (es : List (ℕ × Event)) (room : ℕ) where
   -- more is wanted, or this is refused, after these events
   abbrev Ended : StreamState → (used : ℕ) → List Put → Verdict → Type 0
-  Ended new used ps v = (length ps < room) × AllInInput ps × Says old.rules start (s ++ input) (es ++ events_of ps) v
+  Ended new used ps v = (length ps < room) × AllInInput ps × Says old.rules (start_with gifts) (s ++ input) (es ++ events_of ps) v
 
-  ended_more : (new : StreamState) (used : ℕ) (ps : List Put) → new.rules ≡ old.rules → StopsBy old new s input es room used ps stop.More → Ended new used ps Waits
+  ended_more : (new : StreamState) (used : ℕ) (ps : List Put) → new.rules ≡ old.rules → StopsBy gifts old new s input es room used ps stop.More → Ended new used ps Waits
   ended_more new used ps rules x = (x.1, x.2, rw rules at x.4)
 
-  ended_refused : (new : StreamState) (used : ℕ) (ps : List Put) (r : Refusal) → StopsBy old new s input es room used ps (stop.Refused r) → Ended new used ps (Refused r.at r.why)
-  ended_refused new used ps r x = (has_room old.refusal none room ps r x.1, x.2, subst (λ (o : Option Refusal). Refuses o [] old s (es ++ events_of ps) input r) none x.4)
+  ended_refused : (new : StreamState) (used : ℕ) (ps : List Put) (r : Refusal) → StopsBy gifts old new s input es room used ps (stop.Refused r) → Ended new used ps (Refused r.at r.why)
+  ended_refused new used ps r x = (has_room old.refusal none room ps r x.1, x.2, subst (λ (o : Option Refusal). Refuses o gifts old s (es ++ events_of ps) input r) none x.4)
 
-  others_in : (new : StreamState) (used : ℕ) (ps : List Put) (x : Stop) → StopsBy old new s input es room used ps x → OthersInInput ps
+  others_in : (new : StreamState) (used : ℕ) (ps : List Put) (x : Stop) → StopsBy gifts old new s input es room used ps x → OthersInInput ps
   others_in new used ps stop.More x = others_of_all ps x.2
   others_in new used ps (stop.Refused r) x = others_of_all ps x.2
   others_in new used ps stop.Full x = x.1
 
   -- no answer has fewer events than another
-  fewer_by : (new new' : StreamState) (used used' : ℕ) (ps : List Put) (r : Put) (rest : List Put) (x y : Stop) → new.rules ≡ old.rules → length (ps ++ r ∷ rest) ≤ room → Puts old.rules s input es 0 (ps ++ r ∷ rest)
-      → StopsBy old new s input es room used ps x → StopsBy old new' s input es room used' (ps ++ r ∷ rest) y → ⊥
-  fewer_by new new' used used' ps r rest stop.More y rules few put x z = let e = ended_more new used ps rules x in none_after old.rules s input es Waits ps r rest e.2 put
-  fewer_by new new' used used' ps r rest (stop.Refused f) y rules few put x z = let e = ended_refused new used ps f x in none_after old.rules s input es (Refused f.at f.why) ps r rest e.2 put
+  fewer_by : (new new' : StreamState) (used used' : ℕ) (ps : List Put) (r : Put) (rest : List Put) (x y : Stop) → new.rules ≡ old.rules → length (ps ++ r ∷ rest) ≤ room → Puts gifts old.rules s input es 0 (ps ++ r ∷ rest)
+      → StopsBy gifts old new s input es room used ps x → StopsBy gifts old new' s input es room used' (ps ++ r ∷ rest) y → ⊥
+  fewer_by new new' used used' ps r rest stop.More y rules few put x z = let e = ended_more new used ps rules x in none_after gifts old.rules s input es Waits ps r rest e.2 put
+  fewer_by new new' used used' ps r rest (stop.Refused f) y rules few put x z = let e = ended_refused new used ps f x in none_after gifts old.rules s input es (Refused f.at f.why) ps r rest e.2 put
   fewer_by new new' used used' ps r rest stop.Full y rules few put x z = elim x.2 [
     | inl full ↦ omega (arith, full, few, length-append ps (r ∷ rest))
     | inr last ↦ gathered_then ps r rest last (others_in new' used' (ps ++ r ∷ rest) y z)
   ]
 
-  full_not : (new : StreamState) (used : ℕ) (ps : List Put) → StopsBy old new s input es room used ps stop.Full → length ps < room → AllInInput ps → ⊥
+  full_not : (new : StreamState) (used : ℕ) (ps : List Put) → StopsBy gifts old new s input es room used ps stop.Full → length ps < room → AllInInput ps → ⊥
   full_not new used ps x few all = elim x.2 [
     | inl full ↦ omega (arith, full, few)
     | inr last ↦ gathered_not ps last all
   ]
 
-  two_verdicts : (ps : List Put) (v w : Verdict) → Says old.rules start (s ++ input) (es ++ events_of ps) v → Says old.rules start (s ++ input) (es ++ events_of ps) w → w ≡ v
-  two_verdicts ps v w x y = (says_once old.rules start (s ++ input) (es ++ events_of ps) (es ++ events_of ps) v w x y).1
+  two_verdicts : (ps : List Put) (v w : Verdict) → Says old.rules (start_with gifts) (s ++ input) (es ++ events_of ps) v → Says old.rules (start_with gifts) (s ++ input) (es ++ events_of ps) w → w ≡ v
+  two_verdicts ps v w x y = (says_once old.rules (start_with gifts) (s ++ input) (es ++ events_of ps) (es ++ events_of ps) v w x y).1
 
   same_refused : (r z : Refusal) → ◌≡◌ {A = Verdict} (Refused z.at z.why) (Refused r.at r.why) → z ≡ r
   same_refused r z same = let at : z.at ≡ r.at = cc in let why : z.why ≡ r.why = cc in λ i. record { at = at i; why = why i }
 
   -- and answers with the same events end the same way
-  stop_once : (new new' : StreamState) (used used' : ℕ) (ps : List Put) (x y : Stop) → new.rules ≡ old.rules → new'.rules ≡ old.rules → StopsBy old new s input es room used ps x → StopsBy old new' s input es room used' ps y → (used' ≡ used) × (y ≡ x)
+  stop_once : (new new' : StreamState) (used used' : ℕ) (ps : List Put) (x y : Stop) → new.rules ≡ old.rules → new'.rules ≡ old.rules → StopsBy gifts old new s input es room used ps x → StopsBy gifts old new' s input es room used' ps y → (used' ≡ used) × (y ≡ x)
   stop_once new new' used used' ps stop.More stop.More a b x y = (y.0 ∙ sym x.0, refl)
   stop_once new new' used used' ps stop.More (stop.Refused r) a b x y =
       let same = two_verdicts ps Waits (Refused r.at r.why) (ended_more new used ps a x).2 (ended_refused new' used' ps r y).2 in absurd cc
@@ -156,15 +156,15 @@ module _ (old : StreamState) (none : old.refusal ≡ None) (s input : List ℕ) 
   stop_once new new' used used' ps stop.Full (stop.Refused r) a b x y = absurd (full_not new used ps x (has_room old.refusal none room ps r y.1) y.2)
   stop_once new new' used used' ps stop.Full stop.Full a b x y = (y.0 ∙ sym x.0, refl)
 
-  longer : (new new' : StreamState) (used used' : ℕ) (ps rest : List Put) (x y : Stop) → new.rules ≡ old.rules → length (ps ++ rest) ≤ room → Puts old.rules s input es 0 (ps ++ rest) → length ps < length (ps ++ rest)
-      → StopsBy old new s input es room used ps x → StopsBy old new' s input es room used' (ps ++ rest) y → ⊥
+  longer : (new new' : StreamState) (used used' : ℕ) (ps rest : List Put) (x y : Stop) → new.rules ≡ old.rules → length (ps ++ rest) ≤ room → Puts gifts old.rules s input es 0 (ps ++ rest) → length ps < length (ps ++ rest)
+      → StopsBy gifts old new s input es room used ps x → StopsBy gifts old new' s input es room used' (ps ++ rest) y → ⊥
   longer new new' used used' ps [] x y rules few put lt a b = omega (arith, lt, length-append ps [])
   longer new new' used used' ps (r ∷ rest) x y rules few put lt a b = fewer_by new new' used used' ps r rest x y rules few put a b
 
-  fewer_not : (new new' : StreamState) (used used' : ℕ) (ps qs : List Put) (x y : Stop) → new.rules ≡ old.rules → length qs ≤ room → Puts old.rules s input es 0 ps → Puts old.rules s input es 0 qs → length ps < length qs
-      → StopsBy old new s input es room used ps x → StopsBy old new' s input es room used' qs y → ⊥
+  fewer_not : (new new' : StreamState) (used used' : ℕ) (ps qs : List Put) (x y : Stop) → new.rules ≡ old.rules → length qs ≤ room → Puts gifts old.rules s input es 0 ps → Puts gifts old.rules s input es 0 qs → length ps < length qs
+      → StopsBy gifts old new s input es room used ps x → StopsBy gifts old new' s input es room used' qs y → ⊥
   fewer_not new new' used used' ps qs x y rules few p q lt a b =
-      let c = puts_compare old.rules s input es 0 ps qs p q (omega (arith, lt)) in
+      let c = puts_compare gifts old.rules s input es 0 ps qs p q (omega (arith, lt)) in
       longer new new' used used' ps c.0 x y rules (rw c.1 at few) (rw c.1 at q) (rw c.1 at lt) a (rw c.1 at b)
 
 -- ---- one answer
@@ -172,14 +172,14 @@ module _ (old : StreamState) (none : old.refusal ≡ None) (s input : List ℕ) 
 same_batch : (b b' : Batch) → b'.used ≡ b.used → b'.events ≡ b.events → b'.stop ≡ b.stop → b' ≡ b
 same_batch b b' used events stops = λ i. record { used = used i; events = events i; stop = stops i }
 
-module _ (old new new' : StreamState) (s input : List ℕ) (begins : Ptr) (buffer buffer' : Buffer) (es : List (ℕ × Event)) (b b' : Batch) (before after after' : List CqlpEvent) (a : After old s es) (x : PutsInto old new input begins buffer b before after) (y : PutsInto old new' input begins buffer' b' before after') where
-  f : Fills old new s input begins buffer es (length before) b after
-  f = x.fills s es a
+module _ (gifts : Gifts) (old new new' : StreamState) (s input : List ℕ) (begins : Ptr) (buffer buffer' : Buffer) (es : List (ℕ × Event)) (b b' : Batch) (before after after' : List CqlpEvent) (a : AfterGifts gifts old s es) (x : PutsInto old new input begins buffer b before after) (y : PutsInto old new' input begins buffer' b' before after') where
+  f : Fills gifts old new s input begins buffer es (length before) b after
+  f = x.fills gifts s es a
 
-  g : Fills old new' s input begins buffer' es (length before) b' after'
-  g = y.fills s es a
+  g : Fills gifts old new' s input begins buffer' es (length before) b' after'
+  g = y.fills gifts s es a
 
-  answer : b' ≡ b → g.puts ≡ f.puts → OthersInInput f.puts → AreOneAnswer new new' s input buffer buffer' es b b' after after'
+  answer : b' ≡ b → g.puts ≡ f.puts → OthersInInput f.puts → AreOneAnswer gifts new new' s input buffer buffer' es b b' after after'
   answer batch puts lie = record {
     batch = batch;
     puts = f.puts;
@@ -187,7 +187,7 @@ module _ (old new new' : StreamState) (s input : List ℕ) (begins : Ptr) (buffe
     lie = lie;
     others = subst (λ (z : Batch). drop z.events after' ≡ drop z.events before) batch y.others ∙ sym x.others;
     stands = f.after;
-    stands_too = subst (λ (z : Batch). After new' (s ++ take z.used input) (es ++ events_of f.puts)) batch (subst (λ (z : List Put). After new' (s ++ take b'.used input) (es ++ events_of z)) puts g.after);
+    stands_too = subst (λ (z : Batch). AfterGifts gifts new' (s ++ take z.used input) (es ++ events_of f.puts)) batch (subst (λ (z : List Put). AfterGifts gifts new' (s ++ take b'.used input) (es ++ events_of z)) puts g.after);
     rules = y.rules ∙ sym x.rules;
   }
 
@@ -197,21 +197,21 @@ module _ (old new new' : StreamState) (s input : List ℕ) (begins : Ptr) (buffe
   few' : length g.puts ≤ length before
   few' = omega (arith, g.count, y.within.1)
 
-  unrefused : old.refusal ≡ None → AreOneAnswer new new' s input buffer buffer' es b b' after after'
+  unrefused : old.refusal ≡ None → AreOneAnswer gifts new new' s input buffer buffer' es b b' after after'
   unrefused none = elim (cases_lt (length f.puts) (length g.puts)) [
-    | inl lt ↦ absurd (fewer_not old none s input es (length before) new new' b.used b'.used f.puts g.puts b.stop b'.stop x.rules few' f.put g.put lt f.stops g.stops)
+    | inl lt ↦ absurd (fewer_not gifts old none s input es (length before) new new' b.used b'.used f.puts g.puts b.stop b'.stop x.rules few' f.put g.put lt f.stops g.stops)
     | inr le ↦ elim (cases_lt (length g.puts) (length f.puts)) [
-      | inl lt ↦ absurd (fewer_not old none s input es (length before) new' new b'.used b.used g.puts f.puts b'.stop b.stop y.rules few g.put f.put lt g.stops f.stops)
+      | inl lt ↦ absurd (fewer_not gifts old none s input es (length before) new' new b'.used b.used g.puts f.puts b'.stop b.stop y.rules few g.put f.put lt g.stops f.stops)
       | inr le' ↦
-          let c = puts_compare old.rules s input es 0 f.puts g.puts f.put g.put le' in
+          let c = puts_compare gifts old.rules s input es 0 f.puts g.puts f.put g.put le' in
           let empty : c.0 ≡ [] = nil_from_length c.0 (omega (arith, le, ap length c.1, length-append f.puts c.0)) in
           let puts : g.puts ≡ f.puts = c.1 ∙ ap (λ (z : List Put). f.puts ++ z) empty ∙ append-nil f.puts in
-          let once = stop_once old none s input es (length before) new new' b.used b'.used f.puts b.stop b'.stop x.rules y.rules f.stops (rw puts at g.stops) in
-          answer (same_batch b b' once.0 (sym g.count ∙ ap length puts ∙ f.count) once.1) puts (others_in old none s input es (length before) new b.used f.puts b.stop f.stops)
+          let once = stop_once gifts old none s input es (length before) new new' b.used b'.used f.puts b.stop b'.stop x.rules y.rules f.stops (rw puts at g.stops) in
+          answer (same_batch b b' once.0 (sym g.count ∙ ap length puts ∙ f.count) once.1) puts (others_in gifts old none s input es (length before) new b.used f.puts b.stop f.stops)
     ]
   ]
 
-  refused : (r : Refusal) → old.refusal ≡ Some r → AreOneAnswer new new' s input buffer buffer' es b b' after after'
+  refused : (r : Refusal) → old.refusal ≡ Some r → AreOneAnswer gifts new new' s input buffer buffer' es b b' after after'
   refused r is =
       let p = x.refused r is in
       let q = y.refused r is in
@@ -220,9 +220,9 @@ module _ (old new new' : StreamState) (s input : List ℕ) (begins : Ptr) (buffe
       let two = nil_from_length g.puts (g.count ∙ ap (λ (z : Batch). z.events) q.0) in
       answer batch (two ∙ sym one) (subst OthersInInput (sym one) tt)
 
-  by_refusal : (o : Option Refusal) → old.refusal ≡ o → AreOneAnswer new new' s input buffer buffer' es b b' after after'
+  by_refusal : (o : Option Refusal) → old.refusal ≡ o → AreOneAnswer gifts new new' s input buffer buffer' es b b' after after'
   by_refusal None is = unrefused is
   by_refusal (Some r) is = refused r is
 
-  pub one_answer : AreOneAnswer new new' s input buffer buffer' es b b' after after'
+  pub one_answer : AreOneAnswer gifts new new' s input buffer buffer' es b b' after after'
   one_answer = by_refusal old.refusal refl

@@ -14,9 +14,9 @@ ends_there s taken before content is le =
     ap (drop (length taken - length content)) own ∙ drop_at (drop (length s) before) content (length taken - length content) front
 
 pub lie_there : ContentsLieThere
-lie_there l s input es p content read within lies is =
+lie_there l gifts s input es p content read within lies is =
     let short : length content ≤ p.end = omega (arith, content_spanned p.event content is, lies) in
-    let last = ends_what_is_read l [] (s ++ take p.end input) es p.at p.event read.0 content read.1 is in
+    let last = ends_what_is_read l gifts (s ++ take p.end input) es p.at p.event read.0 content read.1 is in
     let long = length-take-le p.end input within in
     let there = ends_there s (take p.end input) last.0 content last.1 (omega (arith, long, short)) in
     let at = p.end - length content in

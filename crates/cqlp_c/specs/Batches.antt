@@ -7,9 +7,9 @@ use Rattle.cqlp_note.specs.declared.refusal.Refusal.{Refusal}
 use Rattle.cqlp_note.specs.Limits.{Rules}
 use Rattle.cqlp_grammar.specs.declared.event.Finish.{Finish}
 use Rattle.cqlp_grammar.specs.declared.event.Finish.TheVariants as finish
-use Rattle.cqlp_decode.specs.Reading.{Event, Place, start, Reads, Says, Waits}
+use Rattle.cqlp_decode.specs.Reading.{Event, Gifts, Place, start_with, Reads, Says, Waits}
 use Rattle.cqlp_decode.specs.Progress.{StreamState, IsContent, ends_due}
-use Rattle.cqlp_decode.specs.Streams.{After, Decoding, Refuses, buffer_of, state}
+use Rattle.cqlp_decode.specs.Streams.{AfterGifts, Decoding, Refuses, buffer_of, state}
 use Rattle.cqlp_laws.specs.Contents.{content_in}
 use Rattle.cqlp_c.specs.declared.event.CqlpEvent.{CqlpEvent}
 use Rattle.cqlp_c.specs.declared.batch.Batch.{Batch}
@@ -33,17 +33,17 @@ abbrev pub end_of : (from : ℕ) → List Put → ℕ
 end_of from [] = from
 end_of from (p ∷ ps) = end_of p.end ps
 
--- the reading of these bytes says these events, and nothing of what comes next
-abbrev pub IsRead : Rules → List ℕ → List (ℕ × Event) → Type 0
-IsRead l s es = (q : Place) × Reads l start s es q []
+-- the reading of these bytes, while the caller gives this, says these events, and nothing of what comes next
+abbrev pub IsRead : Gifts → Rules → List ℕ → List (ℕ × Event) → Type 0
+IsRead gifts l s es = (q : Place) × Reads l (start_with gifts) s es q []
 
 -- After the bytes s and the events es, these events were put out of the input, one after the other, from here on: each is
 -- the next that the reading says, of the bytes used up to its end.
-abbrev pub Puts : Rules → (s input : List ℕ) → (es : List (ℕ × Event)) → (from : ℕ) → List Put → Type 0
-Puts l s input es from [] = ⊤
-Puts l s input es from (p ∷ ps) =
-    (p.from ≡ from) × (p.end ≤ length input) × IsRead l (s ++ take p.end input) (es ++ (p.at, p.event) ∷ [])
-    × Puts l s input (es ++ (p.at, p.event) ∷ []) p.end ps
+abbrev pub Puts : Gifts → Rules → (s input : List ℕ) → (es : List (ℕ × Event)) → (from : ℕ) → List Put → Type 0
+Puts gifts l s input es from [] = ⊤
+Puts gifts l s input es from (p ∷ ps) =
+    (p.from ≡ from) × (p.end ≤ length input) × IsRead gifts l (s ++ take p.end input) (es ++ (p.at, p.event) ∷ [])
+    × Puts gifts l s input (es ++ (p.at, p.event) ∷ []) p.end ps
 
 -- ---- where contents lie
 
@@ -123,38 +123,39 @@ LastIsGathered (p ∷ q ∷ ps) = LastIsGathered (q ∷ ps)
 abbrev pub MayRefuse : Option Refusal → (room : ℕ) → List Put → Refusal → Type 0
 MayRefuse before room puts r = (length puts < room) ⊎ (before ≡ Some r)
 
-abbrev pub StopsBy : (old new : StreamState) → (s input : List ℕ) → (es : List (ℕ × Event)) → (room used : ℕ)
+abbrev pub StopsBy : Gifts → (old new : StreamState) → (s input : List ℕ) → (es : List (ℕ × Event)) → (room used : ℕ)
     → List Put → Stop → Type 0
-StopsBy old new s input es room used puts stop.More =
+StopsBy gifts old new s input es room used puts stop.More =
     (used ≡ length input) × (length puts < room) × AllInInput puts
-    × (new.refusal ≡ None) × Says new.rules start (s ++ input) (es ++ events_of puts) Waits
-StopsBy old new s input es room used puts (stop.Refused r) =
+    × (new.refusal ≡ None) × Says new.rules (start_with gifts) (s ++ input) (es ++ events_of puts) Waits
+StopsBy gifts old new s input es room used puts (stop.Refused r) =
     (used ≡ end_of 0 puts) × MayRefuse old.refusal room puts r × AllInInput puts
-    × (new.refusal ≡ Some r) × Refuses old.refusal [] old s (es ++ events_of puts) input r
-StopsBy old new s input es room used puts stop.Full =
+    × (new.refusal ≡ Some r) × Refuses old.refusal gifts old s (es ++ events_of puts) input r
+StopsBy gifts old new s input es room used puts stop.Full =
     (used ≡ end_of 0 puts) × OthersInInput puts × ((length puts ≡ room) ⊎ LastIsGathered puts)
 
--- What a batch is, after the bytes s and the events es: this many bytes of the input were used, and the events that
+-- What a batch is, after these gifts, the bytes s and the events es: this many bytes of the input were used, and the events that
 -- the reading says of them are in the array. No content but the last lies in the decoder, in this memory of it; the others
 -- lie in the input, which begins at `begins`.
-pub record Fills (old new : StreamState) (s input : List ℕ) (begins : Ptr) (buffer : Buffer) (es : List (ℕ × Event))
-    (room : ℕ) (b : Batch) (events : List CqlpEvent) : Type 0 where
+pub record Fills (gifts : Gifts) (old new : StreamState) (s input : List ℕ) (begins : Ptr) (buffer : Buffer)
+    (es : List (ℕ × Event)) (room : ℕ) (b : Batch) (events : List CqlpEvent) : Type 0 where
   pub puts : List Put
   pub count : length puts ≡ b.events
-  pub put : Puts old.rules s input es 0 puts
+  pub put : Puts gifts old.rules s input es 0 puts
   pub told : TellsAll begins buffer (take b.events events) puts
-  pub after : After new (s ++ take b.used input) (es ++ events_of puts)
-  pub stops : StopsBy old new s input es room b.used puts b.stop
+  pub after : AfterGifts gifts new (s ++ take b.used input) (es ++ events_of puts)
+  pub stops : StopsBy gifts old new s input es room b.used puts b.stop
 
 -- The bytes begin at the pointer that the caller gave, which is not looked at where there are none; and at no null pointer.
 abbrev pub BeginsAt : Bor (List ℕ) → Ptr → Type 0
 BeginsAt bytes begins = ¬ (begins ≡ null_ptr) × (0 < length bytes.now → begins ≡ as_ptr bytes)
 
--- the same of any stream that led here
+-- the same of any gifts and any stream that led here
 abbrev pub FillsOn : (old new : StreamState) → (input : List ℕ) → (begins : Ptr) → Buffer → (room : ℕ) → Batch
     → List CqlpEvent → Type 0
 FillsOn old new input begins buffer room b events =
-    (s : List ℕ) (es : List (ℕ × Event)) → After old s es → Fills old new s input begins buffer es room b events
+    (gifts : Gifts) (s : List ℕ) (es : List (ℕ × Event)) → AfterGifts gifts old s es
+    → Fills gifts old new s input begins buffer es room b events
 
 -- after a refusal a batch says it again, also where there is no room, and changes nothing
 abbrev pub RepeatsRefusal : Refusal → (old new : StreamState) → Batch → Type 0
@@ -172,7 +173,8 @@ put_of at e end taken = record { at = at; event = e; from = end - taken; end = e
 
 -- a decoder that has refused nothing has used this many bytes, whatever led here
 abbrev pub HasUsed : StreamState → ℕ → Type 0
-HasUsed d bytes = (s : List ℕ) (es : List (ℕ × Event)) → After d s es → d.refusal ≡ None → bytes ≡ length s
+HasUsed d bytes =
+    (gifts : Gifts) (s : List ℕ) (es : List (ℕ × Event)) → AfterGifts gifts d s es → d.refusal ≡ None → bytes ≡ length s
 
 -- ---- progress
 

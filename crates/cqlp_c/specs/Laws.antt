@@ -4,9 +4,9 @@ use Rattle.std.specs.Ptr.{Ptr, null_ptr}
 use Rattle.cqlp_note.specs.declared.header.Header.{Header}
 use Rattle.cqlp_note.specs.Limits.{Rules}
 use Rattle.cqlp_grammar.specs.declared.event.Finish.{Finish}
-use Rattle.cqlp_decode.specs.Reading.{Event}
+use Rattle.cqlp_decode.specs.Reading.{Event, Gifts}
 use Rattle.cqlp_decode.specs.Progress.{StreamState}
-use Rattle.cqlp_decode.specs.Streams.{After}
+use Rattle.cqlp_decode.specs.Streams.{AfterGifts}
 use Rattle.cqlp_laws.specs.Contents.{content_in}
 use Rattle.cqlp_session.specs.declared.ticket.Reply.TheVariants as reply
 use Rattle.cqlp_session.specs.Carried.{new_carrying_client, new_carrying_server}
@@ -41,31 +41,31 @@ AreSame buffer buffer' ps cs ds = ⊥
 -- Two calls made one answer: the same batch, the same events, and the others as they were. The contents of all events but
 -- the last lie in the input, each in one place there, and so does that of the last, if it was not gathered. The decoders
 -- are left after the same bytes and events, so that what they answer next is one too.
-pub record AreOneAnswer (new new' : StreamState) (s input : List ℕ) (buffer buffer' : Buffer) (es : List (ℕ × Event))
-    (b b' : Batch) (after after' : List CqlpEvent) : Type 0 where
+pub record AreOneAnswer (gifts : Gifts) (new new' : StreamState) (s input : List ℕ) (buffer buffer' : Buffer)
+    (es : List (ℕ × Event)) (b b' : Batch) (after after' : List CqlpEvent) : Type 0 where
   pub batch : b' ≡ b
   pub puts : List Put
   pub events : AreSame buffer.at buffer'.at puts (take b.events after) (take b.events after')
   pub lie : OthersInInput puts
   pub others : drop b.events after' ≡ drop b.events after
-  pub stands : After new (s ++ take b.used input) (es ++ events_of puts)
-  pub stands_too : After new' (s ++ take b.used input) (es ++ events_of puts)
+  pub stands : AfterGifts gifts new (s ++ take b.used input) (es ++ events_of puts)
+  pub stands_too : AfterGifts gifts new' (s ++ take b.used input) (es ++ events_of puts)
   pub rules : new'.rules ≡ new.rules
 
--- After the same bytes and events, over the same input and into the same array, there is one answer.
+-- After the same gifts, bytes and events, over the same input and into the same array, there is one answer.
 abbrev pub IsOneAnswerOfNext : Type 0
 IsOneAnswerOfNext =
-    (old new new' : StreamState) (s input : List ℕ) (begins : Ptr) (buffer buffer' : Buffer) (es : List (ℕ × Event))
+    (gifts : Gifts) (old new new' : StreamState) (s input : List ℕ) (begins : Ptr) (buffer buffer' : Buffer) (es : List (ℕ × Event))
     (b b' : Batch) (before after after' : List CqlpEvent)
-    → After old s es → PutsInto old new input begins buffer b before after
+    → AfterGifts gifts old s es → PutsInto old new input begins buffer b before after
     → PutsInto old new' input begins buffer' b' before after'
-    → AreOneAnswer new new' s input buffer buffer' es b b' after after'
+    → AreOneAnswer gifts new new' s input buffer buffer' es b b' after after'
 
 -- The bytes of the input where a content lies that was put are the content.
 abbrev pub ContentsLieThere : Type 0
 ContentsLieThere =
-    (l : Rules) (s input : List ℕ) (es : List (ℕ × Event)) (p : Put) (content : List ℕ)
-    → IsRead l (s ++ take p.end input) (es ++ (p.at, p.event) ∷ []) → p.end ≤ length input → IsInInput p
+    (l : Rules) (gifts : Gifts) (s input : List ℕ) (es : List (ℕ × Event)) (p : Put) (content : List ℕ)
+    → IsRead gifts l (s ++ take p.end input) (es ++ (p.at, p.event) ∷ []) → p.end ≤ length input → IsInInput p
     → content_in p.event ≡ Some content
     → (length content ≤ p.end) × (take (length content) (drop (p.end - length content) input) ≡ content)
 

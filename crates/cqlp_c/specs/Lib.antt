@@ -3,6 +3,7 @@ pub mod Checks
 pub mod Clients
 pub mod Cores
 pub mod Events
+pub mod Given
 pub mod Handle
 pub mod Headers
 pub mod Laws

@@ -3,9 +3,9 @@ use Rattle.std.specs.Prelude.{◌≡◌, ℕ, ◌+◌, ◌-◌, ◌<◌, ◌≤�
 use Rattle.std.specs.Borrow.{Bor}
 use Rattle.std.specs.Ptr.{Ptr, as_ptr, null_ptr}
 use denote.RawPtr.{◌+ₚ◌}
-use Rattle.cqlp_decode.specs.Reading.{Event}
+use Rattle.cqlp_decode.specs.Reading.{Event, Gifts}
 use Rattle.cqlp_decode.specs.Progress.{StreamState}
-use Rattle.cqlp_decode.specs.Streams.{After}
+use Rattle.cqlp_decode.specs.Streams.{AfterGifts}
 use Rattle.cqlp_decode.specs.Cells.{Item, TakesItems, bytes_of}
 use Rattle.cqlp_laws.specs.Contents.{before_content, content_in}
 use Rattle.cqlp_c.specs.declared.event.CqlpEvent.{CqlpEvent}
@@ -56,7 +56,7 @@ pub record PutsWhole (old new : StreamState) (input : Bor (List ℕ)) (n : ℕ) 
   pub takes : TakesItems old input.now items new
   pub all : put.used ≡ bytes_of items
   pub events : List CqlpEvent
-  pub told : (s : List ℕ) (es : List (ℕ × Event)) → After old s es → old.refusal ≡ None
+  pub told : (gifts : Gifts) (s : List ℕ) (es : List (ℕ × Event)) → AfterGifts gifts old s es → old.refusal ≡ None
       → TellsItems (record { input = input; offset = length s }) events items
   pub first : take put.count after ≡ take n before ++ events
   pub others : drop put.count after ≡ drop put.count before

@@ -79,7 +79,7 @@ pub struct CqlpDecoder {
 }
 
 /// A handle that has none.
-fn none(alloc: Global) -> CqlpDecoder
+pub(crate) fn none(alloc: Global) -> CqlpDecoder
     ensures { result.place.value ≡ None }
 {
     let place = CqlpPlace::none(alloc);
@@ -87,7 +87,7 @@ fn none(alloc: Global) -> CqlpDecoder
 }
 
 /// A handle that has this decoder.
-fn holding(boxed: Box<Decoder<Global>>) -> CqlpDecoder
+pub(crate) fn holding(boxed: Box<Decoder<Global>>) -> CqlpDecoder
     ensures { result.place.value ≡ Some boxed.value }
 {
     let place = CqlpPlace::of(Loose::of(boxed));
@@ -95,7 +95,7 @@ fn holding(boxed: Box<Decoder<Global>>) -> CqlpDecoder
 }
 
 /// The decoder of a handle, if it has one.
-fn taken(decoder: CqlpDecoder, alloc: Global) -> Option<Box<Decoder<Global>>>
+pub(crate) fn taken(decoder: CqlpDecoder, alloc: Global) -> Option<Box<Decoder<Global>>>
     ensures some { IfSome result (λ b. decoder.place.value ≡ Some b.value) }
     ensures none { IfNone result (decoder.place.value ≡ None) }
 {

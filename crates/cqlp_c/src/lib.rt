@@ -14,6 +14,7 @@ mod server;
 mod shown;
 mod slots;
 mod talked;
+mod types;
 mod versions;
 
 pub use check::cqlp_check;
@@ -34,4 +35,7 @@ pub use server::{
 };
 pub use shown::{CqlpBatch, CqlpEnd, CqlpHeld, CqlpLimits};
 pub use talked::{CqlpAnswered, CqlpReply, CqlpTicket};
+pub use types::{
+    CqlpTable, CqlpTypes, cqlp_give, cqlp_take_given, cqlp_types_free, cqlp_types_of,
+};
 pub use versions::cqlp_version_error;

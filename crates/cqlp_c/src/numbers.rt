@@ -67,6 +67,20 @@ pub const ID_TAKEN: u32 = 26;
 
 pub const NO_ROOM: u32 = 27;
 
+pub const NO_TYPES: u32 = 28;
+
+pub const ENDED: u32 = 29;
+
+pub const OFF: u32 = 30;
+
+pub const BUSY: u32 = 31;
+
+pub const OPEN: u32 = 32;
+
+pub const TOO_MANY: u32 = 33;
+
+pub const TOO_DEEP: u32 = 34;
+
 // ---- why a batch of events ends
 
 pub const STOP_MORE: u8 = 0;

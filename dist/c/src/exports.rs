@@ -50,6 +50,26 @@ pub unsafe extern "C" fn cqlp_check(limits: &CqlpLimits, stream: *const u8, leng
 }
 
 #[unsafe(no_mangle)]
+pub extern "C" fn cqlp_types_of(decoder: &mut CqlpDecoder, types: &mut CqlpTypes) -> u32 {
+    crate::cqlp_c::cqlp_types_of(Global, decoder, types)
+}
+
+#[unsafe(no_mangle)]
+pub extern "C" fn cqlp_give(decoder: &mut CqlpDecoder, types: &mut CqlpTypes) -> u32 {
+    crate::cqlp_c::cqlp_give(Global, decoder, types)
+}
+
+#[unsafe(no_mangle)]
+pub extern "C" fn cqlp_take_given(decoder: &mut CqlpDecoder, types: &mut CqlpTypes) -> u32 {
+    crate::cqlp_c::cqlp_take_given(Global, decoder, types)
+}
+
+#[unsafe(no_mangle)]
+pub extern "C" fn cqlp_types_free(types: &mut CqlpTypes) -> u32 {
+    crate::cqlp_c::cqlp_types_free(Global, types)
+}
+
+#[unsafe(no_mangle)]
 pub extern "C" fn cqlp_client_new(slots: u32, client: &mut CqlpClient) -> u32 {
     crate::cqlp_c::cqlp_client_new(Global, slots, client)
 }

@@ -35,13 +35,13 @@ put_at begins c at e used taken end is tells =
     subst (λ (p : Put). TellsStep begins c p) (λ i. record { at = at; event = e; from = from i; end = is i }) tells
 
 pub returns-then-gathered-clause-fills : goal.returns-then-gathered-clause-fills
-returns-then-gathered-clause-fills c = λ s es a.
-    let f = c.slots.invariant.filled s es a in
+returns-then-gathered-clause-fills c = λ gifts s es a.
+    let f = c.slots.invariant.filled gifts s es a in
     let begins = as_ptr c.args.input in
     let old = state c.slots.decoder in
     let new = state c.next.follows.lender-at-none in
     let goes = rw c.in-Event.is at c.next.follows.holds-at-none.0 in
-    let leads = rw (c.in-Event.is, rest_is) at (c.next.follows.holds-at-none.1 [] _ _ f.after) in
+    let leads = rw (c.in-Event.is, rest_is) at (c.next.follows.holds-at-none.1 gifts _ _ f.after) in
     let long = length-take-le c.slots.count c.slots.events (omega (arith, c.slots-test.true)) in
     let gathered = ltb-true _ _ (sym c.put_step-gathered.ensures.gathered ∙ c.if-gathered.true) in
     let e = event_of c.in-Event.event in
@@ -50,7 +50,7 @@ returns-then-gathered-clause-fills c = λ s es a.
     let told = put_at begins c.put_step-gathered.new.slot c.in-Event.at e c.slots.used c.in-Event.taken _ far c.put_step-gathered.ensures.tells in
     let held = goes.5 (omega (arith, gathered, span_size e)) in
     let there = c.put_gathered.ensures begins put (omega arith) (omega (arith, gathered)) held told in
-    fills_gathered (state c.args.decoder.now).rules old new s c.args.input.now begins es c.slots.used (take c.slots.count c.slots.events) f c.in-Event.at c.in-Event.taken e (goes.2 ∙ c.slots.invariant.rules) c.slots.invariant.within leads c.put_gathered.new.slot (buffer_in c.next.follows.lender-at-none) there (state c.args.decoder.now) (length c.args.events.now) _ _ refl
+    fills_gathered gifts (state c.args.decoder.now).rules old new s c.args.input.now begins es c.slots.used (take c.slots.count c.slots.events) f c.in-Event.at c.in-Event.taken e (goes.2 ∙ c.slots.invariant.rules) c.slots.invariant.within leads c.put_gathered.new.slot (buffer_in c.next.follows.lender-at-none) there (state c.args.decoder.now) (length c.args.events.now) _ _ refl
     (ap (λ (n : ℕ). record { used = c.slots.used + c.in-Event.taken; events = n + 1; stop = stop.Full }) (sym long))
     (rw long (take_more_set c.slots.events c.slots.count c.put_gathered.new.slot c.slots-test.true))
     (omega (arith, gathered))
@@ -66,7 +66,7 @@ slots-init c = record {
   same = refl;
   pays = omega arith;
   others = refl;
-  filled = λ s es a. filled_none (state c.args.decoder.now).rules (state c.args.decoder.now) s c.args.input.now (as_ptr c.args.input) es a;
+  filled = λ gifts s es a. filled_none gifts (state c.args.decoder.now).rules (state c.args.decoder.now) s c.args.input.now (as_ptr c.args.input) es a;
 }
 
 pub put_whole-put-requires : goal.put_whole-put-requires
@@ -108,21 +108,21 @@ slots-preserved c =
       others =
           let behind : drop count array ≡ drop count c.args.events.now = drop-set-lt count c.slots.events c.slots.count c.put_step-gathered.new.slot (omega arith) ∙ drops c.slots.count c.slots.events c.args.events.now i.others in
           p.others ∙ rw p.count (drops_more count (length p.items) array c.args.events.now behind);
-      filled = λ s es a.
-          let f = i.filled s es a in
-          let leads = rw (c.in-Event.is, rest_is) at (c.next.follows.holds-at-none.1 [] _ _ f.after) in
+      filled = λ gifts s es a.
+          let f = i.filled gifts s es a in
+          let leads = rw (c.in-Event.is, rest_is) at (c.next.follows.holds-at-none.1 gifts _ _ f.after) in
           let free = ltb-false _ _ (sym c.put_step-gathered.ensures.gathered ∙ c.if-gathered.false) in
           let rules = goes.2 ∙ i.rules in
           let one =
-          filled_more (state c.args.decoder.now).rules old mid s input (as_ptr c.args.input) es c.slots.used (take c.slots.count c.slots.events) f c.in-Event.at c.in-Event.taken (event_of c.in-Event.event) rules i.within leads c.put_step-gathered.new.slot
+          filled_more gifts (state c.args.decoder.now).rules old mid s input (as_ptr c.args.input) es c.slots.used (take c.slots.count c.slots.events) f c.in-Event.at c.in-Event.taken (event_of c.in-Event.event) rules i.within leads c.put_step-gathered.new.slot
           (λ b. step_put (as_ptr c.args.input) b c.put_step-gathered.new.slot _ (omega (arith, free)) (put_at (as_ptr c.args.input) c.put_step-gathered.new.slot c.in-Event.at (event_of c.in-Event.event) c.slots.used c.in-Event.taken _ (length-take-le (c.slots.used + c.in-Event.taken) c.args.input.now far) c.put_step-gathered.ensures.tells)) _
           (take_more_set c.slots.events c.slots.count c.put_step-gathered.new.slot c.slots-test.true)
           (omega (arith, free)) in
-          let told = p.told (s ++ take used input) (es ++ events_of one.puts) one.after goes.3 in
+          let told = p.told gifts (s ++ take used input) (es ++ events_of one.puts) one.after goes.3 in
           let base : length (s ++ take used input) ≡ length s + used = omega (arith, length-append s (take used input), length-take-le used input far) in
           let rest : Bor (List ℕ) = record { ref_ptr = (c.args.input.ref_ptr.0, used + c.args.input.ref_ptr.1); now = drop used input } in
           let there : as_ptr rest ≡ as_ptr c.args.input +ₚ used = ap (block_ptr c.args.input.ref_ptr.0) (omega arith) in
-          let all = filled_items (state c.args.decoder.now).rules s input (as_ptr c.args.input) es (record { input = rest; offset = length (s ++ take used input) }) used base (length-drop used input) there mid new used (take count array) p.events p.items one rules leads.2 far (omega arith) p.takes told in
+          let all = filled_items gifts (state c.args.decoder.now).rules s input (as_ptr c.args.input) es (record { input = rest; offset = length (s ++ take used input) }) used base (length-drop used input) there mid new used (take count array) p.events p.items one rules leads.2 far (omega arith) p.takes told in
           rw (p.all, p.first) all;
     }
 
@@ -132,11 +132,11 @@ slots-smaller c =
     omega (arith, p.long, p.count, length-set c.slots.events c.slots.count c.put_step-gathered.new.slot, c.slots-test.true)
 
 pub returns-clause-fills : goal.returns-clause-fills
-returns-clause-fills c = λ s es a.
-    let f = c.slots.invariant.filled s es a in
+returns-clause-fills c = λ gifts s es a.
+    let f = c.slots.invariant.filled gifts s es a in
     let d = state c.slots.decoder in
     let long = length-take-le c.slots.count c.slots.events c.slots.invariant.room in
-    fills_full (state c.args.decoder.now).rules d d s c.args.input.now (as_ptr c.args.input) es c.slots.used (take c.slots.count c.slots.events) f (buffer_in c.slots.decoder) (state c.args.decoder.now) refl (length c.args.events.now) _ _ refl (sym long) refl refl refl (omega (arith, long, c.slots.invariant.room, c.slots-test.false, c.slots.invariant.long))
+    fills_full gifts (state c.args.decoder.now).rules d d s c.args.input.now (as_ptr c.args.input) es c.slots.used (take c.slots.count c.slots.events) f (buffer_in c.slots.decoder) (state c.args.decoder.now) refl (length c.args.events.now) _ _ refl (sym long) refl refl refl (omega (arith, long, c.slots.invariant.room, c.slots-test.false, c.slots.invariant.long))
 
 pub returns-then-gathered-clause-goes_on : goal.returns-then-gathered-clause-goes_on
 returns-then-gathered-clause-goes_on c = λ full.

@@ -1,8 +1,8 @@
 use Rattle.std.proofs.Common.{◌≡◌, ◌+◌, ◌-◌, ◌*◌, ◌≤◌, List, ℕ, length, take, drop, Some, None}
 use Rattle.std.specs.Ptr.{as_ptr}
 use Rattle.cqlp_note.specs.declared.refusal.Refusal.{Refusal}
-use Rattle.cqlp_decode.specs.Reading.{Event}
-use Rattle.cqlp_decode.specs.Streams.{After, state}
+use Rattle.cqlp_decode.specs.Reading.{Event, Gifts}
+use Rattle.cqlp_decode.specs.Streams.{AfterGifts, state}
 use Rattle.cqlp_c.specs.Batches.{due}
 use Rattle.cqlp_c.proofs.Fills.{IsFilled}
 use Rattle.cqlp_c.proofs.batch.fill_room.Given as goal
@@ -19,7 +19,7 @@ invariant-slots l = record {
   same : (state l.decoder).refusal ≡ (state l.fn.decoder).refusal;
   pays : due (state l.decoder) + l.count ≤ due (state l.fn.decoder) + 2 * l.used;
   others : drop l.count l.events ≡ drop l.count l.fn.events;
-  filled : (s : List ℕ) (es : List (ℕ × Event)) → After (state l.fn.decoder) s es → IsFilled (state l.fn.decoder).rules (state l.decoder) s l.source.input.now (as_ptr l.source.input) es l.used (take l.count l.events);
+  filled : (gifts : Gifts) (s : List ℕ) (es : List (ℕ × Event)) → AfterGifts gifts (state l.fn.decoder) s es → IsFilled gifts (state l.fn.decoder).rules (state l.decoder) s l.source.input.now (as_ptr l.source.input) es l.used (take l.count l.events);
 }
 
 abbrev pub decreases-slots : goal.decreases-slots

@@ -13,7 +13,7 @@ returns-then-count-events-clause-puts c = record {
   takes = refl;
   all = refl;
   events = [];
-  told = λ s es a none. tt;
+  told = λ gifts s es a none. tt;
   first = sym (append-nil _);
   others = refl;
   long = refl;
@@ -38,7 +38,7 @@ returns-clause-puts c =
       takes = w.takes;
       all = w.all;
       events = w.puts.events;
-      told = λ s es a none. subst (λ (n : ℕ). TellsItems (record { input = c.args.input; offset = n }) w.puts.events w.items) (c.bytes_used.ensures s es a none) w.puts.told;
+      told = λ gifts s es a none. subst (λ (n : ℕ). TellsItems (record { input = c.args.input; offset = n }) w.puts.events w.items) (c.bytes_used.ensures gifts s es a none) w.puts.told;
       first = ap (take c.hand_whole.new.sink.count) now ∙ w.puts.first;
       others = ap (drop c.hand_whole.new.sink.count) now ∙ w.puts.others;
       long = ap length now ∙ w.puts.long;
