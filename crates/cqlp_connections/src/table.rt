@@ -1,6 +1,7 @@
 //! The table of connections.
 
-ghost use Rattle.std.specs.Prelude.{◌≡◌, ◌↔◌, ◌==◌, ◌<◌, ◌≤◌, ◌∷◌, false, drop, length, map, slice_index, take, IfOk, IsErrOf, Some};
+ghost use Rattle.std.specs.Prelude.{◌≡◌, ◌↔◌, ◌==◌, ◌<◌, ◌≤◌, ◌∷◌, false, drop, length, map};
+ghost use Rattle.std.specs.Prelude.{slice_index, take, IfOk, IsErrOf, Some};
 ghost use Rattle.cqlp_segment.specs.Segment.{seen};
 ghost use Rattle.cqlp_connections.specs.Limits.{is_in_range};
 ghost use Rattle.std.specs.Box.{box_value};

@@ -1,6 +1,7 @@
 //! Which requests wait for their responses.
 
-ghost use Rattle.std.specs.Prelude.{◌≡◌, ◌↔◌, ◌+◌, ◌==◌, ◌≤◌, IfNone, IfOk, IsErrOf, OnSome, find, length, position, vec_capacity, vec_len};
+ghost use Rattle.std.specs.Prelude.{◌≡◌, ◌↔◌, ◌+◌, ◌==◌, ◌≤◌, IfNone, IfOk, IsErrOf, OnSome};
+ghost use Rattle.std.specs.Prelude.{find, length, position, vec_capacity, vec_len};
 ghost use Rattle.cqlp_watch.specs.Messages.{is_under};
 ghost use Rattle.cqlp_watch.specs.Pairings.{without};
 
