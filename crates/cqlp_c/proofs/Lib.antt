@@ -4,6 +4,7 @@ pub mod Cores
 pub mod Crosses
 pub mod Fills
 pub mod Gathering
+pub mod Giving
 pub mod Handed
 pub mod Made
 pub mod Nexted

@@ -75,9 +75,14 @@ pub record HasGivenBack (d : Decoding) (t : Table) (e : Decoding) : Type 0 where
   pub also : TakesAlso (Some t) (state d) (state e)
   pub levels : levels_of e.parts ≡ levels_of d.parts
 
+-- The decoder is where it was in its stream, and holds the same.
+pub record IsLeft (d e : Decoding) : Type 0 where
+  pub state_is : state e ≡ state d
+  pub levels : levels_of e.parts ≡ levels_of d.parts
+
 -- what taking a table back comes to, by what the decoder has to give back
 abbrev pub TakesBy : Decoding → Option Table → (code : ℕ) → (new : Decoding) → (told : Option Table) → Type 0
-TakesBy d None code new told = (code ≡ numbers.NO_TYPES) × (new ≡ d) × (told ≡ None)
+TakesBy d None code new told = (code ≡ numbers.NO_TYPES) × IsLeft d new × (told ≡ None)
 TakesBy d (Some t) code new told = (code ≡ numbers.DONE) × HasGivenBack d t new × (told ≡ Some t)
 
 abbrev pub TakesFrom : Decoding → (was : Option Table) → (code : ℕ) → (new : Decoding) → (told : Option Table) → Type 0
@@ -87,7 +92,7 @@ TakesFrom d None code new told = TakesBy d (free_table (state d)) code new told
 -- what a handle without memory gets, for which some is asked
 abbrev pub TakesAnew : Decoding → Option Table → (code : ℕ) → (new : Decoding) → (told : Option (Option Table)) → Type 0
 TakesAnew d None code new told =
-    ((code ≡ numbers.NO_MEMORY) ⊎ (code ≡ numbers.NO_TYPES)) × (new ≡ d) × (told ≡ None)
+    ((code ≡ numbers.NO_MEMORY) ⊎ (code ≡ numbers.NO_TYPES)) × IsLeft d new × (told ≡ None)
 TakesAnew d (Some t) code new told =
     ((code ≡ numbers.NO_MEMORY) × (new ≡ d) × (told ≡ None))
     ⊎ ((code ≡ numbers.DONE) × HasGivenBack d t new × (told ≡ Some (Some t)))
