@@ -35,7 +35,5 @@ pub use server::{
 };
 pub use shown::{CqlpBatch, CqlpEnd, CqlpHeld, CqlpLimits};
 pub use talked::{CqlpAnswered, CqlpReply, CqlpTicket};
-pub use types::{
-    CqlpTable, CqlpTypes, cqlp_give, cqlp_take_given, cqlp_types_free, cqlp_types_of,
-};
+pub use types::{CqlpTable, CqlpTypes, cqlp_give, cqlp_take_given, cqlp_types_free, cqlp_types_of};
 pub use versions::cqlp_version_error;
