@@ -54,7 +54,8 @@ impl<T, A: Allocator> Model for ClientOf<T, A> {
 }
 
 impl<T: Drop, A: Allocator> ClientOf<T, A> {
-    ghost use Rattle.cqlp_session.specs.Carried.{answer_alone, begun_with, cancelled_with, new_carrying_client, or_back, replied_with, reply_value, values_in, StandWith};
+    ghost use Rattle.cqlp_session.specs.Carried.{answer_alone, begun_with, cancelled_with, new_carrying_client, or_back};
+    ghost use Rattle.cqlp_session.specs.Carried.{replied_with, reply_value, values_in, StandWith};
     ghost use Rattle.cqlp_session.specs.Client.{cancels, reply_to, ticket_for};
     ghost use Rattle.cqlp_session.specs.ClientLends.{client_lends, client_lends_value};
     ghost use Rattle.cqlp_session.specs.Signal.{signal_of};
