@@ -1,5 +1,5 @@
 -- What is written while a stream is read on after frames whose bodies are refused.
-use Rattle.std.specs.Prelude.{◌≡◌, ℕ, Bool, true, List, [], ◌∷◌, ◌++◌, take, drop, Option, Some, IsSome, Result, Ok, Err, ◌⊎◌}
+use Rattle.std.specs.Prelude.{◌≡◌, ℕ, Bool, true, List, [], ◌∷◌, ◌++◌, drop, Option, Some, None, IsSome, Result, Ok, Err, ◌⊎◌}
 use Rattle.cqlp_grammar.specs.declared.sink.SinkFault.{SinkFault}
 use Rattle.cqlp_note.specs.declared.refusal.Refusal.{Refusal}
 use Rattle.cqlp_note.specs.Limits.{Rules}
@@ -120,7 +120,7 @@ module _ (form : TextForm) (l : Rules) (xs : List ℕ) (first : Outputs) where
   -- What a piece leads to, after the bytes s.
   abbrev pub HandsTo : (s piece : List ℕ) → Handed → Skipping → Reporting → Type 0
   HandsTo s piece handed.More d now =
-      (r : Reports d (s ++ piece) now) × SaysAll l d (s ++ piece) r.events
+      (r : Reports d (s ++ piece) now) × SaysAll l d (s ++ piece) r.events × ((stream d).refusal ≡ None)
   HandsTo s piece (handed.Refused refusal) d now =
-      (used : ℕ) × Reports d (s ++ take used piece) now × IsRefusedForGood d refusal
+      (bytes : List ℕ) × Reports d bytes now × IsRefusedForGood d refusal
   HandsTo s piece handed.Fault d now = Fails now.passed (outputs now)

@@ -1,5 +1,5 @@
 -- What a command leaves that shows a stream and passes over frames whose bodies are refused.
-use Rattle.std.specs.Prelude.{◌≡◌, ℕ, ◌+◌, ◌≤◌, Bool, true, false, List, [], ◌++◌, max, Option, Some, IsSome, ◌⊎◌}
+use Rattle.std.specs.Prelude.{◌≡◌, ℕ, ◌+◌, ◌≤◌, Bool, true, false, List, [], ◌++◌, max, Option, Some, None, IsSome, ◌⊎◌}
 use Rattle.cqlp_grammar.specs.declared.event.Finish.{Finish}
 use Rattle.cqlp_grammar.specs.declared.event.Finish.TheVariants as finish
 use Rattle.cqlp_note.specs.declared.limits.Limits.{Limits}
@@ -13,7 +13,7 @@ use Rattle.cqlp_render.specs.declared.text_form.TextForm.TheVariants as forms
 use Rattle.cqlp_render.specs.Rendering.{GoesOn}
 use Rattle.cqlp_render.specs.Showing.{Concludes, ConcludesCheck, CountsReads, ReadsBy}
 use Rattle.cqlp_render.specs.Streams.{Input, Streams, IfKnown}
-use Rattle.cqlp_skip.specs.Skipping.{Skipping, AfterSkips, FinishesAs, rules_in}
+use Rattle.cqlp_skip.specs.Skipping.{Skipping, AfterSkips, FinishesAs, rules_in, stream}
 use Rattle.cqlp_skip.specs.Stretches.{Stretch}
 use Rattle.cqlp_text.specs.declared.ending.Ending.{Ending}
 use Rattle.cqlp_text.specs.declared.ending.Ending.TheVariants as ending
@@ -101,6 +101,7 @@ pub record Begins (form : TextForm) (l : Rules) (xs : List ℕ) (first : Outputs
   pub known : AreKnown first
   pub left : left ≡ Some xs
   pub after : AfterSkips xs d [] [] [] []
+  pub unrefused : (stream d).refusal ≡ None
   pub rules : rules_in d ≡ l
   pub now : now ≡ record {
     text = record { written = bare first.out.given first.out.failures; form = form };

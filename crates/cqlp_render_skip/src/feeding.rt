@@ -7,6 +7,7 @@ ghost use Rattle.cqlp_render_skip.specs.Reporting.{AreKnown, GoOn, HandsTo, Outp
 ghost use Rattle.cqlp_render_skip.specs.Texts.{afresh};
 
 use crate::report::Report;
+use cqlp_decode::SinkFault;
 use cqlp_note::{Refusal, Target};
 use cqlp_skip::{Fed, SkippingDecoder};
 use std::alloc::Allocator;
@@ -34,21 +35,23 @@ pub(crate) fn hand_piece<O: Target, E: Target, A: Allocator, B: Allocator>(
     ensures goes_on { GoOn report result.1 }
 {
     let mut rest = piece;
-    let mut report = report;
+    let mut told = report;
     'stretches: loop {
-        let (fed, told) = decoder.feed(rest, report);
-        report = told;
-        let (used, refusal) = match fed {
-            Fed::More => return (Handed::More, report),
-            Fed::Fault { .. } => return (Handed::Fault, report),
-            Fed::Refused { used, refusal } => (used, refusal),
-        };
-        let Ok(skipped) = decoder.skip() else {
-            return (Handed::Refused(refusal), report);
-        };
-        let Ok(()) = report.end_stretch(&skipped) else {
-            return (Handed::Fault, report);
-        };
-        rest = &rest[used..];
+        let (fed, next) = decoder.feed(rest, told);
+        told = next;
+        match fed {
+            Fed::More => return (Handed::More, told),
+            Fed::Fault { .. } => return (Handed::Fault, told),
+            Fed::Refused { used, refusal } => {
+                let skipped = match decoder.skip() {
+                    Ok(skipped) => skipped,
+                    Err(_) => return (Handed::Refused(refusal), told),
+                };
+                if let Err(SinkFault) = told.end_stretch(&skipped) {
+                    return (Handed::Fault, told);
+                }
+                rest = &rest[used..];
+            }
+        }
     }
 }
