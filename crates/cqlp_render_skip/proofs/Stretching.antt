@@ -101,7 +101,7 @@ module _ (form : TextForm) (l : Rules) (xs : List ℕ) (first : Outputs) where
           record {
             stretches = r.stretches;
             events = r.events ++ h.more;
-            stands = record { after = h.stands; rules = rules ∙ r.stands.rules; last = subst (IsLast r.stretches) (sym last) r.stands.last };
+            stands = record { after = h.stands; plain = r.stands.plain; rules = rules ∙ r.stands.rules; last = subst (IsLast r.stretches) (sym last) r.stands.last };
             text =
                 h.got ∙ ap (λ (n : ℕ). fold_events with_event (rendered now.text) (told n h.more)) base
                 ∙ ap (λ v. fold_events with_event v (told b h.more)) r.text
@@ -120,7 +120,7 @@ module _ (form : TextForm) (l : Rules) (xs : List ℕ) (first : Outputs) where
             s = s';
             stretches = r.stretches;
             events = r.events ++ h.more ++ (h.at, h.event) ∷ [];
-            stands = record { after = h.stands; rules = rules ∙ r.stands.rules; last = subst (IsLast r.stretches) (sym last) r.stands.last };
+            stands = record { after = h.stands; plain = r.stands.plain; rules = rules ∙ r.stands.rules; last = subst (IsLast r.stretches) (sym last) r.stands.last };
             out = short_of_waiting first.out _ now'.text.written.given now'.text.written.waiting now'.text.written.failures
                 (short_at first.out (text_before form r.stretches) form (base_after r.stretches) r.events h.more (rendered now.text) h.at h.event (rendered now'.text).output r.text fault);
             told = r.stretches;
@@ -162,7 +162,7 @@ module _ (form : TextForm) (l : Rules) (xs : List ℕ) (first : Outputs) where
             (subst (λ (z : OpenFrame). AfterSkips xs d' s (stretch_given_up d [] r.events z e.1 ∷ r.stretches) [] []) f e.4)
 
         stands_over : StandsAt l xs d' s (y ∷ r.stretches) []
-        stands_over = record { after = goes_over; rules = anew.5 ∙ r.stands.rules; last = anew.3 ∙ k.at }
+        stands_over = record { after = goes_over; plain = (refl, r.stands.plain); rules = anew.5 ∙ r.stands.rules; last = anew.3 ∙ k.at }
 
         here : told d.base r.events ≡ told (base_after r.stretches) r.events
         here = ap (λ (n : ℕ). told n r.events) r.stands.after.base

@@ -278,7 +278,7 @@ module _ (form : TextForm) (l : Rules) (xs : List ℕ) (first : Outputs) (turns 
     reports = record {
       stretches = [];
       events = [];
-      stands = record { after = b.after; rules = b.rules; last = tt };
+      stands = record { after = b.after; plain = tt; rules = b.rules; last = tt };
       text = ap (λ (r : Reporting). rendered r.text) b.now;
       err = ap (λ (r : Reporting). r.err) b.now ∙ ap (λ g. output g first.err.failures) (sym (known_nothing first.err.given));
       passed = ap (λ (r : Reporting). r.passed) b.now;

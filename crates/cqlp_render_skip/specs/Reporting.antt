@@ -14,7 +14,7 @@ use Rattle.cqlp_skip.specs.Stretches.{Stretch, base_after, told}
 use Rattle.cqlp_text.specs.Outputs.{Output, output, StopsWithin, with_text}
 use Rattle.cqlp_render_skip.specs.declared.feeding.Handed.{Handed}
 use Rattle.cqlp_render_skip.specs.declared.feeding.Handed.TheVariants as handed
-use Rattle.cqlp_render_skip.specs.Texts.{IsLast, afresh, any, break_of, lines_before, skipped_line, text_before, text_with}
+use Rattle.cqlp_render_skip.specs.Texts.{AreGivenNothing, IsLast, afresh, any, break_of, lines_before, skipped_line, text_before, text_with}
 
 -- the output behind a buffer with the form of what comes next, the error output, and whether a frame was passed over
 pub record Reporting : Type 0 where
@@ -66,6 +66,7 @@ module _ (old : Reporting) (at : ℕ) (r : Refusal) where
 pub record StandsAt (l : Rules) (xs : List ℕ) (d : Skipping) (s : List ℕ) (stretches : List Stretch)
     (events : List (ℕ × Event)) : Type 0 where
   pub after : AfterSkips xs d s stretches [] events
+  pub plain : AreGivenNothing stretches
   pub rules : rules_in d ≡ l
   pub last : IsLast stretches d.last
 

@@ -53,6 +53,11 @@ lines_before [] = []
 lines_before (x ∷ earlier) =
     lines_before earlier ++ skipped_line (told_at x.from x.frame.at) (refusal_from x.from x.refusal)
 
+-- no table of types was given over these stretches
+abbrev pub AreGivenNothing : List Stretch → Type 0
+AreGivenNothing [] = Unit {0}
+AreGivenNothing (x ∷ earlier) = (x.gifts ≡ []) × AreGivenNothing earlier
+
 -- whether a frame was passed over
 
 abbrev pub any : List Stretch → Bool

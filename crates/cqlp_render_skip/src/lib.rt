@@ -2,6 +2,7 @@
 #![tactic(auto)]
 
 mod feeding;
+mod forming;
 mod reading;
 mod report;
 mod showing;

@@ -1,17 +1,16 @@
 //! What is written while a stream is read.
 
 ghost use Rattle.std.specs.Prelude.{◌≡◌, [], IsSome, true};
-ghost use Rattle.cqlp_grammar.specs.Events.{event_of};
-ghost use Rattle.cqlp_render.specs.Forms.{form_after, text_of};
 ghost use Rattle.cqlp_text.specs.Written.{Writes};
 ghost use Rattle.cqlp_render_skip.specs.Texts.{afresh, break_of};
 
+use crate::forming::{break_off, write_event};
 use crate::skipped_line::skipped_line;
 use cqlp_decode::{Event, Sink, SinkFault};
 use cqlp_note::Target;
 use cqlp_render::TextForm;
 use cqlp_skip::Skipped;
-use cqlp_text::{Buffered, PagePlace, Pen, TextWriter};
+use cqlp_text::{Buffered, TextWriter};
 use std::alloc::Allocator;
 use std::marker::Model;
 
@@ -129,38 +128,5 @@ impl<O: Target, E: Target, A: Allocator> Sink for Report<O, E, A> {
     #[inline]
     fn take(&mut self, at: u64, event: &Event<'_>) -> Result<(), SinkFault> {
         write_event(&mut self.form, at, event, &mut self.writer)
-    }
-}
-
-/// Takes the text of the event at an offset.
-#[inline]
-fn write_event<P: Pen>(
-    form: &mut TextForm,
-    at: u64,
-    event: &Event<'_>,
-    writer: &mut TextWriter<P>,
-) -> Result<(), SinkFault>
-    ensures text { Writes writer.old (text_of form.old at (event_of event.now)) result writer.new }
-    ensures form { form.new ≡ form_after form.old (event_of event.now) }
-{
-    match form {
-        TextForm::Lines => writer.put_event(at, event),
-        TextForm::Pages(place) => writer.put_page_part(place, event),
-        TextForm::Nothing => Ok(()),
-    }
-}
-
-/// Takes what ends the text of a stretch, and goes on with no page under way.
-fn break_off<P: Pen>(form: &mut TextForm, writer: &mut TextWriter<P>) -> Result<(), SinkFault>
-    ensures text { Writes writer.old (break_of form.old) result writer.new }
-    ensures form { form.new ≡ afresh form.old }
-{
-    match form {
-        TextForm::Lines => Ok(()),
-        TextForm::Pages(place) => {
-            *place = PagePlace::new();
-            writer.put(b"\n")
-        }
-        TextForm::Nothing => Ok(()),
     }
 }
