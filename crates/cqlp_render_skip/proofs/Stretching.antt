@@ -1,5 +1,5 @@
 -- One stretch after the other.
-use Rattle.std.proofs.Common.{◌≡◌, ℕ, ◌-◌, ◌+◌, ◌<◌, ◌≤◌, ◌^◌, true, List, [], ◌∷◌, ◌++◌, Option, Some, None, IsSome, Result, Ok, Err, refl, sym, ap, inl, inr, ◌∙◌, subst, append_assoc, append-nil, arith}
+use Rattle.std.proofs.Common.{◌≡◌, ℕ, ◌-◌, ◌+◌, ◌<◌, ◌≤◌, ◌^◌, true, List, [], ◌∷◌, ◌++◌, take, drop, Option, Some, None, IsSome, Result, Ok, Err, refl, sym, ap, inl, inr, ◌∙◌, subst, append_assoc, append-nil, arith}
 use Rattle.std.specs.Io.KnownBytes.{append_known}
 use Rattle.cqlp_note.specs.declared.refusal.Refusal.{Refusal}
 use Rattle.cqlp_note.specs.Limits.{Rules}
@@ -15,13 +15,16 @@ use Rattle.cqlp_skip.specs.declared.fed.Skipped.{Skipped}
 use Rattle.cqlp_skip.specs.declared.fed.NotSkippable.{NotSkippable}
 use Rattle.cqlp_skip.specs.declared.frame.OpenFrame.{OpenFrame}
 use Rattle.cqlp_skip.specs.Pieces.{refusal_from}
-use Rattle.cqlp_skip.specs.Skipping.{Skipping, AfterSkips, Hands, BeginsAnew, SkipsOn, rules_in, skip_by, skip_of, skip_to, stream, stretch_given_up}
+use Rattle.cqlp_skip.specs.declared.fed.Fed.{Fed}
+use Rattle.cqlp_skip.specs.declared.fed.Fed.TheVariants as fed
+use Rattle.cqlp_skip.specs.Skipping.{Skipping, AfterSkips, Feeds, Hands, BeginsAnew, SkipsOn, rules_in, skip_by, skip_of, skip_to, stream, stretch_given_up}
 use Rattle.cqlp_skip.specs.Skipping as skipping
 use Rattle.cqlp_skip.specs.Stretches.{Stretch, base_after, end_of, end_within, told, told_at}
 use Rattle.cqlp_skip.proofs.Skips.{end_there}
 use Rattle.cqlp_text.specs.Outputs.{Output, output, with_text, StopsWithin}
 use Rattle.cqlp_text.proofs.Writing.{known_then}
-use Rattle.cqlp_render_skip.specs.Reporting.{Reporting, Outputs, AreKnown, EndsStretch, FailsInErrors, FailsInOutput, Fails, Reports, SaysAll, StandsAt, ended, outputs}
+use Rattle.cqlp_render_skip.specs.declared.feeding.Handed.TheVariants as handed
+use Rattle.cqlp_render_skip.specs.Reporting.{HandsTo, Reporting, Outputs, AreKnown, EndsStretch, FailsInErrors, FailsInOutput, Fails, Reports, SaysAll, StandsAt, ended, outputs}
 use Rattle.cqlp_render_skip.specs.Texts.{IsLast, afresh, any, break_of, lines_before, skipped_line, text_before, text_with}
 use Rattle.cqlp_render_skip.proofs.Outgoing.{afresh_after, break_after, fold_told, short_at, short_of_waiting, short_then, shown, stops_short}
 
@@ -241,3 +244,28 @@ module _ (form : TextForm) (l : Rules) (xs : List ℕ) (first : Outputs) where
               short_then first.err (lines_before r.stretches) line now'.err (subst (λ (o : Output). FallsShort o line now'.err) r.err stops');
           any_passed = passed;
         })
+
+-- ---- a piece that was fed
+
+module _ (form : TextForm) (l : Rules) (xs : List ℕ) (first : Outputs) (d d' : Skipping) (s input later : List ℕ) (now now' : Reporting) (r : Reports form l xs first d s now) (is : xs ≡ (s ++ input) ++ later)
+    (rules : rules_in d' ≡ rules_in d) (last : d'.last ≡ d.last) (err : now'.err ≡ now.err) (passed : now'.passed ≡ now.passed) where
+  -- what it was fed to
+  abbrev pub Fed_to : Fed → Type 0
+  Fed_to x = Feeds with_event FallsShortAtEvent d d' input x (rendered now.text) (rendered now'.text)
+
+  pub fed_more : Fed_to fed.More → (stream d').refusal ≡ None → (start piece : List ℕ) → s ++ input ≡ start ++ piece → HandsTo form l xs first start piece handed.More d' now'
+  fed_more feeds free start piece all =
+      let h = feeds xs s r.stretches [] r.events later is r.stands.after in
+      let more = reports_more form l xs first d s now r d' (s ++ input) now' h.0 rules last err passed in
+      let says : Says l (start_with []) (drop d'.base (s ++ input)) more.events Waits = subst (λ (k : Rules). Says k (start_with []) (drop d'.base (s ++ input)) more.events Waits) more.stands.rules h.1 in
+      subst (λ (z : List ℕ). (q : Reports form l xs first d' z now') × SaysAll l d' z q.events × ((stream d').refusal ≡ None)) all (more, says, free)
+
+  pub fed_fault : (used : ℕ) → Fed_to (fed.Fault used) → Fails form l xs first now'.passed (outputs now')
+  fed_fault used feeds =
+      let h = feeds xs s r.stretches [] r.events later is r.stands.after in
+      fails_more form l xs first d s now r d' (s ++ take used input) now' h rules last err passed
+
+  pub fed_refused : (used : ℕ) (q : Refusal) → Fed_to (fed.Refused used q) → Reports form l xs first d' (s ++ take used input) now'
+  fed_refused used q feeds =
+      let h = feeds xs s r.stretches [] r.events later is r.stands.after in
+      reports_more form l xs first d s now r d' (s ++ take used input) now' h.0 rules last err passed

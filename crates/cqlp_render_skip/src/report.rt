@@ -38,7 +38,7 @@ impl<O: Target, E: Target, A: Allocator> Model for Report<O, E, A> {
 }
 
 impl<O: Target, E: Target, A: Allocator> Report<O, E, A> {
-    ghost use Rattle.std.specs.Prelude.{◌×◌, false};
+    ghost use Rattle.std.specs.Prelude.{false};
     ghost use Rattle.cqlp_text.specs.Outputs.{output, written};
     ghost use Rattle.cqlp_render_skip.specs.Reporting.{EndsStretch, GoOn, Reporting};
 
