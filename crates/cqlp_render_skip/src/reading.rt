@@ -12,7 +12,7 @@ ghost use Rattle.cqlp_text.specs.Outputs.{written};
 
 use crate::feeding::{Handed, hand_piece};
 use crate::report::Report;
-use cqlp_decode::{Finish, NewError};
+use cqlp_decode::{Finish, NewError, SinkFault};
 use cqlp_note::{IoFault, Limits, Source, Target};
 use cqlp_render::{TURNS, TextForm};
 use cqlp_skip::SkippingDecoder;
@@ -104,27 +104,27 @@ fn read_stream<R: Source, O: Target, E: Target, A: Allocator, B: Allocator>(
         → Reads form l xs first TURNS result.0 result.1.passed (unread R.Source input.old) (unread R.Source input.new)
         (outputs result.1) }
 {
-    let mut report = report;
+    let mut told = report;
     let mut buffer = [0; 4096];
     for turn in 0..TURNS {
         let count = match input.read(&mut buffer) {
             Ok(count) => count,
-            Err(IoFault) => return (Ending::ReadFault, report),
+            Err(IoFault) => return (Ending::ReadFault, told),
         };
         if count == 0 {
-            return (Ending::Finished(decoder.finish()), report);
+            return (Ending::Finished(decoder.finish()), told);
         }
-        let (handed, told) = hand_piece(decoder, &buffer[..count], report);
-        report = told;
+        let (handed, next) = hand_piece(decoder, &buffer[..count], told);
+        told = next;
         if let Handed::Fault = handed {
-            return (Ending::WriteFault, report);
+            return (Ending::WriteFault, told);
         }
-        let Ok(()) = report.flush() else {
-            return (Ending::WriteFault, report);
-        };
+        if let Err(SinkFault) = told.flush() {
+            return (Ending::WriteFault, told);
+        }
         if let Handed::Refused(refusal) = handed {
-            return (Ending::Finished(Finish::Refused(refusal)), report);
+            return (Ending::Finished(Finish::Refused(refusal)), told);
         }
     }
-    (Ending::TooManyTurns, report)
+    (Ending::TooManyTurns, told)
 }
