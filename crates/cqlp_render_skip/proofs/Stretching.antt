@@ -1,6 +1,6 @@
 -- One stretch after the other.
 use Rattle.std.proofs.Common.{◌≡◌, ℕ, ◌-◌, ◌+◌, ◌<◌, ◌≤◌, ◌^◌, true, List, [], ◌∷◌, ◌++◌, take, drop, Option, Some, None, IsSome, Result, Ok, Err, refl, sym, ap, inl, inr, ◌∙◌, subst, append_assoc, append-nil, arith}
-use Rattle.std.specs.Io.KnownBytes.{append_known}
+use Rattle.std.proofs.lemmas.List.{take-append-drop}
 use Rattle.cqlp_note.specs.declared.refusal.Refusal.{Refusal}
 use Rattle.cqlp_note.specs.Limits.{Rules}
 use Rattle.cqlp_decode.specs.Reading.{Event, Says, Waits, start_with}
@@ -8,23 +8,23 @@ use Rattle.cqlp_decode.specs.Draining.{fold_events}
 use Rattle.cqlp_grammar.specs.declared.sink.SinkFault.{SinkFault}
 use Rattle.cqlp_render.specs.declared.text_form.TextForm.{TextForm}
 use Rattle.cqlp_render.specs.Forms.{text, form_after_all}
-use Rattle.cqlp_render.specs.Rendering.{Rendering, FallsShort, FallsShortAtEvent, rendered, rendering, with_event}
+use Rattle.cqlp_render.specs.Rendering.{Rendering, FallsShort, FallsShortAtEvent, GoesOn, rendered, rendering, with_event}
 use Rattle.cqlp_render.proofs.Renders.{known_still, text-nil}
-use Rattle.cqlp_render.proofs.Buffering.{known_taken}
+use Rattle.cqlp_render.proofs.Buffering.{goes_same, goes_then, known_taken}
 use Rattle.cqlp_skip.specs.declared.fed.Skipped.{Skipped}
 use Rattle.cqlp_skip.specs.declared.fed.NotSkippable.{NotSkippable}
 use Rattle.cqlp_skip.specs.declared.frame.OpenFrame.{OpenFrame}
 use Rattle.cqlp_skip.specs.Pieces.{refusal_from}
 use Rattle.cqlp_skip.specs.declared.fed.Fed.{Fed}
 use Rattle.cqlp_skip.specs.declared.fed.Fed.TheVariants as fed
-use Rattle.cqlp_skip.specs.Skipping.{Skipping, AfterSkips, Feeds, Hands, BeginsAnew, SkipsOn, rules_in, skip_by, skip_of, skip_to, stream, stretch_given_up}
+use Rattle.cqlp_skip.specs.Skipping.{Skipping, AfterSkips, Feeds, Hands, BeginsAnew, RefusesBy, SkipsOn, rules_in, skip_by, skip_of, skip_to, stream, stretch_given_up}
 use Rattle.cqlp_skip.specs.Skipping as skipping
 use Rattle.cqlp_skip.specs.Stretches.{Stretch, base_after, end_of, end_within, told, told_at}
 use Rattle.cqlp_skip.proofs.Skips.{end_there}
 use Rattle.cqlp_text.specs.Outputs.{Output, output, with_text, StopsWithin}
 use Rattle.cqlp_text.proofs.Writing.{known_then}
 use Rattle.cqlp_render_skip.specs.declared.feeding.Handed.TheVariants as handed
-use Rattle.cqlp_render_skip.specs.Reporting.{HandsTo, Reporting, Outputs, AreKnown, EndsStretch, FailsInErrors, FailsInOutput, Fails, Reports, SaysAll, StandsAt, ended, outputs}
+use Rattle.cqlp_render_skip.specs.Reporting.{GoOn, HandsTo, Reporting, Outputs, AreKnown, EndsStretch, FailsInErrors, FailsInOutput, Fails, Reports, SaysAll, StandsAt, ended, outputs}
 use Rattle.cqlp_render_skip.specs.Texts.{IsLast, afresh, any, break_of, lines_before, skipped_line, text_before, text_with}
 use Rattle.cqlp_render_skip.proofs.Outgoing.{afresh_after, break_after, fold_told, short_at, short_of_waiting, short_then, shown, stops_short}
 
@@ -269,3 +269,25 @@ module _ (form : TextForm) (l : Rules) (xs : List ℕ) (first : Outputs) (d d' :
   fed_refused used q feeds =
       let h = feeds xs s r.stretches [] r.events later is r.stands.after in
       reports_more form l xs first d s now r d' (s ++ take used input) now' h.0 rules last err passed
+
+-- ---- pieces of a piece
+
+pub next_parts : (xs s piece front rest later : List ℕ) → piece ≡ front ++ rest → xs ≡ (s ++ piece) ++ later → xs ≡ ((s ++ front) ++ rest) ++ later
+next_parts xs s piece front rest later split is = is ∙ ap (λ (z : List ℕ). z ++ later) (ap (λ (z : List ℕ). s ++ z) split ∙ sym (append_assoc s front rest))
+
+pub whole_piece : (s piece front rest : List ℕ) → piece ≡ front ++ rest → (s ++ front) ++ rest ≡ s ++ piece
+whole_piece s piece front rest split = append_assoc s front rest ∙ ap (λ (z : List ℕ). s ++ z) (sym split)
+
+pub next_split : (piece front rest : List ℕ) (used : ℕ) → piece ≡ front ++ rest → piece ≡ (front ++ take used rest) ++ drop used rest
+next_split piece front rest used split = split ∙ ap (λ (z : List ℕ). front ++ z) (sym (take-append-drop used rest)) ∙ sym (append_assoc front (take used rest) (drop used rest))
+
+-- both outputs were given more
+pub kept_goes : (a b c : Reporting) → GoOn a b → GoesOn b.text.written.given c.text.written.given × (c.err ≡ b.err) × (c.passed ≡ b.passed) → GoOn a c
+kept_goes a b c goes keep = (goes_then _ _ _ goes.0 keep.0, goes_then _ _ _ goes.1 (goes_same _ _ (sym (ap (λ (o : Output). o.given) keep.1))))
+
+pub both_go : (a b c : Reporting) → GoOn a b → GoOn b c → GoOn a c
+both_go a b c p q = (goes_then _ _ _ p.0 q.0, goes_then _ _ _ p.1 q.1)
+
+pub refused_here : (form : TextForm) (l : Rules) (xs : List ℕ) (first : Outputs) (d d' : Skipping) (s start piece : List ℕ) (now : Reporting) (refusal : Refusal) (used : ℕ) (why : NotSkippable) (result : Result Skipped NotSkippable) → Reports form l xs first d s now → RefusesBy (fed.Refused used refusal) d → result ≡ skip_of d → result ≡ Err why → BeginsAnew (Err why) d d' → HandsTo form l xs first start piece (handed.Refused refusal) d' now
+refused_here form l xs first d d' s start piece now refusal used why result r by is bad same =
+    subst (λ (z : Skipping). HandsTo form l xs first start piece (handed.Refused refusal) z now) (sym same) (s, r, by.0, by.1, by.2, why, sym is ∙ bad)

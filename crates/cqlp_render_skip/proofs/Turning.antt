@@ -14,14 +14,15 @@ use Rattle.cqlp_decode.specs.Streams.{AfterBy, AfterGifts, EndsAs, FinishesBy, I
 use Rattle.cqlp_decode.proofs.Gets.{at_end, gives_end, gives_kept, gives_more, gives_none, idle_at_end, keeps_some, read_some}
 use Rattle.cqlp_render.specs.declared.text_form.TextForm.{TextForm}
 use Rattle.cqlp_render.specs.Forms.{text}
-use Rattle.cqlp_render.specs.Rendering.{GoesOn, rendered}
+use Rattle.cqlp_render.specs.Rendering.{FallsShort, rendered}
 use Rattle.cqlp_render.specs.Streams.{Input}
-use Rattle.cqlp_render.proofs.Renders.{known_nothing, text-nil}
-use Rattle.cqlp_render.proofs.Buffering.{breaks_short, goes_nowhere, goes_same, goes_then, still_rendered, writes_goes}
+use Rattle.cqlp_render.proofs.Renders.{known_nothing, known_still}
+use Rattle.cqlp_render.proofs.Buffering.{breaks_short, goes_nowhere, known_taken, goes_same, goes_then, still_rendered, writes_goes}
 use Rattle.std.proofs.lemmas.Bool.{cases_lt}
 use Rattle.std.specs.Prelude.{Bool}
 use Rattle.cqlp_skip.specs.Stretches.{Stretch}
 use Rattle.cqlp_skip.specs.Skipping.{Skipping, AfterSkips, FinishesAs, finish_from, rules_in, stream}
+use Rattle.cqlp_text.specs.declared.ending.Ending.{Ending}
 use Rattle.cqlp_text.specs.declared.ending.Ending.TheVariants as ending
 use Rattle.cqlp_text.specs.Outputs.{Output, output, with_text}
 use Rattle.cqlp_text.specs.Written.{BreaksOff, Receives}
@@ -29,7 +30,7 @@ use Rattle.cqlp_grammar.specs.declared.sink.SinkFault.{SinkFault}
 use Rattle.cqlp_render_skip.specs.declared.feeding.Handed.{Handed}
 use Rattle.cqlp_render_skip.specs.declared.feeding.Handed.TheVariants as handed
 use Rattle.cqlp_render_skip.specs.Reporting.{HandsTo, Reporting, Outputs, AreKnown, Fails, GoOn, IsRefusedForGood, Reports, SaysAll, StandsAt, outputs}
-use Rattle.cqlp_render_skip.specs.Showing.{Begins, FinishesIn, Reads, ReadsOnlyAfterText, Shows, ShowsAll}
+use Rattle.cqlp_render_skip.specs.Showing.{Begins, FinishesIn, ShowsTo, Reads, ReadsOnlyAfterText, Shows, ShowsAll}
 use Rattle.cqlp_render_skip.specs.Texts.{afresh, any, lines_before, text_with}
 use Rattle.cqlp_render_skip.proofs.Stretching.{fails_flushed, still_known, taken_is}
 
@@ -294,3 +295,33 @@ module _ (form : TextForm) (l : Rules) (xs : List ℕ) (first : Outputs) (turns 
     gives = gives_none xs was.left b.left;
     in_time = inl (refl, b.left);
   }
+
+-- ---- what is known of the outputs in the end
+
+known_with : (o new : Output) (x : List ℕ) → IsSome o.given → new ≡ with_text o x → IsSome new.given
+known_with o new x known is = subst (λ (z : Output). IsSome z.given) (sym is) (known_still o.given x known)
+
+known_short : (o new : Output) (x : List ℕ) → IsSome o.given → FallsShort o x new → IsSome new.given
+known_short o new x known s = known_taken new.given (s.lost ∷ s.later) (subst (λ (g : Option (List ℕ)). IsSome g) (sym s.front) (known_still o.given x known))
+
+module _ (form : TextForm) (l : Rules) (xs : List ℕ) (first : Outputs) (known : AreKnown first) (passed : Bool) (after : Outputs) (left : Option (List ℕ)) where
+  shows_known : Shows form l xs first passed after → AreKnown after
+  shows_known x = (known_with first.out after.out (text_with form x.stretches x.events) known.0 x.out, known_with first.err after.err (lines_before x.stretches) known.1 x.err)
+
+  finished_known : (f : Finish) → FinishesIn form l xs first f passed after left → AreKnown after
+  finished_known (finish.Whole n) x = shows_known x.0.0
+  finished_known (finish.Cut at n) x = shows_known x.0.0
+  finished_known (finish.Refused r) x = shows_known x.0
+
+  failed_known : Fails form l xs first passed after → AreKnown after
+  failed_known (inl x) = (known_short first.out after.out (text_with form x.stretches x.events) known.0 x.out, known_with first.err after.err (lines_before x.told) known.1 x.err)
+  failed_known (inr x) = (known_with first.out after.out (text_with form x.stretches []) known.0 x.out, known_short first.err after.err (lines_before x.stretches) known.1 x.err)
+
+  pub ends_known : (e : Ending) → ShowsTo form l xs first e passed after left → AreKnown after
+  ends_known (ending.Finished f) x = finished_known f x
+  ends_known ending.ReadFault x = shows_known x.0
+  ends_known ending.TooManyTurns x = shows_known x.0
+  ends_known ending.WriteFault x = failed_known x
+  ends_known ending.NoMemory x = subst AreKnown (sym x.1) known
+  ends_known ending.BadReply x = absurd x
+  ends_known ending.SocketFault x = absurd x

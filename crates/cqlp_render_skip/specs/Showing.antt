@@ -114,7 +114,7 @@ pub record Begins (form : TextForm) (l : Rules) (xs : List ℕ) (first : Outputs
 -- the line of the ending was written, and the status is its own, but that a frame was passed over; or the target failed
 abbrev pub ConcludesAfter : (passed : Bool) → Ending → (before : Output) → (status : ℕ) → (after : Output) → Type 0
 ConcludesAfter passed e before status after =
-    IsSome before.given → (own : ℕ) × Concludes e before own after × (status ≡ status_after passed own)
+    (own : ℕ) × Concludes e before own after × (status ≡ status_after passed own)
 
 abbrev pub outputs_of : Streams → Outputs
 outputs_of s = record { out = s.out; err = s.err }

@@ -1,6 +1,6 @@
 //! A whole stream, shown or checked, with frames passed over.
 
-ghost use Rattle.std.specs.Prelude.{◌≡◌, Ok};
+ghost use Rattle.std.specs.Prelude.{◌≡◌, IsSome, Ok};
 ghost use Rattle.cqlp_note.specs.Limits.{first_bad};
 ghost use Rattle.cqlp_render.specs.Streams.{streams};
 ghost use Rattle.cqlp_render.specs.declared.text_form.TextForm.TheVariants as forms;
@@ -93,8 +93,8 @@ pub fn check_skipping<R: Source, O: Target, E: Target, A: Allocator>(
 fn report<O: Target, E: Target>(shown: Shown<O, E>) -> (u8, O, E)
     ensures status { IsStatusOfTask result.0 }
     ensures out { written O.Target result.1 ≡ written O.Target shown.out }
-    ensures concludes { ConcludesAfter shown.passed_over shown.ending (written E.Target shown.err) result.0
-        (written E.Target result.2) }
+    ensures concludes { IsSome (written E.Target shown.err).given →
+        ConcludesAfter shown.passed_over shown.ending (written E.Target shown.err) result.0 (written E.Target result.2) }
 {
     let Shown {
         ending,
