@@ -97,7 +97,7 @@ module _ (form : TextForm) (l : Rules) (xs : List ℕ) (first : Outputs) where
 
     module _ (d' : Skipping) (s' : List ℕ) (now' : Reporting) where
       -- more events were handed out
-      pub reports_more : (h : Hands with_event xs d' s' r.stretches [] r.events (rendered now.text) (rendered now'.text)) → rules_in d' ≡ rules_in d → d'.last ≡ d.last → now'.err ≡ now.err → now'.passed ≡ now.passed → Reports form l xs first d' s' now'
+      abbrev pub reports_more : (h : Hands with_event xs d' s' r.stretches [] r.events (rendered now.text) (rendered now'.text)) → rules_in d' ≡ rules_in d → d'.last ≡ d.last → now'.err ≡ now.err → now'.passed ≡ now.passed → Reports form l xs first d' s' now'
       reports_more h rules last err passed =
           let base : d'.base ≡ base_after r.stretches = h.stands.base in
           let b = base_after r.stretches in
@@ -290,4 +290,4 @@ both_go a b c p q = (goes_then _ _ _ p.0 q.0, goes_then _ _ _ p.1 q.1)
 
 pub refused_here : (form : TextForm) (l : Rules) (xs : List ℕ) (first : Outputs) (d d' : Skipping) (s start piece : List ℕ) (now : Reporting) (refusal : Refusal) (used : ℕ) (why : NotSkippable) (result : Result Skipped NotSkippable) → Reports form l xs first d s now → RefusesBy (fed.Refused used refusal) d → result ≡ skip_of d → result ≡ Err why → BeginsAnew (Err why) d d' → HandsTo form l xs first start piece (handed.Refused refusal) d' now
 refused_here form l xs first d d' s start piece now refusal used why result r by is bad same =
-    subst (λ (z : Skipping). HandsTo form l xs first start piece (handed.Refused refusal) z now) (sym same) (s, r, by.0, by.1, by.2, why, sym is ∙ bad)
+    subst (λ (z : Skipping). HandsTo form l xs first start piece (handed.Refused refusal) z now) (sym same) (s, r, (by.0, by.1, by.2, why, sym is ∙ bad))

@@ -42,7 +42,7 @@ counts_one reads n f f' c is = λ fits. let a = c (omega arith) in omega (arith,
 pub passed_on : (r : Reporting) → r.text.written.waiting ≡ [] → (outputs r).out ≡ (rendered r.text).output
 passed_on r none = ap (λ g. output g r.text.written.failures) (sym (ap (append_known r.text.written.given) none ∙ known_nothing r.text.written.given))
 
-pub shows_by : (form : TextForm) (l : Rules) (xs : List ℕ) (first : Outputs) (d : Skipping) (s : List ℕ) (now : Reporting) (r : Reports form l xs first d s now) → now.text.written.waiting ≡ [] → Shows form l xs first now.passed (outputs now)
+abbrev pub shows_by : (form : TextForm) (l : Rules) (xs : List ℕ) (first : Outputs) (d : Skipping) (s : List ℕ) (now : Reporting) (r : Reports form l xs first d s now) → now.text.written.waiting ≡ [] → Shows form l xs first now.passed (outputs now)
 shows_by form l xs first d s now r none = record {
   d = d;
   s = s;
@@ -125,7 +125,7 @@ module _ (form : TextForm) (l : Rules) (xs : List ℕ) (first : Outputs) (turns 
 
   module _ (turn : ℕ) (now : Input) (d : Skipping) (report : Reporting) (t : Turned turn now d report) where
     -- what was written, where all was passed on
-    pub shows_of : Shows form l xs first report.passed (outputs report)
+    abbrev pub shows_of : Shows form l xs first report.passed (outputs report)
     shows_of = shows_by form l xs first d t.bytes report t.reports t.empty
 
     -- the last read
@@ -210,8 +210,8 @@ module _ (form : TextForm) (l : Rules) (xs : List ℕ) (first : Outputs) (turns 
         piece_parts : (left : List ℕ) → t.rest ≡ take n buffer ++ left → xs ≡ (t.bytes ++ take n buffer) ++ left
         piece_parts left is = t.parts ∙ ap (λ (z : List ℕ). t.bytes ++ z) is ∙ sym (append_assoc t.bytes (take n buffer) left)
 
-        pub handed : (x : Handed) → ((later : List ℕ) → xs ≡ (t.bytes ++ take n buffer) ++ later → HandsTo form l xs first t.bytes (take n buffer) x d' report') → HandsTo form l xs first t.bytes (take n buffer) x d' report'
-        handed x hands =
+        pub led_to : (x : Handed) → ((later : List ℕ) → xs ≡ (t.bytes ++ take n buffer) ++ later → HandsTo form l xs first t.bytes (take n buffer) x d' report') → HandsTo form l xs first t.bytes (take n buffer) x d' report'
+        led_to x hands =
             let r = read_some now.left now'.left t.rest buffer n t.left came.0 came.1 in
             hands r.0 (piece_parts r.0 r.2)
 
@@ -272,7 +272,7 @@ module _ (form : TextForm) (l : Rules) (xs : List ℕ) (first : Outputs) (turns 
   -- nothing was read yet
   pub begins : (d : Skipping) (report : Reporting) → Begins form l xs first was.left d report → Turned 0 was d report
   begins d report b = record {
-    fresh = b.form;
+    fresh = b.fresh;
     known = b.known;
     here = b.left;
     bytes = [];

@@ -97,7 +97,7 @@ module _ (form : TextForm) (l : Rules) (xs : List ℕ) (before : Outputs) where
 -- Nothing of the stream xs was read, and nothing written.
 pub record Begins (form : TextForm) (l : Rules) (xs : List ℕ) (first : Outputs) (left : Option (List ℕ)) (d : Skipping)
     (now : Reporting) : Type 0 where
-  pub form : afresh form ≡ form
+  pub fresh : afresh form ≡ form
   pub known : AreKnown first
   pub left : left ≡ Some xs
   pub after : AfterSkips xs d [] [] [] []
