@@ -25,7 +25,7 @@ use Rattle.cqlp_skip.specs.Skipping.{Skipping, AfterSkips, FinishesAs, finish_fr
 use Rattle.cqlp_text.specs.declared.ending.Ending.{Ending}
 use Rattle.cqlp_text.specs.declared.ending.Ending.TheVariants as ending
 use Rattle.cqlp_text.specs.Outputs.{Output, output, with_text}
-use Rattle.cqlp_text.specs.Written.{BreaksOff, Receives}
+use Rattle.cqlp_text.specs.Written.{BreaksOff, Receives, Writes}
 use Rattle.cqlp_grammar.specs.declared.sink.SinkFault.{SinkFault}
 use Rattle.cqlp_render_skip.specs.declared.feeding.Handed.{Handed}
 use Rattle.cqlp_render_skip.specs.declared.feeding.Handed.TheVariants as handed
@@ -55,7 +55,7 @@ shows_by form l xs first d s now r none = record {
 }
 
 -- all that waited was passed on, and nothing else changed
-pub reports_flushed : (form : TextForm) (l : Rules) (xs : List ℕ) (first : Outputs) (d : Skipping) (s : List ℕ) (now now' : Reporting) → AreKnown first → (r : Reports form l xs first d s now) → Receives now.text.written [] now'.text.written → now'.text.form ≡ now.text.form → now'.err ≡ now.err → now'.passed ≡ now.passed → Reports form l xs first d s now'
+abbrev pub reports_flushed : (form : TextForm) (l : Rules) (xs : List ℕ) (first : Outputs) (d : Skipping) (s : List ℕ) (now now' : Reporting) → AreKnown first → (r : Reports form l xs first d s now) → Receives now.text.written [] now'.text.written → now'.text.form ≡ now.text.form → now'.err ≡ now.err → now'.passed ≡ now.passed → Reports form l xs first d s now'
 reports_flushed form l xs first d s now now' known r receives same err passed = record {
   stretches = r.stretches;
   events = r.events;
@@ -228,7 +228,7 @@ module _ (form : TextForm) (l : Rules) (xs : List ℕ) (first : Outputs) (turns 
             write_fault (fails_flushed form l xs first d' r.0 report' r.1 d' r.0 report'' (breaks_short report'.text.written report''.text.written [] breaks known) err passed)
 
         module _ (takes : Receives report'.text.written [] report''.text.written) (empty : report''.text.written.waiting ≡ []) (same_form : report''.text.form ≡ report'.text.form) (err : report''.err ≡ report'.err) (passed : report''.passed ≡ report'.passed) where
-          flushed : (s : List ℕ) → Reports form l xs first d' s report' → Reports form l xs first d' s report''
+          abbrev flushed : (s : List ℕ) → Reports form l xs first d' s report' → Reports form l xs first d' s report''
           flushed s r = reports_flushed form l xs first d' s report' report'' t.known r takes same_form err passed
 
           pub refused_for_good : (q : Refusal) → HandsTo form l xs first t.bytes (take n buffer) (handed.Refused q) d' report' → Reads form l xs first turns (ending.Finished (finish.Refused q)) report''.passed was now' (outputs report'')
@@ -274,26 +274,26 @@ module _ (form : TextForm) (l : Rules) (xs : List ℕ) (first : Outputs) (turns 
   begins d report b = record {
     fresh = b.fresh;
     known = b.known;
-    here = b.left;
+    here = b.here;
     bytes = [];
     reports = record {
       stretches = [];
       events = [];
       stands = record { after = b.after; plain = tt; rules = b.rules; last = tt };
-      text = ap (λ (r : Reporting). rendered r.text) b.now;
-      err = ap (λ (r : Reporting). r.err) b.now ∙ ap (λ g. output g first.err.failures) (sym (known_nothing first.err.given));
-      passed = ap (λ (r : Reporting). r.passed) b.now;
+      text = ap (λ (r : Reporting). rendered r.text) b.begun;
+      err = ap (λ (r : Reporting). r.err) b.begun ∙ ap (λ g. output g first.err.failures) (sym (known_nothing first.err.given));
+      passed = ap (λ (r : Reporting). r.passed) b.begun;
     };
     says = subst (λ (k : ℕ). Says l (start_with []) (drop k []) [] Waits) (sym b.after.base) (start_with [], [], (refl, refl), tt);
     free = b.unrefused;
     rest = xs;
     parts = refl;
-    left = b.left;
-    empty = ap (λ (r : Reporting). r.text.written.waiting) b.now;
+    left = b.here;
+    empty = ap (λ (r : Reporting). r.text.written.waiting) b.begun;
     failures = refl;
-    counted = λ fits. refl;
-    gives = gives_none xs was.left b.left;
-    in_time = inl (refl, b.left);
+    counted = λ fits. omega arith;
+    gives = gives_none xs was.left b.here;
+    in_time = inl (refl, b.here);
   }
 
 -- ---- what is known of the outputs in the end
@@ -325,3 +325,13 @@ module _ (form : TextForm) (l : Rules) (xs : List ℕ) (first : Outputs) (known 
   ends_known ending.NoMemory x = subst AreKnown (sym x.1) known
   ends_known ending.BadReply x = absurd x
   ends_known ending.SocketFault x = absurd x
+
+-- a piece that neither failed nor was refused
+pub is_more : (x : Handed) → x ≢ handed.Fault → ((r : Refusal) → x ≡ handed.Refused r → ⊥) → x ≡ handed.More
+is_more handed.More sound free = refl
+is_more (handed.Refused r) sound free = absurd (free r refl)
+is_more handed.Fault sound free = absurd (sound refl)
+
+-- what a flush gives
+pub flush_goes : (a b : Reporting) (x : List ℕ) (r : Result (Unit {0}) SinkFault) → Writes a.text.written x r b.text.written → b.err ≡ a.err → GoOn a b
+flush_goes a b x r writes err = (writes_goes a.text.written b.text.written x r writes, goes_same a.err.given b.err.given (sym (ap (λ (o : Output). o.given) err)))

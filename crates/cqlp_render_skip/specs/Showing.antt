@@ -99,11 +99,11 @@ pub record Begins (form : TextForm) (l : Rules) (xs : List ℕ) (first : Outputs
     (now : Reporting) : Type 0 where
   pub fresh : afresh form ≡ form
   pub known : AreKnown first
-  pub left : left ≡ Some xs
+  pub here : left ≡ Some xs
   pub after : AfterSkips xs d [] [] [] []
   pub unrefused : (stream d).refusal ≡ None
   pub rules : rules_in d ≡ l
-  pub now : now ≡ record {
+  pub begun : now ≡ record {
     text = record { written = bare first.out.given first.out.failures; form = form };
     err = first.err;
     passed = false;
