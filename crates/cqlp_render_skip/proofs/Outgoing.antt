@@ -1,5 +1,5 @@
 -- Texts one after the other.
-use Rattle.std.proofs.Common.{◌≡◌, ℕ, List, [], ◌∷◌, ◌++◌, Option, Some, None, IsSome, refl, sym, ap, ◌∙◌, subst, append_assoc, append-nil}
+use Rattle.std.proofs.Common.{◌≡◌, ℕ, List, [], ◌∷◌, ◌++◌, Option, refl, sym, ap, ◌∙◌, subst, append_assoc}
 use Rattle.std.specs.Io.KnownBytes.{append_known}
 use Rattle.cqlp_decode.specs.Reading.{Event}
 use Rattle.cqlp_decode.specs.Cells.{Item, GetsAll}
@@ -92,8 +92,8 @@ module _ (o : Output) (a : List ℕ) (form : TextForm) where
         let there : FallsShort (with_text o (a ++ text form both)) (text_of (form_after_all form both) (told_at base at) e) new = subst (λ (v : Rendering). FallsShort v.output (text_of v.form (told_at base at) e) new) here short in
         let all : told base (es ++ more ++ (at, e) ∷ []) ≡ both ++ (told_at base at, e) ∷ [] = told-append base (es ++ more) ((at, e) ∷ []) in
         let whole : (a ++ text form both) ++ text_of (form_after_all form both) (told_at base at) e ≡ a ++ text form (told base (es ++ more ++ (at, e) ∷ [])) =
-            append_assoc a (text form both) (text_of (form_after_all form both) (told_at base at) e)
-            ∙ ap (λ (z : List ℕ). a ++ z) (sym (text-last form both (told_at base at) e) ∙ ap (text form) (sym all)) in
+        append_assoc a (text form both) (text_of (form_after_all form both) (told_at base at) e)
+        ∙ ap (λ (z : List ℕ). a ++ z) (sym (text-last form both (told_at base at) e) ∙ ap (text form) (sym all)) in
         subst (λ (z : List ℕ). FallsShort o z new) whole (short_then o (a ++ text form both) (text_of (form_after_all form both) (told_at base at) e) new there)
 
 -- ---- what a report keeps

@@ -1,5 +1,5 @@
 -- One stretch after the other.
-use Rattle.std.proofs.Common.{◌≡◌, ℕ, ◌-◌, ◌+◌, ◌<◌, ◌≤◌, ◌^◌, true, List, [], ◌∷◌, ◌++◌, take, drop, Option, Some, None, IsSome, Result, Ok, Err, refl, sym, ap, inl, inr, ◌∙◌, subst, append_assoc, append-nil, arith}
+use Rattle.std.proofs.Common.{◌≡◌, ℕ, ◌-◌, ◌+◌, ◌<◌, ◌^◌, true, List, [], ◌∷◌, ◌++◌, take, drop, Option, Some, None, IsSome, Result, Ok, Err, refl, sym, ap, inl, inr, ◌∙◌, subst, append_assoc, append-nil, arith}
 use Rattle.std.proofs.lemmas.List.{take-append-drop}
 use Rattle.cqlp_note.specs.declared.refusal.Refusal.{Refusal}
 use Rattle.cqlp_note.specs.Limits.{Rules}
@@ -19,13 +19,13 @@ use Rattle.cqlp_skip.specs.declared.fed.Fed.{Fed}
 use Rattle.cqlp_skip.specs.declared.fed.Fed.TheVariants as fed
 use Rattle.cqlp_skip.specs.Skipping.{Skipping, AfterSkips, Feeds, Hands, BeginsAnew, RefusesBy, SkipsOn, rules_in, skip_by, skip_of, skip_to, stream, stretch_given_up}
 use Rattle.cqlp_skip.specs.Skipping as skipping
-use Rattle.cqlp_skip.specs.Stretches.{Stretch, base_after, end_of, end_within, told, told_at}
+use Rattle.cqlp_skip.specs.Stretches.{Stretch, base_after, end_within, told, told_at}
 use Rattle.cqlp_skip.proofs.Skips.{end_there}
-use Rattle.cqlp_text.specs.Outputs.{Output, output, with_text, StopsWithin}
+use Rattle.cqlp_text.specs.Outputs.{Output, output, with_text}
 use Rattle.cqlp_text.proofs.Writing.{known_then}
 use Rattle.cqlp_render_skip.specs.declared.feeding.Handed.TheVariants as handed
-use Rattle.cqlp_render_skip.specs.Reporting.{GoOn, HandsTo, Reporting, Outputs, AreKnown, EndsStretch, FailsInErrors, FailsInOutput, Fails, Reports, SaysAll, StandsAt, ended, outputs}
-use Rattle.cqlp_render_skip.specs.Texts.{IsLast, afresh, any, break_of, lines_before, skipped_line, text_before, text_with}
+use Rattle.cqlp_render_skip.specs.Reporting.{GoOn, HandsTo, Reporting, Outputs, AreKnown, EndsStretch, Fails, Reports, SaysAll, StandsAt, ended, outputs}
+use Rattle.cqlp_render_skip.specs.Texts.{IsLast, afresh, break_of, lines_before, skipped_line, text_before, text_with}
 use Rattle.cqlp_render_skip.proofs.Outgoing.{afresh_after, break_after, fold_told, short_at, short_of_waiting, short_then, shown, stops_short}
 
 -- ---- a skip

@@ -1,5 +1,5 @@
 -- One read after the other.
-use Rattle.std.proofs.Common.{◌≡◌, ◌≢◌, ℕ, ◌+◌, ◌-◌, ◌<◌, ◌≤◌, ◌^◌, true, false, List, [], ◌∷◌, ◌++◌, length, take, drop, min, Option, Some, None, IsSome, Result, Ok, Err, refl, sym, ap, inl, inr, ◌∙◌, subst, append_assoc, append-nil, arith}
+use Rattle.std.proofs.Common.{◌≡◌, ◌≢◌, ℕ, ◌+◌, ◌<◌, ◌≤◌, true, false, List, [], ◌∷◌, ◌++◌, length, take, drop, Option, Some, None, IsSome, Result, refl, sym, ap, inl, inr, ◌∙◌, subst, append_assoc, arith}
 use Rattle.std.specs.Io.KnownBytes.{Consumes, IsAtEnd, Keeps, append_known}
 use Rattle.cqlp_note.specs.Limits.{Rules}
 use Rattle.cqlp_note.specs.Streams.{counted, CountsUp}
@@ -8,12 +8,11 @@ use Rattle.cqlp_grammar.specs.declared.event.Finish.{Finish}
 use Rattle.cqlp_grammar.specs.declared.event.Finish.TheVariants as finish
 use Rattle.cqlp_decode.specs.declared.running.Outcome.{Outcome}
 use Rattle.cqlp_decode.specs.declared.running.Outcome.TheVariants as outcome
-use Rattle.cqlp_decode.specs.Reading.{Event, Says, Waits, Refused, start_with}
+use Rattle.cqlp_decode.specs.Reading.{Event, Says, Waits, start_with}
 use Rattle.cqlp_decode.specs.Draining.{InReads, MakesReads, idle_reads}
-use Rattle.cqlp_decode.specs.Streams.{AfterBy, AfterGifts, EndsAs, FinishesBy, IsUnrefused}
+use Rattle.cqlp_decode.specs.Streams.{FinishesBy, IsUnrefused}
 use Rattle.cqlp_decode.proofs.Gets.{at_end, gives_end, gives_kept, gives_more, gives_none, idle_at_end, keeps_some, read_some}
 use Rattle.cqlp_render.specs.declared.text_form.TextForm.{TextForm}
-use Rattle.cqlp_render.specs.Forms.{text}
 use Rattle.cqlp_render.specs.Rendering.{FallsShort, rendered}
 use Rattle.cqlp_render.specs.Streams.{Input}
 use Rattle.cqlp_render.proofs.Renders.{known_nothing, known_still}
@@ -21,17 +20,17 @@ use Rattle.cqlp_render.proofs.Buffering.{breaks_short, goes_nowhere, known_taken
 use Rattle.std.proofs.lemmas.Bool.{cases_lt}
 use Rattle.std.specs.Prelude.{Bool}
 use Rattle.cqlp_skip.specs.Stretches.{Stretch}
-use Rattle.cqlp_skip.specs.Skipping.{Skipping, AfterSkips, FinishesAs, finish_from, rules_in, stream}
+use Rattle.cqlp_skip.specs.Skipping.{Skipping, AfterSkips, FinishesAs, finish_from, stream}
 use Rattle.cqlp_text.specs.declared.ending.Ending.{Ending}
 use Rattle.cqlp_text.specs.declared.ending.Ending.TheVariants as ending
 use Rattle.cqlp_text.specs.Outputs.{Output, output, with_text}
-use Rattle.cqlp_text.specs.Written.{BreaksOff, Receives, Writes}
+use Rattle.cqlp_text.specs.Written.{BreaksOff, Receives, Writes, Written}
 use Rattle.cqlp_grammar.specs.declared.sink.SinkFault.{SinkFault}
 use Rattle.cqlp_render_skip.specs.declared.feeding.Handed.{Handed}
 use Rattle.cqlp_render_skip.specs.declared.feeding.Handed.TheVariants as handed
-use Rattle.cqlp_render_skip.specs.Reporting.{HandsTo, Reporting, Outputs, AreKnown, Fails, GoOn, IsRefusedForGood, Reports, SaysAll, StandsAt, outputs}
+use Rattle.cqlp_render_skip.specs.Reporting.{HandsTo, Reporting, Outputs, AreKnown, Fails, GoOn, Reports, SaysAll, outputs}
 use Rattle.cqlp_render_skip.specs.Showing.{Begins, FinishesIn, ShowsTo, Reads, ReadsOnlyAfterText, Shows, ShowsAll}
-use Rattle.cqlp_render_skip.specs.Texts.{afresh, any, lines_before, text_with}
+use Rattle.cqlp_render_skip.specs.Texts.{afresh, lines_before, text_with}
 use Rattle.cqlp_render_skip.proofs.Stretching.{fails_flushed, still_known, taken_is}
 
 -- so many reads, and one more
@@ -335,3 +334,7 @@ is_more handed.Fault sound free = absurd (sound refl)
 -- what a flush gives
 pub flush_goes : (a b : Reporting) (x : List ℕ) (r : Result (Unit {0}) SinkFault) → Writes a.text.written x r b.text.written → b.err ≡ a.err → GoOn a b
 flush_goes a b x r writes err = (writes_goes a.text.written b.text.written x r writes, goes_same a.err.given b.err.given (sym (ap (λ (o : Output). o.given) err)))
+
+-- a report over a buffer, before anything was written
+abbrev pub begun_with : Written → TextForm → Output → Reporting
+begun_with w form err = record { text = record { written = w; form = form }; err = err; passed = false }

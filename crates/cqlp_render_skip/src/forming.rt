@@ -29,7 +29,10 @@ pub(crate) fn write_event<P: Pen>(
 }
 
 /// Takes what ends the text of a stretch, and goes on with no page under way.
-pub(crate) fn break_off<P: Pen>(form: &mut TextForm, writer: &mut TextWriter<P>) -> Result<(), SinkFault>
+pub(crate) fn break_off<P: Pen>(
+    form: &mut TextForm,
+    writer: &mut TextWriter<P>,
+) -> Result<(), SinkFault>
     ensures text { Writes writer.old (break_of form.old) result writer.new }
     ensures form { form.new ≡ afresh form.old }
 {

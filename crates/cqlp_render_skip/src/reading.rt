@@ -77,10 +77,7 @@ fn nothing_shown<O: Target, E: Target>(out: O, err: E) -> Shown<O, E>
 }
 
 /// A decoder at the start of a stream, within these limits; none where memory was wanting.
-fn decoder_within<'a, A: Allocator>(
-    alloc: &'a A,
-    limits: Limits,
-) -> Option<SkippingDecoder<&'a A>>
+fn decoder_within<'a, A: Allocator>(alloc: &'a A, limits: Limits) -> Option<SkippingDecoder<&'a A>>
     requires { first_bad limits ≡ Ok tt }
     ensures fresh { (xs : List ℕ) → IfSome result (λ d. AfterSkips xs d [] [] [] []) }
     ensures unrefused { IfSome result (λ d. (stream d).refusal ≡ None) }

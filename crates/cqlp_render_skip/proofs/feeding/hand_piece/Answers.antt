@@ -1,9 +1,8 @@
-use Rattle.std.proofs.Common.{◌≡◌, ◌<◌, ◌++◌, List, ℕ, [], Ok, Err, refl, sym, ap, ◌∙◌, subst, append-nil, append_assoc, take, drop, arith}
+use Rattle.std.proofs.Common.{◌++◌, List, ℕ, [], Ok, refl, sym, subst, append-nil, append_assoc, take, arith}
 use Rattle.cqlp_decode.proofs.Gets.{rest_is}
 use Rattle.cqlp_render.proofs.Buffering.{goes_nowhere}
-use Rattle.cqlp_skip.specs.declared.fed.Fed.TheVariants as fed
-use Rattle.cqlp_skip.specs.Skipping.{BeginsAnew, RefusesBy, SkipsOn, skip_of}
-use Rattle.cqlp_render_skip.specs.Reporting.{Reporting, Reports}
+use Rattle.cqlp_skip.specs.Skipping.{BeginsAnew, SkipsOn}
+use Rattle.cqlp_render_skip.specs.Reporting.{Reports}
 use Rattle.cqlp_render_skip.proofs.Outgoing.{passes_keep}
 use Rattle.cqlp_render_skip.proofs.Stretching.{begins_later, both_go, fails_over, fed_fault, fed_more, fed_refused, kept_goes, next_parts, next_split, refused_here, reports_over, skips, still_known, whole_piece}
 use Rattle.cqlp_render_skip.proofs.feeding.hand_piece.Goals as goal
@@ -48,7 +47,7 @@ returns-in-Err-clause-hands g c = λ form k xs s later first fresh known is r.
     let keep = passes_keep c.stretches.told c.feed-fed.result.1 c.feed-fed.ensures.also in
     let feeds = c.feed-fed.ensures.feeds (still_known form k xs first c.stretches.decoder (s ++ inv.0) c.stretches.told r0 known).0 in
     let r1 = fed_refused form k xs first c.stretches.decoder c.feed-fed.new.self (s ++ inv.0) c.stretches.rest.now later c.stretches.told c.feed-fed.result.1 r0 (next_parts xs s c.args.piece.now inv.0 c.stretches.rest.now later inv.1 is)
-        c.feed-fed.ensures.rules c.feed-fed.ensures.place.1 keep.1 keep.2 c.in-Refused.used c.in-Refused.refusal (rw c.in-Refused.is at feeds) in
+    c.feed-fed.ensures.rules c.feed-fed.ensures.place.1 keep.1 keep.2 c.in-Refused.used c.in-Refused.refusal (rw c.in-Refused.is at feeds) in
     refused_here form k xs first c.feed-fed.new.self c.skip.new.self ((s ++ inv.0) ++ take c.in-Refused.used c.stretches.rest.now) s c.args.piece.now c.feed-fed.result.1 c.in-Refused.refusal c.in-Refused.used c.in-Err.field-0 c.skip.result r1
     (rw c.in-Refused.is at c.feed-fed.ensures.refusal) c.skip.ensures.is c.in-Err.is (rw c.in-Err.is at c.skip.ensures.anew)
 
@@ -63,7 +62,7 @@ returns-in-Err-end_stretch-clause-hands g c = λ form k xs s later first fresh k
     let keep = passes_keep c.stretches.told c.feed-fed.result.1 c.feed-fed.ensures.also in
     let feeds = c.feed-fed.ensures.feeds (still_known form k xs first c.stretches.decoder (s ++ inv.0) c.stretches.told r0 known).0 in
     let r1 = fed_refused form k xs first c.stretches.decoder c.feed-fed.new.self (s ++ inv.0) c.stretches.rest.now later c.stretches.told c.feed-fed.result.1 r0 (next_parts xs s c.args.piece.now inv.0 c.stretches.rest.now later inv.1 is)
-        c.feed-fed.ensures.rules c.feed-fed.ensures.place.1 keep.1 keep.2 c.in-Refused.used c.in-Refused.refusal (rw c.in-Refused.is at feeds) in
+    c.feed-fed.ensures.rules c.feed-fed.ensures.place.1 keep.1 keep.2 c.in-Refused.used c.in-Refused.refusal (rw c.in-Refused.is at feeds) in
     let s1 = (s ++ inv.0) ++ take c.in-Refused.used c.stretches.rest.now in
     let d1 = c.feed-fed.new.self in
     let known1 = still_known form k xs first d1 s1 c.feed-fed.result.1 r1 known in
@@ -91,20 +90,20 @@ stretches-preserved g c = record {
     c.stretches.invariant.told.0 ++ take c.in-Refused.used c.stretches.rest.now,
     rw rest_is (next_split c.args.piece.now c.stretches.invariant.told.0 c.stretches.rest.now c.in-Refused.used c.stretches.invariant.told.1),
     λ form k xs s later first fresh known is r.
-    let inv = c.stretches.invariant.told in
-    let r0 = inv.2 form k xs s later first fresh known is r in
-    let keep = passes_keep c.stretches.told c.feed-fed.result.1 c.feed-fed.ensures.also in
-    let feeds = c.feed-fed.ensures.feeds (still_known form k xs first c.stretches.decoder (s ++ inv.0) c.stretches.told r0 known).0 in
-    let r1 = fed_refused form k xs first c.stretches.decoder c.feed-fed.new.self (s ++ inv.0) c.stretches.rest.now later c.stretches.told c.feed-fed.result.1 r0 (next_parts xs s c.args.piece.now inv.0 c.stretches.rest.now later inv.1 is)
+        let inv = c.stretches.invariant.told in
+        let r0 = inv.2 form k xs s later first fresh known is r in
+        let keep = passes_keep c.stretches.told c.feed-fed.result.1 c.feed-fed.ensures.also in
+        let feeds = c.feed-fed.ensures.feeds (still_known form k xs first c.stretches.decoder (s ++ inv.0) c.stretches.told r0 known).0 in
+        let r1 = fed_refused form k xs first c.stretches.decoder c.feed-fed.new.self (s ++ inv.0) c.stretches.rest.now later c.stretches.told c.feed-fed.result.1 r0 (next_parts xs s c.args.piece.now inv.0 c.stretches.rest.now later inv.1 is)
         c.feed-fed.ensures.rules c.feed-fed.ensures.place.1 keep.1 keep.2 c.in-Refused.used c.in-Refused.refusal (rw c.in-Refused.is at feeds) in
-    let s1 = (s ++ inv.0) ++ take c.in-Refused.used c.stretches.rest.now in
-    let d1 = c.feed-fed.new.self in
-    let known1 = still_known form k xs first d1 s1 c.feed-fed.result.1 r1 known in
-    let x = c.in-Ok.skipped in
-    let skip = skips d1 x c.skip.result c.skip.ensures.is c.in-Ok.is in
-    let on : SkipsOn (Ok x) d1 c.skip.new.self = rw c.in-Ok.is at c.skip.ensures.goes_on in
-    let anew : BeginsAnew (Ok x) d1 c.skip.new.self = rw c.in-Ok.is at c.skip.ensures.anew in
-    subst (λ (z : List ℕ). Reports form k xs first c.skip.new.self z c.end_stretch.new.self) (append_assoc s inv.0 (take c.in-Refused.used c.stretches.rest.now))
-    (reports_over form k xs first d1 s1 c.feed-fed.result.1 r1 c.skip.new.self s1 c.end_stretch.new.self x skip on anew fresh c.end_stretch.ensures.passed (c.in_default.ensures.ends known1.0 known1.1)),
+        let s1 = (s ++ inv.0) ++ take c.in-Refused.used c.stretches.rest.now in
+        let d1 = c.feed-fed.new.self in
+        let known1 = still_known form k xs first d1 s1 c.feed-fed.result.1 r1 known in
+        let x = c.in-Ok.skipped in
+        let skip = skips d1 x c.skip.result c.skip.ensures.is c.in-Ok.is in
+        let on : SkipsOn (Ok x) d1 c.skip.new.self = rw c.in-Ok.is at c.skip.ensures.goes_on in
+        let anew : BeginsAnew (Ok x) d1 c.skip.new.self = rw c.in-Ok.is at c.skip.ensures.anew in
+        subst (λ (z : List ℕ). Reports form k xs first c.skip.new.self z c.end_stretch.new.self) (append_assoc s inv.0 (take c.in-Refused.used c.stretches.rest.now))
+        (reports_over form k xs first d1 s1 c.feed-fed.result.1 r1 c.skip.new.self s1 c.end_stretch.new.self x skip on anew fresh c.end_stretch.ensures.passed (c.in_default.ensures.ends known1.0 known1.1)),
   );
 }

@@ -1,4 +1,4 @@
-use Rattle.std.proofs.Common.{◌≡◌, ℕ, ◌+◌, ◌≤◌, ◌<◌, length, take, refl, sym, ap, ◌∙◌, subst, arith}
+use Rattle.std.proofs.Common.{◌≡◌, ℕ, ◌+◌, ◌≤◌, ◌<◌, length, take, refl, subst, arith}
 use Rattle.cqlp_render.specs.declared.showing.TheConstants.{TURNS}
 use Rattle.cqlp_render.specs.Streams.{unread}
 use Rattle.cqlp_render_skip.specs.declared.feeding.Handed.{Handed}

@@ -1,4 +1,4 @@
-use Rattle.std.proofs.Common.{[], append-nil, sym, ap, ◌≡◌, subst, Result}
+use Rattle.std.proofs.Common.{[], append-nil, sym, subst}
 use Rattle.cqlp_text.specs.Written.{Writes}
 use Rattle.cqlp_text.proofs.Writing.{progress_starts, progress_goes_on, progress_writes}
 use Rattle.cqlp_render_skip.specs.Reporting.{Reporting}
