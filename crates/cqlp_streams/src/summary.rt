@@ -1,41 +1,14 @@
-//! What a capture was, in numbers.
+//! What of a capture connections did not take, in numbers.
 
 ghost use Rattle.std.specs.Prelude.{◌≡◌, ◌++◌, IfOk, string_bytes};
-ghost use Rattle.cqlp_streams.specs.Endings.{count_words, reason_words, summary_words, table_words};
+ghost use Rattle.cqlp_streams.specs.Endings.{count_words, reason_words, table_words};
 
-use crate::packets::{PacketCounts, WithoutCounts};
-use crate::recorder::Sums;
+use crate::packets::WithoutCounts;
 use cqlp_connections::ConnectionCounts;
 use std::alloc::{AllocError, Allocator};
 
-/// What a capture was, in numbers.
-#[derive(Clone, Copy, Debug, PartialEq, Eq)]
-pub(crate) struct Summary {
-    pub packets: PacketCounts,
-    pub connections: ConnectionCounts,
-    pub sums: Sums,
-}
-
-impl Summary {
-    /// Its words, each after a space: five numbers, and those of the others that are not 0.
-    pub fn words<A: Allocator>(&self, alloc: A) -> Result<String<A>, AllocError>
-        ensures { IfOk result (λ words. string_bytes words ≡ summary_words self.now) }
-    {
-        let packets = self.packets.packets;
-        let segments = self.packets.segments;
-        let connections = self.connections.connections;
-        let Sums { gaps, bytes } = self.sums;
-        let mut words = format!(in alloc;
-            " packets {packets} segments {segments} connections {connections} gaps {gaps} bytes {bytes}"
-        )?;
-        push_table(&mut words, &self.connections)?;
-        push_reasons(&mut words, &self.packets.without)?;
-        Ok(words)
-    }
-}
-
 /// Appends what connections did not take.
-fn push_table<A: Allocator>(
+pub(crate) fn push_table<A: Allocator>(
     words: &mut String<A>,
     counts: &ConnectionCounts,
 ) -> Result<(), AllocError>
@@ -46,7 +19,7 @@ fn push_table<A: Allocator>(
 }
 
 /// Appends how many packets had no segment, by the reason.
-fn push_reasons<A: Allocator>(
+pub(crate) fn push_reasons<A: Allocator>(
     words: &mut String<A>,
     counts: &WithoutCounts,
 ) -> Result<(), AllocError>
