@@ -16,12 +16,13 @@ use Rattle.cqlp_streams.specs.Streams.{ReadsCapture, WritesStreams}
 -- ---- one answer
 
 -- Where no fault comes, the same bytes and ports lead a listener to the same view, and to the same answer.
-abbrev pub OneAnswerOfReadCapture : {V : Type 0} → (after : V → Saying → V) → (faulted : V → Saying → StreamsFault → V → Type 0) → Type 0
-OneAnswerOfReadCapture {V} after faulted =
-    (ports xs : List ℕ) (before v w : V) (left left' : Option (List ℕ)) (r r' : CaptureRead)
-    → ReadsCapture after faulted ports xs (Ok r) left before v
-    → ReadsCapture after faulted ports xs (Ok r') left' before w
-    → (r' ≡ r) × (w ≡ v)
+module _ {V : Type 0} (after : V → Saying → V) (faulted : V → Saying → StreamsFault → V → Type 0) where
+  abbrev pub OneAnswerOfReadCapture : Type 0
+  OneAnswerOfReadCapture =
+      (ports xs : List ℕ) (before v w : V) (left left' : Option (List ℕ)) (r r' : CaptureRead)
+      → ReadsCapture after faulted ports xs (Ok r) left before v
+      → ReadsCapture after faulted ports xs (Ok r') left' before w
+      → (r' ≡ r) × (w ≡ v)
 
 -- Where nothing outside fails, so that the status is not that of a fault, the same bytes, ports and outputs lead to the same status,
 -- the same calls of files, the same lines and the same last line.
