@@ -1,5 +1,5 @@
 -- What draining a piece leaves.
-use Rattle.std.proofs.Common.{◌≡◌, ◌∙◌, ℕ, ◌+◌, List, [], ◌∷◌, ◌++◌, length, take, drop, Option, Some, None, IsSome, Ok, Err, true, false, refl, sym, ap, subst, append_assoc}
+use Rattle.std.proofs.Common.{◌≡◌, ◌∙◌, ℕ, ◌+◌, ◌≤◌, arith, List, [], ◌∷◌, ◌++◌, length, take, drop, Option, Some, None, IsSome, Ok, Err, ◌⊎◌, true, false, refl, sym, ap, subst, append_assoc}
 use Rattle.cqlp_note.specs.Reader.{More, says}
 use Rattle.cqlp_capture.specs.declared.event.CaptureEvent.{CaptureEvent}
 use Rattle.cqlp_capture.specs.declared.event.CaptureStep.TheVariants as answer
@@ -13,9 +13,10 @@ use Rattle.cqlp_streams.specs.declared.fault.StreamsFault.{StreamsFault}
 use Rattle.cqlp_streams.specs.declared.fault.StreamsFault.TheVariants as fault
 use Rattle.cqlp_streams.specs.declared.running.Drained.TheVariants as drained
 use Rattle.cqlp_streams.specs.Sayings.{Saying}
-use Rattle.cqlp_streams.specs.Listening.{FailsAtLast, after_all}
+use Rattle.cqlp_streams.specs.Listening.{AreEndless, FailsAtLast, after_all}
 use Rattle.cqlp_streams.specs.Packets.{SplitState, TellsEvent}
 use Rattle.cqlp_streams.specs.Captures.{DrainsTo, Has, IsAtEndBy, TellsFirst}
+use Rattle.cqlp_streams.proofs.Getting.{one_longer}
 use Rattle.cqlp_streams.proofs.Events.{fails_at, has_more, never_ends, parted_at, same_limits, wants_more}
 
 -- nothing is refused at an event
@@ -27,9 +28,10 @@ joined : (s piece : List ℕ) (k n : ℕ) → (s ++ take k piece) ++ take n (dro
 joined s piece k n = append_assoc s (take k piece) (take n (drop k piece)) ∙ ap (λ z. s ++ z) (sym (take_two k n piece))
 
 -- an event of the piece
-pub takes_event : {V : Type 0} (after : V → Saying → V) (t : Table) (before : V) (s piece : List ℕ) (k : ℕ) (d d' : CaptureState) (u u' : SplitState) (v v' : V) (at used : ℕ) (e : CaptureEvent) (ts : List Saying) → (h : Has after t before (s ++ take k piece) d u v) → Leads d (s ++ take k piece) h.events (drop k piece) (answer.Event at used e) d' → TellsEvent true u (event_of e) ts u' → v' ≡ after_all after v ts → Has after t before (s ++ take (k + used) piece) d' u' v'
-takes_event after t before s piece k d d' u u' v v' at used e ts h leads tells is =
-    subst (λ z. Has after t before z d' u' v') (joined s piece k used) (has_more after t before (s ++ take k piece) (drop k piece) d d' u u' v v' at used e ts h leads tells is)
+pub takes_event : {V : Type 0} (after : V → Saying → V) (t : Table) (before : V) (s piece : List ℕ) (k : ℕ) (d d' : CaptureState) (u u' : SplitState) (v v' : V) (at used : ℕ) (e : CaptureEvent) (ts : List Saying) → (h : Has after t before (s ++ take k piece) d u v) → Leads d (s ++ take k piece) h.events (drop k piece) (answer.Event at used e) d' → TellsEvent true u (event_of e) ts u' → v' ≡ after_all after v ts → (n : ℕ) → n ≤ length h.events → (next : Has after t before (s ++ take (k + used) piece) d' u' v') × (n + 1 ≤ length next.events)
+takes_event after t before s piece k d d' u u' v v' at used e ts h leads tells is n few =
+    let more = one_longer h.events (at, event_of e) (length h.events) refl in
+    subst (λ z. (next : Has after t before z d' u' v') × (n + 1 ≤ length next.events)) (joined s piece k used) (has_more after t before (s ++ take k piece) (drop k piece) d d' u u' v v' at used e ts h leads tells is, omega (arith, few, more))
 
 at_end_none : (o : Option CaptureRefusal) (d : CaptureState) (read s : List ℕ) (es : List (ℕ × Event)) → o ≡ None → s ≡ read → says (step d.limits d.spot) 0 d.pending ≡ More → IsAtEndBy o d read s es
 at_end_none None d read s es none same wants = (same, wants)
@@ -77,13 +79,13 @@ drained_refused after faulted l t before s piece k d d' u v r h same none answer
     )
 
 -- something failed at an event of the piece
-pub drain_fails : {V : Type 0} (after : V → Saying → V) (faulted : V → Saying → StreamsFault → V → Type 0) (l : CaptureLimits) (t : Table) (before : V) (s piece : List ℕ) (k : ℕ) (d d' : CaptureState) (u u' : SplitState) (v v' : V) (at used : ℕ) (e : CaptureEvent) (ts : List Saying) (f : StreamsFault) → (h : Has after t before (s ++ take k piece) d u v) → d.limits ≡ l → AnswersFrom d.refusal d (drop k piece) (answer.Event at used e) d' → Leads d (s ++ take k piece) h.events (drop k piece) (answer.Event at used e) d' → TellsEvent false u (event_of e) ts u' → FailsAtLast after faulted v ts f v' → DrainsTo after faulted l t before s piece (Err f) d' u' v'
-drain_fails after faulted l t before s piece k d d' u u' v v' at used e ts f h same answers leads tells fails =
-    let first = fails_at after faulted l t before (s ++ take k piece) (drop k piece) d d' u u' v v' at used e ts f h leads (same_limits d.refusal d d' (drop k piece) (answer.Event at used e) answers ∙ same) tells fails in
-    (first.0, subst (λ z. TellsFirst l t z first.0 u') (parted_at s piece k) first.1, first.2)
+pub drain_fails : {V : Type 0} (after : V → Saying → V) (faulted : V → Saying → StreamsFault → V → Type 0) (l : CaptureLimits) (t : Table) (before : V) (s piece : List ℕ) (k : ℕ) (d d' : CaptureState) (u u' : SplitState) (v v' : V) (at used : ℕ) (e : CaptureEvent) (ts : List Saying) (f' : StreamsFault) → (h : Has after t before (s ++ take k piece) d u v) → d.limits ≡ l → AnswersFrom d.refusal d (drop k piece) (answer.Event at used e) d' → Leads d (s ++ take k piece) h.events (drop k piece) (answer.Event at used e) d' → TellsEvent false u (event_of e) ts u' → FailsAtLast after faulted (AreEndless ts) v ts f' v' → DrainsTo after faulted l t before s piece (Err f') d' u' v'
+drain_fails after faulted l t before s piece k d d' u u' v v' at used e ts f' h same answers leads tells fails =
+    let first = fails_at after faulted l t before (s ++ take k piece) (drop k piece) d d' u u' v v' at used e ts f' h leads (same_limits d.refusal d d' (drop k piece) (answer.Event at used e) answers ∙ same) tells fails in
+    (first.0, subst (λ z. (f : TellsFirst l t z first.0 u') × FailsAtLast after faulted (AreEndless first.0 ⊎ AreEndless f.events) before first.0 f' v') (parted_at s piece k) (first.1, first.2))
 
 -- there was no end to its events
-pub never_drained : {V : Type 0} (after : V → Saying → V) (faulted : V → Saying → StreamsFault → V → Type 0) (l : CaptureLimits) (t : Table) (before : V) (s piece : List ℕ) (k : ℕ) (d : CaptureState) (u : SplitState) (v : V) → Has after t before (s ++ take k piece) d u v → d.refusal ≡ None → d.limits ≡ l → DrainsTo after faulted l t before s piece (Err fault.TooManyTurns) d u v
-never_drained after faulted l t before s piece k d u v h none same =
-    let first = never_ends after faulted l t before (s ++ take k piece) (drop k piece) d u v h none same in
-    (first.0, subst (λ z. TellsFirst l t z first.0 u) (parted_at s piece k) first.1, first.2)
+pub never_drained : {V : Type 0} (after : V → Saying → V) (faulted : V → Saying → StreamsFault → V → Type 0) (l : CaptureLimits) (t : Table) (before : V) (s piece : List ℕ) (k : ℕ) (d : CaptureState) (u : SplitState) (v : V) → (h : Has after t before (s ++ take k piece) d u v) → AreEndless h.events → d.refusal ≡ None → d.limits ≡ l → DrainsTo after faulted l t before s piece (Err fault.TooManyTurns) d u v
+never_drained after faulted l t before s piece k d u v h many none same =
+    let first = never_ends after faulted l t before (s ++ take k piece) (drop k piece) d u v h many none same in
+    (first.0, subst (λ z. (f : TellsFirst l t z first.0 u) × FailsAtLast after faulted (AreEndless first.0 ⊎ AreEndless f.events) before first.0 fault.TooManyTurns v) (parted_at s piece k) (first.1, first.2))

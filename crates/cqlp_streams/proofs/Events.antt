@@ -16,10 +16,10 @@ use Rattle.cqlp_connections.specs.Tables.{Table}
 use Rattle.cqlp_streams.specs.declared.fault.StreamsFault.{StreamsFault}
 use Rattle.cqlp_streams.specs.declared.fault.StreamsFault.TheVariants as fault
 use Rattle.cqlp_streams.specs.Sayings.{Saying}
-use Rattle.cqlp_streams.specs.Listening.{FailsAtLast, after_all}
+use Rattle.cqlp_streams.specs.Listening.{AreEndless, FailsAtLast, after_all}
 use Rattle.cqlp_streams.specs.Packets.{Finishes, SplitState, TellsEvent, TellsEvents, new_split}
 use Rattle.cqlp_streams.specs.Captures.{EndsSo, EndsTo, Has, HearsAll, IsAtEndBy, IsAtEndOf, TellsFile, TellsFirst, TellsLeaving, TellsSoFar, TellsSome}
-use Rattle.cqlp_streams.proofs.Getting.{after_others, fails_others}
+use Rattle.cqlp_streams.proofs.Getting.{after_others, endless_more, fails_others}
 
 -- one event more
 pub events_more : (s m u : SplitState) (es : List (ℕ × Event)) (e : ℕ × Event) (ss ts : List Saying) → TellsEvents s es ss m → TellsEvent true m e.1 ts u → TellsEvents s (es ++ e ∷ []) (ss ++ ts) u
@@ -65,7 +65,7 @@ pub parted_at : (s piece : List ℕ) (n : ℕ) → (s ++ take n piece) ++ drop n
 parted_at s piece n = append_assoc s (take n piece) (drop n piece) ∙ ap (λ z. s ++ z) (take-append-drop n piece)
 
 -- at one event something failed
-pub fails_at : {V : Type 0} (after : V → Saying → V) (faulted : V → Saying → StreamsFault → V → Type 0) (l : CaptureLimits) (t : Table) (before : V) (s input : List ℕ) (d d' : CaptureState) (u u' : SplitState) (v v' : V) (at used : ℕ) (e : CaptureEvent) (ts : List Saying) (f : StreamsFault) → (h : Has after t before s d u v) → Leads d s h.events input (answer.Event at used e) d' → d'.limits ≡ l → TellsEvent false u (event_of e) ts u' → FailsAtLast after faulted v ts f v' → (ss : List Saying) × TellsFirst l t (s ++ input) ss u' × FailsAtLast after faulted before ss f v'
+pub fails_at : {V : Type 0} (after : V → Saying → V) (faulted : V → Saying → StreamsFault → V → Type 0) (l : CaptureLimits) (t : Table) (before : V) (s input : List ℕ) (d d' : CaptureState) (u u' : SplitState) (v v' : V) (at used : ℕ) (e : CaptureEvent) (ts : List Saying) (f : StreamsFault) → (h : Has after t before s d u v) → Leads d s h.events input (answer.Event at used e) d' → d'.limits ≡ l → TellsEvent false u (event_of e) ts u' → FailsAtLast after faulted (AreEndless ts) v ts f v' → (ss : List Saying) × (first : TellsFirst l t (s ++ input) ss u') × FailsAtLast after faulted (AreEndless ss ⊎ AreEndless first.events) before ss f v'
 fails_at after faulted l t before s input d d' u u' v v' at used e ts f h leads same tells fails = (
   h.sayings ++ ts,
   record {
@@ -78,12 +78,12 @@ fails_at after faulted l t before s input d d' u u' v v' at used e ts f h leads 
     hears = subst (λ (z : CaptureLimits). Hears z start (s ++ take used input) (h.events ++ (at, event_of e) ∷ []) d'.spot d'.pending) same (hears_here d' (s ++ take used input) (h.events ++ (at, event_of e) ∷ []) leads.1 leads.3);
     tells = inr (h.events, (at, event_of e), refl, u, h.sayings, ts, refl, h.tells, tells);
   },
-  fails_others after faulted before v v' h.sayings ts f h.got fails,
+  fails_others after faulted (AreEndless ts) _ before v v' h.sayings ts f (λ many. inl (endless_more h.sayings ts many)) h.got fails,
 )
 
 -- there was no end to it
-pub never_ends : {V : Type 0} (after : V → Saying → V) (faulted : V → Saying → StreamsFault → V → Type 0) (l : CaptureLimits) (t : Table) (before : V) (s later : List ℕ) (d : CaptureState) (u : SplitState) (v : V) → Has after t before s d u v → d.refusal ≡ None → d.limits ≡ l → (ss : List Saying) × TellsFirst l t (s ++ later) ss u × FailsAtLast after faulted before ss fault.TooManyTurns v
-never_ends after faulted l t before s later d u v h none same = (
+pub never_ends : {V : Type 0} (after : V → Saying → V) (faulted : V → Saying → StreamsFault → V → Type 0) (l : CaptureLimits) (t : Table) (before : V) (s later : List ℕ) (d : CaptureState) (u : SplitState) (v : V) → (h : Has after t before s d u v) → AreEndless h.events → d.refusal ≡ None → d.limits ≡ l → (ss : List Saying) × (first : TellsFirst l t (s ++ later) ss u) × FailsAtLast after faulted (AreEndless ss ⊎ AreEndless first.events) before ss fault.TooManyTurns v
+never_ends after faulted l t before s later d u v h many none same = (
   h.sayings,
   record {
     used = s;
@@ -95,7 +95,7 @@ never_ends after faulted l t before s later d u v h none same = (
     hears = subst (λ (z : CaptureLimits). Hears z start s h.events d.spot d.pending) same (hears_here d s h.events none h.stands);
     tells = inl h.tells;
   },
-  inl (refl, h.got),
+  inl (refl, inr many, h.got),
 )
 
 -- ---- the end of the file
@@ -114,8 +114,8 @@ ends_by None d s read es e a at is f =
     subst (λ z. EndsSo d.limits z es e) at.0 (ends_at (is_between d.spot.place.stage && is_empty d.pending) d s es e refl is (record { hears = a; wants = at.1 }) f)
 
 -- all connections left
-pub ends_ok : {V : Type 0} (after : V → Saying → V) (faulted : V → Saying → StreamsFault → V → Type 0) (t : Table) (before : V) (s read : List ℕ) (d : CaptureState) (u u' : SplitState) (v v' : V) (e : CaptureEnd) (last : List Saying) → (h : Has after t before s d u v) → IsAtEndOf d read s h.events → e ≡ ending d → EndsAs d e → Finishes true u last u' → v' ≡ after_all after v last → EndsTo after faulted d.limits t before read (Ok e) u' v'
-ends_ok after faulted t before s read d u u' v v' e last h at is f leave got = (
+pub ends_ok : {V : Type 0} (after : V → Saying → V) (faulted : V → Saying → StreamsFault → V → Type 0) (t : Table) (turns made : ℕ) (before : V) (s read : List ℕ) (d : CaptureState) (u u' : SplitState) (v v' : V) (e : CaptureEnd) (last : List Saying) → (h : Has after t before s d u v) → IsAtEndOf d read s h.events → e ≡ ending d → EndsAs d e → Finishes true u last u' → v' ≡ after_all after v last → EndsTo after faulted d.limits t turns made before read (Ok e) u' v'
+ends_ok after faulted t turns made before s read d u u' v v' e last h at is f leave got = (
   h.sayings ++ last,
   record {
     events = h.events;
@@ -131,10 +131,10 @@ ends_ok after faulted t before s read d u u' v v' e last h at is f leave got = (
 )
 
 -- something failed while they left
-pub ends_err : {V : Type 0} (after : V → Saying → V) (faulted : V → Saying → StreamsFault → V → Type 0) (t : Table) (before : V) (s read : List ℕ) (d : CaptureState) (u u' : SplitState) (v v' : V) (e : CaptureEnd) (f : StreamsFault) (last : List Saying) → (h : Has after t before s d u v) → IsAtEndOf d read s h.events → e ≡ ending d → EndsAs d e → Finishes false u last u' → FailsAtLast after faulted v last f v' → EndsTo after faulted d.limits t before read (Err f) u' v'
-ends_err after faulted t before s read d u u' v v' e f last h at is ends leave fails = inr (
+pub ends_err : {V : Type 0} (after : V → Saying → V) (faulted : V → Saying → StreamsFault → V → Type 0) (t : Table) (turns made : ℕ) (before : V) (s read : List ℕ) (d : CaptureState) (u u' : SplitState) (v v' : V) (e : CaptureEnd) (f : StreamsFault) (last : List Saying) → (h : Has after t before s d u v) → IsAtEndOf d read s h.events → e ≡ ending d → EndsAs d e → Finishes false u last u' → FailsAtLast after faulted (AreEndless last) v last f v' → EndsTo after faulted d.limits t turns made before read (Err f) u' v'
+ends_err after faulted t turns made before s read d u u' v v' e f last h at is ends leave fails = (
   h.sayings ++ last,
-  inr (record {
+  inr (inr (record {
     events = h.events;
     end = e;
     ends = ends_by d.refusal d s read h.events e h.stands at is (ends s h.events h.stands);
@@ -144,6 +144,5 @@ ends_err after faulted t before s read d u u' v v' e f last h at is ends leave f
     last = last;
     leave = leave;
     all = refl;
-  }),
-  fails_others after faulted before v v' h.sayings last f h.got fails,
+  }, fails_others after faulted (AreEndless last) (AreEndless (h.sayings ++ last)) before v v' h.sayings last f (endless_more h.sayings last) h.got fails)),
 )

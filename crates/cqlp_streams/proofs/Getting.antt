@@ -1,9 +1,16 @@
 -- What a listener has got, one thing after the other.
-use Rattle.std.proofs.Common.{◌≡◌, ◌∙◌, List, [], ◌∷◌, ◌++◌, OnOk, IfErr, Result, Ok, Err, refl, sym, ap, subst, inl, inr, append_assoc}
+use Rattle.std.proofs.Common.{◌≡◌, ◌∙◌, ℕ, ◌+◌, length, length-append, List, [], ◌∷◌, ◌++◌, OnOk, IfErr, Result, Ok, Err, refl, sym, ap, subst, inl, inr, append_assoc, arith}
 use Rattle.cqlp_streams.specs.declared.fault.StreamsFault.{StreamsFault}
 use Rattle.cqlp_streams.specs.declared.listener.Listener as listener
 use Rattle.cqlp_streams.specs.Sayings.{Saying}
-use Rattle.cqlp_streams.specs.Listening.{FailsAtLast, GetsAll, GetsOne, after_all}
+use Rattle.cqlp_streams.specs.Listening.{AreEndless, FailsAtLast, GetsAll, GetsOne, after_all}
+
+-- with more before it, it is endless still
+pub endless_more : {X : Type 0} (xs ys : List X) → AreEndless ys → AreEndless (xs ++ ys)
+endless_more xs ys many = let all = length-append xs ys in omega (arith, many, all)
+
+pub one_longer : {X : Type 0} (xs : List X) (x : X) (n : ℕ) → length xs ≡ n → length (xs ++ x ∷ []) ≡ n + 1
+one_longer xs x n is = let all = length-append xs (x ∷ []) in omega (arith, is, all)
 
 module _ {V : Type 0} (after : V → Saying → V) where
   pub after_more : (v : V) (ss : List Saying) (s : Saying) → after_all after v (ss ++ s ∷ []) ≡ after (after_all after v ss) s
@@ -15,9 +22,9 @@ module _ {V : Type 0} (after : V → Saying → V) where
   after_others v (x ∷ xs) ts = after_others (after v x) xs ts
 
   -- after these sayings others, at the last of which it failed
-  pub fails_others : (faulted : V → Saying → StreamsFault → V → Type 0) (v mid w : V) (ss ts : List Saying) (e : StreamsFault) → mid ≡ after_all after v ss → FailsAtLast after faulted mid ts e w → FailsAtLast after faulted v (ss ++ ts) e w
-  fails_others faulted v mid w ss ts e is (inl (many, a)) = inl (many, a ∙ ap (λ z. after_all after z ts) is ∙ sym (after_others v ss ts))
-  fails_others faulted v mid w ss ts e is (inr (front, s, parts, a)) =
+  pub fails_others : (faulted : V → Saying → StreamsFault → V → Type 0) (few many : Type 0) (v mid w : V) (ss ts : List Saying) (e : StreamsFault) → (few → many) → mid ≡ after_all after v ss → FailsAtLast after faulted few mid ts e w → FailsAtLast after faulted many v (ss ++ ts) e w
+  fails_others faulted few many v mid w ss ts e more is (inl (turns, endless, a)) = inl (turns, more endless, a ∙ ap (λ z. after_all after z ts) is ∙ sym (after_others v ss ts))
+  fails_others faulted few many v mid w ss ts e more is (inr (front, s, parts, a)) =
       inr (
         ss ++ front,
         s,
@@ -44,4 +51,4 @@ module _ {L : Type 0} (m : listener.Ghosts L) where
   -- after these sayings others
   pub gets_others : (old mid new : L) (ss ts : List Saying) (r : Result (Unit {0}) StreamsFault) → m.view mid ≡ after_all m.after (m.view old) ss → GetsAll m mid ts r new → GetsAll m old (ss ++ ts) r new
   gets_others old mid new ss ts (Ok u) is a = (a.0, a.1 ∙ ap (λ z. after_all m.after z ts) is ∙ sym (after_others m.after (m.view old) ss ts))
-  gets_others old mid new ss ts (Err e) is a = fails_others m.after m.faulted (m.view old) (m.view mid) (m.view new) ss ts e is a
+  gets_others old mid new ss ts (Err e) is a = fails_others m.after m.faulted (AreEndless ts) (AreEndless (ss ++ ts)) (m.view old) (m.view mid) (m.view new) ss ts e (endless_more ss ts) is a

@@ -201,7 +201,7 @@ seen_once sight.Foreign g t u u' ss ss' a a' = (a'.0 ∙ sym a.0, a'.1 ∙ sym a
 seen_once (sight.Taken n way is_new) g t u u' ss ss' a a' =
     let one = pulls_all_once g t u u' a.0 a'.0 a.2 a'.2 in
     (both (beginning is_new n) (beginning is_new n) a.0 a'.0 ss ss' a.1 a'.1 refl one.0, one.1)
-seen_once (sight.Crowded n is_full) g t u u' ss ss' a a' = absurd a
+seen_once (sight.Crowded n is_full) g t u u' ss ss' a a' = (a'.0 ∙ sym a.0, a'.1 ∙ sym a.1)
 
 seen_same : (s s' : Sight) (g : Seen) (t t' u u' : Table) (ss ss' : List Saying) → taking s' t' ≡ taking s t → TellsSeen s true g t ss u → TellsSeen s' true g t' ss' u' → (ss' ≡ ss) × (u' ≡ u)
 seen_same s s' g t t' u u' ss ss' e a a' = seen_once s g t u u' ss ss' a (subst (λ (z : Taking). TellsSeen z.sight true g z.after ss' u') e a')

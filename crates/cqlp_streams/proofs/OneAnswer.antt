@@ -109,8 +109,8 @@ ok_same : (x y : CaptureRead) → ◌≡◌ {A = Result CaptureRead StreamsFault
 ok_same x y e = cc
 
 module _ {V : Type 0} (after : V → Saying → V) (faulted : V → Saying → StreamsFault → V → Type 0) where
-  pub splits_once : (l : CaptureLimits) → Fits l → (t : Table) (before : V) (xs : List ℕ) (e e' : CaptureEnd) (left left' : Option (List ℕ)) (u u' : SplitState) (v w : V) → SplitsTo after faulted l t before xs (Ok e) left u v → SplitsTo after faulted l t before xs (Ok e') left' u' w → (e' ≡ e) × (u' ≡ u) × (w ≡ v)
-  splits_once l fits t before xs e e' left left' u u' v w a b =
+  pub splits_once : (l : CaptureLimits) → Fits l → (t : Table) (turns made made' : ℕ) (before : V) (xs : List ℕ) (e e' : CaptureEnd) (left left' : Option (List ℕ)) (u u' : SplitState) (v w : V) → SplitsTo after faulted l t turns made before xs (Ok e) left u v → SplitsTo after faulted l t turns made' before xs (Ok e') left' u' w → (e' ≡ e) × (u' ≡ u) × (w ≡ v)
+  splits_once l fits t turns made made' before xs e e' left left' u u' v w a b =
       let f = a.ends.1 in
       let g = b.ends.1 in
       let here = ends_there l fits a.read a.rest xs f.events e a.parts a.all f.ends in
@@ -122,12 +122,12 @@ module _ {V : Type 0} (after : V → Saying → V) (faulted : V → Saying → S
       (same.1, left.1, b.ends.2 ∙ ap (after_all after before) all ∙ sym a.ends.2)
 
   pub read_once : OneAnswerOfReadCapture after faulted
-  read_once ports xs before v w left left' r r' (inr (is, rest, same)) b = absurd (let x = is in cc)
-  read_once ports xs before v w left left' r r' (inl (Err f, u, a, is)) b = absurd (let x = is in cc)
-  read_once ports xs before v w left left' r r' (inl (Ok x, u, a, is)) (inr (is', rest, same)) = absurd (let y = is' in cc)
-  read_once ports xs before v w left left' r r' (inl (Ok x, u, a, is)) (inl (Err f, u', b, is')) = absurd (let y = is' in cc)
-  read_once ports xs before v w left left' r r' (inl (Ok x, u, a, is)) (inl (Ok x', u', b, is')) =
-      let one = splits_once default_limits (in_range default_limits refl) (no_connections ports) before xs x x' left left' u u' v w a b in
+  read_once ports xs before v w made made' left left' r r' (inr (is, none, rest, same)) b = absurd (let x = is in cc)
+  read_once ports xs before v w made made' left left' r r' (inl (Err f, u, a, is)) b = absurd (let x = is in cc)
+  read_once ports xs before v w made made' left left' r r' (inl (Ok x, u, a, is)) (inr (is', none, rest, same)) = absurd (let y = is' in cc)
+  read_once ports xs before v w made made' left left' r r' (inl (Ok x, u, a, is)) (inl (Err f, u', b, is')) = absurd (let y = is' in cc)
+  read_once ports xs before v w made made' left left' r r' (inl (Ok x, u, a, is)) (inl (Ok x', u', b, is')) =
+      let one = splits_once default_limits (in_range default_limits refl) (no_connections ports) _ made made' before xs x x' left left' u u' v w a b in
       let same : ◌≡◌ {A = Result CaptureRead StreamsFault} (Ok r') (Ok r) = is' ∙ (λ i. read_of (Ok (one.0 i)) (one.1 i)) ∙ sym is in
       (ok_same r' r same, one.2)
 
@@ -143,7 +143,7 @@ well_read (Ok x) well = (x, refl)
 well_read (Err f) well = absurd (well refl)
 
 pub streams_once : OneAnswerOfWriteStreams
-streams_once ports xs calls out err left left' status status' made made' out' out'' err' err'' (r, sums, reads, ends) well (r', sums', reads', ends') well' =
+streams_once ports xs calls out err left left' status status' made made' out' out'' err' err'' (n, r, sums, reads, ends) well (n', r', sums', reads', ends') well' =
     let c = concluded (sums_words sums) r err err' status ends well in
     let c' = concluded (sums_words sums') r' err err'' status' ends' well' in
     let x = well_read r (λ is. well (c.0 ∙ is)) in
@@ -151,9 +151,9 @@ streams_once ports xs calls out err left left' status status' made made' out' ou
     let old = recording calls out no_sums in
     let new = recording made out' sums in
     let new' = recording made' out'' sums' in
-    let a = subst (λ (z : Result CaptureRead StreamsFault). ReadsCapture with_saying StopsAt ports xs z left old new) x.1 reads in
-    let b = subst (λ (z : Result CaptureRead StreamsFault). ReadsCapture with_saying StopsAt ports xs z left' old new') x'.1 reads' in
-    let one = read_once with_saying StopsAt ports xs old new new' left left' x.0 x'.0 a b in
+    let a = subst (λ (z : Result CaptureRead StreamsFault). ReadsCapture with_saying StopsAt ports xs n z left old new) x.1 reads in
+    let b = subst (λ (z : Result CaptureRead StreamsFault). ReadsCapture with_saying StopsAt ports xs n' z left' old new') x'.1 reads' in
+    let one = read_once with_saying StopsAt ports xs old new new' n n' left left' x.0 x'.0 a b in
     let same : r' ≡ r = x'.1 ∙ ap (λ z. Ok z) one.0 ∙ sym x.1 in (
       c'.0 ∙ ap status_of same ∙ sym c.0,
       ap (λ (z : Recording). z.calls) one.1,

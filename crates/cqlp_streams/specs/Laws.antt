@@ -19,9 +19,9 @@ use Rattle.cqlp_streams.specs.Streams.{ReadsCapture, WritesStreams}
 module _ {V : Type 0} (after : V → Saying → V) (faulted : V → Saying → StreamsFault → V → Type 0) where
   abbrev pub OneAnswerOfReadCapture : Type 0
   OneAnswerOfReadCapture =
-      (ports xs : List ℕ) (before v w : V) (left left' : Option (List ℕ)) (r r' : CaptureRead)
-      → ReadsCapture after faulted ports xs (Ok r) left before v
-      → ReadsCapture after faulted ports xs (Ok r') left' before w
+      (ports xs : List ℕ) (before v w : V) (made made' : ℕ) (left left' : Option (List ℕ)) (r r' : CaptureRead)
+      → ReadsCapture after faulted ports xs made (Ok r) left before v
+      → ReadsCapture after faulted ports xs made' (Ok r') left' before w
       → (r' ≡ r) × (w ≡ v)
 
 -- Where nothing outside fails, so that the status is not that of a fault, the same bytes, ports and outputs lead to the same status,

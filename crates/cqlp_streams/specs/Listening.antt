@@ -1,5 +1,5 @@
 -- What a listener has got of what is told, one thing after the other.
-use Rattle.std.specs.Prelude.{◌≡◌, List, [], ◌∷◌, ◌++◌, Result, Ok, Err, ◌⊎◌}
+use Rattle.std.specs.Prelude.{◌≡◌, ◌-◌, ◌^◌, ◌≤◌, List, [], ◌∷◌, ◌++◌, length, Result, Ok, Err, ◌⊎◌}
 use Rattle.cqlp_streams.specs.declared.fault.StreamsFault.{StreamsFault}
 use Rattle.cqlp_streams.specs.declared.fault.StreamsFault.TheVariants as fault
 use Rattle.cqlp_streams.specs.declared.listener.Listener as listener
@@ -13,11 +13,16 @@ module _ {V : Type 0} (after : V → Saying → V) where
   after_all v [] = v
   after_all v (s ∷ ss) = after_all (after v s) ss
 
-  -- There was no end to it; or at the last of it the listener failed.
-  abbrev pub FailsAtLast : (faulted : V → Saying → StreamsFault → V → Type 0) → V → List Saying → StreamsFault → V → Type 0
-  FailsAtLast faulted v ss e w =
-      ((e ≡ fault.TooManyTurns) × (w ≡ after_all v ss))
+  -- There was no end to it, of which `endless` holds then; or at the last of it the listener failed.
+  abbrev pub FailsAtLast : (faulted : V → Saying → StreamsFault → V → Type 0) → (endless : Type 0) → V → List Saying → StreamsFault → V
+      → Type 0
+  FailsAtLast faulted endless v ss e w =
+      ((e ≡ fault.TooManyTurns) × endless × (w ≡ after_all v ss))
       ⊎ ((front : List Saying) × (s : Saying) × (ss ≡ front ++ s ∷ []) × faulted (after_all v front) s e w)
+
+-- how many steps are made at most for one thing
+abbrev pub AreEndless : {X : Type 0} → List X → Type 0
+AreEndless xs = 2 ^ 64 - 1 ≤ length xs
 
 -- ---- a listener that tells what it has got
 
@@ -29,7 +34,7 @@ GetsOne m old s (Err e) new = m.faulted (m.view old) s e (m.view new)
 -- So of all of this, in order.
 abbrev pub GetsAll : {L : Type 0} → listener.Ghosts L → L → List Saying → Result (Unit {0}) StreamsFault → L → Type 0
 GetsAll m old ss (Ok u) new = m.tells new × (m.view new ≡ after_all m.after (m.view old) ss)
-GetsAll m old ss (Err e) new = FailsAtLast m.after m.faulted (m.view old) ss e (m.view new)
+GetsAll m old ss (Err e) new = FailsAtLast m.after m.faulted (AreEndless ss) (m.view old) ss e (m.view new)
 
 -- It has got what was told, of which this holds.
 abbrev pub Gets : {L : Type 0} → listener.Ghosts L → (List Saying → Type 0) → L → Result (Unit {0}) StreamsFault → L → Type 0

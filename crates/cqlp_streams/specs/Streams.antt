@@ -5,7 +5,7 @@ use Rattle.cqlp_capture.specs.declared.event.CaptureEnd.{CaptureEnd}
 use Rattle.cqlp_capture.specs.declared.limits.CaptureLimits.{CaptureLimits}
 use Rattle.cqlp_connections.specs.Tables.{Table, new_table}
 use Rattle.cqlp_streams.specs.declared.capturing.CaptureRead.{CaptureRead}
-use Rattle.cqlp_streams.specs.declared.capturing.TheConstants.{LIMITS}
+use Rattle.cqlp_streams.specs.declared.capturing.TheConstants.{LIMITS, TURNS}
 use Rattle.cqlp_streams.specs.declared.fault.StreamsFault.{StreamsFault}
 use Rattle.cqlp_streams.specs.declared.fault.StreamsFault.TheVariants as fault
 use Rattle.cqlp_streams.specs.declared.recorder.Sums.{Sums}
@@ -28,20 +28,21 @@ abbrev pub read_of : Result CaptureEnd StreamsFault → SplitState → Result Ca
 read_of (Ok e) u = Ok (record { end = e; packets = u.counts; connections = u.table.counts })
 read_of (Err f) u = Err f
 
--- What a listener has got of an input with the bytes xs, and what that was; or memory was wanting, and it got nothing. A listener's
--- view goes on by `after`, and a fault leaves what `faulted` says.
+-- What a listener has got of an input with the bytes xs by so many reads, and what that was; or memory was wanting, and nothing was read
+-- or told. A listener's view goes on by `after`, and a fault leaves what `faulted` says.
 abbrev pub ReadsCapture : {V : Type 0} → (after : V → Saying → V) → (faulted : V → Saying → StreamsFault → V → Type 0)
-    → (ports : List ℕ) → (xs : List ℕ) → Result CaptureRead StreamsFault → (left : Option (List ℕ)) → (before v : V) → Type 0
-ReadsCapture after faulted ports xs r left before v =
+    → (ports : List ℕ) → (xs : List ℕ) → (made : ℕ) → Result CaptureRead StreamsFault → (left : Option (List ℕ)) → (before v : V)
+    → Type 0
+ReadsCapture after faulted ports xs made r left before v =
     ((e : Result CaptureEnd StreamsFault) × (u : SplitState)
-    × SplitsTo after faulted default_limits (no_connections ports) before xs e left u v × (r ≡ read_of e u))
-    ⊎ ((r ≡ Err fault.NoMemory) × (left ≡ Some xs) × (v ≡ before))
+    × SplitsTo after faulted default_limits (no_connections ports) TURNS made before xs e left u v × (r ≡ read_of e u))
+    ⊎ ((r ≡ Err fault.NoMemory) × (made ≡ 0) × (left ≡ Some xs) × (v ≡ before))
 
 -- The streams of an input with the bytes xs were written: the calls that files got and what the output was given, and then the line
 -- of how it ended, with its status.
 abbrev pub WritesStreams : (ports : List ℕ) → (xs : List ℕ) → (left : Option (List ℕ)) → (calls : Option (List Call)) → (out err : Output)
     → (status : ℕ) → (calls' : Option (List Call)) → (out' err' : Output) → Type 0
 WritesStreams ports xs left calls out err status calls' out' err' =
-    (r : Result CaptureRead StreamsFault) × (sums : Sums)
-    × ReadsCapture with_saying StopsAt ports xs r left (recording calls out no_sums) (recording calls' out' sums)
+    (made : ℕ) × (r : Result CaptureRead StreamsFault) × (sums : Sums)
+    × ReadsCapture with_saying StopsAt ports xs made r left (recording calls out no_sums) (recording calls' out' sums)
     × Concludes (sums_words sums) r err status err'

@@ -83,13 +83,12 @@ abbrev pub beginning : (is_new : Bool) → (number : ℕ) → List Saying
 beginning true n = New n ∷ []
 beginning false n = []
 
--- What is told of a segment that was seen so; a connection is not crowded out twice.
+-- What is told of a segment that was seen so; nothing, where it has no connection.
 abbrev pub TellsSeen : Sight → (all : Bool) → Seen → Table → List Saying → Table → Type 0
 TellsSeen sight.Foreign all g t ss u = (ss ≡ []) × (u ≡ t)
 TellsSeen (sight.Taken n way is_new) all g t ss u =
     (rest : List Saying) × (ss ≡ beginning is_new n ++ rest) × PullsAll all g t rest u
-TellsSeen (sight.Crowded n is_full) true g t ss u = ⊥
-TellsSeen (sight.Crowded n is_full) false g t ss u = (ss ≡ []) × (u ≡ t)
+TellsSeen (sight.Crowded n is_full) all g t ss u = (ss ≡ []) × (u ≡ t)
 
 -- taken once more after a connection has left for it
 abbrev pub TellsAgain : (all : Bool) → Seen → Table → List Saying → Table → Type 0

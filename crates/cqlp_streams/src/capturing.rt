@@ -1,6 +1,7 @@
 //! A whole capture.
 
 ghost use Rattle.std.specs.Prelude.{◌≡◌, ℕ, List, OnOk, Some};
+ghost use Rattle.cqlp_note.specs.Streams.{CountsUp};
 ghost use Rattle.cqlp_streams.specs.Streams.{ReadsCapture, read_of};
 
 use crate::fault::StreamsFault;
@@ -46,7 +47,8 @@ pub fn read_capture<R: Source, L: Listener>(
 ) -> Result<CaptureRead, StreamsFault>
     ensures tells { L.tells listener.old → OnOk result (L.tells listener.new) }
     ensures reads { (xs : List ℕ) → R.left input.old ≡ Some xs → L.tells listener.old →
-        ReadsCapture L.after L.faulted ports.now xs result (R.left input.new) (L.view listener.old) (L.view listener.new) }
+        (made : ℕ) × CountsUp made (R.reads input.old) (R.reads input.new)
+        × ReadsCapture L.after L.faulted ports.now xs made result (R.left input.new) (L.view listener.old) (L.view listener.new) }
 {
     let Ok(mut reader) = CaptureReader::new(alloc, CaptureLimits::DEFAULT) else {
         return Err(StreamsFault::NoMemory);

@@ -10,5 +10,5 @@ invariant-loop-turn g l = record {
   limits : l.reader.limits ≡ l.fn.reader.limits;
   free : l.fn.reader.refusal ≡ None → l.reader.refusal ≡ None;
   tells : g.L.Listener.tells l.fn.listener → g.L.Listener.tells l.listener;
-  has : (t : Table) (before : g.L.Listener.View) (s : List ℕ) → g.L.Listener.tells l.fn.listener → Has g.L.Listener.after t before s l.fn.reader l.fn.splitter (g.L.Listener.view l.fn.listener) → Has g.L.Listener.after t before (s ++ take l.used l.piece) l.reader l.splitter (g.L.Listener.view l.listener);
+  has : (t : Table) (before : g.L.Listener.View) (s : List ℕ) → g.L.Listener.tells l.fn.listener → Has g.L.Listener.after t before s l.fn.reader l.fn.splitter (g.L.Listener.view l.fn.listener) → (h : Has g.L.Listener.after t before (s ++ take l.used l.piece) l.reader l.splitter (g.L.Listener.view l.listener)) × (l.turn ≤ length h.events);
 }

@@ -1,4 +1,5 @@
 use Rattle.std.proofs.Common.{◌≡◌, ℕ, List, Some, length}
+use Rattle.cqlp_note.specs.Streams.{CountsUp}
 use Rattle.cqlp_streams.proofs.Splitting.{SoFar}
 use Rattle.cqlp_streams.proofs.running.split.Given as goal
 
@@ -7,5 +8,6 @@ abbrev pub invariant-loop-turn : goal.invariant-loop-turn
 invariant-loop-turn g l = record {
   long : length l.buffer ≡ length l.fn.buffer;
   tells : g.L.Listener.tells l.fn.listener → g.L.Listener.tells l.listener;
+  counted : CountsUp l.turn (g.R.Source.reads l.fn.input) (g.R.Source.reads l.input);
   so_far : (xs : List ℕ) → g.R.Source.left l.fn.input ≡ Some xs → g.L.Listener.tells l.fn.listener → SoFar g.L.Listener.after l.fn.reader.limits l.fn.splitter.table (g.L.Listener.view l.fn.listener) xs (g.R.Source.left l.input) l.reader l.splitter (g.L.Listener.view l.listener);
 }

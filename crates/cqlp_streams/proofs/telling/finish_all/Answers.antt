@@ -1,7 +1,7 @@
-use Rattle.std.proofs.Common.{rules, Err, ◌≡◌, ◌∙◌, [], ◌∷◌, ◌++◌, sym, ap, subst}
+use Rattle.std.proofs.Common.{rules, Err, arith, inl, refl, ◌-◌, ◌^◌, ◌≡◌, ◌∙◌, [], ◌∷◌, ◌++◌, sym, ap, subst}
 use Rattle.cqlp_streams.specs.Tellings.{Departs}
 use Rattle.cqlp_streams.proofs.Paths.{path_more}
-use Rattle.cqlp_streams.proofs.Getting.{gets_more}
+use Rattle.cqlp_streams.proofs.Getting.{gets_more, one_longer}
 use Rattle.cqlp_streams.proofs.Told.{no_more, one_more}
 use Rattle.cqlp_streams.proofs.telling.finish_all.Goals as goal
 
@@ -31,4 +31,11 @@ loop-turn-preserved g c = λ tells.
       path_more Departs _ c.loop-turn.connections _ before.0 t.0 before.1 t.1,
       all.0,
       all.1,
+      one_longer before.0 _ _ before.4,
     )
+
+pub returns : goal.returns
+returns g c = λ tells.
+    let before = c.loop-turn.invariant tells in
+    let all : c.loop-turn.turn ≡ 2 ^ 64 - 1 = omega arith in
+    (before.0, before.1, inl (refl, omega (arith, before.4), before.3))

@@ -1,4 +1,4 @@
-use Rattle.std.proofs.Common.{◌≡◌, List}
+use Rattle.std.proofs.Common.{◌≡◌, List, length}
 use Rattle.cqlp_streams.specs.Sayings.{Saying}
 use Rattle.cqlp_streams.specs.Listening.{after_all}
 use Rattle.cqlp_streams.specs.Tellings.{Path, Departs}
@@ -10,4 +10,4 @@ invariant-loop-turn g l =
     let m = g.L.Listener in
     m.tells l.fn.listener → (ss : List Saying)
     × Path Departs l.fn.connections ss l.connections
-    × m.tells l.listener × (m.view l.listener ≡ after_all m.after (m.view l.fn.listener) ss)
+    × m.tells l.listener × (m.view l.listener ≡ after_all m.after (m.view l.fn.listener) ss) × (length ss ≡ l.turn)

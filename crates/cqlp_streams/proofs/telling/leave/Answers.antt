@@ -1,9 +1,9 @@
-use Rattle.std.proofs.Common.{rules, Err, ◌≡◌, [], ◌∷◌, ◌++◌, refl, inl}
+use Rattle.std.proofs.Common.{rules, Err, arith, ◌-◌, ◌^◌, ◌≡◌, [], ◌∷◌, ◌++◌, refl, inl}
 use Rattle.cqlp_connections.specs.Tables.{left}
 use Rattle.cqlp_streams.specs.Sayings.{Of, Left}
 use Rattle.cqlp_streams.specs.Tellings.{StillTells}
 use Rattle.cqlp_streams.proofs.Paths.{path_more}
-use Rattle.cqlp_streams.proofs.Getting.{gets_more}
+use Rattle.cqlp_streams.proofs.Getting.{gets_more, one_longer}
 use Rattle.cqlp_streams.proofs.Told.{parted, parted_none}
 use Rattle.cqlp_streams.proofs.telling.leave.Goals as goal
 
@@ -16,6 +16,7 @@ loop-turn-preserved g c = λ tells.
       path_more (StillTells left) _ c.loop-turn.connections _ before.0 (Of c.in-Told.told t.0) before.1 (c.leave.new.self, c.in-Told.ensures, t.1),
       all.0,
       all.1,
+      one_longer before.0 _ _ before.4,
     )
 
 pub returns-in_err-tell_last-in-Told : goal.returns-in_err-tell_last-in-Told
@@ -45,4 +46,5 @@ returns-in-Empty g c = λ tells.
 pub returns : goal.returns
 returns g c = λ tells.
     let before = c.loop-turn.invariant tells in
-    (before.0, inl before.1, inl (refl, before.3))
+    let all : c.loop-turn.turn ≡ 2 ^ 64 - 1 = omega arith in
+    (before.0, inl before.1, inl (refl, omega (arith, before.4), before.3))

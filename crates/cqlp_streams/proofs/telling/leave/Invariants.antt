@@ -1,4 +1,4 @@
-use Rattle.std.proofs.Common.{◌≡◌, List}
+use Rattle.std.proofs.Common.{◌≡◌, List, length}
 use Rattle.cqlp_connections.specs.Tables.{left}
 use Rattle.cqlp_streams.specs.Sayings.{Saying}
 use Rattle.cqlp_streams.specs.Listening.{after_all}
@@ -11,4 +11,4 @@ invariant-loop-turn g l =
     let m = g.L.Listener in
     m.tells l.fn.listener → (ss : List Saying)
     × Path (StillTells left) l.fn.connections ss l.connections
-    × m.tells l.listener × (m.view l.listener ≡ after_all m.after (m.view l.fn.listener) ss)
+    × m.tells l.listener × (m.view l.listener ≡ after_all m.after (m.view l.fn.listener) ss) × (length ss ≡ l.turn)

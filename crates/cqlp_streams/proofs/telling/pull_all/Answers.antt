@@ -1,9 +1,9 @@
-use Rattle.std.proofs.Common.{rules, Err, ◌≡◌, [], ◌∷◌, ◌++◌}
+use Rattle.std.proofs.Common.{rules, Err, arith, inl, refl, ◌-◌, ◌^◌, ◌≡◌, [], ◌∷◌, ◌++◌}
 use Rattle.cqlp_segment.specs.Segment.{seen}
 use Rattle.cqlp_streams.specs.Sayings.{Of}
 use Rattle.cqlp_streams.specs.Tellings.{Pulls}
 use Rattle.cqlp_streams.proofs.Paths.{path_more}
-use Rattle.cqlp_streams.proofs.Getting.{gets_more}
+use Rattle.cqlp_streams.proofs.Getting.{gets_more, one_longer}
 use Rattle.cqlp_streams.proofs.telling.pull_all.Goals as goal
 
 pub loop-turn-preserved : goal.loop-turn-preserved
@@ -15,6 +15,7 @@ loop-turn-preserved g c = λ tells.
       path_more (Pulls (seen c.args.segment.now)) _ c.loop-turn.connections _ before.0 (Of c.in-Some.told t.0) before.1 (c.pull.new.self, c.in-Some.ensures.told, t.1),
       all.0,
       all.1,
+      one_longer before.0 _ _ before.4,
     )
 
 pub returns-in_err-tell : goal.returns-in_err-tell
@@ -27,3 +28,9 @@ returns-in_err-tell g c =
       path_more (Pulls (seen c.args.segment.now)) _ c.loop-turn.connections _ before.0 (Of c.in-Some.told t.0) before.1 (c.pull.new.self, c.in-Some.ensures.told, t.1),
       gets_more g.L.Listener c.args.listener.now c.loop-turn.listener c.tell.new.listener before.0 (Of c.in-Some.told t.0) (Err c.in_err-tell.field-0.0) before.3 t.2,
     ))
+
+pub returns : goal.returns
+returns g c = λ tells.
+    let before = c.loop-turn.invariant tells in
+    let all : c.loop-turn.turn ≡ 2 ^ 64 - 1 = omega arith in
+    (before.0, before.1, inl (refl, omega (arith, before.4), before.3))
