@@ -7,6 +7,7 @@ use crate::saying::Saying;
 
 /// What takes what is told of the connections of a capture, one thing after the other. After a fault nothing more is told to it.
 pub trait Listener {
+    ghost use Rattle.cqlp_streams.specs.declared.fault.StreamsFault.{StreamsFault};
     ghost use Rattle.cqlp_streams.specs.Sayings.{saying_of};
     ghost use Rattle.cqlp_streams.specs.Sayings as told;
 
