@@ -30,8 +30,10 @@ joined s piece k n = append_assoc s (take k piece) (take n (drop k piece)) ∙ a
 -- an event of the piece
 pub takes_event : {V : Type 0} (after : V → Saying → V) (t : Table) (before : V) (s piece : List ℕ) (k : ℕ) (d d' : CaptureState) (u u' : SplitState) (v v' : V) (at used : ℕ) (e : CaptureEvent) (ts : List Saying) → (h : Has after t before (s ++ take k piece) d u v) → Leads d (s ++ take k piece) h.events (drop k piece) (answer.Event at used e) d' → TellsEvent true u (event_of e) ts u' → v' ≡ after_all after v ts → (n : ℕ) → n ≤ length h.events → (next : Has after t before (s ++ take (k + used) piece) d' u' v') × (n + 1 ≤ length next.events)
 takes_event after t before s piece k d d' u u' v v' at used e ts h leads tells is n few =
-    let more = one_longer h.events (at, event_of e) (length h.events) refl in
-    subst (λ z. (next : Has after t before z d' u' v') × (n + 1 ≤ length next.events)) (joined s piece k used) (has_more after t before (s ++ take k piece) (drop k piece) d d' u u' v v' at used e ts h leads tells is, omega (arith, few, more))
+    let next = has_more after t before (s ++ take k piece) (drop k piece) d d' u u' v v' at used e ts h leads tells is in
+    let more : length next.events ≡ length h.events + 1 = one_longer h.events (at, event_of e) (length h.events) refl in
+    let enough : n + 1 ≤ length next.events = omega (arith, few, more) in
+    subst (λ z. (next : Has after t before z d' u' v') × (n + 1 ≤ length next.events)) (joined s piece k used) (next, enough)
 
 at_end_none : (o : Option CaptureRefusal) (d : CaptureState) (read s : List ℕ) (es : List (ℕ × Event)) → o ≡ None → s ≡ read → says (step d.limits d.spot) 0 d.pending ≡ More → IsAtEndBy o d read s es
 at_end_none None d read s es none same wants = (same, wants)
@@ -82,10 +84,12 @@ drained_refused after faulted l t before s piece k d d' u v r h same none answer
 pub drain_fails : {V : Type 0} (after : V → Saying → V) (faulted : V → Saying → StreamsFault → V → Type 0) (l : CaptureLimits) (t : Table) (before : V) (s piece : List ℕ) (k : ℕ) (d d' : CaptureState) (u u' : SplitState) (v v' : V) (at used : ℕ) (e : CaptureEvent) (ts : List Saying) (f' : StreamsFault) → (h : Has after t before (s ++ take k piece) d u v) → d.limits ≡ l → AnswersFrom d.refusal d (drop k piece) (answer.Event at used e) d' → Leads d (s ++ take k piece) h.events (drop k piece) (answer.Event at used e) d' → TellsEvent false u (event_of e) ts u' → FailsAtLast after faulted (AreEndless ts) v ts f' v' → DrainsTo after faulted l t before s piece (Err f') d' u' v'
 drain_fails after faulted l t before s piece k d d' u u' v v' at used e ts f' h same answers leads tells fails =
     let first = fails_at after faulted l t before (s ++ take k piece) (drop k piece) d d' u u' v v' at used e ts f' h leads (same_limits d.refusal d d' (drop k piece) (answer.Event at used e) answers ∙ same) tells fails in
-    (first.0, subst (λ z. (f : TellsFirst l t z first.0 u') × FailsAtLast after faulted (AreEndless first.0 ⊎ AreEndless f.events) before first.0 f' v') (parted_at s piece k) (first.1, first.2))
+    let there = subst (λ z. (f : TellsFirst l t z first.0 u') × FailsAtLast after faulted (AreEndless first.0 ⊎ AreEndless f.events) before first.0 f' v') (parted_at s piece k) (first.1, first.2) in
+    (first.0, there.0, there.1)
 
 -- there was no end to its events
 pub never_drained : {V : Type 0} (after : V → Saying → V) (faulted : V → Saying → StreamsFault → V → Type 0) (l : CaptureLimits) (t : Table) (before : V) (s piece : List ℕ) (k : ℕ) (d : CaptureState) (u : SplitState) (v : V) → (h : Has after t before (s ++ take k piece) d u v) → AreEndless h.events → d.refusal ≡ None → d.limits ≡ l → DrainsTo after faulted l t before s piece (Err fault.TooManyTurns) d u v
 never_drained after faulted l t before s piece k d u v h many none same =
     let first = never_ends after faulted l t before (s ++ take k piece) (drop k piece) d u v h many none same in
-    (first.0, subst (λ z. (f : TellsFirst l t z first.0 u) × FailsAtLast after faulted (AreEndless first.0 ⊎ AreEndless f.events) before first.0 fault.TooManyTurns v) (parted_at s piece k) (first.1, first.2))
+    let there = subst (λ z. (f : TellsFirst l t z first.0 u) × FailsAtLast after faulted (AreEndless first.0 ⊎ AreEndless f.events) before first.0 fault.TooManyTurns v) (parted_at s piece k) (first.1, first.2) in
+    (first.0, there.0, there.1)

@@ -12,13 +12,6 @@ use Rattle.cqlp_streams.specs.Sayings.{Saying, Packet, Left}
 use Rattle.cqlp_streams.specs.Listening.{GetsOne}
 use Rattle.cqlp_streams.specs.Tellings.{Departs, GetsNext, Leaves, Path, StillTells, TellsAgain, TellsFirst, TellsOf, TellsSeen, TellsTimed, is_done}
 
--- a segment that is seen so at first
-pub seen_first : (s : Sight) (all : Bool) (g : Seen) (t u : Table) (ss : List Saying) → TellsSeen s all g t ss u → TellsFirst s all g t ss u
-seen_first sight.Foreign all g t u ss a = a
-seen_first (sight.Taken n way is_new) all g t u ss a = a
-seen_first (sight.Crowded n is_full) true g t u ss a = absurd a
-seen_first (sight.Crowded n is_full) false g t u ss (a, b) = inl (inl (subst (λ z. Path (StillTells left) t z u) (sym a) b))
-
 -- after a connection has left for it
 pub crowded_first : (n : ℕ) (is_full all : Bool) (g : Seen) (t m u : Table) (front rest : List Saying) → Leaves true t front m → TellsAgain all g m rest u → TellsFirst (sight.Crowded n is_full) all g t (front ++ rest) u
 crowded_first n f true g t m u front rest a b = (m, front, rest, refl, a, b)

@@ -86,7 +86,7 @@ fn read_line<'a, A: Allocator>(
     )?;
     push_table(&mut line, &read.connections)?;
     push_reasons(&mut line, &read.packets.without)?;
-    line.push('\n')?;
+    line.push_str("\n")?;
     Ok(line)
 }
 

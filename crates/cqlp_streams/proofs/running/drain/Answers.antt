@@ -47,13 +47,13 @@ loop-turn-preserved g c =
       within = omega (arith, taken, length-drop used piece, i.within);
       limits = same_limits _ _ _ _ _ c.next.follows.holds-at-none.0 ∙ i.limits;
       free = λ none. still_free _ c.loop-turn.reader c.next.follows.lender-at-none _ _ _ _ (i.free none) (rw (c.in-Event.is, rest_of) at c.next.follows.holds-at-none.0);
-      tells = λ k. (c.in_ok-take-in-Event.ensures (i.tells k)).2;
+      tells = λ k. (c.in_ok-take-in-Event.ensures (i.tells k)).2.0;
       has = λ t before s k h0.
           let has = i.has t before s k h0 in
           let h = has.0 in
           let leads = rw (c.in-Event.is, rest_of) at c.next.follows.holds-at-none.1 (s ++ take used piece) h.events h.stands in
           let a = c.in_ok-take-in-Event.ensures (i.tells k) in
-          takes_event g.L.Listener.after t before s piece used c.loop-turn.reader c.next.follows.lender-at-none c.loop-turn.splitter c.take.new.self (g.L.Listener.view c.loop-turn.listener) (g.L.Listener.view c.take.new.listener) c.in-Event.at c.in-Event.taken c.in-Event.event a.0 h leads a.1 a.3 c.loop-turn.turn has.1;
+          takes_event g.L.Listener.after t before s piece used c.loop-turn.reader c.next.follows.lender-at-none c.loop-turn.splitter c.take.new.self (g.L.Listener.view c.loop-turn.listener) (g.L.Listener.view c.take.new.listener) c.in-Event.at c.in-Event.taken c.in-Event.event a.0 h leads a.1 a.2.1 c.loop-turn.turn has.1;
     }
 
 pub returns-clause-drains : goal.returns-clause-drains

@@ -12,4 +12,4 @@ returns-in_err-finish-clause-ends g c =
 pub returns-clause-ends : goal.returns-clause-ends
 returns-clause-ends g c = λ t turns made before s read k h at.
     let a = c.in_ok-finish.ensures k in
-    ends_ok g.L.Listener.after g.L.Listener.faulted t turns made before s read c.args.reader.now _ _ _ _ c.finish-end.result a.0 h at c.finish-end.ensures.is c.finish-end.ensures.ends a.1 a.3
+    ends_ok g.L.Listener.after g.L.Listener.faulted t turns made before s read c.args.reader.now _ _ _ _ c.finish-end.result a.0 h at c.finish-end.ensures.is c.finish-end.ensures.ends a.1 a.2.1

@@ -20,13 +20,13 @@ pub returns-then-is_done : goal.returns-then-is_done
 returns-then-is_done g c = λ tells.
     let before = c.loop-turn.invariant tells in
     let t = no_more g.L.Listener c.in_ok-is_done.is_done _ _ _ _ c.if-is_done.true (c.in_ok-is_done.ensures before.2) in
-    (before.0, (c.loop-turn.connections, before.1, t.0), subst g.L.Listener.tells (sym t.1) before.2, ap g.L.Listener.view t.1 ∙ before.3)
+    (before.0, (c.loop-turn.connections, before.1, t.0), (subst g.L.Listener.tells (sym t.1) before.2, ap g.L.Listener.view t.1 ∙ before.3))
 
 pub loop-turn-preserved : goal.loop-turn-preserved
 loop-turn-preserved g c = λ tells.
     let before = c.loop-turn.invariant tells in
     let t = one_more g.L.Listener c.in_ok-is_done.is_done _ _ _ _ c.if-is_done.false (c.in_ok-is_done.ensures before.2) in
-    let all = gets_more g.L.Listener c.args.listener.now c.loop-turn.listener _ before.0 t.0 _ before.3 (t.2, t.3) in (
+    let all = gets_more g.L.Listener c.args.listener.now c.loop-turn.listener _ before.0 t.0 _ before.3 t.2 in (
       before.0 ++ t.0 ∷ [],
       path_more Departs _ c.loop-turn.connections _ before.0 t.0 before.1 t.1,
       all.0,

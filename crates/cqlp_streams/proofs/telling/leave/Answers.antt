@@ -11,7 +11,7 @@ pub loop-turn-preserved : goal.loop-turn-preserved
 loop-turn-preserved g c = λ tells.
     let before = c.loop-turn.invariant tells in
     let t = c.in_ok-tell_last-in-Told.ensures before.2 in
-    let all = gets_more g.L.Listener c.args.listener.now c.loop-turn.listener _ before.0 (Of c.in-Told.told t.0) _ before.3 (t.2, t.3) in (
+    let all = gets_more g.L.Listener c.args.listener.now c.loop-turn.listener _ before.0 (Of c.in-Told.told t.0) _ before.3 t.2 in (
       before.0 ++ Of c.in-Told.told t.0 ∷ [],
       path_more (StillTells left) _ c.loop-turn.connections _ before.0 (Of c.in-Told.told t.0) before.1 (c.leave.new.self, c.in-Told.ensures, t.1),
       all.0,
@@ -41,7 +41,7 @@ returns-in-Left g c = λ tells.
 pub returns-in-Empty : goal.returns-in-Empty
 returns-in-Empty g c = λ tells.
     let before = c.loop-turn.invariant tells in
-    (before.0, parted_none _ c.loop-turn.connections _ before.0 before.1 c.in-Empty.ensures, before.2, before.3)
+    (before.0, parted_none _ c.loop-turn.connections _ before.0 before.1 c.in-Empty.ensures, (before.2, before.3))
 
 pub returns : goal.returns
 returns g c = λ tells.
