@@ -16,7 +16,6 @@ use Rattle.cqlp_streams.specs.Sayings.{Saying}
 use Rattle.cqlp_streams.specs.Listening.{AreEndless, FailsAtLast, after_all}
 use Rattle.cqlp_streams.specs.Packets.{SplitState, TellsEvent}
 use Rattle.cqlp_streams.specs.Captures.{DrainsTo, Has, IsAtEndBy, TellsFirst}
-use Rattle.cqlp_streams.proofs.Getting.{one_longer}
 use Rattle.cqlp_streams.proofs.Events.{fails_at, has_more, never_ends, parted_at, same_limits, wants_more}
 
 -- nothing is refused at an event
@@ -31,9 +30,8 @@ joined s piece k n = append_assoc s (take k piece) (take n (drop k piece)) ∙ a
 pub takes_event : {V : Type 0} (after : V → Saying → V) (t : Table) (before : V) (s piece : List ℕ) (k : ℕ) (d d' : CaptureState) (u u' : SplitState) (v v' : V) (at used : ℕ) (e : CaptureEvent) (ts : List Saying) → (h : Has after t before (s ++ take k piece) d u v) → Leads d (s ++ take k piece) h.events (drop k piece) (answer.Event at used e) d' → TellsEvent true u (event_of e) ts u' → v' ≡ after_all after v ts → (n : ℕ) → n ≤ length h.events → (next : Has after t before (s ++ take (k + used) piece) d' u' v') × (n + 1 ≤ length next.events)
 takes_event after t before s piece k d d' u u' v v' at used e ts h leads tells is n few =
     let next = has_more after t before (s ++ take k piece) (drop k piece) d d' u u' v v' at used e ts h leads tells is in
-    let more : length next.events ≡ length h.events + 1 = one_longer h.events (at, event_of e) (length h.events) refl in
-    let enough : n + 1 ≤ length next.events = omega (arith, few, more) in
-    subst (λ z. (next : Has after t before z d' u' v') × (n + 1 ≤ length next.events)) (joined s piece k used) (next, enough)
+    let enough : n + 1 ≤ length next.0.events = omega (arith, few, next.1) in
+    subst (λ z. (next : Has after t before z d' u' v') × (n + 1 ≤ length next.events)) (joined s piece k used) (next.0, enough)
 
 at_end_none : (o : Option CaptureRefusal) (d : CaptureState) (read s : List ℕ) (es : List (ℕ × Event)) → o ≡ None → s ≡ read → says (step d.limits d.spot) 0 d.pending ≡ More → IsAtEndBy o d read s es
 at_end_none None d read s es none same wants = (same, wants)

@@ -19,7 +19,7 @@ use Rattle.cqlp_streams.specs.Sayings.{Saying}
 use Rattle.cqlp_streams.specs.Listening.{AreEndless, FailsAtLast, after_all}
 use Rattle.cqlp_streams.specs.Packets.{Finishes, SplitState, TellsEvent, TellsEvents, new_split}
 use Rattle.cqlp_streams.specs.Captures.{EndsSo, EndsTo, Has, HearsAll, IsAtEndBy, IsAtEndOf, TellsFile, TellsFirst, TellsLeaving, TellsSoFar, TellsSome}
-use Rattle.cqlp_streams.proofs.Getting.{after_others, endless_more, fails_others}
+use Rattle.cqlp_streams.proofs.Getting.{after_others, endless_more, fails_others, one_longer}
 
 -- one event more
 pub events_more : (s m u : SplitState) (es : List (ℕ × Event)) (e : ℕ × Event) (ss ts : List Saying) → TellsEvents s es ss m → TellsEvent true m e.1 ts u → TellsEvents s (es ++ e ∷ []) (ss ++ ts) u
@@ -51,14 +51,14 @@ pub hears_here : (d : CaptureState) (s : List ℕ) (es : List (ℕ × Event)) �
 hears_here d s es none a = hears_by d.refusal d s es none a
 
 -- one event more was told
-pub has_more : {V : Type 0} (after : V → Saying → V) (t : Table) (before : V) (s input : List ℕ) (d d' : CaptureState) (u u' : SplitState) (v v' : V) (at used : ℕ) (e : CaptureEvent) (ts : List Saying) → (h : Has after t before s d u v) → Leads d s h.events input (answer.Event at used e) d' → TellsEvent true u (event_of e) ts u' → v' ≡ after_all after v ts → Has after t before (s ++ take used input) d' u' v'
-has_more after t before s input d d' u u' v v' at used e ts h leads tells is = record {
+pub has_more : {V : Type 0} (after : V → Saying → V) (t : Table) (before : V) (s input : List ℕ) (d d' : CaptureState) (u u' : SplitState) (v v' : V) (at used : ℕ) (e : CaptureEvent) (ts : List Saying) → (h : Has after t before s d u v) → Leads d s h.events input (answer.Event at used e) d' → TellsEvent true u (event_of e) ts u' → v' ≡ after_all after v ts → (next : Has after t before (s ++ take used input) d' u' v') × (length next.events ≡ length h.events + 1)
+has_more after t before s input d d' u u' v v' at used e ts h leads tells is = (record {
   events = h.events ++ (at, event_of e) ∷ [];
   sayings = h.sayings ++ ts;
   stands = leads.3;
   tells = events_more (new_split t) u u' h.events (at, event_of e) h.sayings ts h.tells tells;
   got = is ∙ ap (λ z. after_all after z ts) h.got ∙ sym (after_others after before h.sayings ts);
-}
+}, one_longer h.events (at, event_of e) (length h.events) refl)
 
 -- the bytes before an offset and those from there on
 pub parted_at : (s piece : List ℕ) (n : ℕ) → (s ++ take n piece) ++ drop n piece ≡ s ++ piece

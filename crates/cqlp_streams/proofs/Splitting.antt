@@ -1,5 +1,5 @@
 -- What a listener has got of an input after some reads.
-use Rattle.std.proofs.Common.{◌≡◌, ◌∙◌, ℕ, ◌<◌, ◌≤◌, List, [], ◌++◌, length, take, Option, Some, None, Result, Ok, Err, IfOk, refl, sym, ap, subst, inl, inr, append_assoc, append-nil}
+use Rattle.std.proofs.Common.{◌≡◌, ◌∙◌, ℕ, ◌<◌, ◌≤◌, List, [], ◌++◌, length, take, Option, Some, None, Result, Ok, Err, IfOk, OnOk, refl, sym, ap, subst, inl, inr, append_assoc, append-nil}
 use Rattle.std.specs.Io.KnownBytes.{Consumes, IsAtEnd, Keeps}
 use Rattle.cqlp_note.specs.Reader.{More, says}
 use Rattle.cqlp_capture.specs.declared.event.CaptureEnd.{CaptureEnd}
@@ -16,6 +16,7 @@ use Rattle.cqlp_streams.specs.declared.running.Drained.TheVariants as drained
 use Rattle.cqlp_streams.specs.Sayings.{Saying}
 use Rattle.cqlp_streams.specs.Packets.{SplitState, new_split}
 use Rattle.cqlp_streams.specs.Captures.{DrainsTo, EndsTo, Has, IsAll, IsAtEndBy, IsRefused, SplitsTo, TellsSoFar}
+use Rattle.cqlp_streams.specs.Streams.{read_of}
 use Rattle.cqlp_streams.proofs.Events.{hears_here}
 
 pub record SoFar {V : Type 0} (after : V → Saying → V) (l : CaptureLimits) (t : Table) (before : V) (xs : List ℕ)
@@ -169,3 +170,8 @@ pub splits_as : {V : Type 0} (after : V → Saying → V) (faulted : V → Sayin
 splits_as after faulted l l' t t' turns made before xs r left u v el et a =
     let one = subst (λ (z : Table). SplitsTo after faulted l z turns made before xs r left u v) et a in
     subst (λ (z : CaptureLimits). SplitsTo after faulted z t' turns made before xs r left u v) el one
+
+-- a capture that was read is one that was split
+pub read_on : {P : Type 0} (r : Result CaptureEnd StreamsFault) (u : SplitState) → OnOk r P → OnOk (read_of r u) P
+read_on (Ok e) u p = p
+read_on (Err f) u p = tt

@@ -52,9 +52,13 @@ verdict (end.Whole bytes) = codes "whole " ++ decimal bytes
 verdict (end.Cut at bytes) = codes "cut " ++ decimal at ++ codes " " ++ decimal bytes
 verdict (end.Refused r) = codes "refused " ++ decimal r.at ++ codes " " ++ reason_name r.why
 
--- a name and a number, unless that is 0
+-- a name and a number
+abbrev pub named_words : (name : List ℕ) → ℕ → List ℕ
+named_words name n = codes " " ++ name ++ codes " " ++ decimal n
+
+-- unless that is 0
 abbrev pub count_words : (name : List ℕ) → ℕ → List ℕ
-count_words name n = if n == 0 then [] else codes " " ++ name ++ codes " " ++ decimal n
+count_words name n = if n == 0 then [] else named_words name n
 
 -- how often a connection had to leave since the table was full, and how many segments are of other ports
 abbrev pub table_words : ConnectionCounts → List ℕ
@@ -69,15 +73,18 @@ reason_words w =
     ++ count_words (codes "NotTcp") w.not_tcp ++ count_words (codes "CutInTcp") w.cut_in_tcp
     ++ count_words (codes "BadTcpLength") w.bad_tcp_length
 
-abbrev pub read_head : CaptureRead → List ℕ
-read_head r =
-    verdict r.end ++ codes " packets " ++ decimal r.packets.packets ++ codes " segments " ++ decimal r.packets.segments
-    ++ codes " connections " ++ decimal r.connections.connections
+abbrev pub head_words : CaptureRead → List ℕ
+head_words r =
+    named_words (codes "packets") r.packets.packets ++ named_words (codes "segments") r.packets.segments
+    ++ named_words (codes "connections") r.connections.connections
 
--- with a caller's own words behind the number of connections
+-- a caller's own words
+abbrev pub own_words : (words : List ℕ) → List ℕ
+own_words words = codes " " ++ words
+
 abbrev pub read_line : (words : List ℕ) → CaptureRead → List ℕ
 read_line words r =
-    read_head r ++ codes " " ++ words ++ table_words r.connections ++ reason_words r.packets.without ++ codes "\n"
+    verdict r.end ++ head_words r ++ own_words words ++ table_words r.connections ++ reason_words r.packets.without ++ codes "\n"
 
 -- those of streams
 abbrev pub sums_words : Sums → List ℕ

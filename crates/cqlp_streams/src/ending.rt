@@ -9,7 +9,7 @@ use crate::capturing::CaptureRead;
 use crate::fault::StreamsFault;
 use crate::files::{FileFault, StreamFile};
 use crate::lines::way_name;
-use crate::summary::{push_reasons, push_table};
+use crate::summary::{push_head, push_own, push_reasons, push_table};
 use cqlp_capture::{CaptureEnd, CaptureReason};
 use cqlp_grammar::SinkFault;
 use cqlp_note::Target;
@@ -77,13 +77,9 @@ fn read_line<'a, A: Allocator>(
 ) -> Result<String<&'a A>, AllocError>
     ensures { IfOk result (λ line. string_bytes line ≡ read_line words.now read.now) }
 {
-    let verdict = verdict(alloc, &read.end)?;
-    let packets = read.packets.packets;
-    let segments = read.packets.segments;
-    let connections = read.connections.connections;
-    let mut line = format!(in alloc;
-        "{verdict} packets {packets} segments {segments} connections {connections} {words}"
-    )?;
+    let mut line = verdict(alloc, &read.end)?;
+    push_head(&mut line, read)?;
+    push_own(&mut line, words)?;
     push_table(&mut line, &read.connections)?;
     push_reasons(&mut line, &read.packets.without)?;
     line.push_str("\n")?;

@@ -1,11 +1,31 @@
-//! What of a capture connections did not take, in numbers.
+//! What a capture was, in numbers.
 
 ghost use Rattle.std.specs.Prelude.{◌≡◌, ◌++◌, IfOk, string_bytes};
-ghost use Rattle.cqlp_streams.specs.Endings.{count_words, reason_words, table_words};
+ghost use Rattle.cqlp_streams.specs.Endings.{count_words, head_words, named_words, own_words, reason_words, table_words};
 
+use crate::capturing::CaptureRead;
 use crate::packets::WithoutCounts;
 use cqlp_connections::ConnectionCounts;
 use std::alloc::{AllocError, Allocator};
+
+/// Appends how many packets, segments and connections there were.
+pub(crate) fn push_head<A: Allocator>(
+    words: &mut String<A>,
+    read: &CaptureRead,
+) -> Result<(), AllocError>
+    ensures { IfOk result (λ _. string_bytes words.new ≡ string_bytes words.old ++ head_words read.now) }
+{
+    push_named(words, "packets", read.packets.packets)?;
+    push_named(words, "segments", read.packets.segments)?;
+    push_named(words, "connections", read.connections.connections)
+}
+
+/// Appends a caller's own words, after a space.
+pub(crate) fn push_own<A: Allocator>(words: &mut String<A>, own: &str) -> Result<(), AllocError>
+    ensures { IfOk result (λ _. string_bytes words.new ≡ string_bytes words.old ++ own_words own.now) }
+{
+    write!(words, " {own}")
+}
 
 /// Appends what connections did not take.
 pub(crate) fn push_table<A: Allocator>(
@@ -43,5 +63,12 @@ fn push_count<A: Allocator>(words: &mut String<A>, name: &str, count: u64) -> Re
     if count == 0 {
         return Ok(());
     }
+    push_named(words, name, count)
+}
+
+/// Appends a name and a number, each after a space.
+fn push_named<A: Allocator>(words: &mut String<A>, name: &str, count: u64) -> Result<(), AllocError>
+    ensures { IfOk result (λ _. string_bytes words.new ≡ string_bytes words.old ++ named_words name.now count) }
+{
     write!(words, " {name} {count}")
 }

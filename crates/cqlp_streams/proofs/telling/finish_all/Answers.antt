@@ -1,4 +1,4 @@
-use Rattle.std.proofs.Common.{rules, Err, arith, inl, refl, ◌-◌, ◌^◌, ◌≡◌, ◌∙◌, [], ◌∷◌, ◌++◌, sym, ap, subst}
+use Rattle.std.proofs.Common.{rules, Err, Ok, arith, inl, refl, ◌-◌, ◌^◌, ◌≡◌, ◌∙◌, [], ◌∷◌, ◌++◌, sym, ap, subst}
 use Rattle.cqlp_streams.specs.Tellings.{Departs}
 use Rattle.cqlp_streams.proofs.Paths.{path_more}
 use Rattle.cqlp_streams.proofs.Getting.{gets_more, one_longer}
@@ -26,7 +26,7 @@ pub loop-turn-preserved : goal.loop-turn-preserved
 loop-turn-preserved g c = λ tells.
     let before = c.loop-turn.invariant tells in
     let t = one_more g.L.Listener c.in_ok-is_done.is_done _ _ _ _ c.if-is_done.false (c.in_ok-is_done.ensures before.2) in
-    let all = gets_more g.L.Listener c.args.listener.now c.loop-turn.listener _ before.0 t.0 _ before.3 t.2 in (
+    let all = gets_more g.L.Listener c.args.listener.now c.loop-turn.listener c.finish_one.new.listener before.0 t.0 (Ok tt) before.3 t.2 in (
       before.0 ++ t.0 ∷ [],
       path_more Departs _ c.loop-turn.connections _ before.0 t.0 before.1 t.1,
       all.0,

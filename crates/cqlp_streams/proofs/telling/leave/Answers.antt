@@ -1,4 +1,4 @@
-use Rattle.std.proofs.Common.{rules, Err, arith, ◌-◌, ◌^◌, ◌≡◌, [], ◌∷◌, ◌++◌, refl, inl}
+use Rattle.std.proofs.Common.{rules, Err, Ok, arith, ◌-◌, ◌^◌, ◌≡◌, [], ◌∷◌, ◌++◌, refl, inl}
 use Rattle.cqlp_connections.specs.Tables.{left}
 use Rattle.cqlp_streams.specs.Sayings.{Of, Left}
 use Rattle.cqlp_streams.specs.Tellings.{StillTells}
@@ -11,7 +11,7 @@ pub loop-turn-preserved : goal.loop-turn-preserved
 loop-turn-preserved g c = λ tells.
     let before = c.loop-turn.invariant tells in
     let t = c.in_ok-tell_last-in-Told.ensures before.2 in
-    let all = gets_more g.L.Listener c.args.listener.now c.loop-turn.listener _ before.0 (Of c.in-Told.told t.0) _ before.3 t.2 in (
+    let all = gets_more g.L.Listener c.args.listener.now c.loop-turn.listener c.tell_last.new.listener before.0 (Of c.in-Told.told t.0) (Ok tt) before.3 t.2 in (
       before.0 ++ Of c.in-Told.told t.0 ∷ [],
       path_more (StillTells left) _ c.loop-turn.connections _ before.0 (Of c.in-Told.told t.0) before.1 (c.leave.new.self, c.in-Told.ensures, t.1),
       all.0,

@@ -1,4 +1,4 @@
-use Rattle.std.proofs.Common.{rules, Err, arith, inl, refl, ◌-◌, ◌^◌, ◌≡◌, [], ◌∷◌, ◌++◌}
+use Rattle.std.proofs.Common.{rules, Err, Ok, arith, inl, refl, ◌-◌, ◌^◌, ◌≡◌, [], ◌∷◌, ◌++◌}
 use Rattle.cqlp_segment.specs.Segment.{seen}
 use Rattle.cqlp_streams.specs.Sayings.{Of}
 use Rattle.cqlp_streams.specs.Tellings.{Pulls}
@@ -10,7 +10,7 @@ pub loop-turn-preserved : goal.loop-turn-preserved
 loop-turn-preserved g c = λ tells.
     let before = c.loop-turn.invariant tells in
     let t = c.in_ok-tell.ensures before.2 in
-    let all = gets_more g.L.Listener c.args.listener.now c.loop-turn.listener _ before.0 (Of c.in-Some.told t.0) _ before.3 t.2 in (
+    let all = gets_more g.L.Listener c.args.listener.now c.loop-turn.listener c.tell.new.listener before.0 (Of c.in-Some.told t.0) (Ok tt) before.3 t.2 in (
       before.0 ++ Of c.in-Some.told t.0 ∷ [],
       path_more (Pulls (seen c.args.segment.now)) _ c.loop-turn.connections _ before.0 (Of c.in-Some.told t.0) before.1 (c.pull.new.self, c.in-Some.ensures.told, t.1),
       all.0,
