@@ -172,6 +172,6 @@ splits_as after faulted l l' t t' turns made before xs r left u v el et a =
     subst (λ (z : CaptureLimits). SplitsTo after faulted z t' turns made before xs r left u v) el one
 
 -- a capture that was read is one that was split
-pub read_on : {P : Type 0} (r : Result CaptureEnd StreamsFault) (u : SplitState) → OnOk r P → OnOk (read_of r u) P
-read_on (Ok e) u p = p
-read_on (Err f) u p = tt
+pub read_on : (P : Type 0) (r : Result CaptureEnd StreamsFault) (u : SplitState) → OnOk r P → OnOk (read_of r u) P
+read_on P (Ok e) u p = p
+read_on P (Err f) u p = tt

@@ -17,7 +17,7 @@ pub returns-in_default-vec-clause-reads : goal.returns-in_default-vec-clause-rea
 returns-in_default-vec-clause-reads g c = λ xs is k. (0, λ fits. omega arith, inr (refl, refl, is, refl))
 
 pub returns-clause-tells : goal.returns-clause-tells
-returns-clause-tells g c = λ tells. subst (λ (z : Result CaptureRead StreamsFault). OnOk z (g.L.Listener.tells c.split-answer.new.listener)) (sym c.read_of.ensures) (read_on c.split-answer.result c.split-answer.new.splitter (c.split-answer.ensures.tells tells))
+returns-clause-tells g c = λ tells. subst (λ (z : Result CaptureRead StreamsFault). OnOk z (g.L.Listener.tells c.split-answer.new.listener)) (sym c.read_of.ensures) (read_on _ c.split-answer.result c.split-answer.new.splitter (c.split-answer.ensures.tells tells))
 
 pub returns-clause-reads : goal.returns-clause-reads
 returns-clause-reads g c = λ xs is k.
