@@ -1,5 +1,5 @@
 -- What draining a piece leaves.
-use Rattle.std.proofs.Common.{◌≡◌, ◌∙◌, ℕ, ◌+◌, ◌≤◌, arith, List, [], ◌∷◌, ◌++◌, length, take, drop, Option, Some, None, IsSome, Ok, Err, ◌⊎◌, true, false, refl, sym, ap, subst, append_assoc}
+use Rattle.std.proofs.Common.{◌≡◌, ◌∙◌, ℕ, ◌+◌, ◌≤◌, arith, List, ◌++◌, length, take, drop, Option, Some, None, Ok, Err, ◌⊎◌, true, false, sym, ap, subst, append_assoc}
 use Rattle.cqlp_note.specs.Reader.{More, says}
 use Rattle.cqlp_capture.specs.declared.event.CaptureEvent.{CaptureEvent}
 use Rattle.cqlp_capture.specs.declared.event.CaptureStep.TheVariants as answer

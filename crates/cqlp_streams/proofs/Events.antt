@@ -1,5 +1,5 @@
 -- What events tell, one after the other, and what a listener has got of them.
-use Rattle.std.proofs.Common.{◌≡◌, ◌∙◌, ◌⊎◌, ℕ, ◌+◌, ◌&&◌, true, false, List, [], ◌∷◌, ◌++◌, length, take, drop, Option, Some, None, IsSome, Result, Ok, Err, refl, sym, ap, subst, inl, inr, append_assoc, append-nil, cond, Bool}
+use Rattle.std.proofs.Common.{◌≡◌, ◌∙◌, ◌⊎◌, ℕ, ◌+◌, ◌&&◌, true, false, List, [], ◌∷◌, ◌++◌, length, take, drop, Option, Some, None, Ok, Err, refl, sym, ap, subst, inl, inr, append_assoc, append-nil, cond, Bool}
 use Rattle.std.proofs.lemmas.List.{take-append-drop}
 use Rattle.cqlp_note.specs.Reader.{More, says}
 use Rattle.cqlp_capture.specs.declared.event.CaptureEnd.{CaptureEnd}
@@ -9,7 +9,7 @@ use Rattle.cqlp_capture.specs.declared.event.CaptureStep.{CaptureStep}
 use Rattle.cqlp_capture.specs.declared.event.CaptureStep.TheVariants as answer
 use Rattle.cqlp_capture.specs.declared.limits.CaptureLimits.{CaptureLimits}
 use Rattle.cqlp_capture.specs.declared.refusal.CaptureRefusal.{CaptureRefusal}
-use Rattle.cqlp_capture.specs.Reading.{Event, Hears, Refused, Says, start, step}
+use Rattle.cqlp_capture.specs.Reading.{Event, Hears, start, step}
 use Rattle.cqlp_capture.specs.Places.{began, is_between}
 use Rattle.cqlp_capture.specs.Progress.{After, AfterBy, AnswersFrom, CaptureState, EndsAs, FinishesBy, Leads, ending, ending_by, event_of, is_empty}
 use Rattle.cqlp_connections.specs.Tables.{Table}
@@ -18,7 +18,7 @@ use Rattle.cqlp_streams.specs.declared.fault.StreamsFault.TheVariants as fault
 use Rattle.cqlp_streams.specs.Sayings.{Saying}
 use Rattle.cqlp_streams.specs.Listening.{AreEndless, FailsAtLast, after_all}
 use Rattle.cqlp_streams.specs.Packets.{Finishes, SplitState, TellsEvent, TellsEvents, new_split}
-use Rattle.cqlp_streams.specs.Captures.{EndsSo, EndsTo, Has, HearsAll, IsAtEndBy, IsAtEndOf, TellsFile, TellsFirst, TellsLeaving, TellsSoFar, TellsSome}
+use Rattle.cqlp_streams.specs.Captures.{EndsSo, EndsTo, Has, HearsAll, IsAtEndBy, IsAtEndOf, TellsFirst}
 use Rattle.cqlp_streams.proofs.Getting.{after_others, endless_more, fails_others, one_longer}
 
 -- one event more
@@ -52,13 +52,16 @@ hears_here d s es none a = hears_by d.refusal d s es none a
 
 -- one event more was told
 pub has_more : {V : Type 0} (after : V → Saying → V) (t : Table) (before : V) (s input : List ℕ) (d d' : CaptureState) (u u' : SplitState) (v v' : V) (at used : ℕ) (e : CaptureEvent) (ts : List Saying) → (h : Has after t before s d u v) → Leads d s h.events input (answer.Event at used e) d' → TellsEvent true u (event_of e) ts u' → v' ≡ after_all after v ts → (next : Has after t before (s ++ take used input) d' u' v') × (length next.events ≡ length h.events + 1)
-has_more after t before s input d d' u u' v v' at used e ts h leads tells is = (record {
-  events = h.events ++ (at, event_of e) ∷ [];
-  sayings = h.sayings ++ ts;
-  stands = leads.3;
-  tells = events_more (new_split t) u u' h.events (at, event_of e) h.sayings ts h.tells tells;
-  got = is ∙ ap (λ z. after_all after z ts) h.got ∙ sym (after_others after before h.sayings ts);
-}, one_longer h.events (at, event_of e) (length h.events) refl)
+has_more after t before s input d d' u u' v v' at used e ts h leads tells is = (
+  record {
+    events = h.events ++ (at, event_of e) ∷ [];
+    sayings = h.sayings ++ ts;
+    stands = leads.3;
+    tells = events_more (new_split t) u u' h.events (at, event_of e) h.sayings ts h.tells tells;
+    got = is ∙ ap (λ z. after_all after z ts) h.got ∙ sym (after_others after before h.sayings ts);
+  },
+  one_longer h.events (at, event_of e) (length h.events) refl,
+)
 
 -- the bytes before an offset and those from there on
 pub parted_at : (s piece : List ℕ) (n : ℕ) → (s ++ take n piece) ++ drop n piece ≡ s ++ piece
@@ -134,15 +137,18 @@ ends_ok after faulted t turns made before s read d u u' v v' e last h at is f le
 pub ends_err : {V : Type 0} (after : V → Saying → V) (faulted : V → Saying → StreamsFault → V → Type 0) (t : Table) (turns made : ℕ) (before : V) (s read : List ℕ) (d : CaptureState) (u u' : SplitState) (v v' : V) (e : CaptureEnd) (f : StreamsFault) (last : List Saying) → (h : Has after t before s d u v) → IsAtEndOf d read s h.events → e ≡ ending d → EndsAs d e → Finishes false u last u' → FailsAtLast after faulted (AreEndless last) v last f v' → EndsTo after faulted d.limits t turns made before read (Err f) u' v'
 ends_err after faulted t turns made before s read d u u' v v' e f last h at is ends leave fails = (
   h.sayings ++ last,
-  inr (inr (record {
-    events = h.events;
-    end = e;
-    ends = ends_by d.refusal d s read h.events e h.stands at is (ends s h.events h.stands);
-    mid = u;
-    front = h.sayings;
-    tells = h.tells;
-    last = last;
-    leave = leave;
-    all = refl;
-  }, fails_others after faulted (AreEndless last) (AreEndless (h.sayings ++ last)) before v v' h.sayings last f (endless_more h.sayings last) h.got fails)),
+  inr (inr (
+    record {
+      events = h.events;
+      end = e;
+      ends = ends_by d.refusal d s read h.events e h.stands at is (ends s h.events h.stands);
+      mid = u;
+      front = h.sayings;
+      tells = h.tells;
+      last = last;
+      leave = leave;
+      all = refl;
+    },
+    fails_others after faulted (AreEndless last) (AreEndless (h.sayings ++ last)) before v v' h.sayings last f (endless_more h.sayings last) h.got fails,
+  )),
 )

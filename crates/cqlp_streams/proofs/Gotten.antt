@@ -3,9 +3,9 @@ use Rattle.std.proofs.Common.{◌≡◌, ◌∙◌, List, [], ◌∷◌, ◌++�
 use Rattle.cqlp_reassembly.specs.declared.stream.StreamStep.TheVariants as step
 use Rattle.cqlp_reassembly.specs.declared.stream.StreamStep.{StreamStep}
 use Rattle.cqlp_streams.specs.declared.files.StreamFile.{StreamFile}
-use Rattle.cqlp_streams.specs.Files.{Call, Made, Appended, Kept, with_call}
+use Rattle.cqlp_streams.specs.Files.{Call, with_call}
 use Rattle.cqlp_streams.specs.Sayings.{Saying, Packet, New, Of, Left}
-use Rattle.cqlp_streams.specs.Recordings.{Recording, call_of, call_of_step, called, file_of, with_saying, with_sayings}
+use Rattle.cqlp_streams.specs.Recordings.{call_of, call_of_step, called, file_of, with_saying}
 use Rattle.cqlp_streams.specs.Laws.{GetWhatIsTold, appended_by, bytes_in, handed_on, is_same_file, told_by}
 
 -- the one call of a saying, or none

@@ -1,5 +1,5 @@
 -- What bytes tell is one list.
-use Rattle.std.proofs.Common.{◌≡◌, ◌∙◌, ℕ, Bool, true, false, List, [], ◌∷◌, ◌++◌, map, Option, Some, None, Result, Ok, Err, refl, sym, ap, subst}
+use Rattle.std.proofs.Common.{◌≡◌, ◌∙◌, ℕ, true, List, [], ◌∷◌, ◌++◌, map, Option, Some, None, Result, Ok, Err, refl, sym, ap, subst}
 use Rattle.cqlp_reassembly.specs.declared.stream.StreamStep.{StreamStep}
 use Rattle.cqlp_reassembly.specs.declared.stream.StreamStep.TheVariants as step
 use Rattle.cqlp_capture.specs.Reading.{Event, Section, Interface, Packet, Bytes}
@@ -12,7 +12,7 @@ use Rattle.cqlp_connections.specs.declared.told.Departure.TheVariants as departu
 use Rattle.cqlp_connections.specs.declared.told.Sight.{Sight}
 use Rattle.cqlp_connections.specs.declared.told.Sight.TheVariants as sight
 use Rattle.cqlp_connections.specs.declared.totals.ConnectionTotals.{ConnectionTotals}
-use Rattle.cqlp_connections.specs.Tables.{Departing, Pulling, Table, Taking, departing, finished, left, pulled, pulling, taken, taking}
+use Rattle.cqlp_connections.specs.Tables.{Departing, Pulling, Table, Taking, departing, finished, left, pulled, pulling, taking}
 use Rattle.cqlp_streams.specs.Sayings.{Saying, Packet, New, Of, Left}
 use Rattle.cqlp_streams.specs.Tellings.{Departs, FinishesAll, HandsOn, Leaves, Parts, Path, Pulls, PullsAll, StillTells, TellsAgain, TellsFirst, TellsOf, TellsSeen, TellsTimed, beginning}
 use Rattle.cqlp_streams.specs.Packets.{Finishes, SplitState, TellsEvent, TellsEvents, TellsRead, segment_in, with_segment}

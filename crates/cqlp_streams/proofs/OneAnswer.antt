@@ -1,5 +1,5 @@
 -- Two answers are the same.
-use Rattle.std.proofs.Common.{◌≡◌, ◌≢◌, ◌∙◌, ◌&&◌, ◌≤◌, ℕ, Bool, true, false, List, [], ◌∷◌, ◌++◌, length, Option, Some, None, Result, Ok, Err, refl, sym, ap, subst, inl, inr, append-nil, arith}
+use Rattle.std.proofs.Common.{◌≡◌, ◌≢◌, ◌∙◌, ◌&&◌, ◌≤◌, ℕ, Bool, true, false, List, [], ◌∷◌, ◌++◌, length, Option, Result, Ok, Err, refl, sym, ap, subst, inl, inr, append-nil, arith}
 use Rattle.std.proofs.lemmas.Bool.{cases_lt}
 use Rattle.cqlp_text.specs.Outputs.{Output, with_text}
 use Rattle.cqlp_note.specs.Reader.{Said, More, Got, says}
@@ -15,15 +15,14 @@ use Rattle.cqlp_capture.proofs.Runs.{reads_compare}
 use Rattle.cqlp_capture.proofs.Whole.{always_said, refusal_stays, says_once}
 use Rattle.cqlp_connections.specs.Tables.{Table}
 use Rattle.cqlp_streams.specs.declared.capturing.CaptureRead.{CaptureRead}
-use Rattle.cqlp_streams.specs.declared.recorder.Sums.{Sums}
 use Rattle.cqlp_streams.specs.declared.fault.StreamsFault.{StreamsFault}
 use Rattle.cqlp_streams.specs.Sayings.{Saying}
 use Rattle.cqlp_streams.specs.Listening.{after_all}
 use Rattle.cqlp_streams.specs.Recordings.{Recording, StopsAt, no_sums, recording, with_saying}
 use Rattle.cqlp_streams.specs.Packets.{Finishes, SplitState, TellsEvents, new_split}
-use Rattle.cqlp_streams.specs.Captures.{EndsSo, EndsTo, HearsAll, IsAll, SplitsTo}
+use Rattle.cqlp_streams.specs.Captures.{EndsSo, HearsAll, IsAll, SplitsTo}
 use Rattle.cqlp_streams.specs.Endings.{Concludes, line_of, status_of, sums_words}
-use Rattle.cqlp_streams.specs.Streams.{ReadsCapture, WritesStreams, default_limits, no_connections, read_of}
+use Rattle.cqlp_streams.specs.Streams.{ReadsCapture, default_limits, no_connections, read_of}
 use Rattle.cqlp_streams.specs.Laws.{OneAnswerOfReadCapture, OneAnswerOfWriteStreams}
 use Rattle.cqlp_streams.proofs.Once.{events_once, finishes_once}
 

@@ -1,8 +1,7 @@
 -- What is told of segments and of connections that leave.
-use Rattle.std.proofs.Common.{◌≡◌, ℕ, Bool, true, false, List, [], ◌∷◌, ◌++◌, Option, Result, Ok, Err, refl, sym, subst, inl, inr, append-nil}
+use Rattle.std.proofs.Common.{◌≡◌, ℕ, Bool, true, false, List, [], ◌∷◌, ◌++◌, Option, Result, Ok, Err, refl, sym, inl, inr, append-nil}
 use Rattle.cqlp_segment.specs.Segment.{Seen}
 use Rattle.cqlp_connections.specs.declared.told.Departure.TheVariants as departure
-use Rattle.cqlp_connections.specs.declared.told.Sight.{Sight}
 use Rattle.cqlp_connections.specs.declared.told.Sight.TheVariants as sight
 use Rattle.cqlp_connections.specs.declared.totals.ConnectionTotals.{ConnectionTotals}
 use Rattle.cqlp_connections.specs.Tables.{Table, departing, finished, left}
@@ -10,7 +9,7 @@ use Rattle.cqlp_streams.specs.declared.fault.StreamsFault.{StreamsFault}
 use Rattle.cqlp_streams.specs.declared.listener.Listener as listener
 use Rattle.cqlp_streams.specs.Sayings.{Saying, Packet, Left}
 use Rattle.cqlp_streams.specs.Listening.{GetsOne}
-use Rattle.cqlp_streams.specs.Tellings.{Departs, GetsNext, Leaves, Path, StillTells, TellsAgain, TellsFirst, TellsOf, TellsSeen, TellsTimed, is_done}
+use Rattle.cqlp_streams.specs.Tellings.{Departs, GetsNext, Leaves, Path, StillTells, TellsAgain, TellsFirst, TellsOf, TellsTimed, is_done}
 
 -- after a connection has left for it
 pub crowded_first : (n : ℕ) (is_full all : Bool) (g : Seen) (t m u : Table) (front rest : List Saying) → Leaves true t front m → TellsAgain all g m rest u → TellsFirst (sight.Crowded n is_full) all g t (front ++ rest) u

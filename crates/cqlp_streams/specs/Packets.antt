@@ -1,5 +1,5 @@
 -- What the packets of a capture tell.
-use Rattle.std.specs.Prelude.{◌≡◌, ℕ, Bool, true, false, List, [], ◌∷◌, ◌++◌, Option, None, Result, Ok, Err}
+use Rattle.std.specs.Prelude.{◌≡◌, ℕ, Bool, true, List, [], ◌∷◌, ◌++◌, Option, None, Result, Ok, Err}
 use Rattle.cqlp_capture.specs.Reading.{Event, Section, Interface, Packet, Bytes}
 use Rattle.cqlp_segment.specs.declared.link.LinkType.{LinkType}
 use Rattle.cqlp_segment.specs.declared.reason.NoSegment.{NoSegment}

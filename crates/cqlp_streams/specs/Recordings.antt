@@ -1,10 +1,9 @@
 -- What is recorded of what is told: the calls of files, lines, and sums.
-use Rattle.std.specs.Prelude.{◌≡◌, ℕ, List, [], ◌∷◌, Option, Some, None, IsSome, Result, Ok, Err}
+use Rattle.std.specs.Prelude.{◌≡◌, ℕ, List, Option, Some, None, IsSome, Result, Ok, Err}
 use Rattle.cqlp_text.specs.Outputs.{Output, with_text, StopsWithin}
 use Rattle.cqlp_reassembly.specs.declared.stream.StreamStep.{StreamStep}
 use Rattle.cqlp_reassembly.specs.declared.stream.StreamStep.TheVariants as step
 use Rattle.cqlp_connections.specs.declared.told.Told.{Told}
-use Rattle.cqlp_connections.specs.declared.totals.ConnectionTotals.{ConnectionTotals}
 use Rattle.cqlp_connections.specs.declared.totals.DirectionTotals.{DirectionTotals}
 use Rattle.cqlp_connections.specs.Totals.{counted}
 use Rattle.cqlp_streams.specs.declared.fault.StreamsFault.{StreamsFault}

@@ -4,7 +4,6 @@ use Rattle.cqlp_reassembly.specs.declared.stream.StreamStep.{StreamStep}
 use Rattle.cqlp_reassembly.specs.declared.stream.StreamStep.TheVariants as step
 use Rattle.cqlp_segment.specs.Segment.{Seen}
 use Rattle.cqlp_connections.specs.declared.ends.Way.{Way}
-use Rattle.cqlp_connections.specs.declared.told.Told.{Told}
 use Rattle.cqlp_connections.specs.declared.told.Departure.TheVariants as departure
 use Rattle.cqlp_connections.specs.declared.told.Sight.{Sight}
 use Rattle.cqlp_connections.specs.declared.told.Sight.TheVariants as sight

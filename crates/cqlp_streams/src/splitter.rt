@@ -86,10 +86,7 @@ impl<A: Allocator> Splitter<A> {
     }
 
     /// At the end of the capture: has all connections leave.
-    pub fn finish<L: Listener>(
-        &mut self,
-        listener: &mut L,
-    ) -> Result<(), StreamsFault>
+    pub fn finish<L: Listener>(&mut self, listener: &mut L) -> Result<(), StreamsFault>
         ensures { Gets L.Listener (λ ss. Finishes (is_done result) self.old ss self.new) listener.old result listener.new }
     {
         finish_all(&mut self.connections, listener)

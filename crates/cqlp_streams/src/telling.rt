@@ -76,11 +76,7 @@ fn take_seen<L: Listener, A: Allocator>(
 }
 
 /// Tells that a connection begins, if it does.
-fn begin<L: Listener>(
-    is_new: bool,
-    number: u64,
-    listener: &mut L,
-) -> Result<(), StreamsFault>
+fn begin<L: Listener>(is_new: bool, number: u64, listener: &mut L) -> Result<(), StreamsFault>
     ensures { L.tells listener.old →
         GetsAll L.Listener listener.old (beginning is_new number) result listener.new }
 {

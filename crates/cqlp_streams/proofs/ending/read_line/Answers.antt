@@ -1,4 +1,4 @@
-use Rattle.std.proofs.Common.{◌≡◌, ◌∙◌, ◌++◌, ap, codes, string_bytes}
+use Rattle.std.proofs.Common.{◌∙◌, ◌++◌, ap, codes}
 use Rattle.cqlp_streams.specs.Endings.{head_words, own_words, reason_words, table_words}
 use Rattle.cqlp_streams.proofs.ending.read_line.Goals as goal
 

@@ -13,16 +13,18 @@ loop-turn-init g c = record {
 
 pub returns-in-Err-clause-splits : goal.returns-in-Err-clause-splits
 returns-in-Err-clause-splits g c = λ xs is k. (
-    c.loop-turn.turn + 1,
-    λ fits. let before = c.loop-turn.invariant.counted (omega arith) in let one = c.in-Err.ensures.reads in omega arith,
-    read_fails g.L.Listener.after g.L.Listener.faulted c.args.reader.now.limits c.args.splitter.now.table (g.L.Listener.view c.args.listener.now) xs (g.R.Source.left c.loop-turn.input) (g.R.Source.left c.read.new.self) c.loop-turn.reader c.loop-turn.splitter (g.L.Listener.view c.loop-turn.listener) (c.loop-turn.invariant.so_far xs is k) c.args.turns (c.loop-turn.turn + 1) (let a = c.loop-turn-test.true in omega arith) c.in-Err.ensures.bytes)
+  c.loop-turn.turn + 1,
+  λ fits. let before = c.loop-turn.invariant.counted (omega arith) in let one = c.in-Err.ensures.reads in omega arith,
+  read_fails g.L.Listener.after g.L.Listener.faulted c.args.reader.now.limits c.args.splitter.now.table (g.L.Listener.view c.args.listener.now) xs (g.R.Source.left c.loop-turn.input) (g.R.Source.left c.read.new.self) c.loop-turn.reader c.loop-turn.splitter (g.L.Listener.view c.loop-turn.listener) (c.loop-turn.invariant.so_far xs is k) c.args.turns (c.loop-turn.turn + 1) (let a = c.loop-turn-test.true in omega arith) c.in-Err.ensures.bytes,
+)
 
 pub returns-clause-splits : goal.returns-clause-splits
 returns-clause-splits g c = λ xs is k.
     let all : c.loop-turn.turn ≡ c.args.turns = omega arith in (
-    c.loop-turn.turn,
-    λ fits. let before = c.loop-turn.invariant.counted (omega arith) in omega arith,
-    turns_end g.L.Listener.after g.L.Listener.faulted c.args.reader.now.limits c.args.splitter.now.table (g.L.Listener.view c.args.listener.now) xs (g.R.Source.left c.loop-turn.input) (g.R.Source.left c.loop-turn.input) c.loop-turn.reader c.loop-turn.splitter (g.L.Listener.view c.loop-turn.listener) (c.loop-turn.invariant.so_far xs is k) c.args.turns c.loop-turn.turn (omega arith) all)
+      c.loop-turn.turn,
+      λ fits. let before = c.loop-turn.invariant.counted (omega arith) in omega arith,
+      turns_end g.L.Listener.after g.L.Listener.faulted c.args.reader.now.limits c.args.splitter.now.table (g.L.Listener.view c.args.listener.now) xs (g.R.Source.left c.loop-turn.input) (g.R.Source.left c.loop-turn.input) c.loop-turn.reader c.loop-turn.splitter (g.L.Listener.view c.loop-turn.listener) (c.loop-turn.invariant.so_far xs is k) c.args.turns c.loop-turn.turn (omega arith) all,
+    )
 
 pub returns-in_err-drained-clause-splits : goal.returns-in_err-drained-clause-splits
 returns-in_err-drained-clause-splits g c =
