@@ -2,6 +2,16 @@
 #![tactic(auto)]
 
 mod filter;
+mod lines;
+mod reply;
+mod shown;
+mod slot;
 mod span;
+mod statement;
+mod sums;
+mod table;
+mod teller;
 
 pub use filter::ExchangeFilter;
+pub use statement::{Statement, statement_of};
+pub use sums::ExchangeSums;
