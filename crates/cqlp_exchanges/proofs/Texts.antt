@@ -1,8 +1,8 @@
 -- Texts in parts.
-use Rattle.std.proofs.Common.{◌≡◌, ◌∙◌, ◌+◌, ◌<◌, ℕ, List, [], ◌∷◌, ◌++◌, length, take, drop, get_or, add-one, Result, Unit, IsErr, refl, sym, ap, subst, rw, arith}
+use Rattle.std.proofs.Common.{◌≡◌, ◌∙◌, ◌+◌, ◌<◌, ℕ, List, [], ◌∷◌, ◌++◌, length, take, drop, get_or, add-one, Result, IsErr, refl, sym, ap, arith}
 use Rattle.std.proofs.Math.Seq.{drop-cons}
 use Rattle.std.proofs.lemmas.Grind.{common_steps}
-use Rattle.std.proofs.lemmas.Str.{chars_past_char, utf8_valid_len-IsUtf8}
+use Rattle.std.proofs.lemmas.Str.{chars-nil, chars_past_char, utf8_valid_len-IsUtf8}
 use Rattle.std.specs.Char.{encode_utf8}
 use Rattle.std.specs.List.{flat_map}
 use Rattle.std.specs.Str.{IsUtf8, chars}
@@ -37,3 +37,7 @@ escapes_at bytes i within = rw (drop-cons bytes i 0 within, add-one) refl
 -- the first character, and then the others
 pub shown_at : (text rest : List ℕ) (c : ℕ) → IsUtf8 text → text ≡ encode_utf8 c ++ rest → shown_text text ≡ shown c ++ shown_text rest
 shown_at text rest c is parts = ap (flat_map shown) (chars_past_char text rest c is parts)
+
+pub shown_none : (text : List ℕ) → length text ≡ 0 → shown_text text ≡ []
+shown_none [] none = ap (flat_map shown) chars-nil
+shown_none (b ∷ bs) none = absurd (omega arith)

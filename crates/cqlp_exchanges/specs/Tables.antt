@@ -1,6 +1,6 @@
 -- The connections that are watched, each in a slot of a table.
 use Rattle.std.specs.Prelude.{ℕ, ◌==◌, Bool, true, false, List, [], Option, Some, None, slice_index_or, slice_set}
-use Rattle.std.specs.List.{position, replicate}
+use Rattle.std.specs.List.{position}
 use Rattle.cqlp_connections.specs.declared.told.Told.{Told}
 use Rattle.cqlp_connections.specs.declared.totals.ConnectionTotals.{ConnectionTotals}
 use Rattle.cqlp_watch.specs.declared.paired.Paired.{Paired}
@@ -45,18 +45,18 @@ slot_at slots at = slice_index_or slots at (unused 1)
 abbrev pub changed_slot : (at : ℕ) → (number : Option ℕ) → Talk → List Slot → Change
 changed_slot at number t slots = change t.told (slice_set slots at (slot number t.after))
 
--- In this slot the connection becomes another; where there is no such slot, nothing is told.
-abbrev pub changed_at : Option ℕ → (number : Option ℕ) → (Watched → Talk) → List Slot → Change
+-- In this slot the number and the connection become others; where there is no such slot, nothing is told.
+abbrev pub changed_at : Option ℕ → (Option ℕ → Option ℕ) → (Watched → Talk) → List Slot → Change
 changed_at None number f slots = change [] slots
-changed_at (Some at) number f slots = changed_slot at number (f (slot_at slots at).watch) slots
+changed_at (Some at) number f slots = let s = slot_at slots at in changed_slot at (number s.number) (f s.watch) slots
 
 -- ---- a connection begins, its streams tell something, it leaves
 
 abbrev pub begins : (number : ℕ) → List Slot → Change
-begins n slots = changed_at (place_of None slots) (Some n) begun_anew slots
+begins n slots = changed_at (place_of None slots) (λ old. Some n) begun_anew slots
 
 abbrev pub tells : (time : Option ℕ) → Told → List ℕ → List Slot → Change
-tells time t b slots = changed_at (place_of (Some t.number) slots) (Some t.number) (told_heard time t b) slots
+tells time t b slots = changed_at (place_of (Some t.number) slots) (λ old. old) (told_heard time t b) slots
 
 abbrev pub leaves : (number : ℕ) → List Slot → Change
-leaves n slots = changed_at (place_of (Some n) slots) None left slots
+leaves n slots = changed_at (place_of (Some n) slots) (λ old. None) left slots

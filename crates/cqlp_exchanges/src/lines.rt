@@ -1,6 +1,7 @@
 //! The line of what is told of a request, a response, or both.
 
 ghost use Rattle.std.specs.Prelude.{◌≡◌, [], None};
+ghost use Rattle.std.specs.Fmt.{signed_decimal};
 ghost use Rattle.cqlp_text.specs.Written.{Writes};
 ghost use Rattle.cqlp_exchanges.specs.Lines.{compressed_mark, cut_mark, frame_text, kind_text, line, more, name_or_number, place_text};
 ghost use Rattle.cqlp_exchanges.specs.Lines.{reply_text, request_text, response_text, said_text, statement_text, took_text};
@@ -13,7 +14,7 @@ use crate::shown::put_shown_text;
 use crate::span::{Unit, put_time, time_between};
 use crate::statement::{Statement, has, statement_of};
 use cqlp_grammar::SinkFault;
-use cqlp_note::Target;
+use cqlp_note::{Header, Target};
 use cqlp_text::{Buffered, Pen, TextWriter, opcode_name};
 use cqlp_watch::{Frame, Kept, Message, Paired};
 use std::alloc::Allocator;
@@ -121,8 +122,15 @@ fn put_place<P: Pen>(
     writer.put(b" ")?;
     writer.put_number(number)?;
     writer.put(b":")?;
-    writer.put_signed(i64::from(frame.header.stream))?;
+    put_stream(writer, &frame.header)?;
     writer.put(b" ")
+}
+
+/// Takes a stream id.
+fn put_stream<P: Pen>(writer: &mut TextWriter<P>, header: &Header) -> Result<(), SinkFault>
+    ensures { Writes writer.old (signed_decimal header.now.stream) result writer.new }
+{
+    writer.put_signed(i64::from(header.stream))
 }
 
 /// Takes how long a response took.
@@ -167,7 +175,7 @@ fn put_frame<P: Pen>(writer: &mut TextWriter<P>, frame: &Frame) -> Result<(), Si
     ensures { Writes writer.old (frame_text frame.now) result writer.new }
 {
     writer.put(b" ")?;
-    writer.put_number(9 + u64::from(frame.header.length))?;
+    writer.put_number(9 + frame.header.length as u64)?;
     writer.put_str(cut_mark(frame.whole))?;
     writer.put_str(compressed_mark(has(frame.header.flags, 0x01)))
 }
@@ -269,7 +277,7 @@ fn put_kind<P: Pen>(
     name: Option<&'static str>,
     kind: u32,
 ) -> Result<(), SinkFault>
-    ensures { Writes writer.old (kind_text (option_map (λ s. s.now) name) kind) result writer.new }
+    ensures { Writes writer.old (kind_text (option_map (λ s. s.now) name.entry) kind) result writer.new }
 {
     match name {
         Some(name) => writer.put_str(name),
@@ -290,7 +298,7 @@ fn put_name<P: Pen>(
     name: Option<&'static str>,
     number: u32,
 ) -> Result<(), SinkFault>
-    ensures { Writes writer.old (name_or_number (option_map (λ s. s.now) name) number) result writer.new }
+    ensures { Writes writer.old (name_or_number (option_map (λ s. s.now) name.entry) number) result writer.new }
 {
     match name {
         Some(name) => writer.put_str(name),

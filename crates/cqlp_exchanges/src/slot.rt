@@ -1,7 +1,8 @@
 //! One connection that is watched.
 
-ghost use Rattle.std.specs.Prelude.{◌≡◌, IsSome, OnOk};
+ghost use Rattle.std.specs.Prelude.{◌≡◌, ◌&&◌, ◌==◌, IsSome, OnOk};
 ghost use Rattle.cqlp_exchanges.specs.Accounts.{ToldAll};
+ghost use Rattle.cqlp_exchanges.specs.Talks.{bytes_heard, is_responses, left, let_go, told_heard};
 
 use crate::teller::Teller;
 use cqlp_connections::{Told, Way};
@@ -29,7 +30,7 @@ impl<A: Allocator> Model for Slot<A> {
 
 impl<A: Allocator> Slot<A> {
     ghost use Rattle.cqlp_exchanges.specs.Tables.{has_number, slot};
-    ghost use Rattle.cqlp_exchanges.specs.Talks.{begun_anew, left, told_heard};
+    ghost use Rattle.cqlp_exchanges.specs.Talks.{begun_anew};
     ghost use Rattle.std.specs.Prelude.{None, Some};
 
     /// A free slot.
@@ -73,30 +74,7 @@ impl<A: Allocator> Slot<A> {
         ensures told { ToldAll told.now.number (told_heard time told.now bytes.now self.old.watch).told teller.old result teller.new }
         ensures after { IsSome teller.old.output.given → OnOk result (self.new ≡ slot self.old.number (told_heard time told.now bytes.now self.old.watch).after) }
     {
-        let responses = is_responses(told.way);
-        let number = told.number;
-        match told.step {
-            StreamStep::Began { syn } => {
-                self.watch.begin(responses, syn);
-                Ok(())
-            }
-            StreamStep::Payload { from, .. } => {
-                let begins = from == 0;
-                hear_bytes(&mut self.watch, number, responses, time, begins, bytes, teller)
-            }
-            StreamStep::Held { .. } => {
-                hear_bytes(&mut self.watch, number, responses, time, false, bytes, teller)
-            }
-            StreamStep::Gap { length } => {
-                let paired = self.watch.gap(responses, length as u64);
-                teller.tell_if(number, paired)
-            }
-            StreamStep::Ended | StreamStep::Reset => {
-                let paired = self.watch.end(responses);
-                teller.tell_if(number, paired)
-            }
-            StreamStep::Done => Ok(()),
-        }
+        hear_told(&mut self.watch, time, told, bytes, teller)
     }
 
     /// The connection leaves, and the slot is free.
@@ -109,11 +87,43 @@ impl<A: Allocator> Slot<A> {
         ensures after { IsSome teller.old.output.given → OnOk result (self.new ≡ slot None (left self.old.watch).after) }
     {
         self.number = None;
-        let last_request = self.watch.end(false);
-        teller.tell_if(number, last_request)?;
-        let last_response = self.watch.end(true);
-        teller.tell_if(number, last_response)?;
-        let_go(&mut self.watch, number, teller)
+        end_watch(&mut self.watch, number, teller)
+    }
+}
+
+/// Takes what is told of the streams of a connection at this time, with its bytes.
+fn hear_told<O: Target, A: Allocator, B: Allocator>(
+    watch: &mut Watch<A>,
+    time: Option<u64>,
+    told: &Told,
+    bytes: &[u8],
+    teller: &mut Teller<O, B>,
+) -> Result<(), SinkFault>
+    ensures told { ToldAll told.now.number (told_heard time told.now bytes.now watch.old).told teller.old result teller.new }
+    ensures after { IsSome teller.old.output.given → OnOk result (watch.new ≡ (told_heard time told.now bytes.now watch.old).after) }
+{
+    let responses = is_responses(told.way);
+    let number = told.number;
+    match told.step {
+        StreamStep::Began { syn } => {
+            watch.begin(responses, syn);
+            Ok(())
+        }
+        StreamStep::Payload { from, .. } => {
+            hear_bytes(watch, number, responses, time, from == 0, bytes, teller)
+        }
+        StreamStep::Held { .. } => {
+            hear_bytes(watch, number, responses, time, false, bytes, teller)
+        }
+        StreamStep::Gap { length } => {
+            let paired = watch.gap(responses, length as u64);
+            teller.tell_if(number, paired)
+        }
+        StreamStep::Ended | StreamStep::Reset => {
+            let paired = watch.end(responses);
+            teller.tell_if(number, paired)
+        }
+        StreamStep::Done => Ok(()),
     }
 }
 
@@ -140,24 +150,47 @@ fn hear_bytes<O: Target, A: Allocator, B: Allocator>(
     ensures told { ToldAll number (bytes_heard responses time begins bytes.now watch.old).told teller.old result teller.new }
     ensures after { IsSome teller.old.output.given → OnOk result (watch.new ≡ (bytes_heard responses time begins bytes.now watch.old).after) }
 {
-    let mut left = 2 * bytes.len() as u128 + 2;
+    let mut steps = 2 * bytes.len() as u128 + 2;
     let mut rest = bytes;
-    let mut begins = begins;
-    while left > 0 {
+    let mut is_first = begins;
+    while steps > 0 {
         let WatchStep {
             used,
             is_done,
             told,
-        } = watch.take(responses, rest, time, begins);
+        } = watch.take(responses, rest, time, is_first);
         teller.tell_if(number, told)?;
         if is_done {
             return Ok(());
         }
-        begins = begins && used == 0;
+        is_first = still_first(is_first, used);
         rest = &rest[used..];
-        left -= 1;
+        steps -= 1;
     }
     Ok(())
+}
+
+/// Whether what follows the bytes that were used still begins a segment.
+fn still_first(is_first: bool, used: usize) -> bool
+    ensures { result ≡ (is_first && used == 0) }
+{
+    is_first && used == 0
+}
+
+/// The streams of a connection end: takes what is told of them, and then the requests that wait.
+fn end_watch<O: Target, A: Allocator, B: Allocator>(
+    watch: &mut Watch<A>,
+    number: u64,
+    teller: &mut Teller<O, B>,
+) -> Result<(), SinkFault>
+    ensures told { ToldAll number (left watch.old).told teller.old result teller.new }
+    ensures after { IsSome teller.old.output.given → OnOk result (watch.new ≡ (left watch.old).after) }
+{
+    let last_request = watch.end(false);
+    teller.tell_if(number, last_request)?;
+    let last_response = watch.end(true);
+    teller.tell_if(number, last_response)?;
+    let_go(watch, number, teller)
 }
 
 /// Takes the requests that wait, which have no response.
@@ -174,5 +207,3 @@ fn let_go<O: Target, A: Allocator, B: Allocator>(
     }
     Ok(())
 }
-
-ghost use Rattle.cqlp_exchanges.specs.Talks.{bytes_heard, is_responses, let_go};

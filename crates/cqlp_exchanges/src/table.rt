@@ -1,7 +1,6 @@
 //! The connections that are watched.
 
-ghost use Rattle.std.specs.Prelude.{◌≡◌, IfOk, IsSome, OnOk, position};
-ghost use Rattle.std.specs.List.{replicate};
+ghost use Rattle.std.specs.Prelude.{◌≡◌, IfOk, IsSome, OnOk, position, replicate};
 ghost use Rattle.cqlp_exchanges.specs.Accounts.{ToldAll};
 ghost use Rattle.cqlp_exchanges.specs.Tables.{has_number, unused};
 

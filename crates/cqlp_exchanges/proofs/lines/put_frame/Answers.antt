@@ -1,4 +1,5 @@
-use Rattle.std.proofs.Common.{refl}
+use Rattle.std.proofs.Common.{◌∙◌, ap, refl}
+use Rattle.cqlp_exchanges.specs.Lines.{compressed_mark}
 use Rattle.cqlp_text.proofs.Writing.{progress_starts}
 use Rattle.cqlp_exchanges.proofs.Texts.{said_last, said_next, said_stops}
 use Rattle.cqlp_exchanges.proofs.lines.put_frame.Goals as goal
@@ -23,4 +24,4 @@ returns g c =
     let s1 = said_next _ (progress_starts _ _) refl refl c.in_ok-put.ensures in
     let s2 = said_next _ s1 refl refl c.in_ok-put_number.ensures in
     let s3 = said_next _ s2 refl c.cut_mark.ensures c.in_ok-put_str.ensures in
-    said_last _ _ c.put_str-2.result s3 refl c.compressed_mark.ensures c.put_str-2.ensures
+    said_last _ _ c.put_str-2.result s3 refl (c.compressed_mark.ensures ∙ ap compressed_mark c.has.ensures) c.put_str-2.ensures
