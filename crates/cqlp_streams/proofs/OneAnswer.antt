@@ -141,21 +141,24 @@ well_read : (r : Result CaptureRead StreamsFault) → status_of r ≢ 3 → (x :
 well_read (Ok x) well = (x, refl)
 well_read (Err f) well = absurd (well refl)
 
+-- Two runs that end with words of the view, and no fault.
+module _ {V : Type 0} (after : V → Saying → V) (faulted : V → Saying → StreamsFault → V → Type 0) (words : V → List ℕ) (ports xs : List ℕ) (before v w : V) (made made' : ℕ) (left left' : Option (List ℕ)) (r r' : Result CaptureRead StreamsFault) (err err' err'' : Output) (status status' : ℕ) where
+  pub runs_once : ReadsCapture after faulted ports xs made r left before v → Concludes (words v) r err status err' → status ≢ 3 → ReadsCapture after faulted ports xs made' r' left' before w → Concludes (words w) r' err status' err'' → status' ≢ 3 → (status' ≡ status) × (w ≡ v) × (err'' ≡ err')
+  runs_once reads ends well reads' ends' well' =
+      let c = concluded (words v) r err err' status ends well in
+      let c' = concluded (words w) r' err err'' status' ends' well' in
+      let x = well_read r (λ is. well (c.0 ∙ is)) in
+      let x' = well_read r' (λ is. well' (c'.0 ∙ is)) in
+      let a = subst (λ (z : Result CaptureRead StreamsFault). ReadsCapture after faulted ports xs made z left before v) x.1 reads in
+      let b = subst (λ (z : Result CaptureRead StreamsFault). ReadsCapture after faulted ports xs made' z left' before w) x'.1 reads' in
+      let one = read_once after faulted ports xs before v w made made' left left' x.0 x'.0 a b in
+      let same : r' ≡ r = x'.1 ∙ ap (λ z. Ok z) one.0 ∙ sym x.1 in (
+        c'.0 ∙ ap status_of same ∙ sym c.0,
+        one.1,
+        c'.1 ∙ (λ i. with_text err (line_of (words (one.1 i)) (same i))) ∙ sym c.1,
+      )
+
 pub streams_once : OneAnswerOfWriteStreams
 streams_once ports xs calls out err left left' status status' made made' out' out'' err' err'' (n, r, sums, reads, ends) well (n', r', sums', reads', ends') well' =
-    let c = concluded (sums_words sums) r err err' status ends well in
-    let c' = concluded (sums_words sums') r' err err'' status' ends' well' in
-    let x = well_read r (λ is. well (c.0 ∙ is)) in
-    let x' = well_read r' (λ is. well' (c'.0 ∙ is)) in
-    let old = recording calls out no_sums in
-    let new = recording made out' sums in
-    let new' = recording made' out'' sums' in
-    let a = subst (λ (z : Result CaptureRead StreamsFault). ReadsCapture with_saying StopsAt ports xs n z left old new) x.1 reads in
-    let b = subst (λ (z : Result CaptureRead StreamsFault). ReadsCapture with_saying StopsAt ports xs n' z left' old new') x'.1 reads' in
-    let one = read_once with_saying StopsAt ports xs old new new' n n' left left' x.0 x'.0 a b in
-    let same : r' ≡ r = x'.1 ∙ ap (λ z. Ok z) one.0 ∙ sym x.1 in (
-      c'.0 ∙ ap status_of same ∙ sym c.0,
-      ap (λ (z : Recording). z.calls) one.1,
-      ap (λ (z : Recording). z.output) one.1,
-      c'.1 ∙ (λ i. with_text err (line_of (sums_words (one.1 i).sums) (same i))) ∙ sym c.1,
-    )
+    let one = runs_once with_saying StopsAt (λ (z : Recording). sums_words z.sums) ports xs (recording calls out no_sums) (recording made out' sums) (recording made' out'' sums') n n' left left' r r' err err' err'' status status' reads ends well reads' ends' well' in
+    (one.0, ap (λ (z : Recording). z.calls) one.1, ap (λ (z : Recording). z.output) one.1, one.2)
