@@ -1,3 +1,4 @@
 pub mod Accounts
+pub mod Heard
 pub mod Talks
 pub mod Texts

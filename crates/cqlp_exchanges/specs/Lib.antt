@@ -8,3 +8,5 @@ pub mod Lines
 pub mod Accounts
 pub mod Talks
 pub mod Tables
+pub mod Listening
+pub mod Laws

@@ -1,7 +1,9 @@
 //! The lines of the exchanges on the connections of a capture: each request with its reply.
 #![tactic(auto)]
 
+mod exchanges;
 mod filter;
+pub mod laws;
 mod lines;
 mod reply;
 mod shown;
@@ -12,6 +14,7 @@ mod sums;
 mod table;
 mod teller;
 
+pub use exchanges::{ExchangeLimits, Exchanges};
 pub use filter::ExchangeFilter;
 pub use statement::{Statement, statement_of};
 pub use sums::ExchangeSums;

@@ -1,0 +1,11 @@
+//! Laws of what is written of exchanges. No code needs them.
+
+ghost use Rattle.cqlp_exchanges.specs.Laws.{OneAnswerOfHear, OneAnswerOfNew, OneAnswerOfStatement};
+
+/// Where memory is granted `Exchanges::new` has one answer, and so has `hear` where the output does not fail; and `statement_of` says one text or one id. The
+/// clauses of all other calls are equations.
+pub fn one_answer()
+    ensures new { OneAnswerOfNew }
+    ensures hear { OneAnswerOfHear }
+    ensures statement { OneAnswerOfStatement }
+{}
