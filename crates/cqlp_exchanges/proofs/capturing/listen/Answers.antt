@@ -19,7 +19,7 @@ returns g c = λ xs is known.
       (
         c.read_capture-answer.new.listener,
         subst (λ (w : Listening). ReadsCapture with_saying StopsAt c.args.ports.now xs a.0 c.read_capture-answer.result (g.R.Source.left c.read_capture-answer.new.input) w c.read_capture-answer.new.listener) c.in-Ok.ensures.ok a.2,
-        c.into_parts.ensures.sums,
-        c.into_parts.ensures.output,
+        c.into_parts-out.ensures.sums,
+        c.into_parts-out.ensures.output,
       ),
     )
