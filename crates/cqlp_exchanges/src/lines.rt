@@ -147,10 +147,7 @@ fn put_took<P: Pen>(
     writer.put(b" ms\n")
 }
 
-fn put_request<P: Pen>(
-    writer: &mut TextWriter<P>,
-    request: &Message<Kept>,
-) -> Result<(), SinkFault>
+fn put_request<P: Pen>(writer: &mut TextWriter<P>, request: &Message<Kept>) -> Result<(), SinkFault>
     ensures { Writes writer.old (request_text request.now) result writer.new }
 {
     let statement = statement_of(&request.frame.header, request.kept.as_slice());
@@ -205,10 +202,7 @@ fn put_statement<P: Pen>(
     }
 }
 
-fn put_said<P: Pen>(
-    writer: &mut TextWriter<P>,
-    statement: &Statement<'_>,
-) -> Result<(), SinkFault>
+fn put_said<P: Pen>(writer: &mut TextWriter<P>, statement: &Statement<'_>) -> Result<(), SinkFault>
     ensures { Writes writer.old (said_text (said_of statement.now)) result writer.new }
 {
     match statement {
@@ -219,11 +213,7 @@ fn put_said<P: Pen>(
 
 ghost use Rattle.cqlp_exchanges.specs.Statements.{Text, Id};
 
-fn put_text<P: Pen>(
-    writer: &mut TextWriter<P>,
-    text: &str,
-    is_whole: bool,
-) -> Result<(), SinkFault>
+fn put_text<P: Pen>(writer: &mut TextWriter<P>, text: &str, is_whole: bool) -> Result<(), SinkFault>
     ensures { Writes writer.old (said_text (Text text.now is_whole)) result writer.new }
 {
     writer.put(b" \"")?;
@@ -232,11 +222,7 @@ fn put_text<P: Pen>(
     writer.put_str(more(is_whole))
 }
 
-fn put_id<P: Pen>(
-    writer: &mut TextWriter<P>,
-    id: &[u8],
-    is_whole: bool,
-) -> Result<(), SinkFault>
+fn put_id<P: Pen>(writer: &mut TextWriter<P>, id: &[u8], is_whole: bool) -> Result<(), SinkFault>
     ensures { Writes writer.old (said_text (Id id.now is_whole)) result writer.new }
 {
     writer.put(b" ")?;

@@ -76,11 +76,7 @@ pub(crate) fn put_time<P: Pen>(
     }
 }
 
-fn put_span<P: Pen>(
-    writer: &mut TextWriter<P>,
-    unit: Unit,
-    span: Span,
-) -> Result<(), SinkFault>
+fn put_span<P: Pen>(writer: &mut TextWriter<P>, unit: Unit, span: Span) -> Result<(), SinkFault>
     ensures { Writes writer.old (span_text unit span) result writer.new }
 {
     let whole = span.nanoseconds / unit.nanoseconds();
