@@ -1,12 +1,11 @@
 -- What is told, one thing after the other.
-use Rattle.std.proofs.Common.{◌≡◌, ◌∙◌, ℕ, Bool, true, false, List, [], ◌∷◌, ◌++◌, if◌then◌else◌, Option, Some, None, IsSome, Result, Ok, Err, IsErr, refl, sym, ap, subst, append_assoc, append-nil}
+use Rattle.std.proofs.Common.{◌≡◌, ◌∙◌, ℕ, Bool, true, false, List, [], ◌∷◌, ◌++◌, if◌then◌else◌, Option, Some, None, IsSome, Result, Ok, Err, IsErr, refl, sym, ap, subst, append_assoc}
 use Rattle.std.specs.Io.KnownBytes.{append_known}
 use Rattle.cqlp_grammar.specs.declared.sink.SinkFault.{SinkFault}
 use Rattle.cqlp_text.specs.Outputs.{Output, WritesText, output, with_text}
 use Rattle.cqlp_text.specs.Written.{Written, Writes}
 use Rattle.cqlp_text.proofs.Writing.{known_text}
 use Rattle.cqlp_watch.specs.declared.paired.Paired.{Paired}
-use Rattle.cqlp_watch.specs.Pairings.{told_or_none}
 use Rattle.cqlp_exchanges.specs.declared.filter.ExchangeFilter.{ExchangeFilter}
 use Rattle.cqlp_exchanges.specs.declared.sums.ExchangeSums.{ExchangeSums}
 use Rattle.cqlp_exchanges.specs.Accounts.{Account, Stops, StopsAmong, Tells, TellsAll, account, with_all, with_one, with_told}

@@ -1,5 +1,5 @@
 -- What is known after a saying.
-use Rattle.std.proofs.Common.{◌≡◌, Option, IsSome, OnOk, Result, Ok, Err, sym, subst}
+use Rattle.std.proofs.Common.{◌≡◌, IsSome, OnOk, Result, Ok, Err, sym, subst}
 use Rattle.cqlp_streams.specs.declared.fault.StreamsFault.{StreamsFault}
 use Rattle.cqlp_streams.specs.Sayings.{Saying, Packet, New, Of, Left}
 use Rattle.cqlp_exchanges.specs.Accounts.{Account}

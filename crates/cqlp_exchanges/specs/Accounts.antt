@@ -1,5 +1,5 @@
 -- What is told of requests and responses is counted, and becomes a line or none.
-use Rattle.std.specs.Prelude.{◌≡◌, ℕ, Bool, true, false, List, [], ◌∷◌, ◌++◌, Option, Some, None, if◌then◌else◌, Result, Ok, Err, IsSome}
+use Rattle.std.specs.Prelude.{◌≡◌, ℕ, true, List, [], ◌∷◌, ◌++◌, Option, Some, None, if◌then◌else◌, Result, Ok, Err, IsSome}
 use Rattle.cqlp_grammar.specs.declared.sink.SinkFault.{SinkFault}
 use Rattle.cqlp_text.specs.Outputs.{Output, StopsWithin, with_text}
 use Rattle.cqlp_watch.specs.declared.message.Message.{Message}

@@ -1,5 +1,5 @@
 -- What listens to what is told of the connections of a capture, and writes the lines of their exchanges.
-use Rattle.std.specs.Prelude.{◌≡◌, ℕ, List, [], replicate, Option, Some, None, Result, Ok, Err}
+use Rattle.std.specs.Prelude.{◌≡◌, ℕ, List, [], replicate, Option, None, Result, Ok, Err}
 use Rattle.cqlp_text.specs.Outputs.{Output}
 use Rattle.cqlp_streams.specs.declared.fault.StreamsFault.{StreamsFault}
 use Rattle.cqlp_streams.specs.declared.fault.StreamsFault.TheVariants as fault

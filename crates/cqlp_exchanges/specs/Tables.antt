@@ -2,7 +2,6 @@
 use Rattle.std.specs.Prelude.{ℕ, ◌==◌, Bool, true, false, List, [], Option, Some, None, slice_index_or, slice_set}
 use Rattle.std.specs.List.{position}
 use Rattle.cqlp_connections.specs.declared.told.Told.{Told}
-use Rattle.cqlp_connections.specs.declared.totals.ConnectionTotals.{ConnectionTotals}
 use Rattle.cqlp_watch.specs.declared.paired.Paired.{Paired}
 use Rattle.cqlp_watch.specs.Watches.{Watched, new_watched}
 use Rattle.cqlp_exchanges.specs.Talks.{Talk, begun_anew, left, told_heard}

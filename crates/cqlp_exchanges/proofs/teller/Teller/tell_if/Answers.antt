@@ -1,4 +1,4 @@
-use Rattle.std.proofs.Common.{◌≡◌, List, Option, Some, ℕ, sym, subst}
+use Rattle.std.proofs.Common.{List, Option, ℕ, sym, subst}
 use Rattle.cqlp_watch.specs.declared.paired.Paired.{Paired}
 use Rattle.cqlp_watch.specs.Pairings.{told_or_none}
 use Rattle.cqlp_exchanges.specs.Accounts.{TellsAll}
