@@ -72,7 +72,8 @@ impl<A: Allocator> Slot<A> {
         teller: &mut Teller<O, B>,
     ) -> Result<(), SinkFault>
         ensures told { ToldAll told.now.number (told_heard time told.now bytes.now self.old.watch).told teller.old result teller.new }
-        ensures after { IsSome teller.old.output.given → OnOk result (self.new ≡ slot self.old.number (told_heard time told.now bytes.now self.old.watch).after) }
+        ensures after { IsSome teller.old.output.given →
+            OnOk result (self.new ≡ slot self.old.number (told_heard time told.now bytes.now self.old.watch).after) }
     {
         hear_told(&mut self.watch, time, told, bytes, teller)
     }
