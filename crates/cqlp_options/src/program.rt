@@ -13,6 +13,7 @@ const HELP: &str = "Each of show, rows and check takes a FILE, where - is standa
     \x20 --depth <N>    nesting of one type at most, from 1 to 64 [default: 16]\n\
     \x20 --raw          each cell as raw bytes\n\
     \x20 --parts        longer blob, custom and raw cells in parts\n\
+    \x20 --skip         where the body of a frame is refused, pass over it and read on\n\
     \n\
     Without words it does what `cqlp show -` does.\n\
     Example: cqlp rows capture.bin";
@@ -202,7 +203,7 @@ fn limit<'a>(alloc: Global, bound: &Bound) -> Arg<'a> {
 }
 
 /// The options without a value, and their help.
-const FLAGS: [(&str, &str); 2] = [
+const FLAGS: [(&str, &str); 3] = [
     (
         "raw",
         "Read each cell as raw bytes, without its column's type",
@@ -210,6 +211,10 @@ const FLAGS: [(&str, &str); 2] = [
     (
         "parts",
         "Give longer blob, custom and raw cells in parts of the size of --cell",
+    ),
+    (
+        "skip",
+        "Where the body of a frame is refused, pass over it and read on behind it",
     ),
 ];
 
