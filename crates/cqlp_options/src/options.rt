@@ -30,6 +30,8 @@ impl AtRefusal {
 pub enum Task {
     /// Writes its events, and the verdict beside them.
     Show(AtRefusal),
+    /// Writes its events, each as a JSON object, and the verdict beside them.
+    ShowJson,
     /// Writes its pages, and the verdict beside them.
     Rows(AtRefusal),
     /// Writes the verdict alone.
@@ -41,6 +43,7 @@ impl Task {
     fn matched(name: &str, matches: &ArgMatches<'_>) -> Option<Task> {
         let at_refusal = AtRefusal::matched(matches);
         match name {
+            "show" if matches.get_flag("json") => Some(Task::ShowJson),
             "show" => Some(Task::Show(at_refusal)),
             "rows" => Some(Task::Rows(at_refusal)),
             "check" => Some(Task::Check(at_refusal)),

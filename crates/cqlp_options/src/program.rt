@@ -14,19 +14,14 @@ const HELP: &str = "Each of show, rows and check takes a FILE, where - is standa
     \x20 --raw          each cell as raw bytes\n\
     \x20 --parts        longer blob, custom and raw cells in parts\n\
     \x20 --skip         where the body of a frame is refused, pass over it and read on\n\
+    \x20 --json         of show: each event as a JSON object in a line of its own\n\
     \n\
     Without words it does what `cqlp show -` does.\n\
     Example: cqlp rows capture.bin";
 
 /// The program's command line. Each task is handed on as it is made, so that no other is alive at a `?`.
 pub(crate) fn program<'a>(alloc: Global) -> Result<Command<'a>, AllocError> {
-    let program = with_task(
-        alloc,
-        without_tasks(alloc)?,
-        "show",
-        "Write a line for each event of a stream, and a verdict to standard error",
-        "Example: cqlp show --text 4096 capture.bin",
-    )?;
+    let program = with_showing(alloc, without_tasks(alloc)?)?;
     let program = with_task(
         alloc,
         program,
@@ -56,6 +51,27 @@ fn without_tasks<'a>(alloc: Global) -> Result<Command<'a>, AllocError> {
             .no_binary_name(true)
             .subcommand_required(true),
     )
+}
+
+fn with_showing<'a>(alloc: Global, program: Command<'a>) -> Result<Command<'a>, AllocError> {
+    program.subcommand(showing(alloc)?)
+}
+
+/// The subcommand `show`, which alone can write JSON.
+fn showing<'a>(alloc: Global) -> Result<Command<'a>, AllocError> {
+    let task = subcommand(
+        alloc,
+        "show",
+        "Write a line for each event of a stream, and a verdict to standard error",
+        "Example: cqlp show --text 4096 capture.bin",
+    )?;
+    task.arg(json(alloc)?)
+}
+
+fn json<'a>(alloc: Global) -> Result<Arg<'a>, AllocError> {
+    flag(alloc, "json")
+        .help("Write each event as a JSON object in a line of its own")
+        .conflicts_with("skip")
 }
 
 fn with_task<'a>(
