@@ -126,25 +126,47 @@ fn with_capture<'a>(alloc: Global, program: Command<'a>) -> Result<Command<'a>, 
 fn capture<'a>(alloc: Global) -> Result<Command<'a>, AllocError> {
     Command::new(alloc, "capture")
         .about(
-            "Write the bytes of each direction of each connection in a packet capture to a file of its own, and a line for each connection",
+            "Write a line for each request in a packet capture and its reply, or with --streams the bytes of each direction of each connection to a file of its own",
         )
-        .after_help("Example: tcpdump -U -w - port 9042 | cqlp capture --streams flows -")
+        .after_help("Example: tcpdump -U -w - port 9042 | cqlp capture --slow 10 -")
         .arg(
             Arg::new(alloc, "file")
                 .value_name("FILE")
                 .required(true)
                 .help("The capture, a pcap or pcapng file; - is standard input"),
         )?
-        .arg(streams(alloc))?
-        .arg(port(alloc))
+        .arg(port(alloc))?
+        .arg(slow(alloc))?
+        .arg(flag(alloc, "errors").help("Only requests whose reply is an ERROR"))?
+        .arg(connection(alloc))?
+        .arg(streams(alloc)?)
 }
 
-fn streams<'a>(alloc: Global) -> Arg<'a> {
+fn slow<'a>(alloc: Global) -> Arg<'a> {
+    Arg::new(alloc, "slow")
+        .long("slow")
+        .value_name("MS")
+        .value_parser(value_parser!(u32))
+        .help("Only requests whose reply took so many milliseconds or more, from 0 to 4294967295")
+}
+
+fn connection<'a>(alloc: Global) -> Arg<'a> {
+    Arg::new(alloc, "connection")
+        .long("connection")
+        .value_name("N")
+        .value_parser(value_parser!(u64).range(1..))
+        .help("Only requests of the connection with this number; the first has the number 1")
+}
+
+/// The folder for streams, which goes with no option of the lines.
+fn streams<'a>(alloc: Global) -> Result<Arg<'a>, AllocError> {
     Arg::new(alloc, "streams")
         .long("streams")
         .value_name("DIR")
-        .required(true)
         .help("The folder for the files N.requests.bin and N.responses.bin of connection N")
+        .conflicts_with("slow")?
+        .conflicts_with("errors")?
+        .conflicts_with("connection")
 }
 
 fn port<'a>(alloc: Global) -> Arg<'a> {
