@@ -15,7 +15,8 @@ use Rattle.cqlp_render.specs.declared.text_form.TextForm.TheVariants as forms
 use Rattle.cqlp_render.specs.Showing.{ChecksAndReports, Concludes, ShowsAndReports}
 use Rattle.cqlp_render.specs.Streams.{Streams}
 pub use Rattle.cqlp_tool.specs.Faults.{ReportsFault}
-use Rattle.cqlp_tool.specs.Capturing.{IsCaptureOfInput, SplitsCapture}
+use Rattle.cqlp_options.specs.Ports.{named}
+use Rattle.cqlp_tool.specs.Capturing.{DoesCaptureTask, IsCaptureOfInput}
 use Rattle.cqlp_tool.specs.Conversing.{ConversesAndReports}
 
 -- the limits where none are given
@@ -69,7 +70,7 @@ DoesTask task.Check limits before status after = ChecksAndReports limits turns b
 abbrev pub IsOfInput : Options → Type 0
 IsOfInput options = options.file.now ≡ codes "-"
 
--- What a command line does: a task with the input, a conversation, or a capture's streams. What a file gives is not known.
+-- What a command line does: a task with the input, a stream or a capture, or a conversation. What a file gives is not known.
 abbrev pub Executes : Result CommandLine NoTask
     → (before : Streams) → (status : ℕ) → (after : Streams) → Type 0
 Executes (Ok (line.Stream options)) before status after =
@@ -77,7 +78,7 @@ Executes (Ok (line.Stream options)) before status after =
 Executes (Ok (line.Loop queries)) before status after =
     ConversesAndReports queries before.out before.err status after.out after.err
 Executes (Ok (line.Capture options)) before status after =
-    IsCaptureOfInput options → SplitsCapture options before status after
+    IsCaptureOfInput options → DoesCaptureTask options.task (named options.ports) before status after
 Executes (Err reason) before status after =
     Tells reason before.out before.err status after.out after.err
 

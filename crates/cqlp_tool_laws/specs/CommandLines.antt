@@ -3,7 +3,9 @@
 use Rattle.std.specs.Prelude.{◌≡◌, ◌≢◌, ℕ, List, Some, IsSome, Result, Ok, Err}
 use Rattle.std.proofs.Common.{inl, inr}
 use Rattle.cqlp_note.specs.declared.limits.Limits.{Limits}
-use Rattle.cqlp_options.specs.declared.capture.CaptureOptions.{CaptureOptions}
+use Rattle.cqlp_options.specs.Ports.{named}
+use Rattle.cqlp_options.specs.declared.capture.CaptureTask.{CaptureTask}
+use Rattle.cqlp_options.specs.declared.capture.CaptureTask.TheVariants as capture_task
 use Rattle.cqlp_options.specs.declared.command_line.CommandLine.{CommandLine}
 use Rattle.cqlp_options.specs.declared.command_line.CommandLine.TheVariants as line
 use Rattle.cqlp_options.specs.declared.no_task.NoTask.{NoTask}
@@ -19,7 +21,7 @@ use Rattle.cqlp_render.specs.declared.text_form.TextForm.{TextForm}
 use Rattle.cqlp_render.specs.declared.text_form.TextForm.TheVariants as forms
 use Rattle.cqlp_render.specs.Showing.{ShowsBytes, ChecksBytes}
 use Rattle.cqlp_render.specs.Streams.{Streams}
-use Rattle.cqlp_tool.specs.Capturing.{IsCaptureOfInput, SplitsCapture}
+use Rattle.cqlp_tool.specs.Capturing.{DoesCaptureTask, IsCaptureOfInput, SplitsCapture}
 use Rattle.cqlp_tool.specs.CommandLines.{DoesTask, Executes, IsOfInput, turns}
 use Rattle.cqlp_tool.specs.Conversing.{ConversesAndReports, ConversesWithItself}
 use Rattle.cqlp_tool_laws.specs.Text.{FailsAlike, GoesOnFromOther}
@@ -128,14 +130,19 @@ LoopGoesOn = (queries : ℕ) (before : Streams) (status status' : ℕ) (after af
 
 -- ---- a capture
 
--- To two executions that split the same capture the outside did the same: there was no folder in both; or nothing failed, so that no
+-- To two executions of a task with the same capture the outside did the same: there was no folder in both; or nothing failed, so that no
 -- status is that of a fault.
 module _ (before : Streams) (status status' : ℕ) (after after' : Streams) where
-  abbrev pub AreSplitAlike : (options : CaptureOptions) → SplitsCapture options before status after
-      → SplitsCapture options before status' after' → Type 0
-  AreSplitAlike options (inl misses) (inl misses') = FailsAlike before.err after.err after'.err
-  AreSplitAlike options (inr splits) (inr splits') = (status ≢ 3) × (status' ≢ 3)
-  AreSplitAlike options does does' = ⊥
+  abbrev pub AreSplitAlike : (folder ports : List ℕ) → SplitsCapture folder ports before status after
+      → SplitsCapture folder ports before status' after' → Type 0
+  AreSplitAlike folder ports (inl misses) (inl misses') = FailsAlike before.err after.err after'.err
+  AreSplitAlike folder ports (inr splits) (inr splits') = (status ≢ 3) × (status' ≢ 3)
+  AreSplitAlike folder ports does does' = ⊥
+
+  abbrev pub IsCaptureMetAlike : (t : CaptureTask) (ports : List ℕ) → DoesCaptureTask t ports before status after
+      → DoesCaptureTask t ports before status' after' → Type 0
+  IsCaptureMetAlike (capture_task.Streams folder) ports does does' = AreSplitAlike folder.now ports does does'
+  IsCaptureMetAlike (capture_task.Exchanges asked) ports does does' = (status ≢ 3) × (status' ≢ 3)
 
 -- ---- a command line
 
@@ -150,7 +157,7 @@ module _ (before : Streams) (status status' : ℕ) (after after' : Streams) wher
   AreMetAlike (Ok (line.Loop queries)) does does' = AreLoopsMetAlike queries before status status' after after' does does'
   AreMetAlike (Ok (line.Capture options)) does does' =
       (is : IsCaptureOfInput options) × (known : AreKnown before)
-      × AreSplitAlike before status status' after after' options (does is) (does' is)
+      × IsCaptureMetAlike before status status' after after' options.task (named options.ports) (does is) (does' is)
   AreMetAlike (Err (no_task.Help text)) does does' = AreOutputsMetAlike before after after'
   AreMetAlike (Err (no_task.Mistake text)) does does' = IsErrorMetAlike before after after'
   AreMetAlike (Err no_task.NoMemory) does does' = IsErrorMetAlike before after after'
