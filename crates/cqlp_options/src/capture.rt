@@ -56,9 +56,9 @@ impl Ports {
 /// Which exchanges of a capture are written: those of which all holds that is asked for.
 #[derive(Clone, Copy, Debug, PartialEq, Eq)]
 pub struct ExchangeOptions {
-    /// Those alone that took so many milliseconds at least.
+    /// Those alone whose reply's last byte came so many milliseconds after the request's first, or more.
     pub slow: Option<u32>,
-    /// Those alone whose reply is an ERROR.
+    /// Those alone whose reply is an ERROR, and requests without a reply.
     pub errors: bool,
     /// Those of the connection with this number alone; the first has the number 1.
     pub connection: Option<u64>,

@@ -137,7 +137,7 @@ fn capture<'a>(alloc: Global) -> Result<Command<'a>, AllocError> {
         )?
         .arg(port(alloc))?
         .arg(slow(alloc))?
-        .arg(flag(alloc, "errors").help("Only requests whose reply is an ERROR"))?
+        .arg(flag(alloc, "errors").help("Only requests whose reply is an ERROR, and those without one"))?
         .arg(connection(alloc))?
         .arg(streams(alloc)?)
 }
@@ -147,7 +147,7 @@ fn slow<'a>(alloc: Global) -> Arg<'a> {
         .long("slow")
         .value_name("MS")
         .value_parser(value_parser!(u32))
-        .help("Only requests whose reply took so many milliseconds or more, from 0 to 4294967295")
+        .help("Only requests whose reply took this many milliseconds or more, from 0 to 4294967295")
 }
 
 fn connection<'a>(alloc: Global) -> Arg<'a> {

@@ -5,6 +5,7 @@ use Rattle.cqlp_options.specs.declared.command_line.CommandLine.{CommandLine}
 use Rattle.cqlp_options.specs.declared.command_line.CommandLine.TheVariants as line
 use Rattle.cqlp_options.specs.declared.no_task.NoTask.{NoTask}
 use Rattle.cqlp_options.specs.declared.no_task.NoTask.TheVariants as no_task
+use Rattle.cqlp_options.specs.declared.options.AtRefusal.TheVariants as at
 use Rattle.cqlp_options.specs.declared.options.Options.{Options}
 use Rattle.cqlp_options.specs.declared.options.Task.{Task}
 use Rattle.cqlp_options.specs.declared.options.Task.TheVariants as task
@@ -61,10 +62,16 @@ Tells no_task.NoMemory out err status out' err' = IsSome err.given → ReportsNo
 
 -- What a task does with the input, within its limits.
 abbrev pub DoesTask : Task → Limits → (before : Streams) → (status : ℕ) → (after : Streams) → Type 0
-DoesTask task.Show limits before status after = ShowsAndReports forms.Lines limits turns before status after
-DoesTask task.Rows limits before status after =
+DoesTask (task.Show at.End) limits before status after = ShowsAndReports forms.Lines limits turns before status after
+DoesTask (task.Show at.Skip) limits before status after =
+    ShowsSkippingAndReports forms.Lines limits turns before status after
+DoesTask task.ShowJson limits before status after = ShowsAndReports forms.JsonLines limits turns before status after
+DoesTask (task.Rows at.End) limits before status after =
     ShowsAndReports (forms.Pages no_page) limits turns before status after
-DoesTask task.Check limits before status after = ChecksAndReports limits turns before status after
+DoesTask (task.Rows at.Skip) limits before status after =
+    ShowsSkippingAndReports (forms.Pages no_page) limits turns before status after
+DoesTask (task.Check at.End) limits before status after = ChecksAndReports limits turns before status after
+DoesTask (task.Check at.Skip) limits before status after = ChecksSkippingAndReports limits turns before status after
 
 -- the stream is the input, and no file
 abbrev pub IsOfInput : Options → Type 0

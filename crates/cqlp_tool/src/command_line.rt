@@ -18,8 +18,12 @@ use crate::folder::{Folder, is_folder};
 use cqlp_decode::SinkFault;
 use cqlp_exchanges::{ExchangeFilter, write_exchanges};
 use cqlp_note::{OfStd, Source, Target};
-use cqlp_options::{CaptureOptions, CaptureTask, CommandLine, DEFAULT_LIMITS, ExchangeOptions, NoTask, Options, Task};
-use cqlp_render::{check, conclude, rows, show};
+use cqlp_options::{
+    AtRefusal, CaptureOptions, CaptureTask, CommandLine, DEFAULT_LIMITS, ExchangeOptions, NoTask,
+    Options, Task,
+};
+use cqlp_render::{check, conclude, rows, show, show_json};
+use cqlp_render_skip::{check_skipping, rows_skipping, show_skipping};
 use cqlp_streams::write_streams;
 use cqlp_text::exit_status::{BAD_COMMAND_LINE, DONE, FAULT};
 use cqlp_text::{Ending, cannot_open_line, put_text};
@@ -223,10 +227,15 @@ fn perform<A: Allocator, I: Source, O: Target, E: Target>(
         (view input.old out err) result.0 (view input.new result.1 result.2) }
     ensures status { IsStatusOfTask result.0 }
 {
+    let limits = options.limits;
     match options.task {
-        Task::Show => show(heap, options.limits, input, out, err),
-        Task::Rows => rows(heap, options.limits, input, out, err),
-        Task::Check => check(heap, options.limits, input, out, err),
+        Task::Show(AtRefusal::End) => show(heap, limits, input, out, err),
+        Task::Show(AtRefusal::Skip) => show_skipping(heap, limits, input, out, err),
+        Task::ShowJson => show_json(heap, limits, input, out, err),
+        Task::Rows(AtRefusal::End) => rows(heap, limits, input, out, err),
+        Task::Rows(AtRefusal::Skip) => rows_skipping(heap, limits, input, out, err),
+        Task::Check(AtRefusal::End) => check(heap, limits, input, out, err),
+        Task::Check(AtRefusal::Skip) => check_skipping(heap, limits, input, out, err),
     }
 }
 

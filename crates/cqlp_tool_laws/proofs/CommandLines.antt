@@ -86,6 +86,7 @@ module _ (limits : Limits) (before : Streams) (status status' : ℕ) (after afte
 
   task_once : (t : Task) (known : AreKnown before) (a : DoesTask t limits before status after) (b : DoesTask t limits before status' after') → IsTaskMetAlike limits before status status' after after' t known a b → IsOneAnswer before status status' after after'
   task_once task.Show known a b alike = showing_once forms.Lines known.bytes (a known.bytes known.left known.out known.err) (b known.bytes known.left known.out known.err) alike
+  task_once task.ShowJson known a b alike = showing_once forms.JsonLines known.bytes (a known.bytes known.left known.out known.err) (b known.bytes known.left known.out known.err) alike
   task_once task.Rows known a b alike = showing_once (forms.Pages no_page) known.bytes (a known.bytes known.left known.out known.err) (b known.bytes known.left known.out known.err) alike
   task_once task.Check known a b alike = checking_once known.bytes (a known.bytes known.left known.out known.err) (b known.bytes known.left known.out known.err) alike
 

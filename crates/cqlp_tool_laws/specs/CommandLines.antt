@@ -65,6 +65,9 @@ module _ (limits : Limits) (before : Streams) (status status' : ℕ) (after afte
   IsTaskMetAlike task.Show known does does' =
       AreShownAlike forms.Lines limits known.bytes before status status' after after'
       (does known.bytes known.left known.out known.err) (does' known.bytes known.left known.out known.err)
+  IsTaskMetAlike task.ShowJson known does does' =
+      AreShownAlike forms.JsonLines limits known.bytes before status status' after after'
+      (does known.bytes known.left known.out known.err) (does' known.bytes known.left known.out known.err)
   IsTaskMetAlike task.Rows known does does' =
       AreShownAlike (forms.Pages no_page) limits known.bytes before status status' after after'
       (does known.bytes known.left known.out known.err) (does' known.bytes known.left known.out known.err)
