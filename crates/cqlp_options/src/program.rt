@@ -137,7 +137,9 @@ fn capture<'a>(alloc: Global) -> Result<Command<'a>, AllocError> {
         )?
         .arg(port(alloc))?
         .arg(slow(alloc))?
-        .arg(flag(alloc, "errors").help("Only requests whose reply is an ERROR, and those without one"))?
+        .arg(flag(alloc, "errors").help(
+            "Only requests whose reply is an ERROR, and those without one",
+        ))?
         .arg(connection(alloc))?
         .arg(streams(alloc)?)
 }

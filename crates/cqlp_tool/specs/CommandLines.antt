@@ -15,6 +15,7 @@ use Rattle.cqlp_text.specs.PageText.{no_page}
 use Rattle.cqlp_render.specs.declared.text_form.TextForm.TheVariants as forms
 use Rattle.cqlp_render.specs.Showing.{ChecksAndReports, Concludes, ShowsAndReports}
 use Rattle.cqlp_render.specs.Streams.{Streams}
+use Rattle.cqlp_render_skip.specs.Showing as skipping
 pub use Rattle.cqlp_tool.specs.Faults.{ReportsFault}
 use Rattle.cqlp_options.specs.Ports.{named}
 use Rattle.cqlp_tool.specs.Capturing.{DoesCaptureTask, IsCaptureOfInput}
@@ -64,14 +65,14 @@ Tells no_task.NoMemory out err status out' err' = IsSome err.given → ReportsNo
 abbrev pub DoesTask : Task → Limits → (before : Streams) → (status : ℕ) → (after : Streams) → Type 0
 DoesTask (task.Show at.End) limits before status after = ShowsAndReports forms.Lines limits turns before status after
 DoesTask (task.Show at.Skip) limits before status after =
-    ShowsSkippingAndReports forms.Lines limits turns before status after
+    skipping.ShowsAndReports forms.Lines limits turns before status after
 DoesTask task.ShowJson limits before status after = ShowsAndReports forms.JsonLines limits turns before status after
 DoesTask (task.Rows at.End) limits before status after =
     ShowsAndReports (forms.Pages no_page) limits turns before status after
 DoesTask (task.Rows at.Skip) limits before status after =
-    ShowsSkippingAndReports (forms.Pages no_page) limits turns before status after
+    skipping.ShowsAndReports (forms.Pages no_page) limits turns before status after
 DoesTask (task.Check at.End) limits before status after = ChecksAndReports limits turns before status after
-DoesTask (task.Check at.Skip) limits before status after = ChecksSkippingAndReports limits turns before status after
+DoesTask (task.Check at.Skip) limits before status after = skipping.ChecksAndReports limits turns before status after
 
 -- the stream is the input, and no file
 abbrev pub IsOfInput : Options → Type 0
