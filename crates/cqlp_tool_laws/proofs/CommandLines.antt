@@ -10,6 +10,7 @@ use Rattle.cqlp_options.specs.declared.command_line.CommandLine.{CommandLine}
 use Rattle.cqlp_options.specs.declared.command_line.CommandLine.TheVariants as line
 use Rattle.cqlp_options.specs.declared.no_task.NoTask.{NoTask}
 use Rattle.cqlp_options.specs.declared.no_task.NoTask.TheVariants as no_task
+use Rattle.cqlp_options.specs.declared.options.AtRefusal.TheVariants as at
 use Rattle.cqlp_options.specs.declared.options.Task.{Task}
 use Rattle.cqlp_options.specs.declared.options.Task.TheVariants as task
 use Rattle.cqlp_text.specs.declared.ending.Ending.TheVariants as ending
@@ -85,10 +86,13 @@ module _ (limits : Limits) (before : Streams) (status status' : ℕ) (after afte
       (one.1, one.2, one.3)
 
   task_once : (t : Task) (known : AreKnown before) (a : DoesTask t limits before status after) (b : DoesTask t limits before status' after') → IsTaskMetAlike limits before status status' after after' t known a b → IsOneAnswer before status status' after after'
-  task_once task.Show known a b alike = showing_once forms.Lines known.bytes (a known.bytes known.left known.out known.err) (b known.bytes known.left known.out known.err) alike
+  task_once (task.Show at.End) known a b alike = showing_once forms.Lines known.bytes (a known.bytes known.left known.out known.err) (b known.bytes known.left known.out known.err) alike
   task_once task.ShowJson known a b alike = showing_once forms.JsonLines known.bytes (a known.bytes known.left known.out known.err) (b known.bytes known.left known.out known.err) alike
-  task_once task.Rows known a b alike = showing_once (forms.Pages no_page) known.bytes (a known.bytes known.left known.out known.err) (b known.bytes known.left known.out known.err) alike
-  task_once task.Check known a b alike = checking_once known.bytes (a known.bytes known.left known.out known.err) (b known.bytes known.left known.out known.err) alike
+  task_once (task.Rows at.End) known a b alike = showing_once (forms.Pages no_page) known.bytes (a known.bytes known.left known.out known.err) (b known.bytes known.left known.out known.err) alike
+  task_once (task.Check at.End) known a b alike = checking_once known.bytes (a known.bytes known.left known.out known.err) (b known.bytes known.left known.out known.err) alike
+  task_once (task.Show at.Skip) known a b alike = skipping_once forms.Lines known.bytes (a known.bytes known.left known.out known.err) (b known.bytes known.left known.out known.err) alike
+  task_once (task.Rows at.Skip) known a b alike = skipping_once (forms.Pages no_page) known.bytes (a known.bytes known.left known.out known.err) (b known.bytes known.left known.out known.err) alike
+  task_once (task.Check at.Skip) known a b alike = checking_skipping_once known.bytes (a known.bytes known.left known.out known.err) (b known.bytes known.left known.out known.err) alike
 
 -- ---- a conversation
 

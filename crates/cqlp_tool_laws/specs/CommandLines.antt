@@ -10,6 +10,7 @@ use Rattle.cqlp_options.specs.declared.command_line.CommandLine.{CommandLine}
 use Rattle.cqlp_options.specs.declared.command_line.CommandLine.TheVariants as line
 use Rattle.cqlp_options.specs.declared.no_task.NoTask.{NoTask}
 use Rattle.cqlp_options.specs.declared.no_task.NoTask.TheVariants as no_task
+use Rattle.cqlp_options.specs.declared.options.AtRefusal.TheVariants as at
 use Rattle.cqlp_options.specs.declared.options.Task.{Task}
 use Rattle.cqlp_options.specs.declared.options.Task.TheVariants as task
 use Rattle.cqlp_text.specs.Outputs.{Output}
@@ -59,21 +60,24 @@ pub record AreCheckedAlike (limits : Limits) (xs : List ℕ) (before : Streams) 
   pub error : FailsAlike before.err after.err after'.err
 
 module _ (limits : Limits) (before : Streams) (status status' : ℕ) (after after' : Streams) where
-  -- The same of a task, where what it reads is known.
+  -- The same of a task, where what it reads is known. Of one that passes over frames: nothing failed, so that no status is that of a fault.
   abbrev pub IsTaskMetAlike : (t : Task) → AreKnown before → DoesTask t limits before status after
       → DoesTask t limits before status' after' → Type 0
-  IsTaskMetAlike task.Show known does does' =
+  IsTaskMetAlike (task.Show at.End) known does does' =
       AreShownAlike forms.Lines limits known.bytes before status status' after after'
       (does known.bytes known.left known.out known.err) (does' known.bytes known.left known.out known.err)
   IsTaskMetAlike task.ShowJson known does does' =
       AreShownAlike forms.JsonLines limits known.bytes before status status' after after'
       (does known.bytes known.left known.out known.err) (does' known.bytes known.left known.out known.err)
-  IsTaskMetAlike task.Rows known does does' =
+  IsTaskMetAlike (task.Rows at.End) known does does' =
       AreShownAlike (forms.Pages no_page) limits known.bytes before status status' after after'
       (does known.bytes known.left known.out known.err) (does' known.bytes known.left known.out known.err)
-  IsTaskMetAlike task.Check known does does' =
+  IsTaskMetAlike (task.Check at.End) known does does' =
       AreCheckedAlike limits known.bytes before status status' after after'
       (does known.bytes known.left known.out known.err) (does' known.bytes known.left known.out known.err)
+  IsTaskMetAlike (task.Show at.Skip) known does does' = (status ≢ 3) × (status' ≢ 3)
+  IsTaskMetAlike (task.Rows at.Skip) known does does' = (status ≢ 3) × (status' ≢ 3)
+  IsTaskMetAlike (task.Check at.Skip) known does does' = (status ≢ 3) × (status' ≢ 3)
 
 -- The error output, of which it is known what it was given, failed in both or in neither.
 pub record IsErrorMetAlike (before after after' : Streams) : Type 0 where
