@@ -4,7 +4,7 @@ ghost use Rattle.std.specs.Prelude.{◌≡◌, ◌≢◌, ◌≤◌, IfOk, IfSom
 ghost use Rattle.cqlp_note.specs.Limits.{first_bad};
 ghost use Rattle.cqlp_options.specs.CommandLines.{IsWithin};
 ghost use Rattle.cqlp_options.specs.Ports.{AreWithin, named};
-ghost use Rattle.cqlp_options.specs.declared.capture.CaptureTask.TheVariants as task;
+ghost use Rattle.cqlp_options.specs.declared.capture.CaptureTask.TheVariants as tasks;
 ghost use Rattle.cqlp_tool.specs.Capturing.{DoesCaptureTask, IsCaptureOfInput, SplitsToFolder, filter_of};
 ghost use Rattle.cqlp_tool.specs.CommandLines.{Complains, DoesTask, Executes, Helps, IsOfInput, NeedsNoInput, Performs};
 ghost use Rattle.cqlp_tool.specs.CommandLines.{ReportsFault, ReportsWrong, Tells};
@@ -147,10 +147,10 @@ fn capture<R: Files + AllocGlobal, I: Source, O: Target, E: Target>(
 }
 
 /// The folder that a task with a capture asks for, if there is none with this path.
-fn missing_folder<'a, R: Files>(rt: &R, task: CaptureTask<'a>) -> Option<&'a str>
-    ensures { IfSome result (λ folder. task ≡ task.Streams folder) }
+fn missing_folder<'a, R: Files>(rt: &R, asked: CaptureTask<'a>) -> Option<&'a str>
+    ensures { IfSome result (λ folder. asked ≡ tasks.Streams folder) }
 {
-    match task {
+    match asked {
         CaptureTask::Streams { folder } if !is_folder(rt, folder) => Some(folder),
         CaptureTask::Streams { .. } | CaptureTask::Exchanges(_) => None,
     }
