@@ -205,6 +205,7 @@ mod cqlp_cell;
 mod cqlp_decode;
 mod cqlp_encode;
 mod cqlp_grammar;
+mod cqlp_json;
 mod cqlp_kind;
 mod cqlp_message;
 mod cqlp_note;
