@@ -38,6 +38,7 @@ use Rattle.cqlp_tool_laws.specs.Text.{FailsAlike, GoesOnFromOther}
 use Rattle.cqlp_tool_laws.specs.Tool.{IsOneOutput}
 use Rattle.cqlp_tool_laws.specs.CommandLines.{AreCheckedAlike, AreMetAlike, AreKnown, AreSplitAlike, IsCaptureMetAlike, AreOutputsMetAlike, AreShownAlike, AreLoopsAlike, IsErrorMetAlike, IsExecutedOnce, IsLoopDecided, IsOneAnswer, IsTaskMetAlike, LoopGoesOn}
 use Rattle.cqlp_tool_laws.proofs.OneText.{counts_up, stops_once}
+use Rattle.cqlp_tool_laws.proofs.SkippedOnce.{skipping_once, checking_skipping_once}
 use Rattle.cqlp_tool_laws.proofs.OneAnswer.{commands_end_once, checks_end_once, concludes_once, shown_once, checked_once}
 
 -- ---- a text
@@ -90,9 +91,9 @@ module _ (limits : Limits) (before : Streams) (status status' : ℕ) (after afte
   task_once task.ShowJson known a b alike = showing_once forms.JsonLines known.bytes (a known.bytes known.left known.out known.err) (b known.bytes known.left known.out known.err) alike
   task_once (task.Rows at.End) known a b alike = showing_once (forms.Pages no_page) known.bytes (a known.bytes known.left known.out known.err) (b known.bytes known.left known.out known.err) alike
   task_once (task.Check at.End) known a b alike = checking_once known.bytes (a known.bytes known.left known.out known.err) (b known.bytes known.left known.out known.err) alike
-  task_once (task.Show at.Skip) known a b alike = skipping_once forms.Lines known.bytes (a known.bytes known.left known.out known.err) (b known.bytes known.left known.out known.err) alike
-  task_once (task.Rows at.Skip) known a b alike = skipping_once (forms.Pages no_page) known.bytes (a known.bytes known.left known.out known.err) (b known.bytes known.left known.out known.err) alike
-  task_once (task.Check at.Skip) known a b alike = checking_skipping_once known.bytes (a known.bytes known.left known.out known.err) (b known.bytes known.left known.out known.err) alike
+  task_once (task.Show at.Skip) known a b alike = skipping_once limits known.bytes before status status' after after' known.err forms.Lines (a known.bytes known.left known.out known.err) (b known.bytes known.left known.out known.err) alike.0 alike.1
+  task_once (task.Rows at.Skip) known a b alike = skipping_once limits known.bytes before status status' after after' known.err (forms.Pages no_page) (a known.bytes known.left known.out known.err) (b known.bytes known.left known.out known.err) alike.0 alike.1
+  task_once (task.Check at.Skip) known a b alike = checking_skipping_once limits known.bytes before status status' after after' known.err (a known.bytes known.left known.out known.err) (b known.bytes known.left known.out known.err) alike.0 alike.1
 
 -- ---- a conversation
 

@@ -3,6 +3,7 @@
 use Rattle.std.specs.Prelude.{◌≡◌, ◌≢◌, ℕ, List, Some, IsSome, Result, Ok, Err}
 use Rattle.std.proofs.Common.{inl, inr}
 use Rattle.cqlp_note.specs.declared.limits.Limits.{Limits}
+use Rattle.cqlp_note.specs.Limits.{rules_of}
 use Rattle.cqlp_options.specs.Ports.{named}
 use Rattle.cqlp_options.specs.declared.capture.CaptureTask.{CaptureTask}
 use Rattle.cqlp_options.specs.declared.capture.CaptureTask.TheVariants as capture_task
@@ -13,6 +14,7 @@ use Rattle.cqlp_options.specs.declared.no_task.NoTask.TheVariants as no_task
 use Rattle.cqlp_options.specs.declared.options.AtRefusal.TheVariants as at
 use Rattle.cqlp_options.specs.declared.options.Task.{Task}
 use Rattle.cqlp_options.specs.declared.options.Task.TheVariants as task
+use Rattle.cqlp_text.specs.declared.ending.Ending.TheVariants as ending
 use Rattle.cqlp_text.specs.Outputs.{Output}
 use Rattle.cqlp_text.specs.PageText.{no_page}
 use Rattle.cqlp_loop.specs.declared.fault.LoopFault.{LoopFault}
@@ -22,6 +24,9 @@ use Rattle.cqlp_render.specs.declared.text_form.TextForm.{TextForm}
 use Rattle.cqlp_render.specs.declared.text_form.TextForm.TheVariants as forms
 use Rattle.cqlp_render.specs.Showing.{ShowsBytes, ChecksBytes}
 use Rattle.cqlp_render.specs.Streams.{Streams}
+use Rattle.cqlp_render_skip.specs.Showing as skipping
+use Rattle.cqlp_render_skip.specs.Showing.{outputs_of}
+use Rattle.cqlp_render_skip_laws.specs.Laws.{IsPlain}
 use Rattle.cqlp_tool.specs.Capturing.{DoesCaptureTask, IsCaptureOfInput, SplitsCapture}
 use Rattle.cqlp_tool.specs.CommandLines.{DoesTask, Executes, IsOfInput, turns}
 use Rattle.cqlp_tool.specs.Conversing.{ConversesAndReports, ConversesWithItself}
@@ -59,8 +64,22 @@ pub record AreCheckedAlike (limits : Limits) (xs : List ℕ) (before : Streams) 
   pub output : FailsAlike before.out after.out after'.out
   pub error : FailsAlike before.err after.err after'.err
 
+-- Of one that passes over frames: it came to a verdict, which is not that a frame ends too far to be passed over, and its status is not that
+-- of a fault.
+module _ (limits : Limits) (xs : List ℕ) (before : Streams) (status : ℕ) (after : Streams) where
+  abbrev pub EndsPlainly : (form : TextForm) → skipping.ShowsBytes form limits turns xs before status after → Type 0
+  EndsPlainly form (ending.Finished f, passed, told, reads, same, ends) =
+      (status ≢ 3) × IsPlain form (rules_of limits) xs (outputs_of before) f passed told after.input.left reads.shows
+  EndsPlainly form shows = ⊥
+
+  -- The same of one that checks.
+  abbrev pub ChecksPlainly : skipping.ChecksBytes limits turns xs before status after → Type 0
+  ChecksPlainly (ending.Finished f, passed, told, reads, own, ends, is) =
+      (status ≢ 3) × IsPlain forms.Nothing (rules_of limits) xs (outputs_of before) f passed told after.input.left reads.shows
+  ChecksPlainly checks = ⊥
+
 module _ (limits : Limits) (before : Streams) (status status' : ℕ) (after after' : Streams) where
-  -- The same of a task, where what it reads is known. Of one that passes over frames: nothing failed, so that no status is that of a fault.
+  -- The same of a task, where what it reads is known.
   abbrev pub IsTaskMetAlike : (t : Task) → AreKnown before → DoesTask t limits before status after
       → DoesTask t limits before status' after' → Type 0
   IsTaskMetAlike (task.Show at.End) known does does' =
@@ -75,9 +94,15 @@ module _ (limits : Limits) (before : Streams) (status status' : ℕ) (after afte
   IsTaskMetAlike (task.Check at.End) known does does' =
       AreCheckedAlike limits known.bytes before status status' after after'
       (does known.bytes known.left known.out known.err) (does' known.bytes known.left known.out known.err)
-  IsTaskMetAlike (task.Show at.Skip) known does does' = (status ≢ 3) × (status' ≢ 3)
-  IsTaskMetAlike (task.Rows at.Skip) known does does' = (status ≢ 3) × (status' ≢ 3)
-  IsTaskMetAlike (task.Check at.Skip) known does does' = (status ≢ 3) × (status' ≢ 3)
+  IsTaskMetAlike (task.Show at.Skip) known does does' =
+      EndsPlainly limits known.bytes before status after forms.Lines (does known.bytes known.left known.out known.err)
+      × EndsPlainly limits known.bytes before status' after' forms.Lines (does' known.bytes known.left known.out known.err)
+  IsTaskMetAlike (task.Rows at.Skip) known does does' =
+      EndsPlainly limits known.bytes before status after (forms.Pages no_page) (does known.bytes known.left known.out known.err)
+      × EndsPlainly limits known.bytes before status' after' (forms.Pages no_page) (does' known.bytes known.left known.out known.err)
+  IsTaskMetAlike (task.Check at.Skip) known does does' =
+      ChecksPlainly limits known.bytes before status after (does known.bytes known.left known.out known.err)
+      × ChecksPlainly limits known.bytes before status' after' (does' known.bytes known.left known.out known.err)
 
 -- The error output, of which it is known what it was given, failed in both or in neither.
 pub record IsErrorMetAlike (before after after' : Streams) : Type 0 where
