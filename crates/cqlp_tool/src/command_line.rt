@@ -148,7 +148,7 @@ fn capture<R: Files + AllocGlobal, I: Source, O: Target, E: Target>(
 
 /// The folder that a task with a capture asks for, if there is none with this path.
 fn missing_folder<'a, R: Files>(rt: &R, asked: CaptureTask<'a>) -> Option<&'a str>
-    ensures { IfSome result (λ folder. asked ≡ tasks.Streams folder) }
+    ensures { IfSome result (λ folder. asked.entry ≡ tasks.Streams folder) }
 {
     match asked {
         CaptureTask::Streams { folder } if !is_folder(rt, folder) => Some(folder),
