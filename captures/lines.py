@@ -72,9 +72,7 @@ def request(message, known):
 def response(message):
     number = int(message["int"]) if message["int"] else None
     name = message["opcode"].upper()
-    if name == "RESULT" and number is None:
-        name = KINDS[1]
-    elif name == "RESULT":
+    if name == "RESULT" and number is not None:
         name = KINDS[number]
     elif name == "ERROR":
         name = f"ERROR {ERRORS[number]}"
