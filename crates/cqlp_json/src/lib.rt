@@ -1,0 +1,8 @@
+//! Events as JSON: an object a line.
+#![tactic(auto)]
+
+mod line;
+mod member;
+mod string;
+
+pub use line::{json_line, put_json_line};

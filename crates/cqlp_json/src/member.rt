@@ -1,0 +1,108 @@
+//! Members of objects, and their values.
+
+ghost use Rattle.std.specs.Prelude.{◌≡◌, ◌++◌, codes, flat_map};
+ghost use Rattle.hex.specs.Hex.{encode_lower};
+ghost use Rattle.cqlp_kind.specs.Contents.{value_of};
+ghost use Rattle.cqlp_text.specs.CellText.{cell_text};
+ghost use Rattle.cqlp_text.specs.Written.{Writes};
+ghost use Rattle.cqlp_json.specs.Values.{hex, member_text, scalar_text, value_text, word};
+
+use crate::string::put_string;
+use cqlp_grammar::SinkFault;
+use cqlp_kind::Scalar;
+use cqlp_text::{Pen, TextWriter};
+
+/// The value of a member.
+#[derive(Clone, Copy, Debug, PartialEq, Eq)]
+pub(crate) enum Value<'a> {
+    Null,
+    Number(u64),
+    /// A text that needs no escape.
+    Name(&'a str),
+    Scalar(Scalar<'a>),
+}
+
+/// A value, and the text before it: a comma, the member's name in quotes and a colon.
+#[derive(Clone, Copy, Debug, PartialEq, Eq)]
+pub(crate) struct Member<'a>(pub &'a str, pub Value<'a>);
+
+/// Takes members, one after the other.
+pub(crate) fn put_members<P: Pen>(
+    members: &[Member<'_>],
+    writer: &mut TextWriter<P>,
+) -> Result<(), SinkFault>
+    ensures { Writes writer.old (flat_map member_text members.now) result writer.new }
+{
+    for member in members {
+        writer.put_str(member.0)?;
+        put_value(member.1, writer)?;
+    }
+    Ok(())
+}
+
+/// Takes a value.
+#[inline]
+fn put_value<P: Pen>(value: Value<'_>, writer: &mut TextWriter<P>) -> Result<(), SinkFault>
+    ensures { Writes writer.old (value_text value.entry) result writer.new }
+{
+    match value {
+        Value::Null => writer.put(b"null"),
+        Value::Number(number) => writer.put_number(number),
+        Value::Name(name) => put_word(name, writer),
+        Value::Scalar(scalar) => put_scalar(&scalar, writer),
+    }
+}
+
+/// Takes a scalar. Those of at most 32 bits are numbers, booleans are such, and all others texts.
+fn put_scalar<P: Pen>(scalar: &Scalar<'_>, writer: &mut TextWriter<P>) -> Result<(), SinkFault>
+    ensures { Writes writer.old (scalar_text (value_of scalar.now)) result writer.new }
+{
+    match *scalar {
+        Scalar::Int(_) | Scalar::Smallint(_) | Scalar::Tinyint(_) | Scalar::Boolean(_) => {
+            writer.put_cell(scalar)
+        }
+        Scalar::Custom(bytes) | Scalar::Blob(bytes) | Scalar::Raw(bytes) => {
+            put_bytes(bytes, writer)
+        }
+        Scalar::Double(bytes) => put_bytes(&bytes, writer),
+        Scalar::Float(bytes) => put_bytes(&bytes, writer),
+        Scalar::Ascii(text) | Scalar::Varchar(text) => put_string(text, writer),
+        Scalar::Bigint(_)
+        | Scalar::Counter(_)
+        | Scalar::Decimal { .. }
+        | Scalar::Timestamp(_)
+        | Scalar::Uuid(_)
+        | Scalar::Varint(_)
+        | Scalar::Timeuuid(_)
+        | Scalar::Inet(_)
+        | Scalar::Date(_)
+        | Scalar::Time(_) => put_cell_word(scalar, writer),
+    }
+}
+
+/// Takes a text that needs no escape, between quotes.
+fn put_word<P: Pen>(text: &str, writer: &mut TextWriter<P>) -> Result<(), SinkFault>
+    ensures { Writes writer.old (word text.now) result writer.new }
+{
+    writer.put(b"\"")?;
+    writer.put_str(text)?;
+    writer.put(b"\"")
+}
+
+/// Takes the text of a cell as a line has it, between quotes.
+fn put_cell_word<P: Pen>(scalar: &Scalar<'_>, writer: &mut TextWriter<P>) -> Result<(), SinkFault>
+    ensures { Writes writer.old (word (cell_text (value_of scalar.now))) result writer.new }
+{
+    writer.put(b"\"")?;
+    writer.put_cell(scalar)?;
+    writer.put(b"\"")
+}
+
+/// Takes bytes as two lower case hexadecimal digits each, between quotes.
+fn put_bytes<P: Pen>(bytes: &[u8], writer: &mut TextWriter<P>) -> Result<(), SinkFault>
+    ensures { Writes writer.old (hex bytes.now) result writer.new }
+{
+    writer.put(b"\"")?;
+    writer.put_hex(bytes)?;
+    writer.put(b"\"")
+}
