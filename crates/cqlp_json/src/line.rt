@@ -17,10 +17,11 @@ ghost use Rattle.cqlp_json.specs.Lines.{json_line as line_of, cell_members, fiel
 ghost use Rattle.cqlp_json.specs.Values.{value_text, word};
 
 use crate::member::{Member, Value, put_members};
+use crate::names::{field_name, kind_name};
 use cqlp_grammar::{Event, SinkFault};
 use cqlp_kind::{Kind, Scalar};
 use cqlp_note::{Address, BoundValue, Field, Header, Target};
-use cqlp_text::{Pen, TextWriter, field_name, kind_name, opcode_name};
+use cqlp_text::{Pen, TextWriter, opcode_name};
 
 /// Appends the JSON line of an event at an offset. A fault is the target's own.
 #[inline]
@@ -195,7 +196,7 @@ fn put_bytes_field<P: Pen>(
     bytes: Option<&[u8]>,
     writer: &mut TextWriter<P>,
 ) -> Result<(), SinkFault>
-    ensures { Writes writer.old (texts (members (event_of (events.Bytes field bytes)))) result writer.new }
+    ensures { Writes writer.old (texts (members (event_of (events.Bytes field bytes.entry)))) result writer.new }
 {
     match bytes {
         None => put_field(",\"event\":\"Bytes\",\"name\":", field, Value::Null, writer),

@@ -13,7 +13,7 @@ use cqlp_kind::Scalar;
 use cqlp_text::{Pen, TextWriter};
 
 /// The value of a member.
-#[derive(Clone, Copy, Debug, PartialEq, Eq)]
+#[derive(Clone, Copy)]
 pub(crate) enum Value<'a> {
     Null,
     Number(u64),
@@ -23,7 +23,7 @@ pub(crate) enum Value<'a> {
 }
 
 /// A value, and the text before it: a comma, the member's name in quotes and a colon.
-#[derive(Clone, Copy, Debug, PartialEq, Eq)]
+#[derive(Clone, Copy)]
 pub(crate) struct Member<'a>(pub &'a str, pub Value<'a>);
 
 /// Takes members, one after the other.

@@ -1,0 +1,4 @@
+pub mod Blocks
+pub mod Escapes
+pub mod Members
+pub mod ReadBack
