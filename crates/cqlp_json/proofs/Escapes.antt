@@ -37,7 +37,7 @@ first_of false b c rest control = rw control refl
 itself : (b : ℕ) → is_plain b ≡ true → escaped b ≡ b ∷ []
 itself b plain = rw plain refl
 
-no_control : (b c : ℕ) → (b == 194) ≡ false → is_control b c ≡ false
+pub no_control : (b c : ℕ) → (b == 194) ≡ false → is_control b c ≡ false
 no_control b c other = rw other refl
 
 plain_first : (b : ℕ) (xs : List ℕ) → is_plain b ≡ true → escape (b ∷ xs) ≡ b ∷ escape xs

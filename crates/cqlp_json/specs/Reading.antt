@@ -46,8 +46,8 @@ read (Digits (suc others) number) (b ∷ rest) =
 abbrev pub read_string : List ℕ → Option (List ℕ × List ℕ)
 read_string = read Text
 
--- no byte of a control character: none below 32, not 127, and no 194 with one from 128 to 159 after it
-abbrev pub shows : List ℕ → Bool
-shows [] = true
-shows (b ∷ []) = prints b
-shows (b ∷ c ∷ rest) = prints b && not (is_control b c) && shows (c ∷ rest)
+-- no control characters stand in these bytes, before which one stands: none below 32, not 127, and no 194 with one from 128
+-- to 159 after it
+abbrev pub shows : (before : ℕ) → List ℕ → Bool
+shows before [] = true
+shows before (b ∷ rest) = prints b && not (is_control before b) && shows b rest

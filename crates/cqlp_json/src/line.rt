@@ -9,11 +9,12 @@ ghost use Rattle.cqlp_kind.specs.Scalars.{kind_of as kind_of_value};
 ghost use Rattle.cqlp_grammar.specs.Events as reading;
 ghost use Rattle.cqlp_grammar.specs.declared.event.Event.TheVariants as events;
 ghost use Rattle.cqlp_note.specs.Field as fields;
+ghost use Rattle.cqlp_text.specs.CellText.{boolean_text};
 ghost use Rattle.cqlp_text.specs.Names.{field_name, kind_name};
 ghost use Rattle.cqlp_text.specs.Lines.{direction as direction_text};
 ghost use Rattle.cqlp_text.specs.Outputs.{AppendsText, written};
 ghost use Rattle.cqlp_text.specs.Written.{Writes};
-ghost use Rattle.cqlp_json.specs.Lines.{json_line as line_of, cell_members, field_members, member, members, texts};
+ghost use Rattle.cqlp_json.specs.Lines.{json_line as line_of, cell_members, field_event, field_members, member, members, texts};
 ghost use Rattle.cqlp_json.specs.Values.{value_text, word};
 
 use crate::member::{Member, Value, put_members};
@@ -209,6 +210,7 @@ fn put_bytes_field<P: Pen>(
     }
 }
 
+/// Takes a \[value\] of a request, by whether it is set, and its bytes.
 fn put_bound<P: Pen>(
     field: Field,
     value: BoundValue<'_>,
@@ -216,17 +218,27 @@ fn put_bound<P: Pen>(
 ) -> Result<(), SinkFault>
     ensures { Writes writer.old (texts (field_members field (fields.Bound (bound_of value.entry)))) result writer.new }
 {
-    let (set, value) = match value {
-        BoundValue::Null => (true, Value::Null),
-        BoundValue::Unset => (false, Value::Null),
-        BoundValue::Bytes(bytes) => (true, Value::Scalar(Scalar::Blob(bytes))),
-    };
+    match value {
+        BoundValue::Null => put_set(field, true, Value::Null, writer),
+        BoundValue::Unset => put_set(field, false, Value::Null, writer),
+        BoundValue::Bytes(bytes) => {
+            put_set(field, true, Value::Scalar(Scalar::Blob(bytes)), writer)
+        }
+    }
+}
+
+fn put_set<P: Pen>(
+    field: Field,
+    set: bool,
+    value: Value<'_>,
+    writer: &mut TextWriter<P>,
+) -> Result<(), SinkFault>
+    ensures { Writes writer.old (texts (field_event "Bound" field
+        (member "set" (boolean_text set) ∷ member "value" (value_text value.entry) ∷ []))) result writer.new }
+{
     put_members(
         &[
-            Member(
-                ",\"event\":\"Bound\",\"name\":",
-                Value::Name(field_name(field)),
-            ),
+            Member(",\"event\":\"Bound\",\"name\":", Value::Name(field_name(field))),
             Member(",\"set\":", Value::Scalar(Scalar::Boolean(set))),
             Member(",\"value\":", value),
         ],

@@ -1,12 +1,7 @@
 use Rattle.std.proofs.Common.{refl}
-use Rattle.cqlp_text.proofs.Writing.{progress_starts, progress_goes_on, progress_stops, progress_last}
+use Rattle.cqlp_text.proofs.Writing.{progress_starts, progress_stops}
 use Rattle.cqlp_json.proofs.string.put_unicode.Goals as goal
 
 pub returns-in_err-put : goal.returns-in_err-put
 returns-in_err-put g c =
     progress_stops _ c.from_residual.result c.from_residual.ensures.0 (progress_starts _ _) refl c.in_err-put.ensures
-
-pub returns : goal.returns
-returns g c =
-    let s1 = progress_goes_on _ (progress_starts _ _) refl c.in_ok-put.ensures in
-    progress_last _ _ c.put_hex.result s1 refl c.put_hex.ensures
