@@ -17,7 +17,7 @@ ghost use Rattle.cqlp_text.specs.Written.{Writes};
 ghost use Rattle.cqlp_json.specs.Lines.{json_line as line_of, cell_members, field_event, field_members, member, members, texts};
 ghost use Rattle.cqlp_json.specs.Values.{value_text, word};
 
-use crate::member::{Member, Value, put_members};
+use crate::member::{Member, Value, bigint, int, put_members, smallint};
 use crate::names::{field_name, kind_name};
 use cqlp_grammar::{Event, SinkFault};
 use cqlp_kind::{Kind, Scalar};
@@ -31,10 +31,10 @@ pub fn json_line<W: Target>(at: u64, event: &Event<'_>, target: &mut W) -> Resul
         (written W.Target target.new) }
 {
     let mut writer = TextWriter::over(target);
-    let Ok(()) = put_json_line(at, event, &mut writer) else {
+    if let Err(fault) = put_json_line(at, event, &mut writer) {
         let _ = writer.into_target();
-        return Err(SinkFault);
-    };
+        return Err(fault);
+    }
     let passed = writer.flush();
     let _ = writer.into_target();
     passed
@@ -76,13 +76,13 @@ fn put_event<P: Pen>(event: &Event<'_>, writer: &mut TextWriter<P>) -> Result<()
         Event::Int { field, value } => put_field(
             ",\"event\":\"Int\",\"name\":",
             field,
-            Value::Scalar(Scalar::Int(value)),
+            int(value),
             writer,
         ),
         Event::Long { field, value } => put_field(
             ",\"event\":\"Long\",\"name\":",
             field,
-            Value::Scalar(Scalar::Bigint(value)),
+            bigint(value),
             writer,
         ),
         Event::Uuid { field, value } => put_field(
@@ -161,10 +161,7 @@ fn put_header<P: Pen>(header: Header, writer: &mut TextWriter<P>) -> Result<(), 
                 Value::Name(direction(header.response)),
             ),
             Member(",\"flags\":", Value::Number(u64::from(header.flags))),
-            Member(
-                ",\"stream\":",
-                Value::Scalar(Scalar::Smallint(header.stream)),
-            ),
+            Member(",\"stream\":", smallint(header.stream)),
             Member(",\"opcode\":", Value::Name(opcode_name(header.opcode))),
             Member(",\"length\":", Value::Number(u64::from(header.length))),
         ],
@@ -238,7 +235,10 @@ fn put_set<P: Pen>(
 {
     put_members(
         &[
-            Member(",\"event\":\"Bound\",\"name\":", Value::Name(field_name(field))),
+            Member(
+                ",\"event\":\"Bound\",\"name\":",
+                Value::Name(field_name(field)),
+            ),
             Member(",\"set\":", Value::Scalar(Scalar::Boolean(set))),
             Member(",\"value\":", value),
         ],
@@ -261,7 +261,7 @@ fn put_inet<P: Pen>(
                 Value::Name(field_name(field)),
             ),
             Member(",\"address\":", Value::Scalar(Scalar::Inet(address))),
-            Member(",\"port\":", Value::Scalar(Scalar::Int(port))),
+            Member(",\"port\":", int(port)),
         ],
         writer,
     )

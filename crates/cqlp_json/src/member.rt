@@ -1,7 +1,7 @@
 //! Members of objects, and their values.
 
 ghost use Rattle.std.specs.Prelude.{◌≡◌, ◌++◌, codes, flat_map};
-ghost use Rattle.hex.specs.Hex.{encode_lower};
+ghost use Rattle.std.specs.Fmt.{signed_decimal};
 ghost use Rattle.cqlp_kind.specs.Contents.{value_of};
 ghost use Rattle.cqlp_text.specs.CellText.{cell_text};
 ghost use Rattle.cqlp_text.specs.Written.{Writes};
@@ -25,6 +25,27 @@ pub(crate) enum Value<'a> {
 /// A value, and the text before it: a comma, the member's name in quotes and a colon.
 #[derive(Clone, Copy)]
 pub(crate) struct Member<'a>(pub &'a str, pub Value<'a>);
+
+/// A number of 16 bits.
+pub(crate) fn smallint(number: i16) -> Value<'static>
+    ensures { value_text result ≡ signed_decimal number }
+{
+    Value::Scalar(Scalar::Smallint(number))
+}
+
+/// A number of 32 bits.
+pub(crate) fn int(number: i32) -> Value<'static>
+    ensures { value_text result ≡ signed_decimal number }
+{
+    Value::Scalar(Scalar::Int(number))
+}
+
+/// A number of 64 bits, between quotes.
+pub(crate) fn bigint(number: i64) -> Value<'static>
+    ensures { value_text result ≡ word (signed_decimal number) }
+{
+    Value::Scalar(Scalar::Bigint(number))
+}
 
 /// Takes members, one after the other.
 pub(crate) fn put_members<P: Pen>(
@@ -64,8 +85,8 @@ fn put_scalar<P: Pen>(scalar: &Scalar<'_>, writer: &mut TextWriter<P>) -> Result
         Scalar::Custom(bytes) | Scalar::Blob(bytes) | Scalar::Raw(bytes) => {
             put_bytes(bytes, writer)
         }
-        Scalar::Double(bytes) => put_bytes(&bytes, writer),
-        Scalar::Float(bytes) => put_bytes(&bytes, writer),
+        Scalar::Double(bytes) => put_float(bytes, writer),
+        Scalar::Float(bytes) => put_float(bytes, writer),
         Scalar::Ascii(text) | Scalar::Varchar(text) => put_string(text, writer),
         Scalar::Bigint(_)
         | Scalar::Counter(_)
@@ -105,4 +126,14 @@ fn put_bytes<P: Pen>(bytes: &[u8], writer: &mut TextWriter<P>) -> Result<(), Sin
     writer.put(b"\"")?;
     writer.put_hex(bytes)?;
     writer.put(b"\"")
+}
+
+/// Takes the bytes of a floating-point number, as such.
+fn put_float<P: Pen, const N: usize>(
+    bytes: [u8; N],
+    writer: &mut TextWriter<P>,
+) -> Result<(), SinkFault>
+    ensures { Writes writer.old (hex bytes.entry) result writer.new }
+{
+    put_bytes(&bytes, writer)
 }
