@@ -31,13 +31,17 @@ pub fn json_line<W: Target>(at: u64, event: &Event<'_>, target: &mut W) -> Resul
         (written W.Target target.new) }
 {
     let mut writer = TextWriter::over(target);
-    if let Err(fault) = put_json_line(at, event, &mut writer) {
-        let _ = writer.into_target();
-        return Err(fault);
+    match put_json_line(at, event, &mut writer) {
+        Ok(()) => {
+            let passed = writer.flush();
+            let _ = writer.into_target();
+            passed
+        }
+        Err(fault) => {
+            let _ = writer.into_target();
+            Err(fault)
+        }
     }
-    let passed = writer.flush();
-    let _ = writer.into_target();
-    passed
 }
 
 /// Has a writer take the JSON line of an event at an offset.

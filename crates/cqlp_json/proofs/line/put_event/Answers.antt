@@ -1,3 +1,5 @@
+use Rattle.std.proofs.Common.{rules, SFits, w32, w64}
+use Rattle.std.proofs.lemmas.Int.{to_z-of_z}
 use Rattle.cqlp_json.proofs.line.put_event.Goals as goal
 
 pub returns-in-Byte : goal.returns-in-Byte
@@ -7,10 +9,16 @@ pub returns-in-Short : goal.returns-in-Short
 returns-in-Short g c = rw c.in-Short.is (rw c.from-in-Short.ensures at c.put_field-in-Short.ensures)
 
 pub returns-in-Int : goal.returns-in-Int
-returns-in-Int g c = ?
+returns-in-Int g c =
+    let fits : SFits w32 c.in-Int.value = search rules in
+    let value = rw (to_z-of_z w32 c.in-Int.value fits) at c.int.ensures in
+    rw c.in-Int.is (rw value at c.put_field-in-Int.ensures)
 
 pub returns-in-Long : goal.returns-in-Long
-returns-in-Long g c = rw c.in-Long.is (rw c.bigint.ensures at c.put_field-in-Long.ensures)
+returns-in-Long g c =
+    let fits : SFits w64 c.in-Long.value = search rules in
+    let value = rw (to_z-of_z w64 c.in-Long.value fits) at c.bigint.ensures in
+    rw c.in-Long.is (rw value at c.put_field-in-Long.ensures)
 
 pub returns-in-Uuid : goal.returns-in-Uuid
 returns-in-Uuid g c = rw c.in-Uuid.is c.put_field-in-Uuid.ensures
