@@ -1,12 +1,12 @@
 -- A string is read back.
-use Rattle.std.proofs.Common.{◌≡◌, ℕ, ◌+◌, ◌*◌, ◌/◌, ◌%◌, ◌<◌, ◌≤◌, ◌==◌, ◌&&◌, ◌||◌, Bool, true, false, nat_le, nat_lt, List, [], ◌∷◌, ◌++◌, Option, Some, None, slice_index, refl, sym, ap, ◌∙◌, append-nil, append_assoc, eqb-true, arith}
+use Rattle.std.proofs.Common.{◌≡◌, ℕ, ◌+◌, ◌*◌, ◌/◌, ◌%◌, ◌<◌, ◌≤◌, ◌==◌, ◌||◌, Bool, true, false, nat_lt, List, [], ◌∷◌, ◌++◌, Some, slice_index, refl, sym, ap, ◌∙◌, append_assoc, eqb-true, arith}
 use Rattle.std.proofs.lemmas.Bool.Decides.{nat_tests}
 use Rattle.std.specs.Prelude.{encode_utf8}
 use lib.Utf8.{encode}
 use Rattle.hex.specs.Hex.{encode_with, hex_digit_value, lower_digits}
 use Rattle.hex.proofs.HexLemmas.{IsDigits-lower_digits}
 use Rattle.cqlp_json.specs.Strings.{is_plain, is_control, unicode, escaped, escape}
-use Rattle.cqlp_json.specs.Reading.{Place, Text, after, read}
+use Rattle.cqlp_json.specs.Reading.{Text, after, read}
 use Rattle.cqlp_json.proofs.Escapes.{first_of}
 
 -- a character by its number

@@ -1,6 +1,6 @@
 -- The line of an event: a JSON object with its offset, its name, and what it says.
 use Prim.Native.String.{String}
-use Rattle.std.specs.Prelude.{ℕ, Bool, true, false, List, [], ◌∷◌, ◌++◌, Some, None, codes, decimal}
+use Rattle.std.specs.Prelude.{ℕ, true, false, List, [], ◌∷◌, ◌++◌, Some, None, codes, decimal}
 use Rattle.std.specs.Fmt.{signed_decimal}
 use Rattle.std.specs.List.{flat_map}
 use Rattle.cqlp_note.specs.declared.field.Field.{Field}
@@ -16,8 +16,7 @@ use Rattle.cqlp_text.specs.Lines.{direction}
 use Rattle.cqlp_text.specs.Names.{field_name, kind_name, opcode_name}
 use Rattle.cqlp_text.specs.Text.{address_text}
 use Rattle.uuid.specs.Text.{hyphenated_text, lower}
-use Rattle.cqlp_json.specs.declared.member.Member.{Member}
-use Rattle.cqlp_json.specs.Values.{word, string, hex, scalar_text, member_text}
+use Rattle.cqlp_json.specs.Values.{word, string, hex, scalar_text}
 
 -- a member after another
 abbrev pub member : (name : String) → (value : List ℕ) → List ℕ

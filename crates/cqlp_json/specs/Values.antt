@@ -1,7 +1,6 @@
 -- The values of members (section 3 of RFC 8259).
-use Rattle.std.specs.Prelude.{ℕ, Bool, true, false, List, [], ◌∷◌, ◌++◌, codes, decimal}
+use Rattle.std.specs.Prelude.{ℕ, List, ◌++◌, codes, decimal}
 use Rattle.std.specs.Fmt.{signed_decimal}
-use Rattle.std.specs.List.{flat_map}
 use Rattle.hex.specs.Hex.{encode_lower}
 use Rattle.cqlp_kind.specs.Scalars.{ScalarValue}
 use Rattle.cqlp_kind.specs.Scalars as scalar

@@ -17,7 +17,7 @@ ghost use Rattle.cqlp_text.specs.Written.{Writes};
 ghost use Rattle.cqlp_json.specs.Lines.{json_line as line_of, cell_members, field_event, field_members, member, members, texts};
 ghost use Rattle.cqlp_json.specs.Values.{value_text, word};
 
-use crate::member::{Member, Value, bigint, int, put_members, smallint};
+use crate::member::{Member, Value, bigint, int, number, put_members, smallint};
 use crate::names::{field_name, kind_name};
 use cqlp_grammar::{Event, SinkFault};
 use cqlp_kind::{Kind, Scalar};
@@ -65,44 +65,24 @@ fn put_event<P: Pen>(event: &Event<'_>, writer: &mut TextWriter<P>) -> Result<()
 {
     match *event {
         Event::Frame(header) => put_header(header, writer),
-        Event::Byte { field, value } => put_field(
-            ",\"event\":\"Byte\",\"name\":",
-            field,
-            Value::Number(u64::from(value)),
-            writer,
-        ),
+        Event::Byte { field, value } => put_field("Byte", field, number(u32::from(value)), writer),
         Event::Short { field, value } => put_field(
-            ",\"event\":\"Short\",\"name\":",
+            "Short",
             field,
-            Value::Number(u64::from(value)),
+            number(u32::from(value)),
             writer,
         ),
-        Event::Int { field, value } => put_field(
-            ",\"event\":\"Int\",\"name\":",
-            field,
-            int(value),
-            writer,
-        ),
-        Event::Long { field, value } => put_field(
-            ",\"event\":\"Long\",\"name\":",
-            field,
-            bigint(value),
-            writer,
-        ),
+        Event::Int { field, value } => put_field("Int", field, int(value), writer),
+        Event::Long { field, value } => put_field("Long", field, bigint(value), writer),
         Event::Uuid { field, value } => put_field(
-            ",\"event\":\"Uuid\",\"name\":",
+            "Uuid",
             field,
             Value::Scalar(Scalar::Uuid(value)),
             writer,
         ),
-        Event::Count { field, count } => put_field(
-            ",\"event\":\"Count\",\"name\":",
-            field,
-            Value::Number(u64::from(count)),
-            writer,
-        ),
+        Event::Count { field, count } => put_field("Count", field, number(count), writer),
         Event::Text { field, text } => put_field(
-            ",\"event\":\"Text\",\"name\":",
+            "Text",
             field,
             Value::Scalar(Scalar::Varchar(text)),
             writer,
@@ -121,20 +101,8 @@ fn put_event<P: Pen>(event: &Event<'_>, writer: &mut TextWriter<P>) -> Result<()
             level,
             scalar,
         } => put_leaf(row, column, level, scalar, writer),
-        Event::Null { row, column, level } => put_place(
-            ",\"event\":\"Null\",\"row\":",
-            row,
-            column,
-            level,
-            writer,
-        ),
-        Event::Empty { row, column, level } => put_place(
-            ",\"event\":\"Empty\",\"row\":",
-            row,
-            column,
-            level,
-            writer,
-        ),
+        Event::Null { row, column, level } => put_place("Null", row, column, level, writer),
+        Event::Empty { row, column, level } => put_place("Empty", row, column, level, writer),
         Event::Enter {
             row,
             column,
@@ -173,20 +141,21 @@ fn put_header<P: Pen>(header: Header, writer: &mut TextWriter<P>) -> Result<(), 
     )
 }
 
-/// Takes a field with its name and value, after the event's name.
+/// Takes a field: the event's name, which says its notation, the field's, and its value.
 #[inline]
 fn put_field<P: Pen>(
-    before: &str,
+    notation: &str,
     field: Field,
     value: Value<'_>,
     writer: &mut TextWriter<P>,
 ) -> Result<(), SinkFault>
-    ensures { Writes writer.old (texts ((before.now ++ word (field_name field)) ∷ member "value" (value_text value.entry) ∷ []))
-        result writer.new }
+    ensures { Writes writer.old (texts (member "event" (word notation.now) ∷ member "name" (word (field_name field))
+        ∷ member "value" (value_text value.entry) ∷ [])) result writer.new }
 {
     put_members(
         &[
-            Member(before, Value::Name(field_name(field))),
+            Member(",\"event\":", Value::Name(notation)),
+            Member(",\"name\":", Value::Name(field_name(field))),
             Member(",\"value\":", value),
         ],
         writer,
@@ -201,13 +170,8 @@ fn put_bytes_field<P: Pen>(
     ensures { Writes writer.old (texts (members (event_of (events.Bytes field bytes.entry)))) result writer.new }
 {
     match bytes {
-        None => put_field(",\"event\":\"Bytes\",\"name\":", field, Value::Null, writer),
-        Some(bytes) => put_field(
-            ",\"event\":\"Bytes\",\"name\":",
-            field,
-            Value::Scalar(Scalar::Blob(bytes)),
-            writer,
-        ),
+        None => put_field("Bytes", field, Value::Null, writer),
+        Some(bytes) => put_field("Bytes", field, Value::Scalar(Scalar::Blob(bytes)), writer),
     }
 }
 
@@ -283,20 +247,21 @@ fn put_node<P: Pen>(kind: Kind, writer: &mut TextWriter<P>) -> Result<(), SinkFa
     )
 }
 
-/// Takes the place of a value, after the event's name.
+/// Takes an event of a value that says nothing but where it is.
 fn put_place<P: Pen>(
-    before: &str,
+    name: &str,
     row: u32,
     column: u32,
     level: u32,
     writer: &mut TextWriter<P>,
 ) -> Result<(), SinkFault>
-    ensures { Writes writer.old (texts ((before.now ++ decimal row) ∷ member "column" (decimal column)
-        ∷ member "level" (decimal level) ∷ [])) result writer.new }
+    ensures { Writes writer.old (texts (member "event" (word name.now) ∷ member "row" (decimal row)
+        ∷ member "column" (decimal column) ∷ member "level" (decimal level) ∷ [])) result writer.new }
 {
     put_members(
         &[
-            Member(before, Value::Number(u64::from(row))),
+            Member(",\"event\":", Value::Name(name)),
+            Member(",\"row\":", Value::Number(u64::from(row))),
             Member(",\"column\":", Value::Number(u64::from(column))),
             Member(",\"level\":", Value::Number(u64::from(level))),
         ],

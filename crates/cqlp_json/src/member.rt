@@ -1,6 +1,6 @@
 //! Members of objects, and their values.
 
-ghost use Rattle.std.specs.Prelude.{◌≡◌, ◌++◌, codes, flat_map};
+ghost use Rattle.std.specs.Prelude.{◌≡◌, decimal, flat_map};
 ghost use Rattle.std.specs.Fmt.{signed_decimal};
 ghost use Rattle.cqlp_kind.specs.Contents.{value_of};
 ghost use Rattle.cqlp_text.specs.CellText.{cell_text};
@@ -25,6 +25,13 @@ pub(crate) enum Value<'a> {
 /// A value, and the text before it: a comma, the member's name in quotes and a colon.
 #[derive(Clone, Copy)]
 pub(crate) struct Member<'a>(pub &'a str, pub Value<'a>);
+
+/// A number without a sign.
+pub(crate) fn number(number: u32) -> Value<'static>
+    ensures { value_text result ≡ decimal number }
+{
+    Value::Number(u64::from(number))
+}
 
 /// A number of 16 bits.
 pub(crate) fn smallint(number: i16) -> Value<'static>

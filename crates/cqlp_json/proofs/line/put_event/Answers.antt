@@ -3,10 +3,10 @@ use Rattle.std.proofs.lemmas.Int.{to_z-of_z}
 use Rattle.cqlp_json.proofs.line.put_event.Goals as goal
 
 pub returns-in-Byte : goal.returns-in-Byte
-returns-in-Byte g c = rw c.in-Byte.is (rw c.from.ensures at c.put_field.ensures)
+returns-in-Byte g c = rw c.in-Byte.is (rw (c.number.ensures, c.from.ensures) at c.put_field.ensures)
 
 pub returns-in-Short : goal.returns-in-Short
-returns-in-Short g c = rw c.in-Short.is (rw c.from-in-Short.ensures at c.put_field-in-Short.ensures)
+returns-in-Short g c = rw c.in-Short.is (rw (c.number-in-Short.ensures, c.from-in-Short.ensures) at c.put_field-in-Short.ensures)
 
 pub returns-in-Int : goal.returns-in-Int
 returns-in-Int g c =
@@ -24,7 +24,7 @@ pub returns-in-Uuid : goal.returns-in-Uuid
 returns-in-Uuid g c = rw c.in-Uuid.is c.put_field-in-Uuid.ensures
 
 pub returns-in-Count : goal.returns-in-Count
-returns-in-Count g c = rw c.in-Count.is (rw c.from-in-Count.ensures at c.put_field-in-Count.ensures)
+returns-in-Count g c = rw c.in-Count.is (rw c.number-in-Count.ensures at c.put_field-in-Count.ensures)
 
 pub returns-in-Text : goal.returns-in-Text
 returns-in-Text g c = rw c.in-Text.is c.put_field-in-Text.ensures
