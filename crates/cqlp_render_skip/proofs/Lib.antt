@@ -1,0 +1,4 @@
+pub mod Outgoing
+pub mod SkippedLines
+pub mod Stretching
+pub mod Turning

@@ -1,0 +1,11 @@
+//! A stream as text that is read on after frames whose bodies are refused.
+#![tactic(auto)]
+
+mod feeding;
+mod forming;
+mod reading;
+mod report;
+mod showing;
+mod skipped_line;
+
+pub use showing::{check_skipping, rows_skipping, show_skipping};

@@ -1,0 +1,120 @@
+//! A whole stream, shown or checked, with frames passed over.
+
+ghost use Rattle.std.specs.Prelude.{◌≡◌, IsSome, Ok};
+ghost use Rattle.cqlp_note.specs.Limits.{first_bad};
+ghost use Rattle.cqlp_render.specs.Streams.{streams};
+ghost use Rattle.cqlp_render.specs.declared.text_form.TextForm.TheVariants as forms;
+ghost use Rattle.cqlp_render_skip.specs.Showing.{ChecksAndReports, ConcludesAfter, ShowsAndReports, status_after};
+ghost use Rattle.cqlp_text.specs.Endings.{IsStatusOfTask};
+ghost use Rattle.cqlp_text.specs.Outputs.{written};
+ghost use Rattle.cqlp_text.specs.PageText.{no_page};
+
+use crate::reading::{Shown, show_stream};
+use cqlp_decode::SinkFault;
+use cqlp_note::{Limits, Source, Target};
+use cqlp_render::{TURNS, TextForm, conclude};
+use cqlp_text::exit_status::NOT_WHOLE;
+use cqlp_text::{Ending, PagePlace, ending_line};
+use std::alloc::Allocator;
+
+/// Writes the lines of the events of a stream to `out`. Of a frame whose body is refused it writes those before the
+/// refusal, passes over the rest of the frame, writes the line `skipped OFFSET REASON at AT` to `err`, and goes on with the
+/// next header. At the end the verdict line or fault line goes to `err`. Answers the exit status, which is 1 where a frame was
+/// passed over and the end is otherwise good, and the two outputs.
+pub fn show_skipping<R: Source, O: Target, E: Target, A: Allocator>(
+    alloc: &A,
+    limits: Limits,
+    input: &mut R,
+    out: O,
+    err: E,
+) -> (u8, O, E)
+    requires { first_bad limits ≡ Ok tt }
+    ensures status { IsStatusOfTask result.0 }
+    ensures shows { let view = streams R.Source O.Target E.Target in
+        ShowsAndReports forms.Lines limits TURNS (view input.old out err) result.0 (view input.new result.1 result.2) }
+{
+    report(show_stream(alloc, limits, TextForm::Lines, input, out, err))
+}
+
+/// Writes the text of the pages of a stream to `out`, and passes over frames as `show_skipping` does. Of a page whose frame
+/// is passed over it writes the text up to the refusal. A line break follows where a frame was passed over, so that what
+/// comes next begins on a new line: it ends a row that is cut, and is an empty line where none is. Answers the exit status, and
+/// the two outputs.
+pub fn rows_skipping<R: Source, O: Target, E: Target, A: Allocator>(
+    alloc: &A,
+    limits: Limits,
+    input: &mut R,
+    out: O,
+    err: E,
+) -> (u8, O, E)
+    requires { first_bad limits ≡ Ok tt }
+    ensures status { IsStatusOfTask result.0 }
+    ensures shows { let view = streams R.Source O.Target E.Target in
+        ShowsAndReports (forms.Pages no_page) limits TURNS
+        (view input.old out err) result.0 (view input.new result.1 result.2) }
+{
+    let form = TextForm::Pages(PagePlace::new());
+    report(show_stream(alloc, limits, form, input, out, err))
+}
+
+/// Reads a stream, passes over frames as `show_skipping` does, and writes the verdict line to `out` or the fault line to
+/// `err`. Answers the exit status, and the two outputs.
+pub fn check_skipping<R: Source, O: Target, E: Target, A: Allocator>(
+    alloc: &A,
+    limits: Limits,
+    input: &mut R,
+    out: O,
+    err: E,
+) -> (u8, O, E)
+    requires { first_bad limits ≡ Ok tt }
+    ensures status { IsStatusOfTask result.0 }
+    ensures checks { let view = streams R.Source O.Target E.Target in
+        ChecksAndReports limits TURNS (view input.old out err) result.0 (view input.new result.1 result.2) }
+{
+    let shown = show_stream(alloc, limits, TextForm::Nothing, input, out, err);
+    let Shown {
+        ending,
+        passed_over,
+        mut out,
+        err,
+    } = shown;
+    let Ending::Finished(_) = ending else {
+        let (status, err) = conclude(ending, err);
+        return (status_after(passed_over, status), out, err);
+    };
+    let Err(SinkFault) = ending_line(ending, &mut out) else {
+        return (status_after(passed_over, ending.status()), out, err);
+    };
+    let (status, err) = conclude(Ending::WriteFault, err);
+    (status_after(passed_over, status), out, err)
+}
+
+/// Writes the verdict line or fault line of what was shown. Answers the exit status, and the two outputs.
+fn report<O: Target, E: Target>(shown: Shown<O, E>) -> (u8, O, E)
+    ensures status { IsStatusOfTask result.0 }
+    ensures out { written O.Target result.1 ≡ written O.Target shown.out }
+    ensures concludes { IsSome (written E.Target shown.err).given →
+        ConcludesAfter shown.passed_over shown.ending (written E.Target shown.err) result.0 (written E.Target result.2) }
+{
+    let Shown {
+        ending,
+        passed_over,
+        out,
+        err,
+    } = shown;
+    let (status, err) = conclude(ending, err);
+    (status_after(passed_over, status), out, err)
+}
+
+/// The exit status where the end has this one, of a stream of which a frame was passed over, or none.
+fn status_after(passed_over: bool, status: u8) -> u8
+    requires { IsStatusOfTask status }
+    ensures value { result ≡ status_after passed_over status }
+    ensures task { IsStatusOfTask result }
+{
+    if passed_over {
+        status.max(NOT_WHOLE)
+    } else {
+        status
+    }
+}
