@@ -1,5 +1,5 @@
 -- What draining a piece leaves.
-use Rattle.std.proofs.Common.{◌≡◌, ◌∙◌, ℕ, ◌+◌, List, [], ◌∷◌, ◌++◌, length, take, drop, Option, Some, None, IsSome, Ok, Err, true, false, refl, sym, ap, subst, append_assoc}
+use Rattle.std.proofs.Common.{◌≡◌, ◌∙◌, ℕ, ◌+◌, ◌≤◌, arith, List, ◌++◌, length, take, drop, Option, Some, None, Ok, Err, ◌⊎◌, true, false, sym, ap, subst, append_assoc}
 use Rattle.cqlp_note.specs.Reader.{More, says}
 use Rattle.cqlp_capture.specs.declared.event.CaptureEvent.{CaptureEvent}
 use Rattle.cqlp_capture.specs.declared.event.CaptureStep.TheVariants as answer
@@ -13,16 +13,10 @@ use Rattle.cqlp_streams.specs.declared.fault.StreamsFault.{StreamsFault}
 use Rattle.cqlp_streams.specs.declared.fault.StreamsFault.TheVariants as fault
 use Rattle.cqlp_streams.specs.declared.running.Drained.TheVariants as drained
 use Rattle.cqlp_streams.specs.Sayings.{Saying}
-use Rattle.cqlp_streams.specs.Recordings.{Recording, with_sayings}
-use Rattle.cqlp_streams.specs.Tellings.{RecordsAll}
+use Rattle.cqlp_streams.specs.Listening.{AreEndless, FailsAtLast, after_all}
 use Rattle.cqlp_streams.specs.Packets.{SplitState, TellsEvent}
 use Rattle.cqlp_streams.specs.Captures.{DrainsTo, Has, IsAtEndBy, TellsFirst}
-use Rattle.cqlp_streams.proofs.Recorded.{still_known}
 use Rattle.cqlp_streams.proofs.Events.{fails_at, has_more, never_ends, parted_at, same_limits, wants_more}
-
--- it is still known what the output was given
-pub known_here : (t : Table) (before : Recording) (s : List ℕ) (d : CaptureState) (u : SplitState) (after : Recording) → IsSome before.output.given → Has t before s d u after → IsSome after.output.given
-known_here t before s d u after k h = subst (λ (r : Recording). IsSome r.output.given) (sym h.recorded) (still_known before h.sayings k)
 
 -- nothing is refused at an event
 pub still_free : (o : Option CaptureRefusal) (old new : CaptureState) (input : List ℕ) (at used : ℕ) (e : CaptureEvent) → o ≡ None → AnswersFrom o old input (answer.Event at used e) new → new.refusal ≡ None
@@ -33,9 +27,11 @@ joined : (s piece : List ℕ) (k n : ℕ) → (s ++ take k piece) ++ take n (dro
 joined s piece k n = append_assoc s (take k piece) (take n (drop k piece)) ∙ ap (λ z. s ++ z) (sym (take_two k n piece))
 
 -- an event of the piece
-pub takes_event : (t : Table) (before : Recording) (s piece : List ℕ) (k : ℕ) (d d' : CaptureState) (u u' : SplitState) (after after' : Recording) (at used : ℕ) (e : CaptureEvent) (ts : List Saying) → (h : Has t before (s ++ take k piece) d u after) → Leads d (s ++ take k piece) h.events (drop k piece) (answer.Event at used e) d' → TellsEvent true u (event_of e) ts u' → after' ≡ with_sayings after ts → Has t before (s ++ take (k + used) piece) d' u' after'
-takes_event t before s piece k d d' u u' after after' at used e ts h leads tells is =
-    subst (λ z. Has t before z d' u' after') (joined s piece k used) (has_more t before (s ++ take k piece) (drop k piece) d d' u u' after after' at used e ts h leads tells is)
+pub takes_event : {V : Type 0} (after : V → Saying → V) (t : Table) (before : V) (s piece : List ℕ) (k : ℕ) (d d' : CaptureState) (u u' : SplitState) (v v' : V) (at used : ℕ) (e : CaptureEvent) (ts : List Saying) → (h : Has after t before (s ++ take k piece) d u v) → Leads d (s ++ take k piece) h.events (drop k piece) (answer.Event at used e) d' → TellsEvent true u (event_of e) ts u' → v' ≡ after_all after v ts → (n : ℕ) → n ≤ length h.events → (next : Has after t before (s ++ take (k + used) piece) d' u' v') × (n + 1 ≤ length next.events)
+takes_event after t before s piece k d d' u u' v v' at used e ts h leads tells is n few =
+    let next = has_more after t before (s ++ take k piece) (drop k piece) d d' u u' v v' at used e ts h leads tells is in
+    let enough : n + 1 ≤ length next.0.events = omega (arith, few, next.1) in
+    subst (λ z. (next : Has after t before z d' u' v') × (n + 1 ≤ length next.events)) (joined s piece k used) (next.0, enough)
 
 at_end_none : (o : Option CaptureRefusal) (d : CaptureState) (read s : List ℕ) (es : List (ℕ × Event)) → o ≡ None → s ≡ read → says (step d.limits d.spot) 0 d.pending ≡ More → IsAtEndBy o d read s es
 at_end_none None d read s es none same wants = (same, wants)
@@ -49,8 +45,8 @@ refuses_new : (o : Option CaptureRefusal) (old : CaptureState) (s : List ℕ) (e
 refuses_new None old s es input r none a = a
 refuses_new (Some x) old s es input r none a = absurd (let y = none in cc)
 
-pub drained_more : (l : CaptureLimits) (t : Table) (before : Recording) (s piece : List ℕ) (k : ℕ) (d d' : CaptureState) (u : SplitState) (after : Recording) (used : ℕ) → (h : Has t before (s ++ take k piece) d u after) → d.limits ≡ l → d.refusal ≡ None → AnswersFrom d.refusal d (drop k piece) (answer.More used) d' → Leads d (s ++ take k piece) h.events (drop k piece) (answer.More used) d' → DrainsTo l t before s piece (Ok drained.More) d' u after
-drained_more l t before s piece k d d' u after used h same none answers leads = (
+pub drained_more : {V : Type 0} (after : V → Saying → V) (faulted : V → Saying → StreamsFault → V → Type 0) (l : CaptureLimits) (t : Table) (before : V) (s piece : List ℕ) (k : ℕ) (d d' : CaptureState) (u : SplitState) (v : V) (used : ℕ) → (h : Has after t before (s ++ take k piece) d u v) → d.limits ≡ l → d.refusal ≡ None → AnswersFrom d.refusal d (drop k piece) (answer.More used) d' → Leads d (s ++ take k piece) h.events (drop k piece) (answer.More used) d' → DrainsTo after faulted l t before s piece (Ok drained.More) d' u v
+drained_more after faulted l t before s piece k d d' u v used h same none answers leads = (
   same_limits d.refusal d d' (drop k piece) (answer.More used) answers ∙ same,
   leads.1,
   (s ++ take k piece) ++ drop k piece,
@@ -59,13 +55,13 @@ drained_more l t before s piece k d d' u after used h same none answers leads = 
     sayings = h.sayings;
     stands = leads.2;
     tells = h.tells;
-    recorded = h.recorded;
+    got = h.got;
   },
   at_end_none d'.refusal d' (s ++ piece) ((s ++ take k piece) ++ drop k piece) h.events leads.1 (parted_at s piece k) (wants_more d.refusal d d' (drop k piece) used none answers),
 )
 
-pub drained_refused : (l : CaptureLimits) (t : Table) (before : Recording) (s piece : List ℕ) (k : ℕ) (d d' : CaptureState) (u : SplitState) (after : Recording) (r : CaptureRefusal) → (h : Has t before (s ++ take k piece) d u after) → d.limits ≡ l → d.refusal ≡ None → AnswersFrom d.refusal d (drop k piece) (answer.Refused r) d' → Leads d (s ++ take k piece) h.events (drop k piece) (answer.Refused r) d' → DrainsTo l t before s piece (Ok drained.Refused) d' u after
-drained_refused l t before s piece k d d' u after r h same none answers leads =
+pub drained_refused : {V : Type 0} (after : V → Saying → V) (faulted : V → Saying → StreamsFault → V → Type 0) (l : CaptureLimits) (t : Table) (before : V) (s piece : List ℕ) (k : ℕ) (d d' : CaptureState) (u : SplitState) (v : V) (r : CaptureRefusal) → (h : Has after t before (s ++ take k piece) d u v) → d.limits ≡ l → d.refusal ≡ None → AnswersFrom d.refusal d (drop k piece) (answer.Refused r) d' → Leads d (s ++ take k piece) h.events (drop k piece) (answer.Refused r) d' → DrainsTo after faulted l t before s piece (Ok drained.Refused) d' u v
+drained_refused after faulted l t before s piece k d d' u v r h same none answers leads =
     let limits = same_limits d.refusal d d' (drop k piece) (answer.Refused r) answers in
     let says = refuses_new d.refusal d (s ++ take k piece) h.events (drop k piece) r none leads.2 in
     let there = subst (λ z. Says d.limits start z h.events (Refused r)) (parted_at s piece k) says in (
@@ -77,19 +73,21 @@ drained_refused l t before s piece k d d' u after r h same none answers leads =
         sayings = h.sayings;
         stands = leads.1;
         tells = h.tells;
-        recorded = h.recorded;
+        got = h.got;
       },
       at_end_some d'.refusal d' (s ++ piece) (s ++ take k piece) h.events r leads.0 (subst (λ (z : CaptureLimits). Says z start (s ++ piece) h.events (Refused r)) (sym limits) there),
     )
 
 -- something failed at an event of the piece
-pub drain_fails : (l : CaptureLimits) (t : Table) (before : Recording) (s piece : List ℕ) (k : ℕ) (d d' : CaptureState) (u u' : SplitState) (after after' : Recording) (at used : ℕ) (e : CaptureEvent) (ts : List Saying) (f : StreamsFault) → (h : Has t before (s ++ take k piece) d u after) → d.limits ≡ l → AnswersFrom d.refusal d (drop k piece) (answer.Event at used e) d' → Leads d (s ++ take k piece) h.events (drop k piece) (answer.Event at used e) d' → TellsEvent false u (event_of e) ts u' → RecordsAll after ts (Err f) after' → DrainsTo l t before s piece (Err f) d' u' after'
-drain_fails l t before s piece k d d' u u' after after' at used e ts f h same answers leads tells records =
-    let first = fails_at l t before (s ++ take k piece) (drop k piece) d d' u u' after after' at used e ts f h leads (same_limits d.refusal d d' (drop k piece) (answer.Event at used e) answers ∙ same) tells records in
-    (first.0, subst (λ z. TellsFirst l t z first.0 u') (parted_at s piece k) first.1, first.2)
+pub drain_fails : {V : Type 0} (after : V → Saying → V) (faulted : V → Saying → StreamsFault → V → Type 0) (l : CaptureLimits) (t : Table) (before : V) (s piece : List ℕ) (k : ℕ) (d d' : CaptureState) (u u' : SplitState) (v v' : V) (at used : ℕ) (e : CaptureEvent) (ts : List Saying) (f' : StreamsFault) → (h : Has after t before (s ++ take k piece) d u v) → d.limits ≡ l → AnswersFrom d.refusal d (drop k piece) (answer.Event at used e) d' → Leads d (s ++ take k piece) h.events (drop k piece) (answer.Event at used e) d' → TellsEvent false u (event_of e) ts u' → FailsAtLast after faulted (AreEndless ts) v ts f' v' → DrainsTo after faulted l t before s piece (Err f') d' u' v'
+drain_fails after faulted l t before s piece k d d' u u' v v' at used e ts f' h same answers leads tells fails =
+    let first = fails_at after faulted l t before (s ++ take k piece) (drop k piece) d d' u u' v v' at used e ts f' h leads (same_limits d.refusal d d' (drop k piece) (answer.Event at used e) answers ∙ same) tells fails in
+    let there = subst (λ z. (f : TellsFirst l t z first.0 u') × FailsAtLast after faulted (AreEndless first.0 ⊎ AreEndless f.events) before first.0 f' v') (parted_at s piece k) (first.1, first.2) in
+    (first.0, there.0, there.1)
 
 -- there was no end to its events
-pub never_drained : (l : CaptureLimits) (t : Table) (before : Recording) (s piece : List ℕ) (k : ℕ) (d : CaptureState) (u : SplitState) (after : Recording) → Has t before (s ++ take k piece) d u after → d.refusal ≡ None → d.limits ≡ l → DrainsTo l t before s piece (Err fault.TooManyTurns) d u after
-never_drained l t before s piece k d u after h none same =
-    let first = never_ends l t before (s ++ take k piece) (drop k piece) d u after h none same in
-    (first.0, subst (λ z. TellsFirst l t z first.0 u) (parted_at s piece k) first.1, first.2)
+pub never_drained : {V : Type 0} (after : V → Saying → V) (faulted : V → Saying → StreamsFault → V → Type 0) (l : CaptureLimits) (t : Table) (before : V) (s piece : List ℕ) (k : ℕ) (d : CaptureState) (u : SplitState) (v : V) → (h : Has after t before (s ++ take k piece) d u v) → AreEndless h.events → d.refusal ≡ None → d.limits ≡ l → DrainsTo after faulted l t before s piece (Err fault.TooManyTurns) d u v
+never_drained after faulted l t before s piece k d u v h many none same =
+    let first = never_ends after faulted l t before (s ++ take k piece) (drop k piece) d u v h many none same in
+    let there = subst (λ z. (f : TellsFirst l t z first.0 u) × FailsAtLast after faulted (AreEndless first.0 ⊎ AreEndless f.events) before first.0 fault.TooManyTurns v) (parted_at s piece k) (first.1, first.2) in
+    (first.0, there.0, there.1)

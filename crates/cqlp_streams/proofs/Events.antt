@@ -1,5 +1,5 @@
--- What events tell, one after the other, and what is recorded of them.
-use Rattle.std.proofs.Common.{◌≡◌, ◌∙◌, ◌⊎◌, ℕ, ◌+◌, ◌&&◌, true, false, List, [], ◌∷◌, ◌++◌, length, take, drop, Option, Some, None, IsSome, Result, Ok, Err, refl, sym, ap, subst, inl, inr, append_assoc, append-nil, cond, Bool}
+-- What events tell, one after the other, and what a listener has got of them.
+use Rattle.std.proofs.Common.{◌≡◌, ◌∙◌, ◌⊎◌, ℕ, ◌+◌, ◌&&◌, true, false, List, [], ◌∷◌, ◌++◌, length, take, drop, Option, Some, None, Ok, Err, refl, sym, ap, subst, inl, inr, append_assoc, append-nil, cond, Bool}
 use Rattle.std.proofs.lemmas.List.{take-append-drop}
 use Rattle.cqlp_note.specs.Reader.{More, says}
 use Rattle.cqlp_capture.specs.declared.event.CaptureEnd.{CaptureEnd}
@@ -9,18 +9,17 @@ use Rattle.cqlp_capture.specs.declared.event.CaptureStep.{CaptureStep}
 use Rattle.cqlp_capture.specs.declared.event.CaptureStep.TheVariants as answer
 use Rattle.cqlp_capture.specs.declared.limits.CaptureLimits.{CaptureLimits}
 use Rattle.cqlp_capture.specs.declared.refusal.CaptureRefusal.{CaptureRefusal}
-use Rattle.cqlp_capture.specs.Reading.{Event, Hears, Refused, Says, start, step}
+use Rattle.cqlp_capture.specs.Reading.{Event, Hears, start, step}
 use Rattle.cqlp_capture.specs.Places.{began, is_between}
 use Rattle.cqlp_capture.specs.Progress.{After, AfterBy, AnswersFrom, CaptureState, EndsAs, FinishesBy, Leads, ending, ending_by, event_of, is_empty}
 use Rattle.cqlp_connections.specs.Tables.{Table}
 use Rattle.cqlp_streams.specs.declared.fault.StreamsFault.{StreamsFault}
 use Rattle.cqlp_streams.specs.declared.fault.StreamsFault.TheVariants as fault
 use Rattle.cqlp_streams.specs.Sayings.{Saying}
-use Rattle.cqlp_streams.specs.Recordings.{Recording, with_sayings}
-use Rattle.cqlp_streams.specs.Tellings.{RecordsAll}
+use Rattle.cqlp_streams.specs.Listening.{AreEndless, FailsAtLast, after_all}
 use Rattle.cqlp_streams.specs.Packets.{Finishes, SplitState, TellsEvent, TellsEvents, new_split}
-use Rattle.cqlp_streams.specs.Captures.{EndsSo, EndsTo, Has, HearsAll, IsAtEndBy, IsAtEndOf, TellsFile, TellsFirst, TellsLeaving, TellsSoFar, TellsSome}
-use Rattle.cqlp_streams.proofs.Recorded.{not_read, records_others, with_others}
+use Rattle.cqlp_streams.specs.Captures.{EndsSo, EndsTo, Has, HearsAll, IsAtEndBy, IsAtEndOf, TellsFirst}
+use Rattle.cqlp_streams.proofs.Getting.{after_others, endless_more, fails_others, one_longer}
 
 -- one event more
 pub events_more : (s m u : SplitState) (es : List (ℕ × Event)) (e : ℕ × Event) (ss ts : List Saying) → TellsEvents s es ss m → TellsEvent true m e.1 ts u → TellsEvents s (es ++ e ∷ []) (ss ++ ts) u
@@ -52,22 +51,25 @@ pub hears_here : (d : CaptureState) (s : List ℕ) (es : List (ℕ × Event)) �
 hears_here d s es none a = hears_by d.refusal d s es none a
 
 -- one event more was told
-pub has_more : (t : Table) (before : Recording) (s input : List ℕ) (d d' : CaptureState) (u u' : SplitState) (after after' : Recording) (at used : ℕ) (e : CaptureEvent) (ts : List Saying) → (h : Has t before s d u after) → Leads d s h.events input (answer.Event at used e) d' → TellsEvent true u (event_of e) ts u' → after' ≡ with_sayings after ts → Has t before (s ++ take used input) d' u' after'
-has_more t before s input d d' u u' after after' at used e ts h leads tells is = record {
-  events = h.events ++ (at, event_of e) ∷ [];
-  sayings = h.sayings ++ ts;
-  stands = leads.3;
-  tells = events_more (new_split t) u u' h.events (at, event_of e) h.sayings ts h.tells tells;
-  recorded = is ∙ ap (λ (z : Recording). with_sayings z ts) h.recorded ∙ sym (with_others before h.sayings ts);
-}
+pub has_more : {V : Type 0} (after : V → Saying → V) (t : Table) (before : V) (s input : List ℕ) (d d' : CaptureState) (u u' : SplitState) (v v' : V) (at used : ℕ) (e : CaptureEvent) (ts : List Saying) → (h : Has after t before s d u v) → Leads d s h.events input (answer.Event at used e) d' → TellsEvent true u (event_of e) ts u' → v' ≡ after_all after v ts → (next : Has after t before (s ++ take used input) d' u' v') × (length next.events ≡ length h.events + 1)
+has_more after t before s input d d' u u' v v' at used e ts h leads tells is = (
+  record {
+    events = h.events ++ (at, event_of e) ∷ [];
+    sayings = h.sayings ++ ts;
+    stands = leads.3;
+    tells = events_more (new_split t) u u' h.events (at, event_of e) h.sayings ts h.tells tells;
+    got = is ∙ ap (λ z. after_all after z ts) h.got ∙ sym (after_others after before h.sayings ts);
+  },
+  one_longer h.events (at, event_of e) (length h.events) refl,
+)
 
 -- the bytes before an offset and those from there on
 pub parted_at : (s piece : List ℕ) (n : ℕ) → (s ++ take n piece) ++ drop n piece ≡ s ++ piece
 parted_at s piece n = append_assoc s (take n piece) (drop n piece) ∙ ap (λ z. s ++ z) (take-append-drop n piece)
 
 -- at one event something failed
-pub fails_at : (l : CaptureLimits) (t : Table) (before : Recording) (s input : List ℕ) (d d' : CaptureState) (u u' : SplitState) (after after' : Recording) (at used : ℕ) (e : CaptureEvent) (ts : List Saying) (f : StreamsFault) → (h : Has t before s d u after) → Leads d s h.events input (answer.Event at used e) d' → d'.limits ≡ l → TellsEvent false u (event_of e) ts u' → RecordsAll after ts (Err f) after' → (ss : List Saying) × TellsFirst l t (s ++ input) ss u' × RecordsAll before ss (Err f) after'
-fails_at l t before s input d d' u u' after after' at used e ts f h leads same tells records = (
+pub fails_at : {V : Type 0} (after : V → Saying → V) (faulted : V → Saying → StreamsFault → V → Type 0) (l : CaptureLimits) (t : Table) (before : V) (s input : List ℕ) (d d' : CaptureState) (u u' : SplitState) (v v' : V) (at used : ℕ) (e : CaptureEvent) (ts : List Saying) (f : StreamsFault) → (h : Has after t before s d u v) → Leads d s h.events input (answer.Event at used e) d' → d'.limits ≡ l → TellsEvent false u (event_of e) ts u' → FailsAtLast after faulted (AreEndless ts) v ts f v' → (ss : List Saying) × (first : TellsFirst l t (s ++ input) ss u') × FailsAtLast after faulted (AreEndless ss ⊎ AreEndless first.events) before ss f v'
+fails_at after faulted l t before s input d d' u u' v v' at used e ts f h leads same tells fails = (
   h.sayings ++ ts,
   record {
     used = s ++ take used input;
@@ -79,12 +81,12 @@ fails_at l t before s input d d' u u' after after' at used e ts f h leads same t
     hears = subst (λ (z : CaptureLimits). Hears z start (s ++ take used input) (h.events ++ (at, event_of e) ∷ []) d'.spot d'.pending) same (hears_here d' (s ++ take used input) (h.events ++ (at, event_of e) ∷ []) leads.1 leads.3);
     tells = inr (h.events, (at, event_of e), refl, u, h.sayings, ts, refl, h.tells, tells);
   },
-  records_others before after after' h.sayings ts (Err f) h.recorded records,
+  fails_others after faulted (AreEndless ts) _ before v v' h.sayings ts f (λ many. inl (endless_more h.sayings ts many)) h.got fails,
 )
 
 -- there was no end to it
-pub never_ends : (l : CaptureLimits) (t : Table) (before : Recording) (s later : List ℕ) (d : CaptureState) (u : SplitState) (after : Recording) → Has t before s d u after → d.refusal ≡ None → d.limits ≡ l → (ss : List Saying) × TellsFirst l t (s ++ later) ss u × RecordsAll before ss (Err fault.TooManyTurns) after
-never_ends l t before s later d u after h none same = (
+pub never_ends : {V : Type 0} (after : V → Saying → V) (faulted : V → Saying → StreamsFault → V → Type 0) (l : CaptureLimits) (t : Table) (before : V) (s later : List ℕ) (d : CaptureState) (u : SplitState) (v : V) → (h : Has after t before s d u v) → AreEndless h.events → d.refusal ≡ None → d.limits ≡ l → (ss : List Saying) × (first : TellsFirst l t (s ++ later) ss u) × FailsAtLast after faulted (AreEndless ss ⊎ AreEndless first.events) before ss fault.TooManyTurns v
+never_ends after faulted l t before s later d u v h many none same = (
   h.sayings,
   record {
     used = s;
@@ -96,7 +98,7 @@ never_ends l t before s later d u after h none same = (
     hears = subst (λ (z : CaptureLimits). Hears z start s h.events d.spot d.pending) same (hears_here d s h.events none h.stands);
     tells = inl h.tells;
   },
-  inl (refl, h.recorded),
+  inl (refl, inr many, h.got),
 )
 
 -- ---- the end of the file
@@ -115,8 +117,8 @@ ends_by None d s read es e a at is f =
     subst (λ z. EndsSo d.limits z es e) at.0 (ends_at (is_between d.spot.place.stage && is_empty d.pending) d s es e refl is (record { hears = a; wants = at.1 }) f)
 
 -- all connections left
-pub ends_ok : (t : Table) (before : Recording) (s read : List ℕ) (d : CaptureState) (u u' : SplitState) (after after' : Recording) (e : CaptureEnd) (last : List Saying) → (h : Has t before s d u after) → IsAtEndOf d read s h.events → e ≡ ending d → EndsAs d e → Finishes true u last u' → after' ≡ with_sayings after last → EndsTo d.limits t before read (Ok e) u' after'
-ends_ok t before s read d u u' after after' e last h at is f leave recorded = (
+pub ends_ok : {V : Type 0} (after : V → Saying → V) (faulted : V → Saying → StreamsFault → V → Type 0) (t : Table) (turns made : ℕ) (before : V) (s read : List ℕ) (d : CaptureState) (u u' : SplitState) (v v' : V) (e : CaptureEnd) (last : List Saying) → (h : Has after t before s d u v) → IsAtEndOf d read s h.events → e ≡ ending d → EndsAs d e → Finishes true u last u' → v' ≡ after_all after v last → EndsTo after faulted d.limits t turns made before read (Ok e) u' v'
+ends_ok after faulted t turns made before s read d u u' v v' e last h at is f leave got = (
   h.sayings ++ last,
   record {
     events = h.events;
@@ -128,21 +130,15 @@ ends_ok t before s read d u u' after after' e last h at is f leave recorded = (
     leave = leave;
     all = refl;
   },
-  recorded ∙ ap (λ (z : Recording). with_sayings z last) h.recorded ∙ sym (with_others before h.sayings last),
+  got ∙ ap (λ z. after_all after z last) h.got ∙ sym (after_others after before h.sayings last),
 )
 
--- a fault that is not one of the input
-pub other_fault : (l : CaptureLimits) (t : Table) (before : Recording) (read : List ℕ) (u : SplitState) (after : Recording) (f : StreamsFault) (ss : List Saying) → TellsFirst l t read ss u ⊎ TellsLeaving l t read ss u → RecordsAll before ss (Err f) after → EndsTo l t before read (Err f) u after
-other_fault l t before read u after fault.Read ss tells a = absurd (not_read before after ss a)
-other_fault l t before read u after fault.Write ss tells a = (ss, tells, a)
-other_fault l t before read u after (fault.File f) ss tells a = (ss, tells, a)
-other_fault l t before read u after fault.NoMemory ss tells a = (ss, tells, a)
-other_fault l t before read u after fault.TooManyTurns ss tells a = (ss, tells, a)
-
 -- something failed while they left
-pub ends_err : (t : Table) (before : Recording) (s read : List ℕ) (d : CaptureState) (u u' : SplitState) (after after' : Recording) (e : CaptureEnd) (f : StreamsFault) (last : List Saying) → (h : Has t before s d u after) → IsAtEndOf d read s h.events → e ≡ ending d → EndsAs d e → Finishes false u last u' → RecordsAll after last (Err f) after' → EndsTo d.limits t before read (Err f) u' after'
-ends_err t before s read d u u' after after' e f last h at is ends leave records =
-    other_fault d.limits t before read u' after' f (h.sayings ++ last) (inr (record {
+pub ends_err : {V : Type 0} (after : V → Saying → V) (faulted : V → Saying → StreamsFault → V → Type 0) (t : Table) (turns made : ℕ) (before : V) (s read : List ℕ) (d : CaptureState) (u u' : SplitState) (v v' : V) (e : CaptureEnd) (f : StreamsFault) (last : List Saying) → (h : Has after t before s d u v) → IsAtEndOf d read s h.events → e ≡ ending d → EndsAs d e → Finishes false u last u' → FailsAtLast after faulted (AreEndless last) v last f v' → EndsTo after faulted d.limits t turns made before read (Err f) u' v'
+ends_err after faulted t turns made before s read d u u' v v' e f last h at is ends leave fails = (
+  h.sayings ++ last,
+  inr (inr (
+    record {
       events = h.events;
       end = e;
       ends = ends_by d.refusal d s read h.events e h.stands at is (ends s h.events h.stands);
@@ -152,4 +148,7 @@ ends_err t before s read d u u' after after' e f last h at is ends leave records
       last = last;
       leave = leave;
       all = refl;
-    })) (records_others before after after' h.sayings last (Err f) h.recorded records)
+    },
+    fails_others after faulted (AreEndless last) (AreEndless (h.sayings ++ last)) before v v' h.sayings last f (endless_more h.sayings last) h.got fails,
+  )),
+)

@@ -3,9 +3,9 @@ use Rattle.std.proofs.Common.{◌≡◌, ◌∙◌, List, [], ◌∷◌, ◌++�
 use Rattle.cqlp_reassembly.specs.declared.stream.StreamStep.TheVariants as step
 use Rattle.cqlp_reassembly.specs.declared.stream.StreamStep.{StreamStep}
 use Rattle.cqlp_streams.specs.declared.files.StreamFile.{StreamFile}
-use Rattle.cqlp_streams.specs.Files.{Call, Made, Appended, Kept, with_call}
-use Rattle.cqlp_streams.specs.Sayings.{Saying, New, Of, Left}
-use Rattle.cqlp_streams.specs.Recordings.{Recording, call_of, call_of_step, called, file_of, with_saying, with_sayings}
+use Rattle.cqlp_streams.specs.Files.{Call, with_call}
+use Rattle.cqlp_streams.specs.Sayings.{Saying, Packet, New, Of, Left}
+use Rattle.cqlp_streams.specs.Recordings.{call_of, call_of_step, called, file_of, with_saying}
 use Rattle.cqlp_streams.specs.Laws.{GetWhatIsTold, appended_by, bytes_in, handed_on, is_same_file, told_by}
 
 -- the one call of a saying, or none
@@ -31,6 +31,7 @@ step_bytes f step.Reset g bytes = sym (nothing (is_same_file f g))
 step_bytes f step.Done g bytes = sym (nothing (is_same_file f g))
 
 saying_bytes : (f : StreamFile) (s : Saying) → bytes_in f (calls_of (call_of s)) ≡ told_by f s
+saying_bytes f (Packet time) = refl
 saying_bytes f (New n) = refl
 saying_bytes f (Of told bytes) = step_bytes f told.step (file_of told) bytes
 saying_bytes f (Left totals) = refl

@@ -1,5 +1,5 @@
 pub mod Paths
-pub mod Recorded
+pub mod Getting
 pub mod Written
 pub mod Told
 pub mod Events

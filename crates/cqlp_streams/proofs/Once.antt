@@ -1,5 +1,5 @@
 -- What bytes tell is one list.
-use Rattle.std.proofs.Common.{◌≡◌, ◌∙◌, ℕ, Bool, true, false, List, [], ◌∷◌, ◌++◌, map, Option, Some, None, Result, Ok, Err, refl, sym, ap, subst}
+use Rattle.std.proofs.Common.{◌≡◌, ◌∙◌, ℕ, true, List, [], ◌∷◌, ◌++◌, map, Option, Some, None, Result, Ok, Err, refl, sym, ap, subst}
 use Rattle.cqlp_reassembly.specs.declared.stream.StreamStep.{StreamStep}
 use Rattle.cqlp_reassembly.specs.declared.stream.StreamStep.TheVariants as step
 use Rattle.cqlp_capture.specs.Reading.{Event, Section, Interface, Packet, Bytes}
@@ -12,9 +12,9 @@ use Rattle.cqlp_connections.specs.declared.told.Departure.TheVariants as departu
 use Rattle.cqlp_connections.specs.declared.told.Sight.{Sight}
 use Rattle.cqlp_connections.specs.declared.told.Sight.TheVariants as sight
 use Rattle.cqlp_connections.specs.declared.totals.ConnectionTotals.{ConnectionTotals}
-use Rattle.cqlp_connections.specs.Tables.{Departing, Pulling, Table, Taking, departing, finished, left, pulled, pulling, taken, taking}
-use Rattle.cqlp_streams.specs.Sayings.{Saying, New, Of, Left}
-use Rattle.cqlp_streams.specs.Tellings.{Departs, FinishesAll, HandsOn, Leaves, Parts, Path, Pulls, PullsAll, StillTells, TellsAgain, TellsFirst, TellsOf, TellsSeen, beginning}
+use Rattle.cqlp_connections.specs.Tables.{Departing, Pulling, Table, Taking, departing, finished, left, pulled, pulling, taking}
+use Rattle.cqlp_streams.specs.Sayings.{Saying, Packet, New, Of, Left}
+use Rattle.cqlp_streams.specs.Tellings.{Departs, FinishesAll, HandsOn, Leaves, Parts, Path, Pulls, PullsAll, StillTells, TellsAgain, TellsFirst, TellsOf, TellsSeen, TellsTimed, beginning}
 use Rattle.cqlp_streams.specs.Packets.{Finishes, SplitState, TellsEvent, TellsEvents, TellsRead, segment_in, with_segment}
 
 -- ---- steps
@@ -68,8 +68,10 @@ pulls_once g t u u' (Of told b) (Of told' b') a a' =
     let same = a'.1 ∙ sym a.1 in
     told_once told told' g.payload a.0 a'.0 u u' b b' (some_told told' told (ap (λ (z : Pulling). z.told) same)) (ap (λ (z : Pulling). z.after) same) a.2 a'.2
 pulls_once g t u u' (Of told b) (New n) a a' = absurd a'
+pulls_once g t u u' (Of told b) (Packet n) a a' = absurd a'
 pulls_once g t u u' (Of told b) (Left c) a a' = absurd a'
 pulls_once g t u u' (New n) s' a a' = absurd a
+pulls_once g t u u' (Packet n) s' a a' = absurd a
 pulls_once g t u u' (Left c) s' a a' = absurd a
 
 abbrev HasPulled : Seen → Table → Type 0
@@ -78,6 +80,7 @@ HasPulled g t = (v : Table) × (pulling None v ≡ pulled g t)
 pulls_stop : (g : Seen) (t u : Table) (s : Saying) → Pulls g t s u → HasPulled g t → ⊥
 pulls_stop g t u (Of told b) a stop = let no : ◌≡◌ {A = Option Told} (Some told) None = ap (λ (z : Pulling). z.told) (a.1 ∙ sym stop.1) in absurd cc
 pulls_stop g t u (New n) a stop = absurd a
+pulls_stop g t u (Packet n) a stop = absurd a
 pulls_stop g t u (Left c) a stop = absurd a
 
 pulls_all_once : (g : Seen) (t u u' : Table) (ss ss' : List Saying) → PullsAll true g t ss u → PullsAll true g t ss' u' → (ss' ≡ ss) × (u' ≡ u)
@@ -99,8 +102,10 @@ module _ (leaves : Table → Departing) where
       let same = a'.1 ∙ sym a.1 in
       told_once told told' [] a.0 a'.0 u u' b b' (told_departure told' told (ap (λ (z : Departing). z.departure) same)) (ap (λ (z : Departing). z.after) same) a.2 a'.2
   still_once t u u' (Of told b) (New n) a a' = absurd a'
+  still_once t u u' (Of told b) (Packet n) a a' = absurd a'
   still_once t u u' (Of told b) (Left c) a a' = absurd a'
   still_once t u u' (New n) s' a a' = absurd a
+  still_once t u u' (Packet n) s' a a' = absurd a
   still_once t u u' (Left c) s' a a' = absurd a
 
   -- it has left, or there is none
@@ -115,6 +120,7 @@ module _ (leaves : Table → Departing) where
   still_stop : (t u : Table) (s : Saying) → StillTells leaves t s u → HasTold t → ⊥
   still_stop t u (Of told b) a stop = subst IsLast (ap (λ (z : Departing). z.departure) (stop.2 ∙ sym a.1)) stop.3
   still_stop t u (New n) a stop = absurd a
+  still_stop t u (Packet n) a stop = absurd a
   still_stop t u (Left c) a stop = absurd a
 
   parts_stop : (t u : Table) (last : List Saying) → Parts leaves t last u → HasTold t
@@ -122,6 +128,7 @@ module _ (leaves : Table → Departing) where
   parts_stop t u (Left c ∷ []) a = (departure.Left c, u, a, tt)
   parts_stop t u (Left c ∷ x ∷ xs) a = absurd a
   parts_stop t u (New n ∷ xs) a = absurd a
+  parts_stop t u (Packet n ∷ xs) a = absurd a
   parts_stop t u (Of told b ∷ xs) a = absurd a
 
   parts_once : (t u u' : Table) (last last' : List Saying) → Parts leaves t last u → Parts leaves t last' u' → (last' ≡ last) × (u' ≡ u)
@@ -129,6 +136,7 @@ module _ (leaves : Table → Departing) where
   parts_once t u u' [] (Left c ∷ []) a a' = let no : ◌≡◌ {A = Departure} (departure.Left c) departure.Empty = ap (λ (z : Departing). z.departure) (a' ∙ sym a) in absurd cc
   parts_once t u u' [] (Left c ∷ x ∷ xs) a a' = absurd a'
   parts_once t u u' [] (New n ∷ xs) a a' = absurd a'
+  parts_once t u u' [] (Packet n ∷ xs) a a' = absurd a'
   parts_once t u u' [] (Of told b ∷ xs) a a' = absurd a'
   parts_once t u u' (Left c ∷ []) [] a a' = let no : ◌≡◌ {A = Departure} departure.Empty (departure.Left c) = ap (λ (z : Departing). z.departure) (a' ∙ sym a) in absurd cc
   parts_once t u u' (Left c ∷ []) (Left c' ∷ []) a a' =
@@ -137,9 +145,11 @@ module _ (leaves : Table → Departing) where
       (λ i. Left (one i) ∷ [], ap (λ (z : Departing). z.after) same)
   parts_once t u u' (Left c ∷ []) (Left c' ∷ x ∷ xs) a a' = absurd a'
   parts_once t u u' (Left c ∷ []) (New n ∷ xs) a a' = absurd a'
+  parts_once t u u' (Left c ∷ []) (Packet n ∷ xs) a a' = absurd a'
   parts_once t u u' (Left c ∷ []) (Of told b ∷ xs) a a' = absurd a'
   parts_once t u u' (Left c ∷ x ∷ xs) last' a a' = absurd a
   parts_once t u u' (New n ∷ xs) last' a a' = absurd a
+  parts_once t u u' (Packet n ∷ xs) last' a a' = absurd a
   parts_once t u u' (Of told b ∷ xs) last' a a' = absurd a
 
 both : (front front' last last' ss ss' : List Saying) → ss ≡ front ++ last → ss' ≡ front' ++ last' → front' ≡ front → last' ≡ last → ss' ≡ ss
@@ -155,12 +165,15 @@ departs_once : (t u u' : Table) (s s' : Saying) → Departs t s u → Departs t 
 departs_once t u u' (Of told b) (Of told' b') a a' = still_once finished t u u' (Of told b) (Of told' b') a a'
 departs_once t u u' (Of told b) (Left c) a a' = let no : ◌≡◌ {A = Departure} (departure.Left c) (departure.Told told) = ap (λ (z : Departing). z.departure) (a' ∙ sym a.1) in absurd cc
 departs_once t u u' (Of told b) (New n) a a' = absurd a'
+departs_once t u u' (Of told b) (Packet n) a a' = absurd a'
 departs_once t u u' (Left c) (Left c') a a' =
     let same = a' ∙ sym a in
     (ap (λ z. Left z) (left_departure c' c (ap (λ (z : Departing). z.departure) same)), ap (λ (z : Departing). z.after) same)
 departs_once t u u' (Left c) (Of told b) a a' = let no : ◌≡◌ {A = Departure} (departure.Told told) (departure.Left c) = ap (λ (z : Departing). z.departure) (a'.1 ∙ sym a) in absurd cc
 departs_once t u u' (Left c) (New n) a a' = absurd a'
+departs_once t u u' (Left c) (Packet n) a a' = absurd a'
 departs_once t u u' (New n) s' a a' = absurd a
+departs_once t u u' (Packet n) s' a a' = absurd a
 
 abbrev AllLeft : Table → Type 0
 AllLeft t = (v : Table) × (departing departure.Empty v ≡ finished t)
@@ -169,6 +182,7 @@ departs_stop : (t u : Table) (s : Saying) → Departs t s u → AllLeft t → �
 departs_stop t u (Of told b) a stop = let no : ◌≡◌ {A = Departure} departure.Empty (departure.Told told) = ap (λ (z : Departing). z.departure) (stop.1 ∙ sym a.1) in absurd cc
 departs_stop t u (Left c) a stop = let no : ◌≡◌ {A = Departure} departure.Empty (departure.Left c) = ap (λ (z : Departing). z.departure) (stop.1 ∙ sym a) in absurd cc
 departs_stop t u (New n) a stop = absurd a
+departs_stop t u (Packet n) a stop = absurd a
 
 finishes_all_once : (t u u' : Table) (ss ss' : List Saying) → FinishesAll true t ss u → FinishesAll true t ss' u' → (ss' ≡ ss) × (u' ≡ u)
 finishes_all_once t u u' ss ss' a a' =
@@ -187,7 +201,7 @@ seen_once sight.Foreign g t u u' ss ss' a a' = (a'.0 ∙ sym a.0, a'.1 ∙ sym a
 seen_once (sight.Taken n way is_new) g t u u' ss ss' a a' =
     let one = pulls_all_once g t u u' a.0 a'.0 a.2 a'.2 in
     (both (beginning is_new n) (beginning is_new n) a.0 a'.0 ss ss' a.1 a'.1 refl one.0, one.1)
-seen_once (sight.Crowded n is_full) g t u u' ss ss' a a' = absurd a
+seen_once (sight.Crowded n is_full) g t u u' ss ss' a a' = (a'.0 ∙ sym a.0, a'.1 ∙ sym a.1)
 
 seen_same : (s s' : Sight) (g : Seen) (t t' u u' : Table) (ss ss' : List Saying) → taking s' t' ≡ taking s t → TellsSeen s true g t ss u → TellsSeen s' true g t' ss' u' → (ss' ≡ ss) × (u' ≡ u)
 seen_same s s' g t t' u u' ss ss' e a a' = seen_once s g t u u' ss ss' a (subst (λ (z : Taking). TellsSeen z.sight true g z.after ss' u') e a')
@@ -206,9 +220,14 @@ first_once (sight.Crowded n is_full) g t u u' ss ss' a a' =
 of_once : (g : Seen) (t u u' : Table) (ss ss' : List Saying) → TellsOf true g t ss u → TellsOf true g t ss' u' → (ss' ≡ ss) × (u' ≡ u)
 of_once g t u u' ss ss' a a' = first_once a.0 g a.1 u u' ss ss' a.3 (subst (λ (z : Taking). TellsFirst z.sight true g z.after ss' u') (a'.2 ∙ sym a.2) a'.3)
 
+timed_once : (time : Option ℕ) (g : Seen) (t u u' : Table) (ss ss' : List Saying) → TellsTimed true time g t ss u → TellsTimed true time g t ss' u' → (ss' ≡ ss) × (u' ≡ u)
+timed_once time g t u u' ss ss' a a' =
+    let one = of_once g t u u' a.0 a'.0 a.2 a'.2 in
+    (a'.1 ∙ ap (λ z. Packet time ∷ z) one.0 ∙ sym a.1, one.1)
+
 read_once : (r : Result Seen NoSegment) (s u u' : SplitState) (ss ss' : List Saying) → TellsRead r true s ss u → TellsRead r true s ss' u' → (ss' ≡ ss) × (u' ≡ u)
 read_once (Ok g) s u u' ss ss' a a' =
-    let one = of_once g s.table u.table u'.table ss ss' a.0 a'.0 in
+    let one = timed_once s.time g s.table u.table u'.table ss ss' a.0 a'.0 in
     (one.0, a'.1 ∙ ap (λ (z : Table). record s { table = z; counts = with_segment s.counts }) one.1 ∙ sym a.1)
 read_once (Err why) s u u' ss ss' a a' = (a'.0 ∙ sym a.0, a'.1 ∙ sym a.1)
 

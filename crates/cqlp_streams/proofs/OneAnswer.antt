@@ -1,5 +1,5 @@
 -- Two answers are the same.
-use Rattle.std.proofs.Common.{◌≡◌, ◌≢◌, ◌∙◌, ◌&&◌, ◌≤◌, ℕ, Bool, true, false, List, [], ◌∷◌, ◌++◌, length, Option, Some, None, Result, Ok, Err, refl, sym, ap, subst, inl, inr, append-nil, arith}
+use Rattle.std.proofs.Common.{◌≡◌, ◌≢◌, ◌∙◌, ◌&&◌, ◌≤◌, ℕ, Bool, true, false, List, [], ◌∷◌, ◌++◌, length, Option, Result, Ok, Err, refl, sym, ap, subst, inl, inr, append-nil, arith}
 use Rattle.std.proofs.lemmas.Bool.{cases_lt}
 use Rattle.cqlp_text.specs.Outputs.{Output, with_text}
 use Rattle.cqlp_note.specs.Reader.{Said, More, Got, says}
@@ -14,16 +14,16 @@ use Rattle.cqlp_capture.proofs.Tests.{Fits, in_range}
 use Rattle.cqlp_capture.proofs.Runs.{reads_compare}
 use Rattle.cqlp_capture.proofs.Whole.{always_said, refusal_stays, says_once}
 use Rattle.cqlp_connections.specs.Tables.{Table}
-use Rattle.cqlp_streams.specs.declared.ending.StreamsEnding.{StreamsEnding}
-use Rattle.cqlp_streams.specs.declared.ending.StreamsEnding.TheVariants as ending
-use Rattle.cqlp_streams.specs.declared.recorder.Sums.{Sums}
+use Rattle.cqlp_streams.specs.declared.capturing.CaptureRead.{CaptureRead}
 use Rattle.cqlp_streams.specs.declared.fault.StreamsFault.{StreamsFault}
-use Rattle.cqlp_streams.specs.Recordings.{Recording, no_sums, recording, with_sayings}
+use Rattle.cqlp_streams.specs.Sayings.{Saying}
+use Rattle.cqlp_streams.specs.Listening.{after_all}
+use Rattle.cqlp_streams.specs.Recordings.{Recording, StopsAt, no_sums, recording, with_saying}
 use Rattle.cqlp_streams.specs.Packets.{Finishes, SplitState, TellsEvents, new_split}
-use Rattle.cqlp_streams.specs.Captures.{EndsSo, EndsTo, HearsAll, IsAll, SplitsTo}
-use Rattle.cqlp_streams.specs.Endings.{Concludes, line_of, status_of}
-use Rattle.cqlp_streams.specs.Streams.{Reads as ReadsFile, WritesStreams, default_limits, no_connections, summary_of}
-use Rattle.cqlp_streams.specs.Laws.{OneAnswerOfWriteStreams}
+use Rattle.cqlp_streams.specs.Captures.{EndsSo, HearsAll, IsAll, SplitsTo}
+use Rattle.cqlp_streams.specs.Endings.{Concludes, line_of, status_of, sums_words}
+use Rattle.cqlp_streams.specs.Streams.{ReadsCapture, default_limits, no_connections, read_of}
+use Rattle.cqlp_streams.specs.Laws.{OneAnswerOfReadCapture, OneAnswerOfWriteStreams}
 use Rattle.cqlp_streams.proofs.Once.{events_once, finishes_once}
 
 -- ---- how a file ends
@@ -102,43 +102,63 @@ module _ (l : CaptureLimits) where
       let refused = subst (λ (z : Verdict). Says l start (read ++ rest) es z) same.1 there in
       subst (λ z. Says l start z es (Refused r)) (sym parts) refused
 
--- ---- what is recorded of it
+-- ---- what a listener has got of it
 
-pub splits_once : (l : CaptureLimits) → Fits l → (t : Table) (before : Recording) (xs : List ℕ) (e e' : CaptureEnd) (left left' : Option (List ℕ)) (u u' : SplitState) (after after' : Recording) → SplitsTo l t before xs (Ok e) left u after → SplitsTo l t before xs (Ok e') left' u' after' → (e' ≡ e) × (u' ≡ u) × (after' ≡ after)
-splits_once l fits t before xs e e' left left' u u' after after' a b =
-    let f = a.ends.1 in
-    let g = b.ends.1 in
-    let here = ends_there l fits a.read a.rest xs f.events e a.parts a.all f.ends in
-    let there = ends_there l fits b.read b.rest xs g.events e' b.parts b.all g.ends in
-    let same = ends_once l xs f.events g.events e e' here there in
-    let told = events_once (new_split t) f.mid g.mid f.events f.front g.front f.tells (subst (λ (z : List (ℕ × Event)). TellsEvents (new_split t) z g.front g.mid) same.0 g.tells) in
-    let left = finishes_once f.mid u u' f.last g.last f.leave (subst (λ (z : SplitState). Finishes true z g.last u') told.1 g.leave) in
-    let all : b.ends.0 ≡ a.ends.0 = g.all ∙ (λ i. told.0 i ++ left.0 i) ∙ sym f.all in
-    (same.1, left.1, b.ends.2 ∙ ap (with_sayings before) all ∙ sym a.ends.2)
+ok_same : (x y : CaptureRead) → ◌≡◌ {A = Result CaptureRead StreamsFault} (Ok x) (Ok y) → x ≡ y
+ok_same x y e = cc
+
+module _ {V : Type 0} (after : V → Saying → V) (faulted : V → Saying → StreamsFault → V → Type 0) where
+  pub splits_once : (l : CaptureLimits) → Fits l → (t : Table) (turns made made' : ℕ) (before : V) (xs : List ℕ) (e e' : CaptureEnd) (left left' : Option (List ℕ)) (u u' : SplitState) (v w : V) → SplitsTo after faulted l t turns made before xs (Ok e) left u v → SplitsTo after faulted l t turns made' before xs (Ok e') left' u' w → (e' ≡ e) × (u' ≡ u) × (w ≡ v)
+  splits_once l fits t turns made made' before xs e e' left left' u u' v w a b =
+      let f = a.ends.1 in
+      let g = b.ends.1 in
+      let here = ends_there l fits a.read a.rest xs f.events e a.parts a.all f.ends in
+      let there = ends_there l fits b.read b.rest xs g.events e' b.parts b.all g.ends in
+      let same = ends_once l xs f.events g.events e e' here there in
+      let told = events_once (new_split t) f.mid g.mid f.events f.front g.front f.tells (subst (λ (z : List (ℕ × Event)). TellsEvents (new_split t) z g.front g.mid) same.0 g.tells) in
+      let left = finishes_once f.mid u u' f.last g.last f.leave (subst (λ (z : SplitState). Finishes true z g.last u') told.1 g.leave) in
+      let all : b.ends.0 ≡ a.ends.0 = g.all ∙ (λ i. told.0 i ++ left.0 i) ∙ sym f.all in
+      (same.1, left.1, b.ends.2 ∙ ap (after_all after before) all ∙ sym a.ends.2)
+
+  pub read_once : OneAnswerOfReadCapture after faulted
+  read_once ports xs before v w made made' left left' r r' (inr (is, none, rest, same)) b = absurd (let x = is in cc)
+  read_once ports xs before v w made made' left left' r r' (inl (Err f, u, a, is)) b = absurd (let x = is in cc)
+  read_once ports xs before v w made made' left left' r r' (inl (Ok x, u, a, is)) (inr (is', none, rest, same)) = absurd (let y = is' in cc)
+  read_once ports xs before v w made made' left left' r r' (inl (Ok x, u, a, is)) (inl (Err f, u', b, is')) = absurd (let y = is' in cc)
+  read_once ports xs before v w made made' left left' r r' (inl (Ok x, u, a, is)) (inl (Ok x', u', b, is')) =
+      let one = splits_once default_limits (in_range default_limits refl) (no_connections ports) _ made made' before xs x x' left left' u u' v w a b in
+      let same : ◌≡◌ {A = Result CaptureRead StreamsFault} (Ok r') (Ok r) = is' ∙ (λ i. read_of (Ok (one.0 i)) (one.1 i)) ∙ sym is in
+      (ok_same r' r same, one.2)
 
 -- the line was written, where nothing failed
-concluded : (e : StreamsEnding) (err err' : Output) (status : ℕ) → Concludes e err status err' → status ≢ 3 → (status ≡ status_of e) × (err' ≡ with_text err (line_of e))
-concluded e err err' status (inl (inl a)) well = a
-concluded e err err' status (inl (inr (is, x))) well = absurd (well is)
-concluded e err err' status (inr (inl (is, x))) well = absurd (well is)
-concluded e err err' status (inr (inr (is, x))) well = absurd (well is)
+concluded : (words : List ℕ) (r : Result CaptureRead StreamsFault) (err err' : Output) (status : ℕ) → Concludes words r err status err' → status ≢ 3 → (status ≡ status_of r) × (err' ≡ with_text err (line_of words r))
+concluded words r err err' status (inl (inl a)) well = a
+concluded words r err err' status (inl (inr (is, x))) well = absurd (well is)
+concluded words r err err' status (inr (inl (is, x))) well = absurd (well is)
+concluded words r err err' status (inr (inr (is, x))) well = absurd (well is)
 
-finished_once : (ports xs : List ℕ) (e e' : StreamsEnding) (left left' : Option (List ℕ)) (before after after' : Recording) → (status_of e ≢ 3) → (status_of e' ≢ 3) → ReadsFile ports xs e left before after → ReadsFile ports xs e' left' before after' → (e' ≡ e) × (after' ≡ after)
-finished_once ports xs e e' left left' before after after' well well' (inr (is, rest, same)) b = absurd (well (ap status_of is))
-finished_once ports xs e e' left left' before after after' well well' (inl (Err f, u, a, is)) b = absurd (well (ap status_of is))
-finished_once ports xs e e' left left' before after after' well well' (inl (Ok x, u, a, is)) (inr (is', rest, same)) = absurd (well' (ap status_of is'))
-finished_once ports xs e e' left left' before after after' well well' (inl (Ok x, u, a, is)) (inl (Err f, u', b, is')) = absurd (well' (ap status_of is'))
-finished_once ports xs e e' left left' before after after' well well' (inl (Ok x, u, a, is)) (inl (Ok x', u', b, is')) =
-    let one = splits_once default_limits (in_range default_limits refl) (no_connections ports) before xs x x' left left' u u' after after' a b in
-    (is' ∙ (λ i. ending.Finished (one.0 i) (summary_of (one.1 i) (one.2 i).sums)) ∙ sym is, one.2)
+well_read : (r : Result CaptureRead StreamsFault) → status_of r ≢ 3 → (x : CaptureRead) × (r ≡ Ok x)
+well_read (Ok x) well = (x, refl)
+well_read (Err f) well = absurd (well refl)
+
+-- Two runs that end with words of the view, and no fault.
+module _ {V : Type 0} (after : V → Saying → V) (faulted : V → Saying → StreamsFault → V → Type 0) (words : V → List ℕ) (ports xs : List ℕ) (before v w : V) (made made' : ℕ) (left left' : Option (List ℕ)) (r r' : Result CaptureRead StreamsFault) (err err' err'' : Output) (status status' : ℕ) where
+  pub runs_once : ReadsCapture after faulted ports xs made r left before v → Concludes (words v) r err status err' → status ≢ 3 → ReadsCapture after faulted ports xs made' r' left' before w → Concludes (words w) r' err status' err'' → status' ≢ 3 → (status' ≡ status) × (w ≡ v) × (err'' ≡ err')
+  runs_once reads ends well reads' ends' well' =
+      let c = concluded (words v) r err err' status ends well in
+      let c' = concluded (words w) r' err err'' status' ends' well' in
+      let x = well_read r (λ is. well (c.0 ∙ is)) in
+      let x' = well_read r' (λ is. well' (c'.0 ∙ is)) in
+      let a = subst (λ (z : Result CaptureRead StreamsFault). ReadsCapture after faulted ports xs made z left before v) x.1 reads in
+      let b = subst (λ (z : Result CaptureRead StreamsFault). ReadsCapture after faulted ports xs made' z left' before w) x'.1 reads' in
+      let one = read_once after faulted ports xs before v w made made' left left' x.0 x'.0 a b in
+      let same : r' ≡ r = x'.1 ∙ ap (λ z. Ok z) one.0 ∙ sym x.1 in (
+        c'.0 ∙ ap status_of same ∙ sym c.0,
+        one.1,
+        c'.1 ∙ (λ i. with_text err (line_of (words (one.1 i)) (same i))) ∙ sym c.1,
+      )
 
 pub streams_once : OneAnswerOfWriteStreams
-streams_once ports xs calls out err left left' status status' made made' out' out'' err' err'' (e, sums, reads, ends) well (e', sums', reads', ends') well' =
-    let c = concluded e err err' status ends well in
-    let c' = concluded e' err err'' status' ends' well' in
-    let one = finished_once ports xs e e' left left' (recording calls out no_sums) (recording made out' sums) (recording made' out'' sums') (λ is. well (c.0 ∙ is)) (λ is. well' (c'.0 ∙ is)) reads reads' in (
-      c'.0 ∙ ap status_of one.0 ∙ sym c.0,
-      ap (λ (z : Recording). z.calls) one.1,
-      ap (λ (z : Recording). z.output) one.1,
-      c'.1 ∙ ap (λ z. with_text err (line_of z)) one.0 ∙ sym c.1,
-    )
+streams_once ports xs calls out err left left' status status' made made' out' out'' err' err'' (n, r, sums, reads, ends) well (n', r', sums', reads', ends') well' =
+    let one = runs_once with_saying StopsAt (λ (z : Recording). sums_words z.sums) ports xs (recording calls out no_sums) (recording made out' sums) (recording made' out'' sums') n n' left left' r r' err err' err'' status status' reads ends well reads' ends' well' in
+    (one.0, ap (λ (z : Recording). z.calls) one.1, ap (λ (z : Recording). z.output) one.1, one.2)

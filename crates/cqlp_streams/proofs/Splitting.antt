@@ -1,5 +1,5 @@
--- What was recorded of an input after some reads.
-use Rattle.std.proofs.Common.{◌≡◌, ◌∙◌, ℕ, ◌<◌, List, [], ◌++◌, length, take, Option, Some, None, Result, Ok, Err, IfOk, refl, sym, ap, subst, inl, append_assoc, append-nil}
+-- What a listener has got of an input after some reads.
+use Rattle.std.proofs.Common.{◌≡◌, ◌∙◌, ℕ, ◌<◌, ◌≤◌, List, [], ◌++◌, length, take, Option, Some, None, Result, Ok, Err, IfOk, OnOk, refl, sym, ap, subst, inl, inr, append_assoc}
 use Rattle.std.specs.Io.KnownBytes.{Consumes, IsAtEnd, Keeps}
 use Rattle.cqlp_note.specs.Reader.{More, says}
 use Rattle.cqlp_capture.specs.declared.event.CaptureEnd.{CaptureEnd}
@@ -13,25 +13,26 @@ use Rattle.cqlp_streams.specs.declared.fault.StreamsFault.{StreamsFault}
 use Rattle.cqlp_streams.specs.declared.fault.StreamsFault.TheVariants as fault
 use Rattle.cqlp_streams.specs.declared.running.Drained.{Drained}
 use Rattle.cqlp_streams.specs.declared.running.Drained.TheVariants as drained
-use Rattle.cqlp_streams.specs.Recordings.{Recording}
+use Rattle.cqlp_streams.specs.Sayings.{Saying}
 use Rattle.cqlp_streams.specs.Packets.{SplitState, new_split}
-use Rattle.cqlp_streams.specs.Captures.{DrainsTo, EndsTo, Has, IsAll, IsAtEndBy, IsRefused, SplitsTo}
-use Rattle.cqlp_streams.proofs.Events.{hears_here, never_ends, other_fault}
+use Rattle.cqlp_streams.specs.Captures.{DrainsTo, EndsTo, Has, IsAll, IsAtEndBy, IsRefused, SplitsTo, TellsSoFar}
+use Rattle.cqlp_streams.specs.Streams.{read_of}
+use Rattle.cqlp_streams.proofs.Events.{hears_here}
 
-pub record SoFar (l : CaptureLimits) (t : Table) (before : Recording) (xs : List ℕ) (left : Option (List ℕ)) (d : CaptureState)
-    (u : SplitState) (after : Recording) : Type 0 where
+pub record SoFar {V : Type 0} (after : V → Saying → V) (l : CaptureLimits) (t : Table) (before : V) (xs : List ℕ)
+    (left : Option (List ℕ)) (d : CaptureState) (u : SplitState) (v : V) : Type 0 where
   pub read : List ℕ
   pub rest : List ℕ
   pub parts : xs ≡ read ++ rest
   pub others : left ≡ Some rest
-  pub has : Has t before read d u after
+  pub has : Has after t before read d u v
   pub limits : d.limits ≡ l
   pub free : d.refusal ≡ None
   pub wants : says (step d.limits d.spot) 0 d.pending ≡ More
 
 -- before the first read
-pub none_read : (xs : List ℕ) (left : Option (List ℕ)) (d : CaptureState) (u : SplitState) (after : Recording) → d ≡ new_state d.limits → u ≡ new_split u.table → left ≡ Some xs → SoFar d.limits u.table after xs left d u after
-none_read xs left d u after made fresh is = record {
+pub none_read : {V : Type 0} (after : V → Saying → V) (xs : List ℕ) (left : Option (List ℕ)) (d : CaptureState) (u : SplitState) (v : V) → d ≡ new_state d.limits → u ≡ new_split u.table → left ≡ Some xs → SoFar after d.limits u.table v xs left d u v
+none_read after xs left d u v made fresh is = record {
   read = [];
   rest = xs;
   parts = refl;
@@ -41,7 +42,7 @@ none_read xs left d u after made fresh is = record {
     sayings = [];
     stands = subst (λ (z : CaptureState). After z [] []) (sym made) (record { steps = []; events = refl; reads = (refl, refl) });
     tells = (refl, fresh);
-    recorded = refl;
+    got = refl;
   };
   limits = refl;
   free = ap (λ (z : CaptureState). z.refusal) made;
@@ -81,10 +82,23 @@ refused_by (Some y) d x (Err e) rest some is = tt
 pub refused_all : (d : CaptureState) (r : Result CaptureEnd StreamsFault) (rest : List ℕ) → IsRefused drained.Refused d.refusal → IfOk r (λ e. e ≡ ending d) → IsAll r rest
 refused_all d r rest some is = refused_by d.refusal d some.0 r rest some.1 is
 
-module _ (l : CaptureLimits) (t : Table) (before : Recording) (xs : List ℕ) (left left' : Option (List ℕ)) (d : CaptureState) (u : SplitState) (after : Recording) (f : SoFar l t before xs left d u after) where
+module _ {V : Type 0} (after : V → Saying → V) (faulted : V → Saying → StreamsFault → V → Type 0) (l : CaptureLimits) (t : Table) (before : V) (xs : List ℕ) (left left' : Option (List ℕ)) (d : CaptureState) (u : SplitState) (v : V) (f : SoFar after l t before xs left d u v) (turns made : ℕ) (few : made ≤ turns) where
+  so_far_told : TellsSoFar l t f.read f.has.sayings u
+  so_far_told = record {
+    events = f.has.events;
+    spot = d.spot;
+    rest = d.pending;
+    hears = record {
+      hears = subst (λ (z : CaptureLimits). Hears z start f.read f.has.events d.spot d.pending) f.limits (hears_here d f.read f.has.events f.free f.has.stands);
+      wants = subst (λ (z : CaptureLimits). says (step z d.spot) 0 d.pending ≡ More) f.limits f.wants;
+    };
+    tells = f.has.tells;
+  }
+
   -- the input failed
-  pub read_fails : Keeps left left' → SplitsTo l t before xs (Err fault.Read) left' u after
+  pub read_fails : Keeps left left' → SplitsTo after faulted l t turns made before xs (Err fault.Read) left' u v
   read_fails k = record {
+    few = few;
     read = f.read;
     rest = f.rest;
     parts = f.parts;
@@ -92,77 +106,72 @@ module _ (l : CaptureLimits) (t : Table) (before : Recording) (xs : List ℕ) (l
     all = tt;
     ends = (
       f.has.sayings,
-      record {
-        events = f.has.events;
-        spot = d.spot;
-        rest = d.pending;
-        hears = record {
-          hears = subst (λ (z : CaptureLimits). Hears z start f.read f.has.events d.spot d.pending) f.limits (hears_here d f.read f.has.events f.free f.has.stands);
-          wants = subst (λ (z : CaptureLimits). says (step z d.spot) 0 d.pending ≡ More) f.limits f.wants;
-        };
-        tells = f.has.tells;
-      },
-      f.has.recorded,
+      inl (tt, so_far_told, f.has.got),
     );
   }
 
   -- no more reads are to be made
-  pub turns_end : SplitsTo l t before xs (Err fault.TooManyTurns) left u after
-  turns_end =
-      let e = never_ends l t before f.read [] d u after f.has f.free f.limits in record {
-        read = f.read ++ [];
-        rest = f.rest;
-        parts = f.parts ∙ ap (λ z. z ++ f.rest) (sym (append-nil f.read));
-        others = f.others;
-        all = tt;
-        ends = other_fault l t before (f.read ++ []) u after fault.TooManyTurns e.0 (inl e.1) e.2;
-      }
+  pub turns_end : made ≡ turns → SplitsTo after faulted l t turns made before xs (Err fault.TooManyTurns) left u v
+  turns_end all = record {
+    few = few;
+    read = f.read;
+    rest = f.rest;
+    parts = f.parts;
+    others = f.others;
+    all = tt;
+    ends = (f.has.sayings, inl (all, so_far_told, f.has.got));
+  }
 
-  module _ (piece rest : List ℕ) (is : left' ≡ Some rest) (reads : f.rest ≡ piece ++ rest) (d' : CaptureState) (u' : SplitState) (after' : Recording) where
+  module _ (piece rest : List ℕ) (is : left' ≡ Some rest) (reads : f.rest ≡ piece ++ rest) (d' : CaptureState) (u' : SplitState) (v' : V) where
     split_at : xs ≡ (f.read ++ piece) ++ rest
     split_at = f.parts ∙ ap (λ z. f.read ++ z) reads ∙ sym (append_assoc f.read piece rest)
 
     -- something failed within the piece
-    pub drain_fails : (e : StreamsFault) → DrainsTo d.limits t before f.read piece (Err e) d' u' after' → SplitsTo l t before xs (Err e) left' u' after'
+    pub drain_fails : (e : StreamsFault) → DrainsTo after faulted d.limits t before f.read piece (Err e) d' u' v' → SplitsTo after faulted l t turns made before xs (Err e) left' u' v'
     drain_fails e a =
-        let b = subst (λ (z : CaptureLimits). DrainsTo z t before f.read piece (Err e) d' u' after') f.limits a in record {
+        let b = subst (λ (z : CaptureLimits). DrainsTo after faulted z t before f.read piece (Err e) d' u' v') f.limits a in record {
+          few = few;
           read = f.read ++ piece;
           rest = rest;
           parts = split_at;
           others = is;
           all = tt;
-          ends = other_fault l t before (f.read ++ piece) u' after' e b.0 (inl b.1) b.2;
+          ends = (b.0, inr (inl (b.1, b.2)));
         }
 
     -- the file ends after it, or is refused in it
-    pub file_ends : (x : Drained) (r : Result CaptureEnd StreamsFault) (u'' : SplitState) (after'' : Recording) → DrainsTo d.limits t before f.read piece (Ok x) d' u' after' → IsAll r rest → EndsTo d'.limits t before (f.read ++ piece) r u'' after'' → SplitsTo l t before xs r left' u'' after''
-    file_ends x r u'' after'' a all ends = record {
+    pub file_ends : (x : Drained) (r : Result CaptureEnd StreamsFault) (u'' : SplitState) (v'' : V) → DrainsTo after faulted d.limits t before f.read piece (Ok x) d' u' v' → IsAll r rest → EndsTo after faulted d'.limits t turns made before (f.read ++ piece) r u'' v'' → SplitsTo after faulted l t turns made before xs r left' u'' v''
+    file_ends x r u'' v'' a all ends = record {
+      few = few;
       read = f.read ++ piece;
       rest = rest;
       parts = split_at;
       others = is;
       all = all;
-      ends = subst (λ (z : CaptureLimits). EndsTo z t before (f.read ++ piece) r u'' after'') (a.0 ∙ f.limits) ends;
+      ends = subst (λ (z : CaptureLimits). EndsTo after faulted z t turns made before (f.read ++ piece) r u'' v'') (a.0 ∙ f.limits) ends;
     }
 
     -- more is wanted after it
-    pub more_read : DrainsTo d.limits t before f.read piece (Ok drained.More) d' u' after' → SoFar l t before xs left' d' u' after'
+    pub more_read : DrainsTo after faulted d.limits t before f.read piece (Ok drained.More) d' u' v' → SoFar after l t before xs left' d' u' v'
     more_read a =
         let at = at_end d'.refusal d' (f.read ++ piece) a.2 a.3.events a.1 a.4 in record {
           read = f.read ++ piece;
           rest = rest;
           parts = split_at;
           others = is;
-          has = subst (λ z. Has t before z d' u' after') at.0 a.3;
+          has = subst (λ z. Has after t before z d' u' v') at.0 a.3;
           limits = a.0 ∙ f.limits;
           free = a.1;
           wants = at.1;
         }
 
 -- the same under other names
-pub splits_as : (l l' : CaptureLimits) (t t' : Table) (before before' : Recording) (xs : List ℕ) (r : Result CaptureEnd StreamsFault) (left : Option (List ℕ)) (u : SplitState) (after after' : Recording) → l ≡ l' → t ≡ t' → before ≡ before' → after ≡ after' → SplitsTo l t before xs r left u after → SplitsTo l' t' before' xs r left u after'
-splits_as l l' t t' before before' xs r left u after after' el et eb ea a =
-    let one = subst (λ (z : Recording). SplitsTo l t before xs r left u z) ea a in
-    let two = subst (λ (z : Recording). SplitsTo l t z xs r left u after') eb one in
-    let three = subst (λ (z : Table). SplitsTo l z before' xs r left u after') et two in
-    subst (λ (z : CaptureLimits). SplitsTo z t' before' xs r left u after') el three
+pub splits_as : {V : Type 0} (after : V → Saying → V) (faulted : V → Saying → StreamsFault → V → Type 0) (l l' : CaptureLimits) (t t' : Table) (turns made : ℕ) (before : V) (xs : List ℕ) (r : Result CaptureEnd StreamsFault) (left : Option (List ℕ)) (u : SplitState) (v : V) → l ≡ l' → t ≡ t' → SplitsTo after faulted l t turns made before xs r left u v → SplitsTo after faulted l' t' turns made before xs r left u v
+splits_as after faulted l l' t t' turns made before xs r left u v el et a =
+    let one = subst (λ (z : Table). SplitsTo after faulted l z turns made before xs r left u v) et a in
+    subst (λ (z : CaptureLimits). SplitsTo after faulted z t' turns made before xs r left u v) el one
+
+-- a capture that was read is one that was split
+pub read_on : (P : Type 0) (r : Result CaptureEnd StreamsFault) (u : SplitState) → OnOk r P → OnOk (read_of r u) P
+read_on P (Ok e) u p = p
+read_on P (Err f) u p = tt

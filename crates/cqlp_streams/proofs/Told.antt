@@ -1,27 +1,15 @@
 -- What is told of segments and of connections that leave.
-use Rattle.std.proofs.Common.{◌≡◌, ℕ, Bool, true, false, List, [], ◌∷◌, ◌++◌, Result, Ok, Err, refl, sym, subst, inl, inr, append-nil}
+use Rattle.std.proofs.Common.{◌≡◌, ℕ, Bool, true, false, List, [], ◌∷◌, ◌++◌, Option, Result, Ok, Err, refl, sym, inl, inr, append-nil}
 use Rattle.cqlp_segment.specs.Segment.{Seen}
 use Rattle.cqlp_connections.specs.declared.told.Departure.TheVariants as departure
-use Rattle.cqlp_connections.specs.declared.told.Sight.{Sight}
 use Rattle.cqlp_connections.specs.declared.told.Sight.TheVariants as sight
 use Rattle.cqlp_connections.specs.declared.totals.ConnectionTotals.{ConnectionTotals}
 use Rattle.cqlp_connections.specs.Tables.{Table, departing, finished, left}
 use Rattle.cqlp_streams.specs.declared.fault.StreamsFault.{StreamsFault}
-use Rattle.cqlp_streams.specs.Sayings.{Saying, Left}
-use Rattle.cqlp_streams.specs.Recordings.{Recording, Records, with_saying}
-use Rattle.cqlp_streams.specs.Tellings.{Departs, DepartsNext, Leaves, Path, RecordsAll, StillTells, TellsAgain, TellsFirst, TellsSeen, is_done}
-
--- one saying that was recorded, or not
-pub records_single : (old new : Recording) (s : Saying) (r : Result (Unit {0}) StreamsFault) → Records old s r new → RecordsAll old (s ∷ []) r new
-records_single old new s (Ok u) a = a
-records_single old new s (Err e) a = inr ([], s, refl, a)
-
--- a segment that is seen so at first
-pub seen_first : (s : Sight) (all : Bool) (g : Seen) (t u : Table) (ss : List Saying) → TellsSeen s all g t ss u → TellsFirst s all g t ss u
-seen_first sight.Foreign all g t u ss a = a
-seen_first (sight.Taken n way is_new) all g t u ss a = a
-seen_first (sight.Crowded n is_full) true g t u ss a = absurd a
-seen_first (sight.Crowded n is_full) false g t u ss (a, b) = inl (inl (subst (λ z. Path (StillTells left) t z u) (sym a) b))
+use Rattle.cqlp_streams.specs.declared.listener.Listener as listener
+use Rattle.cqlp_streams.specs.Sayings.{Saying, Packet, Left}
+use Rattle.cqlp_streams.specs.Listening.{GetsOne}
+use Rattle.cqlp_streams.specs.Tellings.{Departs, GetsNext, Leaves, Path, StillTells, TellsAgain, TellsFirst, TellsOf, TellsTimed, is_done}
 
 -- after a connection has left for it
 pub crowded_first : (n : ℕ) (is_full all : Bool) (g : Seen) (t m u : Table) (front rest : List Saying) → Leaves true t front m → TellsAgain all g m rest u → TellsFirst (sight.Crowded n is_full) all g t (front ++ rest) u
@@ -37,10 +25,19 @@ pub parted_none : (t m u : Table) (front : List Saying) → Path (StillTells lef
 parted_none t m u front p e = (m, front, [], sym (append-nil front), p, e)
 
 -- whether there was none
-pub one_more : (b : Bool) (t u : Table) (old new : Recording) → b ≡ false → DepartsNext (Ok b) t old u new → (s : Saying) × Departs t s u × (new ≡ with_saying old s)
-one_more true t u old new e a = absurd (let z = e in cc)
-one_more false t u old new e a = a
+module _ {L : Type 0} (m : listener.Ghosts L) where
+  pub one_more : (b : Bool) (t u : Table) (old new : L) → b ≡ false → GetsNext m (Ok b) t old u new → (s : Saying) × Departs t s u × GetsOne m old s (Ok tt) new
+  one_more true t u old new e a = absurd (let z = e in cc)
+  one_more false t u old new e a = a
 
-pub no_more : (b : Bool) (t u : Table) (old new : Recording) → b ≡ true → DepartsNext (Ok b) t old u new → (departing departure.Empty u ≡ finished t) × (new ≡ old)
-no_more true t u old new e a = a
-no_more false t u old new e a = absurd (let z = e in cc)
+  pub no_more : (b : Bool) (t u : Table) (old new : L) → b ≡ true → GetsNext m (Ok b) t old u new → (departing departure.Empty u ≡ finished t) × (new ≡ old)
+  no_more true t u old new e a = a
+  no_more false t u old new e a = absurd (let z = e in cc)
+
+-- first that a packet with it comes
+pub timed_fails : (time : Option ℕ) (g : Seen) (t : Table) → TellsTimed false time g t (Packet time ∷ []) t
+timed_fails time g t = inl (refl, refl)
+
+pub timed : (all : Bool) (time : Option ℕ) (g : Seen) (t u : Table) (ss : List Saying) → TellsOf all g t ss u → TellsTimed all time g t (Packet time ∷ ss) u
+timed true time g t u ss a = (ss, refl, a)
+timed false time g t u ss a = inr (ss, refl, a)

@@ -1,5 +1,5 @@
--- What a whole capture tells, and what is recorded of it.
-use Rattle.std.specs.Prelude.{◌≡◌, ℕ, ◌&&◌, Bool, true, false, List, [], ◌∷◌, ◌++◌, length, Option, Some, None, Result, Ok, Err, ◌⊎◌, ⊤}
+-- What a whole capture tells, and what a listener has got of it.
+use Rattle.std.specs.Prelude.{◌≡◌, ℕ, ◌≤◌, ◌&&◌, true, false, List, [], ◌∷◌, ◌++◌, length, Option, Some, None, Result, Ok, Err, ◌⊎◌, ⊤}
 use Rattle.cqlp_note.specs.Reader.{More, says}
 use Rattle.cqlp_capture.specs.declared.event.CaptureEnd.{CaptureEnd}
 use Rattle.cqlp_capture.specs.declared.event.CaptureEnd.TheVariants as end
@@ -14,8 +14,7 @@ use Rattle.cqlp_streams.specs.declared.fault.StreamsFault.TheVariants as fault
 use Rattle.cqlp_streams.specs.declared.running.Drained.{Drained}
 use Rattle.cqlp_streams.specs.declared.running.Drained.TheVariants as drained
 use Rattle.cqlp_streams.specs.Sayings.{Saying}
-use Rattle.cqlp_streams.specs.Recordings.{Recording, with_sayings}
-use Rattle.cqlp_streams.specs.Tellings.{RecordsAll}
+use Rattle.cqlp_streams.specs.Listening.{AreEndless, FailsAtLast, after_all}
 use Rattle.cqlp_streams.specs.Packets.{SplitState, Finishes, TellsEvent, TellsEvents, new_split}
 
 -- ---- what the bytes of a file say
@@ -88,43 +87,13 @@ pub record TellsLeaving (l : CaptureLimits) (t : Table) (bytes : List ℕ) (ss :
   pub leave : Finishes false mid last u
   pub all : ss ≡ front ++ last
 
--- ---- what is recorded of it
-
--- What is recorded of a file with these bytes. A fault ends it: one of the input after all that was told of the bytes read; any other
--- within what they tell, and nothing more is asked of what failed.
-abbrev pub EndsTo : CaptureLimits → Table → (before : Recording) → (read : List ℕ) → Result CaptureEnd StreamsFault → SplitState
-    → (after : Recording) → Type 0
-EndsTo l t before read (Ok e) u after = (ss : List Saying) × TellsFile l t read e ss u × (after ≡ with_sayings before ss)
-EndsTo l t before read (Err fault.Read) u after =
-    (ss : List Saying) × TellsSoFar l t read ss u × (after ≡ with_sayings before ss)
-EndsTo l t before read (Err e) u after =
-    (ss : List Saying) × (TellsFirst l t read ss u ⊎ TellsLeaving l t read ss u) × RecordsAll before ss (Err e) after
+-- ---- what a listener has got of it
 
 -- all was read, unless it is refused
 abbrev pub IsAll : Result CaptureEnd StreamsFault → (rest : List ℕ) → Type 0
 IsAll (Ok (end.Whole n)) rest = rest ≡ []
 IsAll (Ok (end.Cut at n)) rest = rest ≡ []
 IsAll r rest = ⊤
-
--- Of the bytes xs of an input these were read, and recorded so, and the others are left.
-pub record SplitsTo (l : CaptureLimits) (t : Table) (before : Recording) (xs : List ℕ) (r : Result CaptureEnd StreamsFault)
-    (left : Option (List ℕ)) (u : SplitState) (after : Recording) : Type 0 where
-  pub read : List ℕ
-  pub rest : List ℕ
-  pub parts : xs ≡ read ++ rest
-  pub others : left ≡ Some rest
-  pub all : IsAll r rest
-  pub ends : EndsTo l t before read r u after
-
--- ---- while it is read
-
--- A reader that was made used the bytes s, and all was recorded that its events tell.
-pub record Has (t : Table) (before : Recording) (s : List ℕ) (d : CaptureState) (u : SplitState) (after : Recording) : Type 0 where
-  pub events : List (ℕ × Event)
-  pub sayings : List Saying
-  pub stands : After d s events
-  pub tells : TellsEvents (new_split t) events sayings u
-  pub recorded : after ≡ with_sayings before sayings
 
 -- It is at the end of the bytes read: of all of them, and more are wanted; or where they are refused.
 abbrev pub IsAtEndBy : Option CaptureRefusal → CaptureState → (read s : List ℕ) → List (ℕ × Event) → Type 0
@@ -134,15 +103,56 @@ IsAtEndBy (Some r) d read s es = Says d.limits start read es (Refused r)
 abbrev pub IsAtEndOf : CaptureState → (read s : List ℕ) → List (ℕ × Event) → Type 0
 IsAtEndOf d read s es = IsAtEndBy d.refusal d read s es
 
+-- the input failed, or all reads were made that may be
+abbrev pub IsOfReads : (turns made : ℕ) → StreamsFault → Type 0
+IsOfReads turns made fault.Read = ⊤
+IsOfReads turns made fault.TooManyTurns = made ≡ turns
+IsOfReads turns made e = ⊥
+
 abbrev pub IsRefused : Drained → Option CaptureRefusal → Type 0
 IsRefused drained.More r = r ≡ None
 IsRefused drained.Refused r = (x : CaptureRefusal) × (r ≡ Some x)
 
--- What draining a piece after the bytes s leaves.
-abbrev pub DrainsTo : CaptureLimits → Table → (before : Recording) → (s piece : List ℕ) → Result Drained StreamsFault → CaptureState
-    → SplitState → (after : Recording) → Type 0
-DrainsTo l t before s piece (Ok x) d u after =
-    (d.limits ≡ l) × IsRefused x d.refusal × (used : List ℕ) × (h : Has t before used d u after)
-    × IsAtEndOf d (s ++ piece) used h.events
-DrainsTo l t before s piece (Err e) d u after =
-    (ss : List Saying) × TellsFirst l t (s ++ piece) ss u × RecordsAll before ss (Err e) after
+module _ {V : Type 0} (after : V → Saying → V) where
+  -- A reader that was made used the bytes s, and the listener has got all that its events tell.
+  pub record Has (t : Table) (before : V) (s : List ℕ) (d : CaptureState) (u : SplitState) (v : V) : Type 0 where
+    pub events : List (ℕ × Event)
+    pub sayings : List Saying
+    pub stands : After d s events
+    pub tells : TellsEvents (new_split t) events sayings u
+    pub got : v ≡ after_all after before sayings
+
+  module _ (faulted : V → Saying → StreamsFault → V → Type 0) where
+    -- What it has got of a file with these bytes, after so many reads of at most `turns`. A fault ends it: one of the input, or that no
+    -- more reads are to be made, after all that was told of the bytes read; any other within what they tell, and nothing more is told
+    -- to it.
+    abbrev pub EndsTo : CaptureLimits → Table → (turns made : ℕ) → (before : V) → (read : List ℕ) → Result CaptureEnd StreamsFault
+        → SplitState → V → Type 0
+    EndsTo l t turns made before read (Ok e) u v =
+        (ss : List Saying) × TellsFile l t read e ss u × (v ≡ after_all after before ss)
+    EndsTo l t turns made before read (Err e) u v =
+        (ss : List Saying)
+        × ((IsOfReads turns made e × TellsSoFar l t read ss u × (v ≡ after_all after before ss))
+        ⊎ (((f : TellsFirst l t read ss u) × FailsAtLast after faulted (AreEndless ss ⊎ AreEndless f.events) before ss e v)
+        ⊎ (TellsLeaving l t read ss u × FailsAtLast after faulted (AreEndless ss) before ss e v)))
+
+    -- Of the bytes xs of an input these were read, by so many reads of at most `turns`; it has got this of them, and the others are left.
+    pub record SplitsTo (l : CaptureLimits) (t : Table) (turns made : ℕ) (before : V) (xs : List ℕ) (r : Result CaptureEnd StreamsFault)
+        (left : Option (List ℕ)) (u : SplitState) (v : V) : Type 0 where
+      pub few : made ≤ turns
+      pub read : List ℕ
+      pub rest : List ℕ
+      pub parts : xs ≡ read ++ rest
+      pub others : left ≡ Some rest
+      pub all : IsAll r rest
+      pub ends : EndsTo l t turns made before read r u v
+
+    -- What draining a piece after the bytes s leaves.
+    abbrev pub DrainsTo : CaptureLimits → Table → (before : V) → (s piece : List ℕ) → Result Drained StreamsFault → CaptureState
+        → SplitState → V → Type 0
+    DrainsTo l t before s piece (Ok x) d u v =
+        (d.limits ≡ l) × IsRefused x d.refusal × (used : List ℕ) × (h : Has t before used d u v)
+        × IsAtEndOf d (s ++ piece) used h.events
+    DrainsTo l t before s piece (Err e) d u v =
+        (ss : List Saying) × (f : TellsFirst l t (s ++ piece) ss u)
+        × FailsAtLast after faulted (AreEndless ss ⊎ AreEndless f.events) before ss e v

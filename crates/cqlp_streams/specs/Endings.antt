@@ -1,5 +1,5 @@
 -- How the reading of a capture ends: its exit status, and its line.
-use Rattle.std.specs.Prelude.{◌≡◌, ℕ, ◌==◌, List, [], ◌++◌, ◌⊎◌, codes, decimal, if◌then◌else◌}
+use Rattle.std.specs.Prelude.{◌≡◌, ℕ, ◌==◌, List, [], ◌++◌, Result, Ok, Err, ◌⊎◌, codes, decimal, if◌then◌else◌}
 use Rattle.cqlp_text.specs.declared.exit_status.TheConstants.{FAULT}
 use Rattle.cqlp_text.specs.Outputs.{Output, with_text, StopsWithin}
 use Rattle.cqlp_capture.specs.declared.event.CaptureEnd.{CaptureEnd}
@@ -7,14 +7,13 @@ use Rattle.cqlp_capture.specs.declared.event.CaptureEnd.TheVariants as end
 use Rattle.cqlp_capture.specs.declared.refusal.CaptureReason.{CaptureReason}
 use Rattle.cqlp_capture.specs.declared.refusal.CaptureReason.TheVariants as reason
 use Rattle.cqlp_connections.specs.declared.totals.ConnectionCounts.{ConnectionCounts}
-use Rattle.cqlp_streams.specs.declared.ending.StreamsEnding.{StreamsEnding}
-use Rattle.cqlp_streams.specs.declared.ending.StreamsEnding.TheVariants as ending
+use Rattle.cqlp_streams.specs.declared.capturing.CaptureRead.{CaptureRead}
 use Rattle.cqlp_streams.specs.declared.fault.StreamsFault.{StreamsFault}
 use Rattle.cqlp_streams.specs.declared.fault.StreamsFault.TheVariants as fault
 use Rattle.cqlp_streams.specs.declared.files.FileFault.TheVariants as file
 use Rattle.cqlp_streams.specs.declared.files.StreamFile.{StreamFile}
 use Rattle.cqlp_streams.specs.declared.packets.WithoutCounts.{WithoutCounts}
-use Rattle.cqlp_streams.specs.declared.summary.Summary.{Summary}
+use Rattle.cqlp_streams.specs.declared.recorder.Sums.{Sums}
 use Rattle.cqlp_streams.specs.Lines.{way_name}
 
 -- ---- the exit status
@@ -26,9 +25,9 @@ end_status (end.Cut at bytes) = 1
 end_status (end.Refused r) = 1
 
 -- and 3 of all that failed
-abbrev pub status_of : StreamsEnding → ℕ
-status_of (ending.Finished e summary) = end_status e
-status_of (ending.Fault f) = 3
+abbrev pub status_of : Result CaptureRead StreamsFault → ℕ
+status_of (Ok r) = end_status r.end
+status_of (Err f) = 3
 
 -- ---- the line of a capture that was read to its end
 
@@ -53,9 +52,13 @@ verdict (end.Whole bytes) = codes "whole " ++ decimal bytes
 verdict (end.Cut at bytes) = codes "cut " ++ decimal at ++ codes " " ++ decimal bytes
 verdict (end.Refused r) = codes "refused " ++ decimal r.at ++ codes " " ++ reason_name r.why
 
--- a name and a number, unless that is 0
+-- a name and a number
+abbrev pub named_words : (name : List ℕ) → ℕ → List ℕ
+named_words name n = codes " " ++ name ++ codes " " ++ decimal n
+
+-- unless that is 0
 abbrev pub count_words : (name : List ℕ) → ℕ → List ℕ
-count_words name n = if n == 0 then [] else codes " " ++ name ++ codes " " ++ decimal n
+count_words name n = if n == 0 then [] else named_words name n
 
 -- how often a connection had to leave since the table was full, and how many segments are of other ports
 abbrev pub table_words : ConnectionCounts → List ℕ
@@ -70,14 +73,22 @@ reason_words w =
     ++ count_words (codes "NotTcp") w.not_tcp ++ count_words (codes "CutInTcp") w.cut_in_tcp
     ++ count_words (codes "BadTcpLength") w.bad_tcp_length
 
-abbrev pub summary_head : Summary → List ℕ
-summary_head s =
-    codes " packets " ++ decimal s.packets.packets ++ codes " segments " ++ decimal s.packets.segments
-    ++ codes " connections " ++ decimal s.connections.connections ++ codes " gaps " ++ decimal s.sums.gaps
-    ++ codes " bytes " ++ decimal s.sums.bytes
+abbrev pub head_words : CaptureRead → List ℕ
+head_words r =
+    named_words (codes "packets") r.packets.packets ++ named_words (codes "segments") r.packets.segments
+    ++ named_words (codes "connections") r.connections.connections
 
-abbrev pub summary_words : Summary → List ℕ
-summary_words s = summary_head s ++ table_words s.connections ++ reason_words s.packets.without
+-- a caller's own words
+abbrev pub own_words : (words : List ℕ) → List ℕ
+own_words words = codes " " ++ words
+
+abbrev pub read_line : (words : List ℕ) → CaptureRead → List ℕ
+read_line words r =
+    verdict r.end ++ head_words r ++ own_words words ++ table_words r.connections ++ reason_words r.packets.without ++ codes "\n"
+
+-- those of streams
+abbrev pub sums_words : Sums → List ℕ
+sums_words s = codes "gaps " ++ decimal s.gaps ++ codes " bytes " ++ decimal s.bytes
 
 -- ---- the line of a fault
 
@@ -101,16 +112,16 @@ fault_line (fault.File (file.CannotKeep f)) = file_line (codes "keep") f
 
 -- ---- how it is told
 
-abbrev pub line_of : StreamsEnding → List ℕ
-line_of (ending.Finished e s) = verdict e ++ summary_words s ++ codes "\n"
-line_of (ending.Fault f) = fault_line f
+abbrev pub line_of : (words : List ℕ) → Result CaptureRead StreamsFault → List ℕ
+line_of words (Ok r) = read_line words r
+line_of words (Err f) = fault_line f
 
 -- A line was written, and the status is this one; or the target failed within it, and the status is that of a fault.
 abbrev pub Reports : (line : List ℕ) → (intended : ℕ) → Output → (status : ℕ) → Output → Type 0
 Reports line intended before status after =
     ((status ≡ intended) × (after ≡ with_text before line)) ⊎ ((status ≡ FAULT) × StopsWithin before line after)
 
--- So is the line of an ending, or where there is no memory for it, that of this fault.
-abbrev pub Concludes : StreamsEnding → (before : Output) → (status : ℕ) → (after : Output) → Type 0
-Concludes e before status after =
-    Reports (line_of e) (status_of e) before status after ⊎ Reports no_memory_line FAULT before status after
+-- So is the last line of a capture that was read so, or where there is no memory for it, that of this fault.
+abbrev pub Concludes : (words : List ℕ) → Result CaptureRead StreamsFault → (before : Output) → (status : ℕ) → (after : Output) → Type 0
+Concludes words r before status after =
+    Reports (line_of words r) (status_of r) before status after ⊎ Reports no_memory_line FAULT before status after

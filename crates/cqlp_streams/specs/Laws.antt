@@ -1,17 +1,28 @@
--- Laws: two answers of `write_streams` are the same, and each file gets just what is told of its direction.
-use Rattle.std.specs.Prelude.{◌≡◌, ◌≢◌, ℕ, ◌==◌, ◌&&◌, Bool, true, false, List, [], ◌∷◌, ◌++◌, Option, Some, None, if◌then◌else◌}
+-- Laws: two answers of `read_capture` and of `write_streams` are the same, and each file gets just what is told of its direction.
+use Rattle.std.specs.Prelude.{◌≡◌, ◌≢◌, ℕ, ◌==◌, ◌&&◌, Bool, true, false, List, [], ◌∷◌, ◌++◌, Option, Some, Ok, if◌then◌else◌}
 use Rattle.cqlp_text.specs.Outputs.{Output}
 use Rattle.cqlp_reassembly.specs.declared.stream.StreamStep.{StreamStep}
 use Rattle.cqlp_reassembly.specs.declared.stream.StreamStep.TheVariants as step
 use Rattle.cqlp_connections.specs.declared.ends.Way.{Way}
 use Rattle.cqlp_connections.specs.declared.ends.Way.TheVariants.{Requests, Responses}
+use Rattle.cqlp_streams.specs.declared.capturing.CaptureRead.{CaptureRead}
+use Rattle.cqlp_streams.specs.declared.fault.StreamsFault.{StreamsFault}
 use Rattle.cqlp_streams.specs.declared.files.StreamFile.{StreamFile}
 use Rattle.cqlp_streams.specs.Files.{Call, Made, Appended, Kept}
-use Rattle.cqlp_streams.specs.Sayings.{Saying, New, Of, Left}
+use Rattle.cqlp_streams.specs.Sayings.{Saying, Packet, New, Of, Left}
 use Rattle.cqlp_streams.specs.Recordings.{Recording, file_of, with_sayings}
-use Rattle.cqlp_streams.specs.Streams.{WritesStreams}
+use Rattle.cqlp_streams.specs.Streams.{ReadsCapture, WritesStreams}
 
 -- ---- one answer
+
+-- Where no fault comes, the same bytes and ports lead a listener to the same view, and to the same answer.
+module _ {V : Type 0} (after : V → Saying → V) (faulted : V → Saying → StreamsFault → V → Type 0) where
+  abbrev pub OneAnswerOfReadCapture : Type 0
+  OneAnswerOfReadCapture =
+      (ports xs : List ℕ) (before v w : V) (made made' : ℕ) (left left' : Option (List ℕ)) (r r' : CaptureRead)
+      → ReadsCapture after faulted ports xs made (Ok r) left before v
+      → ReadsCapture after faulted ports xs made' (Ok r') left' before w
+      → (r' ≡ r) × (w ≡ v)
 
 -- Where nothing outside fails, so that the status is not that of a fault, the same bytes, ports and outputs lead to the same status,
 -- the same calls of files, the same lines and the same last line.
@@ -50,6 +61,7 @@ handed_on (step.Held count) bytes = bytes
 handed_on s bytes = []
 
 abbrev pub told_by : StreamFile → Saying → List ℕ
+told_by f (Packet time) = []
 told_by f (New n) = []
 told_by f (Of told bytes) = if is_same_file f (file_of told) then handed_on told.step bytes else []
 told_by f (Left totals) = []

@@ -1,6 +1,7 @@
 pub mod Files
 pub mod Lines
 pub mod Sayings
+pub mod Listening
 pub mod Recordings
 pub mod Tellings
 pub mod Packets

@@ -1,5 +1,5 @@
 -- What the packets of a capture tell.
-use Rattle.std.specs.Prelude.{◌≡◌, ℕ, Bool, true, false, List, [], ◌∷◌, ◌++◌, Result, Ok, Err}
+use Rattle.std.specs.Prelude.{◌≡◌, ℕ, Bool, true, List, [], ◌∷◌, ◌++◌, Option, None, Result, Ok, Err}
 use Rattle.cqlp_capture.specs.Reading.{Event, Section, Interface, Packet, Bytes}
 use Rattle.cqlp_segment.specs.declared.link.LinkType.{LinkType}
 use Rattle.cqlp_segment.specs.declared.reason.NoSegment.{NoSegment}
@@ -11,17 +11,19 @@ use Rattle.cqlp_connections.specs.Tables.{Table}
 use Rattle.cqlp_streams.specs.declared.packets.PacketCounts.{PacketCounts}
 use Rattle.cqlp_streams.specs.declared.packets.WithoutCounts.{WithoutCounts}
 use Rattle.cqlp_streams.specs.Sayings.{Saying}
-use Rattle.cqlp_streams.specs.Tellings.{FinishesAll, TellsOf}
+use Rattle.cqlp_streams.specs.Tellings.{FinishesAll, TellsTimed}
 
--- the connections; of the packet that began the number of the link type, and how many bytes it had; and what packets were
+-- the connections; of the packet that began the number of the link type, when it was captured, and how many bytes it had; and what
+-- packets were
 pub record SplitState : Type 0 where
   pub table : Table
   pub link : ℕ
+  pub time : Option ℕ
   pub original : ℕ
   pub counts : PacketCounts
 
-abbrev pub split_state : Table → (link original : ℕ) → PacketCounts → SplitState
-split_state t link original counts = record { table = t; link = link; original = original; counts = counts }
+abbrev pub split_state : Table → (link : ℕ) → (time : Option ℕ) → (original : ℕ) → PacketCounts → SplitState
+split_state t link time original counts = record { table = t; link = link; time = time; original = original; counts = counts }
 
 abbrev pub none_without : WithoutCounts
 none_without = record {
@@ -40,7 +42,7 @@ abbrev pub none_counted : PacketCounts
 none_counted = record { packets = 0; segments = 0; without = none_without }
 
 abbrev pub new_split : Table → SplitState
-new_split t = split_state t 0 0 none_counted
+new_split t = split_state t 0 None 0 none_counted
 
 -- ---- what packets were
 
@@ -75,7 +77,7 @@ segment_in s packet = segment_on (link_of s.link) packet s.original
 -- A packet with a segment tells what that does, and is counted; one without is counted by the reason.
 abbrev pub TellsRead : Result Seen NoSegment → (all : Bool) → SplitState → List Saying → SplitState → Type 0
 TellsRead (Ok g) all s ss u =
-    TellsOf all g s.table ss u.table × (u ≡ record s { table = u.table; counts = with_segment s.counts })
+    TellsTimed all s.time g s.table ss u.table × (u ≡ record s { table = u.table; counts = with_segment s.counts })
 TellsRead (Err why) all s ss u = (ss ≡ []) × (u ≡ record s { counts = without_segment why s.counts })
 
 -- ---- events
@@ -83,7 +85,7 @@ TellsRead (Err why) all s ss u = (ss ≡ []) × (u ≡ record s { counts = witho
 abbrev pub TellsEvent : (all : Bool) → SplitState → Event → List Saying → SplitState → Type 0
 TellsEvent all s (Section form) ss u = (ss ≡ []) × (u ≡ s)
 TellsEvent all s (Interface head) ss u = (ss ≡ []) × (u ≡ s)
-TellsEvent all s (Packet head) ss u = (ss ≡ []) × (u ≡ record s { link = head.link; original = head.original })
+TellsEvent all s (Packet head) ss u = (ss ≡ []) × (u ≡ record s { link = head.link; time = head.time; original = head.original })
 TellsEvent all s (Bytes packet) ss u = TellsRead (segment_in s packet) all s ss u
 
 -- events, in order

@@ -1,10 +1,9 @@
 -- What is recorded of what is told: the calls of files, lines, and sums.
-use Rattle.std.specs.Prelude.{◌≡◌, ℕ, List, [], ◌∷◌, Option, Some, None, Result, Ok, Err}
+use Rattle.std.specs.Prelude.{◌≡◌, ℕ, List, Option, Some, None, IsSome, Result, Ok, Err}
 use Rattle.cqlp_text.specs.Outputs.{Output, with_text, StopsWithin}
 use Rattle.cqlp_reassembly.specs.declared.stream.StreamStep.{StreamStep}
 use Rattle.cqlp_reassembly.specs.declared.stream.StreamStep.TheVariants as step
 use Rattle.cqlp_connections.specs.declared.told.Told.{Told}
-use Rattle.cqlp_connections.specs.declared.totals.ConnectionTotals.{ConnectionTotals}
 use Rattle.cqlp_connections.specs.declared.totals.DirectionTotals.{DirectionTotals}
 use Rattle.cqlp_connections.specs.Totals.{counted}
 use Rattle.cqlp_streams.specs.declared.fault.StreamsFault.{StreamsFault}
@@ -13,7 +12,8 @@ use Rattle.cqlp_streams.specs.declared.files.StreamFile.{StreamFile}
 use Rattle.cqlp_streams.specs.declared.recorder.Sums.{Sums}
 use Rattle.cqlp_streams.specs.Files.{Call, Made, Appended, Kept, with_call}
 use Rattle.cqlp_streams.specs.Lines.{connection_line, gap_line}
-use Rattle.cqlp_streams.specs.Sayings.{Saying, New, Of, Left}
+use Rattle.cqlp_streams.specs.Sayings.{Saying, Packet, New, Of, Left}
+use Rattle.cqlp_streams.specs.Listening.{after_all}
 
 pub record Recording : Type 0 where
   pub calls : Option (List Call)
@@ -47,6 +47,7 @@ call_of_step (step.Held count) file bytes = Some (Appended file bytes)
 call_of_step t file bytes = None
 
 abbrev pub call_of : Saying → Option Call
+call_of (Packet time) = None
 call_of (New n) = Some (Made n)
 call_of (Of told bytes) = call_of_step told.step (file_of told) bytes
 call_of (Left totals) = Some (Kept totals.number)
@@ -56,6 +57,7 @@ line_of_step (step.Gap n) file at = Some (gap_line file at n)
 line_of_step t file at = None
 
 abbrev pub line_of : Saying → Option (List ℕ)
+line_of (Packet time) = None
 line_of (New n) = None
 line_of (Of told bytes) = line_of_step told.step (file_of told) told.at
 line_of (Left totals) = Some (connection_line totals)
@@ -85,8 +87,7 @@ with_saying r s = recording (called (call_of s) r.calls) (lined (line_of s) r.ou
 
 -- all of them, in order
 abbrev pub with_sayings : Recording → List Saying → Recording
-with_sayings r [] = r
-with_sayings r (s ∷ ss) = with_sayings (with_saying r s) ss
+with_sayings r ss = after_all with_saying r ss
 
 -- ---- a fault
 
@@ -95,10 +96,11 @@ abbrev pub StopsWithinLine : Option (List ℕ) → (old new : Output) → Type 0
 StopsWithinLine None old new = ⊥
 StopsWithinLine (Some line) old new = StopsWithin old line new
 
--- Files failed, and nothing was recorded; or the call was made, and there was no memory for the line, or the output failed within it.
+-- Files failed at the call, and nothing was recorded; or the call was made, and there was no memory for the line, or the output
+-- failed within it.
 abbrev pub StopsAt : Recording → Saying → StreamsFault → Recording → Type 0
-StopsAt old s (fault.File e) new = new ≡ old
-StopsAt old s fault.NoMemory new = new ≡ with_call_of old s
+StopsAt old s (fault.File e) new = IsSome (call_of s) × (new ≡ old)
+StopsAt old s fault.NoMemory new = IsSome (line_of s) × (new ≡ with_call_of old s)
 StopsAt old s fault.Write new =
     (new ≡ with_output new.output (with_call_of old s)) × StopsWithinLine (line_of s) old.output new.output
 StopsAt old s e new = ⊥

@@ -1,18 +1,17 @@
 -- What a table of connections tells of a segment, and where connections leave.
-use Rattle.std.specs.Prelude.{◌≡◌, ℕ, Bool, true, false, List, [], ◌∷◌, ◌++◌, map, take, drop, Option, Some, None, IsSome, Result, Ok, Err, ◌⊎◌}
+use Rattle.std.specs.Prelude.{◌≡◌, ℕ, Bool, true, false, List, [], ◌∷◌, ◌++◌, map, take, drop, Option, Some, None, Result, Ok, Err, ◌⊎◌}
 use Rattle.cqlp_reassembly.specs.declared.stream.StreamStep.{StreamStep}
 use Rattle.cqlp_reassembly.specs.declared.stream.StreamStep.TheVariants as step
 use Rattle.cqlp_segment.specs.Segment.{Seen}
 use Rattle.cqlp_connections.specs.declared.ends.Way.{Way}
-use Rattle.cqlp_connections.specs.declared.told.Told.{Told}
 use Rattle.cqlp_connections.specs.declared.told.Departure.TheVariants as departure
 use Rattle.cqlp_connections.specs.declared.told.Sight.{Sight}
 use Rattle.cqlp_connections.specs.declared.told.Sight.TheVariants as sight
 use Rattle.cqlp_connections.specs.Tables.{Table, Departing, cells_of, departing, finished, held_on, left, pulled, pulling, read_on, taken, taking}
 use Rattle.cqlp_streams.specs.declared.fault.StreamsFault.{StreamsFault}
-use Rattle.cqlp_streams.specs.declared.fault.StreamsFault.TheVariants as fault
-use Rattle.cqlp_streams.specs.Sayings.{Saying, New, Of, Left}
-use Rattle.cqlp_streams.specs.Recordings.{Recording, Records, with_saying, with_sayings}
+use Rattle.cqlp_streams.specs.declared.listener.Listener as listener
+use Rattle.cqlp_streams.specs.Sayings.{Saying, Packet, New, Of, Left}
+use Rattle.cqlp_streams.specs.Listening.{GetsOne}
 
 -- how many bytes that came early are handed on at once
 abbrev pub at_once : ℕ
@@ -83,13 +82,12 @@ abbrev pub beginning : (is_new : Bool) → (number : ℕ) → List Saying
 beginning true n = New n ∷ []
 beginning false n = []
 
--- What is told of a segment that was seen so; a connection is not crowded out twice.
+-- What is told of a segment that was seen so; nothing, where it has no connection.
 abbrev pub TellsSeen : Sight → (all : Bool) → Seen → Table → List Saying → Table → Type 0
 TellsSeen sight.Foreign all g t ss u = (ss ≡ []) × (u ≡ t)
 TellsSeen (sight.Taken n way is_new) all g t ss u =
     (rest : List Saying) × (ss ≡ beginning is_new n ++ rest) × PullsAll all g t rest u
-TellsSeen (sight.Crowded n is_full) true g t ss u = ⊥
-TellsSeen (sight.Crowded n is_full) false g t ss u = (ss ≡ []) × (u ≡ t)
+TellsSeen (sight.Crowded n is_full) all g t ss u = (ss ≡ []) × (u ≡ t)
 
 -- taken once more after a connection has left for it
 abbrev pub TellsAgain : (all : Bool) → Seen → Table → List Saying → Table → Type 0
@@ -108,25 +106,21 @@ TellsFirst s all g t ss u = TellsSeen s all g t ss u
 abbrev pub TellsOf : (all : Bool) → Seen → Table → List Saying → Table → Type 0
 TellsOf all g t ss u = (s : Sight) × (m : Table) × (taking s m ≡ taken t g.head) × TellsFirst s all g m ss u
 
--- ---- what is recorded of it
+-- first that a packet with it comes
+abbrev pub TellsTimed : (all : Bool) → (time : Option ℕ) → Seen → Table → List Saying → Table → Type 0
+TellsTimed true time g t ss u = (rest : List Saying) × (ss ≡ Packet time ∷ rest) × TellsOf true g t rest u
+TellsTimed false time g t ss u =
+    ((ss ≡ Packet time ∷ []) × (u ≡ t))
+    ⊎ ((rest : List Saying) × (ss ≡ Packet time ∷ rest) × TellsOf false g t rest u)
+
+-- ---- what a listener has got of it
 
 abbrev pub is_done : Result (Unit {0}) StreamsFault → Bool
 is_done (Ok u) = true
 is_done (Err e) = false
 
--- All of it was recorded; or there was no end to it; or the last of it failed to be.
-abbrev pub RecordsAll : Recording → List Saying → Result (Unit {0}) StreamsFault → Recording → Type 0
-RecordsAll old ss (Ok u) new = new ≡ with_sayings old ss
-RecordsAll old ss (Err e) new =
-    ((e ≡ fault.TooManyTurns) × (new ≡ with_sayings old ss))
-    ⊎ ((front : List Saying) × (s : Saying) × (ss ≡ front ++ s ∷ []) × Records (with_sayings old front) s (Err e) new)
-
--- The next that connections tell which leave was recorded, or failed to be; or there was none.
-abbrev pub DepartsNext : Result Bool StreamsFault → Table → Recording → Table → Recording → Type 0
-DepartsNext (Ok false) t old u new = (s : Saying) × Departs t s u × (new ≡ with_saying old s)
-DepartsNext (Ok true) t old u new = (departing departure.Empty u ≡ finished t) × (new ≡ old)
-DepartsNext (Err e) t old u new = (s : Saying) × Departs t s u × Records old s (Err e) new
-
--- Where it is known what the output was given, what was told was recorded.
-abbrev pub Recorded : (List Saying → Type 0) → Recording → Result (Unit {0}) StreamsFault → Recording → Type 0
-Recorded tells old r new = IsSome old.output.given → (ss : List Saying) × tells ss × RecordsAll old ss r new
+-- It has got the next that connections tell which leave, or failed at it; or there was none.
+abbrev pub GetsNext : {L : Type 0} → listener.Ghosts L → Result Bool StreamsFault → Table → L → Table → L → Type 0
+GetsNext m (Ok false) t old u new = (s : Saying) × Departs t s u × GetsOne m old s (Ok tt) new
+GetsNext m (Ok true) t old u new = (departing departure.Empty u ≡ finished t) × (new ≡ old)
+GetsNext m (Err e) t old u new = (s : Saying) × Departs t s u × GetsOne m old s (Err e) new

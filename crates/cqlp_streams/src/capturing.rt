@@ -1,28 +1,20 @@
 //! A whole capture.
 
-ghost use Rattle.std.specs.Prelude.{◌≡◌, ℕ, List, IsSome, Some};
-ghost use Rattle.cqlp_text.specs.Endings.{IsStatusOfTask};
-ghost use Rattle.cqlp_text.specs.Outputs.{written};
-ghost use Rattle.cqlp_streams.specs.Recordings.{Recording, no_sums, recording};
-ghost use Rattle.cqlp_streams.specs.Endings.{Concludes};
-ghost use Rattle.cqlp_streams.specs.Streams.{Reads, WritesStreams, ending_of};
+ghost use Rattle.std.specs.Prelude.{◌≡◌, ℕ, List, OnOk, Some};
+ghost use Rattle.cqlp_note.specs.Streams.{CountsUp};
+ghost use Rattle.cqlp_streams.specs.Streams.{ReadsCapture, read_of};
 
-use crate::ending::StreamsEnding;
 use crate::fault::StreamsFault;
-use crate::files::StreamFiles;
-use crate::recorder::{Recorder, Sums};
+use crate::listener::Listener;
+use crate::packets::PacketCounts;
 use crate::running::split;
 use crate::splitter::Splitter;
-use crate::summary::Summary;
 use cqlp_capture::{CaptureEnd, CaptureLimits, CaptureReader};
-use cqlp_connections::{ConnectionLimits, Connections};
-use cqlp_grammar::SinkFault;
-use cqlp_note::{Source, Target};
-use cqlp_text::exit_status::FAULT;
-use cqlp_text::put_text;
+use cqlp_connections::{ConnectionCounts, ConnectionLimits, Connections};
+use cqlp_note::Source;
 use std::alloc::{Allocator, Global};
 
-/// How many connections there are at one time, each with two open files, and how many bytes that came early each direction holds.
+/// How many connections there are at one time, and how many bytes that came early each direction holds.
 pub const LIMITS: ConnectionLimits = ConnectionLimits {
     connections: 256,
     early: 32_768,
@@ -34,97 +26,64 @@ const TURNS: u64 = 4_294_967_296;
 /// How many bytes a read asks for.
 const ROOM: usize = 65_536;
 
-/// Splits a capture into the streams of its connections with nodes that listen on these ports. Writes a line for each gap and for each
-/// connection to `out`, and what the capture was, or the fault line, to `err`. Answers the exit status, the files and the two outputs.
-///
-/// After a fault nothing more is asked of what failed.
-pub fn write_streams<R: Source, F: StreamFiles, O: Target, E: Target>(
-    alloc: Global,
-    ports: &[u16],
-    input: &mut R,
-    files: F,
-    out: O,
-    err: E,
-) -> (u8, F, O, E)
-    ensures task { IsStatusOfTask result.0 }
-    ensures streams { (xs : List ℕ) → R.left input.old ≡ Some xs → IsSome (O.contents out) → IsSome (E.contents err) →
-        WritesStreams ports.now xs (R.left input.new) (F.calls files) (written O.Target out) (written E.Target err)
-        result.0 (F.calls result.1) (written O.Target result.2) (written E.Target result.3) }
-{
-    let (ending, files, out) = split_all(alloc, ports, input, files, out);
-    let (status, err) = conclude(alloc, &ending, err);
-    (status, files, out, err)
+/// What a capture was that was read to its end, or to where it is refused.
+#[derive(Clone, Copy, Debug, PartialEq, Eq)]
+pub struct CaptureRead {
+    pub end: CaptureEnd,
+    pub packets: PacketCounts,
+    pub connections: ConnectionCounts,
 }
 
-fn split_all<R: Source, F: StreamFiles, O: Target>(
+/// Has a listener take all that a capture tells of the connections of nodes that listen on these ports, out of at most 2^32 reads. No
+/// read is made before it has taken all that the bytes read so far tell. At the end of the file, or where it is refused, all connections
+/// leave.
+///
+/// After a fault nothing more is read, and nothing more is told to the listener.
+pub fn read_capture<R: Source, L: Listener>(
     alloc: Global,
     ports: &[u16],
     input: &mut R,
-    files: F,
-    out: O,
-) -> (StreamsEnding, F, O)
-    ensures { (xs : List ℕ) → R.left input.old ≡ Some xs → IsSome (O.contents out) →
-        (sums : Sums) × Reads ports.now xs result.0 (R.left input.new) (recording (F.calls files) (written O.Target out) no_sums)
-        (recording (F.calls result.1) (written O.Target result.2) sums) }
+    listener: &mut L,
+) -> Result<CaptureRead, StreamsFault>
+    ensures tells { L.tells listener.old → OnOk result (L.tells listener.new) }
+    ensures reads { (xs : List ℕ) → R.left input.old ≡ Some xs → L.tells listener.old →
+        (made : ℕ) × CountsUp made (R.reads input.old) (R.reads input.new)
+        × ReadsCapture L.after L.faulted ports.now xs made result (R.left input.new) (L.view listener.old) (L.view listener.new) }
 {
-    let no_memory = StreamsEnding::Fault(StreamsFault::NoMemory);
     let Ok(mut reader) = CaptureReader::new(alloc, CaptureLimits::DEFAULT) else {
-        return (no_memory, files, out);
+        return Err(StreamsFault::NoMemory);
     };
     let Ok(connections) = Connections::new(alloc, LIMITS, ports) else {
-        return (no_memory, files, out);
+        return Err(StreamsFault::NoMemory);
     };
     let Ok(mut buffer) = vec![in alloc; 0; ROOM] else {
-        return (no_memory, files, out);
+        return Err(StreamsFault::NoMemory);
     };
     let mut splitter = Splitter::new(connections);
-    let mut recorder = Recorder::new(alloc, files, out);
     let answer = split(
         &mut reader,
         &mut splitter,
         input,
         buffer.as_mut_slice(),
-        &mut recorder,
+        listener,
         TURNS,
     );
-    let (files, out, sums) = recorder.into_parts();
-    (ending_of(answer, &splitter, sums), files, out)
+    read_of(answer, &splitter)
 }
 
-/// How the reading of a capture ends that was split so.
-fn ending_of<A: Allocator>(
+/// What a capture was that was split so.
+fn read_of<A: Allocator>(
     answer: Result<CaptureEnd, StreamsFault>,
     splitter: &Splitter<A>,
-    sums: Sums,
-) -> StreamsEnding
-    ensures { result ≡ ending_of answer splitter.now sums }
+) -> Result<CaptureRead, StreamsFault>
+    ensures { result ≡ read_of answer splitter.now }
 {
     match answer {
-        Err(fault) => StreamsEnding::Fault(fault),
-        Ok(end) => StreamsEnding::Finished {
+        Err(fault) => Err(fault),
+        Ok(end) => Ok(CaptureRead {
             end,
-            summary: Summary {
-                packets: splitter.packet_counts(),
-                connections: splitter.connection_counts(),
-                sums,
-            },
-        },
-    }
-}
-
-/// Writes the line of an ending. Answers the exit status, which is that of a fault where the target fails.
-fn conclude<E: Target>(alloc: Global, ending: &StreamsEnding, mut err: E) -> (u8, E)
-    ensures task { IsStatusOfTask result.0 }
-    ensures concludes { IsSome (E.contents err) →
-        Concludes ending.now (written E.Target err) result.0 (written E.Target result.1) }
-{
-    let Ok(line) = ending.line(&alloc) else {
-        return match put_text("cqlp: no memory\n", &mut err) {
-            Ok(()) | Err(SinkFault) => (FAULT, err),
-        };
-    };
-    match put_text(&line, &mut err) {
-        Ok(()) => (ending.status(), err),
-        Err(SinkFault) => (FAULT, err),
+            packets: splitter.packet_counts(),
+            connections: splitter.connection_counts(),
+        }),
     }
 }

@@ -1,55 +1,89 @@
-//! How the reading of a capture ends.
+//! How the reading of a capture ends: its line, and its exit status.
 
-ghost use Rattle.std.specs.Prelude.{◌≡◌, IfOk, string_bytes};
+ghost use Rattle.std.specs.Prelude.{◌≡◌, IfOk, IsSome, string_bytes};
 ghost use Rattle.cqlp_text.specs.Endings.{IsStatusOfTask};
-ghost use Rattle.cqlp_streams.specs.Endings.{fault_line, file_line, reason_name, verdict};
+ghost use Rattle.cqlp_text.specs.Outputs.{written};
+ghost use Rattle.cqlp_streams.specs.Endings.{Concludes, fault_line, file_line, line_of, read_line, reason_name, status_of, verdict};
 
+use crate::capturing::CaptureRead;
 use crate::fault::StreamsFault;
 use crate::files::{FileFault, StreamFile};
 use crate::lines::way_name;
-use crate::summary::Summary;
+use crate::summary::{push_head, push_own, push_reasons, push_table};
 use cqlp_capture::{CaptureEnd, CaptureReason};
+use cqlp_grammar::SinkFault;
+use cqlp_note::Target;
 use cqlp_text::exit_status::{DONE, FAULT, NOT_WHOLE};
-use std::alloc::{AllocError, Allocator};
+use cqlp_text::put_text;
+use std::alloc::{AllocError, Allocator, Global};
 
-/// How the reading of a capture ends.
-#[derive(Clone, Copy, Debug, PartialEq, Eq)]
-pub(crate) enum StreamsEnding {
-    /// At the end of the file, or where it is refused.
-    Finished { end: CaptureEnd, summary: Summary },
-    Fault(StreamsFault),
+/// The exit status where the reading of a capture ends so: 0 of a whole one, 1 of one that is cut or refused, and 3 after a fault.
+pub fn capture_status(answer: &Result<CaptureRead, StreamsFault>) -> u8
+    ensures value { result ≡ status_of answer.now }
+    ensures task { IsStatusOfTask result }
+{
+    match answer {
+        Ok(read) => match read.end {
+            CaptureEnd::Whole { .. } => DONE,
+            CaptureEnd::Cut { .. } | CaptureEnd::Refused(_) => NOT_WHOLE,
+        },
+        Err(_) => FAULT,
+    }
 }
 
-impl StreamsEnding {
-    ghost use Rattle.cqlp_streams.specs.Endings.{line_of, status_of};
-
-    /// The exit status.
-    pub fn status(&self) -> u8
-        ensures value { result ≡ status_of self.now }
-        ensures task { IsStatusOfTask result }
-    {
-        match self {
-            StreamsEnding::Finished { end, .. } => match end {
-                CaptureEnd::Whole { .. } => DONE,
-                CaptureEnd::Cut { .. } | CaptureEnd::Refused(_) => NOT_WHOLE,
-            },
-            StreamsEnding::Fault(_) => FAULT,
-        }
+/// The last line where the reading of a capture ends so: how it ends, its packets, segments and connections, then a caller's own words,
+/// and then the counts that are not 0. After a fault it is that of the fault.
+pub fn capture_line<'a, A: Allocator>(
+    alloc: &'a A,
+    answer: &Result<CaptureRead, StreamsFault>,
+    words: &str,
+) -> Result<String<&'a A>, AllocError>
+    ensures { IfOk result (λ line. string_bytes line ≡ line_of words.now answer.now) }
+{
+    match answer {
+        Ok(read) => read_line(alloc, read, words),
+        Err(fault) => fault_line(alloc, fault),
     }
+}
 
-    /// Its line.
-    pub fn line<'a, A: Allocator>(&self, alloc: &'a A) -> Result<String<&'a A>, AllocError>
-        ensures { IfOk result (λ line. string_bytes line ≡ line_of self.now) }
-    {
-        match self {
-            StreamsEnding::Finished { end, summary } => {
-                let verdict = verdict(alloc, end)?;
-                let words = summary.words(alloc)?;
-                format!(in alloc; "{verdict}{words}\n")
-            }
-            StreamsEnding::Fault(fault) => fault_line(alloc, fault),
-        }
+/// Writes the last line where the reading of a capture ends so, with a caller's own words. Answers the exit status, which is that of a
+/// fault where the target fails. Where there is no memory for the line, that is said in its place.
+pub fn conclude_capture<E: Target>(
+    alloc: Global,
+    answer: &Result<CaptureRead, StreamsFault>,
+    words: &str,
+    mut err: E,
+) -> (u8, E)
+    ensures task { IsStatusOfTask result.0 }
+    ensures concludes { IsSome (E.contents err) →
+        Concludes words.now answer.now (written E.Target err) result.0 (written E.Target result.1) }
+{
+    let Ok(line) = capture_line(&alloc, answer, words) else {
+        return match put_text("cqlp: no memory\n", &mut err) {
+            Ok(()) | Err(SinkFault) => (FAULT, err),
+        };
+    };
+    match put_text(&line, &mut err) {
+        Ok(()) => (capture_status(answer), err),
+        Err(SinkFault) => (FAULT, err),
     }
+}
+
+/// The line of a capture that was read to its end.
+fn read_line<'a, A: Allocator>(
+    alloc: &'a A,
+    read: &CaptureRead,
+    words: &str,
+) -> Result<String<&'a A>, AllocError>
+    ensures { IfOk result (λ line. string_bytes line ≡ read_line words.now read.now) }
+{
+    let mut line = verdict(alloc, &read.end)?;
+    push_head(&mut line, read)?;
+    push_own(&mut line, words)?;
+    push_table(&mut line, &read.connections)?;
+    push_reasons(&mut line, &read.packets.without)?;
+    line.push_str("\n")?;
+    Ok(line)
 }
 
 fn verdict<A: Allocator>(alloc: A, end: &CaptureEnd) -> Result<String<A>, AllocError>

@@ -4,7 +4,7 @@ use crate::files::FileFault;
 
 /// What ends the reading of a capture early.
 #[derive(Clone, Copy, Debug, PartialEq, Eq)]
-pub(crate) enum StreamsFault {
+pub enum StreamsFault {
     /// The input failed.
     Read,
     /// The output failed.

@@ -1,6 +1,14 @@
-//! Laws of what is recorded of a capture. No code needs them.
+//! Laws of what is told and recorded of a capture. No code needs them.
 
-ghost use Rattle.cqlp_streams.specs.Laws.{GetWhatIsTold, OneAnswerOfWriteStreams};
+ghost use Rattle.cqlp_streams.specs.Laws.{GetWhatIsTold, OneAnswerOfReadCapture, OneAnswerOfWriteStreams};
+
+use crate::listener::Listener;
+
+/// Where no fault comes, `read_capture` has one answer: from the same bytes and ports the same view of a listener that was the same
+/// before, and the same word on what the capture was.
+pub fn one_answer_of_read_capture<L: Listener>()
+    ensures { OneAnswerOfReadCapture L.after L.faulted }
+{}
 
 /// Where nothing outside fails, `write_streams` has one answer: from the same bytes and ports the same calls of files, the same lines and
 /// the same status.

@@ -6,7 +6,7 @@ use cqlp_segment::NoSegment;
 
 /// Packets without a segment of TCP, by the reason. A number stays at 2^64 - 1 once it is there.
 #[derive(Clone, Copy, Debug, PartialEq, Eq)]
-pub(crate) struct WithoutCounts {
+pub struct WithoutCounts {
     pub unknown_link: u64,
     pub cut_in_link: u64,
     pub not_ip: u64,
@@ -20,7 +20,7 @@ pub(crate) struct WithoutCounts {
 
 /// What packets were. A number stays at 2^64 - 1 once it is there.
 #[derive(Clone, Copy, Debug, PartialEq, Eq)]
-pub(crate) struct PacketCounts {
+pub struct PacketCounts {
     pub packets: u64,
     /// Packets with a segment of TCP.
     pub segments: u64,
@@ -51,7 +51,7 @@ impl WithoutCounts {
 impl PacketCounts {
     ghost use Rattle.cqlp_streams.specs.Packets.{with_segment, without_segment};
 
-    pub const NONE: PacketCounts = PacketCounts {
+    pub(crate) const NONE: PacketCounts = PacketCounts {
         packets: 0,
         segments: 0,
         without: WithoutCounts {
@@ -68,7 +68,7 @@ impl PacketCounts {
     };
 
     /// Counts a packet with a segment.
-    pub fn count_segment(&mut self)
+    pub(crate) fn count_segment(&mut self)
         ensures { self.new ≡ with_segment self.old }
     {
         self.packets = self.packets.saturating_add(1);
@@ -76,7 +76,7 @@ impl PacketCounts {
     }
 
     /// Counts a packet without one.
-    pub fn count_without(&mut self, why: NoSegment)
+    pub(crate) fn count_without(&mut self, why: NoSegment)
         ensures { self.new ≡ without_segment why self.old }
     {
         self.packets = self.packets.saturating_add(1);

@@ -1,12 +1,14 @@
 //! What is told of connections, on its way to files and to lines.
 
-ghost use Rattle.std.specs.Prelude.{◌≡◌, IsSome, Some};
+ghost use Rattle.std.specs.Prelude.{◌≡◌, ◌++◌, IfOk, IsSome, Some, string_bytes};
 ghost use Rattle.cqlp_text.specs.Outputs.{written};
 ghost use Rattle.cqlp_streams.specs.Recordings.{Puts};
+ghost use Rattle.cqlp_streams.specs.Endings.{sums_words};
 
 use crate::fault::StreamsFault;
 use crate::files::{StreamFile, StreamFiles};
 use crate::lines::{connection_line, gap_line};
+use crate::listener::Listener;
 use crate::saying::Saying;
 use cqlp_connections::{ConnectionTotals, DirectionTotals, Told};
 use cqlp_grammar::SinkFault;
@@ -51,6 +53,14 @@ impl Sums {
         self.gaps = self.gaps.saturating_add(totals.gaps);
         self.bytes = self.bytes.saturating_add(totals.bytes);
     }
+
+    /// Their words in the last line.
+    pub fn words<A: Allocator>(&self, alloc: A) -> Result<String<A>, AllocError>
+        ensures { IfOk result (λ words. string_bytes words ≡ sums_words self.now) }
+    {
+        let Sums { gaps, bytes } = *self;
+        format!(in alloc; "gaps {gaps} bytes {bytes}")
+    }
 }
 
 impl<F: StreamFiles, O: Target, A: Allocator + Drop> Recorder<F, O, A> {
@@ -90,10 +100,11 @@ impl<F: StreamFiles, O: Target, A: Allocator> Recorder<F, O, A> {
 
     /// Takes what is told: a new connection's files are made, bytes are appended to the file of their direction, a gap is a line,
     /// and the files of a connection that has left are kept, and then its line is written.
-    pub fn record(&mut self, saying: &Saying<'_>) -> Result<(), StreamsFault>
+    fn record(&mut self, saying: &Saying<'_>) -> Result<(), StreamsFault>
         ensures { IsSome self.old.output.given → Records self.old (saying_of saying.now) result self.new }
     {
         match saying {
+            Saying::Packet { .. } => Ok(()),
             Saying::New { number } => Ok(self.files.make(*number)?),
             Saying::Of { told, bytes } => self.record_step(told, bytes),
             Saying::Left(totals) => self.keep(totals),
@@ -140,6 +151,24 @@ impl<F: StreamFiles, O: Target, A: Allocator> Recorder<F, O, A> {
             Ok(line) => put_line(&line, &mut self.out),
             Err(AllocError) => Err(StreamsFault::NoMemory),
         }
+    }
+}
+
+impl<F: StreamFiles, O: Target, A: Allocator> Listener for Recorder<F, O, A> {
+    ghost use Rattle.cqlp_streams.specs.Recordings.{Recording, StopsAt, with_saying};
+
+    ghost View = { Recording };
+
+    ghost view = { λ r. r };
+
+    ghost tells = { λ r. IsSome r.output.given };
+
+    ghost after = { with_saying };
+
+    ghost faulted = { StopsAt };
+
+    fn hear(&mut self, saying: &Saying<'_>) -> Result<(), StreamsFault> {
+        self.record(saying)
     }
 }
 

@@ -1,18 +1,17 @@
 //! A reader's capture, split into the streams of its connections.
 
-ghost use Rattle.std.specs.Prelude.{◌≡◌, ◌<◌, IfOk, List, ℕ, IsSome, None, Some, length};
+ghost use Rattle.std.specs.Prelude.{◌≡◌, ◌<◌, IfOk, OnOk, List, ℕ, None, Some, length};
+ghost use Rattle.cqlp_note.specs.Streams.{CountsUp};
 ghost use Rattle.cqlp_capture.specs.Progress.{ending, new_state};
 ghost use Rattle.cqlp_connections.specs.Tables.{Table};
 ghost use Rattle.cqlp_streams.specs.Packets.{new_split};
-ghost use Rattle.cqlp_streams.specs.Recordings.{Recording};
 ghost use Rattle.cqlp_streams.specs.Captures.{DrainsTo, EndsTo, Has, IsAtEndOf, SplitsTo};
 
 use crate::fault::StreamsFault;
-use crate::files::StreamFiles;
-use crate::recorder::Recorder;
+use crate::listener::Listener;
 use crate::splitter::Splitter;
 use cqlp_capture::{CaptureEnd, CaptureReader, CaptureStep};
-use cqlp_note::{IoFault, Source, Target};
+use cqlp_note::{IoFault, Source};
 use std::alloc::Allocator;
 
 /// How the events of a piece end.
@@ -22,33 +21,37 @@ enum Drained {
     Refused,
 }
 
-/// Records all that a reader's capture tells, from at most `turns` reads into the buffer, none of which is tried again. No read is made
-/// before all is recorded that the bytes read so far tell. At the end of the file, or where it is refused, all connections leave.
-pub(crate) fn split<R: Source, F: StreamFiles, O: Target, A: Allocator, B: Allocator, C: Allocator>(
+/// Tells all that a reader's capture tells, from at most `turns` reads into the buffer, none of which is tried again. No read is made
+/// before the listener has got all that the bytes read so far tell. At the end of the file, or where it is refused, all connections
+/// leave.
+pub(crate) fn split<R: Source, L: Listener, A: Allocator, B: Allocator>(
     reader: &mut CaptureReader<A>,
     splitter: &mut Splitter<B>,
     input: &mut R,
     buffer: &mut [u8],
-    recorder: &mut Recorder<F, O, C>,
+    listener: &mut L,
     turns: u64,
 ) -> Result<CaptureEnd, StreamsFault>
     requires room { 0 < length buffer.old }
     requires reader { reader.old ≡ new_state reader.old.limits }
     requires splitter { splitter.old ≡ new_split splitter.old.table }
-    ensures { (xs : List ℕ) → R.left input.old ≡ Some xs → IsSome recorder.old.output.given →
-        SplitsTo reader.old.limits splitter.old.table recorder.old xs result (R.left input.new) splitter.new recorder.new }
+    ensures tells { L.tells listener.old → OnOk result (L.tells listener.new) }
+    ensures splits { (xs : List ℕ) → R.left input.old ≡ Some xs → L.tells listener.old →
+        (made : ℕ) × CountsUp made (R.reads input.old) (R.reads input.new)
+        × SplitsTo L.after L.faulted reader.old.limits splitter.old.table turns made (L.view listener.old) xs result
+        (R.left input.new) splitter.new (L.view listener.new) }
 {
     for turn in 0..turns {
         let count = match input.read(buffer) {
             Ok(count) => count,
             Err(IoFault) => return Err(StreamsFault::Read),
         };
-        let drained = drain(reader, splitter, &buffer[..count], recorder)?;
+        let drained = drain(reader, splitter, &buffer[..count], listener)?;
         match drained {
-            Drained::Refused => return end_all(reader, splitter, recorder),
+            Drained::Refused => return end_all(reader, splitter, listener),
             Drained::More => {
                 if count == 0 {
-                    return end_all(reader, splitter, recorder);
+                    return end_all(reader, splitter, listener);
                 }
             }
         }
@@ -56,16 +59,17 @@ pub(crate) fn split<R: Source, F: StreamFiles, O: Target, A: Allocator, B: Alloc
     Err(StreamsFault::TooManyTurns)
 }
 
-/// Records what the events of a piece tell.
-fn drain<F: StreamFiles, O: Target, A: Allocator, B: Allocator, C: Allocator>(
+/// Tells what the events of a piece tell.
+fn drain<L: Listener, A: Allocator, B: Allocator>(
     reader: &mut CaptureReader<A>,
     splitter: &mut Splitter<B>,
     piece: &[u8],
-    recorder: &mut Recorder<F, O, C>,
+    listener: &mut L,
 ) -> Result<Drained, StreamsFault>
-    ensures { (t : Table) (before : Recording) (s : List ℕ) → IsSome before.output.given →
-        Has t before s reader.old splitter.old recorder.old → reader.old.refusal ≡ None →
-        DrainsTo reader.old.limits t before s piece.now result reader.new splitter.new recorder.new }
+    ensures tells { L.tells listener.old → OnOk result (L.tells listener.new) }
+    ensures drains { (t : Table) (before : L.View) (s : List ℕ) → L.tells listener.old →
+        Has L.after t before s reader.old splitter.old (L.view listener.old) → reader.old.refusal ≡ None →
+        DrainsTo L.after L.faulted reader.old.limits t before s piece.now result reader.new splitter.new (L.view listener.new) }
 {
     let mut used = 0;
     for turn in 0..u64::MAX {
@@ -78,7 +82,7 @@ fn drain<F: StreamFiles, O: Target, A: Allocator, B: Allocator, C: Allocator>(
                 ..
             } => {
                 used += taken;
-                splitter.take(&event, recorder)?;
+                splitter.take(&event, listener)?;
             }
         }
     }
@@ -86,17 +90,18 @@ fn drain<F: StreamFiles, O: Target, A: Allocator, B: Allocator, C: Allocator>(
 }
 
 /// At the end of the file, or where it is refused: has all connections leave. Says how the file ends.
-fn end_all<F: StreamFiles, O: Target, A: Allocator, B: Allocator, C: Allocator>(
+fn end_all<L: Listener, A: Allocator, B: Allocator>(
     reader: &CaptureReader<A>,
     splitter: &mut Splitter<B>,
-    recorder: &mut Recorder<F, O, C>,
+    listener: &mut L,
 ) -> Result<CaptureEnd, StreamsFault>
-    ensures ends { (t : Table) (before : Recording) (s : List ℕ) (read : List ℕ) → IsSome before.output.given →
-        (h : Has t before s reader.now splitter.old recorder.old) → IsAtEndOf reader.now read s h.events →
-        EndsTo reader.now.limits t before read result splitter.new recorder.new }
+    ensures tells { L.tells listener.old → OnOk result (L.tells listener.new) }
+    ensures ends { (t : Table) (turns : ℕ) (made : ℕ) (before : L.View) (s : List ℕ) (read : List ℕ) → L.tells listener.old →
+        (h : Has L.after t before s reader.now splitter.old (L.view listener.old)) → IsAtEndOf reader.now read s h.events →
+        EndsTo L.after L.faulted reader.now.limits t turns made before read result splitter.new (L.view listener.new) }
     ensures end { IfOk result (λ e. e ≡ ending reader.now) }
 {
     let end = reader.finish();
-    splitter.finish(recorder)?;
+    splitter.finish(listener)?;
     Ok(end)
 }

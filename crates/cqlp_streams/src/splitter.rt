@@ -3,13 +3,11 @@
 ghost use Rattle.std.specs.Prelude.{◌≡◌};
 
 use crate::fault::StreamsFault;
-use crate::files::StreamFiles;
+use crate::listener::Listener;
 use crate::packets::PacketCounts;
-use crate::recorder::Recorder;
-use crate::telling::{finish_all, take_segment};
+use crate::telling::{finish_all, take_timed};
 use cqlp_capture::{CaptureEvent, PacketHead};
 use cqlp_connections::{ConnectionCounts, Connections};
-use cqlp_note::Target;
 use cqlp_segment::{LinkType, NoSegment, Segment, read_segment};
 use std::alloc::{Allocator, Global};
 use std::marker::Model;
@@ -18,8 +16,9 @@ use std::marker::Model;
 #[derive(Drop)]
 pub(crate) struct Splitter<A: Allocator = Global> {
     connections: Connections<A>,
-    /// Of the packet that began: the link type's number, and how many bytes it had.
+    /// Of the packet that began: the link type's number, when it was captured, and how many bytes it had.
     link: u16,
+    time: Option<u64>,
     original: u32,
     counts: PacketCounts,
 }
@@ -29,14 +28,15 @@ impl<A: Allocator> Model for Splitter<A> {
 
     ghost Value = { SplitState };
 
-    ghost view = { λ s. split_state s.connections s.link s.original s.counts };
+    ghost view = { λ s. split_state s.connections s.link s.time s.original s.counts };
 }
 
 impl<A: Allocator> Splitter<A> {
     ghost use Rattle.cqlp_segment.specs.Fields.{Gives};
     ghost use Rattle.cqlp_segment.specs.Segment.{seen};
     ghost use Rattle.cqlp_capture.specs.Progress.{event_of};
-    ghost use Rattle.cqlp_streams.specs.Tellings.{FinishesAll, Recorded, is_done};
+    ghost use Rattle.cqlp_streams.specs.Listening.{Gets};
+    ghost use Rattle.cqlp_streams.specs.Tellings.{FinishesAll, is_done};
     ghost use Rattle.cqlp_streams.specs.Packets.{Finishes, TellsEvent, TellsRead, new_split, segment_in};
 
     /// At the start of a capture, whose connections have this table.
@@ -46,6 +46,7 @@ impl<A: Allocator> Splitter<A> {
         Splitter {
             connections,
             link: 0,
+            time: None,
             original: 0,
             counts: PacketCounts::NONE,
         }
@@ -65,14 +66,14 @@ impl<A: Allocator> Splitter<A> {
         self.connections.counts()
     }
 
-    /// Takes the next event, and records what is told of connections.
-    pub fn take<F: StreamFiles, O: Target, B: Allocator>(
+    /// Takes the next event, and tells what it tells of connections.
+    pub fn take<L: Listener>(
         &mut self,
         event: &CaptureEvent<'_>,
-        recorder: &mut Recorder<F, O, B>,
+        listener: &mut L,
     ) -> Result<(), StreamsFault>
-        ensures { Recorded (λ ss. TellsEvent (is_done result) self.old (event_of event.now) ss self.new)
-            recorder.old result recorder.new }
+        ensures { Gets L.Listener (λ ss. TellsEvent (is_done result) self.old (event_of event.now) ss self.new)
+            listener.old result listener.new }
     {
         match event {
             CaptureEvent::Section(_) | CaptureEvent::Interface(_) => Ok(()),
@@ -80,39 +81,37 @@ impl<A: Allocator> Splitter<A> {
                 self.begin_packet(head);
                 Ok(())
             }
-            CaptureEvent::Data(packet) => self.take_packet(packet, recorder),
+            CaptureEvent::Data(packet) => self.take_packet(packet, listener),
         }
     }
 
     /// At the end of the capture: has all connections leave.
-    pub fn finish<F: StreamFiles, O: Target, B: Allocator>(
-        &mut self,
-        recorder: &mut Recorder<F, O, B>,
-    ) -> Result<(), StreamsFault>
-        ensures { Recorded (λ ss. Finishes (is_done result) self.old ss self.new) recorder.old result recorder.new }
+    pub fn finish<L: Listener>(&mut self, listener: &mut L) -> Result<(), StreamsFault>
+        ensures { Gets L.Listener (λ ss. Finishes (is_done result) self.old ss self.new) listener.old result listener.new }
     {
-        finish_all(&mut self.connections, recorder)
+        finish_all(&mut self.connections, listener)
     }
 
     fn begin_packet(&mut self, head: &PacketHead)
-        ensures { self.new ≡ record self.old { link = head.now.link; original = head.now.original } }
+        ensures { self.new ≡ record self.old { link = head.now.link; time = head.now.time; original = head.now.original } }
     {
         self.link = head.link;
+        self.time = head.time;
         self.original = head.original;
     }
 
-    fn take_packet<F: StreamFiles, O: Target, B: Allocator>(
+    fn take_packet<L: Listener>(
         &mut self,
         packet: &[u8],
-        recorder: &mut Recorder<F, O, B>,
+        listener: &mut L,
     ) -> Result<(), StreamsFault>
-        ensures { Recorded (λ ss. TellsRead (segment_in self.old packet.now) (is_done result) self.old ss self.new)
-            recorder.old result recorder.new }
+        ensures { Gets L.Listener (λ ss. TellsRead (segment_in self.old packet.now) (is_done result) self.old ss self.new)
+            listener.old result listener.new }
     {
         match self.segment_in(packet) {
             Ok(segment) => {
                 self.counts.count_segment();
-                take_segment(&mut self.connections, &segment, recorder)
+                take_timed(self.time, &mut self.connections, &segment, listener)
             }
             Err(why) => {
                 self.counts.count_without(why);

@@ -1,41 +1,34 @@
 //! What a capture was, in numbers.
 
 ghost use Rattle.std.specs.Prelude.{◌≡◌, ◌++◌, IfOk, string_bytes};
-ghost use Rattle.cqlp_streams.specs.Endings.{count_words, reason_words, summary_words, table_words};
+ghost use Rattle.cqlp_streams.specs.Endings.{count_words, head_words, named_words, own_words, reason_words, table_words};
 
-use crate::packets::{PacketCounts, WithoutCounts};
-use crate::recorder::Sums;
+use crate::capturing::CaptureRead;
+use crate::packets::WithoutCounts;
 use cqlp_connections::ConnectionCounts;
 use std::alloc::{AllocError, Allocator};
 
-/// What a capture was, in numbers.
-#[derive(Clone, Copy, Debug, PartialEq, Eq)]
-pub(crate) struct Summary {
-    pub packets: PacketCounts,
-    pub connections: ConnectionCounts,
-    pub sums: Sums,
+/// Appends how many packets, segments and connections there were.
+pub(crate) fn push_head<A: Allocator>(
+    words: &mut String<A>,
+    read: &CaptureRead,
+) -> Result<(), AllocError>
+    ensures { IfOk result (λ _. string_bytes words.new ≡ string_bytes words.old ++ head_words read.now) }
+{
+    push_named(words, "packets", read.packets.packets)?;
+    push_named(words, "segments", read.packets.segments)?;
+    push_named(words, "connections", read.connections.connections)
 }
 
-impl Summary {
-    /// Its words, each after a space: five numbers, and those of the others that are not 0.
-    pub fn words<A: Allocator>(&self, alloc: A) -> Result<String<A>, AllocError>
-        ensures { IfOk result (λ words. string_bytes words ≡ summary_words self.now) }
-    {
-        let packets = self.packets.packets;
-        let segments = self.packets.segments;
-        let connections = self.connections.connections;
-        let Sums { gaps, bytes } = self.sums;
-        let mut words = format!(in alloc;
-            " packets {packets} segments {segments} connections {connections} gaps {gaps} bytes {bytes}"
-        )?;
-        push_table(&mut words, &self.connections)?;
-        push_reasons(&mut words, &self.packets.without)?;
-        Ok(words)
-    }
+/// Appends a caller's own words, after a space.
+pub(crate) fn push_own<A: Allocator>(words: &mut String<A>, own: &str) -> Result<(), AllocError>
+    ensures { IfOk result (λ _. string_bytes words.new ≡ string_bytes words.old ++ own_words own.now) }
+{
+    write!(words, " {own}")
 }
 
 /// Appends what connections did not take.
-fn push_table<A: Allocator>(
+pub(crate) fn push_table<A: Allocator>(
     words: &mut String<A>,
     counts: &ConnectionCounts,
 ) -> Result<(), AllocError>
@@ -46,7 +39,7 @@ fn push_table<A: Allocator>(
 }
 
 /// Appends how many packets had no segment, by the reason.
-fn push_reasons<A: Allocator>(
+pub(crate) fn push_reasons<A: Allocator>(
     words: &mut String<A>,
     counts: &WithoutCounts,
 ) -> Result<(), AllocError>
@@ -70,5 +63,12 @@ fn push_count<A: Allocator>(words: &mut String<A>, name: &str, count: u64) -> Re
     if count == 0 {
         return Ok(());
     }
+    push_named(words, name, count)
+}
+
+/// Appends a name and a number, each after a space.
+fn push_named<A: Allocator>(words: &mut String<A>, name: &str, count: u64) -> Result<(), AllocError>
+    ensures { IfOk result (λ _. string_bytes words.new ≡ string_bytes words.old ++ named_words name.now count) }
+{
     write!(words, " {name} {count}")
 }

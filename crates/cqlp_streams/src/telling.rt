@@ -1,108 +1,122 @@
-//! What a table of connections tells, on its way to a recorder.
+//! What a table of connections tells, on its way to a listener.
 
-ghost use Rattle.std.specs.Prelude.{◌≡◌, [], List, ℕ, IsSome, length};
+ghost use Rattle.std.specs.Prelude.{◌≡◌, [], List, ℕ, length};
 ghost use Rattle.cqlp_segment.specs.Segment.{seen};
 ghost use Rattle.cqlp_reassembly.specs.Streams.{IsWithin};
-ghost use Rattle.cqlp_connections.specs.Tables.{Table};
-ghost use Rattle.cqlp_streams.specs.Sayings.{Of, Saying};
-ghost use Rattle.cqlp_streams.specs.Recordings.{Records};
-ghost use Rattle.cqlp_streams.specs.Tellings.{DepartsNext, FinishesAll, HandsHeld, HandsOn, Leaves, PullsAll, Recorded, RecordsAll};
-ghost use Rattle.cqlp_streams.specs.Tellings.{TellsOf, TellsSeen, beginning, is_done};
+ghost use Rattle.cqlp_streams.specs.Sayings.{Of, saying_of};
+ghost use Rattle.cqlp_streams.specs.Listening.{Gets, GetsAll, GetsOne};
+ghost use Rattle.cqlp_streams.specs.Tellings.{FinishesAll, GetsNext, HandsHeld, HandsOn, Leaves, PullsAll, TellsOf, TellsSeen, TellsTimed};
+ghost use Rattle.cqlp_streams.specs.Tellings.{beginning, is_done};
 
 use crate::fault::StreamsFault;
-use crate::files::StreamFiles;
-use crate::recorder::Recorder;
+use crate::listener::Listener;
 use crate::saying::Saying;
 use cqlp_connections::{Connections, Departure, Sight, Told};
-use cqlp_note::Target;
 use cqlp_reassembly::StreamStep;
 use cqlp_segment::Segment;
 use std::alloc::Allocator;
 
-/// Has the connection of a segment take it, where need be after another one has left, and records what is told.
-pub(crate) fn take_segment<F: StreamFiles, O: Target, A: Allocator, B: Allocator>(
+/// Tells a listener something.
+fn hear<L: Listener>(saying: &Saying<'_>, listener: &mut L) -> Result<(), StreamsFault>
+    ensures { L.tells listener.old → GetsOne L.Listener listener.old (saying_of saying.now) result listener.new }
+{
+    listener.hear(saying)
+}
+
+/// Tells that a packet with a segment comes that was captured at this time, and then what the segment tells.
+pub(crate) fn take_timed<L: Listener, A: Allocator>(
+    time: Option<u64>,
     connections: &mut Connections<A>,
     segment: &Segment<'_>,
-    recorder: &mut Recorder<F, O, B>,
+    listener: &mut L,
 ) -> Result<(), StreamsFault>
-    ensures { Recorded (λ ss. TellsOf (is_done result) (seen segment.now) connections.old ss connections.new)
-        recorder.old result recorder.new }
+    ensures { Gets L.Listener (λ ss. TellsTimed (is_done result) time (seen segment.now) connections.old ss connections.new)
+        listener.old result listener.new }
+{
+    hear(&Saying::Packet { time }, listener)?;
+    take_segment(connections, segment, listener)
+}
+
+/// Has the connection of a segment take it, where need be after another one has left, and tells what that tells.
+fn take_segment<L: Listener, A: Allocator>(
+    connections: &mut Connections<A>,
+    segment: &Segment<'_>,
+    listener: &mut L,
+) -> Result<(), StreamsFault>
+    ensures { Gets L.Listener (λ ss. TellsOf (is_done result) (seen segment.now) connections.old ss connections.new)
+        listener.old result listener.new }
 {
     let sight = connections.take(&segment.head);
     let Sight::Crowded { .. } = sight else {
-        return take_seen(sight, connections, segment, recorder);
+        return take_seen(sight, connections, segment, listener);
     };
-    leave(connections, recorder)?;
+    leave(connections, listener)?;
     let again = connections.take(&segment.head);
-    take_seen(again, connections, segment, recorder)
+    take_seen(again, connections, segment, listener)
 }
 
-/// Records what is told of a segment that was seen so. No connection has to leave twice.
-fn take_seen<F: StreamFiles, O: Target, A: Allocator, B: Allocator>(
+/// Tells what is told of a segment that was seen so. For one segment one connection leaves at most, which makes room for it.
+fn take_seen<L: Listener, A: Allocator>(
     sight: Sight,
     connections: &mut Connections<A>,
     segment: &Segment<'_>,
-    recorder: &mut Recorder<F, O, B>,
+    listener: &mut L,
 ) -> Result<(), StreamsFault>
-    ensures { Recorded (λ ss. TellsSeen sight (is_done result) (seen segment.now) connections.old ss connections.new)
-        recorder.old result recorder.new }
+    ensures { Gets L.Listener (λ ss. TellsSeen sight (is_done result) (seen segment.now) connections.old ss connections.new)
+        listener.old result listener.new }
 {
     match sight {
         Sight::Foreign => Ok(()),
         Sight::Taken { number, is_new, .. } => {
-            begin(is_new, number, recorder)?;
-            pull_all(connections, segment, recorder)
+            begin(is_new, number, listener)?;
+            pull_all(connections, segment, listener)
         }
-        Sight::Crowded { .. } => Err(StreamsFault::TooManyTurns),
+        Sight::Crowded { .. } => Ok(()),
     }
 }
 
-/// Records that a connection begins, if it does.
-fn begin<F: StreamFiles, O: Target, B: Allocator>(
-    is_new: bool,
-    number: u64,
-    recorder: &mut Recorder<F, O, B>,
-) -> Result<(), StreamsFault>
-    ensures { IsSome recorder.old.output.given →
-        RecordsAll recorder.old (beginning is_new number) result recorder.new }
+/// Tells that a connection begins, if it does.
+fn begin<L: Listener>(is_new: bool, number: u64, listener: &mut L) -> Result<(), StreamsFault>
+    ensures { L.tells listener.old →
+        GetsAll L.Listener listener.old (beginning is_new number) result listener.new }
 {
     if is_new {
-        recorder.record(&Saying::New { number })
+        hear(&Saying::New { number }, listener)
     } else {
         Ok(())
     }
 }
 
-/// Records all that a segment tells which was taken.
-fn pull_all<F: StreamFiles, O: Target, A: Allocator, B: Allocator>(
+/// Tells all that a segment tells which was taken.
+fn pull_all<L: Listener, A: Allocator>(
     connections: &mut Connections<A>,
     segment: &Segment<'_>,
-    recorder: &mut Recorder<F, O, B>,
+    listener: &mut L,
 ) -> Result<(), StreamsFault>
-    ensures { Recorded (λ ss. PullsAll (is_done result) (seen segment.now) connections.old ss connections.new)
-        recorder.old result recorder.new }
+    ensures { Gets L.Listener (λ ss. PullsAll (is_done result) (seen segment.now) connections.old ss connections.new)
+        listener.old result listener.new }
 {
     for turn in 0..u64::MAX {
         let Some(told) = connections.pull(segment) else {
             return Ok(());
         };
-        tell(connections, told, segment.payload, recorder)?;
+        tell(connections, told, segment.payload, listener)?;
     }
     Err(StreamsFault::TooManyTurns)
 }
 
 /// Has the connection leave that has to.
-fn leave<F: StreamFiles, O: Target, A: Allocator, B: Allocator>(
+fn leave<L: Listener, A: Allocator>(
     connections: &mut Connections<A>,
-    recorder: &mut Recorder<F, O, B>,
+    listener: &mut L,
 ) -> Result<(), StreamsFault>
-    ensures { Recorded (λ ss. Leaves (is_done result) connections.old ss connections.new)
-        recorder.old result recorder.new }
+    ensures { Gets L.Listener (λ ss. Leaves (is_done result) connections.old ss connections.new)
+        listener.old result listener.new }
 {
     for turn in 0..u64::MAX {
         match connections.leave() {
-            Departure::Told(told) => tell_last(connections, told, recorder)?,
-            Departure::Left(totals) => return recorder.record(&Saying::Left(totals)),
+            Departure::Told(told) => tell_last(connections, told, listener)?,
+            Departure::Left(totals) => return hear(&Saying::Left(totals), listener),
             Departure::Empty => return Ok(()),
         }
     }
@@ -110,15 +124,15 @@ fn leave<F: StreamFiles, O: Target, A: Allocator, B: Allocator>(
 }
 
 /// Has all connections leave.
-pub(crate) fn finish_all<F: StreamFiles, O: Target, A: Allocator, B: Allocator>(
+pub(crate) fn finish_all<L: Listener, A: Allocator>(
     connections: &mut Connections<A>,
-    recorder: &mut Recorder<F, O, B>,
+    listener: &mut L,
 ) -> Result<(), StreamsFault>
-    ensures { Recorded (λ ss. FinishesAll (is_done result) connections.old ss connections.new)
-        recorder.old result recorder.new }
+    ensures { Gets L.Listener (λ ss. FinishesAll (is_done result) connections.old ss connections.new)
+        listener.old result listener.new }
 {
     for turn in 0..u64::MAX {
-        let is_done = finish_one(connections, recorder)?;
+        let is_done = finish_one(connections, listener)?;
         if is_done {
             return Ok(());
         }
@@ -126,85 +140,85 @@ pub(crate) fn finish_all<F: StreamFiles, O: Target, A: Allocator, B: Allocator>(
     Err(StreamsFault::TooManyTurns)
 }
 
-/// Records the next that is told of the connection that leaves first. Says whether there was none.
-fn finish_one<F: StreamFiles, O: Target, A: Allocator, B: Allocator>(
+/// Tells the next that is told of the connection that leaves first. Says whether there was none.
+fn finish_one<L: Listener, A: Allocator>(
     connections: &mut Connections<A>,
-    recorder: &mut Recorder<F, O, B>,
+    listener: &mut L,
 ) -> Result<bool, StreamsFault>
-    ensures { IsSome recorder.old.output.given →
-        DepartsNext result connections.old recorder.old connections.new recorder.new }
+    ensures { L.tells listener.old →
+        GetsNext L.Listener result connections.old listener.old connections.new listener.new }
 {
     match connections.finish() {
         Departure::Told(told) => {
-            tell_last(connections, told, recorder)?;
+            tell_last(connections, told, listener)?;
             Ok(false)
         }
         Departure::Left(totals) => {
-            recorder.record(&Saying::Left(totals))?;
+            hear(&Saying::Left(totals), listener)?;
             Ok(false)
         }
         Departure::Empty => Ok(true),
     }
 }
 
-/// Records what a segment tells, with its bytes: those of the payload that are named, or those that the connection held.
-fn tell<F: StreamFiles, O: Target, A: Allocator, B: Allocator>(
+/// Tells what a segment tells, with its bytes: those of the payload that are named, or those that the connection held.
+fn tell<L: Listener, A: Allocator>(
     connections: &mut Connections<A>,
     told: Told,
     payload: &[u8],
-    recorder: &mut Recorder<F, O, B>,
+    listener: &mut L,
 ) -> Result<(), StreamsFault>
     requires { IsWithin told.step (length payload.now) }
-    ensures { IsSome recorder.old.output.given → (bytes : List ℕ)
+    ensures { L.tells listener.old → (bytes : List ℕ)
         × HandsOn told.step told.way payload.now connections.old bytes connections.new
-        × Records recorder.old (Of told bytes) result recorder.new }
+        × GetsOne L.Listener listener.old (Of told bytes) result listener.new }
 {
     match told.step {
         StreamStep::Payload { from, count } => {
             let bytes = &payload[from..from + count];
-            recorder.record(&Saying::Of { told, bytes })
+            hear(&Saying::Of { told, bytes }, listener)
         }
-        StreamStep::Held { .. } => tell_held(connections, told, recorder),
+        StreamStep::Held { .. } => tell_held(connections, told, listener),
         StreamStep::Began { .. }
         | StreamStep::Gap { .. }
         | StreamStep::Ended
         | StreamStep::Reset
-        | StreamStep::Done => recorder.record(&Saying::Of { told, bytes: &[] }),
+        | StreamStep::Done => hear(&Saying::Of { told, bytes: &[] }, listener),
     }
 }
 
-/// Records what is told of a connection without a segment: of bytes those that the connection held.
-fn tell_last<F: StreamFiles, O: Target, A: Allocator, B: Allocator>(
+/// Tells what is told of a connection without a segment: of bytes those that the connection held.
+fn tell_last<L: Listener, A: Allocator>(
     connections: &mut Connections<A>,
     told: Told,
-    recorder: &mut Recorder<F, O, B>,
+    listener: &mut L,
 ) -> Result<(), StreamsFault>
-    ensures { IsSome recorder.old.output.given → (bytes : List ℕ)
+    ensures { L.tells listener.old → (bytes : List ℕ)
         × HandsOn told.step told.way [] connections.old bytes connections.new
-        × Records recorder.old (Of told bytes) result recorder.new }
+        × GetsOne L.Listener listener.old (Of told bytes) result listener.new }
 {
     match told.step {
-        StreamStep::Held { .. } => tell_held(connections, told, recorder),
-        StreamStep::Payload { .. } => recorder.record(&Saying::Of { told, bytes: &[] }),
+        StreamStep::Held { .. } => tell_held(connections, told, listener),
+        StreamStep::Payload { .. } => hear(&Saying::Of { told, bytes: &[] }, listener),
         StreamStep::Began { .. }
         | StreamStep::Gap { .. }
         | StreamStep::Ended
         | StreamStep::Reset
-        | StreamStep::Done => recorder.record(&Saying::Of { told, bytes: &[] }),
+        | StreamStep::Done => hear(&Saying::Of { told, bytes: &[] }, listener),
     }
 }
 
-/// Records what is told with the next bytes that the connection held.
-fn tell_held<F: StreamFiles, O: Target, A: Allocator, B: Allocator>(
+/// Tells what is told with the next bytes that the connection held.
+fn tell_held<L: Listener, A: Allocator>(
     connections: &mut Connections<A>,
     told: Told,
-    recorder: &mut Recorder<F, O, B>,
+    listener: &mut L,
 ) -> Result<(), StreamsFault>
-    ensures { IsSome recorder.old.output.given → (bytes : List ℕ)
-        × HandsHeld told.way connections.old bytes connections.new × Records recorder.old (Of told bytes) result recorder.new }
+    ensures { L.tells listener.old → (bytes : List ℕ)
+        × HandsHeld told.way connections.old bytes connections.new × GetsOne L.Listener listener.old (Of told bytes) result listener.new }
 {
     let mut buffer = [0; 4096];
     let count = connections.read(told.way, &mut buffer);
     let bytes = &buffer[..count];
-    recorder.record(&Saying::Of { told, bytes })
+    hear(&Saying::Of { told, bytes }, listener)
 }

@@ -1,14 +1,14 @@
-use Rattle.std.proofs.Common.{◌≡◌, ◌≤◌, ◌++◌, ℕ, List, IsSome, None, length, take}
+use Rattle.std.proofs.Common.{◌≡◌, ◌≤◌, ◌++◌, ℕ, List, None, length, take}
 use Rattle.cqlp_connections.specs.Tables.{Table}
-use Rattle.cqlp_streams.specs.Recordings.{Recording}
 use Rattle.cqlp_streams.specs.Captures.{Has}
 use Rattle.cqlp_streams.proofs.running.drain.Given as goal
 
--- what the events of the bytes used tell was recorded
+-- the listener has got what the events of the bytes used tell
 abbrev pub invariant-loop-turn : goal.invariant-loop-turn
 invariant-loop-turn g l = record {
   within : l.used ≤ length l.piece;
   limits : l.reader.limits ≡ l.fn.reader.limits;
   free : l.fn.reader.refusal ≡ None → l.reader.refusal ≡ None;
-  has : (t : Table) (before : Recording) (s : List ℕ) → IsSome before.output.given → Has t before s l.fn.reader l.fn.splitter l.fn.recorder → Has t before (s ++ take l.used l.piece) l.reader l.splitter l.recorder;
+  tells : g.L.Listener.tells l.fn.listener → g.L.Listener.tells l.listener;
+  has : (t : Table) (before : g.L.Listener.View) (s : List ℕ) → g.L.Listener.tells l.fn.listener → Has g.L.Listener.after t before s l.fn.reader l.fn.splitter (g.L.Listener.view l.fn.listener) → (h : Has g.L.Listener.after t before (s ++ take l.used l.piece) l.reader l.splitter (g.L.Listener.view l.listener)) × (l.turn ≤ length h.events);
 }

@@ -1,10 +1,13 @@
-use Rattle.std.proofs.Common.{◌≡◌, ℕ, List, IsSome, Some, length}
+use Rattle.std.proofs.Common.{◌≡◌, ℕ, List, Some, length}
+use Rattle.cqlp_note.specs.Streams.{CountsUp}
 use Rattle.cqlp_streams.proofs.Splitting.{SoFar}
 use Rattle.cqlp_streams.proofs.running.split.Given as goal
 
--- what the bytes read tell was recorded
+-- the listener has got what the bytes read tell
 abbrev pub invariant-loop-turn : goal.invariant-loop-turn
 invariant-loop-turn g l = record {
   long : length l.buffer ≡ length l.fn.buffer;
-  so_far : (xs : List ℕ) → g.R.Source.left l.fn.input ≡ Some xs → IsSome l.fn.recorder.output.given → SoFar l.fn.reader.limits l.fn.splitter.table l.fn.recorder xs (g.R.Source.left l.input) l.reader l.splitter l.recorder;
+  tells : g.L.Listener.tells l.fn.listener → g.L.Listener.tells l.listener;
+  counted : CountsUp l.turn (g.R.Source.reads l.fn.input) (g.R.Source.reads l.input);
+  so_far : (xs : List ℕ) → g.R.Source.left l.fn.input ≡ Some xs → g.L.Listener.tells l.fn.listener → SoFar g.L.Listener.after l.fn.reader.limits l.fn.splitter.table (g.L.Listener.view l.fn.listener) xs (g.R.Source.left l.input) l.reader l.splitter (g.L.Listener.view l.listener);
 }

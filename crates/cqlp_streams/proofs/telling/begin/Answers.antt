@@ -1,6 +1,6 @@
 use Rattle.cqlp_streams.specs.Sayings.{New}
-use Rattle.cqlp_streams.proofs.Told.{records_single}
+use Rattle.cqlp_streams.proofs.Getting.{gets_single}
 use Rattle.cqlp_streams.proofs.telling.begin.Goals as goal
 
 pub returns-then-is_new : goal.returns-then-is_new
-returns-then-is_new g c = λ known. rw c.if-is_new.true (records_single c.args.recorder.now c.record.new.self (New c.args.number) c.record.result (c.record.ensures known))
+returns-then-is_new g c = λ tells. rw c.if-is_new.true (gets_single g.L.Listener c.args.listener.now c.hear.new.listener (New c.args.number) c.hear.result (c.hear.ensures tells))

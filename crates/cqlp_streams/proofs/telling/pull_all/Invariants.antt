@@ -1,12 +1,14 @@
-use Rattle.std.proofs.Common.{◌≡◌, List, IsSome}
+use Rattle.std.proofs.Common.{◌≡◌, List, length}
 use Rattle.cqlp_segment.specs.Segment.{seen}
 use Rattle.cqlp_streams.specs.Sayings.{Saying}
-use Rattle.cqlp_streams.specs.Recordings.{with_sayings}
+use Rattle.cqlp_streams.specs.Listening.{after_all}
 use Rattle.cqlp_streams.specs.Tellings.{Path, Pulls}
 use Rattle.cqlp_streams.proofs.telling.pull_all.Given as goal
 
--- what was told so far was recorded
+-- the listener has got what was told so far
 abbrev pub invariant-loop-turn : goal.invariant-loop-turn
 invariant-loop-turn g l =
-    IsSome l.fn.recorder.output.given → (ss : List Saying)
-    × Path (Pulls (seen l.segment)) l.fn.connections ss l.connections × (l.recorder ≡ with_sayings l.fn.recorder ss)
+    let m = g.L.Listener in
+    m.tells l.fn.listener → (ss : List Saying)
+    × Path (Pulls (seen l.segment)) l.fn.connections ss l.connections
+    × m.tells l.listener × (m.view l.listener ≡ after_all m.after (m.view l.fn.listener) ss) × (length ss ≡ l.turn)

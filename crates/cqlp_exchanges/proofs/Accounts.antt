@@ -1,0 +1,108 @@
+-- What is told, one thing after the other.
+use Rattle.std.proofs.Common.{◌≡◌, ◌∙◌, ℕ, Bool, true, false, List, [], ◌∷◌, ◌++◌, if◌then◌else◌, Option, Some, None, IsSome, Result, Ok, Err, IsErr, refl, sym, ap, subst, append_assoc}
+use Rattle.std.specs.Io.KnownBytes.{append_known}
+use Rattle.cqlp_grammar.specs.declared.sink.SinkFault.{SinkFault}
+use Rattle.cqlp_text.specs.Outputs.{Output, WritesText, output, with_text}
+use Rattle.cqlp_text.specs.Written.{Written, Writes}
+use Rattle.cqlp_text.proofs.Writing.{known_text}
+use Rattle.cqlp_watch.specs.declared.paired.Paired.{Paired}
+use Rattle.cqlp_exchanges.specs.declared.filter.ExchangeFilter.{ExchangeFilter}
+use Rattle.cqlp_exchanges.specs.declared.sums.ExchangeSums.{ExchangeSums}
+use Rattle.cqlp_exchanges.specs.Accounts.{Account, Stops, StopsAmong, Tells, TellsAll, account, with_all, with_one, with_told}
+use Rattle.cqlp_exchanges.specs.Filters.{shows}
+use Rattle.cqlp_exchanges.specs.Lines.{line}
+
+pub with_others : (n : ℕ) (ts us : List (Paired (List ℕ))) (a : Account) → with_all n (ts ++ us) a ≡ with_all n us (with_all n ts a)
+with_others n [] us a = refl
+with_others n (t ∷ ts) us a = with_others n ts us (with_told n t a)
+
+known_more : (given : Option (List ℕ)) (text : List ℕ) → IsSome given → IsSome (append_known given text)
+known_more None text k = k
+known_more (Some bytes) text k = refl
+
+known_shown : (d : Bool) (o : Option (List ℕ)) (text : List ℕ) (a b : Account) → a.output.given ≡ append_known o text → b.output.given ≡ o → IsSome o → IsSome (if d then a else b).output.given
+known_shown true o text a b e f k = subst (λ z. IsSome z) (sym e) (known_more o text k)
+known_shown false o text a b e f k = subst (λ z. IsSome z) (sym f) k
+
+known_told : (n : ℕ) (t : Paired (List ℕ)) (a : Account) → IsSome a.output.given → IsSome (with_told n t a).output.given
+known_told n t a k = known_shown (shows a.filter n t) a.output.given (line a.first n t) _ _ refl refl k
+
+-- it is still known what the output was given
+pub still_known : (n : ℕ) (ts : List (Paired (List ℕ))) (a : Account) → IsSome a.output.given → IsSome (with_all n ts a).output.given
+still_known n [] a k = k
+still_known n (t ∷ ts) a k = still_known n ts (with_told n t a) (known_told n t a k)
+
+-- ---- one, or none
+
+pub stops_one : (n : ℕ) (t : Paired (List ℕ)) (old new : Account) → Stops n t old new → StopsAmong n (t ∷ []) old new
+stops_one n t old new h = record { front = []; one = t; rest = []; parts = refl; stops = h }
+
+pub tells_one : (n : ℕ) (t : Paired (List ℕ)) (old new : Account) (r : Result (Unit {0}) SinkFault) → Tells n t old r new → TellsAll n (t ∷ []) old r new
+tells_one n t old new (Ok u) h = h
+tells_one n t old new (Err e) h = stops_one n t old new h
+
+-- ---- some, and then others
+
+pub tells_more : (n : ℕ) (ts us : List (Paired (List ℕ))) (old mid new : Account) (r : Result (Unit {0}) SinkFault) → mid ≡ with_all n ts old → TellsAll n us mid r new → TellsAll n (ts ++ us) old r new
+tells_more n ts us old mid new (Ok u) e h = h ∙ ap (with_all n us) e ∙ sym (with_others n ts us old)
+tells_more n ts us old mid new (Err x) e h = record {
+  front = ts ++ h.front;
+  one = h.one;
+  rest = h.rest;
+  parts = ap (λ z. ts ++ z) h.parts ∙ sym (append_assoc ts h.front (h.one ∷ h.rest));
+  stops = subst (λ (z : Account). Stops n h.one z new) (ap (with_all n h.front) e ∙ sym (with_others n ts h.front old)) h.stops;
+}
+
+-- a fault among some is one among more
+pub stops_before : (n : ℕ) (ts us : List (Paired (List ℕ))) (old new : Account) → StopsAmong n ts old new → StopsAmong n (ts ++ us) old new
+stops_before n ts us old new h = record {
+  front = h.front;
+  one = h.one;
+  rest = h.rest ++ us;
+  parts = ap (λ z. z ++ us) h.parts ∙ append_assoc h.front (h.one ∷ h.rest) us;
+  stops = h.stops;
+}
+
+-- a `?` that ends the function
+pub stops_as : (n : ℕ) (ts : List (Paired (List ℕ))) (old new : Account) (r : Result (Unit {0}) SinkFault) → IsErr r → StopsAmong n ts old new → TellsAll n ts old r new
+stops_as n ts old new (Ok u) stops h = cc
+stops_as n ts old new (Err e) stops h = h
+
+-- after some, a fault among others
+pub stops_after : (n : ℕ) (ts us more : List (Paired (List ℕ))) (old mid new : Account) → mid ≡ with_all n ts old → StopsAmong n us mid new → StopsAmong n (ts ++ (us ++ more)) old new
+stops_after n ts us more old mid new e h =
+    let fault : SinkFault = record {} in
+    tells_more n ts (us ++ more) old mid new (Err fault) e (stops_before n us more mid new h)
+
+-- ---- a line that is written, or not
+
+shown_is : {X : Type 0} (d : Bool) (x y : X) → d ≡ true → (if d then x else y) ≡ x
+shown_is true x y e = refl
+shown_is false x y e = absurd cc
+
+hidden_is : {X : Type 0} (d : Bool) (x y : X) → d ≡ false → (if d then x else y) ≡ y
+hidden_is true x y e = absurd cc
+hidden_is false x y e = refl
+
+told_text : (f : ExchangeFilter) (first : Option ℕ) (s : ExchangeSums) (old new : Output) (n : ℕ) (t : Paired (List ℕ)) (r : Result (Unit {0}) SinkFault) → shows f n t ≡ true → WritesText old (line first n t) r new → Tells n t (account f first s old) r (account f first (with_one t s) new)
+told_text f first s old new n t (Ok u) is writes =
+    ap (λ (o : Output). account f first (with_one t s) o) writes ∙ sym (shown_is (shows f n t) (account f first (with_one t s) (with_text old (line first n t))) (account f first (with_one t s) old) is)
+told_text f first s old new n t (Err e) is writes = record { is_shown = is; rest = refl; within = writes }
+
+-- a line was passed on, before and after which nothing waits
+wrote : (w v : Written) (text : List ℕ) (r : Result (Unit {0}) SinkFault) → w.waiting ≡ [] → v.waiting ≡ [] → Writes w text r v → IsSome w.given → WritesText (output w.given w.failures) text r (output v.given v.failures)
+wrote w v text r e g writes known =
+    known_text w v w.given v.given w.failures v.failures w.lender text r (λ i. record { given = w.given; failures = w.failures; waiting = e i; lender = w.lender }) refl g writes known
+
+pub told_shown : (self : Account) (f : ExchangeFilter) (first : Option ℕ) (s s' : ExchangeSums) (w v : Written) (n : ℕ) (t : Paired (List ℕ)) (r : Result (Unit {0}) SinkFault) → account f first s (output w.given w.failures) ≡ self → s' ≡ with_one t s → w.waiting ≡ [] → v.waiting ≡ [] → shows f n t ≡ true → Writes w (line first n t) r v → IsSome self.output.given → Tells n t self r (account f first s' (output v.given v.failures))
+told_shown self f first s s' w v n t r view sums e g is writes known =
+    let holds : IsSome w.given → Tells n t (account f first s (output w.given w.failures)) r (account f first s' (output v.given v.failures)) =
+    λ k. subst (λ (z : ExchangeSums). Tells n t (account f first s (output w.given w.failures)) r (account f first z (output v.given v.failures))) (sym sums)
+    (told_text f first s (output w.given w.failures) (output v.given v.failures) n t r is (wrote w v (line first n t) r e g writes k)) in
+    subst (λ (a : Account). IsSome a.output.given → Tells n t a r (account f first s' (output v.given v.failures))) view holds known
+
+pub told_hidden : (self : Account) (f : ExchangeFilter) (first : Option ℕ) (s s' : ExchangeSums) (o : Output) (n : ℕ) (t : Paired (List ℕ)) → account f first s o ≡ self → s' ≡ with_one t s → shows f n t ≡ false → account f first s' o ≡ with_told n t self
+told_hidden self f first s s' o n t view sums is =
+    ap (λ (z : ExchangeSums). account f first z o) sums
+    ∙ sym (hidden_is (shows f n t) (account f first (with_one t s) (with_text o (line first n t))) (account f first (with_one t s) o) is)
+    ∙ ap (with_told n t) view

@@ -1,0 +1,5 @@
+pub mod Accounts
+pub mod Heard
+pub mod Talks
+pub mod Texts
+pub mod WrittenOnce

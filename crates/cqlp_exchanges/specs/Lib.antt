@@ -1,0 +1,13 @@
+pub mod Spans
+pub mod Times
+pub mod Filters
+pub mod Statements
+pub mod Replies
+pub mod Shown
+pub mod Lines
+pub mod Accounts
+pub mod Talks
+pub mod Tables
+pub mod Listening
+pub mod Capturing
+pub mod Laws

@@ -1,0 +1,91 @@
+-- The line of what is told of a request, a response, or both.
+use Rattle.std.specs.Prelude.{ℕ, ◌+◌, Bool, true, false, List, [], ◌∷◌, codes, decimal, Option, Some, None}
+use Rattle.std.specs.Fmt.{signed_decimal}
+use Rattle.std.specs.Int.{w32, to_be_bytes}
+use Rattle.hex.specs.Hex.{encode_lower}
+use Rattle.cqlp_note.specs.Heading.{has, beside_number}
+use Rattle.cqlp_text.specs.Names.{opcode_name}
+use Rattle.cqlp_text.specs.Text.{hex_text}
+use Rattle.cqlp_watch.specs.declared.message.Frame.{Frame}
+use Rattle.cqlp_watch.specs.declared.message.Message.{Message}
+use Rattle.cqlp_watch.specs.declared.paired.Paired.{Paired}
+use Rattle.cqlp_watch.specs.declared.paired.Paired.TheVariants.{Exchange, Unanswered, Unasked, Event}
+use Rattle.cqlp_exchanges.specs.declared.reply.Reply.{Reply}
+use Rattle.cqlp_exchanges.specs.declared.reply.Reply.TheVariants as reply_as
+use Rattle.cqlp_exchanges.specs.declared.span.Unit.TheVariants.{Second, Millisecond}
+use Rattle.cqlp_exchanges.specs.Replies.{error_names, kind_names, reply}
+use Rattle.cqlp_exchanges.specs.Shown.{shown_text}
+use Rattle.cqlp_exchanges.specs.Spans.{time_between}
+use Rattle.cqlp_exchanges.specs.Statements.{Said, Text, Id, statement}
+use Rattle.cqlp_exchanges.specs.Times.{joined, time_text}
+
+-- ---- what a request asks to be done, after a space
+
+-- two points behind what is not all of it
+abbrev pub more : (is_whole : Bool) → List ℕ
+more true = []
+more false = codes ".."
+
+abbrev pub said_text : Said → List ℕ
+said_text (Text text is_whole) = joined (codes " \"" ∷ shown_text text ∷ codes "\"" ∷ more is_whole ∷ [])
+said_text (Id id is_whole) = joined (codes " " ∷ encode_lower id ∷ more is_whole ∷ [])
+
+abbrev pub statement_text : Option Said → List ℕ
+statement_text None = []
+statement_text (Some s) = said_text s
+
+-- ---- what a response is
+
+-- the name that a table has beside a number, or the number's four bytes
+abbrev pub name_or_number : Option (List ℕ) → ℕ → List ℕ
+name_or_number (Some name) n = name
+name_or_number None n = hex_text (to_be_bytes w32 n)
+
+abbrev pub kind_text : Option (List ℕ) → (kind : ℕ) → List ℕ
+kind_text (Some name) kind = name
+kind_text None kind = joined (codes "RESULT " ∷ hex_text (to_be_bytes w32 kind) ∷ [])
+
+abbrev pub reply_text : Reply → List ℕ
+reply_text (reply_as.Result kind) = kind_text (beside_number kind kind_names) kind
+reply_text (reply_as.Error code) = joined (codes "ERROR " ∷ name_or_number (beside_number code error_names) code ∷ [])
+reply_text (reply_as.Other o) = opcode_name o
+
+-- ---- a frame: its bytes, with those of its header; and whether some of them were not captured, or its body is compressed
+
+abbrev pub cut_mark : (is_whole : Bool) → List ℕ
+cut_mark true = []
+cut_mark false = codes " cut"
+
+abbrev pub compressed_mark : (is_compressed : Bool) → List ℕ
+compressed_mark true = codes " compressed"
+compressed_mark false = []
+
+abbrev pub frame_text : Frame → List ℕ
+frame_text f =
+    joined (codes " " ∷ decimal (9 + f.header.length) ∷ cut_mark f.whole ∷ compressed_mark (has f.header.flags 0x01) ∷ [])
+
+abbrev pub request_text : Message (List ℕ) → List ℕ
+request_text m =
+    joined (opcode_name m.frame.header.opcode ∷ statement_text (statement m.frame.header m.kept) ∷ frame_text m.frame ∷ [])
+
+abbrev pub response_text : Message (List ℕ) → List ℕ
+response_text m = joined (reply_text (reply m.frame.header m.kept) ∷ frame_text m.frame ∷ [])
+
+-- ---- the line
+
+-- when a frame began, in seconds since the first packet, and where: the connection's number and the stream id
+abbrev pub place_text : (first : Option ℕ) → (number : ℕ) → Frame → List ℕ
+place_text first number f =
+    joined (time_text Second (time_between first f.begun) ∷ codes " " ∷ decimal number ∷ codes ":"
+    ∷ signed_decimal f.header.stream ∷ codes " " ∷ [])
+
+-- from the first byte of a request to the last one of its response
+abbrev pub took_text : (request response : Frame) → List ℕ
+took_text q r = joined (codes " " ∷ time_text Millisecond (time_between q.begun r.ended) ∷ codes " ms\n" ∷ [])
+
+abbrev pub line : (first : Option ℕ) → (number : ℕ) → Paired (List ℕ) → List ℕ
+line first number (Exchange q r) =
+    joined (place_text first number q.frame ∷ request_text q ∷ codes " -> " ∷ response_text r ∷ took_text q.frame r.frame ∷ [])
+line first number (Unanswered q) = joined (place_text first number q.frame ∷ request_text q ∷ codes " -> nothing\n" ∷ [])
+line first number (Unasked r) = joined (place_text first number r.frame ∷ codes "nothing -> " ∷ response_text r ∷ codes "\n" ∷ [])
+line first number (Event e) = joined (place_text first number e.frame ∷ response_text e ∷ codes "\n" ∷ [])

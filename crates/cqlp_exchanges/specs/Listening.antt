@@ -1,0 +1,61 @@
+-- What listens to what is told of the connections of a capture, and writes the lines of their exchanges.
+use Rattle.std.specs.Prelude.{◌≡◌, ℕ, List, [], replicate, Option, None, Result, Ok, Err}
+use Rattle.cqlp_text.specs.Outputs.{Output}
+use Rattle.cqlp_streams.specs.declared.fault.StreamsFault.{StreamsFault}
+use Rattle.cqlp_streams.specs.declared.fault.StreamsFault.TheVariants as fault
+use Rattle.cqlp_streams.specs.Sayings.{Saying, Packet, New, Of, Left}
+use Rattle.cqlp_exchanges.specs.declared.exchanges.ExchangeLimits.{ExchangeLimits}
+use Rattle.cqlp_exchanges.specs.declared.filter.ExchangeFilter.{ExchangeFilter}
+use Rattle.cqlp_exchanges.specs.Accounts.{Account, StopsAmong, account, no_sums, since, with_all}
+use Rattle.cqlp_exchanges.specs.Tables.{Change, Slot, begins, change, leaves, tells, unused}
+
+-- the connections that are watched, when the present packet came, and what was told of them
+pub record Listening : Type 0 where
+  pub slots : List Slot
+  pub time : Option ℕ
+  pub account : Account
+
+abbrev pub listening : List Slot → Option ℕ → Account → Listening
+listening slots time a = record { slots = slots; time = time; account = a }
+
+abbrev pub new_listening : ExchangeLimits → ExchangeFilter → Output → Listening
+new_listening limits filter out =
+    listening (replicate limits.connections (unused limits.waiting)) None (account filter None no_sums out)
+
+-- ---- what a saying does: which connection it is of, what is told of that, and the time
+
+abbrev pub change_of : Saying → Listening → Change
+change_of (Packet time) w = change [] w.slots
+change_of (New n) w = begins n w.slots
+change_of (Of told bytes) w = tells w.time told bytes w.slots
+change_of (Left totals) w = leaves totals.number w.slots
+
+abbrev pub number_of : Saying → ℕ
+number_of (Packet time) = 0
+number_of (New n) = n
+number_of (Of told bytes) = told.number
+number_of (Left totals) = totals.number
+
+abbrev pub time_after : Saying → (before : Option ℕ) → Option ℕ
+time_after (Packet time) before = time
+time_after s before = before
+
+abbrev pub account_at : Saying → Account → Account
+account_at (Packet time) a = since time a
+account_at s a = a
+
+abbrev pub after_change : Change → Saying → Listening → Listening
+after_change x s w = listening x.slots (time_after s w.time) (with_all (number_of s) x.told (account_at s w.account))
+
+abbrev pub with_saying : Listening → Saying → Listening
+with_saying w s = after_change (change_of s w) s w
+
+-- ---- a fault: the output failed within the line of one of the exchanges that are told, after all before it
+
+abbrev pub StopsAt : Listening → Saying → StreamsFault → Listening → Type 0
+StopsAt old s fault.Write new = StopsAmong (number_of s) (change_of s old).told old.account new.account
+StopsAt old s e new = ⊥
+
+abbrev pub Hears : Listening → Saying → Result (Unit {0}) StreamsFault → Listening → Type 0
+Hears old s (Ok u) new = new ≡ with_saying old s
+Hears old s (Err e) new = StopsAt old s e new

@@ -1,0 +1,171 @@
+//! What listens to the connections of a capture.
+
+ghost use Rattle.std.specs.Prelude.{◌≡◌, ◌≤◌, IfErr, IfOk, IsSome, replicate, vec_len};
+ghost use Rattle.cqlp_text.specs.Outputs.{written};
+ghost use Rattle.cqlp_exchanges.specs.Tables.{unused};
+
+use crate::filter::ExchangeFilter;
+use crate::sums::ExchangeSums;
+use crate::table::Table;
+use crate::teller::Teller;
+use cqlp_connections::{ConnectionTotals, Told};
+use cqlp_grammar::SinkFault;
+use cqlp_note::Target;
+use cqlp_streams::{Listener, Saying, StreamsFault};
+use std::alloc::{AllocError, Allocator, Global};
+use std::marker::Model;
+
+/// How much is watched at one time.
+#[derive(Clone, Copy, Debug, PartialEq, Eq)]
+pub struct ExchangeLimits {
+    /// Connections.
+    pub connections: usize,
+    /// Requests of each connection that wait for their responses, at least one.
+    pub waiting: u16,
+}
+
+impl ExchangeLimits {
+    /// As many connections as `cqlp_streams::LIMITS` has, and 256 requests of each: some 21 MB.
+    pub const DEFAULT: ExchangeLimits = ExchangeLimits {
+        connections: 256,
+        waiting: 256,
+    };
+}
+
+/// How many bytes of a line wait at most.
+const ROOM: usize = 4096;
+
+/// Pairs the requests on the connections of a capture with their responses, and writes the line of each that its filter shows, when the last
+/// byte of the response is there. A connection that begins where as many are watched as there may be is not. All memory is taken in `new`.
+#[derive(Drop)]
+pub struct Exchanges<O: Target, A: Allocator = Global> {
+    table: Table<A>,
+    /// When the present packet was captured.
+    time: Option<u64>,
+    teller: Teller<O, A>,
+}
+
+impl<O: Target, A: Allocator> Model for Exchanges<O, A> {
+    ghost use Rattle.cqlp_exchanges.specs.Listening.{Listening, listening};
+
+    ghost Value = { Listening };
+
+    ghost view = { λ e. listening e.table e.time e.teller };
+}
+
+impl<O: Target, A: Allocator> Exchanges<O, A> {
+    ghost use Rattle.cqlp_streams.specs.Sayings.{Left, New, Of, Packet, saying_of};
+    ghost use Rattle.cqlp_exchanges.specs.Listening.{Hears, new_listening, with_saying};
+
+    /// Nothing is watched, and lines go to this output. All memory is taken here, in one request for each connection of the limit and two more; where
+    /// it is not granted, the output is given back.
+    pub fn new(alloc: A, limits: ExchangeLimits, filter: ExchangeFilter, out: O) -> Result<Self, O>
+    where
+        A: Clone,
+        requires { 1 ≤ limits.waiting }
+        ensures ok { IfOk result (λ e. e ≡ new_listening limits filter (written O.Target out)) }
+        ensures err { IfErr result (λ o. written O.Target o ≡ written O.Target out) }
+    {
+        match take_memory(alloc, limits) {
+            Ok((table, buffer)) => Ok(Exchanges {
+                table,
+                time: None,
+                teller: Teller::new(filter, out, buffer),
+            }),
+            Err(AllocError) => Err(out),
+        }
+    }
+
+    /// The output, and what was told.
+    pub fn into_parts(self) -> (O, ExchangeSums)
+        ensures output { written O.Target result.0 ≡ self.account.output }
+        ensures sums { result.1 ≡ self.account.sums }
+    {
+        let Exchanges {
+            table: _,
+            time: _,
+            teller,
+        } = self;
+        teller.into_parts()
+    }
+
+    /// Takes what is told next of the connections.
+    fn take(&mut self, saying: &Saying<'_>) -> Result<(), StreamsFault>
+        ensures { IsSome self.old.account.output.given → Hears self.old (saying_of saying.now) result self.new }
+    {
+        match saying {
+            Saying::Packet { time } => {
+                self.note_time(*time);
+                Ok(())
+            }
+            Saying::New { number } => {
+                self.begin(*number);
+                Ok(())
+            }
+            Saying::Of { told, bytes } => self.hear_told(told, bytes),
+            Saying::Left(totals) => self.let_leave(totals),
+        }
+    }
+
+    fn note_time(&mut self, time: Option<u64>)
+        ensures { self.new ≡ with_saying self.old (Packet time) }
+    {
+        self.time = time;
+        self.teller.note_time(time);
+    }
+
+    fn begin(&mut self, number: u64)
+        ensures { self.new ≡ with_saying self.old (New number) }
+    {
+        self.table.begin(number);
+    }
+
+    fn hear_told(&mut self, told: &Told, bytes: &[u8]) -> Result<(), StreamsFault>
+        ensures { IsSome self.old.account.output.given → Hears self.old (Of told.now bytes.now) result self.new }
+    {
+        match self.table.hear(self.time, told, bytes, &mut self.teller) {
+            Ok(()) => Ok(()),
+            Err(SinkFault) => Err(StreamsFault::Write),
+        }
+    }
+
+    fn let_leave(&mut self, totals: &ConnectionTotals) -> Result<(), StreamsFault>
+        ensures { IsSome self.old.account.output.given → Hears self.old (Left totals.now) result self.new }
+    {
+        match self.table.leave(totals.number, &mut self.teller) {
+            Ok(()) => Ok(()),
+            Err(SinkFault) => Err(StreamsFault::Write),
+        }
+    }
+}
+
+/// A table of free slots, and the buffer of a line.
+fn take_memory<A: Allocator + Clone>(
+    alloc: A,
+    limits: ExchangeLimits,
+) -> Result<(Table<A>, Vec<u8, A>), AllocError>
+    ensures table { IfOk result (λ p. p.0 ≡ replicate limits.connections (unused limits.waiting)) }
+    ensures buffer { IfOk result (λ p. 128 ≤ vec_len p.1) }
+{
+    let table = Table::new(alloc.clone()?, limits.connections, limits.waiting)?;
+    let buffer = vec![in alloc; 0; ROOM]?;
+    Ok((table, buffer))
+}
+
+impl<O: Target, A: Allocator> Listener for Exchanges<O, A> {
+    ghost use Rattle.cqlp_exchanges.specs.Listening.{Listening, StopsAt, with_saying};
+
+    ghost View = { Listening };
+
+    ghost view = { λ e. e };
+
+    ghost tells = { λ e. IsSome e.account.output.given };
+
+    ghost after = { with_saying };
+
+    ghost faulted = { StopsAt };
+
+    fn hear(&mut self, saying: &Saying<'_>) -> Result<(), StreamsFault> {
+        self.take(saying)
+    }
+}

@@ -1,0 +1,293 @@
+//! The line of what is told of a request, a response, or both.
+
+ghost use Rattle.std.specs.Prelude.{◌≡◌, [], None};
+ghost use Rattle.std.specs.Fmt.{signed_decimal};
+ghost use Rattle.cqlp_text.specs.Written.{Writes};
+ghost use Rattle.cqlp_exchanges.specs.Lines.{compressed_mark, cut_mark, frame_text, kind_text, line, more, name_or_number, place_text};
+ghost use Rattle.cqlp_exchanges.specs.Lines.{reply_text, request_text, response_text, said_text, statement_text, took_text};
+ghost use Rattle.cqlp_exchanges.specs.Statements.{said_of};
+ghost use Rattle.std.specs.Prelude.{option_map};
+ghost use Rattle.cqlp_watch.specs.declared.paired.Paired.TheVariants.{Exchange, Unanswered, Unasked, Event};
+
+use crate::reply::{Reply, error_name, kind_name, reply_of};
+use crate::shown::put_shown_text;
+use crate::span::{Unit, put_time, time_between};
+use crate::statement::{Statement, has, statement_of};
+use cqlp_grammar::SinkFault;
+use cqlp_note::{Header, Target};
+use cqlp_text::{Buffered, Pen, TextWriter, opcode_name};
+use cqlp_watch::{Frame, Kept, Message, Paired};
+use std::alloc::Allocator;
+
+/// Takes the line of what is told of the connection with this number, in a capture whose first packet came at this time, and passes it on.
+pub(crate) fn put_line<W: Target, A: Allocator>(
+    writer: &mut TextWriter<Buffered<W, A>>,
+    first: Option<u64>,
+    number: u64,
+    told: &Paired<Kept>,
+) -> Result<(), SinkFault>
+    ensures line { Writes writer.old (line first number told.now) result writer.new }
+    ensures passed { writer.new.waiting ≡ [] }
+{
+    put_paired(writer, first, number, told)?;
+    writer.pass_on()
+}
+
+/// Takes the line of what is told.
+fn put_paired<P: Pen>(
+    writer: &mut TextWriter<P>,
+    first: Option<u64>,
+    number: u64,
+    told: &Paired<Kept>,
+) -> Result<(), SinkFault>
+    ensures { Writes writer.old (line first number told.now) result writer.new }
+{
+    match told {
+        Paired::Exchange { request, response } => {
+            put_exchange(writer, first, number, request, response)
+        }
+        Paired::Unanswered { request } => put_unanswered(writer, first, number, request),
+        Paired::Unasked { response } => put_unasked(writer, first, number, response),
+        Paired::Event { event } => put_event(writer, first, number, event),
+    }
+}
+
+fn put_exchange<P: Pen>(
+    writer: &mut TextWriter<P>,
+    first: Option<u64>,
+    number: u64,
+    request: &Message<Kept>,
+    response: &Message<Kept>,
+) -> Result<(), SinkFault>
+    ensures { Writes writer.old (line first number (Exchange request.now response.now)) result writer.new }
+{
+    put_place(writer, first, number, &request.frame)?;
+    put_request(writer, request)?;
+    writer.put(b" -> ")?;
+    put_response(writer, response)?;
+    put_took(writer, &request.frame, &response.frame)
+}
+
+fn put_unanswered<P: Pen>(
+    writer: &mut TextWriter<P>,
+    first: Option<u64>,
+    number: u64,
+    request: &Message<Kept>,
+) -> Result<(), SinkFault>
+    ensures { Writes writer.old (line first number (Unanswered request.now)) result writer.new }
+{
+    put_place(writer, first, number, &request.frame)?;
+    put_request(writer, request)?;
+    writer.put(b" -> nothing\n")
+}
+
+fn put_unasked<P: Pen>(
+    writer: &mut TextWriter<P>,
+    first: Option<u64>,
+    number: u64,
+    response: &Message<Kept>,
+) -> Result<(), SinkFault>
+    ensures { Writes writer.old (line first number (Unasked response.now)) result writer.new }
+{
+    put_place(writer, first, number, &response.frame)?;
+    writer.put(b"nothing -> ")?;
+    put_response(writer, response)?;
+    writer.put(b"\n")
+}
+
+fn put_event<P: Pen>(
+    writer: &mut TextWriter<P>,
+    first: Option<u64>,
+    number: u64,
+    event: &Message<Kept>,
+) -> Result<(), SinkFault>
+    ensures { Writes writer.old (line first number (Event event.now)) result writer.new }
+{
+    put_place(writer, first, number, &event.frame)?;
+    put_response(writer, event)?;
+    writer.put(b"\n")
+}
+
+/// Takes when a frame began, and where.
+fn put_place<P: Pen>(
+    writer: &mut TextWriter<P>,
+    first: Option<u64>,
+    number: u64,
+    frame: &Frame,
+) -> Result<(), SinkFault>
+    ensures { Writes writer.old (place_text first number frame.now) result writer.new }
+{
+    let since = time_between(first, frame.begun);
+    put_time(writer, Unit::Second, since)?;
+    writer.put(b" ")?;
+    writer.put_number(number)?;
+    writer.put(b":")?;
+    put_stream(writer, &frame.header)?;
+    writer.put(b" ")
+}
+
+/// Takes a stream id.
+fn put_stream<P: Pen>(writer: &mut TextWriter<P>, header: &Header) -> Result<(), SinkFault>
+    ensures { Writes writer.old (signed_decimal header.now.stream) result writer.new }
+{
+    writer.put_signed(i64::from(header.stream))
+}
+
+/// Takes how long a response took.
+fn put_took<P: Pen>(
+    writer: &mut TextWriter<P>,
+    request: &Frame,
+    response: &Frame,
+) -> Result<(), SinkFault>
+    ensures { Writes writer.old (took_text request.now response.now) result writer.new }
+{
+    let took = time_between(request.begun, response.ended);
+    writer.put(b" ")?;
+    put_time(writer, Unit::Millisecond, took)?;
+    writer.put(b" ms\n")
+}
+
+fn put_request<P: Pen>(writer: &mut TextWriter<P>, request: &Message<Kept>) -> Result<(), SinkFault>
+    ensures { Writes writer.old (request_text request.now) result writer.new }
+{
+    let statement = statement_of(&request.frame.header, request.kept.as_slice());
+    writer.put_str(opcode_name(request.frame.header.opcode))?;
+    put_statement(writer, &statement)?;
+    put_frame(writer, &request.frame)
+}
+
+fn put_response<P: Pen>(
+    writer: &mut TextWriter<P>,
+    response: &Message<Kept>,
+) -> Result<(), SinkFault>
+    ensures { Writes writer.old (response_text response.now) result writer.new }
+{
+    let reply = reply_of(&response.frame.header, response.kept.as_slice());
+    put_reply(writer, reply)?;
+    put_frame(writer, &response.frame)
+}
+
+/// Takes how many bytes a frame has, and what is missing of it.
+fn put_frame<P: Pen>(writer: &mut TextWriter<P>, frame: &Frame) -> Result<(), SinkFault>
+    ensures { Writes writer.old (frame_text frame.now) result writer.new }
+{
+    writer.put(b" ")?;
+    writer.put_number(9 + frame.header.length as u64)?;
+    writer.put_str(cut_mark(frame.whole))?;
+    writer.put_str(compressed_mark(has(frame.header.flags, 0x01)))
+}
+
+fn cut_mark(is_whole: bool) -> &'static str
+    ensures { result.now ≡ cut_mark is_whole }
+{
+    if is_whole { "" } else { " cut" }
+}
+
+fn compressed_mark(is_compressed: bool) -> &'static str
+    ensures { result.now ≡ compressed_mark is_compressed }
+{
+    if is_compressed { " compressed" } else { "" }
+}
+
+/// Takes what a request asks to be done, after a space.
+fn put_statement<P: Pen>(
+    writer: &mut TextWriter<P>,
+    statement: &Option<Statement<'_>>,
+) -> Result<(), SinkFault>
+    ensures { Writes writer.old (statement_text (option_map said_of statement.now)) result writer.new }
+{
+    match statement {
+        Some(said) => put_said(writer, said),
+        None => writer.put(b""),
+    }
+}
+
+fn put_said<P: Pen>(writer: &mut TextWriter<P>, statement: &Statement<'_>) -> Result<(), SinkFault>
+    ensures { Writes writer.old (said_text (said_of statement.now)) result writer.new }
+{
+    match statement {
+        Statement::Text { text, is_whole } => put_text(writer, text, *is_whole),
+        Statement::Id { id, is_whole } => put_id(writer, id, *is_whole),
+    }
+}
+
+ghost use Rattle.cqlp_exchanges.specs.Statements.{Text, Id};
+
+fn put_text<P: Pen>(writer: &mut TextWriter<P>, text: &str, is_whole: bool) -> Result<(), SinkFault>
+    ensures { Writes writer.old (said_text (Text text.now is_whole)) result writer.new }
+{
+    writer.put(b" \"")?;
+    put_shown_text(writer, text)?;
+    writer.put(b"\"")?;
+    writer.put_str(more(is_whole))
+}
+
+fn put_id<P: Pen>(writer: &mut TextWriter<P>, id: &[u8], is_whole: bool) -> Result<(), SinkFault>
+    ensures { Writes writer.old (said_text (Id id.now is_whole)) result writer.new }
+{
+    writer.put(b" ")?;
+    writer.put_hex(id)?;
+    writer.put_str(more(is_whole))
+}
+
+/// What stands behind a text that is not whole.
+fn more(is_whole: bool) -> &'static str
+    ensures { result.now ≡ more is_whole }
+{
+    if is_whole { "" } else { ".." }
+}
+
+/// Takes what a response is.
+fn put_reply<P: Pen>(writer: &mut TextWriter<P>, reply: Reply) -> Result<(), SinkFault>
+    ensures { Writes writer.old (reply_text reply) result writer.new }
+{
+    match reply {
+        Reply::Result(kind) => put_kind(writer, kind_name(kind), kind),
+        Reply::Error(code) => put_error(writer, code),
+        Reply::Other(opcode) => writer.put_str(opcode_name(opcode)),
+    }
+}
+
+ghost use Rattle.cqlp_exchanges.specs.declared.reply.Reply.TheVariants as reply_as;
+
+fn put_error<P: Pen>(writer: &mut TextWriter<P>, code: u32) -> Result<(), SinkFault>
+    ensures { Writes writer.old (reply_text (reply_as.Error code)) result writer.new }
+{
+    writer.put(b"ERROR ")?;
+    put_name(writer, error_name(code), code)
+}
+
+/// Takes the name of a kind, or where it has none the number's four bytes.
+fn put_kind<P: Pen>(
+    writer: &mut TextWriter<P>,
+    name: Option<&'static str>,
+    kind: u32,
+) -> Result<(), SinkFault>
+    ensures { Writes writer.old (kind_text (option_map (λ s. s.now) name.entry) kind) result writer.new }
+{
+    match name {
+        Some(name) => writer.put_str(name),
+        None => put_unknown_kind(writer, kind),
+    }
+}
+
+fn put_unknown_kind<P: Pen>(writer: &mut TextWriter<P>, kind: u32) -> Result<(), SinkFault>
+    ensures { Writes writer.old (kind_text None kind) result writer.new }
+{
+    writer.put(b"RESULT ")?;
+    writer.put_hex_text(&kind.to_be_bytes())
+}
+
+/// Takes a name, or where there is none the number's four bytes.
+fn put_name<P: Pen>(
+    writer: &mut TextWriter<P>,
+    name: Option<&'static str>,
+    number: u32,
+) -> Result<(), SinkFault>
+    ensures { Writes writer.old (name_or_number (option_map (λ s. s.now) name.entry) number) result writer.new }
+{
+    match name {
+        Some(name) => writer.put_str(name),
+        None => writer.put_hex_text(&number.to_be_bytes()),
+    }
+}
