@@ -303,7 +303,7 @@ pub mod capture {
 pub mod text {
     pub use crate::cqlp_json::json_line;
     pub use crate::cqlp_render::{render_events, render_rows};
-    pub use crate::cqlp_text::{Ending, PagePlace, cell_text, ending_line, event_line, field_name, kind_name, opcode_name, page_part};
+    pub use crate::cqlp_text::{Ending, PagePlace, cell_text, ending_line, event_line, opcode_name, page_part};
 }
 
 /// Memory that may be refused, and what is held in it.
