@@ -53,11 +53,49 @@ impl Ports {
     }
 }
 
-/// A capture whose connections are to be written apart.
+/// Which exchanges of a capture are written: those of which all holds that is asked for.
+#[derive(Clone, Copy, Debug, PartialEq, Eq)]
+pub struct ExchangeOptions {
+    /// Those alone whose reply's last byte came so many milliseconds after the request's first, or more.
+    pub slow: Option<u32>,
+    /// Those alone whose reply is an ERROR, and requests without a reply.
+    pub errors: bool,
+    /// Those of the connection with this number alone; the first has the number 1.
+    pub connection: Option<u64>,
+}
+
+impl ExchangeOptions {
+    fn matched(matches: &ArgMatches<'_>) -> ExchangeOptions {
+        ExchangeOptions {
+            slow: matches.get_one::<u32>("slow"),
+            errors: matches.get_flag("errors"),
+            connection: matches.get_one::<u64>("connection"),
+        }
+    }
+}
+
+/// What is done with a capture.
+#[derive(Clone, Copy, Debug, PartialEq, Eq)]
+pub enum CaptureTask<'a> {
+    /// The bytes of each direction of each connection are written to a file in the folder with this path.
+    Streams { folder: &'a str },
+    /// A line is written for each request and its reply.
+    Exchanges(ExchangeOptions),
+}
+
+impl<'a> CaptureTask<'a> {
+    fn matched(matches: &ArgMatches<'a>) -> CaptureTask<'a> {
+        match matches.get_str("streams") {
+            Some(folder) => CaptureTask::Streams { folder },
+            None => CaptureTask::Exchanges(ExchangeOptions::matched(matches)),
+        }
+    }
+}
+
+/// A task with a capture.
 #[derive(Clone, Copy, Debug, PartialEq, Eq)]
 pub struct CaptureOptions<'a> {
-    /// The path of the folder for the files of the connections' directions.
-    pub streams: &'a str,
+    pub task: CaptureTask<'a>,
     pub ports: Ports,
     /// The path of the capture's file, or `-` for standard input.
     pub file: &'a str,
@@ -69,10 +107,9 @@ impl<'a> CaptureOptions<'a> {
         ensures { IfSome result (λ options. AreWithin options.ports) }
     {
         let file = matches.get_str("file")?;
-        let streams = matches.get_str("streams")?;
         let ports = ports_of(matches)?;
         Some(CaptureOptions {
-            streams,
+            task: CaptureTask::matched(matches),
             ports,
             file,
         })

@@ -27,7 +27,7 @@ pub enum CommandLine<'a> {
     Stream(Options<'a>),
     /// A conversation of a client and a server, with this many queries: 1 to 1,000.
     Loop { queries: u16 },
-    /// The bytes of each direction of each connection of a capture, apart.
+    /// A task with a capture.
     Capture(CaptureOptions<'a>),
 }
 

@@ -6,24 +6,47 @@ ghost use Rattle.cqlp_note.specs.Limits.{first_bad};
 use clap::ArgMatches;
 use cqlp_note::Limits;
 
+/// What is done where a frame's body is refused. Where its header is, the reading ends.
+#[derive(Clone, Copy, Debug, PartialEq, Eq)]
+pub enum AtRefusal {
+    /// The reading ends there.
+    End,
+    /// What is left of the frame is passed over, and the reading goes on behind it.
+    Skip,
+}
+
+impl AtRefusal {
+    fn matched(matches: &ArgMatches<'_>) -> AtRefusal {
+        if matches.get_flag("skip") {
+            AtRefusal::Skip
+        } else {
+            AtRefusal::End
+        }
+    }
+}
+
 /// What the program does with a stream.
 #[derive(Clone, Copy, Debug, PartialEq, Eq)]
 pub enum Task {
     /// Writes its events, and the verdict beside them.
-    Show,
+    Show(AtRefusal),
+    /// Writes its events, each as a JSON object, and the verdict beside them.
+    ShowJson,
     /// Writes its pages, and the verdict beside them.
-    Rows,
+    Rows(AtRefusal),
     /// Writes the verdict alone.
-    Check,
+    Check(AtRefusal),
 }
 
 impl Task {
-    /// The task that a subcommand names.
-    fn named(name: &str) -> Option<Task> {
+    /// The task that a subcommand names, with what its words were matched to.
+    fn matched(name: &str, matches: &ArgMatches<'_>) -> Option<Task> {
+        let at_refusal = AtRefusal::matched(matches);
         match name {
-            "show" => Some(Task::Show),
-            "rows" => Some(Task::Rows),
-            "check" => Some(Task::Check),
+            "show" if matches.get_flag("json") => Some(Task::ShowJson),
+            "show" => Some(Task::Show(at_refusal)),
+            "rows" => Some(Task::Rows(at_refusal)),
+            "check" => Some(Task::Check(at_refusal)),
             _ => None,
         }
     }
@@ -46,7 +69,7 @@ impl<'a> Options<'a> {
     pub(crate) fn matched(name: &str, matches: &ArgMatches<'a>) -> Option<Options<'a>>
         ensures { IfSome result (λ options. first_bad options.limits ≡ Ok tt) }
     {
-        let task = Task::named(name)?;
+        let task = Task::matched(name, matches)?;
         let file = matches.get_str("file")?;
         let limits = limits_of(matches);
         match limits.check() {

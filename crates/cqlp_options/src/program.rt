@@ -13,19 +13,15 @@ const HELP: &str = "Each of show, rows and check takes a FILE, where - is standa
     \x20 --depth <N>    nesting of one type at most, from 1 to 64 [default: 16]\n\
     \x20 --raw          each cell as raw bytes\n\
     \x20 --parts        longer blob, custom and raw cells in parts\n\
+    \x20 --skip         where the body of a frame is refused, pass over it and read on\n\
+    \x20 --json         of show: each event as a JSON object in a line of its own\n\
     \n\
     Without words it does what `cqlp show -` does.\n\
     Example: cqlp rows capture.bin";
 
 /// The program's command line. Each task is handed on as it is made, so that no other is alive at a `?`.
 pub(crate) fn program<'a>(alloc: Global) -> Result<Command<'a>, AllocError> {
-    let program = with_task(
-        alloc,
-        without_tasks(alloc)?,
-        "show",
-        "Write a line for each event of a stream, and a verdict to standard error",
-        "Example: cqlp show --text 4096 capture.bin",
-    )?;
+    let program = with_showing(alloc, without_tasks(alloc)?)?;
     let program = with_task(
         alloc,
         program,
@@ -55,6 +51,27 @@ fn without_tasks<'a>(alloc: Global) -> Result<Command<'a>, AllocError> {
             .no_binary_name(true)
             .subcommand_required(true),
     )
+}
+
+fn with_showing<'a>(alloc: Global, program: Command<'a>) -> Result<Command<'a>, AllocError> {
+    program.subcommand(showing(alloc)?)
+}
+
+/// The subcommand `show`, which alone can write JSON.
+fn showing<'a>(alloc: Global) -> Result<Command<'a>, AllocError> {
+    let task = subcommand(
+        alloc,
+        "show",
+        "Write a line for each event of a stream, and a verdict to standard error",
+        "Example: cqlp show --text 4096 capture.bin",
+    )?;
+    task.arg(json(alloc)?)
+}
+
+fn json<'a>(alloc: Global) -> Result<Arg<'a>, AllocError> {
+    flag(alloc, "json")
+        .help("Write each event as a JSON object in a line of its own")
+        .conflicts_with("skip")
 }
 
 fn with_task<'a>(
@@ -109,25 +126,49 @@ fn with_capture<'a>(alloc: Global, program: Command<'a>) -> Result<Command<'a>, 
 fn capture<'a>(alloc: Global) -> Result<Command<'a>, AllocError> {
     Command::new(alloc, "capture")
         .about(
-            "Write the bytes of each direction of each connection in a packet capture to a file of its own, and a line for each connection",
+            "Write a line for each request in a packet capture and its reply, or with --streams the bytes of each direction of each connection to a file of its own",
         )
-        .after_help("Example: tcpdump -U -w - port 9042 | cqlp capture --streams flows -")
+        .after_help("Example: tcpdump -U -w - port 9042 | cqlp capture --slow 10 -")
         .arg(
             Arg::new(alloc, "file")
                 .value_name("FILE")
                 .required(true)
                 .help("The capture, a pcap or pcapng file; - is standard input"),
         )?
-        .arg(streams(alloc))?
-        .arg(port(alloc))
+        .arg(port(alloc))?
+        .arg(slow(alloc))?
+        .arg(flag(alloc, "errors").help(
+            "Only requests whose reply is an ERROR, and those without one",
+        ))?
+        .arg(connection(alloc))?
+        .arg(streams(alloc)?)
 }
 
-fn streams<'a>(alloc: Global) -> Arg<'a> {
+fn slow<'a>(alloc: Global) -> Arg<'a> {
+    Arg::new(alloc, "slow")
+        .long("slow")
+        .value_name("MS")
+        .value_parser(value_parser!(u32))
+        .help("Only requests whose reply took this many milliseconds or more, from 0 to 4294967295")
+}
+
+fn connection<'a>(alloc: Global) -> Arg<'a> {
+    Arg::new(alloc, "connection")
+        .long("connection")
+        .value_name("N")
+        .value_parser(value_parser!(u64).range(1..))
+        .help("Only requests of the connection with this number; the first has the number 1")
+}
+
+/// The folder for streams, which goes with no option of the lines.
+fn streams<'a>(alloc: Global) -> Result<Arg<'a>, AllocError> {
     Arg::new(alloc, "streams")
         .long("streams")
         .value_name("DIR")
-        .required(true)
         .help("The folder for the files N.requests.bin and N.responses.bin of connection N")
+        .conflicts_with("slow")?
+        .conflicts_with("errors")?
+        .conflicts_with("connection")
 }
 
 fn port<'a>(alloc: Global) -> Arg<'a> {
@@ -202,7 +243,7 @@ fn limit<'a>(alloc: Global, bound: &Bound) -> Arg<'a> {
 }
 
 /// The options without a value, and their help.
-const FLAGS: [(&str, &str); 2] = [
+const FLAGS: [(&str, &str); 3] = [
     (
         "raw",
         "Read each cell as raw bytes, without its column's type",
@@ -210,6 +251,10 @@ const FLAGS: [(&str, &str); 2] = [
     (
         "parts",
         "Give longer blob, custom and raw cells in parts of the size of --cell",
+    ),
+    (
+        "skip",
+        "Where the body of a frame is refused, pass over it and read on behind it",
     ),
 ];
 

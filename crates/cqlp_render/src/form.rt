@@ -8,6 +8,7 @@ ghost use Rattle.cqlp_render.specs.Forms.{form_after, text_of};
 ghost use Rattle.cqlp_render.specs.declared.text_form.TextForm.TheVariants as forms;
 
 use cqlp_decode::{Event, SinkFault};
+use cqlp_json::{json_line, put_json_line};
 use cqlp_note::Target;
 use cqlp_text::{PagePlace, Pen, TextWriter, event_line, page_part};
 
@@ -65,6 +66,34 @@ impl Form for Lines {
         writer: &mut TextWriter<P>,
     ) -> Result<(), SinkFault> {
         writer.put_event(at, event)
+    }
+}
+
+/// A JSON object for each event, in a line.
+#[derive(Drop)]
+pub(crate) struct JsonLines;
+
+impl Form for JsonLines {
+    ghost form = { λ _. forms.JsonLines };
+
+    #[inline]
+    fn put<W: Target>(
+        &mut self,
+        at: u64,
+        event: &Event<'_>,
+        target: &mut W,
+    ) -> Result<(), SinkFault> {
+        json_line(at, event, target)
+    }
+
+    #[inline]
+    fn write<P: Pen>(
+        &mut self,
+        at: u64,
+        event: &Event<'_>,
+        writer: &mut TextWriter<P>,
+    ) -> Result<(), SinkFault> {
+        put_json_line(at, event, writer)
     }
 }
 

@@ -14,7 +14,7 @@ ghost use Rattle.cqlp_text.specs.declared.ending.Ending.{Ending};
 ghost use Rattle.cqlp_render.specs.declared.text_form.TextForm.TheVariants as forms;
 
 use crate::buffered_sink::BufferedSink;
-use crate::form::{Form, Lines, Nothing};
+use crate::form::{Form, JsonLines, Lines, Nothing};
 use crate::render::{TextSink, run_flushing};
 use cqlp_decode::{Decoder, NewError, Outcome, SinkFault, run};
 use cqlp_note::{Limits, Source, Target};
@@ -43,6 +43,26 @@ pub fn show<R: Source, O: Target, E: Target, A: Allocator>(
         ShowsAndReports forms.Lines limits TURNS (view input.old out err) result.0 (view input.new result.1 result.2) }
 {
     let (ending, out) = write_text(alloc, limits, Lines, input, out);
+    let (status, err) = conclude(ending, err);
+    (status, out, err)
+}
+
+/// Writes the events of a stream to `out`, each as a JSON object in a line of its own, and the verdict line or fault line
+/// to `err`. Answers the exit status, and the two outputs.
+pub fn show_json<R: Source, O: Target, E: Target, A: Allocator>(
+    alloc: &A,
+    limits: Limits,
+    input: &mut R,
+    out: O,
+    err: E,
+) -> (u8, O, E)
+    requires { first_bad limits ≡ Ok tt }
+    ensures status { IsStatusOfTask result.0 }
+    ensures shows { let view = streams R.Source O.Target E.Target in
+        ShowsAndReports forms.JsonLines limits TURNS
+        (view input.old out err) result.0 (view input.new result.1 result.2) }
+{
+    let (ending, out) = write_text(alloc, limits, JsonLines, input, out);
     let (status, err) = conclude(ending, err);
     (status, out, err)
 }

@@ -7,6 +7,8 @@ use cqlp_text::PagePlace;
 pub enum TextForm {
     /// A line for each.
     Lines,
+    /// A JSON object for each, in a line.
+    JsonLines,
     /// The text of pages, from a place in a page.
     Pages(PagePlace),
     Nothing,

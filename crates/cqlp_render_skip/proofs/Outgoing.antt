@@ -51,11 +51,13 @@ short_of_waiting first x given waiting f s =
 
 afresh_one : (form : TextForm) (e : Event) → afresh (form_after form e) ≡ afresh form
 afresh_one forms.Lines e = refl
+afresh_one forms.JsonLines e = refl
 afresh_one (forms.Pages place) e = refl
 afresh_one forms.Nothing e = refl
 
 break_one : (form : TextForm) (e : Event) → break_of (form_after form e) ≡ break_of form
 break_one forms.Lines e = refl
+break_one forms.JsonLines e = refl
 break_one (forms.Pages place) e = refl
 break_one forms.Nothing e = refl
 

@@ -16,6 +16,7 @@ use Rattle.cqlp_text.specs.PageText.{no_page}
 -- the form in which a stretch begins: no page is under way
 abbrev pub afresh : TextForm → TextForm
 afresh forms.Lines = forms.Lines
+afresh forms.JsonLines = forms.JsonLines
 afresh (forms.Pages place) = forms.Pages no_page
 afresh forms.Nothing = forms.Nothing
 
@@ -23,6 +24,7 @@ afresh forms.Nothing = forms.Nothing
 -- makes an empty line.
 abbrev pub break_of : TextForm → List ℕ
 break_of forms.Lines = []
+break_of forms.JsonLines = []
 break_of (forms.Pages place) = codes "\n"
 break_of forms.Nothing = []
 

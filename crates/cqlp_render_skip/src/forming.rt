@@ -7,6 +7,7 @@ ghost use Rattle.cqlp_text.specs.Written.{Writes};
 ghost use Rattle.cqlp_render_skip.specs.Texts.{afresh, break_of};
 
 use cqlp_decode::{Event, SinkFault};
+use cqlp_json::put_json_line;
 use cqlp_render::TextForm;
 use cqlp_text::{PagePlace, Pen, TextWriter};
 
@@ -23,6 +24,7 @@ pub(crate) fn write_event<P: Pen>(
 {
     match form {
         TextForm::Lines => writer.put_event(at, event),
+        TextForm::JsonLines => put_json_line(at, event, writer),
         TextForm::Pages(place) => writer.put_page_part(place, event),
         TextForm::Nothing => Ok(()),
     }
@@ -37,7 +39,7 @@ pub(crate) fn break_off<P: Pen>(
     ensures form { form.new ≡ afresh form.old }
 {
     match form {
-        TextForm::Lines => Ok(()),
+        TextForm::Lines | TextForm::JsonLines => Ok(()),
         TextForm::Pages(place) => {
             *place = PagePlace::new();
             writer.put(b"\n")

@@ -25,10 +25,13 @@ fn execute(rt: &HostRuntime, line: &str) -> io::Result<()> {
     if let Some((words, digits)) = line.split_once('|') {
         println!(rt; "== {}", words.trim_end())?;
         let bytes = bytes_of(rt.alloc(), digits)?;
-        return match words.split_once(" in little memory") {
-            Some((task, _)) => memory::print_answers(rt, task, &bytes),
-            None => print_done(rt, words, &bytes),
-        };
+        if let Some((task, _)) = words.split_once(" in little memory") {
+            return memory::print_answers(rt, task, &bytes);
+        }
+        if let Some((line, _)) = words.split_once(" in one way") {
+            return print_one_way(rt, line, &bytes);
+        }
+        return print_done(rt, words, &bytes);
     }
     match line.split_once('?') {
         Some((words, start)) => print_start(rt, words.trim_end(), start.trim()),
@@ -55,6 +58,16 @@ fn print_done(rt: &HostRuntime, line: &str, bytes: &[u8]) -> io::Result<()> {
     let done = call.whole(rt);
     done.print(rt)?;
     ways::all(rt, &call, &done)
+}
+
+/// Prints what a command line writes, and between the two outputs its status, with its standard input in one piece and room for all.
+fn print_one_way(rt: &HostRuntime, line: &str, bytes: &[u8]) -> io::Result<()> {
+    let words = words_of(rt.alloc(), line)?;
+    let call = Invocation {
+        words: &words,
+        bytes,
+    };
+    call.whole(rt).print(rt)
 }
 
 /// Prints whether a command line writes to one output alone, a text with this start, and its status.

@@ -1,8 +1,8 @@
 //! Reads each stream of its standard input in many ways, and prints what is said of it.
 //!
-//! A line of the input has a name, `--raw` or `--parts` where the stream is to be read so, `|`, and the stream's bytes in
-//! hexadecimal digits, with spaces between some. Of each stream the name is printed, the lines of its events and the
-//! verdict, and each way of reading it that says something else. So what is expected of a stream is written once, in
+//! A line of the input has a name, `--raw` or `--parts` where the stream is to be read so, `--json` where its events are to be
+//! printed as JSON too, `|`, and the stream's bytes in hexadecimal digits, with spaces between some. Of each stream the name is
+//! printed, the lines of its events and the verdict, and each way of reading it that says something else. So what is expected of a stream is written once, in
 //! `stdout`, and holds for all ways. A line without `|` is a heading.
 #![tactic(auto)]
 
@@ -45,6 +45,9 @@ fn execute(rt: &HostRuntime, line: &str) -> io::Result<()> {
     };
     let whole = stream.whole(rt.alloc())?;
     print_said(rt, &whole)?;
+    if words.split_whitespace().any(|word| word == "--json") {
+        print(rt, &stream.json(rt.alloc()))?;
+    }
     ways::in_pieces(rt, &stream, &whole)?;
     ways::as_pages(rt, &stream)?;
     ways::fronts(rt, &stream, &whole)?;

@@ -2,7 +2,7 @@
 
 use cqlp_decode::{Decoder, Outcome};
 use cqlp_note::{Limits, OfStd, Source};
-use cqlp_render::{render_events, render_rows};
+use cqlp_render::{render_events, render_rows, show_json};
 use cqlp_test_fakes::Pieces;
 use std::alloc::Global;
 use std::io;
@@ -63,6 +63,18 @@ impl<'a> Stream<'a> {
             lines: text.into_inner(),
             outcome,
         })
+    }
+
+    /// The JSON lines of its events, where its limits are in their ranges.
+    pub fn json(&self, alloc: Global) -> Vec<u8> {
+        let lines = OfStd::new(Vec::new(alloc));
+        let verdict = OfStd::new(Vec::new(alloc));
+        let Ok(()) = self.limits.check() else {
+            return lines.into_inner();
+        };
+        let mut reader = self.pieces([3, 5, 5]);
+        let (_, lines, _) = show_json(&alloc, self.limits, &mut reader, lines, verdict);
+        lines.into_inner()
     }
 
     /// The text of its pages, where it is read in pieces of these sizes.

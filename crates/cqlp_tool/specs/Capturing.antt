@@ -1,10 +1,15 @@
 -- What the program does with a capture.
-use Rattle.std.specs.Prelude.{◌≡◌, ℕ, List, None, IsSome, ◌⊎◌, codes}
-use Rattle.cqlp_options.specs.Ports.{named}
+use Rattle.std.specs.Prelude.{◌≡◌, ℕ, ◌*◌, List, None, IsSome, ◌⊎◌, codes, option_map}
+use Rattle.cqlp_note.specs.Streams.{CountsUp}
 use Rattle.cqlp_options.specs.declared.capture.CaptureOptions.{CaptureOptions}
+use Rattle.cqlp_options.specs.declared.capture.CaptureTask.{CaptureTask}
+use Rattle.cqlp_options.specs.declared.capture.CaptureTask.TheVariants as task
+use Rattle.cqlp_options.specs.declared.capture.ExchangeOptions.{ExchangeOptions}
 use Rattle.cqlp_text.specs.Endings.{cannot_open_line}
 use Rattle.cqlp_render.specs.Streams.{Streams, IfKnown}
 use Rattle.cqlp_streams.specs.Streams.{WritesStreams}
+use Rattle.cqlp_exchanges.specs.declared.filter.ExchangeFilter.{ExchangeFilter}
+use Rattle.cqlp_exchanges.specs.Capturing.{WritesExchanges}
 use Rattle.cqlp_tool.specs.Faults.{ReportsFault}
 
 -- the capture is the input, and no file
@@ -24,6 +29,24 @@ MissesFolder folder before status after =
     (after.input ≡ before.input) × (after.out ≡ before.out)
     × (IsSome before.err.given → ReportsFault (cannot_open_line folder) before.err status after.err)
 
-abbrev pub SplitsCapture : CaptureOptions → (before : Streams) → (status : ℕ) → (after : Streams) → Type 0
-SplitsCapture options before status after =
-    MissesFolder options.streams.now before status after ⊎ SplitsToFolder (named options.ports) before status after
+-- The streams of the input's connections were written to a folder, if there is one with this path.
+abbrev pub SplitsCapture : (folder ports : List ℕ) → (before : Streams) → (status : ℕ) → (after : Streams) → Type 0
+SplitsCapture folder ports before status after =
+    MissesFolder folder before status after ⊎ SplitsToFolder ports before status after
+
+-- what is asked of exchanges, with the time in nanoseconds
+abbrev pub filter_of : ExchangeOptions → ExchangeFilter
+filter_of asked =
+    record { slow = option_map (λ ms. ms * 1000000) asked.slow; errors = asked.errors; connection = asked.connection }
+
+-- The lines of the input's exchanges that were asked for went to the output, and how it ended was reported with its status, after so many reads.
+abbrev pub TellsExchanges : ExchangeOptions → (ports : List ℕ) → (before : Streams) → (status : ℕ) → (after : Streams) → Type 0
+TellsExchanges asked ports before status after =
+    IfKnown before.input before.out (λ xs. IsSome before.err.given →
+    (made : ℕ) × CountsUp made before.input.reads after.input.reads
+    × WritesExchanges (filter_of asked) ports xs made after.input.left before.out before.err status after.out after.err)
+
+-- What a task does with a capture, the input, of nodes that listen on these ports.
+abbrev pub DoesCaptureTask : CaptureTask → (ports : List ℕ) → (before : Streams) → (status : ℕ) → (after : Streams) → Type 0
+DoesCaptureTask (task.Streams folder) ports before status after = SplitsCapture folder.now ports before status after
+DoesCaptureTask (task.Exchanges asked) ports before status after = TellsExchanges asked ports before status after

@@ -5,6 +5,7 @@ use Rattle.cqlp_options.specs.declared.command_line.CommandLine.{CommandLine}
 use Rattle.cqlp_options.specs.declared.command_line.CommandLine.TheVariants as line
 use Rattle.cqlp_options.specs.declared.no_task.NoTask.{NoTask}
 use Rattle.cqlp_options.specs.declared.no_task.NoTask.TheVariants as no_task
+use Rattle.cqlp_options.specs.declared.options.AtRefusal.TheVariants as at
 use Rattle.cqlp_options.specs.declared.options.Options.{Options}
 use Rattle.cqlp_options.specs.declared.options.Task.{Task}
 use Rattle.cqlp_options.specs.declared.options.Task.TheVariants as task
@@ -14,8 +15,10 @@ use Rattle.cqlp_text.specs.PageText.{no_page}
 use Rattle.cqlp_render.specs.declared.text_form.TextForm.TheVariants as forms
 use Rattle.cqlp_render.specs.Showing.{ChecksAndReports, Concludes, ShowsAndReports}
 use Rattle.cqlp_render.specs.Streams.{Streams}
+use Rattle.cqlp_render_skip.specs.Showing as skipping
 pub use Rattle.cqlp_tool.specs.Faults.{ReportsFault}
-use Rattle.cqlp_tool.specs.Capturing.{IsCaptureOfInput, SplitsCapture}
+use Rattle.cqlp_options.specs.Ports.{named}
+use Rattle.cqlp_tool.specs.Capturing.{DoesCaptureTask, IsCaptureOfInput}
 use Rattle.cqlp_tool.specs.Conversing.{ConversesAndReports}
 
 -- the limits where none are given
@@ -60,16 +63,22 @@ Tells no_task.NoMemory out err status out' err' = IsSome err.given → ReportsNo
 
 -- What a task does with the input, within its limits.
 abbrev pub DoesTask : Task → Limits → (before : Streams) → (status : ℕ) → (after : Streams) → Type 0
-DoesTask task.Show limits before status after = ShowsAndReports forms.Lines limits turns before status after
-DoesTask task.Rows limits before status after =
+DoesTask (task.Show at.End) limits before status after = ShowsAndReports forms.Lines limits turns before status after
+DoesTask (task.Show at.Skip) limits before status after =
+    skipping.ShowsAndReports forms.Lines limits turns before status after
+DoesTask task.ShowJson limits before status after = ShowsAndReports forms.JsonLines limits turns before status after
+DoesTask (task.Rows at.End) limits before status after =
     ShowsAndReports (forms.Pages no_page) limits turns before status after
-DoesTask task.Check limits before status after = ChecksAndReports limits turns before status after
+DoesTask (task.Rows at.Skip) limits before status after =
+    skipping.ShowsAndReports (forms.Pages no_page) limits turns before status after
+DoesTask (task.Check at.End) limits before status after = ChecksAndReports limits turns before status after
+DoesTask (task.Check at.Skip) limits before status after = skipping.ChecksAndReports limits turns before status after
 
 -- the stream is the input, and no file
 abbrev pub IsOfInput : Options → Type 0
 IsOfInput options = options.file.now ≡ codes "-"
 
--- What a command line does: a task with the input, a conversation, or a capture's streams. What a file gives is not known.
+-- What a command line does: a task with the input, a stream or a capture, or a conversation. What a file gives is not known.
 abbrev pub Executes : Result CommandLine NoTask
     → (before : Streams) → (status : ℕ) → (after : Streams) → Type 0
 Executes (Ok (line.Stream options)) before status after =
@@ -77,7 +86,7 @@ Executes (Ok (line.Stream options)) before status after =
 Executes (Ok (line.Loop queries)) before status after =
     ConversesAndReports queries before.out before.err status after.out after.err
 Executes (Ok (line.Capture options)) before status after =
-    IsCaptureOfInput options → SplitsCapture options before status after
+    IsCaptureOfInput options → DoesCaptureTask options.task (named options.ports) before status after
 Executes (Err reason) before status after =
     Tells reason before.out before.err status after.out after.err
 

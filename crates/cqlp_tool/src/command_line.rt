@@ -1,10 +1,11 @@
 //! The command line, from its words to the exit status.
 
-ghost use Rattle.std.specs.Prelude.{◌≡◌, ◌≢◌, ◌≤◌, IfOk, IsSome, codes};
+ghost use Rattle.std.specs.Prelude.{◌≡◌, ◌≢◌, ◌≤◌, IfOk, IfSome, IsSome, codes};
 ghost use Rattle.cqlp_note.specs.Limits.{first_bad};
 ghost use Rattle.cqlp_options.specs.CommandLines.{IsWithin};
 ghost use Rattle.cqlp_options.specs.Ports.{AreWithin, named};
-ghost use Rattle.cqlp_tool.specs.Capturing.{IsCaptureOfInput, SplitsCapture, SplitsToFolder};
+ghost use Rattle.cqlp_options.specs.declared.capture.CaptureTask.TheVariants as tasks;
+ghost use Rattle.cqlp_tool.specs.Capturing.{DoesCaptureTask, IsCaptureOfInput, SplitsToFolder, filter_of};
 ghost use Rattle.cqlp_tool.specs.CommandLines.{Complains, DoesTask, Executes, Helps, IsOfInput, NeedsNoInput, Performs};
 ghost use Rattle.cqlp_tool.specs.CommandLines.{ReportsFault, ReportsWrong, Tells};
 ghost use Rattle.cqlp_text.specs.Endings.{IsStatusOfTask, cannot_open_line as cannot_open_line_of};
@@ -15,9 +16,14 @@ ghost use Rattle.cqlp_text.specs.declared.ending.Ending.{Ending};
 use crate::conversing::converse;
 use crate::folder::{Folder, is_folder};
 use cqlp_decode::SinkFault;
+use cqlp_exchanges::{ExchangeFilter, write_exchanges};
 use cqlp_note::{OfStd, Source, Target};
-use cqlp_options::{CaptureOptions, CommandLine, DEFAULT_LIMITS, NoTask, Options, Task};
-use cqlp_render::{check, conclude, rows, show};
+use cqlp_options::{
+    AtRefusal, CaptureOptions, CaptureTask, CommandLine, DEFAULT_LIMITS, ExchangeOptions, NoTask,
+    Options, Task,
+};
+use cqlp_render::{check, conclude, rows, show, show_json};
+use cqlp_render_skip::{check_skipping, rows_skipping, show_skipping};
 use cqlp_streams::write_streams;
 use cqlp_text::exit_status::{BAD_COMMAND_LINE, DONE, FAULT};
 use cqlp_text::{Ending, cannot_open_line, put_text};
@@ -25,6 +31,8 @@ use std::alloc::Allocator;
 use std::fs::File;
 use std::net::{Net, TcpListener, TcpStream};
 use std::rt::Files;
+
+const NANOSECONDS_PER_MILLISECOND: u64 = 1_000_000;
 
 /// What the program does: `words` are those after its name, and `input` is standard input. Without words that is what
 /// `show -` does; with words, what `execute` does with what they are read as. Answers the exit status, and the two
@@ -50,7 +58,7 @@ where
     execute(rt, CommandLine::parse(rt.alloc(), words), input, out, err)
 }
 
-/// Does what a command line asks for: a task with standard input or with a file, a conversation, or a capture's streams; or writes why it
+/// Does what a command line asks for: a task with a stream or a capture, which is standard input or a file, or a conversation; or writes why it
 /// starts none. Answers the exit status, and the two outputs.
 pub fn execute<R, I: Source, O: Target, E: Target>(
     rt: &R,
@@ -107,7 +115,7 @@ fn stream<R: Files + AllocGlobal, I: Source, O: Target, E: Target>(
     }
 }
 
-/// Opens a capture, and splits it into the streams of its connections.
+/// Opens a capture, and does the task with it.
 fn capture<R: Files + AllocGlobal, I: Source, O: Target, E: Target>(
     rt: &R,
     options: CaptureOptions<'_>,
@@ -117,20 +125,20 @@ fn capture<R: Files + AllocGlobal, I: Source, O: Target, E: Target>(
 ) -> (u8, O, E)
     requires { AreWithin options.ports }
     ensures captures { let view = streams I.Source O.Target E.Target in
-        IsCaptureOfInput options.entry → SplitsCapture options.entry
+        IsCaptureOfInput options.entry → DoesCaptureTask options.entry.task (named options.entry.ports)
         (view input.old out err) result.0 (view input.new result.1 result.2) }
     ensures status { IsStatusOfTask result.0 }
     ensures untouched { options.entry.file.now ≢ codes "-" → input.new ≡ input.old }
 {
-    if !is_folder(rt, options.streams) {
-        let (status, err) = cannot_open(options.streams, err);
+    if let Some(folder) = missing_folder(rt, options.task) {
+        let (status, err) = cannot_open(folder, err);
         return (status, out, err);
     }
     if options.file == "-" {
-        return split_to_folder(rt, &options, input, out, err);
+        return read_capture(rt, &options, input, out, err);
     }
     match File::open(rt, options.file) {
-        Ok(file) => split_to_folder(rt, &options, &mut OfStd::new(file), out, err),
+        Ok(file) => read_capture(rt, &options, &mut OfStd::new(file), out, err),
         Err(_) => {
             let (status, err) = cannot_open(options.file, err);
             (status, out, err)
@@ -138,8 +146,18 @@ fn capture<R: Files + AllocGlobal, I: Source, O: Target, E: Target>(
     }
 }
 
-/// Splits a capture into the streams of its connections, whose files are made in the folder.
-fn split_to_folder<R: Files + AllocGlobal, I: Source, O: Target, E: Target>(
+/// The folder that a task with a capture asks for, if there is none with this path.
+fn missing_folder<'a, R: Files>(rt: &R, asked: CaptureTask<'a>) -> Option<&'a str>
+    ensures { IfSome result (λ folder. asked.entry ≡ tasks.Streams folder) }
+{
+    match asked {
+        CaptureTask::Streams { folder } if !is_folder(rt, folder) => Some(folder),
+        CaptureTask::Streams { .. } | CaptureTask::Exchanges(_) => None,
+    }
+}
+
+/// Does the task with a capture, whose folder is there if it asks for one.
+fn read_capture<R: Files + AllocGlobal, I: Source, O: Target, E: Target>(
     rt: &R,
     options: &CaptureOptions<'_>,
     input: &mut I,
@@ -147,20 +165,52 @@ fn split_to_folder<R: Files + AllocGlobal, I: Source, O: Target, E: Target>(
     err: E,
 ) -> (u8, O, E)
     requires { AreWithin options.now.ports }
-    ensures splits { let view = streams I.Source O.Target E.Target in
-        SplitsToFolder (named options.now.ports) (view input.old out err) result.0 (view input.new result.1 result.2) }
+    ensures task { let view = streams I.Source O.Target E.Target in
+        DoesCaptureTask options.now.task (named options.now.ports)
+        (view input.old out err) result.0 (view input.new result.1 result.2) }
     ensures status { IsStatusOfTask result.0 }
 {
-    let folder = Folder::new(rt, rt.alloc(), options.streams);
-    let (status, _, out, err) = write_streams(
-        rt.alloc(),
-        options.ports.as_slice(),
-        input,
-        folder,
-        out,
-        err,
-    );
+    let ports = options.ports.as_slice();
+    match options.task {
+        CaptureTask::Streams { folder } => split_to_folder(rt, folder, ports, input, out, err),
+        CaptureTask::Exchanges(asked) => {
+            write_exchanges(rt.alloc(), ports, filter_of(asked), input, out, err)
+        }
+    }
+}
+
+/// Splits a capture into the streams of its connections, whose files are made in the folder.
+fn split_to_folder<R: Files + AllocGlobal, I: Source, O: Target, E: Target>(
+    rt: &R,
+    folder: &str,
+    ports: &[u16],
+    input: &mut I,
+    out: O,
+    err: E,
+) -> (u8, O, E)
+    ensures splits { let view = streams I.Source O.Target E.Target in
+        SplitsToFolder ports.now (view input.old out err) result.0 (view input.new result.1 result.2) }
+    ensures status { IsStatusOfTask result.0 }
+{
+    let folder = Folder::new(rt, rt.alloc(), folder);
+    let (status, _, out, err) = write_streams(rt.alloc(), ports, input, folder, out, err);
     (status, out, err)
+}
+
+/// What is asked of exchanges, with the time in nanoseconds.
+fn filter_of(asked: ExchangeOptions) -> ExchangeFilter
+    ensures { result ≡ filter_of asked }
+{
+    let ExchangeOptions {
+        slow,
+        errors,
+        connection,
+    } = asked;
+    ExchangeFilter {
+        slow: slow.map(|ms| u64::from(ms) * NANOSECONDS_PER_MILLISECOND),
+        errors,
+        connection,
+    }
 }
 
 /// Does the task with a stream.
@@ -177,10 +227,15 @@ fn perform<A: Allocator, I: Source, O: Target, E: Target>(
         (view input.old out err) result.0 (view input.new result.1 result.2) }
     ensures status { IsStatusOfTask result.0 }
 {
+    let limits = options.limits;
     match options.task {
-        Task::Show => show(heap, options.limits, input, out, err),
-        Task::Rows => rows(heap, options.limits, input, out, err),
-        Task::Check => check(heap, options.limits, input, out, err),
+        Task::Show(AtRefusal::End) => show(heap, limits, input, out, err),
+        Task::Show(AtRefusal::Skip) => show_skipping(heap, limits, input, out, err),
+        Task::ShowJson => show_json(heap, limits, input, out, err),
+        Task::Rows(AtRefusal::End) => rows(heap, limits, input, out, err),
+        Task::Rows(AtRefusal::Skip) => rows_skipping(heap, limits, input, out, err),
+        Task::Check(AtRefusal::End) => check(heap, limits, input, out, err),
+        Task::Check(AtRefusal::Skip) => check_skipping(heap, limits, input, out, err),
     }
 }
 

@@ -4,11 +4,13 @@ use Rattle.std.specs.Prelude.{codes, string_bytes}
 use Rattle.std.specs.Io.KnownBytes.{Appends, append_known}
 use Rattle.cqlp_note.specs.declared.limits.Limits.{Limits}
 use Rattle.cqlp_options.specs.Ports.{named}
-use Rattle.cqlp_options.specs.declared.capture.CaptureOptions.{CaptureOptions}
+use Rattle.cqlp_options.specs.declared.capture.CaptureTask.{CaptureTask}
+use Rattle.cqlp_options.specs.declared.capture.CaptureTask.TheVariants as capture_task
 use Rattle.cqlp_options.specs.declared.command_line.CommandLine.{CommandLine}
 use Rattle.cqlp_options.specs.declared.command_line.CommandLine.TheVariants as line
 use Rattle.cqlp_options.specs.declared.no_task.NoTask.{NoTask}
 use Rattle.cqlp_options.specs.declared.no_task.NoTask.TheVariants as no_task
+use Rattle.cqlp_options.specs.declared.options.AtRefusal.TheVariants as at
 use Rattle.cqlp_options.specs.declared.options.Task.{Task}
 use Rattle.cqlp_options.specs.declared.options.Task.TheVariants as task
 use Rattle.cqlp_text.specs.declared.ending.Ending.TheVariants as ending
@@ -27,14 +29,16 @@ use Rattle.cqlp_render.specs.Showing.{ShowsBytes, ChecksBytes, Concludes}
 use Rattle.cqlp_render.specs.Streams.{Streams}
 use Rattle.cqlp_render.proofs.Renders.{known_nothing}
 use Rattle.cqlp_streams.proofs.OneAnswer.{streams_once}
-use Rattle.cqlp_tool.specs.Capturing.{SplitsCapture}
+use Rattle.cqlp_exchanges.proofs.WrittenOnce.{exchanges_once}
+use Rattle.cqlp_tool.specs.Capturing.{DoesCaptureTask, SplitsCapture, filter_of}
 use Rattle.cqlp_tool.specs.Faults.{ReportsFault}
 use Rattle.cqlp_tool.specs.CommandLines.{DoesTask, Executes, Complains, Helps, turns}
 use Rattle.cqlp_tool.specs.Conversing.{ConversesWithItself, Reports, ending_of}
 use Rattle.cqlp_tool_laws.specs.Text.{FailsAlike, GoesOnFromOther}
 use Rattle.cqlp_tool_laws.specs.Tool.{IsOneOutput}
-use Rattle.cqlp_tool_laws.specs.CommandLines.{AreCheckedAlike, AreMetAlike, AreKnown, AreSplitAlike, AreOutputsMetAlike, AreShownAlike, AreLoopsAlike, IsErrorMetAlike, IsExecutedOnce, IsLoopDecided, IsOneAnswer, IsTaskMetAlike, LoopGoesOn}
+use Rattle.cqlp_tool_laws.specs.CommandLines.{AreCheckedAlike, AreMetAlike, AreKnown, AreSplitAlike, IsCaptureMetAlike, AreOutputsMetAlike, AreShownAlike, AreLoopsAlike, IsErrorMetAlike, IsExecutedOnce, IsLoopDecided, IsOneAnswer, IsTaskMetAlike, LoopGoesOn}
 use Rattle.cqlp_tool_laws.proofs.OneText.{counts_up, stops_once}
+use Rattle.cqlp_tool_laws.proofs.SkippedOnce.{skipping_once, checking_skipping_once}
 use Rattle.cqlp_tool_laws.proofs.OneAnswer.{commands_end_once, checks_end_once, concludes_once, shown_once, checked_once}
 
 -- ---- a text
@@ -83,9 +87,13 @@ module _ (limits : Limits) (before : Streams) (status status' : ℕ) (after afte
       (one.1, one.2, one.3)
 
   task_once : (t : Task) (known : AreKnown before) (a : DoesTask t limits before status after) (b : DoesTask t limits before status' after') → IsTaskMetAlike limits before status status' after after' t known a b → IsOneAnswer before status status' after after'
-  task_once task.Show known a b alike = showing_once forms.Lines known.bytes (a known.bytes known.left known.out known.err) (b known.bytes known.left known.out known.err) alike
-  task_once task.Rows known a b alike = showing_once (forms.Pages no_page) known.bytes (a known.bytes known.left known.out known.err) (b known.bytes known.left known.out known.err) alike
-  task_once task.Check known a b alike = checking_once known.bytes (a known.bytes known.left known.out known.err) (b known.bytes known.left known.out known.err) alike
+  task_once (task.Show at.End) known a b alike = showing_once forms.Lines known.bytes (a known.bytes known.left known.out known.err) (b known.bytes known.left known.out known.err) alike
+  task_once task.ShowJson known a b alike = showing_once forms.JsonLines known.bytes (a known.bytes known.left known.out known.err) (b known.bytes known.left known.out known.err) alike
+  task_once (task.Rows at.End) known a b alike = showing_once (forms.Pages no_page) known.bytes (a known.bytes known.left known.out known.err) (b known.bytes known.left known.out known.err) alike
+  task_once (task.Check at.End) known a b alike = checking_once known.bytes (a known.bytes known.left known.out known.err) (b known.bytes known.left known.out known.err) alike
+  task_once (task.Show at.Skip) known a b alike = skipping_once limits known.bytes before status status' after after' known.err forms.Lines (a known.bytes known.left known.out known.err) (b known.bytes known.left known.out known.err) alike.0 alike.1
+  task_once (task.Rows at.Skip) known a b alike = skipping_once limits known.bytes before status status' after after' known.err (forms.Pages no_page) (a known.bytes known.left known.out known.err) (b known.bytes known.left known.out known.err) alike.0 alike.1
+  task_once (task.Check at.Skip) known a b alike = checking_skipping_once limits known.bytes before status status' after after' known.err (a known.bytes known.left known.out known.err) (b known.bytes known.left known.out known.err) alike.0 alike.1
 
 -- ---- a conversation
 
@@ -153,15 +161,23 @@ fault_reported_once : (text : List ℕ) (before after after' : Output) (status s
 fault_reported_once text before after after' status status' alike a b = (b.0 ∙ sym a.0, text_once before after after' text alike a.1 b.1)
 
 module _ (before : Streams) (status status' : ℕ) (after after' : Streams) where
-  split_once : (options : CaptureOptions) (known : AreKnown before) (a : SplitsCapture options before status after) (b : SplitsCapture options before status' after') → AreSplitAlike before status status' after after' options a b → IsOneAnswer before status status' after after'
-  split_once options known (inl a) (inl b) alike =
-      let one = fault_reported_once (cannot_open_line options.streams.now) before.err after.err after'.err status status' alike (a.2 known.err) (b.2 known.err) in
+  split_once : (folder ports : List ℕ) (known : AreKnown before) (a : SplitsCapture folder ports before status after) (b : SplitsCapture folder ports before status' after') → AreSplitAlike before status status' after after' folder ports a b → IsOneAnswer before status status' after after'
+  split_once folder ports known (inl a) (inl b) alike =
+      let one = fault_reported_once (cannot_open_line folder) before.err after.err after'.err status status' alike (a.2 known.err) (b.2 known.err) in
       (one.0, inl (b.1 ∙ sym a.1), one.1)
-  split_once options known (inl a) (inr b) alike = absurd alike
-  split_once options known (inr a) (inl b) alike = absurd alike
-  split_once options known (inr a) (inr b) alike =
-      let one = streams_once (named options.ports) known.bytes None before.out before.err after.input.left after'.input.left status status' None None after.out after'.out after.err after'.err (a known.bytes known.left known.out known.err) alike.0 (b known.bytes known.left known.out known.err) alike.1 in
+  split_once folder ports known (inl a) (inr b) alike = absurd alike
+  split_once folder ports known (inr a) (inl b) alike = absurd alike
+  split_once folder ports known (inr a) (inr b) alike =
+      let one = streams_once ports known.bytes None before.out before.err after.input.left after'.input.left status status' None None after.out after'.out after.err after'.err (a known.bytes known.left known.out known.err) alike.0 (b known.bytes known.left known.out known.err) alike.1 in
       (one.0, inl one.2, inl one.3)
+
+  capture_once : (t : CaptureTask) (ports : List ℕ) (known : AreKnown before) (a : DoesCaptureTask t ports before status after) (b : DoesCaptureTask t ports before status' after') → IsCaptureMetAlike before status status' after after' t ports a b → IsOneAnswer before status status' after after'
+  capture_once (capture_task.Streams folder) ports known a b alike = split_once folder.now ports known a b alike
+  capture_once (capture_task.Exchanges asked) ports known a b alike =
+      let x = a known.bytes known.left known.out known.err in
+      let y = b known.bytes known.left known.out known.err in
+      let one = exchanges_once (filter_of asked) ports known.bytes before.out before.err x.0 y.0 after.input.left after'.input.left status status' after.out after'.out after.err after'.err x.2 alike.0 y.2 alike.1 in
+      (one.0, inl one.1, inl one.2)
 
 -- ---- a command line
 
@@ -174,7 +190,7 @@ module _ (before : Streams) (status status' : ℕ) (after after' : Streams) wher
       let reports : Reports a.0 before.err status' after'.err = subst (λ (r : Result (Unit {0}) LoopFault). Reports r before.err status' after'.err) one.0 (b.2 met.error.known) in
       let reported = reported_once a.0 before.err after.err after'.err status status' met.error.fails (a.2 met.error.known) reports in
       (reported.0, inl one.1, reported.1)
-  line_once (Ok (line.Capture options)) a b alike = split_once before status status' after after' options alike.1 (a alike.0) (b alike.0) alike.2
+  line_once (Ok (line.Capture options)) a b alike = capture_once before status status' after after' options.task (named options.ports) alike.1 (a alike.0) (b alike.0) alike.2
   line_once (Err (no_task.Help text)) a b alike = helped_once before status status' after after' (string_bytes text) alike.fails alike.error.fails (a alike.known alike.error.known) (b alike.known alike.error.known)
   line_once (Err (no_task.Mistake text)) a b alike =
       let one = complained_once (string_bytes text) before.err after.err after'.err status status' alike.fails (a alike.known).1 (b alike.known).1 in

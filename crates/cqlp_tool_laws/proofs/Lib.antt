@@ -9,4 +9,5 @@ mod QuietFrames
 mod PageTexts
 mod RowTexts
 mod LastRead
+mod SkippedOnce
 mod CommandLines

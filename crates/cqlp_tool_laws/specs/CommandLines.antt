@@ -3,13 +3,18 @@
 use Rattle.std.specs.Prelude.{◌≡◌, ◌≢◌, ℕ, List, Some, IsSome, Result, Ok, Err}
 use Rattle.std.proofs.Common.{inl, inr}
 use Rattle.cqlp_note.specs.declared.limits.Limits.{Limits}
-use Rattle.cqlp_options.specs.declared.capture.CaptureOptions.{CaptureOptions}
+use Rattle.cqlp_note.specs.Limits.{rules_of}
+use Rattle.cqlp_options.specs.Ports.{named}
+use Rattle.cqlp_options.specs.declared.capture.CaptureTask.{CaptureTask}
+use Rattle.cqlp_options.specs.declared.capture.CaptureTask.TheVariants as capture_task
 use Rattle.cqlp_options.specs.declared.command_line.CommandLine.{CommandLine}
 use Rattle.cqlp_options.specs.declared.command_line.CommandLine.TheVariants as line
 use Rattle.cqlp_options.specs.declared.no_task.NoTask.{NoTask}
 use Rattle.cqlp_options.specs.declared.no_task.NoTask.TheVariants as no_task
+use Rattle.cqlp_options.specs.declared.options.AtRefusal.TheVariants as at
 use Rattle.cqlp_options.specs.declared.options.Task.{Task}
 use Rattle.cqlp_options.specs.declared.options.Task.TheVariants as task
+use Rattle.cqlp_text.specs.declared.ending.Ending.TheVariants as ending
 use Rattle.cqlp_text.specs.Outputs.{Output}
 use Rattle.cqlp_text.specs.PageText.{no_page}
 use Rattle.cqlp_loop.specs.declared.fault.LoopFault.{LoopFault}
@@ -19,7 +24,10 @@ use Rattle.cqlp_render.specs.declared.text_form.TextForm.{TextForm}
 use Rattle.cqlp_render.specs.declared.text_form.TextForm.TheVariants as forms
 use Rattle.cqlp_render.specs.Showing.{ShowsBytes, ChecksBytes}
 use Rattle.cqlp_render.specs.Streams.{Streams}
-use Rattle.cqlp_tool.specs.Capturing.{IsCaptureOfInput, SplitsCapture}
+use Rattle.cqlp_render_skip.specs.Showing as skipping
+use Rattle.cqlp_render_skip.specs.Showing.{outputs_of}
+use Rattle.cqlp_render_skip_laws.specs.Laws.{IsPlain}
+use Rattle.cqlp_tool.specs.Capturing.{DoesCaptureTask, IsCaptureOfInput, SplitsCapture}
 use Rattle.cqlp_tool.specs.CommandLines.{DoesTask, Executes, IsOfInput, turns}
 use Rattle.cqlp_tool.specs.Conversing.{ConversesAndReports, ConversesWithItself}
 use Rattle.cqlp_tool_laws.specs.Text.{FailsAlike, GoesOnFromOther}
@@ -56,19 +64,45 @@ pub record AreCheckedAlike (limits : Limits) (xs : List ℕ) (before : Streams) 
   pub output : FailsAlike before.out after.out after'.out
   pub error : FailsAlike before.err after.err after'.err
 
+-- Of one that passes over frames: it came to a verdict, which is not that a frame ends too far to be passed over, and its status is not that
+-- of a fault.
+module _ (limits : Limits) (xs : List ℕ) (before : Streams) (status : ℕ) (after : Streams) where
+  abbrev pub EndsPlainly : (form : TextForm) → skipping.ShowsBytes form limits turns xs before status after → Type 0
+  EndsPlainly form (ending.Finished f, passed, told, reads, same, ends) =
+      (status ≢ 3) × IsPlain form (rules_of limits) xs (outputs_of before) f passed told after.input.left reads.shows
+  EndsPlainly form shows = ⊥
+
+  -- The same of one that checks.
+  abbrev pub ChecksPlainly : skipping.ChecksBytes limits turns xs before status after → Type 0
+  ChecksPlainly (ending.Finished f, passed, told, reads, own, ends, is) =
+      (status ≢ 3) × IsPlain forms.Nothing (rules_of limits) xs (outputs_of before) f passed told after.input.left reads.shows
+  ChecksPlainly checks = ⊥
+
 module _ (limits : Limits) (before : Streams) (status status' : ℕ) (after after' : Streams) where
   -- The same of a task, where what it reads is known.
   abbrev pub IsTaskMetAlike : (t : Task) → AreKnown before → DoesTask t limits before status after
       → DoesTask t limits before status' after' → Type 0
-  IsTaskMetAlike task.Show known does does' =
+  IsTaskMetAlike (task.Show at.End) known does does' =
       AreShownAlike forms.Lines limits known.bytes before status status' after after'
       (does known.bytes known.left known.out known.err) (does' known.bytes known.left known.out known.err)
-  IsTaskMetAlike task.Rows known does does' =
+  IsTaskMetAlike task.ShowJson known does does' =
+      AreShownAlike forms.JsonLines limits known.bytes before status status' after after'
+      (does known.bytes known.left known.out known.err) (does' known.bytes known.left known.out known.err)
+  IsTaskMetAlike (task.Rows at.End) known does does' =
       AreShownAlike (forms.Pages no_page) limits known.bytes before status status' after after'
       (does known.bytes known.left known.out known.err) (does' known.bytes known.left known.out known.err)
-  IsTaskMetAlike task.Check known does does' =
+  IsTaskMetAlike (task.Check at.End) known does does' =
       AreCheckedAlike limits known.bytes before status status' after after'
       (does known.bytes known.left known.out known.err) (does' known.bytes known.left known.out known.err)
+  IsTaskMetAlike (task.Show at.Skip) known does does' =
+      EndsPlainly limits known.bytes before status after forms.Lines (does known.bytes known.left known.out known.err)
+      × EndsPlainly limits known.bytes before status' after' forms.Lines (does' known.bytes known.left known.out known.err)
+  IsTaskMetAlike (task.Rows at.Skip) known does does' =
+      EndsPlainly limits known.bytes before status after (forms.Pages no_page) (does known.bytes known.left known.out known.err)
+      × EndsPlainly limits known.bytes before status' after' (forms.Pages no_page) (does' known.bytes known.left known.out known.err)
+  IsTaskMetAlike (task.Check at.Skip) known does does' =
+      ChecksPlainly limits known.bytes before status after (does known.bytes known.left known.out known.err)
+      × ChecksPlainly limits known.bytes before status' after' (does' known.bytes known.left known.out known.err)
 
 -- The error output, of which it is known what it was given, failed in both or in neither.
 pub record IsErrorMetAlike (before after after' : Streams) : Type 0 where
@@ -128,14 +162,19 @@ LoopGoesOn = (queries : ℕ) (before : Streams) (status status' : ℕ) (after af
 
 -- ---- a capture
 
--- To two executions that split the same capture the outside did the same: there was no folder in both; or nothing failed, so that no
+-- To two executions of a task with the same capture the outside did the same: there was no folder in both; or nothing failed, so that no
 -- status is that of a fault.
 module _ (before : Streams) (status status' : ℕ) (after after' : Streams) where
-  abbrev pub AreSplitAlike : (options : CaptureOptions) → SplitsCapture options before status after
-      → SplitsCapture options before status' after' → Type 0
-  AreSplitAlike options (inl misses) (inl misses') = FailsAlike before.err after.err after'.err
-  AreSplitAlike options (inr splits) (inr splits') = (status ≢ 3) × (status' ≢ 3)
-  AreSplitAlike options does does' = ⊥
+  abbrev pub AreSplitAlike : (folder ports : List ℕ) → SplitsCapture folder ports before status after
+      → SplitsCapture folder ports before status' after' → Type 0
+  AreSplitAlike folder ports (inl misses) (inl misses') = FailsAlike before.err after.err after'.err
+  AreSplitAlike folder ports (inr splits) (inr splits') = (status ≢ 3) × (status' ≢ 3)
+  AreSplitAlike folder ports does does' = ⊥
+
+  abbrev pub IsCaptureMetAlike : (t : CaptureTask) (ports : List ℕ) → DoesCaptureTask t ports before status after
+      → DoesCaptureTask t ports before status' after' → Type 0
+  IsCaptureMetAlike (capture_task.Streams folder) ports does does' = AreSplitAlike folder.now ports does does'
+  IsCaptureMetAlike (capture_task.Exchanges asked) ports does does' = (status ≢ 3) × (status' ≢ 3)
 
 -- ---- a command line
 
@@ -150,7 +189,7 @@ module _ (before : Streams) (status status' : ℕ) (after after' : Streams) wher
   AreMetAlike (Ok (line.Loop queries)) does does' = AreLoopsMetAlike queries before status status' after after' does does'
   AreMetAlike (Ok (line.Capture options)) does does' =
       (is : IsCaptureOfInput options) × (known : AreKnown before)
-      × AreSplitAlike before status status' after after' options (does is) (does' is)
+      × IsCaptureMetAlike before status status' after after' options.task (named options.ports) (does is) (does' is)
   AreMetAlike (Err (no_task.Help text)) does does' = AreOutputsMetAlike before after after'
   AreMetAlike (Err (no_task.Mistake text)) does does' = IsErrorMetAlike before after after'
   AreMetAlike (Err no_task.NoMemory) does does' = IsErrorMetAlike before after after'

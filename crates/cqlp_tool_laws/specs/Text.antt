@@ -3,6 +3,7 @@ use Rattle.std.specs.Prelude.{◌≡◌, ℕ, ◌-◌, ◌^◌, ◌<◌, List, l
 use Rattle.cqlp_kind.specs.Scalars.{ScalarValue}
 use Rattle.cqlp_grammar.specs.declared.sink.SinkFault.{SinkFault}
 use Rattle.cqlp_grammar.specs.Events.{Event}
+use Rattle.cqlp_json.specs.Lines.{json_line}
 use Rattle.cqlp_text.specs.declared.ending.Ending.{Ending}
 use Rattle.cqlp_text.specs.CellText.{cell_text}
 use Rattle.cqlp_text.specs.Endings.{ending_line, cannot_open_line}
@@ -35,6 +36,9 @@ CellTextIsWrittenOnce = (scalar : ScalarValue) → WritesOnce (cell_text scalar)
 
 abbrev pub EventLineIsWrittenOnce : Type 0
 EventLineIsWrittenOnce = (at : ℕ) (event : Event) → WritesOnce (line at event)
+
+abbrev pub JsonLineIsWrittenOnce : Type 0
+JsonLineIsWrittenOnce = (at : ℕ) (event : Event) → WritesOnce (json_line at event)
 
 abbrev pub PagePartIsWrittenOnce : Type 0
 PagePartIsWrittenOnce = (place : PagePlace) (event : Event) → WritesOnce (page_part place event)

@@ -1,7 +1,7 @@
 //! Laws of one answer: what a call writes is decided by its arguments, but for whether its target failed.
 
 ghost use Rattle.cqlp_tool_laws.specs.Text.{BytesAreOfferedOnce, CannotOpenLineIsWrittenOnce, CellTextIsWrittenOnce};
-ghost use Rattle.cqlp_tool_laws.specs.Text.{EndingLineIsWrittenOnce, EventLineIsWrittenOnce, PagePartIsWrittenOnce};
+ghost use Rattle.cqlp_tool_laws.specs.Text.{EndingLineIsWrittenOnce, EventLineIsWrittenOnce, JsonLineIsWrittenOnce, PagePartIsWrittenOnce};
 ghost use Rattle.cqlp_tool_laws.specs.Text.{TextIsWrittenOnce};
 
 /// Of a cell there is one text; at a fault of the target, a front of it was written.
@@ -12,6 +12,11 @@ pub fn one_answer_of_cell_text()
 /// Of an event at an offset there is one line; at a fault of the target, a front of it was written.
 pub fn one_answer_of_event_line()
     ensures { EventLineIsWrittenOnce }
+{}
+
+/// Of an event at an offset there is one JSON line; at a fault of the target, a front of it was written.
+pub fn one_answer_of_json_line()
+    ensures { JsonLineIsWrittenOnce }
 {}
 
 /// Of an event at a place of a page there is one text; at a fault of the target, a front of it was written. The place

@@ -26,6 +26,14 @@ pub fn one_answer_of_show()
     ensures once { IsShownOnce forms.Lines }
 {}
 
+/// A stream has one text of JSON lines, one verdict line and one status; two commands to which the outside did the same end
+/// alike, and two that end alike wrote the same.
+pub fn one_answer_of_show_json()
+    ensures right { IsShownRightly forms.JsonLines }
+    ensures ends { EndsOnce forms.JsonLines }
+    ensures once { IsShownOnce forms.JsonLines }
+{}
+
 /// A stream has one text of pages, one verdict line and one status, also where `execute` does this with standard input;
 /// two commands to which the outside did the same end alike, and two that end alike wrote the same.
 pub fn one_answer_of_rows()
@@ -46,6 +54,7 @@ pub fn one_answer_of_check()
 /// where those are refused nothing. So none follows a refusal, nor a write fault, at which some of that text is missing.
 pub fn reads_after_text()
     ensures show { IsReadAfterText forms.Lines }
+    ensures show_json { IsReadAfterText forms.JsonLines }
     ensures rows { IsReadAfterText (forms.Pages no_page) }
     ensures check { IsReadUnrefused }
 {}

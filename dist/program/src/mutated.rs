@@ -1,7 +1,9 @@
-//! Captures whose bytes were changed at random, and what `write_streams` makes of them: no panic, no more memory than the limits say, the same
-//! files and lines whole and in pieces of any size, and lines that say how long the files are. CQLP_STREAMS is how many changed captures
+//! Captures whose bytes were changed at random, and what `write_streams` and `write_exchanges` make of them: no panic, no more memory than the
+//! limits say, the same files and lines whole and in pieces of any size, lines that say how long the files are, and those of exchanges that
+//! are asked for among those of all. CQLP_STREAMS is how many changed captures
 //! there are, 3,000 where it is not set, 5,000 in a file; CQLP_CAPTURES is the folder with those of a driver.
 use crate::cqlp_connections::Way;
+use crate::cqlp_exchanges::{ExchangeFilter, write_exchanges};
 use crate::cqlp_note::{IoFault, OfStd, Source};
 use crate::cqlp_streams::{FileFault, StreamFile, StreamFiles, write_streams};
 use crate::kit_std::alloc::Global;
@@ -127,8 +129,24 @@ fn made(file: &[u8], most: usize, ports: &[u16], calls: usize) -> Made {
     let taken = MOST.load(SeqCst) - before;
     assert!(taken <= 48 << 20, "{taken} bytes of memory");
     assert_eq!(LIVE.load(SeqCst), before);
-    let text = |target: OfStd<Vec<u8>>| String::from_utf8(target.into_inner()).unwrap();
     Made { status, kept: files.kept, open: files.open.len(), lines: text(out), said: text(err) }
+}
+
+fn text(target: OfStd<Vec<u8>>) -> String {
+    String::from_utf8(target.into_inner()).unwrap()
+}
+
+/// The status, the lines of the exchanges in a file that are asked for, and what was said of it.
+fn told(file: &[u8], most: usize, ports: &[u16], filter: ExchangeFilter) -> (u8, String, String) {
+    let mut pieces = Pieces { rest: file, most, numbers: Numbers(most as u64 | 1) };
+    let (out, err) = (OfStd::new(Vec::with_capacity(64 << 20)), OfStd::new(Vec::with_capacity(1_000)));
+    let before = LIVE.load(SeqCst);
+    MOST.store(before, SeqCst);
+    let (status, out, err) = write_exchanges(Global, ports, filter, &mut pieces, out, err);
+    let taken = MOST.load(SeqCst) - before;
+    assert!(taken <= 64 << 20, "{taken} bytes of memory");
+    assert_eq!(LIVE.load(SeqCst), before);
+    (status, text(out), text(err))
 }
 
 /// The lines say how long the files are, and the last line how long all of them are.
@@ -214,5 +232,10 @@ fn changed_captures() {
         let faulty = made(&file, most, ports, numbers.below(5_000));
         assert!(faulty.status == 3 || faulty == whole);
         assert!(whole.kept.starts_with(&faulty.kept) && whole.lines.starts_with(&faulty.lines));
+        let exchanges = told(&file, usize::MAX, ports, ExchangeFilter::ALL);
+        assert_eq!(told(&file, most, ports, ExchangeFilter::ALL), exchanges);
+        let errors = told(&file, most, ports, ExchangeFilter { errors: true, ..ExchangeFilter::ALL });
+        let mut all = exchanges.1.lines();
+        assert!(errors.1.lines().all(|line| all.any(|other| other == line)));
     }
 }

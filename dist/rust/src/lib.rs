@@ -205,6 +205,7 @@ mod cqlp_cell;
 mod cqlp_decode;
 mod cqlp_encode;
 mod cqlp_grammar;
+mod cqlp_json;
 mod cqlp_kind;
 mod cqlp_message;
 mod cqlp_note;
@@ -298,8 +299,9 @@ pub mod capture {
     pub use crate::cqlp_segment::{Address, Endpoint, Flags, LinkType, NoSegment, Segment, SegmentHead, read_segment};
 }
 
-/// The text of events, cells, pages and verdicts, as the program `cqlp` writes it.
+/// The text of events, cells, pages and verdicts, and the JSON of events, as the program `cqlp` writes it.
 pub mod text {
+    pub use crate::cqlp_json::json_line;
     pub use crate::cqlp_render::{render_events, render_rows};
     pub use crate::cqlp_text::{Ending, PagePlace, cell_text, ending_line, event_line, opcode_name, page_part};
 }

@@ -11,8 +11,8 @@ mod sink;
 mod upcoming;
 
 pub use event::{Event, Finish};
-pub use following::{fault_in, number};
-pub(crate) use following::{has};
+pub use following::{fault_in};
+pub(crate) use following::{has, number};
 pub use grammar::{Group, Role};
 pub use productions::{Expected, Want, event_fields, target_fields};
 pub use sink::{Sink, SinkFault};

@@ -2,6 +2,7 @@
 //! How the text of events is written.
 
 use crate::cqlp_decode::{Event, SinkFault};
+use crate::cqlp_json::{json_line, put_json_line};
 use crate::cqlp_note::Target;
 use crate::cqlp_text::{PagePlace, Pen, TextWriter, event_line, page_part};
 
@@ -46,6 +47,31 @@ impl Form for Lines {
         writer: &mut TextWriter<P>,
     ) -> Result<(), SinkFault> {
         writer.put_event(at, event)
+    }
+}
+
+/// A JSON object for each event, in a line.
+pub(crate) struct JsonLines;
+
+impl Form for JsonLines {
+    #[inline]
+    fn put<W: Target>(
+        &mut self,
+        at: u64,
+        event: &Event<'_>,
+        target: &mut W,
+    ) -> Result<(), SinkFault> {
+        json_line(at, event, target)
+    }
+
+    #[inline]
+    fn write<P: Pen>(
+        &mut self,
+        at: u64,
+        event: &Event<'_>,
+        writer: &mut TextWriter<P>,
+    ) -> Result<(), SinkFault> {
+        put_json_line(at, event, writer)
     }
 }
 

@@ -3,7 +3,7 @@
 
 use crate::kit_std::prelude::{Vec, vec};
 use crate::cqlp_render::buffered_sink::BufferedSink;
-use crate::cqlp_render::form::{Form, Lines, Nothing};
+use crate::cqlp_render::form::{Form, JsonLines, Lines, Nothing};
 use crate::cqlp_render::render::{TextSink, run_flushing};
 use crate::cqlp_decode::{Decoder, NewError, Outcome, SinkFault, run};
 use crate::cqlp_note::{Limits, Source, Target};
@@ -28,6 +28,21 @@ pub(crate) fn show<R: Source, O: Target, E: Target, A: Allocator>(
 ) -> (u8, O, E)
 {
     let (ending, out) = write_text(alloc, limits, Lines, input, out);
+    let (status, err) = conclude(ending, err);
+    (status, out, err)
+}
+
+/// Writes the events of a stream to `out`, each as a JSON object in a line of its own, and the verdict line or fault line
+/// to `err`. Answers the exit status, and the two outputs.
+pub(crate) fn show_json<R: Source, O: Target, E: Target, A: Allocator>(
+    alloc: &A,
+    limits: Limits,
+    input: &mut R,
+    out: O,
+    err: E,
+) -> (u8, O, E)
+{
+    let (ending, out) = write_text(alloc, limits, JsonLines, input, out);
     let (status, err) = conclude(ending, err);
     (status, out, err)
 }

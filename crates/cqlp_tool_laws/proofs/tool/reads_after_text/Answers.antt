@@ -6,6 +6,9 @@ use Rattle.cqlp_tool_laws.proofs.tool.reads_after_text.Goals as goal
 pub returns-clause-show : goal.returns-clause-show
 returns-clause-show c = read_after_text forms.Lines
 
+pub returns-clause-show_json : goal.returns-clause-show_json
+returns-clause-show_json c = read_after_text forms.JsonLines
+
 pub returns-clause-rows : goal.returns-clause-rows
 returns-clause-rows c = read_after_text (forms.Pages no_page)
 

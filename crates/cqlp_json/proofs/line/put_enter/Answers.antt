@@ -1,0 +1,4 @@
+use Rattle.cqlp_json.proofs.line.put_enter.Goals as goal
+
+pub returns : goal.returns
+returns g c = rw (c.from.ensures, c.from-2.ensures, c.from-3.ensures, c.kind_name.ensures, c.from-4.ensures) at c.put_members.ensures

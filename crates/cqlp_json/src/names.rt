@@ -1,0 +1,105 @@
+//! The names of fields and of kinds of types, as lines of cqlp_text have them.
+
+ghost use Rattle.std.specs.Prelude.{◌≡◌};
+ghost use Rattle.cqlp_text.specs.Names as names;
+
+use cqlp_kind::Kind;
+use cqlp_note::Field;
+
+/// The name of a field.
+pub(crate) fn field_name(field: Field) -> &'static str
+    ensures { result.now ≡ names.field_name field }
+{
+    match field {
+        Field::TraceId => "TraceId",
+        Field::Warnings => "Warnings",
+        Field::Warning => "Warning",
+        Field::PayloadItems => "PayloadItems",
+        Field::PayloadKey => "PayloadKey",
+        Field::PayloadValue => "PayloadValue",
+        Field::Options => "Options",
+        Field::OptionKey => "OptionKey",
+        Field::OptionValue => "OptionValue",
+        Field::OptionValues => "OptionValues",
+        Field::Query => "Query",
+        Field::StatementId => "StatementId",
+        Field::EventTypes => "EventTypes",
+        Field::EventType => "EventType",
+        Field::Token => "Token",
+        Field::BatchType => "BatchType",
+        Field::Entries => "Entries",
+        Field::EntryKind => "EntryKind",
+        Field::Consistency => "Consistency",
+        Field::BatchFlags => "BatchFlags",
+        Field::SerialConsistency => "SerialConsistency",
+        Field::Timestamp => "Timestamp",
+        Field::QueryFlags => "QueryFlags",
+        Field::Values => "Values",
+        Field::ValueName => "ValueName",
+        Field::Value => "Value",
+        Field::PageSize => "PageSize",
+        Field::PagingState => "PagingState",
+        Field::Class => "Class",
+        Field::ErrorCode => "ErrorCode",
+        Field::Message => "Message",
+        Field::Required => "Required",
+        Field::Alive => "Alive",
+        Field::Received => "Received",
+        Field::BlockFor => "BlockFor",
+        Field::WriteType => "WriteType",
+        Field::DataPresent => "DataPresent",
+        Field::Failures => "Failures",
+        Field::Keyspace => "Keyspace",
+        Field::Name => "Name",
+        Field::Arguments => "Arguments",
+        Field::Argument => "Argument",
+        Field::Table => "Table",
+        Field::ResultKind => "ResultKind",
+        Field::Rows => "Rows",
+        Field::MetaFlags => "MetaFlags",
+        Field::Columns => "Columns",
+        Field::Keys => "Keys",
+        Field::KeyIndex => "KeyIndex",
+        Field::ColumnName => "ColumnName",
+        Field::Change => "Change",
+        Field::Target => "Target",
+        Field::Address => "Address",
+        Field::TypeName => "TypeName",
+        Field::Fields => "Fields",
+        Field::FieldName => "FieldName",
+    }
+}
+
+/// The name of a kind of type, as CQL has it.
+pub(crate) fn kind_name(kind: Kind) -> &'static str
+    ensures { result.now ≡ names.kind_name kind }
+{
+    match kind {
+        Kind::Custom => "custom",
+        Kind::Ascii => "ascii",
+        Kind::Bigint => "bigint",
+        Kind::Blob => "blob",
+        Kind::Boolean => "boolean",
+        Kind::Counter => "counter",
+        Kind::Decimal => "decimal",
+        Kind::Double => "double",
+        Kind::Float => "float",
+        Kind::Int => "int",
+        Kind::Timestamp => "timestamp",
+        Kind::Uuid => "uuid",
+        Kind::Varchar => "varchar",
+        Kind::Varint => "varint",
+        Kind::Timeuuid => "timeuuid",
+        Kind::Inet => "inet",
+        Kind::Date => "date",
+        Kind::Time => "time",
+        Kind::Smallint => "smallint",
+        Kind::Tinyint => "tinyint",
+        Kind::List => "list",
+        Kind::Map => "map",
+        Kind::Set => "set",
+        Kind::Udt => "udt",
+        Kind::Tuple => "tuple",
+        Kind::Raw => "raw",
+    }
+}
