@@ -5,6 +5,7 @@ mod exchanges;
 mod filter;
 pub mod laws;
 mod lines;
+mod prepared;
 mod reply;
 mod shown;
 mod slot;
