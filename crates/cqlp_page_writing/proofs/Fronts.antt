@@ -12,9 +12,9 @@ use Rattle.cqlp_message.specs.Pages.{cells_fit, cells_size, cells_wanted, fits_c
 use Rattle.cqlp_message.proofs.PageCells.{cells_size_append}
 use Rattle.cqlp_message.proofs.PageFrames.{is_page, next_fits, IsPage}
 use Rattle.cqlp_page_writing.specs.LentCells.{Another, TooFew, Changes, are_all, are_front, lent_unfit_of}
-use Rattle.cqlp_page_writing.specs.Laws.{SameAreNotChanged}
+use Rattle.cqlp_page_writing.specs.Laws.{Lends, SameAreNotChanged}
 use Rattle.cqlp_page_writing.proofs.Measured.{first_none, first_some}
-use Rattle.cqlp_page_writing.proofs.LentPages.{front_is}
+use Rattle.cqlp_page_writing.proofs.LentPages.{all_is, front_is}
 
 and_left : (a b : Bool) → (a && b) ≡ true → a ≡ true
 and_left true b e = refl
@@ -60,28 +60,27 @@ are_cells f cells e =
 false_not_true : (b : Bool) → b ≡ false → b ≡ true → ⊥
 false_not_true b e w = absurd cc
 
-module _ (f : FrameValue) (first again rest : List Values) (ended : Bool) (old new : Output) (same : first ≡ again ++ rest) (whole : ended ≡ true → rest ≡ []) (fits : lent_unfit_of f first ≡ None) where
+module _ (f : FrameValue) (first again : List Values) (ended : Bool) (old new : Output) (lends : Lends first again ended) (fits : lent_unfit_of f first ≡ None) where
   all : AreCells f first
   all = are_cells f first fits
 
   is_front : are_front f (cells_size first) again ≡ true
   is_front =
-      let number : length (again ++ rest) ≡ cells_wanted f.message = ap length (sym same) ∙ all.number in
+      let same = lends.1 in
+      let number : length (again ++ lends.0) ≡ cells_wanted f.message = ap length (sym same) ∙ all.number in
       front_is f (cells_size first) again
-      (omega (arith, number, length-append again rest))
-      (front_fits f (cells_size first) again rest all.begins (omega (arith, number)) (ap (cells_fit f) (sym same) ∙ all.fit))
-      (omega (arith, ap cells_size same, cells_size_append again rest))
+      (omega (arith, number, length-append again lends.0))
+      (front_fits f (cells_size first) again lends.0 all.begins (omega (arith, number)) (ap (cells_fit f) (sym same) ∙ all.fit))
+      (omega (arith, ap cells_size same, cells_size_append again lends.0))
 
   is_all : ended ≡ true → are_all f (cells_size first) again ≡ true
   is_all e =
-      let equal : first ≡ again = same ∙ ap (λ (x : List Values). again ++ x) (whole e) ∙ append-nil again in
-      let a : (length again == cells_wanted f.message) ≡ true = grind (arith, nat_tests, ap length equal, all.number) in
-      let b : (cells_size again == cells_size first) ≡ true = grind (arith, nat_tests, ap cells_size equal) in
-      rw (a, b) refl
+      let equal : first ≡ again = lends.1 ∙ ap (λ (x : List Values). again ++ x) (lends.2 e) ∙ append-nil again in
+      all_is f (cells_size first) again (ap length (sym equal) ∙ all.number) (ap cells_size (sym equal))
 
   unchanged : Changes f (cells_size first) again ended old new → ⊥
   unchanged (Another cells v is front none offered) = false_not_true _ none is_front
   unchanged (TooFew end front none offered) = false_not_true _ none (is_all end)
 
 pub same_are_not_changed : SameAreNotChanged
-same_are_not_changed f first again rest ended old new same whole e = unchanged f first again rest ended old new same whole e.0 e.1
+same_are_not_changed f first again ended old new lends e = unchanged f first again ended old new lends e.0 e.1

@@ -163,6 +163,12 @@ not_all f n cells (suc left) free number size some =
     let a : (length cells == cells_wanted f.message) ≡ false = grind (arith, nat_tests) in
     rw a refl
 
+pub all_is : (f : FrameValue) (n : ℕ) (cells : List Values) → length cells ≡ cells_wanted f.message → cells_size cells ≡ n → are_all f n cells ≡ true
+all_is f n cells number size =
+    let a : (length cells == cells_wanted f.message) ≡ true = grind (arith, nat_tests) in
+    let b : (cells_size cells == n) ≡ true = grind (arith, nat_tests) in
+    rw (a, b) refl
+
 no_write : (k : ℕ) → error.Write k ≡ error.Changed → ⊥
 no_write k e = absurd cc
 
@@ -227,6 +233,9 @@ module _ (f : Frame) (n : ℕ) (p : PageState) (old start : Output) (begun : Beg
     last_one ended v page_error.PastLength new r s first fits size = (fits, rw size (refused ended v page_error.PastLength new s.0 s.1).1)
     last_one ended v page_error.NotDone new r s first fits size = (fits, rw size (refused ended v page_error.NotDone new s.0 s.1).1)
 
+    whole : q.left + q.free ≡ 0 → are_all (frame_of f) n cells ≡ true
+    whole none = of_frame (λ g. are_all g n cells ≡ true) (all_is (page q) n cells (omega (arith, none, after.left)) (omega (arith, none, after.free)))
+
     too_few : Finishes q n cells (Err page_error.NotDone) → Changes (frame_of f) n cells true old mid
     too_few s =
         let some : 0 < q.left + q.free = grind (arith, nat_tests, s.1) in
@@ -240,7 +249,8 @@ module _ (f : Frame) (n : ℕ) (p : PageState) (old start : Output) (begun : Beg
     ends page_error.PastLength s first fits size = absurd s
 
   pub lent_again : (first again : List Values) (ended : Bool) (r : Result ℕ LentError) (new : Output) → lent_unfit_of (frame_of f) first ≡ None → cells_size first ≡ n → AddsLent p n again ended start r new → EncodesLent (frame_of f) first again ended old r new
-  lent_again first again ended (Ok size) new fits same (end, q, adds, done) = (fits, end, as_encoded f n again p q old start new size begun adds done)
+  lent_again first again ended (Ok size) new fits same (end, q, adds, done) =
+      (fits, end, rw same (front q again new adds), rw same (whole q again new adds done.1), as_encoded f n again p q old start new size begun adds done)
   lent_again first again ended (Err e) new fits same (inl s) =
       subst (λ (x : LentError). EncodesLent (frame_of f) first again ended old (Err x) new) (sym s.told) (subst (λ (x : List Values). EncodesLent (frame_of f) first x ended old (Err (told s.why)) new) (sym s.is) (last_one s.q s.cells s.mid s.adds ended s.cell s.why new s.r s.stopped first fits same))
   lent_again first again ended (Err e) new fits same (inr (end, s)) =

@@ -80,7 +80,8 @@ data pub Changes (f : FrameValue) (n : ℕ) (lent : List Values) (ended : Bool) 
 abbrev pub EncodesLent :
     FrameValue → (first again : List Values) → (ended : Bool) → (old : Output) → Result ℕ LentError → (new : Output) → Type 0
 EncodesLent f first again ended old (Ok size) new =
-    (lent_unfit_of f first ≡ None) × (ended ≡ true) × Encodes (with_cells f again) old (Ok size) new
+    (lent_unfit_of f first ≡ None) × (ended ≡ true) × (are_front f (cells_size first) again ≡ true)
+    × (are_all f (cells_size first) again ≡ true) × Encodes (with_cells f again) old (Ok size) new
 EncodesLent f first again ended old (Err (error.Unfit why)) new =
     (lent_unfit_of f first ≡ Some why) × (again ≡ []) × (new ≡ old)
 EncodesLent f first again ended old (Err error.Changed) new =
