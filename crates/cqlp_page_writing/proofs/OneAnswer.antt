@@ -88,10 +88,10 @@ less_or_same n m e = grind (arith, nat_tests)
 false_not_true : {A : Type 0} (b : Bool) → b ≡ false → b ≡ true → A
 false_not_true b e w = absurd cc
 
-module _ (f : FrameValue) (first all : List Values) (old : Output) (fits : lent_unfit_of f first ≡ None) where
-  n : ℕ
-  n = cells_size first
+ended_all : (all lent : List Values) (ended : Bool) → Lends all lent ended → ended ≡ true → lent ≡ all
+ended_all all lent ended l e = sym (l.1 ∙ ap (λ (x : List Values). lent ++ x) (l.2 e) ∙ append-nil lent)
 
+module _ (f : FrameValue) (first all : List Values) (old : Output) (fits : lent_unfit_of f first ≡ None) where
   begins : page_unfit_of f (cells_size first) ≡ None
   begins = (are_cells f first fits).begins
 
@@ -135,5 +135,110 @@ module _ (f : FrameValue) (first all : List Values) (old : Output) (fits : lent_
     whole_offered : Offered old (front_bytes f (cells_size first) all) size new
     whole_offered = subst (λ (x : List ℕ). Offered old x size new) (sym same) encoded.2
 
-ended_all : (all lent : List Values) (ended : Bool) → Lends all lent ended → ended ≡ true → lent ≡ all
-ended_all all lent ended l e = sym (l.1 ∙ ap (λ (x : List Values). lent ++ x) (l.2 e) ∙ append-nil lent)
+  record Done (size : ℕ) (new : Output) : Type 0 where
+    front : are_front f (cells_size first) all ≡ true
+    are : are_all f (cells_size first) all ≡ true
+    count : size ≡ length (front_bytes f (cells_size first) all)
+    offered : Offered old (front_bytes f (cells_size first) all) size new
+
+  done : (again : List Values) (ended : Bool) (size : ℕ) (new : Output) → Lends all again ended → EncodesLent f first again ended old (Ok size) new → Done size new
+  done again ended size new l e =
+      let is : again ≡ all = ended_all all again ended l e.1 in
+      let front : are_front f (cells_size first) all ≡ true = ap (are_front f (cells_size first)) (sym is) ∙ e.2 in
+      let are : are_all f (cells_size first) all ≡ true = ap (are_all f (cells_size first)) (sym is) ∙ e.3 in
+      let encoded : Encodes (with_cells f all) old (Ok size) new = subst (λ (x : List Values). Encodes (with_cells f x) old (Ok size) new) is e.4 in
+      record { front = front; are = are; count = whole_size size new front are encoded; offered = whole_offered size new front are encoded }
+
+  -- a page of which other cells were lent
+  record Changed (new : Output) : Type 0 where
+    bytes : List ℕ
+    offered : Offered old bytes (length bytes) new
+    covers : (b s : List Values) → all ≡ b ++ s → are_front f (cells_size first) b ≡ true → length (front_bytes f (cells_size first) b) ≤ length bytes
+    unlike : are_front f (cells_size first) all ≡ true → are_all f (cells_size first) all ≡ true → ⊥
+
+  changed : (again : List Values) (ended : Bool) (new : Output) → Lends all again ended → Changes f (cells_size first) again ended old new → Changed new
+  changed again ended new l (Another cells v is front none offered) =
+      let at : all ≡ (cells ++ v ∷ []) ++ l.0 = l.1 ∙ ap (λ (x : List Values). x ++ l.0) is in
+      let not : are_front f (cells_size first) (cells ++ v ∷ []) ≡ false = ap (are_front f (cells_size first)) (sym is) ∙ none in
+      record {
+        bytes = front_bytes f (cells_size first) cells;
+        offered = offered;
+        covers = λ b s e w. let u = behind cells v l.0 b s at e not w in no_longer b cells u.0 u.1;
+        unlike = λ e w. false_not_true _ not (shorter (cells ++ v ∷ []) all l.0 at e);
+      }
+  changed again ended new l (TooFew end front none offered) =
+      let is : again ≡ all = ended_all all again ended l end in
+      record {
+        bytes = front_bytes f (cells_size first) again;
+        offered = offered;
+        covers = λ b s e w. no_longer b again s (is ∙ e);
+        unlike = λ e w. false_not_true _ none (ap (are_all f (cells_size first)) is ∙ w);
+      }
+
+  module _ (new new' : Output) (known : IsSome old.given) (e : new'.given ≡ new.given) where
+    ok_ok : (s s' : ℕ) → Done s new → Done s' new' → (s' ≡ s) × (new' ≡ new)
+    ok_ok s s' d d' = (d'.count ∙ sym d.count, all_alike old new new' known e _ _ s s' d.count d'.count d.offered d'.offered)
+
+    ok_write : {A : Type 0} (s k : ℕ) (again : List Values) (ended : Bool) → Lends all again ended → Done s new → Stops f (cells_size first) again k old new' → A
+    ok_write s k again ended l d t =
+        let same : k ≡ s = counts old new new' known e _ _ s k d.offered t.offered in
+        absurd (omega (arith, same, t.less, d.count, no_longer again all l.0 l.1))
+
+    write_ok : {A : Type 0} (s k : ℕ) (again : List Values) (ended : Bool) → Lends all again ended → Stops f (cells_size first) again k old new → Done s new' → A
+    write_ok s k again ended l t d =
+        let same : s ≡ k = counts old new new' known e _ _ k s t.offered d.offered in
+        absurd (omega (arith, same, t.less, d.count, no_longer again all l.0 l.1))
+
+    changed_changed : Changed new → Changed new' → new' ≡ new
+    changed_changed c c' = all_alike old new new' known e _ _ _ _ refl refl c.offered c'.offered
+
+    changed_write : {A : Type 0} (k : ℕ) (again : List Values) (ended : Bool) → Lends all again ended → Changed new → Stops f (cells_size first) again k old new' → A
+    changed_write k again ended l c t =
+        let same : k ≡ length c.bytes = counts old new new' known e _ _ _ k c.offered t.offered in
+        absurd (omega (arith, same, t.less, c.covers again l.0 l.1 t.front))
+
+    write_changed : {A : Type 0} (k : ℕ) (again : List Values) (ended : Bool) → Lends all again ended → Stops f (cells_size first) again k old new → Changed new' → A
+    write_changed k again ended l t c =
+        let same : length c.bytes ≡ k = counts old new new' known e _ _ k _ t.offered c.offered in
+        absurd (omega (arith, same, t.less, c.covers again l.0 l.1 t.front))
+
+    write_write : (k k' : ℕ) (again again' : List Values) → Stops f (cells_size first) again k old new → Stops f (cells_size first) again' k' old new' → (k' ≡ k) × (new' ≡ new)
+    write_write k k' again again' t t' =
+        (counts old new new' known e _ _ k k' t.offered t'.offered, cut_alike old new new' known e _ _ k k' t.less t'.less t.offered t'.offered)
+
+no_both : {A : Type 0} (o : Option Unfit) (why : Unfit) → o ≡ None → o ≡ Some why → A
+no_both o why e w = let both = sym e ∙ w in absurd cc
+
+pub one_answer : OneAnswerOfEncodePage
+one_answer f first all again again' ended ended' old new new' (Ok s) (Ok s') known l l' a b e =
+    let r = ok_ok f first all old a.0 new new' known e s s' (done f first all old a.0 again ended s new l a) (done f first all old a.0 again' ended' s' new' l' b) in
+    (ap (λ (k : ℕ). Ok k) r.0, r.1)
+one_answer f first all again again' ended ended' old new new' (Ok s) (Err (error.Unfit why)) known l l' a b e = no_both _ why a.0 b.0
+one_answer f first all again again' ended ended' old new new' (Ok s) (Err error.Changed) known l l' a b e =
+    let d = done f first all old a.0 again ended s new l a in
+    absurd ((changed f first all old a.0 again' ended' new' l' b.1).unlike d.front d.are)
+one_answer f first all again again' ended ended' old new new' (Ok s) (Err (error.Write k)) known l l' a b e =
+    ok_write f first all old a.0 new new' known e s k again' ended' l' (done f first all old a.0 again ended s new l a) b.1
+one_answer f first all again again' ended ended' old new new' (Err (error.Unfit why)) (Ok s) known l l' a b e = no_both _ why b.0 a.0
+one_answer f first all again again' ended ended' old new new' (Err (error.Unfit why)) (Err (error.Unfit why')) known l l' a b e =
+    let both : ◌≡◌ {A = Option Unfit} (Some why) (Some why') = sym a.0 ∙ b.0 in
+    let same : why' ≡ why = cc in
+    (ap (λ (w : Unfit). Err (error.Unfit w)) same, b.2 ∙ sym a.2)
+one_answer f first all again again' ended ended' old new new' (Err (error.Unfit why)) (Err error.Changed) known l l' a b e = no_both _ why b.0 a.0
+one_answer f first all again again' ended ended' old new new' (Err (error.Unfit why)) (Err (error.Write k)) known l l' a b e = no_both _ why b.0 a.0
+one_answer f first all again again' ended ended' old new new' (Err error.Changed) (Ok s) known l l' a b e =
+    let d = done f first all old b.0 again' ended' s new' l' b in
+    absurd ((changed f first all old b.0 again ended new l a.1).unlike d.front d.are)
+one_answer f first all again again' ended ended' old new new' (Err error.Changed) (Err (error.Unfit why)) known l l' a b e = no_both _ why a.0 b.0
+one_answer f first all again again' ended ended' old new new' (Err error.Changed) (Err error.Changed) known l l' a b e =
+    (refl, changed_changed f first all old a.0 new new' known e (changed f first all old a.0 again ended new l a.1) (changed f first all old a.0 again' ended' new' l' b.1))
+one_answer f first all again again' ended ended' old new new' (Err error.Changed) (Err (error.Write k)) known l l' a b e =
+    changed_write f first all old a.0 new new' known e k again' ended' l' (changed f first all old a.0 again ended new l a.1) b.1
+one_answer f first all again again' ended ended' old new new' (Err (error.Write k)) (Ok s) known l l' a b e =
+    write_ok f first all old a.0 new new' known e s k again ended l a.1 (done f first all old a.0 again' ended' s new' l' b)
+one_answer f first all again again' ended ended' old new new' (Err (error.Write k)) (Err (error.Unfit why)) known l l' a b e = no_both _ why a.0 b.0
+one_answer f first all again again' ended ended' old new new' (Err (error.Write k)) (Err error.Changed) known l l' a b e =
+    write_changed f first all old a.0 new new' known e k again ended l a.1 (changed f first all old a.0 again' ended' new' l' b.1)
+one_answer f first all again again' ended ended' old new new' (Err (error.Write k)) (Err (error.Write k')) known l l' a b e =
+    let r = write_write f first all old a.0 new new' known e k k' again again' a.1 b.1 in
+    (ap (λ (m : ℕ). Err (error.Write m)) r.0, r.1)
