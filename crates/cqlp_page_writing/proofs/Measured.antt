@@ -47,31 +47,38 @@ cut_length f size n m is cut = elim (cases_lt n (2 ^ 32)) [
 pub short : (f : FrameValue) (size n m : ℕ) → size ≡ min n (2 ^ 64 - 1) → m ≡ min size (2 ^ 32 - 1) → page_unfit_of f m ≡ None → m ≡ n
 short f size n m is cut e = let room = (is_page f m e).short in omega (arith, is, cut, room)
 
+-- what keeps cells from being a page's, once their bytes do not
+abbrev others : FrameValue → List Values → List (Bool × Unfit)
+others f cells = (not (length cells == cells_wanted f.message), unfit.RowShape) ∷ (not (cells_fit f cells), unfit.CellType) ∷ []
+
 module _ (f : FrameValue) (cells : List Values) where
-  others : List (Bool × Unfit)
-  others = (not (length cells == cells_wanted f.message), unfit.RowShape) ∷ (not (cells_fit f cells), unfit.CellType) ∷ []
 
   pub page_refused : (why : Unfit) → page_unfit_of f (cells_size cells) ≡ Some why → measure_of f cells ≡ Err why
-  page_refused why e = ap (λ (o : Option Unfit). if_none o (cells_size cells)) (first_some (page_obstacles f (cells_size cells)) _ why e)
+  page_refused why e = ap (λ (o : Option Unfit). if_none o (cells_size cells)) (first_some (page_obstacles f (cells_size cells)) (others f cells) why e)
 
   module _ (e : page_unfit_of f (cells_size cells) ≡ None) where
-    rest : lent_unfit_of f cells ≡ first_of ((not (length cells == cells_wanted f.message), unfit.RowShape) ∷ (not (cells_fit f cells), unfit.CellType) ∷ [])
-    rest = first_none (page_obstacles f (cells_size cells)) _ e
+    rest : lent_unfit_of f cells ≡ first_of (others f cells)
+    rest = first_none (page_obstacles f (cells_size cells)) (others f cells) e
 
     pub number_refused : length cells ≢ cells_wanted f.message → measure_of f cells ≡ Err unfit.RowShape
     number_refused other =
         let isnt : (length cells == cells_wanted f.message) ≡ false = grind (arith, nat_tests) in
-        ap (λ (o : Option Unfit). if_none o (cells_size cells)) (rest ∙ rw isnt refl)
+        let first : first_of (others f cells) ≡ Some unfit.RowShape = rw isnt refl in
+        ap (λ (o : Option Unfit). if_none o (cells_size cells)) (rest ∙ first)
 
     module _ (same : length cells ≡ cells_wanted f.message) where
       equal : (length cells == cells_wanted f.message) ≡ true
       equal = grind (arith, nat_tests)
 
       pub type_refused : cells_fit f cells ≡ false → measure_of f cells ≡ Err unfit.CellType
-      type_refused isnt = ap (λ (o : Option Unfit). if_none o (cells_size cells)) (rest ∙ rw (equal, isnt) refl)
+      type_refused isnt =
+          let first : first_of (others f cells) ≡ Some unfit.CellType = rw (equal, isnt) refl in
+          ap (λ (o : Option Unfit). if_none o (cells_size cells)) (rest ∙ first)
 
       pub let_through : cells_fit f cells ≡ true → measure_of f cells ≡ Ok (cells_size cells)
-      let_through fit = ap (λ (o : Option Unfit). if_none o (cells_size cells)) (rest ∙ rw (equal, fit) refl)
+      let_through fit =
+          let first : first_of (others f cells) ≡ None = rw (equal, fit) refl in
+          ap (λ (o : Option Unfit). if_none o (cells_size cells)) (rest ∙ first)
 
 -- ---- a cell more
 
@@ -138,3 +145,49 @@ counts_none f t frame count size past fit = record {
   size = size;
   fit = λ n e w. fit ∙ sym (no_cells_fit f n e);
 }
+
+-- what is shown of the page that is counted for is shown of the same page
+pub counts_same : (t u : Tally) (cells : List Values) (v : Values) → (HasCounted (frame_of t.frame.now) cells t → HasCounted (frame_of t.frame.now) (cells ++ v ∷ []) u) → (f : FrameValue) → HasCounted f cells t → HasCounted f (cells ++ v ∷ []) u
+counts_same t u cells v step f h = subst (λ (g : FrameValue). HasCounted g (cells ++ v ∷ []) u) h.frame (step (subst (λ (g : FrameValue). HasCounted g cells t) (sym h.frame) h))
+
+pub measures_same : (t : Tally) (r : Result ℕ Unfit) (cells : List Values) → (HasCounted (frame_of t.frame.now) cells t → r ≡ measure_of (frame_of t.frame.now) cells) → (f : FrameValue) → HasCounted f cells t → r ≡ measure_of f cells
+measures_same t r cells step f h = subst (λ (g : FrameValue). r ≡ measure_of g cells) h.frame (step (subst (λ (g : FrameValue). HasCounted g cells t) (sym h.frame) h))
+
+pub and_true : (b x r : Bool) → b ≡ true → r ≡ x → r ≡ (b && x)
+and_true b x r e w = rw e w
+
+pub and_false : (b x r : Bool) → b ≡ false → r ≡ false → r ≡ (b && x)
+and_false b x r e w = rw e w
+
+-- ---- the measure of cells that were counted
+
+module _ (f : FrameValue) (cells : List Values) (t : Tally) (len : ℕ) (h : HasCounted f cells t) (cut : len ≡ min t.size (2 ^ 32 - 1)) where
+  same_page : page_unfit_of f len ≡ page_unfit_of f (cells_size cells)
+  same_page = cut_length f t.size (cells_size cells) len h.size cut
+
+  pub measures_page : (why : Unfit) → page_unfit_of f len ≡ Some why → Err why ≡ measure_of f cells
+  measures_page why e = sym (page_refused f cells why (sym same_page ∙ e))
+
+  module _ (e : page_unfit_of f len ≡ None) where
+    begins : page_unfit_of f (cells_size cells) ≡ None
+    begins = sym same_page ∙ e
+
+    pub measures_past : t.is_past ≡ true → Err unfit.RowShape ≡ measure_of f cells
+    measures_past past = sym (number_refused f cells begins (λ w. absurd (omega (arith, (h.past past).1, w))))
+
+    module _ (on : t.is_past ≡ false) where
+      pub measures_number : t.count ≢ cells_wanted f.message → Err unfit.RowShape ≡ measure_of f cells
+      measures_number other = sym (number_refused f cells begins (λ w. other (h.count on ∙ w)))
+
+      module _ (all : t.count ≡ cells_wanted f.message) where
+        number : length cells ≡ cells_wanted f.message
+        number = sym (h.count on) ∙ all
+
+        fit : t.is_fit ≡ cells_fit f cells
+        fit = h.fit (cells_size cells) begins on
+
+        pub measures_type : t.is_fit ≡ false → Err unfit.CellType ≡ measure_of f cells
+        measures_type isnt = sym (type_refused f cells begins number (sym fit ∙ isnt))
+
+        pub measures_all : t.is_fit ≡ true → Ok len ≡ measure_of f cells
+        measures_all is = ap (λ (k : ℕ). Ok k) (short f t.size (cells_size cells) len h.size cut e) ∙ sym (let_through f cells begins number (sym fit ∙ is))

@@ -34,7 +34,7 @@ compare (x ∷ a) (y ∷ b) r s e =
     let heads : x ≡ y = cc in
     let tails : a ++ r ≡ b ++ s = cc in
     elim (compare a b r s tails) [
-      | inl t ↦ inl (t.0, λ i. heads (~ i) ∷ t.1 i)
+      | inl t ↦ inl (t.0, λ i. sym heads i ∷ t.1 i)
       | inr t ↦ inr (t.0, t.1, λ i. heads i ∷ t.2 i)
     ]
 

@@ -13,6 +13,7 @@ use cqlp_message::{Frame, Unfit};
 use cqlp_value::{Value, value_size};
 
 /// Cells of a page so far.
+#[derive(Drop)]
 pub struct Tally<'a> {
     frame: &'a Frame,
     /// How many they are, up to as many as the page wants.
