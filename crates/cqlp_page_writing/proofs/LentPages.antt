@@ -34,7 +34,7 @@ use Rattle.cqlp_page_writing.specs.Adding.{AddsLent, EndStops, LastStops, told}
 pub one_more_added : (p q r : PageState) (before cells : List Values) (v : Values) (old mid new : Output) → AddsAll p before cells old mid q → Adds q (before ++ cells) v mid (Ok tt) new r → AddsAll p before (cells ++ v ∷ []) old new r
 one_more_added p q r before [] v old mid new a b =
     let c : Adds p before v old (Ok tt) new r = subst (λ (x : PageState). Adds x before v old (Ok tt) new r) a.1 (subst (λ (x : Output). Adds q before v x (Ok tt) new r) a.0 (subst (λ (x : List Values). Adds q x v mid (Ok tt) new r) (append-nil before) b)) in
-    (r, new, c, refl, refl)
+    (r, new, c, (refl, refl))
 one_more_added p q r before (w ∷ cells) v old mid new (s, at, one, others) b =
     (s, at, one, one_more_added s q r (before ++ w ∷ []) cells v at mid new others (subst (λ (x : List Values). Adds q x v mid (Ok tt) new r) (sym (append_assoc before (w ∷ []) cells)) b))
 
@@ -132,7 +132,7 @@ front_after q n cells a = front_is (page q) n cells (omega (arith, a.left)) a.fi
 
 -- a writer whose target has not failed refuses what is no front
 module _ (q : PageState) (n : ℕ) (cells : List Values) (v : Values) (a : After q n cells) (sound : q.failed ≡ false) where
-  Refusal : PageError → Type 0
+  abbrev pub Refusal : PageError → Type 0
   Refusal e = (told e ≡ error.Changed) × (are_front (page q) n (cells ++ v ∷ []) ≡ false)
 
   all_there : (q.left == 0) ≡ true → are_front (page q) n (cells ++ v ∷ []) ≡ false
@@ -220,9 +220,9 @@ module _ (f : Frame) (n : ℕ) (p : PageState) (old start : Output) (begun : Beg
         let at : k ≡ length (front_bytes (frame_of f) n cells) + c.taken = omega (arith, c.count, count) in
         record {
           front = of_frame (λ g. are_front g n (cells ++ v ∷ []) ≡ true) (front_after _ n (cells ++ v ∷ []) next);
-          less = rw bytes (omega (arith, at, long, c.some));
+          less = omega (arith, at, long, c.some, ap length bytes);
           last = inr (cells, v, refl, omega (arith, at));
-          offered = rw bytes (subst (λ (m : ℕ). Offered old (front_bytes (frame_of f) n cells ++ values_bytes v) m new) (sym at) (offers_then old mid new (front_bytes (frame_of f) n cells) (values_bytes v) c.taken taken c.offered));
+          offered = subst (λ (x : List ℕ). Offered old x k new) (sym bytes) (subst (λ (m : ℕ). Offered old (front_bytes (frame_of f) n cells ++ values_bytes v) m new) (sym at) (offers_then old mid new (front_bytes (frame_of f) n cells) (values_bytes v) c.taken taken c.offered));
         }
 
     last_one : (ended : Bool) (v : Values) (why : PageError) (new : Output) (r : PageState) → Adds q cells v mid (Err why) new r → (first : List Values) → lent_unfit_of (frame_of f) first ≡ None → cells_size first ≡ n → EncodesLent (frame_of f) first (cells ++ v ∷ []) ended old (Err (told why)) new
@@ -264,9 +264,9 @@ head_cut f n first (page_error.Write k) ended old new fits begins size b =
     let none : front_bytes (frame_of f) n [] ≡ page_head (frame_of f) n = append-nil (page_head (frame_of f) n) in
     (fits, rw size (record {
       front = front_is (frame_of f) n [] (omega arith) (no_cells_fit (frame_of f) n begins) (omega arith);
-      less = rw none (omega (arith, b.1, b.2));
+      less = omega (arith, b.1, b.2, ap length none);
       last = inl refl;
-      offered = rw none b.3;
+      offered = subst (λ (x : List ℕ). Offered old x k new) (sym none) b.3;
     }))
 head_cut f n first page_error.OutOfTurn ended old new fits begins size b = absurd b
 head_cut f n first page_error.PastLength ended old new fits begins size b = absurd b

@@ -101,13 +101,13 @@ module _ (f : FrameValue) (first all : List Values) (old : Output) (fits : lent_
   -- a front of a front is one
   shorter : (a b t : List Values) → b ≡ a ++ t → are_front f (cells_size first) b ≡ true → are_front f (cells_size first) a ≡ true
   shorter a b t is e =
-      let parts = and_both (nat_le (length b) (cells_wanted f.message)) (cells_fit f b && nat_le (cells_size b) (cells_size first)) e in
-      let others = and_both (cells_fit f b) (nat_le (cells_size b) (cells_size first)) parts.1 in
-      let number : length b ≤ cells_wanted f.message = less_or_same _ _ parts.0 in
-      let size : cells_size b ≤ cells_size first = less_or_same _ _ others.1 in
+      let parts = and_both (nat_le (length b) (cells_wanted f.message) && cells_fit f b) (nat_le (cells_size b) (cells_size first)) e in
+      let others = and_both (nat_le (length b) (cells_wanted f.message)) (cells_fit f b) parts.0 in
+      let number : length b ≤ cells_wanted f.message = less_or_same _ _ others.0 in
+      let size : cells_size b ≤ cells_size first = less_or_same _ _ parts.1 in
       front_is f (cells_size first) a
       (omega (arith, number, ap length is, length-append a t))
-      (front_fits f (cells_size first) a t begins (omega (arith, number, ap length is)) (ap (cells_fit f) (sym is) ∙ others.0))
+      (front_fits f (cells_size first) a t begins (omega (arith, number, ap length is)) (ap (cells_fit f) (sym is) ∙ others.1))
       (omega (arith, size, ap cells_size is, cells_size_append a t))
 
   no_longer : (a b t : List Values) → b ≡ a ++ t → length (front_bytes f (cells_size first) a) ≤ length (front_bytes f (cells_size first) b)
@@ -125,9 +125,9 @@ module _ (f : FrameValue) (first all : List Values) (old : Output) (fits : lent_
     same : page_head f (cells_size first) ++ cells_bytes all ≡ frame_bytes (with_cells f all)
     same =
         let a = and_both (length all == cells_wanted f.message) (cells_size all == cells_size first) are in
-        let b = and_both (nat_le (length all) (cells_wanted f.message)) (cells_fit f all && nat_le (cells_size all) (cells_size first)) front in
-        let c = and_both (cells_fit f all) (nat_le (cells_size all) (cells_size first)) b.1 in
-        (page_written f (cells_size first) all begins (record { number = same_number _ _ a.0; fit = c.0; size = same_number _ _ a.1 })).1
+        let b = and_both (nat_le (length all) (cells_wanted f.message) && cells_fit f all) (nat_le (cells_size all) (cells_size first)) front in
+        let c = and_both (nat_le (length all) (cells_wanted f.message)) (cells_fit f all) b.0 in
+        (page_written f (cells_size first) all begins (record { number = same_number _ _ a.0; fit = c.1; size = same_number _ _ a.1 })).1
 
     whole_size : size ≡ length (front_bytes f (cells_size first) all)
     whole_size = encoded.1 ∙ sym encoded.0.1 ∙ ap length (sym same)

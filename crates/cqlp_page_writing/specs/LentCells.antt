@@ -67,7 +67,7 @@ pub record Stops (f : FrameValue) (n : ℕ) (lent : List Values) (k : ℕ) (old 
 
 -- A cell was lent that is not the next of a page with cells of n bytes, or none though more are wanted. Those before it
 -- were written, and no call of the target failed.
-data pub Changes (f : FrameValue) (n : ℕ) (lent : List Values) (ended : Bool) (old new : Output) : Type 0 where
+pub data Changes (f : FrameValue) (n : ℕ) (lent : List Values) (ended : Bool) (old new : Output) : Type 0 where
   Another :
     (cells : List Values) (v : Values) → lent ≡ cells ++ v ∷ [] → are_front f n cells ≡ true → are_front f n lent ≡ false
     → Offered old (front_bytes f n cells) (length (front_bytes f n cells)) new → Changes f n lent ended old new

@@ -1,6 +1,6 @@
 //! A page, written with cells that are lent twice.
 
-ghost use Rattle.std.specs.Prelude.{◌≡◌, Bool, List, true, ℕ};
+ghost use Rattle.std.specs.Prelude.{◌≡◌, [], Bool, List, true, ℕ};
 ghost use Rattle.std.specs.Borrow.{Bor};
 ghost use Rattle.std.specs.Iterator.{Drains, DrainsIf, IsFinite};
 ghost use Rattle.cqlp_note.specs.Outputs.{written};
