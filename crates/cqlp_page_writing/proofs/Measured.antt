@@ -80,6 +80,16 @@ module _ (f : FrameValue) (cells : List Values) where
           let first : first_of (others f cells) ≡ None = rw (equal, fit) refl in
           ap (λ (o : Option Unfit). if_none o (cells_size cells)) (rest ∙ first)
 
+-- what a measure says
+
+pub ok_of : (o : Option Unfit) (n len : ℕ) → Ok len ≡ if_none o n → (o ≡ None) × (n ≡ len)
+ok_of None n len e = (refl, cc)
+ok_of (Some why) n len e = absurd cc
+
+pub err_of : (o : Option Unfit) (n : ℕ) (why : Unfit) → Err why ≡ if_none o n → o ≡ Some why
+err_of None n why e = absurd cc
+err_of (Some w) n why e = cc
+
 -- ---- a cell more
 
 false_not_true : {A : Type 0} (b : Bool) → b ≡ false → b ≡ true → A
