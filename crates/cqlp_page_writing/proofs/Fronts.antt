@@ -13,7 +13,7 @@ use Rattle.cqlp_message.proofs.PageCells.{cells_size_append}
 use Rattle.cqlp_message.proofs.PageFrames.{is_page, next_fits, IsPage}
 use Rattle.cqlp_page_writing.specs.LentCells.{Another, TooFew, Changes, are_all, are_front, lent_unfit_of}
 use Rattle.cqlp_page_writing.specs.Laws.{Lends, SameAreNotChanged}
-use Rattle.cqlp_page_writing.proofs.Measured.{first_none, first_some}
+use Rattle.cqlp_page_writing.proofs.Measured.{others}
 use Rattle.cqlp_page_writing.proofs.LentPages.{all_is, front_is}
 
 and_left : (a b : Bool) → (a && b) ≡ true → a ≡ true
@@ -52,9 +52,9 @@ pub record AreCells (f : FrameValue) (cells : List Values) : Type 0 where
 
 pub are_cells : (f : FrameValue) (cells : List Values) → lent_unfit_of f cells ≡ None → AreCells f cells
 are_cells f cells e =
-    let both = none_both (page_obstacles f (cells_size cells)) _ e in
-    let w = none_if (not (length cells == cells_wanted f.message)) unfit.RowShape _ both.1 in
-    let x = none_if (not (cells_fit f cells)) unfit.CellType _ w.1 in
+    let both = none_both (page_obstacles f (cells_size cells)) (others f cells) e in
+    let w = none_if (not (length cells == cells_wanted f.message)) unfit.RowShape (first_of ((not (cells_fit f cells), unfit.CellType) ∷ [])) both.1 in
+    let x = none_if (not (cells_fit f cells)) unfit.CellType None w.1 in
     record { begins = both.0; number = same_number _ _ (not_false _ w.0); fit = not_false _ x.0 }
 
 false_not_true : (b : Bool) → b ≡ false → b ≡ true → ⊥

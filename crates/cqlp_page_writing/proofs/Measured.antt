@@ -48,7 +48,7 @@ pub short : (f : FrameValue) (size n m : ℕ) → size ≡ min n (2 ^ 64 - 1) �
 short f size n m is cut e = let room = (is_page f m e).short in omega (arith, is, cut, room)
 
 -- what keeps cells from being a page's, once their bytes do not
-abbrev others : FrameValue → List Values → List (Bool × Unfit)
+abbrev pub others : FrameValue → List Values → List (Bool × Unfit)
 others f cells = (not (length cells == cells_wanted f.message), unfit.RowShape) ∷ (not (cells_fit f cells), unfit.CellType) ∷ []
 
 module _ (f : FrameValue) (cells : List Values) where

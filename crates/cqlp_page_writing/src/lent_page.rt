@@ -102,7 +102,7 @@ fn write_cells<'v, J: Iterator<Item = &'v Value> + Drop, W: Target>(
     requires ends { IsFinite (J.remaining cells) }
     ensures { (lent : List (Bor owned.Value)) × (ended : Bool)
         × DrainsIf J.next_gives (ended ≡ true) cells lent
-        × ((n : ℕ) → After page n [] → AddsLent page n (cells_of lent) ended (written W.Target target.old) result
+        × ((n : ℕ) → After page.entry n [] → AddsLent page.entry n (cells_of lent) ended (written W.Target target.old) result
             (written W.Target target.new)) }
 {
     let mut page = page;
