@@ -27,7 +27,7 @@ returns-in-Err g c =
     let before : List Values = cells_of c.loop-cell.yielded in (
       c.loop-cell.yielded ++ c.in-Some.cell ∷ [],
       false,
-      (c.next.new.self, Yields-more _ _ _ _ _ _ (subst (λ x. Yields g.J.Iterator.next_gives x c.loop-cell.yielded c.loop-cell.cell-iterator) c.into_iter-cell-iterator.ensures.into_iter_gives c.loop-cell.yielded_by) c.in-Some.ensures.steps, λ e. absurd cc),
+      (c.next.new.self, Yields-more g.J.Iterator.next_gives c.args.cells c.loop-cell.yielded c.loop-cell.cell-iterator c.in-Some.cell c.next.new.self (subst (λ x. Yields g.J.Iterator.next_gives x c.loop-cell.yielded c.loop-cell.cell-iterator) c.into_iter-cell-iterator.ensures.into_iter_gives c.loop-cell.yielded_by) c.in-Some.ensures.steps, λ e. absurd cc),
       λ n a. inl (record {
         cells = before;
         cell = value_of c.in-Some.cell.now;
@@ -64,6 +64,6 @@ returns-in-Err-finish g c =
         why = c.in-Err-finish.why;
         adds = inv.2 n a;
         stopped = c.in-Err-finish.ensures n before (after_all n before [] _ _ _ _ (inv.2 n a) a);
-        told = c.told-2.ensures;
+        told = c.told-in-Err-finish.ensures;
       }),
     )
