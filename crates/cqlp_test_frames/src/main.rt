@@ -3,7 +3,7 @@
 //! A line has a name, `|`, and the words of a frame value: its fields in the order of their definition. After some names
 //! `--sum` asks for the number of the events alone, and `--cut` for a target that fails after ten bytes. A line `value |` has
 //! a type or `-`, and a value, a line `cells |` a page that is written cell by cell, and a line `bind |` a type or `-`, and a value
-//! that is bound. A line without `|` is a heading.
+//! that is bound. A line `read |` or `write |` has what each call of a socket makes. A line without `|` is a heading.
 #![tactic(auto)]
 
 mod bound;
@@ -13,6 +13,8 @@ mod requests;
 mod responses;
 mod results;
 mod shown;
+mod sockets;
+mod stops;
 mod types;
 mod values;
 mod words;
@@ -36,6 +38,8 @@ fn execute(rt: &HostRuntime, line: &str) -> io::Result<()> {
         Some(("value", words)) => show_value(rt, words),
         Some(("cells", words)) => by_cell::show(rt, words),
         Some(("bind", words)) => bound::show(rt, words),
+        Some(("read", words)) => sockets::show_reads(rt, words),
+        Some(("write", words)) => sockets::show_writes(rt, words),
         Some((name, words)) => show_frame(rt, name, words),
         None => println!(rt; "{line}"),
     }

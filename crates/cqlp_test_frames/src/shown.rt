@@ -1,7 +1,8 @@
 //! What is written of a frame, and what is read back.
 
+use crate::stops::{Stops, is_told};
 use cqlp_decode::{Decoder, Outcome, run};
-use cqlp_encode::{EncodeError, encode};
+use cqlp_encode::{EncodeError, encode, encode_from};
 use cqlp_message::Frame;
 use cqlp_note::{Limits, OfStd};
 use cqlp_render::render_events;
@@ -39,8 +40,8 @@ fn write(alloc: Global, frame: &Frame) -> Written {
     }
 }
 
-/// Prints the answer, the length that is told beforehand, the bytes, the lines of their events, the verdict, and how many
-/// fronts of the bytes a target is left with that fails.
+/// Prints the answer, the length that is told beforehand, the bytes, the lines of their events, the verdict, how many rests of the
+/// bytes are written after a stop, and how many stops a socket makes that takes one byte at a time.
 pub fn whole(rt: &HostRuntime, frame: &Frame) -> io::Result<()> {
     let written = write(rt.alloc(), frame);
     print_whole(rt, frame, &written)
@@ -53,7 +54,11 @@ fn print_whole(rt: &HostRuntime, frame: &Frame, written: &Written) -> io::Result
     }
     print_bytes(rt, &written.bytes)?;
     print_events(rt, &written.bytes)?;
-    println!(rt; "{} fronts", fronts(rt.alloc(), frame, &written.bytes))
+    println!(rt;
+        "{} rests, {} stops",
+        rests(rt.alloc(), frame, &written.bytes),
+        stops(rt.alloc(), frame, &written.bytes, 1, 1)
+    )
 }
 
 /// Prints the answer, the length that is told, how many events are read of the bytes, and the verdict.
@@ -136,22 +141,33 @@ fn print_number(rt: &HostRuntime, decoder: &mut Decoder<Global>, bytes: &[u8]) -
     print_verdict(rt, outcome)
 }
 
-/// For how many numbers below a frame's length a target that fails after that many bytes has got just the frame's first
-/// bytes, that many, and the answer tells the number.
-fn fronts(alloc: Global, frame: &Frame, bytes: &[u8]) -> usize {
+/// For how many numbers below a frame's length a socket that stops once, after that many bytes, has all bytes in the end.
+fn rests(alloc: Global, frame: &Frame, bytes: &[u8]) -> usize {
     (0..bytes.len())
-        .filter(|room| is_front(alloc, frame, bytes, *room))
+        .filter(|room| stops(alloc, frame, bytes, *room, usize::MAX) == 1)
         .count()
 }
 
-fn is_front(alloc: Global, frame: &Frame, bytes: &[u8], room: usize) -> bool {
-    let mut target = Narrow::new(alloc, room, PIECE);
-    let answer = encode(frame, &mut target);
-    let is_told = match answer {
-        Err(EncodeError::Write { written }) => written as usize == room,
-        _ => false,
+/// How often a socket stops that takes `first` bytes before it would block, and `later` bytes before each later time, where each
+/// call goes on with what the one before told; 0 where one tells another number than came, or where not just these bytes have
+/// come in the end.
+fn stops(alloc: Global, frame: &Frame, bytes: &[u8], first: usize, later: usize) -> u64 {
+    let mut socket = Stops::socket(alloc, first, later);
+    let mut answer = encode(frame, &mut socket);
+    for _ in bytes {
+        let Err(EncodeError::Write { written }) = answer else {
+            break;
+        };
+        if !is_told(&socket, written) {
+            break;
+        }
+        answer = encode_from(frame, written, &mut socket);
+    }
+    let is_whole = match answer {
+        Ok(len) => len as usize == bytes.len() && socket.inner.text() == bytes,
+        Err(_) => false,
     };
-    is_told && target.text().len() == room && bytes.starts_with(target.text())
+    if is_whole { socket.failures } else { 0 }
 }
 
 fn print_verdict(rt: &HostRuntime, outcome: Outcome) -> io::Result<()> {

@@ -1,0 +1,4 @@
+pub mod Measured
+pub mod LentPages
+pub mod Fronts
+pub mod OneAnswer

@@ -1,0 +1,4 @@
+pub mod LentCells
+pub mod Tallies
+pub mod Adding
+pub mod Laws
