@@ -2,3 +2,4 @@ pub mod Accounts
 pub mod Heard
 pub mod Talks
 pub mod Texts
+pub mod WrittenOnce

@@ -10,4 +10,5 @@ pub mod Accounts
 pub mod Talks
 pub mod Tables
 pub mod Listening
+pub mod Capturing
 pub mod Laws

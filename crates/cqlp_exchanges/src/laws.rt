@@ -1,5 +1,6 @@
 //! Laws of what is written of exchanges. No code needs them.
 
+ghost use Rattle.cqlp_exchanges.specs.Capturing.{OneAnswerOfWriteExchanges};
 ghost use Rattle.cqlp_exchanges.specs.Laws.{OneAnswerOfHear, OneAnswerOfNew, OneAnswerOfStatement};
 
 /// Where memory is granted `Exchanges::new` has one answer, and so has `hear` where the output does not fail; and `statement_of` says one text or one id. The
@@ -8,4 +9,9 @@ pub fn one_answer()
     ensures new { OneAnswerOfNew }
     ensures hear { OneAnswerOfHear }
     ensures statement { OneAnswerOfStatement }
+{}
+
+/// Where nothing outside fails, `write_exchanges` has one answer: from the same bytes, ports and filter the same lines and the same status.
+pub fn one_answer_of_write_exchanges()
+    ensures { OneAnswerOfWriteExchanges }
 {}

@@ -1,0 +1,15 @@
+-- Two runs are one.
+use Rattle.std.proofs.Common.{◌≡◌, ◌∙◌, ◌≢◌, ℕ, List, Option, Result, sym, ap, subst}
+use Rattle.cqlp_text.specs.Outputs.{Output}
+use Rattle.cqlp_streams.specs.declared.capturing.CaptureRead.{CaptureRead}
+use Rattle.cqlp_streams.specs.declared.fault.StreamsFault.{StreamsFault}
+use Rattle.cqlp_streams.specs.Endings.{Concludes}
+use Rattle.cqlp_streams.proofs.OneAnswer.{runs_once}
+use Rattle.cqlp_exchanges.specs.declared.sums.ExchangeSums.{ExchangeSums}
+use Rattle.cqlp_exchanges.specs.Listening.{Listening, StopsAt, new_listening, with_saying}
+use Rattle.cqlp_exchanges.specs.Capturing.{OneAnswerOfWriteExchanges, default_limits, sums_words}
+
+pub exchanges_once : OneAnswerOfWriteExchanges
+exchanges_once filter ports xs out err made made' left left' status status' out' out'' err' err'' (r, sums, (w, reads, are, is), ends) well (r', sums', (w', reads', are', is'), ends') well' =
+    let one = runs_once with_saying StopsAt (λ (z : Listening). sums_words z.account.sums) ports xs (new_listening default_limits filter out) w w' made made' left left' r r' err err' err'' status status' reads (subst (λ (z : ExchangeSums). Concludes (sums_words z) r err status err') are ends) well reads' (subst (λ (z : ExchangeSums). Concludes (sums_words z) r' err status' err'') are' ends') well' in
+    (one.0, is' ∙ ap (λ (z : Listening). z.account.output) one.1 ∙ sym is, one.2)
