@@ -126,7 +126,8 @@ fn with_capture<'a>(alloc: Global, program: Command<'a>) -> Result<Command<'a>, 
 fn capture<'a>(alloc: Global) -> Result<Command<'a>, AllocError> {
     Command::new(alloc, "capture")
         .about(
-            "Write a line for each request in a packet capture and its reply, or with --streams the bytes of each direction of each connection to a file of its own",
+            "Write a line for each request in a packet capture and its reply, or with --streams the bytes \
+             of each direction of each connection to a file of its own",
         )
         .after_help("Example: tcpdump -U -w - port 9042 | cqlp capture --slow 10 -")
         .arg(
