@@ -1,5 +1,5 @@
 -- Cells that are lent as the first time are those of the page.
-use Rattle.std.proofs.Common.{◌≡◌, ℕ, zero, suc, ◌+◌, ◌-◌, ◌<◌, ◌≤◌, ◌==◌, ◌&&◌, if◌then◌else◌, Bool, true, false, not, List, [], ◌∷◌, ◌++◌, length, Option, Some, None, Result, Ok, Err, refl, sym, ap, ◌∙◌, subst, append_assoc, append-nil, arith}
+use Rattle.std.proofs.Common.{◌≡◌, ℕ, ◌≤◌, ◌==◌, ◌&&◌, if◌then◌else◌, Bool, true, false, not, List, [], ◌∷◌, ◌++◌, length, Option, Some, None, refl, sym, ap, ◌∙◌, subst, append_assoc, append-nil, arith}
 use Rattle.std.proofs.lemmas.List.{length-append}
 use Rattle.std.proofs.lemmas.Bool.Decides.{nat_tests}
 use Rattle.cqlp_note.specs.Outputs.{Output}
@@ -8,9 +8,9 @@ use Rattle.cqlp_message.specs.declared.unfit.Unfit.{Unfit}
 use Rattle.cqlp_message.specs.declared.unfit.Unfit.TheVariants as unfit
 use Rattle.cqlp_message.specs.FrameValues.{FrameValue}
 use Rattle.cqlp_message.specs.Frames.{first_of}
-use Rattle.cqlp_message.specs.Pages.{cells_fit, cells_size, cells_wanted, fits_column, page_columns, page_obstacles, page_unfit_of, types_of_page}
+use Rattle.cqlp_message.specs.Pages.{cells_fit, cells_size, cells_wanted, page_obstacles, page_unfit_of}
 use Rattle.cqlp_message.proofs.PageCells.{cells_size_append}
-use Rattle.cqlp_message.proofs.PageFrames.{is_page, next_fits, IsPage}
+use Rattle.cqlp_message.proofs.PageFrames.{is_page, next_fits}
 use Rattle.cqlp_page_writing.specs.LentCells.{Another, TooFew, Changes, are_all, are_front, lent_unfit_of}
 use Rattle.cqlp_page_writing.specs.Laws.{Lends, SameAreNotChanged}
 use Rattle.cqlp_page_writing.proofs.Measured.{others}

@@ -1,10 +1,9 @@
 -- A page whose cells are lent the second time, and written one after the other.
-use Rattle.std.proofs.Common.{◌≡◌, ℕ, zero, suc, ◌+◌, ◌-◌, ◌<◌, ◌≤◌, ◌==◌, ◌&&◌, ◌⊎◌, Bool, true, false, not, nat_lt, nat_le, List, [], ◌∷◌, ◌++◌, length, take, Option, Some, None, Result, Ok, Err, refl, sym, ap, ◌∙◌, subst, inl, inr, append_assoc, append-nil, arith}
+use Rattle.std.proofs.Common.{◌≡◌, ℕ, zero, suc, ◌+◌, ◌<◌, ◌≤◌, ◌==◌, ◌&&◌, Bool, true, false, not, nat_lt, nat_le, List, [], ◌∷◌, ◌++◌, length, take, Some, None, Result, Ok, Err, refl, sym, ap, ◌∙◌, subst, inl, inr, append_assoc, append-nil, arith}
 use Rattle.std.proofs.lemmas.List.{length-append, take_all}
 use Rattle.std.proofs.lemmas.Bool.{cases_lt, lt-ltb, le-ltb}
 use Rattle.std.proofs.lemmas.Bool.Decides.{nat_tests}
 use Rattle.std.specs.Io.KnownBytes.{Appends}
-use Rattle.std.specs.Prelude.{⊤}
 use Rattle.cqlp_note.specs.Outputs.{Output, Offered}
 use Rattle.cqlp_note.specs.Streams.{counted}
 use Rattle.cqlp_note.proofs.Appended.{appends_then}
@@ -27,7 +26,7 @@ use Rattle.cqlp_encode.proofs.PageWhole.{as_encoded}
 use Rattle.cqlp_page_writing.specs.declared.lent_page.LentError.{LentError}
 use Rattle.cqlp_page_writing.specs.declared.lent_page.LentError.TheVariants as error
 use Rattle.cqlp_page_writing.specs.LentCells.{Another, TooFew, Changes, EncodesLent, Stops, are_all, are_front, front_bytes, lent_unfit_of}
-use Rattle.cqlp_page_writing.specs.Adding.{AddsLent, EndStops, LastStops, told}
+use Rattle.cqlp_page_writing.specs.Adding.{AddsLent, told}
 
 -- ---- one cell more
 
@@ -261,13 +260,15 @@ module _ (f : Frame) (n : ℕ) (p : PageState) (old start : Output) (begun : Beg
 pub head_cut : (f : Frame) (n : ℕ) (first : List Values) (why : PageError) (ended : Bool) (old new : Output) → lent_unfit_of (frame_of f) first ≡ None → page_unfit_of (frame_of f) n ≡ None → cells_size first ≡ n → Begins f n old (Err why) new → EncodesLent (frame_of f) first [] ended old (Err (told why)) new
 head_cut f n first (page_error.Unfit why) ended old new fits begins size b = let both = sym begins ∙ b.0 in absurd cc
 head_cut f n first (page_error.Write k) ended old new fits begins size b =
-    let none : front_bytes (frame_of f) n [] ≡ page_head (frame_of f) n = append-nil (page_head (frame_of f) n) in
-    (fits, rw size (record {
-      front = front_is (frame_of f) n [] (omega arith) (no_cells_fit (frame_of f) n begins) (omega arith);
-      less = omega (arith, b.1, b.2, ap length none);
-      last = inl refl;
-      offered = subst (λ (x : List ℕ). Offered old x k new) (sym none) b.3;
-    }))
+    let none : front_bytes (frame_of f) n [] ≡ page_head (frame_of f) n = append-nil (page_head (frame_of f) n) in (
+      fits,
+      rw size (record {
+        front = front_is (frame_of f) n [] (omega arith) (no_cells_fit (frame_of f) n begins) (omega arith);
+        less = omega (arith, b.1, b.2, ap length none);
+        last = inl refl;
+        offered = subst (λ (x : List ℕ). Offered old x k new) (sym none) b.3;
+      }),
+    )
 head_cut f n first page_error.OutOfTurn ended old new fits begins size b = absurd b
 head_cut f n first page_error.PastLength ended old new fits begins size b = absurd b
 head_cut f n first page_error.NotDone ended old new fits begins size b = absurd b

@@ -1,5 +1,5 @@
 -- Cells that are counted, and why a page is not written with them.
-use Rattle.std.proofs.Common.{◌≡◌, ◌≢◌, ℕ, zero, suc, ◌+◌, ◌-◌, ◌*◌, ◌<◌, ◌≤◌, ◌==◌, ◌%◌, ◌^◌, ◌&&◌, Bool, true, false, not, List, [], ◌∷◌, ◌++◌, length, min, Option, Some, None, Result, Ok, Err, refl, sym, ap, ◌∙◌, subst, inl, inr, arith}
+use Rattle.std.proofs.Common.{◌≡◌, ◌≢◌, ℕ, zero, suc, ◌+◌, ◌-◌, ◌*◌, ◌<◌, ◌==◌, ◌%◌, ◌^◌, ◌&&◌, Bool, true, false, not, List, [], ◌∷◌, ◌++◌, length, min, Option, Some, None, Result, Ok, Err, refl, sym, ap, ◌∙◌, subst, inl, inr, arith}
 use Rattle.std.proofs.lemmas.List.{length-append}
 use Rattle.std.proofs.lemmas.Bool.{cases_lt, lt-ltb}
 use Rattle.std.proofs.lemmas.Bool.Decides.{nat_tests}
@@ -16,7 +16,7 @@ use Rattle.cqlp_message.specs.Pages.{cells_fit, cells_size, cells_wanted, fits_c
 use Rattle.cqlp_message.proofs.PageCells.{cells_size_more}
 use Rattle.cqlp_message.proofs.PageFrames.{is_page, next_fits, no_cells_fit, page_rows, wanted_is}
 use Rattle.cqlp_page_writing.specs.declared.tally.Tally.{Tally}
-use Rattle.cqlp_page_writing.specs.LentCells.{lent_obstacles, lent_unfit_of, measure_of}
+use Rattle.cqlp_page_writing.specs.LentCells.{lent_unfit_of, measure_of}
 use Rattle.cqlp_page_writing.specs.Tallies.{HasCounted}
 
 -- ---- the first of two lists of obstacles
@@ -52,7 +52,6 @@ abbrev pub others : FrameValue → List Values → List (Bool × Unfit)
 others f cells = (not (length cells == cells_wanted f.message), unfit.RowShape) ∷ (not (cells_fit f cells), unfit.CellType) ∷ []
 
 module _ (f : FrameValue) (cells : List Values) where
-
   pub page_refused : (why : Unfit) → page_unfit_of f (cells_size cells) ≡ Some why → measure_of f cells ≡ Err why
   page_refused why e = ap (λ (o : Option Unfit). if_none o (cells_size cells)) (first_some (page_obstacles f (cells_size cells)) (others f cells) why e)
 

@@ -1,20 +1,19 @@
 -- One answer of `encode_page` meets its clause.
-use Rattle.std.proofs.Common.{◌≡◌, ℕ, ◌+◌, ◌<◌, ◌≤◌, ◌==◌, ◌&&◌, ◌⊎◌, nat_lt, nat_le, Bool, true, false, List, [], ◌∷◌, ◌++◌, length, take, Option, Some, None, IsSome, Result, Ok, Err, refl, sym, ap, ◌∙◌, subst, inl, inr, append_assoc, append-nil, arith}
+use Rattle.std.proofs.Common.{◌≡◌, ℕ, ◌+◌, ◌<◌, ◌≤◌, ◌==◌, ◌&&◌, ◌⊎◌, nat_lt, nat_le, Bool, true, false, List, [], ◌∷◌, ◌++◌, length, take, Option, Some, None, IsSome, Ok, Err, refl, sym, ap, ◌∙◌, subst, inl, inr, append-nil, arith}
 use Rattle.std.proofs.lemmas.List.{length-append, length-take}
 use Rattle.std.proofs.lemmas.Bool.{lt-ltb, le-ltb}
 use Rattle.std.proofs.lemmas.Bool.Decides.{nat_tests}
 use Rattle.std.specs.Io.KnownBytes.{Appends}
 use Rattle.cqlp_note.specs.Outputs.{Output, output, Offered}
 use Rattle.cqlp_note.specs.Streams.{counted}
-use Rattle.cqlp_value.specs.Values.{Values, values_size}
+use Rattle.cqlp_value.specs.Values.{Values}
 use Rattle.cqlp_message.specs.declared.unfit.Unfit.{Unfit}
 use Rattle.cqlp_message.specs.FrameValues.{FrameValue}
-use Rattle.cqlp_message.specs.Frames.{frame_bytes, frame_size}
+use Rattle.cqlp_message.specs.Frames.{frame_bytes}
 use Rattle.cqlp_message.specs.Pages.{cells_bytes, cells_fit, cells_size, cells_wanted, page_head, page_unfit_of, with_cells}
 use Rattle.cqlp_message.proofs.PageCells.{cells_size_append}
 use Rattle.cqlp_message.proofs.PageFrames.{page_written}
 use Rattle.cqlp_encode.specs.Encoding.{Encodes}
-use Rattle.cqlp_page_writing.specs.declared.lent_page.LentError.{LentError}
 use Rattle.cqlp_page_writing.specs.declared.lent_page.LentError.TheVariants as error
 use Rattle.cqlp_page_writing.specs.LentCells.{Another, TooFew, Changes, EncodesLent, Stops, are_all, are_front, front_bytes, lent_unfit_of}
 use Rattle.cqlp_page_writing.specs.Laws.{Lends, OneAnswerOfEncodePage}

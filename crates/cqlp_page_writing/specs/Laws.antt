@@ -1,5 +1,5 @@
 -- The laws of pages whose cells are lent twice.
-use Rattle.std.specs.Prelude.{◌≡◌, ◌++◌, ℕ, Bool, true, List, [], IsSome, Result, Ok, Err}
+use Rattle.std.specs.Prelude.{◌≡◌, ◌++◌, ℕ, Bool, true, List, [], IsSome, Result, Err}
 use Rattle.cqlp_note.specs.Outputs.{Output}
 use Rattle.cqlp_value.specs.Values.{Values}
 use Rattle.cqlp_message.specs.FrameValues.{FrameValue}

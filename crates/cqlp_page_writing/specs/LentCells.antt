@@ -12,7 +12,6 @@ use Rattle.cqlp_message.specs.declared.unfit.Unfit.TheVariants as unfit
 use Rattle.cqlp_message.specs.FrameValues.{FrameValue}
 use Rattle.cqlp_message.specs.Frames.{first_of, if_none}
 use Rattle.cqlp_message.specs.Pages.{cells_bytes, cells_fit, cells_size, cells_wanted, page_head, page_obstacles, with_cells}
-use Rattle.cqlp_encode.specs.declared.writing.EncodeError.TheVariants as encode_error
 use Rattle.cqlp_encode.specs.Encoding.{Encodes}
 use Rattle.cqlp_page_writing.specs.declared.lent_page.LentError.{LentError}
 use Rattle.cqlp_page_writing.specs.declared.lent_page.LentError.TheVariants as error
@@ -61,19 +60,19 @@ pub record Stops (f : FrameValue) (n : ℕ) (lent : List Values) (k : ℕ) (old 
   pub front : are_front f n lent ≡ true
   pub less : k < length (front_bytes f n lent)
   pub last :
-    (lent ≡ [])
-    ⊎ ((cells : List Values) × (v : Values) × (lent ≡ cells ++ v ∷ []) × (length (front_bytes f n cells) ≤ k))
+      (lent ≡ [])
+      ⊎ ((cells : List Values) × (v : Values) × (lent ≡ cells ++ v ∷ []) × (length (front_bytes f n cells) ≤ k))
   pub offered : Offered old (front_bytes f n lent) k new
 
 -- A cell was lent that is not the next of a page with cells of n bytes, or none though more are wanted. Those before it
 -- were written, and no call of the target failed.
 pub data Changes (f : FrameValue) (n : ℕ) (lent : List Values) (ended : Bool) (old new : Output) : Type 0 where
   Another :
-    (cells : List Values) (v : Values) → lent ≡ cells ++ v ∷ [] → are_front f n cells ≡ true → are_front f n lent ≡ false
-    → Offered old (front_bytes f n cells) (length (front_bytes f n cells)) new → Changes f n lent ended old new
+      (cells : List Values) (v : Values) → lent ≡ cells ++ v ∷ [] → are_front f n cells ≡ true → are_front f n lent ≡ false
+      → Offered old (front_bytes f n cells) (length (front_bytes f n cells)) new → Changes f n lent ended old new
   TooFew :
-    ended ≡ true → are_front f n lent ≡ true → are_all f n lent ≡ false
-    → Offered old (front_bytes f n lent) (length (front_bytes f n lent)) new → Changes f n lent ended old new
+      ended ≡ true → are_front f n lent ≡ true → are_all f n lent ≡ false
+      → Offered old (front_bytes f n lent) (length (front_bytes f n lent)) new → Changes f n lent ended old new
 
 -- What becomes of a page whose cells were these when they were lent first. Then these were lent again, and that they have
 -- ended, or a call or a cell before that stopped it.

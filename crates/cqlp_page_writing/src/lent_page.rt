@@ -66,12 +66,12 @@ pub fn measure_cells<'v, I: Iterator<Item = &'v Value> + Drop>(
 /// [`LentError::Unfit`] where [`measure_cells`] says why no page is written with the first cells, before anything is written.
 /// [`LentError::Changed`] at the first cell of `again` that cannot be the next of the page, and where it ends too soon.
 /// [`LentError::Write`] at the first call of the target that fails or takes nothing.
-pub fn encode_page<'v, I: Iterator<Item = &'v Value> + Drop, J: Iterator<Item = &'v Value> + Drop, W: Target>(
-    frame: &Frame,
-    first: I,
-    again: J,
-    target: &mut W,
-) -> Result<u32, LentError>
+pub fn encode_page<
+    'v,
+    I: Iterator<Item = &'v Value> + Drop,
+    J: Iterator<Item = &'v Value> + Drop,
+    W: Target,
+>(frame: &Frame, first: I, again: J, target: &mut W) -> Result<u32, LentError>
     requires can_first { I.can_next first }
     requires first_ends { IsFinite (I.remaining first) }
     requires can_again { J.can_next again }
@@ -80,7 +80,7 @@ pub fn encode_page<'v, I: Iterator<Item = &'v Value> + Drop, J: Iterator<Item = 
         × Drains I.next_gives first lent
         × DrainsIf J.next_gives (ended ≡ true) again lent_again
         × EncodesLent (frame_of frame.now) (cells_of lent) (cells_of lent_again) ended (written W.Target target.old) result
-            (written W.Target target.new) }
+        (written W.Target target.new) }
 {
     let cells_len = match measure_cells(frame, first) {
         Ok(len) => len,
@@ -103,7 +103,7 @@ fn write_cells<'v, J: Iterator<Item = &'v Value> + Drop, W: Target>(
     ensures { (lent : List (Bor owned.Value)) × (ended : Bool)
         × DrainsIf J.next_gives (ended ≡ true) cells lent
         × ((n : ℕ) → After page.entry n [] → AddsLent page.entry n (cells_of lent) ended (written W.Target target.old) result
-            (written W.Target target.new)) }
+        (written W.Target target.new)) }
 {
     let mut page = page;
     for cell in cells {

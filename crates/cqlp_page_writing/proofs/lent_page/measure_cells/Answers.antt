@@ -2,7 +2,6 @@ use Rattle.std.proofs.Common.{[], ◌∷◌, subst, sym}
 use Rattle.std.proofs.lemmas.List.{map-append}
 use Rattle.std.specs.Iterator.{Yields}
 use Rattle.cqlp_message.specs.Owned.{frame_of}
-use Rattle.cqlp_page_writing.specs.LentCells.{cells_of}
 use Rattle.cqlp_page_writing.specs.Tallies.{HasCounted}
 use Rattle.cqlp_page_writing.proofs.lent_page.measure_cells.Goals as goal
 
@@ -16,7 +15,7 @@ loop-cell-preserved g c =
 
 pub returns : goal.returns
 returns g c = (
-    c.loop-cell.yielded,
-    (c.next.new.self, (c.loop-cell.cell-iterator, subst (λ x. Yields g.I.Iterator.next_gives x c.loop-cell.yielded c.loop-cell.cell-iterator) c.into_iter-cell-iterator.ensures.into_iter_gives c.loop-cell.yielded_by, c.in-None.ensures.steps)),
-    c.measure.ensures _ _ c.loop-cell.invariant.2,
-  )
+  c.loop-cell.yielded,
+  (c.next.new.self, (c.loop-cell.cell-iterator, subst (λ x. Yields g.I.Iterator.next_gives x c.loop-cell.yielded c.loop-cell.cell-iterator) c.into_iter-cell-iterator.ensures.into_iter_gives c.loop-cell.yielded_by, c.in-None.ensures.steps)),
+  c.measure.ensures _ _ c.loop-cell.invariant.2,
+)

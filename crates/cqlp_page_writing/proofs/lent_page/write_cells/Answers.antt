@@ -1,11 +1,11 @@
-use Rattle.std.proofs.Common.{List, Bool, false, true, [], ◌∷◌, ◌++◌, refl, subst, sym, inl, inr}
+use Rattle.std.proofs.Common.{List, false, true, [], ◌∷◌, ◌++◌, refl, subst, sym, inl, inr}
 use Rattle.std.specs.Iterator.{Yields}
 use Rattle.std.proofs.lemmas.List.{map-append}
 use Rattle.std.proofs.iter.Next.{Yields-more}
 use Rattle.cqlp_note.specs.Outputs.{written}
 use Rattle.cqlp_value.specs.Owned.{value_of}
 use Rattle.cqlp_value.specs.Values.{Values}
-use Rattle.cqlp_encode.specs.PageWriting.{Adds, AddsAll}
+use Rattle.cqlp_encode.specs.PageWriting.{AddsAll}
 use Rattle.cqlp_page_writing.specs.LentCells.{cells_of}
 use Rattle.cqlp_page_writing.proofs.LentPages.{after_all, one_more_added}
 use Rattle.cqlp_page_writing.proofs.lent_page.write_cells.Goals as goal
@@ -59,11 +59,14 @@ returns-in-Err-finish g c =
       c.loop-cell.yielded,
       true,
       (c.loop-cell.cell-iterator, subst (λ x. Yields g.J.Iterator.next_gives x c.loop-cell.yielded c.loop-cell.cell-iterator) c.into_iter-cell-iterator.ensures.into_iter_gives c.loop-cell.yielded_by, λ e. (c.next.new.self, c.in-None.ensures.steps)),
-      λ n a. inr (refl, record {
-        q = c.loop-cell.page;
-        why = c.in-Err-finish.why;
-        adds = inv.2 n a;
-        stopped = c.in-Err-finish.ensures n before (after_all n before [] _ _ _ _ (inv.2 n a) a);
-        told = c.told-in-Err-finish.ensures;
-      }),
+      λ n a. inr (
+        refl,
+        record {
+          q = c.loop-cell.page;
+          why = c.in-Err-finish.why;
+          adds = inv.2 n a;
+          stopped = c.in-Err-finish.ensures n before (after_all n before [] _ _ _ _ (inv.2 n a) a);
+          told = c.told-in-Err-finish.ensures;
+        },
+      ),
     )

@@ -1,6 +1,6 @@
-use Rattle.std.proofs.Common.{◌≡◌, ◌-◌, ◌^◌, ℕ, None, min, sym, ◌∙◌, arith}
+use Rattle.std.proofs.Common.{◌≡◌, None, sym, ◌∙◌, arith}
 use Rattle.cqlp_message.specs.Owned.{frame_of}
-use Rattle.cqlp_message.specs.Pages.{cells_wanted, page_unfit_of}
+use Rattle.cqlp_message.specs.Pages.{page_unfit_of}
 use Rattle.cqlp_page_writing.proofs.Measured.{measures_all, measures_number, measures_page, measures_past, measures_same, measures_type}
 use Rattle.cqlp_page_writing.proofs.tally.Tally.measure.Goals as goal
 use Rattle.cqlp_page_writing.proofs.tally.Tally.measure.Goals.{then-self-via-then-self, then-self-via-else-self+then-self-cells_wanted}
@@ -8,7 +8,7 @@ use Rattle.cqlp_page_writing.proofs.tally.Tally.measure.Goals.{then-self-via-the
 pub returns-in-Some : goal.returns-in-Some
 returns-in-Some c f cells =
     measures_same c.args.self.now _ cells (λ h.
-        measures_page (frame_of c.args.self.now.frame.now) cells c.args.self.now c.min-len.result h (omega (arith, c.min-len.ensures, c.from.ensures)) c.in-Some.why (sym c.in-Some.ensures.is)) f
+    measures_page (frame_of c.args.self.now.frame.now) cells c.args.self.now c.min-len.result h (omega (arith, c.min-len.ensures, c.from.ensures)) c.in-Some.why (sym c.in-Some.ensures.is)) f
 
 pub returns-then-self : goal.returns-then-self
 returns-then-self c f cells =
