@@ -1,3 +1,4 @@
+pub mod Beginning
 pub mod Checked
 pub mod Cored
 pub mod Cores
@@ -13,7 +14,9 @@ pub mod OneVerdict
 pub mod Places
 pub mod Putting
 pub mod Services
+pub mod Skipping
 pub mod Spans
+pub mod Stretching
 pub mod Tables
 pub mod There
 pub mod Values

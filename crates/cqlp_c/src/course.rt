@@ -248,8 +248,8 @@ impl CqlpCourse {
 fn place(base: u64, events: &mut [CqlpEvent])
     ensures { events.new ≡ specs.placed_from base events.old }
 {
-    for at in 0..events.len() {
-        events[at].at = base.saturating_add(events[at].at);
+    for event in events.iter_mut() {
+        event.at = base.saturating_add(event.at);
     }
 }
 

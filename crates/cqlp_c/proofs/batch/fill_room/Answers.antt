@@ -15,6 +15,7 @@ use Rattle.cqlp_c.specs.declared.event.CqlpEvent.{CqlpEvent}
 use Rattle.cqlp_grammar.specs.Events.{Event, event_of}
 use Rattle.cqlp_c.specs.Batches.{Put, TellsStep, buffer_in, events_of, put_of}
 use Rattle.cqlp_decode.proofs.Taken.{takes_pays}
+use Rattle.cqlp_c.proofs.Beginning.{begun_more}
 use Rattle.cqlp_c.proofs.Fills.{filled_none, filled_more, fills_gathered, fills_full}
 use Rattle.cqlp_c.proofs.Gathering.{step_put}
 use Rattle.cqlp_c.proofs.Handed.{filled_items, span_size}
@@ -66,6 +67,7 @@ slots-init c = record {
   same = refl;
   pays = omega arith;
   others = refl;
+  framed = refl;
   filled = λ gifts s es a. filled_none gifts (state c.args.decoder.now).rules (state c.args.decoder.now) s c.args.input.now (as_ptr c.args.input) es a;
 }
 
@@ -108,6 +110,10 @@ slots-preserved c =
       others =
           let behind : drop count array ≡ drop count c.args.events.now = drop-set-lt count c.slots.events c.slots.count c.put_step-gathered.new.slot (omega arith) ∙ drops c.slots.count c.slots.events c.args.events.now i.others in
           p.others ∙ rw p.count (drops_more count (length p.items) array c.args.events.now behind);
+      framed =
+          let put = take_more_set c.slots.events c.slots.count c.put_step-gathered.new.slot c.slots-test.true in
+          begun_more c.args.frame.now c.slots.frame c.after.result c.put_whole-put.new.frame (take c.slots.count c.slots.events) c.put_step-gathered.new.slot p.events _ i.framed c.after.ensures p.frame
+          (p.first ∙ ap (λ (z : List CqlpEvent). z ++ p.events) put);
       filled = λ gifts s es a.
           let f = i.filled gifts s es a in
           let leads = rw (c.in-Event.is, rest_is) at (c.next.follows.holds-at-none.1 gifts _ _ f.after) in
