@@ -1,7 +1,8 @@
 -- Where a handle is in its stream, which is read in stretches (Stretches of cqlp_skip): each but the first begins behind a frame that was passed over.
 use Rattle.std.specs.Prelude.{◌≡◌, ℕ, zero, suc, ◌+◌, ◌-◌, ◌^◌, min, ℤ, pos, negsuc, List, [], ◌∷◌, Option, Some, None, Result, Ok, Err}
-use Rattle.std.specs.Prelude.{◌==◌, ◌&&◌, nat_lt, nat_le, if◌then◌else◌}
+use Rattle.std.specs.Prelude.{Bool, true, false, ◌==◌, ◌&&◌, nat_lt, nat_le, if◌then◌else◌}
 use Rattle.cqlp_note.specs.declared.refusal.Refusal.{Refusal}
+use Rattle.cqlp_grammar.specs.Events.{Event, Frame, End}
 use Rattle.cqlp_grammar.specs.declared.event.Finish.{Finish}
 use Rattle.cqlp_grammar.specs.declared.event.Finish.TheVariants as finish
 use Rattle.cqlp_skip.specs.Pieces as pieces
@@ -36,7 +37,13 @@ frame_in c = record {
   tag = c.tag;
 }
 
--- the frame under way after an event: a header begins one, and an end ends it
+-- an event begins or ends a frame
+abbrev pub is_edge : Event → Bool
+is_edge (Frame h) = true
+is_edge (End extra) = true
+is_edge e = false
+
+-- the frame under way after an event, as C sees it: a header begins one, and an end ends it
 abbrev pub begun_after : CqlpBegun → CqlpEvent → CqlpBegun
 begun_after f c =
     if c.tag == numbers.TAG_FRAME then frame_in c else (if c.tag == numbers.TAG_END then no_frame else f)
@@ -98,9 +105,11 @@ stop_from base stop.More = stop.More
 stop_from base stop.Full = stop.Full
 stop_from base (stop.Refused r) = stop.Refused (refusal_from base r)
 
--- a batch, before whose bytes others were passed over
+-- A batch, before whose bytes others were passed over. That of the first stretch is there already.
 abbrev pub batch_from : (base passed : ℕ) → Batch → Batch
-batch_from base passed b = record { used = passed + b.used; events = b.events; stop = stop_from base b.stop }
+batch_from zero passed b = b
+batch_from (suc n) passed b =
+    record { used = passed + b.used; events = b.events; stop = stop_from (suc n) b.stop }
 
 -- ---- the end
 

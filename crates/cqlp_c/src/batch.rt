@@ -178,17 +178,16 @@ fn fill_room(
                 used += taken;
                 let slot = &mut events[count];
                 let gathered = put_step(slot, at, &event, &source.input[..used], taken);
+                frame.note(&event, slot);
                 count += 1;
                 if gathered {
                     put_gathered(slot, decoder);
-                    *frame = frame.after(slot);
                     return Batch {
                         used,
                         events: count,
                         stop: Stop::Full,
                     };
                 }
-                *frame = frame.after(slot);
             }
         }
         let put = put_whole(decoder, &source.input[used..], events, count, frame);

@@ -1,12 +1,15 @@
 //! Where a handle is in a stream of which frames were passed over.
 
-ghost use Rattle.std.specs.Prelude.{◌≡◌, ◌+◌, ◌-◌, ◌<◌, ◌≤◌, ◌^◌, min};
+ghost use Rattle.std.specs.Prelude.{◌≡◌, ℕ, ◌+◌, ◌-◌, ◌<◌, ◌≤◌, ◌^◌, min};
+ghost use Rattle.std.specs.Ptr.{Ptr};
+ghost use Rattle.cqlp_grammar.specs.Events.{event_of};
 ghost use Rattle.cqlp_c.specs.Course as specs;
+ghost use Rattle.cqlp_c.specs.Events.{told_at};
 
 use crate::batch::{Batch, Stop};
 use crate::event::CqlpEvent;
 use crate::numbers::*;
-use cqlp_decode::Finish;
+use cqlp_decode::{Event, Finish};
 use cqlp_note::Refusal;
 
 /// The event of the frame under way, as much of it as its header says; zeros where none is. Its offset is from where the
@@ -62,6 +65,14 @@ pub enum Unskippable {
     TooFar,
 }
 
+/// Whether an event begins or ends a frame.
+#[inline(always)]
+fn is_edge(event: &Event<'_>) -> bool
+    ensures { result ≡ specs.is_edge (event_of event.now) }
+{
+    matches!(event, Event::Frame(_) | Event::End { .. })
+}
+
 impl CqlpBegun {
     /// No frame.
     pub fn none() -> CqlpBegun
@@ -78,9 +89,19 @@ impl CqlpBegun {
         }
     }
 
-    /// The frame under way after an event.
+    /// Goes on to the frame under way after an event, which C is told so.
     #[inline(always)]
-    pub fn after(self, event: &CqlpEvent) -> CqlpBegun
+    pub fn note(&mut self, event: &Event<'_>, told: &CqlpEvent)
+        ensures { (at : ℕ) (place : Ptr) → told.now ≡ told_at at (event_of event.now) place →
+            self.new ≡ specs.begun_after self.old told.now }
+    {
+        if is_edge(event) {
+            *self = self.after(told);
+        }
+    }
+
+    /// The frame under way after an event.
+    fn after(self, event: &CqlpEvent) -> CqlpBegun
         ensures { result ≡ specs.begun_after self event.now }
     {
         if event.tag == TAG_FRAME {
@@ -145,7 +166,6 @@ impl CqlpCourse {
     }
 
     /// How many bytes of a piece of this length are passed over first: those that the frame passed over last still has.
-    #[inline]
     pub fn passed(&self, len: usize) -> usize
         ensures is { result ≡ min (self.now.base - self.now.used) len }
         ensures within { result ≤ len }
@@ -162,18 +182,7 @@ impl CqlpCourse {
         self.used = self.used.saturating_add(count as u64);
     }
 
-    /// Puts events at their offsets in the whole stream.
-    #[inline]
-    pub fn place(&self, events: &mut [CqlpEvent])
-        ensures { events.new ≡ specs.placed self.now.base events.old }
-    {
-        if self.base > 0 {
-            place(self.base, events);
-        }
-    }
-
     /// A batch, of which the first bytes were passed over, with its refusal at its offset in the whole stream.
-    #[inline]
     pub fn batch(&self, passed: usize, batch: Batch) -> Batch
         requires { passed + batch.used < 2 ^ 64 }
         ensures { result ≡ specs.batch_from self.now.base passed batch }
@@ -244,8 +253,7 @@ impl CqlpCourse {
 }
 
 /// Puts events at their offsets in the whole stream, in which their stretch begins at `base`.
-#[inline(never)]
-fn place(base: u64, events: &mut [CqlpEvent])
+pub fn place(base: u64, events: &mut [CqlpEvent])
     ensures { events.new ≡ specs.placed_from base events.old }
 {
     for event in events.iter_mut() {

@@ -15,7 +15,7 @@ ghost use Rattle.cqlp_c.specs.Handle.{Finishes, Holds, Makes, Nexts, PassesOver,
 ghost use Rattle.cqlp_c.specs.Shown as shown;
 
 use crate::batch::{Batch, fill, or_none};
-use crate::course::{CqlpCourse, CqlpSkipped, Unskippable};
+use crate::course::{CqlpCourse, CqlpSkipped, Unskippable, place};
 use crate::event::CqlpEvent;
 use crate::loose::Loose;
 use crate::numbers::*;
@@ -151,9 +151,9 @@ pub extern "C" fn cqlp_new(alloc: Global, limits: &CqlpLimits, decoder: &mut Cql
     }
 }
 
-/// Puts the next events of the input into the array, at their offsets in the whole stream. The first bytes are used without being
-/// looked at, as many as the frame passed over last still has.
-fn read_on(
+/// The same as `read_on`, once a frame was passed over.
+#[inline(never)]
+fn read_behind(
     decoder: &mut Decoder<Global>,
     course: &mut CqlpCourse,
     input: &[u8],
@@ -163,9 +163,28 @@ fn read_on(
 {
     let passed = course.passed(input.len());
     let batch = fill(decoder, &input[passed..], events, &mut course.frame);
-    course.place(&mut events[..batch.events]);
+    place(course.base, &mut events[..batch.events]);
     course.go_on(passed + batch.used);
     course.batch(passed, batch)
+}
+
+/// Puts the next events of the input into the array, at their offsets in the whole stream. The first bytes are used without being
+/// looked at, as many as the frame passed over last still has.
+#[inline(always)]
+fn read_on(
+    decoder: &mut Decoder<Global>,
+    course: &mut CqlpCourse,
+    input: &[u8],
+    events: &mut [CqlpEvent],
+) -> Batch
+    ensures { PutsOn decoder.old decoder.new course.old course.new input.now (as_ptr input.entry) result events.old events.new }
+{
+    if course.base > 0 {
+        return read_behind(decoder, course, input, events);
+    }
+    let batch = fill(decoder, input, events, &mut course.frame);
+    course.go_on(batch.used);
+    batch
 }
 
 /// Puts the next events of the input into the array. Where either has no members, its pointer may be null.

@@ -80,7 +80,7 @@ impl Sink for Slots<'_> {
         }
         let slot = &mut events[self.count];
         tell_in(self.origin, slot, at, event);
-        self.frame = self.frame.after(slot);
+        self.frame.note(event, slot);
         self.count += 1;
         if self.count < events.len() {
             Ok(())
