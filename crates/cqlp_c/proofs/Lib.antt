@@ -12,6 +12,7 @@ pub mod Nexted
 pub mod OneBatch
 pub mod OneVerdict
 pub mod Places
+pub mod Placing
 pub mod Putting
 pub mod Services
 pub mod Skipping

@@ -27,57 +27,19 @@ use Rattle.cqlp_c.specs.declared.course.CqlpBegun.{CqlpBegun}
 use Rattle.cqlp_c.specs.declared.course.CqlpCourse.{CqlpCourse}
 use Rattle.cqlp_c.specs.declared.event.CqlpEvent.{CqlpEvent}
 use Rattle.cqlp_c.specs.Batches.{Buffer, Fills, Put, StopsBy, TellsAll, buffer_in, events_of}
-use Rattle.cqlp_c.specs.Course.{begun_after, begun_by, gone_on, placed, placed_from, stop_from}
+use Rattle.cqlp_c.specs.Course.{batch_from, begun_after, begun_by, gone_on, placed, placed_from, stop_from}
 use Rattle.cqlp_c.specs.Events as told
 use Rattle.cqlp_c.specs.Handle.{PutsInto, PutsOn}
 use Rattle.cqlp_c.specs.Stretched.{AfterCalls, AreTold, EndsBy, ReadsOn, begun_of, skipping_of}
+use Rattle.cqlp_c.proofs.Beginning.{not_edge}
 
 -- ---- the frame under way
 
 begun_told : (f : Option OpenFrame) (at : ℕ) (e : Event) (place : Ptr) → begun_after (begun_of f) (told.told_at at e place) ≡ begun_of (frame_after f at e)
 begun_told f at (Frame h) place = refl
-begun_told f at (Holds g (field.Byte n)) place = refl
-begun_told f at (Holds g (field.Short n)) place = refl
-begun_told f at (Holds g (field.Int z)) place = refl
-begun_told f at (Holds g (field.Long z)) place = refl
-begun_told f at (Holds g (field.Uuid b)) place = refl
-begun_told f at (Holds g (field.Count n)) place = refl
-begun_told f at (Holds g (field.Text t)) place = refl
-begun_told f at (Holds g (field.Bytes (Some c))) place = refl
-begun_told f at (Holds g (field.Bytes None)) place = refl
-begun_told f at (Holds g (field.Bound field.Null)) place = refl
-begun_told f at (Holds g (field.Bound field.Unset)) place = refl
-begun_told f at (Holds g (field.Bound (field.Known c))) place = refl
-begun_told f at (Holds g (field.Inet (address.V4 a) z)) place = refl
-begun_told f at (Holds g (field.Inet (address.V6 a) z)) place = refl
+begun_told f at (Holds g v) place = not_edge (begun_of f) at (Holds g v) place refl
 begun_told f at (Node_of k) place = refl
-begun_told f at (Cell_at row column (cell.Leaf level (scalar.Custom b))) place = refl
-begun_told f at (Cell_at row column (cell.Leaf level (scalar.Ascii t))) place = refl
-begun_told f at (Cell_at row column (cell.Leaf level (scalar.Bigint z))) place = refl
-begun_told f at (Cell_at row column (cell.Leaf level (scalar.Blob b))) place = refl
-begun_told f at (Cell_at row column (cell.Leaf level (scalar.Boolean b))) place = refl
-begun_told f at (Cell_at row column (cell.Leaf level (scalar.Counter z))) place = refl
-begun_told f at (Cell_at row column (cell.Leaf level (scalar.Decimal z b))) place = refl
-begun_told f at (Cell_at row column (cell.Leaf level (scalar.Double b))) place = refl
-begun_told f at (Cell_at row column (cell.Leaf level (scalar.Float b))) place = refl
-begun_told f at (Cell_at row column (cell.Leaf level (scalar.Int z))) place = refl
-begun_told f at (Cell_at row column (cell.Leaf level (scalar.Timestamp z))) place = refl
-begun_told f at (Cell_at row column (cell.Leaf level (scalar.Uuid b))) place = refl
-begun_told f at (Cell_at row column (cell.Leaf level (scalar.Varchar t))) place = refl
-begun_told f at (Cell_at row column (cell.Leaf level (scalar.Varint b))) place = refl
-begun_told f at (Cell_at row column (cell.Leaf level (scalar.Timeuuid b))) place = refl
-begun_told f at (Cell_at row column (cell.Leaf level (scalar.Inet (address.V4 a)))) place = refl
-begun_told f at (Cell_at row column (cell.Leaf level (scalar.Inet (address.V6 a)))) place = refl
-begun_told f at (Cell_at row column (cell.Leaf level (scalar.Date n))) place = refl
-begun_told f at (Cell_at row column (cell.Leaf level (scalar.Time z))) place = refl
-begun_told f at (Cell_at row column (cell.Leaf level (scalar.Smallint z))) place = refl
-begun_told f at (Cell_at row column (cell.Leaf level (scalar.Tinyint z))) place = refl
-begun_told f at (Cell_at row column (cell.Leaf level (scalar.Raw b))) place = refl
-begun_told f at (Cell_at row column (cell.Null level)) place = refl
-begun_told f at (Cell_at row column (cell.Empty level)) place = refl
-begun_told f at (Cell_at row column (cell.Enter level k n)) place = refl
-begun_told f at (Cell_at row column (cell.Leave level n)) place = refl
-begun_told f at (Cell_at row column (cell.Part level offset c last)) place = refl
+begun_told f at (Cell_at row column e) place = not_edge (begun_of f) at (Cell_at row column e) place refl
 begun_told f at (Leave level n) place = refl
 begun_told f at (End n) place = refl
 
@@ -173,6 +135,36 @@ front {X = X} (suc n) (x ∷ xs) ys is = ap (λ (z : List X). x ∷ z) (front n 
 
 -- ---- a batch
 
+used_from : (base passed : ℕ) (b : Batch) → (base ≡ 0 → passed ≡ 0) → (batch_from base passed b).used ≡ passed + b.used
+used_from zero passed b none = let no = none refl in omega (arith, no)
+used_from (suc n) passed b none = refl
+
+count_from : (base passed : ℕ) (b : Batch) → (batch_from base passed b).events ≡ b.events
+count_from zero passed b = refl
+count_from (suc n) passed b = refl
+
+-- how a batch ends, with a refusal at its offset in the whole stream
+abbrev stop_in : (base : ℕ) → Stop → Stop
+stop_in zero x = x
+stop_in (suc n) x = stop_from (suc n) x
+
+stops_in : (base passed : ℕ) (b : Batch) → (batch_from base passed b).stop ≡ stop_in base b.stop
+stops_in zero passed b = refl
+stops_in (suc n) passed b = refl
+
+-- what is said of a batch, by its end
+waits_in : (base : ℕ) (new : Decoding) (s input : List ℕ) (gifts : Gifts) (events : List (ℕ × Event)) → Says (state new).rules (start_with gifts) (drop base (s ++ input)) events Waits → EndsBy (stop_in base stop.More) new base s input gifts events
+waits_in zero new s input gifts events says = says
+waits_in (suc n) new s input gifts events says = says
+
+refused_in : (base : ℕ) (new : Decoding) (s input : List ℕ) (gifts : Gifts) (events : List (ℕ × Event)) (r : Refusal) → (state new).refusal ≡ Some r → EndsBy (stop_in base (stop.Refused r)) new base s input gifts events
+refused_in zero new s input gifts events r is = (r, is, refl)
+refused_in (suc n) new s input gifts events r is = (r, is, refl)
+
+full_in : (base : ℕ) (new : Decoding) (s input : List ℕ) (gifts : Gifts) (events : List (ℕ × Event)) → EndsBy (stop_in base stop.Full) new base s input gifts events
+full_in zero new s input gifts events = tt
+full_in (suc n) new s input gifts events = tt
+
 module _ (xs s later : List ℕ) (old new : Decoding) (from to : CqlpCourse) (input : List ℕ) (begins : Ptr) (b : Batch) (before after : List CqlpEvent) (stretches : List Stretch) (gifts : Gifts) (events : List (ℕ × Event))
     (is : xs ≡ (s ++ input) ++ later) (a : AfterCalls xs old from s stretches gifts events) (p : PutsOn old new from to input begins b before after) where
   f : Fills gifts (state old) (state new) (drop from.base s) (drop p.passed input) _ (buffer_in new) events (length before) p.own p.events
@@ -188,10 +180,10 @@ module _ (xs s later : List ℕ) (old new : Decoding) (from to : CqlpCourse) (in
   first = omega (arith, p.is_passed, a.stands.used, a.stands.near)
 
   used : b.used ≡ p.passed + p.own.used
-  used = ap (λ (z : Batch). z.used) p.batch
+  used = ap (λ (z : Batch). z.used) p.batch ∙ used_from from.base p.passed p.own (λ none. omega (arith, none, p.is_passed))
 
   count : b.events ≡ p.own.events
-  count = ap (λ (z : Batch). z.events) p.batch
+  count = ap (λ (z : Batch). z.events) p.batch ∙ count_from from.base p.passed p.own
 
   few : p.passed + p.own.used ≤ length input
   few = omega (arith, p.puts.within.0, length-drop p.passed input, p.is_passed)
@@ -239,10 +231,10 @@ module _ (xs s later : List ℕ) (old new : Decoding) (from to : CqlpCourse) (in
     frame = ap (λ (g : CqlpBegun). begun_by g (take p.own.events p.events)) a.frame ∙ begun_puts (frame_under_way events) _ (buffer_in new) (take p.own.events p.events) f.puts f.told ∙ ap begun_of (sym frame);
   }
 
-  ends : (x : Stop) → StopsBy gifts (state old) (state new) (drop from.base s) (drop p.passed input) events (length before) p.own.used f.puts x → EndsBy (stop_from from.base x) new from.base s input gifts (events ++ more)
-  ends stop.More h = subst (λ (z : List ℕ). Says (state new).rules (start_with gifts) z (events ++ more) Waits) (sym (behind_all from.base s input p.passed first)) h.4
-  ends stop.Full h = tt
-  ends (stop.Refused r) h = (r, h.3, refl)
+  ends : (x : Stop) → StopsBy gifts (state old) (state new) (drop from.base s) (drop p.passed input) events (length before) p.own.used f.puts x → EndsBy (stop_in from.base x) new from.base s input gifts (events ++ more)
+  ends stop.More h = waits_in from.base new s input gifts (events ++ more) (subst (λ (z : List ℕ). Says (state new).rules (start_with gifts) z (events ++ more) Waits) (sym (behind_all from.base s input p.passed first)) h.4)
+  ends stop.Full h = full_in from.base new s input gifts (events ++ more)
+  ends (stop.Refused r) h = refused_in from.base new s input gifts (events ++ more) r h.3
 
   told_here : AreTold from.base (take b.events after) f.puts
   told_here =
@@ -257,5 +249,5 @@ module _ (xs s later : List ℕ) (old new : Decoding) (from to : CqlpCourse) (in
     count = f.count ∙ sym count;
     stands = subst (λ (c : CqlpCourse). AfterCalls xs new c (s ++ take b.used input) stretches gifts (events ++ more)) (sym p.course) stands;
     told = told_here;
-    ends = subst (λ (x : Stop). EndsBy x new from.base s input gifts (events ++ more)) (sym (ap (λ (z : Batch). z.stop) p.batch)) (ends p.own.stop f.stops);
+    ends = subst (λ (x : Stop). EndsBy x new from.base s input gifts (events ++ more)) (sym (ap (λ (z : Batch). z.stop) p.batch ∙ stops_in from.base p.passed p.own)) (ends p.own.stop f.stops);
   }

@@ -48,6 +48,10 @@ abbrev pub offset_in : (base at : ℕ) → ℕ
 offset_in zero at = at
 offset_in (suc n) at = told_at (suc n) at
 
+abbrev pub refusal_in : (base : ℕ) → Refusal → Refusal
+refusal_in zero r = r
+refusal_in (suc n) r = refusal_from (suc n) r
+
 -- these are the events, as C sees them, one for one, at their offsets in the whole stream
 abbrev pub AreTold : (base : ℕ) → List CqlpEvent → List Put → Type 0
 AreTold base [] [] = ⊤
@@ -60,7 +64,7 @@ abbrev pub EndsBy : Stop → (new : Decoding) → (base : ℕ) → (s input : Li
 EndsBy stop.More new base s input gifts events =
     Says (state new).rules (start_with gifts) (drop base (s ++ input)) events Waits
 EndsBy (stop.Refused r) new base s input gifts events =
-    (own : Refusal) × ((state new).refusal ≡ Some own) × (r ≡ refusal_from base own)
+    (own : Refusal) × ((state new).refusal ≡ Some own) × (r ≡ refusal_in base own)
 EndsBy stop.Full new base s input gifts events = ⊤
 
 -- More events of the present stretch were put, the next that it has, and its bytes were used up to there.

@@ -184,14 +184,11 @@ impl CqlpCourse {
 
     /// A batch, of which the first bytes were passed over, with its refusal at its offset in the whole stream.
     pub fn batch(&self, passed: usize, batch: Batch) -> Batch
-        requires { passed + batch.used < 2 ^ 64 }
+        requires further { 0 < self.now.base }
+        requires fits { passed + batch.used < 2 ^ 64 }
         ensures { result ≡ specs.batch_from self.now.base passed batch }
     {
-        let stop = match batch.stop {
-            Stop::Refused(refusal) => Stop::Refused(refusal_from(self.base, refusal)),
-            Stop::More => Stop::More,
-            Stop::Full => Stop::Full,
-        };
+        let stop = stop_from(self.base, batch.stop);
         Batch {
             used: passed + batch.used,
             events: batch.events,
@@ -268,5 +265,16 @@ fn refusal_from(base: u64, refusal: Refusal) -> Refusal
     Refusal {
         at: base.saturating_add(refusal.at),
         why: refusal.why,
+    }
+}
+
+/// How a batch ends, with its refusal at its offset in the whole stream.
+fn stop_from(base: u64, stop: Stop) -> Stop
+    ensures { result ≡ specs.stop_from base stop }
+{
+    match stop {
+        Stop::More => Stop::More,
+        Stop::Full => Stop::Full,
+        Stop::Refused(refusal) => Stop::Refused(refusal_from(base, refusal)),
     }
 }
