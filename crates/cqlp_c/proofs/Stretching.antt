@@ -2,7 +2,7 @@
 use Rattle.std.proofs.Common.{◌≡◌, ℕ, zero, suc, ◌+◌, ◌-◌, ◌^◌, ◌≤◌, ◌<◌, List, [], ◌∷◌, ◌++◌, length, take, drop, refl, sym, ap, ◌∙◌, subst, inl, inr, arith}
 use Rattle.std.specs.Prelude.{min, Option, Some, None, Result, Ok, Err}
 use Rattle.std.specs.Ptr.{Ptr}
-use Rattle.std.proofs.lemmas.Bool.{ltb-true, ltb-false, ltb-from-lt, cases_lt}
+use denote.RawPtr.{◌+ₚ◌}
 use Rattle.std.proofs.lemmas.List.{append-nil, length-append, length-drop, length-take-le, nil_from_length}
 use Rattle.cqlp_note.specs.declared.refusal.Refusal.{Refusal}
 use Rattle.cqlp_note.specs.Limits.{Rules}
@@ -32,6 +32,7 @@ use Rattle.cqlp_c.specs.Events as told
 use Rattle.cqlp_c.specs.Handle.{PutsInto, PutsOn}
 use Rattle.cqlp_c.specs.Stretched.{AfterCalls, AreTold, EndsBy, ReadsOn, begun_of, skipping_of}
 use Rattle.cqlp_c.proofs.Beginning.{not_edge}
+use Rattle.cqlp_c.proofs.Placing.{used_from}
 
 -- ---- the frame under way
 
@@ -135,10 +136,6 @@ front {X = X} (suc n) (x ∷ xs) ys is = ap (λ (z : List X). x ∷ z) (front n 
 
 -- ---- a batch
 
-used_from : (base passed : ℕ) (b : Batch) → (base ≡ 0 → passed ≡ 0) → (batch_from base passed b).used ≡ passed + b.used
-used_from zero passed b none = let no = none refl in omega (arith, no)
-used_from (suc n) passed b none = refl
-
 count_from : (base passed : ℕ) (b : Batch) → (batch_from base passed b).events ≡ b.events
 count_from zero passed b = refl
 count_from (suc n) passed b = refl
@@ -167,7 +164,7 @@ full_in (suc n) new s input gifts events = tt
 
 module _ (xs s later : List ℕ) (old new : Decoding) (from to : CqlpCourse) (input : List ℕ) (begins : Ptr) (b : Batch) (before after : List CqlpEvent) (stretches : List Stretch) (gifts : Gifts) (events : List (ℕ × Event))
     (is : xs ≡ (s ++ input) ++ later) (a : AfterCalls xs old from s stretches gifts events) (p : PutsOn old new from to input begins b before after) where
-  f : Fills gifts (state old) (state new) (drop from.base s) (drop p.passed input) _ (buffer_in new) events (length before) p.own p.events
+  f : Fills gifts (state old) (state new) (drop from.base s) (drop p.passed input) (begins +ₚ p.passed) (buffer_in new) events (length before) p.own p.events
   f = p.puts.fills gifts (drop from.base s) events a.stands.stands
 
   more : List (ℕ × Event)
@@ -228,7 +225,7 @@ module _ (xs s later : List ℕ) (old new : Decoding) (from to : CqlpCourse) (in
   stands = record {
     stands = goes_on old new from.base from.used (min (from.used + b.used) (2 ^ 64 - 1)) from.last (frame_under_way events) (frame_under_way (events ++ more)) xs s input later stretches gifts events p.passed a.stands is p.is_passed p.puts.rules
         (s ++ take b.used input) more p.own.used (ap (λ (n : ℕ). s ++ take n input) used) few f.after frame (ap (λ (n : ℕ). min (from.used + n) (2 ^ 64 - 1)) used) (refused (state old).refusal refl);
-    frame = ap (λ (g : CqlpBegun). begun_by g (take p.own.events p.events)) a.frame ∙ begun_puts (frame_under_way events) _ (buffer_in new) (take p.own.events p.events) f.puts f.told ∙ ap begun_of (sym frame);
+    frame = ap (λ (g : CqlpBegun). begun_by g (take p.own.events p.events)) a.frame ∙ begun_puts (frame_under_way events) (begins +ₚ p.passed) (buffer_in new) (take p.own.events p.events) f.puts f.told ∙ ap begun_of (sym frame);
   }
 
   ends : (x : Stop) → StopsBy gifts (state old) (state new) (drop from.base s) (drop p.passed input) events (length before) p.own.used f.puts x → EndsBy (stop_in from.base x) new from.base s input gifts (events ++ more)
@@ -241,7 +238,7 @@ module _ (xs s later : List ℕ) (old new : Decoding) (from to : CqlpCourse) (in
       let cs = take p.own.events p.events in
       let long : length (placed from.base cs) ≡ p.own.events = length_placed from.base cs ∙ length-take-le p.own.events p.events (omega (arith, p.puts.within.1, p.puts.room)) in
       let at : take b.events after ≡ placed from.base cs = ap (λ (n : ℕ). take n after) count ∙ ap (take p.own.events) p.placed ∙ front p.own.events (placed from.base cs) (drop p.own.events p.events) long in
-      subst (λ (z : List CqlpEvent). AreTold from.base z f.puts) (sym at) (are_told from.base _ (buffer_in new) cs f.puts f.told)
+      subst (λ (z : List CqlpEvent). AreTold from.base z f.puts) (sym at) (are_told from.base (begins +ₚ p.passed) (buffer_in new) cs f.puts f.told)
 
   pub reads_on : ReadsOn xs new from to s input stretches gifts events b after
   reads_on = record {

@@ -54,7 +54,7 @@ TellsItems o cs xs = ⊥
 -- Items were taken one after the other, of this many bytes, and their events, as C sees them, stand behind the first n
 -- of the array, which is the same otherwise. The frame is under way that is after them.
 pub record PutsWhole (old new : StreamState) (input : Bor (List ℕ)) (n : ℕ) (put : WholePut)
-    (before after : List CqlpEvent) (was frame : CqlpBegun) : Type 0 where
+    (before after : List CqlpEvent) (was now : CqlpBegun) : Type 0 where
   pub items : List Item
   pub takes : TakesItems old input.now items new
   pub all : put.used ≡ bytes_of items
@@ -65,4 +65,4 @@ pub record PutsWhole (old new : StreamState) (input : Bor (List ℕ)) (n : ℕ) 
   pub others : drop put.count after ≡ drop put.count before
   pub long : length after ≡ length before
   pub count : put.count ≡ n + length items
-  pub frame : frame ≡ begun_by was events
+  pub frame : now ≡ begun_by was events

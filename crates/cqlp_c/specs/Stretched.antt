@@ -1,17 +1,17 @@
 -- What calls over skips leave, in the words of cqlp_skip: a stream that is read in stretches.
 use Rattle.std.specs.Prelude.{◌≡◌, ℕ, zero, suc, ◌+◌, ◌++◌, List, [], ◌∷◌, length, take, drop, Option, Some, None, Result, Ok, Err, ⊤}
 use Rattle.std.specs.Ptr.{Ptr}
+use Rattle.cqlp_note.specs.declared.limits.Limits.{Limits}
 use Rattle.cqlp_note.specs.declared.refusal.Refusal.{Refusal}
-use Rattle.cqlp_note.specs.Limits.{Rules}
-use Rattle.cqlp_grammar.specs.declared.event.Finish.{Finish}
 use Rattle.cqlp_decode.specs.Reading.{Event, Gifts, Says, Waits, start_with}
 use Rattle.cqlp_decode.specs.Streams.{Decoding, state}
+use Rattle.cqlp_laws.specs.OneAnswer.{IsNew}
 use Rattle.cqlp_skip.specs.declared.fed.Skipped.{Skipped}
 use Rattle.cqlp_skip.specs.declared.fed.NotSkippable.{NotSkippable}
 use Rattle.cqlp_skip.specs.declared.fed.NotSkippable.TheVariants as why
 use Rattle.cqlp_skip.specs.declared.frame.OpenFrame.{OpenFrame}
 use Rattle.cqlp_skip.specs.Stretches.{Stretch, frame_under_way, told_at}
-use Rattle.cqlp_skip.specs.Skipping.{Skipping, AfterSkips, FinishesAs, skip_of, stretch_given_up}
+use Rattle.cqlp_skip.specs.Skipping.{Skipping, AfterSkips, skip_of, stretch_given_up}
 use Rattle.cqlp_c.specs.declared.batch.Batch.{Batch}
 use Rattle.cqlp_c.specs.declared.batch.Stop.{Stop}
 use Rattle.cqlp_c.specs.declared.batch.Stop.TheVariants as stop
@@ -21,9 +21,10 @@ use Rattle.cqlp_c.specs.declared.course.CqlpSkipped.{CqlpSkipped}
 use Rattle.cqlp_c.specs.declared.event.CqlpEvent.{CqlpEvent}
 use Rattle.cqlp_c.specs.declared.numbers.TheConstants as numbers
 use Rattle.cqlp_c.specs.Batches.{Put, events_of}
-use Rattle.cqlp_c.specs.Course.{frame_in, no_frame, refusal_from}
+use Rattle.cqlp_c.specs.Course.{at_start, frame_in, no_frame, refusal_from}
 use Rattle.cqlp_c.specs.Events.{of_frame}
 use Rattle.cqlp_c.specs.Events as told
+use Rattle.cqlp_c.specs.Handle.{PassesOver, PutsOn}
 use Rattle.cqlp_c.specs.Numbers.{number_of_reason}
 
 -- the frame under way, as a handle notes it
@@ -102,3 +103,25 @@ SkipsBy (Ok x) xs old new from to s stretches gifts events code was told =
     (code ≡ numbers.DONE) × (told ≡ told_skipped x)
     × (f : OpenFrame) × (r : Refusal) × (frame_under_way events ≡ Some f) × ((state old).refusal ≡ Some r)
     × AfterCalls xs new to s (stretch_given_up (skipping_of old from (Some f)) gifts events f r ∷ stretches) [] []
+
+-- ---- the laws
+
+-- a decoder that was made is at the start of any stream
+abbrev pub NewBegins : Type 0
+NewBegins = (limits : Limits) (xs : List ℕ) (d : Decoding) → IsNew limits d → AfterCalls xs d at_start [] [] [] []
+
+-- a call over the next piece of a stream reads on in its present stretch
+abbrev pub NextReadsOn : Type 0
+NextReadsOn =
+    (xs s later : List ℕ) (old new : Decoding) (from to : CqlpCourse) (input : List ℕ) (begins : Ptr) (b : Batch) (before after : List CqlpEvent)
+    (stretches : List Stretch) (gifts : Gifts) (events : List (ℕ × Event))
+    → xs ≡ (s ++ input) ++ later → AfterCalls xs old from s stretches gifts events → PutsOn old new from to input begins b before after
+    → ReadsOn xs new from to s input stretches gifts events b after
+
+-- passing over a frame is what cqlp_skip says that a skip is
+abbrev pub SkipGivesUp : Type 0
+SkipGivesUp =
+    (xs s : List ℕ) (old new : Decoding) (from to : CqlpCourse) (stretches : List Stretch) (gifts : Gifts) (events : List (ℕ × Event)) (code : ℕ)
+    (was told : CqlpSkipped)
+    → AfterCalls xs old from s stretches gifts events → PassesOver old from code new to was told
+    → SkipsBy (skip_of (skipping_of old from (frame_under_way events))) xs old new from to s stretches gifts events code was told

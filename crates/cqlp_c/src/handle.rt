@@ -1,6 +1,6 @@
 //! A decoder that C holds.
 
-ghost use Rattle.std.specs.Prelude.{◌≡◌, ◌↔◌, Option, Err, None, Some, IfNone, IfOk, IfSome, IsErrOf};
+ghost use Rattle.std.specs.Prelude.{◌≡◌, ◌<◌, ◌↔◌, Option, Err, None, Some, IfNone, IfOk, IfSome, IsErrOf};
 ghost use Rattle.std.specs.Box.Ownership.{box_owns};
 ghost use Rattle.std.specs.Ptr.{as_ptr};
 ghost use Rattle.std.specs.contracts.alloc.Global as heap;
@@ -159,6 +159,7 @@ fn read_behind(
     input: &[u8],
     events: &mut [CqlpEvent],
 ) -> Batch
+    requires { 0 < course.old.base }
     ensures { PutsOn decoder.old decoder.new course.old course.new input.now (as_ptr input.entry) result events.old events.new }
 {
     let passed = course.passed(input.len());

@@ -3,6 +3,7 @@
 ghost use Rattle.std.specs.Thread.{IsSend};
 ghost use Rattle.cqlp_c.specs.Laws.{ContentsLieThere, EventsArePushed, FramesAreHeard, IsOneAnswerOfCheck};
 ghost use Rattle.cqlp_c.specs.Laws.{IsOneAnswerOfClientNew, IsOneAnswerOfNext, IsOneAnswerOfServerNew};
+ghost use Rattle.cqlp_c.specs.Stretched.{NewBegins, NextReadsOn, SkipGivesUp};
 ghost use Rattle.cqlp_c.specs.contracts.client.CqlpClient as client;
 ghost use Rattle.cqlp_c.specs.contracts.handle.CqlpDecoder as decoder;
 ghost use Rattle.cqlp_c.specs.contracts.server.CqlpServer as server;
@@ -38,6 +39,15 @@ pub fn one_answer_of_client_new()
 /// equations.
 pub fn one_answer_of_server_new()
     ensures { IsOneAnswerOfServerNew }
+{}
+
+/// A handle reads its stream in stretches, as cqlp_skip defines them: a decoder that was made is at the start of the first; over the next
+/// piece `cqlp_next` puts the next events of the present one, just these, at their offsets in the whole stream; and where `cqlp_skip` passes
+/// over a frame, the present one is given up and the next begins behind the frame.
+pub fn calls_read_stretches()
+    ensures new { NewBegins }
+    ensures next { NextReadsOn }
+    ensures skip { SkipGivesUp }
 {}
 
 /// The event of a frame shows a core what the header of the frame does.

@@ -31,7 +31,7 @@ pub use handle::{
 };
 pub use header::{CqlpHeader, cqlp_write_header};
 pub use laws::{
-    contents_lie_there, events_are_pushed, frames_are_heard, one_answer_of_check,
+    calls_read_stretches, contents_lie_there, events_are_pushed, frames_are_heard, one_answer_of_check,
     one_answer_of_client_new, one_answer_of_next, one_answer_of_server_new,
 };
 pub use server::{
