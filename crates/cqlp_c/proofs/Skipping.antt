@@ -1,6 +1,6 @@
 -- What a skip leaves, in the words of cqlp_skip.
-use Rattle.std.proofs.Common.{◌≡◌, ℕ, ◌+◌, ◌-◌, ◌^◌, List, [], ◌∷◌, refl, sym, ap, ◌∙◌, subst, arith}
-use Rattle.std.specs.Prelude.{Option, Some, None, Result, Ok, Err}
+use Rattle.std.proofs.Common.{◌≡◌, ℕ, ◌+◌, ◌-◌, ◌^◌, List, [], ◌∷◌, refl, sym, ap, ◌∙◌, subst, inl, inr, arith}
+use Rattle.std.specs.Prelude.{Option, Some, None, Result, Ok, Err, ◌⊎◌}
 use Rattle.cqlp_note.specs.declared.refusal.Refusal.{Refusal}
 use Rattle.cqlp_decode.specs.Reading.{Event, Gifts}
 use Rattle.cqlp_decode.specs.Streams.{Decoding, state}
@@ -12,8 +12,10 @@ use Rattle.cqlp_c.specs.declared.course.CqlpBegun.{CqlpBegun}
 use Rattle.cqlp_c.specs.declared.course.CqlpCourse.{CqlpCourse}
 use Rattle.cqlp_c.specs.declared.course.CqlpSkipped.{CqlpSkipped}
 use Rattle.cqlp_c.specs.Course as course
-use Rattle.cqlp_c.specs.Handle.{PassesBy, PassesOver}
-use Rattle.cqlp_c.specs.Stretched.{AfterCalls, SkipsBy, begun_of, skipping_of}
+use Rattle.cqlp_c.specs.declared.course.Unskippable.{Unskippable}
+use Rattle.cqlp_laws.specs.OneAnswer.{IsAtStart}
+use Rattle.cqlp_c.specs.Handle.{BeginsAgain, PassesBy, PassesOver}
+use Rattle.cqlp_c.specs.Stretched.{AfterCalls, IsOneAnswerOfSkip, SkipsBy, begun_of, skipping_of}
 
 module _ (xs s : List ℕ) (old new : Decoding) (from to : CqlpCourse) (stretches : List Stretch) (gifts : Gifts) (events : List (ℕ × Event)) (code : ℕ) (was told : CqlpSkipped) where
   -- what cqlp_skip answers, and what is passed over, by what is refused, the frame under way, and its end
@@ -39,3 +41,16 @@ module _ (xs s : List ℕ) (old new : Decoding) (from to : CqlpCourse) (stretche
 
   pub skips : AfterCalls xs old from s stretches gifts events → PassesOver old from code new to was told → SkipsBy (skip_of (skipping_of old from (frame_under_way events))) xs old new from to s stretches gifts events code was told
   skips a h = skips_by (state old).refusal refl (frame_under_way events) refl a.stands (subst (λ (g : CqlpBegun). PassesBy (course.skip_by (state old).refusal (record from { frame = g })) old from code new to was told) a.frame h)
+
+-- ---- one answer
+
+at_start : (d e : Decoding) → BeginsAgain d e → IsAtStart (state d).rules e
+at_start d e b = record { fresh = b.fresh; unrefused = b.unrefused; rules = b.rules; nothing_held = b.nothing_held; nothing_given = b.nothing_given }
+
+one_skip : (r : Result CqlpSkipped Unskippable) (d e e' : Decoding) (from to to' : CqlpCourse) (code code' : ℕ) (was told told' : CqlpSkipped) → PassesBy r d from code e to was told → PassesBy r d from code' e' to' was told'
+    → (code' ≡ code) × (to' ≡ to) × (told' ≡ told) × ((e' ≡ e) ⊎ (IsAtStart (state d).rules e × IsAtStart (state d).rules e'))
+one_skip (Err why) d e e' from to to' code code' was told told' x y = (y.0 ∙ sym x.0, y.2 ∙ sym x.2, y.3 ∙ sym x.3, inl (y.1 ∙ sym x.1))
+one_skip (Ok s) d e e' from to to' code code' was told told' x y = (y.0 ∙ sym x.0, y.2 ∙ sym x.2, y.3 ∙ sym x.3, inr (at_start d e x.1, at_start d e' y.1))
+
+pub one_answer : IsOneAnswerOfSkip
+one_answer d e e' from to to' code code' was told told' x y = one_skip (course.skip_by (state d).refusal from) d e e' from to to' code code' was told told' x y

@@ -164,13 +164,13 @@ full_in (suc n) new s input gifts events = tt
 
 module _ (xs s later : List ℕ) (old new : Decoding) (from to : CqlpCourse) (input : List ℕ) (begins : Ptr) (b : Batch) (before after : List CqlpEvent) (stretches : List Stretch) (gifts : Gifts) (events : List (ℕ × Event))
     (is : xs ≡ (s ++ input) ++ later) (a : AfterCalls xs old from s stretches gifts events) (p : PutsOn old new from to input begins b before after) where
-  f : Fills gifts (state old) (state new) (drop from.base s) (drop p.passed input) (begins +ₚ p.passed) (buffer_in new) events (length before) p.own p.events
+  abbrev f : Fills gifts (state old) (state new) (drop from.base s) (drop p.passed input) (begins +ₚ p.passed) (buffer_in new) events (length before) p.own p.events
   f = p.puts.fills gifts (drop from.base s) events a.stands.stands
 
-  more : List (ℕ × Event)
+  abbrev more : List (ℕ × Event)
   more = events_of f.puts
 
-  bytes : List ℕ
+  abbrev bytes : List ℕ
   bytes = drop from.base s ++ drop p.passed input
 
   first : p.passed ≡ min (from.base - length s) (length input)
@@ -218,7 +218,7 @@ module _ (xs s later : List ℕ) (old new : Decoding) (from to : CqlpCourse) (in
   frame : frame_under_way (events ++ more) ≡ frame_from (frame_under_way events) more
   frame = frame-append None events more
 
-  reached : CqlpCourse
+  abbrev reached : CqlpCourse
   reached = record (gone_on from b.used) { frame = begun_by from.frame (take p.own.events p.events) }
 
   stands : AfterCalls xs new reached (s ++ take b.used input) stretches gifts (events ++ more)

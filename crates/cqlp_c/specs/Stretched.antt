@@ -1,11 +1,11 @@
 -- What calls over skips leave, in the words of cqlp_skip: a stream that is read in stretches.
-use Rattle.std.specs.Prelude.{◌≡◌, ℕ, zero, suc, ◌+◌, ◌++◌, List, [], ◌∷◌, length, take, drop, Option, Some, None, Result, Ok, Err, ⊤}
+use Rattle.std.specs.Prelude.{◌≡◌, ℕ, zero, suc, ◌+◌, ◌++◌, List, [], ◌∷◌, length, take, drop, Option, Some, None, Result, Ok, Err, ◌⊎◌, ⊤}
 use Rattle.std.specs.Ptr.{Ptr}
 use Rattle.cqlp_note.specs.declared.limits.Limits.{Limits}
 use Rattle.cqlp_note.specs.declared.refusal.Refusal.{Refusal}
 use Rattle.cqlp_decode.specs.Reading.{Event, Gifts, Says, Waits, start_with}
 use Rattle.cqlp_decode.specs.Streams.{Decoding, state}
-use Rattle.cqlp_laws.specs.OneAnswer.{IsNew}
+use Rattle.cqlp_laws.specs.OneAnswer.{IsAtStart, IsNew}
 use Rattle.cqlp_skip.specs.declared.fed.Skipped.{Skipped}
 use Rattle.cqlp_skip.specs.declared.fed.NotSkippable.{NotSkippable}
 use Rattle.cqlp_skip.specs.declared.fed.NotSkippable.TheVariants as why
@@ -125,3 +125,10 @@ SkipGivesUp =
     (was told : CqlpSkipped)
     → AfterCalls xs old from s stretches gifts events → PassesOver old from code new to was told
     → SkipsBy (skip_of (skipping_of old from (frame_under_way events))) xs old new from to s stretches gifts events code was told
+
+-- Of one decoder, where it is in its stream, a skip has one answer, and leaves one course: the decoder as it was, or one at the start of a stream within its rules.
+abbrev pub IsOneAnswerOfSkip : Type 0
+IsOneAnswerOfSkip =
+    (d e e' : Decoding) (from to to' : CqlpCourse) (code code' : ℕ) (was told told' : CqlpSkipped)
+    → PassesOver d from code e to was told → PassesOver d from code' e' to' was told'
+    → (code' ≡ code) × (to' ≡ to) × (told' ≡ told) × ((e' ≡ e) ⊎ (IsAtStart (state d).rules e × IsAtStart (state d).rules e'))

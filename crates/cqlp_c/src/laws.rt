@@ -3,7 +3,7 @@
 ghost use Rattle.std.specs.Thread.{IsSend};
 ghost use Rattle.cqlp_c.specs.Laws.{ContentsLieThere, EventsArePushed, FramesAreHeard, IsOneAnswerOfCheck};
 ghost use Rattle.cqlp_c.specs.Laws.{IsOneAnswerOfClientNew, IsOneAnswerOfNext, IsOneAnswerOfServerNew};
-ghost use Rattle.cqlp_c.specs.Stretched.{NewBegins, NextReadsOn, SkipGivesUp};
+ghost use Rattle.cqlp_c.specs.Stretched.{IsOneAnswerOfSkip, NewBegins, NextReadsOn, SkipGivesUp};
 ghost use Rattle.cqlp_c.specs.contracts.client.CqlpClient as client;
 ghost use Rattle.cqlp_c.specs.contracts.handle.CqlpDecoder as decoder;
 ghost use Rattle.cqlp_c.specs.contracts.server.CqlpServer as server;
@@ -48,6 +48,12 @@ pub fn calls_read_stretches()
     ensures new { NewBegins }
     ensures next { NextReadsOn }
     ensures skip { SkipGivesUp }
+{}
+
+/// From one state of a decoder, at one place of its stream, there is one answer of `cqlp_skip`, and one place after it; the decoder is as it
+/// was, or at the start of a stream, where all decoders within the same rules are alike (`one_answer_of_new` of cqlp_laws).
+pub fn one_answer_of_skip()
+    ensures { IsOneAnswerOfSkip }
 {}
 
 /// The event of a frame shows a core what the header of the frame does.

@@ -26,13 +26,14 @@ pub use client::{
 pub use course::{CqlpBegun, CqlpCourse, CqlpSkipped};
 pub use event::CqlpEvent;
 pub use handle::{
-    CqlpDecoder, CqlpHeldDecoder, CqlpPlace, cqlp_finish, cqlp_free, cqlp_held, cqlp_new, cqlp_next,
-    cqlp_skip,
+    CqlpDecoder, CqlpHeldDecoder, CqlpPlace, cqlp_finish, cqlp_free, cqlp_held, cqlp_new,
+    cqlp_next, cqlp_skip,
 };
 pub use header::{CqlpHeader, cqlp_write_header};
 pub use laws::{
-    calls_read_stretches, contents_lie_there, events_are_pushed, frames_are_heard, one_answer_of_check,
-    one_answer_of_client_new, one_answer_of_next, one_answer_of_server_new,
+    calls_read_stretches, contents_lie_there, events_are_pushed, frames_are_heard,
+    one_answer_of_check, one_answer_of_client_new, one_answer_of_next, one_answer_of_server_new,
+    one_answer_of_skip,
 };
 pub use server::{
     CqlpServer, CqlpService, cqlp_server_accept, cqlp_server_answer, cqlp_server_event,

@@ -182,7 +182,10 @@ pub extern "C" fn cqlp_types_of(
     ensures is { Copies decoder.old.held.place.value result decoder.new.held.place.value types.old.place.value types.new.place.value }
     ensures course { decoder.new.course ≡ decoder.old.course }
 {
-    match handle::taken(std::mem::replace(&mut decoder.held, handle::none(alloc)), alloc) {
+    match handle::taken(
+        std::mem::replace(&mut decoder.held, handle::none(alloc)),
+        alloc,
+    ) {
         Some(boxed) => {
             let code = copy(alloc, boxed.table(), types);
             decoder.held = handle::holding(boxed);
@@ -232,7 +235,10 @@ pub extern "C" fn cqlp_give(alloc: Global, decoder: &mut CqlpDecoder, types: &mu
     ensures is { Gives decoder.old.held.place.value result decoder.new.held.place.value types.old.place.value types.new.place.value }
     ensures course { decoder.new.course ≡ decoder.old.course }
 {
-    match handle::taken(std::mem::replace(&mut decoder.held, handle::none(alloc)), alloc) {
+    match handle::taken(
+        std::mem::replace(&mut decoder.held, handle::none(alloc)),
+        alloc,
+    ) {
         Some(mut boxed) => {
             let code = give_held(alloc, &mut boxed, types);
             decoder.held = handle::holding(boxed);
@@ -297,7 +303,10 @@ pub extern "C" fn cqlp_take_given(
     ensures is { TakesBack decoder.old.held.place.value result decoder.new.held.place.value types.old.place.value types.new.place.value }
     ensures course { decoder.new.course ≡ decoder.old.course }
 {
-    match handle::taken(std::mem::replace(&mut decoder.held, handle::none(alloc)), alloc) {
+    match handle::taken(
+        std::mem::replace(&mut decoder.held, handle::none(alloc)),
+        alloc,
+    ) {
         Some(mut boxed) => {
             let code = take_held(alloc, &mut boxed, types);
             decoder.held = handle::holding(boxed);
