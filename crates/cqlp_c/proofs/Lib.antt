@@ -3,6 +3,7 @@ pub mod Checked
 pub mod Cored
 pub mod Cores
 pub mod Crosses
+pub mod Ending
 pub mod Fills
 pub mod Gathering
 pub mod Giving

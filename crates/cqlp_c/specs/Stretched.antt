@@ -3,15 +3,16 @@ use Rattle.std.specs.Prelude.{◌≡◌, ℕ, zero, suc, ◌+◌, ◌++◌, List
 use Rattle.std.specs.Ptr.{Ptr}
 use Rattle.cqlp_note.specs.declared.limits.Limits.{Limits}
 use Rattle.cqlp_note.specs.declared.refusal.Refusal.{Refusal}
+use Rattle.cqlp_grammar.specs.declared.event.Finish.{Finish}
 use Rattle.cqlp_decode.specs.Reading.{Event, Gifts, Says, Waits, start_with}
-use Rattle.cqlp_decode.specs.Streams.{Decoding, state}
+use Rattle.cqlp_decode.specs.Streams.{AfterGifts, Decoding, state}
 use Rattle.cqlp_laws.specs.OneAnswer.{IsAtStart, IsNew}
 use Rattle.cqlp_skip.specs.declared.fed.Skipped.{Skipped}
 use Rattle.cqlp_skip.specs.declared.fed.NotSkippable.{NotSkippable}
 use Rattle.cqlp_skip.specs.declared.fed.NotSkippable.TheVariants as why
 use Rattle.cqlp_skip.specs.declared.frame.OpenFrame.{OpenFrame}
 use Rattle.cqlp_skip.specs.Stretches.{Stretch, frame_under_way, told_at}
-use Rattle.cqlp_skip.specs.Skipping.{Skipping, AfterSkips, skip_of, stretch_given_up}
+use Rattle.cqlp_skip.specs.Skipping.{Skipping, AfterSkips, FinishesAs, skip_of, stretch_given_up}
 use Rattle.cqlp_c.specs.declared.batch.Batch.{Batch}
 use Rattle.cqlp_c.specs.declared.batch.Stop.{Stop}
 use Rattle.cqlp_c.specs.declared.batch.Stop.TheVariants as stop
@@ -21,10 +22,10 @@ use Rattle.cqlp_c.specs.declared.course.CqlpSkipped.{CqlpSkipped}
 use Rattle.cqlp_c.specs.declared.event.CqlpEvent.{CqlpEvent}
 use Rattle.cqlp_c.specs.declared.numbers.TheConstants as numbers
 use Rattle.cqlp_c.specs.Batches.{Put, events_of}
-use Rattle.cqlp_c.specs.Course.{at_start, frame_in, no_frame, refusal_from}
+use Rattle.cqlp_c.specs.Course.{at_start, finish_on, frame_in, no_frame, refusal_from}
 use Rattle.cqlp_c.specs.Events.{of_frame}
 use Rattle.cqlp_c.specs.Events as told
-use Rattle.cqlp_c.specs.Handle.{PassesOver, PutsOn}
+use Rattle.cqlp_c.specs.Handle.{IsFinish, PassesOver, PutsOn}
 use Rattle.cqlp_c.specs.Numbers.{number_of_reason}
 
 -- the frame under way, as a handle notes it
@@ -132,3 +133,18 @@ IsOneAnswerOfSkip =
     (d e e' : Decoding) (from to to' : CqlpCourse) (code code' : ℕ) (was told told' : CqlpSkipped)
     → PassesOver d from code e to was told → PassesOver d from code' e' to' was told'
     → (code' ≡ code) × (to' ≡ to) × (told' ≡ told) × ((e' ≡ e) ⊎ (IsAtStart (state d).rules e × IsAtStart (state d).rules e'))
+
+-- a stream ends over skips as cqlp_skip says
+abbrev pub FinishEndsThere : Type 0
+FinishEndsThere =
+    (xs s : List ℕ) (d : Decoding) (c : CqlpCourse) (stretches : List Stretch) (gifts : Gifts) (events : List (ℕ × Event)) (f : Finish)
+    → AfterCalls xs d c s stretches gifts events → IsFinish (state d) f
+    → FinishesAs (skipping_of d c (frame_under_way events)) (finish_on c f)
+
+-- Over the same input, from one place of a stream, a call has one batch, and leaves one course. What is in the array, `IsOneAnswerOfNext` says.
+abbrev pub IsOneAnswerOverSkips : Type 0
+IsOneAnswerOverSkips =
+    (gifts : Gifts) (s : List ℕ) (events : List (ℕ × Event)) (old new new' : Decoding) (from to to' : CqlpCourse) (input : List ℕ) (begins : Ptr)
+    (b b' : Batch) (before after after' : List CqlpEvent)
+    → AfterGifts gifts (state old) (drop from.base s) events → PutsOn old new from to input begins b before after
+    → PutsOn old new' from to' input begins b' before after' → (b' ≡ b) × (to' ≡ to)

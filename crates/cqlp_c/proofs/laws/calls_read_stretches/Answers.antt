@@ -1,5 +1,6 @@
 use Rattle.cqlp_skip.proofs.Skips.{starts}
 use Rattle.std.proofs.Common.{refl}
+use Rattle.cqlp_c.proofs.Ending.{finishes}
 use Rattle.cqlp_c.proofs.Skipping.{skips}
 use Rattle.cqlp_c.proofs.Stretching.{reads_on}
 use Rattle.cqlp_c.proofs.laws.calls_read_stretches.Goals as goal
@@ -12,3 +13,6 @@ returns-clause-next c = reads_on
 
 pub returns-clause-skip : goal.returns-clause-skip
 returns-clause-skip c = λ xs s old new from to stretches gifts events code was told. skips xs s old new from to stretches gifts events code was told
+
+pub returns-clause-finish : goal.returns-clause-finish
+returns-clause-finish c = finishes
