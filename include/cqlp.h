@@ -130,11 +130,14 @@ extern "C" {
 #define CQLP_OPEN 32                 /* a type of the table is not whole */
 #define CQLP_TOO_MANY 33             /* the table has more type options than the limit on `entries` */
 #define CQLP_TOO_DEEP 34             /* the types are nested deeper than the limit on `depth` */
+#define CQLP_NOT_REFUSED 35          /* nothing is refused */
+#define CQLP_IN_HEADER 36            /* a header is refused, so nobody knows where its frame ends */
+#define CQLP_TOO_FAR 37              /* the frame ends past the greatest offset */
 
 /* Why a batch of events ends. */
 #define CQLP_STOP_MORE 0             /* all of the input was used, and more is wanted */
 #define CQLP_STOP_FULL 1             /* call again with the rest of the input; `events` is over 0 where `room` is */
-#define CQLP_STOP_REFUSED 2          /* the stream is refused, here and at every later call */
+#define CQLP_STOP_REFUSED 2          /* the stream is refused, here and at every later call before a cqlp_skip */
 
 /* How a stream ends. */
 #define CQLP_END_WHOLE 0             /* at a frame's end; bytes: how many were used */
@@ -382,13 +385,14 @@ typedef struct cqlp_limits {
 
 #define CQLP_DEFAULT_LIMITS {1048576, 1048576, 4096, 16, 1, 0}
 
-/* A decoder, or none. The members are the library's own. */
+/* A decoder, or none; 64 bytes where a pointer has 8. The members are the library's own. */
 typedef struct cqlp_decoder {
   uint64_t live;
   void *place;
+  uint64_t course[6];
 } cqlp_decoder;
 
-#define CQLP_NO_DECODER_YET {0, NULL}
+#define CQLP_NO_DECODER_YET {0, NULL, {0, 0, 0, 0, 0, 0}}
 
 /* An event; 72 bytes where a pointer has 8. What its tag has no use for is 0. Rows and columns count from 0; a level is the
  * number of values around a value, 0 for the cell itself. */
@@ -419,6 +423,14 @@ typedef struct cqlp_batch {
   uint8_t stop;   /* CQLP_STOP_.. */
   uint8_t reason; /* where the stream is refused: CQLP_REASON_.. */
 } cqlp_batch;
+
+/* A frame that was passed over, since something in its body is refused. */
+typedef struct cqlp_skipped {
+  cqlp_event frame; /* the event of its header, as cqlp_next put it: its offset, stream id, opcode, and the bytes of its body */
+  uint64_t at;      /* the offset of the first byte of the field that could not be made */
+  uint64_t rest;    /* how many of its bytes are still to come, from `used` of the last batch on: cqlp_next uses them unread */
+  uint8_t reason;   /* CQLP_REASON_.. */
+} cqlp_skipped;
 
 /* How a stream ends. */
 typedef struct cqlp_end {
@@ -502,14 +514,27 @@ uint32_t cqlp_new(const cqlp_limits *limits, cqlp_decoder *decoder);
  *   `used` on, also where nothing is left of it: an end of a frame or of a value may still be due. With a `room` over 0 there
  *   is at least one event. A call with a `room` of 0 uses no byte and answers this, before a refusal.
  * - CQLP_STOP_REFUSED: the bytes after those used are no frame of the protocol, or past a limit. The events before them are
- *   in the array. Every later call answers the same, and no event, also one with a `room` of 0.
+ *   in the array. Every later call answers the same, and no event, also one with a `room` of 0, until the frame is passed over.
+ * After a cqlp_skip the first bytes are used unread, those that the frame still has, and `used` counts them too, also with a `room` of 0.
+ * All offsets are those in the whole stream.
  * How the stream is cut into pieces, and how much room there is, changes no event and no refusal. Room for some 256 events, 18 KiB,
  * costs the least; an event a call costs three to seven times as much.
  * Answers CQLP_DONE, or CQLP_NO_DECODER, with the array and the batch as they were. */
 uint32_t cqlp_next(cqlp_decoder *decoder, const uint8_t *input, size_t length, cqlp_event *events, size_t room,
                    cqlp_batch *batch);
 
-/* How the stream ends, if it ends after the bytes that were used. It changes nothing, and more bytes may come after it.
+/* Passes over the rest of the frame within which the stream is refused, and says which it was, and why. The decoder goes on with the memory
+ * that it has: give the rest of the input, from `used` on, to cqlp_next, which uses what is left of the frame unread, in however many
+ * pieces it comes, and then reads the header behind it. What it puts from there on is what it would put of a stream that begins with
+ * that header, at the offsets in this one. A frame can be passed over if its event was put: at each refusal in a body, for whatever reason.
+ * A table of types that the decoder has is freed: take it back before, by cqlp_take_given, and give it again. cqlp_types_of has none until
+ * the next metadata. It asks for no memory.
+ * Answers CQLP_DONE; else nothing changes, and the first of these that is so: CQLP_NO_DECODER, CQLP_NOT_REFUSED, CQLP_IN_HEADER where
+ * what is refused is a header, CQLP_TOO_FAR. */
+uint32_t cqlp_skip(cqlp_decoder *decoder, cqlp_skipped *skipped);
+
+/* How the stream ends, if it ends after the bytes that were used: cut, while bytes of a frame that was passed over are missing. It changes
+ * nothing, and more bytes may come after it.
  * Answers CQLP_DONE, or CQLP_NO_DECODER, with `end` as it was. */
 uint32_t cqlp_finish(cqlp_decoder *decoder, cqlp_end *end);
 

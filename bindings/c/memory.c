@@ -39,6 +39,9 @@ void __wrap_free(void *block) {
 /* A QUERY, whole, and one whose text is cut. */
 static const uint8_t query[] = {4, 0, 0, 7, 7, 0, 0, 0, 13, 0, 0, 0, 6, 'a', 'b', 'c', 'd', 'e', 'f', 0, 1, 0};
 
+/* The same with a text that is no UTF-8. */
+static const uint8_t bad[] = {4, 0, 0, 7, 7, 0, 0, 0, 13, 0, 0, 0, 6, 'a', 0xC3, 'c', 'd', 'e', 'f', 0, 1, 0};
+
 /* A call that asks for memory, with what it is given. */
 enum { NEW, CHECK_ALL, CLIENT, SERVER, TYPES_OF, TAKE_GIVEN };
 
@@ -122,11 +125,13 @@ static cqlp_event asking(uint8_t opcode) {
 static void serve_and_free(const row *row, given *given) {
   cqlp_event events[ROOM];
   cqlp_batch batch;
+  cqlp_skipped skipped;
   cqlp_holding held;
   cqlp_ticket ticket = {0, 0};
   cqlp_answered answered = {0, 0};
   memset(events, 0, sizeof events);
   memset(&batch, 0, sizeof batch);
+  memset(&skipped, 0, sizeof skipped);
   memset(&held, 0, sizeof held);
   requests = 0;
   if (row->call == SERVER) {
@@ -149,6 +154,10 @@ static void serve_and_free(const row *row, given *given) {
       CHECK(cqlp_next(&given->decoder, query + i, 1, events, ROOM, &batch) == CQLP_DONE && batch.stop != CQLP_STOP_REFUSED);
     CHECK(cqlp_held(&given->decoder, &held) == CQLP_DONE);
     CHECK(cqlp_finish(&given->decoder, &given->end) == CQLP_DONE && given->end.bytes == sizeof query);
+    CHECK(cqlp_next(&given->decoder, bad, sizeof bad, events, ROOM, &batch) == CQLP_DONE && batch.stop == CQLP_STOP_REFUSED);
+    CHECK(cqlp_skip(&given->decoder, &skipped) == CQLP_DONE && skipped.rest == sizeof bad - batch.used);
+    CHECK(cqlp_next(&given->decoder, bad + batch.used, skipped.rest, events, ROOM, &batch) == CQLP_DONE);
+    CHECK(cqlp_next(&given->decoder, query, sizeof query, events, ROOM, &batch) == CQLP_DONE && batch.used == sizeof query);
     CHECK(requests == 0 && taken > 0);
     CHECK(cqlp_free(&given->decoder) == CQLP_DONE);
   }

@@ -13,6 +13,7 @@ static const char *const CODE[] = {
     [CQLP_NO_SERVER] = "NoServer", [CQLP_NOT_REQUEST] = "NotRequest", [CQLP_BAD_ID] = "BadId", [CQLP_ID_TAKEN] = "IdTaken",
     [CQLP_NO_ROOM] = "NoRoom", [CQLP_NO_TYPES] = "NoTypes", [CQLP_ENDED] = "Ended", [CQLP_OFF] = "Off",
     [CQLP_BUSY] = "Busy", [CQLP_OPEN] = "Open", [CQLP_TOO_MANY] = "TooMany", [CQLP_TOO_DEEP] = "TooDeep",
+    [CQLP_NOT_REFUSED] = "NotRefused", [CQLP_IN_HEADER] = "InHeader", [CQLP_TOO_FAR] = "TooFar",
 };
 
 static const char *const STOP[] = {

@@ -9,7 +9,7 @@ from . import messages
 from ._client import Client, Reply, Ticket
 from ._columns import PageColumns, Series, columns
 from ._core import event_header, header, version_error
-from ._decoder import BadCall, BadLimits, Closed, Cut, Decoder, Error, Held, Limits, Refused, Verdict, check
+from ._decoder import BadCall, BadLimits, Closed, Cut, Decoder, Error, Held, Limits, Refused, Skipped, Verdict, check
 from ._events import Event
 from ._names import name, version, version_number
 from ._pages import Column, Page, Pages, Type, Types, rows
@@ -84,6 +84,7 @@ __all__ = [
     "rows",
     "Series",
     "Server",
+    "Skipped",
     "Tag",
     "Ticket",
     "Type",

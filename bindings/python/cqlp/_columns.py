@@ -6,7 +6,7 @@ from dataclasses import dataclass
 from typing import Any, Iterator, List, NamedTuple, Optional, Tuple, Union
 
 from . import _pages
-from ._decoder import Limits, Record
+from ._decoder import Limits, Record, Skip
 from ._pages import Column, Row, Type, _Cells, _cells, _CompiledCells
 from ._sources import Batch, Progress, Source, batches
 from ._values import ValueOf
@@ -171,13 +171,15 @@ def columns(
     longest: int = 1 << 28,
     piece: int = 65536,
     progress: Optional[Progress] = None,
+    skip: Optional[Skip] = None,
 ) -> Iterator[PageColumns]:
     """The pages of a stream, each once it is whole, column by column. A page is held whole, as by `frames`, and `longest` bounds it.
 
-    Where the stream is refused or cut, Refused or Cut is raised after the last page that ends before that place.
+    Where the stream is refused or cut, Refused or Cut is raised after the last page that ends before that place. With `skip` a frame that is
+    refused within its body is passed over, and it is told which.
     """
     found = _Columns(longest, limits.types)
-    for batch in batches(source, limits, piece, progress, _pages._compiled is not None):
+    for batch in batches(source, limits, piece, progress, _pages._compiled is not None, skip=skip):
         for frame in found.take(batch):
             if isinstance(frame.message, Rows):
                 yield found.page(frame.message)

@@ -3,7 +3,7 @@
 import ctypes
 import threading
 from dataclasses import dataclass
-from typing import Any, Iterator, List, NamedTuple, Optional, Tuple, Union
+from typing import Any, Callable, Iterator, List, NamedTuple, Optional, Tuple, Union
 
 from . import _native
 from ._events import Event, camel
@@ -33,13 +33,14 @@ class BadCall(Error, ValueError):
 
 class Refused(Error, ValueError):
     """A stream is refused: at the offset `at` of the field that could not be made, for `reason`. `events` are those of the last
-    piece that come before."""
+    piece that come before, and `rest` its bytes that come after them: give them to the decoder again after `Decoder.skip`."""
 
-    def __init__(self, at: int, reason: Union[Reason, int], events: "List[Event]") -> None:
+    def __init__(self, at: int, reason: Union[Reason, int], events: "List[Event]", rest: bytes = b"") -> None:
         super().__init__("refused at %d: %s" % (at, camel(reason)))
         self.at = at
         self.reason = reason
         self.events = events
+        self.rest = rest
 
 
 class Cut(Error, EOFError):
@@ -110,6 +111,25 @@ class Held(NamedTuple):
     """The type options of the metadata begun last: no more than `entries`."""
     levels: int
     """The types or values around the one that is read: no more than `depth`."""
+
+
+class Skipped(NamedTuple):
+    """A frame that was passed over, since something in its body is refused."""
+
+    frame: Event
+    """The event of its header: its offset, its stream id, its opcode and the bytes of its body."""
+    at: int
+    """The offset of the field that could not be made."""
+    reason: Union[Reason, int]
+    rest: int
+    """How many of its bytes were still to come."""
+
+    def __str__(self) -> str:
+        return "the frame at %d is passed over: refused at %d: %s" % (self.frame.at, self.at, camel(self.reason))
+
+
+Skip = Callable[[Skipped], Any]
+"""Is told of each frame that was passed over."""
 
 
 def _named(names: Any) -> Tuple[Any, ...]:
@@ -202,7 +222,7 @@ class Decoder:
 
     def __init__(self, limits: Limits = Limits(), *, room: int = 256) -> None:
         """All of its memory is asked for here. `room` is how many events one call of the library puts."""
-        self._handle = _native.Handle(0, None)
+        self._handle = _native.DecoderHandle()
         self._lock = threading.Lock()
         self._room = max(1, room)
         self._array = (_native.Event * self._room)()
@@ -214,11 +234,24 @@ class Decoder:
         """The events that the next bytes of the stream end. Where the stream is refused, here or before, Refused is raised, and has
         the events before it."""
         events: List[Event] = []
-        for batch, refusal in self._batches(bytes(data)):
+        data, used = bytes(data), 0
+        for batch, refusal in self._batches(data):
             events += [event_of(*one) for one in batch]
+            used += self._batch.used
             if refusal:
-                raise Refused(*refusal, events)
+                raise Refused(*refusal, events, data[used:])
         return events
+
+    def skip(self) -> Skipped:
+        """Passes over the rest of the frame within which the stream is refused. `decode` goes on with the `rest` of Refused: the bytes that the
+        frame still has give no event, and those behind it are read, with their offsets in the whole stream. Raises BadCall with
+        NOT_REFUSED, or IN_HEADER where what is refused is a header, so that nobody knows where its frame ends; or TOO_FAR."""
+        with self._lock:
+            code, skipped = self._skip()
+        if code in (Code.NOT_REFUSED, Code.IN_HEADER, Code.TOO_FAR):
+            raise BadCall(code)
+        _must_be_done(code)
+        return skipped
 
     def finish(self) -> Verdict:
         """How the stream ends, if it ends here. It changes nothing."""
@@ -260,26 +293,50 @@ class Decoder:
         if hasattr(self, "_batch"):
             _free(self._handle)
 
-    def _batches(self, data: bytes) -> Iterator[Tuple[List[Tuple[Record, bytes]], Refusal]]:
-        """The events of a piece with their contents, a list for each call of the library; and beside the last one the refusal."""
+    def _skip(self) -> Tuple[int, Skipped]:
+        """The code of cqlp_skip, and the frame that was passed over, if one was."""
+        skipped = _native.Skipped()
+        code = _native.library.cqlp_skip(self._handle, skipped)
+        frame = event_of(_native.RECORD.unpack_from(skipped.frame), b"")
+        return code, Skipped(frame, skipped.at, _REASONS[skipped.reason], skipped.rest)
+
+    def _batches(self, data: bytes, skip: Optional[Skip] = None) -> Iterator[Tuple[List[Tuple[Record, bytes]], Refusal]]:
+        """The events of a piece with their contents, a list for each call of the library; and beside the last one the refusal. With
+        `skip` each frame that can be is passed over."""
         used, stop, base = 0, _FULL, _address(data)
         while stop == _FULL:
+            skipped = None
             with self._lock:
                 taken, stop, refusal = self._call(base, len(data), used)
                 batch = self._copied(data, base)
+                if refusal and skip:
+                    stop, refusal, skipped = self._passed(refusal)
             used += taken
             yield batch, refusal
+            if skip and skipped:
+                skip(skipped)
 
-    def _placed(self, data: bytes) -> Iterator[Tuple[Placed, Refusal]]:
+    def _placed(self, data: bytes, skip: Optional[Skip] = None) -> Iterator[Tuple[Placed, Refusal]]:
         """The same for a caller that has this decoder for itself, and is done with a batch before it asks for the next."""
         used, stop, base = 0, _FULL, _address(data)
         batch = Placed(self._array, self._bytes)
         while stop == _FULL:
+            skipped = None
             with self._lock:
                 taken, stop, refusal = self._call(base, len(data), used)
+                if refusal and skip:
+                    # the contents of a batch before a refusal lie in the piece, so they stay
+                    stop, refusal, skipped = self._passed(refusal)
             used += taken
             batch.count = self._batch.events
             yield batch, refusal
+            if skip and skipped:
+                skip(skipped)
+
+    def _passed(self, refusal: Refusal) -> Tuple[int, Refusal, Optional[Skipped]]:
+        """What becomes of a refusal where frames are passed over: whether it stays, and the frame that was passed over, if one was."""
+        code, skipped = self._skip()
+        return (_REFUSED, refusal, None) if code else (_FULL, None, skipped)
 
     def _call(self, base: int, length: int, used: int) -> Tuple[int, int, Refusal]:
         """One call of the library, with what comes after the used bytes: how many it used, why it stopped, and the refusal."""

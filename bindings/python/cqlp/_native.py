@@ -19,7 +19,13 @@ class Limits(ctypes.Structure):
 
 
 class Handle(ctypes.Structure):
+    """That of a core, or of a table of types."""
+
     _fields_ = [("live", c_uint64), ("place", c_void_p)]
+
+
+class DecoderHandle(ctypes.Structure):
+    _fields_ = [("live", c_uint64), ("place", c_void_p), ("course", c_uint64 * 6)]
 
 
 class Event(ctypes.Structure):
@@ -45,6 +51,10 @@ class Event(ctypes.Structure):
 
 class Batch(ctypes.Structure):
     _fields_ = [("used", c_size_t), ("events", c_size_t), ("at", c_uint64), ("stop", c_uint8), ("reason", c_uint8)]
+
+
+class Skipped(ctypes.Structure):
+    _fields_ = [("frame", Event), ("at", c_uint64), ("rest", c_uint64), ("reason", c_uint8)]
 
 
 class End(ctypes.Structure):
@@ -95,14 +105,15 @@ def _load() -> ctypes.CDLL:
 library = _load()
 
 for name, result, arguments in (
-    ("cqlp_new", c_uint32, [POINTER(Limits), POINTER(Handle)]),
-    ("cqlp_next", c_uint32, [POINTER(Handle), c_void_p, c_size_t, c_void_p, c_size_t, POINTER(Batch)]),
-    ("cqlp_finish", c_uint32, [POINTER(Handle), POINTER(End)]),
-    ("cqlp_held", c_uint32, [POINTER(Handle), POINTER(Holding)]),
-    ("cqlp_free", c_uint32, [POINTER(Handle)]),
+    ("cqlp_new", c_uint32, [POINTER(Limits), POINTER(DecoderHandle)]),
+    ("cqlp_next", c_uint32, [POINTER(DecoderHandle), c_void_p, c_size_t, c_void_p, c_size_t, POINTER(Batch)]),
+    ("cqlp_skip", c_uint32, [POINTER(DecoderHandle), POINTER(Skipped)]),
+    ("cqlp_finish", c_uint32, [POINTER(DecoderHandle), POINTER(End)]),
+    ("cqlp_held", c_uint32, [POINTER(DecoderHandle), POINTER(Holding)]),
+    ("cqlp_free", c_uint32, [POINTER(DecoderHandle)]),
     ("cqlp_check", c_uint32, [POINTER(Limits), c_void_p, c_size_t, POINTER(End)]),
-    ("cqlp_types_of", c_uint32, [POINTER(Handle), POINTER(Handle)]),
-    ("cqlp_give", c_uint32, [POINTER(Handle), POINTER(Handle)]),
+    ("cqlp_types_of", c_uint32, [POINTER(DecoderHandle), POINTER(Handle)]),
+    ("cqlp_give", c_uint32, [POINTER(DecoderHandle), POINTER(Handle)]),
     ("cqlp_types_free", c_uint32, [POINTER(Handle)]),
     ("cqlp_client_new", c_uint32, [c_uint32, POINTER(Handle)]),
     ("cqlp_client_begin", c_uint32, [POINTER(Handle), c_uint8, c_uint64, POINTER(Ticket)]),

@@ -4,7 +4,7 @@ from itertools import chain
 from typing import Any, Iterator, List, NamedTuple, Optional, Tuple, Union
 
 from . import _native
-from ._decoder import BadCall, Cut, Decoder, Limits, Placed, Record, event_of
+from ._decoder import BadCall, Cut, Decoder, Limits, Placed, Record, Skip, event_of
 from ._events import Event
 from ._sources import Batch, Progress, Source, _pieces, batches
 from ._values import EMPTY, LEAVES, ValueOf
@@ -171,7 +171,8 @@ class Pages:
     """The pages of a stream, one after the other; each is to be used before the next is asked for.
 
     Of frames that are no page nothing is told. Where the stream is refused or cut, the error comes after the last row before
-    that place.
+    that place. With `skip` a frame that is refused within its body is passed over, and it is told which, after the last row before that
+    place: so a page may give fewer rows than its `count`.
     """
 
     def __init__(
@@ -182,10 +183,11 @@ class Pages:
         piece: int = 65536,
         progress: Optional[Progress] = None,
         types: "Optional[Types]" = None,
+        skip: Optional[Skip] = None,
     ) -> None:
         """`types` are those of the pages that come without metadata and have as many columns; else their cells are bytes."""
         placed = _compiled is not None
-        found = batches(source, limits, piece, progress, placed, types._give if types else None)
+        found = batches(source, limits, piece, progress, placed, types._give if types else None, skip)
         self._found = _found(self, found, limits.types, types.columns if types else None)
         self._current: Optional[Page] = None
         self._rows: Iterator[Row] = iter(())
@@ -399,7 +401,9 @@ def rows(
     piece: int = 65536,
     progress: Optional[Progress] = None,
     types: Optional[Types] = None,
+    skip: Optional[Skip] = None,
 ) -> Iterator[Row]:
-    """The rows of all pages of a stream, as tuples. `types` are those of pages without metadata, as in `Pages`."""
-    found = Pages(source, limits, piece=piece, progress=progress, types=types)._found
+    """The rows of all pages of a stream, as tuples. `types` are those of pages without metadata, and `skip` is told of each frame that is
+    passed over, as in `Pages`."""
+    found = Pages(source, limits, piece=piece, progress=progress, types=types, skip=skip)._found
     return chain.from_iterable(rows for rows in found if isinstance(rows, list))

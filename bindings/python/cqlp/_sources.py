@@ -4,7 +4,7 @@ import io
 import os
 from typing import Any, BinaryIO, Callable, Iterator, Optional, Sequence, Tuple, Union
 
-from ._decoder import Cut, Decoder, Limits, Record, Refusal, Refused, event_of
+from ._decoder import Cut, Decoder, Limits, Record, Refusal, Refused, Skip, event_of
 from ._events import Event
 from .numbers import End
 
@@ -77,17 +77,19 @@ def batches(
     progress: Optional[Progress],
     placed: bool = False,
     give: Optional[Callable[[Decoder], None]] = None,
+    skip: Optional[Skip] = None,
 ) -> Iterator[Batch]:
     """The events of a source with their contents, batch by batch; the one before a refusal too. With `placed` each batch is one
-    of `Placed`, which is read before the next is asked for. `give` is called at the begin of each frame, and at other places."""
+    of `Placed`, which is read before the next is asked for. `give` is called at the begin of each frame, and at other places; `skip` for each
+    frame that is passed over, after the events of it that came before what is refused."""
     read = 0
     pieces = _pieces_of_frames(_pieces(source, piece)) if give else _pieces(source, piece)
     with Decoder(limits, room=512) as decoder:
-        take: Callable[[bytes], Iterator[Tuple[Batch, Refusal]]] = decoder._placed if placed else decoder._batches
+        take: Callable[[bytes, Optional[Skip]], Iterator[Tuple[Batch, Refusal]]] = decoder._placed if placed else decoder._batches
         for data, total in pieces:
             if give:
                 give(decoder)
-            for batch, refusal in take(data):
+            for batch, refusal in take(data, skip):
                 yield batch
                 if refusal:
                     raise Refused(*refusal, [event_of(*one) for one in batch])
@@ -105,9 +107,11 @@ def events(
     *,
     piece: int = 65536,
     progress: Optional[Progress] = None,
+    skip: Optional[Skip] = None,
 ) -> Iterator[Event]:
     """The events of a stream, read in pieces of at most this many bytes. After the last event, Refused or Cut is raised where the
-    stream is refused or cut."""
-    for batch in batches(source, limits, piece, progress):
+    stream is refused or cut. With `skip` a frame that is refused within its body is passed over, and it is told which: the events go on with
+    the next frame."""
+    for batch in batches(source, limits, piece, progress, skip=skip):
         for one in batch:
             yield event_of(*one)

@@ -12,7 +12,7 @@ from typing import Any, Callable, Dict, Generator, Iterator, List, Optional, Tup
 
 from . import _pages
 from ._decoder import Error as _PackageError
-from ._decoder import Limits, event_of
+from ._decoder import Limits, Skip, event_of
 from ._events import Event as _Event
 from ._pages import Column, Row, Type, _cells, _Types
 from ._sources import Batch as _EventBatch
@@ -658,7 +658,7 @@ class _Frames:
 
     def add(self, event: _Event) -> Optional[Frame]:
         """The frame, where this event ends it."""
-        if self.reading is None:
+        if self.reading is None or event.tag == Tag.FRAME:  # that of a frame that was passed over goes
             if event.number > self.longest:
                 raise FrameTooLong(event.at, event.number)
             self.reading = self.frame(event)
@@ -695,12 +695,14 @@ def frames(
     longest: int = 1 << 28,
     piece: int = 65536,
     progress: Optional[Progress] = None,
+    skip: Optional[Skip] = None,
 ) -> Iterator[Frame]:
     """The frames of a stream, each once it is whole: a page is held with all of its rows.
 
-    Where the stream is refused or cut, Refused or Cut is raised after the last frame that ends before that place. A frame whose body
-    has more than `longest` bytes raises FrameTooLong before its body is held.
+    Where the stream is refused or cut, Refused or Cut is raised after the last frame that ends before that place. With `skip` a frame that is
+    refused within its body is passed over, and it is told which. A frame whose body has more than `longest` bytes raises FrameTooLong before
+    its body is held.
     """
     found = _Frames(longest, limits.types)
-    for batch in batches(source, limits, piece, progress, _pages._compiled is not None):
+    for batch in batches(source, limits, piece, progress, _pages._compiled is not None, skip=skip):
         yield from found.take(batch)

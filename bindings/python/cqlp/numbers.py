@@ -326,3 +326,6 @@ class Code(IntEnum):
     OPEN = 32
     TOO_MANY = 33
     TOO_DEEP = 34
+    NOT_REFUSED = 35
+    IN_HEADER = 36
+    TOO_FAR = 37

@@ -135,7 +135,7 @@ class Decoder(unittest.TestCase):
         limits = cqlp.Limits()._native()
 
         def make_and_free(count: int) -> None:
-            handle = native.Handle(0, None)
+            handle = native.DecoderHandle()
             for _ in range(count):
                 self.assertEqual(library.cqlp_new(limits, handle), native.DONE)
                 self.assertEqual(library.cqlp_free(handle), native.DONE)

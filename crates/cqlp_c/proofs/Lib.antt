@@ -1,7 +1,9 @@
+pub mod Beginning
 pub mod Checked
 pub mod Cored
 pub mod Cores
 pub mod Crosses
+pub mod Ending
 pub mod Fills
 pub mod Gathering
 pub mod Giving
@@ -11,9 +13,12 @@ pub mod Nexted
 pub mod OneBatch
 pub mod OneVerdict
 pub mod Places
+pub mod Placing
 pub mod Putting
 pub mod Services
+pub mod Skipping
 pub mod Spans
+pub mod Stretching
 pub mod Tables
 pub mod There
 pub mod Values

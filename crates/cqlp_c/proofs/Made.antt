@@ -1,13 +1,16 @@
 -- What a call that makes a decoder says of the code and the handle.
 use Rattle.std.proofs.Common.{◌≡◌, ◌↔◌, ℕ, Option, Some, None, Result, Ok, Err, refl, sym, ap, ◌∙◌, inl, inr}
 use Rattle.cqlp_note.specs.declared.limits.BadLimits.{BadLimits}
+use Rattle.cqlp_note.specs.declared.limits.BadLimits.TheVariants as limit
 use Rattle.cqlp_note.specs.declared.limits.Limits.{Limits}
 use Rattle.cqlp_note.specs.Limits.{first_bad}
 use Rattle.cqlp_decode.specs.declared.decoder.NewError.{NewError}
 use Rattle.cqlp_decode.specs.declared.decoder.NewError.TheVariants as error
 use Rattle.cqlp_decode.specs.Streams.{Decoding}
 use Rattle.cqlp_laws.specs.OneAnswer.{IsNew}
+use Rattle.cqlp_c.specs.declared.course.CqlpCourse.{CqlpCourse}
 use Rattle.cqlp_c.specs.declared.numbers.TheConstants as numbers
+use Rattle.cqlp_c.specs.Course.{course_of_new}
 use Rattle.cqlp_c.specs.Numbers.{code_of_error}
 use Rattle.cqlp_c.specs.Handle.{Makes, MakesAnew, flag_of}
 
@@ -35,3 +38,11 @@ not_made_by l (Ok u) is (error.BadLimits z) bad = absurd (let e = sym is ∙ (ba
 pub not_made : (l : Limits) (o : Option Decoding) (e : NewError) → o ≡ None → ((z : BadLimits) → (e ≡ error.BadLimits z) ↔ (first_bad l ≡ Err z)) → Makes l o (code_of_error e) o
 not_made l None e is bad = not_made_by l (first_bad l) refl e bad
 not_made l (Some d) e is bad = absurd cc
+
+-- a handle without a decoder stays where it was
+pub kept_course : (e : NewError) (c : CqlpCourse) → course_of_new (code_of_error e) c ≡ c
+kept_course error.NoMemory c = refl
+kept_course (error.BadLimits limit.Text) c = refl
+kept_course (error.BadLimits limit.Cell) c = refl
+kept_course (error.BadLimits limit.Entries) c = refl
+kept_course (error.BadLimits limit.Depth) c = refl

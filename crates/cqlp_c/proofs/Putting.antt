@@ -4,9 +4,11 @@ use Rattle.std.proofs.lemmas.List.{append-nil, length-set, take_more_set, drop-s
 use Rattle.cqlp_decode.specs.Reading.{Event}
 use Rattle.cqlp_decode.specs.Progress.{StreamState}
 use Rattle.cqlp_decode.specs.Cells.{Item, TakesItems, GetsAll, HandsOut, FailsAfter, bytes_of}
+use Rattle.cqlp_c.specs.declared.course.CqlpBegun.{CqlpBegun}
 use Rattle.cqlp_c.specs.declared.event.CqlpEvent.{CqlpEvent}
 use Rattle.cqlp_c.specs.declared.slots.Origin.{Origin}
 use Rattle.cqlp_c.specs.declared.slots.Slots.{Slots}
+use Rattle.cqlp_c.specs.Course.{begun_by}
 use Rattle.cqlp_c.specs.Slots.{HasRoom, PutsOne, TellsItems}
 
 -- These events were put, behind those that were there, into the same array.
@@ -20,9 +22,10 @@ pub record PutsAll (before : Slots) (xs : List Item) (after : Slots) : Type 0 wh
   pub fits : after.count ≤ length after.events.now
   pub same : after.events.ghost_name ≡ before.events.ghost_name
   pub origin : after.origin ≡ before.origin
+  pub frame : after.frame ≡ begun_by before.frame events
 
 puts_none : (s : Slots) → s.count ≤ length s.events.now → PutsAll s [] s
-puts_none s fits = record { events = []; told = tt; first = sym (append-nil (take s.count s.events.now)); others = refl; long = refl; count = omega arith; fits = fits; same = refl; origin = refl }
+puts_none s fits = record { events = []; told = tt; first = sym (append-nil (take s.count s.events.now)); others = refl; long = refl; count = omega arith; fits = fits; same = refl; origin = refl; frame = refl }
 
 pub drops_more : {X : Type 0} (n k : ℕ) (xs ys : List X) → drop n xs ≡ drop n ys → drop (n + k) xs ≡ drop (n + k) ys
 drops_more {X = X} n k xs ys same = sym (drop-drop k n xs) ∙ ap (λ (z : List X). drop k z) same ∙ drop-drop k n ys
@@ -43,6 +46,7 @@ puts_then s t u x ys room one more = record {
   fits = more.fits;
   same = more.same ∙ one.same;
   origin = more.origin ∙ one.origin;
+  frame = more.frame ∙ ap (λ (f : CqlpBegun). begun_by f more.events) one.frame;
 }
 
 -- Items were taken, of this many bytes, and their events were put.

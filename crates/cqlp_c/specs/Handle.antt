@@ -1,7 +1,8 @@
 -- What a handle owns, and what calls on one answer.
-use Rattle.std.specs.Prelude.{◌≡◌, ℕ, ◌≤◌, List, length, drop, Option, None, Some, Result, Ok, Err, ◌⊎◌}
+use Rattle.std.specs.Prelude.{◌≡◌, ℕ, ◌-◌, ◌≤◌, ◌++◌, min, List, [], length, take, drop, Option, None, Some, Result, Ok, Err, ◌⊎◌}
 use Rattle.std.specs.Borrow.{Bor}
 use Rattle.std.specs.Ptr.{Ptr}
+use denote.RawPtr.{◌+ₚ◌}
 use base.Fml.{Fml, ftrue}
 use Rattle.cqlp_note.specs.declared.limits.BadLimits.{BadLimits}
 use Rattle.cqlp_note.specs.declared.limits.Limits.{Limits}
@@ -11,9 +12,12 @@ use Rattle.cqlp_grammar.specs.declared.event.Finish.{Finish}
 use Rattle.cqlp_grammar.specs.declared.event.Finish.TheVariants as finish
 use Rattle.cqlp_decode.specs.declared.step.Held.{Held}
 use Rattle.cqlp_decode.specs.Progress.{StreamState}
-use Rattle.cqlp_decode.specs.Streams.{Decoding, EndsAs, IsWithin, state}
+use Rattle.cqlp_decode.specs.Streams.{After, Decoding, EndsAs, HoldsNothing, IsWithin, buffer_of, state}
 use Rattle.cqlp_laws.specs.OneAnswer.{IsHeld, IsNew}
 use Rattle.cqlp_c.specs.declared.batch.Batch.{Batch}
+use Rattle.cqlp_c.specs.declared.course.CqlpCourse.{CqlpCourse}
+use Rattle.cqlp_c.specs.declared.course.CqlpSkipped.{CqlpSkipped}
+use Rattle.cqlp_c.specs.declared.course.Unskippable.{Unskippable}
 use Rattle.cqlp_c.specs.declared.event.CqlpEvent.{CqlpEvent}
 use Rattle.cqlp_c.specs.declared.shown.CqlpBatch.{CqlpBatch}
 use Rattle.cqlp_c.specs.declared.shown.CqlpEnd.{CqlpEnd}
@@ -21,6 +25,7 @@ use Rattle.cqlp_c.specs.declared.shown.CqlpHeld.{CqlpHeld}
 use Rattle.cqlp_c.specs.declared.numbers.TheConstants as numbers
 use Rattle.cqlp_c.specs.Numbers.{code_of_limit}
 use Rattle.cqlp_c.specs.Batches.{BeginsAt, Buffer, FillsOn, GoesOn, RepeatsRefusal, buffer_in}
+use Rattle.cqlp_c.specs.Course.{batch_from, begun_by, code_of_unskippable, finish_on, gone_on, placed, skip_by, skipped_on}
 use Rattle.cqlp_c.specs.Shown.{batch_of, end_of, held_of}
 
 -- F of the value that is there
@@ -62,14 +67,54 @@ pub record PutsInto (old new : StreamState) (input : List ℕ) (begins : Ptr) (b
   pub room : length after ≡ length before
   pub rules : new.rules ≡ old.rules
 
-abbrev pub Nexts : (old : Option Decoding) → (input : Bor (List ℕ)) → (code : ℕ) → (new : Option Decoding)
-    → (before after : List CqlpEvent) → (was told : CqlpBatch) → Type 0
-Nexts None input code new before after was told =
-    (code ≡ numbers.NO_DECODER) × (new ≡ None) × (after ≡ before) × (told ≡ was)
-Nexts (Some d) input code new before after was told =
+-- What a call makes of a piece: its first bytes are passed over, as many as the frame passed over last still has, and of the others
+-- events are put into the array, at their offsets in the whole stream.
+pub record PutsOn (old new : Decoding) (from to : CqlpCourse) (input : List ℕ) (begins : Ptr) (b : Batch)
+    (before after : List CqlpEvent) : Type 0 where
+  pub passed : ℕ
+  pub is_passed : passed ≡ min (from.base - from.used) (length input)
+  pub own : Batch
+  pub events : List CqlpEvent
+  pub puts : PutsInto (state old) (state new) (drop passed input) (begins +ₚ passed) (buffer_in new) own before events
+  pub placed : after ≡ placed from.base (take own.events events) ++ drop own.events events
+  pub batch : b ≡ batch_from from.base passed own
+  pub course : to ≡ record (gone_on from b.used) { frame = begun_by from.frame (take own.events events) }
+
+abbrev pub Nexts : (old : Option Decoding) → (from : CqlpCourse) → (input : Bor (List ℕ)) → (code : ℕ)
+    → (new : Option Decoding) → (to : CqlpCourse) → (before after : List CqlpEvent) → (was told : CqlpBatch) → Type 0
+Nexts None from input code new to before after was told =
+    (code ≡ numbers.NO_DECODER) × (new ≡ None) × (to ≡ from) × (after ≡ before) × (told ≡ was)
+Nexts (Some d) from input code new to before after was told =
     (code ≡ numbers.DONE) × (e : Decoding) × (new ≡ Some e) × (b : Batch) × (told ≡ batch_of b)
-    × (begins : Ptr) × BeginsAt input begins
-    × PutsInto (state d) (state e) input.now begins (buffer_in e) b before after
+    × (begins : Ptr) × BeginsAt input begins × PutsOn d e from to input.now begins b before after
+
+-- ---- skip
+
+-- A decoder begins another stream with the memory and the limits that it has: nothing is held, and nothing given.
+pub record BeginsAgain (d e : Decoding) : Type 0 where
+  pub fresh : After (state e) [] []
+  pub unrefused : (state e).refusal ≡ None
+  pub rules : (state e).rules ≡ (state d).rules
+  pub nothing_held : HoldsNothing e
+  pub nothing_given : (state e).given ≡ None
+  pub in_place : buffer_of e ≡ buffer_of d
+
+abbrev pub PassesBy : Result CqlpSkipped Unskippable → (d : Decoding) → (from : CqlpCourse) → (code : ℕ) → (e : Decoding)
+    → (to : CqlpCourse) → (was told : CqlpSkipped) → Type 0
+PassesBy (Err why) d from code e to was told =
+    (code ≡ code_of_unskippable why) × (e ≡ d) × (to ≡ from) × (told ≡ was)
+PassesBy (Ok x) d from code e to was told =
+    (code ≡ numbers.DONE) × BeginsAgain d e × (to ≡ skipped_on (Ok x) from) × (told ≡ x)
+
+-- What passing over a frame comes to, by what the decoder refuses and where it is in its stream.
+abbrev pub PassesOver : (d : Decoding) → (from : CqlpCourse) → (code : ℕ) → (e : Decoding) → (to : CqlpCourse)
+    → (was told : CqlpSkipped) → Type 0
+PassesOver d from code e to was told = PassesBy (skip_by (state d).refusal from) d from code e to was told
+
+abbrev pub Skips : (old : Option Decoding) → (from : CqlpCourse) → (code : ℕ) → (new : Option Decoding) → (to : CqlpCourse)
+    → (was told : CqlpSkipped) → Type 0
+Skips None from code new to was told = (code ≡ numbers.NO_DECODER) × (new ≡ None) × (to ≡ from) × (told ≡ was)
+Skips (Some d) from code new to was told = (e : Decoding) × (new ≡ Some e) × PassesOver d from code e to was told
 
 -- ---- finish and held
 
@@ -77,10 +122,10 @@ Nexts (Some d) input code new before after was told =
 abbrev pub IsFinish : StreamState → Finish → Type 0
 IsFinish d f = EndsAs d f × ((r : Refusal) → d.refusal ≡ Some r → f ≡ finish.Refused r)
 
-abbrev pub Finishes : (old : Option Decoding) → (code : ℕ) → (new : Option Decoding) → (was told : CqlpEnd) → Type 0
-Finishes None code new was told = (code ≡ numbers.NO_DECODER) × (new ≡ None) × (told ≡ was)
-Finishes (Some d) code new was told =
-    (code ≡ numbers.DONE) × (new ≡ Some d) × (f : Finish) × (told ≡ end_of f) × IsFinish (state d) f
+abbrev pub Finishes : (old : Option Decoding) → CqlpCourse → (code : ℕ) → (new : Option Decoding) → (was told : CqlpEnd) → Type 0
+Finishes None c code new was told = (code ≡ numbers.NO_DECODER) × (new ≡ None) × (told ≡ was)
+Finishes (Some d) c code new was told =
+    (code ≡ numbers.DONE) × (new ≡ Some d) × (f : Finish) × (told ≡ end_of (finish_on c f)) × IsFinish (state d) f
 
 abbrev pub Holds : (old : Option Decoding) → (code : ℕ) → (new : Option Decoding) → (was told : CqlpHeld) → Type 0
 Holds None code new was told = (code ≡ numbers.NO_DECODER) × (new ≡ None) × (told ≡ was)

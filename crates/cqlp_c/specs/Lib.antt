@@ -2,6 +2,7 @@ pub mod Batches
 pub mod Checks
 pub mod Clients
 pub mod Cores
+pub mod Course
 pub mod Events
 pub mod Given
 pub mod Handle
@@ -12,5 +13,6 @@ pub mod Rooms
 pub mod Servers
 pub mod Shown
 pub mod Slots
+pub mod Stretched
 pub mod Talked
 pub mod Versions

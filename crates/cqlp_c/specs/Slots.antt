@@ -8,10 +8,12 @@ use Rattle.cqlp_decode.specs.Progress.{StreamState}
 use Rattle.cqlp_decode.specs.Streams.{AfterGifts}
 use Rattle.cqlp_decode.specs.Cells.{Item, TakesItems, bytes_of}
 use Rattle.cqlp_laws.specs.Contents.{before_content, content_in}
+use Rattle.cqlp_c.specs.declared.course.CqlpBegun.{CqlpBegun}
 use Rattle.cqlp_c.specs.declared.event.CqlpEvent.{CqlpEvent}
 use Rattle.cqlp_c.specs.declared.slots.Origin.{Origin}
 use Rattle.cqlp_c.specs.declared.slots.Slots.{Slots}
 use Rattle.cqlp_c.specs.declared.slots.WholePut.{WholePut}
+use Rattle.cqlp_c.specs.Course.{begun_after, begun_by}
 use Rattle.cqlp_c.specs.Events.{told_at}
 
 -- there is room for another event
@@ -38,6 +40,7 @@ pub record PutsOne (before : Slots) (at : ℕ) (e : Event) (after : Slots) : Typ
   pub events : after.events.now ≡ set before.events.now before.count told
   pub count : after.count ≡ before.count + 1
   pub same : after.events.ghost_name ≡ before.events.ghost_name
+  pub frame : after.frame ≡ begun_after before.frame told
 
 abbrev pub PutsNext : Slots → (at : ℕ) → Event → Slots → Type 0
 PutsNext before at e after = HasRoom before → PutsOne before at e after
@@ -49,9 +52,9 @@ TellsItems o (c ∷ cs) (x ∷ xs) = TellsIn o c x.at x.event × TellsItems o cs
 TellsItems o cs xs = ⊥
 
 -- Items were taken one after the other, of this many bytes, and their events, as C sees them, stand behind the first n
--- of the array, which is the same otherwise.
+-- of the array, which is the same otherwise. The frame is under way that is after them.
 pub record PutsWhole (old new : StreamState) (input : Bor (List ℕ)) (n : ℕ) (put : WholePut)
-    (before after : List CqlpEvent) : Type 0 where
+    (before after : List CqlpEvent) (was now : CqlpBegun) : Type 0 where
   pub items : List Item
   pub takes : TakesItems old input.now items new
   pub all : put.used ≡ bytes_of items
@@ -62,3 +65,4 @@ pub record PutsWhole (old new : StreamState) (input : Bor (List ℕ)) (n : ℕ) 
   pub others : drop put.count after ≡ drop put.count before
   pub long : length after ≡ length before
   pub count : put.count ≡ n + length items
+  pub frame : now ≡ begun_by was events

@@ -1,6 +1,6 @@
 //! Batches of events.
 
-ghost use Rattle.std.specs.Prelude.{◌≡◌, ℕ, ◌<◌, ◌≤◌, List, drop, length, Some, nat_lt};
+ghost use Rattle.std.specs.Prelude.{◌≡◌, ℕ, ◌<◌, ◌≤◌, List, drop, take, length, Some, nat_lt};
 ghost use Rattle.std.specs.Ptr.{Ptr, as_ptr};
 ghost use Rattle.cqlp_note.specs.declared.refusal.Refusal.{Refusal as Refused};
 ghost use Rattle.cqlp_grammar.specs.Events.{event_of};
@@ -9,7 +9,9 @@ ghost use Rattle.cqlp_c.specs.declared.event.CqlpEvent.{CqlpEvent as Told};
 ghost use Rattle.cqlp_c.specs.Events.{content_span};
 ghost use Rattle.cqlp_c.specs.Batches.{BeginsAt, Buffer, FillsOn, GoesOn, PutsGathered, RepeatsRefusal, TellsStep, buffer_in, put_of};
 ghost use Rattle.cqlp_c.specs.Batches.{stop_without_room};
+ghost use Rattle.cqlp_c.specs.Course.{begun_by};
 
+use crate::course::CqlpBegun;
 use crate::event::{CqlpEvent, address_of, before_content, tell};
 use crate::slots::put_whole;
 use cqlp_decode::{Decoder, Event, Finish, Step};
@@ -48,8 +50,13 @@ pub fn or_none(bytes: &[u8]) -> &[u8]
 
 /// Puts the next events of the input into the array, until the input is used up or refused, or there is no room. A
 /// content that lies in the decoder is put last, since the next step may overwrite it. A refusal that was made before is
-/// said again, also where there is no room.
-pub fn fill(decoder: &mut Decoder<Global>, input: &[u8], events: &mut [CqlpEvent]) -> Batch
+/// said again, also where there is no room. `frame` goes on to the frame that is under way after these events.
+pub fn fill(
+    decoder: &mut Decoder<Global>,
+    input: &[u8],
+    events: &mut [CqlpEvent],
+    frame: &mut CqlpBegun,
+) -> Batch
     ensures fills { FillsOn (state decoder.old) (state decoder.new) input.now (as_ptr input.entry) (buffer_in decoder.new)
         (length events.old) result events.new }
     ensures refused { (r : Refused) → (state decoder.old).refusal ≡ Some r →
@@ -59,11 +66,12 @@ pub fn fill(decoder: &mut Decoder<Global>, input: &[u8], events: &mut [CqlpEvent
     ensures others { drop result.events events.new ≡ drop result.events events.old }
     ensures room { length events.new ≡ length events.old }
     ensures rules { (state decoder.new).rules ≡ (state decoder.old).rules }
+    ensures frame { frame.new ≡ begun_by frame.old (take result.events events.new) }
 {
     if events.is_empty() {
         without_room(decoder)
     } else {
-        fill_room(decoder, input, events)
+        fill_room(decoder, input, events, frame)
     }
 }
 
@@ -126,7 +134,12 @@ struct Source<'a> {
 
 /// The same as `fill`, where there is room.
 #[inline(always)]
-fn fill_room(decoder: &mut Decoder<Global>, input: &[u8], events: &mut [CqlpEvent]) -> Batch
+fn fill_room(
+    decoder: &mut Decoder<Global>,
+    input: &[u8],
+    events: &mut [CqlpEvent],
+    frame: &mut CqlpBegun,
+) -> Batch
     ensures fills { FillsOn (state decoder.old) (state decoder.new) input.now (as_ptr input.entry) (buffer_in decoder.new)
         (length events.old) result events.new }
     ensures refused { (r : Refused) → (state decoder.old).refusal ≡ Some r → 0 < length events.old →
@@ -136,6 +149,7 @@ fn fill_room(decoder: &mut Decoder<Global>, input: &[u8], events: &mut [CqlpEven
     ensures others { drop result.events events.new ≡ drop result.events events.old }
     ensures room { length events.new ≡ length events.old }
     ensures rules { (state decoder.new).rules ≡ (state decoder.old).rules }
+    ensures frame { frame.new ≡ begun_by frame.old (take result.events events.new) }
 {
     let source = Source { input };
     let mut used = 0;
@@ -164,6 +178,7 @@ fn fill_room(decoder: &mut Decoder<Global>, input: &[u8], events: &mut [CqlpEven
                 used += taken;
                 let slot = &mut events[count];
                 let gathered = put_step(slot, at, &event, &source.input[..used], taken);
+                frame.note(&event, slot);
                 count += 1;
                 if gathered {
                     put_gathered(slot, decoder);
@@ -175,7 +190,7 @@ fn fill_room(decoder: &mut Decoder<Global>, input: &[u8], events: &mut [CqlpEven
                 }
             }
         }
-        let put = put_whole(decoder, &source.input[used..], events, count);
+        let put = put_whole(decoder, &source.input[used..], events, count, frame);
         used += put.used;
         count = put.count;
     }

@@ -6,6 +6,7 @@ ghost use Rattle.cqlp_c.specs.Checks.{Checks, Drains};
 ghost use Rattle.cqlp_c.specs.Shown as shown;
 
 use crate::batch::{Stop, fill, or_none};
+use crate::course::CqlpBegun;
 use crate::event::CqlpEvent;
 use crate::numbers::*;
 use crate::shown::*;
@@ -18,9 +19,10 @@ fn drain(decoder: &mut Decoder<Global>, stream: &[u8])
     ensures rules { (state decoder.new).rules ≡ (state decoder.old).rules }
 {
     let mut events = [CqlpEvent::blank(0); 64];
+    let mut frame = CqlpBegun::none();
     let mut used = 0;
     'batches: loop {
-        let batch = fill(decoder, &stream[used..], &mut events);
+        let batch = fill(decoder, &stream[used..], &mut events, &mut frame);
         match batch.stop {
             Stop::More => return,
             Stop::Refused(_) => return,

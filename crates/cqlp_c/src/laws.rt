@@ -3,6 +3,7 @@
 ghost use Rattle.std.specs.Thread.{IsSend};
 ghost use Rattle.cqlp_c.specs.Laws.{ContentsLieThere, EventsArePushed, FramesAreHeard, IsOneAnswerOfCheck};
 ghost use Rattle.cqlp_c.specs.Laws.{IsOneAnswerOfClientNew, IsOneAnswerOfNext, IsOneAnswerOfServerNew};
+ghost use Rattle.cqlp_c.specs.Stretched.{FinishEndsThere, IsOneAnswerOfSkip, IsOneAnswerOverSkips, NewBegins, NextReadsOn, SkipGivesUp};
 ghost use Rattle.cqlp_c.specs.contracts.client.CqlpClient as client;
 ghost use Rattle.cqlp_c.specs.contracts.handle.CqlpDecoder as decoder;
 ghost use Rattle.cqlp_c.specs.contracts.server.CqlpServer as server;
@@ -38,6 +39,27 @@ pub fn one_answer_of_client_new()
 /// equations.
 pub fn one_answer_of_server_new()
     ensures { IsOneAnswerOfServerNew }
+{}
+
+/// A handle reads its stream in stretches, as cqlp_skip defines them: a decoder that was made is at the start of the first; over the next
+/// piece `cqlp_next` puts the next events of the present one, just these, at their offsets in the whole stream; where `cqlp_skip` passes
+/// over a frame, the present one is given up and the next begins behind the frame; and what `cqlp_finish` answers is the end of the whole.
+pub fn calls_read_stretches()
+    ensures new { NewBegins }
+    ensures next { NextReadsOn }
+    ensures skip { SkipGivesUp }
+    ensures finish { FinishEndsThere }
+{}
+
+/// From one place of a stream, over the same input, a call of `cqlp_next` has one batch, and leaves one place, also over skips.
+pub fn one_answer_over_skips()
+    ensures { IsOneAnswerOverSkips }
+{}
+
+/// From one state of a decoder, at one place of its stream, there is one answer of `cqlp_skip`, and one place after it; the decoder is as it
+/// was, or at the start of a stream, where all decoders within the same rules are alike (`one_answer_of_new` of cqlp_laws).
+pub fn one_answer_of_skip()
+    ensures { IsOneAnswerOfSkip }
 {}
 
 /// The event of a frame shows a core what the header of the frame does.

@@ -4,6 +4,7 @@
 mod batch;
 mod check;
 mod client;
+mod course;
 mod event;
 mod handle;
 mod header;
@@ -22,12 +23,17 @@ pub use client::{
     CqlpClient, CqlpCore, cqlp_client_begin, cqlp_client_cancel, cqlp_client_free, cqlp_client_new,
     cqlp_client_phase, cqlp_client_reply,
 };
+pub use course::{CqlpBegun, CqlpCourse, CqlpSkipped};
 pub use event::CqlpEvent;
-pub use handle::{CqlpDecoder, CqlpPlace, cqlp_finish, cqlp_free, cqlp_held, cqlp_new, cqlp_next};
+pub use handle::{
+    CqlpDecoder, CqlpHeldDecoder, CqlpPlace, cqlp_finish, cqlp_free, cqlp_held, cqlp_new,
+    cqlp_next, cqlp_skip,
+};
 pub use header::{CqlpHeader, cqlp_write_header};
 pub use laws::{
-    contents_lie_there, events_are_pushed, frames_are_heard, one_answer_of_check,
-    one_answer_of_client_new, one_answer_of_next, one_answer_of_server_new,
+    calls_read_stretches, contents_lie_there, events_are_pushed, frames_are_heard,
+    one_answer_of_check, one_answer_of_client_new, one_answer_of_next, one_answer_of_server_new,
+    one_answer_of_skip, one_answer_over_skips,
 };
 pub use server::{
     CqlpServer, CqlpService, cqlp_server_accept, cqlp_server_answer, cqlp_server_event,

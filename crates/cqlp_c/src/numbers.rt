@@ -81,6 +81,12 @@ pub const TOO_MANY: u32 = 33;
 
 pub const TOO_DEEP: u32 = 34;
 
+pub const NOT_REFUSED: u32 = 35;
+
+pub const IN_HEADER: u32 = 36;
+
+pub const TOO_FAR: u32 = 37;
+
 // ---- why a batch of events ends
 
 pub const STOP_MORE: u8 = 0;

@@ -8,6 +8,7 @@ ghost use Rattle.cqlp_decode.specs.Streams.{state};
 ghost use Rattle.cqlp_c.specs.Batches.{HasUsed};
 ghost use Rattle.cqlp_c.specs.Slots.{PutsWhole, TellsIn};
 
+use crate::course::CqlpBegun;
 use crate::event::{CqlpEvent, address_of, before_content, tell};
 use cqlp_decode::{Decoder, Event, Finish, Sink, SinkFault};
 use std::alloc::Global;
@@ -46,13 +47,14 @@ fn tell_in(origin: Origin<'_>, slot: &mut CqlpEvent, at: u64, event: &Event<'_>)
     }
 }
 
-/// An array, with how many events are in it, of which the contents lie in this input. It fails once it is full, at the
-/// event that is put last.
+/// An array, with how many events are in it, of which the contents lie in this input, and the frame under way. It fails once it is
+/// full, at the event that is put last.
 #[derive(Drop)]
 struct Slots<'a> {
     origin: Origin<'a>,
     events: &'a mut [CqlpEvent],
     count: usize,
+    frame: CqlpBegun,
 }
 
 impl Sink for Slots<'_> {
@@ -76,7 +78,9 @@ impl Sink for Slots<'_> {
         if self.count >= events.len() {
             return Err(SinkFault);
         }
-        tell_in(self.origin, &mut events[self.count], at, event);
+        let slot = &mut events[self.count];
+        tell_in(self.origin, slot, at, event);
+        self.frame.note(event, slot);
         self.count += 1;
         if self.count < events.len() {
             Ok(())
@@ -106,15 +110,18 @@ fn bytes_used(decoder: &Decoder<Global>) -> u64
     }
 }
 
-/// Puts events that lie whole in the input behind the first `count` of the array, while there is room.
+/// Puts events that lie whole in the input behind the first `count` of the array, while there is room, and goes on to the frame
+/// that is under way after them.
 pub fn put_whole(
     decoder: &mut Decoder<Global>,
     input: &[u8],
     events: &mut [CqlpEvent],
     count: usize,
+    frame: &mut CqlpBegun,
 ) -> WholePut
     requires { count ≤ length events.old }
-    ensures puts { PutsWhole (state decoder.old) (state decoder.new) input.entry count result events.old events.new }
+    ensures puts { PutsWhole (state decoder.old) (state decoder.new) input.entry count result events.old events.new
+        frame.old frame.new }
     ensures within { (result.used ≤ length input.now) × (result.count ≤ length events.old) }
     ensures stays { ((state decoder.new).refusal ≡ (state decoder.old).refusal)
         × ((state decoder.new).rules ≡ (state decoder.old).rules) }
@@ -130,11 +137,13 @@ pub fn put_whole(
         origin,
         events,
         count,
+        frame: *frame,
     };
     let used = match decoder.hand_whole(input, &mut slots) {
         Ok(used) => used,
         Err(fault) => fault.used,
     };
     let count = slots.count;
+    *frame = slots.frame;
     WholePut { used, count }
 }

@@ -179,12 +179,16 @@ pub extern "C" fn cqlp_types_of(
     decoder: &mut CqlpDecoder,
     types: &mut CqlpTypes,
 ) -> u32
-    ensures { Copies decoder.old.place.value result decoder.new.place.value types.old.place.value types.new.place.value }
+    ensures is { Copies decoder.old.held.place.value result decoder.new.held.place.value types.old.place.value types.new.place.value }
+    ensures course { decoder.new.course ≡ decoder.old.course }
 {
-    match handle::taken(std::mem::replace(decoder, handle::none(alloc)), alloc) {
+    match handle::taken(
+        std::mem::replace(&mut decoder.held, handle::none(alloc)),
+        alloc,
+    ) {
         Some(boxed) => {
             let code = copy(alloc, boxed.table(), types);
-            *decoder = handle::holding(boxed);
+            decoder.held = handle::holding(boxed);
             code
         }
         None => NO_DECODER,
@@ -228,12 +232,16 @@ fn give_held(alloc: Global, decoder: &mut Decoder<Global>, types: &mut CqlpTypes
 /// Gives the table of a handle to a decoder, for a page without metadata.
 #[unsafe(no_mangle)]
 pub extern "C" fn cqlp_give(alloc: Global, decoder: &mut CqlpDecoder, types: &mut CqlpTypes) -> u32
-    ensures { Gives decoder.old.place.value result decoder.new.place.value types.old.place.value types.new.place.value }
+    ensures is { Gives decoder.old.held.place.value result decoder.new.held.place.value types.old.place.value types.new.place.value }
+    ensures course { decoder.new.course ≡ decoder.old.course }
 {
-    match handle::taken(std::mem::replace(decoder, handle::none(alloc)), alloc) {
+    match handle::taken(
+        std::mem::replace(&mut decoder.held, handle::none(alloc)),
+        alloc,
+    ) {
         Some(mut boxed) => {
             let code = give_held(alloc, &mut boxed, types);
-            *decoder = handle::holding(boxed);
+            decoder.held = handle::holding(boxed);
             code
         }
         None => NO_DECODER,
@@ -292,12 +300,16 @@ pub extern "C" fn cqlp_take_given(
     decoder: &mut CqlpDecoder,
     types: &mut CqlpTypes,
 ) -> u32
-    ensures { TakesBack decoder.old.place.value result decoder.new.place.value types.old.place.value types.new.place.value }
+    ensures is { TakesBack decoder.old.held.place.value result decoder.new.held.place.value types.old.place.value types.new.place.value }
+    ensures course { decoder.new.course ≡ decoder.old.course }
 {
-    match handle::taken(std::mem::replace(decoder, handle::none(alloc)), alloc) {
+    match handle::taken(
+        std::mem::replace(&mut decoder.held, handle::none(alloc)),
+        alloc,
+    ) {
         Some(mut boxed) => {
             let code = take_held(alloc, &mut boxed, types);
-            *decoder = handle::holding(boxed);
+            decoder.held = handle::holding(boxed);
             code
         }
         None => NO_DECODER,

@@ -30,6 +30,11 @@ pub unsafe extern "C" fn cqlp_next(
 }
 
 #[unsafe(no_mangle)]
+pub extern "C" fn cqlp_skip(decoder: &mut CqlpDecoder, skipped: &mut CqlpSkipped) -> u32 {
+    crate::cqlp_c::cqlp_skip(Global, decoder, skipped)
+}
+
+#[unsafe(no_mangle)]
 pub extern "C" fn cqlp_finish(decoder: &mut CqlpDecoder, end: &mut CqlpEnd) -> u32 {
     crate::cqlp_c::cqlp_finish(Global, decoder, end)
 }

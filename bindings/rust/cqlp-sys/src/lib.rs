@@ -320,6 +320,8 @@ pub struct cqlp_decoder {
     pub live: u64,
     /// The library's own.
     pub place: *mut c_void,
+    /// The library's own.
+    pub course: [u64; 6],
 }
 
 impl cqlp_decoder {
@@ -327,6 +329,7 @@ impl cqlp_decoder {
     pub const NONE: cqlp_decoder = cqlp_decoder {
         live: 0,
         place: std::ptr::null_mut(),
+        course: [0; 6],
     };
 }
 
@@ -436,6 +439,7 @@ pub struct cqlp_holding {
 const _: () = assert!(size_of::<cqlp_event>() == 56 + 2 * size_of::<*const u8>());
 const _: () = assert!(offset_of!(cqlp_event, bytes) == 32 + 2 * size_of::<*const u8>());
 const _: () = assert!(offset_of!(cqlp_event, octets) == 54 + 2 * size_of::<*const u8>());
+const _: () = assert!(size_of::<cqlp_decoder>() == 56 + size_of::<*const u8>());
 const _: () = assert!(size_of::<cqlp_limits>() == 20);
 const _: () = assert!(size_of::<cqlp_holding>() == 12);
 

@@ -15,6 +15,8 @@ use Rattle.cqlp_c.specs.declared.event.CqlpEvent.{CqlpEvent}
 use Rattle.cqlp_grammar.specs.Events.{Event, event_of}
 use Rattle.cqlp_c.specs.Batches.{Put, TellsStep, buffer_in, events_of, put_of}
 use Rattle.cqlp_decode.proofs.Taken.{takes_pays}
+use Rattle.cqlp_c.specs.Course.{begun_after}
+use Rattle.cqlp_c.proofs.Beginning.{begun_more, begun_one}
 use Rattle.cqlp_c.proofs.Fills.{filled_none, filled_more, fills_gathered, fills_full}
 use Rattle.cqlp_c.proofs.Gathering.{step_put}
 use Rattle.cqlp_c.proofs.Handed.{filled_items, span_size}
@@ -55,6 +57,23 @@ returns-then-gathered-clause-fills c = λ gifts s es a.
     (rw long (take_more_set c.slots.events c.slots.count c.put_gathered.new.slot c.slots-test.true))
     (omega (arith, gathered))
 
+-- where a content lies is no part of what a frame is
+pub returns-then-gathered-clause-frame : goal.returns-then-gathered-clause-frame
+returns-then-gathered-clause-frame c =
+    let begins = as_ptr c.args.input in
+    let goes = rw c.in-Event.is at c.next.follows.holds-at-none.0 in
+    let taken : c.in-Event.taken ≤ length (drop c.slots.used c.args.input.now) = rw rest_is at c.in-Event.ensures.uses in
+    let gathered = ltb-true _ _ (sym c.put_step-gathered.ensures.gathered ∙ c.if-gathered.true) in
+    let e = event_of c.in-Event.event in
+    let put : Put = record { at = c.in-Event.at; event = e; from = c.slots.used; end = c.slots.used + c.in-Event.taken } in
+    let far = length-take-le (c.slots.used + c.in-Event.taken) c.args.input.now (omega (arith, taken, c.slots.invariant.within, length-drop c.slots.used c.args.input.now)) in
+    let t = c.put_step-gathered.ensures.tells in
+    let told = put_at begins c.put_step-gathered.new.slot c.in-Event.at e c.slots.used c.in-Event.taken _ far t in
+    let there = c.put_gathered.ensures begins put (omega arith) (omega (arith, gathered)) (goes.5 (omega (arith, gathered, span_size e))) told in
+    let g = c.slots.frame in
+    let one : c.note.new.self ≡ begun_after g c.put_gathered.new.slot = c.note.ensures c.in-Event.at t.0 t.2 ∙ (ap (begun_after g) t.2 ∙ ap (begun_after g) (sym there.2)) in
+    begun_one c.args.frame.now g c.note.new.self (take c.slots.count c.slots.events) c.put_gathered.new.slot _ c.slots.invariant.framed one (take_more_set c.slots.events c.slots.count c.put_gathered.new.slot c.slots-test.true)
+
 pub slots-init : goal.slots-init
 slots-init c = record {
   within = omega arith;
@@ -66,6 +85,7 @@ slots-init c = record {
   same = refl;
   pays = omega arith;
   others = refl;
+  framed = refl;
   filled = λ gifts s es a. filled_none gifts (state c.args.decoder.now).rules (state c.args.decoder.now) s c.args.input.now (as_ptr c.args.input) es a;
 }
 
@@ -108,6 +128,11 @@ slots-preserved c =
       others =
           let behind : drop count array ≡ drop count c.args.events.now = drop-set-lt count c.slots.events c.slots.count c.put_step-gathered.new.slot (omega arith) ∙ drops c.slots.count c.slots.events c.args.events.now i.others in
           p.others ∙ rw p.count (drops_more count (length p.items) array c.args.events.now behind);
+      framed =
+          let put = take_more_set c.slots.events c.slots.count c.put_step-gathered.new.slot c.slots-test.true in
+          let t = c.put_step-gathered.ensures.tells in
+          begun_more c.args.frame.now c.slots.frame c.note.new.self c.put_whole-put.new.frame (take c.slots.count c.slots.events) c.put_step-gathered.new.slot p.events _ i.framed (c.note.ensures c.in-Event.at t.0 t.2) p.frame
+          (p.first ∙ ap (λ (z : List CqlpEvent). z ++ p.events) put);
       filled = λ gifts s es a.
           let f = i.filled gifts s es a in
           let leads = rw (c.in-Event.is, rest_is) at (c.next.follows.holds-at-none.1 gifts _ _ f.after) in

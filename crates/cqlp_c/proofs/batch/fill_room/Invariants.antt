@@ -4,6 +4,7 @@ use Rattle.cqlp_note.specs.declared.refusal.Refusal.{Refusal}
 use Rattle.cqlp_decode.specs.Reading.{Event, Gifts}
 use Rattle.cqlp_decode.specs.Streams.{AfterGifts, state}
 use Rattle.cqlp_c.specs.Batches.{due}
+use Rattle.cqlp_c.specs.Course.{begun_by}
 use Rattle.cqlp_c.proofs.Fills.{IsFilled}
 use Rattle.cqlp_c.proofs.batch.fill_room.Given as goal
 
@@ -19,6 +20,7 @@ invariant-slots l = record {
   same : (state l.decoder).refusal ≡ (state l.fn.decoder).refusal;
   pays : due (state l.decoder) + l.count ≤ due (state l.fn.decoder) + 2 * l.used;
   others : drop l.count l.events ≡ drop l.count l.fn.events;
+  framed : l.frame ≡ begun_by l.fn.frame (take l.count l.events);
   filled : (gifts : Gifts) (s : List ℕ) (es : List (ℕ × Event)) → AfterGifts gifts (state l.fn.decoder) s es → IsFilled gifts (state l.fn.decoder).rules (state l.decoder) s l.source.input.now (as_ptr l.source.input) es l.used (take l.count l.events);
 }
 

@@ -18,10 +18,11 @@ returns-then-count-events-clause-puts c = record {
   others = refl;
   long = refl;
   count = omega arith;
+  frame = refl;
 }
 
 -- what the loops put, whether the array is full or not
-whole : (c : goal.After-events-1) → PutsItems (state c.args.decoder.now) (state c.hand_whole.new.self) c.args.input.now c.match-hand_whole.used (record { origin = record { input = c.args.input; offset = c.bytes_used.result }; events = record c.args.events { ghost_name = c.slots-1.given }; count = c.args.count }) c.hand_whole.new.sink
+whole : (c : goal.After-events-1) → PutsItems (state c.args.decoder.now) (state c.hand_whole.new.self) c.args.input.now c.match-hand_whole.used (record { origin = record { input = c.args.input; offset = c.bytes_used.result }; events = record c.args.events { ghost_name = c.slots-1.given }; count = c.args.count; frame = c.args.frame.now }) c.hand_whole.new.sink
 whole c =
     let room : c.args.count < length c.args.events.now = omega (arith, c.requires, c.if-count-events.false) in
     elim c.match-hand_whole.branch [
@@ -43,6 +44,7 @@ returns-clause-puts c =
       others = ap (drop c.hand_whole.new.sink.count) now ∙ w.puts.others;
       long = ap length now ∙ w.puts.long;
       count = w.puts.count;
+      frame = w.puts.frame;
     }
 
 pub returns-clause-within : goal.returns-clause-within
