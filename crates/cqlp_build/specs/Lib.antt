@@ -1,0 +1,4 @@
+pub mod Told
+pub mod Held
+pub mod Building
+pub mod Productions

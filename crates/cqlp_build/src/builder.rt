@@ -1,0 +1,232 @@
+//! Frames, built of their events.
+
+ghost use Rattle.std.specs.Prelude.{◌≡◌, ◌↔◌, IsTrue, [], true};
+ghost use Rattle.cqlp_grammar.specs.Events as told;
+ghost use Rattle.cqlp_grammar.specs.Events.{event_of};
+ghost use Rattle.cqlp_build.specs.Building.{Finishes, IsOfHeader, TakesEvent, empty, is_inner, size_in, state};
+ghost use Rattle.cqlp_build.specs.Held.{left};
+ghost use Rattle.cqlp_message.specs.Owned.{frame_of};
+
+use crate::error::BuildError;
+use crate::held::{Fault, Held};
+use crate::item::own;
+use cqlp_grammar::Event;
+use cqlp_message::Frame;
+use cqlp_note::{BoundValue, Header};
+use std::alloc::Global;
+use std::collections::VecDeque;
+
+/// What a builder may hold of one frame.
+#[derive(Clone, Copy, Debug, PartialEq, Eq)]
+pub struct BuildLimits {
+    /// How many fields.
+    pub fields: u32,
+    /// How many bytes of texts and contents.
+    pub bytes: u32,
+}
+
+/// A frame that was built.
+#[derive(Debug, PartialEq, Eq, Drop)]
+pub struct BuiltFrame {
+    pub frame: Frame,
+    /// How many bytes there were after its last field.
+    pub extra: u32,
+}
+
+/// Builds frames of their events, one frame after the other.
+///
+/// It takes what [`Decoder::next`] gives, or what a [`Sink`] gets, in that order, and owns what it holds: for each field of the
+/// frame under way as much as an event has, and the field's bytes. So no count that a peer sends decides how much memory it asks for,
+/// and the limits bound it.
+///
+/// A proxy reads a frame, alters the value, and writes it:
+///
+/// ```text
+/// if let Some(built) = builder.take(&event)? {
+///     let mut frame = built.frame;
+///     frame.stream = 7;
+///     encode(&frame, &mut target)?;
+/// }
+/// ```
+///
+/// What it does not build yet are pages and prepared statements, whose frames have type options and cells: the first of these
+/// is refused.
+///
+/// [`Decoder::next`]: https://docs.rs/cqlp_decode
+/// [`Sink`]: cqlp_grammar::Sink
+#[derive(Drop)]
+pub struct FrameBuilder {
+    held: Held,
+    /// The header of the frame under way.
+    header: Option<Header>,
+    limits: BuildLimits,
+    /// How many bytes of texts and contents may still come.
+    room: u32,
+}
+
+impl FrameBuilder {
+    /// A builder between frames, which asks for no memory yet.
+    pub fn new(alloc: Global, limits: BuildLimits) -> FrameBuilder
+        ensures { state result ≡ empty limits }
+    {
+        FrameBuilder {
+            held: Held {
+                alloc,
+                items: VecDeque::new(alloc),
+                fault: None,
+            },
+            header: None,
+            limits,
+            room: limits.bytes,
+        }
+    }
+
+    /// Takes the next event; at the end of a frame gives the frame.
+    ///
+    /// # Errors
+    ///
+    /// [`BuildError::Misplaced`] at a header within a frame, and at all else between frames. At a field
+    /// [`BuildError::TooManyFields`] where as many fields as the limits allow are held, and else [`BuildError::TooManyBytes`] where it
+    /// has more bytes than are left of the limit; [`BuildError::Unbuilt`] at the kind of a type and at what a cell has. After these
+    /// the builder is as it was. [`BuildError::NoFrame`] at the end of a frame, where the events are those of no frame that is built,
+    /// after which the builder is between frames. [`BuildError::NoMemory`] where memory was refused, after which it is as it was, or
+    /// between frames where the event is an end.
+    pub fn take(&mut self, event: &Event<'_>) -> Result<Option<BuiltFrame>, BuildError>
+        ensures { TakesEvent (state self.old) (event_of event.now) result (state self.new) }
+    {
+        match event {
+            Event::Frame(header) => self.begin(*header),
+            Event::End { extra } => self.end(*extra),
+            _ => self.hold(event),
+        }
+    }
+
+    /// Forgets what it holds of a frame, and is between frames. The room that it has asked for is kept.
+    pub fn clear(&mut self)
+        ensures { state self.new ≡ empty self.old.limits }
+    {
+        self.held.items.clear();
+        self.header = None;
+        self.room = self.limits.bytes;
+    }
+
+    /// Whether it is between frames. Where a stream ends and it is not, the last frame was cut.
+    #[must_use]
+    pub fn is_between(&self) -> bool
+        ensures { IsTrue result ↔ ((state self.now).events ≡ []) }
+    {
+        self.header.is_none()
+    }
+
+    /// A frame begins.
+    fn begin(&mut self, header: Header) -> Result<Option<BuiltFrame>, BuildError>
+        ensures { TakesEvent (state self.old) (told.Frame header) result (state self.new) }
+    {
+        if self.header.is_some() {
+            return Err(BuildError::Misplaced);
+        }
+        self.held.items.clear();
+        self.header = Some(header);
+        Ok(None)
+    }
+
+    /// A frame ends, with this many bytes after its last field.
+    fn end(&mut self, extra: u32) -> Result<Option<BuiltFrame>, BuildError>
+        ensures { TakesEvent (state self.old) (told.End extra) result (state self.new) }
+    {
+        let Some(header) = self.header else {
+            return Err(BuildError::Misplaced);
+        };
+        let built = self.held.finish(&header, extra);
+        self.clear();
+        match built {
+            Ok(built) => Ok(Some(built)),
+            Err(why) => Err(why),
+        }
+    }
+
+    /// A field comes, or what is none.
+    fn hold(&mut self, event: &Event<'_>) -> Result<Option<BuiltFrame>, BuildError>
+        requires { is_inner (event_of event.now) ≡ true }
+        ensures { TakesEvent (state self.old) (event_of event.now) result (state self.new) }
+    {
+        if self.header.is_none() {
+            return Err(BuildError::Misplaced);
+        }
+        let Some(size) = content_size(event) else {
+            return Err(BuildError::Unbuilt);
+        };
+        if self.held.items.len() >= self.limits.fields as usize {
+            return Err(BuildError::TooManyFields);
+        }
+        if size > self.room as usize {
+            return Err(BuildError::TooManyBytes);
+        }
+        let Ok(Some(item)) = own(self.held.alloc, event) else {
+            return Err(BuildError::NoMemory);
+        };
+        if self.held.items.push_back(item).is_err() {
+            return Err(BuildError::NoMemory);
+        }
+        self.room -= size as u32;
+        Ok(None)
+    }
+}
+
+/// How many bytes the text or the content of a field has, or None where it is no field.
+fn content_size(event: &Event<'_>) -> Option<usize>
+    ensures { result ≡ size_in (event_of event.now) }
+{
+    match event {
+        Event::Text { text, .. } => Some(text.len()),
+        Event::Bytes {
+            bytes: Some(bytes), ..
+        } => Some(bytes.len()),
+        Event::Bound {
+            value: BoundValue::Bytes(bytes),
+            ..
+        } => Some(bytes.len()),
+        Event::Byte { .. }
+        | Event::Short { .. }
+        | Event::Int { .. }
+        | Event::Long { .. }
+        | Event::Uuid { .. }
+        | Event::Count { .. }
+        | Event::Bytes { .. }
+        | Event::Bound { .. }
+        | Event::Inet { .. } => Some(0),
+        _ => None,
+    }
+}
+
+impl Held {
+    /// The frame of this header whose events after it are those that are held, and then this end.
+    fn finish(&mut self, header: &Header, extra: u32) -> Result<BuiltFrame, BuildError>
+        ensures { Finishes header.now extra (left self.old) result }
+    {
+        self.fault = None;
+        let frame = self.frame(header);
+        match self.fault {
+            Some(Fault::NoMemory) => return Err(BuildError::NoMemory),
+            Some(Fault::NoFrame) => return Err(BuildError::NoFrame),
+            None => {}
+        }
+        if !self.items.is_empty() || !is_of(&frame, header, extra) {
+            return Err(BuildError::NoFrame);
+        }
+        Ok(BuiltFrame { frame, extra })
+    }
+}
+
+/// Whether some bytes spell a frame, and this is its header where this many bytes come after its last field.
+fn is_of(frame: &Frame, header: &Header, extra: u32) -> bool
+    ensures { IsTrue result ↔ IsOfHeader (frame_of frame.now) header.now extra }
+{
+    match frame.measure() {
+        Ok(len) => {
+            frame.header(header.length) == *header
+                && u64::from(len) + u64::from(extra) == u64::from(header.length) + 9
+        }
+        Err(_) => false,
+    }
+}

@@ -1,0 +1,15 @@
+//! Frames of the CQL native protocol v4, built of their events.
+#![tactic(auto)]
+
+mod builder;
+mod error;
+mod frames;
+mod held;
+mod item;
+mod lists;
+mod messages;
+mod requests;
+mod responses;
+
+pub use builder::{BuildLimits, Built, FrameBuilder};
+pub use error::BuildError;
