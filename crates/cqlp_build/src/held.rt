@@ -1,6 +1,6 @@
 //! The events that are held of a frame, and what is taken of them.
 
-ghost use Rattle.std.specs.Prelude.{◌≡◌, ◌×◌, List, [], ◌∷◌, None, Some, map, string_bytes, true};
+ghost use Rattle.std.specs.Prelude.{◌≡◌, List, [], ◌∷◌, None, Some, map, string_bytes, true};
 ghost use Rattle.cqlp_note.specs.Field as note;
 ghost use Rattle.cqlp_grammar.specs.Events.{Holds};
 ghost use Rattle.cqlp_message.specs.Owned.{bound_of, bytes_of};

@@ -11,5 +11,5 @@ mod messages;
 mod requests;
 mod responses;
 
-pub use builder::{BuildLimits, Built, FrameBuilder};
+pub use builder::{BuildLimits, BuiltFrame, FrameBuilder};
 pub use error::BuildError;

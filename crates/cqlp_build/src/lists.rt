@@ -1,6 +1,6 @@
 //! Items that come one after the other.
 
-ghost use Rattle.std.specs.Prelude.{◌≡◌, ℕ, ◌×◌, List, [], ◌∷◌, Bool, true, Option, map, option_map, string_bytes};
+ghost use Rattle.std.specs.Prelude.{◌≡◌, ℕ, List, [], ◌∷◌, Bool, true, Option, map, option_map, string_bytes};
 ghost use Rattle.std.specs.List.{flat_map, list_all};
 ghost use Rattle.cqlp_note.specs.declared.field.Field.TheVariants as field;
 ghost use Rattle.cqlp_note.specs.Field.{BoundValue};

@@ -1,0 +1,110 @@
+-- What is known at the end of a frame.
+use Rattle.std.proofs.Common.{◌≡◌, ℕ, ◌+◌, ◌++◌, ◌⊎◌, List, [], ◌∷◌, map, true, Bool, Option, Some, None, refl, sym, ap, ◌∙◌, subst, append-nil, inl, inr}
+use Rattle.cqlp_note.specs.declared.header.Header.{Header}
+use Rattle.cqlp_note.specs.Limits.{Rules}
+use Rattle.cqlp_grammar.specs.Events.{Event, Frame, End}
+use Rattle.cqlp_message.specs.FrameValues.{FrameValue}
+use Rattle.cqlp_message.specs.Frames.{frame_parts, header_of, unfit_of}
+use Rattle.cqlp_message.specs.Owned.{frame_of}
+use Rattle.cqlp_message.specs.Parts.{parts_size}
+use Rattle.cqlp_message.specs.declared.frame.Frame as owned
+use Rattle.cqlp_message.proofs.FramesWritten.{is_fit}
+use Rattle.cqlp_build.specs.declared.held.Fault.TheVariants as fault
+use Rattle.cqlp_build.specs.declared.held.Held.{Held}
+use Rattle.cqlp_build.specs.Building.{AreEventsOf, AreOfNone, BeginsWith, CanBeBuilt, IsBuiltOf, IsOfHeader}
+use Rattle.cqlp_build.specs.Held.{Builds, IsRefused, IsSound, left}
+use Rattle.cqlp_build.specs.Told.{told}
+use Rattle.cqlp_build.proofs.FrameViews.{frame_said}
+use Rattle.cqlp_build.proofs.Steps.{AreNone}
+
+-- ---- ends of lists
+
+never_empty : {A : Type 0} (xs : List A) (a : A) → [] ≡ xs ++ a ∷ [] → ⊥
+never_empty [] a e = absurd cc
+never_empty (x ∷ xs) a e = absurd cc
+
+last_is : {A : Type 0} (xs ys : List A) (a b : A) → xs ++ a ∷ [] ≡ ys ++ b ∷ [] → (xs ≡ ys) × (a ≡ b)
+last_is [] [] a b e = (refl, cc)
+last_is [] (y ∷ ys) a b e = let d : [] ≡ ys ++ b ∷ [] = cc in absurd (never_empty ys b d)
+last_is (x ∷ xs) [] a b e = let d : [] ≡ xs ++ a ∷ [] = cc in absurd (never_empty xs a d)
+last_is (x ∷ xs) (y ∷ ys) a b e =
+    let r = last_is xs ys a b cc in
+    let p : x ≡ y = cc in
+    (cc, r.1)
+
+-- ---- the events of a frame
+
+-- what a frame with these events is
+pub record IsFrameOf (h : Header) (es : List Event) (x : ℕ) (g : FrameValue) (y : ℕ) : Type 0 where
+  pub header : header_of g (parts_size (frame_parts g) + y) ≡ h
+  pub parts : told (frame_parts g) ≡ es
+  pub extra : y ≡ x
+
+frame_from : (h k : Header) (es fs : List Event) (x y : ℕ) → Frame k ∷ fs ++ End y ∷ [] ≡ Frame h ∷ es ++ End x ∷ [] → (k ≡ h) × (fs ≡ es) × (y ≡ x)
+frame_from h k es fs x y e =
+    let head : k ≡ h = cc in
+    let tail : fs ++ End y ∷ [] ≡ es ++ End x ∷ [] = cc in
+    let r = last_is fs es (End y) (End x) tail in
+    let end = r.1 in
+    let same : y ≡ x = cc in
+    (head, r.0, same)
+
+pub is_frame_of : (h : Header) (es : List Event) (x : ℕ) (g : FrameValue) (y : ℕ) → CanBeBuilt g → AreEventsOf (Frame h ∷ es ++ End x ∷ []) g y → IsFrameOf h es x g y
+is_frame_of h es x g y c a =
+    let r = frame_from h (header_of g (parts_size (frame_parts g) + y)) es (told (frame_parts g)) x y (sym (frame_said a.rules a.at g y c.1) ∙ a.are) in
+    record { header = r.0; parts = r.1; extra = r.2 }
+
+begins_with : (h : Header) (g : FrameValue) (n : ℕ) → CanBeBuilt g → header_of g n ≡ h → BeginsWith h g
+begins_with h g n c e = record {
+  flags = ap (λ (k : Header). k.flags) e;
+  stream = ap (λ (k : Header). k.stream) e;
+  opcode = ap (λ (k : Header). k.opcode) e;
+  agrees = (is_fit g c.0).agrees;
+  built = c.1;
+}
+
+no_rules : Rules
+no_rules = record { text = 0; cell = 0; entries = 0; depth = 0; part = 0; types = true; parts = true }
+
+pub are_events : (h : Header) (es : List Event) (x : ℕ) (f : FrameValue) → CanBeBuilt f → IsFrameOf h es x f x → AreEventsOf (Frame h ∷ es ++ End x ∷ []) f x
+are_events h es x f c i = record {
+  rules = no_rules;
+  at = 0;
+  are = frame_said no_rules 0 f x c.1 ∙ ap (λ k. Frame k ∷ told (frame_parts f) ++ End x ∷ []) i.header ∙ ap (λ r. Frame h ∷ r ++ End x ∷ []) i.parts;
+}
+
+module _ (h : Header) (x : ℕ) (f : FrameValue) (old new : Held) (b : Builds (λ g. told (frame_parts g)) (BeginsWith h) f old new) where
+  only_this : (g : FrameValue) (y : ℕ) → IsSound new → CanBeBuilt g → AreEventsOf (Frame h ∷ left old ++ End x ∷ []) g y → (g ≡ f) × ([] ≡ left new) × (y ≡ x)
+  only_this g y s c a =
+      let i = is_frame_of h (left old) x g y c a in
+      let o = b.only s g [] (begins_with h g _ c i.header) (sym i.parts ∙ sym (append-nil (told (frame_parts g)))) in
+      (o.0, o.1, i.extra)
+
+  -- it was refused
+  pub none_refused : IsSound old → IsRefused new → AreOfNone (Frame h ∷ left old ++ End x ∷ [])
+  none_refused s r = never s (b.none r)
+    where
+      never : IsSound old → IsRefused old ⊎ AreNone (λ g. told (frame_parts g)) (BeginsWith h) old → AreOfNone (Frame h ∷ left old ++ End x ∷ [])
+      never s (inl k) g y c a = absurd cc
+      never s (inr k) g y c a =
+          let i = is_frame_of h (left old) x g y c a in
+          k.1 g [] (begins_with h g _ c i.header) (sym i.parts ∙ sym (append-nil (told (frame_parts g))))
+
+  -- something is left
+  pub none_left : IsSound new → ([] ≡ left new → ⊥) → AreOfNone (Frame h ∷ left old ++ End x ∷ [])
+  none_left s n g y c a = n (only_this g y s c a).1
+
+  -- it is another header's
+  pub none_of_header : IsSound new → (IsOfHeader f h x → ⊥) → AreOfNone (Frame h ∷ left old ++ End x ∷ [])
+  none_of_header s n g y c a =
+      let o = only_this g y s c a in
+      let i = is_frame_of h (left old) x g y c a in
+      n (subst (λ (k : FrameValue). unfit_of k ≡ None) o.0 c.0, subst (λ (k : FrameValue). header_of k (parts_size (frame_parts k) + x) ≡ h) o.0 (subst (λ (z : ℕ). header_of g (parts_size (frame_parts g) + z) ≡ h) o.2 i.header))
+
+  -- all was taken
+  pub built_of : IsSound new → [] ≡ left new → IsOfHeader f h x → (AreEventsOf (Frame h ∷ left old ++ End x ∷ []) f x) × (CanBeBuilt f) × ((g : FrameValue) (y : ℕ) → CanBeBuilt g → AreEventsOf (Frame h ∷ left old ++ End x ∷ []) g y → (g ≡ f) × (y ≡ x))
+  built_of s n i =
+      let m = b.made s in
+      let c : CanBeBuilt f = (i.0, m.2.built) in
+      let e : told (frame_parts f) ≡ left old = sym (append-nil (told (frame_parts f))) ∙ ap (λ r. told (frame_parts f) ++ r) n ∙ sym m.1 in
+      (are_events h (left old) x f c (record { header = i.1; parts = e; extra = refl }), c, λ g y d a. let o = only_this g y s d a in (o.0, o.2))
