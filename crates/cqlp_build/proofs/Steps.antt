@@ -1,10 +1,13 @@
 -- Values that are built one after the other, and of others.
-use Rattle.std.proofs.Common.{◌≡◌, ℕ, ◌++◌, ◌⊎◌, List, [], ◌∷◌, Option, Some, None, refl, sym, ap, ◌∙◌, subst, append_assoc, inl, inr}
+use Rattle.std.proofs.Common.{◌≡◌, ℕ, map, ◌++◌, ◌⊎◌, List, [], ◌∷◌, Option, Some, None, refl, sym, ap, ◌∙◌, subst, append_assoc, inl, inr}
 use Rattle.cqlp_build.specs.declared.held.Fault.{Fault}
 use Rattle.cqlp_build.specs.declared.held.Fault.TheVariants as fault
 use Rattle.cqlp_build.specs.declared.held.Held.{Held}
-use Rattle.cqlp_grammar.specs.Events.{Event}
-use Rattle.cqlp_build.specs.Held.{Builds, IsSound, IsRefused, left}
+use Rattle.cqlp_grammar.specs.Events.{Event, Holds}
+use Rattle.cqlp_note.specs.declared.field.Field.{Field}
+use Rattle.cqlp_note.specs.Field.{FieldValue}
+use Rattle.cqlp_build.specs.declared.item.Item.{Item}
+use Rattle.cqlp_build.specs.Held.{Builds, IsSound, IsRefused, Pops, any, left, told_by}
 
 module _ {A : Type 0} {h : A → List Event} {P : A → Type 0} where
   -- where memory was refused nothing is said
@@ -18,6 +21,21 @@ module _ {A : Type 0} {h : A → List Event} {P : A → Type 0} where
   -- after a fault no value counts
   pub other_value : {a : A} (b : A) (f : Fault) {old new : Held} → new.fault ≡ Some f → Builds h P a old new → Builds h P b old new
   other_value b f e x = record { made = λ s. absurd cc; only = λ s. absurd cc; none = x.none }
+
+-- the next event is this field
+pub taken : {A : Type 0} (make : A → FieldValue) → ((x y : A) → make x ≡ make y → x ≡ y) → (f g : Field) (a : A) (i : Item) (old new : Held) → Pops old (Some i) new → told_by i ≡ Holds g (make a) → g ≡ f
+    → Builds (λ x. Holds f (make x) ∷ []) any a old new
+taken {A} make one f g a i old new p t e =
+    let here : told_by i ≡ Holds f (make a) = t ∙ ap (λ k. Holds k (make a)) e in
+    let all : left old ≡ Holds f (make a) ∷ left new = ap (map told_by) p.1 ∙ ap (λ k. k ∷ left new) here in
+    record {
+      made = λ s. (p.0, all, refl);
+      only = λ s b rest q r. taken_only b rest (sym all ∙ r);
+      none = λ s. absurd cc;
+    }
+  where
+    taken_only : (b : A) (rest : List Event) → Holds f (make a) ∷ left new ≡ Holds f (make b) ∷ rest → (b ≡ a) × (rest ≡ left new)
+    taken_only b rest e = let m : make b ≡ make a = cc in (one b a m, cc)
 
 -- no value of which P holds
 abbrev pub AreNone : {A : Type 0} → (h : A → List Event) → (P : A → Type 0) → Held → Type 0

@@ -11,7 +11,7 @@ ghost use Rattle.cqlp_message.specs.Owned.{bytes_of, frame_of, texts_of};
 ghost use Rattle.cqlp_message.specs.Parts.{Field_is};
 ghost use Rattle.cqlp_build.specs.Building.{BeginsWith};
 ghost use Rattle.cqlp_build.specs.Held.{Builds};
-ghost use Rattle.cqlp_build.specs.Told.{told};
+ghost use Rattle.cqlp_build.specs.Told.{payload_parts, told};
 
 use crate::held::Held;
 use crate::lists::Wanted;
@@ -69,7 +69,7 @@ impl Held {
     fn payload_if(&mut self, there: bool) -> Option<Vec<(String, Option<Vec<u8>>)>>
         ensures { Builds
             (λ o. told (body.where_some
-            (body.counted field.PayloadItems (λ i. body.text field.PayloadKey i.0 ∷ body.bytes field.PayloadValue i.1 ∷ [])) o))
+            (body.counted field.PayloadItems payload_parts) o))
             (λ o. there_if there o ≡ true)
             (option_map (λ is. map (λ i. (string_bytes i.0, bytes_of i.1)) is.items) result) self.old self.new }
     {

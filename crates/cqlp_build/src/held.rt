@@ -52,7 +52,7 @@ impl Held {
 
     /// Refuses what is left, unless this is so.
     pub fn check(&mut self, holds: bool)
-        ensures { Builds (λ _. []) (λ _. holds ≡ true) tt self.old self.new }
+        ensures { Builds {A = Unit {0}} (λ _. []) (λ _. holds ≡ true) tt self.old self.new }
     {
         if !holds {
             self.refuse(Fault::NoFrame);
