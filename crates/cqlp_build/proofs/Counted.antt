@@ -28,5 +28,5 @@ counted_builds {A} f parts t one many =
     as_builds (λ ys. told (counted f parts ys)) (λ ys. list_all t ys ≡ true) (λ (p : ℕ × List A). p.1)
     (λ p q. told_counted f parts p.0 p.1 q.1.0)
     (λ p q. q.1.1)
-    (λ ys e. ((length ys, ys), ((refl, (refl, e)), refl)))
+    (λ ys e. ((length ys, ys), (refl, (refl, e)), refl))
     (pair_builds (λ k. Many t k) one many)

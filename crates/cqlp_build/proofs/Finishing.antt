@@ -1,10 +1,11 @@
 -- What is known at the end of a frame.
-use Rattle.std.proofs.Common.{◌≡◌, ℕ, ◌+◌, ◌++◌, ◌⊎◌, List, [], ◌∷◌, map, true, Bool, Option, Some, None, refl, sym, ap, ◌∙◌, subst, append-nil, inl, inr}
+use Rattle.std.proofs.Common.{◌≡◌, ℕ, ◌+◌, ◌++◌, ◌⊎◌, List, [], ◌∷◌, map, true, Bool, Option, Some, None, refl, sym, ap, ◌∙◌, subst, append-nil, Ok, Err, arith, inl, inr}
 use Rattle.cqlp_note.specs.declared.header.Header.{Header}
 use Rattle.cqlp_note.specs.Limits.{Rules}
 use Rattle.cqlp_grammar.specs.Events.{Event, Frame, End}
 use Rattle.cqlp_message.specs.FrameValues.{FrameValue}
-use Rattle.cqlp_message.specs.Frames.{frame_parts, header_of, unfit_of}
+use Rattle.cqlp_message.specs.Frames.{frame_parts, frame_size, header_of, if_none, measure_of, unfit_of}
+use Rattle.cqlp_message.specs.declared.unfit.Unfit.{Unfit}
 use Rattle.cqlp_message.specs.Owned.{frame_of}
 use Rattle.cqlp_message.specs.Parts.{parts_size}
 use Rattle.cqlp_message.specs.declared.frame.Frame as owned
@@ -108,3 +109,33 @@ module _ (h : Header) (x : ℕ) (f : FrameValue) (old new : Held) (b : Builds (�
       let c : CanBeBuilt f = (i.0, m.2.built) in
       let e : told (frame_parts f) ≡ left old = sym (append-nil (told (frame_parts f))) ∙ ap (λ r. told (frame_parts f) ++ r) n ∙ sym m.1 in
       (are_events h (left old) x f c (record { header = i.1; parts = e; extra = refl }), c, λ g y d a. let o = only_this g y s d a in (o.0, o.2))
+
+-- ---- headers
+
+measured : (o : Option Unfit) (n m : ℕ) → if_none o n ≡ Ok m → (o ≡ None) × (m ≡ n)
+measured None n m e = let d : n ≡ m = cc in (refl, sym d)
+measured (Some why) n m e = absurd cc
+
+refused : (o : Option Unfit) (n : ℕ) (why : Unfit) → if_none o n ≡ Err why → o ≡ None → ⊥
+refused None n why e d = absurd cc
+refused (Some y) n why e d = absurd cc
+
+pub not_measured : (f : FrameValue) (h : Header) (x : ℕ) (why : Unfit) → measure_of f ≡ Err why → IsOfHeader f h x → ⊥
+not_measured f h x why e i = refused (unfit_of f) (frame_size f 0) why e i.0
+
+pub is_of_header : (f : FrameValue) (h : Header) (x len : ℕ) → measure_of f ≡ Ok len → header_of f h.length ≡ h → len + x ≡ h.length + 9 → IsOfHeader f h x
+is_of_header f h x len m e n =
+    let r = measured (unfit_of f) (frame_size f 0) len m in
+    let size : h.length ≡ parts_size (frame_parts f) + x = omega (arith, r.1) in
+    (r.0, subst (λ (k : ℕ). header_of f k ≡ h) size e)
+
+pub length_of_header : (f : FrameValue) (h : Header) (x len : ℕ) → measure_of f ≡ Ok len → IsOfHeader f h x → len + x ≡ h.length + 9
+length_of_header f h x len m i =
+    let r = measured (unfit_of f) (frame_size f 0) len m in
+    let size : parts_size (frame_parts f) + x ≡ h.length = ap (λ (k : Header). k.length) i.1 in
+    omega (arith, r.1)
+
+pub header_is : (f : FrameValue) (h : Header) (x : ℕ) → IsOfHeader f h x → header_of f h.length ≡ h
+header_is f h x i =
+    let size : parts_size (frame_parts f) + x ≡ h.length = ap (λ (k : Header). k.length) i.1 in
+    subst (λ (k : ℕ). header_of f k ≡ h) size i.1

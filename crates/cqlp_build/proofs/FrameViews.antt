@@ -62,11 +62,14 @@ no_texts list item ts = no_items (λ t. body.text item t ∷ []) (λ t. refl) ts
 
 no_params : (q : QueryParams) → NoCells (body.params_parts q)
 no_params q =
-    no_more _ (body.timestamp_parts q.timestamp)
-    (no_more _ (body.serial_parts q.serial)
-    (no_more _ (body.paging_parts q.paging)
-    (no_more _ (body.where_some (λ z. body.int field.PageSize z ∷ []) q.page_size)
-    (no_some (body.counted field.Values body.value_parts) (λ vs. no_items body.value_parts (λ v. no_more _ (body.bound v.1 ∷ []) (no_some (λ n. body.text field.ValueName n ∷ []) (λ n. refl) v.0) refl) vs) q.values)
+    let values = body.where_some (body.counted field.Values body.value_parts) q.values in
+    let size = body.where_some (λ z. body.int field.PageSize z ∷ []) q.page_size in
+    let front = body.short field.Consistency q.consistency ∷ body.byte field.QueryFlags q.flags ∷ [] ++ values in
+    no_more (front ++ size ++ body.paging_parts q.paging ++ body.serial_parts q.serial) (body.timestamp_parts q.timestamp)
+    (no_more (front ++ size ++ body.paging_parts q.paging) (body.serial_parts q.serial)
+    (no_more (front ++ size) (body.paging_parts q.paging)
+    (no_more front size
+    (no_some (body.counted field.Values body.value_parts) (λ vs. no_items body.value_parts (λ v. no_more (body.where_some (λ n. body.text field.ValueName n ∷ []) v.0) (body.bound v.1 ∷ []) (no_some (λ n. body.text field.ValueName n ∷ []) (λ n. refl) v.0) refl) vs) q.values)
     (no_some (λ z. body.int field.PageSize z ∷ []) (λ z. refl) q.page_size))
     (no_some (λ s. body.bytes field.PagingState s ∷ []) (λ s. refl) q.paging))
     (no_some (λ n. body.short field.SerialConsistency n ∷ []) (λ n. refl) q.serial))

@@ -2,5 +2,6 @@ pub mod Steps
 pub mod Several
 pub mod Counted
 pub mod RequestParts
+pub mod Nodes
 pub mod FrameViews
 pub mod Finishing

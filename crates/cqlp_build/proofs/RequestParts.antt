@@ -68,5 +68,5 @@ params_builds one two three four five six seven =
     as_builds (λ q. told (body.params_parts q)) (λ q. params_agree q ≡ true) params_from
     (λ p q. simp (flat_map-append, append_assoc))
     (λ p q. all_to _ _ _ _ _ q.1.1)
-    (λ q e. (to_parts q, ((refl, (refl, all_of _ _ _ _ _ e)), refl)))
+    (λ q e. (to_parts q, (refl, (refl, all_of _ _ _ _ _ e)), refl))
     (pair_builds (λ n r. (true ≡ true) × AreAnnounced r.0 r.1) one (pair_builds AreAnnounced two (three then four then five then six then seven)))
