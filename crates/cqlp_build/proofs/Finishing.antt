@@ -52,7 +52,7 @@ frame_from h k es fs x y e =
 
 pub is_frame_of : (h : Header) (es : List Event) (x : ℕ) (g : FrameValue) (y : ℕ) → CanBeBuilt g → AreEventsOf (Frame h ∷ es ++ End x ∷ []) g y → IsFrameOf h es x g y
 is_frame_of h es x g y c a =
-    let r = frame_from h (header_of g (parts_size (frame_parts g) + y)) es (told (frame_parts g)) x y (sym (frame_said a.rules a.at g y c.1) ∙ a.are) in
+    let r = frame_from h (header_of g (parts_size (frame_parts g) + y)) es (told (frame_parts g)) x y (sym (frame_said a.rules a.at g y c) ∙ a.are) in
     record { header = r.0; parts = r.1; extra = r.2 }
 
 begins_with : (h : Header) (g : FrameValue) (n : ℕ) → CanBeBuilt g → header_of g n ≡ h → BeginsWith h g
@@ -71,7 +71,7 @@ pub are_events : (h : Header) (es : List Event) (x : ℕ) (f : FrameValue) → C
 are_events h es x f c i = record {
   rules = no_rules;
   at = 0;
-  are = frame_said no_rules 0 f x c.1 ∙ ap (λ k. Frame k ∷ told (frame_parts f) ++ End x ∷ []) i.header ∙ ap (λ r. Frame h ∷ r ++ End x ∷ []) i.parts;
+  are = frame_said no_rules 0 f x c ∙ ap (λ k. Frame k ∷ told (frame_parts f) ++ End x ∷ []) i.header ∙ ap (λ r. Frame h ∷ r ++ End x ∷ []) i.parts;
 }
 
 module _ (h : Header) (x : ℕ) (f : FrameValue) (old new : Held) (b : Builds (λ g. told (frame_parts g)) (BeginsWith h) f old new) where

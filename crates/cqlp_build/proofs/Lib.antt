@@ -1,7 +1,16 @@
 pub mod Steps
+pub mod Contents
+pub mod Choices
 pub mod Several
 pub mod Counted
+pub mod Optional
 pub mod RequestParts
-pub mod Nodes
+pub mod ResponseParts
+pub mod MessageParts
+pub mod FrameParts
 pub mod FrameViews
 pub mod Finishing
+pub mod Taking
+pub mod Streams
+pub mod Bounds
+pub mod OneAnswers

@@ -107,3 +107,8 @@ module _ {A B : Type 0} {h : A → List Event} {P : A → Type 0} (g : B → Lis
         ((view b q).2 ∙ ap f o.0, o.1);
     none = λ s. as_none old (x.none s);
   }
+
+-- the same, of what was built
+pub made_of : {A B : Type 0} {h : A → List Event} {P : A → Type 0} {a : A} {old new : Held} → Builds h P a old new → (g : B → List Event) (Q : B → Type 0) (f : A → B)
+    → ((a : A) → P a → g (f a) ≡ h a) → ((a : A) → P a → Q (f a)) → Views h g P Q f → Builds g Q (f a) old new
+made_of one g Q f same on view = as_builds g Q f same on view one

@@ -1,10 +1,14 @@
 -- What becomes of the events of frames, one after the other.
 use Rattle.std.specs.Prelude.{◌≡◌, ⊤, ℕ, ◌+◌, ◌-◌, ◌<◌, ◌≤◌, ◌++◌, Bool, true, false, List, [], ◌∷◌, length, map, Option, Some, None, Result, Ok, Err}
+use Rattle.std.specs.Prelude.{ℤ, ◌||◌, ◌==◌}
 use Rattle.cqlp_note.specs.declared.header.Header.{Header}
-use Rattle.cqlp_note.specs.Field.{content_length}
+use Rattle.cqlp_note.specs.declared.field.Field.{Field}
+use Rattle.cqlp_note.specs.declared.field.Field.TheVariants as field
+use Rattle.cqlp_note.specs.Field.{Int, content_length}
 use Rattle.cqlp_note.specs.Limits.{Rules}
 use Rattle.cqlp_grammar.specs.Events.{Event, Frame, Holds, Node_of, Cell_at, Leave, End}
-use Rattle.cqlp_message.specs.Agreement.{frame_agrees, opcode_of}
+use Rattle.cqlp_grammar.specs.Codes as code
+use Rattle.cqlp_message.specs.Agreement.{bits, frame_agrees, opcode_of}
 use Rattle.cqlp_message.specs.FrameValues.{FrameValue, Message, Rows, Prepared}
 use Rattle.cqlp_message.specs.Frames.{Flat, frame_parts, header_of, unfit_of}
 use Rattle.cqlp_message.specs.Parts.{parts_size}
@@ -86,8 +90,14 @@ abbrev pub is_field : Event → Bool
 is_field (Holds f v) = true
 is_field e = false
 
--- the kind of a type, or what a cell has
+-- the kind of a page or of a prepared statement
+abbrev pub is_unbuilt_kind : Field → ℤ → Bool
+is_unbuilt_kind field.ResultKind z = (bits z == code.rows) || (bits z == code.prepared)
+is_unbuilt_kind f z = false
+
+-- What is of a page or of a prepared statement alone: the kind of such a result, the kind of a type, and what a cell has.
 abbrev pub is_unbuilt : Event → Bool
+is_unbuilt (Holds f (Int z)) = is_unbuilt_kind f z
 is_unbuilt (Node_of k) = true
 is_unbuilt (Cell_at row column c) = true
 is_unbuilt (Leave level items) = true
@@ -102,11 +112,6 @@ abbrev pub is_inner : Event → Bool
 is_inner (Frame h) = false
 is_inner (End x) = false
 is_inner e = true
-
--- the bytes of a field that the limit counts, or None of what is no field
-abbrev pub size_in : Event → Option ℕ
-size_in (Holds f v) = Some (content_length v)
-size_in e = None
 
 -- fewer fields than are allowed have come before it
 abbrev pub HasPlace : BuilderState → Type 0
@@ -129,21 +134,22 @@ abbrev pub without_memory : BuilderState → Event → BuilderState
 without_memory s (End x) = empty s.limits
 without_memory s e = s
 
--- What an event that is due is answered, and what the state is after it.
+-- What an event is answered that is due and is built, and what the state is after it.
 abbrev pub Answers : BuilderState → Event → Result (Option BuiltFrame) BuildError → BuilderState → Type 0
 Answers old e (Ok None) new = IsTaken old e × (new ≡ with_event old e)
 Answers old e (Ok (Some b)) new = (is_end e ≡ true) × IsBuiltOf (old.events ++ e ∷ []) b × (new ≡ empty old.limits)
 Answers old e (Err error.Misplaced) new = ⊥
 Answers old e (Err error.TooManyFields) new = (is_field e ≡ true) × (old.limits.fields < length old.events) × (new ≡ old)
 Answers old e (Err error.TooManyBytes) new = (is_field e ≡ true) × HasPlace old × (old.room < content_size e) × (new ≡ old)
-Answers old e (Err error.Unbuilt) new = (is_unbuilt e ≡ true) × (new ≡ old)
+Answers old e (Err error.Unbuilt) new = ⊥
 Answers old e (Err error.NoFrame) new = (is_end e ≡ true) × AreOfNone (old.events ++ e ∷ []) × (new ≡ empty old.limits)
 Answers old e (Err error.NoMemory) new = AsksForMemory old e × (new ≡ without_memory old e)
 
--- What becomes of an event: where another is due it is misplaced, and nothing changes.
+-- What becomes of an event: where another is due it is misplaced, and what is not built is refused as that; in both nothing changes.
 abbrev pub TakesEvent : BuilderState → Event → Result (Option BuiltFrame) BuildError → BuilderState → Type 0
 TakesEvent old e (Err error.Misplaced) new = (is_due old.events e ≡ false) × (new ≡ old)
-TakesEvent old e r new = (is_due old.events e ≡ true) × Answers old e r new
+TakesEvent old e (Err error.Unbuilt) new = (is_due old.events e ≡ true) × (is_unbuilt e ≡ true) × (new ≡ old)
+TakesEvent old e r new = (is_due old.events e ≡ true) × (is_unbuilt e ≡ false) × Answers old e r new
 
 -- ---- the end of a frame
 

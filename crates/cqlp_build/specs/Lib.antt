@@ -2,3 +2,4 @@ pub mod Told
 pub mod Held
 pub mod Building
 pub mod Productions
+pub mod Laws

@@ -3,16 +3,17 @@
 ghost use Rattle.std.specs.Prelude.{◌≡◌, ◌↔◌, IsTrue, [], true};
 ghost use Rattle.cqlp_grammar.specs.Events as told;
 ghost use Rattle.cqlp_grammar.specs.Events.{event_of};
-ghost use Rattle.cqlp_build.specs.Building.{Finishes, IsOfHeader, TakesEvent, empty, is_inner, size_in, state};
+ghost use Rattle.cqlp_build.specs.Building as told_of;
+ghost use Rattle.cqlp_build.specs.Building.{Finishes, IsOfHeader, TakesEvent, empty, is_inner, state};
 ghost use Rattle.cqlp_build.specs.Held.{left};
 ghost use Rattle.cqlp_message.specs.Owned.{frame_of};
 
 use crate::error::BuildError;
 use crate::held::{Fault, Held};
 use crate::item::own;
-use cqlp_grammar::Event;
+use cqlp_grammar::{Event, result_kind};
 use cqlp_message::Frame;
-use cqlp_note::{BoundValue, Header};
+use cqlp_note::{BoundValue, Field, Header};
 use std::alloc::Global;
 use std::collections::VecDeque;
 
@@ -153,16 +154,17 @@ impl FrameBuilder {
         if self.header.is_none() {
             return Err(BuildError::Misplaced);
         }
-        let Some(size) = content_size(event) else {
+        if is_unbuilt(event) {
             return Err(BuildError::Unbuilt);
-        };
+        }
+        let size = content_size(event);
         if self.held.items.len() >= self.limits.fields as usize {
             return Err(BuildError::TooManyFields);
         }
         if size > self.room as usize {
             return Err(BuildError::TooManyBytes);
         }
-        let Ok(Some(item)) = own(self.held.alloc, event) else {
+        let Ok(item) = own(self.held.alloc, event) else {
             return Err(BuildError::NoMemory);
         };
         if self.held.items.push_back(item).is_err() {
@@ -173,29 +175,43 @@ impl FrameBuilder {
     }
 }
 
-/// How many bytes the text or the content of a field has, or None where it is no field.
-fn content_size(event: &Event<'_>) -> Option<usize>
-    ensures { result ≡ size_in (event_of event.now) }
+/// Whether it is of a page or of a prepared statement alone.
+fn is_unbuilt(event: &Event<'_>) -> bool
+    ensures { result ≡ told_of.is_unbuilt (event_of event.now) }
 {
     match event {
-        Event::Text { text, .. } => Some(text.len()),
+        Event::Int {
+            field: Field::ResultKind,
+            value,
+        } => matches!(
+            value.cast_unsigned(),
+            result_kind::ROWS | result_kind::PREPARED
+        ),
+        Event::TypeNode(_)
+        | Event::Leaf { .. }
+        | Event::Null { .. }
+        | Event::Empty { .. }
+        | Event::Enter { .. }
+        | Event::Leave { .. }
+        | Event::Part { .. } => true,
+        _ => false,
+    }
+}
+
+/// How many bytes of a field the limit counts.
+fn content_size(event: &Event<'_>) -> usize
+    ensures { result ≡ told_of.content_size (event_of event.now) }
+{
+    match event {
+        Event::Text { text, .. } => text.len(),
         Event::Bytes {
             bytes: Some(bytes), ..
-        } => Some(bytes.len()),
+        } => bytes.len(),
         Event::Bound {
             value: BoundValue::Bytes(bytes),
             ..
-        } => Some(bytes.len()),
-        Event::Byte { .. }
-        | Event::Short { .. }
-        | Event::Int { .. }
-        | Event::Long { .. }
-        | Event::Uuid { .. }
-        | Event::Count { .. }
-        | Event::Bytes { .. }
-        | Event::Bound { .. }
-        | Event::Inet { .. } => Some(0),
-        _ => None,
+        } => bytes.len(),
+        _ => 0,
     }
 }
 

@@ -1,9 +1,10 @@
 //! Frames.
 
-ghost use Rattle.std.specs.Prelude.{◌≡◌, [], ◌∷◌, true, map, option_map, string_bytes};
+ghost use Rattle.std.specs.Prelude.{◌≡◌, ◌&&◌, [], ◌∷◌, true, map, option_map, string_bytes};
 ghost use Rattle.cqlp_note.specs.declared.field.Field.TheVariants as field;
 ghost use Rattle.cqlp_note.specs.declared.field.Notation.TheVariants as notation;
 ghost use Rattle.cqlp_note.specs.Field.{Uuid};
+ghost use Rattle.cqlp_note.specs.Heading.{answers, has as has_bit};
 ghost use Rattle.cqlp_message.specs.Agreement.{there_if};
 ghost use Rattle.cqlp_message.specs.Bodies as body;
 ghost use Rattle.cqlp_message.specs.Frames.{frame_parts};
@@ -25,10 +26,9 @@ impl Held {
         ensures { Builds (λ f. told (frame_parts f)) (BeginsWith header.now) (frame_of result) self.old self.new }
     {
         let flags = u32::from(header.flags);
-        let response = header.opcode.is_response();
         self.check(!has(flags, 0x01));
-        let tracing = self.tracing_if(response && has(flags, 0x02));
-        let warnings = self.warnings_if(response && has(flags, 0x08));
+        let tracing = self.tracing_if(announces(header, 0x02));
+        let warnings = self.warnings_if(announces(header, 0x08));
         let payload = self.payload_if(has(flags, 0x04));
         let message = self.message(header.opcode);
         Frame {
@@ -79,4 +79,11 @@ impl Held {
             None
         }
     }
+}
+
+/// Whether it is a response's, and has some of these flags.
+fn announces(header: &Header, bits: u32) -> bool
+    ensures { result ≡ (answers header.now.opcode && has_bit header.now.flags bits) }
+{
+    header.opcode.is_response() && has(u32::from(header.flags), bits)
 }

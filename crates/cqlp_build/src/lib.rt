@@ -2,10 +2,12 @@
 #![tactic(auto)]
 
 mod builder;
+mod content;
 mod error;
 mod frames;
 mod held;
 mod item;
+pub mod laws;
 mod lists;
 mod messages;
 mod requests;

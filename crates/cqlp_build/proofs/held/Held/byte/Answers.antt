@@ -1,12 +1,4 @@
-use Rattle.std.proofs.Common.{◌≡◌, ap, sym, ◌∙◌, rules}
-use denote.Enum.Bare.{same_true}
-use Rattle.cqlp_note.specs.contracts.field.Field.{the_type}
-use Rattle.cqlp_note.specs.Field as note
-use Rattle.cqlp_build.specs.Held.{told_by}
-use Rattle.cqlp_build.proofs.Steps.{taken}
 use Rattle.cqlp_build.proofs.held.Held.byte.Goals as goal
 
-pub returns-then-eq : goal.returns-then-eq
-returns-then-eq c =
-    let same : c.in-Some-Byte.found ≡ c.args.field = same_true the_type (search rules) _ _ (sym c.eq.ensures ∙ c.if-eq.true) in
-    taken note.Byte (λ x y e. cc) c.args.field c.in-Some-Byte.found c.in-Some-Byte.value c.in-Some-Byte.field-0 c.args.self.now c.next.new.self c.in-Some-Byte.ensures (ap told_by c.in-Some-Byte.field-0-is) same
+pub returns : goal.returns
+returns c = c.take.ensures

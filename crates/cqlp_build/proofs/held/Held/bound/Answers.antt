@@ -1,0 +1,4 @@
+use Rattle.cqlp_build.proofs.held.Held.bound.Goals as goal
+
+pub returns : goal.returns
+returns c = c.take.ensures
