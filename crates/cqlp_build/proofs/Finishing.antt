@@ -12,7 +12,9 @@ use Rattle.cqlp_message.specs.declared.frame.Frame as owned
 use Rattle.cqlp_message.proofs.FramesWritten.{is_fit}
 use Rattle.cqlp_build.specs.declared.held.Fault.TheVariants as fault
 use Rattle.cqlp_build.specs.declared.held.Held.{Held}
-use Rattle.cqlp_build.specs.Building.{AreEventsOf, AreOfNone, BeginsWith, CanBeBuilt, IsBuiltOf, IsOfHeader}
+use Rattle.cqlp_build.specs.Building.{AreEventsOf, AreOfNone, BeginsWith, CanBeBuilt, Finishes, IsBuiltOf, IsOfHeader, Tells}
+use Rattle.cqlp_build.specs.declared.error.BuildError.{BuildError}
+use Rattle.cqlp_build.specs.declared.error.BuildError.TheVariants as error
 use Rattle.cqlp_build.specs.Held.{Builds, IsRefused, IsSound, left}
 use Rattle.cqlp_build.specs.Told.{told}
 use Rattle.cqlp_build.proofs.FrameViews.{frame_said}
@@ -109,6 +111,19 @@ module _ (h : Header) (x : ℕ) (f : FrameValue) (old new : Held) (b : Builds (�
       let c : CanBeBuilt f = (i.0, m.2.built) in
       let e : told (frame_parts f) ≡ left old = sym (append-nil (told (frame_parts f))) ∙ ap (λ r. told (frame_parts f) ++ r) n ∙ sym m.1 in
       (are_events h (left old) x f c (record { header = i.1; parts = e; extra = refl }), c, λ g y d a. let o = only_this g y s d a in (o.0, o.2))
+
+  pub no_frame : IsSound old → Tells h x f new (Some error.NoFrame) → AreOfNone (Frame h ∷ left old ++ End x ∷ [])
+  no_frame s (inl r) = none_refused s r
+  no_frame s (inr (k, inl n)) = none_left k (λ e. n (sym e))
+  no_frame s (inr (k, inr n)) = none_of_header k n
+
+  pub finishes_not : IsSound old → (why : BuildError) → Tells h x f new (Some why) → Finishes h x (left old) (Err why)
+  finishes_not s error.NoFrame t = no_frame s t
+  finishes_not s error.NoMemory t = tt
+  finishes_not s error.Misplaced t = absurd t
+  finishes_not s error.Unbuilt t = absurd t
+  finishes_not s error.TooManyFields t = absurd t
+  finishes_not s error.TooManyBytes t = absurd t
 
 -- ---- headers
 

@@ -21,21 +21,21 @@ use Rattle.cqlp_build.specs.Held.{Builds}
 use Rattle.cqlp_build.specs.Productions.{BuildsMessage, IsOf}
 use Rattle.cqlp_build.specs.Told.{payload_parts, told, part_told}
 use Rattle.cqlp_build.proofs.Several.{both, join}
-use Rattle.cqlp_build.proofs.Steps.{as_builds, ◌then◌}
+use Rattle.cqlp_build.proofs.Steps.{as_builds, told_four, ◌then◌}
 
-Announced : Type 0
+abbrev Announced : Type 0
 Announced = ((Unit {0} × Option Octets) × Option (List Octets)) × Option (List (Octets × Option Octets))
 
-AllParts : Type 0
+abbrev AllParts : Type 0
 AllParts = Announced × Message
 
 -- what its header asks of them
-AreOf : Header → AllParts → Type 0
+abbrev AreOf : Header → AllParts → Type 0
 AreOf h p =
     ((((not (has h.flags 0x01) ≡ true) × (there_if (answers h.opcode && has h.flags 0x02) p.0.0.0.1 ≡ true))
     × (there_if (answers h.opcode && has h.flags 0x08) p.0.0.1 ≡ true)) × (there_if (has h.flags 0x04) p.0.1 ≡ true)) × IsOf h.opcode p.1
 
-frame_from : Header → AllParts → FrameValue
+abbrev frame_from : Header → AllParts → FrameValue
 frame_from h p = record {
   flags = h.flags;
   stream = h.stream;
@@ -46,7 +46,7 @@ frame_from h p = record {
 }
 
 -- what a frame asks of its parts, by its own flags and opcode
-Agree : (flags : ℕ) → Opcode → AllParts → Bool
+abbrev Agree : (flags : ℕ) → Opcode → AllParts → Bool
 Agree n o p =
     not (has n 0x01)
     && there_if (answers o && has n 0x02) p.0.0.0.1
@@ -65,7 +65,6 @@ all_to : (a b c d e : Bool) → ((((a ≡ true) × (b ≡ true)) × (c ≡ true)
 all_to a b c d e h = join (a && b && c && d) e (join (a && b && c) d (join (a && b) c (join a b h.0.0.0.0 h.0.0.0.1) h.0.0.1) h.0.1) h.1
 
 from_parts : (h : Header) (p : AllParts) → AreOf h p → BeginsWith h (frame_from h p)
-unfolding AllParts Announced AreOf frame_from Agree
 from_parts h p q =
     let m = q.1 in
     let all : Agree h.flags h.opcode p ≡ true = all_to (not (has h.flags 0x01)) (there_if (answers h.opcode && has h.flags 0x02) p.0.0.0.1) (there_if (answers h.opcode && has h.flags 0x08) p.0.0.1) (there_if (has h.flags 0x04) p.0.1) (message_agrees p.1) (q.0, m.agrees) in
@@ -77,15 +76,13 @@ from_parts h p q =
       built = m.built;
     }
 
-parts_in : FrameValue → AllParts
+abbrev parts_in : FrameValue → AllParts
 parts_in f = ((((tt, f.tracing), f.warnings), f.payload), f.message)
 
 frame_same : (h : Header) (f : FrameValue) → f.flags ≡ h.flags → f.stream ≡ h.stream → f ≡ frame_from h (parts_in f)
-unfolding AllParts Announced frame_from parts_in
 frame_same h f a b = λ i. record { flags = a i; stream = b i; tracing = f.tracing; warnings = f.warnings; payload = f.payload; message = f.message }
 
 to_parts : (h : Header) (f : FrameValue) → BeginsWith h f → AreOf h (parts_in f)
-unfolding AllParts Announced AreOf Agree parts_in
 to_parts h f b =
     let own : Agree f.flags (opcode_of f.message) (parts_in f) ≡ true = b.agrees in
     let here : Agree h.flags (opcode_of f.message) (parts_in f) ≡ true = subst (λ (n : ℕ). Agree n (opcode_of f.message) (parts_in f) ≡ true) b.flags own in
@@ -100,10 +97,9 @@ pub frame_builds : (h : Header) {tracing : Option Octets} {warnings : Option (Li
     → Builds (λ o. told (body.where_some (body.counted field.PayloadItems payload_parts) o)) (λ o. there_if (has h.flags 0x04) o ≡ true) payload d e
     → BuildsMessage h.opcode message e f
     → Builds (λ g. told (frame_parts g)) (BeginsWith h) (record { flags = h.flags; stream = h.stream; tracing = tracing; warnings = warnings; payload = payload; message = message }) a f
-unfolding AllParts Announced AreOf frame_from parts_in
 frame_builds h one two three four five =
     as_builds (λ g. told (frame_parts g)) (BeginsWith h) (frame_from h)
-    (λ p q. simp (flat_map-append, append_assoc))
+    (λ p q. told_four (body.where_some (λ id. Field_is field.TraceId notation.Uuid (note.Uuid id) ∷ []) p.0.0.0.1) (body.where_some (body.texts field.Warnings field.Warning) p.0.0.1) (body.where_some (body.counted field.PayloadItems payload_parts) p.0.1) (body.message_parts p.1))
     (λ p q. from_parts h p q)
     (λ g b. (parts_in g, to_parts h g b, frame_same h g b.flags b.stream))
     (one then two then three then four then five)

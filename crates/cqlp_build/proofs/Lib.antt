@@ -1,6 +1,4 @@
 pub mod Steps
-pub mod Contents
-pub mod Choices
 pub mod Several
 pub mod Counted
 pub mod Optional

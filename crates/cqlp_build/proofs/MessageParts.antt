@@ -15,14 +15,12 @@ use Rattle.cqlp_message.specs.FrameValues as value
 use Rattle.cqlp_message.specs.Bodies as body
 use Rattle.cqlp_build.specs.declared.held.Held.{Held}
 use Rattle.cqlp_build.specs.Building.{is_built}
-use Rattle.cqlp_build.specs.Held.{Builds, any, first_fault}
-use Rattle.cqlp_build.specs.declared.held.Fault.TheVariants as fault
+use Rattle.cqlp_build.specs.Held.{Builds, any}
 use Rattle.cqlp_build.specs.Productions.{BuildsMessage, IsOf}
 use Rattle.cqlp_build.specs.Told.{told, part_told}
-use Rattle.cqlp_build.proofs.Choices.{Begins, choice_builds, nothing_builds, refused_builds}
 use Rattle.cqlp_build.proofs.Optional.{all_true}
 use Rattle.cqlp_build.proofs.Several.{both, join}
-use Rattle.cqlp_build.proofs.Steps.{as_builds, made_of, pair_builds, ◌then◌}
+use Rattle.cqlp_build.proofs.Steps.{as_builds, pair_builds, told_four, ◌then◌}
 
 -- ---- what a message of an opcode is
 
@@ -84,25 +82,40 @@ auth_success_view m i = let o = i.opcode in absurd cc
 
 -- ---- batches
 
-BatchEnd : Type 0
+abbrev pub BatchEnd : Type 0
 BatchEnd = ℕ × ((Unit {0} × Option ℕ) × Option ℤ)
 
-AreBatchEnd : ℕ → (Unit {0} × Option ℕ) × Option ℤ → Type 0
+abbrev pub AreBatchEnd : ℕ → (Unit {0} × Option ℕ) × Option ℤ → Type 0
 AreBatchEnd f r = ((not (has f 0x4F) ≡ true) × (there_if (has f 0x10) r.0.1 ≡ true)) × (there_if (has f 0x20) r.1 ≡ true)
 
-BatchStart : Type 0
+abbrev pub BatchStart : Type 0
 BatchStart = (ℕ × List BatchEntry) × ℕ
 
-batch_from : BatchStart × BatchEnd → Message
+abbrev pub batch_from : BatchStart × BatchEnd → Message
 batch_from p = Batch p.0.0.0 p.0.0.1 p.0.1 p.1.0 p.1.1.0.1 p.1.1.1
 
 pub batch_view : (m : Message) → IsOf opcode.Batch m → (a : BatchStart × BatchEnd) × ((((true ≡ true) × (list_all (λ _. true) a.0.0.1 ≡ true)) × (true ≡ true)) × ((true ≡ true) × AreBatchEnd a.1.0 a.1.1)) × (m ≡ batch_from a)
-unfolding BatchEnd AreBatchEnd BatchStart batch_from
 batch_view (Batch k es c f s t) i =
     let p = both (not (has f 0x4F) && there_if (has f 0x10) s) (there_if (has f 0x20) t) i.agrees in
     let q = both (not (has f 0x4F)) (there_if (has f 0x10) s) p.0 in
     ((((k, es), c), (f, ((tt, s), t))), (((refl, all_true es), refl), (refl, (q, p.1))), refl)
 batch_view m i = let o = i.opcode in absurd cc
+
+batch_told : (kind : ℕ) (es : List BatchEntry) (consistency flags : ℕ) (serial : Option ℕ) (timestamp : Option ℤ)
+    → told (body.message_parts (Batch kind es consistency flags serial timestamp))
+    ≡ Holds field.BatchType (note.Byte kind) ∷ ((told (body.counted field.Entries body.entry_parts es) ++ Holds field.Consistency (note.Short consistency) ∷ [])
+    ++ Holds field.BatchFlags (note.Byte flags) ∷ (told (body.serial_parts serial) ++ told (body.timestamp_parts timestamp)))
+batch_told kind es consistency flags serial timestamp =
+    let entries = told (body.counted field.Entries body.entry_parts es) in
+    let one = Holds field.Consistency (note.Short consistency) in
+    let two = Holds field.BatchFlags (note.Byte flags) in
+    let s = told (body.serial_parts serial) in
+    let t = told (body.timestamp_parts timestamp) in
+    ap (λ r. Holds field.BatchType (note.Byte kind) ∷ r)
+    (told_four (body.counted field.Entries body.entry_parts es) (body.short field.Consistency consistency ∷ body.byte field.BatchFlags flags ∷ []) (body.serial_parts serial) (body.timestamp_parts timestamp)
+    ∙ append_assoc (entries ++ one ∷ two ∷ []) s t
+    ∙ append_assoc entries (one ∷ two ∷ []) (s ++ t)
+    ∙ sym (append_assoc entries (one ∷ []) (two ∷ (s ++ t))))
 
 pub batch_builds : {kind consistency flags : ℕ} {entries : List BatchEntry} {serial : Option ℕ} {timestamp : Option ℤ} {a b c d e f g h : Held}
     → Builds (λ n. Holds field.BatchType (note.Byte n) ∷ []) any kind a b
@@ -113,10 +126,9 @@ pub batch_builds : {kind consistency flags : ℕ} {entries : List BatchEntry} {s
     → Builds (λ o. told (body.serial_parts o)) (λ o. there_if (has flags 0x10) o ≡ true) serial f g
     → Builds (λ o. told (body.timestamp_parts o)) (λ o. there_if (has flags 0x20) o ≡ true) timestamp g h
     → BuildsMessage opcode.Batch (Batch kind entries consistency flags serial timestamp) a h
-unfolding BatchEnd AreBatchEnd BatchStart batch_from
 batch_builds one two three four five six seven =
     as_builds (λ m. told (body.message_parts m)) (IsOf opcode.Batch) batch_from
-    (λ p q. simp (flat_map-append, append_assoc))
+    (λ p q. batch_told p.0.0.0 p.0.0.1 p.0.1 p.1.0 p.1.1.0.1 p.1.1.1)
     (λ p q. record {
       opcode = refl;
       agrees = join (not (has p.1.0 0x4F) && there_if (has p.1.0 0x10) p.1.1.0.1) (there_if (has p.1.0 0x20) p.1.1.1) (join (not (has p.1.0 0x4F)) (there_if (has p.1.0 0x10) p.1.1.0.1) q.1.1.0.0 q.1.1.0.1) q.1.1.1;
@@ -124,168 +136,3 @@ batch_builds one two three four five six seven =
     })
     batch_view
     (one then two then three then pair_builds AreBatchEnd four (five then six then seven))
-
--- ---- results
-
--- the kind of a result
-pub kind_of : Message → ℤ
-kind_of Void = pos 1
-kind_of (Rows p) = pos 2
-kind_of (SetKeyspace k) = pos 3
-kind_of (Prepared p) = pos 4
-kind_of (Change c) = pos 5
-kind_of (UnknownResult k) = k
-kind_of m = pos 0
-
--- what comes after it
-pub behind_kind : Message → List Event
-behind_kind (SetKeyspace k) = told (body.text field.Keyspace k ∷ [])
-behind_kind (Change c) = told (body.change_parts c)
-behind_kind (Rows p) = told (body.page_parts p)
-behind_kind (Prepared p) = told (body.prepared_parts p)
-behind_kind m = []
-
-KindThen : ℤ → (Message → Type 0) → Type 0
-KindThen z Q = Begins (λ z. Holds field.ResultKind (note.Int z) ∷ []) (λ m. told (body.message_parts m)) behind_kind any (IsOf opcode.Result) Q kind_of z
-
-kind_whole : (m : Message) → IsOf opcode.Result m → told (body.message_parts m) ≡ Holds field.ResultKind (note.Int (kind_of m)) ∷ behind_kind m
-unfolding kind_of behind_kind
-kind_whole Void i = refl
-kind_whole (Rows p) i = refl
-kind_whole (SetKeyspace k) i = refl
-kind_whole (Prepared p) i = refl
-kind_whole (Change c) i = refl
-kind_whole (UnknownResult k) i = refl
-kind_whole m i = let o = i.opcode in absurd cc
-
--- where the kind decides what the message is
-kind_then : (z : ℤ) (Q : Message → Type 0) → ((m : Message) → IsOf opcode.Result m → kind_of m ≡ z → Q m) → ((m : Message) → Q m → IsOf opcode.Result m × (kind_of m ≡ z)) → KindThen z Q
-unfolding KindThen
-kind_then z Q into back = record { whole = λ m i. kind_whole m i; may = λ m i. refl; into = into; back = back }
-
-no_number : (k : ℤ) (n : ℕ) → is_no_result (bits k) ≡ true → k ≡ pos n → is_no_result (bits (pos n)) ≡ true
-no_number k n e d = subst (λ z. is_no_result (bits z) ≡ true) d e
-
-void_only : (m : Message) → IsOf opcode.Result m → kind_of m ≡ pos 1 → m ≡ Void
-unfolding kind_of
-void_only Void i e = refl
-void_only (UnknownResult k) i e = let n = no_number k 1 i.agrees e in absurd cc
-void_only (Rows p) i e = absurd cc
-void_only (SetKeyspace k) i e = absurd cc
-void_only (Prepared p) i e = absurd cc
-void_only (Change c) i e = absurd cc
-void_only m i e = let o = i.opcode in absurd cc
-
-abbrev is_set_keyspace : Message → Bool
-is_set_keyspace (SetKeyspace k) = true
-is_set_keyspace m = false
-
-abbrev is_change : Message → Bool
-is_change (Change c) = change_agrees c
-is_change m = false
-
-set_keyspace_only : (m : Message) → IsOf opcode.Result m → kind_of m ≡ pos 3 → is_set_keyspace m ≡ true
-unfolding kind_of
-set_keyspace_only (SetKeyspace k) i e = refl
-set_keyspace_only (UnknownResult k) i e = let n = no_number k 3 i.agrees e in absurd cc
-set_keyspace_only (Rows p) i e = absurd cc
-set_keyspace_only Void i e = absurd cc
-set_keyspace_only (Prepared p) i e = absurd cc
-set_keyspace_only (Change c) i e = absurd cc
-set_keyspace_only m i e = let o = i.opcode in absurd cc
-
-change_only : (m : Message) → IsOf opcode.Result m → kind_of m ≡ pos 5 → is_change m ≡ true
-unfolding kind_of
-change_only (Change c) i e = i.agrees
-change_only (UnknownResult k) i e = let n = no_number k 5 i.agrees e in absurd cc
-change_only (Rows p) i e = absurd cc
-change_only Void i e = absurd cc
-change_only (Prepared p) i e = absurd cc
-change_only (SetKeyspace k) i e = absurd cc
-change_only m i e = let o = i.opcode in absurd cc
-
-never_rows : (m : Message) → IsOf opcode.Result m → kind_of m ≡ pos 2 → ⊥
-unfolding kind_of
-never_rows (Rows p) i e = let b = i.built in absurd cc
-never_rows (UnknownResult k) i e = let n = no_number k 2 i.agrees e in absurd cc
-never_rows (SetKeyspace k) i e = absurd cc
-never_rows Void i e = absurd cc
-never_rows (Prepared p) i e = absurd cc
-never_rows (Change c) i e = absurd cc
-never_rows m i e = let o = i.opcode in absurd cc
-
-never_prepared : (m : Message) → IsOf opcode.Result m → kind_of m ≡ pos 4 → ⊥
-unfolding kind_of
-never_prepared (Prepared p) i e = let b = i.built in absurd cc
-never_prepared (UnknownResult k) i e = let n = no_number k 4 i.agrees e in absurd cc
-never_prepared (SetKeyspace k) i e = absurd cc
-never_prepared Void i e = absurd cc
-never_prepared (Rows p) i e = absurd cc
-never_prepared (Change c) i e = absurd cc
-never_prepared m i e = let o = i.opcode in absurd cc
-
-Kind_is : ℤ → Held → Held → Type 0
-Kind_is z a b = Builds (λ z. Holds field.ResultKind (note.Int z) ∷ []) any z a b
-
-of_result : {m : Message} → opcode_of m ≡ opcode.Result → message_agrees m ≡ true → is_built m ≡ true → IsOf opcode.Result m
-of_result o a b = record { opcode = o; agrees = a; built = b }
-
-pub void_builds : (z : ℤ) → z ≡ pos 1 → {a b : Held} → Kind_is z a b → BuildsMessage opcode.Result Void a b
-unfolding Kind_is KindThen kind_of behind_kind
-void_builds z e {a} {b} one =
-    choice_builds (kind_then z (λ m. m ≡ Void) (λ m i d. void_only m i (d ∙ e)) (λ m d. (subst (IsOf opcode.Result) (sym d) (of_result refl refl refl), ap kind_of d ∙ sym e)))
-    one (nothing_builds behind_kind (λ m. m ≡ Void) Void b refl refl (λ m d. d))
-
-pub set_keyspace_builds : (z : ℤ) → z ≡ pos 3 → {k : Octets} {a b c : Held} → Kind_is z a b → Builds (λ t. Holds field.Keyspace (note.Text t) ∷ []) any k b c → BuildsMessage opcode.Result (SetKeyspace k) a c
-unfolding Kind_is KindThen kind_of behind_kind
-set_keyspace_builds z e one two =
-    choice_builds (kind_then z (λ m. is_set_keyspace m ≡ true) (λ m i d. set_keyspace_only m i (d ∙ e)) back)
-    one (as_builds behind_kind (λ m. is_set_keyspace m ≡ true) (λ k. SetKeyspace k) (λ k p. refl) (λ k p. refl) view two)
-  where
-    view : (m : Message) → is_set_keyspace m ≡ true → (k : Octets) × (true ≡ true) × (m ≡ SetKeyspace k)
-    view (SetKeyspace k) q = (k, refl, refl)
-    view m q = absurd cc
-    back : (m : Message) → is_set_keyspace m ≡ true → IsOf opcode.Result m × (kind_of m ≡ z)
-    back (SetKeyspace k) q = (of_result refl refl refl, sym e)
-    back m q = absurd cc
-
-pub change_builds : (z : ℤ) → z ≡ pos 5 → {s : SchemaChange} {a b c : Held} → Kind_is z a b → Builds (λ s. told (body.change_parts s)) (λ s. change_agrees s ≡ true) s b c → BuildsMessage opcode.Result (Change s) a c
-unfolding Kind_is KindThen kind_of behind_kind
-change_builds z e one two =
-    choice_builds (kind_then z (λ m. is_change m ≡ true) (λ m i d. change_only m i (d ∙ e)) back)
-    one (as_builds behind_kind (λ m. is_change m ≡ true) (λ s. Change s) (λ s p. refl) (λ s p. p) view two)
-  where
-    view : (m : Message) → is_change m ≡ true → (s : SchemaChange) × (change_agrees s ≡ true) × (m ≡ Change s)
-    view (Change s) q = (s, q, refl)
-    view m q = absurd cc
-    back : (m : Message) → is_change m ≡ true → IsOf opcode.Result m × (kind_of m ≡ z)
-    back (Change s) q = (of_result refl q refl, sym e)
-    back m q = absurd cc
-
--- a page or a prepared statement
-pub unbuilt_builds : (z : ℤ) → (z ≡ pos 2) ⊎ (z ≡ pos 4) → (m : Message) {a b c : Held} → Kind_is z a b → c ≡ record b { fault = first_fault b.fault fault.NoFrame } → BuildsMessage opcode.Result m a c
-unfolding Kind_is KindThen kind_of behind_kind
-unbuilt_builds z w m {a} {b} {c} one e =
-    choice_builds (kind_then z (λ m. ⊥) (never z w) (λ m q. absurd q)) one (refused_builds behind_kind (λ m. ⊥) m b c (λ m q. q) e)
-  where
-    never : (z : ℤ) → (z ≡ pos 2) ⊎ (z ≡ pos 4) → (m : Message) → IsOf opcode.Result m → kind_of m ≡ z → ⊥
-    never z (inl e) m i d = never_rows m i (d ∙ e)
-    never z (inr e) m i d = never_prepared m i (d ∙ e)
-
--- no kind that is known
-pub unknown_builds : (z : ℤ) → is_no_result (bits z) ≡ true → {a b : Held} → Kind_is z a b → BuildsMessage opcode.Result (UnknownResult z) a b
-unfolding Kind_is KindThen kind_of behind_kind
-unknown_builds z n {a} {b} one =
-    choice_builds (kind_then z (λ m. m ≡ UnknownResult z) only (λ m d. (subst (IsOf opcode.Result) (sym d) (of_result refl n refl), ap kind_of d)))
-    one (nothing_builds behind_kind (λ m. m ≡ UnknownResult z) (UnknownResult z) b refl refl (λ m d. d))
-  where
-    known : (k : ℕ) → pos k ≡ z → is_no_result (bits (pos k)) ≡ true
-    known k d = subst (λ z. is_no_result (bits z) ≡ true) (sym d) n
-    only : (m : Message) → IsOf opcode.Result m → kind_of m ≡ z → m ≡ UnknownResult z
-    only (UnknownResult k) i d = ap UnknownResult d
-    only Void i d = let k = known 1 d in absurd cc
-    only (Rows p) i d = let k = known 2 d in absurd cc
-    only (SetKeyspace s) i d = let k = known 3 d in absurd cc
-    only (Prepared p) i d = let k = known 4 d in absurd cc
-    only (Change c) i d = let k = known 5 d in absurd cc
-    only m i d = let o = i.opcode in absurd cc

@@ -1,23 +1,20 @@
 -- The parameters of queries.
 use Rattle.std.proofs.Common.{◌≡◌, ℕ, ℤ, ◌++◌, List, [], ◌∷◌, true, false, Bool, ◌&&◌, Option, Some, None, refl, sym, ap, ◌∙◌, append_assoc, arith}
 use Rattle.std.specs.List.{flat_map, list_all}
-use Rattle.std.proofs.lemmas.Grind.{flat_map-append}
 use Rattle.cqlp_note.specs.declared.field.Field.TheVariants as field
 use Rattle.cqlp_note.specs.Field as note
 use Rattle.cqlp_note.specs.Field.{BoundValue}
 use Rattle.cqlp_note.specs.Heading.{has}
 use Rattle.cqlp_grammar.specs.Events.{Event, Holds}
 use Rattle.cqlp_message.specs.Agreement.{there_if, are_named, params_agree}
-use Rattle.cqlp_message.specs.FrameValues.{Octets, QueryParams, BatchEntry, Text, Id}
+use Rattle.cqlp_message.specs.FrameValues.{Octets, QueryParams}
 use Rattle.cqlp_message.specs.Bodies as body
 use Rattle.cqlp_build.specs.declared.held.Held.{Held}
-use Rattle.cqlp_build.specs.declared.held.Fault.TheVariants as fault
-use Rattle.cqlp_build.specs.Held.{Builds, any, first_fault}
+use Rattle.cqlp_build.specs.Held.{Builds, any}
 use Rattle.cqlp_build.specs.Told.{told, part_told}
-use Rattle.cqlp_build.proofs.Choices.{Begins, choice_builds, refused_builds}
 use Rattle.cqlp_build.proofs.Optional.{none_builds, some_builds}
 use Rattle.cqlp_build.proofs.Several.{both, join}
-use Rattle.cqlp_build.proofs.Steps.{pair_builds, as_builds, ◌then◌}
+use Rattle.cqlp_build.proofs.Steps.{pair_builds, as_builds, told_five, ◌then◌}
 
 abbrev Values : Type 0
 Values = Option (List (Option Octets × BoundValue))
@@ -41,7 +38,7 @@ all_of a b c d e h =
 all_to : (a b c d e : Bool) → ((((a ≡ true) × (b ≡ true)) × (c ≡ true)) × (d ≡ true)) × (e ≡ true) → (a && b && c && d && e) ≡ true
 all_to a b c d e h = join (a && b && c && d) e (join (a && b && c) d (join (a && b) c (join a b h.0.0.0.0 h.0.0.0.1) h.0.0.1) h.0.1) h.1
 
-params_from : ℕ × (ℕ × Announced) → QueryParams
+abbrev params_from : ℕ × (ℕ × Announced) → QueryParams
 params_from p = record {
   consistency = p.0;
   flags = p.1.0;
@@ -52,7 +49,7 @@ params_from p = record {
   timestamp = p.1.1.1;
 }
 
-to_parts : QueryParams → ℕ × (ℕ × Announced)
+abbrev to_parts : QueryParams → ℕ × (ℕ × Announced)
 to_parts q = (q.consistency, (q.flags, ((((q.values, q.page_size), q.paging), q.serial), q.timestamp)))
 
 -- the parameters of a query, part by part
@@ -66,10 +63,10 @@ pub params_builds : {consistency flags : ℕ} {values : Values} {size : Option �
     → Builds (λ o. told (body.timestamp_parts o)) (λ o. there_if (has flags 0x20) o ≡ true) timestamp g h
     → Builds (λ q. told (body.params_parts q)) (λ q. params_agree q ≡ true)
     (record { consistency = consistency; flags = flags; values = values; page_size = size; paging = paging; serial = serial; timestamp = timestamp }) a h
-unfolding params_from to_parts
 params_builds one two three four five six seven =
     as_builds (λ q. told (body.params_parts q)) (λ q. params_agree q ≡ true) params_from
-    (λ p q. simp (flat_map-append, append_assoc))
+    (λ p q. ap (λ es. Holds field.Consistency (note.Short p.0) ∷ Holds field.QueryFlags (note.Byte p.1.0) ∷ es)
+    (told_five (body.where_some (body.counted field.Values body.value_parts) p.1.1.0.0.0.0) (body.where_some (λ z. body.int field.PageSize z ∷ []) p.1.1.0.0.0.1) (body.paging_parts p.1.1.0.0.1) (body.serial_parts p.1.1.0.1) (body.timestamp_parts p.1.1.1)))
     (λ p q. all_to _ _ _ _ _ q.1.1)
     (λ q e. (to_parts q, (refl, (refl, all_of _ _ _ _ _ e)), refl))
     (pair_builds (λ n r. (true ≡ true) × AreAnnounced r.0 r.1) one (pair_builds AreAnnounced two (three then four then five then six then seven)))
@@ -86,87 +83,3 @@ pub values_not : (there named : Bool) → there ≡ false → (old : Held)
     → Builds (λ o. told (body.where_some (body.counted field.Values body.value_parts) o)) (λ o. (there_if there o && are_named named o) ≡ true) None old old
 values_not false named e old = none_builds (body.counted field.Values body.value_parts) (λ o. (there_if false o && are_named named o) ≡ true) refl (λ x q. absurd cc) old
 values_not true named e old = absurd cc
-
--- ---- statements of batches
-
-kind_of : BatchEntry → ℕ
-kind_of (Text t vs) = 0
-kind_of (Id i vs) = 1
-
-bound_values : List BoundValue → List Event
-bound_values vs = told (body.counted field.Values (λ v. body.bound v ∷ []) vs)
-
-behind_kind : BatchEntry → List Event
-behind_kind (Text t vs) = Holds field.Query (note.Text t) ∷ bound_values vs
-behind_kind (Id i vs) = Holds field.StatementId (note.Bytes (Some i)) ∷ bound_values vs
-
-abbrev is_text : BatchEntry → Bool
-is_text (Text t vs) = true
-is_text (Id i vs) = false
-
-abbrev is_id : BatchEntry → Bool
-is_id (Text t vs) = false
-is_id (Id i vs) = true
-
-KindThen : ℕ → (BatchEntry → Type 0) → Type 0
-KindThen n Q = Begins (λ n. Holds field.EntryKind (note.Byte n) ∷ []) (λ e. told (body.entry_parts e)) behind_kind any (λ e. true ≡ true) Q kind_of n
-
-whole : (e : BatchEntry) → told (body.entry_parts e) ≡ Holds field.EntryKind (note.Byte (kind_of e)) ∷ behind_kind e
-unfolding kind_of bound_values behind_kind
-whole (Text t vs) = refl
-whole (Id i vs) = refl
-
-kind_then : (n : ℕ) (Q : BatchEntry → Type 0) → ((e : BatchEntry) → kind_of e ≡ n → Q e) → ((e : BatchEntry) → Q e → kind_of e ≡ n) → KindThen n Q
-unfolding KindThen
-kind_then n Q into back = record { whole = λ e q. whole e; may = λ e q. refl; into = λ e q d. into e d; back = λ e q. (refl, back e q) }
-
-pub text_entry : (n : ℕ) → n ≡ 0 → {t : Octets} {vs : List BoundValue} {a b c d : Held}
-    → Builds (λ n. Holds field.EntryKind (note.Byte n) ∷ []) any n a b
-    → Builds (λ t. Holds field.Query (note.Text t) ∷ []) any t b c
-    → Builds (λ vs. told (body.counted field.Values (λ v. body.bound v ∷ []) vs)) any vs c d
-    → Builds (λ e. told (body.entry_parts e)) (λ e. true ≡ true) (Text t vs) a d
-unfolding KindThen kind_of bound_values behind_kind
-text_entry n z one two three =
-    choice_builds (kind_then n (λ e. is_text e ≡ true) into back) one
-    (as_builds behind_kind (λ e. is_text e ≡ true) (λ (p : Octets × List BoundValue). Text p.0 p.1) (λ p q. refl) (λ p q. refl) view (two then three))
-  where
-    into : (e : BatchEntry) → kind_of e ≡ n → is_text e ≡ true
-    into (Text t vs) d = refl
-    into (Id i vs) d = absurd (omega (arith, d, z))
-    back : (e : BatchEntry) → is_text e ≡ true → kind_of e ≡ n
-    back (Text t vs) q = sym z
-    back (Id i vs) q = absurd cc
-    view : (e : BatchEntry) → is_text e ≡ true → (p : Octets × List BoundValue) × ((true ≡ true) × (true ≡ true)) × (e ≡ Text p.0 p.1)
-    view (Text t vs) q = ((t, vs), (refl, refl), refl)
-    view (Id i vs) q = absurd cc
-
-pub id_entry : (n : ℕ) → n ≡ 1 → {i : Octets} {vs : List BoundValue} {a b c d : Held}
-    → Builds (λ n. Holds field.EntryKind (note.Byte n) ∷ []) any n a b
-    → Builds (λ i. Holds field.StatementId (note.Bytes (Some i)) ∷ []) any i b c
-    → Builds (λ vs. told (body.counted field.Values (λ v. body.bound v ∷ []) vs)) any vs c d
-    → Builds (λ e. told (body.entry_parts e)) (λ e. true ≡ true) (Id i vs) a d
-unfolding KindThen kind_of bound_values behind_kind
-id_entry n z one two three =
-    choice_builds (kind_then n (λ e. is_id e ≡ true) into back) one
-    (as_builds behind_kind (λ e. is_id e ≡ true) (λ (p : Octets × List BoundValue). Id p.0 p.1) (λ p q. refl) (λ p q. refl) view (two then three))
-  where
-    into : (e : BatchEntry) → kind_of e ≡ n → is_id e ≡ true
-    into (Id i vs) d = refl
-    into (Text t vs) d = absurd (omega (arith, d, z))
-    back : (e : BatchEntry) → is_id e ≡ true → kind_of e ≡ n
-    back (Id i vs) q = sym z
-    back (Text t vs) q = absurd cc
-    view : (e : BatchEntry) → is_id e ≡ true → (p : Octets × List BoundValue) × ((true ≡ true) × (true ≡ true)) × (e ≡ Id p.0 p.1)
-    view (Id i vs) q = ((i, vs), (refl, refl), refl)
-    view (Text t vs) q = absurd cc
-
-pub no_entry : (n : ℕ) → (n ≡ 0 → ⊥) → (n ≡ 1 → ⊥) → (z : BatchEntry) {a b c : Held}
-    → Builds (λ n. Holds field.EntryKind (note.Byte n) ∷ []) any n a b → c ≡ record b { fault = first_fault b.fault fault.NoFrame }
-    → Builds (λ e. told (body.entry_parts e)) (λ e. true ≡ true) z a c
-unfolding KindThen kind_of behind_kind
-no_entry n no one z {a} {b} {c} first e =
-    choice_builds (kind_then n (λ e. ⊥) never (λ e q. absurd q)) first (refused_builds behind_kind (λ e. ⊥) z b c (λ e q. q) e)
-  where
-    never : (e : BatchEntry) → kind_of e ≡ n → ⊥
-    never (Text t vs) d = no (sym d)
-    never (Id i vs) d = one (sym d)

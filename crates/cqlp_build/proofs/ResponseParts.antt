@@ -1,11 +1,9 @@
 -- Parts of responses, as the values that are made of their fields.
-use Rattle.std.proofs.Common.{◌≡◌, ℕ, ℤ, ◌++◌, ◌&&◌, ◌||◌, List, [], ◌∷◌, Bool, true, false, Option, Some, None, refl, sym, ap, ◌∙◌, subst, arith}
-use Rattle.std.specs.Prelude.{codes, not, is_some}
+use Rattle.std.proofs.Common.{◌≡◌, ℕ, ℤ, ◌++◌, ◌&&◌, ◌||◌, List, [], ◌∷◌, Bool, true, false, Option, Some, None, refl, sym, ap, ◌∙◌, subst, arith, ◌⊎◌, inl, inr}
 use Rattle.std.specs.List.{list_all}
-use Rattle.std.specs.Str.{bytes_eq}
 use Rattle.cqlp_note.specs.declared.prim.Address.{Address}
 use Rattle.cqlp_grammar.specs.Codes as error
-use Rattle.cqlp_grammar.specs.Events.{Event}
+use Rattle.cqlp_grammar.specs.Events.{Event, Holds}
 use Rattle.cqlp_message.specs.Agreement.{change_agrees, event_agrees, extra_agrees, options_agree}
 use Rattle.cqlp_message.specs.FrameValues.{Octets, ErrorExtra, Plain, Unavailable, WriteTimeout, ReadTimeout, ReadFailure, FunctionFailure, WriteFailure, AlreadyExists, Unprepared, SchemaOptions, Keyspace, Named, Callable, UnknownTarget, SchemaChange, ServerEvent, Node, Schema, UnknownEvent}
 use Rattle.cqlp_message.specs.Bodies as body
@@ -13,7 +11,6 @@ use Rattle.cqlp_build.specs.declared.held.Held.{Held}
 use Rattle.cqlp_build.specs.Held.{Builds, any}
 use Rattle.cqlp_build.specs.Productions.{is_callable, is_named, is_node}
 use Rattle.cqlp_build.specs.Told.{told}
-use Rattle.cqlp_build.proofs.Choices.{nothing_builds}
 use Rattle.cqlp_build.proofs.Optional.{all_true}
 use Rattle.cqlp_build.proofs.Steps.{as_builds}
 
@@ -61,11 +58,10 @@ pub callable_view : (o : SchemaOptions) → is_callable o ≡ true → (a : (Oct
 callable_view (Callable k n ts) e = (((k, n), ts), ((refl, refl), all_true ts), refl)
 callable_view o e = absurd cc
 
-pub change_from : Octets × (Octets × SchemaOptions) → SchemaChange
+abbrev pub change_from : Octets × (Octets × SchemaOptions) → SchemaChange
 change_from p = record { change = p.0; target = p.1.0; options = p.1.1 }
 
 pub change_view : (c : SchemaChange) → change_agrees c ≡ true → (a : Octets × (Octets × SchemaOptions)) × ((true ≡ true) × ((true ≡ true) × (options_agree a.1.0 a.1.1 ≡ true))) × (c ≡ change_from a)
-unfolding change_from
 change_view c e = ((c.change, (c.target, c.options)), (refl, (refl, e)), refl)
 
 -- ---- events
@@ -73,3 +69,7 @@ change_view c e = ((c.change, (c.target, c.options)), (refl, (refl, e)), refl)
 pub node_view : (e : ServerEvent) → is_node e ≡ true → (a : Octets × (Address × ℤ)) × ((true ≡ true) × (true ≡ true)) × (e ≡ Node a.0 a.1.0 a.1.1)
 node_view (Node change address port) e = ((change, (address, port)), (refl, refl), refl)
 node_view d e = absurd cc
+
+-- a value of which the same is asked in other words
+pub asked : {B : Type 0} {g : B → List Event} {P Q : B → Type 0} {b : B} {old new : Held} → ((x : B) → P x → Q x) → ((x : B) → Q x → P x) → Builds g P b old new → Builds g Q b old new
+asked {B} {g} {P} {Q} to fro one = as_builds g Q (λ x. x) (λ x p. refl) to (λ x q. (x, fro x q, refl)) one

@@ -1,13 +1,13 @@
 -- Values that are built one after the other, and of others.
-use Rattle.std.proofs.Common.{◌≡◌, ℕ, map, ◌++◌, ◌⊎◌, List, [], ◌∷◌, Option, Some, None, refl, sym, ap, ◌∙◌, subst, append_assoc, inl, inr}
+use Rattle.std.proofs.Common.{◌≡◌, ℕ, map, ◌++◌, ◌⊎◌, List, [], ◌∷◌, Bool, Option, Some, None, refl, sym, ap, ◌∙◌, subst, append_assoc, inl, inr}
 use Rattle.cqlp_build.specs.declared.held.Fault.{Fault}
 use Rattle.cqlp_build.specs.declared.held.Fault.TheVariants as fault
 use Rattle.cqlp_build.specs.declared.held.Held.{Held}
-use Rattle.cqlp_grammar.specs.Events.{Event, Holds}
-use Rattle.cqlp_note.specs.declared.field.Field.{Field}
-use Rattle.cqlp_note.specs.Field.{FieldValue}
-use Rattle.cqlp_build.specs.declared.item.Item.{Item}
-use Rattle.cqlp_build.specs.Held.{Builds, IsSound, IsRefused, Pops, any, left, told_by}
+use Rattle.std.proofs.lemmas.Grind.{flat_map-append}
+use Rattle.cqlp_grammar.specs.Events.{Event}
+use Rattle.cqlp_message.specs.Parts.{Part}
+use Rattle.cqlp_build.specs.Told.{part_told, told}
+use Rattle.cqlp_build.specs.Held.{Builds, IsSound, IsRefused, left}
 
 module _ {A : Type 0} {h : A → List Event} {P : A → Type 0} where
   -- where memory was refused nothing is said
@@ -21,21 +21,6 @@ module _ {A : Type 0} {h : A → List Event} {P : A → Type 0} where
   -- after a fault no value counts
   pub other_value : {a : A} (b : A) (f : Fault) {old new : Held} → new.fault ≡ Some f → Builds h P a old new → Builds h P b old new
   other_value b f e x = record { made = λ s. absurd cc; only = λ s. absurd cc; none = x.none }
-
--- the next event is this field
-pub taken : {A : Type 0} (make : A → FieldValue) → ((x y : A) → make x ≡ make y → x ≡ y) → (f g : Field) (a : A) (i : Item) (old new : Held) → Pops old (Some i) new → told_by i ≡ Holds g (make a) → g ≡ f
-    → Builds (λ x. Holds f (make x) ∷ []) any a old new
-taken {A} make one f g a i old new p t e =
-    let here : told_by i ≡ Holds f (make a) = t ∙ ap (λ k. Holds k (make a)) e in
-    let all : left old ≡ Holds f (make a) ∷ left new = ap (map told_by) p.1 ∙ ap (λ k. k ∷ left new) here in
-    record {
-      made = λ s. (p.0, all, refl);
-      only = λ s b rest q r. taken_only b rest (sym all ∙ r);
-      none = λ s. absurd cc;
-    }
-  where
-    taken_only : (b : A) (rest : List Event) → Holds f (make a) ∷ left new ≡ Holds f (make b) ∷ rest → (b ≡ a) × (rest ≡ left new)
-    taken_only b rest e = let m : make b ≡ make a = cc in (one b a m, cc)
 
 -- no value of which P holds
 abbrev pub AreNone : {A : Type 0} → (h : A → List Event) → (P : A → Type 0) → Held → Type 0
@@ -112,3 +97,21 @@ module _ {A B : Type 0} {h : A → List Event} {P : A → Type 0} (g : B → Lis
 pub made_of : {A B : Type 0} {h : A → List Event} {P : A → Type 0} {a : A} {old new : Held} → Builds h P a old new → (g : B → List Event) (Q : B → Type 0) (f : A → B)
     → ((a : A) → P a → g (f a) ≡ h a) → ((a : A) → P a → Q (f a)) → Views h g P Q f → Builds g Q (f a) old new
 made_of one g Q f same on view = as_builds g Q f same on view one
+
+-- the same, of a test in other words
+pub with_flag : {B : Type 0} {g : B → List Event} (Q : Bool → B → Type 0) {x y : Bool} → x ≡ y → {b : B} {old new : Held} → Builds g (Q x) b old new → Builds g (Q y) b old new
+with_flag {B} {g} Q e {b} {old} {new} one = subst (λ (t : Bool). Builds g (Q t) b old new) e one
+
+-- ---- what is told of parts one after the other
+
+pub told_append : (ps qs : List Part) → told (ps ++ qs) ≡ told ps ++ told qs
+told_append ps qs = flat_map-append part_told ps qs
+
+pub told_three : (a b c : List Part) → told (a ++ b ++ c) ≡ told a ++ told b ++ told c
+told_three a b c = told_append (a ++ b) c ∙ ap (λ es. es ++ told c) (told_append a b)
+
+pub told_four : (a b c d : List Part) → told (a ++ b ++ c ++ d) ≡ told a ++ told b ++ told c ++ told d
+told_four a b c d = told_append (a ++ b ++ c) d ∙ ap (λ es. es ++ told d) (told_three a b c)
+
+pub told_five : (a b c d e : List Part) → told (a ++ b ++ c ++ d ++ e) ≡ told a ++ told b ++ told c ++ told d ++ told e
+told_five a b c d e = told_append (a ++ b ++ c ++ d) e ∙ ap (λ es. es ++ told e) (told_four a b c d)

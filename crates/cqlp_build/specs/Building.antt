@@ -1,6 +1,6 @@
 -- What becomes of the events of frames, one after the other.
 use Rattle.std.specs.Prelude.{◌≡◌, ⊤, ℕ, ◌+◌, ◌-◌, ◌<◌, ◌≤◌, ◌++◌, Bool, true, false, List, [], ◌∷◌, length, map, Option, Some, None, Result, Ok, Err}
-use Rattle.std.specs.Prelude.{ℤ, ◌||◌, ◌==◌}
+use Rattle.std.specs.Prelude.{ℤ, ◌||◌, ◌==◌, ◌⊎◌}
 use Rattle.cqlp_note.specs.declared.header.Header.{Header}
 use Rattle.cqlp_note.specs.declared.field.Field.{Field}
 use Rattle.cqlp_note.specs.declared.field.Field.TheVariants as field
@@ -19,7 +19,7 @@ use Rattle.cqlp_build.specs.declared.builder.FrameBuilder.{FrameBuilder}
 use Rattle.cqlp_build.specs.declared.error.BuildError.{BuildError}
 use Rattle.cqlp_build.specs.declared.error.BuildError.TheVariants as error
 use Rattle.cqlp_build.specs.declared.held.Held.{Held}
-use Rattle.cqlp_build.specs.Held.{left}
+use Rattle.cqlp_build.specs.Held.{IsRefused, IsSound, left}
 
 -- ---- the events of a frame
 
@@ -163,6 +163,13 @@ Finishes h x es (Err e) = ⊥
 -- Some bytes spell the frame, and with x bytes after its last field this is its header.
 abbrev pub IsOfHeader : FrameValue → Header → (x : ℕ) → Type 0
 IsOfHeader f h x = (unfit_of f ≡ None) × (header_of f (parts_size (frame_parts f) + x) ≡ h)
+
+-- What is told of a frame whose parts were taken: nothing where nothing was refused, nothing is left, and it is of the header with x bytes more.
+abbrev pub Tells : Header → (x : ℕ) → FrameValue → Held → Option BuildError → Type 0
+Tells h x f after None = IsSound after × (left after ≡ []) × IsOfHeader f h x
+Tells h x f after (Some error.NoFrame) = IsRefused after ⊎ (IsSound after × (((left after ≡ []) → ⊥) ⊎ (IsOfHeader f h x → ⊥)))
+Tells h x f after (Some error.NoMemory) = Unit {0}
+Tells h x f after (Some e) = ⊥
 
 -- A frame whose header is this one but for its length, and whose parts are those that are announced.
 pub record BeginsWith (h : Header) (f : FrameValue) : Type 0 where

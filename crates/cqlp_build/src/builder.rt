@@ -4,7 +4,7 @@ ghost use Rattle.std.specs.Prelude.{◌≡◌, ◌↔◌, IsTrue, [], true};
 ghost use Rattle.cqlp_grammar.specs.Events as told;
 ghost use Rattle.cqlp_grammar.specs.Events.{event_of};
 ghost use Rattle.cqlp_build.specs.Building as told_of;
-ghost use Rattle.cqlp_build.specs.Building.{Finishes, IsOfHeader, TakesEvent, empty, is_inner, state};
+ghost use Rattle.cqlp_build.specs.Building.{Finishes, IsOfHeader, TakesEvent, Tells, empty, is_inner, state};
 ghost use Rattle.cqlp_build.specs.Held.{left};
 ghost use Rattle.cqlp_message.specs.Owned.{frame_of};
 
@@ -222,15 +222,28 @@ impl Held {
     {
         self.fault = None;
         let frame = self.frame(header);
+        match self.verdict(&frame, header, extra) {
+            None => Ok(BuiltFrame { frame, extra }),
+            Some(why) => Err(why),
+        }
+    }
+
+    /// Why a frame is not the one whose events were held, if it is not: after all of its parts were taken.
+    fn verdict(&self, frame: &Frame, header: &Header, extra: u32) -> Option<BuildError>
+        ensures { Tells header.now extra (frame_of frame.now) self.now result }
+    {
         match self.fault {
-            Some(Fault::NoMemory) => return Err(BuildError::NoMemory),
-            Some(Fault::NoFrame) => return Err(BuildError::NoFrame),
+            Some(Fault::NoMemory) => return Some(BuildError::NoMemory),
+            Some(Fault::NoFrame) => return Some(BuildError::NoFrame),
             None => {}
         }
-        if !self.items.is_empty() || !is_of(&frame, header, extra) {
-            return Err(BuildError::NoFrame);
+        if !self.items.is_empty() {
+            return Some(BuildError::NoFrame);
         }
-        Ok(BuiltFrame { frame, extra })
+        if !is_of(frame, header, extra) {
+            return Some(BuildError::NoFrame);
+        }
+        None
     }
 }
 
@@ -238,11 +251,11 @@ impl Held {
 fn is_of(frame: &Frame, header: &Header, extra: u32) -> bool
     ensures { IsTrue result ↔ IsOfHeader (frame_of frame.now) header.now extra }
 {
-    match frame.measure() {
-        Ok(len) => {
-            frame.header(header.length) == *header
-                && u64::from(len) + u64::from(extra) == u64::from(header.length) + 9
-        }
-        Err(_) => false,
+    let Ok(len) = frame.measure() else {
+        return false;
+    };
+    if frame.header(header.length) != *header {
+        return false;
     }
+    u64::from(len) + u64::from(extra) == u64::from(header.length) + 9
 }

@@ -14,9 +14,8 @@ ghost use Rattle.cqlp_build.specs.Building.{BeginsWith};
 ghost use Rattle.cqlp_build.specs.Held.{Builds};
 ghost use Rattle.cqlp_build.specs.Told.{payload_parts, told};
 
-use crate::held::Held;
+use crate::held::{Held, has_flag};
 use crate::lists::Wanted;
-use cqlp_grammar::has;
 use cqlp_message::Frame;
 use cqlp_note::{Field, Header};
 
@@ -25,11 +24,10 @@ impl Held {
     pub fn frame(&mut self, header: &Header) -> Frame
         ensures { Builds (λ f. told (frame_parts f)) (BeginsWith header.now) (frame_of result) self.old self.new }
     {
-        let flags = u32::from(header.flags);
-        self.check(!has(flags, 0x01));
+        self.check(!has_flag(header.flags, 0x01));
         let tracing = self.tracing_if(announces(header, 0x02));
         let warnings = self.warnings_if(announces(header, 0x08));
-        let payload = self.payload_if(has(flags, 0x04));
+        let payload = self.payload_if(has_flag(header.flags, 0x04));
         let message = self.message(header.opcode);
         Frame {
             flags: header.flags,
@@ -82,8 +80,8 @@ impl Held {
 }
 
 /// Whether it is a response's, and has some of these flags.
-fn announces(header: &Header, bits: u32) -> bool
+fn announces(header: &Header, bits: u8) -> bool
     ensures { result ≡ (answers header.now.opcode && has_bit header.now.flags bits) }
 {
-    header.opcode.is_response() && has(u32::from(header.flags), bits)
+    header.opcode.is_response() && has_flag(header.flags, bits)
 }

@@ -2,6 +2,7 @@
 
 ghost use Rattle.std.specs.Prelude.{◌≡◌, List, [], ◌∷◌, None, Some, map, option_map, string_bytes, true};
 ghost use Rattle.cqlp_note.specs.Field as note;
+ghost use Rattle.cqlp_note.specs.Heading.{has};
 ghost use Rattle.cqlp_grammar.specs.Events.{Holds};
 ghost use Rattle.cqlp_message.specs.Owned.{bound_of, bytes_of};
 ghost use Rattle.cqlp_build.specs.Held.{Builds, TakesField, TakesValue, any, first_fault};
@@ -12,6 +13,13 @@ use cqlp_message::OwnedBound;
 use cqlp_note::{Address, Field};
 use std::alloc::Global;
 use std::collections::VecDeque;
+
+/// Whether some of these bits is set.
+pub(crate) fn has_flag(flags: u8, bits: u8) -> bool
+    ensures { result ≡ has flags bits }
+{
+    flags & bits > 0
+}
 
 /// Why nothing more is taken.
 #[derive(Clone, Copy, Debug, PartialEq, Eq)]

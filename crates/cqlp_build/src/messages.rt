@@ -3,9 +3,9 @@
 ghost use Rattle.cqlp_message.specs.Owned.{message_of};
 ghost use Rattle.cqlp_build.specs.Productions.{BuildsMessage};
 
-use crate::held::{Fault, Held};
+use crate::held::{Fault, Held, has_flag};
 use crate::lists::Wanted;
-use cqlp_grammar::{has, result_kind};
+use cqlp_grammar::result_kind;
 use cqlp_message::Message;
 use cqlp_note::{Field, Opcode};
 
@@ -74,10 +74,9 @@ impl Held {
         let entries = self.counted(Field::Entries, Wanted::PLAIN);
         let consistency = self.short(Field::Consistency);
         let flags = self.byte(Field::BatchFlags);
-        let bits = u32::from(flags);
-        self.check(!has(bits, 0x4F));
-        let serial = self.serial_if(has(bits, 0x10));
-        let timestamp = self.timestamp_if(has(bits, 0x20));
+        self.check(!has_flag(flags, 0x4F));
+        let serial = self.serial_if(has_flag(flags, 0x10));
+        let timestamp = self.timestamp_if(has_flag(flags, 0x20));
         Message::Batch {
             kind,
             entries,

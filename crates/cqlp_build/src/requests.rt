@@ -9,9 +9,8 @@ ghost use Rattle.cqlp_message.specs.Owned.{bound_of, bytes_of, params_of};
 ghost use Rattle.cqlp_build.specs.Held.{Builds, any};
 ghost use Rattle.cqlp_build.specs.Told.{told};
 
-use crate::held::Held;
+use crate::held::{Held, has_flag};
 use crate::lists::Wanted;
-use cqlp_grammar::has;
 use cqlp_message::{OwnedBound, QueryParams};
 use cqlp_note::Field;
 
@@ -97,12 +96,11 @@ impl Held {
     {
         let consistency = self.short(Field::Consistency);
         let flags = self.byte(Field::QueryFlags);
-        let bits = u32::from(flags);
-        let values = self.values_if(has(bits, 0x01), has(bits, 0x40));
-        let page_size = self.page_size_if(has(bits, 0x04));
-        let paging = self.paging_if(has(bits, 0x08));
-        let serial = self.serial_if(has(bits, 0x10));
-        let timestamp = self.timestamp_if(has(bits, 0x20));
+        let values = self.values_if(has_flag(flags, 0x01), has_flag(flags, 0x40));
+        let page_size = self.page_size_if(has_flag(flags, 0x04));
+        let paging = self.paging_if(has_flag(flags, 0x08));
+        let serial = self.serial_if(has_flag(flags, 0x10));
+        let timestamp = self.timestamp_if(has_flag(flags, 0x20));
         QueryParams {
             consistency,
             flags,

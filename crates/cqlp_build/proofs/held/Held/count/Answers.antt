@@ -1,4 +1,0 @@
-use Rattle.cqlp_build.proofs.held.Held.count.Goals as goal
-
-pub returns : goal.returns
-returns c = c.take.ensures

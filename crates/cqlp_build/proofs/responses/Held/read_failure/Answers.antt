@@ -1,8 +1,0 @@
-use Rattle.std.proofs.Common.{refl}
-use Rattle.cqlp_build.proofs.Steps.{made_of, ◌then◌}
-use Rattle.cqlp_build.proofs.ResponseParts.{read_failure_view}
-use Rattle.cqlp_message.specs.FrameValues.{ReadFailure}
-use Rattle.cqlp_build.proofs.responses.Held.read_failure.Goals as goal
-
-pub returns : goal.returns
-returns c = made_of (c.short-consistency.ensures then c.int-received.ensures then c.int-block_for.ensures then c.int-failures.ensures then c.byte-data_present.ensures) _ _ (λ a. ReadFailure a.0.0.0.0 a.0.0.0.1 a.0.0.1 a.0.1 a.1) (λ a p. refl) (λ a p. refl) read_failure_view

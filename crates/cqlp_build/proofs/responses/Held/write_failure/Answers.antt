@@ -1,8 +1,0 @@
-use Rattle.std.proofs.Common.{refl}
-use Rattle.cqlp_build.proofs.Steps.{made_of, ◌then◌}
-use Rattle.cqlp_build.proofs.ResponseParts.{write_failure_view}
-use Rattle.cqlp_message.specs.FrameValues.{WriteFailure}
-use Rattle.cqlp_build.proofs.responses.Held.write_failure.Goals as goal
-
-pub returns : goal.returns
-returns c = made_of (c.short-consistency.ensures then c.int-received.ensures then c.int-block_for.ensures then c.int-failures.ensures then c.text-write_type.ensures) _ _ (λ a. WriteFailure a.0.0.0.0 a.0.0.0.1 a.0.0.1 a.0.1 a.1) (λ a p. refl) (λ a p. refl) write_failure_view
