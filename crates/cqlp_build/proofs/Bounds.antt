@@ -74,7 +74,8 @@ inner_bounds (e ∷ es) p s d ds rest (x ∷ before) after (r ∷ rs) w new z b 
     let t = inner_step s x r a.0 (subst (λ (k : Event). is_inner k ≡ true) (sym same) p.0.inner) a.1 o.0 in
     let events : a.0.events ≡ d ∷ (ds ++ e ∷ []) = ap (λ (m : BuilderState). m.events) t.1 ∙ (ap (λ k. k ++ x ∷ []) z ∙ ap (λ k. d ∷ (ds ++ k ∷ [])) same) in
     let limits : a.0.limits ≡ s.limits = ap (λ (m : BuilderState). m.limits) t.1 in
-    elim (inner_bounds es p.1 a.0 d (ds ++ e ∷ []) rest before after rs w new events cc a.2 o.1) [
+    let more : before ++ after ≡ es ++ rest = cc in
+    elim (inner_bounds es p.1 a.0 d (ds ++ e ∷ []) rest before after rs w new events more a.2 o.1) [
       inl k ↦ inl k
     | inr k ↦ inr (k.0,
         k.1 ∙ (ap (λ m. m ++ es) events ∙ (append_assoc (d ∷ ds) (e ∷ []) es ∙ ap (λ m. m ++ e ∷ es) (sym z))),

@@ -12,7 +12,11 @@ use Rattle.cqlp_message.specs.declared.frame.Frame as owned
 use Rattle.cqlp_message.proofs.FramesWritten.{is_fit}
 use Rattle.cqlp_build.specs.declared.held.Fault.TheVariants as fault
 use Rattle.cqlp_build.specs.declared.held.Held.{Held}
-use Rattle.cqlp_build.specs.Building.{AreEventsOf, AreOfNone, BeginsWith, CanBeBuilt, Finishes, IsBuiltOf, IsOfHeader, Tells}
+use Rattle.std.specs.Prelude.{IsTrue, false, nat_eq}
+use Rattle.std.proofs.Common.{◌<◌, ◌≤◌, ◌↔◌}
+use Rattle.std.proofs.lemmas.Bool.{cases_lt}
+use Rattle.std.proofs.lemmas.Bool.Decides.{Decides-eqb}
+use Rattle.cqlp_build.specs.Building.{BuilderState, TakesEvent, empty, is_due, AreEventsOf, AreOfNone, BeginsWith, CanBeBuilt, Finishes, IsBuiltOf, IsOfHeader, Tells}
 use Rattle.cqlp_build.specs.declared.error.BuildError.{BuildError}
 use Rattle.cqlp_build.specs.declared.error.BuildError.TheVariants as error
 use Rattle.cqlp_build.specs.Held.{Builds, IsRefused, IsSound, left}
@@ -154,3 +158,20 @@ pub header_is : (f : FrameValue) (h : Header) (x : ℕ) → IsOfHeader f h x →
 header_is f h x i =
     let size : parts_size (frame_parts f) + x ≡ h.length = ap (λ (k : Header). k.length) i.1 in
     subst (λ (k : ℕ). header_of f k ≡ h) size i.1
+
+-- ---- what is told of the end
+
+pub decided : (f : FrameValue) (h : Header) (x len a b : ℕ) → a ≡ len + x → b ≡ h.length + 9 → measure_of f ≡ Ok len → header_of f h.length ≡ h → (IsTrue (nat_eq a b) ↔ IsOfHeader f h x)
+decided f h x len a b ea eb m hd =
+    (λ t. is_of_header f h x len m hd (sym ea ∙ (Decides-eqb a b).0 t ∙ eb), λ i. (Decides-eqb a b).1 (ea ∙ length_of_header f h x len m i ∙ sym eb))
+
+pub end_refused : (s new : BuilderState) (h : Header) (es : List Event) (x : ℕ) (why : BuildError) → s.events ≡ Frame h ∷ es → Finishes h x es (Err why) → new ≡ empty s.limits → TakesEvent s (End x) (Err why) new
+end_refused s new h es x error.NoFrame n t e = (ap (λ k. is_due k (End x)) n, refl, (refl, subst (λ (k : List Event). AreOfNone (k ++ End x ∷ [])) (sym n) t, e))
+end_refused s new h es x error.NoMemory n t e = (ap (λ k. is_due k (End x)) n, refl, (tt, e))
+end_refused s new h es x error.Misplaced n t e = absurd t
+end_refused s new h es x error.Unbuilt n t e = absurd t
+end_refused s new h es x error.TooManyFields n t e = absurd t
+end_refused s new h es x error.TooManyBytes n t e = absurd t
+
+pub at_most : (r : Bool) (a b : ℕ) → (IsTrue r ↔ (a < b)) → r ≡ false → b ≤ a
+at_most r a b d f = elim (cases_lt a b) [ inl l ↦ (let t : true ≡ false = sym (d.1 l) ∙ f in absurd cc) | inr l ↦ l ]

@@ -16,8 +16,10 @@ use Rattle.cqlp_message.specs.Parts.{Part, Field_is, Type_is, Cell_is, part_size
 use Rattle.cqlp_message.specs.Bodies as body
 use Rattle.cqlp_message.specs.Frames.{Flat, announced_parts, frame_parts, frame_size, header_of}
 use Rattle.cqlp_note.specs.declared.field.Notation.{Notation}
+use Rattle.cqlp_note.specs.declared.field.Notation.TheVariants as notation
+use Rattle.cqlp_note.specs.Field as note
 use Rattle.cqlp_note.specs.Field.{FieldValue, Int}
-use Rattle.std.specs.Prelude.{not, ◌||◌, ◌==◌}
+use Rattle.std.specs.Prelude.{ℤ, not, ◌||◌, ◌==◌}
 use Rattle.std.proofs.lemmas.Bool.Decides.{nat_tests}
 use Rattle.cqlp_grammar.specs.Codes as code
 use Rattle.cqlp_message.specs.Agreement.{bits, is_no_result, message_agrees}
@@ -126,9 +128,11 @@ no_message (Startup os) a b = no_items (λ o. body.text field.OptionKey o.0 ∷ 
 no_message (Query t q) a b = no_params q
 no_message (Execute i q) a b = no_params q
 no_message (Batch k es c f s t) a b =
-    no_more _ (body.timestamp_parts t)
-    (no_more _ (body.serial_parts s)
-    (no_more _ (body.short field.Consistency c ∷ body.byte field.BatchFlags f ∷ []) (no_items body.entry_parts no_entry es) refl)
+    let entries = body.byte field.BatchType k ∷ [] ++ body.counted field.Entries body.entry_parts es in
+    let middle = body.short field.Consistency c ∷ body.byte field.BatchFlags f ∷ [] in
+    no_more (entries ++ middle ++ body.serial_parts s) (body.timestamp_parts t)
+    (no_more (entries ++ middle) (body.serial_parts s)
+    (no_more entries middle (no_items body.entry_parts no_entry es) refl)
     (no_some (λ n. body.short field.SerialConsistency n ∷ []) (λ n. refl) s))
     (no_some (λ z. body.long field.Timestamp z ∷ []) (λ z. refl) t)
 no_message (Register ts) a b = no_texts field.EventTypes field.EventType ts
@@ -144,9 +148,14 @@ no_message m a b = refl
 
 no_announced : (f : FrameValue) → ArePlain (announced_parts f)
 no_announced f =
-    no_more _ _
-    (no_more _ _ (no_some _ (λ id. refl) f.tracing) (no_some _ (λ ts. no_texts field.Warnings field.Warning ts) f.warnings))
-    (no_some (body.counted field.PayloadItems (λ i. body.text field.PayloadKey i.0 ∷ body.bytes field.PayloadValue i.1 ∷ [])) (λ is. no_items _ (λ i. refl) is) f.payload)
+    let id_part : List ℕ → List Part = λ id. Field_is field.TraceId notation.Uuid (note.Uuid id) ∷ [] in
+    let item : Octets × Option Octets → List Part = λ i. body.text field.PayloadKey i.0 ∷ body.bytes field.PayloadValue i.1 ∷ [] in
+    let tracing = body.where_some id_part f.tracing in
+    let warnings = body.where_some (body.texts field.Warnings field.Warning) f.warnings in
+    let payload = body.where_some (body.counted field.PayloadItems item) f.payload in
+    no_more (tracing ++ warnings) payload
+    (no_more tracing warnings (no_some id_part (λ id. refl) f.tracing) (no_some (body.texts field.Warnings field.Warning) (λ ts. no_texts field.Warnings field.Warning ts) f.warnings))
+    (no_some (body.counted field.PayloadItems item) (λ is. no_items item (λ i. refl) is) f.payload)
 
 plain_frame : (f : FrameValue) → message_agrees f.message ≡ true → is_built f.message ≡ true → ArePlain (frame_parts f)
 plain_frame f a b = no_more (announced_parts f) (body.message_parts f.message) (no_announced f) (no_message f.message a b)

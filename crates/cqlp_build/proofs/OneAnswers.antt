@@ -57,11 +57,11 @@ classed s e (Err error.TooManyBytes) new t n = rw (t.0, t.1, no_end e t.2.0, t.2
 classed s e (Ok None) new t n = taken_class s e new t
 classed s e (Err error.NoMemory) new t n = absurd (n refl)
 
-Same : BuilderState → Answer → Answer → BuilderState → BuilderState → Type 0
+abbrev Same : BuilderState → Answer → Answer → BuilderState → BuilderState → Type 0
 Same s a b na nb = AreSame a b × (na ≡ nb)
 
 same_of : (s : BuilderState) (e : Event) (a b : Answer) (na nb : BuilderState) → TakesEvent s e a na → TakesEvent s e b nb → class a ≡ class b → Same s a b na nb
-unfolding class Same
+unfolding class
 same_of s e (Err error.Misplaced) (Err error.Misplaced) na nb t u d = (refl, t.1 ∙ sym u.1)
 same_of s e (Err error.Unbuilt) (Err error.Unbuilt) na nb t u d = (refl, t.2 ∙ sym u.2)
 same_of s e (Ok (Some b)) (Ok (Some c)) na nb t u d =
@@ -74,7 +74,7 @@ same_of s e (Err error.TooManyFields) (Err error.TooManyFields) na nb t u d = (r
 same_of s e (Err error.TooManyBytes) (Err error.TooManyBytes) na nb t u d = (refl, t.2.3 ∙ sym u.2.3)
 same_of s e (Ok None) (Ok None) na nb t u d = (tt, t.2.1 ∙ sym u.2.1)
 same_of s e (Err error.NoMemory) (Err error.NoMemory) na nb t u d = (refl, t.2.1 ∙ sym u.2.1)
-same_of s e a b na nb t u d = absurd cc
+same_of s e a b na nb t u d = absurd (omega (arith, d))
 
 wants : (r : Answer) → WantsMemory r ⊎ (WantsMemory r → ⊥)
 wants (Err error.NoMemory) = inl refl

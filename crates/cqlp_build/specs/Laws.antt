@@ -1,5 +1,5 @@
 -- Laws of the builder.
-use Rattle.std.specs.Prelude.{◌≡◌, ⊤, ℕ, ◌++◌, ◌⊎◌, List, [], ◌∷◌, true, Bool, map, Option, Some, None, Result, Ok, Err, is_ok}
+use Rattle.std.specs.Prelude.{◌≡◌, ⊤, ℕ, ◌++◌, ◌⊎◌, List, [], ◌∷◌, true, false, Bool, map, Option, Some, None, Result, Ok, Err, is_ok}
 use Rattle.std.specs.List.{AllByRecursion, list_all}
 use Rattle.cqlp_note.specs.Limits.{Rules}
 use Rattle.cqlp_grammar.specs.Events.{Event}

@@ -1,6 +1,6 @@
 //! Frames, built of their events.
 
-ghost use Rattle.std.specs.Prelude.{◌≡◌, ◌↔◌, IsTrue, [], true};
+ghost use Rattle.std.specs.Prelude.{◌≡◌, ◌<◌, ◌≤◌, ◌↔◌, IsTrue, [], length, true};
 ghost use Rattle.cqlp_grammar.specs.Events as told;
 ghost use Rattle.cqlp_grammar.specs.Events.{event_of};
 ghost use Rattle.cqlp_build.specs.Building as told_of;
@@ -151,17 +151,17 @@ impl FrameBuilder {
         requires { is_inner (event_of event.now) ≡ true }
         ensures { TakesEvent (state self.old) (event_of event.now) result (state self.new) }
     {
-        if self.header.is_none() {
+        if self.is_between() {
             return Err(BuildError::Misplaced);
         }
         if is_unbuilt(event) {
             return Err(BuildError::Unbuilt);
         }
-        let size = content_size(event);
-        if self.held.items.len() >= self.limits.fields as usize {
+        if self.is_full() {
             return Err(BuildError::TooManyFields);
         }
-        if size > self.room as usize {
+        let size = content_size(event);
+        if self.lacks_room(size) {
             return Err(BuildError::TooManyBytes);
         }
         let Ok(item) = own(self.held.alloc, event) else {
@@ -172,6 +172,20 @@ impl FrameBuilder {
         }
         self.room -= size as u32;
         Ok(None)
+    }
+
+    /// Whether it holds as many fields as it may.
+    fn is_full(&self) -> bool
+        ensures { IsTrue result ↔ (self.now.limits.fields ≤ length self.now.held.items.items) }
+    {
+        self.held.items.len() >= self.limits.fields as usize
+    }
+
+    /// Whether this many bytes are more than may still come.
+    fn lacks_room(&self, size: usize) -> bool
+        ensures { IsTrue result ↔ (self.now.room < size) }
+    {
+        size > self.room as usize
     }
 }
 
