@@ -12,10 +12,10 @@ use Rattle.cqlp_message.specs.declared.frame.Frame as owned
 use Rattle.cqlp_message.proofs.FramesWritten.{is_fit}
 use Rattle.cqlp_build.specs.declared.held.Fault.TheVariants as fault
 use Rattle.cqlp_build.specs.declared.held.Held.{Held}
-use Rattle.std.specs.Prelude.{IsTrue, false, nat_eq}
-use Rattle.std.proofs.Common.{◌<◌, ◌≤◌, ◌↔◌}
-use Rattle.std.proofs.lemmas.Bool.{cases_lt}
-use Rattle.std.proofs.lemmas.Bool.Decides.{Decides-eqb}
+use Rattle.cqlp_note.specs.Heading.{answers, same}
+use Rattle.cqlp_message.specs.Agreement.{opcode_of}
+use Rattle.std.specs.Prelude.{IsTrue, false}
+use Rattle.std.proofs.Common.{◌↔◌}
 use Rattle.cqlp_build.specs.Building.{BuilderState, TakesEvent, empty, is_due, AreEventsOf, AreOfNone, BeginsWith, CanBeBuilt, Finishes, IsBuiltOf, IsOfHeader, Tells}
 use Rattle.cqlp_build.specs.declared.error.BuildError.{BuildError}
 use Rattle.cqlp_build.specs.declared.error.BuildError.TheVariants as error
@@ -119,7 +119,7 @@ module _ (h : Header) (x : ℕ) (f : FrameValue) (old new : Held) (b : Builds (�
   pub no_frame : IsSound old → Tells h x f new (Some error.NoFrame) → AreOfNone (Frame h ∷ left old ++ End x ∷ [])
   no_frame s (inl r) = none_refused s r
   no_frame s (inr (k, inl n)) = none_left k (λ e. n (sym e))
-  no_frame s (inr (k, inr n)) = none_of_header k n
+  no_frame s (inr (k, inr n)) = none_of_header k (n (b.made k).2)
 
   pub finishes_not : IsSound old → (why : BuildError) → Tells h x f new (Some why) → Finishes h x (left old) (Err why)
   finishes_not s error.NoFrame t = no_frame s t
@@ -161,9 +161,8 @@ header_is f h x i =
 
 -- ---- what is told of the end
 
-pub decided : (f : FrameValue) (h : Header) (x len a b : ℕ) → a ≡ len + x → b ≡ h.length + 9 → measure_of f ≡ Ok len → header_of f h.length ≡ h → (IsTrue (nat_eq a b) ↔ IsOfHeader f h x)
-decided f h x len a b ea eb m hd =
-    (λ t. is_of_header f h x len m hd (sym ea ∙ (Decides-eqb a b).0 t ∙ eb), λ i. (Decides-eqb a b).1 (ea ∙ length_of_header f h x len m i ∙ sym eb))
+pub decided : (f : FrameValue) (h : Header) (x len : ℕ) (r : Bool) → (IsTrue r ↔ (len + x ≡ h.length + 9)) → measure_of f ≡ Ok len → header_of f h.length ≡ h → (IsTrue r ↔ IsOfHeader f h x)
+decided f h x len r e m hd = (λ t. is_of_header f h x len m hd (e.0 t), λ i. e.1 (length_of_header f h x len m i))
 
 pub end_refused : (s new : BuilderState) (h : Header) (es : List Event) (x : ℕ) (why : BuildError) → s.events ≡ Frame h ∷ es → Finishes h x es (Err why) → new ≡ empty s.limits → TakesEvent s (End x) (Err why) new
 end_refused s new h es x error.NoFrame n t e = (ap (λ k. is_due k (End x)) n, refl, (refl, subst (λ (k : List Event). AreOfNone (k ++ End x ∷ [])) (sym n) t, e))
@@ -173,5 +172,27 @@ end_refused s new h es x error.Unbuilt n t e = absurd t
 end_refused s new h es x error.TooManyFields n t e = absurd t
 end_refused s new h es x error.TooManyBytes n t e = absurd t
 
-pub at_most : (r : Bool) (a b : ℕ) → (IsTrue r ↔ (a < b)) → r ≡ false → b ≤ a
-at_most r a b d f = elim (cases_lt a b) [ inl l ↦ (let t : true ≡ false = sym (d.1 l) ∙ f in absurd cc) | inr l ↦ l ]
+same_is : (a b : Bool) → same a b ≡ true → a ≡ b
+same_is true true e = refl
+same_is false false e = refl
+same_is true false e = absurd cc
+same_is false true e = absurd cc
+
+is_same : (a b : Bool) → a ≡ b → same a b ≡ true
+is_same true true e = refl
+is_same false false e = refl
+is_same true false e = absurd cc
+is_same false true e = absurd cc
+
+pub header_by : (f : FrameValue) (h : Header) → BeginsWith h f → same h.response (answers h.opcode) ≡ true → header_of f h.length ≡ h
+header_by f h b s =
+    let response : answers (opcode_of f.message) ≡ h.response = ap answers b.opcode ∙ sym (same_is h.response (answers h.opcode) s) in
+    λ i. record { response = response i; flags = b.flags i; stream = b.stream i; opcode = b.opcode i; length = h.length }
+
+pub directed_by : (f : FrameValue) (h : Header) (x : ℕ) → BeginsWith h f → IsOfHeader f h x → same h.response (answers h.opcode) ≡ true
+directed_by f h x b i =
+    let response : answers (opcode_of f.message) ≡ h.response = ap (λ (k : Header). k.response) (header_is f h x i) in
+    is_same h.response (answers h.opcode) (sym response ∙ ap answers b.opcode)
+
+pub not_directed : (f : FrameValue) (h : Header) (x : ℕ) (r : Bool) → r ≡ false → (IsOfHeader f h x → r ≡ true) → (IsTrue r ↔ IsOfHeader f h x)
+not_directed f h x r e g = (λ t. let d : true ≡ false = sym t ∙ e in absurd cc, λ i. g i)

@@ -164,13 +164,6 @@ Finishes h x es (Err e) = ⊥
 abbrev pub IsOfHeader : FrameValue → Header → (x : ℕ) → Type 0
 IsOfHeader f h x = (unfit_of f ≡ None) × (header_of f (parts_size (frame_parts f) + x) ≡ h)
 
--- What is told of a frame whose parts were taken: nothing where nothing was refused, nothing is left, and it is of the header with x bytes more.
-abbrev pub Tells : Header → (x : ℕ) → FrameValue → Held → Option BuildError → Type 0
-Tells h x f after None = IsSound after × (left after ≡ []) × IsOfHeader f h x
-Tells h x f after (Some error.NoFrame) = IsRefused after ⊎ (IsSound after × (((left after ≡ []) → ⊥) ⊎ (IsOfHeader f h x → ⊥)))
-Tells h x f after (Some error.NoMemory) = Unit {0}
-Tells h x f after (Some e) = ⊥
-
 -- A frame whose header is this one but for its length, and whose parts are those that are announced.
 pub record BeginsWith (h : Header) (f : FrameValue) : Type 0 where
   pub flags : f.flags ≡ h.flags
@@ -178,3 +171,11 @@ pub record BeginsWith (h : Header) (f : FrameValue) : Type 0 where
   pub opcode : opcode_of f.message ≡ h.opcode
   pub agrees : frame_agrees f ≡ true
   pub built : is_built f.message ≡ true
+
+-- What is told of a frame whose parts were taken: nothing where nothing was refused, nothing is left, and it is of the header
+-- with x bytes more, if it begins with it.
+abbrev pub Tells : Header → (x : ℕ) → FrameValue → Held → Option BuildError → Type 0
+Tells h x f after None = IsSound after × (left after ≡ []) × (BeginsWith h f → IsOfHeader f h x)
+Tells h x f after (Some error.NoFrame) = IsRefused after ⊎ (IsSound after × (((left after ≡ []) → ⊥) ⊎ (BeginsWith h f → IsOfHeader f h x → ⊥)))
+Tells h x f after (Some error.NoMemory) = Unit {0}
+Tells h x f after (Some e) = ⊥

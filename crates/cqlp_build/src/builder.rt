@@ -1,11 +1,12 @@
 //! Frames, built of their events.
 
-ghost use Rattle.std.specs.Prelude.{◌≡◌, ◌<◌, ◌≤◌, ◌↔◌, IsTrue, [], length, true};
+ghost use Rattle.std.specs.Prelude.{◌≡◌, ◌+◌, ◌<◌, ◌≤◌, ◌↔◌, IsTrue, [], length, true};
 ghost use Rattle.cqlp_grammar.specs.Events as told;
 ghost use Rattle.cqlp_grammar.specs.Events.{event_of};
 ghost use Rattle.cqlp_build.specs.Building as told_of;
-ghost use Rattle.cqlp_build.specs.Building.{Finishes, IsOfHeader, TakesEvent, Tells, empty, is_inner, state};
+ghost use Rattle.cqlp_build.specs.Building.{BeginsWith, Finishes, IsOfHeader, TakesEvent, Tells, empty, is_inner, state};
 ghost use Rattle.cqlp_build.specs.Held.{left};
+ghost use Rattle.cqlp_note.specs.Heading.{answers, same};
 ghost use Rattle.cqlp_message.specs.Owned.{frame_of};
 
 use crate::error::BuildError;
@@ -62,7 +63,7 @@ pub struct FrameBuilder {
     header: Option<Header>,
     limits: BuildLimits,
     /// How many bytes of texts and contents may still come.
-    room: u32,
+    room: usize,
 }
 
 impl FrameBuilder {
@@ -78,7 +79,7 @@ impl FrameBuilder {
             },
             header: None,
             limits,
-            room: limits.bytes,
+            room: limits.bytes as usize,
         }
     }
 
@@ -108,7 +109,7 @@ impl FrameBuilder {
     {
         self.held.items.clear();
         self.header = None;
-        self.room = self.limits.bytes;
+        self.room = self.limits.bytes as usize;
     }
 
     /// Whether it is between frames. Where a stream ends and it is not, the last frame was cut.
@@ -170,7 +171,7 @@ impl FrameBuilder {
         if self.held.items.push_back(item).is_err() {
             return Err(BuildError::NoMemory);
         }
-        self.room -= size as u32;
+        self.room -= size;
         Ok(None)
     }
 
@@ -185,7 +186,7 @@ impl FrameBuilder {
     fn lacks_room(&self, size: usize) -> bool
         ensures { IsTrue result ↔ (self.now.room < size) }
     {
-        size > self.room as usize
+        size > self.room
     }
 }
 
@@ -261,15 +262,28 @@ impl Held {
     }
 }
 
-/// Whether some bytes spell a frame, and this is its header where this many bytes come after its last field.
+/// Whether some bytes spell a frame that begins with this header, and the header's length is the frame's where this many bytes come after
+/// its last field.
 fn is_of(frame: &Frame, header: &Header, extra: u32) -> bool
-    ensures { IsTrue result ↔ IsOfHeader (frame_of frame.now) header.now extra }
+    ensures { BeginsWith header.now (frame_of frame.now) → (IsTrue result ↔ IsOfHeader (frame_of frame.now) header.now extra) }
 {
     let Ok(len) = frame.measure() else {
         return false;
     };
-    if frame.header(header.length) != *header {
-        return false;
-    }
-    u64::from(len) + u64::from(extra) == u64::from(header.length) + 9
+    is_directed(header) && is_length(header.length, len, extra)
+}
+
+/// Whether a header tells this length of a frame of so many bytes, 9 of them its header, with some more after its last field.
+fn is_length(told: u32, len: u32, extra: u32) -> bool
+    ensures { IsTrue result ↔ (len + extra ≡ told + 9) }
+{
+    u64::from(len) + u64::from(extra) == u64::from(told) + 9
+}
+
+/// Whether a header is a response's where its opcode is one of a response.
+fn is_directed(header: &Header) -> bool
+    ensures { result ≡ same header.now.response (answers header.now.opcode) }
+{
+    let answers = header.opcode.is_response();
+    if header.response { answers } else { !answers }
 }
