@@ -1,5 +1,5 @@
 -- What is refused first of the events of frames.
-use Rattle.std.proofs.Common.{◌≡◌, ℕ, ◌+◌, ◌++◌, ◌&&◌, ◌⊎◌, List, [], ◌∷◌, map, true, false, Bool, Option, Some, None, Ok, Err, refl, sym, ap, ◌∙◌, subst, append-nil, append_assoc, inl, inr}
+use Rattle.std.proofs.Common.{◌≡◌, ℕ, ◌+◌, ◌++◌, ◌⊎◌, List, [], ◌∷◌, true, false, Err, refl, sym, ap, ◌∙◌, subst, append-nil, append_assoc, inl, inr}
 use Rattle.std.specs.Prelude.{is_ok}
 use Rattle.std.specs.List.{AllByRecursion, list_all}
 use Rattle.std.proofs.lemmas.List.{map-append}
@@ -12,7 +12,7 @@ use Rattle.cqlp_message.specs.Parts.{parts_size}
 use Rattle.cqlp_build.specs.declared.builder.BuildLimits.{BuildLimits}
 use Rattle.cqlp_build.specs.declared.error.BuildError.{BuildError}
 use Rattle.cqlp_build.specs.declared.error.BuildError.TheVariants as error
-use Rattle.cqlp_build.specs.Building.{BuilderState, CanBeBuilt, TakesEvent, empty, is_due, is_end, is_inner, is_unbuilt, with_event}
+use Rattle.cqlp_build.specs.Building.{BuilderState, CanBeBuilt, TakesEvent, empty, is_due, is_end, is_inner}
 use Rattle.cqlp_build.specs.Laws.{Answer, AreTaken, NoneRefused, OnlyBoundsRefuse, is_of_bounds, told_all}
 use Rattle.cqlp_build.specs.Told.{told}
 use Rattle.cqlp_build.proofs.FrameViews.{IsPlain, frame_plain, frame_said}
@@ -76,10 +76,13 @@ inner_bounds (e ∷ es) p s d ds rest (x ∷ before) after (r ∷ rs) w new z b 
     let limits : a.0.limits ≡ s.limits = ap (λ (m : BuilderState). m.limits) t.1 in
     let more : before ++ after ≡ es ++ rest = cc in
     elim (inner_bounds es p.1 a.0 d (ds ++ e ∷ []) rest before after rs w new events more a.2 o.1) [
-      inl k ↦ inl k
-    | inr k ↦ inr (k.0,
+      | inl k ↦ inl k
+      | inr k ↦ inr (
+        k.0,
         k.1 ∙ (ap (λ m. m ++ es) events ∙ (append_assoc (d ∷ ds) (e ∷ []) es ∙ ap (λ m. m ++ e ∷ es) (sym z))),
-        k.2 ∙ limits, k.3)
+        k.2 ∙ limits,
+        k.3,
+      )
     ]
 
 module _ (l : Rules) (at : ℕ) (f : FrameValue) (x : ℕ) (c : CanBeBuilt f) where
@@ -122,8 +125,8 @@ module _ (l : Rules) (at : ℕ) (f : FrameValue) (x : ℕ) (c : CanBeBuilt f) wh
       let events : a.0.events ≡ Frame head ∷ [] = ap (λ (m : BuilderState). m.events) t.1 ∙ ap (λ k. k ++ Frame head ∷ []) z in
       let limits : a.0.limits ≡ s.limits = ap (λ (m : BuilderState). m.limits) t.1 in
       elim (inner_bounds (told (frame_parts f)) (frame_plain f c) a.0 (Frame head) [] (End x ∷ rest) before after rs w new events more a.2 o.1) [
-        inl k ↦ inl k
-      | inr k ↦ end_later k.0 s.limits rest k.3.before after k.3.rs w new (k.1 ∙ ap (λ m. m ++ told (frame_parts f)) events) (k.2 ∙ limits) k.3.same k.3.run k.3.sound
+        | inl k ↦ inl k
+        | inr k ↦ end_later k.0 s.limits rest k.3.before after k.3.rs w new (k.1 ∙ ap (λ m. m ++ told (frame_parts f)) events) (k.2 ∙ limits) k.3.same k.3.run k.3.sound
       ]
 
 empty_front : (before after : List Event) → before ++ after ≡ [] → before ≡ []
@@ -139,11 +142,11 @@ all_bounds limits l at [] before after rs e new p b a n =
 all_bounds limits l at (f ∷ fs) before after rs e new p b a n =
     let later = FlatAll l (at + frame_size f.0 f.1) fs in
     let all : before ++ after ≡ Frame (header_of f.0 (parts_size (frame_parts f.0) + f.1)) ∷ told (frame_parts f.0) ++ End f.1 ∷ told_all later =
-        b ∙ (map-append (λ e. e.1) (Flat l at f.0 f.1) later ∙ (ap (λ es. es ++ told_all later) (frame_said l at f.0 f.1 p.0)
-        ∙ append_assoc (Frame (header_of f.0 (parts_size (frame_parts f.0) + f.1)) ∷ told (frame_parts f.0)) (End f.1 ∷ []) (told_all later))) in
+    b ∙ (map-append (λ e. e.1) (Flat l at f.0 f.1) later ∙ (ap (λ es. es ++ told_all later) (frame_said l at f.0 f.1 p.0)
+    ∙ append_assoc (Frame (header_of f.0 (parts_size (frame_parts f.0) + f.1)) ∷ told (frame_parts f.0)) (End f.1 ∷ []) (told_all later))) in
     elim (frame_bounds l at f.0 f.1 p.0 (empty limits) (told_all later) before after rs e new refl all a n) [
-      inl k ↦ k
-    | inr k ↦ all_bounds limits l (at + frame_size f.0 f.1) fs k.before after k.rs e new p.1 k.same k.run k.sound
+      | inl k ↦ k
+      | inr k ↦ all_bounds limits l (at + frame_size f.0 f.1) fs k.before after k.rs e new p.1 k.same k.run k.sound
     ]
 
 pub bounds_refuse : OnlyBoundsRefuse

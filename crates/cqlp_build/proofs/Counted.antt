@@ -1,13 +1,12 @@
 -- What is told of items after their number.
-use Rattle.std.proofs.Common.{◌≡◌, ℕ, ◌++◌, List, [], ◌∷◌, length, true, Bool, Option, Some, None, refl, sym, ap, ◌∙◌}
+use Rattle.std.proofs.Common.{◌≡◌, ℕ, ◌++◌, List, [], ◌∷◌, length, true, Bool, refl, ap, ◌∙◌}
 use Rattle.std.specs.List.{flat_map, list_all}
 use Rattle.std.proofs.lemmas.Grind.{flat_map-append}
 use Rattle.cqlp_note.specs.declared.field.Field.{Field}
 use Rattle.cqlp_note.specs.Field as note
-use Rattle.cqlp_grammar.specs.Events.{Event, Holds}
-use Rattle.cqlp_message.specs.Agreement.{there_if}
+use Rattle.cqlp_grammar.specs.Events.{Holds}
 use Rattle.cqlp_message.specs.Parts.{Part}
-use Rattle.cqlp_message.specs.Bodies.{counted, where_some}
+use Rattle.cqlp_message.specs.Bodies.{counted}
 use Rattle.cqlp_build.specs.declared.held.Held.{Held}
 use Rattle.cqlp_build.specs.Held.{Builds, Many, any}
 use Rattle.cqlp_build.specs.Told.{told, part_told}

@@ -1,22 +1,19 @@
 -- What is known at the end of a frame.
-use Rattle.std.proofs.Common.{◌≡◌, ℕ, ◌+◌, ◌++◌, ◌⊎◌, List, [], ◌∷◌, map, true, Bool, Option, Some, None, refl, sym, ap, ◌∙◌, subst, append-nil, Ok, Err, arith, inl, inr}
+use Rattle.std.proofs.Common.{◌≡◌, ℕ, ◌+◌, ◌++◌, ◌⊎◌, List, [], ◌∷◌, true, Bool, Option, Some, None, refl, sym, ap, ◌∙◌, subst, append-nil, Ok, Err, arith, inl, inr}
 use Rattle.cqlp_note.specs.declared.header.Header.{Header}
 use Rattle.cqlp_note.specs.Limits.{Rules}
 use Rattle.cqlp_grammar.specs.Events.{Event, Frame, End}
 use Rattle.cqlp_message.specs.FrameValues.{FrameValue}
 use Rattle.cqlp_message.specs.Frames.{frame_parts, frame_size, header_of, if_none, measure_of, unfit_of}
 use Rattle.cqlp_message.specs.declared.unfit.Unfit.{Unfit}
-use Rattle.cqlp_message.specs.Owned.{frame_of}
 use Rattle.cqlp_message.specs.Parts.{parts_size}
-use Rattle.cqlp_message.specs.declared.frame.Frame as owned
 use Rattle.cqlp_message.proofs.FramesWritten.{is_fit}
-use Rattle.cqlp_build.specs.declared.held.Fault.TheVariants as fault
 use Rattle.cqlp_build.specs.declared.held.Held.{Held}
 use Rattle.cqlp_note.specs.Heading.{answers, same}
 use Rattle.cqlp_message.specs.Agreement.{opcode_of}
 use Rattle.std.specs.Prelude.{IsTrue, false}
 use Rattle.std.proofs.Common.{◌↔◌}
-use Rattle.cqlp_build.specs.Building.{BuilderState, TakesEvent, empty, is_due, AreEventsOf, AreOfNone, BeginsWith, CanBeBuilt, Finishes, IsBuiltOf, IsOfHeader, Tells}
+use Rattle.cqlp_build.specs.Building.{BuilderState, TakesEvent, empty, is_due, AreEventsOf, AreOfNone, BeginsWith, CanBeBuilt, Finishes, IsOfHeader, Tells}
 use Rattle.cqlp_build.specs.declared.error.BuildError.{BuildError}
 use Rattle.cqlp_build.specs.declared.error.BuildError.TheVariants as error
 use Rattle.cqlp_build.specs.Held.{Builds, IsRefused, IsSound, left}

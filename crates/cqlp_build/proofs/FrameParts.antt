@@ -1,25 +1,22 @@
 -- Frames, as the values that are made of their parts.
-use Rattle.std.proofs.Common.{◌≡◌, ℕ, ◌++◌, ◌&&◌, List, [], ◌∷◌, Bool, true, false, Option, Some, None, refl, sym, ap, ◌∙◌, subst, append_assoc}
+use Rattle.std.proofs.Common.{◌≡◌, ℕ, ◌&&◌, List, [], ◌∷◌, Bool, true, Option, refl, sym, subst}
 use Rattle.std.specs.Prelude.{not}
-use Rattle.std.specs.List.{flat_map, list_all}
-use Rattle.std.proofs.lemmas.Grind.{flat_map-append}
 use Rattle.cqlp_note.specs.declared.field.Field.TheVariants as field
 use Rattle.cqlp_note.specs.declared.field.Notation.TheVariants as notation
 use Rattle.cqlp_note.specs.declared.header.Header.{Header}
 use Rattle.cqlp_note.specs.declared.opcode.Opcode.{Opcode}
 use Rattle.cqlp_note.specs.Field as note
 use Rattle.cqlp_note.specs.Heading.{answers, has}
-use Rattle.cqlp_grammar.specs.Events.{Event}
-use Rattle.cqlp_message.specs.Agreement.{frame_agrees, is_response, message_agrees, opcode_of, there_if}
+use Rattle.cqlp_message.specs.Agreement.{message_agrees, opcode_of, there_if}
 use Rattle.cqlp_message.specs.FrameValues.{Octets, FrameValue, Message}
 use Rattle.cqlp_message.specs.Bodies as body
 use Rattle.cqlp_message.specs.Frames.{frame_parts}
-use Rattle.cqlp_message.specs.Parts.{Part, Field_is}
+use Rattle.cqlp_message.specs.Parts.{Field_is}
 use Rattle.cqlp_build.specs.declared.held.Held.{Held}
-use Rattle.cqlp_build.specs.Building.{BeginsWith, is_built}
+use Rattle.cqlp_build.specs.Building.{BeginsWith}
 use Rattle.cqlp_build.specs.Held.{Builds}
 use Rattle.cqlp_build.specs.Productions.{BuildsMessage, IsOf}
-use Rattle.cqlp_build.specs.Told.{payload_parts, told, part_told}
+use Rattle.cqlp_build.specs.Told.{payload_parts, told}
 use Rattle.cqlp_build.proofs.Several.{both, join}
 use Rattle.cqlp_build.proofs.Steps.{as_builds, told_four, ◌then◌}
 

@@ -1,15 +1,12 @@
 -- The events of a frame, without their offsets, are those of its header, of its parts and of its end.
-use Rattle.std.proofs.Common.{◌≡◌, ℕ, ◌+◌, ◌++◌, List, [], ◌∷◌, map, length, true, false, Bool, ◌&&◌, Option, Some, None, refl, sym, ap, ◌∙◌, subst, append_assoc, arith}
+use Rattle.std.proofs.Common.{◌≡◌, ℕ, ◌+◌, ◌++◌, List, [], ◌∷◌, map, true, false, Bool, Option, Some, None, refl, ap, ◌∙◌, arith}
 use Rattle.std.specs.List.{flat_map, list_all, AllByRecursion}
-use Rattle.std.proofs.lemmas.Grind.{flat_map-append}
 use Rattle.std.proofs.lemmas.List.{map-append}
 use Rattle.std.proofs.lemmas.List.Folds.{list_all-append}
 use Rattle.cqlp_note.specs.declared.field.Field.{Field}
 use Rattle.cqlp_note.specs.declared.field.Field.TheVariants as field
 use Rattle.cqlp_note.specs.Limits.{Rules}
-use Rattle.cqlp_type.specs.Trees.{item_size, placed, trees_items}
-use Rattle.cqlp_kind.specs.TypeStep.{TypeEvent}
-use Rattle.cqlp_grammar.specs.Events.{Event, Frame, Holds, End, type_event}
+use Rattle.cqlp_grammar.specs.Events.{Event, Frame, Holds, End}
 use Rattle.cqlp_message.specs.FrameValues.{Octets, FrameValue, Message, Startup, Options, Query, Prepare, Execute, Batch, Register, AuthResponse, Error, Ready, Authenticate, Supported, Void, SetKeyspace, Rows, Prepared, Change, UnknownResult, AuthChallenge, AuthSuccess, QueryParams, BatchEntry, Text, Id, ErrorExtra, Plain, Unavailable, WriteTimeout, ReadTimeout, ReadFailure, FunctionFailure, WriteFailure, AlreadyExists, Unprepared, SchemaOptions, Keyspace, Named, Callable, UnknownTarget, SchemaChange, ServerEvent, Node, Schema, UnknownEvent}
 use Rattle.cqlp_message.specs.FrameValues as value
 use Rattle.cqlp_message.specs.Parts.{Part, Field_is, Type_is, Cell_is, part_size, parts_events, parts_size}
@@ -25,7 +22,7 @@ use Rattle.cqlp_grammar.specs.Codes as code
 use Rattle.cqlp_message.specs.Agreement.{bits, is_no_result, message_agrees}
 use Rattle.cqlp_message.proofs.FramesWritten.{is_fit}
 use Rattle.cqlp_build.specs.Building.{CanBeBuilt, is_built, is_inner, is_unbuilt, is_unbuilt_kind}
-use Rattle.cqlp_build.specs.Told.{told, part_told}
+use Rattle.cqlp_build.specs.Told.{told}
 use Rattle.cqlp_build.proofs.Several.{both, join}
 
 -- ---- parts that are built

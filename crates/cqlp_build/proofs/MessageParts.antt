@@ -1,23 +1,20 @@
 -- Messages, as the values that are made of their parts.
-use Rattle.std.proofs.Common.{◌≡◌, ℕ, ℤ, pos, ◌++◌, ◌&&◌, ◌⊎◌, inl, inr, List, [], ◌∷◌, Bool, true, false, Option, Some, None, refl, sym, ap, ◌∙◌, subst, append_assoc, arith}
+use Rattle.std.proofs.Common.{◌≡◌, ℕ, ℤ, ◌++◌, ◌&&◌, List, [], ◌∷◌, true, Option, refl, sym, ap, ◌∙◌, append_assoc}
 use Rattle.std.specs.Prelude.{not}
-use Rattle.std.specs.List.{flat_map, list_all}
-use Rattle.std.proofs.lemmas.Grind.{flat_map-append}
+use Rattle.std.specs.List.{list_all}
 use Rattle.cqlp_note.specs.declared.field.Field.TheVariants as field
-use Rattle.cqlp_note.specs.declared.opcode.Opcode.{Opcode}
 use Rattle.cqlp_note.specs.declared.opcode.Opcode.TheVariants as opcode
 use Rattle.cqlp_note.specs.Field as note
 use Rattle.cqlp_note.specs.Heading.{has}
-use Rattle.cqlp_grammar.specs.Events.{Event, Holds}
-use Rattle.cqlp_message.specs.Agreement.{bits, change_agrees, event_agrees, extra_agrees, message_agrees, is_no_result, opcode_of, params_agree, there_if}
+use Rattle.cqlp_grammar.specs.Events.{Holds}
+use Rattle.cqlp_message.specs.Agreement.{bits, event_agrees, extra_agrees, params_agree, there_if}
 use Rattle.cqlp_message.specs.FrameValues.{Octets, Message, Startup, Options, Query, Prepare, Execute, Batch, Register, AuthResponse, Error, Ready, Authenticate, Supported, Void, SetKeyspace, Rows, Prepared, Change, UnknownResult, AuthChallenge, AuthSuccess, QueryParams, BatchEntry, Text, Id, ErrorExtra, SchemaChange, ServerEvent}
 use Rattle.cqlp_message.specs.FrameValues as value
 use Rattle.cqlp_message.specs.Bodies as body
 use Rattle.cqlp_build.specs.declared.held.Held.{Held}
-use Rattle.cqlp_build.specs.Building.{is_built}
 use Rattle.cqlp_build.specs.Held.{Builds, any}
 use Rattle.cqlp_build.specs.Productions.{BuildsMessage, IsOf}
-use Rattle.cqlp_build.specs.Told.{told, part_told}
+use Rattle.cqlp_build.specs.Told.{told}
 use Rattle.cqlp_build.proofs.Optional.{all_true}
 use Rattle.cqlp_build.proofs.Several.{both, join}
 use Rattle.cqlp_build.proofs.Steps.{as_builds, pair_builds, told_four, ◌then◌}

@@ -1,12 +1,12 @@
 -- An event has one answer.
-use Rattle.std.proofs.Common.{◌≡◌, ℕ, ◌<◌, ◌≤◌, ◌++◌, ◌⊎◌, List, [], ◌∷◌, length, true, false, Bool, Option, Some, None, Ok, Err, refl, sym, ap, ◌∙◌, subst, arith, lt-ltb, le-ltb, inl, inr}
+use Rattle.std.proofs.Common.{◌≡◌, ℕ, ◌⊎◌, length, true, false, Some, None, Ok, Err, refl, sym, ap, ◌∙◌, subst, arith, lt-ltb, le-ltb, inl, inr}
 use Rattle.std.specs.Prelude.{◌==◌, if◌then◌else◌, nat_lt}
 use Rattle.cqlp_grammar.specs.Events.{Event, Frame, Holds, Node_of, Cell_at, Leave, End}
 use Rattle.cqlp_message.specs.Owned.{frame_of}
 use Rattle.cqlp_build.specs.declared.builder.BuiltFrame.{BuiltFrame}
 use Rattle.cqlp_build.specs.declared.error.BuildError.{BuildError}
 use Rattle.cqlp_build.specs.declared.error.BuildError.TheVariants as error
-use Rattle.cqlp_build.specs.Building.{AreOfNone, BuilderState, IsBuiltOf, TakesEvent, content_size, empty, is_due, is_end, is_field, is_unbuilt, with_event}
+use Rattle.cqlp_build.specs.Building.{BuilderState, TakesEvent, content_size, is_due, is_end, is_field, is_unbuilt}
 use Rattle.cqlp_build.specs.Laws.{Answer, AreSame, OneAnswer, WantsMemory}
 
 -- the first test that an event does not pass, each with its number
@@ -131,9 +131,9 @@ wants (Ok o) = inr (λ e. absurd cc)
 pub one_answer : OneAnswer
 one_answer s e a b na nb t u =
     elim (wants a) [
-      inl w ↦ inr (inl w)
-    | inr n ↦ elim (wants b) [
-        inl w ↦ inr (inr w)
-      | inr m ↦ inl (same_of s e a b na nb t u (sym (classed s e a na t n) ∙ classed s e b nb u m))
+      | inl w ↦ inr (inl w)
+      | inr n ↦ elim (wants b) [
+        | inl w ↦ inr (inr w)
+        | inr m ↦ inl (same_of s e a b na nb t u (sym (classed s e a na t n) ∙ classed s e b nb u m))
       ]
     ]

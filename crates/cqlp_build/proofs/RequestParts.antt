@@ -1,17 +1,17 @@
 -- The parameters of queries.
-use Rattle.std.proofs.Common.{◌≡◌, ℕ, ℤ, ◌++◌, List, [], ◌∷◌, true, false, Bool, ◌&&◌, Option, Some, None, refl, sym, ap, ◌∙◌, append_assoc, arith}
-use Rattle.std.specs.List.{flat_map, list_all}
+use Rattle.std.proofs.Common.{◌≡◌, ℕ, ℤ, List, [], ◌∷◌, true, false, Bool, ◌&&◌, Option, Some, None, refl, ap}
+use Rattle.std.specs.List.{list_all}
 use Rattle.cqlp_note.specs.declared.field.Field.TheVariants as field
 use Rattle.cqlp_note.specs.Field as note
 use Rattle.cqlp_note.specs.Field.{BoundValue}
 use Rattle.cqlp_note.specs.Heading.{has}
-use Rattle.cqlp_grammar.specs.Events.{Event, Holds}
+use Rattle.cqlp_grammar.specs.Events.{Holds}
 use Rattle.cqlp_message.specs.Agreement.{there_if, are_named, params_agree}
 use Rattle.cqlp_message.specs.FrameValues.{Octets, QueryParams}
 use Rattle.cqlp_message.specs.Bodies as body
 use Rattle.cqlp_build.specs.declared.held.Held.{Held}
 use Rattle.cqlp_build.specs.Held.{Builds, any}
-use Rattle.cqlp_build.specs.Told.{told, part_told}
+use Rattle.cqlp_build.specs.Told.{told}
 use Rattle.cqlp_build.proofs.Optional.{none_builds, some_builds}
 use Rattle.cqlp_build.proofs.Several.{both, join}
 use Rattle.cqlp_build.proofs.Steps.{pair_builds, as_builds, told_five, ◌then◌}

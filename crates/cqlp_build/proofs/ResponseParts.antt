@@ -1,16 +1,14 @@
 -- Parts of responses, as the values that are made of their fields.
-use Rattle.std.proofs.Common.{◌≡◌, ℕ, ℤ, ◌++◌, ◌&&◌, ◌||◌, List, [], ◌∷◌, Bool, true, false, Option, Some, None, refl, sym, ap, ◌∙◌, subst, arith, ◌⊎◌, inl, inr}
+use Rattle.std.proofs.Common.{◌≡◌, ℕ, ℤ, List, true, refl}
 use Rattle.std.specs.List.{list_all}
 use Rattle.cqlp_note.specs.declared.prim.Address.{Address}
 use Rattle.cqlp_grammar.specs.Codes as error
-use Rattle.cqlp_grammar.specs.Events.{Event, Holds}
-use Rattle.cqlp_message.specs.Agreement.{change_agrees, event_agrees, extra_agrees, options_agree}
-use Rattle.cqlp_message.specs.FrameValues.{Octets, ErrorExtra, Plain, Unavailable, WriteTimeout, ReadTimeout, ReadFailure, FunctionFailure, WriteFailure, AlreadyExists, Unprepared, SchemaOptions, Keyspace, Named, Callable, UnknownTarget, SchemaChange, ServerEvent, Node, Schema, UnknownEvent}
-use Rattle.cqlp_message.specs.Bodies as body
+use Rattle.cqlp_grammar.specs.Events.{Event}
+use Rattle.cqlp_message.specs.Agreement.{change_agrees, extra_agrees, options_agree}
+use Rattle.cqlp_message.specs.FrameValues.{Octets, ErrorExtra, Unavailable, WriteTimeout, ReadTimeout, ReadFailure, FunctionFailure, WriteFailure, AlreadyExists, Unprepared, SchemaOptions, Named, Callable, SchemaChange, ServerEvent, Node}
 use Rattle.cqlp_build.specs.declared.held.Held.{Held}
-use Rattle.cqlp_build.specs.Held.{Builds, any}
+use Rattle.cqlp_build.specs.Held.{Builds}
 use Rattle.cqlp_build.specs.Productions.{is_callable, is_named, is_node}
-use Rattle.cqlp_build.specs.Told.{told}
 use Rattle.cqlp_build.proofs.Optional.{all_true}
 use Rattle.cqlp_build.proofs.Steps.{as_builds}
 

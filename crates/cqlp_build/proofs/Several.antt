@@ -1,5 +1,5 @@
 -- Items that are built one after the other.
-use Rattle.std.proofs.Common.{◌≡◌, ℕ, zero, suc, ◌+◌, ◌-◌, ◌≤◌, ◌++◌, ◌⊎◌, List, [], ◌∷◌, length, Option, Some, None, refl, sym, ap, ◌∙◌, subst, append_assoc, append-nil, arith, inl, inr}
+use Rattle.std.proofs.Common.{◌≡◌, ℕ, suc, ◌+◌, ◌-◌, ◌≤◌, ◌++◌, ◌⊎◌, List, [], ◌∷◌, Option, Some, None, refl, sym, ap, ◌∙◌, subst, append_assoc, append-nil, arith, inl, inr}
 use Rattle.std.specs.Prelude.{Bool, true, false, ◌&&◌, is_some}
 use Rattle.std.specs.List.{flat_map, list_all}
 use Rattle.cqlp_build.specs.declared.held.Held.{Held}
@@ -43,13 +43,16 @@ module _ {A : Type 0} (told : A → List Event) (t : A → Bool) where
       → (b.fault ≡ Some fault.NoFrame) ⊎ No b (Many t n) (flat_map told) → (a.fault ≡ Some fault.NoFrame) ⊎ No a (Many t (suc n)) (flat_map told)
   cons_none n x xs a b c one more s (inl h) =
       elim (one.none h) [
-        inl k ↦ inl k
-      | inr k ↦ inr (k.0, λ ys rest m e. split a n ⊥ ys rest m e (λ z zs is tz mz ez. k.1 z (flat_map told zs ++ rest) tz ez))
+        | inl k ↦ inl k
+        | inr k ↦ inr (k.0, λ ys rest m e. split a n ⊥ ys rest m e (λ z zs is tz mz ez. k.1 z (flat_map told zs ++ rest) tz ez))
       ]
   cons_none n x xs a b c one more s (inr h) =
-      inr ((one.made h.0).0, λ ys rest m e. split a n ⊥ ys rest m e (λ z zs is tz mz ez.
-        let o = one.only h.0 z (flat_map told zs ++ rest) tz ez in
-        h.1 zs rest mz (sym o.1)))
+      inr (
+        (one.made h.0).0,
+        λ ys rest m e. split a n ⊥ ys rest m e (λ z zs is tz mz ez.
+            let o = one.only h.0 z (flat_map told zs ++ rest) tz ez in
+            h.1 zs rest mz (sym o.1)),
+      )
 
   pub cons_built : (n : ℕ) {x : A} {xs : List A} {a b c : Held} → Builds told (λ v. t v ≡ true) x a b → Builds (flat_map told) (Many t n) xs b c → Builds (flat_map told) (Many t (suc n)) (x ∷ xs) a c
   cons_built n {x} {xs} {a} {b} {c} one more = record {

@@ -1,5 +1,5 @@
 -- Values that are built one after the other, and of others.
-use Rattle.std.proofs.Common.{◌≡◌, ℕ, map, ◌++◌, ◌⊎◌, List, [], ◌∷◌, Bool, Option, Some, None, refl, sym, ap, ◌∙◌, subst, append_assoc, inl, inr}
+use Rattle.std.proofs.Common.{◌≡◌, ◌++◌, ◌⊎◌, List, Bool, Some, sym, ap, ◌∙◌, subst, append_assoc, inl, inr}
 use Rattle.cqlp_build.specs.declared.held.Fault.{Fault}
 use Rattle.cqlp_build.specs.declared.held.Fault.TheVariants as fault
 use Rattle.cqlp_build.specs.declared.held.Held.{Held}
@@ -36,13 +36,16 @@ module _ {A B : Type 0} (h : A → List Event) (g : B → List Event) (P : A →
       → IsRefused old ⊎ AreNone {A = A × B} (λ p. h p.0 ++ g p.1) (λ p. P p.0 × Q p.0 p.1) old
   pair_none a old mid one (inl e) =
       elim (one.none e) [
-        inl k ↦ inl k
-      | inr k ↦ inr (k.0, λ b rest p e. k.1 b.0 (g b.1 ++ rest) p.0 (e ∙ append_assoc (h b.0) (g b.1) rest))
+        | inl k ↦ inl k
+        | inr k ↦ inr (k.0, λ b rest p e. k.1 b.0 (g b.1 ++ rest) p.0 (e ∙ append_assoc (h b.0) (g b.1) rest))
       ]
   pair_none a old mid one (inr n) =
-      inr ((one.made n.0).0, λ b rest p e.
-        let o = one.only n.0 b.0 (g b.1 ++ rest) p.0 (e ∙ append_assoc (h b.0) (g b.1) rest) in
-        n.1 b.1 rest (subst (λ (x : A). Q x b.1) o.0 p.1) (sym o.1))
+      inr (
+        (one.made n.0).0,
+        λ b rest p e.
+            let o = one.only n.0 b.0 (g b.1 ++ rest) p.0 (e ∙ append_assoc (h b.0) (g b.1) rest) in
+            n.1 b.1 rest (subst (λ (x : A). Q x b.1) o.0 p.1) (sym o.1),
+      )
 
 module _ {A B : Type 0} {h : A → List Event} {g : B → List Event} {P : A → Type 0} (Q : A → B → Type 0) where
   -- one value and another, of which may be asked what the first is

@@ -1,5 +1,5 @@
 -- The events of frames, taken one after the other.
-use Rattle.std.proofs.Common.{◌≡◌, ℕ, ◌+◌, ◌++◌, ◌&&◌, ◌⊎◌, List, [], ◌∷◌, map, true, false, Bool, Option, Some, None, Ok, Err, refl, sym, ap, ◌∙◌, subst, append-nil, append_assoc, arith, inl, inr}
+use Rattle.std.proofs.Common.{◌≡◌, ℕ, ◌+◌, ◌++◌, List, [], ◌∷◌, true, Some, None, Ok, Err, refl, sym, ap, ◌∙◌, subst, append-nil, append_assoc}
 use Rattle.std.specs.Prelude.{is_ok}
 use Rattle.std.specs.List.{AllByRecursion, list_all}
 use Rattle.std.proofs.lemmas.List.{map-append}
@@ -8,17 +8,13 @@ use Rattle.cqlp_note.specs.Limits.{Rules}
 use Rattle.cqlp_grammar.specs.Events.{Event, Frame, Holds, Node_of, Cell_at, Leave, End}
 use Rattle.cqlp_message.specs.FrameValues.{FrameValue}
 use Rattle.cqlp_message.specs.Frames.{Flat, FlatAll, frame_parts, frame_size, header_of}
-use Rattle.cqlp_message.specs.Owned.{frame_of}
 use Rattle.cqlp_message.specs.Parts.{parts_size}
 use Rattle.cqlp_build.specs.declared.builder.BuildLimits.{BuildLimits}
-use Rattle.cqlp_build.specs.declared.error.BuildError.{BuildError}
-use Rattle.cqlp_build.specs.declared.error.BuildError.TheVariants as error
-use Rattle.cqlp_build.specs.Building.{AreEventsOf, BuilderState, CanBeBuilt, IsBuiltOf, TakesEvent, empty, is_due, is_end, is_inner, is_unbuilt, with_event}
-use Rattle.cqlp_build.specs.Laws.{Answer, AreFirstOf, AreTaken, IsCut, NoneRefused, OnlyBoundsRefuse, StreamIsBuilt, frames_given, is_of_bounds, told_all}
+use Rattle.cqlp_build.specs.Building.{BuilderState, CanBeBuilt, TakesEvent, empty, is_end, is_inner, with_event}
+use Rattle.cqlp_build.specs.Laws.{Answer, AreFirstOf, AreTaken, IsCut, NoneRefused, StreamIsBuilt, frames_given, told_all}
 use Rattle.cqlp_build.specs.Told.{told}
 use Rattle.cqlp_build.proofs.FrameViews.{IsPlain, frame_plain, frame_said}
 use Rattle.cqlp_build.proofs.Several.{both}
-use Rattle.cqlp_build.proofs.Taking.{due}
 
 -- ---- one event
 
@@ -154,9 +150,10 @@ module _ (l : Rules) (at : ℕ) (f : FrameValue) (x : ℕ) (c : CanBeBuilt f) wh
       let step : TakesEvent s (Frame head) r a.0 = subst (λ (k : Event). TakesEvent s k r a.0) first a.1 in
       let t = header_step s head r a.0 step o.0 in
       let g = goes es (front_inner es (told (frame_parts f)) w.rest (End x) w.next inner_all later) a.0 [] rs new (subst (λ (k : List Event). AreTaken a.0 k rs new) (sym (append-nil es)) a.2) o.1 in
-      let end = nothing_more g.mid g.later new g.run in
-      (frames_first r rs [] t.0 ∙ (g.frames ∙ end.0),
-      ap (λ (m : BuilderState). m.events) end.1 ∙ (g.events ∙ (ap (λ (m : BuilderState). m.events ++ es) t.1 ∙ (ap (λ k. (k ++ Frame head ∷ []) ++ es) z ∙ ap (λ k. k ∷ es) (sym first)))))
+      let end = nothing_more g.mid g.later new g.run in (
+        frames_first r rs [] t.0 ∙ (g.frames ∙ end.0),
+        ap (λ (m : BuilderState). m.events) end.1 ∙ (g.events ∙ (ap (λ (m : BuilderState). m.events ++ es) t.1 ∙ (ap (λ k. (k ++ Frame head ∷ []) ++ es) z ∙ ap (λ k. k ∷ es) (sym first)))),
+      )
     where
       nothing_more : (m : BuilderState) (rs : List Answer) (new : BuilderState) → AreTaken m [] rs new → (frames_given rs ≡ []) × (new ≡ m)
       nothing_more m [] new a = (refl, a)
@@ -177,7 +174,7 @@ all_built limits l at [] cut rs new p c a n = cut_end (empty limits) cut rs new 
 all_built limits l at (f ∷ fs) cut rs new p c a n =
     let later = FlatAll l (at + frame_size f.0 f.1) fs in
     let all : told_all (Flat l at f.0 f.1 ++ later) ++ cut ≡ told_all (Flat l at f.0 f.1) ++ (told_all later ++ cut) =
-        ap (λ es. es ++ cut) (map-append (λ e. e.1) (Flat l at f.0 f.1) later) ∙ append_assoc (told_all (Flat l at f.0 f.1)) (told_all later) cut in
+    ap (λ es. es ++ cut) (map-append (λ e. e.1) (Flat l at f.0 f.1) later) ∙ append_assoc (told_all (Flat l at f.0 f.1)) (told_all later) cut in
     let d = frame_done l at f.0 f.1 p.0 (empty limits) (told_all later ++ cut) rs new refl (subst (λ (es : List Event). AreTaken (empty limits) es rs new) all a) n in
     let more = all_built limits l (at + frame_size f.0 f.1) fs cut d.later new p.1 c d.run d.sound in
     (d.frames ∙ ap (λ gs. f ∷ gs) more.0, more.1)

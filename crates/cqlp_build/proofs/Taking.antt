@@ -1,5 +1,5 @@
 -- Which event is due.
-use Rattle.std.proofs.Common.{◌≡◌, List, [], ◌∷◌, true, refl}
+use Rattle.std.proofs.Common.{◌≡◌, List, ◌∷◌, true, refl}
 use Rattle.cqlp_grammar.specs.Events.{Event, Frame, Holds, Node_of, Cell_at, Leave, End}
 use Rattle.cqlp_build.specs.Building.{is_due, is_inner}
 

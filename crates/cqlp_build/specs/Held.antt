@@ -1,5 +1,5 @@
 -- What is built of the events that are held, one after the other.
-use Rattle.std.specs.Prelude.{◌≡◌, ⊤, ℕ, List, [], ◌∷◌, ◌++◌, ◌⊎◌, Bool, true, length, Option, Some, None, map, string_bytes}
+use Rattle.std.specs.Prelude.{◌≡◌, ⊤, ℕ, List, ◌∷◌, ◌++◌, ◌⊎◌, Bool, true, length, Option, Some, None, map, string_bytes}
 use Rattle.std.specs.List.{list_all}
 use Rattle.cqlp_note.specs.declared.field.Field.{Field}
 use Rattle.cqlp_note.specs.Field as note

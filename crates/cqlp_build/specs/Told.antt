@@ -1,5 +1,5 @@
 -- What is told of parts, wherever they lie in a stream.
-use Rattle.std.specs.Prelude.{Bool, true, false, List, [], ◌∷◌, Option, map}
+use Rattle.std.specs.Prelude.{false, List, [], ◌∷◌, Option, map}
 use Rattle.std.specs.List.{flat_map}
 use Rattle.cqlp_type.specs.Trees.{trees_items}
 use Rattle.cqlp_grammar.specs.Events.{Event, Holds, type_event}

@@ -51,8 +51,8 @@ pub struct BuiltFrame {
 /// }
 /// ```
 ///
-/// What it does not build yet are pages and prepared statements, whose frames have type options and cells: the first of these
-/// is refused.
+/// What it does not build are pages and prepared statements, whose frames have type options and cells: the kind of such a result
+/// is refused, and [`FrameBuilder::clear`] gives the frame up.
 ///
 /// [`Decoder::next`]: https://docs.rs/cqlp_decode
 /// [`Sink`]: cqlp_grammar::Sink
@@ -87,9 +87,9 @@ impl FrameBuilder {
     ///
     /// # Errors
     ///
-    /// [`BuildError::Misplaced`] at a header within a frame, and at all else between frames. At a field
-    /// [`BuildError::TooManyFields`] where as many fields as the limits allow are held, and else [`BuildError::TooManyBytes`] where it
-    /// has more bytes than are left of the limit; [`BuildError::Unbuilt`] at the kind of a type and at what a cell has. After these
+    /// [`BuildError::Misplaced`] at a header within a frame, and at all else between frames. [`BuildError::Unbuilt`] at the kind of a
+    /// page, of a prepared statement or of a type, and at what a cell has. At a field [`BuildError::TooManyFields`] where as many as
+    /// the limits allow are held, and else [`BuildError::TooManyBytes`] where it has more bytes than are left of the limit. After these
     /// the builder is as it was. [`BuildError::NoFrame`] at the end of a frame, where the events are those of no frame that is built,
     /// after which the builder is between frames. [`BuildError::NoMemory`] where memory was refused, after which it is as it was, or
     /// between frames where the event is an end.
@@ -220,7 +220,8 @@ fn content_size(event: &Event<'_>) -> usize
     match event {
         Event::Text { text, .. } => text.len(),
         Event::Bytes {
-            bytes: Some(bytes), ..
+            bytes: Some(bytes),
+            ..
         } => bytes.len(),
         Event::Bound {
             value: BoundValue::Bytes(bytes),

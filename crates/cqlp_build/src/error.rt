@@ -14,8 +14,8 @@ pub enum BuildError {
     /// The texts and contents of the frame have more bytes than the limits allow.
     #[error("too many bytes")]
     TooManyBytes,
-    /// A type option or a cell, which are not built yet.
-    #[error("types and cells are not built")]
+    /// The kind of a page or of a prepared statement, a type option or a cell: these are not built.
+    #[error("pages and prepared statements are not built")]
     Unbuilt,
     /// The events are those of no frame: one is of another place than is due, or does not agree with what comes before it, or the
     /// end came too early.

@@ -7,7 +7,6 @@
 #![tactic(auto)]
 
 mod bound;
-mod built;
 mod by_cell;
 mod frames;
 mod requests;

@@ -1,4 +1,4 @@
-use Rattle.std.proofs.Common.{◌≡◌, ◌∷◌, Bool, Option, Some, None, false, map, refl, sym, ap, ◌∙◌, rules}
+use Rattle.std.proofs.Common.{◌≡◌, ◌∷◌, Option, Some, None, false, map, refl, sym, ap, ◌∙◌, rules}
 use Rattle.std.specs.Prelude.{is_some}
 use denote.Enum.Bare.{same_true}
 use Rattle.cqlp_note.specs.contracts.field.Field.{the_type}

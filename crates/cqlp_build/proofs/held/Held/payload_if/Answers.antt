@@ -1,4 +1,3 @@
-use Rattle.std.proofs.Common.{refl, [], ◌∷◌}
 use Rattle.cqlp_build.proofs.Optional.{none_there, some_there, all_true}
 use Rattle.cqlp_message.specs.Bodies as body
 use Rattle.cqlp_note.specs.declared.field.Field.TheVariants as field
