@@ -1,0 +1,14 @@
+pub mod Steps
+pub mod Several
+pub mod Counted
+pub mod Optional
+pub mod RequestParts
+pub mod ResponseParts
+pub mod MessageParts
+pub mod FrameParts
+pub mod FrameViews
+pub mod Finishing
+pub mod Taking
+pub mod Streams
+pub mod Bounds
+pub mod OneAnswers

@@ -1,0 +1,17 @@
+use Rattle.std.proofs.Common.{◌≡◌, ◌∷◌, Option, Some, None, false, map, refl, sym, ap, ◌∙◌, rules}
+use Rattle.std.specs.Prelude.{is_some}
+use denote.Enum.Bare.{same_true}
+use Rattle.cqlp_note.specs.contracts.field.Field.{the_type}
+use Rattle.cqlp_grammar.specs.Events.{Holds}
+use Rattle.cqlp_build.specs.Held.{held_in, told_by}
+use Rattle.cqlp_build.proofs.held.Held.next.Goals as goal
+
+none_of : {F : Type 0} (o : Option F) → is_some o ≡ false → o ≡ None
+none_of None e = refl
+none_of (Some f) e = absurd cc
+
+pub returns-then-eq : goal.returns-then-eq
+returns-then-eq c =
+    let same : c.in-Some.item.field ≡ c.args.field = same_true the_type (search rules) _ _ (sym c.eq.ensures ∙ c.if-eq.true) in
+    let sound : c.args.self.now.fault ≡ None = none_of c.args.self.now.fault (sym c.is_some.ensures ∙ c.if-is_some.false) in
+    (sound, ap (map told_by) c.in-Some.ensures.items ∙ ap (λ f. Holds f (held_in c.in-Some.item.content) ∷ map told_by c.pop_front.new.self.items) same, sound)

@@ -1,0 +1,5 @@
+pub mod Told
+pub mod Held
+pub mod Building
+pub mod Productions
+pub mod Laws

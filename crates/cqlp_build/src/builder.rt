@@ -1,0 +1,290 @@
+//! Frames, built of their events.
+
+ghost use Rattle.std.specs.Prelude.{◌≡◌, ◌+◌, ◌<◌, ◌≤◌, ◌↔◌, IsTrue, [], length, true};
+ghost use Rattle.cqlp_grammar.specs.Events as told;
+ghost use Rattle.cqlp_grammar.specs.Events.{event_of};
+ghost use Rattle.cqlp_build.specs.Building as told_of;
+ghost use Rattle.cqlp_build.specs.Building.{BeginsWith, Finishes, IsOfHeader, TakesEvent, Tells, empty, is_inner, state};
+ghost use Rattle.cqlp_build.specs.Held.{left};
+ghost use Rattle.cqlp_note.specs.Heading.{answers, same};
+ghost use Rattle.cqlp_message.specs.Owned.{frame_of};
+
+use crate::error::BuildError;
+use crate::held::{Fault, Held};
+use crate::item::own;
+use cqlp_grammar::{Event, result_kind};
+use cqlp_message::Frame;
+use cqlp_note::{BoundValue, Field, Header};
+use std::alloc::Global;
+use std::collections::VecDeque;
+
+/// What a builder may hold of one frame.
+#[derive(Clone, Copy, Debug, PartialEq, Eq)]
+pub struct BuildLimits {
+    /// How many fields.
+    pub fields: u32,
+    /// How many bytes of texts and contents.
+    pub bytes: u32,
+}
+
+/// A frame that was built.
+#[derive(Debug, PartialEq, Eq, Drop)]
+pub struct BuiltFrame {
+    pub frame: Frame,
+    /// How many bytes there were after its last field.
+    pub extra: u32,
+}
+
+/// Builds frames of their events, one frame after the other.
+///
+/// It takes what [`Decoder::next`] gives, or what a [`Sink`] gets, in that order, and owns what it holds: for each field of the
+/// frame under way as much as an event has, and the field's bytes. So no count that a peer sends decides how much memory it asks for,
+/// and the limits bound it.
+///
+/// A proxy reads a frame, alters the value, and writes it:
+///
+/// ```text
+/// if let Some(built) = builder.take(&event)? {
+///     let mut frame = built.frame;
+///     frame.stream = 7;
+///     encode(&frame, &mut target)?;
+/// }
+/// ```
+///
+/// What it does not build are pages and prepared statements, whose frames have type options and cells: the kind of such a result
+/// is refused, and [`FrameBuilder::clear`] gives the frame up.
+///
+/// [`Decoder::next`]: https://docs.rs/cqlp_decode
+/// [`Sink`]: cqlp_grammar::Sink
+#[derive(Drop)]
+pub struct FrameBuilder {
+    held: Held,
+    /// The header of the frame under way.
+    header: Option<Header>,
+    limits: BuildLimits,
+    /// How many bytes of texts and contents may still come.
+    room: usize,
+}
+
+impl FrameBuilder {
+    /// A builder between frames, which asks for no memory yet.
+    pub fn new(alloc: Global, limits: BuildLimits) -> FrameBuilder
+        ensures { state result ≡ empty limits }
+    {
+        FrameBuilder {
+            held: Held {
+                alloc,
+                items: VecDeque::new(alloc),
+                fault: None,
+            },
+            header: None,
+            limits,
+            room: limits.bytes as usize,
+        }
+    }
+
+    /// Takes the next event; at the end of a frame gives the frame.
+    ///
+    /// # Errors
+    ///
+    /// [`BuildError::Misplaced`] at a header within a frame, and at all else between frames. [`BuildError::Unbuilt`] at the kind of a
+    /// page, of a prepared statement or of a type, and at what a cell has. At a field [`BuildError::TooManyFields`] where as many as
+    /// the limits allow are held, and else [`BuildError::TooManyBytes`] where it has more bytes than are left of the limit. After these
+    /// the builder is as it was. [`BuildError::NoFrame`] at the end of a frame, where the events are those of no frame that is built,
+    /// after which the builder is between frames. [`BuildError::NoMemory`] where memory was refused, after which it is as it was, or
+    /// between frames where the event is an end.
+    pub fn take(&mut self, event: &Event<'_>) -> Result<Option<BuiltFrame>, BuildError>
+        ensures { TakesEvent (state self.old) (event_of event.now) result (state self.new) }
+    {
+        match event {
+            Event::Frame(header) => self.begin(*header),
+            Event::End { extra } => self.end(*extra),
+            _ => self.hold(event),
+        }
+    }
+
+    /// Forgets what it holds of a frame, and is between frames. The room that it has asked for is kept.
+    pub fn clear(&mut self)
+        ensures { state self.new ≡ empty self.old.limits }
+    {
+        self.held.items.clear();
+        self.header = None;
+        self.room = self.limits.bytes as usize;
+    }
+
+    /// Whether it is between frames. Where a stream ends and it is not, the last frame was cut.
+    #[must_use]
+    pub fn is_between(&self) -> bool
+        ensures { IsTrue result ↔ ((state self.now).events ≡ []) }
+    {
+        self.header.is_none()
+    }
+
+    /// A frame begins.
+    fn begin(&mut self, header: Header) -> Result<Option<BuiltFrame>, BuildError>
+        ensures { TakesEvent (state self.old) (told.Frame header) result (state self.new) }
+    {
+        if self.header.is_some() {
+            return Err(BuildError::Misplaced);
+        }
+        self.held.items.clear();
+        self.header = Some(header);
+        Ok(None)
+    }
+
+    /// A frame ends, with this many bytes after its last field.
+    fn end(&mut self, extra: u32) -> Result<Option<BuiltFrame>, BuildError>
+        ensures { TakesEvent (state self.old) (told.End extra) result (state self.new) }
+    {
+        let Some(header) = self.header else {
+            return Err(BuildError::Misplaced);
+        };
+        let built = self.held.finish(&header, extra);
+        self.clear();
+        match built {
+            Ok(built) => Ok(Some(built)),
+            Err(why) => Err(why),
+        }
+    }
+
+    /// A field comes, or what is none.
+    fn hold(&mut self, event: &Event<'_>) -> Result<Option<BuiltFrame>, BuildError>
+        requires { is_inner (event_of event.now) ≡ true }
+        ensures { TakesEvent (state self.old) (event_of event.now) result (state self.new) }
+    {
+        if self.is_between() {
+            return Err(BuildError::Misplaced);
+        }
+        if is_unbuilt(event) {
+            return Err(BuildError::Unbuilt);
+        }
+        if self.is_full() {
+            return Err(BuildError::TooManyFields);
+        }
+        let size = content_size(event);
+        if self.lacks_room(size) {
+            return Err(BuildError::TooManyBytes);
+        }
+        let Ok(item) = own(self.held.alloc, event) else {
+            return Err(BuildError::NoMemory);
+        };
+        if self.held.items.push_back(item).is_err() {
+            return Err(BuildError::NoMemory);
+        }
+        self.room -= size;
+        Ok(None)
+    }
+
+    /// Whether it holds as many fields as it may.
+    fn is_full(&self) -> bool
+        ensures { IsTrue result ↔ (self.now.limits.fields ≤ length self.now.held.items.items) }
+    {
+        self.held.items.len() >= self.limits.fields as usize
+    }
+
+    /// Whether this many bytes are more than may still come.
+    fn lacks_room(&self, size: usize) -> bool
+        ensures { IsTrue result ↔ (self.now.room < size) }
+    {
+        size > self.room
+    }
+}
+
+/// Whether it is of a page or of a prepared statement alone.
+fn is_unbuilt(event: &Event<'_>) -> bool
+    ensures { result ≡ told_of.is_unbuilt (event_of event.now) }
+{
+    match event {
+        Event::Int {
+            field: Field::ResultKind,
+            value,
+        } => matches!(
+            value.cast_unsigned(),
+            result_kind::ROWS | result_kind::PREPARED
+        ),
+        Event::TypeNode(_)
+        | Event::Leaf { .. }
+        | Event::Null { .. }
+        | Event::Empty { .. }
+        | Event::Enter { .. }
+        | Event::Leave { .. }
+        | Event::Part { .. } => true,
+        _ => false,
+    }
+}
+
+/// How many bytes of a field the limit counts.
+fn content_size(event: &Event<'_>) -> usize
+    ensures { result ≡ told_of.content_size (event_of event.now) }
+{
+    match event {
+        Event::Text { text, .. } => text.len(),
+        Event::Bytes {
+            bytes: Some(bytes),
+            ..
+        } => bytes.len(),
+        Event::Bound {
+            value: BoundValue::Bytes(bytes),
+            ..
+        } => bytes.len(),
+        _ => 0,
+    }
+}
+
+impl Held {
+    /// The frame of this header whose events after it are those that are held, and then this end.
+    fn finish(&mut self, header: &Header, extra: u32) -> Result<BuiltFrame, BuildError>
+        ensures { Finishes header.now extra (left self.old) result }
+    {
+        self.fault = None;
+        let frame = self.frame(header);
+        match self.verdict(&frame, header, extra) {
+            None => Ok(BuiltFrame { frame, extra }),
+            Some(why) => Err(why),
+        }
+    }
+
+    /// Why a frame is not the one whose events were held, if it is not: after all of its parts were taken.
+    fn verdict(&self, frame: &Frame, header: &Header, extra: u32) -> Option<BuildError>
+        ensures { Tells header.now extra (frame_of frame.now) self.now result }
+    {
+        match self.fault {
+            Some(Fault::NoMemory) => return Some(BuildError::NoMemory),
+            Some(Fault::NoFrame) => return Some(BuildError::NoFrame),
+            None => {}
+        }
+        if !self.items.is_empty() {
+            return Some(BuildError::NoFrame);
+        }
+        if !is_of(frame, header, extra) {
+            return Some(BuildError::NoFrame);
+        }
+        None
+    }
+}
+
+/// Whether some bytes spell a frame that begins with this header, and the header's length is the frame's where this many bytes come after
+/// its last field.
+fn is_of(frame: &Frame, header: &Header, extra: u32) -> bool
+    ensures { BeginsWith header.now (frame_of frame.now) → (IsTrue result ↔ IsOfHeader (frame_of frame.now) header.now extra) }
+{
+    let Ok(len) = frame.measure() else {
+        return false;
+    };
+    is_directed(header) && is_length(header.length, len, extra)
+}
+
+/// Whether a header tells this length of a frame of so many bytes, 9 of them its header, with some more after its last field.
+fn is_length(told: u32, len: u32, extra: u32) -> bool
+    ensures { IsTrue result ↔ (len + extra ≡ told + 9) }
+{
+    u64::from(len) + u64::from(extra) == u64::from(told) + 9
+}
+
+/// Whether a header is a response's where its opcode is one of a response.
+fn is_directed(header: &Header) -> bool
+    ensures { result ≡ same header.now.response (answers header.now.opcode) }
+{
+    let answers = header.opcode.is_response();
+    if header.response { answers } else { !answers }
+}

@@ -1,0 +1,79 @@
+//! Events that are held.
+
+ghost use Rattle.std.specs.Prelude.{◌≡◌, IfOk, Some, option_map};
+ghost use Rattle.cqlp_grammar.specs.Events.{bound_of as told_bound, event_of};
+ghost use Rattle.cqlp_message.specs.Owned.{bound_of, bytes_of};
+ghost use Rattle.cqlp_build.specs.Held.{IsField, told_by};
+
+use cqlp_grammar::Event;
+use cqlp_message::OwnedBound;
+use cqlp_note::{Address, BoundValue, Field};
+use std::alloc::{AllocError, Global};
+
+/// A field of a frame, with what it holds.
+#[derive(Drop)]
+pub(crate) struct Item {
+    pub field: Field,
+    pub content: Content,
+}
+
+/// What a field holds, with bytes of its own.
+#[derive(Drop)]
+pub(crate) enum Content {
+    Byte(u8),
+    Short(u16),
+    Int(i32),
+    Long(i64),
+    Uuid([u8; 16]),
+    Count(u32),
+    Text(String),
+    Bytes(Option<Vec<u8>>),
+    Bound(OwnedBound),
+    Inet(Address, i32),
+}
+
+/// The same field, with bytes of its own.
+pub(crate) fn own(alloc: Global, event: &Event<'_>) -> Result<Item, AllocError>
+    requires { IsField (event_of event.now) }
+    ensures { IfOk result (λ item. told_by item ≡ event_of event.now) }
+{
+    let (field, content) = match *event {
+        Event::Byte { field, value } => (field, Content::Byte(value)),
+        Event::Short { field, value } => (field, Content::Short(value)),
+        Event::Int { field, value } => (field, Content::Int(value)),
+        Event::Long { field, value } => (field, Content::Long(value)),
+        Event::Uuid { field, value } => (field, Content::Uuid(value)),
+        Event::Count { field, count } => (field, Content::Count(count)),
+        Event::Text { field, text } => (field, Content::Text(String::from_str(alloc, text)?)),
+        Event::Bytes { field, bytes } => (field, Content::Bytes(own_bytes(alloc, bytes)?)),
+        Event::Bound { field, value } => (field, Content::Bound(own_bound(alloc, value)?)),
+        Event::Inet {
+            field,
+            address,
+            port,
+        } => (field, Content::Inet(address, port)),
+        _ => unreachable!(),
+    };
+    Ok(Item { field, content })
+}
+
+/// The same \[bytes\], with memory of their own.
+fn own_bytes(alloc: Global, bytes: Option<&[u8]>) -> Result<Option<Vec<u8>>, AllocError>
+    ensures { IfOk result (λ own. bytes_of own ≡ option_map (λ b. b.now) bytes.entry) }
+{
+    match bytes {
+        Some(bytes) => Ok(Some(Vec::from_slice(alloc, bytes)?)),
+        None => Ok(None),
+    }
+}
+
+/// The same \[value\], with bytes of its own.
+fn own_bound(alloc: Global, value: BoundValue<'_>) -> Result<OwnedBound, AllocError>
+    ensures { IfOk result (λ bound. bound_of bound ≡ told_bound value.entry) }
+{
+    Ok(match value {
+        BoundValue::Null => OwnedBound::Null,
+        BoundValue::Unset => OwnedBound::Unset,
+        BoundValue::Bytes(bytes) => OwnedBound::Bytes(Vec::from_slice(alloc, bytes)?),
+    })
+}

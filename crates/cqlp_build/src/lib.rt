@@ -1,0 +1,17 @@
+//! Frames of the CQL native protocol v4, built of their events.
+#![tactic(auto)]
+
+mod builder;
+mod content;
+mod error;
+mod frames;
+mod held;
+mod item;
+pub mod laws;
+mod lists;
+mod messages;
+mod requests;
+mod responses;
+
+pub use builder::{BuildLimits, BuiltFrame, FrameBuilder};
+pub use error::BuildError;

@@ -1,0 +1,221 @@
+//! Parts of responses.
+
+ghost use Rattle.std.specs.Prelude.{◌≡◌, true};
+ghost use Rattle.cqlp_message.specs.Agreement.{change_agrees, event_agrees, extra_agrees, options_agree};
+ghost use Rattle.cqlp_message.specs.Bodies as body;
+ghost use Rattle.cqlp_message.specs.Owned.{change_of, event_of, extra_of, options_of};
+ghost use Rattle.cqlp_build.specs.Held.{Builds};
+ghost use Rattle.cqlp_build.specs.Productions.{BuildsDetail, BuildsExtra, BuildsOptions, is_callable, is_named, is_node};
+ghost use Rattle.cqlp_build.specs.Told.{told};
+ghost use Rattle.cqlp_grammar.specs.Codes as error;
+
+use crate::held::Held;
+use cqlp_grammar::error_code;
+use cqlp_message::{ErrorExtra, SchemaChange, SchemaOptions, ServerEvent};
+use cqlp_note::Field;
+
+impl Held {
+    /// Takes what stands after the message of an error of this code.
+    pub fn extra(&mut self, code: u32) -> ErrorExtra
+        ensures { Builds (λ x. told (body.extra_parts x)) (λ x. extra_agrees code x ≡ true) (extra_of result) self.old self.new }
+    {
+        match code {
+            error_code::UNAVAILABLE => self.unavailable(),
+            error_code::WRITE_TIMEOUT => self.write_timeout(),
+            error_code::READ_TIMEOUT => self.read_timeout(),
+            error_code::READ_FAILURE => self.read_failure(),
+            error_code::FUNCTION_FAILURE => self.function_failure(),
+            error_code::WRITE_FAILURE => self.write_failure(),
+            error_code::ALREADY_EXISTS => self.already_exists(),
+            error_code::UNPREPARED => self.unprepared(),
+            _ => ErrorExtra::Plain,
+        }
+    }
+
+    /// Takes what an Unavailable_exception has.
+    fn unavailable(&mut self) -> ErrorExtra
+        ensures { BuildsExtra error.unavailable (extra_of result) self.old self.new }
+    {
+        let consistency = self.short(Field::Consistency);
+        let required = self.int(Field::Required);
+        let alive = self.int(Field::Alive);
+        ErrorExtra::Unavailable {
+            consistency,
+            required,
+            alive,
+        }
+    }
+
+    /// Takes what a Write_timeout has.
+    fn write_timeout(&mut self) -> ErrorExtra
+        ensures { BuildsExtra error.write_timeout (extra_of result) self.old self.new }
+    {
+        let consistency = self.short(Field::Consistency);
+        let received = self.int(Field::Received);
+        let block_for = self.int(Field::BlockFor);
+        let write_type = self.text(Field::WriteType);
+        ErrorExtra::WriteTimeout {
+            consistency,
+            received,
+            block_for,
+            write_type,
+        }
+    }
+
+    /// Takes what a Read_timeout has.
+    fn read_timeout(&mut self) -> ErrorExtra
+        ensures { BuildsExtra error.read_timeout (extra_of result) self.old self.new }
+    {
+        let consistency = self.short(Field::Consistency);
+        let received = self.int(Field::Received);
+        let block_for = self.int(Field::BlockFor);
+        let data_present = self.byte(Field::DataPresent);
+        ErrorExtra::ReadTimeout {
+            consistency,
+            received,
+            block_for,
+            data_present,
+        }
+    }
+
+    /// Takes what a Read_failure has.
+    fn read_failure(&mut self) -> ErrorExtra
+        ensures { BuildsExtra error.read_failure (extra_of result) self.old self.new }
+    {
+        let consistency = self.short(Field::Consistency);
+        let received = self.int(Field::Received);
+        let block_for = self.int(Field::BlockFor);
+        let failures = self.int(Field::Failures);
+        let data_present = self.byte(Field::DataPresent);
+        ErrorExtra::ReadFailure {
+            consistency,
+            received,
+            block_for,
+            failures,
+            data_present,
+        }
+    }
+
+    /// Takes what a Function_failure has.
+    fn function_failure(&mut self) -> ErrorExtra
+        ensures { BuildsExtra error.function_failure (extra_of result) self.old self.new }
+    {
+        let keyspace = self.text(Field::Keyspace);
+        let name = self.text(Field::Name);
+        let arguments = self.texts(Field::Arguments, Field::Argument);
+        ErrorExtra::FunctionFailure {
+            keyspace,
+            name,
+            arguments,
+        }
+    }
+
+    /// Takes what a Write_failure has.
+    fn write_failure(&mut self) -> ErrorExtra
+        ensures { BuildsExtra error.write_failure (extra_of result) self.old self.new }
+    {
+        let consistency = self.short(Field::Consistency);
+        let received = self.int(Field::Received);
+        let block_for = self.int(Field::BlockFor);
+        let failures = self.int(Field::Failures);
+        let write_type = self.text(Field::WriteType);
+        ErrorExtra::WriteFailure {
+            consistency,
+            received,
+            block_for,
+            failures,
+            write_type,
+        }
+    }
+
+    /// Takes what an Already_exists has.
+    fn already_exists(&mut self) -> ErrorExtra
+        ensures { BuildsExtra error.already_exists (extra_of result) self.old self.new }
+    {
+        let keyspace = self.text(Field::Keyspace);
+        let table = self.text(Field::Table);
+        ErrorExtra::AlreadyExists { keyspace, table }
+    }
+
+    /// Takes what an Unprepared has.
+    fn unprepared(&mut self) -> ErrorExtra
+        ensures { BuildsExtra error.unprepared (extra_of result) self.old self.new }
+    {
+        let id = self.statement();
+        ErrorExtra::Unprepared { id }
+    }
+
+    /// Takes a change of the schema.
+    pub fn change(&mut self) -> SchemaChange
+        ensures { Builds (λ c. told (body.change_parts c)) (λ c. change_agrees c ≡ true) (change_of result) self.old self.new }
+    {
+        let change = self.text(Field::Change);
+        let target = self.text(Field::Target);
+        let options = self.options(&target);
+        SchemaChange {
+            change,
+            target,
+            options,
+        }
+    }
+
+    /// Takes what was changed, of a target of this kind.
+    fn options(&mut self, target: &str) -> SchemaOptions
+        ensures { Builds (λ o. told (body.options_parts o)) (λ o. options_agree target.now o ≡ true) (options_of result) self.old self.new }
+    {
+        if target == "KEYSPACE" {
+            SchemaOptions::Keyspace(self.text(Field::Keyspace))
+        } else if target == "TABLE" || target == "TYPE" {
+            self.named()
+        } else if target == "FUNCTION" || target == "AGGREGATE" {
+            self.callable()
+        } else {
+            SchemaOptions::Unknown
+        }
+    }
+
+    /// Takes a keyspace, and the name of what is in it.
+    fn named(&mut self) -> SchemaOptions
+        ensures { BuildsOptions is_named (options_of result) self.old self.new }
+    {
+        let keyspace = self.text(Field::Keyspace);
+        let name = self.text(Field::Name);
+        SchemaOptions::Named(keyspace, name)
+    }
+
+    /// Takes a keyspace, the name of what can be called in it, and the types of its arguments.
+    fn callable(&mut self) -> SchemaOptions
+        ensures { BuildsOptions is_callable (options_of result) self.old self.new }
+    {
+        let keyspace = self.text(Field::Keyspace);
+        let name = self.text(Field::Name);
+        let arguments = self.texts(Field::Arguments, Field::Argument);
+        SchemaOptions::Callable(keyspace, name, arguments)
+    }
+
+    /// Takes what an event of this type tells.
+    pub fn detail(&mut self, event: &str) -> ServerEvent
+        ensures { Builds (λ e. told (body.event_parts e)) (λ e. event_agrees event.now e ≡ true) (event_of result) self.old self.new }
+    {
+        if event == "TOPOLOGY_CHANGE" || event == "STATUS_CHANGE" {
+            self.node()
+        } else if event == "SCHEMA_CHANGE" {
+            ServerEvent::Schema(self.change())
+        } else {
+            ServerEvent::Unknown
+        }
+    }
+
+    /// Takes a change of a node.
+    fn node(&mut self) -> ServerEvent
+        ensures { BuildsDetail is_node (event_of result) self.old self.new }
+    {
+        let change = self.text(Field::Change);
+        let (address, port) = self.inet();
+        ServerEvent::Node {
+            change,
+            address,
+            port,
+        }
+    }
+}
