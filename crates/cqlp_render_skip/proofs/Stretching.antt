@@ -227,7 +227,7 @@ module _ (form : TextForm) (l : Rules) (xs : List ℕ) (first : Outputs) where
               (subst (λ (z : List ℕ). FallsShort (with_text first.out (text_before form r.stretches ++ text form E)) z (outputs now').out) break_is
               (subst (λ (v : Rendering). FallsShort v.output (break_of now.text.form) (outputs now').out) taken_is out.0)));
           told = r.stretches;
-          but_last = inr (y, refl);
+          but_last = inr (y, refl, refl);
           err = out.1 ∙ r.err;
           any_passed = passed;
         })

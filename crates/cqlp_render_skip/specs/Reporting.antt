@@ -92,7 +92,7 @@ module _ (form : TextForm) (l : Rules) (xs : List ℕ) (first : Outputs) where
     pub passed : now.passed ≡ any stretches
 
   -- The output failed: it was given a front of its text, and the error output the lines of the frames passed over, but
-  -- for that of the last one where the text of that frame's stretch was under way.
+  -- for that of the last one where the output failed at the end of that frame's stretch.
   pub record FailsInOutput (passed : Bool) (now : Outputs) : Type 0 where
     pub d : Skipping
     pub s : List ℕ
@@ -101,7 +101,7 @@ module _ (form : TextForm) (l : Rules) (xs : List ℕ) (first : Outputs) where
     pub stands : StandsAt l xs d s stretches events
     pub out : FallsShort first.out (text_with form stretches events) now.out
     pub told : List Stretch
-    pub but_last : (told ≡ stretches) ⊎ ((x : Stretch) × (stretches ≡ x ∷ told))
+    pub but_last : (told ≡ stretches) ⊎ ((x : Stretch) × (stretches ≡ x ∷ told) × (events ≡ []))
     pub err : now.err ≡ with_text first.err (lines_before told)
     pub any_passed : passed ≡ any stretches
 

@@ -1,5 +1,5 @@
 -- One list of stretches, and one end of it.
-use Rattle.std.proofs.Common.{◌≡◌, ◌≢◌, ℕ, suc, ◌+◌, ◌-◌, ◌<◌, ◌≤◌, ◌^◌, Bool, false, List, [], ◌∷◌, ◌++◌, length, drop, min, Option, Some, None, refl, sym, ap, inl, inr, ◌∙◌, subst, append-nil, arith}
+use Rattle.std.proofs.Common.{◌≡◌, ℕ, zero, suc, ◌+◌, ◌-◌, ◌<◌, ◌≤◌, ◌^◌, Bool, List, [], ◌∷◌, ◌++◌, length, drop, min, Option, Some, None, refl, sym, ap, inl, inr, ◌∙◌, subst, append-nil, arith}
 use Rattle.std.specs.Prelude.{◌⊎◌}
 use Rattle.std.proofs.lemmas.Bool.{cases_lt}
 use Rattle.cqlp_note.specs.declared.refusal.Refusal.{Refusal}
@@ -7,24 +7,22 @@ use Rattle.cqlp_note.specs.Limits.{Rules}
 use Rattle.cqlp_grammar.specs.declared.event.Finish.{Finish}
 use Rattle.cqlp_grammar.specs.declared.event.Finish.TheVariants as finish
 use Rattle.cqlp_decode.specs.Reading.{Event, Verdict, Gifts, Waits, Refused, Says, start_with}
-use Rattle.cqlp_decode.specs.Streams.{FinishesBy, is_open, frame_of}
+use Rattle.cqlp_decode.specs.Streams.{FinishesBy}
 use Rattle.cqlp_laws.proofs.Whole.{says_once}
 use Rattle.cqlp_render.specs.declared.text_form.TextForm.{TextForm}
-use Rattle.cqlp_render.specs.Showing.{Concludes, ConcludesCheck}
+use Rattle.cqlp_render.specs.Showing.{Concludes}
 use Rattle.cqlp_skip.specs.declared.frame.OpenFrame.{OpenFrame}
 use Rattle.cqlp_skip.specs.Pieces.{refusal_from}
-use Rattle.cqlp_skip.specs.Skipping.{Skipping, FinishesAs, finish_from, stream, rules_in}
+use Rattle.cqlp_skip.specs.Skipping.{Skipping, FinishesAs, finish_from, stream}
 use Rattle.cqlp_skip.specs.Stretches.{Stretch, GivenUp, base_after, frame_under_way, told_at}
 use Rattle.cqlp_skip_laws.specs.Laws.{gifts_of}
 use Rattle.cqlp_skip_laws.proofs.Once.{once}
 use Rattle.cqlp_text.specs.declared.ending.Ending.TheVariants as ending
 use Rattle.cqlp_text.specs.declared.exit_status.TheConstants.{FAULT}
-use Rattle.cqlp_text.specs.Endings.{ending_line, status_of, finish_status}
 use Rattle.cqlp_text.specs.Outputs.{Output, with_text}
-use Rattle.cqlp_render_skip.specs.Reporting.{Outputs, StandsAt}
+use Rattle.cqlp_render_skip.specs.Reporting.{Outputs}
 use Rattle.cqlp_render_skip.specs.Showing.{FinishesIn, Shows, status_after}
 use Rattle.cqlp_render_skip.specs.Texts.{AreGivenNothing, IsLast, any, lines_before, text_with}
-use Rattle.cqlp_render_skip.proofs.Turning.{finishes_free}
 use Rattle.cqlp_render_skip_laws.specs.Laws.{IsOneAnswer, IsOneCheck, IsOneReport, IsPlain}
 
 -- ---- two lists of stretches
@@ -63,9 +61,11 @@ module _ (l : Rules) (xs : List ℕ) where
   told_further : (a : List Stretch) (g : GoesFurther a) → Told a g.next.events (Refused g.next.refusal.at g.next.refusal.why) × (frame_under_way g.next.events ≡ Some g.next.frame)
   told_further a g =
       let from : g.next.from ≡ base_after a = g.given_up.0 in
-      let says = g.given_up.1.0 in
-      (subst (λ (n : ℕ). Says l (start_with []) (drop n xs) g.next.events (Refused g.next.refusal.at g.next.refusal.why)) from
-      (subst (λ (z : Gifts). Says l (start_with z) (drop g.next.from xs) g.next.events (Refused g.next.refusal.at g.next.refusal.why)) g.plain.0 says), g.given_up.1.1)
+      let says = g.given_up.1.0 in (
+        subst (λ (n : ℕ). Says l (start_with []) (drop n xs) g.next.events (Refused g.next.refusal.at g.next.refusal.why)) from
+            (subst (λ (z : Gifts). Says l (start_with z) (drop g.next.from xs) g.next.events (Refused g.next.refusal.at g.next.refusal.why)) g.plain.0 says),
+        g.given_up.1.1,
+      )
 
   -- a reading stands at its end there: no frame can be passed over
   abbrev pub EndsAt : List Stretch → List (ℕ × Event) → Verdict → Type 0
@@ -85,9 +85,9 @@ module _ (l : Rules) (xs : List ℕ) where
       let same_length : length b ≡ length a = elim (cases_lt (length a) (length b)) [
         | inl lt ↦ absurd (no_further a es v ea (further a b (length b - length a - 1) (omega (arith, lt)) ga gb p q))
         | inr le ↦ elim (cases_lt (length b) (length a)) [
-            | inl lt ↦ absurd (no_further b es' v' eb (further b a (length a - length b - 1) (omega (arith, lt)) gb ga q p))
-            | inr ge ↦ omega (arith, le, ge)
-          ]
+          | inl lt ↦ absurd (no_further b es' v' eb (further b a (length a - length b - 1) (omega (arith, lt)) gb ga q p))
+          | inr ge ↦ omega (arith, le, ge)
+        ]
       ] in
       let same : b ≡ a = once l xs a b ga gb (nothing_same a b p q same_length) in
       let there : Told a es' v' = subst (λ (z : List Stretch). Told z es' v') same eb.0 in
@@ -142,8 +142,8 @@ module _ (form : TextForm) (l : Rules) (xs : List ℕ) (before : Outputs) where
     at_the_end : (f : Finish) → Says l (start_with []) (drop x.d.base x.s) x.events Waits → x.s ≡ xs → FinishesAs x.d f → Closed f passed after
     at_the_end f says all fin =
         let waits : Told l xs x.stretches x.events Waits =
-            subst (λ (n : ℕ). Says l (start_with []) (drop n xs) x.events Waits) x.stands.after.base
-            (subst (λ (z : List ℕ). Says l (start_with []) (drop x.d.base z) x.events Waits) all says) in
+        subst (λ (n : ℕ). Says l (start_with []) (drop n xs) x.events Waits) x.stands.after.base
+        (subst (λ (z : List ℕ). Says l (start_with []) (drop x.d.base z) x.events Waits) all says) in
         let free = unrefused_by (stream x.d).refusal (λ r is. let one = says_once l (start_with []) (drop (base_after x.stretches) xs) x.events x.events Waits (Refused r.at r.why) waits (says_refused r is) in let no = one.1 in cc) in
         record { x = x; v = Waits; ends = (waits, inl refl); how = inl (refl, all, fin, free) }
 
@@ -164,7 +164,7 @@ module _ (form : TextForm) (l : Rules) (xs : List ℕ) (before : Outputs) where
   closed : (f : Finish) (passed : Bool) (after : Outputs) (left : Option (List ℕ)) (a : FinishesIn form l xs before f passed after left) → IsPlain form l xs before f passed after left a → Closed f passed after
   closed (finish.Whole n) passed after left a plain = at_the_end passed after a.0.0 (finish.Whole n) a.0.1 (no_rest a.0.0.s a.0.2 left a.0.3 a.0.4 a.1) a.2
   closed (finish.Cut at n) passed after left a plain = at_the_end passed after a.0.0 (finish.Cut at n) a.0.1 (no_rest a.0.0.s a.0.2 left a.0.3 a.0.4 a.1) a.2
-  closed (finish.Refused r) passed after left a plain = refused_there passed after a.0 r a.1 a.2 a.3 plain
+  closed (finish.Refused r) passed after left a plain = refused_there passed after a.0 r a.1.0 a.1.1 a.1.2 plain
 
   module _ (f f' : Finish) (passed passed' : Bool) (after after' : Outputs) (a : Closed f passed after) (b : Closed f' passed' after') where
     one : (b.x.stretches ≡ a.x.stretches) × (b.x.events ≡ a.x.events) × (b.v ≡ a.v)
@@ -184,7 +184,7 @@ module _ (form : TextForm) (l : Rules) (xs : List ℕ) (before : Outputs) where
       within : a.x.d.used < a.x.d.base → f' ≡ f
       within lt =
           let last : b.x.d.last ≡ a.x.d.last =
-              last_same a.x.stretches a.x.d.last b.x.d.last (omega (arith, lt, a.x.stands.after.base)) a.x.stands.last (subst (λ (z : List Stretch). IsLast z b.x.d.last) one.0 b.x.stands.last) in
+          last_same a.x.stretches a.x.d.last b.x.d.last (omega (arith, lt, a.x.stands.after.base)) a.x.stands.last (subst (λ (z : List Stretch). IsLast z b.x.d.last) one.0 b.x.stands.last) in
           fin'.within (omega (arith, lt, used_same, base_same)) ∙ cut_same a.x.d.last b.x.d.last a.x.d.used b.x.d.used last used_same ∙ sym (fin.within lt)
 
       behind : a.x.d.base ≤ a.x.d.used → f' ≡ f
@@ -192,31 +192,31 @@ module _ (form : TextForm) (l : Rules) (xs : List ℕ) (before : Outputs) where
           let p = fin.behind le in
           let q = fin'.behind (omega (arith, le, used_same, base_same)) in
           let by : FinishesBy None (drop a.x.d.base xs) a.x.events p.0 =
-              subst (λ (z : List ℕ). FinishesBy None (drop a.x.d.base z) a.x.events p.0) all
-              (subst (λ (o : Option Refusal). FinishesBy o (drop a.x.d.base a.x.s) a.x.events p.0) free (p.1 [] (drop a.x.d.base a.x.s) a.x.events a.x.stands.after.stands)) in
+          subst (λ (z : List ℕ). FinishesBy None (drop a.x.d.base z) a.x.events p.0) all
+          (subst (λ (o : Option Refusal). FinishesBy o (drop a.x.d.base a.x.s) a.x.events p.0) free (p.1 [] (drop a.x.d.base a.x.s) a.x.events a.x.stands.after.stands)) in
           let by' : FinishesBy None (drop a.x.d.base xs) a.x.events q.0 =
-              subst (λ (es : List (ℕ × Event)). FinishesBy None (drop a.x.d.base xs) es q.0) one.1
-              (subst (λ (n : ℕ). FinishesBy None (drop n xs) b.x.events q.0) base_same
-              (subst (λ (z : List ℕ). FinishesBy None (drop b.x.d.base z) b.x.events q.0) all'
-              (subst (λ (o : Option Refusal). FinishesBy o (drop b.x.d.base b.x.s) b.x.events q.0) free' (q.1 [] (drop b.x.d.base b.x.s) b.x.events b.x.stands.after.stands)))) in
+          subst (λ (es : List (ℕ × Event)). FinishesBy None (drop a.x.d.base xs) es q.0) one.1
+          (subst (λ (n : ℕ). FinishesBy None (drop n xs) b.x.events q.0) base_same
+          (subst (λ (z : List ℕ). FinishesBy None (drop b.x.d.base z) b.x.events q.0) all'
+          (subst (λ (o : Option Refusal). FinishesBy o (drop b.x.d.base b.x.s) b.x.events q.0) free' (q.1 [] (drop b.x.d.base b.x.s) b.x.events b.x.stands.after.stands)))) in
           let own : q.0 ≡ p.0 = ends_once (drop a.x.d.base xs) a.x.events p.0 q.0 by by' in
           q.2 ∙ from_same a.x.d b.x.d q.0 used_same base_same ∙ ap (finish_from a.x.d) own ∙ sym p.2
 
       at_end : f' ≡ f
-      at_end = elim (cases_lt a.x.d.used a.x.d.base) [ | inl lt ↦ within lt | inr le ↦ behind le ]
+      at_end = elim (cases_lt a.x.d.used a.x.d.base) [ inl lt ↦ within lt | inr le ↦ behind le ]
 
     finish_same : f' ≡ f
     finish_same = elim a.how [
       | inl p ↦ elim b.how [
-          | inl q ↦ at_end p.1 q.1 p.3 q.3 p.2 q.2
-          | inr q ↦ absurd (let no : ◌≡◌ {A = Verdict} (Refused q.0.at q.0.why) Waits = sym q.1 ∙ one.2 ∙ p.0 in cc)
-        ]
+        | inl q ↦ at_end p.1 q.1 p.3 q.3 p.2 q.2
+        | inr q ↦ absurd (let no : ◌≡◌ {A = Verdict} (Refused q.0.at q.0.why) Waits = sym q.1 ∙ one.2 ∙ p.0 in cc)
+      ]
       | inr p ↦ elim b.how [
-          | inl q ↦ absurd (let no : ◌≡◌ {A = Verdict} Waits (Refused p.0.at p.0.why) = sym q.0 ∙ one.2 ∙ p.1 in cc)
-          | inr q ↦
-              let own : q.0 ≡ p.0 = refused_same p.0 q.0 (sym q.1 ∙ one.2 ∙ p.1) in
-              q.2 ∙ ap (λ (z : List Stretch). finish.Refused (refusal_from (base_after z) q.0)) one.0 ∙ ap (λ (r : Refusal). finish.Refused (refusal_from (base_after a.x.stretches) r)) own ∙ sym p.2
-        ]
+        | inl q ↦ absurd (let no : ◌≡◌ {A = Verdict} Waits (Refused p.0.at p.0.why) = sym q.0 ∙ one.2 ∙ p.1 in cc)
+        | inr q ↦
+            let own : q.0 ≡ p.0 = refused_same p.0 q.0 (sym q.1 ∙ one.2 ∙ p.1) in
+            q.2 ∙ ap (λ (z : List Stretch). finish.Refused (refusal_from (base_after z) q.0)) one.0 ∙ ap (λ (r : Refusal). finish.Refused (refusal_from (base_after a.x.stretches) r)) own ∙ sym p.2
+      ]
     ]
 
     all_same : (f' ≡ f) × (passed' ≡ passed) × (after' ≡ after)

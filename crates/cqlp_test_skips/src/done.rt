@@ -47,7 +47,12 @@ impl<'a> Call<'a> {
 
     /// With its stream in one piece, and room for all that is written.
     pub fn whole(&self, alloc: Global) -> Done {
-        self.done(alloc, &mut self.pieces([usize::MAX; 3]), usize::MAX, usize::MAX)
+        self.done(
+            alloc,
+            &mut self.pieces([usize::MAX; 3]),
+            usize::MAX,
+            usize::MAX,
+        )
     }
 
     /// With this input, and room for this many bytes in each output.
