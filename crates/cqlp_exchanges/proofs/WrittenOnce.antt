@@ -1,8 +1,5 @@
 -- Two runs are one.
-use Rattle.std.proofs.Common.{◌≡◌, ◌∙◌, ◌≢◌, ℕ, List, Option, Result, sym, ap, subst}
-use Rattle.cqlp_text.specs.Outputs.{Output}
-use Rattle.cqlp_streams.specs.declared.capturing.CaptureRead.{CaptureRead}
-use Rattle.cqlp_streams.specs.declared.fault.StreamsFault.{StreamsFault}
+use Rattle.std.proofs.Common.{◌∙◌, sym, ap, subst}
 use Rattle.cqlp_streams.specs.Endings.{Concludes}
 use Rattle.cqlp_streams.proofs.OneAnswer.{runs_once}
 use Rattle.cqlp_exchanges.specs.declared.sums.ExchangeSums.{ExchangeSums}

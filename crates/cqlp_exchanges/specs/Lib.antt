@@ -4,6 +4,7 @@ pub mod Filters
 pub mod Statements
 pub mod Replies
 pub mod Shown
+pub mod Prepared
 pub mod Lines
 pub mod Accounts
 pub mod Talks

@@ -13,6 +13,8 @@ use Rattle.cqlp_watch.specs.declared.paired.Paired.TheVariants.{Exchange, Unansw
 use Rattle.cqlp_exchanges.specs.declared.reply.Reply.{Reply}
 use Rattle.cqlp_exchanges.specs.declared.reply.Reply.TheVariants as reply_as
 use Rattle.cqlp_exchanges.specs.declared.span.Unit.TheVariants.{Second, Millisecond}
+use Rattle.cqlp_exchanges.specs.declared.prepared.Preparation.{Preparation}
+use Rattle.cqlp_exchanges.specs.Prepared.{named}
 use Rattle.cqlp_exchanges.specs.Replies.{error_names, kind_names, reply}
 use Rattle.cqlp_exchanges.specs.Shown.{shown_text}
 use Rattle.cqlp_exchanges.specs.Spans.{time_between}
@@ -64,9 +66,10 @@ abbrev pub frame_text : Frame → List ℕ
 frame_text f =
     joined (codes " " ∷ decimal (9 + f.header.length) ∷ cut_mark f.whole ∷ compressed_mark (has f.header.flags 0x01) ∷ [])
 
-abbrev pub request_text : Message (List ℕ) → List ℕ
-request_text m =
-    joined (opcode_name m.frame.header.opcode ∷ statement_text (statement m.frame.header m.kept) ∷ frame_text m.frame ∷ [])
+-- with the text of a statement that is known in place of its id
+abbrev pub request_text : (known : List Preparation) → Message (List ℕ) → List ℕ
+request_text known m =
+    joined (opcode_name m.frame.header.opcode ∷ statement_text (named known (statement m.frame.header m.kept)) ∷ frame_text m.frame ∷ [])
 
 abbrev pub response_text : Message (List ℕ) → List ℕ
 response_text m = joined (reply_text (reply m.frame.header m.kept) ∷ frame_text m.frame ∷ [])
@@ -83,9 +86,9 @@ place_text first number f =
 abbrev pub took_text : (request response : Frame) → List ℕ
 took_text q r = joined (codes " " ∷ time_text Millisecond (time_between q.begun r.ended) ∷ codes " ms\n" ∷ [])
 
-abbrev pub line : (first : Option ℕ) → (number : ℕ) → Paired (List ℕ) → List ℕ
-line first number (Exchange q r) =
-    joined (place_text first number q.frame ∷ request_text q ∷ codes " -> " ∷ response_text r ∷ took_text q.frame r.frame ∷ [])
-line first number (Unanswered q) = joined (place_text first number q.frame ∷ request_text q ∷ codes " -> nothing\n" ∷ [])
-line first number (Unasked r) = joined (place_text first number r.frame ∷ codes "nothing -> " ∷ response_text r ∷ codes "\n" ∷ [])
-line first number (Event e) = joined (place_text first number e.frame ∷ response_text e ∷ codes "\n" ∷ [])
+abbrev pub line : (known : List Preparation) → (first : Option ℕ) → (number : ℕ) → Paired (List ℕ) → List ℕ
+line known first number (Exchange q r) =
+    joined (place_text first number q.frame ∷ request_text known q ∷ codes " -> " ∷ response_text r ∷ took_text q.frame r.frame ∷ [])
+line known first number (Unanswered q) = joined (place_text first number q.frame ∷ request_text known q ∷ codes " -> nothing\n" ∷ [])
+line known first number (Unasked r) = joined (place_text first number r.frame ∷ codes "nothing -> " ∷ response_text r ∷ codes "\n" ∷ [])
+line known first number (Event e) = joined (place_text first number e.frame ∷ response_text e ∷ codes "\n" ∷ [])

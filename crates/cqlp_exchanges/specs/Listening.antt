@@ -20,7 +20,7 @@ listening slots time a = record { slots = slots; time = time; account = a }
 
 abbrev pub new_listening : ExchangeLimits → ExchangeFilter → Output → Listening
 new_listening limits filter out =
-    listening (replicate limits.connections (unused limits.waiting)) None (account filter None no_sums out)
+    listening (replicate limits.connections (unused limits.waiting)) None (account filter None [] no_sums out)
 
 -- ---- what a saying does: which connection it is of, what is told of that, and the time
 

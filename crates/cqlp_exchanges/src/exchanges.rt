@@ -1,10 +1,11 @@
 //! What listens to the connections of a capture.
 
-ghost use Rattle.std.specs.Prelude.{◌≡◌, ◌≤◌, IfErr, IfOk, IsSome, replicate, vec_len};
+ghost use Rattle.std.specs.Prelude.{◌≡◌, ◌≤◌, [], IfErr, IfOk, IsSome, replicate, vec_capacity, vec_len};
 ghost use Rattle.cqlp_text.specs.Outputs.{written};
 ghost use Rattle.cqlp_exchanges.specs.Tables.{unused};
 
 use crate::filter::ExchangeFilter;
+use crate::prepared::{MOST, Preparation};
 use crate::sums::ExchangeSums;
 use crate::table::Table;
 use crate::teller::Teller;
@@ -57,7 +58,7 @@ impl<O: Target, A: Allocator> Exchanges<O, A> {
     ghost use Rattle.cqlp_streams.specs.Sayings.{Left, New, Of, Packet, saying_of};
     ghost use Rattle.cqlp_exchanges.specs.Listening.{Hears, new_listening, with_saying};
 
-    /// Nothing is watched, and lines go to this output. All memory is taken here, in one request for each connection of the limit and two more; where
+    /// Nothing is watched, and lines go to this output. All memory is taken here, in one request for each connection of the limit and three more; where
     /// it is not granted, the output is given back.
     pub fn new(alloc: A, limits: ExchangeLimits, filter: ExchangeFilter, out: O) -> Result<Self, O>
     where
@@ -67,10 +68,10 @@ impl<O: Target, A: Allocator> Exchanges<O, A> {
         ensures err { IfErr result (λ o. written O.Target o ≡ written O.Target out) }
     {
         match take_memory(alloc, limits) {
-            Ok((table, buffer)) => Ok(Exchanges {
+            Ok((table, buffer, known)) => Ok(Exchanges {
                 table,
                 time: None,
-                teller: Teller::new(filter, out, buffer),
+                teller: Teller::new(filter, out, buffer, known),
             }),
             Err(AllocError) => Err(out),
         }
@@ -139,17 +140,19 @@ impl<O: Target, A: Allocator> Exchanges<O, A> {
     }
 }
 
-/// A table of free slots, and the buffer of a line.
+/// A table of free slots, the buffer of a line, and room for statements.
 fn take_memory<A: Allocator + Clone>(
     alloc: A,
     limits: ExchangeLimits,
-) -> Result<(Table<A>, Vec<u8, A>), AllocError>
+) -> Result<(Table<A>, Vec<u8, A>, Vec<Preparation, A>), AllocError>
     ensures table { IfOk result (λ p. p.0 ≡ replicate limits.connections (unused limits.waiting)) }
     ensures buffer { IfOk result (λ p. 128 ≤ vec_len p.1) }
+    ensures known { IfOk result (λ p. (p.2.items ≡ []) × (256 ≤ vec_capacity p.2)) }
 {
     let table = Table::new(alloc.clone()?, limits.connections, limits.waiting)?;
-    let buffer = vec![in alloc; 0; ROOM]?;
-    Ok((table, buffer))
+    let buffer = vec![in alloc.clone()?; 0; ROOM]?;
+    let known = Vec::with_capacity(alloc, MOST)?;
+    Ok((table, buffer, known))
 }
 
 impl<O: Target, A: Allocator> Listener for Exchanges<O, A> {

@@ -6,6 +6,7 @@ mod exchanges;
 mod filter;
 pub mod laws;
 mod lines;
+mod prepared;
 mod reply;
 mod shown;
 mod slot;

@@ -9,6 +9,7 @@ ghost use Rattle.cqlp_exchanges.specs.Statements.{said_of};
 ghost use Rattle.std.specs.Prelude.{option_map};
 ghost use Rattle.cqlp_watch.specs.declared.paired.Paired.TheVariants.{Exchange, Unanswered, Unasked, Event};
 
+use crate::prepared::{Preparation, named};
 use crate::reply::{Reply, error_name, kind_name, reply_of};
 use crate::shown::put_shown_text;
 use crate::span::{Unit, put_time, time_between};
@@ -22,31 +23,33 @@ use std::alloc::Allocator;
 /// Takes the line of what is told of the connection with this number, in a capture whose first packet came at this time, and passes it on.
 pub(crate) fn put_line<W: Target, A: Allocator>(
     writer: &mut TextWriter<Buffered<W, A>>,
+    known: &[Preparation],
     first: Option<u64>,
     number: u64,
     told: &Paired<Kept>,
 ) -> Result<(), SinkFault>
-    ensures line { Writes writer.old (line first number told.now) result writer.new }
+    ensures line { Writes writer.old (line known.now first number told.now) result writer.new }
     ensures passed { writer.new.waiting ≡ [] }
 {
-    put_paired(writer, first, number, told)?;
+    put_paired(writer, known, first, number, told)?;
     writer.pass_on()
 }
 
 /// Takes the line of what is told.
 fn put_paired<P: Pen>(
     writer: &mut TextWriter<P>,
+    known: &[Preparation],
     first: Option<u64>,
     number: u64,
     told: &Paired<Kept>,
 ) -> Result<(), SinkFault>
-    ensures { Writes writer.old (line first number told.now) result writer.new }
+    ensures { Writes writer.old (line known.now first number told.now) result writer.new }
 {
     match told {
         Paired::Exchange { request, response } => {
-            put_exchange(writer, first, number, request, response)
+            put_exchange(writer, known, first, number, request, response)
         }
-        Paired::Unanswered { request } => put_unanswered(writer, first, number, request),
+        Paired::Unanswered { request } => put_unanswered(writer, known, first, number, request),
         Paired::Unasked { response } => put_unasked(writer, first, number, response),
         Paired::Event { event } => put_event(writer, first, number, event),
     }
@@ -54,15 +57,16 @@ fn put_paired<P: Pen>(
 
 fn put_exchange<P: Pen>(
     writer: &mut TextWriter<P>,
+    known: &[Preparation],
     first: Option<u64>,
     number: u64,
     request: &Message<Kept>,
     response: &Message<Kept>,
 ) -> Result<(), SinkFault>
-    ensures { Writes writer.old (line first number (Exchange request.now response.now)) result writer.new }
+    ensures { Writes writer.old (line known.now first number (Exchange request.now response.now)) result writer.new }
 {
     put_place(writer, first, number, &request.frame)?;
-    put_request(writer, request)?;
+    put_request(writer, known, request)?;
     writer.put(b" -> ")?;
     put_response(writer, response)?;
     put_took(writer, &request.frame, &response.frame)
@@ -70,14 +74,15 @@ fn put_exchange<P: Pen>(
 
 fn put_unanswered<P: Pen>(
     writer: &mut TextWriter<P>,
+    known: &[Preparation],
     first: Option<u64>,
     number: u64,
     request: &Message<Kept>,
 ) -> Result<(), SinkFault>
-    ensures { Writes writer.old (line first number (Unanswered request.now)) result writer.new }
+    ensures { Writes writer.old (line known.now first number (Unanswered request.now)) result writer.new }
 {
     put_place(writer, first, number, &request.frame)?;
-    put_request(writer, request)?;
+    put_request(writer, known, request)?;
     writer.put(b" -> nothing\n")
 }
 
@@ -87,7 +92,7 @@ fn put_unasked<P: Pen>(
     number: u64,
     response: &Message<Kept>,
 ) -> Result<(), SinkFault>
-    ensures { Writes writer.old (line first number (Unasked response.now)) result writer.new }
+    ensures { Writes writer.old (line [] first number (Unasked response.now)) result writer.new }
 {
     put_place(writer, first, number, &response.frame)?;
     writer.put(b"nothing -> ")?;
@@ -101,7 +106,7 @@ fn put_event<P: Pen>(
     number: u64,
     event: &Message<Kept>,
 ) -> Result<(), SinkFault>
-    ensures { Writes writer.old (line first number (Event event.now)) result writer.new }
+    ensures { Writes writer.old (line [] first number (Event event.now)) result writer.new }
 {
     put_place(writer, first, number, &event.frame)?;
     put_response(writer, event)?;
@@ -147,10 +152,15 @@ fn put_took<P: Pen>(
     writer.put(b" ms\n")
 }
 
-fn put_request<P: Pen>(writer: &mut TextWriter<P>, request: &Message<Kept>) -> Result<(), SinkFault>
-    ensures { Writes writer.old (request_text request.now) result writer.new }
+fn put_request<P: Pen>(
+    writer: &mut TextWriter<P>,
+    known: &[Preparation],
+    request: &Message<Kept>,
+) -> Result<(), SinkFault>
+    ensures { Writes writer.old (request_text known.now request.now) result writer.new }
 {
-    let statement = statement_of(&request.frame.header, request.kept.as_slice());
+    let own = statement_of(&request.frame.header, request.kept.as_slice());
+    let statement = named(known, own);
     writer.put_str(opcode_name(request.frame.header.opcode))?;
     put_statement(writer, &statement)?;
     put_frame(writer, &request.frame)

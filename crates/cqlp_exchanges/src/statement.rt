@@ -67,7 +67,7 @@ fn text_front(bytes: &[u8]) -> &str
 }
 
 /// A \[short bytes\]. Section 3 of `native_protocol_v4.spec`.
-fn short_bytes(body: &[u8]) -> Option<Statement<'_>>
+pub(crate) fn short_bytes(body: &[u8]) -> Option<Statement<'_>>
     ensures { option_map said_of result ≡ short_bytes body.now }
 {
     let (len, content) = body.split_first_chunk::<2>()?;

@@ -5,11 +5,12 @@ ghost use Rattle.cqlp_text.specs.Outputs.{written};
 
 use crate::filter::ExchangeFilter;
 use crate::lines::put_line;
+use crate::prepared::{Preparation, add_known, is_news};
 use crate::sums::ExchangeSums;
 use cqlp_grammar::SinkFault;
 use cqlp_note::Target;
 use cqlp_text::{Buffered, TextWriter};
-use cqlp_watch::{Kept, Paired};
+use cqlp_watch::{Kept, Message, Paired};
 use std::alloc::{Allocator, Global};
 use std::marker::Model;
 
@@ -19,35 +20,46 @@ pub(crate) struct Teller<O: Target, A: Allocator = Global> {
     filter: ExchangeFilter,
     /// When the first packet was captured.
     first: Option<u64>,
+    /// The statements that were prepared last.
+    known: Vec<Preparation, A>,
     sums: ExchangeSums,
     writer: TextWriter<Buffered<O, A>>,
 }
 
 impl<O: Target, A: Allocator> Model for Teller<O, A> {
-    ghost use Rattle.std.specs.Prelude.{◌≡◌, []};
+    ghost use Rattle.std.specs.Prelude.{◌≡◌, ◌≤◌, [], length, vec_capacity};
     ghost use Rattle.cqlp_text.specs.Outputs.{output};
     ghost use Rattle.cqlp_exchanges.specs.Accounts.{Account, account};
 
     ghost Value = { Account };
 
-    ghost view = { λ t. account t.filter t.first t.sums (output t.writer.given t.writer.failures) };
+    ghost view = { λ t. account t.filter t.first t.known.items t.sums (output t.writer.given t.writer.failures) };
 
-    ghost invariant = { λ t. t.writer.waiting ≡ [] };
+    ghost invariant = { λ t. (t.writer.waiting ≡ []) × (length t.known.items ≤ 256) × (256 ≤ vec_capacity t.known) };
 }
 
 impl<O: Target, A: Allocator> Teller<O, A> {
-    ghost use Rattle.std.specs.Prelude.{◌≤◌, vec_len};
+    ghost use Rattle.std.specs.Prelude.{◌≤◌, [], vec_capacity, vec_len};
     ghost use Rattle.cqlp_watch.specs.Pairings.{told_or_none};
-    ghost use Rattle.cqlp_exchanges.specs.Accounts.{Tells, ToldAll, account, no_sums, since};
+    ghost use Rattle.cqlp_watch.specs.declared.paired.Paired.TheVariants.{Exchange};
+    ghost use Rattle.cqlp_exchanges.specs.Accounts.{Tells, ToldAll, account, learned, no_sums, since};
 
     /// Of an output, with nothing told. A line waits in the buffer until it is whole, as far as there is room for it.
-    pub(crate) fn new(filter: ExchangeFilter, out: O, buffer: Vec<u8, A>) -> Self
-        requires { 128 ≤ vec_len buffer }
-        ensures { result ≡ account filter None no_sums (written O.Target out) }
+    pub(crate) fn new(
+        filter: ExchangeFilter,
+        out: O,
+        buffer: Vec<u8, A>,
+        known: Vec<Preparation, A>,
+    ) -> Self
+        requires buffer { 128 ≤ vec_len buffer }
+        requires none { known.items ≡ [] }
+        requires room { 256 ≤ vec_capacity known }
+        ensures { result ≡ account filter None [] no_sums (written O.Target out) }
     {
         Teller {
             filter,
             first: None,
+            known,
             sums: ExchangeSums::none(),
             writer: TextWriter::new(Buffered::new(out, buffer)),
         }
@@ -61,6 +73,7 @@ impl<O: Target, A: Allocator> Teller<O, A> {
         let Teller {
             filter: _,
             first: _,
+            known: _,
             sums,
             writer,
         } = self;
@@ -80,7 +93,7 @@ impl<O: Target, A: Allocator> Teller<O, A> {
     {
         self.sums.count(told);
         if self.filter.shows(number, told) {
-            put_line(&mut self.writer, self.first, number, told)
+            put_line(&mut self.writer, &self.known, self.first, number, told)
         } else {
             Ok(())
         }
@@ -95,8 +108,31 @@ impl<O: Target, A: Allocator> Teller<O, A> {
         ensures { ToldAll number (told_or_none told) self.old result self.new }
     {
         match told {
-            Some(told) => self.tell(number, &told),
+            Some(told) => {
+                self.tell(number, &told)?;
+                self.learn(told);
+                Ok(())
+            }
             None => Ok(()),
+        }
+    }
+
+    /// Keeps a statement that was prepared, with its id.
+    fn learn(&mut self, told: Paired<Kept>)
+        ensures { self.new ≡ learned told self.old }
+    {
+        match told {
+            Paired::Exchange { request, response } => self.learn_exchange(request, response),
+            Paired::Unanswered { .. } | Paired::Unasked { .. } | Paired::Event { .. } => {}
+        }
+    }
+
+    fn learn_exchange(&mut self, request: Message<Kept>, response: Message<Kept>)
+        ensures { self.new ≡ learned (Exchange request response) self.old }
+    {
+        if is_news(&self.known, &request, &response) {
+            let one = Preparation { request, response };
+            add_known(&mut self.known, one);
         }
     }
 }

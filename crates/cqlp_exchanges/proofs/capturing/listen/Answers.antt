@@ -1,4 +1,4 @@
-use Rattle.std.proofs.Common.{arith, ◌≡◌, ◌∙◌, IsSome, refl, sym, ap, subst, inr}
+use Rattle.std.proofs.Common.{arith, IsSome, refl, sym, subst, inr}
 use Rattle.cqlp_text.specs.Outputs.{written}
 use Rattle.cqlp_streams.specs.Streams.{ReadsCapture}
 use Rattle.cqlp_exchanges.specs.Listening.{Listening, StopsAt, new_listening, with_saying}

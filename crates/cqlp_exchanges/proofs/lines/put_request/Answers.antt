@@ -1,5 +1,6 @@
 use Rattle.std.proofs.Common.{◌∙◌, ap, refl}
 use Rattle.cqlp_exchanges.specs.Lines.{statement_text}
+use Rattle.cqlp_exchanges.specs.Prepared.{named}
 use Rattle.cqlp_exchanges.specs.Statements.{statement}
 use Rattle.cqlp_text.proofs.Writing.{progress_starts}
 use Rattle.cqlp_exchanges.proofs.Texts.{said_last, said_next, said_stops}
@@ -12,10 +13,10 @@ returns-in_err-put_str g c =
 pub returns-in_err-put_statement : goal.returns-in_err-put_statement
 returns-in_err-put_statement g c =
     let s1 = said_next _ (progress_starts _ _) refl c.opcode_name.ensures c.in_ok-put_str.ensures in
-    said_stops _ c.from_residual-in_err-put_statement.result c.from_residual-in_err-put_statement.ensures.0 s1 refl (ap statement_text (c.statement_of-statement.ensures ∙ ap (statement c.args.request.now.frame.header) c.as_slice.ensures)) c.in_err-put_statement.ensures
+    said_stops _ c.from_residual-in_err-put_statement.result c.from_residual-in_err-put_statement.ensures.0 s1 refl (ap statement_text (c.named-statement.ensures ∙ ap (named c.args.known.now) (c.statement_of-own.ensures ∙ ap (statement c.args.request.now.frame.header) c.as_slice.ensures))) c.in_err-put_statement.ensures
 
 pub returns : goal.returns
 returns g c =
     let s1 = said_next _ (progress_starts _ _) refl c.opcode_name.ensures c.in_ok-put_str.ensures in
-    let s2 = said_next _ s1 refl (ap statement_text (c.statement_of-statement.ensures ∙ ap (statement c.args.request.now.frame.header) c.as_slice.ensures)) c.in_ok-put_statement.ensures in
+    let s2 = said_next _ s1 refl (ap statement_text (c.named-statement.ensures ∙ ap (named c.args.known.now) (c.statement_of-own.ensures ∙ ap (statement c.args.request.now.frame.header) c.as_slice.ensures))) c.in_ok-put_statement.ensures in
     said_last _ _ c.put_frame.result s2 refl refl c.put_frame.ensures
