@@ -159,6 +159,6 @@ module _ {V : Type 0} (after : V → Saying → V) (faulted : V → Saying → S
       )
 
 pub streams_once : OneAnswerOfWriteStreams
-streams_once ports xs calls out err left left' status status' made made' out' out'' err' err'' (n, r, sums, reads, ends) well (n', r', sums', reads', ends') well' =
+streams_once ports xs calls out err left left' status status' made made' out' out'' err' err'' (n, (r, sums, reads, ends)) well (n', (r', sums', reads', ends')) well' =
     let one = runs_once with_saying StopsAt (λ (z : Recording). sums_words z.sums) ports xs (recording calls out no_sums) (recording made out' sums) (recording made' out'' sums') n n' left left' r r' err err' err'' status status' reads ends well reads' ends' well' in
     (one.0, ap (λ (z : Recording). z.calls) one.1, ap (λ (z : Recording). z.output) one.1, one.2)

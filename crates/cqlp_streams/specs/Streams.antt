@@ -38,11 +38,17 @@ ReadsCapture after faulted ports xs made r left before v =
     × SplitsTo after faulted default_limits (no_connections ports) TURNS made before xs e left u v × (r ≡ read_of e u))
     ⊎ ((r ≡ Err fault.NoMemory) × (made ≡ 0) × (left ≡ Some xs) × (v ≡ before))
 
--- The streams of an input with the bytes xs were written: the calls that files got and what the output was given, and then the line
--- of how it ended, with its status.
+-- The streams of an input with the bytes xs were written, by so many reads: the calls that files got and what the output was given, and
+-- then the line of how it ended, with its status.
+abbrev pub WritesStreamsBy : (made : ℕ) → (ports : List ℕ) → (xs : List ℕ) → (left : Option (List ℕ)) → (calls : Option (List Call))
+    → (out err : Output) → (status : ℕ) → (calls' : Option (List Call)) → (out' err' : Output) → Type 0
+WritesStreamsBy made ports xs left calls out err status calls' out' err' =
+    (r : Result CaptureRead StreamsFault) × (sums : Sums)
+    × ReadsCapture with_saying StopsAt ports xs made r left (recording calls out no_sums) (recording calls' out' sums)
+    × Concludes (sums_words sums) r err status err'
+
+-- by some reads
 abbrev pub WritesStreams : (ports : List ℕ) → (xs : List ℕ) → (left : Option (List ℕ)) → (calls : Option (List Call)) → (out err : Output)
     → (status : ℕ) → (calls' : Option (List Call)) → (out' err' : Output) → Type 0
 WritesStreams ports xs left calls out err status calls' out' err' =
-    (made : ℕ) × (r : Result CaptureRead StreamsFault) × (sums : Sums)
-    × ReadsCapture with_saying StopsAt ports xs made r left (recording calls out no_sums) (recording calls' out' sums)
-    × Concludes (sums_words sums) r err status err'
+    (made : ℕ) × WritesStreamsBy made ports xs left calls out err status calls' out' err'
