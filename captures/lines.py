@@ -64,8 +64,10 @@ def bytes_of(message):
 
 
 def request(message, known):
-    """A pattern of a request."""
-    statement = re.escape(f" {message['text']}" if message["text"] else f" {known[message['id']]}" if message["id"] else "")
+    """A pattern of a request. An EXECUTE has the text that was prepared, where that was seen, or its id."""
+    statement = re.escape(f" {message['text']}" if message["text"] else "")
+    if message["id"]:
+        statement = " (?:" + "|".join(map(re.escape, [known[message["id"]], *known["prepared"]])) + ")"
     return message["opcode"].upper() + ("(?: .*)?" if message["cut"] else statement) + re.escape(bytes_of(message))
 
 
@@ -81,11 +83,12 @@ def response(message):
 
 def patterns(name):
     """A pattern of each line, and when the line is due, in nanoseconds."""
-    first, known = first_time(name), dict(ids(name))
+    first, known = first_time(name), dict(ids(name), prepared=[])
     for kind, number, messages in told(name):
         begun, ended = int(messages[0]["begun"]), int(messages[-1]["ended"])
         start = re.escape(f"{(begun - first) // 10**9}.{(begun - first) % 10**9 // 1000:06} {number}:{messages[0]['stream']} ")
         if kind == "exchange":
+            known["prepared"] += [messages[0]["text"]] if messages[0]["opcode"] == "Prepare" and messages[0]["text"] else []
             took = f"{(ended - begun) // 10**6}.{(ended - begun) % 10**6 // 1000:03}"
             yield start + request(messages[0], known) + " -> " + response(messages[1]) + re.escape(f" {took} ms"), ended
         elif kind == "unanswered":
