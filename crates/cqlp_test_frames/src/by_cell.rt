@@ -32,7 +32,11 @@ struct Cell {
 
 impl Cell {
     /// Writes it.
-    fn put(&self, page: &mut PageWriter<'_>, socket: &mut OfSocket<Stops>) -> Result<(), PageError> {
+    fn put(
+        &self,
+        page: &mut PageWriter<'_>,
+        socket: &mut OfSocket<Stops>,
+    ) -> Result<(), PageError> {
         match &self.of {
             Some(tree) => page.cell_as(&self.value, tree, socket),
             None => page.cell(&self.value, socket),
@@ -165,10 +169,7 @@ fn write_on(plan: &Plan, socket: &mut OfSocket<Stops>) -> Result<u32, PageError>
 }
 
 /// Goes on with what comes before the first cell, as long as each call tells how many bytes came.
-fn begin_on<'a>(
-    plan: &'a Plan,
-    socket: &mut OfSocket<Stops>,
-) -> Result<PageWriter<'a>, PageError> {
+fn begin_on<'a>(plan: &'a Plan, socket: &mut OfSocket<Stops>) -> Result<PageWriter<'a>, PageError> {
     let mut begun = PageWriter::begin(&plan.frame, plan.cells_len, socket);
     for _ in 0..STOPS {
         let Err(PageError::Write { written }) = begun else {

@@ -72,7 +72,10 @@ pub fn show_reads(rt: &HostRuntime, line: &str) -> io::Result<()> {
         };
         let mut buffer = [0; 4];
         let answer = Source::read(&mut socket, &mut buffer);
-        print!(rt; "{answer:?} {} {} {:?} ", socket.failures, socket.reads, socket.cause)?;
+        print!(rt;
+            "{answer:?} {} {} {:?} ",
+            socket.failures, socket.reads, socket.cause
+        )?;
         print_bytes(rt, &buffer)?;
     }
     Ok(())
