@@ -2,13 +2,14 @@
 //!
 //! A line has a name, `|`, and the words of a frame value: its fields in the order of their definition. After some names
 //! `--sum` asks for the number of the events alone, and `--cut` for a target that fails after ten bytes. A line `value |` has
-//! a type or `-`, and a value, a line `cells |` a page that is written cell by cell, and a line `bind |` a type or `-`, and a value
-//! that is bound. A line `read |` or `write |` has what each call of a socket makes. A line without `|` is a heading.
+//! a type or `-`, and a value, a line `cells |` a page that is written cell by cell, a line `lent |` one whose cells are lent twice, and a line
+//! `bind |` a type or `-`, and a value that is bound. A line `read |` or `write |` has what each call of a socket makes. A line without `|` is a heading.
 #![tactic(auto)]
 
 mod bound;
 mod by_cell;
 mod frames;
+mod lent;
 mod requests;
 mod responses;
 mod results;
@@ -37,6 +38,7 @@ fn execute(rt: &HostRuntime, line: &str) -> io::Result<()> {
     match line.split_once(" | ") {
         Some(("value", words)) => show_value(rt, words),
         Some(("cells", words)) => by_cell::show(rt, words),
+        Some(("lent", words)) => lent::show(rt, words),
         Some(("bind", words)) => bound::show(rt, words),
         Some(("read", words)) => sockets::show_reads(rt, words),
         Some(("write", words)) => sockets::show_writes(rt, words),
