@@ -1,5 +1,6 @@
 //! What is written of a frame, and what is read back.
 
+use crate::built;
 use cqlp_decode::{Decoder, Outcome, run};
 use cqlp_encode::{EncodeError, encode};
 use cqlp_message::Frame;
@@ -40,7 +41,7 @@ fn write(alloc: Global, frame: &Frame) -> Written {
 }
 
 /// Prints the answer, the length that is told beforehand, the bytes, the lines of their events, the verdict, and how many
-/// fronts of the bytes a target is left with that fails.
+/// fronts of the bytes a target is left with that fails, and whether the frame is built again of its events.
 pub fn whole(rt: &HostRuntime, frame: &Frame) -> io::Result<()> {
     let written = write(rt.alloc(), frame);
     print_whole(rt, frame, &written)
@@ -53,7 +54,11 @@ fn print_whole(rt: &HostRuntime, frame: &Frame, written: &Written) -> io::Result
     }
     print_bytes(rt, &written.bytes)?;
     print_events(rt, &written.bytes)?;
-    println!(rt; "{} fronts", fronts(rt.alloc(), frame, &written.bytes))
+    let again = built::again(rt.alloc(), frame, &written.bytes);
+    println!(rt;
+        "{} fronts, {again}",
+        fronts(rt.alloc(), frame, &written.bytes)
+    )
 }
 
 /// Prints the answer, the length that is told, how many events are read of the bytes, and the verdict.
