@@ -7,6 +7,7 @@
 #![tactic(auto)]
 
 mod bound;
+mod built;
 mod by_cell;
 mod frames;
 mod lent;

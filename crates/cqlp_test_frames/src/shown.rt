@@ -1,5 +1,6 @@
 //! What is written of a frame, and what is read back.
 
+use crate::built;
 use crate::stops::{Stops, is_told};
 use cqlp_decode::{Decoder, Outcome, run};
 use cqlp_encode::{EncodeError, encode, encode_from};
@@ -41,7 +42,8 @@ fn write(alloc: Global, frame: &Frame) -> Written {
 }
 
 /// Prints the answer, the length that is told beforehand, the bytes, the lines of their events, the verdict, how many rests of the
-/// bytes are written after a stop, and how many stops a socket makes that takes one byte at a time.
+/// bytes are written after a stop, how many stops a socket makes that takes one byte at a time, and whether the frame is built again of its
+/// events.
 pub fn whole(rt: &HostRuntime, frame: &Frame) -> io::Result<()> {
     let written = write(rt.alloc(), frame);
     print_whole(rt, frame, &written)
@@ -55,9 +57,10 @@ fn print_whole(rt: &HostRuntime, frame: &Frame, written: &Written) -> io::Result
     print_bytes(rt, &written.bytes)?;
     print_events(rt, &written.bytes)?;
     println!(rt;
-        "{} rests, {} stops",
+        "{} rests, {} stops, {}",
         rests(rt.alloc(), frame, &written.bytes),
-        stops(rt.alloc(), frame, &written.bytes, 1, 1)
+        stops(rt.alloc(), frame, &written.bytes, 1, 1),
+        built::again(rt.alloc(), frame, &written.bytes)
     )
 }
 
