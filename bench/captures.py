@@ -1,8 +1,9 @@
 #!/usr/bin/env python3
-"""Writes a capture of result pages on Ethernet to a file: captures.py whole|lost|few|many FILE [MB]
+"""Writes a capture of requests or of result pages on Ethernet to a file: captures.py whole|lost|small|few|many FILE [MB]
 
 whole  one connection, whose node sends pages of rows (pages.py) in segments of 1,448 bytes, each second of which is acknowledged
 lost   the same, where the capture has not each second segment with bytes
+small  one connection, whose client asks for one row at a time, and whose node answers each query before the next
 few    10,000 connections, 200 of them open at a time, whose nodes send 10,136 bytes each
 many   100,000 connections, 1,000 of them open at a time, the same
 
@@ -105,6 +106,27 @@ def one(capture, page, size, loses):
     connection.end()
 
 
+def frame(first, stream, opcode, body):
+    return struct.pack(">BBhBi", first, 0, stream, opcode, len(body)) + body
+
+
+def small(capture, size):
+    """Queries, each answered with one row of one int."""
+    connection = Connection(capture, 0)
+    connection.begin()
+    asked = number = 0
+    columns = struct.pack(">iii", 2, 1, 1) + b"\0\2ks\0\1t\0\1v\0\x09" + struct.pack(">i", 1)
+    while capture.size < size:
+        text = b"SELECT v FROM ks.t WHERE k = %d" % (number % 1_000_000)
+        request = frame(4, number % 128, 7, struct.pack(">i", len(text)) + text + b"\0\1\0")
+        capture.packet(connection.client, connection.node, 1 + asked, connection.sent, ACK, request)
+        asked += len(request)
+        response = frame(0x84, number % 128, 8, columns + struct.pack(">ii", 4, number))
+        capture.packet(connection.node, connection.client, connection.sent, 1 + asked, ACK, response)
+        connection.sent += len(response)
+        number += 1
+
+
 def many(capture, page, count, at_a_time):
     payloads = segments(page)
     for first in range(0, count, at_a_time):
@@ -119,6 +141,11 @@ def many(capture, page, count, at_a_time):
 
 
 def main(kind, path, size="1000"):
+    if kind == "small":
+        capture = Capture(path)
+        small(capture, int(size) * 1_000_000)
+        capture.file.close()
+        return
     rows = subprocess.run([sys.executable, Path(__file__).parent / "pages.py", "rows", "100000"], stdout=subprocess.PIPE, check=True).stdout
     capture = Capture(path)
     if kind == "many":

@@ -1,7 +1,8 @@
 #!/usr/bin/env bash
 # Times the example `streams` of the package for cargo, which hands on what each end of each connection sent, on captures of 1 GB that
 # captures.py makes: whole, with each second segment with bytes lost, and of 100,000 connections. It writes nothing but a line for each
-# direction. And `cqlp capture --streams`, which writes files too: the program that dist/assemble makes of the proved sources, or CQLP.
+# direction. And `cqlp capture --streams`, which writes files too, and `cqlp capture`, which writes a line for each request with its reply: the
+# program that dist/assemble makes of the proved sources, or CQLP.
 # Beside them tcpflow and tshark, where they are installed. The word after it is another size in MB.
 set -eu
 
@@ -29,13 +30,17 @@ tell() {
         END { printf "  %s: %d ms of the processor, %d MB/s, %.1f MiB resident\n", name, best * 1000, bytes / best / 1e6, most / 1024 }' "$room/spent"
 }
 
-for kind in whole lost few many; do
+for kind in whole lost small few many; do
     python3 "$here/captures.py" "$kind" "$room/capture" "$size"
     echo "$kind: $(stat -c %s "$room/capture") bytes"
     tell streams "$room/capture" "$CARGO_TARGET_DIR/release/examples/streams" "$room/capture"
     # Of 1,000 connections at a time the program tells each segment as a connection of its own, with two files.
     if [ "$kind" != many ] && [ -x "$program" ]; then
         tell cqlp "$room/capture" "$program" capture --streams "$room/flows" "$room/capture"
+    fi
+    if [ -x "$program" ]; then
+        tell 'lines of requests' "$room/capture" "$program" capture "$room/capture"
+        "$program" capture "$room/capture" 2>&1 >/dev/null | tail -n 1
     fi
     if command -v tcpflow >/dev/null; then
         tell tcpflow "$room/capture" tcpflow -q -r "$room/capture" -o "$room/flows"
