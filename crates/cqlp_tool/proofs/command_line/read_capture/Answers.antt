@@ -1,0 +1,9 @@
+use Rattle.std.proofs.Common.{inr}
+use Rattle.cqlp_tool.proofs.command_line.read_capture.Goals as goal
+
+pub returns-in-Streams-clause-task : goal.returns-in-Streams-clause-task
+returns-in-Streams-clause-task g c = rw c.in-Streams.is (inr (rw c.as_slice-ports.ensures at c.split_to_folder.ensures.splits))
+
+pub returns-in-Exchanges-clause-task : goal.returns-in-Exchanges-clause-task
+returns-in-Exchanges-clause-task g c =
+    rw c.in-Exchanges.is (rw (c.as_slice-ports.ensures, c.filter_of.ensures) at c.write_exchanges.ensures.exchanges)
