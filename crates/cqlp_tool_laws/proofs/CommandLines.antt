@@ -1,6 +1,6 @@
 -- One answer of a command line.
-use Rattle.std.proofs.Common.{◌≡◌, ◌≢◌, ℕ, Bool, true, false, List, [], ◌++◌, Option, Some, None, IsSome, Result, Ok, Err, ◌⊎◌, refl, sym, ap, ◌∙◌, inl, inr, subst, append_assoc}
-use Rattle.std.specs.Prelude.{codes, string_bytes}
+use Rattle.std.proofs.Common.{◌≡◌, ℕ, List, [], ◌++◌, Option, Some, None, IsSome, Result, Ok, Err, ◌⊎◌, sym, ap, ◌∙◌, inl, inr, subst, append_assoc}
+use Rattle.std.specs.Prelude.{string_bytes}
 use Rattle.std.specs.Io.KnownBytes.{Appends, append_known}
 use Rattle.cqlp_note.specs.declared.limits.Limits.{Limits}
 use Rattle.cqlp_options.specs.Ports.{named}
@@ -18,14 +18,12 @@ use Rattle.cqlp_text.specs.Endings.{cannot_open_line}
 use Rattle.cqlp_text.specs.Outputs.{Output, output, with_text, StopsWithin}
 use Rattle.cqlp_text.specs.PageText.{no_page}
 use Rattle.cqlp_loop.specs.declared.fault.LoopFault.{LoopFault}
-use Rattle.cqlp_loop.specs.declared.fault.LoopFault.TheVariants as fault
-use Rattle.cqlp_loop.specs.Inboxes.{Supply}
-use Rattle.cqlp_loop.specs.Script.{Wires, Converses, Talks}
+use Rattle.cqlp_loop.specs.Script.{Wires}
 use Rattle.cqlp_loop_laws.specs.OneAnswer.{SaidTheSame, SaidMore}
 use Rattle.cqlp_loop_laws.proofs.Conversations.{one_answer, one_goes_on}
 use Rattle.cqlp_render.specs.declared.text_form.TextForm.{TextForm}
 use Rattle.cqlp_render.specs.declared.text_form.TextForm.TheVariants as forms
-use Rattle.cqlp_render.specs.Showing.{ShowsBytes, ChecksBytes, Concludes}
+use Rattle.cqlp_render.specs.Showing.{ShowsBytes, ChecksBytes}
 use Rattle.cqlp_render.specs.Streams.{Streams}
 use Rattle.cqlp_render.proofs.Renders.{known_nothing}
 use Rattle.cqlp_streams.proofs.OneAnswer.{streams_once}
@@ -36,7 +34,7 @@ use Rattle.cqlp_tool.specs.CommandLines.{DoesTask, Executes, Complains, Helps, t
 use Rattle.cqlp_tool.specs.Conversing.{ConversesWithItself, Reports, ending_of}
 use Rattle.cqlp_tool_laws.specs.Text.{FailsAlike, GoesOnFromOther}
 use Rattle.cqlp_tool_laws.specs.Tool.{IsOneOutput}
-use Rattle.cqlp_tool_laws.specs.CommandLines.{AreCheckedAlike, AreMetAlike, AreKnown, AreSplitAlike, IsCaptureMetAlike, AreOutputsMetAlike, AreShownAlike, AreLoopsAlike, IsErrorMetAlike, IsExecutedOnce, IsLoopDecided, IsOneAnswer, IsTaskMetAlike, LoopGoesOn}
+use Rattle.cqlp_tool_laws.specs.CommandLines.{AreCheckedAlike, AreMetAlike, AreKnown, AreSplitAlike, IsCaptureMetAlike, AreShownAlike, AreLoopsAlike, IsExecutedOnce, IsLoopDecided, IsOneAnswer, IsTaskMetAlike, LoopGoesOn}
 use Rattle.cqlp_tool_laws.proofs.OneText.{counts_up, stops_once}
 use Rattle.cqlp_tool_laws.proofs.SkippedOnce.{skipping_once, checking_skipping_once}
 use Rattle.cqlp_tool_laws.proofs.OneAnswer.{commands_end_once, checks_end_once, concludes_once, shown_once, checked_once}
