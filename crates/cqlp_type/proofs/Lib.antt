@@ -21,3 +21,4 @@ pub mod Inside
 pub mod Columns
 pub mod Depths
 pub mod WholeTables
+pub mod TreeNodes

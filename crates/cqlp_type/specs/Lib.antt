@@ -10,3 +10,4 @@ pub mod TypeLists
 pub mod TreeChecks
 pub mod Forests
 pub mod Depths
+pub mod TreeNodes

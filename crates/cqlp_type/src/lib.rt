@@ -12,6 +12,7 @@ mod remaining;
 mod size;
 mod table;
 mod tree;
+mod tree_table;
 
 pub use advance::{TypeAdvance, TypeOutline};
 pub use check::{TreeCheck, check_type};
@@ -21,3 +22,4 @@ pub use reader::TypeReader;
 pub use size::type_size;
 pub use table::TypeTable;
 pub use tree::{TypeTree, type_len};
+pub use tree_table::TreesError;

@@ -47,6 +47,16 @@ impl<A: Allocator> TypeTable<A> {
         })
     }
 
+    /// With these nodes, and no room for others than their memory has.
+    pub(crate) fn of_nodes(nodes: Vec<Node, A>) -> Self
+        requires room { vec_capacity nodes < 2 ^ 32 }
+        requires types { HoldsTypes nodes.items }
+        ensures { result ≡ record { nodes = nodes.items; room = vec_capacity nodes } }
+    {
+        let room = nodes.capacity() as u32;
+        TypeTable { nodes, room }
+    }
+
     /// How many nodes there are.
     pub fn len(&self) -> u32
         ensures is { result ≡ length self.now.nodes }
