@@ -4,7 +4,7 @@
 Its streams, and what is said of them, are the data of the crates cqlp_test_vectors and cqlp_test_commands, which were written by hand or taken
 from the definition. Of each stream there are: a line `stream NAME` with the limits text, cell, entries, depth and the switches types and
 parts; a line `bytes` with the stream in hexadecimal digits; the lines of its events, as `cqlp show` writes them; and a line `end` with the
-verdict.
+verdict. Lines of JSON are left out.
 """
 import pathlib
 import re
@@ -56,6 +56,7 @@ def vectors():
     said = stanzas(crate / "stdout")
     for (words, digits), (name, lines) in zip(inputs(crate / "stdin"), said):
         assert words == name
+        lines = [line for line in lines if not line.startswith("{")]
         write(words.split()[0], limits(words, 64, 64, 8, 3), digits, lines[:-1], lines[-1])
 
 
@@ -65,7 +66,11 @@ def commands():
     said = {}
     for name, lines in stanzas(crate / "stdout"):
         said.setdefault(name, []).append(lines)
-    shown = [(words, digits) for words, digits in inputs(crate / "stdin") if re.fullmatch(r"show( --.*)? -", words)]
+    shown = [
+        (words, digits)
+        for words, digits in inputs(crate / "stdin")
+        if re.fullmatch(r"show( --.*)? -", words) and "--json" not in words
+    ]
     for count, (words, digits) in enumerate(shown, 1):
         lines = said[words].pop(0)
         at = next(i for i, line in enumerate(lines) if line.startswith("-- "))
