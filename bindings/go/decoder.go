@@ -1,59 +1,16 @@
 // Package cqlp reads the CQL binary protocol, version 4 (native_protocol_v4.spec of Apache Cassandra), as events.
 //
-// A Decoder takes the bytes of a connection, or of a file of frames, in pieces of any size, and gives one event at a time; a Reader
-// does so for an io.Reader. Both hold no more than their Limits say, whatever lengths and counts a peer sends. They stand on libcqlp,
-// which is written in Rattle and proved: the events are those that the bytes used say, in order. Not proved is this package, which is
-// thin.
+// A Decoder takes the bytes of a connection, or of a file of frames, in pieces of any size, and gives their events; a Reader does so for an
+// io.Reader. Both hold no more than their Limits say, whatever lengths and counts a peer sends. A RowReader gives the rows of pages, and
+// Frames the frames, each message as a struct of its own. A Client pairs replies with requests, a Server knows which requests it has not
+// answered, and AppendHeader writes headers. All of these stand on libcqlp, which is written in Rattle and proved: the events are those that
+// the bytes used say, in order. Not proved is this package. What writes bodies, AppendMessage and AppendPage, is plain Go: nothing of the
+// library stands behind it.
 //
-// No pointer to Go's memory stays with C: the input is copied into C's memory during the call, and each content is copied out of it.
+// No pointer to Go's memory stays with C after a call.
 package cqlp
 
-/*
-#cgo CFLAGS: -I${SRCDIR}/../../include
-#cgo LDFLAGS: ${SRCDIR}/../out/libcqlp.a
-#include <stdlib.h>
-#include <string.h>
-#include "cqlp.h"
-
-enum { CQLP_ROOM = 128, CQLP_SPACE = 8192 };
-
-// All that the library writes, and the input that it reads, in memory of C.
-typedef struct {
-  cqlp_decoder decoder;
-  cqlp_batch batch;
-  cqlp_end end;
-  cqlp_holding holding;
-  cqlp_event events[CQLP_ROOM];
-  uint8_t input[CQLP_SPACE];
-} cqlp_box;
-
-static cqlp_box *cqlp_box_new(const cqlp_limits *limits, uint32_t *code) {
-  cqlp_box *box = calloc(1, sizeof *box);
-  *code = box ? cqlp_new(limits, &box->decoder) : CQLP_NO_MEMORY;
-  if (box && *code != CQLP_DONE) {
-    free(box);
-    box = NULL;
-  }
-  return box;
-}
-
-static void cqlp_box_next(cqlp_box *box, const uint8_t *input, size_t length) {
-  if (length > CQLP_SPACE) length = CQLP_SPACE;
-  if (length) memcpy(box->input, input, length);
-  cqlp_next(&box->decoder, box->input, length, box->events, CQLP_ROOM, &box->batch);
-}
-
-static void cqlp_box_free(cqlp_box *box) {
-  cqlp_free(&box->decoder);
-  free(box);
-}
-
-// The stream may be empty, and then has no first byte.
-static uint32_t cqlp_check_all(const cqlp_limits *limits, const uint8_t *stream, size_t length, cqlp_end *end) {
-  static const uint8_t none[1];
-  return cqlp_check(limits, length ? stream : none, length, end);
-}
-*/
+// #include "box.h"
 import "C"
 
 import (
@@ -67,11 +24,11 @@ import (
 // ErrMore says that all bytes were used, and that the ones that come after them are wanted.
 var ErrMore = errors.New("cqlp: more bytes are wanted")
 
-// ErrClosed says that the decoder was closed.
-var ErrClosed = errors.New("cqlp: the decoder was closed")
+// ErrClosed says that the decoder, the core or the table was closed.
+var ErrClosed = errors.New("cqlp: it was closed")
 
 // ErrNoMemory says that there is not as much memory as the limits allow to be held.
-var ErrNoMemory = errors.New("cqlp: no memory for a decoder")
+var ErrNoMemory = errors.New("cqlp: there is not enough memory")
 
 // A LimitError says that a limit is out of its range.
 type LimitError struct {
@@ -140,21 +97,20 @@ func (l Limits) native() C.cqlp_limits {
 	return native
 }
 
-// made is what a code of cqlp_new or cqlp_check says.
-func made(code C.uint32_t) error {
+// done is what a code says, as an error.
+func done(code C.uint32_t) error {
 	switch code {
 	case C.CQLP_DONE:
 		return nil
-	case C.CQLP_BAD_TEXT:
-		return &LimitError{"text"}
-	case C.CQLP_BAD_CELL:
-		return &LimitError{"cell"}
-	case C.CQLP_BAD_ENTRIES:
-		return &LimitError{"entries"}
-	case C.CQLP_BAD_DEPTH:
-		return &LimitError{"depth"}
+	case C.CQLP_BAD_TEXT, C.CQLP_BAD_CELL, C.CQLP_BAD_ENTRIES, C.CQLP_BAD_DEPTH:
+		limit, _ := Name(GroupLimit, int64(code))
+		return &LimitError{limit}
+	case C.CQLP_NO_MEMORY:
+		return ErrNoMemory
+	case C.CQLP_NO_DECODER, C.CQLP_NO_CLIENT, C.CQLP_NO_SERVER:
+		return ErrClosed
 	}
-	return ErrNoMemory
+	return Code(code)
 }
 
 // A Verdict says how a stream ends.
@@ -193,20 +149,45 @@ type Held struct {
 	Levels uint32
 }
 
+// A Skipped is a frame that was passed over, since something in its body is refused.
+type Skipped struct {
+	// Frame is the event of its header: its offset, its stream id, its opcode and the bytes of its body.
+	Frame Event
+	// At is the offset of the field that could not be made.
+	At     uint64
+	Reason Reason
+	// Rest is how many of its bytes are still to come: they are used unread.
+	Rest uint64
+}
+
+// String says which frame it was, and why.
+func (s Skipped) String() string {
+	return fmt.Sprintf("the frame at %d is passed over: refused at %d: %v", s.Frame.At, s.At, s.Reason)
+}
+
+// room is how many events one call of the library puts, and space how many bytes Next gives it.
+const (
+	room  = C.CQLP_ROOM
+	space = 1 << 16
+)
+
 // A Decoder reads the frames of one stream. It is not to be used by several goroutines at a time. A goroutine may move from one
 // thread to another between two calls, and the library's handle with it: that is proved.
 type Decoder struct {
 	box *C.cqlp_box
 	// the events of the last batch that were not given out: from next to count
 	next, count int
-	content     []byte
+	// what the contents of the last batch are lent of, but for one that lies in the decoder, which is copied
+	piece, copied []byte
+	// the memory of Next for the bytes that it used
+	owned []byte
 }
 
 // NewDecoder makes a decoder at the start of a stream. All of its memory in C is asked for here, and given back by Close.
 func NewDecoder(limits Limits) (*Decoder, error) {
 	native, code := limits.native(), C.uint32_t(0)
 	box := C.cqlp_box_new(&native, &code)
-	if err := made(code); err != nil {
+	if err := done(code); err != nil {
 		return nil, err
 	}
 	d := &Decoder{box: box}
@@ -214,42 +195,130 @@ func NewDecoder(limits Limits) (*Decoder, error) {
 	return d, nil
 }
 
+// Decode puts the events of the next bytes of the stream into events, no more than there is room for, and says how many, and how many
+// bytes of p were used: the next call takes those after them, p[n:]. It may leave room. The error is as that of Next, and none beside an
+// event. Room for 256 events costs the least.
+//
+// Contents are lent of p, so they live as long as p is left as it is, but for that of the last event, which lives until the next call.
+func (d *Decoder) Decode(events []Event, p []byte) (count, n int, err error) {
+	defer runtime.KeepAlive(d)
+	if d.box == nil {
+		return 0, 0, ErrClosed
+	}
+	if len(events) == 0 {
+		return 0, 0, nil
+	}
+	if d.next == d.count {
+		if n, err = d.fill(events, p); err != nil {
+			return 0, n, err
+		}
+	}
+	for ; count < len(events) && d.next < d.count; count++ {
+		d.put(&events[count])
+	}
+	return count, n, nil
+}
+
+// fill makes calls of the library until there are events. It makes no more of them than fit.
+func (d *Decoder) fill(events []Event, p []byte) (n int, err error) {
+	for {
+		n += d.take(p[n:], len(events))
+		if d.count > 0 {
+			return n, nil
+		}
+		if err := d.ended(len(p) - n); err != nil {
+			return n, err
+		}
+	}
+}
+
+// ended is what the last call says where it put no event and so many bytes are left.
+func (d *Decoder) ended(left int) error {
+	switch batch := &d.box.batch; {
+	case batch.stop == C.CQLP_STOP_REFUSED:
+		return &Refusal{uint64(batch.at), Reason(batch.reason)}
+	case batch.stop == C.CQLP_STOP_MORE && left == 0:
+		return ErrMore
+	}
+	return nil
+}
+
 // Next gives the next event of the stream, of which p has the bytes after those used so far, and says how many bytes of p were used:
 // the next call takes those after them, p[n:]. The error is ErrMore where all of p was used and no event is due, a *Refusal after the
-// last event of a stream that is refused, at every call, and ErrClosed after Close.
+// last event of a stream that is refused, at every call before a Skip, and ErrClosed after Close.
 //
 // The content of the event lives until the next call.
-func (d *Decoder) Next(p []byte) (Event, int, error) {
+func (d *Decoder) Next(p []byte) (event Event, n int, err error) {
 	defer runtime.KeepAlive(d)
 	if d.box == nil {
 		return Event{}, 0, ErrClosed
 	}
-	n := 0
 	for d.next == d.count {
-		n += d.take(p[n:])
-		if batch := &d.box.batch; d.count > 0 {
-			break
-		} else if batch.stop == C.CQLP_STOP_REFUSED {
-			return Event{}, n, &Refusal{uint64(batch.at), Reason(batch.reason)}
-		} else if batch.stop == C.CQLP_STOP_MORE && n == len(p) {
-			return Event{}, n, ErrMore
+		piece := p[n:]
+		if len(piece) > space {
+			piece = piece[:space]
+		}
+		used := d.take(piece, room)
+		if d.count > 0 {
+			d.owned = append(d.owned[:0], piece[:used]...)
+			d.piece = d.owned
+		}
+		n += used
+		if err := d.ended(len(p) - n); d.count == 0 && err != nil {
+			return Event{}, n, err
 		}
 	}
-	native := &d.box.events[d.next]
-	d.next++
-	d.content = append(d.content[:0], unsafe.Slice((*byte)(unsafe.Pointer(native.content)), int(native.length))...)
-	return eventOf(native, d.content), n, nil
+	d.put(&event)
+	return event, n, nil
 }
 
 // take is one call of the library: how many bytes were used.
-func (d *Decoder) take(p []byte) int {
+func (d *Decoder) take(p []byte, most int) int {
 	var first *C.uint8_t
 	if len(p) > 0 {
 		first = (*C.uint8_t)(unsafe.Pointer(&p[0]))
 	}
-	C.cqlp_box_next(d.box, first, C.size_t(len(p)))
+	if most > room {
+		most = room
+	}
+	C.cqlp_box_next(d.box, first, C.size_t(len(p)), C.size_t(most))
 	d.next, d.count = 0, int(d.box.batch.events)
+	d.piece = p
 	return int(d.box.batch.used)
+}
+
+// put gives out the next event of the last batch.
+func (d *Decoder) put(event *Event) {
+	native, place := &d.box.events[d.next], d.box.places[d.next]
+	d.next++
+	length := C.size_t(native.length)
+	if place == C.CQLP_IN_DECODER {
+		d.copied = append(d.copied[:0], unsafe.Slice((*byte)(unsafe.Pointer(native.content)), int(length))...)
+		fillEvent(event, native, d.copied)
+		return
+	}
+	fillEvent(event, native, d.piece[place:place+length:place+length])
+}
+
+// Skip passes over the rest of the frame within which the stream is refused, and says which it was, and why. The decoder goes on with the
+// rest of the input, of which it uses the bytes that the frame still has unread. A table that was given is lost: take it back before. The
+// error is CodeNotRefused, also while events before the refusal were not given out, CodeInHeader where what is refused is a header, so
+// that nobody knows where its frame ends, or CodeTooFar.
+func (d *Decoder) Skip() (Skipped, error) {
+	defer runtime.KeepAlive(d)
+	if d.box == nil {
+		return Skipped{}, ErrClosed
+	}
+	if d.next < d.count {
+		return Skipped{}, CodeNotRefused
+	}
+	if err := done(C.cqlp_skip(&d.box.decoder, &d.box.skipped)); err != nil {
+		return Skipped{}, err
+	}
+	native := &d.box.skipped
+	skipped := Skipped{At: uint64(native.at), Reason: Reason(native.reason), Rest: uint64(native.rest)}
+	fillEvent(&skipped.Frame, &native.frame, nil)
+	return skipped, nil
 }
 
 // Finish says how the stream ends, if it ends after the bytes that were used. It changes nothing.
@@ -290,29 +359,26 @@ func Check(limits Limits, stream []byte) (Verdict, error) {
 	if len(stream) > 0 {
 		first = (*C.uint8_t)(unsafe.Pointer(&stream[0]))
 	}
-	if err := made(C.cqlp_check_all(&native, first, C.size_t(len(stream)), &end)); err != nil {
+	if err := done(C.cqlp_check(&native, first, C.size_t(len(stream)), &end)); err != nil {
 		return Verdict{}, err
 	}
 	return verdictOf(&end), nil
 }
 
-func eventOf(native *C.cqlp_event, content []byte) Event {
-	event := Event{
-		At:      uint64(native.at),
-		Tag:     Tag(native.tag),
-		Field:   Field(native.field),
-		Kind:    Kind(native.kind),
-		Mark:    Mark(native.mark),
-		Opcode:  Opcode(native.opcode),
-		Flags:   uint8(native.flags),
-		Octets:  uint8(native.octets),
-		Number:  int64(native.number),
-		Row:     uint32(native.row),
-		Column:  uint32(native.column),
-		Level:   uint32(native.level),
-		Extra:   int32(native.extra),
-		Content: content,
-	}
+func fillEvent(event *Event, native *C.cqlp_event, content []byte) {
+	event.At = uint64(native.at)
+	event.Tag = Tag(native.tag)
+	event.Field = Field(native.field)
+	event.Kind = Kind(native.kind)
+	event.Mark = Mark(native.mark)
+	event.Opcode = Opcode(native.opcode)
+	event.Flags = uint8(native.flags)
+	event.Octets = uint8(native.octets)
 	event.Bytes = *(*[16]byte)(unsafe.Pointer(&native.bytes))
-	return event
+	event.Number = int64(native.number)
+	event.Row = uint32(native.row)
+	event.Column = uint32(native.column)
+	event.Level = uint32(native.level)
+	event.Extra = int32(native.extra)
+	event.Content = content
 }

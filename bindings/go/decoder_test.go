@@ -256,33 +256,47 @@ func TestValues(t *testing.T) {
 	}
 }
 
-func TestNamesAreThoseOfTheHeader(t *testing.T) {
+// What the names of numbers of a type begin with here, and in the header.
+var begins = map[string][2]string{
+	"Tag": {"Tag", "TAG"}, "Mark": {"Mark", "MARK"}, "Field": {"Field", "FIELD"}, "Kind": {"Kind", "KIND"}, "Reason": {"Reason", "REASON"},
+	"End": {"End", "END"}, "Opcode": {"Opcode", "OPCODE"}, "Code": {"Code", ""}, "Phase": {"Phase", "PHASE"}, "ReplyKind": {"Reply", "REPLY"},
+	"ErrorCode": {"Error", "ERROR"}, "ResultKind": {"Result", "RESULT"}, "Consistency": {"Consistency", "CONSISTENCY"},
+	"BatchType": {"Batch", "BATCH"}, "Group": {"Group", "GROUP"},
+}
+
+func TestNumbersAreThoseOfTheHeader(t *testing.T) {
 	header, err := os.ReadFile("../../include/cqlp.h")
 	if err != nil {
 		t.Fatal(err)
 	}
-	names := map[string]func(uint8) string{
-		"TAG":    func(n uint8) string { return Tag(n).String() },
-		"MARK":   func(n uint8) string { return Mark(n).String() },
-		"FIELD":  func(n uint8) string { return Field(n).String() },
-		"KIND":   func(n uint8) string { return Kind(n).String() },
-		"REASON": func(n uint8) string { return Reason(n).String() },
+	wanted := map[string]uint64{}
+	for _, found := range regexp.MustCompile(`(?m)^#define CQLP_(\w+) (0x[0-9A-F]+|\d+)`).FindAllStringSubmatch(string(header), -1) {
+		wanted[strings.ReplaceAll(found[1], "_", "")], _ = strconv.ParseUint(found[2], 0, 64)
 	}
-	count := 0
-	pattern := regexp.MustCompile(`(?m)^#define CQLP_(TAG|MARK|FIELD|KIND|REASON)_(\w+) (0x[0-9A-F]+|\d+)`)
-	for _, found := range pattern.FindAllStringSubmatch(string(header), -1) {
-		number, err := strconv.ParseUint(found[3], 0, 8)
+	counts := map[string]int{}
+	for _, name := range []string{"numbers.go", "names.go"} {
+		source, err := os.ReadFile(name)
 		if err != nil {
 			t.Fatal(err)
 		}
-		name := strings.ReplaceAll(strings.ToLower(found[2]), "_", "")
-		if strings.ToLower(names[found[1]](uint8(number))) != name {
-			t.Fatal(found[0])
+		for _, found := range regexp.MustCompile(`(?m)^\t(\w+) +(\w+) = (0x[0-9a-f]+|\d+)`).FindAllStringSubmatch(string(source), -1) {
+			number, err := strconv.ParseUint(found[3], 0, 64)
+			begin := begins[found[2]]
+			name := strings.ToUpper(begin[1] + strings.TrimPrefix(found[1], begin[0]))
+			if there, is := wanted[name]; err != nil || !is || there != number {
+				t.Error(found[0], name)
+			}
+			counts[begin[1]]++
 		}
-		count++
 	}
-	if all := len(tagNames) + len(markNames) + len(fieldNames) + len(kindNames) + len(reasonNames); count != all {
-		t.Fatal(count, all)
+	for begin, count := range counts {
+		there := strings.Count(string(header), "#define CQLP_"+begin+"_")
+		if begin != "" && begin != "BATCH" && begin != "ERROR" && there != count {
+			t.Error(begin, count, there)
+		}
+	}
+	if len(counts) != len(begins) {
+		t.Error(counts)
 	}
 }
 

@@ -80,7 +80,7 @@ func (e *Event) Value() any {
 	case KindTime:
 		return time.Duration(e.Number)
 	}
-	return append([]byte(nil), e.Content...)
+	return clone(e.Content)
 }
 
 // Text is a scalar as cqlp rows writes it.

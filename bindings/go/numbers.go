@@ -464,6 +464,195 @@ var opcodeNames = map[Opcode]string{
 // String is its name as the standard has it; a number that has none is itself.
 func (n Opcode) String() string { return named(opcodeNames[n], uint8(n)) }
 
+// Code is what a call of the library answers where it is not done. It is an error, so errors.Is(err, CodeBadPhase) says whether it is one.
+type Code uint32
+
+const (
+	// CodeInUse: the handle has a decoder, or a core, already.
+	CodeInUse Code = 7
+	// CodeBadSlots: the number of slots is not from 1 to 32768.
+	CodeBadSlots Code = 9
+	// CodeNoRequest: the opcode is no request's.
+	CodeNoRequest Code = 10
+	// CodeBadPhase: requests of this kind may not begin in the phase that stands.
+	CodeBadPhase Code = 11
+	// CodeSpent: 2^64 - 1 requests have begun.
+	CodeSpent Code = 12
+	// CodeFull: each slot has a request that waits for its reply.
+	CodeFull Code = 13
+	// CodeNoFrame: the event is none that begins a frame.
+	CodeNoFrame Code = 14
+	// CodeNotResponse: a request came.
+	CodeNotResponse Code = 15
+	// CodeNoSuchStream: no request is open under the stream id of the response.
+	CodeNoSuchStream Code = 16
+	// CodeWrongOpcode: the response answers no request of the kind that is open under its stream id.
+	CodeWrongOpcode Code = 17
+	// CodeNotCancelled: the request does not wait, was cancelled before, or sets up the connection.
+	CodeNotCancelled Code = 18
+	// CodeCompressed: the flag 01 is set.
+	CodeCompressed Code = 19
+	// CodeBadOpcode: no opcode has this number.
+	CodeBadOpcode Code = 20
+	// CodeBadDirection: a request's opcode in a response, or the other way round.
+	CodeBadDirection Code = 21
+	// CodeBadLength: the body is longer than 268435456 bytes.
+	CodeBadLength Code = 22
+	// CodeNotRequest: a response came, or its opcode is no request's.
+	CodeNotRequest Code = 24
+	// CodeBadID: the stream id is negative, or none of the core's slots.
+	CodeBadID Code = 25
+	// CodeIDTaken: a request is open under this stream id.
+	CodeIDTaken Code = 26
+	// CodeNoRoom: there are more bytes than there is room for.
+	CodeNoRoom Code = 27
+	// CodeNoTypes: there is no table of types.
+	CodeNoTypes Code = 28
+	// CodeEnded: the stream was refused.
+	CodeEnded Code = 29
+	// CodeOff: the limits say that cells are not read by their types.
+	CodeOff Code = 30
+	// CodeBusy: a table that was given types the frame under way.
+	CodeBusy Code = 31
+	// CodeOpen: a type of the table is not whole.
+	CodeOpen Code = 32
+	// CodeTooMany: the table has more type options than the limit on `entries`.
+	CodeTooMany Code = 33
+	// CodeTooDeep: the types are nested deeper than the limit on `depth`.
+	CodeTooDeep Code = 34
+	// CodeNotRefused: nothing is refused.
+	CodeNotRefused Code = 35
+	// CodeInHeader: a header is refused, so nobody knows where its frame ends.
+	CodeInHeader Code = 36
+	// CodeTooFar: the frame ends past the greatest offset.
+	CodeTooFar Code = 37
+)
+
+// Error is its name, as BadPhase.
+func (n Code) Error() string { return "cqlp: " + wordOf(GroupCode, int64(n)) }
+
+// Phase is how far the setting up of a connection has come. Sections 4.1.1 and 4.1.2.
+type Phase uint8
+
+const (
+	// PhaseFresh: no STARTUP yet: OPTIONS and STARTUP may begin.
+	PhaseFresh Phase = 1
+	// PhaseOpening: a STARTUP or AUTH_RESPONSE waits for its reply: nothing may begin.
+	PhaseOpening Phase = 2
+	// PhaseChallenged: the server asked for AUTH_RESPONSE, which alone may begin.
+	PhaseChallenged Phase = 3
+	// PhaseReady: set up: all but STARTUP and AUTH_RESPONSE may begin.
+	PhaseReady Phase = 4
+	// PhaseFailed: setting up ended by an ERROR: nothing may begin.
+	PhaseFailed Phase = 5
+)
+
+// String is its name; a number that has none is itself.
+func (n Phase) String() string { return wordOf(GroupPhase, int64(n)) }
+
+// ReplyKind is what a response says to a client.
+type ReplyKind uint8
+
+const (
+	// ReplyEvent: the server pushed an event: it is the reply to nothing.
+	ReplyEvent ReplyKind = 1
+	// ReplyAnswer: it is the reply to the request of this ticket.
+	ReplyAnswer ReplyKind = 2
+	// ReplyDropped: the same, and the request was cancelled.
+	ReplyDropped ReplyKind = 3
+)
+
+// String is its name; a number that has none is itself.
+func (n ReplyKind) String() string { return wordOf(GroupReply, int64(n)) }
+
+// ErrorCode is what an ERROR is of. Section 9.
+type ErrorCode int32
+
+const (
+	ErrorServerError         ErrorCode = 0x0000
+	ErrorProtocolError       ErrorCode = 0x000a
+	ErrorAuthenticationError ErrorCode = 0x0100
+	// ErrorUnavailable: consistency, required, alive.
+	ErrorUnavailable     ErrorCode = 0x1000
+	ErrorOverloaded      ErrorCode = 0x1001
+	ErrorIsBootstrapping ErrorCode = 0x1002
+	ErrorTruncateError   ErrorCode = 0x1003
+	// ErrorWriteTimeout: consistency, received, block_for, write_type.
+	ErrorWriteTimeout ErrorCode = 0x1100
+	// ErrorReadTimeout: consistency, received, block_for, data_present.
+	ErrorReadTimeout ErrorCode = 0x1200
+	// ErrorReadFailure: consistency, received, block_for, failures, data_present.
+	ErrorReadFailure ErrorCode = 0x1300
+	// ErrorFunctionFailure: keyspace, name, arguments.
+	ErrorFunctionFailure ErrorCode = 0x1400
+	// ErrorWriteFailure: consistency, received, block_for, failures, write_type.
+	ErrorWriteFailure ErrorCode = 0x1500
+	ErrorSyntaxError  ErrorCode = 0x2000
+	ErrorUnauthorized ErrorCode = 0x2100
+	ErrorInvalid      ErrorCode = 0x2200
+	ErrorConfigError  ErrorCode = 0x2300
+	// ErrorAlreadyExists: keyspace, table.
+	ErrorAlreadyExists ErrorCode = 0x2400
+	// ErrorUnprepared: statement_id.
+	ErrorUnprepared ErrorCode = 0x2500
+)
+
+// String is its name; a number that has none is itself.
+func (n ErrorCode) String() string { return wordOf(GroupError, int64(n)) }
+
+// ResultKind is what a RESULT is. Section 4.2.5.
+type ResultKind int32
+
+const (
+	ResultVoid         ResultKind = 1
+	ResultRows         ResultKind = 2
+	ResultSetKeyspace  ResultKind = 3
+	ResultPrepared     ResultKind = 4
+	ResultSchemaChange ResultKind = 5
+)
+
+// String is its name; a number that has none is itself.
+func (n ResultKind) String() string { return wordOf(GroupResult, int64(n)) }
+
+// Consistency is a level of consistency. Section 3.
+type Consistency uint16
+
+const (
+	ConsistencyAny         Consistency = 0
+	ConsistencyOne         Consistency = 1
+	ConsistencyTwo         Consistency = 2
+	ConsistencyThree       Consistency = 3
+	ConsistencyQuorum      Consistency = 4
+	ConsistencyAll         Consistency = 5
+	ConsistencyLocalQuorum Consistency = 6
+	ConsistencyEachQuorum  Consistency = 7
+	ConsistencySerial      Consistency = 8
+	ConsistencyLocalSerial Consistency = 9
+	ConsistencyLocalOne    Consistency = 10
+)
+
+// String is its name; a number that has none is itself.
+func (n Consistency) String() string { return wordOf(GroupConsistency, int64(n)) }
+
+// BatchType is the type of a batch. Section 4.1.7.
+type BatchType uint8
+
+const (
+	BatchLogged   BatchType = 0
+	BatchUnlogged BatchType = 1
+	BatchCounter  BatchType = 2
+)
+
+// String is its name; a number that has none is itself.
+func (n BatchType) String() string { return wordOf(GroupBatch, int64(n)) }
+
+func wordOf(group Group, number int64) string {
+	if word, known := Name(group, number); known {
+		return word
+	}
+	return strconv.FormatInt(number, 10)
+}
+
 func named(name string, number uint8) string {
 	if name == "" {
 		return strconv.Itoa(int(number))

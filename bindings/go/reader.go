@@ -3,15 +3,33 @@ package cqlp
 import (
 	"errors"
 	"io"
+	"runtime"
 )
 
-// A Reader gives the events of what an io.Reader reads.
+// headerLength is how many bytes a header has.
+const headerLength = 9
+
+// A Reader gives the events of what an io.Reader reads. It is not to be used by several goroutines at a time.
 type Reader struct {
+	// Skip is told of each frame that is refused within its body, and the events go on with the next frame; where it is nil the Reader ends
+	// there. Of such a frame there is no End.
+	Skip func(Skipped)
+	// Types says by which types a page without metadata is read, of the event of its header, as of its stream id. It is called for each RESULT,
+	// and may answer nil. The table is given for this frame and taken back at its end, but lost where the frame is passed over.
+	Types func(frame Event) *Types
+
 	decoder *Decoder
 	source  io.Reader
 	buffer  []byte
 	// the bytes of the buffer that were read and not used
 	rest []byte
+	// how many bytes are still to come of the header or the body under way: none after them is given to the decoder before its event came
+	due int64
+	// whether the body under way is passed over
+	passing bool
+	given   *Types
+	// the table that types the frame whose event came last, if one does
+	typing *Types
 	// what the source answered last
 	err error
 }
@@ -22,31 +40,139 @@ func NewReader(source io.Reader, limits Limits) (*Reader, error) {
 	if err != nil {
 		return nil, err
 	}
-	return &Reader{decoder: decoder, source: source, buffer: make([]byte, 8192)}, nil
+	return &Reader{decoder: decoder, source: source, buffer: make([]byte, space), due: headerLength}, nil
 }
 
 // Next gives the next event. After the last one the error is io.EOF where the stream is whole, a *Cut where it is cut, and a *Refusal
 // where it is refused; another error is the io.Reader's, after all events of what it had read.
 //
 // The content of the event lives until the next call.
-func (r *Reader) Next() (Event, error) {
-	for empty := 0; ; {
-		event, n, err := r.decoder.Next(r.rest)
-		r.rest = r.rest[n:]
-		if !errors.Is(err, ErrMore) {
-			return event, err
-		}
-		if r.err != nil {
-			return Event{}, r.ending()
-		}
-		n, r.err = r.source.Read(r.buffer)
-		r.rest = r.buffer[:n]
-		if empty++; n > 0 {
-			empty = 0
-		} else if empty == 100 && r.err == nil {
-			r.err = io.ErrNoProgress
+func (r *Reader) Next() (event Event, err error) {
+	err = r.next(&event)
+	return event, err
+}
+
+func (r *Reader) next(event *Event) error {
+	d := r.decoder
+	if d.next == d.count || d.box == nil {
+		if err := r.fill(); err != nil {
+			return err
 		}
 	}
+	d.put(event)
+	runtime.KeepAlive(d)
+	return nil
+}
+
+// fill makes a batch with an event at least. Contents of the last batch live no longer.
+func (r *Reader) fill() error {
+	d := r.decoder
+	for {
+		if d.box == nil {
+			return ErrClosed
+		}
+		r.advance()
+		if d.count > 0 {
+			return r.began()
+		}
+		switch err := d.ended(len(r.rest)); {
+		case err == nil:
+		case !errors.Is(err, ErrMore):
+			if err := r.pass(err); err != nil {
+				return err
+			}
+		case r.err != nil:
+			return r.ending()
+		default:
+			r.read()
+		}
+	}
+}
+
+// advance gives bytes to the decoder, of one header or one body.
+func (r *Reader) advance() {
+	piece := r.rest
+	if int64(len(piece)) > r.due {
+		piece = piece[:r.due]
+	}
+	n := r.decoder.take(piece, room)
+	r.rest = r.rest[n:]
+	r.due -= int64(n)
+	r.endPassing()
+}
+
+func (r *Reader) endPassing() {
+	if r.passing && r.due == 0 {
+		r.passing, r.due = false, headerLength
+	}
+}
+
+// began looks at what the batch begins or ends: the event of a frame comes first in it, and its End last.
+func (r *Reader) began() (err error) {
+	d := r.decoder
+	if first := &d.box.events[0]; Tag(first.tag) == TagFrame {
+		r.due, r.typing = int64(first.number), nil
+		err = r.give()
+	}
+	if last := &d.box.events[d.count-1]; Tag(last.tag) == TagEnd {
+		r.due = headerLength
+		r.takeBack()
+	}
+	return err
+}
+
+// give gives the table for the frame whose event is the first of the batch.
+func (r *Reader) give() error {
+	var frame Event
+	fillEvent(&frame, &r.decoder.box.events[0], nil)
+	if r.Types == nil || frame.Opcode != OpcodeResult {
+		return nil
+	}
+	types := r.Types(frame)
+	if types == nil {
+		return nil
+	}
+	err := r.decoder.Give(types)
+	if err == nil {
+		r.given, r.typing = types, types
+	}
+	return err
+}
+
+func (r *Reader) takeBack() {
+	if r.given != nil {
+		// where the frame was not typed to its end, the table is lost
+		_ = r.decoder.TakeGiven(r.given)
+		r.given = nil
+	}
+}
+
+// pass goes on after a refusal, where that is asked for and can be done; else it is the error.
+func (r *Reader) pass(refusal error) error {
+	if r.Skip == nil {
+		return refusal
+	}
+	r.takeBack()
+	skipped, err := r.decoder.Skip()
+	if err != nil {
+		return refusal
+	}
+	r.passing, r.due = true, int64(skipped.Rest)
+	r.endPassing()
+	r.Skip(skipped)
+	return nil
+}
+
+func (r *Reader) read() {
+	n := 0
+	for empty := 0; n == 0 && r.err == nil; empty++ {
+		if empty == 100 {
+			r.err = io.ErrNoProgress
+			break
+		}
+		n, r.err = r.source.Read(r.buffer)
+	}
+	r.rest = r.buffer[:n]
 }
 
 // ending is the error after the last event.
@@ -63,6 +189,9 @@ func (r *Reader) ending() error {
 	}
 	return io.EOF
 }
+
+// TypesOf copies the types of the metadata that was read last, as Decoder.TypesOf.
+func (r *Reader) TypesOf() (*Types, error) { return r.decoder.TypesOf() }
 
 // Held says how much is held of the stream.
 func (r *Reader) Held() (Held, error) { return r.decoder.Held() }

@@ -108,6 +108,43 @@ func linesOf(t *testing.T, d *Decoder, piece []byte) (lines []string) {
 	}
 }
 
+// decoded are the lines of the events of these pieces, and the verdict, with room for so many events at a time.
+func decoded(t *testing.T, limits Limits, room int, pieces ...[]byte) (lines []string, verdict string) {
+	t.Helper()
+	d, err := NewDecoder(limits)
+	if err != nil {
+		t.Fatal(err)
+	}
+	defer d.Close()
+	events := make([]Event, room)
+	for _, piece := range pieces {
+		lines = append(lines, batchesOf(t, d, events, piece)...)
+	}
+	end, err := d.Finish()
+	if err != nil {
+		t.Fatal(err)
+	}
+	return lines, end.String()
+}
+
+func batchesOf(t *testing.T, d *Decoder, events []Event, piece []byte) (lines []string) {
+	t.Helper()
+	for {
+		count, n, err := d.Decode(events, piece)
+		piece = piece[n:]
+		for i := range events[:count] {
+			lines = append(lines, events[i].String())
+		}
+		var refusal *Refusal
+		if errors.As(err, &refusal) || err == ErrMore && len(piece) == 0 {
+			return lines
+		}
+		if err != nil || count == 0 {
+			t.Fatal(count, err)
+		}
+	}
+}
+
 func mustSay(t *testing.T, s stream, what any, lines []string, verdict string) {
 	t.Helper()
 	if strings.Join(lines, "\n") != strings.Join(s.lines, "\n") || verdict != s.verdict {
@@ -130,6 +167,15 @@ func TestEveryCutInTwo(t *testing.T) {
 	for _, s := range streams(t) {
 		for at := range s.bytes {
 			lines, verdict := said(t, s.limits, s.bytes[:at], s.bytes[at:])
+			mustSay(t, s, at, lines, verdict)
+		}
+	}
+}
+
+func TestBatchesInEveryCut(t *testing.T) {
+	for _, s := range streams(t) {
+		for at := range s.bytes {
+			lines, verdict := decoded(t, s.limits, []int{1, 2, 7, 300}[at%4], s.bytes[:at], s.bytes[at:])
 			mustSay(t, s, at, lines, verdict)
 		}
 	}

@@ -1,0 +1,412 @@
+package cqlp
+
+// What writes bodies. This is plain Go, and nothing of the proved library stands behind it but the header; the tests read all that it writes
+// with the decoder. A text or a list that is longer than its length can say is refused, and nothing else is looked at.
+
+import (
+	"encoding/binary"
+	"errors"
+	"fmt"
+	"math"
+	"math/big"
+	"net"
+	"net/netip"
+	"time"
+)
+
+// ErrTooLong says that a text, a list or a body is longer than its length can say.
+var ErrTooLong = errors.New("cqlp: longer than its length can say")
+
+// ErrNotWritten says that there is no writer of such a message, type or value here.
+var ErrNotWritten = errors.New("cqlp: there is no writer of this")
+
+// AppendMessage appends a frame without flags under this stream id: any request, or a READY, AUTHENTICATE, SUPPORTED, AUTH_CHALLENGE,
+// AUTH_SUCCESS, an ERROR whose code has no fields, or a RESULT that is Void, SetKeyspace or Prepared; pages are written by AppendPage. The
+// error is ErrTooLong, ErrNotWritten, or one that says what does not go together, and b is then as it was.
+func AppendMessage(b []byte, stream int16, m Message) ([]byte, error) {
+	var w writer
+	w.message(m)
+	return w.frame(b, stream, m.Opcode())
+}
+
+// AppendPage appends a RESULT of the kind Rows under this stream id, whose rows have a value for each column, as Bind makes them. It does not
+// look whether these are of the columns' types. Of the metadata a paging state is told where there is one, and columns but where the flag 4 is
+// set: then a reader has to know their types. The errors are those of AppendMessage.
+func AppendPage(b []byte, stream int16, m *Metadata, rows [][]Value) ([]byte, error) {
+	var w writer
+	w.int(int32(ResultRows))
+	width := w.metadata(m)
+	w.int(int32(len(rows)))
+	for _, row := range rows {
+		if len(row) != width {
+			w.fail("a row of %d values in %d columns", len(row), width)
+		}
+		for _, value := range row {
+			w.value(value)
+		}
+	}
+	return w.frame(b, stream, OpcodeResult)
+}
+
+// Bind makes the value of a scalar: of nil null, of a bool a boolean, of an int8, int16, int32 and int64 a tinyint, smallint, int and bigint,
+// of a float32 and float64 a float and a double, of a string a text, of []byte a blob, of a UUID a uuid, of net.IP and netip.Addr an inet, of
+// a time.Time a timestamp, of a time.Duration a time, of a *big.Int a varint. An int has no width of its own, and is none of these. The error
+// is ErrNotWritten.
+func Bind(value any) (Value, error) {
+	bytes, err := scalar(value)
+	return Value{Bytes: bytes}, err
+}
+
+func scalar(value any) ([]byte, error) {
+	var b [8]byte
+	switch value := value.(type) {
+	case nil:
+		return nil, nil
+	case bool:
+		if value {
+			return []byte{1}, nil
+		}
+		return []byte{0}, nil
+	case int8:
+		return []byte{byte(value)}, nil
+	case int16:
+		binary.BigEndian.PutUint16(b[:], uint16(value))
+		return b[:2], nil
+	case int32:
+		binary.BigEndian.PutUint32(b[:], uint32(value))
+		return b[:4], nil
+	case int64:
+		binary.BigEndian.PutUint64(b[:], uint64(value))
+		return b[:], nil
+	case float32:
+		return scalar(int32(math.Float32bits(value)))
+	case float64:
+		return scalar(int64(math.Float64bits(value)))
+	case string:
+		return append([]byte{}, value...), nil
+	case []byte:
+		return clone(value), nil
+	case UUID:
+		return clone(value[:]), nil
+	case netip.Addr:
+		return value.AsSlice(), nil
+	case net.IP:
+		if four := value.To4(); four != nil {
+			return clone(four), nil
+		}
+		return clone(value), nil
+	case time.Time:
+		return scalar(value.UnixMilli())
+	case time.Duration:
+		return scalar(int64(value))
+	case *big.Int:
+		return complement(value), nil
+	}
+	return nil, fmt.Errorf("%w: %T", ErrNotWritten, value)
+}
+
+// complement is a number in two's complement, in the fewest bytes.
+func complement(number *big.Int) []byte {
+	length := number.BitLen()/8 + 1
+	if number.Sign() >= 0 {
+		return number.FillBytes(make([]byte, length))
+	}
+	// of -128 and the like one byte is enough
+	if rest := new(big.Int).Not(number); rest.BitLen()/8+1 < length {
+		length = rest.BitLen()/8 + 1
+	}
+	return new(big.Int).Add(number, new(big.Int).Lsh(big.NewInt(1), uint(8*length))).FillBytes(make([]byte, length))
+}
+
+// A writer writes the notations of section 3, and keeps its first error.
+type writer struct {
+	body []byte
+	err  error
+}
+
+// frame appends the body with its header.
+func (w *writer) frame(b []byte, stream int16, opcode Opcode) ([]byte, error) {
+	if w.err != nil {
+		return b, w.err
+	}
+	if len(w.body) > 1<<28 {
+		return b, ErrTooLong
+	}
+	with, err := AppendHeader(b, Header{opcode, stream, uint32(len(w.body)), 0, isResponse(opcode)})
+	return append(with, w.body...), err
+}
+
+func isResponse(opcode Opcode) bool {
+	switch opcode {
+	case OpcodeStartup, OpcodeOptions, OpcodeQuery, OpcodePrepare, OpcodeExecute, OpcodeRegister, OpcodeBatch, OpcodeAuthResponse:
+		return false
+	}
+	return true
+}
+
+func (w *writer) fail(form string, words ...any) { w.err = fmt.Errorf("cqlp: "+form, words...) }
+
+func (w *writer) byte(n byte) { w.body = append(w.body, n) }
+
+func (w *writer) short(n uint16) { w.body = append(w.body, byte(n>>8), byte(n)) }
+
+func (w *writer) int(n int32) {
+	w.short(uint16(n >> 16))
+	w.short(uint16(n))
+}
+
+func (w *writer) long(n int64) {
+	w.int(int32(n >> 32))
+	w.int(int32(n))
+}
+
+// count is how many items come.
+func (w *writer) count(n int) {
+	if n > math.MaxUint16 {
+		w.err = ErrTooLong
+	}
+	w.short(uint16(n))
+}
+
+func (w *writer) text(s string) {
+	w.count(len(s))
+	w.body = append(w.body, s...)
+}
+
+func (w *writer) texts(texts ...string) {
+	for _, s := range texts {
+		w.text(s)
+	}
+}
+
+func (w *writer) longText(s string) {
+	w.length(len(s))
+	w.body = append(w.body, s...)
+}
+
+func (w *writer) length(n int) {
+	if n > 1<<28 {
+		w.err = ErrTooLong
+	}
+	w.int(int32(n))
+}
+
+// bytes are null where they are nil.
+func (w *writer) bytes(b []byte) {
+	if b == nil {
+		w.int(-1)
+		return
+	}
+	w.length(len(b))
+	w.body = append(w.body, b...)
+}
+
+func (w *writer) value(v Value) {
+	if v.Unset {
+		w.int(-2)
+		return
+	}
+	w.bytes(v.Bytes)
+}
+
+func (w *writer) message(m Message) {
+	switch m := m.(type) {
+	case *Startup:
+		w.count(len(m.Options))
+		for _, option := range m.Options {
+			w.texts(option.Key, option.Value)
+		}
+	case *Query:
+		w.longText(m.Query)
+		w.parameters(&m.Parameters)
+	case *Prepare:
+		w.longText(m.Query)
+	case *Execute:
+		w.text(string(m.ID))
+		w.parameters(&m.Parameters)
+	case *Batch:
+		w.batch(m)
+	case *Register:
+		w.count(len(m.EventTypes))
+		w.texts(m.EventTypes...)
+	case *AuthResponse:
+		w.bytes(m.Token)
+	default:
+		w.response(m)
+	}
+}
+
+func (w *writer) response(m Message) {
+	switch m := m.(type) {
+	case *Options, *Ready:
+	case *Authenticate:
+		w.text(m.Class)
+	case *Supported:
+		w.count(len(m.Options))
+		for _, option := range m.Options {
+			w.text(option.Key)
+			w.count(len(option.Values))
+			w.texts(option.Values...)
+		}
+	case *AuthChallenge:
+		w.bytes(m.Token)
+	case *AuthSuccess:
+		w.bytes(m.Token)
+	case *Void:
+		w.int(int32(ResultVoid))
+	case *SetKeyspace:
+		w.int(int32(ResultSetKeyspace))
+		w.text(m.Keyspace)
+	case *Prepared:
+		w.prepared(m)
+	case *ServerError:
+		w.serverError(m)
+	default:
+		w.err = fmt.Errorf("%w: %T", ErrNotWritten, m)
+	}
+}
+
+// serverError writes an ERROR, where its code has no more fields.
+func (w *writer) serverError(e *ServerError) {
+	switch e.Code {
+	case ErrorUnavailable, ErrorWriteTimeout, ErrorReadTimeout, ErrorReadFailure, ErrorFunctionFailure, ErrorWriteFailure, ErrorAlreadyExists,
+		ErrorUnprepared:
+		w.err = fmt.Errorf("%w: the fields of %v", ErrNotWritten, e.Code)
+	}
+	w.int(int32(e.Code))
+	w.text(e.Message)
+}
+
+// set is the flag, where it is set.
+func set(flag byte, isSet bool) byte {
+	if isSet {
+		return flag
+	}
+	return 0
+}
+
+func (w *writer) parameters(p *Parameters) {
+	flags := set(flagValues, p.Values != nil) | set(flagNames, p.Names != nil) | set(flagSkipMetadata, p.SkipMetadata) |
+		set(flagPageSize, p.PageSize != nil) | set(flagPagingState, p.PagingState != nil)
+	w.short(uint16(p.Consistency))
+	w.byte(flags | lastFlags(p.SerialConsistency, p.Timestamp))
+	if p.Values != nil {
+		w.values(p.Values, p.Names)
+	}
+	if p.PageSize != nil {
+		w.int(*p.PageSize)
+	}
+	if p.PagingState != nil {
+		w.bytes(p.PagingState)
+	}
+	w.last(p.SerialConsistency, p.Timestamp)
+}
+
+func (w *writer) values(values []Value, names []string) {
+	if names != nil && len(names) != len(values) {
+		w.fail("%d names of %d values", len(names), len(values))
+		return
+	}
+	w.count(len(values))
+	for i, value := range values {
+		if names != nil {
+			w.text(names[i])
+		}
+		w.value(value)
+	}
+}
+
+func lastFlags(serial *Consistency, timestamp *int64) byte {
+	return set(flagSerialConsistency, serial != nil) | set(flagTimestamp, timestamp != nil)
+}
+
+func (w *writer) last(serial *Consistency, timestamp *int64) {
+	if serial != nil {
+		w.short(uint16(*serial))
+	}
+	if timestamp != nil {
+		w.long(*timestamp)
+	}
+}
+
+func (w *writer) batch(m *Batch) {
+	w.byte(byte(m.Type))
+	w.count(len(m.Statements))
+	for _, statement := range m.Statements {
+		if statement.ID != nil {
+			w.byte(1)
+			w.text(string(statement.ID))
+		} else {
+			w.byte(0)
+			w.longText(statement.Query)
+		}
+		w.values(statement.Values, nil)
+	}
+	w.short(uint16(m.Consistency))
+	w.byte(lastFlags(m.SerialConsistency, m.Timestamp))
+	w.last(m.SerialConsistency, m.Timestamp)
+}
+
+func (w *writer) prepared(m *Prepared) {
+	w.int(int32(ResultPrepared))
+	w.text(string(m.ID))
+	w.int(0)
+	w.int(int32(len(m.Bound)))
+	w.int(int32(len(m.Keys)))
+	for _, key := range m.Keys {
+		w.short(key)
+	}
+	w.columns(m.Bound)
+	w.metadata(&m.Result)
+}
+
+// metadata answers how many columns there are.
+func (w *writer) metadata(m *Metadata) int {
+	width, told := len(m.Columns), m.Flags&4 == 0
+	if !told {
+		width = int(m.Width)
+	}
+	w.int(m.Flags&4 | int32(set(2, m.PagingState != nil)))
+	w.int(int32(width))
+	if m.PagingState != nil {
+		w.bytes(m.PagingState)
+	}
+	if told {
+		w.columns(m.Columns)
+	}
+	return width
+}
+
+// columns are written with their tables.
+func (w *writer) columns(columns []Column) {
+	for _, column := range columns {
+		w.texts(column.Keyspace, column.Table, column.Name)
+		w.typ(column.Type)
+	}
+}
+
+// typ writes a type option.
+func (w *writer) typ(t Type) {
+	w.short(uint16(t.Kind))
+	switch t.Kind {
+	case KindCustom:
+		w.text(t.Name)
+	case KindTuple:
+		w.count(len(t.Inner))
+	case KindUDT:
+		w.texts(t.Keyspace, t.Name)
+		w.count(len(t.Inner))
+	case KindRaw:
+		w.err = fmt.Errorf("%w: %v", ErrNotWritten, t.Kind)
+	}
+	if wanted, is := map[Kind]int{KindList: 1, KindSet: 1, KindMap: 2, KindUDT: len(t.Names)}[t.Kind]; is && wanted != len(t.Inner) {
+		w.fail("a %v of %d types", t.Kind, len(t.Inner))
+		return
+	}
+	for i, inner := range t.Inner {
+		if t.Kind == KindUDT {
+			w.text(t.Names[i])
+		}
+		w.typ(inner)
+	}
+}

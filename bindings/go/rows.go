@@ -1,0 +1,147 @@
+package cqlp
+
+import (
+	"errors"
+	"io"
+)
+
+var errCount = errors.New("there are as many columns, and not as many pointers")
+
+// A RowReader gives the rows of the pages that an io.Reader reads, one at a time. It holds one row, and what its Limits say. Of frames that are
+// no page it tells nothing.
+//
+//	for rows.Next() {
+//		if err := rows.Scan(&id, &name); err != nil {
+//			return err
+//		}
+//	}
+//	return rows.Err()
+//
+// Skip and Types are those of the Reader: where a frame is passed over, the page within it ends.
+type RowReader struct {
+	Reader
+
+	parser parser
+	cells  cells
+	// whether a page is under way, and what is told of the last one
+	within bool
+	page   Page
+}
+
+// A Page is what is told of the page of a row.
+type Page struct {
+	// At is the offset of its frame, and Stream its stream id.
+	At     uint64
+	Stream int16
+	// Number counts the pages from 1 on, and is 0 before the first.
+	Number   int
+	Metadata Metadata
+	// Count is how many rows it says that it has.
+	Count int32
+}
+
+// NewRowReader makes a decoder for what is read. Close frees it, and does not close the io.Reader.
+func NewRowReader(source io.Reader, limits Limits) (*RowReader, error) {
+	reader, err := NewReader(source, limits)
+	if err != nil {
+		return nil, err
+	}
+	r := &RowReader{Reader: *reader}
+	r.parser.reader, r.cells.parser = &r.Reader, &r.parser
+	return r, nil
+}
+
+// Next goes on to the next row, of this page or of the next, and says whether there is one.
+func (r *RowReader) Next() bool {
+	for {
+		if r.within && r.cells.next() {
+			return true
+		}
+		if !r.NextPage() {
+			return false
+		}
+	}
+}
+
+// NextPage passes over what is left of a page, and says whether there is another one. Its first row is the next that Next gives, so a
+// page without rows can be told too.
+func (r *RowReader) NextPage() bool {
+	p := &r.parser
+	for r.within && r.cells.next() {
+	}
+	for {
+		if r.within {
+			p.end()
+			r.within = false
+		}
+		head, err := p.begin()
+		if err != nil {
+			return false
+		}
+		if r.within = true; r.begin(head) {
+			return true
+		}
+	}
+}
+
+// begin reads a frame up to the rows of a page, where it is one.
+func (r *RowReader) begin(head Event) bool {
+	if head.Opcode != OpcodeResult {
+		return false
+	}
+	p := &r.parser
+	p.front(head)
+	if ResultKind(p.number(FieldResultKind)) != ResultRows {
+		return false
+	}
+	metadata := p.metadata()
+	count := p.int(FieldRows)
+	if p.failed != nil {
+		return false
+	}
+	r.page = Page{head.At, int16(head.Extra), r.page.Number + 1, metadata, count}
+	r.cells.begin(&r.page.Metadata, r.typing)
+	return true
+}
+
+// Page tells of the page of the last row.
+func (r *RowReader) Page() Page { return r.page }
+
+// Columns are what is told of the columns of the page, by itself or by the table that types it; none where nothing is.
+func (r *RowReader) Columns() []Column { return r.cells.columns }
+
+// Scan puts the values of the row into what the pointers point to, one for each column. nil passes over a column. A value goes into
+//
+//   - any: what Values has of it
+//   - a bool, an integer or a float in whose range it is, a string, []byte, or a type of these kinds; RawBytes lends the content until Next
+//   - time.Time, time.Duration, UUID, [16]byte, net.IP, netip.Addr, big.Int, Decimal
+//   - a pointer to one of these, which is nil where the value is null; else null is ErrNull, but that slices and maps are nil
+//   - a slice of one of these, of a list, a set or a tuple; a map, of a map, or of a UDT by its fields' names; []Pair and []NamedValue
+//   - an sql.Scanner.
+//
+// A timestamp in an integer is milliseconds from 1970, a time nanoseconds since midnight. The error is a *ScanError, and the reading may go on.
+func (r *RowReader) Scan(to ...any) error {
+	if len(to) != len(r.cells.starts) {
+		return &ScanError{len(r.cells.starts), errCount}
+	}
+	for i, to := range to {
+		cell := r.cells.cell(i)
+		if err := cell.scan(to); err != nil {
+			return &ScanError{i, err}
+		}
+	}
+	return nil
+}
+
+// Values are those of the row, one for each column, which live on: of a scalar Event.Value, nil where it is null, Empty where it has no bytes
+// and is neither a text nor bytes; []any of a list, a set or a tuple, []Pair of a map, []NamedValue of a UDT. Fields of a tuple or a UDT
+// that did not come are nil.
+func (r *RowReader) Values() []any { return r.cells.values() }
+
+// Err is what ended the rows, or nil where it is the end of the stream: a *Refusal, a *Cut, or the error of the io.Reader.
+func (r *RowReader) Err() error {
+	if err := r.parser.failed; err != io.EOF && err != errPassed {
+		return err
+	}
+	return nil
+}

@@ -1,0 +1,474 @@
+package cqlp
+
+import (
+	"bytes"
+	"database/sql"
+	"errors"
+	"fmt"
+	"io"
+	"math"
+	"math/big"
+	"net"
+	"net/netip"
+	"os"
+	"reflect"
+	"strings"
+	"testing"
+	"time"
+)
+
+func rowReader(t *testing.T, source io.Reader) *RowReader {
+	t.Helper()
+	r, err := NewRowReader(source, DefaultLimits())
+	if err != nil {
+		t.Fatal(err)
+	}
+	t.Cleanup(func() { r.Close() })
+	return r
+}
+
+// rowsOf are the values of all rows.
+func rowsOf(t *testing.T, r *RowReader) (rows [][]any) {
+	t.Helper()
+	for r.Next() {
+		rows = append(rows, r.Values())
+	}
+	return rows
+}
+
+func TestScanOfPages(t *testing.T) {
+	pages, err := os.ReadFile("../pages.bin")
+	if err != nil {
+		t.Fatal(err)
+	}
+	for size := 1; size < 700; size += 1 + size/3 {
+		r := rowReader(t, pieces(pages, size))
+		for i := 0; i < 3; i++ {
+			var a int32
+			var b int64
+			var c string
+			var d bool
+			if !r.Next() {
+				t.Fatal(r.Err())
+			}
+			if err := r.Scan(&a, &b, &c, &d); err != nil {
+				t.Fatal(err)
+			}
+			if a != int32(i) || b != int64(i)*1000003 || c != fmt.Sprintf("%016d", i) || d != (i%2 == 1) || r.Page().Number != 1 {
+				t.Fatal(a, b, c, d)
+			}
+		}
+		for i := 0; i < 2; i++ {
+			var list []int
+			var pairs map[string]int8
+			if !r.Next() {
+				t.Fatal(r.Err())
+			}
+			if err := r.Scan(&list, &pairs); err != nil {
+				t.Fatal(err)
+			}
+			if len(list) != 8 || list[7] != i+7 || len(pairs) != 3 || pairs[fmt.Sprintf("%016d", i+2)] != 2 || r.Page().Number != 2 {
+				t.Fatal(list, pairs)
+			}
+		}
+		if r.Next() || r.Err() != nil || r.Next() {
+			t.Fatal(r.Err())
+		}
+	}
+}
+
+// onePage is a page with one row.
+func onePage(t *testing.T, types []Type, values ...Value) []byte {
+	t.Helper()
+	m := &Metadata{}
+	for i, typ := range types {
+		m.Columns = append(m.Columns, Column{"k", "t", fmt.Sprint("c", i), typ})
+	}
+	b, err := AppendPage(nil, 0, m, [][]Value{values})
+	if err != nil {
+		t.Fatal(err)
+	}
+	return b
+}
+
+func bound(t *testing.T, value any) Value {
+	t.Helper()
+	v, err := Bind(value)
+	if err != nil {
+		t.Fatal(err)
+	}
+	return v
+}
+
+type celsius float64
+
+// Each value that Bind makes is read again, in all forms that it goes into.
+func TestScanOfScalars(t *testing.T) {
+	day, moment := time.Date(2022, 1, 8, 0, 0, 0, 0, time.UTC), time.UnixMilli(-1).UTC()
+	huge, _ := new(big.Int).SetString("-170141183460469231731687303715884105729", 10)
+	four := netip.MustParseAddr("127.0.0.1")
+	text := "a"
+	for _, row := range []struct {
+		kind   Kind
+		value  any
+		wanted []any
+	}{
+		{KindTinyint, int8(-1), []any{int8(-1), int64(-1), -1, *big.NewInt(-1), sql.NullInt64{Int64: -1, Valid: true}}},
+		{KindSmallint, int16(-300), []any{int16(-300), int32(-300)}},
+		{KindInt, int32(1 << 20), []any{int32(1 << 20), uint32(1 << 20), uint64(1 << 20), any(int64(1 << 20))}},
+		{KindBigint, int64(math.MinInt64), []any{int64(math.MinInt64)}},
+		{KindCounter, int64(7), []any{uint8(7), uint(7)}},
+		{KindBoolean, true, []any{true, sql.NullBool{Bool: true, Valid: true}}},
+		{KindFloat, float32(-0.1), []any{float32(-0.1), float64(float32(-0.1))}},
+		{KindDouble, 0.25, []any{0.25, float32(0.25), celsius(0.25)}},
+		{KindVarchar, "a", []any{"a", []byte("a"), RawBytes("a"), &text, sql.NullString{String: "a", Valid: true}, any("a")}},
+		{KindASCII, "a", []any{"a"}},
+		{KindBlob, []byte{0, 255}, []any{[]byte{0, 255}, RawBytes{0, 255}, any([]byte{0, 255})}},
+		{KindTimestamp, moment, []any{moment, int64(-1), any(moment), sql.NullTime{Time: moment, Valid: true}}},
+		{KindDate, int32(-1<<31 + 19000), []any{day}},
+		{KindTime, time.Nanosecond, []any{time.Nanosecond, int64(1)}},
+		{KindUUID, UUID{1}, []any{UUID{1}, [16]byte{1}}},
+		{KindTimeUUID, UUID{6: 0x10}, []any{UUID{6: 0x10}}},
+		{KindInet, four, []any{four, net.IP{127, 0, 0, 1}}},
+		{KindInet, net.ParseIP("::1"), []any{netip.MustParseAddr("::1")}},
+		{KindVarint, huge, []any{huge, *huge}},
+		{KindVarint, big.NewInt(-128), []any{int8(-128), big.NewInt(-128)}},
+		{KindVarint, big.NewInt(128), []any{uint8(128)}},
+		{KindDecimal, []byte{0, 0, 0, 2, 0x30, 0x39}, []any{Decimal{big.NewInt(12345), 2}}},
+	} {
+		r := rowReader(t, bytes.NewReader(onePage(t, []Type{{Kind: row.kind}}, bound(t, row.value))))
+		if !r.Next() {
+			t.Fatal(row, r.Err())
+		}
+		for _, wanted := range row.wanted {
+			to := reflect.New(reflect.TypeOf(wanted))
+			if err := r.Scan(to.Interface()); err != nil || !reflect.DeepEqual(to.Elem().Interface(), wanted) {
+				t.Errorf("%v: %v, and not %v: %v", row.kind, to.Elem(), wanted, err)
+			}
+			pointer := reflect.New(to.Type())
+			if err := r.Scan(pointer.Interface()); err != nil || !reflect.DeepEqual(pointer.Elem().Elem().Interface(), wanted) {
+				t.Errorf("%v: %v, and not %v: %v", row.kind, pointer.Elem(), wanted, err)
+			}
+		}
+		var found any
+		if err := r.Scan(&found); err != nil || !reflect.DeepEqual(found, r.Values()[0]) {
+			t.Error(row.kind, found, err)
+		}
+	}
+}
+
+func TestScanThatFails(t *testing.T) {
+	types := []Type{{Kind: KindInt}, {Kind: KindInt}, {Kind: KindInt}, {Kind: KindVarchar}, {Kind: KindDouble}, {Kind: KindVarchar}}
+	row := []Value{bound(t, nil), bound(t, []byte{}), bound(t, int32(300)), bound(t, "a"), bound(t, 0.1), bound(t, "")}
+	r := rowReader(t, bytes.NewReader(onePage(t, types, row...)))
+	if !r.Next() {
+		t.Fatal(r.Err())
+	}
+	if values := r.Values(); !reflect.DeepEqual(values, []any{nil, Empty{}, int64(300), "a", 0.1, ""}) {
+		t.Fatal(values)
+	}
+	for _, row := range []struct {
+		column int
+		to     any
+		wanted error
+	}{
+		{0, new(int32), ErrNull},
+		{0, new(string), ErrNull},
+		{1, new(int), ErrEmpty},
+		{2, new(int8), ErrRange},
+		{2, new(uint8), ErrRange},
+		{2, new(string), nil},
+		{2, new(bool), nil},
+		{3, new(int), nil},
+		{3, "no pointer", nil},
+		{3, (*string)(nil), nil},
+		{3, new(chan int), nil},
+		{3, new([]int), nil},
+		{4, new(float32), ErrRange},
+		{4, new(int64), nil},
+		{5, new(UUID), nil},
+	} {
+		to := make([]any, 6)
+		to[row.column] = row.to
+		err := r.Scan(to...)
+		var bad *ScanError
+		if !errors.As(err, &bad) || bad.Column != row.column || row.wanted != nil && !errors.Is(err, row.wanted) {
+			t.Errorf("%d into %T: %v", row.column, row.to, err)
+		}
+	}
+	if err := r.Scan(new(int)); err == nil {
+		t.Error("one pointer for six columns")
+	}
+	none, slice, text := new(int), []byte("x"), "x"
+	if err := r.Scan(&none, nil, nil, nil, nil, &text); err != nil || none != nil || text != "" {
+		t.Error(none, text, err)
+	}
+	if err := r.Scan(&slice, nil, nil, nil, nil, nil); err != nil || slice != nil {
+		t.Error(slice, err)
+	}
+}
+
+// cellOf is a cell, or an item, with its length in front.
+func cellOf(content string) string { return long(len(content)) + content }
+
+func TestScanOfWhatHasItems(t *testing.T) {
+	number, word := Type{Kind: KindInt}, Type{Kind: KindVarchar}
+	udt := Type{Kind: KindUDT, Keyspace: "k", Name: "u", Names: []string{"x", "y", "z"}, Inner: []Type{number, number, word}}
+	types := []Type{
+		{Kind: KindList, Inner: []Type{{Kind: KindSet, Inner: []Type{number}}}},
+		{Kind: KindMap, Inner: []Type{{Kind: KindBlob}, word}},
+		{Kind: KindTuple, Inner: []Type{number, word}},
+		udt,
+	}
+	set := long(2) + cellOf(long(1)) + cellOf(long(2))
+	row := []Value{
+		bound(t, long(2)+cellOf(set)+cellOf(long(0))),
+		bound(t, long(1)+cellOf("\xff")+cellOf("v")),
+		bound(t, cellOf(long(3))),
+		bound(t, cellOf(long(4))+long(-1)),
+	}
+	stream := onePage(t, types, row...)
+	for size := 1; size <= len(stream); size++ {
+		r := rowReader(t, pieces(stream, size))
+		if !r.Next() {
+			t.Fatal(r.Err())
+		}
+		wanted := []any{
+			[]any{[]any{int64(1), int64(2)}, []any{}},
+			[]Pair{{[]byte{0xff}, "v"}},
+			[]any{int64(3), nil},
+			[]NamedValue{{"x", int64(4)}, {"y", nil}, {"z", nil}},
+		}
+		if values := r.Values(); !reflect.DeepEqual(values, wanted) {
+			t.Fatal(size, values)
+		}
+		var lists [][]int16
+		var pairs []Pair
+		var words map[string]string
+		var tuple []any
+		var fields map[string]*int
+		if err := r.Scan(&lists, &pairs, &tuple, &fields); err != nil {
+			t.Fatal(err)
+		}
+		if err := r.Scan(nil, &words, nil, nil); err != nil || words["\xff"] != "v" {
+			t.Fatal(words, err)
+		}
+		if !reflect.DeepEqual(lists, [][]int16{{1, 2}, {}}) || len(pairs) != 1 || tuple[0] != int64(3) || *fields["x"] != 4 || fields["y"] != nil {
+			t.Fatal(lists, pairs, tuple, fields)
+		}
+		var keys map[any]string
+		if err := r.Scan(nil, &keys, nil, nil); err == nil {
+			t.Fatal("a blob is no key of a map")
+		}
+		var bytes [][]byte
+		if err := r.Scan(&bytes, nil, nil, nil); err == nil {
+			t.Fatal(bytes)
+		}
+	}
+}
+
+func TestWhatIsNoPageIsPassedOver(t *testing.T) {
+	one := onePage(t, []Type{{Kind: KindInt}}, bound(t, int32(1)))
+	none, err := AppendPage(nil, 3, &Metadata{Columns: []Column{{Type: Type{Kind: KindInt}}}, PagingState: []byte("s")}, nil)
+	if err != nil {
+		t.Fatal(err)
+	}
+	stream := bytes.Join([][]byte{unhex(t, options), one, responseOf(OpcodeResult, 0, long(1)), none, unhex(t, next)}, nil)
+	r := rowReader(t, bytes.NewReader(stream))
+	if rows := rowsOf(t, r); !reflect.DeepEqual(rows, [][]any{{int64(1)}, {int64(9)}}) || r.Err() != nil {
+		t.Fatal(rows, r.Err())
+	}
+	r = rowReader(t, bytes.NewReader(stream))
+	var states []string
+	for r.NextPage() {
+		states = append(states, string(r.Page().Metadata.PagingState))
+	}
+	if !reflect.DeepEqual(states, []string{"", "s", ""}) || r.Page().Stream != 6 || r.Columns()[0].Name != "a" {
+		t.Fatal(states, r.Page())
+	}
+}
+
+func TestRowsOfRefusedPages(t *testing.T) {
+	stream := unhex(t, badPage+next)
+	r := rowReader(t, bytes.NewReader(stream))
+	var refusal *Refusal
+	if rows := rowsOf(t, r); len(rows) != 1 || !errors.As(r.Err(), &refusal) {
+		t.Fatal(rows, r.Err())
+	}
+	r = rowReader(t, bytes.NewReader(stream[:40]))
+	if rows := rowsOf(t, r); len(rows) != 0 || !errors.Is(r.Err(), io.ErrUnexpectedEOF) {
+		t.Fatal(rows, r.Err())
+	}
+	for size := 1; size <= len(stream); size++ {
+		r = rowReader(t, pieces(stream, size))
+		passed := 0
+		r.Skip = func(Skipped) { passed++ }
+		if rows := rowsOf(t, r); !reflect.DeepEqual(rows, [][]any{{int64(7)}, {int64(9)}}) || passed != 1 || r.Err() != nil {
+			t.Fatal(size, rows, passed, r.Err())
+		}
+	}
+}
+
+// A result of PREPARE, and pages of its columns, with metadata and without, as the tests of Python have them.
+const (
+	preparedTypes = "84000001080000002d 00000004 000170 000000000000000000000000 0000000100000002 00016b 000174 0001610009 000162 0020 000d"
+	bare          = "840000020800000025 00000002 00000004 00000002 00000001 0000000400000007 00000009000000010000000178"
+	told          = "840000020800000023 00000002 00000001 00000001 00016b 000174 0001630009 00000001 0000000400000009"
+	wide          = "84000002080000001c 00000002 00000004 00000003 00000001 ffffffffffffffff 00000000"
+	badBare       = "840000020800000017 00000002 00000004 00000002 00000001 00000003000007 00000000"
+)
+
+// typesOf are those of the result of PREPARE.
+func typesOf(t *testing.T) *Types {
+	t.Helper()
+	f, err := NewFrames(bytes.NewReader(unhex(t, preparedTypes+bare)), DefaultLimits())
+	if err != nil {
+		t.Fatal(err)
+	}
+	defer f.Close()
+	frame, err := f.Next()
+	if err != nil {
+		t.Fatal(err)
+	}
+	types, err := f.TypesOf()
+	if err != nil {
+		t.Fatal(err)
+	}
+	types.Columns = frame.Message.(*Prepared).Result.Columns
+	t.Cleanup(func() { types.Close() })
+	return types
+}
+
+func TestGivenTypes(t *testing.T) {
+	typed, raw := []any{int64(7), []any{"x"}}, []any{[]byte{0, 0, 0, 7}, []byte{0, 0, 0, 1, 0, 0, 0, 1, 'x'}}
+	if rows := rowsOf(t, rowReader(t, bytes.NewReader(unhex(t, bare)))); !reflect.DeepEqual(rows, [][]any{raw}) {
+		t.Fatal(rows)
+	}
+	stream := unhex(t, bare+told+preparedTypes+bare+wide+bare)
+	wanted := [][]any{typed, {int64(9)}, typed, {nil, nil, []byte{}}, typed}
+	types := typesOf(t)
+	for size := 1; size < 60; size++ {
+		r := rowReader(t, pieces(stream, size))
+		r.Types = func(frame Event) *Types {
+			if frame.Extra != 2 {
+				return nil
+			}
+			return types
+		}
+		if rows := rowsOf(t, r); !reflect.DeepEqual(rows, wanted) || r.Err() != nil {
+			t.Fatal(size, rows, r.Err())
+		}
+		if columns := r.Columns(); len(columns) != 2 || columns[1].Name != "b" || columns[1].Type.String() != "list<varchar>" {
+			t.Fatal(columns)
+		}
+	}
+}
+
+func TestTypesThatAreNotTaken(t *testing.T) {
+	for _, row := range []struct {
+		limits func(*Limits)
+		code   Code
+	}{
+		{func(l *Limits) { l.Types = false }, CodeOff},
+		{func(l *Limits) { l.Entries = 2 }, CodeTooMany},
+		{func(l *Limits) { l.Depth = 1 }, CodeTooDeep},
+	} {
+		limits, types := DefaultLimits(), typesOf(t)
+		row.limits(&limits)
+		r, err := NewReader(bytes.NewReader(unhex(t, bare)), limits)
+		if err != nil {
+			t.Fatal(err)
+		}
+		r.Types = func(Event) *Types { return types }
+		if _, err := r.Next(); !errors.Is(err, row.code) {
+			t.Fatal(err)
+		}
+		r.Close()
+	}
+}
+
+func TestTypesStepByStep(t *testing.T) {
+	d, types := decoder(t, DefaultLimits()), typesOf(t)
+	for i := 0; i < 3; i++ {
+		if err := d.Give(types); err != nil {
+			t.Fatal(err)
+		}
+		if err := d.Give(types); err != CodeNoTypes {
+			t.Fatal(err)
+		}
+		lines := linesOf(t, d, unhex(t, bare))
+		if all := strings.Join(lines, "|"); !strings.Contains(all, "Leaf 0 0 0 7|") || !strings.Contains(all, "Leaf 0 1 1 \"x\"|") {
+			t.Fatal(all)
+		}
+		if err := d.TakeGiven(types); err != nil {
+			t.Fatal(err)
+		}
+		if err := d.TakeGiven(types); err != CodeInUse {
+			t.Fatal(err)
+		}
+	}
+	var other Types
+	if err := d.TakeGiven(&other); err != CodeNoTypes {
+		t.Fatal(err)
+	}
+	if err := d.Give(&other); err != CodeNoTypes {
+		t.Fatal(err)
+	}
+	linesOf(t, d, unhex(t, bare)[:30])
+	if err := d.Give(types); err != nil {
+		t.Fatal(err)
+	}
+	types.Close()
+	other.Close()
+	d.Close()
+	if _, err := d.TypesOf(); err != ErrClosed {
+		t.Fatal(err)
+	}
+	if err := d.Give(types); err != ErrClosed {
+		t.Fatal(err)
+	}
+	if err := d.TakeGiven(types); err != ErrClosed {
+		t.Fatal(err)
+	}
+}
+
+// A table that types a frame which is passed over is lost.
+func TestTypesOfAFrameThatIsPassedOver(t *testing.T) {
+	types := typesOf(t)
+	r := rowReader(t, bytes.NewReader(unhex(t, badBare+bare)))
+	r.Types = func(Event) *Types { return types }
+	r.Skip = func(Skipped) {}
+	if rows := rowsOf(t, r); len(rows) != 0 || !errors.Is(r.Err(), CodeNoTypes) {
+		t.Fatal(rows, r.Err())
+	}
+}
+
+func TestWhatARowHolds(t *testing.T) {
+	word := strings.Repeat("x", 70000)
+	typ := []Type{{Kind: KindVarchar}, {Kind: KindVarchar}, {Kind: KindVarchar}}
+	stream := onePage(t, typ, bound(t, word), bound(t, "y"), bound(t, word))
+	for _, size := range []int{1000, 65536, 1 << 20} {
+		r := rowReader(t, pieces(stream, size))
+		var a, b, c string
+		if !r.Next() || r.Scan(&a, &b, &c) != nil || a != word || b != "y" || c != word {
+			t.Fatal(len(a), b, len(c), r.Err())
+		}
+	}
+}
+
+func TestPartsOfAValue(t *testing.T) {
+	blob := bytes.Repeat([]byte("0123456789"), 50)
+	limits := DefaultLimits()
+	limits.Cell, limits.Parts = 32, true
+	for _, size := range []int{1, 7, 1 << 16} {
+		r, err := NewRowReader(pieces(onePage(t, []Type{{Kind: KindBlob}}, bound(t, blob)), size), limits)
+		if err != nil {
+			t.Fatal(err)
+		}
+		var found []byte
+		if !r.Next() || r.Scan(&found) != nil || !bytes.Equal(found, blob) || !reflect.DeepEqual(r.Values(), []any{blob}) {
+			t.Fatal(found, r.Err())
+		}
+		r.Close()
+	}
+}

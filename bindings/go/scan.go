@@ -1,0 +1,376 @@
+package cqlp
+
+import (
+	"errors"
+	"fmt"
+	"math"
+	"math/big"
+	"net"
+	"net/netip"
+	"reflect"
+	"time"
+)
+
+// ErrNull says that a value is null, and what it was to be put into has no nil.
+var ErrNull = errors.New("the value is null")
+
+// ErrEmpty says that a value has no bytes, and its type is neither a text nor bytes.
+var ErrEmpty = errors.New("the value has no bytes")
+
+// ErrRange says that a number does not fit into what it was to be put into.
+var ErrRange = errors.New("the number is out of range")
+
+// A ScanError says that Scan cannot put the value of a column into what was asked for. It wraps ErrNull, ErrEmpty, ErrRange, an error of a
+// Scan method, or another one where the types do not go together.
+type ScanError struct {
+	// Column counts from 0.
+	Column int
+	Err    error
+}
+
+func (e *ScanError) Error() string { return fmt.Sprintf("cqlp: column %d: %v", e.Column, e.Err) }
+
+// Unwrap is the error.
+func (e *ScanError) Unwrap() error { return e.Err }
+
+// RawBytes is a content that Scan lends: it lives until the next call of Next.
+type RawBytes []byte
+
+// scanner is an sql.Scanner.
+type scanner interface{ Scan(src any) error }
+
+// scan puts the cell into what a pointer points to.
+func (c *cell) scan(to any) error {
+	e := &c.events[0]
+	if e.Tag == TagLeaf {
+		switch to := to.(type) {
+		case nil:
+			return nil
+		case *string:
+			if isText(e.Kind) && to != nil {
+				*to = string(e.Content)
+				return nil
+			}
+		case *int:
+			if isInteger(e.Kind) && to != nil {
+				return putInteger(e, to)
+			}
+		case *int64:
+			if isInteger(e.Kind) && to != nil {
+				return putInteger(e, to)
+			}
+		case *int32:
+			if isInteger(e.Kind) && to != nil {
+				return putInteger(e, to)
+			}
+		case *bool:
+			if e.Kind == KindBoolean && to != nil {
+				*to = e.Number != 0
+				return nil
+			}
+		case *any:
+			if to != nil {
+				*to = e.Value()
+				return nil
+			}
+		case *RawBytes:
+			if hasContent(e.Kind) && to != nil {
+				*to = e.Content
+				return nil
+			}
+		}
+	}
+	if to == nil {
+		return nil
+	}
+	value := reflect.ValueOf(to)
+	if value.Kind() != reflect.Pointer || value.IsNil() {
+		return fmt.Errorf("%T is no pointer to a value", to)
+	}
+	return c.into(value.Elem())
+}
+
+func isText(kind Kind) bool { return kind == KindVarchar || kind == KindASCII }
+
+// hasContent says whether the content of a leaf is its value.
+func hasContent(kind Kind) bool {
+	return isText(kind) || kind == KindBlob || kind == KindCustom || kind == KindRaw
+}
+
+// isInteger says whether the number of a leaf is its value. Those of a timestamp and a time are milliseconds from 1970, and nanoseconds.
+func isInteger(kind Kind) bool {
+	switch kind {
+	case KindBigint, KindCounter, KindInt, KindSmallint, KindTinyint, KindTimestamp, KindTime:
+		return true
+	}
+	return false
+}
+
+func putInteger[T int | int32 | int64](e *Event, to *T) error {
+	if int64(T(e.Number)) != e.Number {
+		return ErrRange
+	}
+	*to = T(e.Number)
+	return nil
+}
+
+func mismatch(e *Event, to any) error { return fmt.Errorf("a %v does not go into %T", e.Kind, to) }
+
+// into takes the next value, and puts it into v.
+func (c *cell) into(v reflect.Value) error {
+	if v.CanAddr() {
+		if to, ok := v.Addr().Interface().(scanner); ok {
+			return to.Scan(driverValue(c.value()))
+		}
+	}
+	e := &c.events[0]
+	switch {
+	case v.Kind() == reflect.Interface && v.NumMethod() == 0:
+		if value := c.value(); value != nil {
+			v.Set(reflect.ValueOf(value))
+		} else {
+			v.Set(reflect.Zero(v.Type()))
+		}
+		return nil
+	case v.Kind() == reflect.Pointer:
+		return c.intoPointer(v)
+	case e.Tag == TagNull:
+		c.take()
+		if v.Kind() != reflect.Slice && v.Kind() != reflect.Map {
+			return ErrNull
+		}
+		v.Set(reflect.Zero(v.Type()))
+		return nil
+	case e.Tag == TagEnter:
+		return c.intoItems(v)
+	}
+	return c.intoScalar(v)
+}
+
+// driverValue is one of those that an sql.Scanner knows, where there is such a one.
+func driverValue(value any) any {
+	switch value := value.(type) {
+	case float32:
+		return float64(value)
+	case UUID:
+		return value.String()
+	case time.Duration:
+		return int64(value)
+	case *big.Int:
+		return value.String()
+	}
+	return value
+}
+
+// intoPointer makes what the pointer is to point to, or nil where the value is null.
+func (c *cell) intoPointer(v reflect.Value) error {
+	if c.events[0].Tag == TagNull {
+		c.take()
+		v.Set(reflect.Zero(v.Type()))
+		return nil
+	}
+	made := reflect.New(v.Type().Elem())
+	if err := c.into(made.Elem()); err != nil {
+		return err
+	}
+	v.Set(made)
+	return nil
+}
+
+// intoScalar puts the value, which is neither null nor has items.
+func (c *cell) intoScalar(v reflect.Value) error {
+	kind := kindOf(c.typ)
+	value := c.value()
+	if _, empty := value.(Empty); empty {
+		return ErrEmpty
+	}
+	if found, ok := convert(value, v); ok {
+		return found
+	}
+	return fmt.Errorf("a %v does not go into %v", kind, v.Type())
+}
+
+// convert puts a scalar, and says whether their types go together.
+func convert(value any, v reflect.Value) (error, bool) {
+	from := reflect.ValueOf(value)
+	if from.Type() == v.Type() {
+		v.Set(from)
+		return nil, true
+	}
+	switch value := value.(type) {
+	case int64:
+		return convertInteger(value, v)
+	case time.Duration:
+		return convertInteger(int64(value), v)
+	case time.Time:
+		if v.Kind() == reflect.Int64 {
+			v.SetInt(value.UnixMilli())
+			return nil, true
+		}
+	case bool:
+		if v.Kind() == reflect.Bool {
+			v.SetBool(value)
+			return nil, true
+		}
+	case float32:
+		return convertFloat(float64(value), v)
+	case float64:
+		return convertFloat(value, v)
+	case string:
+		return convertText(value, v)
+	case []byte:
+		return convertText(string(value), v)
+	case *big.Int:
+		return convertBig(value, v)
+	case UUID:
+		if v.Kind() == reflect.Array && from.Type().ConvertibleTo(v.Type()) {
+			v.Set(from.Convert(v.Type()))
+			return nil, true
+		}
+	case net.IP:
+		if address, ok := netip.AddrFromSlice(value); ok && v.Type() == reflect.TypeOf(address) {
+			v.Set(reflect.ValueOf(address))
+			return nil, true
+		}
+	}
+	return nil, false
+}
+
+func convertInteger(number int64, v reflect.Value) (error, bool) {
+	switch v.Kind() {
+	case reflect.Int, reflect.Int8, reflect.Int16, reflect.Int32, reflect.Int64:
+		if v.OverflowInt(number) {
+			return ErrRange, true
+		}
+		v.SetInt(number)
+		return nil, true
+	case reflect.Uint, reflect.Uint8, reflect.Uint16, reflect.Uint32, reflect.Uint64:
+		if number < 0 || v.OverflowUint(uint64(number)) {
+			return ErrRange, true
+		}
+		v.SetUint(uint64(number))
+		return nil, true
+	}
+	if v.Type() == reflect.TypeOf(big.Int{}) {
+		v.Set(reflect.ValueOf(big.NewInt(number)).Elem())
+		return nil, true
+	}
+	return nil, false
+}
+
+func convertFloat(number float64, v reflect.Value) (error, bool) {
+	if v.Kind() != reflect.Float32 && v.Kind() != reflect.Float64 {
+		return nil, false
+	}
+	if v.Kind() == reflect.Float32 && float64(float32(number)) != number && !math.IsNaN(number) {
+		return ErrRange, true
+	}
+	v.SetFloat(number)
+	return nil, true
+}
+
+func convertText(text string, v reflect.Value) (error, bool) {
+	switch {
+	case v.Kind() == reflect.String:
+		v.SetString(text)
+	case v.Kind() == reflect.Slice && v.Type().Elem().Kind() == reflect.Uint8:
+		v.SetBytes([]byte(text))
+	default:
+		return nil, false
+	}
+	return nil, true
+}
+
+func convertBig(number *big.Int, v reflect.Value) (error, bool) {
+	if v.Type() == reflect.TypeOf(big.Int{}) {
+		v.Set(reflect.ValueOf(number).Elem())
+		return nil, true
+	}
+	if !number.IsInt64() {
+		return ErrRange, v.CanInt() || v.CanUint()
+	}
+	return convertInteger(number.Int64(), v)
+}
+
+// intoItems puts the items of a value: those of a list, a set or a tuple into a slice, those of a map into a map, the fields of a UDT into a
+// map by their names, where these are known.
+func (c *cell) intoItems(v reflect.Value) error {
+	typ, begin := c.typ, c.take()
+	switch {
+	case v.Kind() == reflect.Slice && v.Type().Elem() == reflect.TypeOf(Pair{}), v.Kind() == reflect.Slice && v.Type().Elem() == reflect.TypeOf(NamedValue{}):
+		found := reflect.ValueOf(c.items(begin, typ))
+		if found.Type() != v.Type() {
+			return mismatch(begin, v.Interface())
+		}
+		v.Set(found)
+		return nil
+	case v.Kind() == reflect.Slice && (begin.Kind == KindList || begin.Kind == KindSet || begin.Kind == KindTuple):
+		return c.intoSlice(v, begin, typ)
+	case v.Kind() == reflect.Map && begin.Kind == KindMap:
+		return c.intoMap(v, begin, typ)
+	case v.Kind() == reflect.Map && v.Type().Key().Kind() == reflect.String && begin.Kind == KindUDT && typ != nil:
+		return c.intoFields(v, begin, typ)
+	}
+	return mismatch(begin, v.Interface())
+}
+
+func (c *cell) intoSlice(v reflect.Value, begin *Event, typ *Type) error {
+	found := reflect.MakeSlice(v.Type(), 0, 0)
+	item := reflect.New(v.Type().Elem()).Elem()
+	err := c.each(begin, typ, func(int) error {
+		item.Set(reflect.Zero(item.Type()))
+		if err := c.into(item); err != nil {
+			return err
+		}
+		found = reflect.Append(found, item)
+		return nil
+	})
+	for begin.Kind == KindTuple && int64(found.Len()) < begin.Number {
+		found = reflect.Append(found, reflect.Zero(item.Type()))
+	}
+	v.Set(found)
+	return err
+}
+
+func (c *cell) intoMap(v reflect.Value, begin *Event, typ *Type) error {
+	found := reflect.MakeMap(v.Type())
+	key, item := reflect.New(v.Type().Key()).Elem(), reflect.New(v.Type().Elem()).Elem()
+	err := c.each(begin, typ, func(at int) error {
+		if at%2 == 0 {
+			key.Set(reflect.Zero(key.Type()))
+			return c.intoKey(key)
+		}
+		item.Set(reflect.Zero(item.Type()))
+		if err := c.into(item); err != nil {
+			return err
+		}
+		found.SetMapIndex(key, item)
+		return nil
+	})
+	v.Set(found)
+	return err
+}
+
+// intoKey refuses a value that no map can have as a key.
+func (c *cell) intoKey(key reflect.Value) error {
+	err := c.into(key)
+	if err == nil && key.Kind() == reflect.Interface && !key.IsNil() && !key.Elem().Type().Comparable() {
+		return fmt.Errorf("%v cannot be the key of a map", key.Elem().Type())
+	}
+	return err
+}
+
+func (c *cell) intoFields(v reflect.Value, begin *Event, typ *Type) error {
+	found := reflect.MakeMap(v.Type())
+	item := reflect.New(v.Type().Elem()).Elem()
+	err := c.each(begin, typ, func(at int) error {
+		item.Set(reflect.Zero(item.Type()))
+		if err := c.into(item); err != nil {
+			return err
+		}
+		found.SetMapIndex(reflect.ValueOf(typ.Names[at]).Convert(v.Type().Key()), item)
+		return nil
+	})
+	v.Set(found)
+	return err
+}
