@@ -301,7 +301,7 @@ func (d *Decoder) put(event *Event) {
 }
 
 // Skip passes over the rest of the frame within which the stream is refused, and says which it was, and why. The decoder goes on with the
-// rest of the input, of which it uses the bytes that the frame still has unread. A table that was given is lost: take it back before. The
+// rest of the input, of which it uses the bytes that the frame still has unread. A table that was given is freed: take it back before. The
 // error is CodeNotRefused, also while events before the refusal were not given out, CodeInHeader where what is refused is a header, so
 // that nobody knows where its frame ends, or CodeTooFar.
 func (d *Decoder) Skip() (Skipped, error) {

@@ -15,7 +15,8 @@ type Reader struct {
 	// there. Of such a frame there is no End.
 	Skip func(Skipped)
 	// Types says by which types a page without metadata is read, of the event of its header, as of its stream id. It is called for each RESULT,
-	// and may answer nil. The table is given for this frame and taken back at its end, but lost where the frame is passed over.
+	// and may answer nil. The table is given for this frame and taken back at its end, also where it is refused, but lost where the Reader is
+	// closed within it.
 	Types func(frame Event) *Types
 
 	decoder *Decoder
@@ -139,9 +140,9 @@ func (r *Reader) give() error {
 	return err
 }
 
+// takeBack has the table in the hands of the caller again, at the end of a frame and after a refusal; within a page that it types it stays.
 func (r *Reader) takeBack() {
 	if r.given != nil {
-		// where the frame was not typed to its end, the table is lost
 		_ = r.decoder.TakeGiven(r.given)
 		r.given = nil
 	}
@@ -149,10 +150,10 @@ func (r *Reader) takeBack() {
 
 // pass goes on after a refusal, where that is asked for and can be done; else it is the error.
 func (r *Reader) pass(refusal error) error {
+	r.takeBack()
 	if r.Skip == nil {
 		return refusal
 	}
-	r.takeBack()
 	skipped, err := r.decoder.Skip()
 	if err != nil {
 		return refusal
@@ -197,4 +198,7 @@ func (r *Reader) TypesOf() (*Types, error) { return r.decoder.TypesOf() }
 func (r *Reader) Held() (Held, error) { return r.decoder.Held() }
 
 // Close frees the decoder; a second time does nothing.
-func (r *Reader) Close() error { return r.decoder.Close() }
+func (r *Reader) Close() error {
+	r.takeBack()
+	return r.decoder.Close()
+}

@@ -244,14 +244,14 @@ func TestScanOfWhatHasItems(t *testing.T) {
 		}
 		var lists [][]int16
 		var pairs []Pair
-		var words map[string]string
+		var texts map[string]string
 		var tuple []any
 		var fields map[string]*int
 		if err := r.Scan(&lists, &pairs, &tuple, &fields); err != nil {
 			t.Fatal(err)
 		}
-		if err := r.Scan(nil, &words, nil, nil); err != nil || words["\xff"] != "v" {
-			t.Fatal(words, err)
+		if err := r.Scan(nil, &texts, nil, nil); err != nil || texts["\xff"] != "v" {
+			t.Fatal(texts, err)
 		}
 		if !reflect.DeepEqual(lists, [][]int16{{1, 2}, {}}) || len(pairs) != 1 || tuple[0] != int64(3) || *fields["x"] != 4 || fields["y"] != nil {
 			t.Fatal(lists, pairs, tuple, fields)
@@ -260,9 +260,9 @@ func TestScanOfWhatHasItems(t *testing.T) {
 		if err := r.Scan(nil, &keys, nil, nil); err == nil {
 			t.Fatal("a blob is no key of a map")
 		}
-		var bytes [][]byte
-		if err := r.Scan(&bytes, nil, nil, nil); err == nil {
-			t.Fatal(bytes)
+		var words [][]string
+		if err := r.Scan(&words, nil, nil, nil); err == nil {
+			t.Fatal(words)
 		}
 	}
 }
@@ -315,7 +315,7 @@ const (
 	bare          = "840000020800000025 00000002 00000004 00000002 00000001 0000000400000007 00000009000000010000000178"
 	told          = "840000020800000023 00000002 00000001 00000001 00016b 000174 0001630009 00000001 0000000400000009"
 	wide          = "84000002080000001c 00000002 00000004 00000003 00000001 ffffffffffffffff 00000000"
-	badBare       = "840000020800000017 00000002 00000004 00000002 00000001 00000003000007 00000000"
+	badBare       = "84000002080000001b 00000002 00000004 00000002 00000001 00000003000007 00000000"
 )
 
 // typesOf are those of the result of PREPARE.
@@ -432,14 +432,37 @@ func TestTypesStepByStep(t *testing.T) {
 	}
 }
 
-// A table that types a frame which is passed over is lost.
-func TestTypesOfAFrameThatIsPassedOver(t *testing.T) {
+// A table is there again after a page that is refused, passed over or not, and where the reader is closed behind a page.
+func TestTypesOfPagesThatAreRefused(t *testing.T) {
 	types := typesOf(t)
-	r := rowReader(t, bytes.NewReader(unhex(t, badBare+bare)))
-	r.Types = func(Event) *Types { return types }
-	r.Skip = func(Skipped) {}
-	if rows := rowsOf(t, r); len(rows) != 0 || !errors.Is(r.Err(), CodeNoTypes) {
+	given := func(stream string, skip func(Skipped)) *RowReader {
+		r := rowReader(t, bytes.NewReader(unhex(t, stream)))
+		r.Types, r.Skip = func(Event) *Types { return types }, skip
+		return r
+	}
+	var refusal *Refusal
+	if r := given(badBare, nil); r.Next() || !errors.As(r.Err(), &refusal) {
+		t.Fatal(r.Err())
+	}
+	r := given(badBare+badBare+bare, func(Skipped) {})
+	if rows := rowsOf(t, r); len(rows) != 1 || r.Err() != nil {
 		t.Fatal(rows, r.Err())
+	}
+	r = given(bare, nil)
+	if !r.Next() {
+		t.Fatal(r.Err())
+	}
+	r.Close()
+	if rows := rowsOf(t, given(bare, nil)); len(rows) != 1 {
+		t.Fatal(rows)
+	}
+	r = given(bare[:78], nil)
+	if r.Next() || !errors.Is(r.Err(), io.ErrUnexpectedEOF) {
+		t.Fatal(r.Err())
+	}
+	r.Close()
+	if r := given(bare, nil); r.Next() || r.Err() != CodeNoTypes {
+		t.Fatal(r.Err())
 	}
 }
 

@@ -39,55 +39,54 @@ type RawBytes []byte
 // scanner is an sql.Scanner.
 type scanner interface{ Scan(src any) error }
 
-// scan puts the cell into what a pointer points to.
+// scan puts the cell into what a pointer points to, and passes over it where there is none.
 func (c *cell) scan(to any) error {
-	e := &c.events[0]
-	if e.Tag == TagLeaf {
-		switch to := to.(type) {
-		case nil:
-			return nil
-		case *string:
-			if isText(e.Kind) && to != nil {
-				*to = string(e.Content)
-				return nil
-			}
-		case *int:
-			if isInteger(e.Kind) && to != nil {
-				return putInteger(e, to)
-			}
-		case *int64:
-			if isInteger(e.Kind) && to != nil {
-				return putInteger(e, to)
-			}
-		case *int32:
-			if isInteger(e.Kind) && to != nil {
-				return putInteger(e, to)
-			}
-		case *bool:
-			if e.Kind == KindBoolean && to != nil {
-				*to = e.Number != 0
-				return nil
-			}
-		case *any:
-			if to != nil {
-				*to = e.Value()
-				return nil
-			}
-		case *RawBytes:
-			if hasContent(e.Kind) && to != nil {
-				*to = e.Content
-				return nil
-			}
-		}
-	}
 	if to == nil {
 		return nil
+	}
+	if e := &c.events[0]; e.Tag == TagLeaf {
+		if done, err := putLeaf(e, to); done {
+			return err
+		}
 	}
 	value := reflect.ValueOf(to)
 	if value.Kind() != reflect.Pointer || value.IsNil() {
 		return fmt.Errorf("%T is no pointer to a value", to)
 	}
 	return c.into(value.Elem())
+}
+
+// putLeaf puts a scalar into what is asked for most, and says whether it did, or why it cannot.
+func putLeaf(e *Event, to any) (bool, error) {
+	switch to := to.(type) {
+	case *string:
+		if isText(e.Kind) && to != nil {
+			*to = string(e.Content)
+			return true, nil
+		}
+	case *int:
+		return putInteger(e, to)
+	case *int64:
+		return putInteger(e, to)
+	case *int32:
+		return putInteger(e, to)
+	case *bool:
+		if e.Kind == KindBoolean && to != nil {
+			*to = e.Number != 0
+			return true, nil
+		}
+	case *any:
+		if to != nil {
+			*to = e.Value()
+			return true, nil
+		}
+	case *RawBytes:
+		if hasContent(e.Kind) && to != nil {
+			*to = e.Content
+			return true, nil
+		}
+	}
+	return false, nil
 }
 
 func isText(kind Kind) bool { return kind == KindVarchar || kind == KindASCII }
@@ -106,22 +105,30 @@ func isInteger(kind Kind) bool {
 	return false
 }
 
-func putInteger[T int | int32 | int64](e *Event, to *T) error {
+func putInteger[T int | int32 | int64](e *Event, to *T) (bool, error) {
+	if !isInteger(e.Kind) || to == nil {
+		return false, nil
+	}
 	if int64(T(e.Number)) != e.Number {
-		return ErrRange
+		return true, ErrRange
 	}
 	*to = T(e.Number)
-	return nil
+	return true, nil
 }
 
 func mismatch(e *Event, to any) error { return fmt.Errorf("a %v does not go into %T", e.Kind, to) }
 
-// into takes the next value, and puts it into v.
+// into takes the next value, and puts it into v, which can be addressed.
 func (c *cell) into(v reflect.Value) error {
-	if v.CanAddr() {
-		if to, ok := v.Addr().Interface().(scanner); ok {
-			return to.Scan(driverValue(c.value()))
+	to := v.Addr().Interface()
+	if e := &c.events[0]; e.Tag == TagLeaf {
+		if done, err := putLeaf(e, to); done {
+			c.take()
+			return err
 		}
+	}
+	if to, ok := to.(scanner); ok {
+		return to.Scan(driverValue(c.value()))
 	}
 	e := &c.events[0]
 	switch {
@@ -314,33 +321,22 @@ func (c *cell) intoItems(v reflect.Value) error {
 	return mismatch(begin, v.Interface())
 }
 
+// intoSlice has as many items as the value says, since all that came are there; fields of a tuple that did not come are zero.
 func (c *cell) intoSlice(v reflect.Value, begin *Event, typ *Type) error {
-	found := reflect.MakeSlice(v.Type(), 0, 0)
-	item := reflect.New(v.Type().Elem()).Elem()
-	err := c.each(begin, typ, func(int) error {
-		item.Set(reflect.Zero(item.Type()))
-		if err := c.into(item); err != nil {
-			return err
-		}
-		found = reflect.Append(found, item)
-		return nil
-	})
-	for begin.Kind == KindTuple && int64(found.Len()) < begin.Number {
-		found = reflect.Append(found, reflect.Zero(item.Type()))
-	}
-	v.Set(found)
-	return err
+	count := int(begin.Number)
+	v.Set(reflect.MakeSlice(v.Type(), count, count))
+	return c.each(begin, typ, func(at int) error { return c.into(v.Index(at)) })
 }
 
 func (c *cell) intoMap(v reflect.Value, begin *Event, typ *Type) error {
-	found := reflect.MakeMap(v.Type())
+	found := reflect.MakeMapWithSize(v.Type(), int(begin.Number))
 	key, item := reflect.New(v.Type().Key()).Elem(), reflect.New(v.Type().Elem()).Elem()
+	noItem := reflect.Zero(item.Type())
 	err := c.each(begin, typ, func(at int) error {
 		if at%2 == 0 {
-			key.Set(reflect.Zero(key.Type()))
 			return c.intoKey(key)
 		}
-		item.Set(reflect.Zero(item.Type()))
+		item.Set(noItem)
 		if err := c.into(item); err != nil {
 			return err
 		}
@@ -353,6 +349,7 @@ func (c *cell) intoMap(v reflect.Value, begin *Event, typ *Type) error {
 
 // intoKey refuses a value that no map can have as a key.
 func (c *cell) intoKey(key reflect.Value) error {
+	key.Set(reflect.Zero(key.Type()))
 	err := c.into(key)
 	if err == nil && key.Kind() == reflect.Interface && !key.IsNil() && !key.Elem().Type().Comparable() {
 		return fmt.Errorf("%v cannot be the key of a map", key.Elem().Type())
