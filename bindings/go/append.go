@@ -4,14 +4,9 @@ package cqlp
 // with the decoder. A text or a list that is longer than its length can say is refused, and nothing else is looked at.
 
 import (
-	"encoding/binary"
 	"errors"
 	"fmt"
 	"math"
-	"math/big"
-	"net"
-	"net/netip"
-	"time"
 )
 
 // ErrTooLong says that a text, a list or a body is longer than its length can say.
@@ -21,101 +16,13 @@ var ErrTooLong = errors.New("cqlp: longer than its length can say")
 var ErrNotWritten = errors.New("cqlp: there is no writer of this")
 
 // AppendMessage appends a frame without flags under this stream id: any request, or a READY, AUTHENTICATE, SUPPORTED, AUTH_CHALLENGE,
-// AUTH_SUCCESS, an ERROR whose code has no fields, or a RESULT that is Void, SetKeyspace or Prepared; pages are written by AppendPage. The
-// error is ErrTooLong, ErrNotWritten, or one that says what does not go together, and b is then as it was.
+// AUTH_SUCCESS, an ERROR whose code has no fields, or a RESULT that is Void, SetKeyspace, Prepared or Rows. The values of Rows are those that
+// Bind takes; columns are told with their tables, but where the flag 4 of the metadata is set: then Columns may have their types, and a
+// reader has to know them. The error is ErrTooLong, ErrNotWritten, or one that says what does not go together, and b is then as it was.
 func AppendMessage(b []byte, stream int16, m Message) ([]byte, error) {
 	var w writer
 	w.message(m)
 	return w.frame(b, stream, m.Opcode())
-}
-
-// AppendPage appends a RESULT of the kind Rows under this stream id, whose rows have a value for each column, as Bind makes them. It does not
-// look whether these are of the columns' types. Of the metadata a paging state is told where there is one, and columns but where the flag 4 is
-// set: then a reader has to know their types. The errors are those of AppendMessage.
-func AppendPage(b []byte, stream int16, m *Metadata, rows [][]Value) ([]byte, error) {
-	var w writer
-	w.int(int32(ResultRows))
-	width := w.metadata(m)
-	w.int(int32(len(rows)))
-	for _, row := range rows {
-		if len(row) != width {
-			w.fail("a row of %d values in %d columns", len(row), width)
-		}
-		for _, value := range row {
-			w.value(value)
-		}
-	}
-	return w.frame(b, stream, OpcodeResult)
-}
-
-// Bind makes the value of a scalar: of nil null, of a bool a boolean, of an int8, int16, int32 and int64 a tinyint, smallint, int and bigint,
-// of a float32 and float64 a float and a double, of a string a text, of []byte a blob, of a UUID a uuid, of net.IP and netip.Addr an inet, of
-// a time.Time a timestamp, of a time.Duration a time, of a *big.Int a varint. An int has no width of its own, and is none of these. The error
-// is ErrNotWritten.
-func Bind(value any) (Value, error) {
-	bytes, err := scalar(value)
-	return Value{Bytes: bytes}, err
-}
-
-func scalar(value any) ([]byte, error) {
-	var b [8]byte
-	switch value := value.(type) {
-	case nil:
-		return nil, nil
-	case bool:
-		if value {
-			return []byte{1}, nil
-		}
-		return []byte{0}, nil
-	case int8:
-		return []byte{byte(value)}, nil
-	case int16:
-		binary.BigEndian.PutUint16(b[:], uint16(value))
-		return b[:2], nil
-	case int32:
-		binary.BigEndian.PutUint32(b[:], uint32(value))
-		return b[:4], nil
-	case int64:
-		binary.BigEndian.PutUint64(b[:], uint64(value))
-		return b[:], nil
-	case float32:
-		return scalar(int32(math.Float32bits(value)))
-	case float64:
-		return scalar(int64(math.Float64bits(value)))
-	case string:
-		return append([]byte{}, value...), nil
-	case []byte:
-		return clone(value), nil
-	case UUID:
-		return clone(value[:]), nil
-	case netip.Addr:
-		return value.AsSlice(), nil
-	case net.IP:
-		if four := value.To4(); four != nil {
-			return clone(four), nil
-		}
-		return clone(value), nil
-	case time.Time:
-		return scalar(value.UnixMilli())
-	case time.Duration:
-		return scalar(int64(value))
-	case *big.Int:
-		return complement(value), nil
-	}
-	return nil, fmt.Errorf("%w: %T", ErrNotWritten, value)
-}
-
-// complement is a number in two's complement, in the fewest bytes.
-func complement(number *big.Int) []byte {
-	length := number.BitLen()/8 + 1
-	if number.Sign() >= 0 {
-		return number.FillBytes(make([]byte, length))
-	}
-	// of -128 and the like one byte is enough
-	if rest := new(big.Int).Not(number); rest.BitLen()/8+1 < length {
-		length = rest.BitLen()/8 + 1
-	}
-	return new(big.Int).Add(number, new(big.Int).Lsh(big.NewInt(1), uint(8*length))).FillBytes(make([]byte, length))
 }
 
 // A writer writes the notations of section 3, and keeps its first error.
@@ -259,6 +166,8 @@ func (w *writer) response(m Message) {
 		w.text(m.Keyspace)
 	case *Prepared:
 		w.prepared(m)
+	case *Rows:
+		w.rows(m)
 	case *ServerError:
 		w.serverError(m)
 	default:
@@ -360,6 +269,28 @@ func (w *writer) prepared(m *Prepared) {
 	w.metadata(&m.Result)
 }
 
+func (w *writer) rows(m *Rows) {
+	w.int(int32(ResultRows))
+	width := w.metadata(&m.Metadata)
+	if width == 0 {
+		w.int(m.Count)
+		return
+	}
+	w.int(int32(len(m.Rows)))
+	for _, row := range m.Rows {
+		if len(row) != width {
+			w.fail("a row of %d values in %d columns", len(row), width)
+		}
+		for i, value := range row {
+			typ := Type{Kind: KindRaw}
+			if i < len(m.Metadata.Columns) {
+				typ = m.Metadata.Columns[i].Type
+			}
+			w.typed(typ, value)
+		}
+	}
+}
+
 // metadata answers how many columns there are.
 func (w *writer) metadata(m *Metadata) int {
 	width, told := len(m.Columns), m.Flags&4 == 0
@@ -399,7 +330,7 @@ func (w *writer) typ(t Type) {
 	case KindRaw:
 		w.err = fmt.Errorf("%w: %v", ErrNotWritten, t.Kind)
 	}
-	if wanted, is := map[Kind]int{KindList: 1, KindSet: 1, KindMap: 2, KindUDT: len(t.Names)}[t.Kind]; is && wanted != len(t.Inner) {
+	if wanted, is := innerCount[t.Kind]; is && wanted != len(t.Inner) || t.Kind == KindUDT && len(t.Names) != len(t.Inner) {
 		w.fail("a %v of %d types", t.Kind, len(t.Inner))
 		return
 	}

@@ -250,7 +250,7 @@ type Rows struct {
 	Metadata Metadata
 	// Count is how many rows it says that it has. A page without columns has none in Rows, whatever it says.
 	Count int32
-	// Rows are as RowReader.Values gives them.
+	// Rows are as RowReader.Values gives them; AppendMessage also takes what Bind does.
 	Rows [][]any
 }
 

@@ -78,26 +78,72 @@ func TestScanOfPages(t *testing.T) {
 }
 
 // onePage is a page with one row.
-func onePage(t *testing.T, types []Type, values ...Value) []byte {
+func onePage(t *testing.T, types []Type, values ...any) []byte {
 	t.Helper()
-	m := &Metadata{}
+	m := &Rows{Rows: [][]any{values}}
 	for i, typ := range types {
-		m.Columns = append(m.Columns, Column{"k", "t", fmt.Sprint("c", i), typ})
+		m.Metadata.Columns = append(m.Metadata.Columns, Column{"k", "t", fmt.Sprint("c", i), typ})
 	}
-	b, err := AppendPage(nil, 0, m, [][]Value{values})
+	b, err := AppendMessage(nil, 0, m)
 	if err != nil {
 		t.Fatal(err)
 	}
 	return b
 }
 
-func bound(t *testing.T, value any) Value {
+// bound is a value that goes into its type.
+func bound(t *testing.T, typ Type, value any) Value {
 	t.Helper()
-	v, err := Bind(value)
+	v, err := Bind(typ, value)
 	if err != nil {
 		t.Fatal(err)
 	}
 	return v
+}
+
+func TestBind(t *testing.T) {
+	number, word := Type{Kind: KindInt}, Type{Kind: KindVarchar}
+	udt := Type{Kind: KindUDT, Names: []string{"x", "y"}, Inner: []Type{number, word}}
+	pairs := Type{Kind: KindMap, Inner: []Type{word, {Kind: KindList, Inner: []Type{number}}}}
+	seven := int8(7)
+	for _, row := range []struct {
+		typ    Type
+		value  any
+		wanted string
+	}{
+		{number, uint16(7), "00000007"}, {number, &seven, "00000007"}, {Type{Kind: KindTinyint}, -128, "80"}, {Type{Kind: KindVarint}, 255, "00ff"},
+		{Type{Kind: KindVarint}, -129, "ff7f"}, {Type{Kind: KindVarint}, 0, "00"}, {word, []byte("a"), "61"}, {Type{Kind: KindBlob}, "a", "61"},
+		{Type{Kind: KindTimestamp}, 1, "0000000000000001"}, {Type{Kind: KindTime}, time.Second, "000000003b9aca00"},
+		{pairs, map[string][]int{"a": {1}}, "00000001 00000001 61 0000000c 00000001 00000004 00000001"},
+		{udt, map[string]any{"y": "b"}, "ffffffff 00000001 62"}, {udt, []NamedValue{{"x", 1}}, "00000004 00000001"},
+		{Type{Kind: KindTuple, Inner: []Type{number, word}}, []any{nil, "b"}, "ffffffff 00000001 62"}, {word, "", ""},
+		{Type{Kind: KindFloat}, 0.5, "3f000000"}, {number, Empty{}, ""},
+	} {
+		if v := bound(t, row.typ, row.value); !bytes.Equal(v.Bytes, unhex(t, row.wanted)) || v.Bytes == nil || v.Unset {
+			t.Errorf("%v %v: %x", row.typ, row.value, v.Bytes)
+		}
+	}
+	for _, value := range []any{nil, (*int)(nil), []byte(nil), Value{}} {
+		if v := bound(t, number, value); v.Bytes != nil || v.Unset {
+			t.Error(value, v)
+		}
+	}
+	if v := bound(t, number, Value{Unset: true}); !v.Unset {
+		t.Error(v)
+	}
+	for _, row := range []struct {
+		typ   Type
+		value any
+	}{
+		{number, int64(1) << 31}, {number, "1"}, {number, 1.5}, {word, 1}, {Type{Kind: KindBoolean}, 1}, {Type{Kind: KindUUID}, "a"},
+		{udt, map[string]any{"z": 1}}, {udt, []any{1}}, {udt, []NamedValue{{}, {}, {}}}, {Type{Kind: KindList}, []int{1}}, {pairs, []int{1}},
+		{Type{Kind: KindInet}, net.IP{1}}, {Type{Kind: KindInet}, netip.Addr{}}, {Type{Kind: KindDate}, 1}, {Type{Kind: KindDecimal}, Decimal{}},
+		{Type{Kind: KindList, Inner: []Type{number}}, []string{"a"}}, {Type{Kind: KindVarint}, "1"}, {number, uint64(1) << 63},
+	} {
+		if v, err := Bind(row.typ, row.value); err == nil {
+			t.Errorf("%v %v: %x", row.typ, row.value, v.Bytes)
+		}
+	}
 }
 
 type celsius float64
@@ -125,7 +171,8 @@ func TestScanOfScalars(t *testing.T) {
 		{KindASCII, "a", []any{"a"}},
 		{KindBlob, []byte{0, 255}, []any{[]byte{0, 255}, RawBytes{0, 255}, any([]byte{0, 255})}},
 		{KindTimestamp, moment, []any{moment, int64(-1), any(moment), sql.NullTime{Time: moment, Valid: true}}},
-		{KindDate, int32(-1<<31 + 19000), []any{day}},
+		{KindDate, day, []any{day}},
+		{KindDate, time.Date(1969, 12, 31, 23, 0, 0, 0, time.UTC), []any{time.Date(1969, 12, 31, 0, 0, 0, 0, time.UTC)}},
 		{KindTime, time.Nanosecond, []any{time.Nanosecond, int64(1)}},
 		{KindUUID, UUID{1}, []any{UUID{1}, [16]byte{1}}},
 		{KindTimeUUID, UUID{6: 0x10}, []any{UUID{6: 0x10}}},
@@ -134,9 +181,9 @@ func TestScanOfScalars(t *testing.T) {
 		{KindVarint, huge, []any{huge, *huge}},
 		{KindVarint, big.NewInt(-128), []any{int8(-128), big.NewInt(-128)}},
 		{KindVarint, big.NewInt(128), []any{uint8(128)}},
-		{KindDecimal, []byte{0, 0, 0, 2, 0x30, 0x39}, []any{Decimal{big.NewInt(12345), 2}}},
+		{KindDecimal, Decimal{big.NewInt(-12345), 2}, []any{Decimal{big.NewInt(-12345), 2}}},
 	} {
-		r := rowReader(t, bytes.NewReader(onePage(t, []Type{{Kind: row.kind}}, bound(t, row.value))))
+		r := rowReader(t, bytes.NewReader(onePage(t, []Type{{Kind: row.kind}}, row.value)))
 		if !r.Next() {
 			t.Fatal(row, r.Err())
 		}
@@ -159,7 +206,7 @@ func TestScanOfScalars(t *testing.T) {
 
 func TestScanThatFails(t *testing.T) {
 	types := []Type{{Kind: KindInt}, {Kind: KindInt}, {Kind: KindInt}, {Kind: KindVarchar}, {Kind: KindDouble}, {Kind: KindVarchar}}
-	row := []Value{bound(t, nil), bound(t, []byte{}), bound(t, int32(300)), bound(t, "a"), bound(t, 0.1), bound(t, "")}
+	row := []any{nil, Empty{}, 300, "a", 0.1, ""}
 	r := rowReader(t, bytes.NewReader(onePage(t, types, row...)))
 	if !r.Next() {
 		t.Fatal(r.Err())
@@ -221,11 +268,11 @@ func TestScanOfWhatHasItems(t *testing.T) {
 		udt,
 	}
 	set := long(2) + cellOf(long(1)) + cellOf(long(2))
-	row := []Value{
-		bound(t, long(2)+cellOf(set)+cellOf(long(0))),
-		bound(t, long(1)+cellOf("\xff")+cellOf("v")),
-		bound(t, cellOf(long(3))),
-		bound(t, cellOf(long(4))+long(-1)),
+	row := []any{
+		Value{Bytes: []byte(long(2) + cellOf(set) + cellOf(long(0)))},
+		Value{Bytes: []byte(long(1) + cellOf("\xff") + cellOf("v"))},
+		Value{Bytes: []byte(cellOf(long(3)))},
+		Value{Bytes: []byte(cellOf(long(4)) + long(-1))},
 	}
 	stream := onePage(t, types, row...)
 	for size := 1; size <= len(stream); size++ {
@@ -268,8 +315,8 @@ func TestScanOfWhatHasItems(t *testing.T) {
 }
 
 func TestWhatIsNoPageIsPassedOver(t *testing.T) {
-	one := onePage(t, []Type{{Kind: KindInt}}, bound(t, int32(1)))
-	none, err := AppendPage(nil, 3, &Metadata{Columns: []Column{{Type: Type{Kind: KindInt}}}, PagingState: []byte("s")}, nil)
+	one := onePage(t, []Type{{Kind: KindInt}}, int32(1))
+	none, err := AppendMessage(nil, 3, &Rows{Metadata: Metadata{Columns: []Column{{Type: Type{Kind: KindInt}}}, PagingState: []byte("s")}})
 	if err != nil {
 		t.Fatal(err)
 	}
@@ -469,7 +516,7 @@ func TestTypesOfPagesThatAreRefused(t *testing.T) {
 func TestWhatARowHolds(t *testing.T) {
 	word := strings.Repeat("x", 70000)
 	typ := []Type{{Kind: KindVarchar}, {Kind: KindVarchar}, {Kind: KindVarchar}}
-	stream := onePage(t, typ, bound(t, word), bound(t, "y"), bound(t, word))
+	stream := onePage(t, typ, word, "y", word)
 	for _, size := range []int{1000, 65536, 1 << 20} {
 		r := rowReader(t, pieces(stream, size))
 		var a, b, c string
@@ -484,7 +531,7 @@ func TestPartsOfAValue(t *testing.T) {
 	limits := DefaultLimits()
 	limits.Cell, limits.Parts = 32, true
 	for _, size := range []int{1, 7, 1 << 16} {
-		r, err := NewRowReader(pieces(onePage(t, []Type{{Kind: KindBlob}}, bound(t, blob)), size), limits)
+		r, err := NewRowReader(pieces(onePage(t, []Type{{Kind: KindBlob}}, blob), size), limits)
 		if err != nil {
 			t.Fatal(err)
 		}
