@@ -149,6 +149,9 @@ func resident() int {
 }
 
 func TestManyAreMadeAndFreed(t *testing.T) {
+	if testing.Short() {
+		t.Skip("it is long")
+	}
 	bytes := unhex(t, options)
 	makeAndFree := func(count int) {
 		for i := 0; i < count; i++ {

@@ -87,6 +87,9 @@ func TestFramesAreWrittenAsTheyCame(t *testing.T) {
 	written := map[reflect.Type]int{}
 	for _, s := range streams(t) {
 		frames, _ := framesOf(t, bytes.NewReader(s.bytes), s.limits)
+		if !s.limits.Types {
+			continue
+		}
 		for _, frame := range frames {
 			mustWrite(t, s.name, s.bytes, frame, false, written)
 		}

@@ -5,7 +5,7 @@ import (
 	"io"
 )
 
-var errCount = errors.New("there are as many columns, and not as many pointers")
+var errCount = errors.New("Scan has pointers for another number of columns")
 
 // A RowReader gives the rows of the pages that an io.Reader reads, one at a time. It holds one row, and what its Limits say. Of frames that are
 // no page it tells nothing.

@@ -8,6 +8,7 @@ import (
 	"io"
 	"os"
 	"strings"
+	"sync"
 	"testing"
 	"testing/iotest"
 )
@@ -164,6 +165,9 @@ func TestLinesAndVerdicts(t *testing.T) {
 }
 
 func TestEveryCutInTwo(t *testing.T) {
+	if testing.Short() {
+		t.Skip("it is long")
+	}
 	for _, s := range streams(t) {
 		for at := range s.bytes {
 			lines, verdict := said(t, s.limits, s.bytes[:at], s.bytes[at:])
@@ -173,12 +177,52 @@ func TestEveryCutInTwo(t *testing.T) {
 }
 
 func TestBatchesInEveryCut(t *testing.T) {
+	if testing.Short() {
+		t.Skip("it is long")
+	}
 	for _, s := range streams(t) {
 		for at := range s.bytes {
 			lines, verdict := decoded(t, s.limits, []int{1, 2, 7, 300}[at%4], s.bytes[:at], s.bytes[at:])
 			mustSay(t, s, at, lines, verdict)
 		}
 	}
+}
+
+// Each goroutine has a decoder of its own, and then hands it on to another one.
+func TestDecodersOfManyGoroutines(t *testing.T) {
+	all := streams(t)
+	var wait sync.WaitGroup
+	for i := 0; i < 8; i++ {
+		some, handed := all[i*len(all)/8:(i+1)*len(all)/8], make(chan *Decoder)
+		wait.Add(2)
+		go func() {
+			defer wait.Done()
+			defer close(handed)
+			for _, s := range some {
+				d, err := NewDecoder(s.limits)
+				if err != nil {
+					t.Error(err)
+					return
+				}
+				linesOf(t, d, s.bytes[:len(s.bytes)/2])
+				handed <- d
+			}
+		}()
+		go func() {
+			defer wait.Done()
+			at := 0
+			for d := range handed {
+				s := some[at]
+				linesOf(t, d, s.bytes[len(s.bytes)/2:])
+				if verdict, err := d.Finish(); err != nil || verdict.String() != s.verdict {
+					t.Error(s.name, verdict, err)
+				}
+				d.Close()
+				at++
+			}
+		}()
+	}
+	wait.Wait()
 }
 
 func TestByteByByte(t *testing.T) {

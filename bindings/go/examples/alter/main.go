@@ -10,11 +10,6 @@ import (
 	"cqlp"
 )
 
-const (
-	one         = 1
-	localQuorum = 6
-)
-
 // alter gives a piece to the decoder, which lies behind so many bytes that were kept, and changes what it says. The first byte of the
 // buffer is at the offset base of the stream.
 func alter(decoder *cqlp.Decoder, buffer []byte, kept int, base uint64) error {
@@ -27,8 +22,8 @@ func alter(decoder *cqlp.Decoder, buffer []byte, kept int, base uint64) error {
 		if err != nil {
 			return err
 		}
-		if event.Field == cqlp.FieldConsistency && event.Number == one {
-			buffer[event.At-base+1] = localQuorum
+		if event.Field == cqlp.FieldConsistency && cqlp.Consistency(event.Number) == cqlp.ConsistencyOne {
+			buffer[event.At-base+1] = byte(cqlp.ConsistencyLocalQuorum)
 		}
 	}
 }

@@ -3,30 +3,18 @@ package main
 
 import (
 	"fmt"
-	"io"
 	"log"
 	"os"
 
 	"cqlp"
 )
 
-// take prints what an event of a page tells: a line for each row, with its scalars.
-func take(event *cqlp.Event) {
-	if event.Tag >= cqlp.TagLeaf && event.Tag <= cqlp.TagEnter && event.Level == 0 && event.Column == 0 {
-		fmt.Println()
+// printPage prints the columns of a page, and then its rows.
+func printPage(rows *cqlp.RowReader) {
+	for _, column := range rows.Columns() {
+		fmt.Printf("%s %v, ", column.Name, column.Type)
 	}
-	switch event.Tag {
-	case cqlp.TagText:
-		if event.Field == cqlp.FieldColumnName {
-			fmt.Print(string(event.Content), " ")
-		}
-	case cqlp.TagLeaf:
-		fmt.Print(event.Value(), " ")
-	case cqlp.TagNull:
-		fmt.Print("null ")
-	case cqlp.TagEnd:
-		fmt.Println()
-	}
+	fmt.Println(rows.Page().Count, "rows")
 }
 
 func main() {
@@ -35,19 +23,19 @@ func main() {
 		log.Fatal(err)
 	}
 	defer file.Close()
-	reader, err := cqlp.NewReader(file, cqlp.DefaultLimits())
+	rows, err := cqlp.NewRowReader(file, cqlp.DefaultLimits())
 	if err != nil {
 		log.Fatal(err)
 	}
-	defer reader.Close()
-	for {
-		event, err := reader.Next()
-		if err == io.EOF {
-			return
+	defer rows.Close()
+	for page := 0; rows.Next(); {
+		if page != rows.Page().Number {
+			page = rows.Page().Number
+			printPage(rows)
 		}
-		if err != nil {
-			log.Fatal(err)
-		}
-		take(&event)
+		fmt.Println(rows.Values()...)
+	}
+	if err := rows.Err(); err != nil {
+		log.Fatal(err) // a *cqlp.Refusal, a *cqlp.Cut, or what the file answered
 	}
 }
