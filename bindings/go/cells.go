@@ -65,11 +65,20 @@ func (c *cells) next() bool {
 		if !open {
 			c.starts = append(c.starts, len(c.events))
 		}
-		c.events = append(c.events, Event{})
-		e := &c.events[len(c.events)-1]
+		e := c.push()
 		d.put(e)
 		open = e.Level > 0 || e.Tag == TagEnter || e.Tag == TagPart && e.Mark != MarkLast
 	}
+}
+
+// push makes room for an event, which is to be written.
+func (c *cells) push() *Event {
+	if at := len(c.events); at < cap(c.events) {
+		c.events = c.events[:at+1]
+	} else {
+		c.events = append(c.events, Event{})
+	}
+	return &c.events[len(c.events)-1]
 }
 
 // keep copies the contents of the row that are lent of the batch.
