@@ -1,6 +1,6 @@
 #!/usr/bin/env bash
 # Times the library from C, an event a call and in batches, and the wrappers for Rust and Python on pages that pages.py makes, beside
-# `cqlp check` of the same file and a plain loop in Python over the same cells; and the wrapper for Go, where it is there, on small pages.
+# `cqlp check` of the same file and a plain loop in Python over the same cells; and the wrapper for Go, where it is there, on its own pages of pages.py.
 set -eu
 
 here=$(dirname -- "$(readlink -f -- "${BASH_SOURCE[0]}")")

@@ -5,6 +5,7 @@ import (
 	"encoding/binary"
 	"errors"
 	"io"
+	"math/rand"
 	"net"
 	"os"
 	"reflect"
@@ -79,6 +80,56 @@ func TestFramesOfAllStreams(t *testing.T) {
 		if !same(whole, slowly) {
 			t.Fatal(s.name)
 		}
+	}
+}
+
+// Streams with bytes changed end where a decoder says that they do, whoever reads them, and passing over frames goes as far.
+func TestChangedStreams(t *testing.T) {
+	random := rand.New(rand.NewSource(1))
+	for _, s := range streams(t) {
+		for i := 0; i < len(s.bytes)/2; i++ {
+			changed := append([]byte(nil), s.bytes...)
+			changed[random.Intn(len(changed))] = byte(random.Intn(256))
+			verdict, err := Check(s.limits, changed)
+			if err != nil {
+				t.Fatal(err)
+			}
+			s.verdict = verdict.String()
+			_, err = framesOf(t, bytes.NewReader(changed), s.limits)
+			mustEnd(t, s, err)
+			r, err := NewRowReader(bytes.NewReader(changed), s.limits)
+			if err != nil {
+				t.Fatal(err)
+			}
+			for r.Next() {
+				into := make([]any, len(r.Values()))
+				for i := range into {
+					into[i] = new([]any)
+				}
+				_ = r.Scan(into...)
+			}
+			mustEnd(t, s, r.parser.failed)
+			r.Close()
+			skips(t, s.limits, changed)
+		}
+	}
+}
+
+// skips reads a stream to the end where what is refused in a body is passed over: only a header is refused then.
+func skips(t *testing.T, limits Limits, stream []byte) {
+	t.Helper()
+	f, err := NewFrames(bytes.NewReader(stream), limits)
+	if err != nil {
+		t.Fatal(err)
+	}
+	defer f.Close()
+	f.Skip = func(Skipped) {}
+	for err == nil {
+		_, err = f.Next()
+	}
+	var refusal *Refusal
+	if errors.As(err, &refusal) && refusal.Reason > ReasonBadLength || err != io.EOF && !errors.Is(err, io.ErrUnexpectedEOF) && refusal == nil {
+		t.Fatal(err)
 	}
 }
 

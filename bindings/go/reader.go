@@ -68,6 +68,7 @@ func (r *Reader) next(event *Event) error {
 // fill makes a batch with an event at least. Contents of the last batch live no longer.
 func (r *Reader) fill() error {
 	d := r.decoder
+	defer runtime.KeepAlive(d)
 	for {
 		if d.box == nil {
 			return ErrClosed
