@@ -1,6 +1,7 @@
 -- What the bytes of a body say, from the first to the last.
 use Rattle.std.specs.Prelude.{ℕ, suc, ◌+◌, ◌-◌, Bool, true, false, ◌&&◌, List, [], ◌∷◌, ◌++◌, length, nat_lt, if◌then◌else◌}
 use Rattle.cqlp_note.specs.declared.header.Header.{Header}
+use Rattle.cqlp_note.specs.declared.opcode.Opcode.TheVariants as opcode
 use Rattle.cqlp_facts.specs.declared.due.Due.{Due}
 use Rattle.cqlp_facts.specs.declared.due.Due.TheVariants as due
 use Rattle.cqlp_facts.specs.declared.due.Next.{Next}
@@ -10,6 +11,10 @@ use Rattle.cqlp_facts.specs.Announced.{opening}
 use Rattle.cqlp_facts.specs.Bodies.{following, width}
 use Rattle.cqlp_facts.specs.Due.{is_idle, is_opening}
 use Rattle.cqlp_facts.specs.Facts.{no_facts, with_fact_if}
+
+-- nothing is read
+abbrev pub idle : FactsReader
+idle = record { flags = 0; opcode = opcode.Options; due = due.Over; front = []; passing = 0; facts = no_facts }
 
 -- nothing came of a body
 abbrev pub begun : Header → FactsReader

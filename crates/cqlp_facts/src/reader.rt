@@ -26,9 +26,31 @@ pub struct FactsReader {
     facts: Facts,
 }
 
+/// Bytes that were taken at once.
+#[derive(Clone, Copy)]
+struct Stretch {
+    used: usize,
+    /// How many of them lie before the message proper.
+    before: usize,
+}
+
 impl FactsReader {
     ghost use Rattle.cqlp_facts.specs.Bodies.{width};
-    ghost use Rattle.cqlp_facts.specs.Reading.{before, begun, gone_on, is_before, passed, read, taken};
+    ghost use Rattle.cqlp_facts.specs.Reading.{before, begun, gone_on, idle, is_before, passed, read, taken};
+
+    /// Nothing is read.
+    pub fn idle() -> FactsReader
+        ensures { result ≡ idle }
+    {
+        FactsReader {
+            flags: 0,
+            opcode: Opcode::Options,
+            due: Due::Over,
+            front: FieldFront::new(),
+            passing: 0,
+            facts: Facts::new(),
+        }
+    }
 
     /// Nothing came of a body with this header.
     pub fn new(header: &Header) -> FactsReader
@@ -61,12 +83,9 @@ impl FactsReader {
         let mut rest = piece;
         let mut before = 0;
         while !rest.is_empty() {
-            let is_before = self.is_before();
-            let used = self.step(rest);
-            if is_before {
-                before += used;
-            }
-            rest = &rest[used..];
+            let stretch = self.take_stretch(rest);
+            before += stretch.before;
+            rest = &rest[stretch.used..];
         }
         before
     }
@@ -78,6 +97,23 @@ impl FactsReader {
         match self.due {
             Due::Announced(_) => true,
             due => self.passing > 0 && due.is_opening(),
+        }
+    }
+
+    /// Takes some of these bytes.
+    fn take_stretch(&mut self, rest: &[u8]) -> Stretch
+        requires { 1 ≤ length rest.now }
+        ensures some { 1 ≤ result.used }
+        ensures within { result.used ≤ length rest.now }
+        ensures few { result.before ≤ result.used }
+        ensures after { self.new ≡ read (take result.used rest.now) self.old }
+        ensures before { before (take result.used rest.now) self.old ≡ result.before }
+    {
+        let is_before = self.is_before();
+        let used = self.step(rest);
+        Stretch {
+            used,
+            before: if is_before { used } else { 0 },
         }
     }
 

@@ -13,7 +13,8 @@ mod subject;
 mod watch;
 
 pub use heads::{Heads, Heard, HeardStep};
-pub use kept::Kept;
+pub use cqlp_facts::Facts;
+pub use kept::{Front, Kept};
 pub use message::{Frame, Message};
 pub use paired::{NewPairingError, Paired};
 pub use pairing::Pairing;
