@@ -12,8 +12,8 @@ mod speaker;
 mod subject;
 mod watch;
 
-pub use heads::{Heads, Heard, HeardStep};
 pub use cqlp_facts::Facts;
+pub use heads::{Heads, Heard, HeardStep};
 pub use kept::{Front, Kept};
 pub use message::{Frame, Message};
 pub use paired::{NewPairingError, Paired};
