@@ -1,0 +1,1 @@
+//! Laws of summaries. No code needs them.
