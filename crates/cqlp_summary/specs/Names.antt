@@ -24,7 +24,7 @@ is_same n known = is_equal known.is_whole n.is_whole && bytes_eq known.bytes n.b
 
 -- ---- a sum of bytes, which is compared before they are
 
-pub sum_from : (sum : ℕ) → List ℕ → ℕ
+abbrev pub sum_from : (sum : ℕ) → List ℕ → ℕ
 sum_from sum [] = sum
 sum_from sum (b ∷ bs) = sum_from ((sum * 31 + b) % 2 ^ 64) bs
 

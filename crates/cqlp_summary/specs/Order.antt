@@ -1,5 +1,6 @@
 -- The order of statements: first the one that took most time in sum, and of two that took as much the one that was asked for first.
-use Rattle.std.specs.Prelude.{ℕ, ◌+◌, nat_le, nat_lt, List, [], ◌∷◌, drop, filter, length, slice_index_or, take}
+use Rattle.std.specs.Prelude.{ℕ, zero, suc, Bool, ◌+◌, nat_le, nat_lt, List, [], ◌∷◌, drop, length, slice_index_or, take}
+use Rattle.std.specs.List.{filter}
 use Rattle.cqlp_summary.specs.Counts.{Tally}
 use Rattle.cqlp_summary.specs.Tallies.{none_counted}
 
@@ -20,6 +21,6 @@ abbrev pub rank_of : (place : ℕ) → List Tally → ℕ
 rank_of place ts = rank_among (tally_at ts place).time place ts
 
 -- so many numbers from this one on
-pub upto : (from count : ℕ) → List ℕ
+abbrev pub upto : (from count : ℕ) → List ℕ
 upto from zero = []
 upto from (suc n) = from ∷ upto (from + 1) n

@@ -2,7 +2,7 @@
 
 ghost use Rattle.std.specs.Prelude.{◌≡◌, ◌<◌, length};
 ghost use Rattle.cqlp_text.specs.Written.{Writes};
-ghost use Rattle.cqlp_summary.specs.Lines.{counts_text, figures_line, known_and_others, line_if, lines, lines_of_rank};
+ghost use Rattle.cqlp_summary.specs.Lines.{counts_text, figures_line, known_and_others, line_at, line_if, lines, lines_of_rank};
 ghost use Rattle.cqlp_summary.specs.Lines.{more, name_text, others_line, time_with, times_text};
 ghost use Rattle.cqlp_summary.specs.Names.{name};
 
@@ -90,9 +90,25 @@ fn put_if<P: Pen>(
     requires within { place < length tallies.now }
     ensures { Writes writer.old (line_if total names.now tallies.now rank place) result writer.new }
 {
-    if rank_of(tallies, place) != rank {
-        return writer.put(b"");
+    if rank_of(tallies, place) == rank {
+        put_at(writer, total, names, tallies, place)
+    } else {
+        writer.put(b"")
     }
+}
+
+/// Takes the line of the statement at a place.
+fn put_at<P: Pen>(
+    writer: &mut TextWriter<P>,
+    total: u64,
+    names: &[Name],
+    tallies: &[Tally],
+    place: usize,
+) -> Result<(), SinkFault>
+    requires lengths { length names.now ≡ length tallies.now }
+    requires within { place < length tallies.now }
+    ensures { Writes writer.old (line_at total names.now tallies.now place) result writer.new }
+{
     let name = &names[place];
     let figures = tallies[place].figures();
     put_line(writer, total, name.as_slice(), name.is_whole(), &figures)
@@ -115,16 +131,16 @@ fn put_others<P: Pen>(
 fn put_line<P: Pen>(
     writer: &mut TextWriter<P>,
     total: u64,
-    name: &[u8],
+    bytes: &[u8],
     is_whole: bool,
     figures: &Figures,
 ) -> Result<(), SinkFault>
-    ensures { Writes writer.old (figures_line total (name name.now is_whole) figures.now) result writer.new }
+    ensures { Writes writer.old (figures_line total (name bytes.now is_whole) figures.now) result writer.new }
 {
     put_share(writer, share_of(figures.time, total))?;
     put_counts(writer, figures)?;
     put_times(writer, figures.times)?;
-    put_name(writer, name, is_whole)
+    put_name(writer, bytes, is_whole)
 }
 
 fn put_counts<P: Pen>(writer: &mut TextWriter<P>, figures: &Figures) -> Result<(), SinkFault>
@@ -167,13 +183,13 @@ fn put_no_times<P: Pen>(writer: &mut TextWriter<P>) -> Result<(), SinkFault>
 /// Takes a name and the end of its line.
 fn put_name<P: Pen>(
     writer: &mut TextWriter<P>,
-    name: &[u8],
+    bytes: &[u8],
     is_whole: bool,
 ) -> Result<(), SinkFault>
-    ensures { Writes writer.old (name_text (name name.now is_whole)) result writer.new }
+    ensures { Writes writer.old (name_text (name bytes.now is_whole)) result writer.new }
 {
     writer.put(b" ")?;
-    writer.put_in_one_line(name)?;
+    writer.put_in_one_line(bytes)?;
     writer.put_str(more(is_whole))?;
     writer.put(b"\n")
 }

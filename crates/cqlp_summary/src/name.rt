@@ -1,6 +1,6 @@
 //! Names of statements.
 
-ghost use Rattle.std.specs.Prelude.{◌≡◌};
+ghost use Rattle.std.specs.Prelude.{◌≡◌, ◌&&◌, nat_le, length};
 ghost use Rattle.cqlp_summary.specs.Names.{is_same, name_of, sum_from};
 
 use std::marker::Model;
@@ -34,14 +34,14 @@ impl Name {
     pub(crate) fn new(name: &[u8], is_whole: bool) -> Self
         ensures { result ≡ name_of name.now is_whole }
     {
-        let len = name.len().min(MOST);
+        let front = &name[..name.len().min(MOST)];
         let mut bytes = [0; MOST];
-        bytes[..len].copy_from_slice(&name[..len]);
+        bytes[..front.len()].copy_from_slice(front);
         Name {
-            sum: sum_of(&name[..len]),
-            len,
+            sum: sum_of(front),
+            len: front.len(),
             bytes,
-            is_whole: is_whole && name.len() <= MOST,
+            is_whole: is_kept_whole(name, is_whole),
         }
     }
 
@@ -65,6 +65,13 @@ impl Name {
             && self.is_whole == other.is_whole
             && self.as_slice() == other.as_slice()
     }
+}
+
+/// Whether all of a name is kept, of which these are the bytes or the first ones.
+fn is_kept_whole(name: &[u8], is_whole: bool) -> bool
+    ensures { result ≡ is_whole && nat_le (length name.now) 256 }
+{
+    is_whole && name.len() <= MOST
 }
 
 /// A sum of bytes.

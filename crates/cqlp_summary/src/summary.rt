@@ -1,6 +1,6 @@
 //! The statements of a capture.
 
-ghost use Rattle.std.specs.Prelude.{◌≡◌, ◌+◌, ◌≤◌, IfOk, None, position, replicate};
+ghost use Rattle.std.specs.Prelude.{◌≡◌, ◌+◌, ◌<◌, ◌≤◌, IfOk, IfSome, None, length, position, replicate};
 ghost use Rattle.cqlp_text.specs.Written.{Writes};
 ghost use Rattle.cqlp_summary.specs.Lines.{summary_text};
 ghost use Rattle.cqlp_summary.specs.Names.{is_same};
@@ -67,7 +67,7 @@ impl<A: Allocator> Summary<A> {
         ensures names { self.new ≡ with_name name self.old }
         ensures within { result ≤ self.old.statements }
     {
-        match self.names.iter().position(|known| known.is(&name)) {
+        match position_of(&self.names, &name) {
             Some(at) => at,
             None => self.place_for_new(name),
         }
@@ -94,6 +94,14 @@ impl<A: Allocator> Summary<A> {
         let known = &self.tallies[..self.names.len()];
         put_summary(writer, &self.names, known, &self.tallies[self.statements])
     }
+}
+
+/// The place of a name, if it is among them.
+fn position_of(names: &[Name], name: &Name) -> Option<usize>
+    ensures position { result ≡ position (is_same name.now) names.now }
+    ensures within { IfSome result (λ at. at < length names.now) }
+{
+    names.iter().position(|known| known.is(name))
 }
 
 fn make_tallies<A: Allocator>(alloc: A, statements: usize) -> Result<Vec<Tally, A>, AllocError>
