@@ -1,6 +1,6 @@
 -- Numbers of buckets.
 use Rattle.std.proofs.Common.{◌≡◌, ◌∙◌, ◌+◌, ◌-◌, ◌*◌, ◌/◌, ◌%◌, ◌^◌, ◌<◌, ◌≤◌, ℕ, zero, suc, refl, sym, ap, arith, Fits, w64}
-use Rattle.std.proofs.Math.Nat.{div-lt_iff_lt-mul, le-div_iff_mul-le, pow-le-pow_right, one-le-pow, mul-le-mul}
+use Rattle.std.proofs.Math.Nat.{div-lt_iff_lt-mul, le-div_iff_mul-le, pow-le-pow_right, one-le-pow, mul-le-mul, mul-le-mul_right, div-mul-le_self, lt-div-mul-add}
 use Rattle.std.proofs.lemmas.Nat.{leading_top, pow-add}
 use Rattle.std.specs.Int.Count.{count_leading_zeros, leading_of_zero}
 use Rattle.std.specs.Int.{leading_zeros}
@@ -74,3 +74,40 @@ pub greatest_in_range : (bucket d : ℕ) → bucket < 1920 → d ≡ digits_in b
 greatest_in_range bucket d within same =
     in_range ((bucket - 32 * d) * (1 * 2 ^ d % 18446744073709551616)) (1 * 2 ^ d % 18446744073709551616)
     (rw (width_of d (omega arith)) (width_some d)) (greatest_fits bucket d within same)
+
+-- ---- a time in its bucket
+
+pub record InBucket (time : ℕ) : Type 0 where
+  pub low : least_in (bucket_of time) ≤ time
+  pub high : time ≤ greatest_in (bucket_of time)
+  pub near : 32 * (greatest_in (bucket_of time) - time) ≤ time
+
+digits_of : (d q : ℕ) → q < 64 → (0 < d → 32 ≤ q) → digits_in (32 * d + q) ≡ d
+digits_of zero q below from = omega arith
+digits_of (suc d) q below from = let f = from (omega arith) in omega (arith, f)
+
+least_of : (d q : ℕ) → q < 64 → (0 < d → 32 ≤ q) → least_in (32 * d + q) ≡ q * 2 ^ d
+least_of d q below from =
+    let m : 32 * d + q - 32 * d ≡ q = omega arith in
+    ap (λ k. (32 * d + q - 32 * k) * 2 ^ k) (digits_of d q below from) ∙ ap (λ n. n * 2 ^ d) m
+
+near : (time d q : ℕ) → q * 2 ^ d ≤ time → time < q * 2 ^ d + 2 ^ d → (0 < d → 32 ≤ q) → 32 * (q * 2 ^ d + (2 ^ d - 1) - time) ≤ time
+near time zero q low high from = omega arith
+near time (suc d) q low high from =
+    let m : 32 * 2 ^ suc d ≤ q * 2 ^ suc d = mul-le-mul_right {m = 32} {n = q} (2 ^ suc d) (from (omega arith)) in
+    omega (arith, m)
+
+pub in_bucket : (time : ℕ) → time < 2 ^ 64 → InBucket time
+in_bucket time fits =
+    let c = cut_of time fits in
+    let d = dropped time in
+    let q = time / 2 ^ d in
+    let l = least_of d q c.below c.from in
+    let w : 2 ^ digits_in (32 * d + q) ≡ 2 ^ d = ap (λ k. 2 ^ k) (digits_of d q c.below c.from) in
+    let low : q * 2 ^ d ≤ time = div-mul-le_self time (2 ^ d) in
+    let high : time < q * 2 ^ d + 2 ^ d = lt-div-mul-add {a = time} {b = 2 ^ d} (width_some d) in
+    record {
+      low = rw l low;
+      high = rw (l, w) (omega (arith, high));
+      near = rw (l, w) (near time d q low high c.from);
+    }

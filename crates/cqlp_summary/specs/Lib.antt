@@ -1,6 +1,7 @@
 pub mod Buckets
 pub mod Columns
 pub mod Counts
+pub mod Laws
 pub mod Lines
 pub mod Names
 pub mod Order
