@@ -1,4 +1,5 @@
 mod Bounds
 mod Lists
 mod Names
+mod Ranks
 mod Texts
