@@ -163,11 +163,11 @@ filter_more p q (t ∷ ts) implies =
     let here = one_more (p t) (q t) (All-head (λ u. p u ≡ true → q u ≡ true) t ts implies) in
     omega (arith, later, here, length_first p t ts, length_first q t ts)
 
-filter_some : (p : ℕ → Bool) (ts : List ℕ) → length (filter p ts) ≤ length ts
+pub filter_some : (p : ℕ → Bool) (ts : List ℕ) → length (filter p ts) ≤ length ts
 filter_some p [] = omega arith
 filter_some p (t ∷ ts) = omega (arith, filter_some p ts, length_first p t ts, one_below (p t))
 
-filter_all : (p : ℕ → Bool) (ts : List ℕ) → All (λ t. p t ≡ true) ts → length (filter p ts) ≡ length ts
+pub filter_all : (p : ℕ → Bool) (ts : List ℕ) → All (λ t. p t ≡ true) ts → length (filter p ts) ≡ length ts
 filter_all p [] all = refl
 filter_all p (t ∷ ts) all =
     let e = All-head (λ u. p u ≡ true) t ts all in
