@@ -51,14 +51,14 @@ least_up k (suc n) = let e = least_next (k + n) in let up = least_up k n in let 
 pub in_order : (t u : ℕ) → t < 2 ^ 64 → u < 2 ^ 64 → t ≤ u → bucket_of t ≤ bucket_of u
 in_order t u tf uf le = elim (cases_lt (bucket_of u) (bucket_of t)) [
   | inl lt ↦
-    let a = (in_bucket t tf).low in
-    let b = (in_bucket u uf).high in
-    let w = width_some (digits_in (bucket_of u)) in
-    let n = bucket_of t - (bucket_of u + 1) in
-    let same : bucket_of u + 1 + n ≡ bucket_of t = omega arith in
-    let up : least_in (bucket_of u + 1) ≤ least_in (bucket_of t) = rw (sym same) (least_up (bucket_of u + 1) n) in
-    let e = least_next (bucket_of u) in
-    absurd (omega (arith, a, b, w, up, e))
+      let a = (in_bucket t tf).low in
+      let b = (in_bucket u uf).high in
+      let w = width_some (digits_in (bucket_of u)) in
+      let n = bucket_of t - (bucket_of u + 1) in
+      let same : bucket_of u + 1 + n ≡ bucket_of t = omega arith in
+      let up : least_in (bucket_of u + 1) ≤ least_in (bucket_of t) = rw (sym same) (least_up (bucket_of u + 1) n) in
+      let e = least_next (bucket_of u) in
+      absurd (omega (arith, a, b, w, up, e))
   | inr ge ↦ ge
 ]
 

@@ -4,9 +4,8 @@ use Rattle.std.proofs.lemmas.Bool.{cases_lt, lt-ltb}
 use Rattle.std.proofs.lemmas.List.{length-replicate}
 use Rattle.std.proofs.lemmas.List.Elements.{All-cons, All-nil}
 use Rattle.std.specs.List.{All}
-use Rattle.cqlp_summary.specs.declared.occurrence.Occurrence.{Occurrence}
 use Rattle.cqlp_summary.specs.Buckets.{bucket_of, greatest_in}
-use Rattle.cqlp_summary.specs.Counts.{Tally}
+use Rattle.cqlp_summary.specs.Counts.{Entry, Tally}
 use Rattle.cqlp_summary.specs.Laws.{IsAtRank, TellsTimeAtRank, tallied_all, times_in, with_known}
 use Rattle.cqlp_summary.specs.Tallies.{bucket_at, none_counted, tallied, time_at, time_in, with_time_if}
 use Rattle.cqlp_summary.proofs.Bounds.{in_bucket}
@@ -16,7 +15,7 @@ timed : (took : Option ℕ) (times : List ℕ) (t : Tally) → buckets_after tim
 timed None times t = refl
 timed (Some n) times t = refl
 
-buckets_of : (os : List Occurrence) (t : Tally) → (tallied_all os t).buckets ≡ buckets_after (times_in os) t.buckets
+buckets_of : (os : List Entry) (t : Tally) → (tallied_all os t).buckets ≡ buckets_after (times_in os) t.buckets
 buckets_of [] t = refl
 buckets_of (o ∷ os) t = buckets_of os (tallied o t) ∙ timed o.took (times_in os) _
 
@@ -24,7 +23,7 @@ grown : (took : Option ℕ) (times : List ℕ) (t : Tally) (most : ℕ) → (wit
 grown None times t most le all = (le, all)
 grown (Some n) times t most le all = let l : max t.greatest n ≤ most = le in (omega arith, All-cons (λ m. m ≤ most) n times (omega arith) all)
 
-greatest_of : (os : List Occurrence) (t : Tally) → (t.greatest ≤ (tallied_all os t).greatest) × All (λ n. n ≤ (tallied_all os t).greatest) (times_in os)
+greatest_of : (os : List Entry) (t : Tally) → (t.greatest ≤ (tallied_all os t).greatest) × All (λ n. n ≤ (tallied_all os t).greatest) (times_in os)
 greatest_of [] t = (omega arith, All-nil (λ n. n ≤ t.greatest))
 greatest_of (o ∷ os) t = let later = greatest_of os (tallied o t) in grown o.took (times_in os) _ (tallied_all os (tallied o t)).greatest later.0 later.1
 
@@ -37,11 +36,11 @@ nothing_in (suc n) (suc p) = omega (arith, nothing_in n p)
 reached : (ts : List ℕ) (rank time most : ℕ) → All (λ n. n ≤ most) ts → IsAtRank rank ts time → time ≤ most
 reached ts rank time most all at = elim (cases_lt most time) [
   | inl lt ↦
-    let every = filter_all (λ t. nat_lt t time) ts (λ k d within. let l = all k d within in lt-ltb (slice_index_or ts k d) time (omega arith)) in
-    let some = filter_some (λ t. nat_le t time) ts in
-    let b = at.below in
-    let w = at.within in
-    absurd (omega (arith, every, some, b, w))
+      let every = filter_all (λ t. nat_lt t time) ts (λ k d within. let l = all k d within in lt-ltb (slice_index_or ts k d) time (omega arith)) in
+      let some = filter_some (λ t. nat_le t time) ts in
+      let b = at.below in
+      let w = at.within in
+      absurd (omega (arith, every, some, b, w))
   | inr ge ↦ ge
 ]
 
