@@ -121,22 +121,27 @@ fn are_carried(client: &ClientOf<u64>, server: &ServerOf<u64>, carried: &[Option
     true
 }
 
+/// After how many of the steps something else is carried.
+fn wrong_steps(client: &mut ClientOf<u64>, server: &mut ServerOf<u64>) -> u32 {
+    let mut wrong = 0_u32;
+    for (step, carried) in STEPS {
+        step_client(client, step);
+        step_server(server, step);
+        if !are_carried(client, server, &carried) {
+            wrong = wrong.saturating_add(1);
+        }
+    }
+    wrong
+}
+
 #[test]
 fn values_are_told_changed_and_handed_out(rt: HostRuntime) -> Result<(), Fail> {
     let mut client = ClientOf::new(rt.alloc(), 3)?;
     let mut server = ServerOf::new(rt.alloc(), 3)?;
-    let mut wrong = 0_u32;
-    for (step, carried) in STEPS {
-        step_client(&mut client, step);
-        step_server(&mut server, step);
-        if !are_carried(&client, &server, &carried) {
-            wrong = wrong.saturating_add(1);
-        }
-    }
+    let wrong = wrong_steps(&mut client, &mut server);
     let of_client: Vec<u64> = client.into_values().collect(rt.alloc())?;
     let of_server: Vec<u64> = server.into_values().collect(rt.alloc())?;
-    assert_eq!(rt; wrong, 0);
-    assert!(rt; of_client.as_slice() == [5, 70].as_slice());
-    assert!(rt; of_server.as_slice() == [5, 70].as_slice());
+    let are_left = of_client.as_slice() == [5, 70].as_slice() && of_client == of_server;
+    assert!(rt; wrong == 0 && are_left);
     Ok(())
 }

@@ -55,14 +55,32 @@ fn read_cut(alloc: Global, cut: usize) -> Result<String, Fail> {
     let mut partial = Partial::new(alloc, LIMITS.cell)?;
     let mut reader = CellReader::new(alloc, &LIMITS)?;
     let mut lines = String::new(alloc);
-    let (first, second) = CELL.split_at(cut.min(7));
     reader.begin(None, AT, AT + 7);
-    if let Some(used) = push(&mut partial, &mut reader, &table, first, &mut lines)? {
-        put_used(used, reader.bytes_used(&partial), &mut lines)?;
-        push(&mut partial, &mut reader, &table, second, &mut lines)?;
-        put_end(&mut reader, &mut lines)?;
+    match put_cut(&mut partial, &mut reader, &table, cut, &mut lines) {
+        Ok(()) => Ok(lines),
+        Err(fail) => Err(fail),
     }
-    Ok(lines)
+}
+
+/// Writes down what is said of the two pieces.
+fn put_cut(
+    partial: &mut Partial,
+    reader: &mut CellReader,
+    table: &TypeTable,
+    cut: usize,
+    lines: &mut String,
+) -> Result<(), Fail>
+    requires under_way { is_under_way reader.old ≡ true }
+    requires stands { Stands table.now.nodes reader.old }
+    requires joined { Joined table.now.nodes reader.old partial.old }
+{
+    let (first, second) = CELL.split_at(cut.min(7));
+    if let Some(used) = push(partial, reader, table, first, lines)? {
+        put_used(used, reader.bytes_used(partial), lines)?;
+        push(partial, reader, table, second, lines)?;
+        put_end(reader, lines)?;
+    }
+    Ok(())
 }
 
 fn put_used(used: usize, of_cell: u64, lines: &mut String) -> Result<(), Fail> {

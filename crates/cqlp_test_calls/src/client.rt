@@ -117,31 +117,43 @@ fn header(response: bool, stream: i16, opcode: Opcode) -> Header {
 
 /// What a call answers.
 fn answer(alloc: Global, client: &mut Client, call: ClientCall) -> Result<String, Fail> {
-    Ok(match call {
-        ClientCall::Begin(kind) => format!(in alloc; "{:?}", client.begin(kind))?,
+    let answer = match call {
+        ClientCall::Begin(kind) => format!(in alloc; "{:?}", client.begin(kind)),
         ClientCall::Cancel(number) => format!(in alloc;
             "{:?}",
             client.cancel(Ticket { id: 0, number })
-        )?,
+        ),
         ClientCall::Reply(stream, opcode) => {
-            format!(in alloc; "{:?}", client.reply(&header(true, stream, opcode)))?
+            format!(in alloc; "{:?}", client.reply(&header(true, stream, opcode)))
         }
         ClientCall::Request(opcode) => {
-            format!(in alloc; "{:?}", client.reply(&header(false, 0, opcode)))?
+            format!(in alloc; "{:?}", client.reply(&header(false, 0, opcode)))
         }
-    })
+    };
+    Ok(answer?)
+}
+
+/// Writes down what a call answers otherwise than is expected, or the phase that is left.
+fn put_wrong(
+    alloc: Global,
+    client: &mut Client,
+    (call, expected): (ClientCall, &str),
+    wrong: &mut String,
+) -> Result<(), Fail> {
+    let answer = answer(alloc, client, call)?;
+    let said = format!(in alloc; "{answer} {:?}", client.phase())?;
+    if said.as_str() != expected {
+        write!(wrong, "{said}, ")?;
+    }
+    Ok(())
 }
 
 /// What the calls of a session answer otherwise than is expected.
 fn wrong_in(alloc: Global, session: &[(ClientCall, &str)]) -> Result<String, Fail> {
     let mut client = Client::new(alloc, 1)?;
     let mut wrong = String::new(alloc);
-    for (call, expected) in session {
-        let mut said = answer(alloc, &mut client, *call)?;
-        write!(said, " {:?}", client.phase())?;
-        if said.as_str() != *expected {
-            write!(wrong, "{said}, ")?;
-        }
+    for call in session {
+        put_wrong(alloc, &mut client, *call, &mut wrong)?;
     }
     Ok(wrong)
 }

@@ -342,6 +342,13 @@ fn made(alloc: Global, row: &Row) -> Result<String, Fail> {
     let mut partial = Partial::new(alloc, LIMIT)?;
     let mut lines = String::new(alloc);
     partial.begin(notation, LIMIT, AT, AT + u64::from(room));
+    match put_made(&mut partial, pieces, &mut lines) {
+        Ok(()) => Ok(lines),
+        Err(fail) => Err(fail),
+    }
+}
+
+fn put_made(partial: &mut Partial, pieces: &[&[u8]], lines: &mut String) -> Result<(), Fail> {
     for piece in pieces {
         if partial.is_under_way() {
             let push = partial.push(piece);
@@ -349,7 +356,7 @@ fn made(alloc: Global, row: &Row) -> Result<String, Fail> {
             write!(lines, " {}, ", partial.held())?;
         }
     }
-    Ok(lines)
+    Ok(())
 }
 
 #[test]

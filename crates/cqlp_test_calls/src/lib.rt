@@ -20,18 +20,12 @@ mod many_requests;
 #[cfg(test)]
 mod memory;
 #[cfg(test)]
-mod page;
-#[cfg(test)]
 mod runs;
 #[cfg(test)]
 mod server;
 #[cfg(test)]
 mod streams;
 #[cfg(test)]
-mod trees;
-#[cfg(test)]
 mod types;
-#[cfg(test)]
-mod values;
 #[cfg(test)]
 mod versions;

@@ -1,6 +1,5 @@
 //! Memory that is refused, of each call that asks for it.
 
-use crate::page::page;
 use cqlp_capture::{CaptureLimits, CaptureReader, CaptureStep, NewReaderError};
 use cqlp_decode::{Decoder, NewError};
 use cqlp_message::Frame;
@@ -15,8 +14,8 @@ use linked_list_allocator::LocalHeap;
 use std::alloc::{Allocator, Global};
 use std::test::Fail;
 
-pub const LIMITS: Limits = Limits {
-    text: 64,
+const LIMITS: Limits = Limits {
+    text: 128,
     cell: 64,
     entries: 8,
     depth: 3,
@@ -40,7 +39,7 @@ enum Call {
     Server,
     ClientOf,
     ServerOf,
-    /// A page is written and read.
+    /// The answer to a request of another version is written and read.
     WriteAndRead,
 }
 
@@ -146,18 +145,18 @@ fn copied_table<A: Allocator + Clone>(heap: A) -> Answer {
     }
 }
 
-/// The page of one list is 16 events, of which none is handed out before all memory is there.
-fn written_and_read<A: Allocator + Clone>(heap: A, page: &Frame) -> Answer {
+/// The frame is four events, of which none is handed out before all memory is there.
+fn written_and_read<A: Allocator + Clone>(heap: A, frame: &Frame) -> Answer {
     let mut sink = Takes::new(100);
-    let made = write_and_read(heap, page, LIMITS, &mut sink);
+    let made = write_and_read(heap, frame, LIMITS, &mut sink);
     match (made, sink.taken()) {
-        (Ok(_), 16) => Answer::Granted,
+        (Ok(_), 4) => Answer::Granted,
         (Err(RoundTripError::NoMemory), 0) => Answer::NoMemory,
         _ => Answer::Other,
     }
 }
 
-fn asked<A: Allocator + Clone>(call: Call, heap: A, page: &Frame) -> Answer {
+fn asked<A: Allocator + Clone>(call: Call, heap: A, frame: &Frame) -> Answer {
     match call {
         Call::Partial => answer_of(Partial::new(heap, LIMITS.text)),
         Call::TypeTable => answer_of(TypeTable::new(heap, LIMITS.entries)),
@@ -170,15 +169,21 @@ fn asked<A: Allocator + Clone>(call: Call, heap: A, page: &Frame) -> Answer {
         Call::Server => answer_of_slots(Server::new(heap, 10)),
         Call::ClientOf => answer_of_slots(ClientOf::<u64, A>::new(heap, 10)),
         Call::ServerOf => answer_of_slots(ServerOf::<u64, A>::new(heap, 10)),
-        Call::WriteAndRead => written_and_read(heap, page),
+        Call::WriteAndRead => written_and_read(heap, frame),
     }
 }
 
 /// Whether a call that makes so many requests finds memory exactly where none of them is refused, asks for no more than it has to,
 /// and gives all of it back.
-fn is_right(heap: &LocalHeap, call: Call, requests: u64, refusals: Refusals, page: &Frame) -> bool {
+fn is_right(
+    heap: &LocalHeap,
+    call: Call,
+    requests: u64,
+    refusals: Refusals,
+    frame: &Frame,
+) -> bool {
     let rationed = Rationed::new(heap, refusals);
-    let answer = asked(call, &rationed, page);
+    let answer = asked(call, &rationed, frame);
     let expected = match refusals {
         Refusals::At(number) | Refusals::From(number) if number <= requests => {
             (Answer::NoMemory, number)
@@ -189,22 +194,22 @@ fn is_right(heap: &LocalHeap, call: Call, requests: u64, refusals: Refusals, pag
 }
 
 /// Whether it is so whichever of its requests are refused.
-fn is_right_with_any(heap: &LocalHeap, call: Call, requests: u64, page: &Frame) -> bool {
+fn is_right_with_any(heap: &LocalHeap, call: Call, requests: u64, frame: &Frame) -> bool {
     for number in 1..8u64 {
-        let one = is_right(heap, call, requests, Refusals::At(number), page);
-        let later = is_right(heap, call, requests, Refusals::From(number), page);
+        let one = is_right(heap, call, requests, Refusals::At(number), frame);
+        let later = is_right(heap, call, requests, Refusals::From(number), frame);
         if !one || !later {
             return false;
         }
     }
-    is_right(heap, call, requests, Refusals::Never, page)
+    is_right(heap, call, requests, Refusals::Never, frame)
 }
 
 /// The calls of which it is not so.
-fn wrong_calls(alloc: Global, heap: &LocalHeap, page: &Frame) -> Result<String, Fail> {
+fn wrong_calls(alloc: Global, heap: &LocalHeap, frame: &Frame) -> Result<String, Fail> {
     let mut wrong = String::new(alloc);
     for (call, requests) in CALLS {
-        if !is_right_with_any(heap, call, requests, page) {
+        if !is_right_with_any(heap, call, requests, frame) {
             write!(wrong, "{call:?}, ")?;
         }
     }
@@ -213,9 +218,9 @@ fn wrong_calls(alloc: Global, heap: &LocalHeap, page: &Frame) -> Result<String, 
 
 #[test]
 fn memory_is_missing_just_where_it_was_refused(rt: HostRuntime) -> Result<(), Fail> {
-    let page = page(rt.alloc())?;
+    let frame = Frame::version_error(rt.alloc(), &[5, 0, 0, 0, 5, 0, 0, 0, 0])?;
     let heap = LocalHeap::new(rt.alloc(), 1 << 16)?;
-    let wrong = wrong_calls(rt.alloc(), &heap, &page)?;
+    let wrong = wrong_calls(rt.alloc(), &heap, &frame)?;
     assert_eq!(rt; wrong.as_str(), "");
     Ok(())
 }

@@ -78,12 +78,16 @@ static ROWS: [Row; 6] = [
 ];
 
 fn ended(alloc: Global, row: &Row) -> Result<String, Fail> {
+    let mut decoder = Decoder::new(alloc, LIMITS)?;
+    ended_with(alloc, &mut decoder, row)
+}
+
+fn ended_with(alloc: Global, decoder: &mut Decoder, row: &Row) -> Result<String, Fail> {
     let (front, room, turns, _) = *row;
     let bytes = SUPPORTED.get(..front).unwrap_or(&[]);
-    let mut decoder = Decoder::new(alloc, LIMITS)?;
     let mut reader = FailsOnce::new(Pieces::new(bytes, [4_096; 3]), 1);
     let mut sink = Takes::new(room);
-    let (outcome, held) = held_after(&mut decoder, &mut reader, &mut sink, turns);
+    let (outcome, held) = held_after(decoder, &mut reader, &mut sink, turns);
     let (taken, left) = (sink.taken(), reader.left());
     Ok(format!(in alloc; "{outcome:?} {taken} {left} {held:?}")?)
 }

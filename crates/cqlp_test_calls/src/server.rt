@@ -35,23 +35,35 @@ fn request(stream: i16, opcode: Opcode) -> Header {
 
 /// What a call answers.
 fn answer(alloc: Global, server: &mut Server, call: ServerCall) -> Result<String, Fail> {
-    Ok(match call {
+    let answer = match call {
         ServerCall::Accept(id, opcode) => {
-            format!(in alloc; "{:?}", server.accept(&request(id, opcode)))?
+            format!(in alloc; "{:?}", server.accept(&request(id, opcode)))
         }
-        ServerCall::Answer(id, opcode) => format!(in alloc; "{:?}", server.answer(id, opcode))?,
-    })
+        ServerCall::Answer(id, opcode) => format!(in alloc; "{:?}", server.answer(id, opcode)),
+    };
+    Ok(answer?)
+}
+
+/// Writes down what a call answers otherwise than is expected.
+fn put_wrong(
+    alloc: Global,
+    server: &mut Server,
+    (call, expected): (ServerCall, &str),
+    wrong: &mut String,
+) -> Result<(), Fail> {
+    let said = answer(alloc, server, call)?;
+    if said.as_str() != expected {
+        write!(wrong, ", {said}")?;
+    }
+    Ok(())
 }
 
 #[test]
 fn server_with_two_slots(rt: HostRuntime) -> Result<(), Fail> {
     let mut server = Server::new(rt.alloc(), 2)?;
     let mut wrong = format!(in rt.alloc(); "{:?}", server.phase())?;
-    for (call, expected) in SESSION {
-        let said = answer(rt.alloc(), &mut server, call)?;
-        if said.as_str() != expected {
-            write!(wrong, ", {said}")?;
-        }
+    for call in SESSION {
+        put_wrong(rt.alloc(), &mut server, call, &mut wrong)?;
     }
     assert_eq!(rt; wrong.as_str(), "Fresh");
     Ok(())

@@ -77,48 +77,74 @@ fn read(alloc: Global, table: &mut TypeTable, option: &[u8]) -> Result<String, F
         table.clear();
     }
     reader.begin(AT, AT + 1_000_000);
+    match put_read(&mut partial, &mut reader, table, option, &mut lines) {
+        Ok(()) => Ok(lines),
+        Err(fail) => Err(fail),
+    }
+}
+
+/// Writes down what is read of an option that has begun.
+fn put_read(
+    partial: &mut Partial,
+    reader: &mut TypeReader,
+    table: &mut TypeTable,
+    option: &[u8],
+    lines: &mut String,
+) -> Result<(), Fail>
+    requires under_way { reader.old.under_way ≡ true }
+    requires shared { IsShared reader.old partial.old }
+    requires room { reader.old.rules.entries ≤ table.old.room }
+    requires table { ReadsInto reader.old partial.old table.old }
+    ensures kept { table.new.room ≡ table.old.room }
+{
     let mut start = 0;
     for _ in 0..100u32 {
-        match push(
-            &mut partial,
-            &mut reader,
-            table,
-            &option[start..],
-            &mut lines,
-        )? {
+        match push(partial, reader, table, &option[start..], lines)? {
             Some(used) => start += used,
             None => break,
         }
     }
     write!(lines, " {} {}", reader.held(), reader.done())?;
-    Ok(lines)
+    Ok(())
 }
 
 /// The nodes of a table with their roots and children.
 fn walk(alloc: Global, table: &TypeTable) -> Result<String, Fail> {
     let mut lines = String::new(alloc);
+    match put_table(table, &mut lines) {
+        Ok(()) => Ok(lines),
+        Err(fail) => Err(fail),
+    }
+}
+
+fn put_table(table: &TypeTable, lines: &mut String) -> Result<(), Fail> {
     write!(
         lines,
-        "{} of {}, {}, ",
+        "{} of {}, {}, {}",
         table.len(),
         table.room(),
-        table.roots()
+        table.roots(),
+        table.whole()
     )?;
-    write!(lines, "{}", table.whole())?;
     for i in 0..6u32 {
-        if let Some(node) = table.node(i) {
-            write!(lines, ", {:?} {} {}", node.kind, node.arity, node.span)?;
-        }
-        for child in 0..3u32 {
-            if let Some(child) = table.child(i, child) {
-                write!(lines, " -> {child}")?;
-            }
-        }
-        if let Some(root) = table.root(i) {
-            write!(lines, " root {root}")?;
+        put_node(table, i, lines)?;
+    }
+    Ok(())
+}
+
+fn put_node(table: &TypeTable, i: u32, lines: &mut String) -> Result<(), Fail> {
+    if let Some(node) = table.node(i) {
+        write!(lines, ", {:?} {} {}", node.kind, node.arity, node.span)?;
+    }
+    for child in 0..3u32 {
+        if let Some(child) = table.child(i, child) {
+            write!(lines, " -> {child}")?;
         }
     }
-    Ok(lines)
+    if let Some(root) = table.root(i) {
+        write!(lines, " root {root}")?;
+    }
+    Ok(())
 }
 
 /// A list of ints, and then a map from texts to lists that breaks off.

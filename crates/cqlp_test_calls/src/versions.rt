@@ -57,13 +57,18 @@ fn answered(alloc: Global, header: &[u8; 9]) -> Result<Vec<u8>, Fail> {
     Ok(written(alloc, &answer))
 }
 
+/// Whether these bytes are the answer to a header.
+fn is_answer(alloc: Global, header: &[u8; 9], front: &str, text: &str) -> Result<bool, Fail> {
+    let answered = answered(alloc, header)?;
+    let front = bytes_of(alloc, front)?;
+    Ok(answered.strip_prefix(front.as_slice()) == Some(text.as_bytes()))
+}
+
 #[test]
 fn other_versions_are_answered(rt: HostRuntime) -> Result<(), Fail> {
     let mut wrong = 0_u32;
     for (header, front, text) in &ROWS {
-        let mut expected = bytes_of(rt.alloc(), front)?;
-        expected.extend_from_slice(text.as_bytes())?;
-        if answered(rt.alloc(), header)?.as_slice() != expected.as_slice() {
+        if !is_answer(rt.alloc(), header, front, text)? {
             wrong = wrong.saturating_add(1);
         }
     }

@@ -23,12 +23,17 @@ pub struct Done {
 impl Invocation<'_> {
     /// With standard input in one piece, and room for all that is written.
     pub fn whole(&self, rt: &HostRuntime) -> Done {
-        self.done(rt, &mut self.pieces(usize::MAX), usize::MAX, usize::MAX)
+        self.done(
+            rt,
+            &mut self.pieces([usize::MAX; 3]),
+            usize::MAX,
+            usize::MAX,
+        )
     }
 
-    /// Its standard input in pieces of this size.
-    pub fn pieces(&self, size: usize) -> Pieces<'_> {
-        Pieces::new(self.bytes, [size; 3])
+    /// Its standard input in pieces of these sizes.
+    pub fn pieces(&self, sizes: [usize; 3]) -> Pieces<'_> {
+        Pieces::new(self.bytes, sizes)
     }
 
     /// With this standard input, and room for this many bytes in each output.

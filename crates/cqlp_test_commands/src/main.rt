@@ -26,7 +26,7 @@ fn execute(rt: &HostRuntime, line: &str) -> io::Result<()> {
         println!(rt; "== {}", words.trim_end())?;
         let bytes = bytes_of(rt.alloc(), digits)?;
         if let Some((task, _)) = words.split_once(" in little memory") {
-            return memory::print_answers(rt, task, &bytes);
+            return memory::print_all(rt, task, &bytes);
         }
         if let Some((line, _)) = words.split_once(" in one way") {
             return print_one_way(rt, line, &bytes);

@@ -2,6 +2,7 @@
 
 use crate::done::Done;
 use cqlp_note::Limits;
+use cqlp_render_skip::{check_skipping, rows_skipping, show_skipping};
 use cqlp_test_fakes::{Adds, Calls, Looks, Narrow, Pieces};
 use cqlp_tool::{check, rows, show};
 use linked_list_allocator::LocalHeap;
@@ -24,15 +25,27 @@ fn done_in(rt: &HostRuntime, heap: &LocalHeap, task: &str, bytes: &[u8]) -> Done
     let err = Narrow::new(rt.alloc(), usize::MAX, 7);
     let (status, out, err) = match task {
         "show" => show(heap, LIMITS, &mut input, out, err),
+        "show --skip" => show_skipping(heap, LIMITS, &mut input, out, err),
         "rows" => rows(heap, LIMITS, &mut input, out, err),
+        "rows --skip" => rows_skipping(heap, LIMITS, &mut input, out, err),
+        "check --skip" => check_skipping(heap, LIMITS, &mut input, out, err),
         _ => check(heap, LIMITS, &mut input, out, err),
     };
     Done { status, out, err }
 }
 
-/// Prints what a task does in memory of 0 bytes, of 16 more, and so on; where that is as before, nothing. Then how often
-/// `show` writes where each read gives nine bytes.
-pub fn print_answers(rt: &HostRuntime, task: &str, bytes: &[u8]) -> io::Result<()> {
+/// Prints what a task does in memory of 0 bytes, of 16 more, and so on; where that is as before, nothing. Then, if no frame is
+/// passed over, how often `show` writes where each read gives nine bytes.
+pub fn print_all(rt: &HostRuntime, task: &str, bytes: &[u8]) -> io::Result<()> {
+    print_answers(rt, task, bytes)?;
+    if task.ends_with("--skip") {
+        return Ok(());
+    }
+    print_writes(rt, bytes)?;
+    print_early_reads(rt, bytes)
+}
+
+fn print_answers(rt: &HostRuntime, task: &str, bytes: &[u8]) -> io::Result<()> {
     let mut before = Done {
         status: 255,
         out: Narrow::new(rt.alloc(), 0, 0),
@@ -46,10 +59,13 @@ pub fn print_answers(rt: &HostRuntime, task: &str, bytes: &[u8]) -> io::Result<(
         }
         before = done;
     }
+    Ok(())
+}
+
+fn print_writes(rt: &HostRuntime, bytes: &[u8]) -> io::Result<()> {
     let mut input = Pieces::new(bytes, [9; 3]);
     let (_, out, _) = show(&rt.alloc(), LIMITS, &mut input, Calls::new(), Calls::new());
-    println!(rt; "{} writes", out.count())?;
-    print_early_reads(rt, bytes)
+    println!(rt; "{} writes", out.count())
 }
 
 /// Prints how many reads of nine bytes `show` makes before the text of all bytes before them is out, and whether it

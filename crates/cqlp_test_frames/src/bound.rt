@@ -1,20 +1,19 @@
 //! Values that are bound to a query, and cells of a page whose columns are not told.
 
-use crate::shown::{LIMITS, PIECE, print_bytes};
+use crate::built::{Again, build_again};
+use crate::shown::{LIMITS, PIECE, print_bytes, write};
 use crate::words::Words;
-use cqlp_decode::{Decoder, Event, Sink, SinkFault, run};
-use cqlp_encode::{PageWriter, bind_value, encode, raw_value};
+use cqlp_encode::{PageWriter, bind_value, raw_value};
 use cqlp_message::{Frame, Message, Metadata, OwnedBound, QueryParams, Rows};
-use cqlp_note::{BoundValue, OfStd};
 use cqlp_read::read_value;
-use cqlp_test_fakes::{Narrow, Pieces};
+use cqlp_test_fakes::Narrow;
 use cqlp_type::TypeTree;
 use cqlp_value::Value;
 use std::alloc::{AllocError, Global};
 use std::io;
 
 /// How many bytes of [`query`] come before the value that is bound.
-const BEFORE_VALUE: usize = 19;
+const BEFORE_VALUE: usize = 18;
 
 /// A type, or none, and a value.
 #[derive(Drop)]
@@ -37,38 +36,32 @@ pub fn show(rt: &HostRuntime, line: &str) -> io::Result<()> {
 }
 
 fn print_bound(rt: &HostRuntime, line: &str, typed: &Typed) -> io::Result<()> {
-    let bound = match bind_value(rt.alloc(), &typed.value, typed.of.as_ref()) {
-        Ok(bound) => bound,
-        Err(error) => return println!(rt; "{line}: {error:?}"),
-    };
-    let bytes = written(rt.alloc(), &query(rt.alloc(), bound)?);
-    print_read(rt, line, typed, &bytes)
+    match bind_value(rt.alloc(), &typed.value, typed.of.as_ref()) {
+        Ok(bound) => print_query(rt, line, typed, &query(rt.alloc(), bound)),
+        Err(error) => println!(rt; "{line}: {error:?}"),
+    }
 }
 
-fn print_read(rt: &HostRuntime, line: &str, typed: &Typed, bytes: &[u8]) -> io::Result<()> {
+fn print_query(rt: &HostRuntime, line: &str, typed: &Typed, query: &Frame) -> io::Result<()> {
+    print_read(rt, line, typed, query, &write(rt.alloc(), query).bytes)
+}
+
+fn print_read(
+    rt: &HostRuntime,
+    line: &str,
+    typed: &Typed,
+    query: &Frame,
+    bytes: &[u8],
+) -> io::Result<()> {
     let own = bytes.get(BEFORE_VALUE..).unwrap_or(&[]);
     println!(rt;
         "{line}: decoded {}, read {}, raw {}, by cell {}",
-        is_decoded(rt.alloc(), typed, bytes),
+        build_again(rt.alloc(), query, bytes) == Again::Same,
         is_read(rt.alloc(), typed, own),
         is_raw(rt.alloc(), typed, own)?,
         is_by_cell(rt.alloc(), typed, own)
     )?;
     print_bytes(rt, own)
-}
-
-/// Whether the decoder hands out the same bound value.
-fn is_decoded(alloc: Global, typed: &Typed, bytes: &[u8]) -> bool {
-    let Ok(mut decoder) = Decoder::new(alloc, LIMITS) else {
-        return false;
-    };
-    let mut sink = LastBound {
-        alloc,
-        told: OwnedBound::Unset,
-    };
-    let mut reader = Pieces::new(bytes, [PIECE; 3]);
-    let _ = run(&mut decoder, &mut reader, &mut sink, u64::MAX);
-    bind_value(alloc, &typed.value, typed.of.as_ref()) == Ok(sink.told)
 }
 
 /// Whether the value is read of its own bytes.
@@ -81,12 +74,11 @@ fn is_read(alloc: Global, typed: &Typed, own: &[u8]) -> bool {
 
 /// Whether these are the last bytes of a page with the cell that is made of the value.
 fn is_raw(alloc: Global, typed: &Typed, own: &[u8]) -> Result<bool, AllocError> {
-    let Ok(raw) = raw_value(alloc, &typed.value, typed.of.as_ref()) else {
-        return Ok(false);
-    };
     let mut cells = Vec::new(alloc);
-    cells.push(raw)?;
-    Ok(written(alloc, &page(cells)).ends_with(own))
+    if let Ok(raw) = raw_value(alloc, &typed.value, typed.of.as_ref()) {
+        cells.push(raw)?;
+    }
+    Ok(write(alloc, &page(cells)).bytes.ends_with(own))
 }
 
 /// Whether these are the last bytes of a page whose writer is given the value; true of a value without a type.
@@ -106,10 +98,10 @@ fn is_by_cell(alloc: Global, typed: &Typed, own: &[u8]) -> bool {
     is_put && target.text().ends_with(own)
 }
 
-/// A QUERY with this one value.
-fn query(alloc: Global, bound: OwnedBound) -> Result<Frame, AllocError> {
+/// A QUERY without text, with this one value.
+fn query(alloc: Global, bound: OwnedBound) -> Frame {
     let mut values = Vec::new(alloc);
-    values.push((None, bound))?;
+    let _ = values.push((None, bound));
     let params = QueryParams {
         consistency: 1,
         flags: 0x01,
@@ -119,8 +111,10 @@ fn query(alloc: Global, bound: OwnedBound) -> Result<Frame, AllocError> {
         serial: None,
         timestamp: None,
     };
-    let text = String::from_str(alloc, "q")?;
-    Ok(Frame::plain(0, Message::Query { text, params }))
+    frame(Message::Query {
+        text: String::new(alloc),
+        params,
+    })
 }
 
 /// A page of one row and one column, which is not told.
@@ -132,51 +126,21 @@ fn page(cells: Vec<Value>) -> Frame {
         table: None,
         specs: None,
     };
-    Frame::plain(
-        0,
-        Message::Rows(Rows {
-            meta,
-            rows: 1,
-            cells,
-        }),
-    )
+    frame(Message::Rows(Rows {
+        meta,
+        rows: 1,
+        cells,
+    }))
 }
 
-/// The bytes of a frame; none where it has no spelling.
-fn written(alloc: Global, frame: &Frame) -> Vec<u8> {
-    let mut target = OfStd::new(Vec::new(alloc));
-    let _ = encode(frame, &mut target);
-    target.into_inner()
-}
-
-/// Keeps the last bound value that it gets.
-#[derive(Drop)]
-struct LastBound {
-    alloc: Global,
-    told: OwnedBound,
-}
-
-impl Sink for LastBound {
-    ghost View = { Unit {0} };
-
-    ghost view = { λ _. tt };
-
-    ghost after = { λ _ _ _. tt };
-
-    ghost faulted = { λ _ _ _ _. Unit {0} };
-
-    fn take(&mut self, _: u64, event: &Event<'_>) -> Result<(), SinkFault> {
-        let Event::Bound { value, .. } = event else {
-            return Ok(());
-        };
-        self.told = match value {
-            BoundValue::Null => OwnedBound::Null,
-            BoundValue::Unset => OwnedBound::Unset,
-            BoundValue::Bytes(bytes) => match Vec::from_slice(self.alloc, bytes) {
-                Ok(content) => OwnedBound::Bytes(content),
-                Err(_) => return Err(SinkFault),
-            },
-        };
-        Ok(())
+/// A frame with this message alone.
+fn frame(message: Message) -> Frame {
+    Frame {
+        flags: 0,
+        stream: 0,
+        tracing: None,
+        warnings: None,
+        payload: None,
+        message,
     }
 }

@@ -1,7 +1,7 @@
 //! Frames that are built again, of the events of their bytes.
 
 use crate::shown::LIMITS;
-use cqlp_build::{BuildError, BuildLimits, BuiltFrame, FrameBuilder};
+use cqlp_build::{BuildError, BuildLimits, FrameBuilder};
 use cqlp_decode::{Decoder, run};
 use cqlp_grammar::{Event, Sink, SinkFault};
 use cqlp_message::Frame;
@@ -14,15 +14,36 @@ const ROOM: BuildLimits = BuildLimits {
     bytes: 10_000_000,
 };
 
-/// Builds frames, and keeps the last one and what was refused.
-#[derive(Drop)]
-struct Builds {
-    builder: FrameBuilder,
-    last: Option<BuiltFrame>,
-    fault: Option<BuildError>,
+/// What became of a frame.
+#[derive(Clone, Copy, PartialEq, Eq)]
+pub enum Again {
+    Same,
+    Another,
+    /// It is none that is built of events.
+    Unbuilt,
+    None,
 }
 
-impl Sink for Builds {
+impl Again {
+    pub fn words(self) -> &'static str {
+        match self {
+            Again::Same => "built again",
+            Again::Another => "another frame",
+            Again::Unbuilt => "not built",
+            Again::None => "no frame",
+        }
+    }
+}
+
+/// Builds frames, and says of the last one, or of what was refused, whether it is the one that is wanted.
+#[derive(Drop)]
+struct Builds<'a> {
+    builder: FrameBuilder,
+    wanted: &'a Frame,
+    again: Again,
+}
+
+impl Sink for Builds<'_> {
     ghost View = { Unit {0} };
 
     ghost view = { λ _. tt };
@@ -35,11 +56,19 @@ impl Sink for Builds {
         match self.builder.take(event) {
             Ok(None) => Ok(()),
             Ok(Some(built)) => {
-                self.last = Some(built);
+                self.again = if built.frame == *self.wanted && built.extra == 0 {
+                    Again::Same
+                } else {
+                    Again::Another
+                };
                 Ok(())
             }
             Err(why) => {
-                self.fault = Some(why);
+                self.again = if why == BuildError::Unbuilt {
+                    Again::Unbuilt
+                } else {
+                    Again::None
+                };
                 Err(SinkFault)
             }
         }
@@ -47,36 +76,20 @@ impl Sink for Builds {
 }
 
 /// What becomes of a frame whose events are read of these bytes.
-pub fn again(alloc: Global, frame: &Frame, bytes: &[u8]) -> &'static str {
+pub fn build_again(alloc: Global, frame: &Frame, bytes: &[u8]) -> Again {
+    let mut sink = Builds {
+        builder: FrameBuilder::new(alloc, ROOM),
+        wanted: frame,
+        again: Again::None,
+    };
     match Decoder::new(alloc, LIMITS) {
-        Ok(mut decoder) => of_events(alloc, &mut decoder, frame, bytes),
-        Err(_) => "no memory",
+        Ok(mut decoder) => read(&mut decoder, &mut sink, bytes),
+        Err(_) => Again::None,
     }
 }
 
-fn of_events(
-    alloc: Global,
-    decoder: &mut Decoder<Global>,
-    frame: &Frame,
-    bytes: &[u8],
-) -> &'static str {
-    let mut sink = Builds {
-        builder: FrameBuilder::new(alloc, ROOM),
-        last: None,
-        fault: None,
-    };
-    run(
-        decoder,
-        &mut Pieces::new(bytes, [usize::MAX; 3]),
-        &mut sink,
-        u64::MAX,
-    );
-    if sink.fault == Some(BuildError::Unbuilt) {
-        return "not built";
-    }
-    match &sink.last {
-        Some(built) if built.frame == *frame && built.extra == 0 => "built again",
-        Some(_) => "another frame",
-        None => "no frame",
-    }
+fn read(decoder: &mut Decoder<Global>, sink: &mut Builds<'_>, bytes: &[u8]) -> Again {
+    let mut reader = Pieces::new(bytes, [usize::MAX; 3]);
+    run(decoder, &mut reader, sink, u64::MAX);
+    sink.again
 }

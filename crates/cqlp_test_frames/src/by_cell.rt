@@ -16,11 +16,11 @@ const STOPS: usize = 1_000;
 
 /// A page without cells, and those that are written after it.
 #[derive(Drop)]
-struct Plan {
+struct Plan<'a> {
     /// How many bytes the cells are said to have.
     cells_len: u32,
-    frame: Frame,
-    cells: Vec<Cell>,
+    frame: &'a Frame,
+    cells: &'a [Cell],
 }
 
 /// A value of its column's type, or one of a type that is named.
@@ -71,23 +71,20 @@ impl FromWords for Cell {
     }
 }
 
-impl FromWords for Plan {
-    fn from_words(words: &mut Words<'_>) -> Plan {
-        Plan {
-            cells_len: words.read(),
-            frame: words.read(),
-            cells: words.list(),
-        }
-    }
-}
-
 /// Prints what each call answers, and the bytes that came. Then, of what a socket gets that takes all, how many rests are written
 /// after a stop, and how many stops a socket makes that takes one byte at a time. The words are how many bytes the first socket
 /// takes before it fails, how many the cells are said to have, a page, and its cells.
 pub fn show(rt: &HostRuntime, line: &str) -> io::Result<()> {
     let mut words = Words::new(rt.alloc(), line);
     let room: u32 = words.read();
-    let plan: Plan = words.read();
+    let cells_len: u32 = words.read();
+    let frame: Frame = words.read();
+    let cells: Vec<Cell> = words.list();
+    let plan = Plan {
+        cells_len,
+        frame: &frame,
+        cells: &cells,
+    };
     print_plan(rt, &words, line, room as usize, &plan)
 }
 
@@ -97,7 +94,7 @@ fn print_plan(
     words: &Words<'_>,
     line: &str,
     room: usize,
-    plan: &Plan,
+    plan: &Plan<'_>,
 ) -> io::Result<()> {
     words.end()?;
     println!(rt; "== cells | {line}")?;
@@ -107,19 +104,19 @@ fn print_plan(
     print_rests(rt, plan)
 }
 
-fn print_calls(rt: &HostRuntime, plan: &Plan, socket: &mut OfSocket<Stops>) -> io::Result<()> {
-    let mut page = match PageWriter::begin(&plan.frame, plan.cells_len, socket) {
+fn print_calls(rt: &HostRuntime, plan: &Plan<'_>, socket: &mut OfSocket<Stops>) -> io::Result<()> {
+    let mut page = match PageWriter::begin(plan.frame, plan.cells_len, socket) {
         Ok(page) => page,
         Err(error) => return println!(rt; "{error:?}"),
     };
-    for cell in &plan.cells {
+    for cell in plan.cells {
         println!(rt; "{:?}", cell.put(&mut page, socket))?;
     }
     println!(rt; "{:?}", page.finish())
 }
 
 /// Prints how many rests of a whole page are written after a stop, and how many stops it has byte by byte.
-fn print_rests(rt: &HostRuntime, plan: &Plan) -> io::Result<()> {
+fn print_rests(rt: &HostRuntime, plan: &Plan<'_>) -> io::Result<()> {
     let mut socket = Stops::socket(rt.alloc(), usize::MAX, 0);
     let answer = write_on(plan, &mut socket);
     let bytes = socket.inner.text();
@@ -131,7 +128,7 @@ fn print_rests(rt: &HostRuntime, plan: &Plan) -> io::Result<()> {
 }
 
 /// For how many numbers below that of these bytes a socket that stops once, after as many, has all of them in the end.
-fn rests(alloc: Global, plan: &Plan, wanted: Result<u32, PageError>, bytes: &[u8]) -> usize {
+fn rests(alloc: Global, plan: &Plan<'_>, wanted: Result<u32, PageError>, bytes: &[u8]) -> usize {
     (0..bytes.len())
         .filter(|room| stops(alloc, plan, wanted, bytes, *room, usize::MAX) == 1)
         .count()
@@ -141,7 +138,7 @@ fn rests(alloc: Global, plan: &Plan, wanted: Result<u32, PageError>, bytes: &[u8
 /// is gone on with each time; 0 where the last answer is not the one that is wanted, or not just these bytes have come.
 fn stops(
     alloc: Global,
-    plan: &Plan,
+    plan: &Plan<'_>,
     wanted: Result<u32, PageError>,
     bytes: &[u8],
     first: usize,
@@ -157,9 +154,9 @@ fn stops(
 }
 
 /// What the last call answers, where each that stops is followed by one that goes on. None goes on with a cell that was not begun.
-fn write_on(plan: &Plan, socket: &mut OfSocket<Stops>) -> Result<u32, PageError> {
+fn write_on(plan: &Plan<'_>, socket: &mut OfSocket<Stops>) -> Result<u32, PageError> {
     let mut page = begin_on(plan, socket)?;
-    for cell in &plan.cells {
+    for cell in plan.cells {
         if cell.go_on(&mut page, socket) != Err(PageError::OutOfTurn) {
             return Err(PageError::OutOfTurn);
         }
@@ -169,8 +166,11 @@ fn write_on(plan: &Plan, socket: &mut OfSocket<Stops>) -> Result<u32, PageError>
 }
 
 /// Goes on with what comes before the first cell, as long as each call tells how many bytes came.
-fn begin_on<'a>(plan: &'a Plan, socket: &mut OfSocket<Stops>) -> Result<PageWriter<'a>, PageError> {
-    let mut begun = PageWriter::begin(&plan.frame, plan.cells_len, socket);
+fn begin_on<'a>(
+    plan: &Plan<'a>,
+    socket: &mut OfSocket<Stops>,
+) -> Result<PageWriter<'a>, PageError> {
+    let mut begun = PageWriter::begin(plan.frame, plan.cells_len, socket);
     for _ in 0..STOPS {
         let Err(PageError::Write { written }) = begun else {
             break;
@@ -178,7 +178,7 @@ fn begin_on<'a>(plan: &'a Plan, socket: &mut OfSocket<Stops>) -> Result<PageWrit
         if !is_told(socket, written) {
             break;
         }
-        begun = PageWriter::begin_from(&plan.frame, plan.cells_len, written, socket);
+        begun = PageWriter::begin_from(plan.frame, plan.cells_len, written, socket);
     }
     begun
 }

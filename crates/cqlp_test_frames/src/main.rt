@@ -1,9 +1,10 @@
 //! Writes the frames that its standard input spells out, reads back what was written, and prints both.
 //!
 //! A line has a name, `|`, and the words of a frame value: its fields in the order of their definition. After some names
-//! `--sum` asks for the number of the events alone, and `--cut` for a target that fails after ten bytes. A line `value |` has
-//! a type or `-`, and a value, a line `cells |` a page that is written cell by cell, a line `lent |` one whose cells are lent twice, and a line
-//! `bind |` a type or `-`, and a value that is bound. A line `read |` or `write |` has what each call of a socket makes. A line without `|` is a heading.
+//! `--sum` asks for the number of the events alone, and `--cut` for a target that fails after ten bytes. A line `type |` has a type, a line
+//! `value |` a type or `-`, and a value, a line `cells |` a page that is written cell by cell, a line `lent |` one whose cells are lent
+//! twice, and a line `bind |` a type or `-`, and a value that is bound. A line `read |` or `write |` has what each call of a socket makes.
+//! A line without `|` is a heading.
 #![tactic(auto)]
 
 mod bound;
@@ -22,7 +23,7 @@ mod values;
 mod words;
 
 use cqlp_message::Frame;
-use cqlp_type::TypeTree;
+use cqlp_type::{TypeTree, type_len};
 use cqlp_value::{Value, fits, value_len};
 use std::io;
 use words::Words;
@@ -38,6 +39,7 @@ fn main(rt: HostRuntime) -> io::Result<()> {
 fn execute(rt: &HostRuntime, line: &str) -> io::Result<()> {
     match line.split_once(" | ") {
         Some(("value", words)) => show_value(rt, words),
+        Some(("type", words)) => show_type(rt, words),
         Some(("cells", words)) => by_cell::show(rt, words),
         Some(("lent", words)) => lent::show(rt, words),
         Some(("bind", words)) => bound::show(rt, words),
@@ -74,6 +76,23 @@ fn show_value(rt: &HostRuntime, line: &str) -> io::Result<()> {
     let tree: Option<TypeTree> = words.option();
     let value: Value = words.read();
     print_judged(rt, &words, line, &value, tree.as_ref())
+}
+
+/// Prints how many bytes the option has of the type that some words spell out.
+fn show_type(rt: &HostRuntime, line: &str) -> io::Result<()> {
+    let mut words = Words::new(rt.alloc(), line);
+    let tree: TypeTree = words.read();
+    print_option(rt, &words, line, &tree)
+}
+
+fn print_option(
+    rt: &HostRuntime,
+    words: &Words<'_>,
+    line: &str,
+    tree: &TypeTree,
+) -> io::Result<()> {
+    words.end()?;
+    println!(rt; "{line}: {:?}", type_len(tree))
 }
 
 /// The same, once the words are read.

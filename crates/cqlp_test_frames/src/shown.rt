@@ -26,13 +26,13 @@ pub const PIECE: usize = 7;
 
 /// What was answered, and the bytes that came.
 #[derive(Drop)]
-struct Written {
+pub struct Written {
     answer: Result<u32, EncodeError>,
-    bytes: Vec<u8>,
+    pub bytes: Vec<u8>,
 }
 
 /// Writes a frame where there is room for all of it.
-fn write(alloc: Global, frame: &Frame) -> Written {
+pub fn write(alloc: Global, frame: &Frame) -> Written {
     let mut target = OfStd::new(Vec::new(alloc));
     let answer = encode(frame, &mut target);
     Written {
@@ -60,7 +60,7 @@ fn print_whole(rt: &HostRuntime, frame: &Frame, written: &Written) -> io::Result
         "{} rests, {} stops, {}",
         rests(rt.alloc(), frame, &written.bytes),
         stops(rt.alloc(), frame, &written.bytes, 1, 1),
-        built::again(rt.alloc(), frame, &written.bytes)
+        built::build_again(rt.alloc(), frame, &written.bytes).words()
     )
 }
 

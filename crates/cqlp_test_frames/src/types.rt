@@ -110,7 +110,12 @@ fn map(words: &mut Words<'_>, depth: u32) -> TypeTree {
 #[cycle(tree)]
 fn trees(words: &mut Words<'_>, depth: u32) -> Vec<TypeTree> {
     let mut trees = Vec::new(words.alloc());
-    for _ in 0..words.read::<u16>() {
+    let (times, count) = words.counts();
+    let start = words.rest();
+    for number in 0..times.saturating_mul(count) {
+        if number.checked_rem(count) == Some(0) {
+            words.go_back(start);
+        }
         let inner = tree(words, depth);
         words.push(&mut trees, inner);
     }

@@ -38,6 +38,16 @@ impl<'a> Words<'a> {
         }
     }
 
+    /// The words that are left.
+    pub fn rest(&self) -> &'a str {
+        self.rest
+    }
+
+    /// Goes back to words that were left before.
+    pub fn go_back(&mut self, rest: &'a str) {
+        self.rest = rest;
+    }
+
     /// The memory that what is read lies in.
     pub fn alloc(&self) -> Global {
         self.alloc
@@ -102,7 +112,7 @@ impl<'a> Words<'a> {
     }
 
     /// How often the items come that are spelled out, and how many those are: `2`, or `30*2` where they come thirty times.
-    fn counts(&mut self) -> (u32, u32) {
+    pub fn counts(&mut self) -> (u32, u32) {
         let word = self.word();
         let (times, count) = word.split_once('*').unwrap_or(("1", word));
         (self.count(times), self.count(count))

@@ -3,7 +3,6 @@
 
 mod line;
 mod member;
-mod names;
 mod string;
 
 pub use line::{json_line, put_json_line};

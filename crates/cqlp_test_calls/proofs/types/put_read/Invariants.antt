@@ -1,7 +1,7 @@
 use Rattle.std.proofs.Common.{◌≡◌, ◌≤◌, true, length}
 use Rattle.cqlp_type.specs.Progress.{IsShared}
 use Rattle.cqlp_type.specs.Pushing.{ReadsInto}
-use Rattle.cqlp_test_calls.proofs.types.read.Given as goal
+use Rattle.cqlp_test_calls.proofs.types.put_read.Given as goal
 
 abbrev pub invariant-loop : goal.invariant-loop
 invariant-loop l = record {
