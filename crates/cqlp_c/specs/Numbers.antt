@@ -80,36 +80,6 @@ number_of_field field.TypeName = numbers.FIELD_TYPE_NAME
 number_of_field field.Fields = numbers.FIELD_FIELDS
 number_of_field field.FieldName = numbers.FIELD_FIELD_NAME
 
--- the fields by their numbers
-abbrev pub fields : List (ℕ × Field)
-fields =
-    (numbers.FIELD_TRACE_ID, field.TraceId) ∷ (numbers.FIELD_WARNINGS, field.Warnings) ∷ (numbers.FIELD_WARNING, field.Warning)
-    ∷ (numbers.FIELD_PAYLOAD_ITEMS, field.PayloadItems) ∷ (numbers.FIELD_PAYLOAD_KEY, field.PayloadKey)
-    ∷ (numbers.FIELD_PAYLOAD_VALUE, field.PayloadValue) ∷ (numbers.FIELD_OPTIONS, field.Options)
-    ∷ (numbers.FIELD_OPTION_KEY, field.OptionKey) ∷ (numbers.FIELD_OPTION_VALUE, field.OptionValue)
-    ∷ (numbers.FIELD_OPTION_VALUES, field.OptionValues) ∷ (numbers.FIELD_QUERY, field.Query)
-    ∷ (numbers.FIELD_STATEMENT_ID, field.StatementId) ∷ (numbers.FIELD_EVENT_TYPES, field.EventTypes)
-    ∷ (numbers.FIELD_EVENT_TYPE, field.EventType) ∷ (numbers.FIELD_TOKEN, field.Token) ∷ (numbers.FIELD_BATCH_TYPE, field.BatchType)
-    ∷ (numbers.FIELD_ENTRIES, field.Entries) ∷ (numbers.FIELD_ENTRY_KIND, field.EntryKind)
-    ∷ (numbers.FIELD_CONSISTENCY, field.Consistency) ∷ (numbers.FIELD_BATCH_FLAGS, field.BatchFlags)
-    ∷ (numbers.FIELD_SERIAL_CONSISTENCY, field.SerialConsistency) ∷ (numbers.FIELD_TIMESTAMP, field.Timestamp)
-    ∷ (numbers.FIELD_QUERY_FLAGS, field.QueryFlags) ∷ (numbers.FIELD_VALUES, field.Values)
-    ∷ (numbers.FIELD_VALUE_NAME, field.ValueName) ∷ (numbers.FIELD_VALUE, field.Value) ∷ (numbers.FIELD_PAGE_SIZE, field.PageSize)
-    ∷ (numbers.FIELD_PAGING_STATE, field.PagingState) ∷ (numbers.FIELD_CLASS, field.Class)
-    ∷ (numbers.FIELD_ERROR_CODE, field.ErrorCode) ∷ (numbers.FIELD_MESSAGE, field.Message) ∷ (numbers.FIELD_REQUIRED, field.Required)
-    ∷ (numbers.FIELD_ALIVE, field.Alive) ∷ (numbers.FIELD_RECEIVED, field.Received) ∷ (numbers.FIELD_BLOCK_FOR, field.BlockFor)
-    ∷ (numbers.FIELD_WRITE_TYPE, field.WriteType) ∷ (numbers.FIELD_DATA_PRESENT, field.DataPresent)
-    ∷ (numbers.FIELD_FAILURES, field.Failures) ∷ (numbers.FIELD_KEYSPACE, field.Keyspace) ∷ (numbers.FIELD_NAME, field.Name)
-    ∷ (numbers.FIELD_ARGUMENTS, field.Arguments) ∷ (numbers.FIELD_ARGUMENT, field.Argument) ∷ (numbers.FIELD_TABLE, field.Table)
-    ∷ (numbers.FIELD_RESULT_KIND, field.ResultKind) ∷ (numbers.FIELD_ROWS, field.Rows) ∷ (numbers.FIELD_META_FLAGS, field.MetaFlags)
-    ∷ (numbers.FIELD_COLUMNS, field.Columns) ∷ (numbers.FIELD_KEYS, field.Keys) ∷ (numbers.FIELD_KEY_INDEX, field.KeyIndex)
-    ∷ (numbers.FIELD_COLUMN_NAME, field.ColumnName) ∷ (numbers.FIELD_CHANGE, field.Change) ∷ (numbers.FIELD_TARGET, field.Target)
-    ∷ (numbers.FIELD_ADDRESS, field.Address) ∷ (numbers.FIELD_TYPE_NAME, field.TypeName) ∷ (numbers.FIELD_FIELDS, field.Fields)
-    ∷ (numbers.FIELD_FIELD_NAME, field.FieldName) ∷ []
-
-abbrev pub field_numbered : ℕ → Option Field
-field_numbered n = beside_number n fields
-
 -- the number of a kind of types: the id of its type option
 abbrev pub number_of_kind : Kind → ℕ
 number_of_kind kind.Custom = numbers.KIND_CUSTOM
