@@ -128,11 +128,11 @@ module _ (h : Header) (x : ℕ) (f : FrameValue) (old new : Held) (b : Builds (�
 
 -- ---- headers
 
-measured : (o : Option Unfit) (n m : ℕ) → if_none o n ≡ Ok m → (o ≡ None) × (m ≡ n)
+pub measured : (o : Option Unfit) (n m : ℕ) → if_none o n ≡ Ok m → (o ≡ None) × (m ≡ n)
 measured None n m e = let d : n ≡ m = cc in (refl, sym d)
 measured (Some why) n m e = absurd cc
 
-refused : (o : Option Unfit) (n : ℕ) (why : Unfit) → if_none o n ≡ Err why → o ≡ None → ⊥
+pub refused : (o : Option Unfit) (n : ℕ) (why : Unfit) → if_none o n ≡ Err why → o ≡ None → ⊥
 refused None n why e d = absurd cc
 refused (Some y) n why e d = absurd cc
 

@@ -8,6 +8,7 @@ pub mod MessageParts
 pub mod FrameParts
 pub mod FrameViews
 pub mod Finishing
+pub mod Closing
 pub mod Taking
 pub mod Streams
 pub mod Bounds

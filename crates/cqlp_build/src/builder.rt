@@ -5,6 +5,7 @@ ghost use Rattle.cqlp_grammar.specs.Events as told;
 ghost use Rattle.cqlp_grammar.specs.Events.{event_of};
 ghost use Rattle.cqlp_build.specs.Building as told_of;
 ghost use Rattle.cqlp_build.specs.Building.{BeginsWith, Finishes, IsOfHeader, TakesEvent, Tells, empty, is_inner, state};
+ghost use Rattle.cqlp_build.specs.Closing.{Closes, ClosesAt, IsOfSome, TellsOf};
 ghost use Rattle.cqlp_build.specs.Held.{left};
 ghost use Rattle.cqlp_note.specs.Heading.{answers, same};
 ghost use Rattle.cqlp_message.specs.Owned.{frame_of};
@@ -110,6 +111,24 @@ impl FrameBuilder {
         self.held.items.clear();
         self.header = None;
         self.room = self.limits.bytes as usize;
+    }
+
+    /// Ends the frame under way after its last field, whatever its header says of the length of its body, and gives the frame. It is between
+    /// frames then.
+    ///
+    /// # Errors
+    ///
+    /// [`BuildError::Misplaced`] between frames. [`BuildError::NoFrame`] where the events are those of no frame that is built, whatever length
+    /// the header had. [`BuildError::NoMemory`] where memory was refused.
+    pub fn close(&mut self) -> Result<Frame, BuildError>
+        ensures { Closes (state self.old) result (state self.new) }
+    {
+        let Some(header) = self.header else {
+            return Err(BuildError::Misplaced);
+        };
+        let closed = self.held.close(&header);
+        self.clear();
+        closed
     }
 
     /// Whether it is between frames. Where a stream ends and it is not, the last frame was cut.
@@ -260,6 +279,48 @@ impl Held {
             return Some(BuildError::NoFrame);
         }
         None
+    }
+}
+
+impl Held {
+    /// The frame of this header, but for its length, whose events after it are those that are held, and then its end.
+    fn close(&mut self, header: &Header) -> Result<Frame, BuildError>
+        ensures { ClosesAt header.now (left self.old) result }
+    {
+        self.fault = None;
+        let frame = self.frame(header);
+        match self.refusal(&frame, header) {
+            None => Ok(frame),
+            Some(why) => Err(why),
+        }
+    }
+
+    /// Why a frame is not one whose events were held, whatever its length, if it is not: after all of its parts were taken.
+    fn refusal(&self, frame: &Frame, header: &Header) -> Option<BuildError>
+        ensures { TellsOf header.now (frame_of frame.now) self.now result }
+    {
+        match self.fault {
+            Some(Fault::NoMemory) => return Some(BuildError::NoMemory),
+            Some(Fault::NoFrame) => return Some(BuildError::NoFrame),
+            None => {}
+        }
+        if !self.items.is_empty() {
+            return Some(BuildError::NoFrame);
+        }
+        if !can_begin(frame, header) {
+            return Some(BuildError::NoFrame);
+        }
+        None
+    }
+}
+
+/// Whether some bytes spell a frame that begins with this header, but for its length.
+fn can_begin(frame: &Frame, header: &Header) -> bool
+    ensures { BeginsWith header.now (frame_of frame.now) → (IsTrue result ↔ IsOfSome header.now (frame_of frame.now)) }
+{
+    match frame.measure() {
+        Ok(_) => is_directed(header),
+        Err(_) => false,
     }
 }
 
