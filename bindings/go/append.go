@@ -7,6 +7,7 @@ import (
 	"errors"
 	"fmt"
 	"math"
+	"net"
 )
 
 // ErrTooLong says that a text, a list or a body is longer than its length can say.
@@ -15,32 +16,43 @@ var ErrTooLong = errors.New("cqlp: longer than its length can say")
 // ErrNotWritten says that there is no writer of such a message, type or value here.
 var ErrNotWritten = errors.New("cqlp: there is no writer of this")
 
-// AppendMessage appends a frame without flags under this stream id: any request, or a READY, AUTHENTICATE, SUPPORTED, AUTH_CHALLENGE,
-// AUTH_SUCCESS, an ERROR whose code has no fields, or a RESULT that is Void, SetKeyspace, Prepared or Rows. The values of Rows are those that
-// Bind takes; columns are told with their tables, but where the flag 4 of the metadata is set: then Columns may have their types, and a
-// reader has to know them. The error is ErrTooLong, ErrNotWritten, or one that says what does not go together, and b is then as it was.
+// AppendMessage appends a frame without flags under this stream id. The values of Rows are those that Bind takes; columns are told with their
+// tables, but where the flag 4 of the metadata is set: then Columns may have their types, and a reader has to know them. The error is
+// ErrTooLong, ErrNotWritten, or one that says what does not go together, and b is then as it was.
 func AppendMessage(b []byte, stream int16, m Message) ([]byte, error) {
+	return AppendFrame(b, &Frame{Stream: stream, Message: m})
+}
+
+// AppendFrame appends a frame with a trace id, warnings and a custom payload, where they are not nil, and its message. Its opcode, direction and
+// length are the message's, and of its flags those that announce what is there; Extra bytes are left out. The errors are those of
+// AppendMessage.
+func AppendFrame(b []byte, f *Frame) ([]byte, error) {
 	var w writer
-	w.message(m)
-	return w.frame(b, stream, m.Opcode())
-}
-
-// A writer writes the notations of section 3, and keeps its first error.
-type writer struct {
-	body []byte
-	err  error
-}
-
-// frame appends the body with its header.
-func (w *writer) frame(b []byte, stream int16, opcode Opcode) ([]byte, error) {
+	opcode := f.Message.Opcode()
+	flags := f.Flags&^0x04 | set(0x04, f.Payload != nil)
+	if isResponse(opcode) {
+		flags = flags&^0x0a | set(0x02, f.TraceID != nil) | set(0x08, f.Warnings != nil)
+		w.announced(f)
+	}
+	w.payload(f.Payload)
+	w.message(f.Message)
 	if w.err != nil {
 		return b, w.err
 	}
 	if len(w.body) > 1<<28 {
 		return b, ErrTooLong
 	}
-	with, err := AppendHeader(b, Header{opcode, stream, uint32(len(w.body)), 0, isResponse(opcode)})
-	return append(with, w.body...), err
+	with, err := AppendHeader(b, Header{opcode, f.Stream, uint32(len(w.body)), flags, isResponse(opcode)})
+	if err != nil {
+		return b, err
+	}
+	return append(with, w.body...), nil
+}
+
+// A writer writes the notations of section 3, and keeps its first error.
+type writer struct {
+	body []byte
+	err  error
 }
 
 func isResponse(opcode Opcode) bool {
@@ -86,6 +98,12 @@ func (w *writer) texts(texts ...string) {
 	}
 }
 
+// list writes texts with how many they are.
+func (w *writer) list(texts []string) {
+	w.count(len(texts))
+	w.texts(texts...)
+}
+
 func (w *writer) longText(s string) {
 	w.length(len(s))
 	w.body = append(w.body, s...)
@@ -116,6 +134,27 @@ func (w *writer) value(v Value) {
 	w.bytes(v.Bytes)
 }
 
+// announced is what the flags of a response announce.
+func (w *writer) announced(f *Frame) {
+	if f.TraceID != nil {
+		w.body = append(w.body, f.TraceID[:]...)
+	}
+	if f.Warnings != nil {
+		w.list(f.Warnings)
+	}
+}
+
+func (w *writer) payload(items []PayloadItem) {
+	if items == nil {
+		return
+	}
+	w.count(len(items))
+	for _, item := range items {
+		w.text(item.Key)
+		w.bytes(item.Value)
+	}
+}
+
 func (w *writer) message(m Message) {
 	switch m := m.(type) {
 	case *Startup:
@@ -134,8 +173,7 @@ func (w *writer) message(m Message) {
 	case *Batch:
 		w.batch(m)
 	case *Register:
-		w.count(len(m.EventTypes))
-		w.texts(m.EventTypes...)
+		w.list(m.EventTypes)
 	case *AuthResponse:
 		w.bytes(m.Token)
 	default:
@@ -152,13 +190,37 @@ func (w *writer) response(m Message) {
 		w.count(len(m.Options))
 		for _, option := range m.Options {
 			w.text(option.Key)
-			w.count(len(option.Values))
-			w.texts(option.Values...)
+			w.list(option.Values)
 		}
 	case *AuthChallenge:
 		w.bytes(m.Token)
 	case *AuthSuccess:
 		w.bytes(m.Token)
+	case *NodeEvent:
+		w.texts(m.Type, m.Change)
+		w.inet(m.Address, m.Port)
+	case *SchemaEvent:
+		w.text("SCHEMA_CHANGE")
+		w.change(&m.Schema)
+	case *UnknownEvent:
+		w.text(m.Type)
+	default:
+		w.result(m)
+	}
+}
+
+func (w *writer) inet(address net.IP, port int32) {
+	at := len(w.body)
+	w.byte(0)
+	if !w.address(address) {
+		w.fail("an address of %d bytes", len(address))
+	}
+	w.body[at] = byte(len(w.body) - at - 1)
+	w.int(port)
+}
+
+func (w *writer) result(m Message) {
+	switch m := m.(type) {
 	case *Void:
 		w.int(int32(ResultVoid))
 	case *SetKeyspace:
@@ -168,22 +230,84 @@ func (w *writer) response(m Message) {
 		w.prepared(m)
 	case *Rows:
 		w.rows(m)
-	case *ServerError:
+	case *SchemaChange:
+		w.int(int32(ResultSchemaChange))
+		w.change(m)
+	case *UnknownResult:
+		w.int(int32(m.Kind))
+	default:
 		w.serverError(m)
+	}
+}
+
+func (w *writer) change(m *SchemaChange) {
+	w.texts(m.Change, m.Target)
+	switch m.Target {
+	case "KEYSPACE":
+		w.text(m.Keyspace)
+	case "TABLE", "TYPE":
+		w.texts(m.Keyspace, m.Name)
+	case "FUNCTION", "AGGREGATE":
+		w.texts(m.Keyspace, m.Name)
+		w.list(m.Arguments)
+	}
+}
+
+// serverError writes an ERROR. One with fields of its own has the code that they come with, whatever is said.
+func (w *writer) serverError(m Message) {
+	switch m := m.(type) {
+	case *ServerError:
+		if _, has := withFields[m.Code]; has {
+			w.err = fmt.Errorf("%w: the fields of %v in a %T", ErrNotWritten, m.Code, m)
+		}
+		w.failure(m.Code, m.Message)
+	case *Unavailable:
+		w.failure(ErrorUnavailable, m.Message)
+		w.replicas(m.Consistency, m.Required, m.Alive)
+	case *WriteTimeout:
+		w.failure(ErrorWriteTimeout, m.Message)
+		w.replicas(m.Consistency, m.Received, m.BlockFor)
+		w.text(m.WriteType)
+	case *ReadTimeout:
+		w.failure(ErrorReadTimeout, m.Message)
+		w.replicas(m.Consistency, m.Received, m.BlockFor)
+		w.byte(set(1, m.DataPresent))
+	case *ReadFailure:
+		w.failure(ErrorReadFailure, m.Message)
+		w.replicas(m.Consistency, m.Received, m.BlockFor, m.Failures)
+		w.byte(set(1, m.DataPresent))
+	case *WriteFailure:
+		w.failure(ErrorWriteFailure, m.Message)
+		w.replicas(m.Consistency, m.Received, m.BlockFor, m.Failures)
+		w.text(m.WriteType)
+	case *FunctionFailure:
+		w.failure(ErrorFunctionFailure, m.Message, m.Keyspace, m.Name)
+		w.list(m.Arguments)
+	case *AlreadyExists:
+		w.failure(ErrorAlreadyExists, m.Message, m.Keyspace, m.Table)
+	case *Unprepared:
+		w.failure(ErrorUnprepared, m.Message, string(m.ID))
 	default:
 		w.err = fmt.Errorf("%w: %T", ErrNotWritten, m)
 	}
 }
 
-// serverError writes an ERROR, where its code has no more fields.
-func (w *writer) serverError(e *ServerError) {
-	switch e.Code {
-	case ErrorUnavailable, ErrorWriteTimeout, ErrorReadTimeout, ErrorReadFailure, ErrorFunctionFailure, ErrorWriteFailure, ErrorAlreadyExists,
-		ErrorUnprepared:
-		w.err = fmt.Errorf("%w: the fields of %v", ErrNotWritten, e.Code)
+// withFields are the codes after whose message more fields come.
+var withFields = map[ErrorCode]struct{}{
+	ErrorUnavailable: {}, ErrorWriteTimeout: {}, ErrorReadTimeout: {}, ErrorReadFailure: {}, ErrorFunctionFailure: {}, ErrorWriteFailure: {},
+	ErrorAlreadyExists: {}, ErrorUnprepared: {},
+}
+
+func (w *writer) failure(code ErrorCode, texts ...string) {
+	w.int(int32(code))
+	w.texts(texts...)
+}
+
+func (w *writer) replicas(level Consistency, counts ...int32) {
+	w.short(uint16(level))
+	for _, count := range counts {
+		w.int(count)
 	}
-	w.int(int32(e.Code))
-	w.text(e.Message)
 }
 
 // set is the flag, where it is set.

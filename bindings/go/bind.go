@@ -48,7 +48,7 @@ func (w *writer) typed(typ Type, value any) {
 	at := len(w.body)
 	w.int(0)
 	if !w.content(typ, value) {
-		w.fail("a %T does not go into a %v", value, typ)
+		w.fail("%T does not go into %v", value, typ)
 	}
 	length := len(w.body) - at - 4
 	if length > 1<<28 {

@@ -39,27 +39,13 @@ func (c *cells) begin(page *Metadata, types *Types) {
 // next gathers the events of the next row, where one comes.
 func (c *cells) next() bool {
 	c.events, c.starts, c.kept, c.memory = c.events[:0], c.starts[:0], 0, c.memory[:0]
-	if c.width == 0 || c.parser.failed != nil {
+	if c.width == 0 {
 		return false
 	}
-	r := c.parser.reader
-	d := r.decoder
+	d := c.parser.reader.decoder
 	defer runtime.KeepAlive(d)
-	for open := false; ; {
-		if d.next == d.count || d.box == nil {
-			if !open && len(c.starts) == c.width {
-				return true
-			}
-			c.keep()
-			if c.parser.failed = r.fill(); c.parser.failed != nil {
-				return false
-			}
-		}
-		tag := Tag(d.box.events[d.next].tag)
-		if !open && len(c.starts) == c.width {
-			return true
-		}
-		if tag < TagLeaf || tag > TagPart {
+	for open := false; open || len(c.starts) < c.width; {
+		if !c.comes() {
 			return false
 		}
 		if !open {
@@ -69,6 +55,21 @@ func (c *cells) next() bool {
 		d.put(e)
 		open = e.Level > 0 || e.Tag == TagEnter || e.Tag == TagPart && e.Mark != MarkLast
 	}
+	return true
+}
+
+// comes says whether the next event is one of a cell.
+func (c *cells) comes() bool {
+	d := c.parser.reader.decoder
+	if c.parser.failed == nil && (d.next == d.count || d.box == nil) {
+		c.keep()
+		c.parser.failed = c.parser.reader.fill()
+	}
+	if c.parser.failed != nil {
+		return false
+	}
+	tag := Tag(d.box.events[d.next].tag)
+	return TagLeaf <= tag && tag <= TagPart
 }
 
 // push makes room for an event, which is to be written.

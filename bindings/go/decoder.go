@@ -4,8 +4,8 @@
 // io.Reader. Both hold no more than their Limits say, whatever lengths and counts a peer sends. A RowReader gives the rows of pages, and
 // Frames the frames, each message as a struct of its own. A Client pairs replies with requests, a Server knows which requests it has not
 // answered, and AppendHeader writes headers. All of these stand on libcqlp, which is written in Rattle and proved: the events are those that
-// the bytes used say, in order. Not proved is this package. What writes bodies and values, AppendMessage and Bind, is plain Go: nothing of
-// the library stands behind it.
+// the bytes used say, in order. Not proved is this package. What writes bodies and values, AppendMessage, AppendFrame and Bind, is plain Go:
+// nothing of the library stands behind it.
 //
 // No pointer to Go's memory stays with C after a call.
 package cqlp

@@ -64,7 +64,7 @@ func ExampleRowReader_Scan() {
 	// 1 true
 	// 2 false
 	// [0 1 2 3 4 5 6 7] map[0000000000000000:0 0000000000000001:1 0000000000000002:2] <nil>
-	// cqlp: column 1: a map does not go into string
+	// cqlp: column 1: map does not go into string
 }
 
 func ExampleFrames() {
@@ -195,7 +195,7 @@ func ExampleBind() {
 	fmt.Println(err)
 	// Output:
 	// 00 00 00 01 00 00 00 01 61 00 00 00 02 00 07 <nil>
-	// cqlp: a int does not go into a smallint
+	// cqlp: int does not go into smallint
 }
 
 func ExampleCheck() {

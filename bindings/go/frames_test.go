@@ -145,7 +145,8 @@ func TestFramesAreWrittenAsTheyCame(t *testing.T) {
 			mustWrite(t, s.name, s.bytes, frame, false, written)
 		}
 	}
-	for _, m := range append(requests, &Prepare{}, &Execute{}, &Batch{}, &Ready{}, &Authenticate{}, &Supported{}, &Void{}, &SetKeyspace{}, &ServerError{}, &Prepared{}, &Rows{}) {
+	for _, m := range append(requests, &Prepare{}, &Execute{}, &Batch{}, &Ready{}, &Authenticate{}, &Supported{}, &Void{}, &SetKeyspace{},
+		&ServerError{}, &Prepared{}, &Rows{}, &SchemaChange{}, &NodeEvent{}, &SchemaEvent{}, &Unavailable{}) {
 		if written[reflect.TypeOf(m)] == 0 {
 			t.Errorf("no %T was written", m)
 		}
@@ -166,7 +167,7 @@ func TestWhatADriverSentIsWrittenAsItCame(t *testing.T) {
 		}
 		count := 0
 		for _, frame := range allFrames(t, stream) {
-			if !mustWrite(t, name, stream, frame, true, written) && !frame.Response && frame.Flags == 0 {
+			if !mustWrite(t, name, stream, frame, true, written) {
 				t.Fatal(name, frame)
 			}
 			count++
@@ -185,7 +186,7 @@ func TestWhatADriverSentIsWrittenAsItCame(t *testing.T) {
 // mustWrite says whether there is a writer of the frame. What it writes has to be the bytes that came, or what they say.
 func mustWrite(t *testing.T, name string, stream []byte, frame *Frame, exactly bool, written map[reflect.Type]int) bool {
 	t.Helper()
-	if frame.Flags != 0 || frame.Extra != 0 {
+	if frame.Extra != 0 {
 		return false
 	}
 	// columns are always told with their tables
@@ -195,10 +196,7 @@ func mustWrite(t *testing.T, name string, stream []byte, frame *Frame, exactly b
 	case *Rows:
 		m.Metadata.Flags &^= 1
 	}
-	b, err := AppendMessage(nil, frame.Stream, frame.Message)
-	if errors.Is(err, ErrNotWritten) {
-		return false
-	}
+	b, err := AppendFrame(nil, frame)
 	if err != nil {
 		t.Fatalf("%s %T %v", name, frame.Message, err)
 	}
@@ -287,9 +285,13 @@ func TestResponses(t *testing.T) {
 			&Rows{Metadata{2, 2, []byte{}, []Column{column("k1", "t1", "a"), {"k2", "t2", "b", udt}}}, 1, [][]any{{nil, nil}}}},
 		{OpcodeResult, long(2, 1, 0) + text("k", "t") + long(7), &Rows{Metadata{1, 0, nil, []Column{}}, 7, [][]any{}}},
 	} {
-		frame := allFrames(t, responseOf(row.opcode, 0, row.body))[0]
+		came := responseOf(row.opcode, 0, row.body)
+		frame := allFrames(t, came)[0]
 		if !reflect.DeepEqual(frame.Message, row.wanted) {
 			t.Errorf("%#v\nand not\n%#v", frame.Message, row.wanted)
+		}
+		if rows, is := frame.Message.(*Rows); !is || rows.Metadata.Flags&1 == 0 {
+			mustWrite(t, "response", came, frame, true, map[reflect.Type]int{})
 		}
 		if frame.Opcode != row.opcode || row.wanted.Opcode() != row.opcode || !frame.Response || frame.Stream != 5 {
 			t.Error(frame)
@@ -319,7 +321,13 @@ func TestWhatComesBeforeAMessage(t *testing.T) {
 	id := UUID{}
 	copy(id[:], body)
 	payload := []PayloadItem{{"a", []byte("v")}, {"b", nil}}
-	if *frame.TraceID != id || !reflect.DeepEqual(frame.Warnings, []string{"w"}) || !reflect.DeepEqual(frame.Payload, payload) || frame.Extra != 4 {
+	if frame.Extra != 4 {
+		t.Fatal(frame)
+	}
+	if b, err := AppendFrame(nil, frame); err != nil || !bytes.Equal(b[headerLength:], []byte(body[:len(body)-4])) || b[1] != 0x0e {
+		t.Fatalf("%x %v", b, err)
+	}
+	if *frame.TraceID != id || !reflect.DeepEqual(frame.Warnings, []string{"w"}) || !reflect.DeepEqual(frame.Payload, payload) {
 		t.Fatal(frame)
 	}
 }
@@ -357,8 +365,7 @@ func TestWhatIsNotWritten(t *testing.T) {
 		{&Query{Parameters: Parameters{Values: many}}, ErrTooLong},
 		{&Prepare{strings.Repeat("x", 1<<28)}, ErrTooLong},
 		{&Rows{Metadata: Metadata{Columns: make([]Column, 2)}, Rows: [][]any{{1}}}, nil},
-		{&SchemaEvent{}, ErrNotWritten},
-		{&Unavailable{}, ErrNotWritten},
+		{&NodeEvent{Address: net.IP{1, 2}}, nil},
 		{&ServerError{Code: ErrorUnprepared}, ErrNotWritten},
 		{&Query{Parameters: Parameters{Values: many[:1], Names: []string{}}}, nil},
 		{&Prepared{Bound: []Column{{Type: Type{Kind: KindRaw}}}}, ErrNotWritten},

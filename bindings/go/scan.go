@@ -116,7 +116,7 @@ func putInteger[T int | int32 | int64](e *Event, to *T) (bool, error) {
 	return true, nil
 }
 
-func mismatch(e *Event, to any) error { return fmt.Errorf("a %v does not go into %T", e.Kind, to) }
+func mismatch(e *Event, to any) error { return fmt.Errorf("%v does not go into %T", e.Kind, to) }
 
 // into takes the next value, and puts it into v, which can be addressed.
 func (c *cell) into(v reflect.Value) error {
@@ -194,7 +194,7 @@ func (c *cell) intoScalar(v reflect.Value) error {
 	if found, ok := convert(value, v); ok {
 		return found
 	}
-	return fmt.Errorf("a %v does not go into %v", kind, v.Type())
+	return fmt.Errorf("%v does not go into %v", kind, v.Type())
 }
 
 // convert puts a scalar, and says whether their types go together.

@@ -21,6 +21,8 @@ class WithLibrary(build_py):
 
 setup(
     cmdclass={"build_py": WithLibrary},
+    # the module in C is for each Python from 3.9 on, and so is the wheel
+    options={"bdist_wheel": {"py_limited_api": "cp39"}},
     ext_modules=[
         Extension("cqlp._cells", ["cqlp/_cells.c"], include_dirs=["../../include"], py_limited_api=True, optional=True),
     ],

@@ -54,6 +54,7 @@ func answer(request cqlp.Message) cqlp.Message {
 		if string(request.ID) == "orders" {
 			return page(&request.Parameters)
 		}
+		return &cqlp.Unprepared{ServerError: cqlp.ServerError{Message: "prepare it first"}, ID: request.ID}
 	}
 	return &cqlp.ServerError{Code: cqlp.ErrorInvalid, Message: fmt.Sprintf("%v is not served", request.Opcode())}
 }
